@@ -1,0 +1,118 @@
+//! The commands of the program.
+ghost use Rattle.std.specs.Prelude.{◌≡◌, ◌⊎◌, ◌∷◌, ℕ, List, [], IfErr, IfOk, IfSome, codes, map, string_bytes};
+ghost use Rattle.std.specs.Io.KnownBytes.{Keeps};
+ghost use Rattle.clap.specs.Words.{FailsBy, kind_of, fault_of};
+ghost use Rattle.dap_cli.specs.Run.{AreMistakes, Chooses, IsCommandLine, IsMistake, RunGives, dapnsp, status_of};
+
+use clap::error::ErrorKind;
+use clap::{Command, Error};
+use dap_capture::{CaptureFault, Outcome, show, write_text};
+use std::alloc::Global;
+use std::io::{Read, Write};
+
+/// A command of the program.
+#[derive(Clone, Copy, Debug, PartialEq, Eq)]
+pub enum Choice {
+    Show,
+}
+
+/// The program's command line.
+fn command_line<'a>(alloc: Global) -> Result<Command<'a>, Error>
+    ensures line { IfOk result IsCommandLine }
+    ensures memory { IfErr result (λ error. kind_of error ≡ ErrorKind.OutOfMemory) }
+{
+    let show = Command::new(alloc, "show");
+    let command = Command::new(alloc, "dapnsp")
+        .subcommand_required(true)
+        .disable_help_subcommand(true)
+        .subcommand(show)?;
+    Ok(command)
+}
+
+/// The command that the words name.
+fn read_words<'a>(alloc: Global, words: &'a [String]) -> Result<Choice, Error>
+    ensures chosen { IfOk result (Chooses (map string_bytes words.entry.now)) }
+    ensures kinds { FailsBy (fault_of dapnsp (map string_bytes words.entry.now)) result }
+{
+    let command = command_line(alloc)?;
+    let matches = command.try_get_matches_from(words)?;
+    match matches.subcommand_name() {
+        Some("show") => Ok(Choice::Show),
+        _ => unreachable!(),
+    }
+}
+
+/// The exit status of an outcome, whose fault is told in one line.
+fn finish<E: Write>(outcome: Result<Outcome, CaptureFault>, error_writer: &mut E) -> u8
+    ensures { result ≡ status_of outcome }
+{
+    match outcome {
+        Ok(Outcome::Good) => 0,
+        Ok(Outcome::Stopped) => 1,
+        Err(fault) => {
+            let _ = writeln!(error_writer, "{fault}");
+            match fault {
+                CaptureFault::BadLine(_) | CaptureFault::TooLarge => 1,
+                CaptureFault::ReadFailed | CaptureFault::WriteFailed | CaptureFault::NoMemory => 3,
+            }
+        }
+    }
+}
+
+/// Tells why the words name no command: help goes to the writer, and what is wrong to the error
+/// writer.
+fn refuse<W: Write, E: Write>(
+    alloc: Global,
+    error: Error,
+    writer: &mut W,
+    error_writer: &mut E,
+) -> u8
+    ensures memory { kind_of error ≡ ErrorKind.OutOfMemory → (result ≡ 3) × Keeps (W.contents writer.old) (W.contents writer.new) }
+    ensures help { kind_of error ≡ ErrorKind.DisplayHelp → (result ≡ 0) ⊎ (result ≡ 3) }
+    ensures mistake { IsMistake (kind_of error) → ((result ≡ 2) ⊎ (result ≡ 3)) × Keeps (W.contents writer.old) (W.contents writer.new) }
+{
+    if error.kind() == ErrorKind::OutOfMemory {
+        return finish(Err(CaptureFault::NoMemory), error_writer);
+    }
+    if error.use_stderr() {
+        let _ = write!(error_writer, "{error}");
+        return 2;
+    }
+    let Ok(text) = error.to_string(alloc) else {
+        return finish(Err(CaptureFault::NoMemory), error_writer);
+    };
+    match write_text(text.as_bytes(), writer) {
+        Ok(()) => 0,
+        Err(fault) => finish(Err(fault), error_writer),
+    }
+}
+
+/// Runs the command that the words name, the program's name first, and answers the exit status. Own.
+///
+/// 0: all was done, or help was asked for and written. 1: a bad line, or an input or a packet over
+/// its limit. 2: the words name no command; the writer gets nothing. 3: the reader or the writer
+/// failed, or memory ran out. A fault is told in one line to the error writer, and so is what is
+/// wrong with the words; a failure of the error writer changes nothing.
+pub fn run_words<R: Read, W: Write, E: Write>(
+    alloc: Global,
+    words: &[String],
+    reader: &mut R,
+    writer: &mut W,
+    error_writer: &mut E,
+) -> u8
+    ensures show { (program : List ℕ) → map string_bytes words.now ≡ program ∷ codes "show" ∷ []
+        → IfSome (R.remaining reader.old) (λ input. RunGives input (W.contents writer.old) (W.contents writer.new) result) }
+
+    // The words of clap: what is at fault in a list of words, first things first.
+    ensures parsed { fault_of dapnsp (map string_bytes words.now) ≡ []
+        → IfSome (R.remaining reader.old) (λ input. RunGives input (W.contents writer.old) (W.contents writer.new) result) }
+    ensures mistake { AreMistakes (fault_of dapnsp (map string_bytes words.now))
+        → ((result ≡ 2) ⊎ (result ≡ 3)) × Keeps (W.contents writer.old) (W.contents writer.new) }
+    ensures unread { AreMistakes (fault_of dapnsp (map string_bytes words.now)) → R.remaining reader.new ≡ R.remaining reader.old }
+    ensures help { fault_of dapnsp (map string_bytes words.now) ≡ ErrorKind.DisplayHelp ∷ [] → (result ≡ 0) ⊎ (result ≡ 3) }
+{
+    match read_words(alloc, words) {
+        Ok(Choice::Show) => finish(show(alloc, reader, writer), error_writer),
+        Err(error) => refuse(alloc, error, writer, error_writer),
+    }
+}

@@ -1,0 +1,204 @@
+-- The formats of the messages' operands, and of the header.
+use Rattle.std.specs.Prelude.{ℕ, ◌/◌, ◌%◌, ◌^◌, ◌==◌, nat_lt, if◌then◌else◌, Bool, ◌&&◌, ◌||◌, not, [], Option, Some, None}
+use Rattle.dap_msg.specs.declared.fault.FaultKind.{FaultKind}
+use Rattle.dap_msg.specs.declared.fault.FaultKind.TheVariants.{BadFlags, BadStream, UnknownType, BadMenu}
+use Rattle.dap_msg.specs.Grammar.{Kind, Byte, Word, Extensible, Image, Part, Must, When, OrElse, UnlessEnd, Remainder, Grammar, Done, Next, ◌>>=◌}
+use Rattle.dap_msg.specs.Message.{Header, Message, Config, Attrib, Access, Control, Contran, Ack, Accomp, Filedata, Status, Other}
+
+-- any value of the field will do
+abbrev pub any : {V : Type 0} → V → Option FaultKind
+any v = None
+
+abbrev pub must : Kind → Part
+must k = Must k any
+
+-- a number, or 0 where the operand ends before it
+abbrev pub or_zero : ℕ → Part
+or_zero max = OrElse (Extensible max) 0 any
+
+-- an image, or the empty one where the operand ends before it
+abbrev pub or_empty : ℕ → Part
+or_empty max = OrElse (Image max) [] any
+
+-- bits that say which of the next fields are there; only so many have a field
+abbrev pub refuses_bits : ℕ → ℕ → Option FaultKind
+refuses_bits fields bits = if nat_lt bits (2 ^ fields) then None else Some BadMenu
+
+abbrev pub menu : ℕ → ℕ → Part
+menu max fields = OrElse (Extensible max) 0 (refuses_bits fields)
+
+abbrev pub has : ℕ → ℕ → Bool
+has bits i = bits / 2 ^ i % 2 == 1
+
+-- a field that is there exactly where its bit of the menu is set
+abbrev pub optional : ℕ → ℕ → Kind → Part
+optional bits i k = When (has bits i) k any
+
+-- Bytes after the last known field are ignored.
+abbrev pub ending : {A : Type 0} → A → Grammar A
+ending x = Next Remainder (λ ignored. Done x)
+
+unfoldable pub configuration : Grammar Message
+configuration = do
+  bufsiz ← must Word
+  ostype ← must Byte
+  filesys ← must Byte
+  vernum ← must Byte
+  econum ← must Byte
+  usrnum ← must Byte
+  softver ← must Byte
+  usrsoft ← must Byte
+  syscap ← must (Extensible 12)
+  ending (Config (record {
+    bufsiz = bufsiz;
+    ostype = ostype;
+    filesys = filesys;
+    vernum = vernum;
+    econum = econum;
+    usrnum = usrnum;
+    softver = softver;
+    usrsoft = usrsoft;
+    syscap = syscap;
+  }))
+
+unfoldable pub attributes : Grammar Message
+attributes = do
+  bits ← menu 6 21
+  datatype ← optional bits 0 (Extensible 2)
+  org ← optional bits 1 Byte
+  rfm ← optional bits 2 Byte
+  rat ← optional bits 3 (Extensible 3)
+  bls ← optional bits 4 Word
+  mrs ← optional bits 5 Word
+  alq ← optional bits 6 (Image 5)
+  bks ← optional bits 7 Byte
+  fsz ← optional bits 8 Byte
+  mrn ← optional bits 9 (Image 5)
+  runsys ← optional bits 10 (Image 40)
+  deq ← optional bits 11 Word
+  fop ← optional bits 12 (Extensible 6)
+  bsz ← optional bits 13 Byte
+  dev ← optional bits 14 (Extensible 6)
+  sdc ← optional bits 15 (Extensible 6)
+  lrl ← optional bits 16 Word
+  hbk ← optional bits 17 (Image 5)
+  ebk ← optional bits 18 (Image 5)
+  ffb ← optional bits 19 Word
+  sbn ← optional bits 20 (Image 5)
+  ending (Attrib (record {
+    datatype = datatype;
+    org = org;
+    rfm = rfm;
+    rat = rat;
+    bls = bls;
+    mrs = mrs;
+    alq = alq;
+    bks = bks;
+    fsz = fsz;
+    mrn = mrn;
+    runsys = runsys;
+    deq = deq;
+    fop = fop;
+    bsz = bsz;
+    dev = dev;
+    sdc = sdc;
+    lrl = lrl;
+    hbk = hbk;
+    ebk = ebk;
+    ffb = ffb;
+    sbn = sbn;
+  }))
+
+unfoldable pub access : Grammar Message
+access = do
+  func ← must Byte
+  opt ← must (Extensible 5)
+  name ← must (Image 255)
+  fac ← or_zero 3
+  shr ← or_zero 3
+  display ← or_zero 4
+  password ← or_empty 40
+  ending (Access (record { func = func; opt = opt; name = name; fac = fac; shr = shr; display = display; password = password }))
+
+unfoldable pub control : Grammar Message
+control = do
+  func ← must Byte
+  bits ← menu 4 6
+  rac ← optional bits 0 Byte
+  key ← optional bits 1 (Image 255)
+  krf ← optional bits 2 Byte
+  rop ← optional bits 3 (Extensible 6)
+  hsh ← optional bits 4 (Image 5)
+  display ← optional bits 5 (Extensible 4)
+  ending (Control (record { func = func; rac = rac; key = key; krf = krf; rop = rop; hsh = hsh; display = display }))
+
+unfoldable pub continuation : Grammar Message
+continuation = do
+  func ← must Byte
+  ending (Contran func)
+
+unfoldable pub acknowledge : Grammar Message
+acknowledge = ending Ack
+
+unfoldable pub completion : Grammar Message
+completion = do
+  func ← must Byte
+  fop ← or_zero 6
+  check ← UnlessEnd Word any
+  ending (Accomp (record { func = func; fop = fop; check = check }))
+
+unfoldable pub file_data : Grammar Message
+file_data = do
+  recnum ← must (Image 8)
+  payload ← Remainder
+  Done (Filedata recnum payload)
+
+unfoldable pub status : Grammar Message
+status = do
+  code ← must Word
+  rfa ← or_empty 8
+  recnum ← or_empty 8
+  stv ← or_empty 8
+  ending (Status (record { code = code; rfa = rfa; recnum = recnum; stv = stv }))
+
+unfoldable pub other : ℕ → Grammar Message
+other number = do
+  body ← Remainder
+  Done (Other number body)
+
+-- The operand's format by the type of the message.
+abbrev pub operand : ℕ → Grammar Message
+operand number =
+    if number == 1 then configuration else
+    if number == 2 then attributes else
+    if number == 3 then access else
+    if number == 4 then control else
+    if number == 5 then continuation else
+    if number == 6 then acknowledge else
+    if number == 7 then completion else
+    if number == 8 then file_data else
+    if number == 9 then status else other number
+
+-- ---- The header.
+
+abbrev pub refuses_type : ℕ → Option FaultKind
+refuses_type number = if nat_lt 0 number && nat_lt number 17 then None else Some UnknownType
+
+-- Flags: bit 0 STREAMID, bit 1 LENGTH, bit 2 LEN256, which needs LENGTH.
+abbrev pub flags_are_known : ℕ → Bool
+flags_are_known flags = nat_lt flags 8 && (has flags 1 || not (has flags 2))
+
+abbrev pub refuses_flags : ℕ → Option FaultKind
+refuses_flags flags = if flags_are_known flags then None else Some BadFlags
+
+abbrev pub refuses_stream : ℕ → Option FaultKind
+refuses_stream stream = if stream == 0 then None else Some BadStream
+
+unfoldable pub header : Grammar Header
+header = do
+  number ← Must Byte refuses_type
+  flags ← Must (Extensible 5) refuses_flags
+  stream ← When (has flags 0) Byte refuses_stream
+  low ← optional flags 1 Byte
+  high ← optional flags 2 Byte
+  Done (record { number = number; flags = flags; low = low; high = high })

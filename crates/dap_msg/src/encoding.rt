@@ -1,0 +1,503 @@
+//! Messages as bytes.
+
+ghost use Rattle.std.specs.Prelude.{ℕ, ◌≡◌, ◌≤◌, ◌<◌, ◌+◌, ◌^◌, ◌++◌, length, OnOk, OnErr, IsErr, IsOk, option_copied, vec_len, vec_capacity};
+ghost use Rattle.dap_fields.specs.Writing.{shortest};
+ghost use Rattle.dap_msg.specs.Message.{Config, Attrib, Access, Control as ControlOf, Accomp, Status, seen, seen_attributes, seen_control};
+ghost use Rattle.dap_msg.specs.Grammar as kinds;
+ghost use Rattle.dap_msg.specs.Canon.{canon, Fits, FieldsFit, FitsOption, operand_bytes, header_bytes, option_bytes, bits_of};
+ghost use Rattle.dap_msg.specs.Written.{bytes_of, fields_bytes, CanWrite, CanWriteAll, Appends};
+
+use crate::fault::{FaultKind, MsgFault};
+use crate::message::{Attributes, Control, Message};
+use dap_fields::{write_ex, write_image, write_u8, write_u16};
+
+/// A field to write.
+#[derive(Clone, Copy)]
+pub(crate) enum Field<'a> {
+    /// A field of a menu that is not there.
+    Absent,
+    Byte(u8),
+    Word(u16),
+    Extensible(u128),
+    Image(&'a [u8]),
+    /// The rest of an operand.
+    Rest(&'a [u8]),
+}
+
+/// Appends the field, for which there is room.
+fn put(field: Field, out: &mut Vec<u8>)
+    requires fits { CanWrite field }
+    requires room { vec_len out.old + length (bytes_of field) ≤ vec_capacity out.old }
+    ensures items { out.new.items ≡ out.old.items ++ bytes_of field.entry }
+    ensures capacity { vec_capacity out.old ≤ vec_capacity out.new }
+{
+    let _written = match field {
+        Field::Absent => Ok(()),
+        Field::Byte(value) => write_u8(value, out),
+        Field::Word(value) => write_u16(value, out),
+        Field::Extensible(value) => write_ex(value, out),
+        Field::Image(image) => write_image(image, out),
+        Field::Rest(bytes) => {
+            put_rest(bytes, out);
+            Ok(())
+        }
+    };
+}
+
+/// Appends the fields, for which there is room.
+fn put_all(fields: &[Field], out: &mut Vec<u8>)
+    requires fit { CanWriteAll fields.now }
+    requires room { vec_len out.old + length (fields_bytes fields.now) ≤ vec_capacity out.old }
+    ensures items { out.new.items ≡ out.old.items ++ fields_bytes fields.now }
+    ensures capacity { vec_capacity out.old ≤ vec_capacity out.new }
+{
+    if let [field, rest @ ..] = fields {
+        put(*field, out);
+        put_all(rest, out);
+    }
+}
+
+fn extensible_len(value: u128) -> usize
+    requires { value < 2 ^ 84 }
+    ensures exact { result ≡ length (shortest value) }
+    ensures small { result ≤ 12 }
+{
+    let mut len = 1;
+    let mut rest = value;
+    while rest >= 128 {
+        rest /= 128;
+        len += 1;
+    }
+    len
+}
+
+fn field_len(field: Field) -> usize
+    requires { CanWrite field }
+    ensures { result ≡ length (bytes_of field.entry) }
+{
+    match field {
+        Field::Absent => 0,
+        Field::Byte(_) => 1,
+        Field::Word(_) => 2,
+        Field::Extensible(value) => extensible_len(value),
+        Field::Image(image) => image.len() + 1,
+        Field::Rest(bytes) => bytes.len(),
+    }
+}
+
+fn fields_len(fields: &[Field]) -> usize
+    requires fit { CanWriteAll fields.now }
+    requires small { length (fields_bytes fields.now) < 2 ^ 16 }
+    ensures { result ≡ length (fields_bytes fields.now) }
+{
+    match fields {
+        [] => 0,
+        [field, rest @ ..] => field_len(*field) + fields_len(rest),
+    }
+}
+
+/// Appends a header, for which there is room.
+fn put_header(number: u8, len: usize, out: &mut Vec<u8>)
+    requires small { len < 2 ^ 16 }
+    requires room { vec_len out.old + length (header_bytes number len) ≤ vec_capacity out.old }
+    ensures items { out.new.items ≡ out.old.items ++ header_bytes number len }
+    ensures capacity { vec_capacity out.old ≤ vec_capacity out.new }
+{
+    if len < 256 {
+        put_rest(&[number, 2, len as u8], out);
+    } else {
+        put_rest(&[number, 6, (len % 256) as u8, (len / 256) as u8], out);
+    }
+}
+
+/// Appends the bytes, for which there is room.
+fn put_rest(bytes: &[u8], out: &mut Vec<u8>)
+    requires { vec_len out.old + length bytes.now ≤ vec_capacity out.old }
+    ensures items { out.new.items ≡ out.old.items ++ bytes.now }
+    ensures capacity { vec_capacity out.old ≤ vec_capacity out.new }
+{
+    let _ = out.extend_from_slice(bytes);
+}
+
+/// The bytes of a message whose operand has `len`.
+fn message_len(len: usize) -> usize
+    requires { len < 2 ^ 16 }
+    ensures { (number : ℕ) → result ≡ length (header_bytes number len) + len }
+{
+    if len < 256 { len + 3 } else { len + 4 }
+}
+
+/// The bytes of a message of these fields.
+fn fields_message_len(fields: &[Field]) -> usize
+    requires fit { CanWriteAll fields.now }
+    requires small { length (fields_bytes fields.now) < 2 ^ 16 }
+    ensures { (number : ℕ) → result ≡ length (header_bytes number (length (fields_bytes fields.now)) ++ fields_bytes fields.now) }
+{
+    message_len(fields_len(fields))
+}
+
+/// Appends a message of these fields. Where there is no memory nothing is changed.
+fn write_message(number: u8, fields: &[Field], out: &mut Vec<u8>) -> Result<(), MsgFault>
+    requires fit { CanWriteAll fields.now }
+    requires small { length (fields_bytes fields.now) < 2 ^ 16 }
+    ensures { Appends (header_bytes number (length (fields_bytes fields.now)) ++ fields_bytes fields.now) out.old out.new result }
+{
+    let len = fields_len(fields);
+    if out.reserve(message_len(len)).is_err() {
+        return Err(MsgFault {
+            kind: FaultKind::NoMemory,
+            message_type: 0,
+            offset: 0,
+        });
+    }
+    put_header(number, len, out);
+    put_all(fields, out);
+    Ok(())
+}
+
+fn byte_or_absent<'a>(value: Option<u8>) -> Field<'a>
+    ensures bytes { bytes_of result ≡ option_bytes kinds.Byte value }
+    ensures can { CanWrite result }
+{
+    match value {
+        Some(value) => Field::Byte(value),
+        None => Field::Absent,
+    }
+}
+
+fn word_or_absent<'a>(value: Option<u16>) -> Field<'a>
+    ensures bytes { bytes_of result ≡ option_bytes kinds.Word value }
+    ensures can { CanWrite result }
+{
+    match value {
+        Some(value) => Field::Word(value),
+        None => Field::Absent,
+    }
+}
+
+fn image_or_absent(value: Option<&[u8]>) -> Field<'_>
+    requires { FitsOption (kinds.Image 255) (option_copied value) }
+    ensures bytes { bytes_of result ≡ option_bytes (kinds.Image 255) (option_copied value.entry) }
+    ensures can { CanWrite result }
+{
+    match value {
+        Some(value) => Field::Image(value),
+        None => Field::Absent,
+    }
+}
+
+fn extensible_u16_or_absent<'a>(value: Option<u16>) -> Field<'a>
+    ensures bytes { bytes_of result ≡ option_bytes (kinds.Extensible 2) value }
+    ensures can { CanWrite result }
+{
+    match value {
+        Some(value) => Field::Extensible(u128::from(value)),
+        None => Field::Absent,
+    }
+}
+
+fn extensible_u32_or_absent<'a>(value: Option<u32>) -> Field<'a>
+    ensures bytes { bytes_of result ≡ option_bytes (kinds.Extensible 4) value }
+    ensures can { CanWrite result }
+{
+    match value {
+        Some(value) => Field::Extensible(u128::from(value)),
+        None => Field::Absent,
+    }
+}
+
+fn extensible_u64_or_absent<'a>(value: Option<u64>) -> Field<'a>
+    ensures bytes { bytes_of result ≡ option_bytes (kinds.Extensible 9) value }
+    ensures can { CanWrite result }
+{
+    match value {
+        Some(value) => Field::Extensible(u128::from(value)),
+        None => Field::Absent,
+    }
+}
+
+/// The menu of fields of which these are there, the first at bit 0.
+fn menu_bits(there: &[bool]) -> u64
+    requires { length there.now ≤ 63 }
+    ensures exact { result ≡ bits_of there.now }
+    ensures small { result < 2 ^ length there.now }
+{
+    match there {
+        [] => 0,
+        [first, rest @ ..] => u64::from(*first) + 2 * menu_bits(rest),
+    }
+}
+
+fn status_fields<'a>(
+    code: u16,
+    rfa: &'a [u8],
+    recnum: &'a [u8],
+    stv: &'a [u8],
+) -> [Field<'a>; 4]
+    requires { FieldsFit (Status (record { code = code; rfa = rfa.now; recnum = recnum.now; stv = stv.now })) }
+    ensures bytes { fields_bytes result ≡ operand_bytes (Status (record { code = code; rfa = rfa.now; recnum = recnum.now; stv = stv.now })) }
+    ensures can { CanWriteAll result }
+{
+    [
+        Field::Word(code),
+        Field::Image(rfa),
+        Field::Image(recnum),
+        Field::Image(stv),
+    ]
+}
+
+fn completion_fields<'a>(func: u8, fop: u64, check: Option<u16>) -> [Field<'a>; 3]
+    requires { FieldsFit (Accomp (record { func = func; fop = fop; check = check })) }
+    ensures bytes { fields_bytes result ≡ operand_bytes (Accomp (record { func = func; fop = fop; check = check })) }
+    ensures can { CanWriteAll result }
+{
+    [
+        Field::Byte(func),
+        Field::Extensible(u128::from(fop)),
+        word_or_absent(check),
+    ]
+}
+
+fn configuration_fields<'a>(
+    bufsiz: u16,
+    ostype: u8,
+    filesys: u8,
+    vernum: u8,
+    econum: u8,
+    usrnum: u8,
+    softver: u8,
+    usrsoft: u8,
+    syscap: u128,
+) -> [Field<'a>; 9]
+    requires { FieldsFit (Config (record { bufsiz = bufsiz; ostype = ostype; filesys = filesys; vernum = vernum; econum = econum; usrnum = usrnum; softver = softver; usrsoft = usrsoft; syscap = syscap })) }
+    ensures bytes { fields_bytes result ≡ operand_bytes (Config (record { bufsiz = bufsiz; ostype = ostype; filesys = filesys; vernum = vernum; econum = econum; usrnum = usrnum; softver = softver; usrsoft = usrsoft; syscap = syscap })) }
+    ensures can { CanWriteAll result }
+{
+    [
+        Field::Word(bufsiz),
+        Field::Byte(ostype),
+        Field::Byte(filesys),
+        Field::Byte(vernum),
+        Field::Byte(econum),
+        Field::Byte(usrnum),
+        Field::Byte(softver),
+        Field::Byte(usrsoft),
+        Field::Extensible(syscap),
+    ]
+}
+
+fn access_fields<'a>(
+    func: u8,
+    opt: u64,
+    name: &'a [u8],
+    fac: u32,
+    shr: u32,
+    display: u32,
+    password: &'a [u8],
+) -> [Field<'a>; 7]
+    requires { FieldsFit (Access (record { func = func; opt = opt; name = name.now; fac = fac; shr = shr; display = display; password = password.now })) }
+    ensures bytes { fields_bytes result ≡ operand_bytes (Access (record { func = func; opt = opt; name = name.now; fac = fac; shr = shr; display = display; password = password.now })) }
+    ensures can { CanWriteAll result }
+{
+    [
+        Field::Byte(func),
+        Field::Extensible(u128::from(opt)),
+        Field::Image(name),
+        Field::Extensible(u128::from(fac)),
+        Field::Extensible(u128::from(shr)),
+        Field::Extensible(u128::from(display)),
+        Field::Image(password),
+    ]
+}
+
+fn control_fields(here: Control<'_>) -> [Field<'_>; 8]
+    requires { FieldsFit (ControlOf (seen_control here)) }
+    ensures bytes { fields_bytes result ≡ operand_bytes (ControlOf (seen_control here.entry)) }
+    ensures can { CanWriteAll result }
+{
+    let bits = menu_bits(&[
+        here.rac.is_some(),
+        here.key.is_some(),
+        here.krf.is_some(),
+        here.rop.is_some(),
+        here.hsh.is_some(),
+        here.display.is_some(),
+    ]);
+    [
+        Field::Byte(here.func),
+        Field::Extensible(u128::from(bits)),
+        byte_or_absent(here.rac),
+        image_or_absent(here.key),
+        byte_or_absent(here.krf),
+        extensible_u64_or_absent(here.rop),
+        image_or_absent(here.hsh),
+        extensible_u32_or_absent(here.display),
+    ]
+}
+
+fn attributes_fields(here: Attributes<'_>) -> [Field<'_>; 22]
+    requires { FieldsFit (Attrib (seen_attributes here)) }
+    ensures bytes { fields_bytes result ≡ operand_bytes (Attrib (seen_attributes here.entry)) }
+    ensures can { CanWriteAll result }
+{
+    let bits = menu_bits(&[
+        here.datatype.is_some(),
+        here.org.is_some(),
+        here.rfm.is_some(),
+        here.rat.is_some(),
+        here.bls.is_some(),
+        here.mrs.is_some(),
+        here.alq.is_some(),
+        here.bks.is_some(),
+        here.fsz.is_some(),
+        here.mrn.is_some(),
+        here.runsys.is_some(),
+        here.deq.is_some(),
+        here.fop.is_some(),
+        here.bsz.is_some(),
+        here.dev.is_some(),
+        here.sdc.is_some(),
+        here.lrl.is_some(),
+        here.hbk.is_some(),
+        here.ebk.is_some(),
+        here.ffb.is_some(),
+        here.sbn.is_some(),
+    ]);
+    [
+        Field::Extensible(u128::from(bits)),
+        extensible_u16_or_absent(here.datatype),
+        byte_or_absent(here.org),
+        byte_or_absent(here.rfm),
+        extensible_u32_or_absent(here.rat),
+        word_or_absent(here.bls),
+        word_or_absent(here.mrs),
+        image_or_absent(here.alq),
+        byte_or_absent(here.bks),
+        byte_or_absent(here.fsz),
+        image_or_absent(here.mrn),
+        image_or_absent(here.runsys),
+        word_or_absent(here.deq),
+        extensible_u64_or_absent(here.fop),
+        byte_or_absent(here.bsz),
+        extensible_u64_or_absent(here.dev),
+        extensible_u64_or_absent(here.sdc),
+        word_or_absent(here.lrl),
+        image_or_absent(here.hbk),
+        image_or_absent(here.ebk),
+        word_or_absent(here.ffb),
+        image_or_absent(here.sbn),
+    ]
+}
+
+/// Appends the canonical spelling of a message: LENGTH always, LEN256 exactly where the operand has 256 bytes or
+/// more, all fields, numbers in their shortest spelling, nothing after the last field (own; the formats are those
+/// of DAP 5.6.0).
+///
+/// The message must fit, as [`fits`] tells. The only refusal is `FaultKind::NoMemory`, with type and offset 0, which
+/// comes only where `out` lacked the room and leaves it unchanged. Room is reserved once.
+#[tactic(auto, unfolding(crate::specs::Canon::canon))]
+pub fn encode(message: &Message<'_>, out: &mut Vec<u8>) -> Result<(), MsgFault>
+    requires { Fits (seen message.now) }
+    ensures { Appends (canon (seen message.now)) out.old out.new result }
+{
+    match *message {
+        Message::Config {
+            bufsiz,
+            ostype,
+            filesys,
+            vernum,
+            econum,
+            usrnum,
+            softver,
+            usrsoft,
+            syscap,
+        } => write_message(
+            1,
+            &configuration_fields(
+                bufsiz, ostype, filesys, vernum, econum, usrnum, softver, usrsoft, syscap,
+            ),
+            out,
+        ),
+        Message::Attrib(attributes) => write_message(2, &attributes_fields(attributes), out),
+        Message::Access {
+            func,
+            opt,
+            name,
+            fac,
+            shr,
+            display,
+            password,
+        } => write_message(
+            3,
+            &access_fields(func, opt, name, fac, shr, display, password),
+            out,
+        ),
+        Message::Control(control) => write_message(4, &control_fields(control), out),
+        Message::Contran { func } => write_message(5, &[Field::Byte(func)], out),
+        Message::Ack => write_message(6, &[], out),
+        Message::Accomp { func, fop, check } => {
+            write_message(7, &completion_fields(func, fop, check), out)
+        }
+        Message::Filedata { recnum, payload } => {
+            write_message(8, &[Field::Image(recnum), Field::Rest(payload)], out)
+        }
+        Message::Status {
+            code,
+            rfa,
+            recnum,
+            stv,
+        } => write_message(9, &status_fields(code, rfa, recnum, stv), out),
+        Message::Other { number, body } => write_message(number, &[Field::Rest(body)], out),
+    }
+}
+
+/// The number of bytes that [`encode`] appends for a message that fits. Takes no memory.
+#[tactic(auto, unfolding(crate::specs::Canon::canon))]
+pub fn encoded_len(message: &Message<'_>) -> usize
+    requires { Fits (seen message.now) }
+    ensures { result ≡ length (canon (seen message.now)) }
+{
+    match *message {
+        Message::Config {
+            bufsiz,
+            ostype,
+            filesys,
+            vernum,
+            econum,
+            usrnum,
+            softver,
+            usrsoft,
+            syscap,
+        } => fields_message_len(&configuration_fields(
+            bufsiz, ostype, filesys, vernum, econum, usrnum, softver, usrsoft, syscap,
+        )),
+        Message::Attrib(attributes) => fields_message_len(&attributes_fields(attributes)),
+        Message::Access {
+            func,
+            opt,
+            name,
+            fac,
+            shr,
+            display,
+            password,
+        } => fields_message_len(&access_fields(
+            func, opt, name, fac, shr, display, password,
+        )),
+        Message::Control(control) => fields_message_len(&control_fields(control)),
+        Message::Contran { func } => fields_message_len(&[Field::Byte(func)]),
+        Message::Ack => fields_message_len(&[]),
+        Message::Accomp { func, fop, check } => {
+            fields_message_len(&completion_fields(func, fop, check))
+        }
+        Message::Filedata { recnum, payload } => {
+            fields_message_len(&[Field::Image(recnum), Field::Rest(payload)])
+        }
+        Message::Status {
+            code,
+            rfa,
+            recnum,
+            stv,
+        } => fields_message_len(&status_fields(code, rfa, recnum, stv)),
+        Message::Other { body, .. } => fields_message_len(&[Field::Rest(body)]),
+    }
+}

@@ -1,0 +1,143 @@
+-- The packets that are used here, byte by byte: data segments and data acknowledgements.
+use Rattle.std.specs.Prelude.{◌≡◌, ◌≢◌, ℕ, ◌+◌, ◌*◌, ◌<◌, ◌≤◌, ◌^◌, Bool, ◌⊎◌, List, [], ◌∷◌, ◌++◌, length, Option, Some, None, IsSome, IfSome, if◌then◌else◌}
+use Rattle.std.specs.Int.{w16, to_le_bytes}
+use Rattle.nsp_seg.specs.declared.packet.AckField.{AckField}
+use Rattle.nsp_seg.specs.declared.packet.Packet.{Packet}
+use Rattle.nsp_seg.specs.declared.packet.Packet.TheVariants as packet
+use Rattle.nsp_seg.specs.declared.packet.SegFault.{SegFault}
+use Rattle.nsp_seg.specs.declared.packet.SegFault.TheVariants.{Truncated, Trailing, NotHere, BadNumber, NoMemory}
+
+-- what a data segment says
+pub record SegmentValue : Type 0 where
+  pub first : Bool
+  pub last : Bool
+  pub dst : ℕ
+  pub src : ℕ
+  pub ack1 : Option AckField
+  pub ack2 : Option AckField
+  pub number : ℕ
+  pub payload : List ℕ
+
+-- what a data acknowledgement says
+pub record AckValue : Type 0 where
+  pub dst : ℕ
+  pub src : ℕ
+  pub ack1 : AckField
+  pub ack2 : Option AckField
+
+-- a packet, wherever its payload lies
+pub data PacketValue : Type 0 where
+  segment : SegmentValue → PacketValue
+  data_ack : AckValue → PacketValue
+
+abbrev pub view : Packet → PacketValue
+view (packet.Segment first last dst src ack1 ack2 number payload) =
+    segment (record { first = first; last = last; dst = dst; src = src; ack1 = ack1; ack2 = ack2; number = number; payload = payload.now })
+view (packet.DataAck dst src ack1 ack2) = data_ack (record { dst = dst; src = src; ack1 = ack1; ack2 = ack2 })
+
+-- ---- spelling
+
+-- the first byte of a segment: 0x20 marks the first of a message, 0x40 the last
+abbrev pub marks : Bool → Bool → ℕ
+marks first last = (if first then 0x20 else 0) + (if last then 0x40 else 0)
+
+-- a number with bit 15 set: the qualifier in bits 12 to 14, the number below
+abbrev pub ack_bytes : AckField → List ℕ
+ack_bytes a = to_le_bytes w16 (0x8000 + 0x1000 * a.qual + a.number)
+
+abbrev pub optional_ack : Option AckField → List ℕ
+optional_ack None = []
+optional_ack (Some a) = ack_bytes a
+
+-- The bytes of a packet. Bits 12 to 14 of a segment's number are free, and bit 15 is clear.
+abbrev pub spelling_with : ℕ → PacketValue → List ℕ
+spelling_with free (segment p) =
+    marks p.first p.last ∷ [] ++ to_le_bytes w16 p.dst ++ to_le_bytes w16 p.src ++ optional_ack p.ack1 ++ optional_ack p.ack2
+    ++ to_le_bytes w16 (0x1000 * free + p.number) ++ p.payload
+spelling_with free (data_ack p) =
+    0x04 ∷ [] ++ to_le_bytes w16 p.dst ++ to_le_bytes w16 p.src ++ ack_bytes p.ack1 ++ optional_ack p.ack2
+
+-- what is written
+abbrev pub spelling : PacketValue → List ℕ
+spelling p = spelling_with 0 p
+
+abbrev pub AckFits : AckField → Type 0
+AckFits a = (a.qual < 8) × (a.number < 4096)
+
+-- a second acknowledgement stands only beside a first
+abbrev pub Beside : Option AckField → Option AckField → Type 0
+Beside None None = Unit {0}
+Beside None (Some b) = ⊥
+Beside (Some a) second = Unit {0}
+
+-- each value fits its field
+abbrev pub Fits : PacketValue → Type 0
+Fits (segment p) =
+    (p.dst < 2 ^ 16) × (p.src < 2 ^ 16) × IfSome p.ack1 AckFits × IfSome p.ack2 AckFits × Beside p.ack1 p.ack2 × (p.number < 4096)
+Fits (data_ack p) = (p.dst < 2 ^ 16) × (p.src < 2 ^ 16) × AckFits p.ack1 × IfSome p.ack2 AckFits
+
+-- What a caller has to see to before a packet is written: the other values fit by their types.
+abbrev pub QualFits : AckField → Type 0
+QualFits a = a.qual < 8
+
+abbrev pub IsWritable : PacketValue → Type 0
+IsWritable (segment p) = IfSome p.ack1 QualFits × IfSome p.ack2 QualFits × Beside p.ack1 p.ack2
+IsWritable (data_ack p) = QualFits p.ack1 × IfSome p.ack2 QualFits
+
+-- The bytes, all of them, are this packet's: its fields, joined.
+pub record Spells (p : PacketValue) (bytes : List ℕ) : Type 0 where
+  pub fits : Fits p
+  pub free : ℕ
+  pub few : free < 8
+  pub spelled : bytes ≡ spelling_with free p
+
+-- ---- faults
+
+abbrev pub IsSegmentFlag : ℕ → Type 0
+IsSegmentFlag flag = (flag ≡ 0x00) ⊎ (flag ≡ 0x20) ⊎ (flag ≡ 0x40) ⊎ (flag ≡ 0x60)
+
+abbrev pub IsAckFlag : ℕ → Type 0
+IsAckFlag flag = flag ≡ 0x04
+
+abbrev pub IsUsedFlag : ℕ → Type 0
+IsUsedFlag flag = IsSegmentFlag flag ⊎ IsAckFlag flag
+
+-- These bytes are whole fields with allowed values, and another field has to follow them. A number
+-- whose high byte is 128 or more is an acknowledgement field.
+abbrev pub IsFieldDue : List ℕ → Type 0
+IsFieldDue [] = Unit {0}
+IsFieldDue (flag ∷ []) = IsUsedFlag flag
+IsFieldDue (flag ∷ _ ∷ _ ∷ []) = IsUsedFlag flag
+IsFieldDue (flag ∷ _ ∷ _ ∷ _ ∷ _ ∷ []) = IsUsedFlag flag
+IsFieldDue (flag ∷ _ ∷ _ ∷ _ ∷ _ ∷ _ ∷ high1 ∷ []) = IsSegmentFlag flag × (128 ≤ high1)
+IsFieldDue (flag ∷ _ ∷ _ ∷ _ ∷ _ ∷ _ ∷ high1 ∷ _ ∷ high2 ∷ []) = IsSegmentFlag flag × (128 ≤ high1) × (128 ≤ high2)
+IsFieldDue _ = ⊥
+
+-- a field of its size is not whole here: the first has one byte, the others two
+abbrev pub IsShort : List ℕ → List ℕ → Type 0
+IsShort [] rest = rest ≡ []
+IsShort (_ ∷ _) rest = length rest < 2
+
+-- these bytes are a whole acknowledgement, and these may not follow it
+abbrev pub MayNotFollow : List ℕ → List ℕ → Type 0
+MayNotFollow (flag ∷ _ ∷ _ ∷ _ ∷ _ ∷ _ ∷ high1 ∷ []) (_ ∷ high2 ∷ _) = IsAckFlag flag × (128 ≤ high1) × (high2 < 128)
+MayNotFollow (flag ∷ _ ∷ _ ∷ _ ∷ _ ∷ _ ∷ high1 ∷ []) (_ ∷ []) = IsAckFlag flag × (128 ≤ high1)
+MayNotFollow (flag ∷ _ ∷ _ ∷ _ ∷ _ ∷ _ ∷ high1 ∷ _ ∷ high2 ∷ []) (_ ∷ _) = IsAckFlag flag × (128 ≤ high1) × (128 ≤ high2)
+MayNotFollow _ _ = ⊥
+
+-- a number with this high byte may not follow these bytes
+abbrev pub MayNotBeNumber : List ℕ → ℕ → Type 0
+MayNotBeNumber (flag ∷ _ ∷ _ ∷ _ ∷ _ ∷ []) high = IsAckFlag flag × (high < 128)
+MayNotBeNumber (flag ∷ _ ∷ _ ∷ _ ∷ _ ∷ _ ∷ high1 ∷ _ ∷ high2 ∷ []) high = IsSegmentFlag flag × (128 ≤ high1) × (128 ≤ high2) × (128 ≤ high)
+MayNotBeNumber _ _ = ⊥
+
+-- The fault of bytes that are no packet. What stands in front of the offset is whole and allowed.
+abbrev pub HasFault : SegFault → List ℕ → Type 0
+HasFault (Truncated at) bytes =
+    (front rest : List ℕ) × (bytes ≡ front ++ rest) × (length front ≡ at) × IsFieldDue front × IsShort front rest
+HasFault (Trailing at) bytes =
+    (front rest : List ℕ) × (bytes ≡ front ++ rest) × (length front ≡ at) × MayNotFollow front rest
+HasFault (NotHere flag) bytes = (rest : List ℕ) × (bytes ≡ flag ∷ rest) × (IsUsedFlag flag → ⊥)
+HasFault (BadNumber at) bytes =
+    (front rest : List ℕ) × (low high : ℕ) × (bytes ≡ front ++ low ∷ high ∷ rest) × (length front ≡ at) × MayNotBeNumber front high
+HasFault NoMemory bytes = ⊥

@@ -1,0 +1,70 @@
+-- Reading a packet from left to right, with the first fault that is met: what the private readers compute.
+-- What callers are promised is in Packets.
+use Rattle.std.specs.Prelude.{◌≡◌, ℕ, ◌+◌, ◌*◌, ◌/◌, ◌%◌, List, [], ◌∷◌, length, Option, Some, None, Result, Ok, Err, nat_lt, ◌==◌, ◌||◌, if◌then◌else◌, Bool, true, false}
+use Rattle.nsp_seg.specs.declared.packet.AckField.{AckField}
+use Rattle.nsp_seg.specs.declared.packet.SegFault.{SegFault}
+use Rattle.nsp_seg.specs.declared.packet.SegFault.TheVariants.{Truncated, Trailing, NotHere, BadNumber}
+use Rattle.nsp_seg.specs.Numbers.{residue}
+use Rattle.nsp_seg.specs.Packets.{PacketValue, segment, data_ack}
+
+infixl 10 ◌>>=◌
+abbrev pub ◌>>=◌ : {A B : Type 0} → Result A SegFault → (A → Result B SegFault) → Result B SegFault
+(Ok x) >>= f = f x
+(Err e) >>= f = Err e
+
+-- what a function returned, seen by view, is what reading gives
+abbrev pub Gives : {X Y : Type 0} → (X → Y) → Result X SegFault → Result Y SegFault → Type 0
+Gives view (Ok x) read = read ≡ Ok (view x)
+Gives view (Err e) read = read ≡ Err e
+
+-- a two-byte number, which stands at this offset, and what follows it
+abbrev pub word_at : ℕ → List ℕ → Result (ℕ × List ℕ) SegFault
+word_at at [] = Err (Truncated at)
+word_at at (low ∷ []) = Err (Truncated at)
+word_at at (low ∷ high ∷ rest) = Ok (low + 256 * high, rest)
+
+-- the acknowledgement field that a number with bit 15 set is
+abbrev pub ack_of : ℕ → Option AckField
+ack_of word = if nat_lt word 0x8000 then None else Some (record { qual = word / 4096 % 8; number = residue word })
+
+-- the acknowledgement fields of a segment, its number with the free bits, and its payload
+unfoldable pub tail_of : List ℕ → Result (Option AckField × Option AckField × ℕ × List ℕ) SegFault
+tail_of bytes = do
+  one ← word_at 5 bytes
+  if nat_lt one.0 0x8000 then Ok (None, None, one.0, one.1) else (do
+    two ← word_at 7 one.1
+    if nat_lt two.0 0x8000 then Ok (ack_of one.0, None, two.0, two.1) else (do
+      three ← word_at 9 two.1
+      if nat_lt three.0 0x8000 then Ok (ack_of one.0, ack_of two.0, three.0, three.1) else Err (BadNumber 9)))
+
+unfoldable pub segment_of : ℕ → List ℕ → Result PacketValue SegFault
+segment_of flag bytes = do
+  dst ← word_at 1 bytes
+  src ← word_at 3 dst.1
+  tail ← tail_of src.1
+  Ok (segment (record { first = flag == 0x20 || flag == 0x60; last = flag == 0x40 || flag == 0x60; dst = dst.0; src = src.0; ack1 = tail.0; ack2 = tail.1; number = residue tail.2; payload = tail.3 }))
+
+unfoldable pub second_of : List ℕ → Result (Option AckField) SegFault
+second_of [] = Ok None
+second_of (low ∷ []) = Err (Trailing 7)
+second_of (low ∷ high ∷ []) = if nat_lt high 128 then Err (Trailing 7) else Ok (ack_of (low + 256 * high))
+second_of (low ∷ high ∷ next ∷ rest) = if nat_lt high 128 then Err (Trailing 7) else Err (Trailing 9)
+
+abbrev pub or_bad : Option AckField → Result AckField SegFault
+or_bad None = Err (BadNumber 5)
+or_bad (Some a) = Ok a
+
+unfoldable pub data_ack_of : List ℕ → Result PacketValue SegFault
+data_ack_of bytes = do
+  dst ← word_at 1 bytes
+  src ← word_at 3 dst.1
+  one ← word_at 5 src.1
+  ack1 ← or_bad (ack_of one.0)
+  ack2 ← second_of one.1
+  Ok (data_ack (record { dst = dst.0; src = src.0; ack1 = ack1; ack2 = ack2 }))
+
+unfoldable pub read : List ℕ → Result PacketValue SegFault
+read [] = Err (Truncated 0)
+read (flag ∷ rest) =
+    if flag == 0x00 || flag == 0x20 || flag == 0x40 || flag == 0x60 then segment_of flag rest else
+    (if flag == 0x04 then data_ack_of rest else Err (NotHere flag))

@@ -1,0 +1,139 @@
+//! Bytes to packets.
+
+ghost use Rattle.std.specs.Prelude.{◌≡◌, Err, IsOkAnd, IfOk, IfErr};
+ghost use Rattle.nsp_seg.specs.Packets.{PacketValue, Spells, HasFault, view};
+ghost use Rattle.nsp_seg.specs.Reading.{Gives, word_at, ack_of, tail_of, segment_of, second_of, data_ack_of, read};
+
+use crate::packet::{AckField, Packet, SegFault};
+use crate::seq12::Seq12;
+use byteorder::{ByteOrder, LittleEndian};
+
+// The two-byte number in front, which stands at the offset `at` of the packet, and what follows it.
+fn take_word(bytes: &[u8], at: usize) -> Result<(u16, &[u8]), SegFault>
+    ensures { Gives (λ x. (x.0, x.1.now)) result (word_at at bytes.now) }
+{
+    if bytes.len() < 2 {
+        return Err(SegFault::Truncated(at));
+    }
+    let (front, rest) = bytes.split_at(2);
+    Ok((LittleEndian::read_u16(front), rest))
+}
+
+// The acknowledgement field that a number with its high bit set is.
+fn ack_field(word: u16) -> Option<AckField>
+    ensures { result ≡ ack_of word }
+{
+    if word < 0x8000 {
+        return None;
+    }
+    Some(AckField {
+        qual: (word / 4096 % 8) as u8,
+        number: Seq12::of(u64::from(word)),
+    })
+}
+
+// The acknowledgement fields, the number with its free bits, and the payload, which begin at offset 5
+// of a segment.
+type Tail<'a> = (Option<AckField>, Option<AckField>, u16, &'a [u8]);
+
+#[tactic(auto, unfolding(crate::specs::Reading::tail_of))]
+fn take_tail(bytes: &[u8]) -> Result<Tail<'_>, SegFault>
+    ensures { Gives (λ t. (t.0, t.1, t.2, t.3.now)) result (tail_of bytes.now) }
+{
+    let (one, rest) = take_word(bytes, 5)?;
+    if one < 0x8000 {
+        return Ok((None, None, one, rest));
+    }
+    let (two, rest) = take_word(rest, 7)?;
+    if two < 0x8000 {
+        return Ok((ack_field(one), None, two, rest));
+    }
+    let (three, rest) = take_word(rest, 9)?;
+    if three < 0x8000 {
+        return Ok((ack_field(one), ack_field(two), three, rest));
+    }
+    Err(SegFault::BadNumber(9))
+}
+
+#[tactic(auto, unfolding(crate::specs::Reading::segment_of))]
+fn segment(flag: u8, bytes: &[u8]) -> Result<Packet<'_>, SegFault>
+    ensures { Gives view result (segment_of flag bytes.now) }
+{
+    let (dst, rest) = take_word(bytes, 1)?;
+    let (src, rest) = take_word(rest, 3)?;
+    let (ack1, ack2, word, payload) = match take_tail(rest) {
+        Ok(tail) => tail,
+        Err(fault) => return Err(fault),
+    };
+    Ok(Packet::Segment {
+        first: flag == 0x20 || flag == 0x60,
+        last: flag == 0x40 || flag == 0x60,
+        dst,
+        src,
+        ack1,
+        ack2,
+        number: Seq12::of(u64::from(word)),
+        payload,
+    })
+}
+
+// What follows the first field of an acknowledgement, from offset 7 on.
+#[tactic(auto, unfolding(crate::specs::Reading::second_of))]
+fn second_ack(bytes: &[u8]) -> Result<Option<AckField>, SegFault>
+    ensures { Gives (λ a. a) result (second_of bytes.now) }
+{
+    match bytes {
+        [] => Ok(None),
+        [_] => Err(SegFault::Trailing(7)),
+        [low, high] if *high >= 0x80 => Ok(ack_field(u16::from(*low) + 256 * u16::from(*high))),
+        [_, high, ..] if *high >= 0x80 => Err(SegFault::Trailing(9)),
+        _ => Err(SegFault::Trailing(7)),
+    }
+}
+
+#[tactic(auto, unfolding(crate::specs::Reading::data_ack_of))]
+fn data_ack(bytes: &[u8]) -> Result<Packet<'_>, SegFault>
+    ensures { Gives view result (data_ack_of bytes.now) }
+{
+    let (dst, rest) = take_word(bytes, 1)?;
+    let (src, rest) = take_word(rest, 3)?;
+    let (one, rest) = take_word(rest, 5)?;
+    let Some(ack1) = ack_field(one) else {
+        return Err(SegFault::BadNumber(5));
+    };
+    let ack2 = second_ack(rest)?;
+    Ok(Packet::DataAck {
+        dst,
+        src,
+        ack1,
+        ack2,
+    })
+}
+
+#[tactic(auto, unfolding(crate::specs::Reading::read))]
+fn packet(bytes: &[u8]) -> Result<Packet<'_>, SegFault>
+    ensures { Gives view result (read bytes.now) }
+{
+    match bytes {
+        [] => Err(SegFault::Truncated(0)),
+        [flag, rest @ ..] => match *flag {
+            0x00 | 0x20 | 0x40 | 0x60 => segment(*flag, rest),
+            0x04 => data_ack(rest),
+            _ => Err(SegFault::NotHere(*flag)),
+        },
+    }
+}
+
+/// The packet that the bytes, all of them, spell; its payload is a part of them. It takes no memory.
+/// Bytes that spell none have one fault, and that is told (NSP 4.0.0, data segment message and data
+/// acknowledgement message; other messages are not read here: own).
+pub fn decode_packet(bytes: &[u8]) -> Result<Packet<'_>, SegFault>
+    // What is spelled is read, and what is read is spelled.
+    ensures only { (p : PacketValue) → Spells p bytes.now → IsOkAnd result (λ q. view q ≡ p) }
+    ensures found { IfOk result (λ p. Spells (view p) bytes.now) }
+    // A fault of the bytes is told, and what is told is a fault of the bytes.
+    ensures fault_found { (f : SegFault) → HasFault f bytes.now → result ≡ Err f }
+    ensures fault { IfErr result (λ f. HasFault f bytes.now) }
+{
+    packet(bytes)
+}

@@ -1,0 +1,130 @@
+//! Packets to bytes.
+
+ghost use Rattle.std.specs.Prelude.{◌≡◌, ◌+◌, ◌<◌, ◌≤◌, ◌++◌, ◌*◌, length, vec_len, vec_capacity, OnOk, OnErr, IsErrOf, IsOk, IfSome, ◌∷◌, [], IsOkUnless};
+ghost use Rattle.std.specs.Int.{w16, to_le_bytes};
+ghost use Rattle.nsp_seg.specs.Packets.{view, spelling, Fits, AckFits, IsWritable, optional_ack, ack_bytes, QualFits};
+ghost use Rattle.nsp_seg.specs.declared.packet.SegFault.TheVariants.{NoMemory};
+
+use crate::packet::{AckField, Packet, SegFault};
+use byteorder::{ByteOrder, LittleEndian};
+
+// Appends a two-byte number, for which there is room.
+fn put_word(out: &mut Vec<u8>, word: u16)
+    requires { vec_len out.old + 2 ≤ vec_capacity out.old }
+    ensures items { out.new.items ≡ out.old.items ++ to_le_bytes w16 word }
+    ensures len { vec_len out.new ≡ vec_len out.old + 2 }
+    ensures capacity { vec_capacity out.new ≡ vec_capacity out.old }
+{
+    let mut bytes = [0u8; 2];
+    LittleEndian::write_u16(&mut bytes, word);
+    out.push_reserved(bytes[0]);
+    out.push_reserved(bytes[1]);
+}
+
+fn put_ack(out: &mut Vec<u8>, ack: AckField)
+    requires room { vec_len out.old + 2 ≤ vec_capacity out.old }
+    requires qual { QualFits ack }
+    ensures items { out.new.items ≡ out.old.items ++ ack_bytes ack }
+    ensures len { vec_len out.new ≡ vec_len out.old + 2 }
+    ensures capacity { vec_capacity out.new ≡ vec_capacity out.old }
+    ensures fits { AckFits ack }
+{
+    put_word(
+        out,
+        0x8000 + 0x1000 * u16::from(ack.qual) + ack.number.get(),
+    );
+}
+
+fn put_optional_ack(out: &mut Vec<u8>, ack: Option<AckField>)
+    requires room { vec_len out.old + length (optional_ack ack) ≤ vec_capacity out.old }
+    requires qual { IfSome ack QualFits }
+    ensures items { out.new.items ≡ out.old.items ++ optional_ack ack }
+    ensures len { vec_len out.new ≡ vec_len out.old + length (optional_ack ack) }
+    ensures capacity { vec_capacity out.new ≡ vec_capacity out.old }
+    ensures fits { IfSome ack AckFits }
+{
+    if let Some(ack) = ack {
+        put_ack(out, ack);
+    }
+}
+
+fn optional_len(ack: &Option<AckField>) -> usize
+    ensures value { result ≡ length (optional_ack ack.now) }
+    ensures small { result ≤ 2 }
+{
+    match ack {
+        None => 0,
+        Some(_) => 2,
+    }
+}
+
+fn packet_len(packet: &Packet<'_>) -> usize
+    ensures { result ≡ length (spelling (view packet.now)) }
+{
+    match packet {
+        Packet::Segment {
+            ack1,
+            ack2,
+            payload,
+            ..
+        } => { 7 + optional_len(ack1) + optional_len(ack2) + payload.len() }
+        Packet::DataAck { ack2, .. } => 7 + optional_len(ack2),
+    }
+}
+
+fn put_packet(out: &mut Vec<u8>, packet: &Packet<'_>)
+    requires writable { IsWritable (view packet.now) }
+    requires room { vec_len out.old + length (spelling (view packet.now)) ≤ vec_capacity out.old }
+    ensures items { out.new.items ≡ out.old.items ++ spelling (view packet.now) }
+    ensures fits { Fits (view packet.now) }
+{
+    match packet {
+        Packet::Segment {
+            first,
+            last,
+            dst,
+            src,
+            ack1,
+            ack2,
+            number,
+            payload,
+        } => {
+            out.push_reserved(if *first { 0x20 } else { 0 } + if *last { 0x40 } else { 0 });
+            put_word(out, *dst);
+            put_word(out, *src);
+            put_optional_ack(out, *ack1);
+            put_optional_ack(out, *ack2);
+            put_word(out, number.get());
+            out.extend_from_slice(payload).unwrap();
+        }
+        Packet::DataAck {
+            dst,
+            src,
+            ack1,
+            ack2,
+        } => {
+            out.push_reserved(0x04);
+            put_word(out, *dst);
+            put_word(out, *src);
+            put_ack(out, *ack1);
+            put_optional_ack(out, *ack2);
+        }
+    }
+}
+
+/// Appends the packet's bytes; the free bits of a segment's number are written 0 (own). The caller sees
+/// to it that each qualifier is at most 7, and that a second acknowledgement field stands only beside a
+/// first. It is refused for want of memory alone, which leaves `out` as it was, and never where `out`
+/// has the room already (NSP 4.0.0, data segment message and data acknowledgement message).
+pub fn encode_packet(packet: &Packet<'_>, out: &mut Vec<u8>) -> Result<(), SegFault>
+    requires { IsWritable (view packet.now) }
+    ensures ok { OnOk result (out.new.items ≡ out.old.items ++ spelling (view packet.now)) }
+    ensures fits { OnOk result (Fits (view packet.now)) }
+    ensures err { OnErr result (out.new.items ≡ out.old.items) }
+    ensures fault { IsOkUnless result NoMemory }
+    ensures room { vec_len out.old + length (spelling (view packet.now)) ≤ vec_capacity out.old → IsOk result }
+{
+    out.reserve(packet_len(packet))?;
+    put_packet(out, packet);
+    Ok(())
+}

@@ -1,0 +1,104 @@
+//! What packets say (NSP 4.0.0).
+
+ghost use Rattle.std.specs.Prelude.{◌≡◌};
+ghost use Rattle.nsp_seg.specs.declared.packet.SegFault.TheVariants.{NoMemory};
+ghost use Rattle.nsp_seg.specs.Flags.{flag_kind_of};
+
+use crate::seq12::Seq12;
+use std::alloc::AllocError;
+
+/// An acknowledgement field (NSP 4.0.0, data acknowledgement message).
+#[derive(Clone, Copy, Debug, PartialEq, Eq)]
+pub struct AckField {
+    /// QUAL, 0 to 7: 0 acknowledges segments of this subchannel, 1 refuses them, 2 and 3 are of the other
+    /// subchannel.
+    pub qual: u8,
+    /// The last segment that it speaks of.
+    pub number: Seq12,
+}
+
+/// A packet; its payload lies in the bytes that were read. A second acknowledgement field stands only
+/// beside a first.
+#[derive(Clone, Copy, Debug)]
+pub enum Packet<'a> {
+    /// NSP 4.0.0, data segment message: whether it is the first and the last segment of its message, to
+    /// whom and from whom, up to two acknowledgement fields, its number and its bytes, which may be none.
+    Segment {
+        first: bool,
+        last: bool,
+        dst: u16,
+        src: u16,
+        ack1: Option<AckField>,
+        ack2: Option<AckField>,
+        number: Seq12,
+        payload: &'a [u8],
+    },
+    /// NSP 4.0.0, data acknowledgement message: to whom and from whom, and one or two fields.
+    DataAck {
+        dst: u16,
+        src: u16,
+        ack1: AckField,
+        ack2: Option<AckField>,
+    },
+}
+
+/// Why bytes are no packet; an offset counts bytes from their start (own).
+#[derive(Clone, Copy, Debug, PartialEq, Eq)]
+pub enum SegFault {
+    /// The field that begins at this offset is missing, or not whole.
+    Truncated(usize),
+    /// What stands from this offset on may not follow an acknowledgement.
+    Trailing(usize),
+    /// This first byte is neither that of a data segment nor that of a data acknowledgement.
+    NotHere(u8),
+    /// The number at this offset has the wrong highest bit: it is set where a segment's own number has to
+    /// stand, or clear where an acknowledgement field has to.
+    BadNumber(usize),
+    /// Memory ran out in writing.
+    NoMemory,
+}
+
+impl From<AllocError> for SegFault {
+    ghost from_gives = { λ _ e. e ≡ NoMemory };
+
+    fn from(_e: AllocError) -> SegFault {
+        SegFault::NoMemory
+    }
+}
+
+/// What a packet's first byte says that it is (NSP 4.0.0, message formats).
+#[derive(Clone, Copy, Debug, PartialEq, Eq)]
+pub enum FlagKind {
+    /// Data segment.
+    Segment,
+    /// Data acknowledgement.
+    DataAck,
+    /// Link service.
+    LinkService,
+    /// Interrupt.
+    Interrupt,
+    /// Other-data acknowledgement.
+    OtherAck,
+    /// Connect acknowledgement.
+    ConnectAck,
+    /// Setting up a link, taking it down, and doing nothing.
+    Control,
+    /// None of these.
+    Unknown,
+}
+
+/// What a packet with this first byte is, for listings (NSP 4.0.0, message formats).
+pub fn flag_kind(flag: u8) -> FlagKind
+    ensures { result ≡ flag_kind_of flag }
+{
+    match flag {
+        0x00 | 0x20 | 0x40 | 0x60 => FlagKind::Segment,
+        0x04 => FlagKind::DataAck,
+        0x10 => FlagKind::LinkService,
+        0x30 => FlagKind::Interrupt,
+        0x14 => FlagKind::OtherAck,
+        0x24 => FlagKind::ConnectAck,
+        0x08 | 0x18 | 0x28 | 0x38 | 0x48 | 0x58 | 0x68 | 0x78 => FlagKind::Control,
+        _ => FlagKind::Unknown,
+    }
+}
