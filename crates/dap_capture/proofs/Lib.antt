@@ -1,4 +1,3 @@
-pub mod AnswerLemmas
 pub mod HexTextLemmas
 pub mod LineLemmas
 pub mod ListingLemmas

@@ -1,74 +1,33 @@
 -- What the lines say is determined by the bytes, so an input has one listing at the most.
-use Rattle.std.proofs.Common.{◌≡◌, ◌<◌, ◌+◌, ◌*◌, ◌++◌, ℕ, Bool, true, false, List, [], ◌∷◌, length, drop, get_or, Result, Ok, Err, sym, ap, ◌∙◌, subst, arith, refl}
-use Rattle.std.proofs.lemmas.List.{get_or-drop}
+use Rattle.std.proofs.Common.{◌≡◌, ◌<◌, ◌+◌, ◌*◌, ◌++◌, ℕ, suc, Bool, true, false, List, [], ◌∷◌, length, drop, get_or, Result, Ok, Err, sym, ap, ◌∙◌, subst, arith, refl}
+use Rattle.std.specs.List.{flat_map}
 use Rattle.hex.proofs.HexLemmas.{decode_of-ok, decode_of-same}
-use Rattle.dap_fields.specs.Readers.{AreBytes, AreBytes-rest}
-use Rattle.dap_msg.specs.declared.fault.MsgFault.{MsgFault}
-use Rattle.dap_msg.specs.Message.{Message}
-use Rattle.dap_msg.specs.Decoding.{IsAnswer}
-use Rattle.dap_msg.proofs.Messages.{only}
+use Rattle.dap_msg.proofs.Places.{have_items}
 use Rattle.nsp_seg.specs.Packets.{PacketValue, SegmentValue, AckValue, segment, data_ack, Spells, HasFault, marks, optional_ack}
 use Rattle.std.specs.Int.{w16, to_le_bytes}
 use Rattle.nsp_seg.specs.declared.packet.SegFault.{SegFault}
 use Rattle.nsp_seg.proofs.Exactness.{spells-one, spells-apart, fault-one}
-use Rattle.dap_capture.specs.Messages.{MessageLines, last_one, one_more, at_fault, message_line, fault_line}
+use Rattle.dap_capture.specs.Messages.{IsMessagesText, item_line}
 use Rattle.dap_capture.specs.Packets.{IsPacketText, of_segment, of_ack, of_fault, SegmentMessages, segment_line, ack_line, fault_line as packet_fault_line}
 use Rattle.dap_capture.specs.Listing.{PacketLines, no_more, one_more as one_packet_more, Capture, IsListing, HasOneListing, captures, heading, packet_limit}
 
-one_answer : (bytes : List ℕ) → AreBytes bytes → (a b : Result (Message × ℕ) MsgFault) → IsAnswer bytes a → IsAnswer bytes b → a ≡ b
-one_answer bytes are a b is_a is_b = only bytes are a is_a ∙ sym (only bytes are b is_b)
+-- each is a byte
+abbrev AreBytes : List ℕ → Type 0
+AreBytes bytes = (i : ℕ) → get_or bytes i 0 < 256
 
-message_of : Message → Result (Message × ℕ) MsgFault → Message
-message_of other (Ok found) = found.0
-message_of other (Err fault) = other
-
-size_of : Result (Message × ℕ) MsgFault → ℕ
-size_of (Ok found) = found.1
-size_of (Err fault) = 0
-
-one_message : (m m' : Message) (n n' : ℕ) → ◌≡◌ {A = Result (Message × ℕ) MsgFault} (Ok (m, n)) (Ok (m', n')) → (m ≡ m') × (n ≡ n')
-unfolding message_of size_of
-one_message m m' n n' same = (ap (message_of m) same, ap size_of same)
-
-are_dropped : (n : ℕ) (bytes : List ℕ) → AreBytes bytes → AreBytes (drop n bytes)
-are_dropped n bytes are i = rw (get_or-drop n bytes i 0) (are (n + i))
-
-one_text : (at : ℕ) (bytes a b : List ℕ) → AreBytes bytes → MessageLines at bytes a → MessageLines at bytes b → a ≡ b
-one_text at bytes a b are (last_one m says) (last_one m' says') =
-    let same = one_answer bytes are (Ok (m, length bytes)) (Ok (m', length bytes)) says says' in
-    ap message_line (one_message m m' (length bytes) (length bytes) same).0
-one_text at bytes a b are (last_one m says) (one_more m' n says' below later) =
-    let same = one_answer bytes are (Ok (m, length bytes)) (Ok (m', n)) says says' in
-    absurd (omega (arith, (one_message m m' (length bytes) n same).1))
-one_text at bytes a b are (last_one m says) (at_fault fault says') =
-    let same = one_answer bytes are (Ok (m, length bytes)) (Err fault) says says' in let no : ⊥ = cc in absurd no
-one_text at bytes a b are (one_more m n says below later) (last_one m' says') =
-    let same = one_answer bytes are (Ok (m, n)) (Ok (m', length bytes)) says says' in
-    absurd (omega (arith, (one_message m m' n (length bytes) same).1))
-one_text at bytes a b are (one_more {later = rest} m n says below later) (one_more {later = rest'} m' n' says' below' later') =
-    let same = one_answer bytes are (Ok (m, n)) (Ok (m', n')) says says' in
-    let equal = one_message m m' n n' same in
-    let other = subst (λ k. MessageLines (at + k) (drop k bytes) rest') (sym equal.1) later' in
-    let others = one_text (at + n) (drop n bytes) rest rest' (are_dropped n bytes are) later other in
-    ap (λ t. message_line t ++ rest) equal.0 ∙ ap (λ t. message_line m' ++ t) others
-one_text at bytes a b are (one_more m n says below later) (at_fault fault says') =
-    let same = one_answer bytes are (Ok (m, n)) (Err fault) says says' in let no : ⊥ = cc in absurd no
-one_text at bytes a b are (at_fault fault says) (last_one m' says') =
-    let same = one_answer bytes are (Err fault) (Ok (m', length bytes)) says says' in let no : ⊥ = cc in absurd no
-one_text at bytes a b are (at_fault fault says) (one_more m' n' says' below' later') =
-    let same = one_answer bytes are (Err fault) (Ok (m', n')) says says' in let no : ⊥ = cc in absurd no
-one_text at bytes a b are (at_fault fault says) (at_fault fault' says') =
-    let same = one_answer bytes are (Err fault) (Err fault') says says' in
-    ap (fault_line at) (let told : fault ≡ fault' = cc in told)
+one_text : (bytes a b : List ℕ) → AreBytes bytes → IsMessagesText bytes a → IsMessagesText bytes b → a ≡ b
+one_text bytes a b are lines others =
+    let all = have_items bytes are in
+    lines.joined ∙ ap (flat_map item_line) (all.only lines.items lines.listed ∙ sym (all.only others.items others.listed)) ∙ sym others.joined
 
 one_of_segment : (first last : Bool) (payload a b : List ℕ) → AreBytes payload → SegmentMessages first last payload a → SegmentMessages first last payload b → a ≡ b
-one_of_segment true true payload a b are lines lines' = one_text 0 payload a b are lines lines'
+one_of_segment true true payload a b are lines lines' = one_text payload a b are lines lines'
 one_of_segment true false payload a b are none none' = none ∙ sym none'
 one_of_segment false last payload a b are none none' = none ∙ sym none'
 
 behind : (front payload : List ℕ) → AreBytes (front ++ payload) → AreBytes payload
 behind [] payload are i = are i
-behind (b ∷ front) payload are i = behind front payload (AreBytes-rest b (front ++ payload) are) i
+behind (b ∷ front) payload are i = behind front payload (λ k. are (suc k)) i
 
 payload_of : (s : SegmentValue) (bytes : List ℕ) → AreBytes bytes → Spells (segment s) bytes → AreBytes s.payload
 payload_of s bytes are spelled =

@@ -91,16 +91,9 @@ memory_or_mistake [] e mistakes has = elim mistakes [ ]
 memory_or_mistake (kind ∷ kinds) e mistakes (inl memory) = inl memory
 memory_or_mistake (kind ∷ kinds) e mistakes (inr among) = inr (among_mistakes (kind_of e) (kind ∷ kinds) mistakes among)
 
-pub no_mistakes : (kinds : Kinds) → kinds ≡ [] → AreMistakes kinds → ⊥
-no_mistakes [] none mistakes = elim mistakes [ ]
-no_mistakes (kind ∷ kinds) none mistakes = let no : ⊥ = cc in no
-
 pub memory_or_help : (kinds : Kinds) (e : Error) → kinds ≡ DisplayHelp ∷ [] → HasKind kinds e → (kind_of e ≡ OutOfMemory) ⊎ (kind_of e ≡ DisplayHelp)
 memory_or_help kinds e help has =
     elim (subst (λ (k : Kinds). HasKind k e) help has) [
       | inl memory ↦ inl memory
       | inr among ↦ elim among [ inl here ↦ inr here | inr later ↦ elim later [ ] ]
     ]
-
-pub no_help : (kinds : Kinds) → kinds ≡ [] → kinds ≡ DisplayHelp ∷ [] → ⊥
-no_help kinds none help = let same : ◌≡◌ {A = Kinds} [] (DisplayHelp ∷ []) = sym none ∙ help in cc

@@ -116,3 +116,6 @@ pub fn run_words<R: Read, W: Write, E: Write>(
         Err(error) => refuse(alloc, error, writer, error_writer),
     }
 }
+
+#[cfg(test)]
+mod tests;

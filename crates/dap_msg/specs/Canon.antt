@@ -85,6 +85,14 @@ operand_bytes m = concat (operand_fields m)
 unfoldable pub canon : Message → List ℕ
 canon m = header_bytes (number_of m) (length (operand_bytes m)) ++ operand_bytes m
 
+-- the bytes of a header
+abbrev pub header_size : ℕ → ℕ
+header_size len = if nat_lt len 256 then 3 else 4
+
+-- the bytes of a Filedata, by the lengths of its RECNUM and its record
+abbrev pub file_data_size : ℕ → ℕ → ℕ
+file_data_size recnum payload = header_size (1 + recnum + payload) + (1 + recnum + payload)
+
 -- ---- What has a spelling.
 
 abbrev pub FitsField : (k : Kind) → ValueOf k → Type 0

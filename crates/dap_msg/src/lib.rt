@@ -9,6 +9,7 @@ mod file_access;
 mod fitting;
 mod formats;
 mod header;
+mod items;
 mod laws;
 mod message;
 mod reading;
@@ -20,7 +21,10 @@ pub use encoding::{encode, encoded_len};
 pub use fault::{FaultKind, MsgFault};
 pub use file_access::FileAccess;
 pub use fitting::fits;
-pub use laws::reads_back;
+pub use items::{Item, item_at};
+pub use laws::{
+    answers_fit, has_items, lists_messages, measures_file_data, reads_back, reads_in_place,
+};
 pub use message::{Attributes, Control, Message};
 pub use status::{StatusCode, status_for};
 

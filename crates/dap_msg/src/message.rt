@@ -1,5 +1,9 @@
 //! The messages. Images and record bytes are slices of the input.
 
+ghost use Rattle.std.specs.Prelude.{◌≡◌};
+ghost use Rattle.dap_msg.specs.Message.{seen};
+ghost use Rattle.dap_msg.specs.Canon.{number_of};
+
 /// The fields of an Attributes message, each of them there exactly where its bit of ATTMENU is set
 /// (DAP 5.6.0, Attributes message). Images are in the order in which they stand in the message; those that
 /// stand for a number have the least byte first.
@@ -129,4 +133,24 @@ pub enum Message<'a> {
     },
     /// Types 10 to 16, of which the operand is kept as bytes (own).
     Other { number: u8, body: &'a [u8] },
+}
+
+impl Message<'_> {
+    /// The type of the message as its header tells it, 1 to 16 where the message fits (DAP 5.6.0, message format).
+    pub fn number(&self) -> u8
+        ensures { result ≡ number_of (seen self.now) }
+    {
+        match *self {
+            Message::Config { .. } => 1,
+            Message::Attrib(_) => 2,
+            Message::Access { .. } => 3,
+            Message::Control(_) => 4,
+            Message::Contran { .. } => 5,
+            Message::Ack => 6,
+            Message::Accomp { .. } => 7,
+            Message::Filedata { .. } => 8,
+            Message::Status { .. } => 9,
+            Message::Other { number, .. } => number,
+        }
+    }
 }

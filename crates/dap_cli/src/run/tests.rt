@@ -1,0 +1,160 @@
+//! Exit statuses and texts, and devices that fail.
+
+use crate::run::run_words;
+use std::alloc::Global;
+use std::io;
+use std::io::{ErrorKind, Read, Write};
+use std::process::Abort;
+use std::test::Fail;
+
+/// What a run left: its exit status, what it wrote, and what it told.
+#[derive(Drop)]
+struct Left {
+    status: u8,
+    written: Vec<u8>,
+    told: Vec<u8>,
+}
+
+/// Runs the program on words, the program's name before them, and an input.
+fn run(alloc: Global, words: &[&str], input: &[u8]) -> Result<Left, Fail> {
+    let mut list = Vec::new(alloc);
+    list.push(String::from_str(alloc, "dapnsp")?)?;
+    for word in words {
+        list.push(String::from_str(alloc, word)?)?;
+    }
+    let mut reader = input;
+    let mut written = Vec::new(alloc);
+    let mut told = Vec::new(alloc);
+    let status = run_words(alloc, &list, &mut reader, &mut written, &mut told);
+    Ok(Left {
+        status,
+        written,
+        told,
+    })
+}
+
+#[test]
+fn lists_a_capture(rt: HostRuntime) -> Result<(), Fail> {
+    let left = run(rt.alloc(), &["show"], b"> 600201040305800100060200\n")?;
+    assert_eq!(rt; left.status, 0);
+    let want = b"1 > segment only dst=0102 src=0304 seg=1 acks=0:5 len=3\n  ack\n";
+    assert_eq!(rt; left.written.as_slice(), want.as_slice());
+    assert!(rt; left.told.is_empty());
+    let empty = run(rt.alloc(), &["show"], b"")?;
+    assert_eq!(rt; empty.status, 0);
+    assert!(rt; empty.written.is_empty());
+    Ok(())
+}
+
+/// Wants a status, nothing written and a line told.
+fn fails(rt: &impl Abort, left: &Left, status: u8, line: &str) {
+    assert_eq!(rt; left.status, status);
+    assert!(rt; left.written.is_empty());
+    assert_eq!(rt; left.told.as_slice(), line.as_bytes());
+}
+
+#[test]
+fn tells_faults_of_the_input(rt: HostRuntime) -> Result<(), Fail> {
+    let bad = run(rt.alloc(), &["show"], b"> 6")?;
+    fails(&rt, &bad, 1, "bad line 1\n");
+    let mut line = Vec::new(rt.alloc());
+    line.extend_from_slice(b"> ")?;
+    for _index in 0..4097 {
+        line.extend_from_slice(b"00")?;
+    }
+    let long = run(rt.alloc(), &["show"], &line)?;
+    fails(&rt, &long, 1, "too large\n");
+    Ok(())
+}
+
+#[test]
+fn refuses_other_words(rt: HostRuntime) -> Result<(), Fail> {
+    let rows: [&[&str]; 8] = [
+        &[],
+        &["msg"],
+        &["run"],
+        &["help"],
+        &["Show"],
+        &["show", "show"],
+        &["--verbose", "show"],
+        &["show", "-x"],
+    ];
+    for words in rows {
+        let left = run(rt.alloc(), words, b"> 6002\n")?;
+        assert_eq!(rt; left.status, 2);
+        assert!(rt; left.written.is_empty());
+        assert!(rt; !left.told.is_empty());
+    }
+    Ok(())
+}
+
+#[test]
+fn helps(rt: HostRuntime) -> Result<(), Fail> {
+    let rows: [&[&str]; 3] = [&["--help"], &["-h"], &["show", "--help"]];
+    for words in rows {
+        let left = run(rt.alloc(), words, b"> 6\n")?;
+        assert_eq!(rt; left.status, 0);
+        assert!(rt; !left.written.is_empty());
+        assert!(rt; left.told.is_empty());
+    }
+    Ok(())
+}
+
+/// A device whose every call fails.
+#[derive(Drop)]
+struct Broken;
+
+impl Read for Broken {
+    fn read(&mut self, _buffer: &mut [u8]) -> io::Result<usize> {
+        Err(io::Error::from(ErrorKind::Other))
+    }
+}
+
+impl Write for Broken {
+    fn write(&mut self, _bytes: &[u8]) -> io::Result<usize> {
+        Err(io::Error::from(ErrorKind::Other))
+    }
+
+    fn flush(&mut self) -> io::Result<()> {
+        Err(io::Error::from(ErrorKind::Other))
+    }
+}
+
+#[test]
+fn tells_failing_devices(rt: HostRuntime) -> Result<(), Fail> {
+    let program = String::from_str(rt.alloc(), "dapnsp")?;
+    let show = String::from_str(rt.alloc(), "show")?;
+    let words = [program, show];
+    let mut told = Vec::new(rt.alloc());
+    let mut written = Vec::new(rt.alloc());
+    let unread = run_words(rt.alloc(), &words, &mut Broken, &mut written, &mut told);
+    assert_eq!(rt; unread, 3);
+    assert!(rt; written.is_empty());
+    assert_eq!(rt; told.as_slice(), b"read failed\n".as_slice());
+
+    let mut reader = b"> 6002\n".as_slice();
+    let mut told = Vec::new(rt.alloc());
+    let unwritten = run_words(rt.alloc(), &words, &mut reader, &mut Broken, &mut told);
+    assert_eq!(rt; unwritten, 3);
+    assert_eq!(rt; told.as_slice(), b"write failed\n".as_slice());
+
+    let mut reader = b"> 6\n".as_slice();
+    let mut written = Vec::new(rt.alloc());
+    let untold = run_words(rt.alloc(), &words, &mut reader, &mut written, &mut Broken);
+    assert_eq!(rt; untold, 1);
+    assert!(rt; written.is_empty());
+    Ok(())
+}
+
+#[test]
+fn tells_help_that_is_not_taken(rt: HostRuntime) -> Result<(), Fail> {
+    let program = String::from_str(rt.alloc(), "dapnsp")?;
+    let help = String::from_str(rt.alloc(), "--help")?;
+    let mut reader = b"".as_slice();
+    let mut told = Vec::new(rt.alloc());
+    let words = [program, help];
+    let status = run_words(rt.alloc(), &words, &mut reader, &mut Broken, &mut told);
+    assert_eq!(rt; status, 3);
+    assert_eq!(rt; told.as_slice(), b"write failed\n".as_slice());
+    Ok(())
+}

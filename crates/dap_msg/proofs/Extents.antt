@@ -1,0 +1,77 @@
+-- How long the spellings are that are written.
+use Rattle.std.proofs.Common.{◌≡◌, ℕ, ◌+◌, ◌^◌, ◌<◌, ◌≤◌, List, [], ◌∷◌, ◌++◌, length, refl, arith, lit≤, lit<, inl, inr}
+use Rattle.std.specs.Int.{bytes_low_first}
+use Rattle.std.proofs.lemmas.Bool.{cases_lt, lt-ltb, le-ltb}
+use Rattle.std.proofs.lemmas.List.{length-append}
+use Rattle.dap_fields.specs.Writing.{groups}
+use Rattle.dap_msg.specs.Message.{Message, StatusFields, Ack, Filedata, Status}
+use Rattle.dap_msg.specs.Canon.{canon, number_of, header_bytes, operand_bytes, header_size, file_data_size, FieldsFit, Fits}
+use Rattle.dap_msg.specs.Exchange.{config_of, complete_with, attributes_of, record_of, IsShortAnswer, AnswersFit}
+use Rattle.dap_msg.proofs.Sizes.{IsPlainMessage, plain_short}
+
+header_length : (number len : ℕ) → length (header_bytes number len) ≡ header_size len
+header_length number len =
+    elim (cases_lt len 256) [
+      | inl lt ↦ rw (lt-ltb len 256 lt) refl
+      | inr le ↦ rw (le-ltb len 256 le) refl
+    ]
+
+pub canon_length : (m : Message) → length (canon m) ≡ header_size (length (operand_bytes m)) + length (operand_bytes m)
+unfolding canon
+canon_length m =
+    omega (arith, length-append (header_bytes (number_of m) (length (operand_bytes m))) (operand_bytes m), header_length (number_of m) (length (operand_bytes m)))
+
+file_data_operand : (recnum payload : List ℕ) → length (operand_bytes (Filedata recnum payload)) ≡ 1 + length recnum + length payload
+file_data_operand recnum payload = omega (arith, length-append recnum (payload ++ []), length-append payload [])
+
+pub file_data_measured : (recnum payload : List ℕ) → length (canon (Filedata recnum payload)) ≡ file_data_size (length recnum) (length payload)
+file_data_measured recnum payload = rw (canon_length (Filedata recnum payload), file_data_operand recnum payload) refl
+
+-- ---- Answers.
+
+header_short : (len : ℕ) → header_size len ≤ 4
+header_short len =
+    elim (cases_lt len 256) [
+      | inl lt ↦ rw (lt-ltb len 256 lt) (lit≤ tt)
+      | inr le ↦ rw (le-ltb len 256 le) (lit≤ tt)
+    ]
+
+short_answer_of : (m : Message) → FieldsFit m → IsPlainMessage m → length (operand_bytes m) ≤ 60 → IsShortAnswer m
+short_answer_of m fields plain short = record {
+  fits = record { fields = fields; length = plain_short m fields plain };
+  short = omega (arith, canon_length m, header_short (length (operand_bytes m)));
+}
+
+config_short : (bufsiz : ℕ) → bufsiz < 2 ^ 16 → IsShortAnswer (config_of bufsiz)
+unfolding groups
+config_short bufsiz lt = short_answer_of (config_of bufsiz) (omega arith, lit< tt, lit< tt, lit< tt, lit< tt, lit< tt, lit< tt, lit< tt, lit< tt) tt (lit≤ tt)
+
+attributes_short : (org rfm mrs mrn : ℕ) → org < 2 ^ 8 → rfm < 2 ^ 8 → mrs < 2 ^ 16 → IsShortAnswer (attributes_of org rfm mrs mrn)
+unfolding groups
+attributes_short org rfm mrs mrn o r m =
+    short_answer_of (attributes_of org rfm mrs mrn) (tt, omega arith, omega arith, tt, tt, omega arith, tt, tt, tt, lit≤ tt, tt, tt, tt, tt, tt, tt, tt, tt, tt, tt, tt) tt (lit≤ tt)
+
+complete_short : (func : ℕ) → func < 2 ^ 8 → IsShortAnswer (complete_with func)
+unfolding groups
+complete_short func lt = short_answer_of (complete_with func) (omega arith, lit< tt, tt) tt (lit≤ tt)
+
+status_short : (s : StatusFields) → s.code < 2 ^ 16 → length s.rfa ≤ 4 → length s.recnum ≤ 4 → length s.stv ≤ 4 → IsShortAnswer (Status s)
+status_short s c r n v =
+    short_answer_of (Status s) (omega arith, omega arith, omega arith, omega arith) tt
+    (omega (arith, length-append s.rfa ((length s.recnum ∷ s.recnum) ++ ((length s.stv ∷ s.stv) ++ [])), length-append s.recnum ((length s.stv ∷ s.stv) ++ []), length-append s.stv []))
+
+record_fits : (number : ℕ) (body : List ℕ) → length body ≤ 32767 → Fits (record_of number body)
+record_fits number body short = record {
+  fields = lit≤ tt;
+  length = omega (arith, file_data_operand (bytes_low_first 0 4 number) body);
+}
+
+pub answers_fit : AnswersFit
+answers_fit = record {
+  config = config_short;
+  attributes = attributes_short;
+  ack = short_answer_of Ack tt tt (lit≤ tt);
+  complete = complete_short;
+  status = status_short;
+  filedata = record_fits;
+}

@@ -1,0 +1,41 @@
+-- What stands in an NSP message: DAP messages, one after another.
+use Rattle.std.specs.Prelude.{◌≡◌, ℕ, ◌+◌, ◌<◌, List, [], ◌∷◌, length, drop}
+use Rattle.dap_msg.specs.declared.fault.MsgFault.{MsgFault}
+use Rattle.dap_msg.specs.declared.items.Item.{Item as LentItem}
+use Rattle.dap_msg.specs.declared.items.Item.TheVariants as lent
+use Rattle.dap_msg.specs.Message.{Message, seen}
+use Rattle.dap_msg.specs.Decoding.{StandsInFront, IsFault, type_in_front}
+use Rattle.dap_msg.specs.Images.{ImagesFit}
+
+-- A message; or the rest of the NSP message, of which no message can be read, with its first fault. The fault's
+-- offset is counted from the start of the NSP message.
+pub data Item : Type 0 where
+  Whole : Message → Item
+  Malformed : (fault : MsgFault) → Item
+
+abbrev pub seen_item : LentItem → Item
+seen_item (lent.Whole message) = Whole (seen message)
+seen_item (lent.Malformed fault) = Malformed fault
+
+-- the item that stands at a place of the bytes, and the place behind it
+abbrev pub ItemAt : List ℕ → ℕ → Item → ℕ → Type 0
+ItemAt bytes at (Whole m) next = (n : ℕ) × StandsInFront m n (drop at bytes) × (next ≡ at + n)
+ItemAt bytes at (Malformed fault) next =
+    (offset : ℕ) × IsFault (drop at bytes) fault.kind offset × (fault.offset ≡ at + offset)
+    × (fault.message_type ≡ type_in_front (drop at bytes)) × (next ≡ length bytes)
+
+-- The items from a place on: each begins where the one before it ends, and the last ends with the bytes.
+abbrev pub ItemsFrom : List ℕ → ℕ → List Item → Type 0
+ItemsFrom bytes at [] = ⊥
+ItemsFrom bytes at (item ∷ []) = ItemAt bytes at item (length bytes)
+ItemsFrom bytes at (item ∷ second ∷ more) =
+    (next : ℕ) × (next < length bytes) × ItemAt bytes at item next × ItemsFrom bytes next (second ∷ more)
+
+-- The items of an NSP message. One without bytes has the one item that is Truncated, of type 0 at offset 0.
+abbrev pub Items : List ℕ → List Item → Type 0
+Items bytes items = ItemsFrom bytes 0 items
+
+-- the images of the message that was read are within their fields' limits
+abbrev pub ItemImagesFit : Item → Type 0
+ItemImagesFit (Whole m) = ImagesFit m
+ItemImagesFit (Malformed fault) = Unit {0}
