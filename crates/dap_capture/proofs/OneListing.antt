@@ -1,15 +1,14 @@
 -- What the lines say is determined by the bytes, so an input has one listing at the most.
-use Rattle.std.proofs.Common.{◌≡◌, ◌<◌, ◌+◌, ◌*◌, ◌++◌, ℕ, suc, Bool, true, false, List, [], ◌∷◌, length, drop, get_or, Result, Ok, Err, sym, ap, ◌∙◌, subst, arith, refl}
+use Rattle.std.proofs.Common.{◌≡◌, ◌<◌, ◌+◌, ◌*◌, ◌++◌, ℕ, suc, Bool, true, false, List, [], ◌∷◌, get_or, sym, ap, ◌∙◌, subst, refl}
 use Rattle.std.specs.List.{flat_map}
 use Rattle.hex.proofs.HexLemmas.{decode_of-ok, decode_of-same}
 use Rattle.dap_msg.proofs.Places.{have_items}
-use Rattle.nsp_seg.specs.Packets.{PacketValue, SegmentValue, AckValue, segment, data_ack, Spells, HasFault, marks, optional_ack}
+use Rattle.nsp_seg.specs.Packets.{SegmentValue, segment, data_ack, Spells, marks, optional_ack}
 use Rattle.std.specs.Int.{w16, to_le_bytes}
-use Rattle.nsp_seg.specs.declared.packet.SegFault.{SegFault}
 use Rattle.nsp_seg.proofs.Exactness.{spells-one, spells-apart, fault-one}
 use Rattle.dap_capture.specs.Messages.{IsMessagesText, item_line}
 use Rattle.dap_capture.specs.Packets.{IsPacketText, of_segment, of_ack, of_fault, SegmentMessages, segment_line, ack_line, fault_line as packet_fault_line}
-use Rattle.dap_capture.specs.Listing.{PacketLines, no_more, one_more as one_packet_more, Capture, IsListing, HasOneListing, captures, heading, packet_limit}
+use Rattle.dap_capture.specs.Listing.{PacketLines, no_more, one_more as one_packet_more, Capture, HasOneListing, captures, heading, packet_limit}
 
 -- each is a byte
 abbrev AreBytes : List ℕ → Type 0
