@@ -1,0 +1,53 @@
+-- What `ask` and `read` come to.
+use Rattle.std.specs.Prelude.{ℕ, ◌≡◌, ◌<◌, ◌⊎◌, length, true, false, List, [], ◌∷◌, ◌++◌, option_to_list}
+use Rattle.dap_msg.specs.Items.{Item, ItemAt}
+use Rattle.dap_msg.specs.Blocked.{Blocked, all_joined}
+use Rattle.dap_accessing.specs.declared.request.Request.{Request}
+use Rattle.dap_accessing.specs.declared.fault.AskFault.{AskFault}
+use Rattle.dap_accessing.specs.declared.fault.AskFault.TheVariants as ask_fault
+use Rattle.dap_accessing.specs.declared.fault.ReadStep.{ReadStep}
+use Rattle.dap_accessing.specs.declared.fault.ReadFault.{ReadFault}
+use Rattle.dap_accessing.specs.declared.fault.ReadFault.TheVariants as read_fault
+use Rattle.dap_accessing.specs.Asked.{messages_of}
+use Rattle.dap_accessing.specs.Told.{Told, is_unexpected}
+use Rattle.dap_accessing.specs.Phase.{IsAdmissible, IsRefused}
+use Rattle.dap_accessing.specs.Present.{Present, StandsAfter}
+
+-- a place where a message can begin
+abbrev pub IsPlace : ℕ → List ℕ → Type 0
+IsPlace at bytes = (at < length bytes) ⊎ ((at ≡ 0) × (length bytes ≡ 0))
+
+-- The request is asked: it was admissible, these NSP messages are its messages, blocked, and the end stands as after it too.
+pub record Asks (request : Request) (old new : Present) (messages : List (List ℕ)) : Type 0 where
+  pub works : old.failed ≡ false
+  pub spelled : messages ≡ all_joined (Blocked old.limit (messages_of old.own request))
+  pub admissible : (requests : List Request) (answers : List Item) → StandsAfter requests answers old → IsAdmissible old.own requests answers request
+  pub stands : (requests : List Request) (answers : List Item) → StandsAfter requests answers old → StandsAfter (requests ++ request ∷ []) answers new
+
+-- why a request is refused
+abbrev pub AskRefused : Request → Present → AskFault → Type 0
+AskRefused request old ask_fault.Failed = old.failed ≡ true
+AskRefused request old fault =
+    (old.failed ≡ false)
+    × ((requests : List Request) (answers : List Item) → StandsAfter requests answers old → IsRefused old.own requests answers request fault)
+
+-- The answer at `at` was read: it has its place, and the report is the one that it adds.
+pub record Reads (bytes : List ℕ) (at : ℕ) (old new : Present) (read : ReadStep) : Type 0 where
+  pub works : old.failed ≡ false
+  pub answer : Item
+  pub reads : ItemAt bytes at answer read.next
+  pub stands : (requests : List Request) (answers : List Item) → StandsAfter requests answers old → StandsAfter requests (answers ++ answer ∷ []) new
+  pub told : (requests : List Request) (answers : List Item) → StandsAfter requests answers old →
+      Told requests (answers ++ answer ∷ []) ≡ Told requests answers ++ option_to_list read.report
+
+-- why an answer is refused, and what that leaves
+abbrev pub ReadRefused : List ℕ → ℕ → Present → Present → ReadFault → Type 0
+ReadRefused bytes at old new read_fault.Failed = (old.failed ≡ true) × (new ≡ old)
+ReadRefused bytes at old new read_fault.NoMemory =
+    (old.failed ≡ false) × (new ≡ old)
+    × ((answer : Item) × (next : ℕ) × ItemAt bytes at answer next
+    × ((requests : List Request) (answers : List Item) → StandsAfter requests answers old → is_unexpected requests answers answer ≡ false))
+ReadRefused bytes at old new read_fault.Unexpected =
+    (old.failed ≡ false) × (new.failed ≡ true)
+    × ((answer : Item) × (next : ℕ) × ItemAt bytes at answer next
+    × ((requests : List Request) (answers : List Item) → StandsAfter requests answers old → is_unexpected requests answers answer ≡ true))

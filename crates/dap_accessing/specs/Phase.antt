@@ -1,0 +1,91 @@
+-- The phase and the peer's limit follow from the reports; which requests may be asked follows from these.
+use Rattle.std.specs.Prelude.{◌≡◌, ◌≤◌, ℕ, Bool, true, false, List, [], ◌∷◌, length, fold}
+use Rattle.dap_msg.specs.Message.{Message}
+use Rattle.dap_msg.specs.Items.{Item}
+use Rattle.dap_msg.specs.Exchange.{limit_of, greatest_message}
+use Rattle.dap_msg.specs.Canon.{canon, Fits}
+use Rattle.dap_accessing.specs.declared.request.Request.{Request}
+use Rattle.dap_accessing.specs.declared.request.Request.TheVariants.{Hello, Create, OpenFile, Connect, Get, Put, Update, Delete, Rewind, Fetch, Store, Continue, Close, Purge}
+use Rattle.dap_accessing.specs.declared.report.Report.{Report}
+use Rattle.dap_accessing.specs.declared.report.Report.TheVariants as report
+use Rattle.dap_accessing.specs.declared.report.Ending.TheVariants as ending
+use Rattle.dap_accessing.specs.declared.fault.AskFault.{AskFault}
+use Rattle.dap_accessing.specs.declared.fault.AskFault.TheVariants.{Failed, Busy, WrongPhase, TooLarge, NoMemory}
+use Rattle.dap_accessing.specs.declared.phase.Phase.{Phase}
+use Rattle.dap_accessing.specs.declared.phase.Phase.TheVariants.{Fresh, Ready, Opened, Connected, Stopped}
+use Rattle.dap_accessing.specs.Asked.{messages_of}
+use Rattle.dap_accessing.specs.Told.{Told}
+
+-- the phase after a report
+abbrev pub phase_next : Phase → Report → Phase
+phase_next phase (report.Ready _) = Ready
+phase_next phase (report.Opened _ _ _ _) = Opened
+phase_next phase report.Connected = Connected
+phase_next phase (report.Batch _ ending.Stopped) = Stopped
+phase_next phase (report.Batch _ _) = Connected
+phase_next phase (report.Stored _) = Opened
+phase_next phase report.Closed = Ready
+phase_next phase _ = phase
+
+abbrev pub phase_after : List Report → Phase
+phase_after reports = fold phase_next Fresh reports
+
+-- how long a message the peer takes
+abbrev pub limit_next : ℕ → Report → ℕ
+limit_next limit (report.Ready bufsiz) = limit_of bufsiz
+limit_next limit _ = limit
+
+abbrev pub limit_after : List Report → ℕ
+limit_after reports = fold limit_next greatest_message reports
+
+-- the phases in which a request is asked
+abbrev pub phase_fits : Phase → Request → Bool
+phase_fits Fresh Hello = true
+phase_fits Ready (Create _ _ _ _ _ _) = true
+phase_fits Ready (OpenFile _ _) = true
+phase_fits Opened Connect = true
+phase_fits Opened Close = true
+phase_fits Opened Purge = true
+phase_fits Stopped (Continue _) = true
+phase_fits Stopped Close = true
+phase_fits Stopped Purge = true
+phase_fits Connected (Get _) = true
+phase_fits Connected (Put _ _) = true
+phase_fits Connected (Update _) = true
+phase_fits Connected Delete = true
+phase_fits Connected Rewind = true
+phase_fits Connected Fetch = true
+phase_fits Connected (Store _) = true
+phase_fits Connected Close = true
+phase_fits Connected Purge = true
+phase_fits _ _ = false
+
+-- a message has a spelling, and it is within the limit
+abbrev pub IsSendable : ℕ → Message → Type 0
+IsSendable limit m = Fits m × (length (canon m) ≤ limit)
+
+abbrev pub AreSendable : ℕ → List Message → Type 0
+AreSendable limit [] = Unit {0}
+AreSendable limit (m ∷ messages) = IsSendable limit m × AreSendable limit messages
+
+-- as many reports as requests: none is due
+abbrev pub IsNoneDue : List Request → List Item → Type 0
+IsNoneDue requests answers = length (Told requests answers) ≡ length requests
+
+abbrev pub IsInPhase : List Request → List Item → Request → Type 0
+IsInPhase requests answers request = phase_fits (phase_after (Told requests answers)) request ≡ true
+
+-- a request is admissible after requests and answers
+abbrev pub IsAdmissible : ℕ → List Request → List Item → Request → Type 0
+IsAdmissible own requests answers request =
+    IsNoneDue requests answers × IsInPhase requests answers request × AreSendable (limit_after (Told requests answers)) (messages_of own request)
+
+-- why it isn't: the first of these that holds
+abbrev pub IsRefused : ℕ → List Request → List Item → Request → AskFault → Type 0
+IsRefused own requests answers request Busy = IsNoneDue requests answers → ⊥
+IsRefused own requests answers request WrongPhase = IsNoneDue requests answers × (IsInPhase requests answers request → ⊥)
+IsRefused own requests answers request TooLarge =
+    IsNoneDue requests answers × IsInPhase requests answers request
+    × (AreSendable (limit_after (Told requests answers)) (messages_of own request) → ⊥)
+IsRefused own requests answers request NoMemory = IsAdmissible own requests answers request
+IsRefused own requests answers request Failed = ⊥

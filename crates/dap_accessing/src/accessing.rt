@@ -1,0 +1,167 @@
+//! The accessing end.
+
+ghost use Rattle.std.specs.Prelude.{◌≡◌, ◌≤◌, [], map, IfOk, IfErr, OnErr};
+ghost use Rattle.dap_msg.specs.Exchange.{greatest_message, limit_of as the_limit};
+ghost use Rattle.dap_msg.specs.Message.{seen};
+ghost use Rattle.dap_msg.specs.Items.{Whole};
+ghost use Rattle.dap_msg.specs.Blocked.{bodies};
+ghost use Rattle.dap_accessing.specs.Present.{StandsAfter, HasShortNumbers, Takes};
+ghost use Rattle.dap_accessing.specs.Calls.{Asks, AskRefused, IsPlace, Reads, ReadRefused};
+ghost use Rattle.dap_accessing.specs.Steps.{ReportsGrow};
+
+use crate::asking::{Outgoing, carried_number};
+use crate::fault::{AskFault, ReadFault, ReadStep};
+use crate::pending::{Heard, Pending};
+use crate::phase::Phase;
+use crate::report::Report;
+use crate::request::Request;
+use dap_msg::{Item, Message, item_at};
+use std::alloc::Global;
+use std::marker::Model;
+
+/// The longest message that any end takes.
+const GREATEST_MESSAGE: u16 = 65535;
+
+/// The end that asks. It keeps no list of what was asked or answered: it stands as after any requests
+/// and answers that leave what it keeps. Own.
+#[derive(Drop)]
+pub struct Accessing {
+    alloc: Global,
+    bufsiz: u16,
+    failed: bool,
+    phase: Phase,
+    limit: u16,
+    pending: Option<Pending>,
+}
+
+impl Model for Accessing {
+    ghost use Rattle.dap_accessing.specs.Present.{Present};
+
+    ghost Value = { Present };
+
+    ghost view = { λ a. record { own = a.bufsiz; failed = a.failed; phase = a.phase; limit = a.limit; pending = a.pending } };
+}
+
+impl Accessing {
+    /// An end that nothing was asked of, with a buffer of so many bytes, at least 64. It takes no
+    /// memory.
+    pub fn new(alloc: Global, bufsiz: u16) -> Accessing
+        requires low { 64 ≤ bufsiz }
+        requires high { bufsiz ≤ greatest_message }
+        ensures own { result.own ≡ bufsiz }
+        ensures stands { StandsAfter [] [] result }
+    {
+        Accessing {
+            alloc,
+            bufsiz,
+            failed: false,
+            phase: Phase::Fresh,
+            limit: GREATEST_MESSAGE,
+            pending: None,
+        }
+    }
+
+    /// The messages of a request, joined to NSP messages as far as the peer's limit goes.
+    ///
+    /// Refusals in order: Failed, Busy, WrongPhase, TooLarge, NoMemory; each leaves the end
+    /// unchanged.
+    pub fn ask(&mut self, request: &Request) -> Result<Vec<Vec<u8>>, AskFault>
+        ensures asks { IfOk result (λ messages. Asks request.now self.old self.new (bodies messages.items)) }
+        ensures refused { IfErr result (λ f. AskRefused request.now self.old f) }
+        ensures unchanged { OnErr result (self.new ≡ self.old) }
+        ensures own { self.new.own ≡ self.old.own }
+    {
+        if self.failed {
+            return Err(AskFault::Failed);
+        }
+        if self.pending.is_some() {
+            return Err(AskFault::Busy);
+        }
+        if !self.phase.fits(request) {
+            return Err(AskFault::WrongPhase);
+        }
+        let number = carried_number(request).to_le_bytes();
+        let outgoing = Outgoing::of(self.bufsiz, request, &number);
+        if !outgoing.is_sendable(self.limit) {
+            return Err(AskFault::TooLarge);
+        }
+        let Ok(messages) = outgoing.blocked(self.alloc, self.limit) else {
+            return Err(AskFault::NoMemory);
+        };
+        self.pending = Some(Pending::of(self.alloc, request));
+        Ok(messages)
+    }
+
+    /// Takes the message as the next answer.
+    fn take(&mut self, message: &Message<'_>) -> Result<Option<Report>, ReadFault>
+        requires short { HasShortNumbers (seen message.now) }
+        ensures takes { Takes (Whole (seen message.now)) self.old self.new result }
+        ensures own { self.new.own ≡ self.old.own }
+    {
+        let Some(pending) = self.pending.take() else {
+            self.failed = true;
+            return Err(ReadFault::Unexpected);
+        };
+        match pending.hear(self.alloc, message) {
+            Heard::Waits(pending) => {
+                self.pending = Some(pending);
+                Ok(None)
+            }
+            Heard::Reports(report) => {
+                self.phase = self.phase.after(&report);
+                if let Report::Ready(bufsiz) = report {
+                    self.limit = limit_of(bufsiz);
+                }
+                Ok(Some(report))
+            }
+            Heard::Unexpected => {
+                self.failed = true;
+                Err(ReadFault::Unexpected)
+            }
+            Heard::NoMemory(pending) => {
+                self.pending = Some(pending);
+                Err(ReadFault::NoMemory)
+            }
+        }
+    }
+
+    /// Reads the one DAP message that begins at `at`, in bytes, as the next answer.
+    ///
+    /// Refusals: Failed; Unexpected, after which the end has failed; NoMemory, which changes nothing.
+    pub fn read(&mut self, nsp_message: &[u8], at: usize) -> Result<ReadStep, ReadFault>
+        requires { IsPlace at nsp_message.now }
+        ensures reads { IfOk result (λ read. Reads nsp_message.now at self.old self.new read) }
+        ensures refused { IfErr result (λ f. ReadRefused nsp_message.now at self.old self.new f) }
+        ensures own { self.new.own ≡ self.old.own }
+    {
+        if self.failed {
+            return Err(ReadFault::Failed);
+        }
+        let (item, next) = item_at(nsp_message, at);
+        let Item::Whole(message) = item else {
+            self.failed = true;
+            return Err(ReadFault::Unexpected);
+        };
+        match self.take(&message) {
+            Ok(report) => Ok(ReadStep { report, next }),
+            Err(fault) => Err(fault),
+        }
+    }
+}
+
+/// How long a message a peer takes that has this BUFSIZ.
+fn limit_of(bufsiz: u16) -> u16
+    ensures { result ≡ the_limit bufsiz }
+{
+    if bufsiz == 0 || bufsiz > GREATEST_MESSAGE {
+        GREATEST_MESSAGE
+    } else {
+        bufsiz
+    }
+}
+
+/// More answers never take a report back: the reports are a function of the requests and of a front of
+/// the answers. Own.
+pub fn reports_grow()
+    ensures { ReportsGrow }
+{}

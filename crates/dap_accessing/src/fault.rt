@@ -1,0 +1,39 @@
+//! Why a request or an answer is refused.
+
+use crate::report::Report;
+
+/// Why a request isn't asked, in the order in which it is looked at. Each leaves the end unchanged.
+/// Own.
+#[derive(Clone, Copy, Drop, Debug, PartialEq, Eq)]
+pub enum AskFault {
+    /// An answer had no place, so the end has failed.
+    Failed,
+    /// A report is still due.
+    Busy,
+    /// The request isn't asked in this phase.
+    WrongPhase,
+    /// A message has no spelling, or is longer than the peer takes.
+    TooLarge,
+    /// Memory ran out.
+    NoMemory,
+}
+
+/// Why an answer isn't read. Own.
+#[derive(Clone, Copy, Drop, Debug, PartialEq, Eq)]
+pub enum ReadFault {
+    /// An earlier answer had no place, so the end has failed.
+    Failed,
+    /// The answer has no place. Afterwards every call answers `Failed`.
+    Unexpected,
+    /// Memory ran out. Nothing has changed, and the same call may be made again.
+    NoMemory,
+}
+
+/// An answer that was read. Own.
+#[derive(Drop)]
+pub struct ReadStep {
+    /// What it completes, if it is the last answer to its request.
+    pub report: Option<Report>,
+    /// The place in bytes where the next message begins, the NSP message's length where none does.
+    pub next: usize,
+}

@@ -1,0 +1,21 @@
+//! The accessing end of a DAP file access: the messages of requests, and what the answers report
+//! (DAP 5.6.0, message sequences; which answers a request hears is own).
+#![tactic(auto)]
+
+mod accessing;
+mod asking;
+mod bytes;
+mod fault;
+mod pending;
+mod phase;
+mod report;
+mod request;
+
+pub use accessing::{Accessing, reports_grow};
+pub use bytes::{Numbered, Octets, OctetsList};
+pub use fault::{AskFault, ReadFault, ReadStep};
+pub use report::{Ending, Report};
+pub use request::{By, How, Request};
+
+#[cfg(test)]
+mod tests;

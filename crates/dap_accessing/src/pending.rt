@@ -1,0 +1,332 @@
+//! What is still to come of the answers to a request.
+
+ghost use Rattle.std.specs.Prelude.{◌≡◌, ◌≤◌, ◌<◌, ◌^◌, length};
+ghost use Rattle.dap_msg.specs.Items.{Whole};
+ghost use Rattle.dap_msg.specs.Message.{seen};
+ghost use Rattle.dap_msg.specs.Exchange.{number_of};
+ghost use Rattle.dap_accessing.specs.declared.pending.Pending.TheVariants as pending;
+ghost use Rattle.dap_accessing.specs.Told.{ending_by, reason_in, refused_by};
+ghost use Rattle.dap_accessing.specs.Present.{AddsBody, HasShortNumbers, Hears, pending_of};
+
+use crate::bytes::{Numbered, Octets};
+use crate::report::{Ending, Report};
+use crate::request::Request;
+use dap_msg::{Message, StatusCode};
+use std::alloc::Global;
+
+/// The end of a file, as the code of a Status.
+const END_OF_FILE: u16 = 0x5027;
+
+#[derive(Drop)]
+pub(crate) enum Pending {
+    Config,
+    Attributes,
+    /// The Ack of an open or a create, whose Attrib came.
+    Opened {
+        org: u8,
+        rfm: u8,
+        mrs: u16,
+        mrn: u32,
+    },
+    Connected,
+    Record,
+    Done,
+    /// More of a batch, after these records.
+    Batch(Numbered),
+    /// The end of a store, with its first refusal.
+    Stored(Option<(u16, u8, u64)>),
+    Closed,
+}
+
+/// What an answer comes to.
+#[derive(Drop)]
+pub(crate) enum Heard {
+    Waits(Pending),
+    Reports(Report),
+    Unexpected,
+    NoMemory(Pending),
+}
+
+/// The number that at most 8 bytes stand for.
+fn number(bytes: &[u8]) -> u64
+    requires { length bytes.now ≤ 8 }
+    ensures exact { result ≡ number_of bytes.now }
+    ensures small { result < 256 ^ length bytes.now }
+{
+    match bytes {
+        [] => 0,
+        [first, rest @ ..] => u64::from(*first) + 256 * number(rest),
+    }
+}
+
+/// The reason, where there is one byte of it.
+fn reason(stv: &[u8]) -> u8
+    ensures { result ≡ reason_in stv.now }
+{
+    match stv {
+        [reason] => *reason,
+        _ => 0,
+    }
+}
+
+/// How a fetch ended.
+fn ending(code: u16, stv: &[u8]) -> Ending
+    ensures { result ≡ ending_by code (reason_in stv.now) }
+{
+    match (code, reason(stv)) {
+        (END_OF_FILE, _) => Ending::Complete,
+        (0x5000, 10) => Ending::Stopped,
+        (code, reason) => Ending::Refused(code, reason),
+    }
+}
+
+impl Pending {
+    /// What is to come once the request is asked.
+    pub(crate) fn of(alloc: Global, request: &Request) -> Pending
+        ensures { result ≡ pending_of request.now }
+    {
+        match request {
+            Request::Hello => Pending::Config,
+            Request::Create { .. } | Request::OpenFile { .. } => Pending::Attributes,
+            Request::Connect => Pending::Connected,
+            Request::Get(_) => Pending::Record,
+            Request::Put { .. } | Request::Update { .. } | Request::Delete | Request::Rewind => {
+                Pending::Done
+            }
+            Request::Fetch | Request::Continue(_) => Pending::Batch(Numbered(Vec::new(alloc))),
+            Request::Store(_) => Pending::Stored(None),
+            Request::Close | Request::Purge => Pending::Closed,
+        }
+    }
+
+    /// What the message comes to as the next answer.
+    pub(crate) fn hear(self, alloc: Global, message: &Message<'_>) -> Heard
+        requires { HasShortNumbers (seen message.now) }
+        ensures { Hears self (Whole (seen message.now)) result }
+    {
+        match self {
+            Pending::Config => hear_config(message),
+            Pending::Attributes => hear_attributes(message),
+            Pending::Opened { org, rfm, mrs, mrn } => hear_opened(org, rfm, mrs, mrn, message),
+            Pending::Connected => hear_connected(message),
+            Pending::Record => hear_record(alloc, message),
+            Pending::Done => hear_done(message),
+            Pending::Batch(bodies) => hear_batch(alloc, bodies, message),
+            Pending::Stored(kept) => hear_stored(kept, message),
+            Pending::Closed => hear_closed(message),
+        }
+    }
+}
+
+/// The report of a Status where one is due, unless the Status is a success.
+fn refusal(code: u16, stv: &[u8]) -> Option<Report>
+    ensures { result ≡ refused_by code (reason_in stv.now) }
+{
+    if StatusCode(code).is_success() {
+        None
+    } else {
+        Some(Report::Refused(code, reason(stv)))
+    }
+}
+
+fn hear_config(message: &Message<'_>) -> Heard
+    ensures { Hears pending.Config (Whole (seen message.now)) result }
+{
+    match *message {
+        Message::Config { bufsiz, .. } => {
+            if bufsiz > 0 && bufsiz < 64 {
+                Heard::Unexpected
+            } else {
+                Heard::Reports(Report::Ready(bufsiz))
+            }
+        }
+        Message::Status { code, stv, .. } => match refusal(code, stv) {
+            Some(report) => Heard::Reports(report),
+            None => Heard::Unexpected,
+        },
+        _ => Heard::Unexpected,
+    }
+}
+
+fn hear_attributes(message: &Message<'_>) -> Heard
+    requires { HasShortNumbers (seen message.now) }
+    ensures { Hears pending.Attributes (Whole (seen message.now)) result }
+{
+    match *message {
+        Message::Attrib(attributes) => {
+            let mrn = number(attributes.mrn.unwrap_or(&[]));
+            if mrn <= 2_147_483_647 {
+                Heard::Waits(Pending::Opened {
+                    org: attributes.org.unwrap_or(0),
+                    rfm: attributes.rfm.unwrap_or(2),
+                    mrs: attributes.mrs.unwrap_or(0),
+                    mrn: mrn as u32,
+                })
+            } else {
+                Heard::Unexpected
+            }
+        }
+        Message::Other { .. } => Heard::Waits(Pending::Attributes),
+        Message::Status { code, stv, .. } => match refusal(code, stv) {
+            Some(report) => Heard::Reports(report),
+            None => Heard::Unexpected,
+        },
+        _ => Heard::Unexpected,
+    }
+}
+
+fn hear_opened(org: u8, rfm: u8, mrs: u16, mrn: u32, message: &Message<'_>) -> Heard
+    ensures { Hears (pending.Opened org rfm mrs mrn) (Whole (seen message.now)) result }
+{
+    match *message {
+        Message::Ack => Heard::Reports(Report::Opened { org, rfm, mrs, mrn }),
+        Message::Other { .. } => Heard::Waits(Pending::Opened { org, rfm, mrs, mrn }),
+        Message::Status { code, stv, .. } => match refusal(code, stv) {
+            Some(report) => Heard::Reports(report),
+            None => Heard::Unexpected,
+        },
+        _ => Heard::Unexpected,
+    }
+}
+
+fn hear_connected(message: &Message<'_>) -> Heard
+    ensures { Hears pending.Connected (Whole (seen message.now)) result }
+{
+    match *message {
+        Message::Ack => Heard::Reports(Report::Connected),
+        Message::Status { code, stv, .. } => match refusal(code, stv) {
+            Some(report) => Heard::Reports(report),
+            None => Heard::Unexpected,
+        },
+        _ => Heard::Unexpected,
+    }
+}
+
+fn hear_record(alloc: Global, message: &Message<'_>) -> Heard
+    requires { HasShortNumbers (seen message.now) }
+    ensures { Hears pending.Record (Whole (seen message.now)) result }
+{
+    match *message {
+        Message::Filedata { recnum, payload } => match Vec::from_slice(alloc, payload) {
+            Ok(body) => Heard::Reports(Report::Found {
+                number: number(recnum),
+                body: Octets(body),
+            }),
+            Err(_) => Heard::NoMemory(Pending::Record),
+        },
+        Message::Status { code, stv, .. } => {
+            if code == END_OF_FILE {
+                return Heard::Reports(Report::EndOfFile);
+            }
+            match refusal(code, stv) {
+                Some(report) => Heard::Reports(report),
+                None => Heard::Unexpected,
+            }
+        }
+        _ => Heard::Unexpected,
+    }
+}
+
+fn hear_done(message: &Message<'_>) -> Heard
+    requires { HasShortNumbers (seen message.now) }
+    ensures { Hears pending.Done (Whole (seen message.now)) result }
+{
+    match *message {
+        Message::Status {
+            code,
+            recnum,
+            stv,
+            ..
+        } => {
+            if StatusCode(code).is_success() {
+                Heard::Reports(Report::Done(number(recnum)))
+            } else {
+                Heard::Reports(Report::Refused(code, reason(stv)))
+            }
+        }
+        _ => Heard::Unexpected,
+    }
+}
+
+/// Adds the record to the batch. Where there is no memory the batch stays.
+fn hear_body(alloc: Global, bodies: Numbered, number: u64, payload: &[u8]) -> Heard
+    ensures { AddsBody bodies number payload.now result }
+{
+    let Ok(body) = Vec::from_slice(alloc, payload) else {
+        return Heard::NoMemory(Pending::Batch(bodies));
+    };
+    let mut bodies = bodies;
+    match bodies.0.push((number, Octets(body))) {
+        Ok(()) => Heard::Waits(Pending::Batch(bodies)),
+        Err(_) => Heard::NoMemory(Pending::Batch(bodies)),
+    }
+}
+
+fn hear_batch(alloc: Global, bodies: Numbered, message: &Message<'_>) -> Heard
+    requires { HasShortNumbers (seen message.now) }
+    ensures { Hears (pending.Batch bodies) (Whole (seen message.now)) result }
+{
+    match *message {
+        Message::Filedata { recnum, payload } => hear_body(alloc, bodies, number(recnum), payload),
+        Message::Status { code, stv, .. } => {
+            if StatusCode(code).is_success() {
+                Heard::Unexpected
+            } else {
+                Heard::Reports(Report::Batch {
+                    bodies,
+                    ending: ending(code, stv),
+                })
+            }
+        }
+        _ => Heard::Unexpected,
+    }
+}
+
+fn hear_stored(kept: Option<(u16, u8, u64)>, message: &Message<'_>) -> Heard
+    requires { HasShortNumbers (seen message.now) }
+    ensures { Hears (pending.Stored kept) (Whole (seen message.now)) result }
+{
+    match *message {
+        Message::Status {
+            code,
+            recnum,
+            stv,
+            ..
+        } => {
+            if StatusCode(code).is_success() {
+                return Heard::Unexpected;
+            }
+            Heard::Waits(Pending::Stored(match kept {
+                Some(first) => Some(first),
+                None => Some((code, reason(stv), number(recnum))),
+            }))
+        }
+        Message::Accomp { func, .. } => {
+            if func == 2 {
+                Heard::Reports(Report::Stored(kept))
+            } else {
+                Heard::Unexpected
+            }
+        }
+        _ => Heard::Unexpected,
+    }
+}
+
+fn hear_closed(message: &Message<'_>) -> Heard
+    ensures { Hears pending.Closed (Whole (seen message.now)) result }
+{
+    match *message {
+        Message::Accomp { func, .. } => {
+            if func == 2 {
+                Heard::Reports(Report::Closed)
+            } else {
+                Heard::Unexpected
+            }
+        }
+        Message::Status { code, stv, .. } => match refusal(code, stv) {
+            Some(report) => Heard::Reports(report),
+            None => Heard::Unexpected,
+        },
+        _ => Heard::Unexpected,
+    }
+}

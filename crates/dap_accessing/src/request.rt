@@ -1,0 +1,74 @@
+//! What is asked.
+
+use crate::bytes::{Octets, OctetsList};
+
+/// Which record a Get asks for (DAP 5.6.0, Control message, RAC).
+#[derive(Clone, Copy, Drop)]
+pub enum By {
+    /// The next one.
+    Next,
+    /// That of a record number.
+    Key(u32),
+    /// That of a record file address, which is the record's number. Own.
+    Rfa(u32),
+}
+
+/// How a Fetch that stopped goes on (DAP 5.6.0, Continue Transfer message).
+#[derive(Clone, Copy, Drop)]
+pub enum How {
+    /// With the record at which it stopped.
+    Again,
+    /// With the record behind it.
+    Skip,
+    /// Not at all.
+    Abort,
+}
+
+/// What is asked of the end that holds the files. Own.
+#[derive(Drop)]
+pub enum Request {
+    /// The first request: each end tells its buffer size.
+    Hello,
+    /// A new file of a name, with ORG, RFM, MRS in bytes, MRN and FAC (DAP 5.6.0, Attributes and
+    /// Access messages).
+    Create {
+        name: Octets,
+        org: u8,
+        rfm: u8,
+        mrs: u16,
+        mrn: u32,
+        fac: u32,
+    },
+    /// An existing file of a name, with FAC.
+    OpenFile {
+        name: Octets,
+        fac: u32,
+    },
+    /// A stream to the file.
+    Connect,
+    /// One record.
+    Get(By),
+    /// A new record, under a number or behind the others.
+    Put {
+        key: Option<u32>,
+        body: Octets,
+    },
+    /// Another body for the current record.
+    Update {
+        body: Octets,
+    },
+    /// The current record is removed.
+    Delete,
+    /// The next record is the first again.
+    Rewind,
+    /// All records from the next one on.
+    Fetch,
+    /// New records, one after another; the stream ends with them.
+    Store(OctetsList),
+    /// After a Fetch that stopped.
+    Continue(How),
+    /// The file is closed.
+    Close,
+    /// The file is closed, and removed where this access created it.
+    Purge,
+}

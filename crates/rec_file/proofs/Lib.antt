@@ -1,0 +1,12 @@
+pub mod Rising
+pub mod RecordsLaws
+pub mod FileLaws
+pub mod NumberedLaws
+pub mod SequentialLaws
+pub mod Gaps
+pub mod PlainLaws
+pub mod PageLaws
+pub mod PagedLaws
+pub mod RelativeLaws
+pub mod SearchLaws
+pub mod CountLaws

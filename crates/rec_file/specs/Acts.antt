@@ -1,0 +1,174 @@
+-- What an operation on a stream does to a file and to the stream.
+use Rattle.std.specs.Prelude.{◌≡◌, ℕ, ◌+◌, Bool, true, false, not, ◌&&◌, ◌||◌, nat_le, nat_eq, List, [], ◌∷◌, length, Option, None, Some, is_none, unwrap_or, Result, Ok, Err, IsOk, MatchBool, if◌then◌else◌}
+use Rattle.std.specs.FinMap.{get}
+use Rattle.rec_file.specs.declared.shapes.Shape.{Shape}
+use Rattle.rec_file.specs.declared.refusals.Refusal.{Refusal}
+use Rattle.rec_file.specs.declared.refusals.Refusal.TheVariants.{NotPermitted, NoCurrent, RecordNotFound, RecordExists, NumberOutOfRange, BadLength, BadAccessMode, DeleteNotAllowed, EndOfFile, NoMemory}
+use Rattle.rec_file.specs.declared.picks.Rights.{Rights}
+use Rattle.rec_file.specs.declared.picks.Pick.{Pick}
+use Rattle.rec_file.specs.declared.picks.Pick.TheVariants.{Next, Key, Rfa}
+use Rattle.rec_file.specs.Shapes.{is_seq, limit_of, allows_length}
+use Rattle.rec_file.specs.Files.{FileVal, lowest_from, highest_of, stored, removed}
+
+-- a stream: what its user may do, where it reads next, and the number that it found last
+pub record StreamVal : Type 0 where
+  pub rights : Rights
+  pub next : ℕ
+  pub current : Option ℕ
+
+-- an operation, with what it is given
+pub data Operation : Type 0 where
+  get_record : Pick → Operation
+  put_record : Option ℕ → List ℕ → Operation
+  update_record : List ℕ → Operation
+  delete_record : Operation
+
+-- no record can have the number
+abbrev pub out_of_range : Shape → ℕ → Bool
+out_of_range shape n = nat_eq n 0 || not (nat_le n (limit_of shape))
+
+abbrev pub is_free : FileVal → ℕ → Bool
+is_free file n = is_none (get file.records n)
+
+-- a number that isn't occupied counts as none
+abbrev pub if_occupied : FileVal → Option ℕ → Option ℕ
+if_occupied file None = None
+if_occupied file (Some n) = if is_free file n then None else Some n
+
+-- the number of the current record
+abbrev pub current_of : FileVal → StreamVal → Option ℕ
+current_of file stream = if_occupied file stream.current
+
+-- the record of a number that may be none, where it is there
+abbrev pub record_at : FileVal → Option ℕ → List ℕ
+record_at file None = []
+record_at file (Some n) = unwrap_or (get file.records n) []
+
+-- in a sequential file the length stays
+abbrev pub keeps_length : FileVal → Option ℕ → List ℕ → Bool
+keeps_length file current body = not (is_seq file.shape.org) || nat_eq (length body) (length (record_at file current))
+
+-- the number that a put without a key takes
+abbrev pub free_place : FileVal → StreamVal → ℕ
+free_place file stream = if is_seq file.shape.org then highest_of file.records + 1 else stream.next
+
+-- the number that an operation is about
+abbrev pub number_of : Operation → FileVal → StreamVal → ℕ
+number_of (get_record Next) file stream = unwrap_or (lowest_from file.records stream.next) 0
+number_of (get_record (Key n)) file stream = n
+number_of (get_record (Rfa n)) file stream = n
+number_of (put_record None body) file stream = free_place file stream
+number_of (put_record (Some n) body) file stream = n
+number_of (update_record body) file stream = unwrap_or (current_of file stream) 0
+number_of delete_record file stream = unwrap_or (current_of file stream) 0
+
+-- why an operation is refused: each reason beside its condition, and the first that holds counts
+abbrev pub refusals_of : Operation → FileVal → StreamVal → List (Bool × Refusal)
+refusals_of (get_record Next) file stream =
+    (not stream.rights.get, NotPermitted)
+    ∷ (is_none (lowest_from file.records stream.next), EndOfFile)
+    ∷ []
+refusals_of (get_record (Key n)) file stream =
+    (not stream.rights.get, NotPermitted)
+    ∷ (is_seq file.shape.org, BadAccessMode)
+    ∷ (out_of_range file.shape n, NumberOutOfRange)
+    ∷ (is_free file n, RecordNotFound)
+    ∷ []
+refusals_of (get_record (Rfa n)) file stream =
+    (not stream.rights.get, NotPermitted)
+    ∷ (out_of_range file.shape n, NumberOutOfRange)
+    ∷ (is_free file n, RecordNotFound)
+    ∷ []
+refusals_of (put_record None body) file stream =
+    (not stream.rights.put, NotPermitted)
+    ∷ (not (allows_length file.shape (length body)), BadLength)
+    ∷ (out_of_range file.shape (free_place file stream), NumberOutOfRange)
+    ∷ (not (is_seq file.shape.org) && not (is_free file (free_place file stream)), RecordExists)
+    ∷ []
+refusals_of (put_record (Some n) body) file stream =
+    (not stream.rights.put, NotPermitted)
+    ∷ (is_seq file.shape.org, BadAccessMode)
+    ∷ (not (allows_length file.shape (length body)), BadLength)
+    ∷ (out_of_range file.shape n, NumberOutOfRange)
+    ∷ (not (is_free file n), RecordExists)
+    ∷ []
+refusals_of (update_record body) file stream =
+    (not stream.rights.upd, NotPermitted)
+    ∷ (is_none (current_of file stream), NoCurrent)
+    ∷ (not (allows_length file.shape (length body) && keeps_length file (current_of file stream) body), BadLength)
+    ∷ []
+refusals_of delete_record file stream =
+    (not stream.rights.del, NotPermitted)
+    ∷ (is_seq file.shape.org, DeleteNotAllowed)
+    ∷ (is_none (current_of file stream), NoCurrent)
+    ∷ []
+
+-- the first reason whose condition holds
+abbrev pub first_refusal : List (Bool × Refusal) → Option Refusal
+first_refusal [] = None
+first_refusal (row ∷ rows) = if row.0 then Some row.1 else first_refusal rows
+
+-- the file after an operation that isn't refused
+abbrev pub file_after : Operation → FileVal → StreamVal → FileVal
+file_after (get_record pick) file stream = file
+file_after (put_record key body) file stream = stored file (number_of (put_record key body) file stream) body
+file_after (update_record body) file stream = stored file (number_of (update_record body) file stream) body
+file_after delete_record file stream = removed file (number_of delete_record file stream)
+
+-- where the stream reads next after such an operation
+abbrev pub next_after : Operation → FileVal → StreamVal → ℕ
+next_after (get_record pick) file stream = number_of (get_record pick) file stream + 1
+next_after (put_record None body) file stream = if is_seq file.shape.org then stream.next else stream.next + 1
+next_after (put_record (Some n) body) file stream = stream.next
+next_after (update_record body) file stream = stream.next
+next_after delete_record file stream = stream.next
+
+-- the current record after such an operation: a get alone makes one
+abbrev pub current_after : Operation → FileVal → StreamVal → Option ℕ
+current_after (get_record pick) file stream = Some (number_of (get_record pick) file stream)
+current_after (put_record key body) file stream = None
+current_after (update_record body) file stream = None
+current_after delete_record file stream = None
+
+-- what an operation leaves, and its answer
+pub record Outcome : Type 0 where
+  pub file : FileVal
+  pub stream : StreamVal
+  pub reply : Result ℕ Refusal
+
+-- a refused operation leaves the file, and no current record
+abbrev pub outcome_of : Option Refusal → Operation → FileVal → StreamVal → Outcome
+outcome_of None operation file stream =
+    record {
+      file = file_after operation file stream;
+      stream = record stream { next = next_after operation file stream; current = current_after operation file stream };
+      reply = Ok (number_of operation file stream);
+    }
+outcome_of (Some refusal) operation file stream = record { file = file; stream = record stream { current = None }; reply = Err refusal }
+
+abbrev pub act : Operation → FileVal → StreamVal → Outcome
+act operation file stream = outcome_of (first_refusal (refusals_of operation file stream)) operation file stream
+
+-- the file, the stream and the answer are those of the outcome
+pub record IsOutcome (outcome : Outcome) (file : FileVal) (stream : StreamVal) (reply : Result ℕ Refusal) : Type 0 where
+  pub same_file : file ≡ outcome.file
+  pub same_stream : stream ≡ outcome.stream
+  pub same_reply : reply ≡ outcome.reply
+
+-- nothing has changed, though the operation was not to be refused
+pub record LacksMemory (outcome : Outcome) (old_file : FileVal) (old_stream : StreamVal) (file : FileVal) (stream : StreamVal) : Type 0 where
+  pub same_file : file ≡ old_file
+  pub same_stream : stream ≡ old_stream
+  pub allowed : IsOk outcome.reply
+
+-- whether the answer is want of memory
+abbrev pub is_no_memory : Result ℕ Refusal → Bool
+is_no_memory (Err NoMemory) = true
+is_no_memory _ = false
+
+-- an operation that needs memory has its outcome, or lacks memory
+abbrev pub Acts : Operation → FileVal → StreamVal → FileVal → StreamVal → Result ℕ Refusal → Type 0
+Acts operation old_file old_stream file stream reply =
+    MatchBool (is_no_memory reply)
+    (LacksMemory (act operation old_file old_stream) old_file old_stream file stream)
+    (IsOutcome (act operation old_file old_stream) file stream reply)

@@ -1,0 +1,61 @@
+-- A record file as a value: a shape, and a finite map from numbers to records.
+use Rattle.std.specs.Prelude.{ℕ, ◌≤◌, nat_le, List, [], ◌∷◌, length, filter, Option, None, Some, IsSome, IsTrue, IfSome, refl}
+use Rattle.std.specs.Ordering.{nat_cmp}
+use Rattle.std.specs.FinMap.{FinMap, get, keys, entries, insert, remove, code}
+use Rattle.std.specs.Coded.{Coded, code_by, coded×, coded_ℕ, coded_list}
+use Rattle.rec_file.specs.declared.shapes.Shape.{Shape}
+use Rattle.rec_file.specs.contracts.shapes.Shape as shape_type
+use Rattle.rec_file.specs.Shapes.{is_shape, is_seq, limit_of, allows_length}
+
+-- records by their numbers
+abbrev pub Records : Type 0
+Records = FinMap nat_cmp (List ℕ)
+
+pub record FileVal : Type 0 where
+  pub shape : Shape
+  pub records : Records
+
+-- the first of a list
+abbrev pub first_of : List ℕ → Option ℕ
+first_of [] = None
+first_of (n ∷ ns) = Some n
+
+-- the last of a list of numbers, and 0 where it is empty
+abbrev pub last_of : List ℕ → ℕ
+last_of [] = 0
+last_of (n ∷ []) = n
+last_of (n ∷ m ∷ ns) = last_of (m ∷ ns)
+
+-- the lowest occupied number from n on: the keys of a finite map stand in order
+abbrev pub lowest_from : Records → ℕ → Option ℕ
+lowest_from m n = first_of (filter (nat_le n) (keys m))
+
+-- the highest occupied number, and 0 where there is none
+abbrev pub highest_of : Records → ℕ
+highest_of m = last_of (keys m)
+
+-- the records from number n on, in order
+abbrev pub records_from : Records → ℕ → List (ℕ × List ℕ)
+records_from m n = filter (λ e. nat_le n e.0) (entries m)
+
+-- what holds of every file: its shape is one that the check gives; numbers are 1 to the limit, and in a
+-- sequential file exactly 1 to the highest; each length is one that the shape allows
+pub record IsFile (file : FileVal) : Type 0 where
+  pub shape : IsTrue (is_shape file.shape)
+  pub above : (n : ℕ) → IsSome (get file.records n) → 1 ≤ n
+  pub within : (n : ℕ) → IsSome (get file.records n) → n ≤ limit_of file.shape
+  pub dense : IsTrue (is_seq file.shape.org) → (n : ℕ) → 1 ≤ n → n ≤ highest_of file.records → IsSome (get file.records n)
+  pub lengths : (n : ℕ) → IfSome (get file.records n) (λ body. IsTrue (allows_length file.shape (length body)))
+
+-- the file with the body under n
+abbrev pub stored : FileVal → ℕ → List ℕ → FileVal
+stored file n body = record file { records = insert file.records n body }
+
+-- the file with nothing under n
+abbrev pub removed : FileVal → ℕ → FileVal
+removed file n = record file { records = remove file.records n }
+
+-- a file is stored as its shape and its entries
+abbrev pub file_code : Coded FileVal
+file_code =
+    code_by (Shape × Records) (coded× shape_type.the_row.coded (code coded_ℕ (coded_list coded_ℕ))) (λ f. (f.shape, f.records)) (λ p. record { shape = p.0; records = p.1 }) (λ _. refl)

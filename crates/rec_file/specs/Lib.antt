@@ -1,0 +1,9 @@
+pub mod Shapes
+pub mod Keys
+pub mod Files
+pub mod Acts
+pub mod Numbered
+pub mod Sorted
+pub mod Plain
+pub mod AnyFiles
+pub mod Pages

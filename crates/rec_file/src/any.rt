@@ -1,0 +1,87 @@
+//! Files of either organization.
+ghost use Rattle.std.specs.Prelude.{◌≡◌, IsTrue};
+ghost use Rattle.std.specs.FinMap as map;
+ghost use Rattle.rec_file.specs.Shapes.{is_shape};
+ghost use Rattle.rec_file.specs.AnyFiles.{any_value};
+
+use crate::files::RecordFile;
+use crate::relative::RelFile;
+use crate::sequential::SeqFile;
+use crate::shapes::{Org, Shape};
+use std::alloc::{AllocError, Global};
+
+/// A file of either organization (own, in the manner of RMS).
+#[derive(Drop)]
+pub enum AnyFile {
+    /// A sequential file.
+    Seq(SeqFile),
+    /// A relative file.
+    Rel(RelFile),
+}
+
+impl AnyFile {
+    /// An empty file of the shape's organization, the shape being one that [`Shape::check`] gives.
+    /// It takes no memory.
+    pub fn new(alloc: Global, shape: Shape) -> AnyFile
+        requires { IsTrue (is_shape shape) }
+        ensures { any_value result ≡ record { shape = shape; records = map.empty } }
+    {
+        match shape.org {
+            Org::Seq => AnyFile::Seq(SeqFile::new(alloc, shape)),
+            Org::Rel => AnyFile::Rel(RelFile::new(alloc, shape)),
+        }
+    }
+}
+
+impl RecordFile for AnyFile {
+    ghost value = { any_value };
+
+    fn shape(&self) -> Shape {
+        match self {
+            AnyFile::Seq(file) => file.shape(),
+            AnyFile::Rel(file) => file.shape(),
+        }
+    }
+
+    fn lookup(&self, number: u32) -> Option<&[u8]> {
+        match self {
+            AnyFile::Seq(file) => file.lookup(number),
+            AnyFile::Rel(file) => file.lookup(number),
+        }
+    }
+
+    fn first_from(&self, number: u32) -> Option<u32> {
+        match self {
+            AnyFile::Seq(file) => file.first_from(number),
+            AnyFile::Rel(file) => file.first_from(number),
+        }
+    }
+
+    fn highest(&self) -> u32 {
+        match self {
+            AnyFile::Seq(file) => file.highest(),
+            AnyFile::Rel(file) => file.highest(),
+        }
+    }
+
+    fn place(&mut self, number: u32, body: &[u8]) -> Result<(), AllocError> {
+        match self {
+            AnyFile::Seq(file) => file.place(number, body),
+            AnyFile::Rel(file) => file.place(number, body),
+        }
+    }
+
+    fn replace(&mut self, number: u32, body: &[u8]) -> Result<(), AllocError> {
+        match self {
+            AnyFile::Seq(file) => file.replace(number, body),
+            AnyFile::Rel(file) => file.replace(number, body),
+        }
+    }
+
+    fn remove(&mut self, number: u32) {
+        match self {
+            AnyFile::Seq(file) => file.remove(number),
+            AnyFile::Rel(file) => file.remove(number),
+        }
+    }
+}

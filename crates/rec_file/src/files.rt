@@ -1,0 +1,78 @@
+//! What a record file is: a shape and a finite map from numbers to records.
+ghost use Rattle.std.specs.Prelude.{◌≡◌, ◌≤◌, ◌+◌, [], ◌∷◌, length, None, false, IsTrue, IsSome, IfSome, IfNone, OnOk, OnErr};
+ghost use Rattle.std.specs.Option.{option_copied};
+ghost use Rattle.std.specs.FinMap as map;
+ghost use Rattle.rec_file.specs.Shapes.{limit_of, allows_length, is_seq};
+ghost use Rattle.rec_file.specs.declared.shapes.TheConstants.{MAX_NUMBER, MAX_RECORD};
+ghost use Rattle.rec_file.specs.Files.{FileVal, IsFile, lowest_from, highest_of, records_from, stored, removed};
+
+use crate::shapes::{MAX_NUMBER, MAX_RECORD, Shape};
+use std::alloc::AllocError;
+
+/// A file of numbered records, however it is kept (own, in the manner of RMS): its value is a shape
+/// and a finite map from numbers to records, and each call reads or changes that map.
+///
+/// `place` and `replace` alone take memory; where it is refused, nothing has changed.
+pub trait RecordFile {
+    /// The shape and the records.
+    ghost value: { Self → FileVal };
+
+    /// The shape, which is one that [`Shape::check`] gives. Numbers are 1 to the limit, in a
+    /// sequential file exactly 1 to the highest, and each record has a length that the shape allows.
+    fn shape(&self) -> Shape
+        ensures same { result ≡ (value self.now).shape }
+        ensures valid { IsFile (value self.now) };
+
+    /// The record of a number, or None where the number is free.
+    fn lookup(&self, number: u32) -> Option<&[u8]>
+        ensures same { option_copied result ≡ map.get (value self.now).records number }
+        ensures short { IfSome result (λ body. length body.now ≤ MAX_RECORD) };
+
+    /// The lowest occupied number from this one on, or None where there is none.
+    fn first_from(&self, number: u32) -> Option<u32>
+        ensures lowest { result ≡ lowest_from (value self.now).records number }
+        ensures within { IfSome result (λ n. n ≤ MAX_NUMBER) };
+
+    /// The highest occupied number, or 0 where the file is empty.
+    fn highest(&self) -> u32
+        ensures same { result ≡ highest_of (value self.now).records }
+        ensures within { result ≤ MAX_NUMBER };
+
+    /// Stores a record under a free number, in a sequential file under the next one. An error is
+    /// want of memory: nothing has changed.
+    fn place(&mut self, number: u32, body: &[u8]) -> Result<(), AllocError>
+        requires above { 1 ≤ number }
+        requires within { number ≤ limit_of (value self.old).shape }
+        requires free { map.get (value self.old).records number ≡ None }
+        requires next { IsTrue (is_seq (value self.old).shape.org) → number ≡ highest_of (value self.old).records + 1 }
+        requires length { IsTrue (allows_length (value self.old).shape (length body.now)) }
+        ensures ok { OnOk result (value self.new ≡ stored (value self.old) number body.now) }
+        ensures err { OnErr result (value self.new ≡ value self.old) };
+
+    /// Stores another record under an occupied number. An error is want of memory: nothing has
+    /// changed.
+    fn replace(&mut self, number: u32, body: &[u8]) -> Result<(), AllocError>
+        requires occupied { IsSome (map.get (value self.old).records number) }
+        requires length { IsTrue (allows_length (value self.old).shape (length body.now)) }
+        ensures ok { OnOk result (value self.new ≡ stored (value self.old) number body.now) }
+        ensures err { OnErr result (value self.new ≡ value self.old) };
+
+    /// Removes the record of an occupied number of a relative file.
+    fn remove(&mut self, number: u32)
+        requires relative { is_seq (value self.old).shape.org ≡ false }
+        requires occupied { IsSome (map.get (value self.old).records number) }
+        ensures { value self.new ≡ removed (value self.old) number };
+}
+
+/// The record of the lowest occupied number from this one on, behind its number: one step through
+/// the records of a file in order. None where there is no such record. It takes no memory.
+pub fn first_record<F: RecordFile>(file: &F, number: u32) -> Option<(u32, &[u8])>
+    ensures none { IfNone result (records_from (F.value file.now).records number ≡ []) }
+    ensures some { IfSome result (λ r. records_from (F.value file.now).records number ≡ (r.0, r.1.now) ∷ records_from (F.value file.now).records (r.0 + 1)) }
+    ensures within { IfSome result (λ r. r.0 ≤ MAX_NUMBER) }
+    ensures short { IfSome result (λ r. length r.1.now ≤ MAX_RECORD) }
+{
+    let first = file.first_from(number)?;
+    let body = file.lookup(first)?;
+    Some((first, body))
+}

@@ -1,0 +1,33 @@
+//! Record files as finite maps from numbers to records, and streams over them (own, in the manner
+//! of RMS).
+//!
+//! A [`RecordFile`] has a [`Shape`] and records under numbers: [`SeqFile`] is a list of records,
+//! [`RelFile`] keeps pages of 64 cells, [`AnyFile`] is either. A [`Stream`] is a user's place in a
+//! file: it gets, puts, updates and deletes records, and each refusal is the first of the
+//! operation's whose condition holds.
+#![tactic(auto)]
+
+pub mod any;
+pub mod files;
+mod pages;
+pub mod picks;
+#[cfg(test)]
+mod plain;
+pub mod refusals;
+pub mod relative;
+pub mod sequential;
+pub mod shapes;
+mod sorted;
+pub mod streams;
+
+pub use any::AnyFile;
+pub use files::{RecordFile, first_record};
+pub use picks::{Pick, Rights};
+pub use refusals::{Refusal, key_number};
+pub use relative::RelFile;
+pub use sequential::SeqFile;
+pub use shapes::{Format, MAX_NUMBER, MAX_RECORD, Org, Shape};
+pub use streams::Stream;
+
+#[cfg(test)]
+mod tests;

@@ -1,0 +1,153 @@
+//! Pages of 64 cells.
+ghost use Rattle.std.specs.Prelude.{◌≡◌, ◌≤◌, ◌<◌, ◌↔◌, ℕ, length, None, Some, IfOk, IfSome, IfNone, IsTrue, slice_set};
+ghost use Rattle.std.specs.Option.{option_copied};
+ghost use Rattle.rec_file.specs.Pages.{cell, cell_of, page_of, empty_cells, IsFirstIn, IsLastIn};
+ghost use Rattle.rec_file.specs.declared.pages.TheConstants.{LAST_PAGE};
+
+use crate::shapes::MAX_NUMBER;
+use crate::sorted::Entry;
+use std::alloc::{AllocError, Global};
+use std::marker::Model;
+
+/// How many cells a page has.
+pub const CELLS: u32 = 64;
+
+/// No record stands in a page above it.
+pub const LAST_PAGE: u32 = (MAX_NUMBER - 1) / CELLS;
+
+/// The page of a number.
+pub fn page_of(number: u32) -> u32
+    requires { 1 ≤ number }
+    ensures { result ≡ page_of number }
+{
+    (number - 1) / CELLS
+}
+
+/// The cell of a number within its page.
+pub fn cell_of(number: u32) -> usize
+    requires { 1 ≤ number }
+    ensures same { result ≡ cell_of number }
+    ensures within { result < 64 }
+{
+    ((number - 1) % CELLS) as usize
+}
+
+/// 64 cells, each with a record or none.
+#[derive(Drop)]
+pub struct Page {
+    // Bit k is set exactly where cell k is occupied.
+    mask: u64,
+    cells: Vec<Option<Vec<u8>>>,
+}
+
+impl Model for Page {
+    ghost use Rattle.std.specs.Prelude.{◌≡◌, ◌<◌, ◌^◌, ℕ, List, Option, map, length};
+    ghost use Rattle.std.specs.Option.{option_map};
+    ghost use Rattle.rec_file.specs.Pages.{MasksCells};
+
+    ghost Value = { List (Option (List ℕ)) };
+
+    ghost view = { λ a. map (option_map (λ v. v.items)) a.cells.items };
+
+    ghost invariant = { λ a. (length a.cells.items ≡ 64) × (a.mask < 2 ^ 64) × MasksCells a.mask a.cells.items };
+}
+
+impl Page {
+    /// A page with one record.
+    pub fn with(alloc: Global, at: usize, body: Vec<u8>) -> Result<Page, AllocError>
+        requires { at < 64 }
+        ensures { IfOk result (λ page. page ≡ slice_set empty_cells at (Some body.items)) }
+    {
+        let count = CELLS as usize;
+        let mut cells = Vec::with_capacity(alloc, count)?;
+        for _cell in 0..count {
+            cells.push(None)?;
+        }
+        let mut page = Page { mask: 0, cells };
+        page.put(at, body);
+        Ok(page)
+    }
+
+    /// The record of a cell.
+    pub fn get(&self, at: usize) -> Option<&[u8]>
+        requires { at < 64 }
+        ensures { option_copied result ≡ cell self.now at }
+    {
+        match &self.cells[at] {
+            Some(body) => Some(body.as_slice()),
+            None => None,
+        }
+    }
+
+    /// Stores a record in a cell.
+    pub fn put(&mut self, at: usize, body: Vec<u8>)
+        requires { at < 64 }
+        ensures { self.new ≡ slice_set self.old at (Some body.items) }
+    {
+        self.cells[at] = Some(body);
+        self.mask |= 1u64 << at;
+    }
+
+    /// Empties a cell.
+    pub fn clear(&mut self, at: usize)
+        requires { at < 64 }
+        ensures { self.new ≡ slice_set self.old at None }
+    {
+        self.cells[at] = None;
+        self.mask &= !(1u64 << at);
+    }
+
+    /// Whether no cell is occupied.
+    pub fn is_empty(&self) -> bool
+        ensures { IsTrue result ↔ ((k : ℕ) → cell self.now k ≡ None) }
+    {
+        self.mask == 0
+    }
+
+    /// The first occupied cell from this one on.
+    pub fn first_from(&self, at: usize) -> Option<usize>
+        requires { at < 64 }
+        ensures none { IfNone result ((k : ℕ) → at ≤ k → cell self.now k ≡ None) }
+        ensures some { IfSome result (IsFirstIn self.now at) }
+    {
+        let rest = self.mask >> at;
+        if rest == 0 {
+            None
+        } else {
+            Some(at + rest.trailing_zeros() as usize)
+        }
+    }
+
+    /// The last occupied cell.
+    pub fn last(&self) -> Option<usize>
+        ensures none { IfNone result ((k : ℕ) → cell self.now k ≡ None) }
+        ensures some { IfSome result (IsLastIn self.now) }
+    {
+        if self.mask == 0 {
+            None
+        } else {
+            Some(self.mask.ilog2() as usize)
+        }
+    }
+}
+
+/// The number of the first record in a page's cells from this one on.
+pub fn first_in(page: &Entry<Page>, from: usize) -> Option<u32>
+    requires page { page.now.number ≤ LAST_PAGE }
+    requires cell { from < 64 }
+    ensures none { IfNone result ((k : ℕ) → from ≤ k → cell page.now.value k ≡ None) }
+    ensures some { IfSome result (λ n. (1 ≤ n) × (page_of n ≡ page.now.number) × IsFirstIn page.now.value from (cell_of n)) }
+{
+    let cell = page.value.first_from(from)?;
+    Some(CELLS * page.number + cell as u32 + 1)
+}
+
+/// The number of a page's last record.
+pub fn last_in(page: &Entry<Page>) -> Option<u32>
+    requires { page.now.number ≤ LAST_PAGE }
+    ensures none { IfNone result ((k : ℕ) → cell page.now.value k ≡ None) }
+    ensures some { IfSome result (λ n. (1 ≤ n) × (page_of n ≡ page.now.number) × IsLastIn page.now.value (cell_of n)) }
+{
+    let cell = page.value.last()?;
+    Some(CELLS * page.number + cell as u32 + 1)
+}

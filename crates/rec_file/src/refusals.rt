@@ -1,0 +1,44 @@
+//! Why an operation on a stream is refused.
+ghost use Rattle.std.specs.Prelude.{◌≡◌, length};
+ghost use Rattle.rec_file.specs.Keys.{number_of_key};
+
+/// Why an operation on a stream is refused (own, in the manner of RMS).
+#[derive(Clone, Copy, Debug, PartialEq, Eq)]
+pub enum Refusal {
+    /// The stream lacks the right.
+    NotPermitted,
+    /// No current record, or the file has none under its number.
+    NoCurrent,
+    /// The number is free.
+    RecordNotFound,
+    /// The number is occupied.
+    RecordExists,
+    /// The number is 0 or above the file's limit.
+    NumberOutOfRange,
+    /// A record may not have this length.
+    BadLength,
+    /// A key in a sequential file.
+    BadAccessMode,
+    /// A removal in a sequential file.
+    DeleteNotAllowed,
+    /// A key that isn't 1 to 4 bytes long.
+    BadKey,
+    /// No record from the stream's next on.
+    EndOfFile,
+    /// Memory was refused: nothing has changed. It comes last, from `put` and `update` alone.
+    NoMemory,
+}
+
+/// The number that a key's 1 to 4 bytes spell, the least significant first; refused as BadKey at
+/// any other length (own). It takes no memory.
+pub fn key_number(key: &[u8]) -> Result<u32, Refusal>
+    ensures { result ≡ number_of_key key.now }
+{
+    match *key {
+        [a] => Ok(u32::from_le_bytes([a, 0, 0, 0])),
+        [a, b] => Ok(u32::from_le_bytes([a, b, 0, 0])),
+        [a, b, c] => Ok(u32::from_le_bytes([a, b, c, 0])),
+        [a, b, c, d] => Ok(u32::from_le_bytes([a, b, c, d])),
+        _ => Err(Refusal::BadKey),
+    }
+}

@@ -1,0 +1,90 @@
+//! Sequential files: a list of records.
+ghost use Rattle.std.specs.Prelude.{◌≡◌, IsTrue};
+ghost use Rattle.std.specs.FinMap as map;
+ghost use Rattle.rec_file.specs.Shapes.{is_shape, is_seq};
+
+use crate::files::RecordFile;
+use crate::shapes::Shape;
+use std::alloc::{AllocError, Global};
+use std::marker::Model;
+
+/// A sequential file (own, in the manner of RMS): a list of records, of which the first has number
+/// 1, and so on.
+#[derive(Drop)]
+pub struct SeqFile {
+    shape: Shape,
+    records: Vec<Vec<u8>>,
+}
+
+impl Model for SeqFile {
+    ghost use Rattle.std.specs.Prelude.{◌≡◌, List, ℕ, map, true};
+    ghost use Rattle.rec_file.specs.Shapes.{is_seq};
+    ghost use Rattle.rec_file.specs.Numbered.{sequential_file};
+    ghost use Rattle.rec_file.specs.Files.{FileVal, IsFile, file_code};
+
+    ghost Value = { FileVal };
+
+    ghost coded = { file_code };
+
+    ghost view = { λ a. sequential_file a.shape (map (λ v. v.items) a.records.items) };
+
+    ghost invariant = { λ a. IsFile (sequential_file a.shape (map (λ v. v.items) a.records.items)) × (is_seq a.shape.org ≡ true) };
+}
+
+impl SeqFile {
+    /// An empty file of a sequential shape that [`Shape::check`] gives. It takes no memory.
+    pub fn new(alloc: Global, shape: Shape) -> SeqFile
+        requires valid { IsTrue (is_shape shape) }
+        requires sequential { IsTrue (is_seq shape.org) }
+        ensures { result ≡ record { shape = shape; records = map.empty } }
+    {
+        SeqFile {
+            shape,
+            records: Vec::new(alloc),
+        }
+    }
+}
+
+impl RecordFile for SeqFile {
+    ghost value = { λ f. f };
+
+    fn shape(&self) -> Shape {
+        self.shape
+    }
+
+    fn lookup(&self, number: u32) -> Option<&[u8]> {
+        let records = &self.records;
+        let record = records.get((number as usize).checked_sub(1)?)?;
+        Some(record.as_slice())
+    }
+
+    fn first_from(&self, number: u32) -> Option<u32> {
+        let first = number.max(1);
+        if first as usize <= self.records.len() {
+            Some(first)
+        } else {
+            None
+        }
+    }
+
+    fn highest(&self) -> u32 {
+        self.records.len() as u32
+    }
+
+    fn place(&mut self, _number: u32, body: &[u8]) -> Result<(), AllocError> {
+        let record = Vec::from_slice(*self.records.allocator(), body)?;
+        self.records.push(record)?;
+        Ok(())
+    }
+
+    fn replace(&mut self, number: u32, body: &[u8]) -> Result<(), AllocError> {
+        let record = Vec::from_slice(*self.records.allocator(), body)?;
+        self.records[number as usize - 1] = record;
+        Ok(())
+    }
+
+    // No file is sequential and relative.
+    fn remove(&mut self, _number: u32) {
+        let _ = &self.shape;
+    }
+}

@@ -1,0 +1,275 @@
+//! A stream: a place in a file, and the operations of a user on it.
+ghost use Rattle.std.specs.Prelude.{◌≡◌, ◌≤◌, ◌+◌, false, length, IfOk, IsSome, IsTrue};
+ghost use Rattle.std.specs.FinMap as map;
+ghost use Rattle.rec_file.specs.Shapes.{limit_of, allows_length};
+ghost use Rattle.rec_file.specs.declared.shapes.TheConstants.{MAX_NUMBER};
+ghost use Rattle.rec_file.specs.Acts.{act, Acts, IsOutcome, is_no_memory, get_record, put_record, update_record, delete_record};
+
+use crate::files::RecordFile;
+use crate::picks::{Pick, Rights};
+use crate::refusals::Refusal;
+use crate::shapes::MAX_NUMBER;
+use std::marker::Model;
+
+/// A user's place in a file, and what the user may do (own, in the manner of RMS): the number from
+/// which the next get searches, from 1 to one above [`MAX_NUMBER`], and perhaps a current record.
+///
+/// An operation answers the number of its record, or the first of its refusals whose condition
+/// holds. Each operation leaves no current record, refused or not, save a get that finds one, and
+/// save want of memory, which comes last and changes nothing.
+#[derive(Clone, Copy)]
+pub struct Stream {
+    rights: Rights,
+    next: u32,
+    current: Option<u32>,
+}
+
+impl Model for Stream {
+    ghost use Rattle.std.specs.Prelude.{◌≤◌, ◌+◌};
+    ghost use Rattle.rec_file.specs.declared.shapes.TheConstants.{MAX_NUMBER};
+    ghost use Rattle.rec_file.specs.Acts.{StreamVal};
+
+    ghost Value = { StreamVal };
+
+    ghost view = { λ s. record { rights = s.rights; next = s.next; current = s.current } };
+
+    ghost invariant = { λ s. (1 ≤ s.next) × (s.next ≤ MAX_NUMBER + 1) };
+
+    ghost inverse = { λ v. record { rights = v.rights; next = v.next; current = v.current } };
+}
+
+impl Stream {
+    /// A stream at number 1, with no current record.
+    pub fn new(rights: Rights) -> Stream
+        ensures { result ≡ record { rights = rights; next = 1; current = None } }
+    {
+        Stream {
+            rights,
+            next: 1,
+            current: None,
+        }
+    }
+
+    /// What its user may do.
+    pub fn rights(&self) -> Rights
+        ensures { result ≡ self.now.rights }
+    {
+        self.rights
+    }
+
+    /// The number from which the next get searches: 1 to one above [`MAX_NUMBER`].
+    pub fn next(&self) -> u32
+        ensures same { result ≡ self.now.next }
+        ensures above { 1 ≤ result }
+        ensures within { result ≤ MAX_NUMBER + 1 }
+    {
+        self.next
+    }
+
+    /// The next get searches from n on. No record is current then.
+    pub fn seek(&mut self, n: u32)
+        requires above { 1 ≤ n }
+        requires within { n ≤ MAX_NUMBER + 1 }
+        ensures { self.new ≡ record self.old { next = n; current = None } }
+    {
+        *self = Stream {
+            next: n,
+            current: None,
+            ..*self
+        };
+    }
+
+    /// The next get searches from 1 on. No record is current then.
+    pub fn rewind(&mut self)
+        ensures { self.new ≡ record self.old { next = 1; current = None } }
+    {
+        self.seek(1);
+    }
+
+    /// No record is current then; nothing else changes.
+    pub fn forget(&mut self)
+        ensures { self.new ≡ record self.old { current = None } }
+    {
+        let current = None;
+        *self = Stream { current, ..*self };
+    }
+
+    /// Finds a record. It becomes the current one, and the next get searches behind it; a refused
+    /// get leaves where the next one searches. It takes no memory.
+    ///
+    /// Refusals in order: NotPermitted; by `Next` EndOfFile; by `Key` BadAccessMode in a sequential
+    /// file, NumberOutOfRange, RecordNotFound; by `Rfa` NumberOutOfRange, RecordNotFound.
+    pub fn get<F: RecordFile>(&mut self, file: &F, pick: Pick) -> Result<u32, Refusal>
+        ensures reply { result ≡ (act (get_record pick) (F.value file.now) self.old).reply }
+        ensures stream { self.new ≡ (act (get_record pick) (F.value file.now) self.old).stream }
+        ensures no_memory_wanted { is_no_memory result ≡ false }
+    {
+        match self.found(file, pick) {
+            Ok(number) => {
+                self.seek(number + 1);
+                self.current = Some(number);
+                Ok(number)
+            }
+            Err(refusal) => {
+                self.current = None;
+                Err(refusal)
+            }
+        }
+    }
+
+    // The number that a get finds.
+    fn found<F: RecordFile>(&self, file: &F, pick: Pick) -> Result<u32, Refusal>
+        ensures reply { result ≡ (act (get_record pick) (F.value file.now) self.now).reply }
+        ensures within { IfOk result (λ n. n ≤ MAX_NUMBER) }
+        ensures no_memory_wanted { is_no_memory result ≡ false }
+    {
+        if !self.rights.get {
+            return Err(Refusal::NotPermitted);
+        }
+        match pick {
+            Pick::Next => file.first_from(self.next).ok_or(Refusal::EndOfFile),
+            Pick::Key(_) if file.shape().is_sequential() => Err(Refusal::BadAccessMode),
+            Pick::Key(number) | Pick::Rfa(number) => {
+                if number == 0 || number > file.shape().limit() {
+                    return Err(Refusal::NumberOutOfRange);
+                }
+                match file.lookup(number) {
+                    Some(_) => Ok(number),
+                    None => Err(Refusal::RecordNotFound),
+                }
+            }
+        }
+    }
+
+    /// Stores a new record: under the key; without one at the end of a sequential file, and in a
+    /// relative file at the stream's next, which moves behind it.
+    ///
+    /// Refusals in order: NotPermitted, BadAccessMode (a key in a sequential file), BadLength,
+    /// NumberOutOfRange, RecordExists, NoMemory.
+    pub fn put<F: RecordFile>(
+        &mut self,
+        file: &mut F,
+        key: Option<u32>,
+        body: &[u8],
+    ) -> Result<u32, Refusal>
+        ensures { Acts (put_record key body.now) (F.value file.old) self.old (F.value file.new) self.new result }
+    {
+        let number = match self.free_number(file, key, body) {
+            Ok(number) => number,
+            Err(refusal) => {
+                self.current = None;
+                return Err(refusal);
+            }
+        };
+        let moves = key.is_none() && !file.shape().is_sequential();
+        if file.place(number, body).is_err() {
+            return Err(Refusal::NoMemory);
+        }
+        let next = if moves { number + 1 } else { self.next };
+        self.seek(next);
+        Ok(number)
+    }
+
+    // The number that a put gives.
+    fn free_number<F: RecordFile>(
+        &self,
+        file: &F,
+        key: Option<u32>,
+        body: &[u8],
+    ) -> Result<u32, Refusal>
+        ensures reply { result ≡ (act (put_record key body.now) (F.value file.now) self.now).reply }
+        ensures above { IfOk result (λ n. 1 ≤ n) }
+        ensures within { IfOk result (λ n. n ≤ limit_of (F.value file.now).shape) }
+        ensures free { IfOk result (λ n. map.get (F.value file.now).records n ≡ None) }
+        ensures length { IfOk result (λ _. IsTrue (allows_length (F.value file.now).shape (length body.now))) }
+    {
+        if !self.rights.put {
+            return Err(Refusal::NotPermitted);
+        }
+        let shape = file.shape();
+        if key.is_some() && shape.is_sequential() {
+            return Err(Refusal::BadAccessMode);
+        }
+        if !shape.allows(body.len()) {
+            return Err(Refusal::BadLength);
+        }
+        let number = match key {
+            Some(number) => number,
+            None if shape.is_sequential() => file.highest() + 1,
+            None => self.next,
+        };
+        if number == 0 || number > shape.limit() {
+            return Err(Refusal::NumberOutOfRange);
+        }
+        match file.lookup(number) {
+            None => Ok(number),
+            Some(_) => Err(Refusal::RecordExists),
+        }
+    }
+
+    /// Replaces the current record, in a sequential file by one of the same length.
+    ///
+    /// Refusals in order: NotPermitted, NoCurrent, BadLength, NoMemory.
+    pub fn update<F: RecordFile>(&mut self, file: &mut F, body: &[u8]) -> Result<u32, Refusal>
+        ensures { Acts (update_record body.now) (F.value file.old) self.old (F.value file.new) self.new result }
+    {
+        let number = match self.updated_number(file, body) {
+            Ok(number) => number,
+            Err(refusal) => {
+                self.current = None;
+                return Err(refusal);
+            }
+        };
+        if file.replace(number, body).is_err() {
+            return Err(Refusal::NoMemory);
+        }
+        self.forget();
+        Ok(number)
+    }
+
+    // The number that an update is about.
+    fn updated_number<F: RecordFile>(&self, file: &F, body: &[u8]) -> Result<u32, Refusal>
+        ensures reply { result ≡ (act (update_record body.now) (F.value file.now) self.now).reply }
+        ensures occupied { IfOk result (λ n. IsSome (map.get (F.value file.now).records n)) }
+        ensures length { IfOk result (λ _. IsTrue (allows_length (F.value file.now).shape (length body.now))) }
+    {
+        if !self.rights.upd {
+            return Err(Refusal::NotPermitted);
+        }
+        let Some(number) = self.current else {
+            return Err(Refusal::NoCurrent);
+        };
+        let Some(record) = file.lookup(number) else {
+            return Err(Refusal::NoCurrent);
+        };
+        let shape = file.shape();
+        if !shape.allows(body.len()) || (shape.is_sequential() && body.len() != record.len()) {
+            return Err(Refusal::BadLength);
+        }
+        Ok(number)
+    }
+
+    /// Removes the current record of a relative file. It takes no memory.
+    ///
+    /// Refusals in order: NotPermitted, DeleteNotAllowed (a sequential file), NoCurrent.
+    pub fn delete<F: RecordFile>(&mut self, file: &mut F) -> Result<u32, Refusal>
+        ensures outcome { IsOutcome (act delete_record (F.value file.old) self.old) (F.value file.new) self.new result }
+        ensures no_memory_wanted { is_no_memory result ≡ false }
+    {
+        let current = self.current.take();
+        if !self.rights.del {
+            return Err(Refusal::NotPermitted);
+        }
+        if file.shape().is_sequential() {
+            return Err(Refusal::DeleteNotAllowed);
+        }
+        let Some(number) = current else {
+            return Err(Refusal::NoCurrent);
+        };
+        if file.lookup(number).is_none() {
+            return Err(Refusal::NoCurrent);
+        }
+        file.remove(number);
+        Ok(number)
+    }
+}

@@ -1,0 +1,550 @@
+//! Scripts over each kind of file: worked examples, each refusal beside a call that isn't refused,
+//! and growth that may be refused.
+use crate::any::AnyFile;
+use crate::files::{RecordFile, first_record};
+use crate::picks::{Pick, Rights};
+use crate::plain::PlainFile;
+use crate::refusals::{Refusal, key_number};
+use crate::relative::RelFile;
+use crate::sequential::SeqFile;
+use crate::shapes::{Format, MAX_NUMBER, Org, Shape};
+use crate::streams::Stream;
+use std::process::Abort;
+
+const ALL: Rights = Rights {
+    get: true,
+    put: true,
+    upd: true,
+    del: true,
+};
+
+const NONE: Rights = Rights {
+    get: false,
+    put: false,
+    upd: false,
+    del: false,
+};
+
+const SEQUENTIAL: Shape = Shape {
+    org: Org::Seq,
+    format: Format::Variable,
+    mrs: 0,
+    mrn: 0,
+};
+
+const RELATIVE: Shape = Shape {
+    org: Org::Rel,
+    format: Format::Variable,
+    mrs: 0,
+    mrn: 0,
+};
+
+const PAIRS: Shape = Shape {
+    org: Org::Seq,
+    format: Format::Fixed,
+    mrs: 2,
+    mrn: 0,
+};
+
+const THREE: Shape = Shape {
+    org: Org::Rel,
+    format: Format::Variable,
+    mrs: 2,
+    mrn: 3,
+};
+
+static LONG: [u8; 32768] = [7; 32768];
+
+#[derive(Clone, Copy, Debug)]
+enum Call {
+    Get(Pick),
+    Put(Option<u32>, &'static [u8]),
+    Update(&'static [u8]),
+    Delete,
+    Rewind,
+}
+
+// Each call of the script has its answer; a rewind has number 1 here.
+fn play<F: RecordFile>(
+    rt: &impl Abort,
+    file: &mut F,
+    stream: &mut Stream,
+    script: &[(Call, Result<u32, Refusal>)],
+) {
+    for (call, answer) in script {
+        let reply = match *call {
+            Call::Get(pick) => stream.get(file, pick),
+            Call::Put(key, body) => put_surely(rt, file, stream, key, body),
+            Call::Update(body) => update_surely(rt, file, stream, body),
+            Call::Delete => stream.delete(file),
+            Call::Rewind => {
+                stream.rewind();
+                Ok(stream.next())
+            }
+        };
+        assert_eq!(rt; reply, *answer, "at {call:?}");
+    }
+}
+
+// A put that is made again where memory was refused: the second has to find all as it was.
+fn put_surely<F: RecordFile>(
+    rt: &impl Abort,
+    file: &mut F,
+    stream: &mut Stream,
+    key: Option<u32>,
+    body: &[u8],
+) -> Result<u32, Refusal> {
+    let before = (stream.next(), file.highest(), file.first_from(1));
+    match stream.put(file, key, body) {
+        Err(Refusal::NoMemory) => {
+            assert_eq!(rt; (stream.next(), file.highest(), file.first_from(1)), before);
+            stream.put(file, key, body)
+        }
+        reply => reply,
+    }
+}
+
+// The same for an update, which has to find its current record again.
+fn update_surely<F: RecordFile>(
+    rt: &impl Abort,
+    file: &mut F,
+    stream: &mut Stream,
+    body: &[u8],
+) -> Result<u32, Refusal> {
+    let before = (stream.next(), file.highest(), file.first_from(1));
+    match stream.update(file, body) {
+        Err(Refusal::NoMemory) => {
+            assert_eq!(rt; (stream.next(), file.highest(), file.first_from(1)), before);
+            stream.update(file, body)
+        }
+        reply => reply,
+    }
+}
+
+fn holds<F: RecordFile>(file: &F, number: u32, body: &[u8]) -> bool {
+    file.lookup(number) == Some(body)
+}
+
+fn three_numbers<F: RecordFile>(rt: &impl Abort, file: &mut F) {
+    let mut stream = Stream::new(Rights { upd: false, ..ALL });
+    play(
+        rt,
+        file,
+        &mut stream,
+        &[
+            (Call::Put(Some(3), b"a"), Ok(3)),
+            (Call::Put(Some(3), b"a"), Err(Refusal::RecordExists)),
+            (Call::Put(Some(4), b"a"), Err(Refusal::NumberOutOfRange)),
+            (Call::Get(Pick::Next), Ok(3)),
+            (Call::Put(None, b"a"), Err(Refusal::NumberOutOfRange)),
+            (Call::Get(Pick::Rfa(3)), Ok(3)),
+            (Call::Delete, Ok(3)),
+            (Call::Delete, Err(Refusal::NoCurrent)),
+            (Call::Get(Pick::Next), Err(Refusal::EndOfFile)),
+            (Call::Rewind, Ok(1)),
+            (Call::Put(None, b"a"), Ok(1)),
+            (Call::Get(Pick::Next), Err(Refusal::EndOfFile)),
+        ],
+    );
+}
+
+#[test]
+fn a_relative_file_of_three_numbers(rt: HostRuntime) {
+    let shape = Shape { mrs: 0, ..THREE };
+    three_numbers(&rt, &mut RelFile::new(rt.alloc(), shape));
+    three_numbers(&rt, &mut PlainFile::new(rt.alloc(), shape));
+    three_numbers(&rt, &mut AnyFile::new(rt.alloc(), shape));
+}
+
+fn two_bytes<F: RecordFile>(rt: &impl Abort, file: &mut F) {
+    play(
+        rt,
+        file,
+        &mut Stream::new(ALL),
+        &[
+            (Call::Put(None, b"A"), Err(Refusal::BadLength)),
+            (Call::Put(None, b"AB"), Ok(1)),
+            (Call::Delete, Err(Refusal::DeleteNotAllowed)),
+            (Call::Get(Pick::Key(1)), Err(Refusal::BadAccessMode)),
+            (Call::Get(Pick::Rfa(1)), Ok(1)),
+        ],
+    );
+}
+
+#[test]
+fn a_sequential_file_of_two_bytes(rt: HostRuntime) {
+    two_bytes(&rt, &mut SeqFile::new(rt.alloc(), PAIRS));
+    two_bytes(&rt, &mut AnyFile::new(rt.alloc(), PAIRS));
+}
+
+fn updated_once<F: RecordFile>(rt: &impl Abort, file: &mut F) {
+    play(
+        rt,
+        file,
+        &mut Stream::new(ALL),
+        &[(Call::Put(None, b"A"), Ok(1))],
+    );
+    let mut stream = Stream::new(Rights {
+        get: true,
+        upd: true,
+        ..NONE
+    });
+    play(
+        rt,
+        file,
+        &mut stream,
+        &[
+            (Call::Get(Pick::Next), Ok(1)),
+            (Call::Update(b"B"), Ok(1)),
+            (Call::Update(b"C"), Err(Refusal::NoCurrent)),
+        ],
+    );
+    assert!(rt; holds(file, 1, b"B"));
+    play(
+        rt,
+        file,
+        &mut stream,
+        &[
+            (Call::Rewind, Ok(1)),
+            (Call::Get(Pick::Next), Ok(1)),
+            (Call::Update(b"BC"), Err(Refusal::BadLength)),
+        ],
+    );
+    assert!(rt; holds(file, 1, b"B"));
+}
+
+#[test]
+fn a_record_is_updated_once(rt: HostRuntime) {
+    updated_once(&rt, &mut SeqFile::new(rt.alloc(), SEQUENTIAL));
+    updated_once(&rt, &mut AnyFile::new(rt.alloc(), SEQUENTIAL));
+}
+
+#[test]
+fn pages_of_four_records(rt: HostRuntime) {
+    let mut file = RelFile::new(rt.alloc(), RELATIVE);
+    let mut stream = Stream::new(ALL);
+    assert_eq!(rt; file.page_count(), 0);
+    play(
+        &rt,
+        &mut file,
+        &mut stream,
+        &[
+            (Call::Put(Some(2147483647), b"last"), Ok(2147483647)),
+            (Call::Put(Some(65), b"b"), Ok(65)),
+            (Call::Put(Some(64), b"a"), Ok(64)),
+            (Call::Put(Some(1), b""), Ok(1)),
+        ],
+    );
+    assert_eq!(rt; file.page_count(), 3);
+    for (from, first) in [
+        (0, Some(1)),
+        (1, Some(1)),
+        (2, Some(64)),
+        (65, Some(65)),
+        (66, Some(2147483647)),
+        (2147483648, None),
+        (4294967295, None),
+    ] {
+        assert_eq!(rt; file.first_from(from), first, "from {from}");
+    }
+    assert!(rt; holds(&file, 1, b""));
+    assert_eq!(rt; file.lookup(2), None);
+    play(
+        &rt,
+        &mut file,
+        &mut stream,
+        &[(Call::Get(Pick::Key(64)), Ok(64)), (Call::Delete, Ok(64))],
+    );
+    assert_eq!(rt; file.first_from(2), Some(65));
+    assert_eq!(rt; file.page_count(), 3);
+    play(
+        &rt,
+        &mut file,
+        &mut stream,
+        &[
+            (Call::Get(Pick::Key(2147483647)), Ok(2147483647)),
+            (Call::Delete, Ok(2147483647)),
+        ],
+    );
+    assert_eq!(rt; file.highest(), 65);
+    assert_eq!(rt; file.page_count(), 2);
+}
+
+// Of a sequential file no put can be out of range: 2,147,483,647 records would come first.
+fn sequential_refusals<F: RecordFile>(rt: &impl Abort, file: &mut F) {
+    play(
+        rt,
+        file,
+        &mut Stream::new(ALL),
+        &[
+            (Call::Get(Pick::Next), Err(Refusal::EndOfFile)),
+            (Call::Put(None, b"abc"), Err(Refusal::BadLength)),
+            (Call::Put(None, b"ab"), Ok(1)),
+            (Call::Put(None, b"c"), Ok(2)),
+            (Call::Put(Some(3), b"d"), Err(Refusal::BadAccessMode)),
+            (Call::Put(Some(0), b"abc"), Err(Refusal::BadAccessMode)),
+            (Call::Get(Pick::Next), Ok(1)),
+            (Call::Get(Pick::Key(0)), Err(Refusal::BadAccessMode)),
+            (Call::Get(Pick::Rfa(0)), Err(Refusal::NumberOutOfRange)),
+            (
+                Call::Get(Pick::Rfa(2147483648)),
+                Err(Refusal::NumberOutOfRange),
+            ),
+            (Call::Get(Pick::Rfa(3)), Err(Refusal::RecordNotFound)),
+            (Call::Get(Pick::Next), Ok(2)),
+            (Call::Get(Pick::Next), Err(Refusal::EndOfFile)),
+            (Call::Update(b"abc"), Err(Refusal::NoCurrent)),
+            (Call::Get(Pick::Rfa(1)), Ok(1)),
+            (Call::Update(b"abc"), Err(Refusal::BadLength)),
+            (Call::Get(Pick::Rfa(1)), Ok(1)),
+            (Call::Update(b"a"), Err(Refusal::BadLength)),
+            (Call::Update(b"xy"), Err(Refusal::NoCurrent)),
+            (Call::Get(Pick::Rfa(1)), Ok(1)),
+            (Call::Update(b"xy"), Ok(1)),
+            (Call::Delete, Err(Refusal::DeleteNotAllowed)),
+            (Call::Get(Pick::Next), Ok(2)),
+        ],
+    );
+    assert!(rt; holds(file, 1, b"xy"));
+    not_permitted(rt, file);
+}
+
+// Each call lacks its right, though other conditions of a refusal hold too.
+fn not_permitted<F: RecordFile>(rt: &impl Abort, file: &mut F) {
+    play(
+        rt,
+        file,
+        &mut Stream::new(NONE),
+        &[
+            (Call::Get(Pick::Next), Err(Refusal::NotPermitted)),
+            (Call::Get(Pick::Key(0)), Err(Refusal::NotPermitted)),
+            (Call::Get(Pick::Rfa(0)), Err(Refusal::NotPermitted)),
+            (Call::Put(None, b"abc"), Err(Refusal::NotPermitted)),
+            (Call::Put(Some(0), b"abc"), Err(Refusal::NotPermitted)),
+            (Call::Update(b"abc"), Err(Refusal::NotPermitted)),
+            (Call::Delete, Err(Refusal::NotPermitted)),
+        ],
+    );
+}
+
+#[test]
+fn each_refusal_of_a_sequential_file(rt: HostRuntime) {
+    let shape = Shape {
+        mrs: 2,
+        ..SEQUENTIAL
+    };
+    sequential_refusals(&rt, &mut SeqFile::new(rt.alloc(), shape));
+    sequential_refusals(&rt, &mut AnyFile::new(rt.alloc(), shape));
+}
+
+fn relative_refusals<F: RecordFile>(rt: &impl Abort, file: &mut F) {
+    play(
+        rt,
+        file,
+        &mut Stream::new(ALL),
+        &[
+            (Call::Get(Pick::Next), Err(Refusal::EndOfFile)),
+            (Call::Get(Pick::Key(0)), Err(Refusal::NumberOutOfRange)),
+            (Call::Get(Pick::Key(4)), Err(Refusal::NumberOutOfRange)),
+            (Call::Get(Pick::Key(1)), Err(Refusal::RecordNotFound)),
+            (Call::Get(Pick::Rfa(0)), Err(Refusal::NumberOutOfRange)),
+            (Call::Get(Pick::Rfa(4)), Err(Refusal::NumberOutOfRange)),
+            (Call::Get(Pick::Rfa(1)), Err(Refusal::RecordNotFound)),
+            (Call::Put(None, b"abc"), Err(Refusal::BadLength)),
+            (Call::Put(None, b"a"), Ok(1)),
+            (Call::Put(None, b"b"), Ok(2)),
+            (Call::Rewind, Ok(1)),
+            (Call::Put(None, b"c"), Err(Refusal::RecordExists)),
+            (Call::Put(None, b"abc"), Err(Refusal::BadLength)),
+            (Call::Put(Some(0), b"abc"), Err(Refusal::BadLength)),
+            (Call::Put(Some(2), b"abc"), Err(Refusal::BadLength)),
+            (Call::Put(Some(0), b"c"), Err(Refusal::NumberOutOfRange)),
+            (Call::Put(Some(4), b"c"), Err(Refusal::NumberOutOfRange)),
+            (Call::Put(Some(2), b"c"), Err(Refusal::RecordExists)),
+            (Call::Put(Some(3), b""), Ok(3)),
+            (Call::Get(Pick::Next), Ok(1)),
+            (Call::Get(Pick::Key(3)), Ok(3)),
+            (Call::Put(None, b"abc"), Err(Refusal::BadLength)),
+            (Call::Put(None, b"c"), Err(Refusal::NumberOutOfRange)),
+            (Call::Update(b"abc"), Err(Refusal::NoCurrent)),
+            (Call::Get(Pick::Key(1)), Ok(1)),
+            (Call::Update(b"abc"), Err(Refusal::BadLength)),
+            (Call::Delete, Err(Refusal::NoCurrent)),
+            (Call::Get(Pick::Key(1)), Ok(1)),
+            (Call::Update(b"zz"), Ok(1)),
+            (Call::Get(Pick::Rfa(2)), Ok(2)),
+            (Call::Delete, Ok(2)),
+            (Call::Get(Pick::Key(2)), Err(Refusal::RecordNotFound)),
+            (Call::Get(Pick::Next), Ok(3)),
+        ],
+    );
+    assert!(rt; holds(file, 1, b"zz"));
+    not_permitted(rt, file);
+    two_streams(rt, file);
+}
+
+// What another stream removes is current no more.
+fn two_streams<F: RecordFile>(rt: &impl Abort, file: &mut F) {
+    let mut first = Stream::new(ALL);
+    let mut second = Stream::new(ALL);
+    let get_and_delete = [(Call::Get(Pick::Key(1)), Ok(1)), (Call::Delete, Ok(1))];
+    play(rt, file, &mut first, &[(Call::Get(Pick::Key(1)), Ok(1))]);
+    play(rt, file, &mut second, &get_and_delete);
+    play(
+        rt,
+        file,
+        &mut first,
+        &[
+            (Call::Update(b"abc"), Err(Refusal::NoCurrent)),
+            (Call::Put(Some(1), b"a"), Ok(1)),
+            (Call::Get(Pick::Key(1)), Ok(1)),
+        ],
+    );
+    play(rt, file, &mut second, &get_and_delete);
+    play(
+        rt,
+        file,
+        &mut first,
+        &[(Call::Delete, Err(Refusal::NoCurrent))],
+    );
+}
+
+#[test]
+fn each_refusal_of_a_relative_file(rt: HostRuntime) {
+    relative_refusals(&rt, &mut RelFile::new(rt.alloc(), THREE));
+    relative_refusals(&rt, &mut PlainFile::new(rt.alloc(), THREE));
+    relative_refusals(&rt, &mut AnyFile::new(rt.alloc(), THREE));
+}
+
+#[test]
+fn the_longest_record(rt: HostRuntime) {
+    let mut file = AnyFile::new(rt.alloc(), RELATIVE);
+    let mut stream = Stream::new(ALL);
+    assert_eq!(rt; stream.put(&mut file, None, &LONG), Err(Refusal::BadLength));
+    assert_eq!(rt;
+        put_surely(&rt, &mut file, &mut stream, None, &LONG[1..]),
+        Ok(1)
+    );
+    assert_eq!(rt;
+        first_record(&file, 0).map(|(n, body)| (n, body.len())),
+        Some((1, 32767))
+    );
+    assert_eq!(rt;
+        first_record(&file, 2).map(|(n, body)| (n, body.len())),
+        None
+    );
+}
+
+#[test]
+fn a_stream_at_its_end(rt: HostRuntime) {
+    let mut file = RelFile::new(rt.alloc(), RELATIVE);
+    let mut stream = Stream::new(ALL);
+    assert_eq!(rt; stream.rights(), ALL);
+    stream.seek(MAX_NUMBER);
+    assert_eq!(rt;
+        put_surely(&rt, &mut file, &mut stream, None, b"z"),
+        Ok(MAX_NUMBER)
+    );
+    assert_eq!(rt; stream.next(), 2147483648);
+    assert_eq!(rt; stream.get(&file, Pick::Next), Err(Refusal::EndOfFile));
+    assert_eq!(rt;
+        stream.put(&mut file, None, b"z"),
+        Err(Refusal::NumberOutOfRange)
+    );
+    assert_eq!(rt; stream.get(&file, Pick::Key(MAX_NUMBER)), Ok(MAX_NUMBER));
+    stream.forget();
+    assert_eq!(rt; stream.delete(&mut file), Err(Refusal::NoCurrent));
+}
+
+#[test]
+fn shapes_that_attributes_name(rt: HostRuntime) {
+    for (org, rfm, mrs, mrn, kept) in [
+        (0, 1, 1, 0, Some((true, 1, 0))),
+        (0, 2, 0, 2147483647, Some((true, 0, 0))),
+        (16, 2, 32767, 2147483647, Some((false, 32767, 2147483647))),
+        (16, 1, 32767, 3, Some((false, 32767, 3))),
+        (1, 1, 1, 0, None),
+        (32, 1, 1, 0, None),
+        (0, 0, 1, 0, None),
+        (0, 3, 1, 0, None),
+        (16, 1, 0, 0, None),
+        (16, 2, 32768, 0, None),
+        (16, 2, 0, 2147483648, None),
+        (0, 2, 0, 2147483648, None),
+        (16, 2, 0, 18446744073709551615, None),
+    ] {
+        let shape = Shape::check(org, rfm, mrs, mrn);
+        let shown = shape.map(|s| (s.is_sequential(), s.mrs, s.mrn));
+        assert_eq!(rt; shown, kept, "at {org} {rfm} {mrs} {mrn}");
+    }
+    assert_eq!(rt; (RELATIVE.limit(), THREE.limit()), (2147483647, 3));
+    assert_eq!(rt; (PAIRS.allows(1), PAIRS.allows(2)), (false, true));
+    assert_eq!(rt;
+        (RELATIVE.allows(32767), RELATIVE.allows(32768)),
+        (true, false)
+    );
+}
+
+#[test]
+fn keys_of_one_to_four_bytes(rt: HostRuntime) {
+    assert_eq!(rt; key_number(&[]), Err(Refusal::BadKey));
+    assert_eq!(rt; key_number(&[1]), Ok(1));
+    assert_eq!(rt; key_number(&[1, 2]), Ok(513));
+    assert_eq!(rt; key_number(&[1, 2, 3]), Ok(197121));
+    assert_eq!(rt; key_number(&[1, 2, 3, 4]), Ok(67305985));
+    assert_eq!(rt; key_number(&[255, 255, 255, 255]), Ok(4294967295));
+    assert_eq!(rt; key_number(&[1, 0, 0, 0, 0]), Err(Refusal::BadKey));
+}
+
+// The pages and the plain list answer the same to a long script of scattered numbers.
+#[test]
+fn pages_answer_as_the_plain_list(rt: HostRuntime) {
+    let mut pages = RelFile::new(rt.alloc(), RELATIVE);
+    let mut plain = PlainFile::new(rt.alloc(), RELATIVE);
+    let mut here = Stream::new(ALL);
+    let mut there = Stream::new(ALL);
+    let mut seed: u32 = 1;
+    for step in 0..1500u32 {
+        seed = seed.wrapping_mul(1664525).wrapping_add(1013904223);
+        let number = (seed >> 8) % 300 + 1;
+        if step % 5 < 2 {
+            assert_eq!(rt;
+                put_surely(&rt, &mut pages, &mut here, Some(number), b"put"),
+                put_surely(&rt, &mut plain, &mut there, Some(number), b"put")
+            );
+        } else {
+            let pick = if step % 2 == 0 {
+                Pick::Next
+            } else {
+                Pick::Key(number)
+            };
+            assert_eq!(rt; here.get(&pages, pick), there.get(&plain, pick));
+            if step % 3 == 0 {
+                assert_eq!(rt; here.delete(&mut pages), there.delete(&mut plain));
+            } else {
+                assert_eq!(rt;
+                    update_surely(&rt, &mut pages, &mut here, b"updated"),
+                    update_surely(&rt, &mut plain, &mut there, b"updated")
+                );
+            }
+        }
+        if step % 50 == 0 {
+            same_records(&rt, &pages, &plain);
+        }
+    }
+}
+
+fn same_records(rt: &impl Abort, pages: &RelFile, plain: &PlainFile) {
+    assert_eq!(rt; pages.highest(), plain.highest());
+    let mut count = 0usize;
+    let mut page = None;
+    for number in 0..400 {
+        assert_eq!(rt; pages.first_from(number), plain.first_from(number));
+        assert_eq!(rt; pages.lookup(number), plain.lookup(number));
+        if number > 0 && plain.lookup(number).is_some() && page != Some((number - 1) / 64) {
+            page = Some((number - 1) / 64);
+            count = count.saturating_add(1);
+        }
+    }
+    assert_eq!(rt; pages.page_count(), count);
+}
