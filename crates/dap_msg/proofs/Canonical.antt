@@ -5,57 +5,18 @@ use Rattle.std.proofs.lemmas.Bool.{cases_lt, lt-ltb, le-ltb}
 use Rattle.std.proofs.lemmas.List.{length-append, take_at}
 use Rattle.std.proofs.lemmas.Nat.Bits.{bit_at-suc, bit_at-zero}
 use Rattle.std.proofs.Math.Nat.{pow-succ'}
-use Rattle.dap_fields.specs.Spelling.{AreGroups, ExValue, FixedValue}
-use Rattle.dap_fields.specs.Writing.{groups, shortest}
+use Rattle.dap_fields.specs.Spelling.{FixedValue}
+use Rattle.dap_fields.specs.Writing.{shortest}
+use Rattle.dap_fields.specs.Shortest.{groups_spell}
 use Rattle.dap_msg.specs.Grammar.{Kind, Byte, Word, Extensible, Image, ValueOf, SpellsField, When, OrElse, UnlessEnd, SpellsPart, Spells}
 use Rattle.dap_msg.specs.Message.{Configuration, Attributes, AccessFields, ControlFields, Completion, StatusFields, Message, Config, Attrib, Access, Control, Contran, Ack, Accomp, Filedata, Status, Other}
 use Rattle.dap_msg.specs.Formats.{any, has, refuses_bits, header, operand, configuration, attributes, access, control, continuation, acknowledge, completion, file_data, status, other}
 use Rattle.dap_msg.specs.Decoding.{SpellsMessage}
-use Rattle.dap_msg.proofs.Powers.{power-le}
 use Rattle.dap_msg.specs.declared.fault.Fault.{Fault}
 use Rattle.dap_msg.specs.Laws.{IsReadBack}
 use Rattle.dap_msg.specs.Whole.{message_at}
 use Rattle.dap_msg.proofs.Messages.{ok_only}
 use Rattle.dap_msg.specs.Canon.{field_bytes, option_bytes, bits_of, attribute_bits, control_bits, number_of, header_bytes, operand_bytes, canon, FitsField, FitsOption, FieldsFit, Fits}
-
--- ---- Extensible numbers.
-
-groups_long : (n v : ℕ) → 0 < n → 0 < length (groups n v)
-unfolding groups
-groups_long zero v some = absurd (omega arith)
-groups_long (suc n) v some =
-    elim (cases_lt v 128) [
-      | inl lt ↦ rw (lt-ltb v 128 lt) (omega arith)
-      | inr le ↦ rw (le-ltb v 128 le) (omega arith)
-    ]
-
-groups_cons : (b : ℕ) (bytes : List ℕ) → 128 ≤ b → b < 256 → AreGroups bytes → AreGroups (b ∷ bytes)
-groups_cons b [] le lt h = absurd h
-groups_cons b (c ∷ bytes) le lt h = (le, lt, h)
-
-rest_below : (n v : ℕ) → v < 128 ^ suc n → v / 128 < 128 ^ n
-rest_below n v lt = omega (arith, pow-succ' 128 n)
-
-positive : (n v : ℕ) → 128 ≤ v → v < 128 ^ suc n → 0 < n
-positive zero v high lt = absurd (omega (arith, lt))
-positive (suc n) v high lt = omega arith
-
-more_groups_spell : (n max v : ℕ) → 128 ≤ v → ExValue n (v / 128) (groups max (v / 128)) → ExValue (suc n) v ((128 + v % 128) ∷ groups max (v / 128))
-more_groups_spell n max v high h = record {
-  groups = groups_cons (128 + v % 128) (groups max (v / 128)) (omega arith) (omega arith) h.groups;
-  short = omega (arith, h.short);
-  value = omega (arith, h.value);
-}
-
-groups_spell : (n max v : ℕ) → v < 128 ^ n → n ≤ max → 0 < n → v < 128 ^ max → ExValue n v (groups max v)
-unfolding groups
-groups_spell zero max v lt le some small = absurd (omega arith)
-groups_spell (suc n) zero v lt le some small = absurd (omega arith)
-groups_spell (suc n) (suc max) v lt le some small =
-    elim (cases_lt v 128) [
-      | inl low ↦ rw (lt-ltb v 128 low) (record { groups = low; short = omega arith; value = omega arith })
-      | inr high ↦ rw (le-ltb v 128 high) (more_groups_spell n max v high (groups_spell n max (v / 128) (rest_below n v lt) (omega arith) (positive n v high lt) (rest_below max v small)))
-    ]
 
 -- ---- Fields.
 
@@ -72,7 +33,7 @@ byte_spelled n lt = record { fits = lt; spelled = (let e : n ≡ n % 256 = omega
 pub field_spelled : (k : Kind) (v : ValueOf k) → FitsKind k → FitsField k v → SpellsField k v (field_bytes k v)
 field_spelled Byte v fits h = byte_spelled v h
 field_spelled Word v fits h = record { fits = h; spelled = refl }
-field_spelled (Extensible max) v fits h = groups_spell max 12 v h fits.1 fits.0 (omega (arith, h, power-le max 12 fits.1))
+field_spelled (Extensible max) v fits h = groups_spell max 12 v h fits.1 fits.0
 field_spelled (Image max) v fits h = record { short = h; spelled = refl }
 
 when_spelled : (test : Bool) (k : Kind) (o : Option (ValueOf k)) (rest : List ℕ) → test ≡ is_some o → FitsKind k → FitsOption k o → SpellsPart (When test k any) o (option_bytes k o) rest
@@ -91,10 +52,6 @@ bits_below : (flags : List Bool) → bits_of flags < 2 ^ length flags
 bits_below [] = omega arith
 bits_below (true ∷ flags) = omega (arith, bits_below flags, pow-succ' 2 (length flags))
 bits_below (false ∷ flags) = omega (arith, bits_below flags, pow-succ' 2 (length flags))
-
-flag_value : Bool → ℕ
-flag_value true = 1
-flag_value false = 0
 
 lowest : (b : Bool) (x : ℕ) → eqb ((cond b 1 0 + 2 * x) / 2 ^ 0 % 2) 1 ≡ b
 lowest true x = let e : (1 + 2 * x) / 2 ^ 0 % 2 ≡ 1 = omega arith in rw e refl

@@ -228,12 +228,7 @@ fn menu_bits(there: &[bool]) -> u64
     }
 }
 
-fn status_fields<'a>(
-    code: u16,
-    rfa: &'a [u8],
-    recnum: &'a [u8],
-    stv: &'a [u8],
-) -> [Field<'a>; 4]
+fn status_fields<'a>(code: u16, rfa: &'a [u8], recnum: &'a [u8], stv: &'a [u8]) -> [Field<'a>; 4]
     requires { FieldsFit (Status (record { code = code; rfa = rfa.now; recnum = recnum.now; stv = stv.now })) }
     ensures bytes { fields_bytes result ≡ operand_bytes (Status (record { code = code; rfa = rfa.now; recnum = recnum.now; stv = stv.now })) }
     ensures can { CanWriteAll result }
@@ -480,9 +475,7 @@ pub fn encoded_len(message: &Message<'_>) -> usize
             shr,
             display,
             password,
-        } => fields_message_len(&access_fields(
-            func, opt, name, fac, shr, display, password,
-        )),
+        } => fields_message_len(&access_fields(func, opt, name, fac, shr, display, password)),
         Message::Control(control) => fields_message_len(&control_fields(control)),
         Message::Contran { func } => fields_message_len(&[Field::Byte(func)]),
         Message::Ack => fields_message_len(&[]),

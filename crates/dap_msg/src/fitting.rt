@@ -77,7 +77,7 @@ fn control_fits(here: Control<'_>) -> bool
         && option_display_fits(here.display)
 }
 
-/// Whether each value fits its field.
+/// Whether each value fits its field. Those that fill their type need no test.
 fn fields_fit(message: Message<'_>) -> bool
     ensures { IsTrue result ↔ FieldsFit (seen message.entry) }
 {
@@ -106,7 +106,10 @@ fn fields_fit(message: Message<'_>) -> bool
         Message::Accomp { fop, .. } => fop < 1 << 42,
         Message::Filedata { recnum, .. } => recnum.len() <= 8,
         Message::Status {
-            rfa, recnum, stv, ..
+            rfa,
+            recnum,
+            stv,
+            ..
         } => rfa.len() <= 8 && recnum.len() <= 8 && stv.len() <= 8,
         Message::Other { number, .. } => (10..=16).contains(&number),
     }
@@ -124,7 +127,9 @@ fn operand_fits(message: &Message<'_>) -> bool
     }
 }
 
-/// Whether the message has a spelling.
+/// Whether the message has a spelling, the condition of [`crate::encode`]: every value fits its field, the number of an
+/// `Other` is 10 to 16, and the operand has at most 65,535 bytes (the fields are those of DAP 5.6.0, message formats).
+/// Takes no memory.
 pub fn fits(message: &Message<'_>) -> bool
     ensures { IsTrue result ↔ Fits (seen message.now) }
 {

@@ -1,4 +1,8 @@
-//! DAP messages both ways.
+//! DAP messages as bytes, both ways (DAP 5.6.0, message formats).
+//!
+//! [`decode`] tells the message that stands in front of bytes, or the first fault in reading order; [`encode`] appends
+//! the one canonical spelling of a message; what was written is read as the same message, whatever follows it.
+//! [`item_at`] goes through the messages of an NSP message, and [`append_blocked`] puts several into one.
 #![tactic(auto)]
 
 mod blocking;

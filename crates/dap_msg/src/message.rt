@@ -110,7 +110,9 @@ pub enum Message<'a> {
     /// Type 4, Control.
     Control(Control<'a>),
     /// Type 5, Continue Transfer: 1 try again, 2 skip, 3 abort, 4 resume.
-    Contran { func: u8 },
+    Contran {
+        func: u8,
+    },
     /// Type 6, Acknowledge.
     Ack,
     /// Type 7, Access Complete: 1 close, 2 response, 3 purge, 4 end of stream, 5 skip.
@@ -122,7 +124,10 @@ pub enum Message<'a> {
         check: Option<u16>,
     },
     /// Type 8, Data: a record's number, at most 8 bytes, the least first, and its bytes.
-    Filedata { recnum: &'a [u8], payload: &'a [u8] },
+    Filedata {
+        recnum: &'a [u8],
+        payload: &'a [u8],
+    },
     /// Type 9, Status: the code, and the record file address, the record's number and the secondary status, each of
     /// at most 8 bytes, the least first.
     Status {
@@ -132,7 +137,10 @@ pub enum Message<'a> {
         stv: &'a [u8],
     },
     /// Types 10 to 16, of which the operand is kept as bytes (own).
-    Other { number: u8, body: &'a [u8] },
+    Other {
+        number: u8,
+        body: &'a [u8],
+    },
 }
 
 impl Message<'_> {

@@ -1,5 +1,5 @@
 -- Bytes spell one packet at most, and have a fault where they spell none.
-use Rattle.std.proofs.Common.{◌≡◌, ◌⊎◌, ℕ, ◌<◌, List, Result, Ok, Err, get_or, refl, sym, ◌∙◌, arith, inl, inr}
+use Rattle.std.proofs.Common.{◌≡◌, ◌⊎◌, ℕ, ◌<◌, List, Result, Ok, Err, get_or, refl, arith, inl, inr}
 use Rattle.nsp_seg.specs.declared.packet.SegFault.{SegFault}
 use Rattle.nsp_seg.specs.Packets.{PacketValue, Spells, Fits, HasFault, spelling}
 use Rattle.nsp_seg.specs.Reading.{read}

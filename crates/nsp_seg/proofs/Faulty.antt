@@ -1,11 +1,10 @@
 -- The fault of the bytes is the one that reading meets.
-use Rattle.std.proofs.Common.{◌≡◌, ◌≢◌, ◌⊎◌, ℕ, zero, suc, ◌+◌, ◌-◌, ◌*◌, ◌/◌, ◌%◌, ◌<◌, ◌≤◌, ◌^◌, Bool, true, false, cond, ltb, List, [], ◌∷◌, ◌++◌, length, get_or, Option, Some, None, Result, Ok, Err, refl, sym, ap, ◌∙◌, arith, inl, inr}
-use Rattle.std.proofs.lemmas.Bool.{cases_lt, cases_eq, lt-ltb, le-ltb, eq-eqb, ne_eqb, eqb-true, or_cases, cases_Bool}
-use Rattle.std.proofs.Common.{◌==◌, ◌||◌}
+use Rattle.std.proofs.Common.{◌≡◌, ℕ, ◌<◌, ◌≤◌, List, [], ◌∷◌, ◌++◌, length, get_or, Result, Ok, Err, refl, ◌∙◌, arith, inl, inr}
+use Rattle.std.proofs.lemmas.Bool.{lt-ltb, le-ltb, ne_eqb, cases_Bool}
 use Rattle.nsp_seg.specs.declared.packet.SegFault.{SegFault}
 use Rattle.nsp_seg.specs.declared.packet.SegFault.TheVariants.{Truncated, Trailing, NotHere, BadNumber, NoMemory}
 use Rattle.nsp_seg.specs.Packets.{PacketValue, HasFault, IsUsedFlag, IsSegmentFlag, IsAckFlag, IsFieldDue, IsShort, MayNotFollow, MayNotBeNumber}
-use Rattle.nsp_seg.specs.Reading.{tail_of, segment_of, second_of, data_ack_of, read, Gives, ◌>>=◌}
+use Rattle.nsp_seg.specs.Reading.{tail_of, segment_of, second_of, data_ack_of, read, Gives}
 use Rattle.nsp_seg.proofs.Faults.{IsBytes, high_word, low_word, is_segment, used_of}
 
 read-segment : (flag : ℕ) (rest : List ℕ) → IsSegmentFlag flag → read (flag ∷ rest) ≡ segment_of flag rest

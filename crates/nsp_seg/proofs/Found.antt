@@ -1,13 +1,13 @@
 -- What is read is spelled so.
-use Rattle.std.proofs.Common.{◌≡◌, ◌≢◌, ◌⊎◌, ℕ, zero, suc, ◌+◌, ◌-◌, ◌*◌, ◌/◌, ◌%◌, ◌<◌, ◌≤◌, ◌^◌, Bool, true, false, cond, ltb, List, [], ◌∷◌, ◌++◌, length, get_or, Option, Some, None, Result, Ok, Err, refl, sym, ap, ◌∙◌, arith, inl, inr, ◌==◌, ◌||◌}
+use Rattle.std.proofs.Common.{◌≡◌, ℕ, suc, ◌+◌, ◌*◌, ◌/◌, ◌%◌, ◌<◌, ◌≤◌, List, [], ◌∷◌, ◌++◌, Option, Some, None, Result, Ok, Err, refl, ap, arith, inl, inr, ◌==◌, ◌||◌}
 use Rattle.std.specs.Prelude.{IfSome, IfOk}
 use Rattle.std.specs.Int.{w16, to_le_bytes}
 use Rattle.std.proofs.lemmas.Bool.{cases_lt, cases_eq, cases_Bool, lt-ltb, le-ltb, eq-eqb, ne_eqb}
 use Rattle.nsp_seg.specs.declared.packet.AckField.{AckField}
 use Rattle.nsp_seg.specs.declared.packet.SegFault.{SegFault}
 use Rattle.nsp_seg.specs.Numbers.{residue}
-use Rattle.nsp_seg.specs.Packets.{PacketValue, segment, data_ack, Spells, AckFits, Beside, optional_ack, ack_bytes, marks, IsSegmentFlag, spelling_with}
-use Rattle.nsp_seg.specs.Reading.{word_at, ack_of, ◌>>=◌, tail_of, segment_of, second_of, data_ack_of, or_bad, read, Gives}
+use Rattle.nsp_seg.specs.Packets.{PacketValue, Spells, AckFits, Beside, optional_ack, marks, IsSegmentFlag}
+use Rattle.nsp_seg.specs.Reading.{◌>>=◌, tail_of, segment_of, second_of, data_ack_of, read, Gives}
 use Rattle.nsp_seg.proofs.Faults.{IsBytes, high_word, low_word, is_segment, used_of}
 
 low_cell : (low high : ℕ) → low < 256 → high < 256 → (low + 256 * high) % 256 ≡ low

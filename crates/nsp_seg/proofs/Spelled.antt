@@ -1,14 +1,13 @@
 -- What is spelled is read.
-use Rattle.std.proofs.Common.{◌≡◌, ℕ, ◌+◌, ◌-◌, ◌*◌, ◌/◌, ◌%◌, ◌<◌, ◌≤◌, ◌^◌, Bool, true, false, cond, ltb, List, [], ◌∷◌, ◌++◌, length, get_or, Option, Some, None, Result, Ok, Err, refl, sym, ap, ◌∙◌, arith}
+use Rattle.std.proofs.Common.{◌≡◌, ℕ, ◌+◌, ◌*◌, ◌<◌, ◌^◌, Bool, true, false, List, [], ◌∷◌, ◌++◌, Option, Some, None, Result, Ok, Err, refl, arith}
 use Rattle.std.specs.Prelude.{IfSome, IsOkAnd}
-use Rattle.std.specs.Int.{w16, to_le_bytes, byte_at}
-use Rattle.std.proofs.lemmas.Bool.{ltb-false, le-ltb, lt-ltb}
+use Rattle.std.specs.Int.{w16, to_le_bytes}
+use Rattle.std.proofs.lemmas.Bool.{lt-ltb}
 use Rattle.nsp_seg.specs.declared.packet.AckField.{AckField}
 use Rattle.nsp_seg.specs.declared.packet.SegFault.{SegFault}
-use Rattle.nsp_seg.specs.Numbers.{residue}
-use Rattle.nsp_seg.specs.Packets.{PacketValue, segment, data_ack, AckFits, Beside, Fits, Spells, spelling_with, ack_bytes, optional_ack, marks}
-use Rattle.nsp_seg.specs.Reading.{word_at, ack_of, ◌>>=◌, Gives, tail_of, segment_of, second_of, data_ack_of, or_bad, read}
-use Rattle.nsp_seg.proofs.Words.{word_back, word_at-spelled, ack_word-above, ack_word-below, ack_word-qual, ack_word-number, ack_word-high, free-number}
+use Rattle.nsp_seg.specs.Packets.{PacketValue, segment, data_ack, AckFits, Beside, Spells, ack_bytes, optional_ack, marks}
+use Rattle.nsp_seg.specs.Reading.{Gives, tail_of, segment_of, second_of, data_ack_of, read}
+use Rattle.nsp_seg.proofs.Words.{word_back, ack_word-above, ack_word-qual, ack_word-number, ack_word-high, free-number}
 
 pub tail_of-spelled : (a b : Option AckField) (word : ℕ) (payload : List ℕ) → IfSome a AckFits → IfSome b AckFits → Beside a b → word < 0x8000 → tail_of (optional_ack a ++ optional_ack b ++ to_le_bytes w16 word ++ payload) ≡ Ok (a, b, word, payload)
 unfolding tail_of

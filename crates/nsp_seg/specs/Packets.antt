@@ -1,5 +1,5 @@
 -- The packets that are used here, byte by byte: data segments and data acknowledgements.
-use Rattle.std.specs.Prelude.{◌≡◌, ◌≢◌, ℕ, ◌+◌, ◌*◌, ◌<◌, ◌≤◌, ◌^◌, Bool, ◌⊎◌, List, [], ◌∷◌, ◌++◌, length, Option, Some, None, IsSome, IfSome, if◌then◌else◌}
+use Rattle.std.specs.Prelude.{◌≡◌, ℕ, ◌+◌, ◌*◌, ◌<◌, ◌≤◌, ◌^◌, Bool, ◌⊎◌, List, [], ◌∷◌, ◌++◌, length, Option, Some, None, IfSome, if◌then◌else◌}
 use Rattle.std.specs.Int.{w16, to_le_bytes}
 use Rattle.nsp_seg.specs.declared.packet.AckField.{AckField}
 use Rattle.nsp_seg.specs.declared.packet.Packet.{Packet}

@@ -9,16 +9,18 @@ const ACKNOWLEDGEMENT: [u8; 7] = [0x04, 2, 1, 4, 3, 0xFF, 0x8F];
 
 #[test]
 fn segment_both_ways(rt: HostRuntime) -> Result<(), Fail> {
-    let Ok(Packet::Segment {
-        first,
-        last,
-        dst,
-        src,
-        ack1,
-        ack2,
-        number,
-        payload,
-    }) = decode_packet(&ONLY_SEGMENT)
+    let Ok(
+        Packet::Segment {
+            first,
+            last,
+            dst,
+            src,
+            ack1,
+            ack2,
+            number,
+            payload,
+        },
+    ) = decode_packet(&ONLY_SEGMENT)
     else {
         return Err(Fail::from("no segment"));
     };
@@ -52,12 +54,14 @@ fn segment_both_ways(rt: HostRuntime) -> Result<(), Fail> {
 
 #[test]
 fn acknowledgement_both_ways(rt: HostRuntime) -> Result<(), Fail> {
-    let Ok(Packet::DataAck {
-        dst,
-        src,
-        ack1,
-        ack2,
-    }) = decode_packet(&ACKNOWLEDGEMENT)
+    let Ok(
+        Packet::DataAck {
+            dst,
+            src,
+            ack1,
+            ack2,
+        },
+    ) = decode_packet(&ACKNOWLEDGEMENT)
     else {
         return Err(Fail::from("no acknowledgement"));
     };
@@ -110,13 +114,15 @@ fn faults_at_their_offsets(rt: HostRuntime) {
 #[test]
 fn two_fields_and_free_bits(rt: HostRuntime) -> Result<(), Fail> {
     let both = [0x20, 2, 1, 4, 3, 5, 0x80, 6, 0xA0, 7, 0x70, 0x41];
-    let Ok(Packet::Segment {
-        ack1,
-        ack2,
-        number,
-        payload,
-        ..
-    }) = decode_packet(&both)
+    let Ok(
+        Packet::Segment {
+            ack1,
+            ack2,
+            number,
+            payload,
+            ..
+        },
+    ) = decode_packet(&both)
     else {
         return Err(Fail::from("no segment"));
     };
@@ -132,7 +138,10 @@ fn two_fields_and_free_bits(rt: HostRuntime) -> Result<(), Fail> {
 #[test]
 fn second_field_of_an_acknowledgement(rt: HostRuntime) {
     assert_eq!(rt; fault_of(&[0x04, 2, 1, 4, 3, 5, 0x80, 6, 0x80]), None);
-    assert_eq!(rt; fault_of(&[0x04, 2, 1, 4, 3, 5, 0x80, 6, 0]), Some(SegFault::Trailing(7)));
+    assert_eq!(rt;
+        fault_of(&[0x04, 2, 1, 4, 3, 5, 0x80, 6, 0]),
+        Some(SegFault::Trailing(7))
+    );
     assert_eq!(rt;
         fault_of(&[0x04, 2, 1, 4, 3, 5, 0x80, 6, 0x80, 0]),
         Some(SegFault::Trailing(9))

@@ -1,0 +1,48 @@
+-- How many segments a message has, and where they begin.
+use Rattle.std.proofs.Common.{◌≡◌, ℕ, zero, suc, ◌+◌, ◌-◌, ◌*◌, ◌<◌, ◌≤◌, min, List, length, take, drop, map, refl, arith}
+use Rattle.std.proofs.Math.Nat.{mul-le-mul_right}
+use Rattle.std.proofs.lemmas.Grind.{div_ceil_times}
+use Rattle.std.proofs.lemmas.List.{take_min, length-drop}
+use Rattle.std.specs.Int.{div_ceil}
+use Rattle.std.proofs.lemmas.List.{map-append}
+use Rattle.std.proofs.Common.{◌++◌, [], ◌∷◌, append_assoc, ◌==◌}
+use Rattle.std.proofs.lemmas.List.FromFn.{map-range_with_len_more, length-map-range_with_len}
+use Rattle.std.specs.List.{range_with_len}
+use Rattle.nsp_link.specs.declared.segment.Segment.{Segment}
+use Rattle.nsp_link.specs.Pieces.{piece, pieces}
+use Rattle.nsp_link.specs.Cutting.{Piece, count_of, piece_at, cut_message}
+
+-- each segment begins within the message
+pub starts_within : (size len i : ℕ) → 0 < size → i < count_of size len → i * size ≤ len
+unfolding count_of
+starts_within size len zero pos lt = omega arith
+starts_within size len (suc i) pos lt =
+    let q = div_ceil len size in
+    let bounds = div_ceil_times len size pos in
+    let up : (suc i + 1) * size ≤ q * size = mul-le-mul_right size (omega arith) in
+    omega arith
+
+-- the bytes from a segment's start to its end
+pub piece_payload : (size i start end : ℕ) (message : List ℕ) → start ≡ i * size → end ≡ min (length message) (start + size) → start ≤ length message → take (end - start) (drop start message) ≡ take size (drop (size * i) message)
+piece_payload size i start end message s e le =
+    let same : size * i ≡ start = omega arith in
+    let len = length-drop start message in
+    let short : end - start ≡ min size (length (drop start message)) = omega arith in
+    rw (same, short) (take_min size (drop start message))
+
+-- one more segment is queued
+pub queued_more : (size : ℕ) (message : List ℕ) (i : ℕ) (before : List Piece) (items after : List Segment) (s : Segment)
+    → after ≡ items ++ s ∷ [] → pieces items ≡ before ++ map (piece_at size message) (range_with_len 0 i) → piece s ≡ piece_at size message i
+    → pieces after ≡ before ++ map (piece_at size message) (range_with_len 0 (i + 1))
+queued_more size message i before items after s is had same =
+    rw (is, map-append piece items (s ∷ []), had, same, map-range_with_len_more (piece_at size message) 0 i i (omega arith)) (append_assoc before (map (piece_at size message) (range_with_len 0 i)) (piece_at size message i ∷ []))
+
+pub piece_is : (size : ℕ) (message : List ℕ) (i count : ℕ) (s : Segment) → count ≡ count_of size (length message) → s.first ≡ (i == 0) → s.last ≡ (i + 1 == count) → s.payload ≡ take size (drop (size * i) message) → piece s ≡ piece_at size message i
+unfolding piece_at
+piece_is size message i count s counted first last payload = rw (first, last, payload, counted) refl
+
+pub length-cut_message : (size : ℕ) (message : List ℕ) → length (cut_message size message) ≡ count_of size (length message)
+unfolding cut_message
+length-cut_message size message = length-map-range_with_len (piece_at size message) 0 (count_of size (length message))
+
+pub ruleset counts = (starts_within, piece_payload)

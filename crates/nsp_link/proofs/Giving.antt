@@ -1,0 +1,23 @@
+-- A message that is handed out.
+use Rattle.std.proofs.Common.{◌≡◌, ℕ, List, [], ◌∷◌, ◌++◌, Option, Some, None, sym, ap, ◌∙◌, append_assoc}
+use Rattle.std.specs.Prelude.{MatchOption}
+use Rattle.std.specs.Option.{option_to_list}
+use Rattle.std.specs.declared.vec.Vec.{Vec}
+use Rattle.std.specs.declared.alloc.Global.{Global}
+use Rattle.nsp_link.specs.Link.{LinkValue, Stands}
+use Rattle.nsp_link.specs.Pieces.{bodies}
+
+pub stands_popped : (v : LinkValue) (size : ℕ) (messages given : List (List ℕ)) (items rest : List (Vec ℕ Global)) (r : Option (Vec ℕ Global)) → v.inbox ≡ bodies items → items ≡ option_to_list r ++ rest → Stands v size messages given
+    → MatchOption r (Stands (record v { inbox = bodies rest }) size messages given) (λ m. Stands (record v { inbox = bodies rest }) size messages (given ++ m.items ∷ []))
+stands_popped v size messages given items rest None inbox e st =
+    let had = st.taken in
+    record {
+      taken = record { count = had.count; whole = had.whole; inbox = ap (λ (ms : List (List ℕ)). given ++ ms) (sym (inbox ∙ ap bodies e)) ∙ had.inbox; partial = had.partial };
+      held = st.held;
+    }
+stands_popped v size messages given items rest (Some m) inbox e st =
+    let had = st.taken in
+    record {
+      taken = record { count = had.count; whole = had.whole; inbox = append_assoc given (m.items ∷ []) (bodies rest) ∙ ap (λ (ms : List (List ℕ)). given ++ ms) (sym (inbox ∙ ap bodies e)) ∙ had.inbox; partial = had.partial };
+      held = st.held;
+    }

@@ -1,0 +1,307 @@
+-- Early segments in the ring, and the definition's list of them.
+use Rattle.std.proofs.Common.{◌≡◌, ℕ, zero, suc, ◌+◌, ◌-◌, ◌<◌, ◌≤◌, List, [], ◌∷◌, ◌++◌, length, drop, replicate, Option, Some, None, refl, sym, ap, ◌∙◌, arith, Bool, true, false, inl, inr, subst, append_assoc}
+use Rattle.std.specs.Prelude.{slice_get, slice_set, MatchOption, is_none}
+use Rattle.std.specs.List.{AllByRecursion}
+use Rattle.std.proofs.lemmas.Bool.{cases_eq, cases_lt, eq-eqb, ne_eqb, lt-ltb, le-ltb}
+use Rattle.std.proofs.lemmas.List.{drop_all, length-append, length-drop, length-replicate, drop-append-le, drop-drop, replicate-append-replicate}
+use Rattle.nsp_link.specs.declared.segment.Held.{Held}
+use Rattle.nsp_link.specs.Cutting.{Piece}
+use Rattle.nsp_link.specs.Holding.{AreHeld, following, inserted, Lacks}
+use Rattle.nsp_link.specs.Pieces.{held_from, held_piece, leading}
+use Rattle.nsp_link.proofs.Taking.{AreNext}
+
+-- ---- bounds
+
+held_weaker : (low more high : ℕ) (held : List (ℕ × Piece)) → low ≤ more → AreHeld more high held → AreHeld low high held
+unfolding AreHeld
+held_weaker low more high [] le all = tt
+held_weaker low more high (h ∷ held) le all = (omega (arith, all.0), all.1, all.2)
+
+held_higher : (low high more : ℕ) (held : List (ℕ × Piece)) → high ≤ more → AreHeld low high held → AreHeld low more held
+unfolding AreHeld
+held_higher low high more [] le all = tt
+held_higher low high more (h ∷ held) le all = (all.0, omega (arith, all.1), held_higher h.0 high more held le all.2)
+
+-- what the places hold has their numbers
+pub held_within : (low n high : ℕ) (places : List (Option Held)) → low < n → n + length places ≤ high → AreHeld low high (held_from n places)
+unfolding AreHeld held_from
+held_within low n high [] lt le = tt
+held_within low n high (None ∷ places) lt le = held_within low (n + 1) high places (omega arith) (omega arith)
+held_within low n high (Some h ∷ places) lt le = (lt, omega arith, held_within n (n + 1) high places (omega arith) (omega arith))
+
+-- and fewer than there are numbers
+pub held_few : (low high : ℕ) (held : List (ℕ × Piece)) → low < high → AreHeld low high held → length held + low < high
+unfolding AreHeld
+held_few low high [] lt all = omega arith
+held_few low high (h ∷ held) lt all = let few = held_few h.0 high held all.1 all.2 in omega (arith, all.0)
+
+-- ---- taking in what follows
+
+none_follow : (k low high : ℕ) (held : List (ℕ × Piece)) → k < low → AreHeld low high held → following k held ≡ []
+unfolding AreHeld following
+none_follow k low high [] lt all = refl
+none_follow k low high (h ∷ held) lt all = rw (ne_eqb h.0 (k + 1) (λ e. omega (arith, all.0))) refl
+
+pub leading_follow : (n : ℕ) (places : List (Option Held)) → following n (held_from (n + 1) places) ≡ leading places
+unfolding following held_from leading
+leading_follow n [] = refl
+leading_follow n (None ∷ places) = none_follow n (n + 1) (n + 1 + 1 + length places) (held_from (n + 1 + 1) places) (omega arith) (held_within (n + 1) (n + 1 + 1) (n + 1 + 1 + length places) places (omega arith) (omega arith))
+leading_follow n (Some h ∷ places) = rw (eq-eqb (n + 1) (n + 1) refl) (ap (λ (ps : List Piece). held_piece h ∷ ps) (leading_follow (n + 1) places))
+
+-- what follows leaves
+pub held_left : (n : ℕ) (places : List (Option Held)) → drop (length (leading places)) (held_from n places) ≡ held_from (n + length (leading places)) (drop (length (leading places)) places)
+unfolding held_from leading
+held_left n [] = refl
+held_left n (None ∷ places) = let z : n + 0 ≡ n = omega arith in rw z refl
+held_left n (Some h ∷ places) =
+    let e : (n + 1) + length (leading places) ≡ n + suc (length (leading places)) = omega arith in
+    rw (← e) (held_left (n + 1) places)
+
+pub held_free : (n m : ℕ) → held_from n (replicate m None) ≡ []
+unfolding held_from
+held_free n zero = refl
+held_free n (suc m) = held_free (n + 1) m
+
+pub held_more_free : (n m : ℕ) (places : List (Option Held)) → held_from n (places ++ replicate m None) ≡ held_from n places
+unfolding held_from
+held_more_free n m [] = held_free n m
+held_more_free n m (None ∷ places) = held_more_free (n + 1) m places
+held_more_free n m (Some h ∷ places) = ap (λ (hs : List (ℕ × Piece)). (n, held_piece h) ∷ hs) (held_more_free (n + 1) m places)
+
+-- the place behind those that follow is free, or behind the last
+pub leading_ends : (places : List (Option Held)) (m : ℕ) → 0 < m → slice_get (drop (length (leading places)) places ++ replicate m None) 0 ≡ Some None
+unfolding leading
+leading_ends [] zero lt = elim lt [ ]
+leading_ends [] (suc m) lt = refl
+leading_ends (None ∷ places) m lt = refl
+leading_ends (Some h ∷ places) m lt = leading_ends places m lt
+
+pub leading_few : (places : List (Option Held)) → length (leading places) ≤ length places
+unfolding leading
+leading_few [] = omega arith
+leading_few (None ∷ places) = omega arith
+leading_few (Some h ∷ places) = omega (arith, leading_few places)
+
+-- what a place says of those that stand from there on
+pub leading_stops : (places : List (Option Held)) (i : ℕ) → slice_get places i ≡ Some None → leading (drop i places) ≡ []
+unfolding leading
+leading_stops [] zero at = refl
+leading_stops [] (suc i) at = refl
+leading_stops (None ∷ places) zero at = refl
+leading_stops (Some h ∷ places) zero at = absurd (cc)
+leading_stops (o ∷ places) (suc i) at = leading_stops places i at
+
+pub leading_past : (places : List (Option Held)) (i : ℕ) → length places ≤ i → leading (drop i places) ≡ []
+unfolding leading
+leading_past places i le = rw (drop_all i places le) refl
+
+pub leading_goes : (places : List (Option Held)) (i : ℕ) (h : Held) → slice_get places i ≡ Some (Some h) → leading (drop i places) ≡ held_piece h ∷ leading (drop (suc i) places)
+unfolding leading
+leading_goes [] i h at = absurd (cc)
+leading_goes (None ∷ places) zero h at = absurd (cc)
+leading_goes (Some g ∷ places) zero h at = let same : g ≡ h = (cc) in ap (λ (x : Held). held_piece x ∷ leading places) same
+leading_goes (o ∷ places) (suc i) h at = leading_goes places i h at
+
+-- ---- keeping
+
+-- with the first place free, what is held lies above its number
+pub held_end : (n high : ℕ) (places : List (Option Held)) → slice_get places 0 ≡ Some None → n + length places ≤ high → AreHeld n high (held_from n places)
+unfolding held_from
+held_end n high [] at le = absurd (cc)
+held_end n high (None ∷ places) at le = held_within n (n + 1) high places (omega arith) (omega arith)
+held_end n high (Some h ∷ places) at le = absurd (cc)
+
+pub ring_follows : (n : ℕ) (places : List (Option Held)) → slice_get places 0 ≡ Some None → following n (held_from n places) ≡ leading (drop 1 places)
+unfolding held_from
+ring_follows n [] at = absurd (cc)
+ring_follows n (None ∷ places) at = leading_follow n places
+ring_follows n (Some h ∷ places) at = absurd (cc)
+
+-- the places once so many went on
+pub ring_closed : (n m : ℕ) (places : List (Option Held)) → slice_get places 0 ≡ Some None → m ≡ 1 + length (leading (drop 1 places))
+    → drop (length (following n (held_from n places))) (held_from n places) ≡ held_from (n + m) (drop m places ++ replicate m None)
+unfolding held_from
+ring_closed n m [] at e = absurd (cc)
+ring_closed n m (None ∷ places) at e =
+    let len = length (leading places) in
+    let one : m ≡ suc len = omega arith in
+    let at-is : (n + 1) + len ≡ n + suc len = omega arith in
+    rw (one, held_more_free (n + suc len) (suc len) (drop len places), leading_follow n places) (held_left (n + 1) places ∙ ap (λ (k : ℕ). held_from k (drop len places)) at-is)
+ring_closed n m (Some h ∷ places) at e = absurd (cc)
+
+pub ring_free : (m : ℕ) (places : List (Option Held)) → slice_get places 0 ≡ Some None → m ≡ 1 + length (leading (drop 1 places)) → slice_get (drop m places ++ replicate m None) 0 ≡ Some None
+ring_free m [] at e = absurd (cc)
+ring_free m (o ∷ places) at e =
+    let one : m ≡ suc (length (leading places)) = omega arith in
+    rw one (leading_ends places (suc (length (leading places))) (omega arith))
+
+pub ring_fewer : (m : ℕ) (places : List (Option Held)) → slice_get places 0 ≡ Some None → m ≡ 1 + length (leading (drop 1 places)) → m ≤ length places
+ring_fewer m [] at e = absurd (cc)
+ring_fewer m (o ∷ places) at e = omega (arith, e, leading_few places)
+
+pub ring_long : (m : ℕ) (places : List (Option Held)) → m ≤ length places → length (drop m places ++ replicate m None) ≡ length places
+ring_long m places le =
+    let free : List (Option Held) = replicate m None in
+    omega (arith, length-append (drop m places) free, length-drop m places, length-replicate {A = Option Held} m None)
+
+-- one place goes on
+pub ring_step : (n cap : ℕ) (first items : List (Option Held)) → items ≡ drop n first ++ replicate n None → length first ≡ cap → n < length first
+    → drop (length (drop 1 items ++ None ∷ []) - cap) (drop 1 items ++ None ∷ []) ≡ drop (n + 1) first ++ replicate (n + 1) None
+ring_step n cap first items e full lt =
+    let free : List (Option Held) = replicate n None in
+    let rest = length-drop n first in
+    let one : drop 1 items ≡ drop 1 (drop n first) ++ free = ap (λ (xs : List (Option Held)). drop 1 xs) e ∙ drop-append-le 1 (drop n first) free (omega arith) in
+    let two : drop 1 (drop n first) ≡ drop (n + 1) first = drop-drop 1 n first in
+    let three : free ++ None ∷ [] ≡ replicate (n + 1) None = replicate-append-replicate n 1 None in
+    let all : drop 1 items ++ None ∷ [] ≡ drop (n + 1) first ++ replicate (n + 1) None = rw (one, two, ← three) (append_assoc (drop (n + 1) first) free (None ∷ [])) in
+    let long = ring_long (n + 1) first (omega arith) in
+    let zero-is : length (drop (n + 1) first ++ replicate (n + 1) None) - cap ≡ 0 = omega arith in
+    rw (all, zero-is) refl
+
+-- how many are held doesn't hang on the number of the first place
+held_any : (n m : ℕ) (places : List (Option Held)) → length (held_from n places) ≡ length (held_from m places)
+unfolding held_from
+held_any n m [] = refl
+held_any n m (None ∷ places) = held_any (n + 1) (m + 1) places
+held_any n m (Some h ∷ places) = ap (λ (k : ℕ). suc k) (held_any (n + 1) (m + 1) places)
+
+-- a place that was free is filled
+pub length-held_put : (n i : ℕ) (places : List (Option Held)) (h : Held) → slice_get places i ≡ Some None → length (held_from n (slice_set places i (Some h))) ≡ length (held_from n places) + 1
+unfolding held_from
+length-held_put n i [] h at = absurd (cc)
+length-held_put n zero (None ∷ places) h at = omega (arith, held_any n (n + 1) places)
+length-held_put n zero (Some g ∷ places) h at = absurd (cc)
+length-held_put n (suc i) (None ∷ places) h at = length-held_put (n + 1) i places h at
+length-held_put n (suc i) (Some g ∷ places) h at = let more = length-held_put (n + 1) i places h at in omega arith
+
+-- those in front are held
+leading_held : (n : ℕ) (places : List (Option Held)) → length (leading places) ≤ length (held_from n places)
+unfolding held_from leading
+leading_held n [] = omega arith
+leading_held n (None ∷ places) = omega arith
+leading_held n (Some h ∷ places) = let few = leading_held (n + 1) places in omega arith
+
+-- those that follow the next one are held
+pub follows_held : (n : ℕ) (places : List (Option Held)) → slice_get places 0 ≡ Some None → length (leading (drop 1 places)) ≤ length (held_from n places)
+unfolding held_from
+follows_held n [] at = absurd (cc)
+follows_held n (None ∷ places) at = leading_held (n + 1) places
+follows_held n (Some h ∷ places) at = absurd (cc)
+
+-- those that follow the next one have left
+pub length-ring_closed : (n k m : ℕ) (places : List (Option Held)) → slice_get places 0 ≡ Some None → m ≡ 1 + length (leading (drop 1 places))
+    → length (held_from k (drop m places ++ replicate m None)) + length (leading (drop 1 places)) ≡ length (held_from n places)
+length-ring_closed n k m places at e =
+    let after : List (Option Held) = drop m places ++ replicate m None in
+    let any = held_any k (n + m) after in
+    let closed = ap length (ring_closed n m places at e) in
+    let dropped = length-drop (length (following n (held_from n places))) (held_from n places) in
+    let follows = ap length (ring_follows n places at) in
+    let some = follows_held n places at in
+    omega (arith, any, closed, dropped, follows, some)
+
+-- what is held above a number comes behind it
+inserted_low : (k low high : ℕ) (p : Piece) (held : List (ℕ × Piece)) → k ≤ low → AreHeld low high held → inserted k p held ≡ (k, p) ∷ held
+unfolding AreHeld inserted
+inserted_low k low high p [] le all = refl
+inserted_low k low high p (h ∷ held) le all = rw (lt-ltb k h.0 (omega (arith, all.0))) refl
+
+inserted_past : (k : ℕ) (p : Piece) (h : ℕ × Piece) (held : List (ℕ × Piece)) → h.0 < k → inserted k p (h ∷ held) ≡ h ∷ inserted k p held
+unfolding inserted
+inserted_past k p h held lt = rw (le-ltb k h.0 (omega arith), ne_eqb k h.0 (λ e. omega arith)) refl
+
+lacks_low : (k low high : ℕ) (held : List (ℕ × Piece)) → k ≤ low → AreHeld low high held → Lacks k held
+unfolding AreHeld Lacks
+lacks_low k low high [] le all = tt
+lacks_low k low high (h ∷ held) le all = ((λ x. omega (arith, all.0)), lacks_low k h.0 high held (omega (arith, all.0)) all.2)
+
+pub held_put : (n i : ℕ) (places : List (Option Held)) (h : Held) → slice_get places i ≡ Some None → held_from n (slice_set places i (Some h)) ≡ inserted (n + i) (held_piece h) (held_from n places)
+unfolding inserted held_from
+held_put n i [] h at = absurd (cc)
+held_put n zero (None ∷ places) h at =
+    let z : n + 0 ≡ n = omega arith in
+    rw (z, inserted_low n n (n + 1 + length places) (held_piece h) (held_from (n + 1) places) (omega arith) (held_within n (n + 1) (n + 1 + length places) places (omega arith) (omega arith))) refl
+held_put n zero (Some g ∷ places) h at = absurd (cc)
+held_put n (suc i) (None ∷ places) h at =
+    let e : (n + 1) + i ≡ n + suc i = omega arith in
+    held_put (n + 1) i places h at ∙ ap (λ (k : ℕ). inserted k (held_piece h) (held_from (n + 1) places)) e
+held_put n (suc i) (Some g ∷ places) h at =
+    let e : (n + 1) + i ≡ n + suc i = omega arith in
+    ap (λ (hs : List (ℕ × Piece)). (n, held_piece g) ∷ hs) (held_put (n + 1) i places h at ∙ ap (λ (k : ℕ). inserted k (held_piece h) (held_from (n + 1) places)) e)
+    ∙ sym (inserted_past (n + suc i) (held_piece h) (n, held_piece g) (held_from (n + 1) places) (omega arith))
+
+pub held_there : (n i : ℕ) (places : List (Option Held)) (h : Held) (p : Piece) → slice_get places i ≡ Some (Some h) → inserted (n + i) p (held_from n places) ≡ held_from n places
+unfolding inserted held_from
+held_there n i [] h p at = absurd (cc)
+held_there n zero (None ∷ places) h p at = absurd (cc)
+held_there n zero (Some g ∷ places) h p at = let z : n + 0 ≡ n = omega arith in rw (z, le-ltb n n (omega arith), eq-eqb n n refl) refl
+held_there n (suc i) (None ∷ places) h p at =
+    let e : n + suc i ≡ (n + 1) + i = omega arith in
+    ap (λ (k : ℕ). inserted k p (held_from (n + 1) places)) e ∙ held_there (n + 1) i places h p at
+held_there n (suc i) (Some g ∷ places) h p at =
+    let e : n + suc i ≡ (n + 1) + i = omega arith in
+    inserted_past (n + suc i) p (n, held_piece g) (held_from (n + 1) places) (omega arith)
+    ∙ ap (λ (hs : List (ℕ × Piece)). (n, held_piece g) ∷ hs) (ap (λ (k : ℕ). inserted k p (held_from (n + 1) places)) e ∙ held_there (n + 1) i places h p at)
+
+pub held_lacks : (n i : ℕ) (places : List (Option Held)) → slice_get places i ≡ Some None → Lacks (n + i) (held_from n places)
+unfolding Lacks held_from
+held_lacks n i [] at = absurd (cc)
+held_lacks n zero (None ∷ places) at =
+    let z : n + 0 ≡ n = omega arith in
+    rw z (lacks_low n n (n + 1 + length places) (held_from (n + 1) places) (omega arith) (held_within n (n + 1) (n + 1 + length places) places (omega arith) (omega arith)))
+held_lacks n zero (Some g ∷ places) at = absurd (cc)
+held_lacks n (suc i) (None ∷ places) at = let e : (n + 1) + i ≡ n + suc i = omega arith in subst (λ (k : ℕ). Lacks k (held_from (n + 1) places)) e (held_lacks (n + 1) i places at)
+held_lacks n (suc i) (Some g ∷ places) at =
+    let e : (n + 1) + i ≡ n + suc i = omega arith in
+    ((λ x. omega arith), subst (λ (k : ℕ). Lacks k (held_from (n + 1) places)) e (held_lacks (n + 1) i places at))
+
+-- ---- what is held of the messages
+
+-- those that follow are the next segments
+pub following_next : (k : ℕ) (segments : List Piece) (held : List (ℕ × Piece)) → AllByRecursion (λ h. slice_get segments (h.0 - 1) ≡ Some h.1) held → AreNext segments k (following k held)
+unfolding AreNext following
+following_next k segments [] all = tt
+following_next k segments (h ∷ held) all = elim (cases_eq h.0 (k + 1)) [
+  | inl e ↦
+      let at : h.0 - 1 ≡ k = omega arith in
+      rw (eq-eqb h.0 (k + 1) e) (rw at at all.0, following_next (k + 1) segments held all.1)
+  | inr ne ↦ rw (ne_eqb h.0 (k + 1) ne) tt
+]
+
+pub all_drop : (segments : List Piece) (n : ℕ) (held : List (ℕ × Piece)) → AllByRecursion (λ h. slice_get segments (h.0 - 1) ≡ Some h.1) held → AllByRecursion (λ h. slice_get segments (h.0 - 1) ≡ Some h.1) (drop n held)
+all_drop segments zero held all = all
+all_drop segments (suc n) [] all = tt
+all_drop segments (suc n) (h ∷ held) all = all_drop segments n held all.1
+
+pub all_inserted : (segments : List Piece) (k : ℕ) (p : Piece) (held : List (ℕ × Piece)) → slice_get segments (k - 1) ≡ Some p → AllByRecursion (λ h. slice_get segments (h.0 - 1) ≡ Some h.1) held → AllByRecursion (λ h. slice_get segments (h.0 - 1) ≡ Some h.1) (inserted k p held)
+unfolding inserted
+all_inserted segments k p [] at all = (at, tt)
+all_inserted segments k p (h ∷ held) at all = elim (cases_lt k h.0) [
+  | inl lt ↦ rw (lt-ltb k h.0 lt) (at, all)
+  | inr le ↦ elim (cases_eq k h.0) [
+    | inl e ↦ rw (le-ltb k h.0 le, eq-eqb k h.0 e) all
+    | inr ne ↦ rw (le-ltb k h.0 le, ne_eqb k h.0 ne) (all.0, all_inserted segments k p held at all.1)
+  ]
+]
+
+-- ---- what reading a place says
+
+free_read : (o : Option (Option Held)) (b : Bool) → MatchOption o (b ≡ false) (λ x. b ≡ is_none x) → b ≡ true → o ≡ Some None
+free_read None b m e = absurd cc
+free_read (Some None) b m e = refl
+free_read (Some (Some h)) b m e = absurd cc
+
+pub is_free_read : (places : List (Option Held)) (i : ℕ) (b : Bool) → MatchOption (slice_get places i) (b ≡ false) (λ x. b ≡ is_none x) → b ≡ true → slice_get places i ≡ Some None
+is_free_read places i b m e = free_read (slice_get places i) b m e
+
+pub data Taken (o : Option (Option Held)) : Type 0 where
+  beyond : o ≡ None → Taken o
+  there : (h : Held) → o ≡ Some (Some h) → Taken o
+
+taken_read : (o : Option (Option Held)) (b : Bool) → MatchOption o (b ≡ false) (λ x. b ≡ is_none x) → b ≡ false → Taken o
+taken_read None b m e = beyond refl
+taken_read (Some None) b m e = absurd cc
+taken_read (Some (Some h)) b m e = there h refl
+
+pub is_taken_read : (places : List (Option Held)) (i : ℕ) (b : Bool) → MatchOption (slice_get places i) (b ≡ false) (λ x. b ≡ is_none x) → b ≡ false → Taken (slice_get places i)
+is_taken_read places i b m e = taken_read (slice_get places i) b m e

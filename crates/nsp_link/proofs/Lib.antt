@@ -1,0 +1,14 @@
+pub mod Counts
+pub mod Placing
+pub mod Taking
+pub mod Held
+pub mod Undo
+pub mod Runs
+pub mod Keeping
+pub mod Giving
+pub mod Delivering
+pub mod Writing
+pub mod Growing
+pub mod Several
+pub mod Numbers
+pub mod Separating

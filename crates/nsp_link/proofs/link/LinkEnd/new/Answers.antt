@@ -1,0 +1,33 @@
+use Rattle.std.proofs.Common.{◌+◌, ap, arith, length, List, sym, refl}
+use Rattle.nsp_link.specs.declared.segment.Segment.{Segment}
+use Rattle.nsp_link.specs.Pieces.{pieces}
+use Rattle.nsp_link.specs.Link.{IsSetup}
+use Rattle.nsp_link.proofs.Held.{held_end}
+use Rattle.nsp_link.proofs.link.LinkEnd.new.Goals as goal
+
+pub invariant_of-result : goal.invariant_of-result
+invariant_of-result c =
+    let setup = c.args.setup in
+    let fits : IsSetup setup = c.if-not-is_setup.ensures.yes refl in
+    let front = c.in_ok-held.ensures.free fits.2 in
+    let none = ap (λ (ss : List Segment). length (pieces ss)) c.new.ensures.items in
+    record {
+      link = record {
+        size = fits.0;
+        size_limit = fits.1;
+        window = fits.2;
+        window_limit = fits.3;
+        message_limit = fits.5;
+        acked = omega arith;
+        within = omega arith;
+        queued = omega arith;
+        few_sent = omega (arith, none);
+        few_taken = omega arith;
+        partial = omega arith;
+        held = held_end 1 (1 + setup.window) c.in_ok-held.held.items front (omega (arith, c.in_ok-held.ensures.len));
+      };
+      places = c.in_ok-held.ensures.len;
+      capacity = c.in_ok-held.ensures.capacity;
+      free = front;
+      counted = ap length (sym (c.in_ok-held.ensures.none 1));
+    }

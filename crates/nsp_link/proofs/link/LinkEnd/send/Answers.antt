@@ -1,0 +1,44 @@
+use Rattle.std.proofs.Common.{◌≡◌, ◌+◌, ◌++◌, length, ◌∙◌, ap, arith, subst, sym}
+use Rattle.std.proofs.lemmas.List.{length-append, length-map}
+use Rattle.nsp_link.specs.Cutting.{cut_message}
+use Rattle.nsp_link.specs.Link.{LinkValue, Sends}
+use Rattle.nsp_link.specs.View.{link_view}
+use Rattle.nsp_link.specs.Pieces.{piece, pieces}
+use Rattle.nsp_link.proofs.Writing.{sends_more}
+use Rattle.nsp_link.proofs.Counts.{length-cut_message}
+use Rattle.nsp_link.proofs.link.LinkEnd.send.Goals as goal
+
+pub invariant_of-self : goal.invariant_of-self
+invariant_of-self c =
+    let more = cut_message c.self.inside.setup.seg_size c.args.message.now in
+    let counted = length-cut_message c.self.inside.setup.seg_size c.args.message.now in
+    let before = c.self.inside.queue.items in
+    let longer : length (pieces c.queue_message.new.queue.items) ≡ length (pieces before) + length more = ap length c.in-Ok.ensures.ok ∙ length-append (pieces before) more in
+    let mapped : length (pieces before) ≡ length before = length-map before piece in
+    let link = c.self.invariant.link in
+    record {
+      link = record {
+        size = link.size;
+        size_limit = link.size_limit;
+        window = link.window;
+        window_limit = link.window_limit;
+        message_limit = link.message_limit;
+        acked = link.acked;
+        within = link.within;
+        queued = omega (arith, longer, link.queued);
+        few_sent = omega (arith, longer, mapped, counted, c.segment_count-count.ensures, c.len.ensures, c.self.inside.queue.ok.0, c.if-self-len.false);
+        few_taken = link.few_taken;
+        partial = link.partial;
+        held = link.held;
+      };
+      places = c.self.invariant.places;
+      capacity = c.self.invariant.capacity;
+      free = c.self.invariant.free;
+      counted = c.self.invariant.counted;
+    }
+
+pub returns-in-Ok-clause-sends : goal.returns-in-Ok-clause-sends
+returns-in-Ok-clause-sends c = λ messages sends.
+    let before = subst (λ (v : LinkValue). Sends v messages) (sym c.self.view_is) sends in
+    let queued : pieces c.queue_message.new.queue.items ≡ pieces c.self.inside.queue.items ++ cut_message c.self.inside.setup.seg_size c.args.message.now = c.in-Ok.ensures.ok in
+    rw queued (sends_more (link_view c.self.inside) messages c.args.message.now before)

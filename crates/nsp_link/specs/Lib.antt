@@ -1,0 +1,11 @@
+pub mod Limits
+pub mod Cutting
+pub mod Coming
+pub mod Undoing
+pub mod Holding
+pub mod Pieces
+pub mod Link
+pub mod View
+pub mod Receiving
+pub mod Separation
+pub mod Sending

@@ -1,0 +1,215 @@
+-- One end of a link, as its callers see it.
+use Rattle.std.specs.Prelude.{◌≡◌, ◌⊎◌, ℕ, ◌+◌, ◌-◌, ◌*◌, ◌<◌, ◌≤◌, ◌==◌, max, Bool, true, false, List, [], ◌++◌, length, take, drop, Option, Some, None, IfSome, unwrap_or, nat_lt, if◌then◌else◌, slice_get, slice_index_or, All, ◌&&◌}
+use Rattle.std.specs.List.{AllByRecursion}
+use Rattle.nsp_seg.specs.Numbers.{residue}
+use Rattle.nsp_seg.specs.declared.packet.AckField.{AckField}
+use Rattle.nsp_seg.specs.Packets.{PacketValue, SegmentValue, segment, data_ack, Spells}
+use Rattle.nsp_link.specs.declared.link.LinkSetup.{LinkSetup}
+use Rattle.nsp_link.specs.declared.link.Got.{Got}
+use Rattle.nsp_link.specs.declared.link.Got.TheVariants.{Accepted, Repeat, Early, AckOnly}
+use Rattle.nsp_link.specs.declared.fault.LinkFault.{LinkFault}
+use Rattle.nsp_link.specs.declared.fault.LinkFault.TheVariants.{Exhausted, NoMemory}
+use Rattle.nsp_link.specs.Cutting.{Piece, cut}
+use Rattle.nsp_link.specs.Coming.{Coming}
+use Rattle.nsp_link.specs.Holding.{AreHeld, following, inserted, Lacks}
+use Rattle.nsp_link.specs.Limits.{largest_segment, largest_window, greatest_age, least_limit, largest_limit, most_segments}
+
+pub record LinkValue : Type 0 where
+  -- how it was set up
+  pub local : ℕ
+  pub remote : ℕ
+  pub seg_size : ℕ
+  pub window : ℕ
+  pub max_message : ℕ
+  -- how many segments were sent, how many of these are acknowledged, and the segments after those, sent or not
+  pub sent : ℕ
+  pub acked : ℕ
+  pub queue : List Piece
+  -- how many segments were taken in order, the bytes of a message whose last segment is still to come,
+  -- early segments by their numbers, and the whole messages that were not handed out
+  pub received : ℕ
+  pub partial : Option (List ℕ)
+  pub held : List (ℕ × Piece)
+  pub inbox : List (List ℕ)
+  -- whether a packet showed that the two ends have lost each other
+  pub failed : Bool
+
+abbrev pub IsSetup : LinkSetup → Type 0
+IsSetup s =
+    (1 ≤ s.seg_size) × (s.seg_size ≤ largest_segment) × (1 ≤ s.window) × (s.window ≤ largest_window)
+    × (least_limit ≤ s.max_message) × (s.max_message ≤ largest_limit)
+
+abbrev pub new_link : LinkSetup → LinkValue
+new_link s = record {
+  local = s.local;
+  remote = s.remote;
+  seg_size = s.seg_size;
+  window = s.window;
+  max_message = s.max_message;
+  sent = 0;
+  acked = 0;
+  queue = [];
+  received = 0;
+  partial = None;
+  held = [];
+  inbox = [];
+  failed = false;
+}
+
+-- what holds of every end
+pub record IsLink (v : LinkValue) : Type 0 where
+  pub size : 1 ≤ v.seg_size
+  pub size_limit : v.seg_size ≤ largest_segment
+  pub window : 1 ≤ v.window
+  pub window_limit : v.window ≤ largest_window
+  pub message_limit : v.max_message ≤ largest_limit
+  pub acked : v.acked ≤ v.sent
+  pub within : v.sent ≤ v.acked + v.window
+  pub queued : v.sent ≤ v.acked + length v.queue
+  pub few_sent : v.acked + length v.queue ≤ most_segments
+  pub few_taken : v.received ≤ most_segments
+  pub partial : length (unwrap_or v.partial []) ≤ v.max_message
+  -- those that are held lie above the next one, within the window
+  pub held : AreHeld (v.received + 1) (v.received + 1 + v.window) v.held
+
+-- what an end has of the other's messages
+abbrev pub coming : LinkValue → Coming
+coming v = record { received = v.received; partial = v.partial; inbox = v.inbox }
+
+abbrev pub failed_link : LinkValue → LinkValue
+failed_link v = record v { failed = true }
+
+-- ---- sending
+
+-- These are the messages sent: what is queued are their segments after those that are acknowledged.
+pub record Sends (v : LinkValue) (messages : List (List ℕ)) : Type 0 where
+  pub queue : v.queue ≡ drop v.acked (cut v.seg_size messages)
+  pub acked : v.acked ≤ length (cut v.seg_size messages)
+
+-- a segment waits, and the window has room
+abbrev pub MayEmit : LinkValue → Type 0
+MayEmit v = (v.sent < v.acked + length v.queue) × (v.sent < v.acked + v.window)
+
+-- ---- packets on the way
+
+-- the number of a field that acknowledges segments of this subchannel
+abbrev pub plain_ack : Option AckField → Option ℕ
+plain_ack None = None
+plain_ack (Some a) = if a.qual == 0 then Some a.number else None
+
+-- the first of two that is there
+abbrev pub first_of : Option ℕ → Option ℕ → Option ℕ
+first_of None second = second
+first_of (Some n) second = Some n
+
+abbrev pub first_ack : Option AckField → Option AckField → Option ℕ
+first_ack ack1 ack2 = first_of (plain_ack ack1) (plain_ack ack2)
+
+abbrev pub piece_of : SegmentValue → Piece
+piece_of s = record { first = s.first; last = s.last; payload = s.payload }
+
+-- The packet is the k-th of these segments, numbered from 1, or only an acknowledgement, and
+-- acknowledges the first a segments of the other direction.
+abbrev pub Carries : PacketValue → List Piece → Option ℕ → ℕ → Type 0
+Carries (segment s) pieces (Some k) a =
+    (1 ≤ k) × (slice_get pieces (k - 1) ≡ Some (piece_of s)) × (s.number ≡ residue k) × (first_ack s.ack1 s.ack2 ≡ Some (residue a))
+Carries (data_ack s) pieces None a = first_ack (Some s.ack1) s.ack2 ≡ Some (residue a)
+Carries (segment s) pieces None a = ⊥
+Carries (data_ack s) pieces (Some k) a = ⊥
+
+abbrev pub IsBetween : ℕ → ℕ → PacketValue → Type 0
+IsBetween src dst (segment s) = (s.src ≡ src) × (s.dst ≡ dst)
+IsBetween src dst (data_ack s) = (s.src ≡ src) × (s.dst ≡ dst)
+
+-- the bytes are a packet of this end that carries the k-th segment of the messages sent, and a
+abbrev pub Writes : LinkValue → List (List ℕ) → Option ℕ → ℕ → List ℕ → Type 0
+Writes v messages k a bytes =
+    (p : PacketValue) × Spells p bytes × IsBetween v.local v.remote p × Carries p (cut v.seg_size messages) k a
+
+-- ---- taking
+
+-- Of the first r segments of these messages just the first n messages are whole.
+pub record IsWhole (size : ℕ) (messages : List (List ℕ)) (r n : ℕ) : Type 0 where
+  pub some : n ≤ length messages
+  pub whole : length (cut size (take n messages)) ≤ r
+  pub next : n < length messages → r < length (cut size (take (n + 1) messages))
+  pub all : r ≤ length (cut size messages)
+
+-- the bytes of those of the first r segments whose message, the one after the first n, isn't whole
+abbrev pub begun : ℕ → List (List ℕ) → ℕ → ℕ → Option (List ℕ)
+begun size messages r n =
+    let over = r - length (cut size (take n messages)) in
+    if over == 0 then None else Some (take (size * over) (slice_index_or messages n []))
+
+-- The first segments of these messages, cut by this size, are taken, and these are handed out.
+pub record HasTaken (c : Coming) (size : ℕ) (messages given : List (List ℕ)) : Type 0 where
+  pub count : ℕ
+  pub whole : IsWhole size messages c.received count
+  pub inbox : given ++ c.inbox ≡ take count messages
+  pub partial : c.partial ≡ begun size messages c.received count
+
+-- An end that has taken its first segments of these messages, holds others of them, and has handed these out.
+pub record Stands (v : LinkValue) (size : ℕ) (messages given : List (List ℕ)) : Type 0 where
+  pub taken : HasTaken (coming v) size messages given
+  pub held : AllByRecursion (λ h. slice_get (cut size messages) (h.0 - 1) ≡ Some h.1) v.held
+
+-- neither the segment nor the acknowledgement is more than 2,047 old
+abbrev pub IsFresh : LinkValue → Option ℕ → ℕ → Type 0
+IsFresh v k a = IfSome k (λ n. v.received + 1 ≤ n + greatest_age) × (v.acked ≤ a + greatest_age)
+
+abbrev pub got_of : ℕ → Option ℕ → Got
+got_of received None = AckOnly
+got_of received (Some k) = if k == received + 1 then Accepted else (if nat_lt received k then Early else Repeat)
+
+-- how many segments are taken once the k-th came: the next one, and all held ones that follow it without a hole
+abbrev pub taken_after : LinkValue → Option ℕ → ℕ
+taken_after v None = v.received
+taken_after v (Some k) = if k == v.received + 1 then k + length (following k v.held) else v.received
+
+-- the end keeps the k-th segment, which is early, for later
+abbrev pub Keeps : LinkValue → ℕ → Type 0
+Keeps v k = (v.received + 1 < k) × (k < v.received + 1 + v.window) × Lacks k v.held
+
+-- What is held once the k-th came, which says this: what follows it without a hole leaves, and an
+-- early one below the window is held, the first copy of it.
+abbrev pub held_after : LinkValue → Option ℕ → Piece → List (ℕ × Piece)
+held_after v None p = v.held
+held_after v (Some k) p =
+    if k == v.received + 1 then drop (length (following k v.held)) v.held else
+    (if nat_lt v.received k && nat_lt k (v.received + 1 + v.window) then inserted k p v.held else v.held)
+
+-- What an end is that took in the k-th segment, or none, and an acknowledgement of the first a.
+pub record Delivered (old new : LinkValue) (k : Option ℕ) (a : ℕ) : Type 0 where
+  pub local : new.local ≡ old.local
+  pub remote : new.remote ≡ old.remote
+  pub seg_size : new.seg_size ≡ old.seg_size
+  pub window : new.window ≡ old.window
+  pub max_message : new.max_message ≡ old.max_message
+  pub failed : new.failed ≡ false
+  pub sent : new.sent ≡ old.sent
+  pub acked : new.acked ≡ max old.acked a
+  pub queue : new.queue ≡ drop (new.acked - old.acked) old.queue
+  pub received : new.received ≡ taken_after old k
+  pub held : (p : Piece) × (new.held ≡ held_after old k p)
+
+-- A packet of the other end, which cuts these messages by this size: the k-th of their segments or
+-- none, with an acknowledgement of the first a of this end's. It isn't stale, and not further ahead
+-- than the numbers tell.
+pub record IsDue (v : LinkValue) (size : ℕ) (messages given : List (List ℕ)) (p : PacketValue) (k : Option ℕ) (a : ℕ) : Type 0 where
+  pub running : v.failed ≡ false
+  pub positive : 0 < size
+  pub stands : Stands v size messages given
+  pub short : All (λ m. length m ≤ v.max_message) messages
+  pub way : IsBetween v.remote v.local p
+  pub carries : Carries p (cut size messages) k a
+  pub fresh : IsFresh v k a
+  pub near : IfSome k (λ n. n ≤ v.received + largest_window)
+  pub believable : a ≤ v.sent
+
+-- The refusals of a packet that is due: only one that is taken in or kept needs memory, and one with
+-- which the segments taken would be too many is exhausted.
+abbrev pub MayRefuse : LinkValue → Option ℕ → LinkFault → Type 0
+MayRefuse v None e = ⊥
+MayRefuse v (Some k) e =
+    ((e ≡ NoMemory) × ((k ≡ v.received + 1) ⊎ Keeps v k))
+    ⊎ ((e ≡ Exhausted) × (k ≡ v.received + 1) × (most_segments < taken_after v (Some k)))

@@ -1,0 +1,71 @@
+-- What is queued and written.
+use Rattle.std.specs.Prelude.{◌≡◌, ℕ, ◌+◌, ◌<◌, ◌≤◌, ◌++◌, ◌≢◌, false, IsTrue, List, [], length, All, slice_index_or, Some, None}
+use Rattle.nsp_seg.specs.Numbers.{residue}
+use Rattle.nsp_seg.specs.declared.packet.AckField.{AckField}
+use Rattle.nsp_seg.specs.Packets.{PacketValue, segment, data_ack}
+use Rattle.nsp_link.specs.declared.fault.LinkFault.{LinkFault}
+use Rattle.nsp_link.specs.declared.fault.LinkFault.TheVariants.{BadSetup, Malformed, WrongLink, BadSequence, MessageTooLong, Failed, Exhausted, NoSuchSegment, NoMemory}
+use Rattle.nsp_link.specs.Cutting.{Piece, count_of, cut}
+use Rattle.nsp_link.specs.Limits.{most_segments}
+use Rattle.nsp_link.specs.Link.{LinkValue}
+
+-- what every packet of an end acknowledges
+abbrev pub acknowledged : LinkValue → AckField
+acknowledged v = record { qual = 0; number = residue v.received }
+
+-- a segment under its number
+abbrev pub segment_packet : LinkValue → Piece → ℕ → PacketValue
+segment_packet v piece number = segment (record {
+  first = piece.first;
+  last = piece.last;
+  dst = v.remote;
+  src = v.local;
+  ack1 = Some (acknowledged v);
+  ack2 = None;
+  number = residue number;
+  payload = piece.payload;
+})
+
+abbrev pub ack_packet_of : LinkValue → PacketValue
+ack_packet_of v = data_ack (record { dst = v.remote; src = v.local; ack1 = acknowledged v; ack2 = None })
+
+-- an end with more segments queued
+abbrev pub queued_link : LinkValue → List Piece → LinkValue
+queued_link v pieces = record v { queue = v.queue ++ pieces }
+
+-- a message of len bytes may be sent
+abbrev pub MayQueue : LinkValue → ℕ → Type 0
+MayQueue v len = (v.failed ≡ false) × (len ≤ v.max_message) × (v.acked + length v.queue + count_of v.seg_size len ≤ most_segments)
+
+-- why a message of len bytes isn't sent, in the order of the tests
+abbrev pub SendFault : LinkValue → ℕ → LinkFault → Type 0
+SendFault v len Failed = IsTrue v.failed
+SendFault v len MessageTooLong = (v.failed ≡ false) × (v.max_message < len)
+SendFault v len Exhausted = (v.failed ≡ false) × (len ≤ v.max_message) × (most_segments < v.acked + length v.queue + count_of v.seg_size len)
+SendFault v len NoMemory = MayQueue v len
+SendFault v len BadSetup = ⊥
+SendFault v len (Malformed f) = ⊥
+SendFault v len WrongLink = ⊥
+SendFault v len BadSequence = ⊥
+SendFault v len NoSuchSegment = ⊥
+
+-- every message is short enough for this end
+abbrev pub AreShort : LinkValue → List (List ℕ) → Type 0
+AreShort v messages = All (λ m. length m ≤ v.max_message) messages
+
+abbrev pub MayQueueAll : LinkValue → List (List ℕ) → Type 0
+MayQueueAll v messages =
+    (v.failed ≡ false) × AreShort v messages × (v.acked + length v.queue + length (cut v.seg_size messages) ≤ most_segments)
+
+-- why messages are not sent, none of them, in the order of the tests
+abbrev pub SendAllFault : LinkValue → List (List ℕ) → LinkFault → Type 0
+SendAllFault v messages Failed = IsTrue v.failed
+SendAllFault v messages MessageTooLong = (v.failed ≡ false) × ((k : ℕ) × (k < length messages) × (v.max_message < length (slice_index_or messages k [])))
+SendAllFault v messages Exhausted =
+    (v.failed ≡ false) × AreShort v messages × (most_segments < v.acked + length v.queue + length (cut v.seg_size messages))
+SendAllFault v messages NoMemory = MayQueueAll v messages × (messages ≢ [])
+SendAllFault v messages BadSetup = ⊥
+SendAllFault v messages (Malformed f) = ⊥
+SendAllFault v messages WrongLink = ⊥
+SendAllFault v messages BadSequence = ⊥
+SendAllFault v messages NoSuchSegment = ⊥

@@ -1,0 +1,11 @@
+-- How far the numbers on the way lie from those that an end expects.
+use Rattle.std.specs.Prelude.{ℕ, ◌+◌, ◌≤◌}
+use Rattle.nsp_link.specs.Limits.{largest_window, greatest_age}
+
+-- k - (received + 1) lies from -2,047 to 2,046: 4,094 numbers
+abbrev pub IsSegmentNear : ℕ → ℕ → Type 0
+IsSegmentNear received k = (received + 1 ≤ k + greatest_age) × (k + 1 ≤ (received + 1) + largest_window)
+
+-- a - acked lies from -2,047 to 2,047: 4,095 numbers
+abbrev pub IsAckNear : ℕ → ℕ → Type 0
+IsAckNear acked a = (acked ≤ a + greatest_age) × (a ≤ acked + largest_window)

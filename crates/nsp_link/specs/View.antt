@@ -1,0 +1,31 @@
+-- What the fields of a link end stand for.
+use Rattle.std.specs.Prelude.{Some, None, ◌≡◌, ◌+◌, length, slice_get}
+use Rattle.nsp_link.specs.declared.link.LinkEnd.TheInside.{Inside}
+use Rattle.nsp_link.specs.Link.{LinkValue, IsLink}
+use Rattle.nsp_link.specs.Pieces.{pieces, bodies, body_of, held_from}
+
+abbrev pub link_view : Inside → LinkValue
+link_view a = record {
+  local = a.setup.local;
+  remote = a.setup.remote;
+  seg_size = a.setup.seg_size;
+  window = a.setup.window;
+  max_message = a.setup.max_message;
+  sent = a.sent;
+  acked = a.acked;
+  queue = pieces a.queue.items;
+  received = a.incoming.received;
+  partial = body_of a.incoming.partial;
+  held = held_from (a.incoming.received + 1) a.held.items;
+  inbox = bodies a.incoming.inbox.items;
+  failed = a.failed;
+}
+
+-- What holds of the fields: a place for each number of the window, that of the next one is free, and the
+-- filled ones are counted.
+pub record IsEnd (a : Inside) : Type 0 where
+  pub link : IsLink (link_view a)
+  pub places : length a.held.items ≡ a.setup.window
+  pub capacity : a.held.capacity ≡ a.setup.window
+  pub free : slice_get a.held.items 0 ≡ Some None
+  pub counted : a.early ≡ length (held_from (a.incoming.received + 1) a.held.items)

@@ -1,0 +1,17 @@
+//! One end of a link: messages cut into segments, and segments taken in order.
+#![tactic(auto)]
+
+mod cutting;
+mod fault;
+mod incoming;
+mod laws;
+mod link;
+mod ring;
+mod segment;
+
+pub use fault::LinkFault;
+pub use laws::{distances_separate, held_by_number, messages_only_grow};
+pub use link::{Got, LinkEnd, LinkSetup};
+
+#[cfg(test)]
+mod tests;

@@ -1,0 +1,594 @@
+//! One end of a link (NSP 4.0.0, data segments and their acknowledgement).
+
+ghost use Rattle.std.specs.Prelude.{◌≡◌, ◌≤◌, true, false, length, drop};
+ghost use Rattle.nsp_link.specs.Link.{IsSetup, plain_ack};
+ghost use Rattle.nsp_link.specs.Receiving.{is_end};
+
+use crate::cutting::{check_all, queue_all, queue_message, segment_count};
+use crate::fault::LinkFault;
+use crate::incoming::{Incoming, MOST_SEGMENTS, begun_len, take_run, undo};
+use crate::ring::{Ring, advance, fill, free_places, is_free};
+use crate::segment::{Held, Segment};
+use nsp_seg::{AckField, Packet, Seq12, decode_packet, encode_packet};
+use std::alloc::Global;
+use std::collections::VecDeque;
+use std::marker::Model;
+
+/// The addresses and limits of an end (own).
+#[derive(Clone, Copy, Debug)]
+pub struct LinkSetup {
+    /// The own address, to which packets have to be sent.
+    pub local: u16,
+    /// The other end's address, from which they have to come; it may be the own one.
+    pub remote: u16,
+    /// The bytes of a segment, 1 to 1,400: a message is cut into pieces of this size.
+    pub seg_size: usize,
+    /// The segments sent and not acknowledged at most, and the places for early ones: 1 to 2,047.
+    pub window: usize,
+    /// The bytes of a message at most, 64 to 65,535, both of one that is sent and of one that is taken.
+    pub max_message: usize,
+}
+
+/// What became of a packet.
+#[derive(Clone, Copy, Debug, PartialEq, Eq)]
+pub enum Got {
+    /// Its segment was the next one: it was taken, with all held ones that follow it without a hole.
+    Accepted,
+    /// Its segment was taken before.
+    Repeat,
+    /// Its segment comes after the next one; it is held where the window has a place for it.
+    Early,
+    /// It carries no segment.
+    AckOnly,
+}
+
+/// The bytes of a segment at most.
+const LARGEST_SEGMENT: usize = 1400;
+
+/// The segments sent and not acknowledged at most.
+const LARGEST_WINDOW: usize = 2047;
+
+/// The limit on a message lies between these.
+const LEAST_LIMIT: usize = 64;
+
+const LARGEST_LIMIT: usize = 65535;
+
+/// One end of an open link. What it hands out is a part from the front of the messages that the other
+/// end sent, each once and in order, and it believes no acknowledgement of what it didn't send.
+#[derive(Drop)]
+pub struct LinkEnd {
+    alloc: Global,
+    setup: LinkSetup,
+    queue: VecDeque<Segment>,
+    sent: u64,
+    acked: u64,
+    incoming: Incoming,
+    held: Ring,
+    early: usize,
+    failed: bool,
+}
+
+impl Model for LinkEnd {
+    ghost use Rattle.nsp_link.specs.Link.{LinkValue};
+
+    ghost Value = { LinkValue };
+
+    ghost use Rattle.nsp_link.specs.View.{link_view, IsEnd};
+
+    ghost view = { link_view };
+
+    ghost invariant = { IsEnd };
+}
+
+impl LinkEnd {
+    ghost use Rattle.std.specs.Prelude.{◌≡◌, ◌⊎◌, ◌+◌, ◌-◌, ◌^◌, ◌<◌, ◌≤◌, ◌++◌, [], ◌∷◌, length, drop, Ok, Err, Some, None, IfOk, IfErr, OnOk, OnErr, MatchOption, MatchResult, IsTrue, ℕ, List, false};
+    ghost use Rattle.nsp_link.specs.declared.fault.LinkFault.TheVariants.{BadSetup, BadSequence, NoMemory};
+    ghost use Rattle.nsp_link.specs.Link.{IsSetup, IsLink, LinkValue, Sends, Stands, new_link, first_ack, failed_link};
+    ghost use Rattle.nsp_link.specs.Receiving.{newly_acked};
+
+    /// A new end, which sent and took nothing. `BadSetup` where a limit of the setup isn't in its range;
+    /// else `NoMemory` alone (own).
+    pub fn new(alloc: Global, setup: LinkSetup) -> Result<LinkEnd, LinkFault>
+        ensures ok { IfOk result (λ v. IsSetup setup × (v ≡ new_link setup)) }
+        ensures err { IfErr result (λ e. ((e ≡ BadSetup) × (IsSetup setup → ⊥)) ⊎ ((e ≡ NoMemory) × IsSetup setup)) }
+    {
+        if !is_setup(&setup) {
+            return Err(LinkFault::BadSetup);
+        }
+        let held = free_places(alloc, setup.window)?;
+        Ok(LinkEnd {
+            alloc,
+            setup,
+            queue: VecDeque::new(alloc),
+            sent: 0,
+            acked: 0,
+            incoming: Incoming {
+                received: 0,
+                partial: None,
+                inbox: VecDeque::new(alloc),
+            },
+            held,
+            early: 0,
+            failed: false,
+        })
+    }
+
+    /// The segments that were sent, each counted once, however often it was sent.
+    pub fn sent_count(&self) -> u64
+        ensures value { result ≡ self.now.sent }
+        ensures valid { IsLink self.now }
+    {
+        self.sent
+    }
+
+    /// The segments that were taken in order.
+    pub fn received_count(&self) -> u64
+        ensures value { result ≡ self.now.received }
+        ensures valid { IsLink self.now }
+    {
+        self.incoming.received
+    }
+
+    /// The segments that were sent and aren't acknowledged: at most the window.
+    pub fn unacked(&self) -> usize
+        ensures value { result ≡ self.now.sent - self.now.acked }
+        ensures small { result ≤ self.now.window }
+        ensures valid { IsLink self.now }
+    {
+        (self.sent - self.acked) as usize
+    }
+
+    // Drops the oldest segments, which are acknowledged.
+    fn forget(&mut self, count: usize)
+        requires { self.old.acked + count ≤ self.old.sent }
+        ensures { self.new ≡ record self.old { acked = self.old.acked + count; queue = drop count self.old.queue } }
+    {
+        drop_front(&mut self.queue, count);
+        self.acked += count as u64;
+    }
+
+    fn fail(&mut self)
+        ensures { self.new ≡ failed_link self.old }
+    {
+        self.failed = true;
+    }
+
+    // How many segments the first plain field acknowledges anew.
+    fn believe(
+        &mut self,
+        ack1: Option<AckField>,
+        ack2: Option<AckField>,
+    ) -> Result<usize, LinkFault>
+        ensures ok { IfOk result (λ count. (newly_acked self.old (first_ack ack1 ack2) ≡ Some count) × (self.old.acked + count ≤ self.old.sent) × (self.new ≡ self.old)) }
+        ensures err { IfErr result (λ e. (e ≡ BadSequence) × (newly_acked self.old (first_ack ack1 ack2) ≡ None) × (self.new ≡ failed_link self.old)) }
+    {
+        let unacked = self.unacked();
+        let Some(number) = plain_number(ack1).or(plain_number(ack2)) else {
+            return Ok(0);
+        };
+        let ahead = usize::from(number.ahead_of(Seq12::of(self.acked)));
+        if ahead >= 2048 {
+            return Ok(0);
+        }
+        if ahead > unacked {
+            self.fail();
+            return Err(LinkFault::BadSequence);
+        }
+        Ok(ahead)
+    }
+}
+
+impl LinkEnd {
+    ghost use Rattle.std.specs.Prelude.{◌≡◌, ◌≢◌, ◌⊎◌, ◌+◌, ◌-◌, ◌^◌, ◌<◌, ◌≤◌, ◌++◌, [], ◌∷◌, length, drop, Ok, Err, Some, None, Option, IfOk, IfErr, IfSome, OnOk, OnErr, IsOk, IsTrue, IsErrOf, MatchOption, MatchResult, ℕ, List, false, true, is_none, slice_get};
+    ghost use Rattle.nsp_seg.specs.Packets.{Spells, IsWritable, view};
+    ghost use Rattle.nsp_link.specs.declared.fault.LinkFault.TheVariants.{BadSetup, BadSequence, Failed, Exhausted, MessageTooLong, NoMemory, NoSuchSegment};
+    ghost use Rattle.nsp_link.specs.Cutting.{Piece, cut, cut_message};
+    ghost use Rattle.nsp_link.specs.Pieces.{bodies};
+    ghost use Rattle.nsp_link.specs.Link.{IsLink, LinkValue, Sends, Stands, MayEmit, Writes};
+    ghost use Rattle.nsp_link.specs.Sending.{segment_packet, ack_packet_of, acknowledged, queued_link, SendFault, SendAllFault, MayQueue, MayQueueAll};
+
+    /// Queues the segments of a message: one for each `seg_size` bytes or part of that, and one of no bytes
+    /// for an empty message (NSP 4.0.0, data segment message). Refused, with nothing changed: `Failed`;
+    /// `MessageTooLong`, above `max_message`; `Exhausted`, where this end would have had more than 2^40
+    /// segments; `NoMemory`.
+    pub fn send(&mut self, message: &[u8]) -> Result<(), LinkFault>
+        ensures ok { OnOk result (self.new ≡ queued_link self.old (cut_message self.old.seg_size message.now)) }
+        ensures fits { OnOk result (MayQueue self.old (length message.now)) }
+        ensures stands { (size : ℕ) (messages given : List (List ℕ)) → Stands self.old size messages given → Stands self.new size messages given }
+        ensures sends { OnOk result ((messages : List (List ℕ)) → Sends self.old messages → Sends self.new (messages ++ message.now ∷ [])) }
+        ensures err { IfErr result (λ e. SendFault self.old (length message.now) e × (self.new ≡ self.old)) }
+    {
+        if self.failed {
+            return Err(LinkFault::Failed);
+        }
+        if message.len() > self.setup.max_message {
+            return Err(LinkFault::MessageTooLong);
+        }
+        let count = segment_count(self.setup.seg_size, message.len());
+        if MOST_SEGMENTS - self.acked - (self.queue.len() as u64) < count as u64 {
+            return Err(LinkFault::Exhausted);
+        }
+        let before = self.queue.len();
+        match queue_message(self.alloc, &mut self.queue, self.setup.seg_size, message) {
+            Ok(()) => Ok(()),
+            Err(_) => {
+                self.queue.truncate(before);
+                Err(LinkFault::NoMemory)
+            }
+        }
+    }
+
+    /// Queues the segments of all messages, or of none. Refused as `send` is, where any message is too long
+    /// or all their segments are too many; an empty list is queued without memory.
+    pub fn send_all(&mut self, messages: &[Vec<u8>]) -> Result<(), LinkFault>
+        ensures ok { OnOk result (self.new ≡ queued_link self.old (cut self.old.seg_size (bodies messages.now))) }
+        ensures fits { OnOk result (MayQueueAll self.old (bodies messages.now)) }
+        ensures stands { (size : ℕ) (before given : List (List ℕ)) → Stands self.old size before given → Stands self.new size before given }
+        ensures sends { OnOk result ((before : List (List ℕ)) → Sends self.old before → Sends self.new (before ++ bodies messages.now)) }
+        ensures err { IfErr result (λ e. SendAllFault self.old (bodies messages.now) e × (self.new ≡ self.old)) }
+        ensures empty { self.old.failed ≡ false → messages.now ≡ [] → IsOk result × (self.new ≡ self.old) }
+    {
+        if self.failed {
+            return Err(LinkFault::Failed);
+        }
+        let room = MOST_SEGMENTS - self.acked - (self.queue.len() as u64);
+        check_all(self.setup.seg_size, self.setup.max_message, room, messages)?;
+        let before = self.queue.len();
+        match queue_all(self.alloc, &mut self.queue, self.setup.seg_size, messages) {
+            Ok(()) => Ok(()),
+            Err(_) => {
+                self.queue.truncate(before);
+                Err(LinkFault::NoMemory)
+            }
+        }
+    }
+
+    // The bytes of the segment at this place of the queue.
+    fn segment_at(&self, place: usize) -> Result<Vec<u8>, LinkFault>
+        requires { place < length self.now.queue }
+        ensures ok { IfOk result (λ v. (piece : Piece) → slice_get self.now.queue place ≡ Some piece → Spells (segment_packet self.now piece (self.now.acked + 1 + place)) v.items) }
+        ensures carries { IfOk result (λ v. (messages : List (List ℕ)) → Sends self.now messages → Writes self.now messages (Some (self.now.acked + 1 + place)) self.now.received v.items) }
+        ensures err { IfErr result (λ e. e ≡ NoMemory) }
+    {
+        let segment = &self.queue[place];
+        let packet = Packet::Segment {
+            first: segment.first,
+            last: segment.last,
+            dst: self.setup.remote,
+            src: self.setup.local,
+            ack1: Some(self.acknowledgement()),
+            ack2: None,
+            number: Seq12::of(self.acked + 1 + place as u64),
+            payload: &segment.payload,
+        };
+        self.written(&packet)
+    }
+
+    // What every packet acknowledges.
+    fn acknowledgement(&self) -> AckField
+        ensures { result ≡ acknowledged self.now }
+    {
+        AckField {
+            qual: 0,
+            number: Seq12::of(self.incoming.received),
+        }
+    }
+
+    fn written(&self, packet: &Packet<'_>) -> Result<Vec<u8>, LinkFault>
+        requires { IsWritable (view packet.now) }
+        ensures ok { IfOk result (λ v. Spells (view packet.now) v.items) }
+        ensures err { IfErr result (λ e. e ≡ NoMemory) }
+    {
+        let mut out = Vec::new(self.alloc);
+        match encode_packet(packet, &mut out) {
+            Ok(()) => Ok(out),
+            Err(_) => Err(LinkFault::NoMemory),
+        }
+    }
+
+    /// The packet of the next segment that was never sent, or none where none waits or the window is full
+    /// (NSP 4.0.0, data segment message). It acknowledges all segments that were taken. Refused, with nothing
+    /// changed: `Failed`; `NoMemory`, where there is one to send.
+    pub fn next_packet(&mut self) -> Result<Option<Vec<u8>>, LinkFault>
+        ensures nothing { result ≡ Ok None → (self.new ≡ self.old) × (MayEmit self.old → ⊥) }
+        ensures segment { IfOk result (λ o. IfSome o (λ v. MayEmit self.old × (self.new ≡ record self.old { sent = self.old.sent + 1 })
+            × ((piece : Piece) → slice_get self.old.queue (self.old.sent - self.old.acked) ≡ Some piece → Spells (segment_packet self.old piece (self.old.sent + 1)) v.items))) }
+        ensures carries { IfOk result (λ o. IfSome o (λ v. (messages : List (List ℕ)) → Sends self.old messages → Writes self.old messages (Some (self.old.sent + 1)) self.old.received v.items)) }
+        ensures sends { (messages : List (List ℕ)) → Sends self.old messages → Sends self.new messages }
+        ensures stands { (size : ℕ) (messages given : List (List ℕ)) → Stands self.old size messages given → Stands self.new size messages given }
+        ensures err { IfErr result (λ e. (self.new ≡ self.old) × (((e ≡ NoMemory) × MayEmit self.old) ⊎ ((e ≡ Failed) × IsTrue self.old.failed))) }
+        ensures failed { IsTrue self.old.failed → IsErrOf result Failed }
+    {
+        if self.failed {
+            return Err(LinkFault::Failed);
+        }
+        let place = self.unacked();
+        if place == self.queue.len() || place == self.setup.window {
+            return Ok(None);
+        }
+        let packet = self.segment_at(place)?;
+        self.sent += 1;
+        Ok(Some(packet))
+    }
+
+    /// The packet of a segment that was sent and isn't acknowledged, again: the oldest is at place 0.
+    /// Refused: `Failed`; `NoSuchSegment`, from `unacked()` on; `NoMemory`.
+    pub fn resend(&self, place: usize) -> Result<Vec<u8>, LinkFault>
+        ensures segment { IfOk result (λ v. (place < self.now.sent - self.now.acked)
+            × ((piece : Piece) → slice_get self.now.queue place ≡ Some piece → Spells (segment_packet self.now piece (self.now.acked + 1 + place)) v.items)) }
+        ensures carries { IfOk result (λ v. (messages : List (List ℕ)) → Sends self.now messages → Writes self.now messages (Some (self.now.acked + 1 + place)) self.now.received v.items) }
+        ensures failed { IsTrue self.now.failed → IsErrOf result Failed }
+        ensures missing { self.now.failed ≡ false → self.now.sent - self.now.acked ≤ place → IsErrOf result NoSuchSegment }
+        ensures memory { self.now.failed ≡ false → place < self.now.sent - self.now.acked → IfErr result (λ e. e ≡ NoMemory) }
+    {
+        if self.failed {
+            return Err(LinkFault::Failed);
+        }
+        if place >= self.unacked() {
+            return Err(LinkFault::NoSuchSegment);
+        }
+        self.segment_at(place)
+    }
+
+    /// A packet that only acknowledges all segments that were taken, and none that is held (NSP 4.0.0, data
+    /// acknowledgement message). Refused: `Failed`; `NoMemory`.
+    pub fn ack_packet(&self) -> Result<Vec<u8>, LinkFault>
+        ensures ack { IfOk result (λ v. Spells (ack_packet_of self.now) v.items) }
+        ensures carries { IfOk result (λ v. (messages : List (List ℕ)) → Writes self.now messages None self.now.received v.items) }
+        ensures failed { IsTrue self.now.failed → IsErrOf result Failed }
+        ensures memory { self.now.failed ≡ false → IfErr result (λ e. e ≡ NoMemory) }
+    {
+        if self.failed {
+            return Err(LinkFault::Failed);
+        }
+        let packet = Packet::DataAck {
+            dst: self.setup.remote,
+            src: self.setup.local,
+            ack1: self.acknowledgement(),
+            ack2: None,
+        };
+        self.written(&packet)
+    }
+}
+
+impl LinkEnd {
+    ghost use Rattle.std.specs.Prelude.{◌≡◌, ◌≢◌, ◌⊎◌, ◌+◌, ◌-◌, ◌^◌, ◌<◌, ◌≤◌, ◌++◌, [], ◌∷◌, length, drop, Ok, Err, Some, None, Option, IfOk, IfErr, IfSome, OnOk, OnErr, IsOk, IsTrue, IsErrOf, MatchOption, MatchResult, ℕ, List, false, true, is_none, slice_get, unwrap_or};
+    ghost use Rattle.nsp_seg.specs.Packets.{Spells, view, PacketValue};
+    ghost use Rattle.nsp_link.specs.declared.fault.LinkFault.TheVariants.{BadSetup, BadSequence, Failed, Exhausted, MessageTooLong, NoMemory, NoSuchSegment, WrongLink, Malformed};
+    ghost use Rattle.nsp_seg.specs.declared.packet.SegFault.{SegFault};
+    ghost use Rattle.nsp_seg.specs.Packets.{HasFault};
+    ghost use Rattle.nsp_link.specs.Link.{IsLink, LinkValue, IsDue, MayRefuse, got_of, Delivered, Sends, Stands};
+    ghost use Rattle.nsp_link.specs.Coming.{AllFit};
+    ghost use Rattle.nsp_link.specs.Link.{coming, Keeps};
+    ghost use Rattle.nsp_link.specs.Receiving.{run, closed, kept, NotTaken, Received};
+    ghost use Rattle.std.specs.Option.{option_copied};
+
+    /// The oldest whole message, which leaves. It takes no memory.
+    pub fn take_message(&mut self) -> Option<Vec<u8>>
+        ensures value { MatchOption result ((self.old.inbox ≡ []) × (self.new ≡ self.old)) (λ m. (self.old.inbox ≡ m.items ∷ self.new.inbox) × (self.new ≡ record self.old { inbox = self.new.inbox })) }
+        ensures stands { (size : ℕ) (messages given : List (List ℕ)) → Stands self.old size messages given
+            → MatchOption result (Stands self.new size messages given) (λ m. Stands self.new size messages (given ++ m.items ∷ [])) }
+        ensures sends { (messages : List (List ℕ)) → Sends self.old messages → Sends self.new messages }
+    {
+        self.incoming.inbox.pop_front()
+    }
+
+    /// The oldest whole message, which stays. It takes no memory.
+    pub fn peek_message(&self) -> Option<&[u8]>
+        ensures { option_copied result ≡ slice_get self.now.inbox 0 }
+    {
+        match self.incoming.inbox.front() {
+            None => None,
+            Some(body) => Some(body.as_slice()),
+        }
+    }
+
+    /// The early segments that are held: fewer than the window.
+    pub fn held_count(&self) -> usize
+        ensures value { result ≡ length self.now.held }
+        ensures small { result ≤ self.now.window - 1 }
+    {
+        self.early
+    }
+
+    /// The bytes of the message whose last segment is still to come; 0 where there is none.
+    pub fn partial_len(&self) -> usize
+        ensures value { result ≡ length (unwrap_or self.now.partial []) }
+        ensures small { result ≤ self.now.max_message }
+    {
+        begun_len(&self.incoming.partial).unwrap_or(0)
+    }
+
+    /// Takes a packet from the other end (NSP 4.0.0, data segment message and data acknowledgement message).
+    /// Its first acknowledgement field with qualifier 0 counts and no other (own); one that is 2,048 or more
+    /// behind is old, and acknowledges nothing. An early segment is held where its distance from the next one
+    /// is below the window, the first copy of it; the segment that closes the gap is taken with all that
+    /// follow it without a hole, or none of them is (own).
+    ///
+    /// Refused, in this order: `Failed`; `Malformed`; `WrongLink`, where it isn't from the other end to this
+    /// one; `BadSequence`, where it acknowledges what wasn't sent; and of the next segment, or of the first
+    /// at fault of those that follow it, `BadSequence`, where a first mark stands elsewhere than in front of
+    /// a message; `MessageTooLong`, above `max_message`; `Exhausted`, above 2^40 segments; `NoMemory`. After
+    /// `BadSequence` and `MessageTooLong` nothing of the packet was taken and every later call that can
+    /// refuse answers `Failed`; every other refusal changes nothing.
+    pub fn receive(&mut self, packet: &[u8]) -> Result<Got, LinkFault>
+        ensures failed { IsTrue self.old.failed → (result ≡ Err Failed) × (self.new ≡ self.old) }
+        // Any packet, by the numbers that it shows.
+        ensures any { self.old.failed ≡ false → (p : PacketValue) → Spells p packet.now → Received self.old p result self.new }
+        // All bytes: they are malformed, which changes nothing, or they are a packet.
+        ensures whole { self.old.failed ≡ false → ((f : SegFault) × (result ≡ Err (Malformed f)) × HasFault f packet.now × (self.new ≡ self.old))
+            ⊎ ((p : PacketValue) × Spells p packet.now × Received self.old p result self.new) }
+        // Bytes at fault are malformed with that fault, and these alone; this changes nothing.
+        ensures fault_found { self.old.failed ≡ false → (f : SegFault) → HasFault f packet.now → (result ≡ Err (Malformed f)) × (self.new ≡ self.old) }
+        ensures malformed { (f : SegFault) → result ≡ Err (Malformed f) → HasFault f packet.now × (self.new ≡ self.old) }
+        // The messages sent stay those that were sent.
+        ensures sends { (messages : List (List ℕ)) → Sends self.old messages → Sends self.new messages }
+        // A packet that is due, by the counts for which its numbers stand.
+        ensures due { (size : ℕ) (messages given : List (List ℕ)) (p : PacketValue) (k : Option ℕ) (a : ℕ) → Spells p packet.now → IsDue self.old size messages given p k a
+            → MatchResult result
+            (λ got. (got ≡ got_of self.old.received k) × Delivered self.old self.new k a × Stands self.new size messages given)
+            (λ e. MayRefuse self.old k e × (self.new ≡ self.old)) }
+        // One that only acknowledges, or whose segment was taken before, is never refused.
+        ensures unrefused { (size : ℕ) (messages given : List (List ℕ)) (p : PacketValue) (k : Option ℕ) (a : ℕ) → Spells p packet.now → IsDue self.old size messages given p k a
+            → IfSome k (λ n. n ≤ self.old.received) → IsOk result }
+    {
+        if self.failed {
+            return Err(LinkFault::Failed);
+        }
+        match decode_packet(packet) {
+            Ok(packet) => self.receive_packet(&packet),
+            Err(fault) => Err(LinkFault::Malformed(fault)),
+        }
+    }
+
+    // Takes in the next segment and all that follow it, or none of them.
+    fn take_next(&mut self, first: bool, last: bool, payload: &[u8]) -> Result<(), LinkFault>
+        ensures ok { OnOk result (AllFit self.old.max_message (coming self.old) (run self.old (record { first = first; last = last; payload = payload.now }))
+            × (self.new ≡ closed self.old (record { first = first; last = last; payload = payload.now }))) }
+        ensures err { IfErr result (λ e. NotTaken self.old (record { first = first; last = last; payload = payload.now }) e self.new) }
+    {
+        let received = self.incoming.received;
+        let messages = self.incoming.inbox.len();
+        let begun = begun_len(&self.incoming.partial);
+        match take_run(
+            self.alloc,
+            self.setup.max_message,
+            &mut self.incoming,
+            first,
+            last,
+            payload,
+            &self.held,
+        ) {
+            Ok(count) => {
+                advance(&mut self.held, count);
+                self.early -= count - 1;
+                Ok(())
+            }
+            Err(fault) => {
+                undo(&mut self.incoming, received, messages, begun);
+                if ends_link(fault) {
+                    self.failed = true;
+                }
+                Err(fault)
+            }
+        }
+    }
+
+    // Keeps an early segment, so many numbers after the next one, unless it is beyond the window or there already.
+    fn keep(
+        &mut self,
+        place: usize,
+        first: bool,
+        last: bool,
+        payload: &[u8],
+    ) -> Result<(), LinkFault>
+        requires { 0 < place }
+        ensures ok { OnOk result (self.new ≡ kept self.old (self.old.received + 1 + place) (record { first = first; last = last; payload = payload.now })) }
+        ensures err { IfErr result (λ e. (e ≡ NoMemory) × Keeps self.old (self.old.received + 1 + place) × (self.new ≡ self.old)) }
+    {
+        if is_free(&self.held, place) {
+            let payload = Vec::from_slice(self.alloc, payload)?;
+            fill(
+                &mut self.held,
+                place,
+                Held {
+                    first,
+                    last,
+                    payload,
+                },
+            );
+            self.early += 1;
+        }
+        Ok(())
+    }
+
+    fn check_address(&self, dst: u16, src: u16) -> Result<(), LinkFault>
+        ensures { MatchResult result (λ _. (src ≡ self.now.remote) × (dst ≡ self.now.local)) (λ e. (e ≡ WrongLink) × ((src ≡ self.now.remote) × (dst ≡ self.now.local) → ⊥)) }
+    {
+        if src == self.setup.remote && dst == self.setup.local {
+            Ok(())
+        } else {
+            Err(LinkFault::WrongLink)
+        }
+    }
+
+    fn receive_packet(&mut self, packet: &Packet<'_>) -> Result<Got, LinkFault>
+        ensures { Received self.old (view packet.now) result self.new }
+    {
+        match packet {
+            Packet::DataAck {
+                dst,
+                src,
+                ack1,
+                ack2,
+            } => {
+                self.check_address(*dst, *src)?;
+                let count = self.believe(Some(*ack1), *ack2)?;
+                self.forget(count);
+                Ok(Got::AckOnly)
+            }
+            Packet::Segment {
+                first,
+                last,
+                dst,
+                src,
+                ack1,
+                ack2,
+                number,
+                payload,
+            } => {
+                self.check_address(*dst, *src)?;
+                let count = self.believe(*ack1, *ack2)?;
+                let ahead = number.ahead_of(Seq12::of(self.incoming.received + 1));
+                let got = if ahead == 0 {
+                    self.take_next(*first, *last, payload)?;
+                    Got::Accepted
+                } else if ahead < 2048 {
+                    self.keep(usize::from(ahead), *first, *last, payload)?;
+                    Got::Early
+                } else {
+                    Got::Repeat
+                };
+                self.forget(count);
+                Ok(got)
+            }
+        }
+    }
+}
+
+fn is_setup(setup: &LinkSetup) -> bool
+    ensures yes { result ≡ true → IsSetup setup.now }
+    ensures no { result ≡ false → IsSetup setup.now → ⊥ }
+{
+    (1..=LARGEST_SEGMENT).contains(&setup.seg_size)
+        && (1..=LARGEST_WINDOW).contains(&setup.window)
+        && (LEAST_LIMIT..=LARGEST_LIMIT).contains(&setup.max_message)
+}
+
+// Whether the two ends have lost each other.
+fn ends_link(fault: LinkFault) -> bool
+    ensures { result ≡ is_end fault }
+{
+    match fault {
+        LinkFault::BadSequence | LinkFault::MessageTooLong => true,
+        _ => false,
+    }
+}
+
+fn drop_front(queue: &mut VecDeque<Segment>, count: usize)
+    requires { count ≤ length queue.old.items }
+    ensures { queue.new.items ≡ drop count queue.old.items }
+{
+    for _ in 0..count {
+        let _ = queue.pop_front();
+    }
+}
+
+fn plain_number(ack: Option<AckField>) -> Option<Seq12>
+    ensures { result ≡ plain_ack ack }
+{
+    match ack {
+        Some(field) if field.qual == 0 => Some(field.number),
+        _ => None,
+    }
+}

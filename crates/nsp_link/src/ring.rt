@@ -1,0 +1,70 @@
+//! Places for early segments: the first is that of the number which is wanted next.
+
+ghost use Rattle.std.specs.Prelude.{◌≡◌, ◌<◌, ◌≤◌, [], ◌++◌, ℕ, Some, None, false, IfOk, MatchOption, is_none, length, drop, replicate, slice_get, slice_set};
+ghost use Rattle.nsp_link.specs.Pieces.{held_from};
+
+use crate::segment::Held;
+use circular_buffer::HeapCircularBuffer;
+use std::alloc::{AllocError, Global};
+
+pub(crate) type Ring = HeapCircularBuffer<Option<Held>>;
+
+/// So many free places.
+pub(crate) fn free_places(alloc: Global, count: usize) -> Result<Ring, AllocError>
+    ensures items { IfOk result (λ r. r.items ≡ replicate count None) }
+    ensures capacity { IfOk result (λ r. r.capacity ≡ count) }
+    ensures len { IfOk result (λ r. length r.items ≡ count) }
+    ensures free { IfOk result (λ r. 0 < count → slice_get r.items 0 ≡ Some None) }
+    ensures none { IfOk result (λ r. (n : ℕ) → held_from n r.items ≡ []) }
+{
+    let mut ring = HeapCircularBuffer::with_capacity(alloc, count)?;
+    for _ in 0..count {
+        let _ = ring.push_back(None);
+    }
+    Ok(ring)
+}
+
+/// Fills the place.
+pub(crate) fn fill(ring: &mut Ring, place: usize, held: Held)
+    requires { place < length ring.old.items }
+    ensures items { ring.new.items ≡ slice_set ring.old.items place (Some held) }
+    ensures capacity { ring.new.capacity ≡ ring.old.capacity }
+{
+    if let Some(slot) = ring.get_mut(place) {
+        *slot = Some(held);
+    }
+}
+
+/// Whether the place is there, and free.
+pub(crate) fn is_free(ring: &Ring, place: usize) -> bool
+    ensures { MatchOption (slice_get ring.now.items place) (result ≡ false) (λ o. result ≡ is_none o) }
+{
+    match ring.get(place) {
+        Some(slot) => slot.is_none(),
+        None => false,
+    }
+}
+
+/// The front places leave, and free ones come behind the last.
+pub(crate) fn advance(ring: &mut Ring, count: usize)
+    requires full { length ring.old.items ≡ ring.old.capacity }
+    requires some { count ≤ length ring.old.items }
+    ensures items { ring.new.items ≡ drop count ring.old.items ++ replicate count None }
+    ensures capacity { ring.new.capacity ≡ ring.old.capacity }
+{
+    for _ in 0..count {
+        let _ = ring.pop_front();
+        let _ = ring.push_back(None);
+    }
+}
+
+/// The segment at the place.
+pub(crate) fn held_at(ring: &Ring, place: usize) -> Option<&Held>
+    requires { place < length ring.now.items }
+    ensures { MatchOption result (slice_get ring.now.items place ≡ Some None) (λ h. slice_get ring.now.items place ≡ Some (Some h.now)) }
+{
+    match ring.get(place) {
+        Some(slot) => slot.as_ref(),
+        None => None,
+    }
+}
