@@ -158,3 +158,27 @@ fn tells_help_that_is_not_taken(rt: HostRuntime) -> Result<(), Fail> {
     assert_eq!(rt; told.as_slice(), b"write failed\n".as_slice());
     Ok(())
 }
+
+/// The status of a listing where a growth may be refused, with what it wrote.
+fn listed(alloc: Global, words: &[String]) -> (u8, Vec<u8>) {
+    let mut reader = b"> 6002\n".as_slice();
+    let mut written = Vec::new(alloc);
+    let mut told = Vec::new(alloc);
+    let status = run_words(alloc, words, &mut reader, &mut written, &mut told);
+    (status, written)
+}
+
+#[test]
+fn lists_after_want_of_memory(rt: HostRuntime) -> Result<(), Fail> {
+    let words = [
+        String::from_str(rt.alloc(), "dapnsp")?,
+        String::from_str(rt.alloc(), "show")?,
+    ];
+    let (first, _written) = listed(rt.alloc(), &words);
+    assert!(rt; first == 0 || first == 3);
+    let (second, written) = listed(rt.alloc(), &words);
+    assert_eq!(rt; second, 0);
+    let want = b"1 > bad truncated at=1\n";
+    assert_eq!(rt; written.as_slice(), want.as_slice());
+    Ok(())
+}
