@@ -1,0 +1,43 @@
+-- One item more finishes a group or begins one.
+use Rattle.std.proofs.Common.{◌≡◌, ℕ, List, [], ◌∷◌, ◌++◌, refl, ap, sym, ◌∙◌}
+use Rattle.std.specs.Prelude.{Option, Some, None}
+use Rattle.std.proofs.lemmas.List.{append-nil}
+use Rattle.dap_msg.specs.Items.{Item}
+use Rattle.dap_accessed.specs.Standing.{Standing, start}
+use Rattle.dap_accessed.specs.Exchange.{Begun, begins_in}
+use Rattle.dap_accessed.specs.Groups.{Cut, scene_of, after_one, after_two, cut, stands_after, one_more, next_group, more_after, next_answers, answers_after, added, answers_in, Answers}
+use Rattle.dap_accessed.specs.Present.{present_of}
+
+pub cut-more : (own : ℕ) (s : Standing) (items : List Item) (item : Item) → cut own s (items ++ item ∷ []) ≡ one_more own (cut own s items) item
+cut-more own s [] item = refl
+cut-more own s (first ∷ []) item =
+    elim (begins_in (scene_of own s) s.place first) as (λ (b : Option Begun).
+    ◌≡◌ {A = Cut} (elim b [ None ↦ cut own (after_one own s first) (item ∷ []) | Some begun ↦ cut own (after_two own s begun item) [] ])
+    (one_more own (elim b [ None ↦ record { standing = after_one own s first; begun = None } | Some begun ↦ record { standing = s; begun = Some begun } ]) item)) [
+      | None ↦ refl
+      | Some begun ↦ refl
+    ]
+cut-more own s (first ∷ second ∷ items) item =
+    elim (begins_in (scene_of own s) s.place first) as (λ (b : Option Begun).
+    ◌≡◌ {A = Cut} (elim b [ None ↦ cut own (after_one own s first) (second ∷ (items ++ item ∷ [])) | Some begun ↦ cut own (after_two own s begun second) (items ++ item ∷ []) ])
+    (one_more own (elim b [ None ↦ cut own (after_one own s first) (second ∷ items) | Some begun ↦ cut own (after_two own s begun second) items ]) item)) [
+      | None ↦ cut-more own (after_one own s first) (second ∷ items) item
+      | Some begun ↦ cut-more own (after_two own s begun second) items item
+    ]
+
+next_answers-more : (own : ℕ) (s : Standing) (item : Item) (b : Option Begun) → answers_in (next_group own s item b).standing.past ≡ answers_in s.past ++ next_answers own s item b
+next_answers-more own s item None = refl
+next_answers-more own s item (Some begun) = sym (append-nil (answers_in s.past))
+
+answers_after-more : (own : ℕ) (s : Standing) (b : Option Begun) (item : Item) → answers_in (more_after own s b item).standing.past ≡ answers_in s.past ++ answers_after own s b item
+answers_after-more own s None item = next_answers-more own s item (begins_in (scene_of own s) s.place item)
+answers_after-more own s (Some begun) item = refl
+
+-- The answers to a list and one item more are those to the list, and those that the item adds.
+pub Answers-more : (own : ℕ) (items : List Item) (item : Item) → Answers own (items ++ item ∷ []) ≡ Answers own items ++ added own (stands_after own items) item
+Answers-more own items item =
+    let c = stands_after own items in
+    ap (λ (c : Cut). answers_in c.standing.past) (cut-more own start items item) ∙ answers_after-more own c.standing c.begun item
+
+pub present-more : (own : ℕ) (items : List Item) (item : Item) → present_of own (stands_after own (items ++ item ∷ [])) ≡ present_of own (one_more own (stands_after own items) item)
+present-more own items item = ap (present_of own) (cut-more own start items item)

@@ -1,0 +1,107 @@
+-- A fetch goes from record to record.
+use Rattle.std.proofs.Common.{◌≡◌, ℕ, ◌+◌, ◌≤◌, true, false, List, [], ◌∷◌, ◌++◌, map, refl, ap, sym, subst, ◌∙◌}
+use Rattle.std.specs.Global.{Vec}
+use Rattle.std.proofs.lemmas.List.{append-nil, map-append}
+use Rattle.std.proofs.Common.{append_assoc, arith, cond, inl, inr}
+use Rattle.std.specs.Prelude.{nat_le}
+use Rattle.std.specs.List.{filter}
+use Rattle.std.specs.FinMap.{entries}
+use Rattle.std.proofs.lemmas.Bool.{cases_lt, lt-leb, le-leb}
+use Rattle.dap_msg.specs.Message.{Message}
+use Rattle.rec_file.specs.declared.shapes.TheConstants.{MAX_NUMBER}
+use Rattle.rec_file.specs.Files.{FileVal, Records, records_from}
+use Rattle.rec_file.specs.Acts.{StreamVal}
+use Rattle.dap_accessed.specs.declared.phase.OpenFile.{OpenFile}
+use Rattle.dap_accessed.specs.Lists.{leading, from_failing, behind}
+use Rattle.dap_accessed.specs.Standing.{Scene, Effect, enters, Connected, Stopped, the_file}
+use Rattle.dap_accessed.specs.Replies.{too_large, end_of_file}
+use Rattle.dap_accessed.specs.Records.{filedata_of, fits_limit, at_number}
+use Rattle.dap_accessed.specs.Transfers.{fetch, fetch_ends}
+use Rattle.dap_accessed.specs.Written.{Answered}
+
+-- These records were given, from n on, and what is left begins at next.
+pub record GoesOn (limit : ℕ) (file : FileVal) (n next : ℕ) (answers : Vec (Vec ℕ)) : Type 0 where
+  pub given : List (ℕ × List ℕ)
+  pub leads : leading (fits_limit limit) (records_from file.records n) ≡ given ++ leading (fits_limit limit) (records_from file.records next)
+  pub fails : from_failing (fits_limit limit) (records_from file.records n) ≡ from_failing (fits_limit limit) (records_from file.records next)
+  pub stands : next ≡ behind n given
+  pub above : 1 ≤ next
+  pub within : next ≤ MAX_NUMBER + 1
+  pub answered : Answered limit (map filedata_of given) answers
+
+behind-more : (n : ℕ) (given : List (ℕ × List ℕ)) (r : ℕ × List ℕ) → behind n (given ++ r ∷ []) ≡ r.0 + 1
+behind-more n [] r = refl
+behind-more n (s ∷ given) r = behind-more (s.0 + 1) given r
+
+leading-fits : (limit : ℕ) (r : ℕ × List ℕ) (rest : List (ℕ × List ℕ)) → fits_limit limit r ≡ true → leading (fits_limit limit) (r ∷ rest) ≡ r ∷ leading (fits_limit limit) rest
+leading-fits limit r rest e = rw e refl
+
+failing-fits : (limit : ℕ) (r : ℕ × List ℕ) (rest : List (ℕ × List ℕ)) → fits_limit limit r ≡ true → from_failing (fits_limit limit) (r ∷ rest) ≡ from_failing (fits_limit limit) rest
+failing-fits limit r rest e = rw e refl
+
+leading-large : (limit : ℕ) (r : ℕ × List ℕ) (rest : List (ℕ × List ℕ)) → fits_limit limit r ≡ false → leading (fits_limit limit) (r ∷ rest) ≡ []
+leading-large limit r rest e = rw e refl
+
+failing-large : (limit : ℕ) (r : ℕ × List ℕ) (rest : List (ℕ × List ℕ)) → fits_limit limit r ≡ false → from_failing (fits_limit limit) (r ∷ rest) ≡ r ∷ rest
+failing-large limit r rest e = rw e refl
+
+pub begins : (limit : ℕ) (file : FileVal) (n : ℕ) (answers : Vec (Vec ℕ)) → 1 ≤ n → n ≤ MAX_NUMBER + 1 → Answered limit [] answers → GoesOn limit file n n answers
+begins limit file n answers above within a = record { given = []; leads = refl; fails = refl; stands = refl; above = above; within = within; answered = a }
+
+-- one record more
+pub goes_on : (limit : ℕ) (file : FileVal) (n next : ℕ) (old new : Vec (Vec ℕ)) (r : ℕ × List ℕ) (g : GoesOn limit file n next old)
+    → records_from file.records next ≡ r ∷ records_from file.records (r.0 + 1) → fits_limit limit r ≡ true → r.0 ≤ MAX_NUMBER
+    → Answered limit (map filedata_of g.given ++ filedata_of r ∷ []) new → GoesOn limit file n (r.0 + 1) new
+goes_on limit file n next old new r g some fits within a =
+    record {
+      given = g.given ++ r ∷ [];
+      leads = g.leads ∙ ap (λ l. g.given ++ leading (fits_limit limit) l) some ∙ ap (λ l. g.given ++ l) (leading-fits limit r (records_from file.records (r.0 + 1)) fits)
+          ∙ sym (append_assoc g.given (r ∷ []) (leading (fits_limit limit) (records_from file.records (r.0 + 1))));
+      fails = g.fails ∙ ap (from_failing (fits_limit limit)) some ∙ failing-fits limit r (records_from file.records (r.0 + 1)) fits;
+      stands = sym (behind-more n g.given r);
+      above = omega arith;
+      within = omega (arith, within);
+      answered = subst (λ (l : List Message). Answered limit l new) (sym (map-append filedata_of g.given (r ∷ []))) a;
+    }
+
+abbrev fetch_of : ℕ → Scene → OpenFile → StreamVal → FileVal → Effect
+fetch_of limit scene opened stream file =
+    fetch_ends scene opened stream (leading (fits_limit limit) (records_from file.records stream.next)) (from_failing (fits_limit limit) (records_from file.records stream.next))
+
+fetched : (scene : Scene) (opened : OpenFile) (stream : StreamVal) (file : FileVal) → file ≡ the_file scene.files opened → fetch scene opened stream ≡ fetch_of scene.limit scene opened stream file
+fetched scene opened stream file e = ap (fetch_of scene.limit scene opened stream) (sym e)
+
+-- the end of the file
+pub ends_there : (scene : Scene) (opened : OpenFile) (stream : StreamVal) (file : FileVal) (next : ℕ) (answers : Vec (Vec ℕ)) → file ≡ the_file scene.files opened
+    → (g : GoesOn scene.limit file stream.next next answers) → records_from file.records next ≡ []
+    → fetch scene opened stream ≡ enters scene (Connected opened (at_number next stream)) (map filedata_of g.given ++ end_of_file ∷ [])
+ends_there scene opened stream file next answers e g none =
+    fetched scene opened stream file e
+    ∙ ap (λ (rest : List (ℕ × List ℕ)). fetch_ends scene opened stream (leading (fits_limit scene.limit) (records_from file.records stream.next)) rest) (g.fails ∙ ap (from_failing (fits_limit scene.limit)) none)
+    ∙ ap (λ (given : List (ℕ × List ℕ)). fetch_ends scene opened stream given []) (g.leads ∙ ap (λ l. g.given ++ leading (fits_limit scene.limit) l) none ∙ append-nil g.given)
+    ∙ ap (λ (n : ℕ). enters scene (Connected opened (at_number n stream)) (map filedata_of g.given ++ end_of_file ∷ [])) (sym g.stands)
+
+-- a record that is too large
+pub stops_there : (scene : Scene) (opened : OpenFile) (stream : StreamVal) (file : FileVal) (next : ℕ) (answers : Vec (Vec ℕ)) (r : ℕ × List ℕ) (rest : List (ℕ × List ℕ)) → file ≡ the_file scene.files opened
+    → (g : GoesOn scene.limit file stream.next next answers) → records_from file.records next ≡ r ∷ rest → fits_limit scene.limit r ≡ false
+    → fetch scene opened stream ≡ enters scene (Stopped opened (at_number r.0 stream)) (map filedata_of g.given ++ too_large ∷ [])
+stops_there scene opened stream file next answers r rest e g some large =
+    fetched scene opened stream file e
+    ∙ ap (λ (rest : List (ℕ × List ℕ)). fetch_ends scene opened stream (leading (fits_limit scene.limit) (records_from file.records stream.next)) rest) (g.fails ∙ ap (from_failing (fits_limit scene.limit)) some ∙ failing-large scene.limit r rest large)
+    ∙ ap (λ (given : List (ℕ × List ℕ)). fetch_ends scene opened stream given (r ∷ rest)) (g.leads ∙ ap (λ l. g.given ++ leading (fits_limit scene.limit) l) some ∙ ap (λ l. g.given ++ l) (leading-large scene.limit r rest large) ∙ append-nil g.given)
+
+from_there : (n : ℕ) (es : List (ℕ × List ℕ)) (r : ℕ × List ℕ) (rest : List (ℕ × List ℕ)) → filter (λ (e : ℕ × List ℕ). nat_le n e.0) es ≡ r ∷ rest → n ≤ r.0
+from_there n [] r rest is = cc
+from_there n (e ∷ es) r rest is =
+    elim (cases_lt e.0 n) [
+      | inl low ↦ from_there n es r rest (sym (ap (λ b. cond b (e ∷ filter (λ (e : ℕ × List ℕ). nat_le n e.0) es) (filter (λ (e : ℕ × List ℕ). nat_le n e.0) es)) (lt-leb n e.0 low)) ∙ is)
+      | inr there ↦
+          let here : e ∷ filter (λ (e : ℕ × List ℕ). nat_le n e.0) es ≡ r ∷ rest =
+          sym (ap (λ b. cond b (e ∷ filter (λ (e : ℕ × List ℕ). nat_le n e.0) es) (filter (λ (e : ℕ × List ℕ). nat_le n e.0) es)) (le-leb n e.0 there)) ∙ is in
+          let same : e ≡ r = cc in
+          subst (λ (x : ℕ × List ℕ). n ≤ x.0) same there
+    ]
+
+-- a record that is due has no lower number
+pub above_next : (records : Records) (n : ℕ) (r : ℕ × List ℕ) (rest : List (ℕ × List ℕ)) → records_from records n ≡ r ∷ rest → n ≤ r.0
+above_next records n r rest is = from_there n (entries records) r rest is

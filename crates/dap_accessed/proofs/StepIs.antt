@@ -1,0 +1,203 @@
+-- One item more moves what an end keeps as `move` says, and adds the answers that it says.
+use Rattle.std.proofs.Common.{◌≡◌, ℕ, suc, Bool, true, false, List, [], ◌∷◌, ◌++◌, length, Option, Some, None, refl, ap, sym, subst, ◌∙◌, arith}
+use Rattle.std.specs.Prelude.{min, nat_lt, not, ◌==◌, filter, ◌||◌, if◌then◌else◌}
+use Rattle.std.specs.List.{list_any}
+use Rattle.dap_msg.specs.Message.{Message, Config, Attrib, Access, Control, Contran, Ack, Accomp, Filedata, Status, Other}
+use Rattle.dap_msg.specs.Items.{Item, Whole, Malformed}
+use Rattle.rec_file.specs.declared.shapes.Shape.{Shape}
+use Rattle.rec_file.specs.Acts.{StreamVal}
+use Rattle.dap_accessed.specs.declared.phase.OpenFile.{OpenFile}
+use Rattle.dap_accessed.specs.declared.phase.Phase.{Phase}
+use Rattle.dap_accessed.specs.declared.phase.Phase.TheVariants as phases
+use Rattle.dap_accessed.specs.Lists.{leading}
+use Rattle.dap_accessed.specs.Standing.{Files, Place, Group, Standing, Effect, Fresh, Ready, Opened, Connected, Store, Stopped}
+use Rattle.dap_accessed.specs.Past.{Memory, looked_back, shape_of, kept_attributes, is_dropping, ordinal_so_far, this_store, is_skip, is_filedata, was_refused, greatest_ordinal, next_ordinal}
+use Rattle.dap_accessed.specs.Records.{Change, Putting, Updating}
+use Rattle.dap_accessed.specs.Exchange.{Begun, begins_in, effect_of, effect_with}
+use Rattle.dap_accessed.specs.Groups.{Cut, over, scene_of, next_group, next_answers, one_more, added, stands_after}
+use Rattle.dap_accessed.specs.Present.{Present, present_of, phase_at, store_phase, StandsAfter}
+use Rattle.dap_accessed.specs.Moves.{Move, move, move_in, between, turns, settles, remembers, plain_memory, store_memory, scene_in, drops_next, ordinal_next}
+use Rattle.dap_accessed.proofs.Cuts.{present-more}
+
+-- ---- What counts of the past after a group.
+
+module _ (past : List Group) where
+  abbrev group_of : Place → Item → List Message → Group
+  group_of place item answers = record { place = place; first = item; answers = answers }
+
+  shape-kept : (place : Place) (item : Item) (answers : List Message) → shape_of (kept_attributes (group_of place item answers ∷ past)) ≡ (remembers (looked_back place past) place item answers).shape
+  shape-kept Fresh item answers = refl
+  shape-kept (Opened o) item answers = refl
+  shape-kept (Connected o s) item answers = refl
+  shape-kept (Store o s) item answers = refl
+  shape-kept (Stopped o s) item answers = refl
+  shape-kept Ready (Malformed fault) answers = refl
+  shape-kept Ready (Whole (Config c)) answers = refl
+  shape-kept Ready (Whole (Attrib a)) answers = refl
+  shape-kept Ready (Whole (Access a)) answers = refl
+  shape-kept Ready (Whole (Control c)) answers = refl
+  shape-kept Ready (Whole (Contran f)) answers = refl
+  shape-kept Ready (Whole Ack) answers = refl
+  shape-kept Ready (Whole (Accomp c)) answers = refl
+  shape-kept Ready (Whole (Filedata r b)) answers = refl
+  shape-kept Ready (Whole (Status s)) answers = refl
+  shape-kept Ready (Whole (Other n b)) answers = refl
+
+  or-false : (b : Bool) → (b || false) ≡ b
+  or-false true = refl
+  or-false false = refl
+
+  or-true : (b : Bool) → (b || true) ≡ true
+  or-true true = refl
+  or-true false = refl
+
+  module _ (o : OpenFile) (s : StreamVal) where
+    -- a Continue Transfer drops nothing more where it takes up the Store
+    skips : (skip d : Bool) (group : Group) (store : List Group) → list_any was_refused store ≡ d → was_refused group ≡ false → list_any was_refused (if not skip then group ∷ store else []) ≡ (if d then not skip else false)
+    skips true true group store e r = refl
+    skips true false group store e r = refl
+    skips false true group store e r = ap (λ b. b || list_any was_refused store) r ∙ e
+    skips false false group store e r = ap (λ b. b || list_any was_refused store) r ∙ e
+
+    store-drops : (d : Bool) → is_dropping past ≡ d → (item : Item) (answers : List Message) → is_dropping (group_of (Store o s) item answers ∷ past) ≡ drops_next d item answers
+    store-drops false e (Whole (Filedata r b)) answers = ap (λ x. nat_lt 0 (length answers) || x) e ∙ or-false (nat_lt 0 (length answers))
+    store-drops true e (Whole (Filedata r b)) answers = ap (λ x. nat_lt 0 (length answers) || x) e ∙ or-true (nat_lt 0 (length answers))
+    store-drops false e (Whole (Contran func)) answers = skips (func == 2) false (group_of (Store o s) (Whole (Contran func)) answers) (leading (λ group. not (is_skip group.first)) (this_store past)) e refl
+    store-drops true e (Whole (Contran func)) answers = skips (func == 2) true (group_of (Store o s) (Whole (Contran func)) answers) (leading (λ group. not (is_skip group.first)) (this_store past)) e refl
+    store-drops false e (Malformed fault) answers = e
+    store-drops true e (Malformed fault) answers = e
+    store-drops false e (Whole message) answers = e
+    store-drops true e (Whole message) answers = e
+
+    counted : (n : ℕ) → min (suc n) greatest_ordinal ≡ next_ordinal (min n greatest_ordinal)
+    counted n = omega arith
+
+    store-counts : (item : Item) (answers : List Message) → ordinal_so_far (group_of (Store o s) item answers ∷ past) ≡ ordinal_next (ordinal_so_far past) item
+    store-counts (Whole (Filedata r b)) answers = counted (length (filter (λ group. is_filedata group.first) (this_store past)))
+    store-counts (Malformed fault) answers = refl
+    store-counts (Whole message) answers = refl
+
+  -- the phase that is entered in a Store
+  store-entered : (place : Place) (item : Item) (answers : List Message) (o : OpenFile) (s : StreamVal) →
+      phase_at (Store o s) (looked_back (Store o s) (group_of place item answers ∷ past)) ≡ phase_at (Store o s) (remembers (looked_back place past) place item answers)
+  store-entered Fresh item answers o s = refl
+  store-entered Ready item answers o s = refl
+  store-entered (Opened p) item answers o s = refl
+  store-entered (Connected p t) item answers o s = refl
+  store-entered (Stopped p t) item answers o s = refl
+  store-entered (Store p t) item answers o s =
+      ap (λ d. store_phase d o s (ordinal_so_far (group_of (Store p t) item answers ∷ past))) (store-drops p t (is_dropping past) refl item answers)
+      ∙ ap (λ n. store_phase (drops_next (is_dropping past) item answers) o s n) (store-counts p t item answers)
+
+  entered : (q place : Place) (item : Item) (answers : List Message) →
+      phase_at q (looked_back q (group_of place item answers ∷ past)) ≡ phase_at q (remembers (looked_back place past) place item answers)
+  entered Fresh place item answers = refl
+  entered Ready place item answers = refl
+  entered (Opened o) place item answers = refl
+  entered (Connected o s) place item answers = refl
+  entered (Stopped o s) place item answers = refl
+  entered (Store o s) place item answers = store-entered place item answers o s
+
+-- ---- Moves.
+
+module _ (own : ℕ) (files : Files) (limit : ℕ) (past : List Group) where
+  abbrev at : Place → Standing
+  at place = record { files = files; limit = limit; place = place; past = past }
+
+  abbrev kept_at : Place → Present
+  kept_at place = present_of own (record { standing = at place; begun = None })
+
+  -- after a group in a place that began with this item and had this effect
+  after-group : (p : Present) (s : Standing) (place : Place) (item : Item) (e : Effect) → p.own ≡ own → s.past ≡ past →
+      present_of own (record { standing = over s place item e; begun = None }) ≡ (settles p (remembers (looked_back place past) place item e.answers) e).present
+  after-group p s place item e o h = rw (o, h)
+      (ap (λ (k : Option Shape). let q : Present = record { own = own; limit = e.limit; files = e.files; kept = k; phase = phase_at e.place (looked_back e.place (group_of past place item e.answers ∷ past)) } in q) (shape-kept past place item e.answers)
+      ∙ ap (λ (f : Phase). let q : Present = record { own = own; limit = e.limit; files = e.files; kept = (remembers (looked_back place past) place item e.answers).shape; phase = f } in q) (entered past e.place place item e.answers))
+
+  -- what an end keeps, and the answers, are those of the move
+  pub record Agrees (step : Move) (present : Present) (answers : List Message) : Type 0 where
+    pub same_present : present ≡ step.present
+    pub same_answers : answers ≡ step.answers
+
+  turned : (place : Place) (item : Item) (b : Option Begun) →
+      Agrees (turns b (kept_at place) (looked_back place past) place item (effect_of (scene_of own (at place)) (looked_back place past) place item))
+      (present_of own (next_group own (at place) item b)) (next_answers own (at place) item b)
+  turned place item None =
+      record { same_present = after-group (kept_at place) (at place) place item (effect_of (scene_of own (at place)) (looked_back place past) place item) refl refl; same_answers = refl }
+  turned place item (Some begun) = record { same_present = refl; same_answers = refl }
+
+  abbrev Follows : Place → Item → Move → Type 0
+  Follows place item step =
+      Agrees step (present_of own (next_group own (at place) item (begins_in (scene_of own (at place)) place item))) (next_answers own (at place) item (begins_in (scene_of own (at place)) place item))
+
+  follows : (place : Place) (item : Item) → Follows place item (between (kept_at place) (looked_back place past) place item)
+  follows place item = turned place item (begins_in (scene_of own (at place)) place item)
+
+  store-moves : (d : Bool) (o : OpenFile) (s : StreamVal) (n : ℕ) (p : Present) (item : Item) → move_in (store_phase d o s n) p item ≡ between p (store_memory p.kept d n) (Store o s) item
+  store-moves true o s n p item = refl
+  store-moves false o s n p item = refl
+
+  pub one-follows : (place : Place) (item : Item) → Follows place item (move (kept_at place) item)
+  one-follows Fresh item = follows Fresh item
+  one-follows Ready item = follows Ready item
+  one-follows (Opened o) item = follows (Opened o) item
+  one-follows (Connected o s) item = follows (Connected o s) item
+  one-follows (Stopped o s) item = follows (Stopped o s) item
+  one-follows (Store o s) item =
+      subst (Follows (Store o s) item) (sym (store-moves (is_dropping past) o s (ordinal_so_far past) (kept_at (Store o s)) item)) (follows (Store o s) item)
+
+  pub two-follows : (place : Place) (o : OpenFile) (s : StreamVal) (change : Change) (first item : Item) →
+      let begun : Begun = record { first = first; opened = o; stream = s; change = change } in
+      let c : Cut = record { standing = at place; begun = Some begun } in
+      Agrees (move (present_of own c) item) (present_of own (one_more own c item)) (added own c item)
+  two-follows place o s (Putting key) first item =
+      record {
+        same_present = after-group (record { own = own; limit = limit; files = files; kept = shape_of (kept_attributes past); phase = phases.PutDue o s key }) (at place) (Connected o s) first (effect_with (Putting key) (scene_of own (at place)) o s item) refl refl;
+        same_answers = refl;
+      }
+  two-follows place o s Updating first item =
+      record {
+        same_present = after-group (record { own = own; limit = limit; files = files; kept = shape_of (kept_attributes past); phase = phases.UpdateDue o s }) (at place) (Connected o s) first (effect_with Updating (scene_of own (at place)) o s item) refl refl;
+        same_answers = refl;
+      }
+
+pub step-is : (own : ℕ) (s : Standing) (begun : Option Begun) (item : Item) →
+    let c : Cut = record { standing = s; begun = begun } in
+    Agrees own s.files s.limit s.past (move (present_of own c) item) (present_of own (one_more own c item)) (added own c item)
+step-is own s None item = one-follows own s.files s.limit s.past s.place item
+step-is own s (Some b) item = two-follows own s.files s.limit s.past s.place b.opened b.stream b.change b.first item
+
+-- the move of an end that stands as after some items
+pub present-moves : (own : ℕ) (items : List Item) (item : Item) → present_of own (stands_after own (items ++ item ∷ [])) ≡ (move (present_of own (stands_after own items)) item).present
+present-moves own items item = let c = stands_after own items in present-more own items item ∙ (step-is own c.standing c.begun item).same_present
+
+pub answers-move : (own : ℕ) (items : List Item) (item : Item) → added own (stands_after own items) item ≡ (move (present_of own (stands_after own items)) item).answers
+answers-move own items item = let c = stands_after own items in (step-is own c.standing c.begun item).same_answers
+
+-- an end's own BUFSIZ stays
+turns-own : (b : Option Begun) (p : Present) (memory : Memory) (place : Place) (item : Item) (e : Effect) → (turns b p memory place item e).present.own ≡ p.own
+turns-own None p memory place item e = refl
+turns-own (Some begun) p memory place item e = refl
+
+moves-own : (phase : Phase) (p : Present) (item : Item) → (move_in phase p item).present.own ≡ p.own
+moves-own phases.Fresh p item = refl
+moves-own phases.Ready p item = refl
+moves-own (phases.Opened o) p item = refl
+moves-own (phases.Connected o s) p item = turns-own (begins_in (scene_in p) (Connected o s) item) p (plain_memory p.kept) (Connected o s) item (effect_of (scene_in p) (plain_memory p.kept) (Connected o s) item)
+moves-own (phases.PutDue o s key) p item = refl
+moves-own (phases.UpdateDue o s) p item = refl
+moves-own (phases.Storing o s n) p item = refl
+moves-own (phases.Dropping o s n) p item = refl
+moves-own (phases.Stopped o s) p item = refl
+
+pub same-own : (p : Present) (item : Item) → (move p item).present.own ≡ p.own
+same-own p item = moves-own p.phase p item
+
+-- an end that stood as after some items stands as after these and one more
+pub stands-more : (old new : Present) (item : Item) → new ≡ (move old item).present → (items : List Item) → StandsAfter items old → StandsAfter (items ++ item ∷ []) new
+stands-more old new item e items h =
+    let own : new.own ≡ old.own = ap (λ (p : Present). p.own) e ∙ same-own old item in
+    e ∙ ap (λ (p : Present). (move p item).present) h ∙ sym (present-moves old.own items item) ∙ ap (λ (n : ℕ). present_of n (stands_after n (items ++ item ∷ []))) (sym own)
+
+pub answers-are : (old : Present) (item : Item) (items : List Item) → StandsAfter items old → (move old item).answers ≡ added old.own (stands_after old.own items) item
+answers-are old item items h = ap (λ (p : Present). (move p item).answers) h ∙ sym (answers-move old.own items item)

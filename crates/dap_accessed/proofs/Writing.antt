@@ -1,0 +1,75 @@
+-- What is written of answers: each fits, and is no longer than the limit; one more keeps to the limit.
+use Rattle.std.proofs.Common.{◌≡◌, ℕ, ◌^◌, ◌<◌, ◌≤◌, List, [], ◌∷◌, ◌++◌, length, Result, Ok, Err, arith, lit<, ap, sym, subst, ◌∙◌}
+use Rattle.std.specs.Global.{Vec}
+use Rattle.std.specs.Vec.{vec_capacity}
+use Rattle.dap_msg.specs.declared.fault.MsgFault.{MsgFault}
+use Rattle.dap_msg.specs.Message.{Message}
+use Rattle.dap_msg.specs.Canon.{canon}
+use Rattle.dap_msg.specs.Written.{Appends}
+use Rattle.dap_msg.specs.Exchange.{short_answer}
+use Rattle.dap_msg.specs.Blocked.{bodies, one_more}
+use Rattle.dap_msg.specs.BlockedLaws.{Blocked-more}
+use Rattle.std.proofs.Common.{inl, inr}
+use Rattle.std.proofs.lemmas.Bool.{cases_lt, lt-leb, le-leb}
+use Rattle.std.proofs.lemmas.List.{append-nil}
+use Rattle.rec_file.specs.declared.shapes.Org.{Org}
+use Rattle.rec_file.specs.declared.shapes.Org.TheVariants.{Seq, Rel}
+use Rattle.rec_file.specs.declared.shapes.Format.{Format}
+use Rattle.rec_file.specs.declared.shapes.Format.TheVariants.{Fixed, Variable}
+use Rattle.dap_accessed.specs.Replies.{org_number, format_number}
+use Rattle.dap_accessed.specs.declared.answers.Answer.{Answer}
+use Rattle.dap_accessed.specs.declared.answers.Answer.TheVariants as answer
+use Rattle.dap_accessed.specs.Written.{IsShort, FitsIn, AllAtMost, Answered}
+
+pub org_small : (org : Org) → org_number org < 2 ^ 8
+org_small Seq = lit< tt
+org_small Rel = lit< tt
+
+pub format_small : (format : Format) → format_number format < 2 ^ 8
+format_small Fixed = lit< tt
+format_small Variable = lit< tt
+
+-- where there is room, the bytes are written
+pub filled : (bytes : List ℕ) (old new : Vec ℕ) (r : Result (Unit {0}) MsgFault) → Appends bytes old new r → old.items ≡ [] → 64 ≤ vec_capacity old → length bytes ≤ 64 → new.items ≡ bytes
+filled bytes old new (Ok u) a e c l = a ∙ ap (λ (x : List ℕ). x ++ bytes) e
+filled bytes old new (Err f) a e c l =
+    let none : length old.items ≡ 0 = ap length e in
+    absurd (omega (arith, a.2, old.ok.0, none))
+
+-- ---- One message, and one more.
+
+pub answered_one : (limit : ℕ) (m : Message) (answers : Vec (Vec ℕ)) → length (canon m) ≤ limit → bodies answers.items ≡ canon m ∷ [] → Answered limit (m ∷ []) answers
+answered_one limit m answers h e =
+    record {
+      bytes = e ∙ ap (λ l. l ∷ []) (sym (append-nil (canon m)));
+      within = subst (AllAtMost limit) (sym e) (h, tt);
+    }
+
+at_most_more : (limit : ℕ) (list : List (List ℕ)) (m : List ℕ) → AllAtMost limit list → length m ≤ limit → AllAtMost limit (one_more limit list m)
+unfolding one_more
+at_most_more limit [] m all h = (h, tt)
+at_most_more limit (last ∷ []) m all h =
+    elim (cases_lt limit (length (last ++ m))) [
+      | inl lt ↦ rw (lt-leb (length (last ++ m)) limit lt) (all.0, (h, tt))
+      | inr le ↦ rw (le-leb (length (last ++ m)) limit le) (le, tt)
+    ]
+at_most_more limit (first ∷ next ∷ more) m all h = (all.0, at_most_more limit (next ∷ more) m all.1 h)
+
+pub answered_more : (limit : ℕ) (messages : List Message) (m : Message) (old new : Vec (Vec ℕ)) → length (canon m) ≤ limit → Answered limit messages old
+    → bodies new.items ≡ one_more limit (bodies old.items) (canon m) → Answered limit (messages ++ m ∷ []) new
+answered_more limit messages m old new h before e =
+    record {
+      bytes = e ∙ ap (λ l. one_more limit l (canon m)) before.bytes ∙ sym (Blocked-more limit messages m);
+      within = subst (AllAtMost limit) (sym e) (at_most_more limit (bodies old.items) (canon m) before.within h);
+    }
+
+pub fits_short : (limit : ℕ) (a : Answer) → IsShort a → short_answer ≤ limit → FitsIn limit a
+fits_short limit (answer.Config bufsiz) s h = h
+fits_short limit (answer.Attributes shape) s h = h
+fits_short limit answer.Ack s h = h
+fits_short limit answer.Complete s h = h
+fits_short limit (answer.Status code) s h = h
+fits_short limit (answer.Reason code reason) s h = h
+fits_short limit (answer.StoreRefusal reason ordinal) s h = h
+fits_short limit (answer.Done number) s h = h
+fits_short limit (answer.Record number body) s h = absurd s

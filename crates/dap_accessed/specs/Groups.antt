@@ -1,0 +1,91 @@
+-- The list of items that were served is cut from its front into groups: one item, save that a PUT or an UPDATE in
+-- Connected has the item after it in its group.
+use Rattle.std.specs.Prelude.{ℕ, List, [], ◌∷◌, ◌++◌, Option, Some, None}
+use Rattle.dap_msg.specs.Message.{Message}
+use Rattle.dap_msg.specs.Items.{Item}
+use Rattle.dap_accessed.specs.Standing.{Files, Place, Connected, Group, Standing, Scene, Effect, start}
+use Rattle.dap_accessed.specs.Past.{looked_back}
+use Rattle.dap_accessed.specs.Exchange.{Begun, begins_in, effect_of, effect_with}
+
+-- what a group finds that is served now
+abbrev pub scene_of : ℕ → Standing → Scene
+scene_of own s = record { own = own; limit = s.limit; files = s.files }
+
+-- the standing after a group
+abbrev pub over : Standing → Place → Item → Effect → Standing
+over s place first effect =
+    record {
+      files = effect.files;
+      limit = effect.limit;
+      place = effect.place;
+      past = record { place = place; first = first; answers = effect.answers } ∷ s.past;
+    }
+
+abbrev pub after_one : ℕ → Standing → Item → Standing
+after_one own s item = over s s.place item (effect_of (scene_of own s) (looked_back s.place s.past) s.place item)
+
+abbrev pub after_two : ℕ → Standing → Begun → Item → Standing
+after_two own s begun second =
+    over s (Connected begun.opened begun.stream) begun.first
+    (effect_with begun.change (scene_of own s) begun.opened begun.stream second)
+
+-- Where items leave an end: the standing after the whole groups, and the beginning of one that is not whole.
+pub record Cut : Type 0 where
+  pub standing : Standing
+  pub begun : Option Begun
+
+abbrev pub cut : ℕ → Standing → List Item → Cut
+cut own s [] = record { standing = s; begun = None }
+cut own s (item ∷ []) =
+    elim (begins_in (scene_of own s) s.place item) [
+      | None ↦ record { standing = after_one own s item; begun = None }
+      | Some begun ↦ record { standing = s; begun = Some begun }
+    ]
+cut own s (item ∷ second ∷ items) =
+    elim (begins_in (scene_of own s) s.place item) [
+      | None ↦ cut own (after_one own s item) (second ∷ items)
+      | Some begun ↦ cut own (after_two own s begun second) items
+    ]
+
+-- the answers of the groups, the oldest first
+abbrev pub answers_in : List Group → List Message
+answers_in [] = []
+answers_in (group ∷ past) = answers_in past ++ group.answers
+
+-- where an end with this BUFSIZ stands after these items
+abbrev pub stands_after : ℕ → List Item → Cut
+stands_after own items = cut own start items
+
+-- the file table after the operations of all groups
+abbrev pub After : ℕ → List Item → Files
+After own items = (stands_after own items).standing.files
+
+-- the answers of all groups, in order
+abbrev pub Answers : ℕ → List Item → List Message
+Answers own items = answers_in (stands_after own items).standing.past
+
+-- ---- One item more finishes the group that was begun, or is a group, or begins one.
+
+abbrev pub next_group : ℕ → Standing → Item → Option Begun → Cut
+next_group own s item None = record { standing = after_one own s item; begun = None }
+next_group own s item (Some begun) = record { standing = s; begun = Some begun }
+
+abbrev pub more_after : ℕ → Standing → Option Begun → Item → Cut
+more_after own s None item = next_group own s item (begins_in (scene_of own s) s.place item)
+more_after own s (Some begun) item = record { standing = after_two own s begun item; begun = None }
+
+abbrev pub one_more : ℕ → Cut → Item → Cut
+one_more own c item = more_after own c.standing c.begun item
+
+abbrev pub next_answers : ℕ → Standing → Item → Option Begun → List Message
+next_answers own s item None = (effect_of (scene_of own s) (looked_back s.place s.past) s.place item).answers
+next_answers own s item (Some begun) = []
+
+abbrev pub answers_after : ℕ → Standing → Option Begun → Item → List Message
+answers_after own s None item = next_answers own s item (begins_in (scene_of own s) s.place item)
+answers_after own s (Some begun) item =
+    (effect_with begun.change (scene_of own s) begun.opened begun.stream item).answers
+
+-- the answers that one item more adds
+abbrev pub added : ℕ → Cut → Item → List Message
+added own c item = answers_after own c.standing c.begun item

@@ -1,0 +1,13 @@
+pub mod Lists
+pub mod Standing
+pub mod Replies
+pub mod Past
+pub mod Accesses
+pub mod Records
+pub mod Transfers
+pub mod Exchange
+pub mod Groups
+pub mod Present
+pub mod Written
+pub mod Moves
+pub mod Served

@@ -1,0 +1,118 @@
+-- What is looked back for in the groups so far, the newest first.
+use Rattle.std.specs.Prelude.{ℕ, ◌+◌, Bool, true, false, not, ◌&&◌, nat_lt, ◌==◌, min, List, [], length, filter, filter_map, slice_get, Option, Some, None, unwrap_or}
+use Rattle.std.specs.List.{list_any}
+use Rattle.dap_msg.specs.Message.{Attrib, Access, Contran, Filedata, Attributes}
+use Rattle.dap_msg.specs.Items.{Item, Whole}
+use Rattle.rec_file.specs.declared.shapes.Shape.{Shape}
+use Rattle.rec_file.specs.Shapes.{checked_shape}
+use Rattle.rec_file.specs.Keys.{little_endian}
+use Rattle.dap_accessed.specs.Lists.{leading}
+use Rattle.dap_accessed.specs.Standing.{Place, Ready, Store, Group}
+
+abbrev pub is_ready : Place → Bool
+is_ready Ready = true
+is_ready _ = false
+
+abbrev pub is_store : Place → Bool
+is_store (Store _ _) = true
+is_store _ = false
+
+abbrev pub is_access : Item → Bool
+is_access (Whole (Access _)) = true
+is_access _ = false
+
+abbrev pub attributes_in : Item → Option Attributes
+attributes_in (Whole (Attrib attributes)) = Some attributes
+attributes_in _ = None
+
+abbrev pub is_filedata : Item → Bool
+is_filedata (Whole (Filedata _ _)) = true
+is_filedata _ = false
+
+-- a Continue Transfer that takes up the Store again
+abbrev pub is_skip : Item → Bool
+is_skip (Whole (Contran func)) = func == 2
+is_skip _ = false
+
+-- ---- Attributes.
+
+-- attributes with no field
+abbrev pub no_attributes : Attributes
+no_attributes = record {
+  datatype = None;
+  org = None;
+  rfm = None;
+  rat = None;
+  bls = None;
+  mrs = None;
+  alq = None;
+  bks = None;
+  fsz = None;
+  mrn = None;
+  runsys = None;
+  deq = None;
+  fop = None;
+  bsz = None;
+  dev = None;
+  sdc = None;
+  lrl = None;
+  hbk = None;
+  ebk = None;
+  ffb = None;
+  sbn = None;
+}
+
+-- the groups in Ready since the Access before
+abbrev pub since_access : List Group → List Group
+since_access past = leading (λ group. not (is_access group.first)) (filter (λ group. is_ready group.place) past)
+
+-- the attributes of an Access: those of the last Attributes message in Ready since the Access before
+abbrev pub kept_attributes : List Group → Attributes
+kept_attributes past =
+    unwrap_or (slice_get (filter_map (λ group. attributes_in group.first) (since_access past)) 0) no_attributes
+
+-- the shape that attributes ask for, if a file may have it; a field that is missing has the value given here
+abbrev pub shape_of : Attributes → Option Shape
+shape_of a = checked_shape (unwrap_or a.org 0) (unwrap_or a.rfm 2) (unwrap_or a.mrs 0) (little_endian (unwrap_or a.mrn []))
+
+-- ---- A Store.
+
+-- the groups of this Store, since its PUT
+abbrev pub this_store : List Group → List Group
+this_store past = leading (λ group. is_store group.place) past
+
+abbrev pub greatest_ordinal : ℕ
+greatest_ordinal = 4294967295
+
+-- the number of the Filedata in this Store
+abbrev pub ordinal_so_far : List Group → ℕ
+ordinal_so_far past = min (length (filter (λ group. is_filedata group.first) (this_store past))) greatest_ordinal
+
+-- the ordinal of the next Filedata
+abbrev pub next_ordinal : ℕ → ℕ
+next_ordinal n = min (n + 1) greatest_ordinal
+
+-- a Filedata with an answer is one that was refused
+abbrev pub was_refused : Group → Bool
+was_refused group = is_filedata group.first && nat_lt 0 (length group.answers)
+
+-- A Filedata of this Store was refused, and the Store wasn't taken up again since.
+abbrev pub is_dropping : List Group → Bool
+is_dropping past = list_any was_refused (leading (λ group. not (is_skip group.first)) (this_store past))
+
+-- ---- Together.
+
+-- what counts of the past: the shape that an Access would give a new file, and in a Store whether it drops what
+-- comes, and its ordinal
+pub record Memory : Type 0 where
+  pub shape : Option Shape
+  pub dropping : Bool
+  pub ordinal : ℕ
+
+abbrev pub of_store : Bool → List Group → Memory
+of_store true past =
+    record { shape = shape_of (kept_attributes past); dropping = is_dropping past; ordinal = ordinal_so_far past }
+of_store false past = record { shape = shape_of (kept_attributes past); dropping = false; ordinal = 0 }
+
+abbrev pub looked_back : Place → List Group → Memory
+looked_back place past = of_store (is_store place) past

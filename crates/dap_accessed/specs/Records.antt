@@ -1,0 +1,139 @@
+-- Operations on records (DAP 5.6.0, Control message).
+use Rattle.std.specs.Prelude.{ℕ, Bool, true, false, not, ◌&&◌, ◌||◌, nat_lt, nat_le, ◌==◌, if◌then◌else◌, List, [], ◌∷◌, length, Option, Some, None, is_err, unwrap_or, Result, Ok, Err}
+use Rattle.std.specs.FinMap as map
+use Rattle.dap_msg.specs.Message.{Message, ControlFields}
+use Rattle.dap_msg.specs.Canon.{file_data_size}
+use Rattle.dap_msg.specs.Exchange.{record_of}
+use Rattle.rec_file.specs.declared.picks.Rights.{Rights}
+use Rattle.rec_file.specs.declared.picks.Pick.{Pick}
+use Rattle.rec_file.specs.declared.picks.Pick.TheVariants.{Next, Key, Rfa}
+use Rattle.rec_file.specs.declared.refusals.Refusal.{Refusal}
+use Rattle.rec_file.specs.declared.refusals.Refusal.TheVariants.{NotPermitted, BadAccessMode, BadKey}
+use Rattle.rec_file.specs.Shapes.{is_seq}
+use Rattle.rec_file.specs.Keys.{number_of_key}
+use Rattle.rec_file.specs.Files.{FileVal}
+use Rattle.rec_file.specs.Acts.{StreamVal, get_record, put_record, update_record, first_refusal, Outcome, act}
+use Rattle.dap_accessed.specs.declared.phase.OpenFile.{OpenFile}
+use Rattle.dap_accessed.specs.declared.verbs.Verb.{Verb}
+use Rattle.dap_accessed.specs.declared.verbs.Verb.TheVariants as verbs
+use Rattle.dap_accessed.specs.Standing.{with_file, the_file, Connected, Scene, Effect, enters, leaves}
+use Rattle.dap_accessed.specs.Replies.{refusal_status, record_status, too_large}
+
+-- the stream with no current record
+abbrev pub uncurrent : StreamVal → StreamVal
+uncurrent stream = record stream { current = None }
+
+-- the stream at another number, with no current record
+abbrev pub at_number : ℕ → StreamVal → StreamVal
+at_number n stream = record stream { next = n; current = None }
+
+abbrev pub new_stream : Rights → StreamVal
+new_stream rights = record { rights = rights; next = 1; current = None }
+
+-- RAC missing is 0
+abbrev pub rac_of : ControlFields → ℕ
+rac_of control = unwrap_or control.rac 0
+
+-- what a Control asks for: with RAC 3 a GET or a PUT is for a whole file
+abbrev pub verb_of : ControlFields → Verb
+verb_of control =
+    if control.func == 1 then (if rac_of control == 3 then verbs.Fetch else verbs.Get)
+    else if control.func == 2 then verbs.Connect
+    else if control.func == 3 then verbs.Update
+    else if control.func == 4 then (if rac_of control == 3 then verbs.Store else verbs.Put)
+    else if control.func == 5 then verbs.Delete
+    else if control.func == 6 then verbs.Rewind else verbs.Unknown
+
+-- KEY missing is empty
+abbrev pub key_of : ControlFields → Result ℕ Refusal
+key_of control = number_of_key (unwrap_or control.key [])
+
+abbrev pub number_in : Result ℕ Refusal → ℕ
+number_in (Ok n) = n
+number_in (Err _) = 0
+
+abbrev pub or_refusal : {X : Type 0} → Option Refusal → X → Result X Refusal
+or_refusal None x = Ok x
+or_refusal (Some refusal) x = Err refusal
+
+-- ---- GET.
+
+abbrev pub pick_of : ControlFields → Pick
+pick_of control =
+    if rac_of control == 0 then Next
+    else if rac_of control == 1 then Key (number_in (key_of control)) else Rfa (number_in (key_of control))
+
+-- what is refused of a GET before its key is a number
+abbrev pub get_refusals_before : FileVal → StreamVal → ControlFields → List (Bool × Refusal)
+get_refusals_before file stream control =
+    (not stream.rights.get, NotPermitted)
+    ∷ (nat_lt 2 (rac_of control) || (rac_of control == 1 && is_seq file.shape.org), BadAccessMode)
+    ∷ (not (rac_of control == 0) && is_err (key_of control), BadKey) ∷ []
+
+-- the record that a GET is for, or why it is refused
+abbrev pub get_pick : FileVal → StreamVal → ControlFields → Result Pick Refusal
+get_pick file stream control = or_refusal (first_refusal (get_refusals_before file stream control)) (pick_of control)
+
+-- a refusal leaves the files and where the stream is, and no current record
+abbrev pub refused : Scene → OpenFile → StreamVal → Refusal → Effect
+refused scene opened stream refusal =
+    enters scene (Connected opened (uncurrent stream)) (refusal_status refusal [] ∷ [])
+
+abbrev pub filedata_of : ℕ × List ℕ → Message
+filedata_of r = record_of r.0 r.1
+
+-- whether a record's Filedata, with its number in 4 bytes, is within the limit
+abbrev pub fits_limit : ℕ → ℕ × List ℕ → Bool
+fits_limit limit r = nat_le (file_data_size 4 (length r.1)) limit
+
+-- a record that was found, if its Filedata is within the limit; else the GET is refused
+abbrev pub found : (fits : Bool) → Scene → OpenFile → (before after : StreamVal) → ℕ × List ℕ → Effect
+found true scene opened before after r = enters scene (Connected opened after) (filedata_of r ∷ [])
+found false scene opened before after r = enters scene (Connected opened (uncurrent before)) (too_large ∷ [])
+
+-- with the reply of the operation
+abbrev pub got : Result ℕ Refusal → Scene → OpenFile → (before after : StreamVal) → Effect
+got (Err refusal) scene opened before after = refused scene opened before refusal
+got (Ok n) scene opened before after =
+    let r : ℕ × List ℕ = (n, unwrap_or (map.get (the_file scene.files opened).records n) []) in
+    found (fits_limit scene.limit r) scene opened before after r
+
+abbrev pub record_got : Result Pick Refusal → Scene → OpenFile → StreamVal → Effect
+record_got (Err refusal) scene opened stream = refused scene opened stream refusal
+record_got (Ok pick) scene opened stream =
+    let outcome = act (get_record pick) (the_file scene.files opened) stream in
+    got outcome.reply scene opened stream outcome.stream
+
+-- ---- PUT, UPDATE and DELETE.
+
+-- what is refused of a PUT before its key is a number
+abbrev pub put_refusals_before : FileVal → StreamVal → ControlFields → List (Bool × Refusal)
+put_refusals_before file stream control =
+    (not stream.rights.put, NotPermitted)
+    ∷ (nat_lt 1 (rac_of control) || (rac_of control == 1 && is_seq file.shape.org), BadAccessMode)
+    ∷ (rac_of control == 1 && is_err (key_of control), BadKey) ∷ []
+
+-- the key of a PUT, if it has one, or why it is refused
+abbrev pub put_key : FileVal → StreamVal → ControlFields → Result (Option ℕ) Refusal
+put_key file stream control =
+    or_refusal (first_refusal (put_refusals_before file stream control))
+    (if rac_of control == 1 then Some (number_in (key_of control)) else None)
+
+-- an operation that may change the file, and its Status
+abbrev pub settled : Scene → OpenFile → Outcome → Effect
+settled scene opened outcome =
+    leaves scene (with_file opened.at outcome.file scene.files) (Connected opened outcome.stream)
+    (record_status outcome.reply ∷ [])
+
+-- What a Control begins that has the item after it in its group.
+pub data Change : Type 0 where
+  Putting : (key : Result (Option ℕ) Refusal) → Change
+  Updating : Change
+
+-- the PUT or the UPDATE, with the record's bytes
+abbrev pub changed : Change → Scene → OpenFile → StreamVal → List ℕ → Effect
+changed (Putting (Err refusal)) scene opened stream body = refused scene opened stream refusal
+changed (Putting (Ok key)) scene opened stream body =
+    settled scene opened (act (put_record key body) (the_file scene.files opened) stream)
+changed Updating scene opened stream body =
+    settled scene opened (act (update_record body) (the_file scene.files opened) stream)

@@ -1,0 +1,106 @@
+-- Where the accessed end stands between two groups of messages.
+use Rattle.std.specs.Prelude.{ℕ, zero, suc, List, [], ◌∷◌, Option, bytes_eq}
+use Rattle.std.specs.List.{position, remove}
+use Rattle.std.specs.FinMap as map
+use Rattle.std.specs.Coded.{Coded, coded×, coded_ℕ, coded_list}
+use Rattle.dap_msg.specs.Message.{Message}
+use Rattle.dap_msg.specs.Items.{Item}
+use Rattle.rec_file.specs.declared.shapes.Shape.{Shape}
+use Rattle.rec_file.specs.declared.shapes.Org.TheVariants.{Seq}
+use Rattle.rec_file.specs.declared.shapes.Format.TheVariants.{Variable}
+use Rattle.rec_file.specs.Files.{FileVal, file_code}
+use Rattle.rec_file.specs.Acts.{StreamVal}
+use Rattle.dap_accessed.specs.declared.phase.OpenFile.{OpenFile}
+
+-- the files, each with its name, in the order in which they were made
+abbrev pub Files : Type 0
+Files = List (List ℕ × FileVal)
+
+-- a table is stored as the names and files
+abbrev pub files_code : Coded Files
+files_code = coded_list (coded× (coded_list coded_ℕ) file_code)
+
+-- the place of the first file with this name
+abbrev pub place_of : List ℕ → Files → Option ℕ
+place_of name files = position (λ (f : List ℕ × FileVal). bytes_eq f.0 name) files
+
+-- the shape of a file of which nothing is known
+abbrev pub plain_shape : Shape
+plain_shape = record { org = Seq; format = Variable; mrs = 0; mrn = 0 }
+
+-- the file at a place; one that isn't there would have no records
+abbrev pub file_at : ℕ → Files → FileVal
+file_at n [] = record { shape = plain_shape; records = map.empty }
+file_at zero (f ∷ files) = f.1
+file_at (suc n) (f ∷ files) = file_at n files
+
+-- the name of the file at a place
+abbrev pub name_at : ℕ → Files → List ℕ
+name_at n [] = []
+name_at zero (f ∷ files) = f.0
+name_at (suc n) (f ∷ files) = name_at n files
+
+-- the files with another one at a place
+abbrev pub with_file : ℕ → FileVal → Files → Files
+with_file n file [] = []
+with_file zero file (f ∷ files) = (f.0, file) ∷ files
+with_file (suc n) file (f ∷ files) = f ∷ with_file n file files
+
+abbrev pub without_file : ℕ → Files → Files
+without_file n files = remove files n
+
+-- the file that is open
+abbrev pub the_file : Files → OpenFile → FileVal
+the_file files opened = file_at opened.at files
+
+-- The places between groups. Store is that of a sequential file transfer to this end, Stopped that of one to the
+-- peer that a record too large has stopped.
+pub data Place : Type 0 where
+  Fresh : Place
+  Ready : Place
+  Opened : OpenFile → Place
+  Connected : OpenFile → StreamVal → Place
+  Store : OpenFile → StreamVal → Place
+  Stopped : OpenFile → StreamVal → Place
+
+-- A group that is over: the place in which it was served, its first item, and its answers.
+pub record Group : Type 0 where
+  pub place : Place
+  pub first : Item
+  pub answers : List Message
+
+-- the files, how long a message the peer takes, the place, and the groups so far, the newest first
+pub record Standing : Type 0 where
+  pub files : Files
+  pub limit : ℕ
+  pub place : Place
+  pub past : List Group
+
+-- What a group finds: the end's own BUFSIZ, how long a message the peer takes, and the files.
+pub record Scene : Type 0 where
+  pub own : ℕ
+  pub limit : ℕ
+  pub files : Files
+
+-- what a group leaves, and its answers
+pub record Effect : Type 0 where
+  pub files : Files
+  pub limit : ℕ
+  pub place : Place
+  pub answers : List Message
+
+-- no more than the place moves
+abbrev pub enters : Scene → Place → List Message → Effect
+enters scene place answers = record { files = scene.files; limit = scene.limit; place = place; answers = answers }
+
+-- the files and the place move
+abbrev pub leaves : Scene → Files → Place → List Message → Effect
+leaves scene files place answers = record { files = files; limit = scene.limit; place = place; answers = answers }
+
+-- the shortest limit that a peer can have
+abbrev pub least_limit : ℕ
+least_limit = 64
+
+-- No files, and no Config of the peer yet.
+abbrev pub start : Standing
+start = record { files = []; limit = least_limit; place = Fresh; past = [] }

@@ -1,0 +1,23 @@
+//! The accessed end of a DAP file access: it holds the files, and serves one message after another
+//! (DAP 5.6.0, message sequences; the answers to what has no place are own).
+#![tactic(auto)]
+
+mod accessed;
+mod answers;
+mod fault;
+mod laws;
+mod opened;
+mod phase;
+mod refusing;
+mod served;
+mod table;
+mod transfer;
+mod verbs;
+
+pub use accessed::Accessed;
+pub use fault::NoMemory;
+pub use laws::answers_grow;
+pub use phase::{OpenFile, Phase};
+pub use served::Served;
+pub use table::FileTable;
+pub use verbs::Verb;

@@ -1,0 +1,37 @@
+//! Where the accessed end stands between two messages.
+
+use rec_file::{Refusal, Rights, Stream};
+
+/// The file that an Access opened (DAP 5.6.0, Access message).
+#[derive(Clone, Copy)]
+pub struct OpenFile {
+    /// Its place in the file table, from 0.
+    pub at: usize,
+    /// Whether this Access made it.
+    pub is_new: bool,
+    /// What the Access may do.
+    pub rights: Rights,
+}
+
+/// What the end waits for (DAP 5.6.0, message sequences; the phases are own).
+#[derive(Clone, Copy)]
+pub enum Phase {
+    /// The peer's Config.
+    Fresh,
+    /// An Access.
+    Ready,
+    /// A Control that connects a stream.
+    Opened(OpenFile),
+    /// An operation on a record, or a file transfer.
+    Connected(OpenFile, Stream),
+    /// The Filedata of a PUT, with its key, or with why it is refused.
+    PutDue(OpenFile, Stream, Result<Option<u32>, Refusal>),
+    /// The Filedata of an UPDATE.
+    UpdateDue(OpenFile, Stream),
+    /// A Filedata of a Store, with the number of those so far.
+    Storing(OpenFile, Stream, u32),
+    /// The same, after one that was refused.
+    Dropping(OpenFile, Stream, u32),
+    /// A Continue Transfer, after a record that was too large.
+    Stopped(OpenFile, Stream),
+}

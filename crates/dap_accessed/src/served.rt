@@ -1,0 +1,10 @@
+//! What a call gives.
+
+/// What serving one message gives (own).
+#[derive(Drop)]
+pub struct Served {
+    /// The answers, each an NSP message.
+    pub answers: Vec<Vec<u8>>,
+    /// The place in bytes where the next DAP message begins, the NSP message's length where none does.
+    pub next: usize,
+}
