@@ -4,3 +4,7 @@ pub mod Writing
 pub mod Fetching
 pub mod Cuts
 pub mod StepIs
+pub mod Kept
+pub mod SoundTables
+pub mod SoundGroups
+pub mod SoundLists

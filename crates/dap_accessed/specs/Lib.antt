@@ -11,3 +11,4 @@ pub mod Present
 pub mod Written
 pub mod Moves
 pub mod Served
+pub mod Sound

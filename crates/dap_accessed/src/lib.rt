@@ -16,7 +16,7 @@ mod verbs;
 
 pub use accessed::Accessed;
 pub use fault::NoMemory;
-pub use laws::answers_grow;
+pub use laws::{answers_grow, stays_sound};
 pub use phase::{OpenFile, Phase};
 pub use served::Served;
 pub use table::FileTable;

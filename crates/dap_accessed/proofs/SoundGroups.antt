@@ -1,0 +1,299 @@
+-- Every group leaves an end sound.
+use Rattle.std.proofs.Common.{◌≡◌, ℕ, ◌+◌, ◌<◌, ◌≤◌, Bool, true, false, List, [], ◌∷◌, length, Option, Some, None, Result, Ok, Err, refl, ap, subst, inl, inr, arith, lit≤}
+use Rattle.std.specs.Prelude.{IfSome, IsTrue, if◌then◌else◌}
+use Rattle.std.specs.FinMap as map
+use Rattle.dap_msg.specs.Message.{Message, Config, Access, Control, Contran, Accomp, Filedata, AccessFields, ControlFields}
+use Rattle.dap_msg.specs.Exchange.{limit_of, greatest_message}
+use Rattle.dap_msg.specs.Items.{Item, Whole, Malformed}
+use Rattle.rec_file.specs.declared.shapes.Shape.{Shape}
+use Rattle.rec_file.specs.declared.refusals.Refusal.{Refusal}
+use Rattle.rec_file.specs.declared.picks.Pick.{Pick}
+use Rattle.std.specs.Prelude.{◌&&◌, nat_le}
+use Rattle.std.proofs.Common.{cond}
+use Rattle.std.proofs.lemmas.Bool.{cases_lt, lt-ltb, le-ltb}
+use Rattle.std.proofs.lemmas.Bool.Decides.{nat_tests}
+use Rattle.std.proofs.lemmas.List.{length-append}
+use Rattle.dap_msg.specs.Message.{Attributes}
+use Rattle.rec_file.specs.declared.shapes.Org.{Org}
+use Rattle.rec_file.specs.declared.shapes.Org.TheVariants.{Seq, Rel}
+use Rattle.rec_file.specs.declared.shapes.Format.{Format}
+use Rattle.rec_file.specs.declared.shapes.TheConstants.{MAX_RECORD, MAX_NUMBER}
+use Rattle.rec_file.specs.Shapes.{is_shape, has_length, kept_mrn, org_of_code, format_of_code, shape_of as shape_asked}
+use Rattle.rec_file.specs.Keys.{little_endian}
+use Rattle.std.specs.Prelude.{unwrap_or}
+use Rattle.rec_file.specs.Files.{FileVal, IsFile, records_from}
+use Rattle.rec_file.specs.Acts.{Operation, StreamVal, act, get_record, put_record, update_record, delete_record}
+use Rattle.rec_file.proofs.FileLaws.{IsFile-empty}
+use Rattle.dap_accessed.specs.declared.phase.OpenFile.{OpenFile}
+use Rattle.dap_accessed.specs.declared.verbs.Verb.{Verb}
+use Rattle.dap_accessed.specs.declared.verbs.Verb.TheVariants as verbs
+use Rattle.dap_accessed.specs.Lists.{leading, from_failing}
+use Rattle.dap_accessed.specs.Standing.{Files, place_of, with_file, without_file, the_file, Place, Fresh, Ready, Opened, Connected, Store, Stopped, Group, Standing, Scene, Effect, start}
+use Rattle.dap_accessed.specs.Past.{Memory, looked_back, shape_of, kept_attributes}
+use Rattle.dap_accessed.specs.Accesses.{open_file, create_file, access_as, access_kind, AccessKind, Opening, Creating, NoAccess, complete, completing, Completing, Closing, Purging, EndingStream, Skipping, NoCompletion}
+use Rattle.dap_accessed.specs.Records.{at_number, verb_of, get_pick, found, got, record_got, settled, Change, Putting, Updating, changed, fits_limit}
+use Rattle.dap_accessed.specs.Transfers.{fetch, fetch_ends, fetch_if, going, Going, Again, Skip, Abort, Resume, NoGoing, continue_fetch, store_one, continue_store}
+use Rattle.dap_accessed.specs.Exchange.{configure, is_too_small, control_opened, control_connected, effect_in, effect_of, effect_with, Begun, begins_in, begun_by, change_begun}
+use Rattle.dap_accessed.specs.Groups.{scene_of, after_one, after_two, next_group, more_after}
+use Rattle.dap_accessed.specs.Sound.{AllFiles, AreDistinct, IsOpenAt, IsSoundAt, IsSound}
+use Rattle.dap_accessed.proofs.Tables.{length-with}
+use Rattle.dap_accessed.proofs.Kept.{act-keeps, both}
+use Rattle.dap_accessed.proofs.SoundTables.{file-there, all-with, distinct-with, all-without, distinct-without, all-more, distinct-more, new-name}
+
+-- ---- Shapes, limits and places.
+
+-- the shape that attributes ask for is one that a file may have
+abbrev pub Good : Option Shape → Type 0
+Good shape = IfSome shape (λ s. IsTrue (is_shape s))
+
+allowed : (org : Org) (format : Format) (mrs mrn : ℕ) (b : Bool) → (has_length format mrs && nat_le mrs MAX_RECORD && nat_le mrn MAX_NUMBER) ≡ b
+    → Good (if b then Some (record { org = org; format = format; mrs = mrs; mrn = kept_mrn org mrn }) else None)
+allowed org format mrs mrn false e = tt
+allowed Seq format mrs mrn true e = ap (λ b. b && true && true) (both (has_length format mrs && nat_le mrs MAX_RECORD) (nat_le mrn MAX_NUMBER) e).0
+allowed Rel format mrs mrn true e = ap (λ b. b && true) e
+
+good-of : (org : Option Org) (format : Option Format) (mrs mrn : ℕ) → Good (shape_asked org format mrs mrn)
+good-of None format mrs mrn = tt
+good-of (Some org) None mrs mrn = tt
+good-of (Some org) (Some format) mrs mrn = allowed org format mrs mrn _ refl
+
+pub good-shape : (a : Attributes) → Good (shape_of a)
+good-shape a = good-of (org_of_code (unwrap_or a.org 0)) (format_of_code (unwrap_or a.rfm 2)) (unwrap_or a.mrs 0) (little_endian (unwrap_or a.mrn []))
+
+good-memory : (place : Place) (past : List Group) → Good (looked_back place past).shape
+good-memory Fresh past = good-shape (kept_attributes past)
+good-memory Ready past = good-shape (kept_attributes past)
+good-memory (Opened o) past = good-shape (kept_attributes past)
+good-memory (Connected o s) past = good-shape (kept_attributes past)
+good-memory (Store o s) past = good-shape (kept_attributes past)
+good-memory (Stopped o s) past = good-shape (kept_attributes past)
+
+limit-most : (bufsiz : ℕ) → limit_of bufsiz ≤ greatest_message
+limit-most bufsiz =
+    elim (cases_lt greatest_message bufsiz) [
+      | inl more ↦ let e = lt-ltb greatest_message bufsiz more in grind (arith, e)
+      | inr less ↦ grind (arith, less)
+    ]
+
+limit-least : (bufsiz : ℕ) → is_too_small bufsiz ≡ false → 64 ≤ limit_of bufsiz
+limit-least bufsiz e =
+    elim (cases_lt greatest_message bufsiz) [
+      | inl more ↦ let t = lt-ltb greatest_message bufsiz more in grind (arith, t)
+      | inr less ↦ elim (cases_lt 0 bufsiz) [
+        | inl some ↦ elim (cases_lt bufsiz 64) [
+          | inl few ↦ let t = lt-ltb 0 bufsiz some in let u = lt-ltb bufsiz 64 few in absurd cc
+          | inr enough ↦ let t = le-ltb greatest_message bufsiz less in grind (arith, nat_tests)
+        ]
+        | inr nothing ↦ let zero : 0 ≡ bufsiz = omega arith in subst (λ n. 64 ≤ limit_of n) zero (lit≤ tt)
+      ]
+    ]
+
+within-of : (b : Bool) (n len : ℕ) → (b ≡ true → n < len) → IfSome (cond b (Some n) None) (λ n. n < len)
+within-of true n len f = f refl
+within-of false n len f = tt
+
+place-within : (name : List ℕ) (files : Files) → IfSome (place_of name files) (λ n. n < length files)
+place-within name files = within-of _ _ _ (λ e. grind (arith, nat_tests))
+
+module _ (scene : Scene) (files : AllFiles scene.files) (distinct : AreDistinct scene.files) (least : 64 ≤ scene.limit) (most : scene.limit ≤ greatest_message) where
+  abbrev Leaves : Effect → Type 0
+  Leaves e = IsSoundAt e.files e.limit e.place
+
+  entering : (place : Place) → IsOpenAt scene.files place → IsSoundAt scene.files scene.limit place
+  entering place h = record { files = files; distinct = distinct; opened = h; least = least; most = most }
+
+  -- an operation on the open file
+  acted : (op : Operation) (o : OpenFile) (s : StreamVal) → o.at < length scene.files → IsFile (act op (the_file scene.files o) s).file
+  acted op o s h = act-keeps op (the_file scene.files o) s (file-there scene.files o.at files h)
+
+  changing : (op : Operation) (o : OpenFile) (s : StreamVal) (place : Place) (h : o.at < length scene.files)
+      → IsOpenAt (with_file o.at (act op (the_file scene.files o) s).file scene.files) place
+      → IsSoundAt (with_file o.at (act op (the_file scene.files o) s).file scene.files) scene.limit place
+  changing op o s place h there =
+      record {
+        files = all-with scene.files o.at (act op (the_file scene.files o) s).file files (acted op o s h);
+        distinct = distinct-with scene.files o.at (act op (the_file scene.files o) s).file distinct;
+        opened = there;
+        least = least;
+        most = most;
+      }
+
+  still : (o : OpenFile) (file : FileVal) → o.at < length scene.files → o.at < length (with_file o.at file scene.files)
+  still o file h = omega (arith, length-with scene.files o.at file)
+
+  settling : (op : Operation) (o : OpenFile) (s : StreamVal) → o.at < length scene.files → Leaves (settled scene o (act op (the_file scene.files o) s))
+  settling op o s h =
+      changing op o s (Connected o (act op (the_file scene.files o) s).stream) h (still o (act op (the_file scene.files o) s).file h)
+
+  -- ---- Accesses.
+
+  opening : (fac : ℕ) (name : List ℕ) (at : Option ℕ) → IfSome at (λ n. n < length scene.files) → Leaves (open_file scene fac at)
+  opening fac name None h = entering Ready tt
+  opening fac name (Some at) h = entering (Opened _) h
+
+  creating : (name : List ℕ) (fac : ℕ) (at : Option ℕ) (shape : Option Shape) → place_of name scene.files ≡ at → Good shape → Leaves (create_file scene name fac at shape)
+  creating name fac (Some at) shape e g = entering Ready tt
+  creating name fac None None e g = entering Ready tt
+  creating name fac None (Some shape) e good =
+      record {
+        files = all-more scene.files (name, record { shape = shape; records = map.empty }) files (IsFile-empty shape good);
+        distinct = distinct-more scene.files (name, record { shape = shape; records = map.empty }) distinct (new-name name scene.files e);
+        opened = omega (arith, length-append scene.files ((name, record { shape = shape; records = map.empty }) ∷ []));
+        least = least;
+        most = most;
+      }
+
+  accessing : (kind : AccessKind) (a : AccessFields) (shape : Option Shape) → Good shape → Leaves (access_as kind scene a shape)
+  accessing Opening a shape g = opening a.fac a.name (place_of a.name scene.files) (place-within a.name scene.files)
+  accessing Creating a shape g = creating a.name a.fac (place_of a.name scene.files) shape refl g
+  accessing NoAccess a shape g = entering Ready tt
+
+  purging : (o : OpenFile) (new : Bool) → IsSoundAt (if new then without_file o.at scene.files else scene.files) scene.limit Ready
+  purging o true = record { files = all-without scene.files o.at files; distinct = distinct-without scene.files o.at distinct; opened = tt; least = least; most = most }
+  purging o false = entering Ready tt
+
+  completed-soundly : (kind : Completing) (o : OpenFile) (place : Place) (ends : Effect) → IsOpenAt scene.files place → Leaves ends → Leaves (complete kind scene o place ends)
+  completed-soundly Closing o place ends h e = entering Ready tt
+  completed-soundly Purging o place ends h e = purging o o.is_new
+  completed-soundly EndingStream o place ends h e = e
+  completed-soundly Skipping o place ends h e = entering place h
+  completed-soundly NoCompletion o place ends h e = entering place h
+
+  -- ---- Records.
+
+  module _ (o : OpenFile) (h : o.at < length scene.files) where
+    finding : (fits : Bool) (before after : StreamVal) (r : ℕ × List ℕ) → Leaves (found fits scene o before after r)
+    finding true before after r = entering (Connected o after) h
+    finding false before after r = entering (Connected o _) h
+
+    getting : (reply : Result ℕ Refusal) (before after : StreamVal) → Leaves (got reply scene o before after)
+    getting (Err refusal) before after = entering (Connected o _) h
+    getting (Ok n) before after = finding _ before after _
+
+    picked : (pick : Result Pick Refusal) (s : StreamVal) → Leaves (record_got pick scene o s)
+    picked (Err refusal) s = entering (Connected o _) h
+    picked (Ok pick) s = getting (act (get_record pick) (the_file scene.files o) s).reply s (act (get_record pick) (the_file scene.files o) s).stream
+
+    second : (change : Change) (s : StreamVal) (body : List ℕ) → Leaves (changed change scene o s body)
+    second (Putting (Err refusal)) s body = entering (Connected o _) h
+    second (Putting (Ok key)) s body = settling (put_record key body) o s h
+    second Updating s body = settling (update_record body) o s h
+
+    -- ---- Transfers.
+
+    fetch-ends : (s : StreamVal) (given rest : List (ℕ × List ℕ)) → Leaves (fetch_ends scene o s given rest)
+    fetch-ends s given [] = entering (Connected o _) h
+    fetch-ends s given (large ∷ more) = entering (Stopped o _) h
+
+    fetching : (s : StreamVal) → Leaves (fetch scene o s)
+    fetching s =
+        let due = records_from (the_file scene.files o).records s.next in
+        fetch-ends s (leading (fits_limit scene.limit) due) (from_failing (fits_limit scene.limit) due)
+
+    fetching-if : (permitted : Bool) (s : StreamVal) → Leaves (fetch_if permitted scene o s)
+    fetching-if true s = fetching s
+    fetching-if false s = entering (Connected o _) h
+
+    continuing : (g : Going) (s : StreamVal) → Leaves (continue_fetch g scene o s)
+    continuing Again s = fetching s
+    continuing Skip s = fetching (at_number (s.next + 1) s)
+    continuing Abort s = entering (Connected o s) h
+    continuing Resume s = entering (Stopped o s) h
+    continuing NoGoing s = entering (Stopped o s) h
+
+    storing : (dropping : Bool) (ordinal : ℕ) (s : StreamVal) (body : List ℕ) → Leaves (store_one dropping ordinal scene o s body)
+    storing true ordinal s body = entering (Store o s) h
+    storing false ordinal s body =
+        changing (put_record None body) o s (Store o (act (put_record None body) (the_file scene.files o) s).stream) h (still o (act (put_record None body) (the_file scene.files o) s).file h)
+
+    resuming : (dropping : Bool) (g : Going) (s : StreamVal) (func : ℕ) → Leaves (continue_store dropping g scene o s func)
+    resuming false g s func = entering (Store o s) h
+    resuming true Again s func = entering (Store o s) h
+    resuming true Skip s func = entering (Store o s) h
+    resuming true Abort s func = entering (Store o s) h
+    resuming true Resume s func = entering (Store o s) h
+    resuming true NoGoing s func = entering (Store o s) h
+
+    -- ---- The places.
+
+    opened-control : (verb : Verb) → Leaves (control_opened verb scene o)
+    opened-control verbs.Connect = entering (Connected o _) h
+    opened-control verb = entering (Opened o) h
+
+    connected-control : (verb : Verb) (s : StreamVal) (c : ControlFields) → Leaves (control_connected verb scene o s c)
+    connected-control verbs.Get s c = picked (get_pick (the_file scene.files o) s c) s
+    connected-control verbs.Fetch s c = fetching-if s.rights.get s
+    connected-control verbs.Store s c = entering (Store o s) h
+    connected-control verbs.Delete s c = settling delete_record o s h
+    connected-control verbs.Rewind s c = entering (Connected o _) h
+    connected-control verb s c = entering (Connected o s) h
+
+    with-second : (change : Change) (s : StreamVal) (item : Item) → Leaves (effect_with change scene o s item)
+    with-second change s (Malformed fault) = entering (Connected o s) h
+    with-second change s (Whole (Filedata r body)) = second change s body
+    with-second change s (Whole message) = entering (Connected o s) h
+
+  configuring : (small : Bool) (bufsiz : ℕ) → is_too_small bufsiz ≡ small → Leaves (configure small scene bufsiz)
+  configuring true bufsiz e = entering Fresh tt
+  configuring false bufsiz e =
+      record { files = files; distinct = distinct; opened = tt; least = limit-least bufsiz e; most = limit-most bufsiz }
+
+  of-message : (memory : Memory) → Good memory.shape → (place : Place) → IsOpenAt scene.files place → (m : Message) → Leaves (effect_in scene memory place m)
+  of-message memory g Fresh h (Config c) = configuring (is_too_small c.bufsiz) c.bufsiz refl
+  of-message memory g Fresh h m = entering Fresh tt
+  of-message memory g Ready h (Access a) = accessing (access_kind a.func) a memory.shape g
+  of-message memory g Ready h m = entering Ready tt
+  of-message memory g (Opened o) h (Control c) = opened-control o h (verb_of c)
+  of-message memory g (Opened o) h (Accomp c) = completed-soundly (completing c.func) o (Opened o) _ h (entering (Opened o) h)
+  of-message memory g (Opened o) h m = entering (Opened o) h
+  of-message memory g (Connected o s) h (Control c) = connected-control o h (verb_of c) s c
+  of-message memory g (Connected o s) h (Accomp c) = completed-soundly (completing c.func) o (Connected o s) _ h (entering (Opened o) h)
+  of-message memory g (Connected o s) h m = entering (Connected o s) h
+  of-message memory g (Store o s) h (Filedata r body) = storing o h memory.dropping memory.ordinal s body
+  of-message memory g (Store o s) h (Contran func) = resuming o h memory.dropping (going func) s func
+  of-message memory g (Store o s) h (Accomp c) = completed-soundly (completing c.func) o (Store o s) _ h (entering (Opened o) h)
+  of-message memory g (Store o s) h m = entering (Store o s) h
+  of-message memory g (Stopped o s) h (Contran func) = continuing o h (going func) s
+  of-message memory g (Stopped o s) h (Accomp c) = completed-soundly (completing c.func) o (Stopped o s) _ h (entering (Opened o) h)
+  of-message memory g (Stopped o s) h m = entering (Stopped o s) h
+
+  pub of-item : (memory : Memory) → Good memory.shape → (place : Place) → IsOpenAt scene.files place → (item : Item) → Leaves (effect_of scene memory place item)
+  of-item memory g place h (Malformed fault) = entering place h
+  of-item memory g place h (Whole m) = of-message memory g place h m
+
+  pub of-second : (change : Change) (o : OpenFile) (s : StreamVal) (item : Item) → o.at < length scene.files → Leaves (effect_with change scene o s item)
+  of-second change o s item h = with-second o h change s item
+
+-- ---- Every list of items.
+
+pub start-sound : IsSound (record { standing = start; begun = None })
+start-sound = record { standing = record { files = tt; distinct = tt; opened = tt; least = lit≤ tt; most = lit≤ tt }; begun = tt }
+
+one-sound : (own : ℕ) (s : Standing) (item : Item) → IsSoundAt s.files s.limit s.place → let t = after_one own s item in IsSoundAt t.files t.limit t.place
+one-sound own s item h =
+    of-item (scene_of own s) h.files h.distinct h.least h.most (looked_back s.place s.past) (good-memory s.place s.past) s.place h.opened item
+
+two-sound : (own : ℕ) (s : Standing) (b : Begun) (item : Item) → IsSoundAt s.files s.limit s.place → b.opened.at < length s.files → let t = after_two own s b item in IsSoundAt t.files t.limit t.place
+two-sound own s b item h there = of-second (scene_of own s) h.files h.distinct h.least h.most b.change b.opened b.stream item there
+
+change-there : (item : Item) (o : OpenFile) (s : StreamVal) (change : Option Change) (len : ℕ) → o.at < len → IfSome (begun_by item o s change) (λ b. b.opened.at < len)
+change-there item o s None len h = tt
+change-there item o s (Some change) len h = h
+
+begun-there : (scene : Scene) (place : Place) (item : Item) → IsOpenAt scene.files place → IfSome (begins_in scene place item) (λ b. b.opened.at < length scene.files)
+begun-there scene (Connected o s) (Whole (Control c)) h = change-there (Whole (Control c)) o s (change_begun (verb_of c) scene o s c) (length scene.files) h
+begun-there scene (Connected o s) (Whole m) h = tt
+begun-there scene (Connected o s) (Malformed fault) h = tt
+begun-there scene Fresh item h = tt
+begun-there scene Ready item h = tt
+begun-there scene (Opened o) item h = tt
+begun-there scene (Store o s) item h = tt
+begun-there scene (Stopped o s) item h = tt
+
+next-sound : (own : ℕ) (s : Standing) (item : Item) (b : Option Begun) → IsSoundAt s.files s.limit s.place → IfSome b (λ b. b.opened.at < length s.files) → IsSound (next_group own s item b)
+next-sound own s item None h there = record { standing = one-sound own s item h; begun = tt }
+next-sound own s item (Some b) h there = record { standing = h; begun = there }
+
+pub more-sound : (own : ℕ) (s : Standing) (b : Option Begun) (item : Item) → IsSound (record { standing = s; begun = b }) → IsSound (more_after own s b item)
+more-sound own s None item h = next-sound own s item (begins_in (scene_of own s) s.place item) h.standing (begun-there (scene_of own s) s.place item h.standing.opened)
+more-sound own s (Some b) item h = record { standing = two-sound own s b item h.standing h.begun; begun = tt }
