@@ -92,7 +92,7 @@ within-of : (b : Bool) (n len : ℕ) → (b ≡ true → n < len) → IfSome (co
 within-of true n len f = f refl
 within-of false n len f = tt
 
-place-within : (name : List ℕ) (files : Files) → IfSome (place_of name files) (λ n. n < length files)
+pub place-within : (name : List ℕ) (files : Files) → IfSome (place_of name files) (λ n. n < length files)
 place-within name files = within-of _ _ _ (λ e. grind (arith, nat_tests))
 
 module _ (scene : Scene) (files : AllFiles scene.files) (distinct : AreDistinct scene.files) (least : 64 ≤ scene.limit) (most : scene.limit ≤ greatest_message) where

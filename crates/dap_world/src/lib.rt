@@ -1,0 +1,6 @@
+//! What both ends of a DAP file access come to together: laws over their definitions, and of no code.
+//! Each function does nothing: its contract is the law (own; the exchange is that of DAP 5.6.0, message
+//! sequences).
+#![tactic(auto)]
+
+mod laws;
