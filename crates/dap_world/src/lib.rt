@@ -4,3 +4,5 @@
 #![tactic(auto)]
 
 mod laws;
+
+pub use laws::{both_ends_agree, each_request_has_one_report, no_answer_is_unexpected};
