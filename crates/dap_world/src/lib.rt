@@ -5,4 +5,7 @@
 
 mod laws;
 
-pub use laws::{both_ends_agree, each_request_has_one_report, no_answer_is_unexpected};
+pub use laws::{
+    answers_keep_to_the_limit, both_ends_agree, each_request_has_one_report,
+    no_answer_is_unexpected, requests_keep_to_the_limit,
+};
