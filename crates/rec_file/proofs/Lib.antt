@@ -5,6 +5,7 @@ pub mod NumberedLaws
 pub mod SequentialLaws
 pub mod Gaps
 pub mod PlainLaws
+pub mod BlankLaws
 pub mod PageLaws
 pub mod PagedLaws
 pub mod RelativeLaws

@@ -5,5 +5,6 @@ pub mod Acts
 pub mod Numbered
 pub mod Sorted
 pub mod Plain
+pub mod Blank
 pub mod AnyFiles
 pub mod Pages

@@ -8,6 +8,8 @@
 #![tactic(auto)]
 
 pub mod any;
+#[cfg(test)]
+mod blank;
 pub mod files;
 mod pages;
 pub mod picks;

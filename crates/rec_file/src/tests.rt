@@ -1,6 +1,7 @@
 //! Scripts over each kind of file: worked examples, each refusal beside a call that isn't refused,
 //! and growth that may be refused.
 use crate::any::AnyFile;
+use crate::blank::BlankFile;
 use crate::files::{RecordFile, first_record};
 use crate::picks::{Pick, Rights};
 use crate::plain::PlainFile;
@@ -454,6 +455,30 @@ fn a_stream_at_its_end(rt: HostRuntime) {
     assert_eq!(rt; stream.get(&file, Pick::Key(MAX_NUMBER)), Ok(MAX_NUMBER));
     stream.forget();
     assert_eq!(rt; stream.delete(&mut file), Err(Refusal::NoCurrent));
+}
+
+#[test]
+fn a_sequential_file_with_no_number_left(rt: HostRuntime) {
+    let mut full = BlankFile::new(MAX_NUMBER);
+    let mut stream = Stream::new(ALL);
+    assert_eq!(rt;
+        stream.put(&mut full, None, b""),
+        Err(Refusal::NumberOutOfRange)
+    );
+    assert_eq!(rt; stream.put(&mut full, None, &LONG), Err(Refusal::BadLength));
+    assert_eq!(rt;
+        stream.put(&mut full, Some(1), b""),
+        Err(Refusal::BadAccessMode)
+    );
+    assert_eq!(rt; stream.get(&full, Pick::Rfa(MAX_NUMBER)), Ok(MAX_NUMBER));
+    assert_eq!(rt; stream.get(&full, Pick::Next), Err(Refusal::EndOfFile));
+    assert_eq!(rt;
+        (full.highest(), full.lookup(2147483648)),
+        (2147483647, None)
+    );
+    // With one number left it is want of memory that refuses.
+    let mut last = BlankFile::new(MAX_NUMBER - 1);
+    assert_eq!(rt; stream.put(&mut last, None, b""), Err(Refusal::NoMemory));
 }
 
 #[test]
