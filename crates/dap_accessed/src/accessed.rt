@@ -318,6 +318,8 @@ impl Accessed {
     pub fn serve(&mut self, nsp_message: &[u8], at: usize) -> Result<Served, NoMemory>
         requires { IsPlace at nsp_message.now }
         ensures serves { IfOk result (Serves nsp_message.now at self.old self.new) }
+        ensures within { IfOk result (λ served. served.next ≤ length nsp_message.now) }
+        ensures further { at < length nsp_message.now → IfOk result (λ served. at < served.next) }
         ensures no_memory { OnErr result (self.new ≡ self.old) }
     {
         let (item, next) = item_at(nsp_message, at);

@@ -1,6 +1,6 @@
 //! The accessing end.
 
-ghost use Rattle.std.specs.Prelude.{◌≡◌, ◌≤◌, [], map, IfOk, IfErr, OnErr};
+ghost use Rattle.std.specs.Prelude.{◌≡◌, ◌≤◌, ◌<◌, [], length, map, IfOk, IfErr, OnErr};
 ghost use Rattle.dap_msg.specs.Exchange.{greatest_message, limit_of as the_limit};
 ghost use Rattle.dap_msg.specs.Message.{seen};
 ghost use Rattle.dap_msg.specs.Items.{Whole};
@@ -132,6 +132,8 @@ impl Accessing {
         requires { IsPlace at nsp_message.now }
         ensures reads { IfOk result (λ read. Reads nsp_message.now at self.old self.new read) }
         ensures refused { IfErr result (λ f. ReadRefused nsp_message.now at self.old self.new f) }
+        ensures within { IfOk result (λ read. read.next ≤ length nsp_message.now) }
+        ensures further { at < length nsp_message.now → IfOk result (λ read. at < read.next) }
         ensures own { self.new.own ≡ self.old.own }
     {
         if self.failed {
