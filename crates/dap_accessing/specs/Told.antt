@@ -102,7 +102,7 @@ abbrev pub first_kept : Option (ℕ × ℕ × ℕ) → StatusFields → Option (
 first_kept (Some kept) status = Some kept
 first_kept None status = Some (status.code, reason_in status.stv, number_of status.recnum)
 
--- an Accomp 2, after which there is this report, or a refusal
+-- an Accomp: with CMPFUNC 2 there is this report, any other has no place
 abbrev pub completes : ℕ → Report → List Item → Hearing
 completes func done rest = if func == 2 then Reports done rest else Unexpected
 
