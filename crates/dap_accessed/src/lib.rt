@@ -21,3 +21,6 @@ pub use phase::{OpenFile, Phase};
 pub use served::Served;
 pub use table::FileTable;
 pub use verbs::Verb;
+
+#[cfg(test)]
+mod tests;
