@@ -1,8 +1,15 @@
 -- What a call of `serve` does.
-use Rattle.std.specs.Prelude.{ℕ, ◌≡◌, ◌<◌, ◌⊎◌, List, [], ◌∷◌, ◌++◌, length}
-use Rattle.dap_msg.specs.Items.{Item, ItemAt}
+use Rattle.std.specs.Prelude.{ℕ, ◌≡◌, ◌<◌, ◌⊎◌, ◌==◌, Bool, true, false, List, [], ◌∷◌, ◌++◌, length, Result, IsOk}
+use Rattle.dap_msg.specs.Message.{Attrib, Control, Contran, Filedata, Other}
+use Rattle.dap_msg.specs.Items.{Item, Whole, ItemAt}
 use Rattle.dap_msg.specs.Blocked.{Blocked, all_joined, bodies}
+use Rattle.dap_accessed.specs.declared.fault.NoMemory.{NoMemory}
+use Rattle.dap_accessed.specs.declared.phase.Phase.{Phase}
+use Rattle.dap_accessed.specs.declared.phase.Phase.TheVariants as phases
 use Rattle.dap_accessed.specs.declared.served.Served.{Served}
+use Rattle.dap_accessed.specs.declared.verbs.Verb.{Verb}
+use Rattle.dap_accessed.specs.declared.verbs.Verb.TheVariants as verbs
+use Rattle.dap_accessed.specs.Records.{verb_of}
 use Rattle.dap_accessed.specs.Groups.{added, stands_after}
 use Rattle.dap_accessed.specs.Present.{Present, StandsAfter}
 use Rattle.dap_accessed.specs.Written.{AllAtMost}
@@ -22,3 +29,27 @@ pub record Serves (bytes : List ℕ) (at : ℕ) (old new : Present) (served : Se
       bodies served.answers.items ≡ all_joined (Blocked old.limit (added old.own (stands_after old.own items) item))
   pub within : AllAtMost old.limit (bodies served.answers.items)
   pub same_own : new.own ≡ old.own
+
+-- ---- What takes no memory.
+
+-- a Control that has no answer
+abbrev pub begins_only : Verb → Bool
+begins_only verbs.Put = true
+begins_only verbs.Update = true
+begins_only verbs.Store = true
+begins_only verb = false
+
+-- an item that has no answer and stores no record
+abbrev pub is_silent : Phase → Item → Bool
+is_silent phases.Fresh (Whole (Other _ _)) = true
+is_silent phases.Ready (Whole (Other _ _)) = true
+is_silent phases.Ready (Whole (Attrib _)) = true
+is_silent (phases.Connected opened stream) (Whole (Control control)) = begins_only (verb_of control)
+is_silent (phases.Dropping opened stream ordinal) (Whole (Filedata _ _)) = true
+is_silent (phases.Dropping opened stream ordinal) (Whole (Contran func)) = func == 2
+is_silent _ _ = false
+
+-- A silent item at the place is served without memory.
+abbrev pub IsUnrefused : List ℕ → ℕ → Present → Result Served NoMemory → Type 0
+IsUnrefused bytes at old result =
+    (item : Item) (next : ℕ) → ItemAt bytes at item next → is_silent old.phase item ≡ true → IsOk result

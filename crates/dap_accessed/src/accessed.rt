@@ -1,6 +1,6 @@
 //! The accessed end.
 
-ghost use Rattle.std.specs.Prelude.{◌≡◌, ◌≢◌, ◌≤◌, ◌<◌, ℕ, [], ◌∷◌, length, IfOk, IfSome, IsTrue, OnErr, false, min, true};
+ghost use Rattle.std.specs.Prelude.{◌≡◌, ◌≢◌, ◌≤◌, ◌<◌, ℕ, [], ◌∷◌, length, IfOk, IsOk, IfSome, IsTrue, OnErr, false, min, true};
 ghost use Rattle.dap_msg.specs.Exchange.{greatest_message, limit_of};
 ghost use Rattle.dap_msg.specs.Items.{seen_item};
 ghost use Rattle.dap_msg.specs.Message.{seen_attributes};
@@ -15,7 +15,7 @@ ghost use Rattle.dap_accessed.specs.Replies.{bare_status, sync_status};
 ghost use Rattle.dap_accessed.specs.Moves.{Moves, begins, between, move, plain_memory, scene_in, settles, shape_next};
 ghost use Rattle.dap_accessed.specs.Past.{no_attributes, shape_of};
 ghost use Rattle.dap_accessed.specs.Present.{Present, StandsAfter};
-ghost use Rattle.dap_accessed.specs.Served.{IsPlace, Serves};
+ghost use Rattle.dap_accessed.specs.Served.{IsPlace, IsUnrefused, Serves, is_silent};
 ghost use Rattle.dap_accessed.specs.Standing.{Fresh, Ready, place_of};
 ghost use Rattle.dap_accessed.specs.Written.{Answered, IsShort, message_of};
 ghost use Rattle.dap_accessed.specs.declared.phase.Phase.TheVariants as phases;
@@ -205,6 +205,7 @@ impl Accessed {
         requires { self.old.phase ≡ phases.Fresh }
         ensures ok { IfOk result (Moves self.old (between self.old (plain_memory self.old.kept) Fresh (seen_item item.entry)) self.new) }
         ensures err { OnErr result (self.new ≡ self.old) }
+        ensures silent { is_silent self.old.phase (seen_item item.entry) ≡ true → IsOk result }
     {
         match item {
             Item::Whole(Message::Config { bufsiz, .. }) => {
@@ -226,6 +227,7 @@ impl Accessed {
         requires { self.old.phase ≡ phases.Ready }
         ensures ok { IfOk result (Moves self.old (between self.old (plain_memory self.old.kept) Ready (seen_item item.entry)) self.new) }
         ensures err { OnErr result (self.new ≡ self.old) }
+        ensures silent { is_silent self.old.phase (seen_item item.entry) ≡ true → IsOk result }
     {
         match item {
             Item::Whole(Message::Attrib(attributes)) => {
@@ -314,13 +316,14 @@ impl Accessed {
     /// message can be read are answered by one Status, and nothing behind them is read.
     ///
     /// The only refusal is [`NoMemory`]. Nothing has changed then, and the same call may be made
-    /// again.
+    /// again. A message that has no answer and stores no record takes no memory.
     pub fn serve(&mut self, nsp_message: &[u8], at: usize) -> Result<Served, NoMemory>
         requires { IsPlace at nsp_message.now }
         ensures serves { IfOk result (Serves nsp_message.now at self.old self.new) }
         ensures within { IfOk result (λ served. served.next ≤ length nsp_message.now) }
         ensures further { at < length nsp_message.now → IfOk result (λ served. at < served.next) }
         ensures no_memory { OnErr result (self.new ≡ self.old) }
+        ensures unrefused { IsUnrefused nsp_message.now at self.old result }
     {
         let (item, next) = item_at(nsp_message, at);
         let answers = self.serve_item(item)?;
@@ -330,6 +333,7 @@ impl Accessed {
     fn serve_item(&mut self, item: Item<'_>) -> Result<Vec<Vec<u8>>, NoMemory>
         ensures ok { IfOk result (Moves self.old (move self.old (seen_item item.entry)) self.new) }
         ensures err { OnErr result (self.new ≡ self.old) }
+        ensures silent { is_silent self.old.phase (seen_item item.entry) ≡ true → IsOk result }
     {
         let phase = self.phase;
         match phase {

@@ -1,6 +1,6 @@
 //! What is served while a file is open.
 
-ghost use Rattle.std.specs.Prelude.{◌≡◌, ◌≢◌, ◌<◌, [], ◌∷◌, length, IfOk, OnErr, false, true};
+ghost use Rattle.std.specs.Prelude.{◌≡◌, ◌≢◌, ◌<◌, [], ◌∷◌, length, IfOk, IsOk, OnErr, false, true};
 ghost use Rattle.dap_msg.specs.Items.{seen_item};
 ghost use Rattle.dap_msg.specs.Message.{seen_control};
 ghost use Rattle.rec_file.specs.Acts.{act, delete_record};
@@ -9,6 +9,7 @@ ghost use Rattle.dap_accessed.specs.Moves.{Moves, between, control_move, plain_m
 ghost use Rattle.dap_accessed.specs.Past.{Memory};
 ghost use Rattle.dap_accessed.specs.Present.{phase_at};
 ghost use Rattle.dap_accessed.specs.Records.{Putting, Updating, changed, get_pick, record_got, refused, settled};
+ghost use Rattle.dap_accessed.specs.Served.{begins_only, is_silent};
 ghost use Rattle.dap_accessed.specs.Standing.{Connected, Effect, Opened, Place, Store, enters, file_at, the_file};
 ghost use Rattle.dap_accessed.specs.Written.{IsShort, message_of};
 ghost use Rattle.dap_accessed.specs.declared.phase.Phase.TheVariants as phases;
@@ -33,6 +34,7 @@ impl Accessed {
         requires { self.old.phase ≡ phases.Opened opened }
         ensures ok { IfOk result (Moves self.old (between self.old (plain_memory self.old.kept) (Opened opened) (seen_item item.entry)) self.new) }
         ensures err { OnErr result (self.new ≡ self.old) }
+        ensures silent { is_silent self.old.phase (seen_item item.entry) ≡ true → IsOk result }
     {
         let _ = &self.phase;
         match item {
@@ -105,6 +107,7 @@ impl Accessed {
         requires { self.old.phase ≡ phases.Connected opened stream }
         ensures ok { IfOk result (Moves self.old (between self.old (plain_memory self.old.kept) (Connected opened stream) (seen_item item.entry)) self.new) }
         ensures err { OnErr result (self.new ≡ self.old) }
+        ensures silent { is_silent self.old.phase (seen_item item.entry) ≡ true → IsOk result }
     {
         let _ = &self.phase;
         match item {
@@ -127,6 +130,7 @@ impl Accessed {
         requires { self.old.phase ≡ phases.Connected opened stream }
         ensures ok { IfOk result (Moves self.old (control_move verb self.old opened stream (seen_control control.entry)) self.new) }
         ensures err { OnErr result (self.new ≡ self.old) }
+        ensures silent { begins_only verb ≡ true → IsOk result }
     {
         let _ = &self.phase;
         match verb {
@@ -246,6 +250,7 @@ impl Accessed {
         requires { self.old.phase ≡ phases.PutDue opened stream key }
         ensures ok { IfOk result (Moves self.old (within self.old (Putting key) opened stream (seen_item item.entry)) self.new) }
         ensures err { OnErr result (self.new ≡ self.old) }
+        ensures silent { is_silent self.old.phase (seen_item item.entry) ≡ true → IsOk result }
     {
         let _ = &self.phase;
         match item {
@@ -266,6 +271,7 @@ impl Accessed {
         requires { self.old.phase ≡ phases.UpdateDue opened stream }
         ensures ok { IfOk result (Moves self.old (within self.old Updating opened stream (seen_item item.entry)) self.new) }
         ensures err { OnErr result (self.new ≡ self.old) }
+        ensures silent { is_silent self.old.phase (seen_item item.entry) ≡ true → IsOk result }
     {
         let _ = &self.phase;
         match item {

@@ -1,12 +1,13 @@
 //! File transfers: all records to the peer, or records from it until the stream ends.
 
-ghost use Rattle.std.specs.Prelude.{◌≡◌, ◌≤◌, ◌<◌, ◌+◌, length, nat_lt, IfOk, OnErr, false, true};
+ghost use Rattle.std.specs.Prelude.{◌≡◌, ◌≤◌, ◌<◌, ◌+◌, length, nat_lt, IfOk, IsOk, OnErr, false, true};
 ghost use Rattle.dap_msg.specs.Items.{seen_item};
 ghost use Rattle.dap_accessed.specs.Moves.{IsOpenIn, Moves, between, plain_memory, scene_in, settles, store_memory};
 ghost use Rattle.rec_file.specs.declared.shapes.TheConstants.{MAX_NUMBER};
 ghost use Rattle.dap_accessed.specs.Records.{at_number};
 ghost use Rattle.dap_accessed.specs.Past.{next_ordinal};
 ghost use Rattle.dap_accessed.specs.Present.{phase_at};
+ghost use Rattle.dap_accessed.specs.Served.{is_silent};
 ghost use Rattle.dap_accessed.specs.Standing.{Stopped, Store};
 ghost use Rattle.dap_accessed.specs.Transfers.{fetch, store_one};
 ghost use Rattle.dap_accessed.specs.Written.{Answered};
@@ -41,6 +42,7 @@ impl Accessed {
         requires { self.old.phase ≡ phases.Storing opened stream ordinal }
         ensures ok { IfOk result (Moves self.old (between self.old (store_memory self.old.kept false ordinal) (Store opened stream) (seen_item item.entry)) self.new) }
         ensures err { OnErr result (self.new ≡ self.old) }
+        ensures silent { is_silent self.old.phase (seen_item item.entry) ≡ true → IsOk result }
     {
         let _ = &self.phase;
         match item {
@@ -95,6 +97,7 @@ impl Accessed {
         requires { self.old.phase ≡ phases.Dropping opened stream ordinal }
         ensures ok { IfOk result (Moves self.old (between self.old (store_memory self.old.kept true ordinal) (Store opened stream) (seen_item item.entry)) self.new) }
         ensures err { OnErr result (self.new ≡ self.old) }
+        ensures silent { is_silent self.old.phase (seen_item item.entry) ≡ true → IsOk result }
     {
         let _ = &self.phase;
         match item {
@@ -126,6 +129,7 @@ impl Accessed {
         requires { self.old.phase ≡ phases.Stopped opened stream }
         ensures ok { IfOk result (Moves self.old (between self.old (plain_memory self.old.kept) (Stopped opened stream) (seen_item item.entry)) self.new) }
         ensures err { OnErr result (self.new ≡ self.old) }
+        ensures silent { is_silent self.old.phase (seen_item item.entry) ≡ true → IsOk result }
     {
         let _ = &self.phase;
         match item {
