@@ -4,10 +4,10 @@ use Rattle.std.specs.Global.{Vec}
 use Rattle.std.specs.Vec.{vec_capacity}
 use Rattle.dap_msg.specs.declared.fault.MsgFault.{MsgFault}
 use Rattle.dap_msg.specs.Message.{Message}
-use Rattle.dap_msg.specs.Canon.{canon}
+use Rattle.dap_msg.specs.Canon.{canon, Fits}
 use Rattle.dap_msg.specs.Written.{Appends}
 use Rattle.dap_msg.specs.Exchange.{short_answer}
-use Rattle.dap_msg.specs.Blocked.{bodies, one_more}
+use Rattle.dap_msg.specs.Blocked.{bodies, one_more, AllFit}
 use Rattle.dap_msg.specs.BlockedLaws.{Blocked-more}
 use Rattle.std.proofs.Common.{inl, inr}
 use Rattle.std.proofs.lemmas.Bool.{cases_lt, lt-leb, le-leb}
@@ -38,11 +38,12 @@ filled bytes old new (Err f) a e c l =
 
 -- ---- One message, and one more.
 
-pub answered_one : (limit : ℕ) (m : Message) (answers : Vec (Vec ℕ)) → length (canon m) ≤ limit → bodies answers.items ≡ canon m ∷ [] → Answered limit (m ∷ []) answers
-answered_one limit m answers h e =
+pub answered_one : (limit : ℕ) (m : Message) (answers : Vec (Vec ℕ)) → Fits m → length (canon m) ≤ limit → bodies answers.items ≡ canon m ∷ [] → Answered limit (m ∷ []) answers
+answered_one limit m answers f h e =
     record {
       bytes = e ∙ ap (λ l. l ∷ []) (sym (append-nil (canon m)));
       within = subst (AllAtMost limit) (sym e) (h, tt);
+      fits = (f, tt);
     }
 
 at_most_more : (limit : ℕ) (list : List (List ℕ)) (m : List ℕ) → AllAtMost limit list → length m ≤ limit → AllAtMost limit (one_more limit list m)
@@ -55,12 +56,17 @@ at_most_more limit (last ∷ []) m all h =
     ]
 at_most_more limit (first ∷ next ∷ more) m all h = (all.0, at_most_more limit (next ∷ more) m all.1 h)
 
-pub answered_more : (limit : ℕ) (messages : List Message) (m : Message) (old new : Vec (Vec ℕ)) → length (canon m) ≤ limit → Answered limit messages old
+fit_more : (messages : List Message) (m : Message) → AllFit messages → Fits m → AllFit (messages ++ m ∷ [])
+fit_more [] m all f = (f, tt)
+fit_more (first ∷ messages) m all f = (all.0, fit_more messages m all.1 f)
+
+pub answered_more : (limit : ℕ) (messages : List Message) (m : Message) (old new : Vec (Vec ℕ)) → Fits m → length (canon m) ≤ limit → Answered limit messages old
     → bodies new.items ≡ one_more limit (bodies old.items) (canon m) → Answered limit (messages ++ m ∷ []) new
-answered_more limit messages m old new h before e =
+answered_more limit messages m old new f h before e =
     record {
       bytes = e ∙ ap (λ l. one_more limit l (canon m)) before.bytes ∙ sym (Blocked-more limit messages m);
       within = subst (AllAtMost limit) (sym e) (at_most_more limit (bodies old.items) (canon m) before.within h);
+      fits = fit_more messages m before.fits f;
     }
 
 pub fits_short : (limit : ℕ) (a : Answer) → IsShort a → short_answer ≤ limit → FitsIn limit a

@@ -2,7 +2,7 @@
 use Rattle.std.specs.Prelude.{ℕ, ◌≡◌, ◌<◌, ◌⊎◌, ◌==◌, Bool, true, false, List, [], ◌∷◌, ◌++◌, length, Result, IsOk}
 use Rattle.dap_msg.specs.Message.{Attrib, Control, Contran, Filedata, Other}
 use Rattle.dap_msg.specs.Items.{Item, Whole, ItemAt}
-use Rattle.dap_msg.specs.Blocked.{Blocked, all_joined, bodies}
+use Rattle.dap_msg.specs.Blocked.{Blocked, all_joined, bodies, AllFit}
 use Rattle.dap_accessed.specs.declared.fault.NoMemory.{NoMemory}
 use Rattle.dap_accessed.specs.declared.phase.Phase.{Phase}
 use Rattle.dap_accessed.specs.declared.phase.Phase.TheVariants as phases
@@ -19,7 +19,7 @@ abbrev pub IsPlace : ℕ → List ℕ → Type 0
 IsPlace at bytes = (at < length bytes) ⊎ ((at ≡ 0) × (length bytes ≡ 0))
 
 -- The item at a place was served: after any items, an end that stood as after these stands as after these and it, and
--- gives just the answers that it adds, joined as far as the peer's limit goes. None is longer than that limit, which
+-- gives just the answers that it adds, joined as far as the peer's limit goes. Each has a spelling, and none is longer than that limit, which
 -- is 64 bytes before the peer's Config.
 pub record Serves (bytes : List ℕ) (at : ℕ) (old new : Present) (served : Served) : Type 0 where
   pub item : Item
@@ -27,6 +27,7 @@ pub record Serves (bytes : List ℕ) (at : ℕ) (old new : Present) (served : Se
   pub stands : (items : List Item) → StandsAfter items old → StandsAfter (items ++ item ∷ []) new
   pub answers : (items : List Item) → StandsAfter items old →
       bodies served.answers.items ≡ all_joined (Blocked old.limit (added old.own (stands_after old.own items) item))
+  pub fits : (items : List Item) → StandsAfter items old → AllFit (added old.own (stands_after old.own items) item)
   pub within : AllAtMost old.limit (bodies served.answers.items)
   pub same_own : new.own ≡ old.own
 

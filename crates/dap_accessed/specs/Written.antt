@@ -4,7 +4,7 @@ use Rattle.std.specs.Global.{Vec}
 use Rattle.dap_msg.specs.Message.{Message, Ack}
 use Rattle.dap_msg.specs.Canon.{file_data_size}
 use Rattle.dap_msg.specs.Exchange.{four_bytes, config_of, attributes_of, record_of, short_answer}
-use Rattle.dap_msg.specs.Blocked.{Blocked, all_joined, bodies}
+use Rattle.dap_msg.specs.Blocked.{Blocked, all_joined, bodies, AllFit}
 use Rattle.rec_file.specs.declared.shapes.TheConstants.{MAX_RECORD}
 use Rattle.dap_accessed.specs.declared.answers.Answer.{Answer}
 use Rattle.dap_accessed.specs.declared.answers.Answer.TheVariants as answer
@@ -37,7 +37,8 @@ abbrev pub AllAtMost : ℕ → List (List ℕ) → Type 0
 AllAtMost limit [] = Unit {0}
 AllAtMost limit (bytes ∷ more) = (length bytes ≤ limit) × AllAtMost limit more
 
--- NSP messages with these messages, joined as far as the limit goes, and none longer than it
+-- NSP messages with these messages, each of which has a spelling, joined as far as the limit goes, and none longer than it
 pub record Answered (limit : ℕ) (messages : List Message) (answers : Vec (Vec ℕ)) : Type 0 where
   pub bytes : bodies answers.items ≡ all_joined (Blocked limit messages)
   pub within : AllAtMost limit (bodies answers.items)
+  pub fits : AllFit messages

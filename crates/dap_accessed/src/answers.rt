@@ -2,7 +2,7 @@
 
 ghost use Rattle.std.specs.Prelude.{◌≡◌, ◌≤◌, ◌++◌, List, [], ◌∷◌, IfOk, OnOk, length};
 ghost use Rattle.dap_msg.specs.Message.{Ack, Message as Meaning, Status, seen};
-ghost use Rattle.dap_msg.specs.Canon.{canon, file_data_size};
+ghost use Rattle.dap_msg.specs.Canon.{Fits, canon, file_data_size};
 ghost use Rattle.dap_msg.specs.Written.{Appends};
 ghost use Rattle.dap_msg.specs.Exchange.{attributes_of, config_of, record_of, short_answer};
 ghost use Rattle.rec_file.specs.declared.shapes.TheConstants.{MAX_RECORD};
@@ -50,6 +50,7 @@ fn write_status(
     requires rfa { length rfa.now ≤ 4 }
     requires recnum { length recnum.now ≤ 4 }
     requires stv { length stv.now ≤ 4 }
+    ensures fits { Fits (Status (record { code = code; rfa = rfa.now; recnum = recnum.now; stv = stv.now })) }
     ensures short { length (canon (Status (record { code = code; rfa = rfa.now; recnum = recnum.now; stv = stv.now }))) ≤ short_answer }
     ensures appends { Appends (canon (Status (record { code = code; rfa = rfa.now; recnum = recnum.now; stv = stv.now }))) out.old out.new result }
 {
@@ -83,6 +84,7 @@ fn format_code(format: Format) -> u8
 }
 
 fn write_attributes(shape: Shape, out: &mut Vec<u8>) -> Result<(), MsgFault>
+    ensures fits { Fits (attributes_of (org_number shape.org) (format_number shape.format) shape.mrs shape.mrn) }
     ensures short { length (canon (attributes_of (org_number shape.org) (format_number shape.format) shape.mrs shape.mrn)) ≤ short_answer }
     ensures appends { Appends (canon (attributes_of (org_number shape.org) (format_number shape.format) shape.mrs shape.mrn)) out.old out.new result }
 {
@@ -116,6 +118,7 @@ fn write_attributes(shape: Shape, out: &mut Vec<u8>) -> Result<(), MsgFault>
 }
 
 fn write_config(bufsiz: u16, out: &mut Vec<u8>) -> Result<(), MsgFault>
+    ensures fits { Fits (config_of bufsiz) }
     ensures short { length (canon (config_of bufsiz)) ≤ short_answer }
     ensures appends { Appends (canon (config_of bufsiz)) out.old out.new result }
 {
@@ -136,6 +139,7 @@ fn write_config(bufsiz: u16, out: &mut Vec<u8>) -> Result<(), MsgFault>
 }
 
 fn write_complete(out: &mut Vec<u8>) -> Result<(), MsgFault>
+    ensures fits { Fits completed }
     ensures short { length (canon completed) ≤ short_answer }
     ensures appends { Appends (canon completed) out.old out.new result }
 {
@@ -150,6 +154,7 @@ fn write_complete(out: &mut Vec<u8>) -> Result<(), MsgFault>
 }
 
 fn write_acknowledge(out: &mut Vec<u8>) -> Result<(), MsgFault>
+    ensures fits { Fits Ack }
     ensures short { length (canon Ack) ≤ short_answer }
     ensures appends { Appends (canon Ack) out.old out.new result }
 {
@@ -158,6 +163,7 @@ fn write_acknowledge(out: &mut Vec<u8>) -> Result<(), MsgFault>
 
 fn write_record(number: u32, body: &[u8], out: &mut Vec<u8>) -> Result<(), MsgFault>
     requires { length body.now ≤ MAX_RECORD }
+    ensures fits { Fits (record_of number body.now) }
     ensures size { length (canon (record_of number body.now)) ≡ file_data_size 4 (length body.now) }
     ensures appends { Appends (canon (record_of number body.now)) out.old out.new result }
 {
@@ -173,6 +179,7 @@ fn write_record(number: u32, body: &[u8], out: &mut Vec<u8>) -> Result<(), MsgFa
 /// Appends the message of an answer.
 fn write(answer: Answer<'_>, limit: u16, out: &mut Vec<u8>) -> Result<(), MsgFault>
     requires { FitsIn limit answer }
+    ensures fits { Fits (message_of answer.entry) }
     ensures within { length (canon (message_of answer.entry)) ≤ limit }
     ensures appends { Appends (canon (message_of answer.entry)) out.old out.new result }
 {

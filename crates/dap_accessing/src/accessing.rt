@@ -1,6 +1,10 @@
 //! The accessing end.
 
-ghost use Rattle.std.specs.Prelude.{◌≡◌, ◌≤◌, ◌<◌, [], length, map, IfOk, IfErr, OnErr};
+ghost use Rattle.std.specs.Prelude.{◌≡◌, ◌≢◌, ◌≤◌, ◌<◌, List, [], false, length, map, IfOk, IfErr, OnOk, OnErr};
+ghost use Rattle.dap_msg.specs.Items.{Item as TheItem};
+ghost use Rattle.dap_accessing.specs.declared.request.Request.{Request as Asked};
+ghost use Rattle.dap_accessing.specs.declared.fault.AskFault.TheVariants.{NoMemory};
+ghost use Rattle.dap_accessing.specs.Phase.{IsAdmissible};
 ghost use Rattle.dap_msg.specs.Exchange.{greatest_message, limit_of as the_limit};
 ghost use Rattle.dap_msg.specs.Message.{seen};
 ghost use Rattle.dap_msg.specs.Items.{Whole};
@@ -90,6 +94,29 @@ impl Accessing {
         };
         self.pending = Some(Pending::of(self.alloc, request));
         Ok(messages)
+    }
+
+    /// Whether `ask` would take the request, memory aside; refused as there. It takes no memory.
+    pub fn check(&self, request: &Request) -> Result<(), AskFault>
+        ensures works { OnOk result (self.now.failed ≡ false) }
+        ensures admissible { OnOk result ((requests : List Asked) (answers : List TheItem) → StandsAfter requests answers self.now → IsAdmissible self.now.own requests answers request.now) }
+        ensures refused { IfErr result (λ f. (f ≢ NoMemory) × AskRefused request.now self.now f) }
+    {
+        if self.failed {
+            return Err(AskFault::Failed);
+        }
+        if self.pending.is_some() {
+            return Err(AskFault::Busy);
+        }
+        if !self.phase.fits(request) {
+            return Err(AskFault::WrongPhase);
+        }
+        let number = carried_number(request).to_le_bytes();
+        let outgoing = Outgoing::of(self.bufsiz, request, &number);
+        if !outgoing.is_sendable(self.limit) {
+            return Err(AskFault::TooLarge);
+        }
+        Ok(())
     }
 
     /// Takes the message as the next answer.

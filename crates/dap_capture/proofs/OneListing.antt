@@ -5,7 +5,7 @@ use Rattle.hex.proofs.HexLemmas.{decode_of-ok, decode_of-same}
 use Rattle.dap_msg.proofs.Places.{have_items}
 use Rattle.nsp_seg.specs.Packets.{SegmentValue, segment, data_ack, Spells, marks, optional_ack}
 use Rattle.std.specs.Int.{w16, to_le_bytes}
-use Rattle.nsp_seg.proofs.Exactness.{spells-one, spells-apart, fault-one}
+use Rattle.nsp_seg.proofs.ForCallers.{spells-one, spells-apart, fault-one}
 use Rattle.dap_capture.specs.Messages.{IsMessagesText, item_line}
 use Rattle.dap_capture.specs.Packets.{IsPacketText, of_segment, of_ack, of_fault, SegmentMessages, segment_line, ack_line, fault_line as packet_fault_line}
 use Rattle.dap_capture.specs.Listing.{PacketLines, no_more, one_more as one_packet_more, Capture, HasOneListing, captures, heading, packet_limit}

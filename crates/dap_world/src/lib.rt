@@ -1,11 +1,30 @@
-//! What both ends of a DAP file access come to together: laws over their definitions, and of no code.
-//! Each function does nothing: its contract is the law (own; the exchange is that of DAP 5.6.0, message
-//! sequences).
+//! Both ends and the network, as events; and what both ends of a DAP file access come to together: laws
+//! over their definitions (own; the exchange is that of DAP 5.6.0, message sequences).
 #![tactic(auto)]
 
+mod copying;
+mod event;
+mod exchange;
 mod laws;
+mod settling;
+mod setup;
+mod side;
+mod splitting;
+mod world;
 
+pub use dap_accessed::FileTable;
+pub use dap_accessing::{AskFault, By, Ending, How, Numbered, Octets, OctetsList, Report, Request};
+pub use event::{End, Event, Step, WorldFault};
 pub use laws::{
-    answers_keep_to_the_limit, both_ends_agree, each_request_has_one_report,
-    no_answer_is_unexpected, requests_keep_to_the_limit,
+    answers_keep_to_the_limit, both_ends_agree, each_request_has_one_report, events_are_decided,
+    every_run_keeps_the_headline, no_answer_is_unexpected, numbers_stay_apart,
+    requests_keep_to_the_limit,
 };
+pub use nsp_link::{Got, LinkEnd, LinkFault};
+pub use rec_file::{AnyFile, Format, Org, RecordFile, Shape};
+pub use setup::WorldSetup;
+pub use side::Wired;
+pub use world::World;
+
+#[cfg(test)]
+mod tests;

@@ -9,7 +9,7 @@ use Rattle.nsp_seg.specs.Packets.{PacketValue, segment, data_ack}
 use Rattle.nsp_link.specs.Cutting.{Piece, cut, cut_message}
 use Rattle.std.specs.List.{AllByRecursion}
 use Rattle.nsp_link.specs.declared.link.LinkSetup.{LinkSetup}
-use Rattle.nsp_link.specs.Link.{LinkValue, Carries, IsWhole, Stands, Sends, begun, new_link}
+use Rattle.nsp_link.specs.Link.{LinkValue, Carries, IsWritten, Writes, IsWhole, Stands, Sends, begun, new_link}
 use Rattle.nsp_link.specs.Sending.{queued_link}
 use Rattle.nsp_link.proofs.Taking.{length-cut-more, count-positive}
 
@@ -29,6 +29,13 @@ carries_more (segment s) size ms more (Some k) a c = (c.0, rw (cut-append size m
 carries_more (segment s) size ms more None a c = c
 carries_more (data_ack s) size ms more None a c = c
 carries_more (data_ack s) size ms more (Some k) a c = c
+
+pub written_longer : (src dst : ℕ) (pieces more : List Piece) (k : Option ℕ) (a : ℕ) (bytes : List ℕ) → IsWritten src dst pieces k a bytes → IsWritten src dst (pieces ++ more) k a bytes
+written_longer src dst pieces more (Some k) a bytes (p, is, fits, e) = (p, (is.0, is.1, kept_place pieces more (k - 1) is.0 is.2, is.3), fits, e)
+written_longer src dst pieces more None a bytes w = w
+
+pub writes_more : (v : LinkValue) (ms more : List (List ℕ)) (k : Option ℕ) (a : ℕ) (bytes : List ℕ) → Writes v ms k a bytes → Writes v (ms ++ more) k a bytes
+writes_more v ms more k a bytes w = rw (cut-append v.seg_size ms more) (written_longer v.local v.remote (cut v.seg_size ms) (cut v.seg_size more) k a bytes w)
 
 begun_more : (size : ℕ) (ms more : List (List ℕ)) (r n : ℕ) → IsWhole size ms r n → begun size ms r n ≡ begun size (ms ++ more) r n
 begun_more size ms more r n w =

@@ -9,6 +9,8 @@ pub mod Giving
 pub mod Delivering
 pub mod Writing
 pub mod Growing
+pub mod Written
 pub mod Several
 pub mod Numbers
 pub mod Separating
+pub mod ForCallers

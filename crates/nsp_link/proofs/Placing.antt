@@ -6,8 +6,8 @@ use Rattle.nsp_link.specs.declared.segment.Segment.{Segment}
 use Rattle.std.proofs.Common.{subst}
 use Rattle.nsp_seg.specs.Numbers.{residue}
 use Rattle.nsp_seg.specs.declared.packet.AckField.{AckField}
-use Rattle.nsp_seg.specs.Packets.{PacketValue, Spells, segment}
-use Rattle.nsp_link.specs.Link.{LinkValue}
+use Rattle.nsp_seg.specs.Packets.{PacketValue, segment}
+use Rattle.nsp_link.specs.Link.{LinkValue, IsSpelling}
 use Rattle.nsp_link.specs.Sending.{acknowledged, segment_packet}
 use Rattle.nsp_link.specs.Cutting.{Piece}
 use Rattle.nsp_link.specs.Pieces.{piece, pieces}
@@ -30,8 +30,8 @@ pub packet_is : (v : LinkValue) (s : Segment) (p : Piece) (ack : AckField) (dst 
 packet_is v s p ack dst src number k payload same bytes acks numbers to from =
     rw (bytes, acks, numbers, to, from) (ap (λ (q : Piece). segment_packet v q k) same)
 
-pub spells_same : (p q : PacketValue) (bytes : List ℕ) → p ≡ q → Spells p bytes → Spells q bytes
-spells_same p q bytes e s = subst (λ (x : PacketValue). Spells x bytes) e s
+pub spelling_same : (p q : PacketValue) (bytes : List ℕ) → p ≡ q → IsSpelling p bytes → IsSpelling q bytes
+spelling_same p q bytes e s = subst (λ (x : PacketValue). IsSpelling x bytes) e s
 
 pub if_err_and : {X E : Type 0} (r : Result X E) (P Q : E → Type 0) → IsErrAnd r P → ((e : E) → P e → Q e) → IfErr r Q
 if_err_and (Ok x) P Q h f = tt

@@ -4,7 +4,6 @@ use Rattle.std.specs.Prelude.{slice_get}
 use Rattle.std.proofs.lemmas.Grind.{flat_map-append}
 use Rattle.std.proofs.lemmas.List.{length-drop, get_or-drop, length-append, drop-append-le, drop-drop, append-nil}
 use Rattle.std.proofs.lemmas.Option.{slice_get-get_or}
-use Rattle.nsp_seg.specs.Packets.{Spells}
 use Rattle.nsp_link.specs.Cutting.{Piece, cut, cut_message}
 use Rattle.nsp_link.specs.Link.{LinkValue, Sends, Writes}
 use Rattle.std.proofs.Common.{Result, Ok, Err, inl, inr}
@@ -16,11 +15,10 @@ use Rattle.nsp_link.specs.declared.link.Got.{Got}
 use Rattle.nsp_link.specs.declared.link.Got.TheVariants.{Accepted, Repeat, Early, AckOnly}
 use Rattle.nsp_link.specs.Link.{IsLink, failed_link, first_ack, piece_of}
 use Rattle.nsp_link.specs.Receiving.{forgotten, newly_acked, Acknowledges, TakesSegment, RefusesSegment, Received, kept, stopped, is_end, early_number}
-use Rattle.nsp_link.specs.Sending.{segment_packet, queued_link}
+use Rattle.nsp_link.specs.Sending.{WritesQueued, segment_packet, queued_link}
 
 pub writes_segment : (v : LinkValue) (messages : List (List ℕ)) (bytes : List ℕ) (place : ℕ) → place < length v.queue
-    → ((p : Piece) → slice_get v.queue place ≡ Some p → Spells (segment_packet v p (v.acked + 1 + place)) bytes)
-    → Sends v messages → Writes v messages (Some (v.acked + 1 + place)) v.received bytes
+    → WritesQueued v place bytes → Sends v messages → Writes v messages (Some (v.acked + 1 + place)) v.received bytes
 writes_segment v messages bytes place lt spelled sends =
     let pieces = cut v.seg_size messages in
     let d : Piece = record { first = false; last = false; payload = [] } in
@@ -30,7 +28,7 @@ writes_segment v messages bytes place lt spelled sends =
     let same : get_or pieces (v.acked + place) d ≡ p = sym (get_or-drop v.acked pieces place d) ∙ ap (λ (q : List Piece). get_or q place d) (sym sends.queue) in
     let back : (v.acked + 1 + place) - 1 ≡ v.acked + place = omega arith in
     let there : slice_get pieces ((v.acked + 1 + place) - 1) ≡ Some p = rw back (slice_get-get_or pieces (v.acked + place) d long ∙ ap (λ (q : Piece). Some q) same) in
-    (segment_packet v p (v.acked + 1 + place), spelled p at, (refl, refl), (omega arith, there, refl, refl))
+    (segment_packet v p (v.acked + 1 + place), (p, omega arith, there, refl), (spelled p at).0, (spelled p at).1)
 
 -- one message more is sent
 pub sends_more : (v : LinkValue) (messages : List (List ℕ)) (message : List ℕ) → Sends v messages → Sends (queued_link v (cut_message v.seg_size message)) (messages ++ message ∷ [])

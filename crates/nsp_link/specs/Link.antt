@@ -3,7 +3,7 @@ use Rattle.std.specs.Prelude.{◌≡◌, ◌⊎◌, ℕ, ◌+◌, ◌-◌, ◌*�
 use Rattle.std.specs.List.{AllByRecursion}
 use Rattle.nsp_seg.specs.Numbers.{residue}
 use Rattle.nsp_seg.specs.declared.packet.AckField.{AckField}
-use Rattle.nsp_seg.specs.Packets.{PacketValue, SegmentValue, segment, data_ack, Spells}
+use Rattle.nsp_seg.specs.Packets.{PacketValue, SegmentValue, segment, data_ack, Fits, spelling}
 use Rattle.nsp_link.specs.declared.link.LinkSetup.{LinkSetup}
 use Rattle.nsp_link.specs.declared.link.Got.{Got}
 use Rattle.nsp_link.specs.declared.link.Got.TheVariants.{Accepted, Repeat, Early, AckOnly}
@@ -121,10 +121,48 @@ abbrev pub IsBetween : ℕ → ℕ → PacketValue → Type 0
 IsBetween src dst (segment s) = (s.src ≡ src) × (s.dst ≡ dst)
 IsBetween src dst (data_ack s) = (s.src ≡ src) × (s.dst ≡ dst)
 
--- the bytes are a packet of this end that carries the k-th segment of the messages sent, and a
+-- ---- packets as an end writes them
+
+-- the one acknowledgement field of a packet that is written: of the first a segments
+abbrev pub acknowledging : ℕ → AckField
+acknowledging a = record { qual = 0; number = residue a }
+
+-- the k-th segment as it is written, from one address to the other
+abbrev pub written_segment : ℕ → ℕ → Piece → ℕ → ℕ → PacketValue
+written_segment src dst piece k a = segment (record {
+  first = piece.first;
+  last = piece.last;
+  dst = dst;
+  src = src;
+  ack1 = Some (acknowledging a);
+  ack2 = None;
+  number = residue k;
+  payload = piece.payload;
+})
+
+-- what is written that only acknowledges
+abbrev pub written_ack : ℕ → ℕ → ℕ → PacketValue
+written_ack src dst a = data_ack (record { dst = dst; src = src; ack1 = acknowledging a; ack2 = None })
+
+-- The one packet that is written of the k-th of these segments, numbered from 1, or of none, and of an
+-- acknowledgement of the first a segments of the other direction.
+abbrev pub IsPacketOf : ℕ → ℕ → List Piece → Option ℕ → ℕ → PacketValue → Type 0
+IsPacketOf src dst pieces (Some k) a p =
+    (piece : Piece) × (1 ≤ k) × (slice_get pieces (k - 1) ≡ Some piece) × (p ≡ written_segment src dst piece k a)
+IsPacketOf src dst pieces None a p = p ≡ written_ack src dst a
+
+-- the bytes are a packet's as it is written, bit by bit
+abbrev pub IsSpelling : PacketValue → List ℕ → Type 0
+IsSpelling p bytes = Fits p × (bytes ≡ spelling p)
+
+-- the bytes are that packet's: these values leave no other
+abbrev pub IsWritten : ℕ → ℕ → List Piece → Option ℕ → ℕ → List ℕ → Type 0
+IsWritten src dst pieces k a bytes =
+    (p : PacketValue) × IsPacketOf src dst pieces k a p × Fits p × (bytes ≡ spelling p)
+
+-- what this end writes of the k-th segment of the messages sent, or of none, and of the first a
 abbrev pub Writes : LinkValue → List (List ℕ) → Option ℕ → ℕ → List ℕ → Type 0
-Writes v messages k a bytes =
-    (p : PacketValue) × Spells p bytes × IsBetween v.local v.remote p × Carries p (cut v.seg_size messages) k a
+Writes v messages k a bytes = IsWritten v.local v.remote (cut v.seg_size messages) k a bytes
 
 -- ---- taking
 

@@ -1,5 +1,5 @@
 -- What is queued and written.
-use Rattle.std.specs.Prelude.{◌≡◌, ℕ, ◌+◌, ◌<◌, ◌≤◌, ◌++◌, ◌≢◌, false, IsTrue, List, [], length, All, slice_index_or, Some, None}
+use Rattle.std.specs.Prelude.{◌≡◌, ℕ, ◌+◌, ◌<◌, ◌≤◌, ◌++◌, ◌≢◌, false, IsTrue, List, [], length, All, slice_index_or, slice_get, Option, Some, None}
 use Rattle.nsp_seg.specs.Numbers.{residue}
 use Rattle.nsp_seg.specs.declared.packet.AckField.{AckField}
 use Rattle.nsp_seg.specs.Packets.{PacketValue, segment, data_ack}
@@ -7,27 +7,27 @@ use Rattle.nsp_link.specs.declared.fault.LinkFault.{LinkFault}
 use Rattle.nsp_link.specs.declared.fault.LinkFault.TheVariants.{BadSetup, Malformed, WrongLink, BadSequence, MessageTooLong, Failed, Exhausted, NoSuchSegment, NoMemory}
 use Rattle.nsp_link.specs.Cutting.{Piece, count_of, cut}
 use Rattle.nsp_link.specs.Limits.{most_segments}
-use Rattle.nsp_link.specs.Link.{LinkValue}
+use Rattle.nsp_link.specs.Link.{LinkValue, Sends, Writes, IsSpelling, acknowledging, written_segment, written_ack}
 
 -- what every packet of an end acknowledges
 abbrev pub acknowledged : LinkValue → AckField
-acknowledged v = record { qual = 0; number = residue v.received }
+acknowledged v = acknowledging v.received
 
 -- a segment under its number
 abbrev pub segment_packet : LinkValue → Piece → ℕ → PacketValue
-segment_packet v piece number = segment (record {
-  first = piece.first;
-  last = piece.last;
-  dst = v.remote;
-  src = v.local;
-  ack1 = Some (acknowledged v);
-  ack2 = None;
-  number = residue number;
-  payload = piece.payload;
-})
+segment_packet v piece number = written_segment v.local v.remote piece number v.received
 
 abbrev pub ack_packet_of : LinkValue → PacketValue
-ack_packet_of v = data_ack (record { dst = v.remote; src = v.local; ack1 = acknowledged v; ack2 = None })
+ack_packet_of v = written_ack v.local v.remote v.received
+
+-- the bytes are the segment at this place of the queue, under its number
+abbrev pub WritesQueued : LinkValue → ℕ → List ℕ → Type 0
+WritesQueued v place bytes =
+    (piece : Piece) → slice_get v.queue place ≡ Some piece → IsSpelling (segment_packet v piece (v.acked + 1 + place)) bytes
+
+-- of whatever messages were sent, the bytes are what this end writes of their k-th segment, or of none
+abbrev pub WritesSent : LinkValue → Option ℕ → List ℕ → Type 0
+WritesSent v k bytes = (messages : List (List ℕ)) → Sends v messages → Writes v messages k v.received bytes
 
 -- an end with more segments queued
 abbrev pub queued_link : LinkValue → List Piece → LinkValue

@@ -7,13 +7,14 @@ ghost use Rattle.nsp_link.specs.declared.link.LinkSetup.{LinkSetup};
 ghost use Rattle.nsp_link.specs.Cutting.{Piece, cut};
 ghost use Rattle.nsp_link.specs.Holding.{following, inserted, numbers, closed_up, with_number};
 ghost use Rattle.nsp_link.specs.Limits.{greatest_age};
-ghost use Rattle.nsp_link.specs.Link.{LinkValue, IsLink, Carries, Sends, Stands, new_link};
+ghost use Rattle.nsp_link.specs.Link.{LinkValue, IsLink, Carries, Sends, Stands, Writes, new_link};
 ghost use Rattle.nsp_link.specs.Sending.{queued_link};
 ghost use Rattle.nsp_link.specs.Separation.{IsSegmentNear, IsAckNear};
 
 /// What is said of the messages sent stays true when more are sent, and holds of a new end.
 pub fn messages_only_grow()
     ensures carries { (p : PacketValue) (size : ℕ) (messages more : List (List ℕ)) (k : Option ℕ) (a : ℕ) → Carries p (cut size messages) k a → Carries p (cut size (messages ++ more)) k a }
+    ensures writes { (v : LinkValue) (messages more : List (List ℕ)) (k : Option ℕ) (a : ℕ) (bytes : List ℕ) → Writes v messages k a bytes → Writes v (messages ++ more) k a bytes }
     ensures stands { (v : LinkValue) (size : ℕ) (messages more given : List (List ℕ)) → Stands v size messages given → Stands v size (messages ++ more) given }
     ensures sends { (v : LinkValue) (messages more : List (List ℕ)) → Sends v messages → Sends (queued_link v (cut v.seg_size more)) (messages ++ more) }
     ensures new_stands { (s : LinkSetup) (size : ℕ) (messages : List (List ℕ)) → Stands (new_link s) size messages [] }

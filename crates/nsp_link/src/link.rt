@@ -180,12 +180,12 @@ impl LinkEnd {
 
 impl LinkEnd {
     ghost use Rattle.std.specs.Prelude.{◌≡◌, ◌≢◌, ◌⊎◌, ◌+◌, ◌-◌, ◌^◌, ◌<◌, ◌≤◌, ◌++◌, [], ◌∷◌, length, drop, Ok, Err, Some, None, Option, IfOk, IfErr, IfSome, OnOk, OnErr, IsOk, IsTrue, IsErrOf, MatchOption, MatchResult, ℕ, List, false, true, is_none, slice_get};
-    ghost use Rattle.nsp_seg.specs.Packets.{Spells, IsWritable, view};
+    ghost use Rattle.nsp_seg.specs.Packets.{IsWritable, view};
     ghost use Rattle.nsp_link.specs.declared.fault.LinkFault.TheVariants.{BadSetup, BadSequence, Failed, Exhausted, MessageTooLong, NoMemory, NoSuchSegment};
     ghost use Rattle.nsp_link.specs.Cutting.{Piece, cut, cut_message};
     ghost use Rattle.nsp_link.specs.Pieces.{bodies};
-    ghost use Rattle.nsp_link.specs.Link.{IsLink, LinkValue, Sends, Stands, MayEmit, Writes};
-    ghost use Rattle.nsp_link.specs.Sending.{segment_packet, ack_packet_of, acknowledged, queued_link, SendFault, SendAllFault, MayQueue, MayQueueAll};
+    ghost use Rattle.nsp_link.specs.Link.{IsLink, LinkValue, Sends, Stands, MayEmit, Writes, IsSpelling};
+    ghost use Rattle.nsp_link.specs.Sending.{WritesQueued, WritesSent, segment_packet, ack_packet_of, acknowledged, queued_link, SendFault, SendAllFault, MayQueue, MayQueueAll};
 
     /// Queues the segments of a message: one for each `seg_size` bytes or part of that, and one of no bytes
     /// for an empty message (NSP 4.0.0, data segment message). Refused, with nothing changed: `Failed`;
@@ -243,11 +243,33 @@ impl LinkEnd {
         }
     }
 
+    /// Whether `send_all` would take the messages, memory aside; refused as there.
+    pub fn check_messages(&self, messages: &[Vec<u8>]) -> Result<(), LinkFault>
+        ensures ok { OnOk result (MayQueueAll self.now (bodies messages.now)) }
+        ensures err { IfErr result (λ e. (e ≢ NoMemory) × SendAllFault self.now (bodies messages.now) e) }
+    {
+        if self.failed {
+            return Err(LinkFault::Failed);
+        }
+        let room = MOST_SEGMENTS - self.acked - (self.queue.len() as u64);
+        check_all(self.setup.seg_size, self.setup.max_message, room, messages)
+    }
+
+    /// Whether a segment that was never sent waits and the window has room, so that `next_packet` writes one,
+    /// unless the end has failed. It takes no memory.
+    pub fn may_send(&self) -> bool
+        ensures yes { result ≡ true → MayEmit self.now }
+        ensures no { result ≡ false → MayEmit self.now → ⊥ }
+    {
+        let place = self.unacked();
+        place < self.queue.len() && place < self.setup.window
+    }
+
     // The bytes of the segment at this place of the queue.
     fn segment_at(&self, place: usize) -> Result<Vec<u8>, LinkFault>
         requires { place < length self.now.queue }
-        ensures ok { IfOk result (λ v. (piece : Piece) → slice_get self.now.queue place ≡ Some piece → Spells (segment_packet self.now piece (self.now.acked + 1 + place)) v.items) }
-        ensures carries { IfOk result (λ v. (messages : List (List ℕ)) → Sends self.now messages → Writes self.now messages (Some (self.now.acked + 1 + place)) self.now.received v.items) }
+        ensures ok { IfOk result (λ v. WritesQueued self.now place v.items) }
+        ensures carries { IfOk result (λ v. WritesSent self.now (Some (self.now.acked + 1 + place)) v.items) }
         ensures err { IfErr result (λ e. e ≡ NoMemory) }
     {
         let segment = &self.queue[place];
@@ -276,7 +298,7 @@ impl LinkEnd {
 
     fn written(&self, packet: &Packet<'_>) -> Result<Vec<u8>, LinkFault>
         requires { IsWritable (view packet.now) }
-        ensures ok { IfOk result (λ v. Spells (view packet.now) v.items) }
+        ensures ok { IfOk result (λ v. IsSpelling (view packet.now) v.items) }
         ensures err { IfErr result (λ e. e ≡ NoMemory) }
     {
         let mut out = Vec::new(self.alloc);
@@ -292,8 +314,8 @@ impl LinkEnd {
     pub fn next_packet(&mut self) -> Result<Option<Vec<u8>>, LinkFault>
         ensures nothing { result ≡ Ok None → (self.new ≡ self.old) × (MayEmit self.old → ⊥) }
         ensures segment { IfOk result (λ o. IfSome o (λ v. MayEmit self.old × (self.new ≡ record self.old { sent = self.old.sent + 1 })
-            × ((piece : Piece) → slice_get self.old.queue (self.old.sent - self.old.acked) ≡ Some piece → Spells (segment_packet self.old piece (self.old.sent + 1)) v.items))) }
-        ensures carries { IfOk result (λ o. IfSome o (λ v. (messages : List (List ℕ)) → Sends self.old messages → Writes self.old messages (Some (self.old.sent + 1)) self.old.received v.items)) }
+            × ((piece : Piece) → slice_get self.old.queue (self.old.sent - self.old.acked) ≡ Some piece → IsSpelling (segment_packet self.old piece (self.old.sent + 1)) v.items))) }
+        ensures carries { IfOk result (λ o. IfSome o (λ v. WritesSent self.old (Some (self.old.sent + 1)) v.items)) }
         ensures sends { (messages : List (List ℕ)) → Sends self.old messages → Sends self.new messages }
         ensures stands { (size : ℕ) (messages given : List (List ℕ)) → Stands self.old size messages given → Stands self.new size messages given }
         ensures err { IfErr result (λ e. (self.new ≡ self.old) × (((e ≡ NoMemory) × MayEmit self.old) ⊎ ((e ≡ Failed) × IsTrue self.old.failed))) }
@@ -314,9 +336,8 @@ impl LinkEnd {
     /// The packet of a segment that was sent and isn't acknowledged, again: the oldest is at place 0.
     /// Refused: `Failed`; `NoSuchSegment`, from `unacked()` on; `NoMemory`.
     pub fn resend(&self, place: usize) -> Result<Vec<u8>, LinkFault>
-        ensures segment { IfOk result (λ v. (place < self.now.sent - self.now.acked)
-            × ((piece : Piece) → slice_get self.now.queue place ≡ Some piece → Spells (segment_packet self.now piece (self.now.acked + 1 + place)) v.items)) }
-        ensures carries { IfOk result (λ v. (messages : List (List ℕ)) → Sends self.now messages → Writes self.now messages (Some (self.now.acked + 1 + place)) self.now.received v.items) }
+        ensures segment { IfOk result (λ v. (place < self.now.sent - self.now.acked) × WritesQueued self.now place v.items) }
+        ensures carries { IfOk result (λ v. WritesSent self.now (Some (self.now.acked + 1 + place)) v.items) }
         ensures failed { IsTrue self.now.failed → IsErrOf result Failed }
         ensures missing { self.now.failed ≡ false → self.now.sent - self.now.acked ≤ place → IsErrOf result NoSuchSegment }
         ensures memory { self.now.failed ≡ false → place < self.now.sent - self.now.acked → IfErr result (λ e. e ≡ NoMemory) }
@@ -333,7 +354,7 @@ impl LinkEnd {
     /// A packet that only acknowledges all segments that were taken, and none that is held (NSP 4.0.0, data
     /// acknowledgement message). Refused: `Failed`; `NoMemory`.
     pub fn ack_packet(&self) -> Result<Vec<u8>, LinkFault>
-        ensures ack { IfOk result (λ v. Spells (ack_packet_of self.now) v.items) }
+        ensures ack { IfOk result (λ v. IsSpelling (ack_packet_of self.now) v.items) }
         ensures carries { IfOk result (λ v. (messages : List (List ℕ)) → Writes self.now messages None self.now.received v.items) }
         ensures failed { IsTrue self.now.failed → IsErrOf result Failed }
         ensures memory { self.now.failed ≡ false → IfErr result (λ e. e ≡ NoMemory) }

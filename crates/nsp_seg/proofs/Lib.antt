@@ -5,3 +5,4 @@ pub mod Faults
 pub mod Found
 pub mod Faulty
 pub mod Exactness
+pub mod ForCallers

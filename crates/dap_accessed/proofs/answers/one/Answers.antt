@@ -8,6 +8,6 @@ use Rattle.dap_accessed.proofs.answers.one.Goals as goal
 
 pub returns : goal.returns
 returns c =
-    answered_one c.args.limit (message_of c.args.answer) c.push.new.self c.in_ok-write.ensures.within
+    answered_one c.args.limit (message_of c.args.answer) c.push.new.self c.in_ok-write.ensures.fits c.in_ok-write.ensures.within
     (ap bodies c.in_ok-push.ensures.items ∙ ap (λ (l : List (Vec ℕ)). bodies (l ++ c.write.new.out ∷ [])) c.new-answers.ensures.items
     ∙ ap (λ (x : List ℕ). x ∷ []) (c.in_ok-write.ensures.appends ∙ ap (λ (x : List ℕ). x ++ canon (message_of c.args.answer)) c.new-bytes.ensures.items))

@@ -11,4 +11,5 @@ returns c =
     (c.in_ok-append.ensures [] (record {
       bytes = ap bodies c.new-answers.ensures.items;
       within = subst (λ (l : List (Vec ℕ)). AllAtMost c.args.limit (bodies l)) (sym c.new-answers.ensures.items) tt;
+      fits = tt;
     }))

@@ -9,3 +9,6 @@ encode-requires c = rw (c.org_code.ensures, c.format_code.ensures, c.to_le_bytes
 
 pub returns-clause-short : goal.returns-clause-short
 returns-clause-short c = (answers_fit.attributes (org_number c.args.shape.org) (format_number c.args.shape.format) c.args.shape.mrs c.args.shape.mrn (org_small c.args.shape.org) (format_small c.args.shape.format) (omega arith)).short
+
+pub returns-clause-fits : goal.returns-clause-fits
+returns-clause-fits c = (answers_fit.attributes (org_number c.args.shape.org) (format_number c.args.shape.format) c.args.shape.mrs c.args.shape.mrn (org_small c.args.shape.org) (format_small c.args.shape.format) (omega arith)).fits

@@ -7,3 +7,6 @@ encode-requires c = (answers_fit.complete 2 (lit< tt)).fits
 
 pub returns-clause-short : goal.returns-clause-short
 returns-clause-short c = (answers_fit.complete 2 (lit< tt)).short
+
+pub returns-clause-fits : goal.returns-clause-fits
+returns-clause-fits c = (answers_fit.complete 2 (lit< tt)).fits

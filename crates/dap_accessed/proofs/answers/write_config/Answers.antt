@@ -7,3 +7,6 @@ encode-requires c = (answers_fit.config c.args.bufsiz (omega arith)).fits
 
 pub returns-clause-short : goal.returns-clause-short
 returns-clause-short c = (answers_fit.config c.args.bufsiz (omega arith)).short
+
+pub returns-clause-fits : goal.returns-clause-fits
+returns-clause-fits c = (answers_fit.config c.args.bufsiz (omega arith)).fits

@@ -1,6 +1,6 @@
-use Rattle.std.proofs.Common.{ap, ◌∙◌}
+use Rattle.std.proofs.Common.{ap, ◌∙◌, subst}
 use Rattle.dap_msg.specs.Items.{seen_item}
-use Rattle.dap_msg.specs.Blocked.{Blocked, all_joined}
+use Rattle.dap_msg.specs.Blocked.{Blocked, all_joined, AllFit}
 use Rattle.dap_accessed.proofs.StepIs.{stands-more, answers-are, same-own}
 use Rattle.dap_accessed.specs.Present.{Present}
 use Rattle.dap_accessed.proofs.accessed.Accessed.serve.Goals as goal
@@ -15,6 +15,7 @@ returns-clause-serves c =
       reads = c.item_at-next.ensures.exact;
       stands = stands-more old c.serve_item.new.self item moves.present;
       answers = λ items h. moves.answered.bytes ∙ ap (λ l. all_joined (Blocked old.limit l)) (answers-are old item items h);
+      fits = λ items h. subst AllFit (answers-are old item items h) moves.answered.fits;
       within = moves.answered.within;
       same_own = ap (λ (p : Present). p.own) moves.present ∙ same-own old item;
     }

@@ -1,7 +1,6 @@
 use Rattle.std.proofs.Common.{◌≡◌, ◌+◌, ◌-◌, ℕ, length, ap, arith, subst}
 use Rattle.std.proofs.lemmas.List.{length-map}
-use Rattle.nsp_seg.specs.Packets.{Spells}
-use Rattle.nsp_link.specs.Link.{LinkValue}
+use Rattle.nsp_link.specs.Link.{LinkValue, IsSpelling}
 use Rattle.nsp_link.specs.Pieces.{piece as piece_in}
 use Rattle.nsp_link.specs.Sending.{segment_packet}
 use Rattle.nsp_link.proofs.link.LinkEnd.next_packet.Goals as goal
@@ -18,5 +17,5 @@ returns-clause-segment c =
     let number : now.acked + 1 + place ≡ now.sent + 1 = omega (arith, valid.acked, value) in (
       (omega (arith, valid.queued, valid.acked, value, queue, items, c.len.ensures, c.self.inside.queue.ok.0, c.if-place-len.false), omega (arith, valid.within, valid.acked, value, window, c.if-place-self.false)),
       ap (λ (v : LinkValue). record v { sent = v.sent + 1 }) c.self.view_is,
-      (λ piece at. subst (λ (n : ℕ). Spells (segment_packet now piece n) c.in_ok-packet.packet.items) number (c.in_ok-packet.ensures.ok piece (rw value at))),
+      (λ piece at. subst (λ (n : ℕ). IsSpelling (segment_packet now piece n) c.in_ok-packet.packet.items) number (c.in_ok-packet.ensures.ok piece (rw value at))),
     )

@@ -4,7 +4,7 @@ use Rattle.std.proofs.lemmas.List.{length-map}
 use Rattle.nsp_link.specs.Link.{LinkValue}
 use Rattle.nsp_link.specs.Pieces.{piece as piece_in, pieces}
 use Rattle.nsp_link.proofs.Writing.{writes_segment}
-use Rattle.nsp_link.proofs.Placing.{if_ok_map, piece_read, packet_is, spells_same}
+use Rattle.nsp_link.proofs.Placing.{if_ok_map, piece_read, packet_is, spelling_same}
 use Rattle.nsp_link.proofs.link.LinkEnd.segment_at.Goals as goal
 
 pub returns-clause-ok : goal.returns-clause-ok
@@ -16,7 +16,7 @@ returns-clause-ok c =
     (λ v spelled piece at.
     let inside : slice_get (pieces items) c.args.place ≡ Some piece = rw queue-is at in
     let same = piece_read items c.args.place c.index-segment.result.now piece lt c.index-segment.ensures inside in
-    spells_same _ _ v.items
+    spelling_same _ _ v.items
     (packet_is c.args.self.now c.index-segment.result.now piece c.acknowledgement.result c.self.inside.setup.remote c.self.inside.setup.local c.of.result (c.args.self.now.acked + 1 + c.args.place) c.deref.result.now
     same c.deref.ensures c.acknowledgement.ensures (rw (← c.self.view_is) c.of.ensures) (ap (λ (w : LinkValue). w.remote) c.self.view_is) (ap (λ (w : LinkValue). w.local) c.self.view_is))
     spelled)

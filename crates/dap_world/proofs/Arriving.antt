@@ -1,0 +1,61 @@
+-- What isn't stale is due.
+use Rattle.std.proofs.Common.{◌≡◌, ℕ, zero, suc, ◌+◌, ◌≤◌, Bool, true, false, arith, refl, ◌∙◌, subst, List, [], ◌∷◌}
+use Rattle.std.specs.Prelude.{◌||◌, Option, Some, None, IfSome, slice_get}
+use Rattle.std.specs.List.{AllByRecursion}
+use Rattle.nsp_seg.specs.Packets.{PacketValue, segment, data_ack}
+use Rattle.nsp_link.specs.Link.{LinkValue, IsBetween}
+use Rattle.nsp_link.specs.Cutting.{cut}
+use Rattle.nsp_link.proofs.ForCallers.{written_spells}
+use Rattle.dap_world.specs.Machine.{is_old, is_old_segment}
+use Rattle.dap_world.specs.Inner.Sides.{SideValue, WiredValue}
+use Rattle.dap_world.specs.Inner.Ways.{IsWay, IsNear, AllNear, IsDueAs, IsComing, is_old_wired}
+
+pub all_at : {X : Type 0} (P : X → Type 0) → (xs : List X) (j : ℕ) (x : X) → AllByRecursion P xs → slice_get xs j ≡ Some x → P x
+all_at P [] j x all e = let no : ⊥ = cc in absurd no
+all_at {X} P (y ∷ xs) zero x all e = let same : y ≡ x = cc in subst P same all.0
+all_at P (y ∷ xs) (suc j) x all e = all_at P xs j x all.1 e
+
+between : (src dst src' dst' : ℕ) (p : PacketValue) → src ≡ src' → dst ≡ dst' → IsBetween src dst p → IsBetween src' dst' p
+between src dst src' dst' (segment s) e e' h = (h.0 ∙ e, h.1 ∙ e')
+between src dst src' dst' (data_ack s) e e' h = (h.0 ∙ e, h.1 ∙ e')
+
+pub young_segment : (taken : ℕ) (k : Option ℕ) → is_old_segment taken k ≡ false → IfSome k (λ n. taken + 1 ≤ n + 2047)
+young_segment taken None e = tt
+young_segment taken (Some k) e = grind (arith, e)
+
+pub young_ack : (acks acked : ℕ) → is_old acks acked ≡ false → acked ≤ acks + 2047
+young_ack acks acked e = grind (arith, e)
+
+pub neither : (a b : Bool) → (a || b) ≡ false → (a ≡ false) × (b ≡ false)
+neither false false e = (refl, refl)
+neither false true e = let no : ⊥ = cc in absurd no
+neither true b e = let no : ⊥ = cc in absurd no
+
+-- the j-th packet is due unless it is stale
+pub due : (from : SideValue) (v : LinkValue) (messages given : List (List ℕ)) (j : ℕ) (w : WiredValue)
+    → IsWay from v messages given → AllNear v from.wire → slice_get from.wire j ≡ Some w → is_old_wired v w ≡ false → IsDueAs v from.link.seg_size messages given w
+due from v messages given j w way near at young =
+    let written = written_spells from.link.local from.link.remote (cut from.link.seg_size messages) w.segment w.acks w.packet (all_at _ from.wire j w way.wire at) in
+    let close : IsNear v w = all_at (IsNear v) from.wire j w near at in
+    let both = neither (is_old_segment v.received w.segment) (is_old w.acks v.acked) young in
+    record {
+      value = written.0;
+      spelled = written.1;
+      due = record {
+        running = way.listening;
+        positive = way.size;
+        stands = way.stands;
+        short = way.short;
+        way = between from.link.local from.link.remote v.remote v.local written.0 way.there way.back written.2;
+        carries = written.3;
+        fresh = (young_segment v.received w.segment both.0, young_ack w.acks v.acked both.1);
+        near = close.segment;
+        believable = close.acks;
+      };
+    }
+
+pub coming : (from : SideValue) (v : LinkValue) (messages given : List (List ℕ)) (j : ℕ) (w : WiredValue)
+    → IsWay from v messages given → AllNear v from.wire → slice_get from.wire j ≡ Some w → is_old_wired v w ≡ false → IsComing v w
+coming from v messages given j w way near at young =
+    let close : IsNear v w = all_at (IsNear v) from.wire j w near at in
+    record { size = from.link.seg_size; messages = messages; given = given; due = due from v messages given j w way near at young; few = close.few }

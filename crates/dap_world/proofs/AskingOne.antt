@@ -1,0 +1,264 @@
+-- Asking a request is a step of the machine.
+use Rattle.std.proofs.Common.{◌≡◌, ◌≢◌, ℕ, zero, suc, ◌+◌, ◌≤◌, arith, refl, sym, ◌∙◌, subst, ap, true, false, List, [], ◌∷◌, ◌++◌, length, take, drop, map}
+use Rattle.std.specs.Prelude.{Option, Result, Ok, Err, IfOk, IfErr, nat_le, if◌then◌else◌}
+use Rattle.std.proofs.lemmas.List.{length-append, length-map, take-append-le, append-nil}
+use Rattle.std.proofs.lemmas.List.Elements.{All-cons}
+use Rattle.dap_msg.specs.Message.{Message}
+use Rattle.dap_msg.specs.Items.{Item, Whole}
+use Rattle.dap_msg.specs.Canon.{canon}
+use Rattle.dap_msg.specs.Blocked.{NspMessage, joined, Blocked, blocked_after, all_joined, messages_in, AllFit, AllWithin, IsWithin}
+use Rattle.dap_msg.specs.BlockedLaws.{messages_in-Blocked, within_limit}
+use Rattle.dap_accessed.specs.Standing as at
+use Rattle.dap_accessed.specs.Standing.{Place}
+use Rattle.dap_accessed.specs.Groups.{stands_after}
+use Rattle.dap_accessed.specs.Present as accessed
+use Rattle.dap_accessing.specs.Present as accessing
+use Rattle.dap_accessing.specs.Present.{FitsDue}
+use Rattle.dap_accessing.specs.Asked.{Asked, messages_of}
+use Rattle.dap_accessing.specs.Told.{Told, Due, NothingDue, AnswersDue, Wrong, due_after, Hearing, Reports, Waits, Unexpected, hear}
+use Rattle.dap_accessing.specs.Phase.{IsAdmissible, IsNoneDue, AreSendable, phase_after, limit_after, phase_fits}
+use Rattle.dap_accessing.specs.declared.phase.Phase.{Phase}
+use Rattle.dap_accessing.specs.declared.phase.Phase.TheVariants.{Fresh, Ready, Opened, Connected, Stopped}
+use Rattle.dap_accessing.specs.declared.request.Request.{Request}
+use Rattle.dap_accessing.specs.declared.request.Request.TheVariants as request
+use Rattle.dap_accessing.specs.declared.report.Report.{Report}
+use Rattle.dap_accessing.specs.declared.fault.AskFault.{AskFault}
+use Rattle.dap_accessing.specs.declared.fault.AskFault.TheVariants as ask_fault
+use Rattle.dap_accessing.specs.Calls.{AskRefused}
+use Rattle.dap_accessing.proofs.Hearings.{told_by, Told-told_by}
+use Rattle.dap_accessing.proofs.Laws.{due_by, due-due_by, asked_one}
+use Rattle.dap_world.specs.Agreement.{AgreeAt, AreWithin, answers_to, items_of, reports_of}
+use Rattle.dap_world.specs.declared.event.Event.TheVariants as event
+use Rattle.dap_world.specs.declared.event.Step.TheVariants as step
+use Rattle.dap_world.specs.declared.event.WorldFault.{WorldFault}
+use Rattle.dap_world.specs.declared.event.WorldFault.TheVariants as fault
+use Rattle.dap_world.specs.Machine.{State, taken_of, answers_read, asking, asked, reported, Steps, Refuses}
+use Rattle.dap_world.specs.Runs.{Went}
+use Rattle.dap_world.specs.Inner.Answers.{ask_of}
+use Rattle.dap_world.specs.Inner.Worlds.{IsWorld}
+use Rattle.dap_world.specs.Inner.Sides.{SideValue}
+use Rattle.dap_world.specs.Inner.Ways.{AreShort}
+use Rattle.dap_world.specs.Inner.Parts.{Parts, AreParts, IsTold, asks, answers, served_items, answer_packets, asked_packets, direction_of, state_of}
+use Rattle.dap_world.specs.Inner.Asking.{AskedOne, AskFaultOf}
+use Rattle.dap_world.proofs.Counting.{counted}
+use Rattle.dap_world.proofs.Packets.{Asked-append}
+use Rattle.dap_world.proofs.Blocks.{asked-more}
+use Rattle.dap_world.proofs.Growing.{told_to, told_more, handed_same}
+use Rattle.dap_world.proofs.Kept.{kept-step, all-answers, served-front}
+use Rattle.dap_world.proofs.Agreeing.{both-agree}
+use Rattle.dap_world.proofs.Within.{messages-within}
+use Rattle.dap_world.proofs.Posted.{AreThen}
+
+-- ---- The limit that A knows is B's buffer, where more than one message could be joined.
+
+fresh-blocked : (own_a limit own_b : ℕ) (r : Request) → phase_fits Fresh r ≡ true → Blocked limit (messages_of own_a r) ≡ Blocked own_b (messages_of own_a r)
+fresh-blocked own_a limit own_b request.Hello e = refl
+fresh-blocked own_a limit own_b r e = cc
+
+same-blocked : (own_a own_b : ℕ) (phase : Phase) (place : Place) (limit_b limit_a : ℕ) (r : Request) → AgreeAt own_a own_b phase place limit_b limit_a → phase_fits phase r ≡ true
+    → Blocked limit_a (messages_of own_a r) ≡ Blocked own_b (messages_of own_a r)
+same-blocked own_a own_b Fresh place limit_b limit_a r h e = fresh-blocked own_a limit_a own_b r e
+same-blocked own_a own_b Ready at.Ready limit_b limit_a r h e = ap (λ (l : ℕ). Blocked l (messages_of own_a r)) h.1
+same-blocked own_a own_b Opened (at.Opened o) limit_b limit_a r h e = ap (λ (l : ℕ). Blocked l (messages_of own_a r)) h.1
+same-blocked own_a own_b Connected (at.Connected o t) limit_b limit_a r h e = ap (λ (l : ℕ). Blocked l (messages_of own_a r)) h.1
+same-blocked own_a own_b Stopped (at.Stopped o t) limit_b limit_a r h e = ap (λ (l : ℕ). Blocked l (messages_of own_a r)) h.1
+same-blocked own_a own_b Ready place limit_b limit_a r h e = absurd h
+same-blocked own_a own_b Opened place limit_b limit_a r h e = absurd h
+same-blocked own_a own_b Connected place limit_b limit_a r h e = absurd h
+same-blocked own_a own_b Stopped place limit_b limit_a r h e = absurd h
+
+-- what is asked is blocked by B's buffer
+asking_is : (s : State) (r : Request) → IsWorld s → IsAdmissible s.own_a s.requests (answers_read s) r → asking s r ≡ Blocked s.own_b (messages_of s.own_a r)
+unfolding reported
+asking_is s r h m =
+    let all = all-answers s r h m in
+    let agree = both-agree s.own_a s.own_b h.own_a h.own_b s.requests h.admissible in
+    let standing = (stands_after s.own_b (items_of s.own_a s.requests)).standing in
+    let reports = reports_of s.own_a s.own_b s.requests in
+    let same : reported s ≡ reports = ap (Told s.requests) all in
+    ap (λ (l : List Report). Blocked (limit_after l) (messages_of s.own_a r)) same
+    ∙ same-blocked s.own_a s.own_b (phase_after reports) standing.place standing.limit (limit_after reports) r agree.places (ap (λ (l : List Report). phase_fits (phase_after l) r) (sym same) ∙ m.1)
+
+-- ---- None is too long.
+
+alone : (m : Message) (limit : ℕ) → length (canon m) ≤ limit → length (joined (m ∷ [])) ≤ limit
+alone m limit h = let one = ap length (append-nil (canon m)) in omega (arith, one, h)
+
+within-one : (limit : ℕ) (p : NspMessage) → IsWithin limit p → AreWithin limit p → length (joined p) ≤ limit
+within-one limit [] h all = absurd h
+within-one limit (m ∷ []) h all = alone m limit all.0
+within-one limit (m ∷ n ∷ more) h all = h
+
+within-front : (limit : ℕ) (xs ys : List Message) → AreWithin limit (xs ++ ys) → AreWithin limit xs
+within-front limit [] ys h = tt
+within-front limit (x ∷ xs) ys h = (h.0, within-front limit xs ys h.1)
+
+within-back : (limit : ℕ) (xs ys : List Message) → AreWithin limit (xs ++ ys) → AreWithin limit ys
+within-back limit [] ys h = h
+within-back limit (x ∷ xs) ys h = within-back limit xs ys h.1
+
+short-packets : (limit most : ℕ) (packets : List NspMessage) → limit ≤ most → AllWithin limit packets → AreWithin limit (messages_in packets) → AreShort most (all_joined packets)
+short-packets limit most [] le h all = λ k d lt. absurd (omega arith)
+short-packets limit most (p ∷ packets) le h all =
+    let one = within-one limit p h.0 (within-front limit p (messages_in packets) all) in
+    All-cons (λ m. length m ≤ most) (joined p) (all_joined packets) (omega (arith, one, le)) (short-packets limit most packets le h.1 (within-back limit p (messages_in packets) all))
+
+all-fit : (limit : ℕ) (messages : List Message) → AreSendable limit messages → AllFit messages
+all-fit limit [] h = tt
+all-fit limit (m ∷ messages) h = (h.0.0, all-fit limit messages h.1)
+
+-- ---- No report comes of a request alone.
+
+not_wrong : (due : Due) (p : Option _) → FitsDue due p → due ≢ Wrong
+not_wrong NothingDue p h = λ e. cc
+not_wrong (AnswersDue r l) p h = λ e. cc
+not_wrong Wrong p h = absurd h
+
+none_due_by : (r : Request) (rs : List Request) (answers : List Item) (first : Hearing) → length (told_by rs first) ≡ suc (length rs) → due_by r rs answers first ≢ Wrong
+    → ((rest : List Item) → length (Told rs rest) ≡ length rs → due_after rs rest ≢ Wrong → due_after rs rest ≡ NothingDue) → due_by r rs answers first ≡ NothingDue
+none_due_by r rs answers (Reports done rest) e right on = on rest (omega arith) right
+none_due_by r rs answers Waits e right on = let none : ⊥ = omega arith in absurd none
+none_due_by r rs answers Unexpected e right on = let none : ⊥ = omega arith in absurd none
+
+none_due : (rs : List Request) (answers : List Item) → length (Told rs answers) ≡ length rs → due_after rs answers ≢ Wrong → due_after rs answers ≡ NothingDue
+none_due [] [] e right = refl
+none_due [] (a ∷ answers) e right = absurd (right refl)
+none_due (r ∷ rs) answers e right =
+    due-due_by r rs answers
+    ∙ none_due_by r rs answers (hear r answers) (ap length (sym (Told-told_by r rs answers)) ∙ e) (λ w. right (due-due_by r rs answers ∙ w)) (λ rest f g. none_due rs rest f g)
+
+same_told : (rs : List Request) (answers : List Item) (v : accessing.Present) (r : Request) → accessing.StandsAfter rs answers v → IsNoneDue rs answers → Told (rs ++ r ∷ []) answers ≡ Told rs answers
+same_told rs answers v r stands none = (asked_one rs answers r (none_due rs answers none (not_wrong (due_after rs answers) v.pending stands.pending))).told
+
+-- ---- The step.
+
+abbrev pub asked_parts : Parts → SideValue → accessing.Present → List Request → Parts
+asked_parts p s after requests = record p { a = s; accessing = after; requests = requests }
+
+asks_one : (p : Parts) (r : Request) → IsAdmissible p.accessing.own p.requests (answers_read (state_of p)) r → Steps (state_of p) (event.Ask r) (step.Asked (length (asking (state_of p) r))) (asked (state_of p) r)
+unfolding Steps
+asks_one p r m = (m, refl, refl)
+
+-- what B served is the same
+served_same : (p : Parts) (r : Request) → AreParts p → map Whole (take (length p.taken) (Asked p.accessing.own (p.requests ++ r ∷ []))) ≡ served_items p
+served_same p r h =
+    let front = served-front (state_of p) h.world in
+    let taken = ap length h.taken_is ∙ length-map (taken_of (state_of p)) canon in
+    let long = length-append (taken_of (state_of p)) front.0 in
+    let all = ap length front.1 in
+    ap (λ (l : List Message). map Whole (take (length p.taken) l)) (Asked-append p.accessing.own p.requests r)
+    ∙ ap (map Whole) (take-append-le (length p.taken) (Asked p.accessing.own p.requests) (messages_of p.accessing.own r) (omega (arith, taken, long, all)))
+
+dropped : (xs ys : List NspMessage) (n : ℕ) → n ≤ length xs → drop n (xs ++ ys) ≡ drop n xs ++ ys
+dropped xs ys zero le = refl
+dropped [] ys (suc n) le = let none : ⊥ = omega arith in absurd none
+dropped (x ∷ xs) ys (suc n) le = dropped xs ys n (omega arith)
+
+module _ (p : Parts) (h : AreParts p) (r : Request) (m : IsAdmissible p.accessing.own p.requests (answers_read (state_of p)) r) where
+  abbrev block : List NspMessage
+  block = Blocked p.accessed.own (messages_of p.accessing.own r)
+
+  abbrev q_of : List (List ℕ) → accessing.Present → Parts
+  q_of outbox after = record p { a = record p.a { outbox = outbox }; accessing = record after { own = p.accessing.own }; requests = p.requests ++ r ∷ [] }
+
+  answers_same : answer_packets p.accessed.own [] (map Whole (take (length p.taken) (Asked p.accessing.own (p.requests ++ r ∷ [])))) ≡ answers p
+  answers_same = ap (answer_packets p.accessed.own []) (served_same p r h)
+
+  state_asked : (outbox : List (List ℕ)) (after : accessing.Present) → state_of (q_of outbox after) ≡ asked (state_of p) r
+  state_asked outbox after =
+      let s = state_of p in
+      let n = counted p.a.handed p.a.outbox (asks p) h.from_a.bytes in
+      ap (λ (l : List NspMessage). record s { requests = p.requests ++ r ∷ []; from_a = direction_of p.a p.b.link (asked_packets p.accessing.own p.accessed.own (p.requests ++ r ∷ [])); from_b = direction_of p.b p.a.link l }) answers_same
+      ∙ ap (λ (l : List NspMessage). record s { requests = p.requests ++ r ∷ []; from_a = direction_of p.a p.b.link l }) (asked-more p.accessing.own p.accessed.own p.requests r)
+      ∙ ap (λ (l : List NspMessage). record s { requests = p.requests ++ r ∷ []; from_a = record s.from_a { waiting = drop (length p.a.handed) (asks p ++ block); handed = l } }) (handed_same p.a (asks p) block h.from_a.bytes)
+      ∙ ap (λ (l : List NspMessage). record s { requests = p.requests ++ r ∷ []; from_a = record s.from_a { waiting = l } })
+      (dropped (asks p) block (length p.a.handed) (omega arith) ∙ ap (λ (l : List NspMessage). s.from_a.waiting ++ l) (sym (asking_is s r h.world m)))
+
+  parts_asked : (more : List (List ℕ)) (after : accessing.Present) → more ≡ all_joined (Blocked p.accessed.own (messages_of p.accessing.own r))
+      → accessing.StandsAfter (p.requests ++ r ∷ []) (answers_read (state_of p)) (record after { own = p.accessing.own }) → IsWorld (asked (state_of p) r) → AreParts (q_of (p.a.outbox ++ more) after)
+  unfolding reported
+  parts_asked more after more_is stands world =
+      let s = state_of p in
+      let outbox = p.a.outbox ++ more in
+      let state = state_asked outbox after in
+      let all = messages_in-Blocked p.accessed.own (messages_of p.accessing.own r) in
+      let admissible : IsAdmissible p.accessing.own p.requests (map Whole (answers_to p.accessing.own p.accessed.own p.requests)) r =
+      subst (λ (l : List Item). IsAdmissible p.accessing.own p.requests l r) (all-answers s r h.world m) m in
+      let within = messages-within p.accessing.own p.accessed.own h.world.own_a h.world.own_b p.requests h.world.admissible r admissible in
+      let short : AreShort p.a.link.max_message more =
+      subst (AreShort p.a.link.max_message) (sym more_is)
+      (short-packets p.accessed.own p.a.link.max_message block h.limit_b (within_limit p.accessed.own (messages_of p.accessing.own r)) (subst (AreWithin p.accessed.own) (sym all) within)) in
+      let fit : AllFit (messages_in block) = subst AllFit (sym all) (all-fit _ (messages_of p.accessing.own r) m.2) in
+      record {
+        world = subst IsWorld (sym state) world;
+        alike = record { here = h.alike.here; there = h.alike.there; size = h.alike.size; window = h.alike.window; limit = h.alike.limit };
+        limit_a = h.limit_a;
+        limit_b = h.limit_b;
+        most = h.most;
+        from_a = subst (λ (l : List NspMessage). IsTold (record p.a { outbox = outbox }) p.b l (length p.taken)) (sym (asked-more p.accessing.own p.accessed.own p.requests r))
+            (told_more p.a p.b (asks p) block (length p.taken) p.a.link.inbox p.a.place outbox more h.from_a refl more_is fit short);
+        from_b = subst (λ (l : List NspMessage). IsTold p.b (record p.a { outbox = outbox }) l p.read) (sym answers_same) (told_to p.b p.a (answers p) p.read outbox h.from_b);
+        sent_is = h.sent_is ∙ ap (λ (x : State). map canon (messages_in x.from_a.handed)) (sym state);
+        taken_is = h.taken_is ∙ ap (λ (x : State). map canon (taken_of x)) (sym state);
+        reports_is = h.reports_is ∙ sym (same_told p.requests (answers_read s) p.accessing r h.asking m.0) ∙ ap reported (sym state);
+        asking = subst (λ (x : State). accessing.StandsAfter (p.requests ++ r ∷ []) (answers_read x) (record after { own = p.accessing.own })) (sym state) stands;
+        serving = subst (λ (x : State). accessed.StandsAfter (map Whole (taken_of x)) p.accessed) (sym state) h.serving;
+      }
+
+refused_by : (p : Parts) (r : Request) (f : AskFault) → AreParts p → f ≢ ask_fault.NoMemory → AskRefused r p.accessing f → Refuses (state_of p) (event.Ask r) (fault.Ask f)
+unfolding Refuses
+refused_by p r ask_fault.Failed h f refused = let works = h.asking.works in absurd cc
+refused_by p r ask_fault.Busy h f refused = refused.1 p.requests (answers_read (state_of p)) h.asking
+refused_by p r ask_fault.WrongPhase h f refused = refused.1 p.requests (answers_read (state_of p)) h.asking
+refused_by p r ask_fault.TooLarge h f refused = refused.1 p.requests (answers_read (state_of p)) h.asking
+refused_by p r ask_fault.NoMemory h f refused = absurd (f refl)
+
+refused : (p : Parts) (r : Request) (f : WorldFault) → AreParts p → AskFaultOf r p.accessing f → Went (state_of p) (event.Ask r) (Err f) (state_of p)
+unfolding Steps Refuses
+refused p r (fault.Ask f) h why = (refused_by p r f h why.0 why.1, refl)
+refused p r fault.NoMemory h may = (((_, _, asks_one p r (may p.requests (answers_read (state_of p)) h.asking)), λ t. t), refl)
+refused p r fault.NoSuchPacket h never = absurd never
+refused p r fault.Stale h never = absurd never
+refused p r fault.NothingToDo h never = absurd never
+refused p r fault.Exhausted h never = absurd never
+refused p r fault.BadSetup h never = absurd never
+
+pub asked_step : (p : Parts) (r : Request) (s : SideValue) (after : accessing.Present) (requests : List Request) (result : Result ℕ WorldFault) → AreParts p
+    → IfOk result (λ n. AskedOne r p.a s p.accessing after p.requests requests n)
+    → IfErr result (λ f. (s ≡ p.a) × (after ≡ p.accessing) × (requests ≡ p.requests) × AskFaultOf r p.accessing f) → AreThen p (event.Ask r) (asked_parts p s after requests) (ask_of result)
+unfolding Steps Refuses reported
+asked_step p r s after requests (Err f) h ok err = rw (err.0, err.1, err.2) (h, refused p r f h err.3)
+asked_step p r s after requests (Ok n) h o err =
+    let now = answers_read (state_of p) in
+    let m = o.asks.admissible p.requests now h.asking in
+    let spelled : o.messages ≡ all_joined (asking (state_of p) r) = o.asks.spelled ∙ ap (λ (l : ℕ). all_joined (Blocked l (messages_of p.accessing.own r))) h.asking.limit in
+    let more_is : o.messages ≡ all_joined (Blocked p.accessed.own (messages_of p.accessing.own r)) = spelled ∙ ap all_joined (asking_is (state_of p) r h.world m) in
+    let own : after ≡ record after { own = p.accessing.own } = ap (λ (k : ℕ). record after { own = k }) o.own in
+    let stands : accessing.StandsAfter (p.requests ++ r ∷ []) now (record after { own = p.accessing.own }) =
+    subst (λ (y : accessing.Present). accessing.StandsAfter (p.requests ++ r ∷ []) now y) own (o.asks.stands p.requests now h.asking) in
+    let steps = asks_one p r m in
+    let world : IsWorld (asked (state_of p) r) = kept-step (state_of p) (asked (state_of p) r) (event.Ask r) (step.Asked (length (asking (state_of p) r))) steps h.world in
+    let parts = parts_asked p h r m o.messages after more_is stands world in
+    let state = state_asked p h r m (p.a.outbox ++ o.messages) after in
+    let count : length (asking (state_of p) r) ≡ n = sym (length-map (asking (state_of p) r) joined) ∙ ap length (sym spelled) ∙ sym o.count in
+    let q = record p { a = record p.a { outbox = p.a.outbox ++ o.messages }; accessing = record after { own = p.accessing.own }; requests = p.requests ++ r ∷ [] } in
+    let went : Steps (state_of p) (event.Ask r) (step.Asked n) (state_of q) =
+    subst (λ (y : State). Steps (state_of p) (event.Ask r) (step.Asked n) y) (sym state) (subst (λ (k : ℕ). Steps (state_of p) (event.Ask r) (step.Asked k) (asked (state_of p) r)) count steps) in
+    let done : AreThen p (event.Ask r) q (Ok (step.Asked n)) = (parts, went) in
+    subst (λ (y : SideValue). AreThen p (event.Ask r) (asked_parts p y after requests) (Ok (step.Asked n))) (sym o.side)
+    (subst (λ (y : accessing.Present). AreThen p (event.Ask r) (asked_parts p (record p.a { outbox = p.a.outbox ++ o.messages }) y requests) (Ok (step.Asked n))) (sym own)
+    (subst (λ (l : List Request). AreThen p (event.Ask r) (asked_parts p (record p.a { outbox = p.a.outbox ++ o.messages }) (record after { own = p.accessing.own }) l) (Ok (step.Asked n))) (sym o.added) done))
+
+-- ---- There are no more NSP messages than messages.
+
+blocked-few : (limit : ℕ) (last : NspMessage) (messages : List Message) → length (blocked_after limit last messages) ≤ length messages + 1
+blocked-few limit last [] = omega arith
+blocked-few limit last (m ∷ messages) =
+    elim (nat_le (length (joined (last ++ m ∷ []))) limit) as (λ b. length (if b then blocked_after limit (last ++ m ∷ []) messages else last ∷ blocked_after limit (m ∷ []) messages) ≤ length (m ∷ messages) + 1) [
+      | true ↦ omega (arith, blocked-few limit (last ++ m ∷ []) messages)
+      | false ↦ omega (arith, blocked-few limit (m ∷ []) messages)
+    ]
+
+pub few_blocked : (limit : ℕ) (messages : List Message) → length (Blocked limit messages) ≤ length messages
+few_blocked limit [] = omega arith
+few_blocked limit (m ∷ messages) = omega (arith, blocked-few limit (m ∷ []) messages)

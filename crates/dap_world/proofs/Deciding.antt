@@ -1,0 +1,85 @@
+-- An event has a step, or one reason why it has none.
+use Rattle.std.proofs.Common.{◌≡◌, arith, refl, subst, ap, true, inl, inr, length}
+use Rattle.std.specs.Prelude.{Some}
+use Rattle.dap_accessing.specs.declared.fault.AskFault.{AskFault}
+use Rattle.dap_accessing.specs.declared.fault.AskFault.TheVariants as ask_fault
+use Rattle.dap_accessing.specs.declared.request.Request.{Request}
+use Rattle.dap_world.specs.declared.event.Event.{Event}
+use Rattle.dap_world.specs.declared.event.Event.TheVariants as event
+use Rattle.dap_world.specs.declared.event.WorldFault.{WorldFault}
+use Rattle.dap_world.specs.declared.event.WorldFault.TheVariants as fault
+use Rattle.dap_world.specs.Machine.{State, Sending, sends, is_stale, Steps, Refuses}
+use Rattle.dap_world.specs.Runs.{MayHappen}
+
+same_sending : (s : State) (p q : Sending) (x : _) → x ≡ Some p → x ≡ Some q → p ≡ q
+same_sending s p q x e f = cc
+
+refused_ask : (s : State) (r : Request) (f : AskFault) → Refuses s (event.Ask r) (fault.Ask f) → MayHappen s (event.Ask r) → ⊥
+unfolding Steps Refuses
+refused_ask s r ask_fault.Busy why may = why may.2.0.0
+refused_ask s r ask_fault.WrongPhase why may = why.1 may.2.0.1
+refused_ask s r ask_fault.TooLarge why may = why.2 may.2.0.2
+refused_ask s r ask_fault.NoMemory why may = why
+refused_ask s r ask_fault.Failed why may = why
+
+-- a reason excludes a step
+pub no_step : (s : State) (e : Event) (f : WorldFault) → Refuses s e f → MayHappen s e → ⊥
+unfolding Steps Refuses
+no_step s (event.Ask r) (fault.Ask f) why may = refused_ask s r f why may
+no_step s (event.Post end) fault.NothingToDo why may = let some = may.2.0 in let none : length (sends s end).waiting ≡ 0 = ap length why in omega (arith, some, none)
+no_step s (event.Post end) fault.Exhausted why may = omega (arith, why.1, may.2.1)
+no_step s (event.Emit end) fault.NothingToDo why may = why may.2.0
+no_step s (event.Resend end i) fault.NothingToDo why may = omega (arith, why, may.2.0)
+no_step s (event.Deliver end j) fault.NoSuchPacket why may = let there = may.2.2 in let missing : ⊥ = cc in missing
+no_step s (event.Deliver end j) fault.Stale why may =
+    let same : why.0 ≡ may.2.0 = same_sending s why.0 may.2.0 _ why.1 may.2.2 in
+    let stale : is_stale s end may.2.0 ≡ true = subst (λ (p : Sending). is_stale s end p ≡ true) same why.2 in
+    let young = may.2.3 in let missing : ⊥ = cc in missing
+no_step s event.Serve fault.NothingToDo why may =
+    let empty = may.2.1 in let there = may.2.2 in
+    elim why [ inl some ↦ omega (arith, some, ap length empty) | inr none ↦ let missing : ⊥ = cc in missing ]
+no_step s event.Read fault.NothingToDo why may = let there = may.2.1 in let missing : ⊥ = cc in missing
+no_step s e f why may = why
+
+refused_once : (s : State) (r : Request) (f g : AskFault) → Refuses s (event.Ask r) (fault.Ask f) → Refuses s (event.Ask r) (fault.Ask g) → f ≡ g
+unfolding Refuses
+refused_once s r ask_fault.Busy ask_fault.Busy one two = refl
+refused_once s r ask_fault.Busy ask_fault.WrongPhase one two = absurd (one two.0)
+refused_once s r ask_fault.Busy ask_fault.TooLarge one two = absurd (one two.0)
+refused_once s r ask_fault.WrongPhase ask_fault.Busy one two = absurd (two one.0)
+refused_once s r ask_fault.WrongPhase ask_fault.WrongPhase one two = refl
+refused_once s r ask_fault.WrongPhase ask_fault.TooLarge one two = absurd (one.1 two.1)
+refused_once s r ask_fault.TooLarge ask_fault.Busy one two = absurd (two one.0)
+refused_once s r ask_fault.TooLarge ask_fault.WrongPhase one two = absurd (two.1 one.1)
+refused_once s r ask_fault.TooLarge ask_fault.TooLarge one two = refl
+refused_once s r ask_fault.NoMemory g one two = absurd one
+refused_once s r ask_fault.Failed g one two = absurd one
+refused_once s r f ask_fault.NoMemory one two = absurd two
+refused_once s r f ask_fault.Failed one two = absurd two
+
+-- there is one reason
+pub one_reason : (s : State) (e : Event) (f g : WorldFault) → Refuses s e f → Refuses s e g → f ≡ g
+unfolding Refuses
+one_reason s (event.Ask r) (fault.Ask f) (fault.Ask g) one two = ap (λ (h : AskFault). fault.Ask h) (refused_once s r f g one two)
+one_reason s (event.Post end) fault.NothingToDo fault.NothingToDo one two = refl
+one_reason s (event.Post end) fault.Exhausted fault.Exhausted one two = refl
+one_reason s (event.Post end) fault.NothingToDo fault.Exhausted one two = absurd (omega (arith, two.0, ap length one))
+one_reason s (event.Post end) fault.Exhausted fault.NothingToDo one two = absurd (omega (arith, one.0, ap length two))
+one_reason s (event.Emit end) fault.NothingToDo fault.NothingToDo one two = refl
+one_reason s (event.Resend end i) fault.NothingToDo fault.NothingToDo one two = refl
+one_reason s (event.Deliver end j) fault.NoSuchPacket fault.NoSuchPacket one two = refl
+one_reason s (event.Deliver end j) fault.Stale fault.Stale one two = refl
+one_reason s (event.Deliver end j) fault.NoSuchPacket fault.Stale one two = let there = two.1 in absurd cc
+one_reason s (event.Deliver end j) fault.Stale fault.NoSuchPacket one two = let there = one.1 in absurd cc
+one_reason s event.Serve fault.NothingToDo fault.NothingToDo one two = refl
+one_reason s event.Read fault.NothingToDo fault.NothingToDo one two = refl
+one_reason s (event.Ask r) (fault.Ask f) g one two = absurd two
+one_reason s (event.Post end) fault.NothingToDo g one two = absurd two
+one_reason s (event.Post end) fault.Exhausted g one two = absurd two
+one_reason s (event.Emit end) fault.NothingToDo g one two = absurd two
+one_reason s (event.Resend end i) fault.NothingToDo g one two = absurd two
+one_reason s (event.Deliver end j) fault.NoSuchPacket g one two = absurd two
+one_reason s (event.Deliver end j) fault.Stale g one two = absurd two
+one_reason s event.Serve fault.NothingToDo g one two = absurd two
+one_reason s event.Read fault.NothingToDo g one two = absurd two
+one_reason s e f g one two = absurd one

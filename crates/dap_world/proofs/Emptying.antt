@@ -1,0 +1,58 @@
+-- Every answer is read.
+use Rattle.std.proofs.Common.{◌≡◌, ℕ, ◌+◌, ◌-◌, ◌<◌, arith, refl, sym, ◌∙◌, subst, ap, length}
+use Rattle.std.specs.Prelude.{Err}
+use Rattle.dap_world.specs.declared.event.Event.TheVariants as event
+use Rattle.dap_world.specs.declared.event.Step.{Step}
+use Rattle.dap_world.specs.declared.event.WorldFault.{WorldFault}
+use Rattle.dap_world.specs.declared.event.WorldFault.TheVariants as fault
+use Rattle.dap_world.specs.Machine.{Refuses, State, Steps, arrived_of}
+use Rattle.dap_world.specs.Runs.{Went}
+use Rattle.dap_world.specs.Inner.Worlds.{IsWorld}
+use Rattle.dap_world.specs.Settling.{RanBy, RanTo}
+use Rattle.dap_world.specs.Inner.Settling.{ReadEvery}
+use Rattle.dap_world.proofs.Settles.{ran_none, ran_more}
+
+-- so many were read so far
+pub record ReadSome (old now : State) (n : ℕ) : Type 0 where
+  pub ran : RanBy old now n
+  pub read : now ≡ record old { read = now.read }
+  pub count : now.read ≡ old.read + n
+
+pub read_none : (s : State) → ReadSome s s 0
+read_none s = record { ran = ran_none s; read = refl; count = omega arith }
+
+pub read_more : (old now new : State) (n : ℕ) (answer : Step) → ReadSome old now n → Steps now event.Read answer new → ReadSome old new (n + 1)
+unfolding Steps
+read_more old now new n answer h step =
+    let grew : new.read ≡ now.read + 1 = ap (λ (s : State). s.read) step.3 in
+    record {
+      ran = ran_more old now new n event.Read answer tt h.ran step;
+      read = step.3 ∙ ap (λ (s : State). record s { read = now.read + 1 }) h.read ∙ ap (λ (k : ℕ). record old { read = k }) (sym grew);
+      count = omega (arith, grew, h.count);
+    }
+
+-- one fewer is left
+pub fewer_left : (old now new : State) (n : ℕ) (answer : Step) → ReadSome old now n → IsWorld new → Steps now event.Read answer new
+    → length (arrived_of new.seg_size new.from_b) - new.read < length (arrived_of now.seg_size now.from_b) - now.read
+unfolding Steps
+fewer_left old now new n answer h world step =
+    let grew : new.read ≡ now.read + 1 = ap (λ (s : State). s.read) step.3 in
+    let same : length (arrived_of new.seg_size new.from_b) ≡ length (arrived_of now.seg_size now.from_b) = ap (λ (s : State). length (arrived_of s.seg_size s.from_b)) step.3 in
+    omega (arith, grew, same, world.read)
+
+pub read_ends : (old now new : State) (n k : ℕ) → ReadSome old now n → Went now event.Read (Err fault.NothingToDo) new → k ≡ new.read - old.read → ReadEvery old new k
+unfolding Steps Refuses
+read_ends old now new n k h went is =
+    let count : k ≡ n = omega (arith, h.count, is, ap (λ (s : State). s.read) went.1) in
+    subst (λ (m : ℕ). ReadEvery old new m) (sym count)
+    (subst (λ (s : State). ReadEvery old s n) (sym went.1) (record { ran = h.ran; read = h.read; count = h.count; none_left = went.0 }))
+
+pub read_refused : (old now new : State) (n : ℕ) (f : WorldFault) → (f ≡ fault.NothingToDo → ⊥) → ReadSome old now n → Went now event.Read (Err f) new → (f ≡ fault.NoMemory) × RanTo old new
+unfolding Steps Refuses
+read_refused old now new n fault.NoMemory other h went = (refl, (n, subst (λ (s : State). RanBy old s n) (sym went.1) h.ran))
+read_refused old now new n fault.NothingToDo other h went = absurd (other refl)
+read_refused old now new n fault.NoSuchPacket other h went = absurd went.0
+read_refused old now new n fault.Stale other h went = absurd went.0
+read_refused old now new n (fault.Ask g) other h went = absurd went.0
+read_refused old now new n fault.Exhausted other h went = absurd went.0
+read_refused old now new n fault.BadSetup other h went = absurd went.0

@@ -1,0 +1,113 @@
+-- More is told of a direction.
+use Rattle.std.proofs.Common.{◌≡◌, ℕ, suc, ◌*◌, ◌^◌, ◌≤◌, ◌<◌, arith, refl, sym, ◌∙◌, subst, ap, append_assoc, List, [], ◌∷◌, ◌++◌, length, take}
+use Rattle.std.proofs.lemmas.List.{length-append, map-append, take-append-le}
+use Rattle.std.proofs.lemmas.List.Elements.{All-append, All-cons}
+use Rattle.dap_msg.specs.Message.{Message}
+use Rattle.dap_msg.specs.Blocked.{NspMessage, joined, all_joined, messages_in, AllFit}
+use Rattle.dap_msg.specs.Canon.{canon}
+use Rattle.dap_accessed.specs.Written.{AllAtMost}
+use Rattle.nsp_link.specs.Cutting.{cut, count_of}
+use Rattle.nsp_link.specs.Limits.{largest_limit, most_segments}
+use Rattle.dap_world.specs.Inner.Sides.{SideValue}
+use Rattle.dap_world.specs.Inner.Ways.{AreShort}
+use Rattle.dap_world.specs.Inner.Parts.{IsTold, IsAmong}
+use Rattle.dap_world.proofs.Counting.{counted, segments-first}
+use Rattle.dap_world.proofs.Splits.{some_bytes}
+use Rattle.dap_world.proofs.Blocks.{fit-front, fit-back}
+use Rattle.dap_world.proofs.Packets.{messages_in-append, AllFit-append}
+use Rattle.dap_world.proofs.Ways.{same_writes}
+
+-- what waits at the taking end is another list
+pub told_to : (from to : SideValue) (packets : List NspMessage) (count : ℕ) (outbox : List (List ℕ)) → IsTold from to packets count → IsTold from (record to { outbox = outbox }) packets count
+told_to from to packets count outbox h =
+    record { gone = h.gone; among = h.among; way = h.way; bytes = h.bytes; fit = h.fit; short = h.short }
+
+-- the first NSP messages are the same with more behind them
+pub handed_same : (from : SideValue) (packets block : List NspMessage) → from.handed ++ from.outbox ≡ all_joined packets → take (length from.handed) (packets ++ block) ≡ take (length from.handed) packets
+handed_same from packets block e = let n = counted from.handed from.outbox packets e in take-append-le (length from.handed) packets block (omega arith)
+
+-- the sending end has more to send, and moved its place
+pub told_more : (from to : SideValue) (packets block : List NspMessage) (count : ℕ) (inbox : List (List ℕ)) (place : ℕ) (outbox more : List (List ℕ)) → IsTold from to packets count
+    → outbox ≡ from.outbox ++ more → more ≡ all_joined block → AllFit (messages_in block) → AreShort from.link.max_message more
+    → IsTold (record from { link = record from.link { inbox = inbox }; place = place; outbox = outbox }) to (packets ++ block) count
+told_more from to packets block count inbox place outbox more h outbox_is more_is fit short =
+    record {
+      gone = h.gone;
+      among = subst (λ (l : List NspMessage). IsAmong l count to.place h.gone) (sym (handed_same from packets block h.bytes)) h.among;
+      way = record {
+        size = h.way.size;
+        running = h.way.running;
+        listening = h.way.listening;
+        there = h.way.there;
+        back = h.way.back;
+        sends = record { queue = h.way.sends.queue; acked = h.way.sends.acked };
+        stands = h.way.stands;
+        short = h.way.short;
+        few = h.way.few;
+        wire = same_writes from.link (record from.link { inbox = inbox }) from.handed refl refl refl from.wire h.way.wire;
+      };
+      bytes = ap (λ (l : List (List ℕ)). from.handed ++ l) outbox_is ∙ sym (append_assoc from.handed from.outbox more) ∙ ap (λ (l : List (List ℕ)). l ++ more) h.bytes
+          ∙ ap (λ (l : List (List ℕ)). all_joined packets ++ l) more_is ∙ sym (map-append joined packets block);
+      fit = subst AllFit (sym (messages_in-append packets block)) (AllFit-append (messages_in packets) (messages_in block) h.fit fit);
+      short = subst (AreShort from.link.max_message) (sym outbox_is) (All-append (λ m. length m ≤ from.link.max_message) from.outbox more h.short short);
+    }
+
+-- none is longer than a limit
+pub all_short : (limit most : ℕ) (list : List (List ℕ)) → limit ≤ most → AllAtMost limit list → AreShort most list
+all_short limit most [] le h = λ k d lt. absurd (omega arith)
+all_short limit most (x ∷ list) le h = All-cons (λ m. length m ≤ most) x list (omega (arith, le, h.0)) (all_short limit most list le h.1)
+
+-- the sending end moved its place
+pub told_moved : (from to : SideValue) (packets : List NspMessage) (count : ℕ) (inbox : List (List ℕ)) (place : ℕ) → IsTold from to packets count
+    → IsTold (record from { link = record from.link { inbox = inbox }; place = place }) to packets count
+told_moved from to packets count inbox place h =
+    record {
+      gone = h.gone;
+      among = h.among;
+      way = record {
+        size = h.way.size;
+        running = h.way.running;
+        listening = h.way.listening;
+        there = h.way.there;
+        back = h.way.back;
+        sends = record { queue = h.way.sends.queue; acked = h.way.sends.acked };
+        stands = h.way.stands;
+        short = h.way.short;
+        few = h.way.few;
+        wire = same_writes from.link (record from.link { inbox = inbox }) from.handed refl refl refl from.wire h.way.wire;
+      };
+      bytes = h.bytes;
+      fit = h.fit;
+      short = h.short;
+    }
+
+-- ---- No more messages than bytes.
+
+as_many_bytes : (messages : List Message) → AllFit messages → length messages ≤ length (joined messages)
+as_many_bytes [] fit = omega arith
+as_many_bytes (m ∷ messages) fit = omega (arith, some_bytes m fit.0, as_many_bytes messages fit.1, length-append (canon m) (joined messages))
+
+count_one : (size len : ℕ) → 1 ≤ count_of size len
+unfolding count_of
+count_one size len = omega arith
+
+all_few : (size : ℕ) (packets : List NspMessage) (most : ℕ) → AllFit (messages_in packets) → AreShort most (all_joined packets) → most ≤ largest_limit
+    → length (messages_in packets) ≤ largest_limit * length (cut size (all_joined packets))
+all_few size [] most fit short le = omega arith
+all_few size (p ∷ packets) most fit short le =
+    let first = short 0 (joined p) (omega arith) in
+    let rest = all_few size packets most (fit-back p (messages_in packets) fit) (λ k d lt. short (suc k) d (omega arith)) le in
+    omega (
+      arith,
+      first,
+      rest,
+      le,
+      as_many_bytes p (fit-front p (messages_in packets) fit),
+      length-append p (messages_in packets),
+      segments-first size (joined p) (all_joined packets),
+      count_one size (length (joined p)),
+    )
+
+pub few_messages : (size : ℕ) (packets : List NspMessage) (n : ℕ) → n ≤ length (messages_in packets) → AllFit (messages_in packets) → (most : ℕ) → AreShort most (all_joined packets) → most ≤ largest_limit
+    → length (cut size (all_joined packets)) ≤ most_segments → n < 2 ^ 63
+few_messages size packets n le fit most short limit few = omega (arith, le, few, all_few size packets most fit short limit)

@@ -1,0 +1,278 @@
+-- Handing over all that waits is a step of the machine.
+use Rattle.std.proofs.Common.{◌≡◌, ℕ, ◌≤◌, ◌<◌, arith, refl, sym, ◌∙◌, subst, ap, List, [], ◌∷◌, ◌++◌, length, take, drop, map, inl, inr}
+use Rattle.std.specs.Prelude.{Result, Ok, Err, IfOk, IfErr, OnOk}
+use Rattle.std.specs.List.{AllByRecursion}
+use Rattle.std.proofs.lemmas.List.{length-append, map-append, take-append-drop, take_all, drop_all, take-take, length-drop, drop-map, append-nil, append_assoc}
+use Rattle.std.proofs.lemmas.List.Elements.{All-append}
+use Rattle.dap_msg.specs.Message.{Message}
+use Rattle.dap_msg.specs.Items.{Whole}
+use Rattle.dap_msg.specs.Canon.{canon}
+use Rattle.dap_msg.specs.Blocked.{NspMessage, joined, all_joined, messages_in, AllFit}
+use Rattle.dap_accessed.specs.Groups.{Answers}
+use Rattle.dap_accessed.specs.Present as accessed
+use Rattle.dap_accessing.specs.Present as accessing
+use Rattle.dap_accessing.specs.Told.{Told}
+use Rattle.nsp_link.specs.Cutting.{Piece, cut}
+use Rattle.nsp_link.specs.Limits.{most_segments}
+use Rattle.nsp_link.specs.Link.{LinkValue, Sends, Writes}
+use Rattle.nsp_link.specs.Sending.{queued_link}
+use Rattle.nsp_link.proofs.ForCallers.{writes_more, stands_more, sends_all}
+use Rattle.dap_world.specs.declared.event.End.{End}
+use Rattle.dap_world.specs.declared.event.End.TheVariants.{A, B}
+use Rattle.dap_world.specs.declared.event.Event.{Event}
+use Rattle.dap_world.specs.declared.event.Event.TheVariants as event
+use Rattle.dap_world.specs.declared.event.Step.{Step}
+use Rattle.dap_world.specs.declared.event.Step.TheVariants as step
+use Rattle.dap_world.specs.declared.event.WorldFault.{WorldFault}
+use Rattle.dap_world.specs.declared.event.WorldFault.TheVariants as fault
+use Rattle.dap_world.specs.Machine.{reported, Direction, sends, with_sends, posted, segments_of, segments_then, Steps, Refuses}
+use Rattle.dap_world.specs.Runs.{Went}
+use Rattle.dap_world.specs.Inner.Answers.{post_of}
+use Rattle.dap_world.specs.Inner.Worlds.{IsWorld}
+use Rattle.dap_world.specs.Inner.Sides.{SideValue, WiredValue, posted_side, segments_queued, PostedAll, PostFault}
+use Rattle.dap_world.specs.Inner.Ways.{IsWay, AreShort}
+use Rattle.dap_world.specs.Inner.Parts.{Parts, AreParts, IsTold, IsAmong, asks, answers, direction_of, state_of, side}
+use Rattle.dap_world.specs.Inner.Splitting.{SplitsAll, SentAll}
+use Rattle.dap_world.proofs.Counting.{segments-cut, all_segments, counted}
+use Rattle.dap_world.proofs.Packets.{messages_in-append, served-stays}
+use Rattle.dap_world.proofs.Blocks.{asked-full, full-drop, fit-back}
+use Rattle.dap_world.proofs.Kept.{kept-step}
+use Rattle.dap_world.proofs.Ways.{still_way}
+
+-- ---- The ways.
+
+more_writes : (v : LinkValue) (pieces : List Piece) (messages more : List (List ℕ)) (wire : List WiredValue)
+    → AllByRecursion (λ w. Writes v messages w.segment w.acks w.packet) wire → AllByRecursion (λ w. Writes (queued_link v pieces) (messages ++ more) w.segment w.acks w.packet) wire
+more_writes v pieces messages more [] h = tt
+more_writes v pieces messages more (w ∷ wire) h =
+    (writes_more v messages more w.segment w.acks w.packet h.0, more_writes v pieces messages more wire h.1)
+
+abbrev pub new_side : SideValue → SideValue
+new_side s = posted_side s (queued_link s.link (cut s.link.seg_size s.outbox))
+
+way_posted : (s : SideValue) (to : LinkValue) (given : List (List ℕ)) → IsWay s to s.handed given → AreShort to.max_message s.outbox → segments_queued s ≤ most_segments
+    → IsWay (new_side s) to (s.handed ++ s.outbox) given
+way_posted s to given way short room =
+    record {
+      size = way.size;
+      running = way.running;
+      listening = way.listening;
+      there = way.there;
+      back = way.back;
+      sends = sends_all s.link s.handed s.outbox way.sends;
+      stands = stands_more to s.link.seg_size s.handed s.outbox given way.stands;
+      short = All-append (λ m. length m ≤ to.max_message) s.handed s.outbox way.short short;
+      few = omega (arith, all_segments s way.sends, room);
+      wire = more_writes s.link (cut s.link.seg_size s.outbox) s.handed s.outbox s.wire way.wire;
+    }
+
+-- ---- The state.
+
+posted_is : (s : SideValue) (to : LinkValue) (packets : List NspMessage) → s.handed ++ s.outbox ≡ all_joined packets → posted (direction_of s to packets) ≡ direction_of (new_side s) to packets
+posted_is s to packets e =
+    let n = counted s.handed s.outbox packets e in
+    let long = length-append s.handed s.outbox in
+    let d = direction_of s to packets in
+    ap (λ (l : List NspMessage). record d { waiting = []; handed = l }) (take-append-drop (length s.handed) packets ∙ sym (take_all (length (s.handed ++ s.outbox)) packets (omega arith)))
+    ∙ ap (λ (l : List NspMessage). record d { waiting = l; handed = take (length (s.handed ++ s.outbox)) packets }) (sym (drop_all (length (s.handed ++ s.outbox)) packets (omega arith)))
+
+pub waits : (s : SideValue) (packets : List NspMessage) → s.handed ++ s.outbox ≡ all_joined packets → length (drop (length s.handed) packets) ≡ length s.outbox
+waits s packets e =
+    let n = counted s.handed s.outbox packets e in omega (arith, length-drop (length s.handed) packets)
+
+-- the bytes of what waits
+pub waits-bytes : (s : SideValue) (packets : List NspMessage) → s.handed ++ s.outbox ≡ all_joined packets → s.outbox ≡ all_joined (drop (length s.handed) packets)
+waits-bytes s packets e = sym (behind s.handed s.outbox) ∙ ap (drop (length s.handed)) e ∙ drop-map joined (length s.handed) packets
+  where
+    behind : (xs ys : List (List ℕ)) → drop (length xs) (xs ++ ys) ≡ ys
+    behind [] ys = refl
+    behind (x ∷ xs) ys = behind xs ys
+
+segments_all : (size : ℕ) (s : SideValue) (packets : List NspMessage) → size ≡ s.link.seg_size → s.handed ++ s.outbox ≡ all_joined packets → Sends s.link s.handed
+    → segments_of size (take (length s.handed) packets ++ drop (length s.handed) packets) ≡ segments_queued s
+segments_all size s packets same e sends =
+    ap (segments_of size) (take-append-drop (length s.handed) packets) ∙ segments-cut size packets ∙ ap (λ (l : List (List ℕ)). length (cut size l)) (sym e)
+    ∙ ap (λ n. length (cut n (s.handed ++ s.outbox))) same ∙ all_segments s sends
+
+segments_are : (p : Parts) (end : End) → AreParts p → segments_then (state_of p) end ≡ segments_queued (side p end)
+segments_are p A h = segments_all p.a.link.seg_size p.a (asks p) refl h.from_a.bytes h.from_a.way.sends
+segments_are p B h = segments_all p.a.link.seg_size p.b (answers p) (sym h.alike.size) h.from_b.bytes h.from_b.way.sends
+
+waiting_is : (p : Parts) (end : End) → AreParts p → length (sends (state_of p) end).waiting ≡ length (side p end).outbox
+waiting_is p A h = waits p.a (asks p) h.from_a.bytes
+waiting_is p B h = waits p.b (answers p) h.from_b.bytes
+
+pub no_length : {X : Type 0} (xs : List X) → length xs ≡ 0 → xs ≡ []
+no_length [] e = refl
+no_length (x ∷ xs) e = let no : ⊥ = omega arith in absurd no
+
+-- ---- The parts: what A handed over is sent.
+
+abbrev pub posted_parts : Parts → End → List (List ℕ) → Parts
+posted_parts p A more = record p { a = new_side p.a; sent = p.sent ++ more }
+posted_parts p B more = record p { b = new_side p.b }
+
+-- what is added to the messages sent
+abbrev pub SentMore : Parts → End → List (List ℕ) → Type 0
+SentMore p A more = SplitsAll p.a.outbox [] more
+SentMore p B more = Unit {0}
+
+state_posted : (p : Parts) (end : End) (more : List (List ℕ)) → AreParts p → with_sends (state_of p) end (posted (sends (state_of p) end)) ≡ state_of (posted_parts p end more)
+state_posted p A more h = ap (λ (d : Direction). with_sends (state_of p) A d) (posted_is p.a p.b.link (asks p) h.from_a.bytes)
+state_posted p B more h = ap (λ (d : Direction). with_sends (state_of p) B d) (posted_is p.b p.a.link (answers p) h.from_b.bytes)
+
+posts : (p : Parts) (end : End) (more : List (List ℕ)) → AreParts p → 0 < length (side p end).outbox → segments_queued (side p end) ≤ most_segments
+    → Steps (state_of p) (event.Post end) (step.Posted (length (side p end).outbox)) (state_of (posted_parts p end more))
+unfolding Steps
+posts p end more h some room =
+    let n = waiting_is p end h in
+    let all = segments_are p end h in
+    (omega arith, omega arith, ap (λ (k : ℕ). step.Posted k) (sym n), sym (state_posted p end more h))
+
+-- messages that were handled among the first NSP messages, when more are handed over
+among_more : (n m : ℕ) (packets : List NspMessage) (count place : ℕ) (gone : List NspMessage) → n ≤ m → IsAmong (take n packets) count place gone → IsAmong (take m packets) count place gone
+among_more n m packets count place gone le h =
+    let split : take m packets ≡ gone ++ (h.rest ++ drop n (take m packets)) =
+    sym (take-append-drop n (take m packets)) ∙ ap (λ (l : List NspMessage). l ++ drop n (take m packets)) (shorter n m packets le ∙ h.split) ∙ append_assoc gone h.rest (drop n (take m packets)) in
+    record {
+      begun = h.begun;
+      rest = h.rest ++ drop n (take m packets);
+      split = split;
+      handled = h.handled;
+      behind = h.behind;
+      stays = elim h.stays [
+        | inl none ↦ inl none
+        | inr some ↦ inr (some.0, some.1, some.2 ++ drop n (take m packets), ap (λ (l : List NspMessage). l ++ drop n (take m packets)) some.3)
+      ];
+    }
+  where
+    shorter : (n m : ℕ) (packets : List NspMessage) → n ≤ m → take n (take m packets) ≡ take n packets
+    shorter n m packets le = take-take n m packets le
+
+told_posted : (packets : List NspMessage) (count : ℕ) (from to : SideValue) → IsTold from to packets count → AreShort to.link.max_message from.outbox → segments_queued from ≤ most_segments
+    → IsTold (new_side from) to packets count
+told_posted packets count from to h short room =
+    let long = length-append from.handed from.outbox in
+    record {
+      gone = h.gone;
+      among = among_more (length from.handed) (length (from.handed ++ from.outbox)) packets count to.place h.gone (omega arith) h.among;
+      way = way_posted from to.link (all_joined h.gone) h.way short room;
+      bytes = append-nil (from.handed ++ from.outbox) ∙ h.bytes;
+      fit = h.fit;
+      short = λ k d lt. absurd (omega arith);
+    }
+
+told_queued : (packets : List NspMessage) (count : ℕ) (from to : SideValue) → IsTold from to packets count → IsTold from (new_side to) packets count
+told_queued packets count from to h =
+    record {
+      gone = h.gone;
+      among = h.among;
+      way = still_way from to.link (queued_link to.link (cut to.link.seg_size to.outbox)) from.handed _ refl h.way;
+      bytes = h.bytes;
+      fit = h.fit;
+      short = h.short;
+    }
+
+-- what B served is a front of what A handed over, before and after
+served_same : (p : Parts) → AreParts p
+    → take (length p.taken) (messages_in (take (length (p.a.handed ++ p.a.outbox)) (asks p))) ≡ take (length p.taken) (messages_in (take (length p.a.handed) (asks p)))
+served_same p h =
+    let n = counted p.a.handed p.a.outbox (asks p) h.from_a.bytes in
+    let long = length-append p.a.handed p.a.outbox in
+    ap (λ (l : List NspMessage). take (length p.taken) (messages_in l)) (take_all (length (p.a.handed ++ p.a.outbox)) (asks p) (omega arith) ∙ sym (take-append-drop (length p.a.handed) (asks p)))
+    ∙ served-stays (length p.taken) p.a.link.seg_size p.b.link.received (take (length p.a.handed) (asks p)) (drop (length p.a.handed) (asks p)) h.world.served
+
+sent_more : (p : Parts) (more : List (List ℕ)) → AreParts p → SplitsAll p.a.outbox [] more → p.sent ++ more ≡ map canon (messages_in (take (length (p.a.handed ++ p.a.outbox)) (asks p)))
+sent_more p more h splits =
+    let n = counted p.a.handed p.a.outbox (asks p) h.from_a.bytes in
+    let long = length-append p.a.handed p.a.outbox in
+    let front = take (length p.a.handed) (asks p) in
+    let back = drop (length p.a.handed) (asks p) in
+    let all : messages_in (asks p) ≡ messages_in front ++ messages_in back = ap messages_in (sym (take-append-drop (length p.a.handed) (asks p))) ∙ messages_in-append front back in
+    let full = full-drop (length p.a.handed) (asks p) (asked-full p.accessing.own p.accessed.own p.requests) in
+    let fit = fit-back (messages_in front) (messages_in back) (subst AllFit all h.from_a.fit) in
+    let is : more ≡ map canon (messages_in back) = splits back full fit (waits-bytes p.a (asks p) h.from_a.bytes) in
+    ap (λ (l : List (List ℕ)). l ++ more) h.sent_is ∙ ap (λ (l : List (List ℕ)). map canon (messages_in front) ++ l) is
+    ∙ sym (map-append canon (messages_in front) (messages_in back)) ∙ ap (map canon) (sym all)
+    ∙ ap (λ (l : List NspMessage). map canon (messages_in l)) (sym (take_all (length (p.a.handed ++ p.a.outbox)) (asks p) (omega arith)))
+
+parts_posted : (p : Parts) (end : End) (more : List (List ℕ)) → AreParts p → segments_queued (side p end) ≤ most_segments → SentMore p end more → IsWorld (state_of (posted_parts p end more)) → AreParts (posted_parts p end more)
+unfolding reported
+parts_posted p A more h room splits world =
+    let short = subst (λ (n : ℕ). AreShort n p.a.outbox) (sym h.alike.limit) h.from_a.short in
+    let same = served_same p h in
+    record {
+      world = world;
+      alike = record { here = h.alike.here; there = h.alike.there; size = h.alike.size; window = h.alike.window; limit = h.alike.limit };
+      limit_a = h.limit_a;
+      limit_b = h.limit_b;
+      most = h.most;
+      from_a = told_posted (asks p) (length p.taken) p.a p.b h.from_a short room;
+      from_b = told_queued (answers p) p.read p.b p.a h.from_b;
+      sent_is = sent_more p more h splits;
+      taken_is = h.taken_is ∙ ap (map canon) (sym same);
+      reports_is = h.reports_is ∙ ap (λ (l : List Message). Told p.requests (map Whole (take p.read (Answers p.accessed.own (map Whole l))))) (sym same);
+      asking = subst (λ (l : List Message). accessing.StandsAfter p.requests (map Whole (take p.read (Answers p.accessed.own (map Whole l)))) p.accessing) (sym same) h.asking;
+      serving = subst (λ (l : List Message). accessed.StandsAfter (map Whole l) p.accessed) (sym same) h.serving;
+    }
+parts_posted p B more h room splits world =
+    let short = subst (λ (n : ℕ). AreShort n p.b.outbox) h.alike.limit h.from_b.short in
+    record {
+      world = world;
+      alike = record { here = h.alike.here; there = h.alike.there; size = h.alike.size; window = h.alike.window; limit = h.alike.limit };
+      limit_a = h.limit_a;
+      limit_b = h.limit_b;
+      most = h.most;
+      from_a = told_queued (asks p) (length p.taken) p.a p.b h.from_a;
+      from_b = told_posted (answers p) p.read p.b p.a h.from_b short room;
+      sent_is = h.sent_is;
+      taken_is = h.taken_is;
+      reports_is = h.reports_is;
+      asking = h.asking;
+      serving = h.serving;
+    }
+
+-- what an event makes of parts
+abbrev pub AreThen : Parts → Event → Parts → Result Step WorldFault → Type 0
+AreThen p e q answer = AreParts q × Went (state_of p) e answer (state_of q)
+
+pub posted_step : (p : Parts) (end : End) (more : List (List ℕ)) (n : ℕ) → AreParts p → 0 < length (side p end).outbox → segments_queued (side p end) ≤ most_segments → SentMore p end more → n ≡ length (side p end).outbox
+    → AreThen p (event.Post end) (posted_parts p end more) (Ok (step.Posted n))
+unfolding Steps
+posted_step p end more n h some room splits is =
+    let steps = posts p end more h some room in (
+      parts_posted p end more h room splits (kept-step (state_of p) (state_of (posted_parts p end more)) (event.Post end) (step.Posted (length (side p end).outbox)) steps h.world),
+      subst (λ (k : ℕ). Steps (state_of p) (event.Post end) (step.Posted k) (state_of (posted_parts p end more))) (sym is) steps,
+    )
+
+-- nothing was handed over
+pub post_refused : (p : Parts) (end : End) (f : WorldFault) → AreParts p → PostFault (side p end) f → Went (state_of p) (event.Post end) (Err f) (state_of p)
+unfolding Steps Refuses
+post_refused p end fault.NothingToDo h none = (no_length (sends (state_of p) end).waiting (waiting_is p end h ∙ ap length none), refl)
+post_refused p end fault.Exhausted h many = let n = waiting_is p end h in let all = segments_are p end h in ((omega (arith, many.0), omega (arith, many.1)), refl)
+post_refused p end fault.NoMemory h may = (((_, _, posts p end [] h may.0 may.1), λ t. t), refl)
+post_refused p end fault.NoSuchPacket h none = absurd none
+post_refused p end fault.Stale h none = absurd none
+post_refused p end (fault.Ask f) h none = absurd none
+post_refused p end fault.BadSetup h none = absurd none
+
+abbrev pub with_a : Parts → SideValue → List (List ℕ) → Parts
+with_a p s sent = record p { a = s; sent = sent }
+
+pub post_a : (p : Parts) (s : SideValue) (sent : List (List ℕ)) (r : Result ℕ WorldFault) → AreParts p → IfOk r (λ n. PostedAll p.a s n) → OnOk r (SentAll p.a.outbox p.sent sent)
+    → IfErr r (λ f. (s ≡ p.a) × (sent ≡ p.sent) × PostFault p.a f) → AreThen p (event.Post A) (with_a p s sent) (post_of r)
+post_a p s sent (Ok n) h ok more err =
+    let done = posted_step p A more.0 n h ok.some ok.room more.2 ok.count in
+    subst (λ (x : SideValue). AreThen p (event.Post A) (with_a p x sent) (Ok (step.Posted n))) (sym ok.posted)
+    (subst (λ (l : List (List ℕ)). AreThen p (event.Post A) (with_a p (new_side p.a) l) (Ok (step.Posted n))) (sym more.1) done)
+post_a p s sent (Err f) h ok more err =
+    subst (λ (x : SideValue). AreThen p (event.Post A) (with_a p x sent) (Err f)) (sym err.0)
+    (subst (λ (l : List (List ℕ)). AreThen p (event.Post A) (with_a p p.a l) (Err f)) (sym err.1) (h, post_refused p A f h err.2))
+
+pub post_b : (p : Parts) (s : SideValue) (r : Result ℕ WorldFault) → AreParts p → IfOk r (λ n. PostedAll p.b s n) → IfErr r (λ f. (s ≡ p.b) × PostFault p.b f)
+    → AreThen p (event.Post B) (record p { b = s }) (post_of r)
+post_b p s (Ok n) h ok err =
+    let done = posted_step p B [] n h ok.some ok.room tt ok.count in
+    subst (λ (x : SideValue). AreThen p (event.Post B) (record p { b = x }) (Ok (step.Posted n))) (sym ok.posted) done
+post_b p s (Err f) h ok err =
+    subst (λ (x : SideValue). AreThen p (event.Post B) (record p { b = x }) (Err f)) (sym err.0) (h, post_refused p B f h err.1)

@@ -1,0 +1,45 @@
+-- The messages that were joined into an NSP message are what is read there.
+use Rattle.std.proofs.Common.{◌≡◌, ℕ, ◌+◌, arith, refl, sym, ◌∙◌, subst, ap, List, [], ◌∷◌, ◌++◌, length, take, drop}
+use Rattle.std.proofs.lemmas.List.{append-nil, length-append}
+use Rattle.std.proofs.lemmas.Grind.{flat_map-append}
+use Rattle.dap_msg.specs.Message.{Message}
+use Rattle.dap_msg.specs.Items.{Whole, ItemAt}
+use Rattle.dap_msg.specs.Canon.{canon, Fits}
+use Rattle.dap_msg.specs.Blocked.{joined, AllFit}
+use Rattle.dap_msg.proofs.Places.{read_in_place}
+
+pub joined-append : (a b : List Message) → joined (a ++ b) ≡ joined a ++ joined b
+joined-append a b = flat_map-append canon a b
+
+pub joined-one : (a : List Message) (m : Message) → joined (a ++ m ∷ []) ≡ joined a ++ canon m
+joined-one a m = joined-append a (m ∷ []) ∙ ap (λ (l : List ℕ). joined a ++ l) (append-nil (canon m))
+
+-- the message stands at its place
+pub at_item : (begun more : List Message) (m : Message) → Fits m → ItemAt (joined (begun ++ m ∷ more)) (length (joined begun)) (Whole m) (length (joined begun) + length (canon m))
+at_item begun more m fits =
+    subst (λ (l : List ℕ). ItemAt l (length (joined begun)) (Whole m) (length (joined begun) + length (canon m))) (sym (joined-append begun (m ∷ more)))
+    (read_in_place m fits (joined begun) (joined more))
+
+pub fit_at : (begun more : List Message) (m : Message) → AllFit (begun ++ m ∷ more) → Fits m
+fit_at [] more m h = h.0
+fit_at (b ∷ begun) more m h = fit_at begun more m h.1
+
+-- how far it goes
+pub ends_at : (begun more : List Message) (m : Message) → length (joined (begun ++ m ∷ more)) ≡ (length (joined begun) + length (canon m)) + length (joined more)
+ends_at begun more m =
+    let split = ap length (joined-append begun (m ∷ more)) in
+    omega (arith, split, length-append (joined begun) (joined (m ∷ more)), length-append (canon m) (joined more))
+
+-- its bytes
+pub bytes_at : (begun more : List Message) (m : Message) → take (length (canon m)) (drop (length (joined begun)) (joined (begun ++ m ∷ more))) ≡ canon m
+bytes_at begun more m =
+    ap (λ (l : List ℕ). take (length (canon m)) (drop (length (joined begun)) l)) (joined-append begun (m ∷ more))
+    ∙ ap (take (length (canon m))) (dropped (joined begun) (canon m ++ joined more)) ∙ taken (canon m) (joined more)
+  where
+    dropped : (a b : List ℕ) → drop (length a) (a ++ b) ≡ b
+    dropped [] b = refl
+    dropped (x ∷ a) b = dropped a b
+
+    taken : (a b : List ℕ) → take (length a) (a ++ b) ≡ a
+    taken [] b = refl
+    taken (x ∷ a) b = ap (λ (l : List ℕ). x ∷ l) (taken a b)

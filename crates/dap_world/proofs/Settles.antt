@@ -1,0 +1,343 @@
+-- A stretch without loss.
+use Rattle.std.proofs.Common.{◌≡◌, ℕ, zero, suc, ◌+◌, ◌-◌, ◌≤◌, ◌<◌, arith, refl, sym, ◌∙◌, subst, ap, append_assoc, Bool, true, false, List, [], ◌∷◌, ◌++◌, length, inl, inr, le-ltb, eq-eqb}
+use Rattle.std.specs.Prelude.{nat_lt, ◌&&◌, if◌then◌else◌, Option, Some, None, Err, slice_get}
+use Rattle.std.proofs.lemmas.List.{length-append, append-nil, length-map}
+use Rattle.std.proofs.lemmas.Bool.{cases_eq, ne_eqb}
+use Rattle.std.proofs.lemmas.Option.{slice_get-get_or}
+use Rattle.std.proofs.lemmas.Grind.{common_steps}
+use Rattle.nsp_link.specs.Holding.{with_number}
+use Rattle.dap_world.specs.declared.event.End.{End}
+use Rattle.dap_world.specs.declared.event.End.TheVariants.{A, B}
+use Rattle.dap_world.specs.declared.event.Event.{Event}
+use Rattle.dap_world.specs.declared.event.Event.TheVariants as event
+use Rattle.dap_world.specs.declared.event.Step.{Step}
+use Rattle.dap_world.specs.declared.event.WorldFault.{WorldFault}
+use Rattle.dap_world.specs.declared.event.WorldFault.TheVariants as fault
+use Rattle.dap_world.specs.Machine.{State, Direction, Sending, sends, with_sends, other, wrote, came, delivered, is_stale, Steps, Refuses}
+use Rattle.dap_world.specs.Runs.{Runs, Went}
+use Rattle.dap_world.specs.Inner.Worlds.{IsWorld, IsDirection, AreEarly}
+use Rattle.dap_world.specs.Wires as wires
+use Rattle.dap_world.specs.Wires.{AreWired}
+use Rattle.dap_world.specs.declared.side.Wired.{Wired}
+use Rattle.dap_world.specs.Settling.{AsksNothing, RanBy, RanTo, unacked}
+use Rattle.dap_world.specs.Inner.Settling.{AllResent, AreThere, AllCame}
+use Rattle.dap_world.proofs.Directions.{closed, came-moves}
+use Rattle.dap_world.proofs.Kept.{direction}
+
+-- ---- Runs.
+
+pub ran_none : (s : State) → RanBy s s 0
+ran_none s = record { events = []; ran = refl; quiet = tt; count = refl }
+
+quiet-on : (events more : List Event) → AsksNothing events → AsksNothing more → AsksNothing (events ++ more)
+quiet-on [] more h g = g
+quiet-on (event.Ask r ∷ events) more h g = absurd h
+quiet-on (event.Post end ∷ events) more h g = quiet-on events more h g
+quiet-on (event.Emit end ∷ events) more h g = quiet-on events more h g
+quiet-on (event.Resend end i ∷ events) more h g = quiet-on events more h g
+quiet-on (event.Ack end ∷ events) more h g = quiet-on events more h g
+quiet-on (event.Deliver end j ∷ events) more h g = quiet-on events more h g
+quiet-on (event.Serve ∷ events) more h g = quiet-on events more h g
+quiet-on (event.Read ∷ events) more h g = quiet-on events more h g
+
+runs-both : (first second : List Event) (old mid new : State) → Runs old first mid → Runs mid second new → Runs old (first ++ second) new
+unfolding Steps Refuses
+runs-both [] second old mid new r t = subst (λ (s : State). Runs s second new) r t
+runs-both (e ∷ first) second old mid new r t = (r.0, r.1, r.2, runs-both first second r.0 mid new r.3 t)
+
+pub ran_both : (old mid new : State) (n k : ℕ) → RanBy old mid n → RanBy mid new k → RanBy old new (n + k)
+ran_both old mid new n k a b =
+    record { events = a.events ++ b.events; ran = runs-both a.events b.events old mid new a.ran b.ran; quiet = quiet-on a.events b.events a.quiet b.quiet; count = length-append a.events b.events ∙ (omega (arith, a.count, b.count)) }
+
+pub ran_one : (old new : State) (e : Event) (answer : Step) → AsksNothing (e ∷ []) → Steps old e answer new → RanBy old new 1
+unfolding Steps
+ran_one old new e answer quiet step = record { events = e ∷ []; ran = (new, answer, step, refl); quiet = quiet; count = refl }
+
+pub ran_more : (old mid new : State) (n : ℕ) (e : Event) (answer : Step) → AsksNothing (e ∷ []) → RanBy old mid n → Steps mid e answer new → RanBy old new (n + 1)
+unfolding Steps
+ran_more old mid new n e answer quiet a step = ran_both old mid new n 1 a (ran_one mid new e answer quiet step)
+
+-- ---- Resending.
+
+pub none_resent : (s : State) (end : End) → AllResent s s end 0
+none_resent s A = record { ran = ran_none s; more = []; wrote = ap (λ (l : List Sending). record s { from_a = record s.from_a { wire = l } }) (sym (append-nil s.from_a.wire)); long = refl; each = λ i lt. absurd (omega arith) }
+none_resent s B = record { ran = ran_none s; more = []; wrote = ap (λ (l : List Sending). record s { from_b = record s.from_b { wire = l } }) (sym (append-nil s.from_b.wire)); long = refl; each = λ i lt. absurd (omega arith) }
+
+abbrev again : State → End → ℕ → Sending
+again s end i = record { segment = Some ((sends s end).acked + 1 + i); acks = (sends s (other end)).taken }
+
+abbrev with_more : State → End → List Sending → State
+with_more s end more = with_sends s end (record (sends s end) { wire = (sends s end).wire ++ more })
+
+each_more : (s : State) (end : End) (more : List Sending) (n : ℕ) → length more ≡ n → ((i : ℕ) → i < n → slice_get more i ≡ Some (again s end i)) → (i : ℕ) → i < n + 1 → slice_get (more ++ again s end n ∷ []) i ≡ Some (again s end i)
+each_more s end more n long each i lt =
+    elim (cases_eq i n) [
+      | inl same ↦ subst (λ (k : ℕ). slice_get (more ++ again s end n ∷ []) k ≡ Some (again s end k)) (sym same) (at_end more n (again s end n) long)
+      | inr apart ↦ front more (again s end n ∷ []) i (again s end i) (each i (omega arith))
+    ]
+  where
+    at_end : (xs : List Sending) (n : ℕ) (y : Sending) → length xs ≡ n → slice_get (xs ++ y ∷ []) n ≡ Some y
+    at_end xs n y e = slice_get-get_or (xs ++ y ∷ []) n y (omega (arith, length-append xs (y ∷ []))) ∙ ap (λ (z : Sending). Some z) (grind (arith, common_steps, e))
+
+    front : (xs ys : List Sending) (i : ℕ) (x : Sending) → slice_get xs i ≡ Some x → slice_get (xs ++ ys) i ≡ Some x
+    front [] ys i x e = let none : ⊥ = cc in absurd none
+    front (z ∷ xs) ys zero x e = e
+    front (z ∷ xs) ys (suc i) x e = front xs ys i x e
+
+wrote_more : (s : State) (end : End) (more : List Sending) (i : ℕ) → wrote (with_more s end more) end (sends (with_more s end more) end).sent (Some ((sends (with_more s end more) end).acked + 1 + i)) ≡ with_more s end (more ++ again s end i ∷ [])
+wrote_more s A more i = ap (λ (l : List Sending). record s { from_a = record s.from_a { wire = l } }) (append_assoc s.from_a.wire more (again s A i ∷ []))
+wrote_more s B more i = ap (λ (l : List Sending). record s { from_b = record s.from_b { wire = l } }) (append_assoc s.from_b.wire more (again s B i ∷ []))
+
+pub resent_more : (old now new : State) (end : End) (i : ℕ) (answer : Step) → AllResent old now end i → Steps now (event.Resend end i) answer new → AllResent old new end (i + 1)
+unfolding Steps
+resent_more old now new end i answer h step =
+    let there : Steps (with_more old end h.more) (event.Resend end i) answer new = subst (λ (s : State). Steps s (event.Resend end i) answer new) h.wrote step in
+    record {
+      ran = ran_more old now new i (event.Resend end i) answer tt h.ran step;
+      more = h.more ++ again old end i ∷ [];
+      wrote = there.2 ∙ wrote_more old end h.more i;
+      long = length-append h.more (again old end i ∷ []) ∙ (omega (arith, h.long));
+      each = each_more old end h.more i h.long h.each;
+    }
+
+-- the segment is there to be written again
+left : (old now : State) (end : End) (i : ℕ) → AllResent old now end i → i < unacked old end → i < unacked now end
+left old now A i h lt = subst (λ (s : State). i < unacked s A) (sym h.wrote) lt
+left old now B i h lt = subst (λ (s : State). i < unacked s B) (sym h.wrote) lt
+
+pub resend_refused : (old now new : State) (end : End) (i : ℕ) (f : WorldFault) → AllResent old now end i → i < unacked old end → Went now (event.Resend end i) (Err f) new → (f ≡ fault.NoMemory) × RanTo old new
+unfolding Steps Refuses
+resend_refused old now new end i fault.NoMemory h lt went = (refl, (i, subst (λ (s : State). RanBy old s i) (sym went.1) h.ran))
+resend_refused old now new end i fault.NothingToDo h lt went = absurd (omega (arith, went.0, left old now end i h lt))
+resend_refused old now new end i fault.NoSuchPacket h lt went = absurd went.0
+resend_refused old now new end i fault.Stale h lt went = absurd went.0
+resend_refused old now new end i (fault.Ask g) h lt went = absurd went.0
+resend_refused old now new end i fault.Exhausted h lt went = absurd went.0
+resend_refused old now new end i fault.BadSetup h lt went = absurd went.0
+
+-- ---- Delivering.
+
+pub none_came : (s : State) (end : End) → IsWorld s → AllCame s s end 0
+none_came s end h =
+    let counts = (direction s end h).counts in
+    record { ran = ran_none s; taken = omega (arith, counts.acked_taken); sent = refl; acked = refl; wire = refl; back = refl; window = refl }
+
+pub twice : (end : End) → other (other end) ≡ end
+twice A = refl
+twice B = refl
+
+-- the next segment, or one that was taken, leaves no less taken
+pub took : (seg win : ℕ) (d back : Direction) (keep : Bool) (k n : ℕ) → IsDirection seg win d back → k ≡ n + 1 → n ≤ d.taken → k ≤ d.sent → n + 1 ≤ (came keep d (Some k)).taken
+took seg win d back keep k n h is le sent =
+    elim (cases_eq k (d.taken + 1)) [
+      | inl same ↦
+          let c = closed d.held k d.sent sent (subst (λ (m : ℕ). AreEarly m d.sent d.held) (sym same) h.early) in
+          rw (eq-eqb k (d.taken + 1) same) (omega (arith, c.0, is))
+      | inr apart ↦ rw (ne_eqb k (d.taken + 1) apart) (later (nat_lt d.taken k && keep) (omega (arith, is, le, apart)))
+    ]
+  where
+    later : (b : Bool) → n + 1 ≤ d.taken → n + 1 ≤ (if b then record d { held = with_number k d.held } else d).taken
+    later true h = h
+    later false h = h
+
+came_sent : (keep : Bool) (d : Direction) (k : Option ℕ) → (came keep d k).sent ≡ d.sent
+came_sent keep d k = ap (λ (x : Direction). x.sent) (came-moves keep d k).2
+
+came_acked : (keep : Bool) (d : Direction) (k : Option ℕ) → (came keep d k).acked ≡ d.acked
+came_acked keep d k = ap (λ (x : Direction). x.acked) (came-moves keep d k).2
+
+came_wire : (keep : Bool) (d : Direction) (k : Option ℕ) → (came keep d k).wire ≡ d.wire
+came_wire keep d k = ap (λ (x : Direction). x.wire) (came-moves keep d k).2
+
+-- the packet at the next place is the one that carries the next segment
+next_there : (old now : State) (end : End) (first count n : ℕ) → AllCame old now end n → AreThere old end first count → n < count → slice_get (sends now end).wire (first + n) ≡ Some (again old end n)
+next_there old now end first count n h there lt = ap (λ (l : List Sending). slice_get l (first + n)) h.wire ∙ there n lt
+
+pub is_same : (p q : Sending) (o : Option Sending) → o ≡ Some p → o ≡ Some q → p ≡ q
+is_same p q o e f = cc
+
+-- one more was delivered
+came_one : (old now new : State) (end : End) (n : ℕ) (keep : Bool) → IsWorld now → AllCame old now end n → n < unacked old end → RanBy old new (n + 1)
+    → new ≡ delivered keep now (other end) (again old end n) → AllCame old new end (n + 1)
+came_one old now new A n keep world h lt ran is =
+    let k = Some (old.from_a.acked + 1 + n) in
+    let grew = took now.seg_size now.window now.from_a now.from_b keep (old.from_a.acked + 1 + n) (old.from_a.acked + n) world.from_a (omega arith) h.taken (omega (arith, h.sent, lt)) in
+    record {
+      ran = ran;
+      taken = subst (λ (s : State). old.from_a.acked + (n + 1) ≤ s.from_a.taken) (sym is) (omega (arith, grew));
+      sent = ap (λ (s : State). s.from_a.sent) is ∙ came_sent keep now.from_a k ∙ h.sent;
+      acked = ap (λ (s : State). s.from_a.acked) is ∙ came_acked keep now.from_a k ∙ h.acked;
+      wire = ap (λ (s : State). s.from_a.wire) is ∙ came_wire keep now.from_a k ∙ h.wire;
+      back = ap (λ (s : State). s.from_b.taken) is ∙ h.back;
+      window = ap (λ (s : State). s.window) is ∙ h.window;
+    }
+came_one old now new B n keep world h lt ran is =
+    let k = Some (old.from_b.acked + 1 + n) in
+    let grew = took now.seg_size now.window now.from_b now.from_a keep (old.from_b.acked + 1 + n) (old.from_b.acked + n) world.from_b (omega arith) h.taken (omega (arith, h.sent, lt)) in
+    record {
+      ran = ran;
+      taken = subst (λ (s : State). old.from_b.acked + (n + 1) ≤ s.from_b.taken) (sym is) (omega (arith, grew));
+      sent = ap (λ (s : State). s.from_b.sent) is ∙ came_sent keep now.from_b k ∙ h.sent;
+      acked = ap (λ (s : State). s.from_b.acked) is ∙ came_acked keep now.from_b k ∙ h.acked;
+      wire = ap (λ (s : State). s.from_b.wire) is ∙ came_wire keep now.from_b k ∙ h.wire;
+      back = ap (λ (s : State). s.from_a.taken) is ∙ h.back;
+      window = ap (λ (s : State). s.window) is ∙ h.window;
+    }
+
+came_at : (old now new : State) (end : End) (first count n j m : ℕ) (answer : Step) → IsWorld now → AllCame old now end n → AreThere old end first count → n < count → count ≤ unacked old end → j ≡ first + n → m ≡ n + 1
+    → Steps now (event.Deliver (other end) j) answer new → AllCame old new end m
+unfolding Steps
+came_at old now new end first count n j m answer world h there lt few is one step =
+    let at : slice_get (sends now (other (other end))).wire j ≡ Some (again old end n) =
+    subst (λ (e : End). slice_get (sends now e).wire j ≡ Some (again old end n)) (sym (twice end)) (ap (slice_get (sends now end).wire) is ∙ next_there old now end first count n h there lt) in
+    let same : step.0 ≡ again old end n = is_same step.0 (again old end n) _ step.2 at in
+    subst (λ (x : ℕ). AllCame old new end x) (sym one)
+    (came_one old now new end n step.1 world h (omega arith) (ran_more old now new n (event.Deliver (other end) j) answer tt h.ran step)
+    (step.5 ∙ ap (λ (p : Sending). delivered step.1 now (other end) p) same))
+
+-- a segment that isn't acknowledged isn't stale, nor is an acknowledgement of all that was taken
+fresh_again : (old now : State) (end : End) (n : ℕ) → IsWorld now → AllCame old now end n → is_stale now (other end) (again old end n) ≡ false
+fresh_again old now A n world h =
+    let c = world.from_a.counts in
+    let b = world.from_b.counts in
+    rw (
+      le-ltb (old.from_a.acked + 1 + n + 2047) (now.from_a.taken + 1) (omega (arith, c.taken_sent, c.within_window, world.window, h.acked)),
+      le-ltb (old.from_b.taken + 2047) now.from_b.acked (omega (arith, b.acked_taken, h.back)),
+    ) refl
+fresh_again old now B n world h =
+    let c = world.from_b.counts in
+    let b = world.from_a.counts in
+    rw (
+      le-ltb (old.from_b.acked + 1 + n + 2047) (now.from_b.taken + 1) (omega (arith, c.taken_sent, c.within_window, world.window, h.acked)),
+      le-ltb (old.from_a.taken + 2047) now.from_a.acked (omega (arith, b.acked_taken, h.back)),
+    ) refl
+
+pub came_more : (old now new : State) (end : End) (first last j : ℕ) (answer : Step) → IsWorld now → AllCame old now end (j - first) → AreThere old end first (last - first) → first ≤ j → j < last → last - first ≤ unacked old end
+    → Steps now (event.Deliver (other end) j) answer new → AllCame old new end (j + 1 - first)
+unfolding Steps
+came_more old now new end first last j answer world h there le lt few step =
+    came_at old now new end first (last - first) (j - first) j (j + 1 - first) answer world h there (omega arith) few (omega arith) (omega arith) step
+
+pub came_refused : (old now new : State) (end : End) (first last j : ℕ) (f : WorldFault) → IsWorld now → AllCame old now end (j - first) → AreThere old end first (last - first) → first ≤ j → j < last
+    → Went now (event.Deliver (other end) j) (Err f) new → (f ≡ fault.NoMemory) × RanTo old new
+unfolding Steps Refuses
+came_refused old now new end first last j fault.NoMemory world h there le lt went = (refl, (j - first, subst (λ (s : State). RanBy old s (j - first)) (sym went.1) h.ran))
+came_refused old now new end first last j fault.NoSuchPacket world h there le lt went =
+    let at : slice_get (sends now (other (other end))).wire j ≡ Some (again old end (j - first)) =
+    subst (λ (e : End). slice_get (sends now e).wire j ≡ Some (again old end (j - first))) (sym (twice end)) (ap (slice_get (sends now end).wire) (omega arith) ∙ next_there old now end first (last - first) (j - first) h there (omega arith)) in
+    let none = went.0 in absurd cc
+came_refused old now new end first last j fault.Stale world h there le lt went =
+    let at : slice_get (sends now (other (other end))).wire j ≡ Some (again old end (j - first)) =
+    subst (λ (e : End). slice_get (sends now e).wire j ≡ Some (again old end (j - first))) (sym (twice end)) (ap (slice_get (sends now end).wire) (omega arith) ∙ next_there old now end first (last - first) (j - first) h there (omega arith)) in
+    let same : went.0.0 ≡ again old end (j - first) = is_same went.0.0 (again old end (j - first)) _ went.0.1 at in
+    let stale : is_stale now (other end) (again old end (j - first)) ≡ true = subst (λ (p : Sending). is_stale now (other end) p ≡ true) same went.0.2 in
+    let young = fresh_again old now end (j - first) world h in absurd cc
+came_refused old now new end first last j fault.NothingToDo world h there le lt went = absurd went.0
+came_refused old now new end first last j (fault.Ask g) world h there le lt went = absurd went.0
+came_refused old now new end first last j fault.Exhausted world h there le lt went = absurd went.0
+came_refused old now new end first last j fault.BadSetup world h there le lt went = absurd went.0
+
+-- ---- The acknowledgement.
+
+pub at_last : (xs : List Sending) (n : ℕ) (y : Sending) → n ≡ length xs → slice_get (xs ++ y ∷ []) n ≡ Some y
+at_last xs n y e = slice_get-get_or (xs ++ y ∷ []) n y (omega (arith, length-append xs (y ∷ []))) ∙ ap (λ (z : Sending). Some z) (grind (arith, common_steps, e))
+
+-- the acknowledgement of all that was sent
+abbrev alone : State → End → Sending
+alone s end = record { segment = None; acks = (sends s end).taken }
+
+acked_wire : (old mid : State) (end : End) (place : ℕ) → mid ≡ wrote old (other end) (sends old (other end)).sent None → place ≡ length (sends old (other end)).wire
+    → slice_get (sends mid (other end)).wire place ≡ Some (alone old end)
+acked_wire old mid A place is at = ap (λ (s : State). slice_get s.from_b.wire place) is ∙ at_last old.from_b.wire place (alone old A) at
+acked_wire old mid B place is at = ap (λ (s : State). slice_get s.from_a.wire place) is ∙ at_last old.from_a.wire place (alone old B) at
+
+acked_all : (old mid new : State) (end : End) (keep : Bool) → IsWorld old → (sends old end).sent ≤ (sends old end).taken → mid ≡ wrote old (other end) (sends old (other end)).sent None
+    → new ≡ delivered keep mid end (alone old end) → unacked new end ≡ 0
+acked_all old mid new A keep world all is came_is =
+    let c = world.from_a.counts in
+    ap (λ (s : State). unacked s A) (came_is ∙ ap (λ (s : State). delivered keep s A (alone old A)) is) ∙ (omega (arith, c.taken_sent, all))
+acked_all old mid new B keep world all is came_is =
+    let c = world.from_b.counts in
+    ap (λ (s : State). unacked s B) (came_is ∙ ap (λ (s : State). delivered keep s B (alone old B)) is) ∙ (omega (arith, c.taken_sent, all))
+
+abbrev AckStep : State → End → Step → State → Type 0
+AckStep old end answer mid = Steps old (event.Ack (other end)) answer mid
+
+-- how it is written
+ack_wrote : (old mid : State) (end : End) (answer : Step) → AckStep old end answer mid → mid ≡ wrote old (other end) (sends old (other end)).sent None
+unfolding Steps
+ack_wrote old mid end answer step = step.1
+
+pub acknowledged_all : (old mid new : State) (end : End) (place : ℕ) (one two : Step) → IsWorld old → (sends old end).sent ≤ (sends old end).taken → place ≡ length (sends old (other end)).wire
+    → Steps old (event.Ack (other end)) one mid → Steps mid (event.Deliver end place) two new → RanBy old new 2 × (unacked new end ≡ 0)
+unfolding Steps
+acknowledged_all old mid new end place one two world all at first second =
+    let is = ack_wrote old mid end one first in
+    let same : second.0 ≡ alone old end = is_same second.0 (alone old end) _ second.2 (acked_wire old mid end place is at) in (
+      ran_both old mid new 1 1 (ran_one old mid (event.Ack (other end)) one tt first) (ran_one mid new (event.Deliver end place) two tt second),
+      acked_all old mid new end second.1 world all is (second.5 ∙ ap (λ (p : Sending). delivered second.1 mid end p) same),
+    )
+
+fresh_alone : (old mid : State) (end : End) → IsWorld old → mid ≡ wrote old (other end) (sends old (other end)).sent None → is_stale mid end (alone old end) ≡ false
+fresh_alone old mid A world is =
+    let c = world.from_a.counts in
+    ap (λ (s : State). is_stale s A (alone old A)) is ∙ le-ltb (old.from_a.taken + 2047) old.from_a.acked (omega (arith, c.acked_taken))
+fresh_alone old mid B world is =
+    let c = world.from_b.counts in
+    ap (λ (s : State). is_stale s B (alone old B)) is ∙ le-ltb (old.from_b.taken + 2047) old.from_b.acked (omega (arith, c.acked_taken))
+
+pub ack_refused : (old new : State) (end : End) (f : WorldFault) → Went old (event.Ack (other end)) (Err f) new → (f ≡ fault.NoMemory) × RanTo old new
+unfolding Steps Refuses
+ack_refused old new end fault.NoMemory went = (refl, (0, subst (λ (s : State). RanBy old s 0) (sym went.1) (ran_none old)))
+ack_refused old new end fault.NoSuchPacket went = absurd went.0
+ack_refused old new end fault.Stale went = absurd went.0
+ack_refused old new end fault.NothingToDo went = absurd went.0
+ack_refused old new end (fault.Ask g) went = absurd went.0
+ack_refused old new end fault.Exhausted went = absurd went.0
+ack_refused old new end fault.BadSetup went = absurd went.0
+
+pub back_refused : (old mid new : State) (end : End) (place : ℕ) (one : Step) (f : WorldFault) → IsWorld old → place ≡ length (sends old (other end)).wire → Steps old (event.Ack (other end)) one mid
+    → Went mid (event.Deliver end place) (Err f) new → (f ≡ fault.NoMemory) × RanTo old new
+unfolding Steps Refuses
+back_refused old mid new end place one fault.NoMemory world at first went = (refl, (1, subst (λ (s : State). RanBy old s 1) (sym went.1) (ran_one old mid (event.Ack (other end)) one tt first)))
+back_refused old mid new end place one fault.NoSuchPacket world at first went =
+    let there = acked_wire old mid end place (ack_wrote old mid end one first) at in let none = went.0 in absurd cc
+back_refused old mid new end place one fault.Stale world at first went =
+    let is = ack_wrote old mid end one first in
+    let same : went.0.0 ≡ alone old end = is_same went.0.0 (alone old end) _ went.0.1 (acked_wire old mid end place is at) in
+    let stale : is_stale mid end (alone old end) ≡ true = subst (λ (p : Sending). is_stale mid end p ≡ true) same went.0.2 in
+    let young = fresh_alone old mid end world is in absurd cc
+back_refused old mid new end place one fault.NothingToDo world at first went = absurd went.0
+back_refused old mid new end place one (fault.Ask g) world at first went = absurd went.0
+back_refused old mid new end place one fault.Exhausted world at first went = absurd went.0
+back_refused old mid new end place one fault.BadSetup world at first went = absurd went.0
+
+-- ---- All of it.
+
+-- the segments that were written again stand on the wire
+pub there_again : (old mid : State) (end : End) (first last count : ℕ) → AllResent old mid end count → first ≡ length (sends old end).wire → last - first ≡ count → AreThere mid end first (last - first)
+there_again old mid end first last count h at is = λ i lt. at_place old mid end first i count h at (omega arith)
+  where
+    behind : (xs ys : List Sending) (n i : ℕ) (y : Sending) → n ≡ length xs → slice_get ys i ≡ Some y → slice_get (xs ++ ys) (n + i) ≡ Some y
+    behind [] ys n i y e at = let goes : n + i ≡ i = omega arith in ap (slice_get ys) goes ∙ at
+    behind (x ∷ xs) ys n i y e at = let goes : n + i ≡ suc (length xs + i) = omega arith in ap (slice_get (x ∷ (xs ++ ys))) goes ∙ behind xs ys (length xs) i y refl at
+
+    at_place : (old mid : State) (end : End) (first i count : ℕ) → AllResent old mid end count → first ≡ length (sends old end).wire → i < count → slice_get (sends mid end).wire (first + i) ≡ Some (again mid end i)
+    at_place old mid A first i count h at lt = subst (λ (s : State). slice_get s.from_a.wire (first + i) ≡ Some (again s A i)) (sym h.wrote) (behind old.from_a.wire h.more first i (again old A i) at (h.each i lt))
+    at_place old mid B first i count h at lt = subst (λ (s : State). slice_get s.from_b.wire (first + i) ≡ Some (again s B i)) (sym h.wrote) (behind old.from_b.wire h.more first i (again old B i) at (h.each i lt))
+
+pub wire_grew : (old mid : State) (end : End) (count : ℕ) → AllResent old mid end count → length (sends mid end).wire ≡ length (sends old end).wire + count
+wire_grew old mid A count h = ap (λ (s : State). length s.from_a.wire) h.wrote ∙ length-append old.from_a.wire h.more ∙ ap (λ (n : ℕ). length old.from_a.wire + n) h.long
+wire_grew old mid B count h = ap (λ (s : State). length s.from_b.wire) h.wrote ∙ length-append old.from_b.wire h.more ∙ ap (λ (n : ℕ). length old.from_b.wire + n) h.long
+
+pub same_unacked : (old mid : State) (end : End) (count : ℕ) → AllResent old mid end count → unacked mid end ≡ unacked old end
+same_unacked old mid A count h = ap (λ (s : State). unacked s A) h.wrote
+same_unacked old mid B count h = ap (λ (s : State). unacked s B) h.wrote
+
+-- all that was sent was taken
+pub all_taken : (mid now : State) (end : End) (count : ℕ) → IsWorld mid → AllCame mid now end count → count ≡ unacked mid end → (sends now end).sent ≤ (sends now end).taken
+all_taken mid now end count world h is = let c = (direction mid end world).counts in omega (arith, h.taken, h.sent, is, c.acked_taken, c.taken_sent)
+
+-- as many packets are shown as stand on the wire
+pub wire_length : (s : State) (end : End) (wire : List Wired) → AreWired s end wire → length wire ≡ length (sends s end).wire
+wire_length s end wire h = sym (length-map wire wires.sending_of) ∙ ap length h.sendings

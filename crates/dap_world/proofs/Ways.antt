@@ -1,0 +1,147 @@
+-- A way stays a way when one of its ends moves.
+use Rattle.std.proofs.Common.{◌≡◌, ℕ, ◌≤◌, ◌<◌, refl, sym, ◌∙◌, subst, ap, List, [], ◌∷◌, ◌++◌, length}
+use Rattle.std.specs.Prelude.{Option, All}
+use Rattle.std.specs.List.{AllByRecursion}
+use Rattle.dap_msg.specs.Blocked.{NspMessage}
+use Rattle.nsp_link.specs.Limits.{most_segments}
+use Rattle.nsp_link.specs.Cutting.{cut}
+use Rattle.nsp_link.specs.Link.{LinkValue, Sends, Stands, Writes, IsWritten, Delivered}
+use Rattle.dap_world.specs.Inner.Sides.{SideValue, WiredValue, wrote_side}
+use Rattle.dap_world.specs.Inner.Ways.{IsWay, AreShort}
+use Rattle.dap_world.specs.Inner.Parts.{IsTold}
+
+-- the taking link took a packet in
+pub takes : (from : SideValue) (v v' : LinkValue) (messages given : List (List ℕ)) (k : Option ℕ) (a : ℕ)
+    → IsWay from v messages given → Delivered v v' k a → Stands v' from.link.seg_size messages given → IsWay from v' messages given
+takes from v v' messages given k a way d stands =
+    record {
+      size = way.size;
+      running = way.running;
+      listening = d.failed;
+      there = way.there ∙ sym d.remote;
+      back = way.back ∙ sym d.local;
+      sends = way.sends;
+      stands = stands;
+      short = subst (λ (n : ℕ). All (λ m. length m ≤ n) messages) (sym d.max_message) way.short;
+      few = way.few;
+      wire = way.wire;
+    }
+
+pub same_writes : (v v' : LinkValue) (messages : List (List ℕ)) → v'.local ≡ v.local → v'.remote ≡ v.remote → v'.seg_size ≡ v.seg_size
+    → (wire : List WiredValue) → AllByRecursion (λ w. Writes v messages w.segment w.acks w.packet) wire → AllByRecursion (λ w. Writes v' messages w.segment w.acks w.packet) wire
+same_writes v v' messages l r s [] h = tt
+same_writes v v' messages l r s (w ∷ wire) h = (
+  subst (λ (x : ℕ). IsWritten x v'.remote (cut v'.seg_size messages) w.segment w.acks w.packet) (sym l)
+      (subst (λ (x : ℕ). IsWritten v.local x (cut v'.seg_size messages) w.segment w.acks w.packet) (sym r)
+      (subst (λ (x : ℕ). IsWritten v.local v.remote (cut x messages) w.segment w.acks w.packet) (sym s) h.0)),
+  same_writes v v' messages l r s wire h.1,
+)
+
+-- the sending link took a packet in: it sends what it sent
+pub gives : (from : SideValue) (v' to : LinkValue) (messages given : List (List ℕ)) (k : Option ℕ) (a : ℕ)
+    → IsWay from to messages given → Delivered from.link v' k a → Sends v' messages → IsWay (record from { link = v' }) to messages given
+gives from v' to messages given k a way d sends =
+    record {
+      size = subst (λ (n : ℕ). 0 < n) (sym d.seg_size) way.size;
+      running = d.failed;
+      listening = way.listening;
+      there = d.local ∙ way.there;
+      back = d.remote ∙ way.back;
+      sends = sends;
+      stands = subst (λ (n : ℕ). Stands to n messages given) (sym d.seg_size) way.stands;
+      short = way.short;
+      few = subst (λ (n : ℕ). length (cut n messages) ≤ most_segments) (sym d.seg_size) way.few;
+      wire = same_writes from.link v' messages d.local d.remote d.seg_size from.wire way.wire;
+    }
+
+all_push : {X : Type 0} (P : X → Type 0) → (xs : List X) (x : X) → AllByRecursion P xs → P x → AllByRecursion P (xs ++ x ∷ [])
+all_push P [] x h p = (p, tt)
+all_push P (y ∷ xs) x h p = (h.0, all_push P xs x h.1 p)
+
+-- the sending link wrote a packet
+writes_more : (from : SideValue) (to : LinkValue) (messages given : List (List ℕ)) (sent : ℕ) (w : WiredValue)
+    → IsWay from to messages given → Writes from.link messages w.segment w.acks w.packet → IsWay (wrote_side from sent w) to messages given
+writes_more from to messages given sent w way written =
+    record {
+      size = way.size;
+      running = way.running;
+      listening = way.listening;
+      there = way.there;
+      back = way.back;
+      sends = record { queue = way.sends.queue; acked = way.sends.acked };
+      stands = way.stands;
+      short = way.short;
+      few = way.few;
+      wire = all_push _ from.wire w (same_writes from.link (record from.link { sent = sent }) messages refl refl refl from.wire way.wire) written;
+    }
+
+-- the taking link moved only what it sends: it stands where it stood
+pub stands_same : (v w : LinkValue) (size : ℕ) (messages given : List (List ℕ)) → w ≡ record v { sent = w.sent; acked = w.acked; queue = w.queue } → Stands v size messages given → Stands w size messages given
+stands_same v w size messages given same stands =
+    subst (λ (x : LinkValue). Stands x size messages given) (sym same)
+    (record {
+      taken = record { count = stands.taken.count; whole = stands.taken.whole; inbox = stands.taken.inbox; partial = stands.taken.partial };
+      held = stands.held;
+    })
+
+pub still_way : (from : SideValue) (v w : LinkValue) (messages given : List (List ℕ)) → w ≡ record v { sent = w.sent; acked = w.acked; queue = w.queue } → IsWay from v messages given → IsWay from w messages given
+still_way from v w messages given same way =
+    record {
+      size = way.size;
+      running = way.running;
+      listening = ap (λ (x : LinkValue). x.failed) same ∙ way.listening;
+      there = way.there ∙ sym (ap (λ (x : LinkValue). x.remote) same);
+      back = way.back ∙ sym (ap (λ (x : LinkValue). x.local) same);
+      sends = way.sends;
+      stands = stands_same v w from.link.seg_size messages given same way.stands;
+      short = subst (λ (n : ℕ). AreShort n messages) (sym (ap (λ (x : LinkValue). x.max_message) same)) way.short;
+      few = way.few;
+      wire = way.wire;
+    }
+
+-- ---- What is told of a direction.
+
+module _ (packets : List NspMessage) (count : ℕ) (from to : SideValue) (h : IsTold from to packets count) where
+  pub told_writes : (sent : ℕ) (w : WiredValue) → Writes from.link from.handed w.segment w.acks w.packet → IsTold (wrote_side from sent w) to packets count
+  told_writes sent w written =
+      record {
+        gone = h.gone;
+        among = h.among;
+        way = writes_more from to.link from.handed _ sent w h.way written;
+        bytes = h.bytes;
+        fit = h.fit;
+        short = h.short;
+      }
+
+  pub told_sent : (sent : ℕ) (w : WiredValue) → IsTold from (wrote_side to sent w) packets count
+  told_sent sent w =
+      record {
+        gone = h.gone;
+        among = h.among;
+        way = still_way from to.link (record to.link { sent = sent }) from.handed _ refl h.way;
+        bytes = h.bytes;
+        fit = h.fit;
+        short = h.short;
+      }
+
+  pub told_gives : (v : LinkValue) (k : Option ℕ) (a : ℕ) → Delivered from.link v k a → Sends v from.handed → IsTold (record from { link = v }) to packets count
+  told_gives v k a d sends =
+      record {
+        gone = h.gone;
+        among = h.among;
+        way = gives from v to.link from.handed _ k a h.way d sends;
+        bytes = h.bytes;
+        fit = h.fit;
+        short = subst (λ (n : ℕ). AreShort n from.outbox) (sym d.max_message) h.short;
+      }
+
+  pub told_takes : (v : LinkValue) → ((messages given : List (List ℕ)) → IsWay from to.link messages given → IsWay from v messages given) → IsTold from (record to { link = v }) packets count
+  told_takes v on =
+      record {
+        gone = h.gone;
+        among = h.among;
+        way = on from.handed _ h.way;
+        bytes = h.bytes;
+        fit = h.fit;
+        short = h.short;
+      }

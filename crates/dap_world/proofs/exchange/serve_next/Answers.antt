@@ -1,0 +1,27 @@
+use Rattle.std.proofs.Common.{◌≡◌, ◌-◌, ◌∷◌, ◌++◌, [], List, ℕ, rules, refl, sym, ap, ◌∙◌, inr, length, take, drop}
+use Rattle.std.proofs.lemmas.List.{map-append, length-map}
+use Rattle.dap_msg.specs.Blocked.{bodies}
+use Rattle.dap_msg.specs.Items.{seen_item}
+use Rattle.dap_world.specs.Inner.SideView.{side_view}
+use Rattle.dap_world.proofs.Posted.{no_length}
+use Rattle.dap_world.proofs.Handled.{no_first, has_first, serve_done}
+use Rattle.dap_world.proofs.exchange.serve_next.Goals as goal
+
+pub returns-in-None-clause-err : goal.returns-in-None-clause-err
+returns-in-None-clause-err c = rw (← c.side.view_is) (refl, refl, refl, inr (no_first c.side.inside.link.inbox (sym c.in-None.ensures)))
+
+pub returns-clause-ok : goal.returns-clause-ok
+returns-clause-ok c =
+    let bytes = c.in-Some.message.now in
+    let waits = has_first c.side.inside.link.inbox bytes (sym c.in-Some.ensures) in
+    let idle : length c.side.inside.outbox.items ≡ 0 = search rules in
+    let pushed : c.push_reserved.new.self.items ≡ c.args.taken.now.items ++ c.in_ok-body.body ∷ [] = search rules in
+    let body : c.in_ok-body.body.items ≡ take (c.item_at-next.result.1 - c.side.inside.place) (drop c.side.inside.place bytes) = search rules in
+    let count : c.len-count.result ≡ length c.in-Ok.served.answers.items = search rules in
+    rw (← c.side.view_is)
+    (serve_done (side_view c.side.inside) c.handle.new.self c.args.accessed.now c.serve.new.self (bodies c.args.taken.now.items) (bodies c.push_reserved.new.self.items)
+    bytes waits.0 (seen_item c.item_at-next.result.0) c.item_at-next.result.1 c.in-Ok.served
+    (no_length (bodies c.side.inside.outbox.items) (length-map c.side.inside.outbox.items _ ∙ idle))
+    waits.1 c.item_at-next.ensures.only c.in-Ok.ensures.serves (c.handle.ensures.going, c.handle.ensures.ends)
+    (ap bodies pushed ∙ map-append _ c.args.taken.now.items (c.in_ok-body.body ∷ []) ∙ ap (λ (l : List ℕ). bodies c.args.taken.now.items ++ l ∷ []) body)
+    c.len-count.result (count ∙ sym (length-map c.in-Ok.served.answers.items _)))

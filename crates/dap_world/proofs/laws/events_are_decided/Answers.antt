@@ -1,0 +1,8 @@
+use Rattle.dap_world.proofs.Deciding.{no_step, one_reason}
+use Rattle.dap_world.proofs.laws.events_are_decided.Goals as goal
+
+pub returns-clause-apart : goal.returns-clause-apart
+returns-clause-apart c = no_step
+
+pub returns-clause-one : goal.returns-clause-one
+returns-clause-one c = one_reason

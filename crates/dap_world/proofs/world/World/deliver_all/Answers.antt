@@ -1,0 +1,28 @@
+use Rattle.std.proofs.Common.{◌≡◌, ◌-◌, ℕ, Err, arith, subst}
+use Rattle.dap_world.specs.declared.event.End.{End}
+use Rattle.dap_world.specs.declared.event.Event.TheVariants as event
+use Rattle.dap_world.specs.Machine.{Steps}
+use Rattle.dap_world.specs.Runs.{Went}
+use Rattle.dap_world.specs.Inner.Settling.{AllCame}
+use Rattle.dap_world.proofs.Settles.{came_more, came_refused}
+use Rattle.dap_world.proofs.world.World.deliver_all.Goals as goal
+
+pub loop-j-preserved : goal.loop-j-preserved
+loop-j-preserved c =
+    let went = subst (λ (e : End). Steps c.loop-j.self (event.Deliver e c.loop-j.j) c.in-Ok._step c.step.new.self) c.other.ensures c.in-Ok.ensures.went in
+    record {
+      came = came_more c.args.self.now c.loop-j.self c.step.new.self c.args.end c.args.first c.args.last c.loop-j.j c.in-Ok._step c.loop-j.invariant.world c.loop-j.invariant.came c.requires.there
+          c.loop-j.auto.j c.loop-j-test.true c.requires.few went;
+      world = c.in-Ok.ensures.world;
+    }
+
+pub returns-in-Err-clause-err : goal.returns-in-Err-clause-err
+returns-in-Err-clause-err c =
+    came_refused c.args.self.now c.loop-j.self c.step.new.self c.args.end c.args.first c.args.last c.loop-j.j c.in-Err.fault c.loop-j.invariant.world c.loop-j.invariant.came c.requires.there
+    c.loop-j.auto.j c.loop-j-test.true
+    (subst (λ (e : End). Went c.loop-j.self (event.Deliver e c.loop-j.j) (Err c.in-Err.fault) c.step.new.self) c.other.ensures c.in-Err.ensures.went)
+
+pub returns-clause-ok : goal.returns-clause-ok
+returns-clause-ok c =
+    let same : c.loop-j.j - c.args.first ≡ c.args.last - c.args.first = omega (arith, c.loop-j.auto.j-end c.requires.order, c.loop-j-test.false) in
+    (subst (λ (n : ℕ). AllCame c.args.self.now c.loop-j.self c.args.end n) same c.loop-j.invariant.came, c.loop-j.invariant.world)

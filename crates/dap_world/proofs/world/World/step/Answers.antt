@@ -1,0 +1,7 @@
+use Rattle.std.proofs.Common.{subst}
+use Rattle.dap_world.specs.Machine.{State}
+use Rattle.dap_world.specs.Inner.Worlds.{IsWorld}
+use Rattle.dap_world.proofs.world.World.step.Goals as goal
+
+pub returns-clause-world : goal.returns-clause-world
+returns-clause-world c = subst (λ (s : State). IsWorld s) c.self.view_is c.self.invariant.world

@@ -1,0 +1,4 @@
+use Rattle.dap_world.proofs.world.World.taken.Goals as goal
+
+pub returns : goal.returns
+returns c = rw (← c.self.view_is, c.deref.ensures.value) c.self.invariant.taken_is

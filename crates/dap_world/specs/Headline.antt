@@ -1,0 +1,30 @@
+-- The headline: what was sent, taken, filed and reported, whatever the network did.
+use Rattle.std.specs.Prelude.{ℕ, ◌≡◌, ◌≤◌, List, ◌++◌, length, map, take}
+use Rattle.dap_msg.specs.Message.{Message}
+use Rattle.dap_msg.specs.Items.{Whole}
+use Rattle.dap_accessed.specs.Standing.{Files}
+use Rattle.dap_accessed.specs.Groups.{Answers, After}
+use Rattle.dap_accessing.specs.declared.request.Request.{Request}
+use Rattle.dap_accessing.specs.declared.report.Report.{Report}
+use Rattle.dap_accessing.specs.Asked.{Asked}
+use Rattle.dap_accessing.specs.Told.{Told}
+use Rattle.dap_world.specs.Machine.{State, sent_by, taken_of, files_of, reported}
+
+abbrev pub IsPrefix : {X : Type 0} → List X → List X → Type 0
+IsPrefix {X} xs ys = (rest : List X) × (xs ++ rest ≡ ys)
+
+-- The messages that were sent are a front of what the requests ask. Those that were taken are the first of those sent,
+-- each once and in order. The files are those after what was taken. The reports are what is told of the requests and
+-- the first answers to what was taken.
+pub record Headline (own_a own_b : ℕ) (requests : List Request) (sent taken : List Message) (taken_count : ℕ) (files : Files) (reports : List Report) (read_count : ℕ) : Type 0 where
+  pub sent_in_order : IsPrefix sent (Asked own_a requests)
+  pub taken_in_order : taken ≡ take taken_count sent
+  pub taken_there : taken_count ≤ length sent
+  pub files_after : files ≡ After own_b (map Whole taken)
+  pub reports_told : reports ≡ Told requests (map Whole (take read_count (Answers own_b (map Whole taken))))
+  pub answers_there : read_count ≤ length (Answers own_b (map Whole taken))
+
+-- the same of what the readers of a world in this state answer
+abbrev pub HeadlineOf : State → Type 0
+HeadlineOf s =
+    Headline s.own_a s.own_b s.requests (sent_by s.from_a) (taken_of s) s.served (files_of s) (reported s) s.read

@@ -1,0 +1,140 @@
+-- What a world holds, and the state of the machine for which it stands.
+use Rattle.std.specs.Prelude.{◌≡◌, ◌⊎◌, ℕ, ◌+◌, ◌≤◌, List, [], ◌∷◌, ◌++◌, length, map, take, drop}
+use Rattle.dap_msg.specs.Message.{Message}
+use Rattle.dap_msg.specs.Items.{Item, Whole}
+use Rattle.dap_msg.specs.Canon.{canon}
+use Rattle.dap_msg.specs.Blocked.{NspMessage, joined, Blocked, all_joined, messages_in, AllFit}
+use Rattle.nsp_link.specs.Link.{LinkValue}
+use Rattle.nsp_link.specs.Holding.{numbers}
+use Rattle.nsp_link.specs.Limits.{largest_limit}
+use Rattle.dap_accessed.specs.Groups.{added, stands_after}
+use Rattle.dap_accessed.specs.Present as accessed
+use Rattle.dap_accessing.specs.Present as accessing
+use Rattle.dap_accessing.specs.declared.request.Request.{Request}
+use Rattle.dap_accessing.specs.declared.report.Report.{Report}
+use Rattle.dap_accessing.specs.Asked.{Asked, messages_of}
+use Rattle.dap_world.specs.declared.event.End.{End}
+use Rattle.dap_world.specs.declared.event.End.TheVariants.{A, B}
+use Rattle.dap_world.specs.Machine.{State, Direction, sent_by, taken_of, answers_read, reported}
+use Rattle.dap_world.specs.Wires.{address_of}
+use Rattle.dap_world.specs.Inner.Worlds.{IsWorld}
+use Rattle.dap_world.specs.Inner.Sides.{SideValue, sending_of}
+use Rattle.dap_world.specs.Inner.Ways.{IsWay, AreShort}
+
+pub record Parts : Type 0 where
+  pub a : SideValue
+  pub b : SideValue
+  pub accessing : accessing.Present
+  pub accessed : accessed.Present
+  pub requests : List Request
+  pub sent : List (List ℕ)  -- the DAP messages in what A handed over
+  pub taken : List (List ℕ)  -- those that B served
+  pub reports : List Report
+  pub read : ℕ  -- the answers that A read
+
+-- ---- What both ends have to send, as NSP messages.
+
+-- those of each request; no message of Hello can be joined to another, so the limit before it doesn't show
+abbrev pub asked_packets : (own_a own_b : ℕ) → List Request → List NspMessage
+asked_packets own_a own_b [] = []
+asked_packets own_a own_b (request ∷ requests) = Blocked own_b (messages_of own_a request) ++ asked_packets own_a own_b requests
+
+-- those of the answers to each item, served after those before it
+abbrev pub answer_packets : (own : ℕ) → (before items : List Item) → List NspMessage
+answer_packets own before [] = []
+answer_packets own before (item ∷ items) =
+    Blocked (stands_after own before).standing.limit (added own (stands_after own before) item) ++ answer_packets own (before ++ item ∷ []) items
+
+-- the messages that B served, as its number tells
+abbrev pub served_items : Parts → List Item
+served_items p = map Whole (take (length p.taken) (Asked p.accessing.own p.requests))
+
+abbrev pub asks : Parts → List NspMessage
+asks p = asked_packets p.accessing.own p.accessed.own p.requests
+
+abbrev pub answers : Parts → List NspMessage
+answers p = answer_packets p.accessed.own [] (served_items p)
+
+-- ---- The state.
+
+-- of these NSP messages, so many were handed over, and the others wait
+abbrev pub direction_of : SideValue → LinkValue → List NspMessage → Direction
+direction_of from to packets =
+    record {
+      waiting = drop (length from.handed) packets;
+      handed = take (length from.handed) packets;
+      sent = from.link.sent;
+      taken = to.received;
+      acked = from.link.acked;
+      held = numbers to.held;
+      wire = map sending_of from.wire;
+    }
+
+abbrev pub state_of : Parts → State
+state_of p =
+    record {
+      seg_size = p.a.link.seg_size;
+      window = p.a.link.window;
+      own_a = p.accessing.own;
+      own_b = p.accessed.own;
+      requests = p.requests;
+      from_a = direction_of p.a p.b.link (asks p);
+      from_b = direction_of p.b p.a.link (answers p);
+      served = length p.taken;
+      read = p.read;
+    }
+
+abbrev pub side : Parts → End → SideValue
+side p A = p.a
+side p B = p.b
+
+abbrev pub with_side : Parts → End → SideValue → Parts
+with_side p A s = record p { a = s }
+with_side p B s = record p { b = s }
+
+-- ---- What is true of them.
+
+-- the links have one size, one window and one limit, and the second one is that of A
+pub record AreAlike (v w : LinkValue) : Type 0 where
+  pub here : w.local ≡ address_of A
+  pub there : w.remote ≡ address_of B
+  pub size : v.seg_size ≡ w.seg_size
+  pub window : v.window ≡ w.window
+  pub limit : v.max_message ≡ w.max_message
+
+-- Of the first messages in NSP messages so many were handled: all those of some NSP messages, which left the link, and
+-- the first of the next one, which stays while one of it is left; the place is behind these.
+pub record IsAmong (packets : List NspMessage) (count place : ℕ) (gone : List NspMessage) : Type 0 where
+  pub begun : List Message
+  pub rest : List NspMessage
+  pub split : packets ≡ gone ++ rest
+  pub handled : count ≡ length (messages_in gone) + length begun
+  pub behind : place ≡ length (joined begun)
+  pub stays : (begun ≡ []) ⊎ ((m : Message) × (more : List Message) × (later : List NspMessage) × (rest ≡ (begun ++ m ∷ more) ∷ later))
+
+-- One direction: the bytes are those of the NSP messages, the messages have a spelling, and the link of the other end
+-- gave away those NSP messages of which every message was handled.
+pub record IsTold (from : SideValue) (to : SideValue) (packets : List NspMessage) (count : ℕ) : Type 0 where
+  pub gone : List NspMessage
+  pub among : IsAmong (take (length from.handed) packets) count to.place gone
+  pub way : IsWay from to.link from.handed (all_joined gone)
+  pub bytes : from.handed ++ from.outbox ≡ all_joined packets
+  pub fit : AllFit (messages_in packets)
+  -- what waits isn't too long
+  pub short : AreShort from.link.max_message from.outbox
+
+pub record AreParts (p : Parts) : Type 0 where
+  pub world : IsWorld (state_of p)
+  pub alike : AreAlike p.b.link p.a.link
+  -- a link takes what either end may send
+  pub limit_a : p.accessing.own ≤ p.a.link.max_message
+  pub limit_b : p.accessed.own ≤ p.a.link.max_message
+  pub most : p.a.link.max_message ≤ largest_limit
+  pub from_a : IsTold p.a p.b (asks p) (length p.taken)
+  pub from_b : IsTold p.b p.a (answers p) p.read
+  pub sent_is : p.sent ≡ map canon (sent_by (state_of p).from_a)
+  pub taken_is : p.taken ≡ map canon (taken_of (state_of p))
+  pub reports_is : p.reports ≡ reported (state_of p)
+  -- the ends stand as after what was asked, served and read
+  pub asking : accessing.StandsAfter p.requests (answers_read (state_of p)) p.accessing
+  pub serving : accessed.StandsAfter (map Whole (taken_of (state_of p))) p.accessed

@@ -1,0 +1,23 @@
+-- The DAP messages in an NSP message, as bytes.
+use Rattle.std.specs.Prelude.{◌≡◌, ◌≢◌, ℕ, List, [], ◌∷◌, ◌++◌, map}
+use Rattle.dap_msg.specs.Canon.{canon}
+use Rattle.dap_msg.specs.Blocked.{NspMessage, joined, all_joined, messages_in, AllFit}
+
+-- each NSP message has a message
+abbrev pub AreFull : List NspMessage → Type 0
+AreFull [] = Unit {0}
+AreFull (packet ∷ packets) = (packet ≢ []) × AreFull packets
+
+-- whatever messages were joined into these bytes, they are added, each as its own bytes
+abbrev pub SplitsOne : List ℕ → List (List ℕ) → List (List ℕ) → Type 0
+SplitsOne bytes old new =
+    (packet : NspMessage) → packet ≢ [] → AllFit packet → bytes ≡ joined packet → new ≡ old ++ map canon packet
+
+-- the same of several NSP messages
+abbrev pub SplitsAll : List (List ℕ) → List (List ℕ) → List (List ℕ) → Type 0
+SplitsAll list old new =
+    (packets : List NspMessage) → AreFull packets → AllFit (messages_in packets) → list ≡ all_joined packets → new ≡ old ++ map canon (messages_in packets)
+
+-- the messages in these NSP messages are sent too
+abbrev pub SentAll : List (List ℕ) → List (List ℕ) → List (List ℕ) → Type 0
+SentAll list old new = (more : List (List ℕ)) × (new ≡ old ++ more) × SplitsAll list [] more

@@ -1,0 +1,25 @@
+-- What the fields of a world stand for.
+use Rattle.std.specs.Prelude.{map}
+use Rattle.dap_world.specs.declared.world.World.TheInside.{Inside}
+use Rattle.dap_world.specs.Machine.{State}
+use Rattle.dap_world.specs.Inner.Parts.{Parts, state_of, AreParts}
+
+abbrev pub parts_of : Inside → Parts
+parts_of w =
+    record {
+      a = w.a;
+      b = w.b;
+      accessing = w.accessing;
+      accessed = w.accessed;
+      requests = w.requests.items;
+      sent = map (λ v. v.items) w.sent.items;
+      taken = map (λ v. v.items) w.taken.items;
+      reports = w.reports.items;
+      read = w.read;
+    }
+
+abbrev pub world_view : Inside → State
+world_view w = state_of (parts_of w)
+
+abbrev pub IsSound : Inside → Type 0
+IsSound w = AreParts (parts_of w)

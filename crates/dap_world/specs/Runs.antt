@@ -1,0 +1,69 @@
+-- What one event comes to, and several.
+use Rattle.std.specs.Prelude.{◌≡◌, ◌≤◌, ◌<◌, ℕ, ◌-◌, List, [], ◌∷◌, length, take, slice_get, Option, Some, None, IfSome, Result, Ok, Err, false}
+use Rattle.nsp_link.specs.Link.{LinkValue}
+use Rattle.dap_world.specs.declared.event.End.{End}
+use Rattle.dap_world.specs.declared.event.Event.{Event}
+use Rattle.dap_world.specs.declared.event.Event.TheVariants as event
+use Rattle.dap_world.specs.declared.event.Step.{Step}
+use Rattle.dap_world.specs.declared.event.Step.TheVariants as step
+use Rattle.dap_world.specs.declared.event.WorldFault.{WorldFault}
+use Rattle.dap_world.specs.declared.event.WorldFault.TheVariants as fault
+use Rattle.dap_world.specs.Machine.{State, Sending, Steps, Refuses, fresh, sends, other, is_stale, reported}
+use Rattle.dap_world.specs.Setups.{IsWorldSetup}
+use Rattle.dap_world.specs.declared.setup.WorldSetup.{WorldSetup}
+
+-- the event has a step
+abbrev pub MayHappen : State → Event → Type 0
+MayHappen s e = (answer : Step) × (new : State) × Steps s e answer new
+
+-- a delivery that takes in no segment and holds none: of one that was taken, or of none
+abbrev pub TakesNoMemory : State → Event → Type 0
+TakesNoMemory s (event.Deliver end j) =
+    (p : Sending) × (slice_get (sends s (other end)).wire j ≡ Some p) × (is_stale s end p ≡ false)
+    × IfSome p.segment (λ k. k ≤ (sends s (other end)).taken)
+TakesNoMemory s e = ⊥
+
+-- Memory was refused: only to an event that has a step, and may take some.
+abbrev pub WantsMemory : State → Event → Type 0
+WantsMemory s e = MayHappen s e × (TakesNoMemory s e → ⊥)
+
+-- It is a step of the machine; or the machine has none, for this reason; or memory was refused. A refusal changes nothing.
+abbrev pub Went : State → Event → Result Step WorldFault → State → Type 0
+Went old e (Ok answer) new = Steps old e answer new
+Went old e (Err fault.NoMemory) new = WantsMemory old e × (new ≡ old)
+Went old e (Err f) new = Refuses old e f × (new ≡ old)
+
+-- the end that an event lets write a packet
+abbrev pub writer_of : Event → Option End
+writer_of (event.Emit end) = Some end
+writer_of (event.Resend end _) = Some end
+writer_of (event.Ack end) = Some end
+writer_of _ = None
+
+-- What an answer names is there: the packet stands at its place of the writer's wire, and there is a newest report.
+abbrev pub Answers : Event → Step → State → Type 0
+Answers e (step.Packet place) s = (end : End) × (writer_of e ≡ Some end) × (place < length (sends s end).wire)
+Answers e step.Reported s = 0 < length (reported s)
+Answers e _ s = Unit {0}
+
+-- the events may lead from old to new, none refused
+abbrev pub Runs : State → List Event → State → Type 0
+Runs old [] new = new ≡ old
+Runs old (e ∷ events) new = (mid : State) × (answer : Step) × Steps old e answer mid × Runs mid events new
+
+-- events lead to this state from a new world
+abbrev pub IsReached : State → Type 0
+IsReached s = (setup : WorldSetup) × (events : List Event) × IsWorldSetup setup × Runs (fresh setup) events s
+
+-- the event at this place was refused, and those before it were run
+pub record StopsAt (events : List Event) (old new : State) (stop : ℕ × WorldFault) : Type 0 where
+  pub ran : Runs old (take stop.0 events) new
+  pub event : Event
+  pub there : slice_get events stop.0 ≡ Some event
+  pub refused : Went new event (Err stop.1) new
+
+-- the counts of an end's link are those of the machine
+pub record CountsOf (s : State) (end : End) (v : LinkValue) : Type 0 where
+  pub sent : v.sent ≡ (sends s end).sent
+  pub unacked : v.sent - v.acked ≡ (sends s end).sent - (sends s end).acked
+  pub received : v.received ≡ (sends s (other end)).taken

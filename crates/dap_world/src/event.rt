@@ -1,0 +1,99 @@
+//! What happens in a world, and what comes of it.
+
+use dap_accessing::{AskFault, Request};
+use nsp_link::Got;
+use std::alloc::{AllocError, AllocFailed};
+
+/// The two ends.
+#[derive(Clone, Copy, Drop, Debug, PartialEq, Eq)]
+pub enum End {
+    /// The one that asks.
+    A,
+    /// The one that holds the files.
+    B,
+}
+
+impl End {
+    ghost use Rattle.std.specs.Prelude.{◌≡◌};
+    ghost use Rattle.dap_world.specs.Machine.{other};
+
+    /// The other end.
+    pub(crate) fn other(self) -> End
+        ensures { result ≡ other self }
+    {
+        match self {
+            End::A => End::B,
+            End::B => End::A,
+        }
+    }
+}
+
+/// What happens in a world.
+#[derive(Drop)]
+pub enum Event {
+    /// A request is asked of A; its messages wait.
+    Ask(Request),
+    /// What waits at an end is handed to its link.
+    Post(End),
+    /// An end writes its next segment.
+    Emit(End),
+    /// An end writes a segment again: the one at this place of those that aren't acknowledged.
+    Resend(End, usize),
+    /// An end writes an acknowledgement.
+    Ack(End),
+    /// An end gets the packet at this place of those that the other end wrote.
+    Deliver(End, usize),
+    /// B serves its next DAP message; the answers wait.
+    Serve,
+    /// A reads its next answer.
+    Read,
+}
+
+/// What came of an event.
+#[derive(Clone, Copy, Drop, Debug, PartialEq, Eq)]
+pub enum Step {
+    /// So many NSP messages wait more.
+    Asked(usize),
+    /// So many NSP messages were handed over.
+    Posted(usize),
+    /// The packet stands at this place of the wire.
+    Packet(usize),
+    /// What became of the packet.
+    Delivered(Got),
+    /// So many NSP messages answer.
+    Served(usize),
+    /// An answer was read, and no report came of it.
+    Nothing,
+    /// An answer was read, and the last report is new.
+    Reported,
+}
+
+/// Why an event has no step, or a call none. A refused event leaves the world unchanged.
+#[derive(Clone, Copy, Drop, Debug, PartialEq, Eq)]
+pub enum WorldFault {
+    /// The other end wrote no packet of this place.
+    NoSuchPacket,
+    /// The segment or the acknowledgement is more than 2,047 numbers old.
+    Stale,
+    /// Nothing waits, or may be written, served or read.
+    NothingToDo,
+    /// The request isn't asked.
+    Ask(AskFault),
+    /// Memory was refused.
+    NoMemory,
+    /// A direction would have more than 2^40 segments.
+    Exhausted,
+    /// A number of the setup isn't in its range.
+    BadSetup,
+}
+
+impl From<AllocError> for WorldFault {
+    ghost use Rattle.std.specs.Prelude.{◌≡◌};
+    ghost use Rattle.dap_world.specs.declared.event.WorldFault.TheVariants.{NoMemory};
+
+    ghost from_gives = { λ _ e. e ≡ NoMemory };
+
+    fn from(_e: AllocError) -> WorldFault {
+        WorldFault::NoMemory
+    }
+}

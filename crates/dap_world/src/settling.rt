@@ -1,0 +1,108 @@
+//! A stretch without loss: what was sent arrives and is acknowledged.
+
+use crate::event::{End, Event, WorldFault};
+use crate::world::World;
+
+impl World {
+    ghost use Rattle.std.specs.Prelude.{◌≡◌, ◌<◌, ◌≤◌, ◌+◌, ◌-◌, IfOk, IfErr, IsOk, OnOk, length, ℕ};
+    ghost use Rattle.dap_world.specs.Machine.{sends, other};
+    ghost use Rattle.dap_world.specs.Inner.Worlds.{IsWorld};
+    ghost use Rattle.dap_world.specs.Settling.{RanBy, RanTo, Settled, unacked};
+    ghost use Rattle.dap_world.specs.Inner.Settling.{AllResent, AreThere, AllCame, SameBut};
+    ghost use Rattle.dap_world.specs.declared.event.End.{End};
+    ghost use Rattle.dap_world.specs.declared.event.WorldFault.TheVariants.{NoMemory};
+
+    // Writes the first segments of an end that aren't acknowledged again, in order.
+    fn resend_all(&mut self, end: End, count: usize) -> Result<(), WorldFault>
+        requires world { IsWorld self.old }
+        requires few { count ≤ unacked self.old end }
+        ensures ok { OnOk result (AllResent self.old self.new end count × IsWorld self.new) }
+        ensures err { IfErr result (λ f. (f ≡ NoMemory) × RanTo self.old self.new) }
+    {
+        for place in 0..count {
+            match self.step(&Event::Resend(end, place)) {
+                Ok(_step) => {}
+                Err(fault) => return Err(fault),
+            }
+        }
+        Ok(())
+    }
+
+    // Gives the other end these packets, in order.
+    fn deliver_all(&mut self, end: End, first: usize, last: usize) -> Result<(), WorldFault>
+        requires world { IsWorld self.old }
+        requires order { first ≤ last }
+        requires few { last - first ≤ unacked self.old end }
+        requires there { AreThere self.old end first (last - first) }
+        ensures ok { OnOk result (AllCame self.old self.new end (last - first) × IsWorld self.new) }
+        ensures err { IfErr result (λ f. (f ≡ NoMemory) × RanTo self.old self.new) }
+    {
+        for j in first..last {
+            match self.step(&Event::Deliver(end.other(), j)) {
+                Ok(_step) => {}
+                Err(fault) => return Err(fault),
+            }
+        }
+        Ok(())
+    }
+
+    // The other end, which took all segments, acknowledges them.
+    pub(crate) fn acknowledge(&mut self, end: End) -> Result<(), WorldFault>
+        requires world { IsWorld self.old }
+        requires taken { (sends self.old end).sent ≤ (sends self.old end).taken }
+        ensures ok { OnOk result (RanBy self.old self.new 2 × (unacked self.new end ≡ 0)) }
+        ensures same { OnOk result (SameBut self.old self.new × ((e : End) → (sends self.new e).sent ≡ (sends self.old e).sent)) }
+        ensures world { OnOk result (IsWorld self.new) }
+        ensures err { IfErr result (λ f. (f ≡ NoMemory) × RanTo self.old self.new) }
+    {
+        let place = self.wire(end.other()).len();
+        match self.step(&Event::Ack(end.other())) {
+            Ok(_step) => {}
+            Err(fault) => return Err(fault),
+        }
+        match self.step(&Event::Deliver(end, place)) {
+            Ok(_step) => Ok(()),
+            Err(fault) => Err(fault),
+        }
+    }
+
+    fn settle_some(&mut self, end: End, count: usize) -> Result<usize, WorldFault>
+        requires world { IsWorld self.old }
+        requires all { count ≡ unacked self.old end }
+        requires small { count ≤ 2047 }
+        ensures ok { IfOk result (λ n. RanBy self.old self.new n × (unacked self.new end ≡ 0) × (n ≡ (count + count) + 2)) }
+        ensures err { IfErr result (λ f. (f ≡ NoMemory) × RanTo self.old self.new) }
+    {
+        let first = self.wire(end).len();
+        match self.resend_all(end, count) {
+            Ok(()) => {}
+            Err(fault) => return Err(fault),
+        }
+        let last = self.wire(end).len();
+        match self.deliver_all(end, first, last) {
+            Ok(()) => {}
+            Err(fault) => return Err(fault),
+        }
+        match self.acknowledge(end) {
+            Ok(()) => Ok(count + count + 2),
+            Err(fault) => Err(fault),
+        }
+    }
+
+    /// Writes all segments of an end that aren't acknowledged again, delivers them, and then one
+    /// acknowledgement: afterwards none is left. How many events that were, 0 where there was nothing to do,
+    /// which takes no memory. Refused for want of memory alone, as the last event that wasn't refused left
+    /// the world.
+    pub fn settle(&mut self, end: End) -> Result<usize, WorldFault>
+        ensures ok { IfOk result (λ n. Settled self.old self.new end n) }
+        ensures err { IfErr result (λ f. (f ≡ NoMemory) × RanTo self.old self.new) }
+        ensures nothing { unacked self.old end ≡ 0 → IsOk result }
+    {
+        self.sound();
+        let count = self.link(end).unacked();
+        if count == 0 {
+            return Ok(0);
+        }
+        self.settle_some(end, count)
+    }
+}

@@ -1,0 +1,269 @@
+//! Both ends and the network.
+
+ghost use Rattle.std.specs.Prelude.{◌≡◌, map};
+ghost use Rattle.dap_world.specs.Inner.Answers.{packet_of, delivery_of, post_of};
+
+use crate::event::{End, Event, Step, WorldFault};
+use crate::side::{Side, Wired, deliver, post, post_sent};
+use dap_accessed::{Accessed, FileTable};
+use dap_accessing::{Accessing, Report, Request};
+use nsp_link::{Got, LinkEnd};
+use std::alloc::Global;
+use std::marker::Model;
+
+/// Both ends and the network.
+#[derive(Drop)]
+pub struct World {
+    pub(crate) alloc: Global,
+    pub(crate) a: Side,
+    pub(crate) b: Side,
+    pub(crate) accessing: Accessing,
+    pub(crate) accessed: Accessed,
+    pub(crate) requests: Vec<Request>,
+    // The DAP messages that A handed to its link, and those that B served.
+    pub(crate) sent: Vec<Vec<u8>>,
+    pub(crate) taken: Vec<Vec<u8>>,
+    pub(crate) reports: Vec<Report>,
+    // The answers that A read.
+    pub(crate) read: u64,
+}
+
+impl Model for World {
+    ghost use Rattle.dap_world.specs.Machine.{State};
+
+    ghost Value = { State };
+
+    ghost use Rattle.dap_world.specs.Inner.WorldView.{world_view, IsSound};
+
+    ghost view = { world_view };
+
+    ghost invariant = { IsSound };
+}
+
+impl World {
+    ghost use Rattle.std.specs.Prelude.{◌≡◌, IfOk, OnOk, IfErr, map, true, false};
+    ghost use Rattle.dap_msg.specs.Canon.{canon};
+    ghost use Rattle.dap_world.specs.Machine.{MayEmit, files_of, reported, sends, sent_by, taken_of};
+    ghost use Rattle.dap_world.specs.Runs.{Answers, CountsOf, Runs, StopsAt, Went};
+    ghost use Rattle.dap_world.specs.Inner.Worlds.{IsWorld};
+    ghost use Rattle.dap_world.specs.Wires.{AreWired};
+    ghost use Rattle.dap_world.specs.Headline.{HeadlineOf};
+
+    // Writes the next segment.
+    fn emit(&mut self, end: End) -> Result<Step, WorldFault>
+        ensures { Went self.old (Event.Emit end) result self.new }
+    {
+        match end {
+            End::A => packet_step(self.a.emit()),
+            End::B => packet_step(self.b.emit()),
+        }
+    }
+
+    // Writes a segment again.
+    fn resend(&mut self, end: End, place: usize) -> Result<Step, WorldFault>
+        ensures { Went self.old (Event.Resend end place) result self.new }
+    {
+        match end {
+            End::A => packet_step(self.a.resend(place)),
+            End::B => packet_step(self.b.resend(place)),
+        }
+    }
+
+    // Writes an acknowledgement.
+    fn ack(&mut self, end: End) -> Result<Step, WorldFault>
+        ensures { Went self.old (Event.Ack end) result self.new }
+    {
+        match end {
+            End::A => packet_step(self.a.ack()),
+            End::B => packet_step(self.b.ack()),
+        }
+    }
+
+    // Gives an end a packet of the other.
+    fn deliver(&mut self, end: End, j: usize) -> Result<Step, WorldFault>
+        ensures { Went self.old (Event.Deliver end j) result self.new }
+    {
+        match end {
+            End::A => delivery_step(deliver(&mut self.a, &self.b, j)),
+            End::B => delivery_step(deliver(&mut self.b, &self.a, j)),
+        }
+    }
+
+    // Hands over what waits.
+    fn post(&mut self, end: End) -> Result<Step, WorldFault>
+        ensures { Went self.old (Event.Post end) result self.new }
+    {
+        match end {
+            End::A => post_step(post_sent(self.alloc, &mut self.a, &mut self.sent)),
+            End::B => post_step(post(&mut self.b)),
+        }
+    }
+
+    fn happen(&mut self, event: &Event) -> Result<Step, WorldFault>
+        ensures { Went self.old event.now result self.new }
+    {
+        match event {
+            Event::Ask(request) => self.ask(request),
+            Event::Post(end) => self.post(*end),
+            Event::Emit(end) => self.emit(*end),
+            Event::Resend(end, place) => self.resend(*end, *place),
+            Event::Ack(end) => self.ack(*end),
+            Event::Deliver(end, j) => self.deliver(*end, *j),
+            Event::Serve => self.serve(),
+            Event::Read => self.read(),
+        }
+    }
+
+    /// One event: a step of the machine, or refused as there, or for want of memory. A refusal changes
+    /// nothing.
+    pub fn apply(&mut self, event: &Event) -> Result<Step, WorldFault>
+        ensures went { Went self.old event.now result self.new }
+        ensures answers { IfOk result (λ step. Answers event.now step self.new) }
+        ensures headline { HeadlineOf self.new }
+    {
+        let result = self.happen(event);
+        let _ = &self.read;
+        result
+    }
+
+    // Whether an end has a segment that it may write.
+    pub(crate) fn may_emit(&self, end: End) -> bool
+        ensures yes { result ≡ true → MayEmit self.now end }
+        ensures no { result ≡ false → MayEmit self.now end → ⊥ }
+    {
+        match end {
+            End::A => self.a.may_send(),
+            End::B => self.b.may_send(),
+        }
+    }
+
+    // What is true of every world.
+    pub(crate) fn sound(&self)
+        ensures { IsWorld self.now }
+    {
+        let _ = &self.read;
+    }
+
+    // One event, after which the same is true.
+    pub(crate) fn step(&mut self, event: &Event) -> Result<Step, WorldFault>
+        ensures went { Went self.old event.now result self.new }
+        ensures world { IsWorld self.new }
+    {
+        let result = self.happen(event);
+        let _ = &self.read;
+        result
+    }
+
+    fn go(&mut self, events: &[Event]) -> Result<(), (usize, WorldFault)>
+        ensures all { OnOk result (Runs self.old events.now self.new) }
+        ensures stopped { IfErr result (λ stop. StopsAt events.now self.old self.new stop) }
+    {
+        for (i, event) in events.iter().enumerate() {
+            match self.happen(event) {
+                Ok(_) => {}
+                Err(fault) => return Err((i, fault)),
+            }
+        }
+        Ok(())
+    }
+
+    /// The events, up to the first that is refused: its place, from 0, and why.
+    pub fn run(&mut self, events: &[Event]) -> Result<(), (usize, WorldFault)>
+        ensures all { OnOk result (Runs self.old events.now self.new) }
+        ensures stopped { IfErr result (λ stop. StopsAt events.now self.old self.new stop) }
+        ensures headline { HeadlineOf self.new }
+    {
+        let result = self.go(events);
+        let _ = &self.read;
+        result
+    }
+
+    /// The requests that were asked.
+    pub fn requests(&self) -> &[Request]
+        ensures { result.now ≡ self.now.requests }
+    {
+        &self.requests
+    }
+
+    /// The DAP messages that were handed to A's link.
+    pub fn sent(&self) -> &[Vec<u8>]
+        ensures { map (λ v. v.items) result.now ≡ map canon (sent_by self.now.from_a) }
+    {
+        &self.sent
+    }
+
+    /// The DAP messages that B served.
+    pub fn taken(&self) -> &[Vec<u8>]
+        ensures { map (λ v. v.items) result.now ≡ map canon (taken_of self.now) }
+    {
+        &self.taken
+    }
+
+    /// How many answers A read.
+    pub fn read_count(&self) -> u64
+        ensures { result ≡ self.now.read }
+    {
+        self.read
+    }
+
+    /// What A was told.
+    pub fn reports(&self) -> &[Report]
+        ensures { result.now ≡ reported self.now }
+    {
+        &self.reports
+    }
+
+    /// The files that B holds.
+    pub fn files(&self) -> &FileTable
+        ensures { result.now ≡ files_of self.now }
+    {
+        self.accessed.files()
+    }
+
+    /// The packets that an end wrote.
+    pub fn wire(&self, end: End) -> &[Wired]
+        ensures { AreWired self.now end result.now }
+    {
+        match end {
+            End::A => self.a.wire(),
+            End::B => self.b.wire(),
+        }
+    }
+
+    /// The link of an end.
+    pub fn link(&self, end: End) -> &LinkEnd
+        ensures { CountsOf self.now end result.now }
+    {
+        match end {
+            End::A => &self.a.link,
+            End::B => &self.b.link,
+        }
+    }
+}
+
+fn packet_step(written: Result<usize, WorldFault>) -> Result<Step, WorldFault>
+    ensures { result ≡ packet_of written }
+{
+    match written {
+        Ok(place) => Ok(Step::Packet(place)),
+        Err(fault) => Err(fault),
+    }
+}
+
+fn delivery_step(delivered: Result<Got, WorldFault>) -> Result<Step, WorldFault>
+    ensures { result ≡ delivery_of delivered }
+{
+    match delivered {
+        Ok(got) => Ok(Step::Delivered(got)),
+        Err(fault) => Err(fault),
+    }
+}
+
+fn post_step(posted: Result<usize, WorldFault>) -> Result<Step, WorldFault>
+    ensures { result ≡ post_of posted }
+{
+    match posted {
+        Ok(count) => Ok(Step::Posted(count)),
+        Err(fault) => Err(fault),
+    }
+}

@@ -1,0 +1,56 @@
+-- What the crates above may cite of this one's proofs. No other file here is for them.
+use Rattle.std.proofs.Common.{◌≡◌, ℕ, ◌+◌, List, [], ◌++◌, length, drop, Option}
+use Rattle.nsp_seg.specs.Packets.{PacketValue, Spells}
+use Rattle.nsp_link.specs.declared.link.LinkSetup.{LinkSetup}
+use Rattle.nsp_link.specs.Cutting.{Piece, cut}
+use Rattle.nsp_link.specs.Holding.{following, inserted, numbers, closed_up, with_number}
+use Rattle.nsp_link.specs.Link.{LinkValue, IsBetween, Carries, IsWritten, Writes, Sends, Stands, new_link}
+use Rattle.nsp_link.specs.Sending.{queued_link}
+use Rattle.nsp_link.proofs.Growing as growing
+use Rattle.nsp_link.proofs.Numbers as by_number
+use Rattle.nsp_link.proofs.Written as written
+
+-- what is written is a packet between these addresses that carries the k-th segment, or none, and a
+pub written_spells : (src dst : ℕ) (pieces : List Piece) (k : Option ℕ) (a : ℕ) (bytes : List ℕ) → IsWritten src dst pieces k a bytes
+    → (p : PacketValue) × Spells p bytes × IsBetween src dst p × Carries p pieces k a
+written_spells = written.written_spells
+
+-- it is one list of bytes
+pub written_one : (src dst : ℕ) (pieces : List Piece) (k : Option ℕ) (a : ℕ) (one two : List ℕ) → IsWritten src dst pieces k a one → IsWritten src dst pieces k a two → one ≡ two
+written_one = written.written_one
+
+-- it stays so when segments are added behind
+pub written_more : (src dst : ℕ) (pieces more : List Piece) (k : Option ℕ) (a : ℕ) (bytes : List ℕ) → IsWritten src dst pieces k a bytes → IsWritten src dst (pieces ++ more) k a bytes
+written_more = growing.written_longer
+
+-- it stays so when messages are sent behind
+pub writes_more : (v : LinkValue) (ms more : List (List ℕ)) (k : Option ℕ) (a : ℕ) (bytes : List ℕ) → Writes v ms k a bytes → Writes v (ms ++ more) k a bytes
+writes_more = growing.writes_more
+
+-- what a packet carries stays so when messages are sent behind
+pub carries_more : (p : PacketValue) (size : ℕ) (ms more : List (List ℕ)) (k : Option ℕ) (a : ℕ) → Carries p (cut size ms) k a → Carries p (cut size (ms ++ more)) k a
+carries_more = growing.carries_more
+
+-- what was taken stays the first of the messages when more are sent
+pub stands_more : (v : LinkValue) (size : ℕ) (ms more given : List (List ℕ)) → Stands v size ms given → Stands v size (ms ++ more) given
+stands_more = growing.stands_more
+
+-- a new end stands before any messages
+pub stands_new : (s : LinkSetup) (size : ℕ) (ms : List (List ℕ)) → Stands (new_link s) size ms []
+stands_new = growing.stands_new
+
+-- a new end sent none
+pub sends_new : (s : LinkSetup) → Sends (new_link s) []
+sends_new = growing.sends_new
+
+-- more messages are sent
+pub sends_all : (v : LinkValue) (messages more : List (List ℕ)) → Sends v messages → Sends (queued_link v (cut v.seg_size more)) (messages ++ more)
+sends_all = growing.sends_all
+
+-- what is taken in behind the k-th, and what stays held, by the numbers alone
+pub closes : (k : ℕ) (held : List (ℕ × Piece)) → closed_up k (numbers held) ≡ (k + length (following k held), numbers (drop (length (following k held)) held))
+closes = by_number.closes
+
+-- one more is held, by the numbers alone
+pub keeps : (k : ℕ) (p : Piece) (held : List (ℕ × Piece)) → numbers (inserted k p held) ≡ with_number k (numbers held)
+keeps = by_number.keeps
