@@ -7,7 +7,7 @@ use Rattle.rec_file.specs.declared.refusals.Refusal.{Refusal}
 use Rattle.rec_file.specs.Shapes.{is_seq, limit_of, allows_length}
 use Rattle.rec_file.specs.Files.{FileVal, IsFile, highest_of}
 use Rattle.rec_file.specs.Acts.{Operation, get_record, put_record, update_record, delete_record, StreamVal, out_of_range, is_free, if_occupied, current_of, keeps_length, free_place, refusals_of, first_refusal, file_after, outcome_of, act}
-use Rattle.rec_file.proofs.FileLaws.{IsFile-placed, IsFile-replaced, IsFile-removed}
+use Rattle.rec_file.proofs.ForCallers.{IsFile-placed, IsFile-replaced, IsFile-removed}
 
 passed : (b : Bool) (r : Refusal) (rest : Option Refusal) → (if b then Some r else rest) ≡ None → (b ≡ false) × (rest ≡ None)
 passed true r rest e = cc

@@ -8,3 +8,4 @@ pub mod Kept
 pub mod SoundTables
 pub mod SoundGroups
 pub mod SoundLists
+pub mod ForCallers

@@ -23,7 +23,7 @@ use Rattle.rec_file.specs.Keys.{little_endian}
 use Rattle.std.specs.Prelude.{unwrap_or}
 use Rattle.rec_file.specs.Files.{FileVal, IsFile, records_from}
 use Rattle.rec_file.specs.Acts.{Operation, StreamVal, act, get_record, put_record, update_record, delete_record}
-use Rattle.rec_file.proofs.FileLaws.{IsFile-empty}
+use Rattle.rec_file.proofs.ForCallers.{IsFile-empty}
 use Rattle.dap_accessed.specs.declared.phase.OpenFile.{OpenFile}
 use Rattle.dap_accessed.specs.declared.verbs.Verb.{Verb}
 use Rattle.dap_accessed.specs.declared.verbs.Verb.TheVariants as verbs

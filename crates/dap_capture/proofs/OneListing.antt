@@ -2,7 +2,7 @@
 use Rattle.std.proofs.Common.{◌≡◌, ◌<◌, ◌+◌, ◌*◌, ◌++◌, ℕ, suc, Bool, true, false, List, [], ◌∷◌, get_or, sym, ap, ◌∙◌, subst, refl}
 use Rattle.std.specs.List.{flat_map}
 use Rattle.hex.proofs.HexLemmas.{decode_of-ok, decode_of-same}
-use Rattle.dap_msg.proofs.Places.{have_items}
+use Rattle.dap_msg.proofs.ForCallers.{have_items}
 use Rattle.nsp_seg.specs.Packets.{SegmentValue, segment, data_ack, Spells, marks, optional_ack}
 use Rattle.std.specs.Int.{w16, to_le_bytes}
 use Rattle.nsp_seg.proofs.ForCallers.{spells-one, spells-apart, fault-one}

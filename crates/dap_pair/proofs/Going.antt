@@ -6,7 +6,7 @@ use Rattle.std.proofs.lemmas.List.{append_assoc, append-nil, length-drop, take_m
 use Rattle.std.proofs.Math.Seq.{take-length}
 use Rattle.dap_msg.specs.Blocked.{Blocked, all_joined, bodies}
 use Rattle.dap_msg.specs.Items.{Item, Whole, Malformed, ItemAt, ItemsFrom, Items}
-use Rattle.dap_msg.proofs.Listing.{stands_some}
+use Rattle.dap_msg.proofs.ForCallers.{stands_some}
 use Rattle.dap_accessed.specs.declared.served.Served.{Served}
 use Rattle.dap_accessed.specs.Served.{IsPlace, Serves}
 use Rattle.dap_accessed.specs.Groups.{added, stands_after}

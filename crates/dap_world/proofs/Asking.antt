@@ -4,12 +4,12 @@ use Rattle.std.proofs.lemmas.List.{append-nil}
 use Rattle.dap_msg.specs.Message.{Message}
 use Rattle.dap_msg.specs.Items.{Item, Whole}
 use Rattle.dap_accessed.specs.Groups.{Answers, added, stands_after}
-use Rattle.dap_accessed.proofs.Cuts.{Answers-more}
+use Rattle.dap_accessed.proofs.ForCallers.{Answers-more}
 use Rattle.dap_accessing.specs.declared.request.Request.{Request}
 use Rattle.dap_accessing.specs.Told.{Hearing, Reports, Waits, Unexpected, hear, Told, Due, NothingDue, AnswersDue, Wrong, due_after, is_unexpected}
 use Rattle.dap_accessing.specs.Phase.{IsNoneDue, IsAdmissible}
-use Rattle.dap_accessing.proofs.Hearings.{Stays, stays, told_by, Told-told_by}
-use Rattle.dap_accessing.proofs.Laws.{due_by, due-due_by}
+use Rattle.dap_accessing.proofs.ForCallers.{Stays, stays, told_by, Told-told_by}
+use Rattle.dap_accessing.proofs.ForCallers.{due_by, due-due_by}
 use Rattle.dap_world.specs.Agreement.{answers_to, AreAdmissible, NothingUnexpected}
 
 no_place_by : (r : Request) (rs : List Request) (answers : List Item) (answer : Item) (first : Hearing) → Stays first (hear r (answers ++ answer ∷ [])) (answer ∷ [])

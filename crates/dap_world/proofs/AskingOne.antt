@@ -25,8 +25,8 @@ use Rattle.dap_accessing.specs.declared.report.Report.{Report}
 use Rattle.dap_accessing.specs.declared.fault.AskFault.{AskFault}
 use Rattle.dap_accessing.specs.declared.fault.AskFault.TheVariants as ask_fault
 use Rattle.dap_accessing.specs.Calls.{AskRefused}
-use Rattle.dap_accessing.proofs.Hearings.{told_by, Told-told_by}
-use Rattle.dap_accessing.proofs.Laws.{due_by, due-due_by, asked_one}
+use Rattle.dap_accessing.proofs.ForCallers.{told_by, Told-told_by}
+use Rattle.dap_accessing.proofs.ForCallers.{due_by, due-due_by, asked_one}
 use Rattle.dap_world.specs.Agreement.{AgreeAt, AreWithin, answers_to, items_of, reports_of}
 use Rattle.dap_world.specs.declared.event.Event.TheVariants as event
 use Rattle.dap_world.specs.declared.event.Step.TheVariants as step

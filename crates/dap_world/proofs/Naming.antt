@@ -5,7 +5,7 @@ use Rattle.std.proofs.lemmas.List.{length-append, map-append}
 use Rattle.dap_msg.specs.Items.{Whole}
 use Rattle.dap_accessed.specs.Groups.{Answers as Answered}
 use Rattle.dap_accessing.specs.Told.{Told}
-use Rattle.dap_accessing.proofs.Hearings.{reports_grow}
+use Rattle.dap_accessing.proofs.ForCallers.{reports_grow}
 use Rattle.dap_world.specs.declared.event.End.{End}
 use Rattle.dap_world.specs.declared.event.End.TheVariants.{A, B}
 use Rattle.dap_world.specs.declared.event.Event.{Event}

@@ -6,7 +6,7 @@ use Rattle.dap_msg.specs.Message.{Message}
 use Rattle.dap_msg.specs.Items.{Whole, ItemAt}
 use Rattle.dap_msg.specs.Canon.{canon, Fits}
 use Rattle.dap_msg.specs.Blocked.{joined, AllFit}
-use Rattle.dap_msg.proofs.Places.{read_in_place}
+use Rattle.dap_msg.proofs.ForCallers.{read_in_place}
 
 pub joined-append : (a b : List Message) → joined (a ++ b) ≡ joined a ++ joined b
 joined-append a b = flat_map-append canon a b

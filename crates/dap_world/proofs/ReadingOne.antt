@@ -6,7 +6,7 @@ use Rattle.std.proofs.lemmas.Bool.{ne_eqb}
 use Rattle.dap_msg.specs.Message.{Message}
 use Rattle.dap_msg.specs.Items.{Item, Whole}
 use Rattle.dap_msg.specs.Blocked.{messages_in}
-use Rattle.dap_msg.proofs.Listing.{one_item}
+use Rattle.dap_msg.proofs.ForCallers.{one_item}
 use Rattle.dap_accessed.specs.Groups.{Answers}
 use Rattle.dap_accessing.specs.Present as accessing
 use Rattle.dap_accessing.specs.Told.{Told, is_unexpected}

@@ -10,7 +10,7 @@ use Rattle.dap_msg.specs.BlockedLaws.{messages_in-Blocked}
 use Rattle.dap_accessed.specs.Groups.{Answers, added, stands_after}
 use Rattle.dap_accessed.specs.Present as accessed
 use Rattle.dap_accessed.specs.Written.{AllAtMost}
-use Rattle.dap_accessed.proofs.Cuts.{Answers-more}
+use Rattle.dap_accessed.proofs.ForCallers.{Answers-more}
 use Rattle.dap_accessing.specs.Present as accessing
 use Rattle.dap_accessing.specs.Asked.{Asked}
 use Rattle.dap_accessing.specs.Told.{Told}

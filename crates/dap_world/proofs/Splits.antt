@@ -7,7 +7,7 @@ use Rattle.dap_msg.specs.Message.{Message}
 use Rattle.dap_msg.specs.Items.{Item, Whole, ItemAt}
 use Rattle.dap_msg.specs.Canon.{canon, Fits}
 use Rattle.dap_msg.specs.Blocked.{NspMessage, joined, all_joined, messages_in, AllFit}
-use Rattle.dap_msg.proofs.Listing.{stands_some}
+use Rattle.dap_msg.proofs.ForCallers.{stands_some}
 use Rattle.dap_world.specs.Inner.Splitting.{AreFull, SplitsOne, SplitsAll}
 use Rattle.dap_world.proofs.Reading.{at_item, fit_at, ends_at, bytes_at, joined-one}
 use Rattle.dap_world.proofs.Blocks.{fit-front, fit-back}

@@ -11,3 +11,4 @@ pub mod PagedLaws
 pub mod RelativeLaws
 pub mod SearchLaws
 pub mod CountLaws
+pub mod ForCallers

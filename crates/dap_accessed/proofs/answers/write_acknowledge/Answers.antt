@@ -1,4 +1,4 @@
-use Rattle.dap_msg.proofs.Extents.{answers_fit}
+use Rattle.dap_msg.proofs.ForCallers.{answers_fit}
 use Rattle.dap_accessed.proofs.answers.write_acknowledge.Goals as goal
 
 pub returns-clause-short : goal.returns-clause-short

@@ -1,5 +1,5 @@
 use Rattle.std.proofs.Common.{arith}
-use Rattle.dap_msg.proofs.Extents.{answers_fit}
+use Rattle.dap_msg.proofs.ForCallers.{answers_fit}
 use Rattle.dap_accessed.specs.Replies.{org_number, format_number}
 use Rattle.dap_accessed.proofs.Writing.{org_small, format_small}
 use Rattle.dap_accessed.proofs.answers.write_attributes.Goals as goal

@@ -1,5 +1,5 @@
 use Rattle.std.proofs.Common.{lit<}
-use Rattle.dap_msg.proofs.Extents.{answers_fit}
+use Rattle.dap_msg.proofs.ForCallers.{answers_fit}
 use Rattle.dap_accessed.proofs.answers.write_complete.Goals as goal
 
 pub encode-requires : goal.encode-requires

@@ -1,5 +1,5 @@
 use Rattle.dap_msg.specs.Exchange.{four_bytes}
-use Rattle.dap_msg.proofs.Extents.{answers_fit, file_data_measured}
+use Rattle.dap_msg.proofs.ForCallers.{answers_fit, file_data_measured}
 use Rattle.dap_accessed.proofs.answers.write_record.Goals as goal
 
 pub returns-clause-size : goal.returns-clause-size

@@ -1,5 +1,5 @@
 use Rattle.std.proofs.Common.{refl, arith}
-use Rattle.dap_msg.proofs.Listing.{one_item}
+use Rattle.dap_msg.proofs.ForCallers.{one_item}
 use Rattle.dap_world.proofs.Handled.{refused_only}
 use Rattle.dap_world.proofs.exchange.read_expected.Goals as goal
 
