@@ -97,3 +97,14 @@ impl From<AllocError> for WorldFault {
         WorldFault::NoMemory
     }
 }
+
+impl<T: Drop> From<AllocFailed<T>> for WorldFault {
+    ghost use Rattle.std.specs.Prelude.{◌≡◌};
+    ghost use Rattle.dap_world.specs.declared.event.WorldFault.TheVariants.{NoMemory};
+
+    ghost from_gives = { λ _ e. e ≡ NoMemory };
+
+    fn from(_e: AllocFailed<T>) -> WorldFault {
+        WorldFault::NoMemory
+    }
+}

@@ -7,6 +7,7 @@ ghost use Rattle.dap_world.specs.Wires.{address_of};
 ghost use Rattle.dap_world.specs.Inner.Setups.{link_of, new_side};
 ghost use Rattle.dap_world.specs.Machine.{fresh};
 ghost use Rattle.dap_world.specs.Headline.{HeadlineOf};
+ghost use Rattle.dap_world.specs.Settling.{IsFresh};
 ghost use Rattle.dap_world.specs.declared.event.WorldFault.TheVariants.{NoMemory};
 
 use crate::event::{End, WorldFault};
@@ -115,8 +116,8 @@ impl World {
 
     /// Nothing was asked, and no packet was written.
     pub fn is_fresh(&self) -> bool
-        ensures yes { result ≡ true → (self.now.requests ≡ []) × (self.now.from_a.wire ≡ []) × (self.now.from_b.wire ≡ []) }
-        ensures no { result ≡ false → (self.now.requests ≡ []) × (self.now.from_a.wire ≡ []) × (self.now.from_b.wire ≡ []) → ⊥ }
+        ensures yes { result ≡ true → IsFresh self.now }
+        ensures no { result ≡ false → IsFresh self.now → ⊥ }
     {
         self.requests.is_empty() && self.a.wire.is_empty() && self.b.wire.is_empty()
     }

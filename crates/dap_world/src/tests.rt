@@ -1,98 +1,298 @@
-//! Worked events.
+//! Scripts of events: what each comes to, the packets that are written, and what is reported.
 
-use crate::{End, Event, Step, World, WorldFault, WorldSetup};
-use dap_accessing::{AskFault, By, Report, Request};
-use nsp_link::Got;
+mod refused;
+mod rows;
+
+use crate::{
+    By, End, Ending, Event, Got, How, Numbered, Octets, OctetsList, RecordFile, Report, Request,
+    Step, World, WorldFault, WorldSetup,
+};
 use std::alloc::Global;
+use std::process::Abort;
 use std::test::Fail;
 
-fn world(alloc: Global, seg_size: usize, window: usize, bufsiz: u16) -> Result<World, WorldFault> {
-    World::new(
-        alloc,
-        WorldSetup {
-            seg_size,
-            window,
-            bufsiz_a: bufsiz,
-            bufsiz_b: bufsiz,
-        },
-    )
+/// A request, as a line of a script.
+#[derive(Clone, Copy)]
+enum Call {
+    Hello,
+    /// Name, ORG, RFM, MRS, MRN and FAC.
+    Create(&'static [u8], u8, u8, u16, u32, u32),
+    Open(&'static [u8], u32),
+    Connect,
+    Get,
+    Put(&'static [u8]),
+    PutKey(u32, &'static [u8]),
+    Update(&'static [u8]),
+    Delete,
+    Rewind,
+    Fetch,
+    Store(&'static [&'static [u8]]),
+    Again,
+    Skip,
+    Close,
 }
 
-#[test]
-fn nothing_to_do(rt: HostRuntime) -> Result<(), Fail> {
-    let mut world = world(rt.alloc(), 512, 8, 1024)?;
-    assert_eq!(rt;
-        world.apply(&Event::Deliver(End::B, 0)),
-        Err(WorldFault::NoSuchPacket)
-    );
-    assert_eq!(rt; world.apply(&Event::Serve), Err(WorldFault::NothingToDo));
-    assert_eq!(rt; world.apply(&Event::Read), Err(WorldFault::NothingToDo));
-    assert_eq!(rt;
-        world.apply(&Event::Post(End::A)),
-        Err(WorldFault::NothingToDo)
-    );
-    assert_eq!(rt;
-        world.apply(&Event::Emit(End::A)),
-        Err(WorldFault::NothingToDo)
-    );
-    assert_eq!(rt;
-        world.apply(&Event::Resend(End::A, 0)),
-        Err(WorldFault::NothingToDo)
-    );
-    assert_eq!(rt;
-        world.apply(&Event::Ask(Request::Get(By::Next))),
-        Err(WorldFault::Ask(AskFault::WrongPhase))
-    );
-    assert_eq!(rt;
-        world.apply(&Event::Ask(Request::Hello)),
-        Ok(Step::Asked(1))
-    );
-    assert_eq!(rt;
-        world.apply(&Event::Ask(Request::Hello)),
-        Err(WorldFault::Ask(AskFault::Busy))
-    );
-    Ok(())
+/// Records behind their numbers.
+type Records = &'static [(u64, &'static [u8])];
+
+/// The report that is to come.
+#[derive(Clone, Copy)]
+enum Want {
+    Ready(u16),
+    Opened(u8, u8, u16, u32),
+    Connected,
+    Found(u64, &'static [u8]),
+    Done(u64),
+    EndOfFile,
+    Refused(u16, u8),
+    Complete(Records),
+    Stopped(Records),
+    Closed,
 }
 
-#[test]
-fn one_request(rt: HostRuntime) -> Result<(), Fail> {
-    let mut world = world(rt.alloc(), 512, 8, 1024)?;
-    assert_eq!(rt;
-        world.apply(&Event::Ask(Request::Hello)),
-        Ok(Step::Asked(1))
-    );
-    assert_eq!(rt; world.apply(&Event::Post(End::A)), Ok(Step::Posted(1)));
-    assert_eq!(rt; world.apply(&Event::Emit(End::A)), Ok(Step::Packet(0)));
-    assert_eq!(rt;
-        world.apply(&Event::Deliver(End::B, 0)),
-        Ok(Step::Delivered(Got::Accepted))
-    );
-    assert_eq!(rt; world.apply(&Event::Serve), Ok(Step::Served(1)));
-    assert_eq!(rt; world.apply(&Event::Post(End::B)), Ok(Step::Posted(1)));
-    assert_eq!(rt; world.apply(&Event::Emit(End::B)), Ok(Step::Packet(0)));
-    assert_eq!(rt;
-        world.apply(&Event::Deliver(End::A, 0)),
-        Ok(Step::Delivered(Got::Accepted))
-    );
-    assert_eq!(rt; world.apply(&Event::Read), Ok(Step::Reported));
-    assert!(rt; matches!(world.reports(), [Report::Ready(1024)]));
-    assert_eq!(rt; world.taken().len(), 1);
-    Ok(())
+/// An event.
+#[derive(Clone, Copy)]
+enum Do {
+    Ask(Call),
+    Post(End),
+    Emit(End),
+    Resend(End, usize),
+    Ack(End),
+    Deliver(End, usize),
+    Serve,
+    Read,
 }
 
-#[test]
-fn settled_ends(rt: HostRuntime) -> Result<(), Fail> {
-    let mut world = world(rt.alloc(), 1, 4, 1024)?;
-    world.apply(&Event::Ask(Request::Hello))?;
-    world.apply(&Event::Post(End::A))?;
-    for _ in 0..4 {
-        world.apply(&Event::Emit(End::A))?;
+/// What a script says.
+#[derive(Clone, Copy)]
+enum Line {
+    /// The event comes to this.
+    Does(Do, Result<Step, WorldFault>),
+    /// The event writes a packet with these bytes to this place of the end's wire.
+    Writes(Do, End, usize, &'static str),
+    /// The newest report.
+    Reports(Want),
+    /// The segments of A that aren't acknowledged, the reports, and the messages that B has served.
+    Counts(usize, usize, usize),
+    /// The record of the first file under this number.
+    Holds(u32, Option<&'static [u8]>),
+    /// A request over a clean network: its packet, how many messages of it are served, the packet that
+    /// answers, how many messages of it are read, and the report.
+    Turn(Call, &'static str, usize, &'static str, usize, Want),
+}
+
+fn octets(alloc: Global, bytes: &[u8]) -> Result<Octets, WorldFault> {
+    Ok(Octets(Vec::from_slice(alloc, bytes)?))
+}
+
+fn bodies(alloc: Global, list: &[&[u8]]) -> Result<OctetsList, WorldFault> {
+    let mut all = Vec::new(alloc);
+    for body in list {
+        all.push(octets(alloc, body)?)?;
     }
-    assert_eq!(rt; world.settle(End::A), Ok(10));
-    assert_eq!(rt; world.link(End::A).unacked(), 0);
-    assert_eq!(rt; world.link(End::B).received_count(), 4);
-    assert_eq!(rt; world.wire(End::A).len(), 8);
-    assert_eq!(rt; world.wire(End::B).len(), 1);
-    assert_eq!(rt; world.settle(End::A), Ok(0));
+    Ok(OctetsList(all))
+}
+
+fn request(alloc: Global, call: Call) -> Result<Request, WorldFault> {
+    Ok(match call {
+        Call::Hello => Request::Hello,
+        Call::Create(name, org, rfm, mrs, mrn, fac) => Request::Create {
+            name: octets(alloc, name)?,
+            org,
+            rfm,
+            mrs,
+            mrn,
+            fac,
+        },
+        Call::Open(name, fac) => Request::OpenFile {
+            name: octets(alloc, name)?,
+            fac,
+        },
+        Call::Connect => Request::Connect,
+        Call::Get => Request::Get(By::Next),
+        Call::Put(body) => Request::Put {
+            key: None,
+            body: octets(alloc, body)?,
+        },
+        Call::PutKey(number, body) => Request::Put {
+            key: Some(number),
+            body: octets(alloc, body)?,
+        },
+        Call::Update(body) => Request::Update {
+            body: octets(alloc, body)?,
+        },
+        Call::Store(list) => Request::Store(bodies(alloc, list)?),
+        call => plain(call),
+    })
+}
+
+/// The requests that hold no bytes.
+fn plain(call: Call) -> Request {
+    match call {
+        Call::Delete => Request::Delete,
+        Call::Rewind => Request::Rewind,
+        Call::Fetch => Request::Fetch,
+        Call::Again => Request::Continue(How::Again),
+        Call::Skip => Request::Continue(How::Skip),
+        _ => Request::Close,
+    }
+}
+
+/// Whether a batch has just these records.
+fn has(batch: &Numbered, records: Records) -> bool {
+    batch.0.len() == records.len()
+        && batch.0.iter().zip(records).all(|(one, other)| one.0 == other.0
+            && one.1.0.as_slice() == other.1)
+}
+
+/// Whether the report is the one that was wanted.
+fn is_wanted(report: &Report, want: Want) -> bool {
+    match (report, want) {
+        (Report::Ready(bufsiz), Want::Ready(wanted)) => *bufsiz == wanted,
+        (Report::Opened { org, rfm, mrs, mrn }, Want::Opened(o, f, s, n)) => {
+            *org == o && *rfm == f && *mrs == s && *mrn == n
+        }
+        (Report::Connected, Want::Connected) => true,
+        (Report::Found { number, body }, Want::Found(wanted, bytes)) => {
+            *number == wanted && body.0.as_slice() == bytes
+        }
+        (Report::Done(number), Want::Done(wanted)) => *number == wanted,
+        (Report::EndOfFile, Want::EndOfFile) => true,
+        (Report::Refused(code, reason), Want::Refused(c, r)) => *code == c && *reason == r,
+        (Report::Batch { bodies, ending }, Want::Complete(records)) => {
+            matches!(ending, Ending::Complete) && has(bodies, records)
+        }
+        (Report::Batch { bodies, ending }, Want::Stopped(records)) => {
+            matches!(ending, Ending::Stopped) && has(bodies, records)
+        }
+        (Report::Closed, Want::Closed) => true,
+        _ => false,
+    }
+}
+
+/// A lower-case hex digit.
+fn digit(value: u8) -> u8 {
+    if value < 10 {
+        b'0' + value
+    } else {
+        b'a' + (value & 15) - 10
+    }
+}
+
+/// Whether the bytes are those of the hex text.
+fn is_hex(bytes: &[u8], text: &str) -> bool {
+    let digits = text.as_bytes();
+    digits.len() == 2 * bytes.len()
+        && bytes.iter().zip(digits.chunks(2)).all(|(byte, pair)| {
+            pair == [digit(byte >> 4), digit(byte & 15)].as_slice()
+        })
+}
+
+/// A request is asked.
+fn ask(alloc: Global, world: &mut World, call: Call) -> Result<Step, WorldFault> {
+    let event = Event::Ask(request(alloc, call)?);
+    world.apply(&event)
+}
+
+/// One event.
+fn happen(alloc: Global, world: &mut World, what: Do) -> Result<Step, WorldFault> {
+    match what {
+        Do::Ask(call) => ask(alloc, world, call),
+        Do::Post(end) => world.apply(&Event::Post(end)),
+        Do::Emit(end) => world.apply(&Event::Emit(end)),
+        Do::Resend(end, place) => world.apply(&Event::Resend(end, place)),
+        Do::Ack(end) => world.apply(&Event::Ack(end)),
+        Do::Deliver(end, j) => world.apply(&Event::Deliver(end, j)),
+        Do::Serve => world.apply(&Event::Serve),
+        Do::Read => world.apply(&Event::Read),
+    }
+}
+
+/// Whether a packet with these bytes stands at the place of the end's wire, and is the last one.
+fn is_written(world: &World, end: End, place: usize, hex: &str) -> bool {
+    match world.wire(end).last() {
+        Some(last) => place.checked_add(1) == Some(world.wire(end).len())
+            && is_hex(&last.packet, hex),
+        None => false,
+    }
+}
+
+/// Whether the newest report is the one that was wanted.
+fn is_newest(world: &World, want: Want) -> bool {
+    match world.reports().last() {
+        Some(report) => is_wanted(report, want),
+        None => false,
+    }
+}
+
+/// Whether the first file has this record under the number, or none.
+fn is_held(world: &World, number: u32, body: Option<&[u8]>) -> bool {
+    world.files().count() > 0 && world.files().file(0).lookup(number) == body
+}
+
+/// A request over a clean network.
+fn turn(
+    alloc: Global,
+    world: &mut World,
+    call: Call,
+    serves: usize,
+    reads: usize,
+) -> Result<(), WorldFault> {
+    let (asked, answered) = (world.wire(End::A).len(), world.wire(End::B).len());
+    let request = request(alloc, call)?;
+    world.apply(&Event::Ask(request))?;
+    world.apply(&Event::Post(End::A))?;
+    world.apply(&Event::Emit(End::A))?;
+    world.apply(&Event::Deliver(End::B, asked))?;
+    for _ in 0..serves {
+        world.apply(&Event::Serve)?;
+    }
+    world.apply(&Event::Post(End::B))?;
+    world.apply(&Event::Emit(End::B))?;
+    world.apply(&Event::Deliver(End::A, answered))?;
+    for _ in 0..reads {
+        world.apply(&Event::Read)?;
+    }
     Ok(())
+}
+
+/// Whether what the line says is so.
+fn is_so(alloc: Global, world: &mut World, line: Line) -> Result<bool, WorldFault> {
+    Ok(match line {
+        Line::Does(what, answer) => happen(alloc, world, what) == answer,
+        Line::Writes(what, end, place, hex) => {
+            happen(alloc, world, what) == Ok(Step::Packet(place))
+                && is_written(world, end, place, hex)
+        }
+        Line::Reports(want) => is_newest(world, want),
+        Line::Counts(unacked, reports, taken) => {
+            world.link(End::A).unacked() == unacked
+                && world.reports().len() == reports
+                && world.taken().len() == taken
+        }
+        Line::Holds(number, body) => is_held(world, number, body),
+        Line::Turn(call, sent, serves, answered, reads, want) => {
+            let (asks, answers) = (world.wire(End::A).len(), world.wire(End::B).len());
+            let told = world.reports().len();
+            turn(alloc, world, call, serves, reads)?;
+            is_written(world, End::A, asks, sent)
+                && is_written(world, End::B, answers, answered)
+                && world.reports().len() == told + 1
+                && is_newest(world, want)
+        }
+    })
+}
+
+/// Plays a script in a new world.
+fn play(
+    rt: &(impl AllocGlobal + Abort),
+    setup: WorldSetup,
+    script: &[Line],
+) -> Result<World, Fail> {
+    let mut world = World::new(rt.alloc(), setup)?;
+    for (at, line) in script.iter().enumerate() {
+        let so = is_so(rt.alloc(), &mut world, *line)?;
+        assert!(rt; so, "at line {at}");
+    }
+    Ok(world)
 }

@@ -1,0 +1,135 @@
+//! What has no step, and what no world can be made of.
+
+use super::Line::*;
+use super::*;
+use crate::AskFault;
+
+const NOTHING: Result<Step, WorldFault> = Err(WorldFault::NothingToDo);
+
+/// Nothing happened yet, and then one request was asked.
+const FRESH: &[Line] = &[
+    Does(Do::Deliver(End::B, 0), Err(WorldFault::NoSuchPacket)),
+    Does(Do::Deliver(End::A, 0), Err(WorldFault::NoSuchPacket)),
+    Does(Do::Serve, NOTHING),
+    Does(Do::Read, NOTHING),
+    Does(Do::Post(End::A), NOTHING),
+    Does(Do::Emit(End::A), NOTHING),
+    Does(Do::Resend(End::A, 0), NOTHING),
+    Does(
+        Do::Ask(Call::Get),
+        Err(WorldFault::Ask(AskFault::WrongPhase)),
+    ),
+    Does(Do::Ask(Call::Hello), Ok(Step::Asked(1))),
+    Does(Do::Ask(Call::Hello), Err(WorldFault::Ask(AskFault::Busy))),
+    Counts(0, 0, 0),
+];
+
+/// What is served waits before more is served.
+const WAITING: &[Line] = &[
+    Does(Do::Ask(Call::Hello), Ok(Step::Asked(1))),
+    Does(Do::Emit(End::A), NOTHING),
+    Does(Do::Post(End::A), Ok(Step::Posted(1))),
+    Does(Do::Post(End::A), NOTHING),
+    Does(Do::Serve, NOTHING),
+    Writes(
+        Do::Emit(End::A),
+        End::A,
+        0,
+        "60020201010080010001020a00040703050600000000",
+    ),
+    Does(Do::Emit(End::A), NOTHING),
+    Does(Do::Serve, NOTHING),
+    Does(Do::Deliver(End::A, 0), Err(WorldFault::NoSuchPacket)),
+    Does(Do::Deliver(End::B, 1), Err(WorldFault::NoSuchPacket)),
+    Does(Do::Resend(End::A, 1), NOTHING),
+    Writes(
+        Do::Resend(End::A, 0),
+        End::A,
+        1,
+        "60020201010080010001020a00040703050600000000",
+    ),
+    Does(Do::Deliver(End::B, 1), Ok(Step::Delivered(Got::Accepted))),
+    Does(Do::Deliver(End::B, 0), Ok(Step::Delivered(Got::Repeat))),
+    Does(Do::Serve, Ok(Step::Served(1))),
+    Does(Do::Serve, NOTHING),
+    Does(Do::Read, NOTHING),
+    Does(Do::Post(End::B), Ok(Step::Posted(1))),
+    Does(Do::Read, NOTHING),
+    Writes(
+        Do::Emit(End::B),
+        End::B,
+        0,
+        "60010102020180010001020a00040703050600000000",
+    ),
+    Does(Do::Deliver(End::A, 0), Ok(Step::Delivered(Got::Accepted))),
+    Does(Do::Resend(End::A, 0), NOTHING),
+    Does(Do::Read, Ok(Step::Reported)),
+    Reports(Want::Ready(1024)),
+    Does(Do::Read, NOTHING),
+];
+
+const SETUP: WorldSetup = WorldSetup {
+    seg_size: 512,
+    window: 8,
+    bufsiz_a: 1024,
+    bufsiz_b: 1024,
+};
+
+#[test]
+fn events_without_a_step(rt: HostRuntime) -> Result<(), Fail> {
+    for script in [FRESH, WAITING] {
+        let _world = play(&rt, SETUP, script)?;
+    }
+    Ok(())
+}
+
+/// Segment size, window and both buffers, and whether there is such a world.
+const SETUPS: &[(usize, usize, u16, u16, bool)] = &[
+    (1, 1, 64, 64, true),
+    (1400, 2047, 65535, 65535, true),
+    (0, 8, 1024, 1024, false),
+    (1401, 8, 1024, 1024, false),
+    (512, 0, 1024, 1024, false),
+    (512, 2048, 1024, 1024, false),
+    (512, 8, 63, 1024, false),
+    (512, 8, 1024, 63, false),
+];
+
+#[test]
+fn sizes_of_worlds(rt: HostRuntime) -> Result<(), Fail> {
+    for (seg_size, window, bufsiz_a, bufsiz_b, good) in SETUPS {
+        let setup = WorldSetup {
+            seg_size: *seg_size,
+            window: *window,
+            bufsiz_a: *bufsiz_a,
+            bufsiz_b: *bufsiz_b,
+        };
+        match World::new(rt.alloc(), setup) {
+            Ok(world) => assert!(rt; *good && world.is_fresh()),
+            Err(fault) => assert!(rt; !*good && fault == WorldFault::BadSetup),
+        }
+    }
+    Ok(())
+}
+
+#[test]
+fn runs_stop_at_a_refused_event(rt: HostRuntime) -> Result<(), Fail> {
+    let mut world = World::new(rt.alloc(), SETUP)?;
+    assert_eq!(rt; world.run(&[]), Ok(()));
+    assert!(rt; world.is_fresh());
+    assert_eq!(rt;
+        world.run(&[Event::Serve]),
+        Err((0, WorldFault::NothingToDo))
+    );
+    let events = [
+        Event::Ask(Request::Hello),
+        Event::Post(End::A),
+        Event::Emit(End::B),
+        Event::Serve,
+    ];
+    assert_eq!(rt; world.run(&events), Err((2, WorldFault::NothingToDo)));
+    assert_eq!(rt; world.requests().len(), 1);
+    assert_eq!(rt; world.sent().len(), 1);
+    assert_eq!(rt; world.read_count(), 0);
+    Ok(())
+}

@@ -1,0 +1,467 @@
+//! Whole exchanges, event by event, with each packet that is written.
+
+use super::Line::*;
+use super::*;
+
+/// A relative file with three numbers: what is put, found and deleted, and what is refused.
+const KEYS: &[Line] = &[
+    Turn(
+        Call::Hello,
+        "60020201010080010001020a00040703050600000000",
+        1,
+        "60010102020180010001020a00040703050600000000",
+        1,
+        Want::Ready(1024),
+    ),
+    Turn(
+        Call::Create(b"F", 16, 2, 0, 3, 7),
+        "60020201010180020002020ba6041002000004030000000302080200014607000000",
+        2,
+        "60010102020280020002020ba604100200000403000000060200",
+        2,
+        Want::Opened(16, 2, 0, 3),
+    ),
+    Turn(
+        Call::Connect,
+        "6002020101028003000402020200",
+        1,
+        "600101020203800300060200",
+        1,
+        Want::Connected,
+    ),
+    Turn(
+        Call::PutKey(3, b"A"),
+        "60020201010380040004020804030104030000000802020041",
+        2,
+        "60010102020480040009020d00100403000000040300000000",
+        1,
+        Want::Done(3),
+    ),
+    Turn(
+        Call::PutKey(3, b"A"),
+        "60020201010480050004020804030104030000000802020041",
+        2,
+        "600101020205800500090206005000000105",
+        1,
+        Want::Refused(0x5000, 5),
+    ),
+    Turn(
+        Call::PutKey(4, b"A"),
+        "60020201010580060004020804030104040000000802020041",
+        2,
+        "600101020206800600090206005000000106",
+        1,
+        Want::Refused(0x5000, 6),
+    ),
+    Turn(
+        Call::Get,
+        "600202010106800700040203010100",
+        1,
+        "600101020207800700080206040300000041",
+        1,
+        Want::Found(3, b"A"),
+    ),
+    Turn(
+        Call::Delete,
+        "600202010107800800040203050100",
+        1,
+        "60010102020880080009020d00100403000000040300000000",
+        1,
+        Want::Done(3),
+    ),
+    Turn(
+        Call::Delete,
+        "600202010108800900040203050100",
+        1,
+        "600101020209800900090206005000000103",
+        1,
+        Want::Refused(0x5000, 3),
+    ),
+    Turn(
+        Call::Get,
+        "600202010109800a00040203010100",
+        1,
+        "60010102020a800a000902052750000000",
+        1,
+        Want::EndOfFile,
+    ),
+];
+
+/// A put whose answer is lost, written again, and delivered twice.
+const LOST: &[Line] = &[
+    Turn(
+        Call::Hello,
+        "60020201010080010001020a00040703050600000000",
+        1,
+        "60010102020180010001020a00040703050600000000",
+        1,
+        Want::Ready(1024),
+    ),
+    Turn(
+        Call::Create(b"F", 0, 2, 0, 0, 1),
+        "60020201010180020002020ba6040002000004000000000302080200014601000000",
+        2,
+        "60010102020280020002020ba604000200000400000000060200",
+        2,
+        Want::Opened(0, 2, 0, 0),
+    ),
+    Turn(
+        Call::Connect,
+        "6002020101028003000402020200",
+        1,
+        "600101020203800300060200",
+        1,
+        Want::Connected,
+    ),
+    Does(Do::Ask(Call::Put(b"A")), Ok(Step::Asked(1))),
+    Does(Do::Post(End::A), Ok(Step::Posted(1))),
+    Writes(
+        Do::Emit(End::A),
+        End::A,
+        3,
+        "6002020101038004000402030401000802020041",
+    ),
+    Does(Do::Deliver(End::B, 3), Ok(Step::Delivered(Got::Accepted))),
+    Writes(Do::Ack(End::B), End::B, 3, "04010102020480"),
+    Does(Do::Deliver(End::A, 3), Ok(Step::Delivered(Got::AckOnly))),
+    Counts(0, 3, 4),
+    Holds(1, None),
+    Does(Do::Serve, Ok(Step::Served(0))),
+    Does(Do::Serve, Ok(Step::Served(1))),
+    Does(Do::Post(End::B), Ok(Step::Posted(1))),
+    Writes(
+        Do::Emit(End::B),
+        End::B,
+        4,
+        "60010102020480040009020d00100401000000040100000000",
+    ),
+    Writes(
+        Do::Resend(End::B, 0),
+        End::B,
+        5,
+        "60010102020480040009020d00100401000000040100000000",
+    ),
+    Does(Do::Deliver(End::A, 5), Ok(Step::Delivered(Got::Accepted))),
+    Does(Do::Deliver(End::A, 5), Ok(Step::Delivered(Got::Repeat))),
+    Does(Do::Read, Ok(Step::Reported)),
+    Reports(Want::Done(1)),
+    Counts(0, 4, 6),
+    Holds(1, Some(b"A")),
+];
+
+/// A record is replaced once it was read, and not with another length.
+const UPDATES: &[Line] = &[
+    Turn(
+        Call::Hello,
+        "60020201010080010001020a00040703050600000000",
+        1,
+        "60010102020180010001020a00040703050600000000",
+        1,
+        Want::Ready(1024),
+    ),
+    Turn(
+        Call::Create(b"F", 0, 2, 0, 0, 11),
+        "60020201010180020002020ba604000200000400000000030208020001460b000000",
+        2,
+        "60010102020280020002020ba604000200000400000000060200",
+        2,
+        Want::Opened(0, 2, 0, 0),
+    ),
+    Turn(
+        Call::Connect,
+        "6002020101028003000402020200",
+        1,
+        "600101020203800300060200",
+        1,
+        Want::Connected,
+    ),
+    Turn(
+        Call::Put(b"A"),
+        "6002020101038004000402030401000802020041",
+        2,
+        "60010102020480040009020d00100401000000040100000000",
+        1,
+        Want::Done(1),
+    ),
+    Turn(
+        Call::Close,
+        "6002020101048005000702020100",
+        1,
+        "6001010202058005000702020200",
+        1,
+        Want::Closed,
+    ),
+    Turn(
+        Call::Open(b"F", 10),
+        "60020201010580060002020100030208010001460a000000",
+        2,
+        "60010102020680060002020ba604000200000400000000060200",
+        2,
+        Want::Opened(0, 2, 0, 0),
+    ),
+    Turn(
+        Call::Connect,
+        "6002020101068007000402020200",
+        1,
+        "600101020207800700060200",
+        1,
+        Want::Connected,
+    ),
+    Turn(
+        Call::Get,
+        "600202010107800800040203010100",
+        1,
+        "600101020208800800080206040100000041",
+        1,
+        Want::Found(1, b"A"),
+    ),
+    Turn(
+        Call::Update(b"B"),
+        "6002020101088009000402030301000802020042",
+        2,
+        "60010102020980090009020d00100401000000040100000000",
+        1,
+        Want::Done(1),
+    ),
+    Turn(
+        Call::Update(b"C"),
+        "600202010109800a000402030301000802020043",
+        2,
+        "60010102020a800a00090206005000000103",
+        1,
+        Want::Refused(0x5000, 3),
+    ),
+    Turn(
+        Call::Rewind,
+        "60020201010a800b00040203060100",
+        1,
+        "60010102020b800b000902050010000000",
+        1,
+        Want::Done(0),
+    ),
+    Turn(
+        Call::Get,
+        "60020201010b800c00040203010100",
+        1,
+        "60010102020c800c00080206040100000042",
+        1,
+        Want::Found(1, b"B"),
+    ),
+    Turn(
+        Call::Update(b"BC"),
+        "60020201010c800d00040203030100080203004243",
+        2,
+        "60010102020d800d00090206005000000107",
+        1,
+        Want::Refused(0x5000, 7),
+    ),
+    Holds(1, Some(b"B")),
+];
+
+/// A record is longer than A takes: the transfer stops there, stays there, and goes on behind it.
+const FETCH: &[Line] = &[
+    Turn(
+        Call::Hello,
+        "60020201010080010001020a40000703050600000000",
+        1,
+        "60010102020180010001020a00040703050600000000",
+        1,
+        Want::Ready(1024),
+    ),
+    Turn(
+        Call::Create(b"F", 0, 2, 0, 0, 3),
+        "60020201010180020002020ba6040002000004000000000302080200014603000000",
+        2,
+        "60010102020280020002020ba604000200000400000000060200",
+        2,
+        Want::Opened(0, 2, 0, 0),
+    ),
+    Turn(
+        Call::Connect,
+        "6002020101028003000402020200",
+        1,
+        "600101020203800300060200",
+        1,
+        Want::Connected,
+    ),
+    Turn(
+        Call::Put(b"aaaaaaaaaa"),
+        "60020201010380040004020304010008020b0061616161616161616161",
+        2,
+        "60010102020480040009020d00100401000000040100000000",
+        1,
+        Want::Done(1),
+    ),
+    Turn(
+        Call::Put(
+            b"bbbbbbbbbbbbbbbbbbbbbbbbbbbbbbbbbbbbbbbbbbbbbbbbbbbbbbbbbbbbbbbbbbbbbbbbbbbbbbbbbbbbbbbbbbbbbbbbbbbbbbbbbbbbbbbbbbbbbbbbbbbbbbbbbbbbbbbbbbbbbbbbbbbbbbbbbbbbbbbbbbbbbbbbbbbbbbbbbbbbbbbbbbbbbbbbbbbbbbbb",
+        ),
+        "6002020101048005000402030401000802c9006262626262626262626262626262626262626262626262626262626262626262626262626262626262626262626262626262626262626262626262626262626262626262626262626262626262626262626262626262626262626262626262626262626262626262626262626262626262626262626262626262626262626262626262626262626262626262626262626262626262626262626262626262626262626262626262626262626262626262626262626262626262626262626262626262626262626262",
+        2,
+        "60010102020580050009020d00100402000000040200000000",
+        1,
+        Want::Done(2),
+    ),
+    Turn(
+        Call::Put(b"cccccccccc"),
+        "60020201010580060004020304010008020b0063636363636363636363",
+        2,
+        "60010102020680060009020d00100403000000040300000000",
+        1,
+        Want::Done(3),
+    ),
+    Turn(
+        Call::Fetch,
+        "600202010106800700040203010103",
+        1,
+        "60010102020780070008020f04010000006161616161616161616109020600500000010a",
+        2,
+        Want::Stopped(&[(1, b"aaaaaaaaaa")]),
+    ),
+    Turn(
+        Call::Again,
+        "60020201010780080005020101",
+        1,
+        "60010102020880080009020600500000010a",
+        1,
+        Want::Stopped(&[]),
+    ),
+    Turn(
+        Call::Skip,
+        "60020201010880090005020102",
+        1,
+        "60010102020980090008020f0403000000636363636363636363630902052750000000",
+        2,
+        Want::Complete(&[(3, b"cccccccccc")]),
+    ),
+];
+
+/// Four records come in two NSP messages of 54 and 26 bytes; the second one comes first.
+const JOINED: &[Line] = &[
+    Turn(
+        Call::Hello,
+        "60020201010080010001020a40000703050600000000",
+        1,
+        "60010102020180010001020a00040703050600000000",
+        1,
+        Want::Ready(1024),
+    ),
+    Turn(
+        Call::Create(b"F", 0, 2, 0, 0, 3),
+        "60020201010180020002020ba6040002000004000000000302080200014603000000",
+        2,
+        "60010102020280020002020ba604000200000400000000060200",
+        2,
+        Want::Opened(0, 2, 0, 0),
+    ),
+    Turn(
+        Call::Connect,
+        "6002020101028003000402020200",
+        1,
+        "600101020203800300060200",
+        1,
+        Want::Connected,
+    ),
+    Turn(
+        Call::Put(b"aaaaaaaaaa"),
+        "60020201010380040004020304010008020b0061616161616161616161",
+        2,
+        "60010102020480040009020d00100401000000040100000000",
+        1,
+        Want::Done(1),
+    ),
+    Turn(
+        Call::Put(b"aaaaaaaaaa"),
+        "60020201010480050004020304010008020b0061616161616161616161",
+        2,
+        "60010102020580050009020d00100402000000040200000000",
+        1,
+        Want::Done(2),
+    ),
+    Turn(
+        Call::Put(b"aaaaaaaaaa"),
+        "60020201010580060004020304010008020b0061616161616161616161",
+        2,
+        "60010102020680060009020d00100403000000040300000000",
+        1,
+        Want::Done(3),
+    ),
+    Turn(
+        Call::Put(b"aaaaaaaaaa"),
+        "60020201010680070004020304010008020b0061616161616161616161",
+        2,
+        "60010102020780070009020d00100404000000040400000000",
+        1,
+        Want::Done(4),
+    ),
+    Does(Do::Ask(Call::Fetch), Ok(Step::Asked(1))),
+    Does(Do::Post(End::A), Ok(Step::Posted(1))),
+    Writes(
+        Do::Emit(End::A),
+        End::A,
+        7,
+        "600202010107800800040203010103",
+    ),
+    Does(Do::Deliver(End::B, 7), Ok(Step::Delivered(Got::Accepted))),
+    Does(Do::Serve, Ok(Step::Served(2))),
+    Does(Do::Post(End::B), Ok(Step::Posted(2))),
+    Writes(
+        Do::Emit(End::B),
+        End::B,
+        7,
+        "60010102020880080008020f04010000006161616161616161616108020f04020000006161616161616161616108020f040300000061616161616161616161",
+    ),
+    Writes(
+        Do::Emit(End::B),
+        End::B,
+        8,
+        "60010102020880090008020f0404000000616161616161616161610902052750000000",
+    ),
+    Does(Do::Deliver(End::A, 8), Ok(Step::Delivered(Got::Early))),
+    Does(Do::Read, Err(WorldFault::NothingToDo)),
+    Does(Do::Deliver(End::A, 7), Ok(Step::Delivered(Got::Accepted))),
+    Does(Do::Read, Ok(Step::Nothing)),
+    Does(Do::Read, Ok(Step::Nothing)),
+    Does(Do::Read, Ok(Step::Nothing)),
+    Does(Do::Read, Ok(Step::Nothing)),
+    Does(Do::Read, Ok(Step::Reported)),
+    Reports(Want::Complete(&[
+        (1, b"aaaaaaaaaa"),
+        (2, b"aaaaaaaaaa"),
+        (3, b"aaaaaaaaaa"),
+        (4, b"aaaaaaaaaa"),
+    ])),
+];
+
+/// Both buffers of 1,024 bytes.
+const ROOMY: WorldSetup = WorldSetup {
+    seg_size: 512,
+    window: 8,
+    bufsiz_a: 1024,
+    bufsiz_b: 1024,
+};
+
+/// A takes no more than 64 bytes.
+const NARROW: WorldSetup = WorldSetup {
+    seg_size: 512,
+    window: 8,
+    bufsiz_a: 64,
+    bufsiz_b: 1024,
+};
+
+const ROWS: &[(WorldSetup, &[Line])] = &[
+    (ROOMY, KEYS),
+    (ROOMY, LOST),
+    (ROOMY, UPDATES),
+    (NARROW, FETCH),
+    (NARROW, JOINED),
+];
+
+#[test]
+fn worked_exchanges(rt: HostRuntime) -> Result<(), Fail> {
+    for (setup, script) in ROWS {
+        let world = play(&rt, *setup, script)?;
+        assert!(rt; world.sent().len() == world.taken().len());
+    }
+    Ok(())
+}
