@@ -2,27 +2,19 @@
 
 -- a hearing with more answers is the same with these behind it, unless it waits
 pub use Rattle.dap_accessing.proofs.Hearings.{Stays}
-
 -- so is that of each request
 pub use Rattle.dap_accessing.proofs.Hearings.{stays}
-
 -- the reports of a request's hearing and those of the requests after it
 pub use Rattle.dap_accessing.proofs.Hearings.{told_by}
-
 -- what is told is told so
 pub use Rattle.dap_accessing.proofs.Hearings.{Told-told_by}
-
 -- more answers never take a report back
 pub use Rattle.dap_accessing.proofs.Hearings.{reports_grow}
-
 -- what is due, by the hearing of the first request
 pub use Rattle.dap_accessing.proofs.Laws.{due_by}
-
 -- what is due is due so
 pub use Rattle.dap_accessing.proofs.Laws.{due-due_by}
-
 -- what one request more changes where nothing is due
 pub use Rattle.dap_accessing.proofs.Laws.{Asked1}
-
 -- where nothing is due, one request more tells nothing more
 pub use Rattle.dap_accessing.proofs.Laws.{asked_one}

@@ -13,7 +13,8 @@ use Rattle.dap_msg.specs.Exchange.{greatest_message}
 use Rattle.dap_accessing.specs.declared.phase.Phase.TheVariants.{Fresh}
 use Rattle.dap_accessing.specs.Phase.{phase_next, phase_after, limit_next, limit_after, IsNoneDue, phase_fits, IsRefused, IsAdmissible, AreSendable}
 use Rattle.dap_accessing.specs.Present.{Present, StandsAfter, hear_from, pending_of, FitsDue, HasNoPlace, HasPlace, Takes}
-use Rattle.dap_accessing.specs.Calls.{Asks, Reads, ReadRefused}
+use Rattle.dap_accessing.specs.Outgoing.{Admits}
+use Rattle.dap_accessing.specs.Calls.{IsAdmittedBy, Asks, Reads, ReadRefused}
 use Rattle.dap_msg.specs.Blocked.{Blocked, all_joined}
 use Rattle.dap_accessing.specs.Asked.{messages_of}
 use Rattle.dap_accessing.specs.declared.fault.AskFault.TheVariants as fault
@@ -308,6 +309,10 @@ pub admit : (request : Request) (old : Present) → is_some old.pending ≡ fals
     → (requests : List Request) (answers : List Item) → StandsAfter requests answers old → IsAdmissible old.own requests answers request
 admit request old none right sendable requests answers s =
     (nothing_due old (none_of old.pending none) requests answers s, in_phase request old true right requests answers s, subst (λ n. AreSendable n (messages_of old.own request)) s.limit sendable)
+
+-- a request that the end takes is admissible
+pub admitted_by : (request : Request) (old : Present) (messages : List Message) → Admits old request messages → IsAdmittedBy old request
+admitted_by request old messages h = admit request old h.none h.right h.sendable
 
 -- ---- What `read` answers.
 

@@ -17,11 +17,16 @@ use Rattle.dap_accessing.specs.Present.{Present, StandsAfter}
 abbrev pub IsPlace : ℕ → List ℕ → Type 0
 IsPlace at bytes = (at < length bytes) ⊎ ((at ≡ 0) × (length bytes ≡ 0))
 
+-- the request is admissible, whatever requests and answers the end stands after
+abbrev pub IsAdmittedBy : Present → Request → Type 0
+IsAdmittedBy old request =
+    (requests : List Request) (answers : List Item) → StandsAfter requests answers old → IsAdmissible old.own requests answers request
+
 -- The request is asked: it was admissible, these NSP messages are its messages, blocked, and the end stands as after it too.
 pub record Asks (request : Request) (old new : Present) (messages : List (List ℕ)) : Type 0 where
   pub works : old.failed ≡ false
   pub spelled : messages ≡ all_joined (Blocked old.limit (messages_of old.own request))
-  pub admissible : (requests : List Request) (answers : List Item) → StandsAfter requests answers old → IsAdmissible old.own requests answers request
+  pub admissible : IsAdmittedBy old request
   pub stands : (requests : List Request) (answers : List Item) → StandsAfter requests answers old → StandsAfter (requests ++ request ∷ []) answers new
 
 -- why a request is refused

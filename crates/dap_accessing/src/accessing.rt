@@ -1,16 +1,14 @@
 //! The accessing end.
 
-ghost use Rattle.std.specs.Prelude.{◌≡◌, ◌≢◌, ◌≤◌, ◌<◌, List, [], false, length, map, IfOk, IfErr, OnOk, OnErr};
-ghost use Rattle.dap_msg.specs.Items.{Item as TheItem};
-ghost use Rattle.dap_accessing.specs.declared.request.Request.{Request as Asked};
+ghost use Rattle.std.specs.Prelude.{◌≡◌, ◌≢◌, ◌≤◌, ◌<◌, [], false, length, map, IfOk, IfErr, OnOk, OnErr};
 ghost use Rattle.dap_accessing.specs.declared.fault.AskFault.TheVariants.{NoMemory};
-ghost use Rattle.dap_accessing.specs.Phase.{IsAdmissible};
-ghost use Rattle.dap_msg.specs.Exchange.{greatest_message, limit_of as the_limit};
+ghost use Rattle.dap_accessing.specs.Outgoing.{Admits, number_carried, outgoing_messages};
+ghost use Rattle.dap_msg.specs.Exchange.{four_bytes, greatest_message, limit_of as the_limit};
 ghost use Rattle.dap_msg.specs.Message.{seen};
 ghost use Rattle.dap_msg.specs.Items.{Whole};
 ghost use Rattle.dap_msg.specs.Blocked.{bodies};
 ghost use Rattle.dap_accessing.specs.Present.{StandsAfter, HasShortNumbers, Takes};
-ghost use Rattle.dap_accessing.specs.Calls.{Asks, AskRefused, IsPlace, Reads, ReadRefused};
+ghost use Rattle.dap_accessing.specs.Calls.{Asks, AskRefused, IsAdmittedBy, IsPlace, Reads, ReadRefused};
 ghost use Rattle.dap_accessing.specs.Steps.{ReportsGrow};
 
 use crate::asking::{Outgoing, carried_number};
@@ -75,20 +73,11 @@ impl Accessing {
         ensures unchanged { OnErr result (self.new ≡ self.old) }
         ensures own { self.new.own ≡ self.old.own }
     {
-        if self.failed {
-            return Err(AskFault::Failed);
-        }
-        if self.pending.is_some() {
-            return Err(AskFault::Busy);
-        }
-        if !self.phase.fits(request) {
-            return Err(AskFault::WrongPhase);
-        }
         let number = carried_number(request).to_le_bytes();
-        let outgoing = Outgoing::of(self.bufsiz, request, &number);
-        if !outgoing.is_sendable(self.limit) {
-            return Err(AskFault::TooLarge);
-        }
+        let outgoing = match self.admitted(request, &number) {
+            Ok(outgoing) => outgoing,
+            Err(fault) => return Err(fault),
+        };
         let Ok(messages) = outgoing.blocked(self.alloc, self.limit) else {
             return Err(AskFault::NoMemory);
         };
@@ -96,10 +85,23 @@ impl Accessing {
         Ok(messages)
     }
 
-    /// Whether `ask` would take the request, memory aside; refused as there. It takes no memory.
+    /// Whether `ask` would take the request, memory aside; refused as there. It takes no memory. Own.
     pub fn check(&self, request: &Request) -> Result<(), AskFault>
         ensures works { OnOk result (self.now.failed ≡ false) }
-        ensures admissible { OnOk result ((requests : List Asked) (answers : List TheItem) → StandsAfter requests answers self.now → IsAdmissible self.now.own requests answers request.now) }
+        ensures admissible { OnOk result (IsAdmittedBy self.now request.now) }
+        ensures refused { IfErr result (λ f. (f ≢ NoMemory) × AskRefused request.now self.now f) }
+    {
+        let number = carried_number(request).to_le_bytes();
+        match self.admitted(request, &number) {
+            Ok(_messages) => Ok(()),
+            Err(fault) => Err(fault),
+        }
+    }
+
+    // The messages of a request that may be asked, memory aside.
+    fn admitted<'a>(&self, request: &'a Request, number: &'a [u8]) -> Result<Outgoing<'a>, AskFault>
+        requires { number.now ≡ four_bytes (number_carried request.now) }
+        ensures admits { IfOk result (λ o. Admits self.now request.now (outgoing_messages o)) }
         ensures refused { IfErr result (λ f. (f ≢ NoMemory) × AskRefused request.now self.now f) }
     {
         if self.failed {
@@ -111,12 +113,11 @@ impl Accessing {
         if !self.phase.fits(request) {
             return Err(AskFault::WrongPhase);
         }
-        let number = carried_number(request).to_le_bytes();
-        let outgoing = Outgoing::of(self.bufsiz, request, &number);
+        let outgoing = Outgoing::of(self.bufsiz, request, number);
         if !outgoing.is_sendable(self.limit) {
             return Err(AskFault::TooLarge);
         }
-        Ok(())
+        Ok(outgoing)
     }
 
     /// Takes the message as the next answer.

@@ -289,9 +289,13 @@ fn sends(end: &mut Accessing, request: &Request, expected: &[u8]) -> bool {
 fn does(alloc: Global, end: &mut Accessing, line: Line) -> Result<bool, AllocError> {
     Ok(match line {
         Line::Sends(ask, bytes) => sends(end, &request_surely(alloc, ask)?, bytes),
-        Line::Asks(ask) => asked(end, &request_surely(alloc, ask)?).is_ok(),
+        Line::Asks(ask) => {
+            let request = request_surely(alloc, ask)?;
+            end.check(&request).is_ok() && asked(end, &request).is_ok()
+        }
         Line::Refuses(ask, fault) => {
-            asked(end, &request_surely(alloc, ask)?).err() == Some(fault)
+            let request = request_surely(alloc, ask)?;
+            end.check(&request) == Err(fault) && asked(end, &request).err() == Some(fault)
         }
         Line::Hears(bytes, expected) => hears(end, bytes, 0, bytes.len(), expected),
         Line::HearsAt(bytes, at, next, expected) => hears(end, bytes, at, next, expected),

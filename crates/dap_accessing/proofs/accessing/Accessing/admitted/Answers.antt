@@ -1,0 +1,47 @@
+use Rattle.std.proofs.Common.{◌≢◌, ◌∙◌, sym, subst, rules, IsTrue, true, false}
+use Rattle.dap_accessing.specs.declared.fault.AskFault.TheVariants as fault
+use Rattle.dap_accessing.specs.Phase.{AreSendable}
+use Rattle.dap_accessing.specs.Present.{Present}
+use Rattle.dap_accessing.specs.Calls.{AskRefused}
+use Rattle.dap_accessing.specs.Outgoing.{Admits, outgoing_messages}
+use Rattle.dap_accessing.specs.contracts.accessing.Accessing.{the_view}
+use Rattle.dap_accessing.proofs.Laws.{refuse_busy, refuse_phase, refuse_large}
+use Rattle.dap_accessing.proofs.accessing.Accessing.admitted.Goals as goal
+
+yes : IsTrue true
+yes = search rules
+
+never : IsTrue false → ⊥
+never e = search rules
+
+pub returns-then-is_some-clause-refused : goal.returns-then-is_some-clause-refused
+returns-then-is_some-clause-refused c =
+    subst (λ (v : Present). (fault.Busy ≢ fault.NoMemory) × AskRefused c.args.request.now v fault.Busy) c.self.view_is
+    ((λ e. cc), (c.if-self.false, refuse_busy c.args.request.now (the_view c.self.inside) (sym c.is_some.ensures ∙ c.if-is_some.true)))
+
+pub returns-then-not-fits-clause-refused : goal.returns-then-not-fits-clause-refused
+returns-then-not-fits-clause-refused c =
+    subst (λ (v : Present). (fault.WrongPhase ≢ fault.NoMemory) × AskRefused c.args.request.now v fault.WrongPhase) c.self.view_is
+    ((λ e. cc), (c.if-self.false, refuse_phase c.args.request.now (the_view c.self.inside) (sym c.is_some.ensures ∙ c.if-is_some.false) (sym c.fits.ensures ∙ c.if-not-fits.true)))
+
+pub returns-then-not-is_sendable-clause-refused : goal.returns-then-not-is_sendable-clause-refused
+returns-then-not-is_sendable-clause-refused c =
+    subst (λ (v : Present). (fault.TooLarge ≢ fault.NoMemory) × AskRefused c.args.request.now v fault.TooLarge) c.self.view_is (
+      (λ e. cc),
+      (
+        c.if-self.false,
+        refuse_large c.args.request.now (the_view c.self.inside) (sym c.is_some.ensures ∙ c.if-is_some.false) (sym c.fits.ensures ∙ c.if-not-fits.false)
+            (λ s. never (c.if-not-is_sendable.ensures.1 (subst (λ l. AreSendable c.self.inside.limit l) (sym c.of-outgoing.ensures) s))),
+      ),
+    )
+
+pub returns-clause-admits : goal.returns-clause-admits
+returns-clause-admits c =
+    subst (λ (v : Present). Admits v c.args.request.now (outgoing_messages c.of-outgoing.result)) c.self.view_is
+    (record {
+      works = c.if-self.false;
+      none = sym c.is_some.ensures ∙ c.if-is_some.false;
+      right = sym c.fits.ensures ∙ c.if-not-fits.false;
+      messages_are = c.of-outgoing.ensures;
+      sendable = subst (λ l. AreSendable c.self.inside.limit l) c.of-outgoing.ensures (c.if-not-is_sendable.ensures.0 yes);
+    })
