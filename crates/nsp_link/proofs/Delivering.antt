@@ -11,7 +11,7 @@ use Rattle.nsp_link.specs.declared.link.Got.TheVariants.{Accepted, Repeat, Early
 use Rattle.nsp_seg.specs.declared.packet.SegFault.{SegFault}
 use Rattle.nsp_link.specs.Cutting.{cut}
 use Rattle.nsp_link.specs.Cutting.{Piece}
-use Rattle.nsp_link.specs.Coming.{Coming, taken, taken_all, AllFit, RefusesOne}
+use Rattle.nsp_link.specs.Coming.{Coming, taken, taken_all, AllFit, RefusesAll}
 use Rattle.nsp_link.specs.Holding.{following, inserted}
 use Rattle.nsp_link.specs.Limits.{most_segments}
 use Rattle.nsp_link.specs.Link.{LinkValue, IsLink, IsDue, Stands, HasTaken, Delivered, MayRefuse, Keeps, coming, got_of, taken_after, held_after, piece_of}
@@ -216,7 +216,11 @@ module _ (old : LinkValue) (size : ℕ) (messages given : List (List ℕ)) (s : 
   -- what is refused leaves the end as it was
   due_not_taken : (new : LinkValue) (e : LinkFault) → n ≡ old.received + 1 → NotTaken old (piece_of s) e new → Due old new (Err e) size messages given (Some n) a
   due_not_taken new e next out = elim (refuses-all old.max_message (coming old) (run old (piece_of s)) e (next_taken next).0 out.0) [
-    | inl m ↦ (inl (m, inl next), out.1 ∙ ap (λ (f : LinkFault). stopped f old) m)
+    | inl m ↦
+        let test : (n == old.received + 1) ≡ true = eq-eqb n (old.received + 1) next in
+        let same : following (old.received + 1) old.held ≡ following n old.held = ap (λ (k : ℕ). following k old.held) (sym next) in
+        let few : n + length (following n old.held) ≤ most_segments = omega (arith, m.1, ap length same, next) in
+        (inl (m.0, inl next, rw test few), out.1 ∙ ap (λ (f : LinkFault). stopped f old) m.0)
     | inr x ↦
         let test : (n == old.received + 1) ≡ true = eq-eqb n (old.received + 1) next in
         let same : following (old.received + 1) old.held ≡ following n old.held = ap (λ (k : ℕ). following k old.held) (sym next) in
@@ -230,7 +234,8 @@ module _ (old : LinkValue) (size : ℕ) (messages given : List (List ℕ)) (s : 
   due_refused new e (inr (inr out)) =
       let low : 0 < ahead_of_next old s.number = omega (arith, out.1.0) in
       let gt = place.early (rw due.carries.2 at low) (rw due.carries.2 at out.2) in
-      (inl (out.3, inr (subst (λ (k : ℕ). Keeps old k) (number_found gt) out.1)), out.4)
+      let apart : (n == old.received + 1) ≡ false = ne_eqb n (old.received + 1) (λ x. omega arith) in
+      (inl (out.3, inr (subst (λ (k : ℕ). Keeps old k) (number_found gt) out.1), rw apart link.few_taken), out.4)
 
   due_segment : (new : LinkValue) (r : Result Got LinkFault) → Received old (segment s) r new → Due old new r size messages given (Some n) a
   due_segment new (Ok got) rec =
@@ -253,19 +258,13 @@ due_matched old new (Ok got) size messages given k a d = d
 due_matched old new (Err e) size messages given k a d = d
 
 -- a packet that was read is not malformed
-never_malformed : (limit : ℕ) (c : Coming) (ps : List Piece) (f : SegFault) → RefusesOne limit c ps (Malformed f) → ⊥
-unfolding RefusesOne
-never_malformed limit c [] f out = out
-never_malformed limit c (p ∷ ps) f (inl out) = out
-never_malformed limit c (p ∷ ps) f (inr out) = never_malformed limit (taken c p) ps f out.1
-
 pub received_read : (old new : LinkValue) (p : PacketValue) (r : Result Got LinkFault) (f : SegFault) → Received old p r new → r ≡ Err (Malformed f) → ⊥
 received_read old new p (Ok got) f rec e = cc
 received_read old new (segment s) (Err g) f (inl out) e = cc
 received_read old new (segment s) (Err g) f (inr (_, inl out)) e = cc
 received_read old new (segment s) (Err g) f (inr (_, inr (inl out))) e =
     let same : g ≡ Malformed f = (cc) in
-    never_malformed old.max_message (coming old) (run old (piece_of s)) f (subst (λ (h : LinkFault). RefusesOne old.max_message (coming old) (run old (piece_of s)) h) same out.2.0)
+    subst (λ (h : LinkFault). RefusesAll old.max_message (coming old) (run old (piece_of s)) h) same out.2.0
 received_read old new (segment s) (Err g) f (inr (_, inr (inr out))) e = cc
 received_read old new (data_ack s) (Err g) f (inl out) e = cc
 received_read old new (data_ack s) (Err g) f (inr out) e = cc
@@ -274,6 +273,6 @@ received_read old new (data_ack s) (Err g) f (inr out) e = cc
 pub unrefused : (old new : LinkValue) (r : Result Got LinkFault) (size : ℕ) (messages given : List (List ℕ)) (k : Option ℕ) (a : ℕ) → IfSome k (λ n. n ≤ old.received) → Due old new r size messages given k a → IsOk r
 unrefused old new (Ok got) size messages given k a le d = refl
 unrefused old new (Err e) size messages given None a le d = absurd d.0
-unrefused old new (Err e) size messages given (Some k) a le (inl (_, inl next), _) = absurd (omega arith)
-unrefused old new (Err e) size messages given (Some k) a le (inl (_, inr keeps), _) = absurd (omega (arith, keeps.0))
+unrefused old new (Err e) size messages given (Some k) a le (inl (_, inl next, _), _) = absurd (omega arith)
+unrefused old new (Err e) size messages given (Some k) a le (inl (_, inr keeps, _), _) = absurd (omega (arith, keeps.0))
 unrefused old new (Err e) size messages given (Some k) a le (inr (_, next, _), _) = absurd (omega arith)

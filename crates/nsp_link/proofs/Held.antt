@@ -1,7 +1,8 @@
 -- Early segments in the ring, and the definition's list of them.
-use Rattle.std.proofs.Common.{◌≡◌, ℕ, zero, suc, ◌+◌, ◌-◌, ◌<◌, ◌≤◌, List, [], ◌∷◌, ◌++◌, length, drop, replicate, Option, Some, None, refl, sym, ap, ◌∙◌, arith, Bool, true, false, inl, inr, subst, append_assoc}
+use Rattle.std.proofs.Common.{◌≡◌, ℕ, zero, suc, ◌+◌, ◌-◌, ◌<◌, ◌≤◌, List, [], ◌∷◌, ◌++◌, length, drop, replicate, Option, Some, None, refl, sym, ap, ◌∙◌, arith, Bool, true, false, inl, inr, subst, append_assoc, Bor}
 use Rattle.std.specs.Prelude.{slice_get, slice_set, MatchOption, is_none}
 use Rattle.std.specs.List.{AllByRecursion}
+use Rattle.std.specs.Option.{option_copied}
 use Rattle.std.proofs.lemmas.Bool.{cases_eq, cases_lt, eq-eqb, ne_eqb, lt-ltb, le-ltb}
 use Rattle.std.proofs.lemmas.List.{drop_all, length-append, length-drop, length-replicate, drop-append-le, drop-drop, replicate-append-replicate}
 use Rattle.nsp_link.specs.declared.segment.Held.{Held}
@@ -101,6 +102,25 @@ leading_goes [] i h at = absurd (cc)
 leading_goes (None ∷ places) zero h at = absurd (cc)
 leading_goes (Some g ∷ places) zero h at = let same : g ≡ h = (cc) in ap (λ (x : Held). held_piece x ∷ leading places) same
 leading_goes (o ∷ places) (suc i) h at = leading_goes places i h at
+
+-- what is read at a place says what stands from there on
+leads_past : (places : List (Option Held)) (i : ℕ) → slice_get places i ≡ None → leading (drop i places) ≡ []
+unfolding leading
+leads_past [] zero at = refl
+leads_past [] (suc i) at = refl
+leads_past (o ∷ places) zero at = absurd (cc)
+leads_past (o ∷ places) (suc i) at = leads_past places i at
+
+pub leads_none : (places : List (Option Held)) (i : ℕ) (read : Option (Bor (Option Held))) → option_copied read ≡ slice_get places i → read ≡ None → leading (drop i places) ≡ []
+leads_none places i None e is = leads_past places i (sym e)
+leads_none places i (Some r) e is = absurd (cc)
+
+pub leads_slot : (places : List (Option Held)) (i : ℕ) (slot : Option Held) (held : Option (Bor Held)) → slice_get places i ≡ Some slot → option_copied held ≡ slot
+    → MatchOption held (leading (drop i places) ≡ []) (λ h. leading (drop i places) ≡ held_piece h.now ∷ leading (drop (i + 1) places))
+leads_slot places i slot None at e = leading_stops places i (at ∙ ap (λ (o : Option Held). Some o) (sym e))
+leads_slot places i slot (Some h) at e =
+    let next : suc i ≡ i + 1 = omega arith in
+    rw (← next) (leading_goes places i h.now (at ∙ ap (λ (o : Option Held). Some o) (sym e)))
 
 -- ---- keeping
 

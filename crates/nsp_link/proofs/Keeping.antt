@@ -5,7 +5,7 @@ use Rattle.std.proofs.lemmas.Bool.{cases_lt, lt-ltb, le-ltb}
 use Rattle.std.proofs.lemmas.Option.{slice_get_within, slice_get-get_or}
 use Rattle.nsp_link.specs.declared.segment.Held.{Held}
 use Rattle.nsp_link.specs.Cutting.{Piece}
-use Rattle.nsp_link.specs.Coming.{Coming, taken_all, AllFit, RefusesOne}
+use Rattle.nsp_link.specs.Coming.{Coming, taken_all, AllFit, RefusesAll}
 use Rattle.nsp_link.specs.Holding.{following, inserted}
 use Rattle.nsp_link.specs.Link.{LinkValue, Keeps, coming}
 use Rattle.nsp_link.specs.Pieces.{held_from, held_piece, leading}
@@ -45,8 +45,8 @@ module _ (v : LinkValue) (places : List (Option Held)) (held-is : v.held ≡ hel
     pub run_fit : (limit : ℕ) → AllFit limit (coming v) (p ∷ leading (drop 1 places)) → AllFit limit (coming v) (run v p)
     run_fit limit fit = subst (λ (ps : List Piece). AllFit limit (coming v) ps) (sym run_is) fit
 
-    pub run_refuses : (limit : ℕ) (e : _) → RefusesOne limit (coming v) (p ∷ leading (drop 1 places)) e → RefusesOne limit (coming v) (run v p) e
-    run_refuses limit e out = subst (λ (ps : List Piece). RefusesOne limit (coming v) ps e) (sym run_is) out
+    pub run_refuses : (limit : ℕ) (e : _) → RefusesAll limit (coming v) (p ∷ leading (drop 1 places)) e → RefusesAll limit (coming v) (run v p) e
+    run_refuses limit e out = subst (λ (ps : List Piece). RefusesAll limit (coming v) ps e) (sym run_is) out
 
     pub closed_is : (new : Coming) (m : ℕ) (ring : List (Option Held)) → new ≡ taken_all (coming v) (p ∷ leading (drop 1 places)) → m ≡ 1 + length (leading (drop 1 places)) → new.received ≡ v.received + m → ring ≡ drop m places ++ replicate m None
         → coming_link v new (held_from (new.received + 1) ring) ≡ closed v p

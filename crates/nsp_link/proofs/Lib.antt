@@ -2,7 +2,7 @@ pub mod Counts
 pub mod Placing
 pub mod Taking
 pub mod Held
-pub mod Undo
+pub mod Joining
 pub mod Runs
 pub mod Keeping
 pub mod Giving

@@ -1,40 +1,91 @@
--- One segment more of those in the ring is taken.
-use Rattle.std.proofs.Common.{◌≡◌, ℕ, suc, ◌+◌, List, [], ◌∷◌, length, drop, Option, Some, refl, ap, ◌∙◌, arith, inl, inr}
-use Rattle.std.specs.Prelude.{slice_get}
-use Rattle.nsp_link.specs.declared.segment.Held.{Held}
+-- One segment more of several.
+use Rattle.std.proofs.Common.{◌≡◌, ◌⊎◌, ℕ, suc, ◌+◌, ◌<◌, ◌≤◌, List, [], ◌∷◌, length, refl, ap, ◌∙◌, arith, inl, inr, subst}
+use Rattle.std.specs.Prelude.{unwrap_or, option_map, Option, Some, None, true, false, Bool}
 use Rattle.nsp_link.specs.declared.fault.LinkFault.{LinkFault}
+use Rattle.nsp_link.specs.declared.fault.LinkFault.TheVariants.{BadSetup, Malformed, WrongLink, BadSequence, MessageTooLong, Failed, Exhausted, NoSuchSegment, NoMemory}
 use Rattle.nsp_link.specs.Cutting.{Piece}
-use Rattle.nsp_link.specs.Coming.{Coming, taken, taken_all, Fits, AllFit, Refuses, RefusesOne}
-use Rattle.nsp_link.specs.Pieces.{held_piece, leading}
-use Rattle.nsp_link.proofs.Held.{leading_goes}
+use Rattle.nsp_link.specs.Coming.{Coming, taken, taken_all, Fits, AllFit, Misfits, MisfitsOne, RefusesAll}
+use Rattle.nsp_link.specs.Limits.{most_segments}
+use Rattle.nsp_link.specs.Pieces.{IsBegun}
 
-goes : (places : List (Option Held)) (i : ℕ) (h : Held) → slice_get places i ≡ Some (Some h) → leading (drop i places) ≡ held_piece h ∷ leading (drop (i + 1) places)
-goes places i h at = let e : suc i ≡ i + 1 = omega arith in leading_goes places i h at ∙ ap (λ (n : ℕ). held_piece h ∷ leading (drop n places)) e
+-- What was looked at of several segments, and what is left: an end as it would be there.
+pub record Looked (limit : ℕ) (start : Coming) (all : List Piece) (len : Option ℕ) (left : List Piece) : Type 0 where
+  pub now : Coming
+  pub begun : IsBegun len now
+  pub fit : AllFit limit now left → AllFit limit start all
+  pub misfit : (e : LinkFault) → MisfitsOne limit now left e → MisfitsOne limit start all e
 
-pub run_taken : (c : Coming) (places : List (Option Held)) (i : ℕ) (h : Held) → slice_get places i ≡ Some (Some h) → taken_all c (leading (drop i places)) ≡ taken_all (taken c (held_piece h)) (leading (drop (i + 1) places))
-unfolding taken_all
-run_taken c places i h at = ap (λ (ps : List Piece). taken_all c ps) (goes places i h at)
+-- the first was looked at
+pub looked_first : (limit : ℕ) (start : Coming) (p : Piece) (begun : Option ℕ) (left : List Piece) → Fits limit start p → IsBegun begun (taken start p) → Looked limit start (p ∷ left) begun left
+unfolding AllFit MisfitsOne
+looked_first limit start p begun left fits is = record { now = taken start p; begun = is; fit = λ rest. (fits, rest); misfit = λ e out. inr (fits, out) }
 
-pub run_fits : (limit : ℕ) (c : Coming) (places : List (Option Held)) (i : ℕ) (h : Held) → slice_get places i ≡ Some (Some h) → Fits limit c (held_piece h) → AllFit limit (taken c (held_piece h)) (leading (drop (i + 1) places)) → AllFit limit c (leading (drop i places))
+-- and one more
+pub looked_more : (limit : ℕ) (start : Coming) (all : List Piece) (begun after : Option ℕ) (left rest : List Piece) (p : Piece) → left ≡ p ∷ rest
+    → ((c : Coming) → IsBegun begun c → Fits limit c p × IsBegun after (taken c p)) → Looked limit start all begun left → Looked limit start all after rest
+unfolding AllFit MisfitsOne
+looked_more limit start all begun after left rest p is check looked =
+    let here = check looked.now looked.begun in
+    record {
+      now = taken looked.now p;
+      begun = here.1;
+      fit = λ more. looked.fit (rw is (here.0, more));
+      misfit = λ e out. looked.misfit e (rw is (inr (here.0, out)));
+    }
+
+-- all were looked at
+pub looked_all : (limit : ℕ) (start : Coming) (all : List Piece) (begun : Option ℕ) (left : List Piece) → left ≡ [] → Looked limit start all begun left → AllFit limit start all
 unfolding AllFit
-run_fits limit c places i h at fits rest = rw (goes places i h at) (fits, rest)
+looked_all limit start all begun left is looked = looked.fit (rw is tt)
 
-pub run_refused_here : (limit : ℕ) (c : Coming) (places : List (Option Held)) (i : ℕ) (h : Held) (e : LinkFault) → slice_get places i ≡ Some (Some h) → Refuses limit c (held_piece h) e → RefusesOne limit c (leading (drop i places)) e
-unfolding RefusesOne
-run_refused_here limit c places i h e at out = rw (goes places i h at) (inl out)
+-- one doesn't fit
+pub misfits_first : (limit : ℕ) (start : Coming) (p : Piece) (left : List Piece) (e : LinkFault) → Misfits limit start p e → RefusesAll limit start (p ∷ left) e
+unfolding MisfitsOne
+misfits_first limit start p left BadSequence out = inl out
+misfits_first limit start p left MessageTooLong out = inl out
+misfits_first limit start p left Exhausted out = absurd out
+misfits_first limit start p left NoMemory out = absurd out
+misfits_first limit start p left BadSetup out = absurd out
+misfits_first limit start p left (Malformed f) out = absurd out
+misfits_first limit start p left WrongLink out = absurd out
+misfits_first limit start p left Failed out = absurd out
+misfits_first limit start p left NoSuchSegment out = absurd out
 
-pub run_refused : (limit : ℕ) (c : Coming) (places : List (Option Held)) (i : ℕ) (h : Held) (e : LinkFault) → slice_get places i ≡ Some (Some h) → Fits limit c (held_piece h) → RefusesOne limit (taken c (held_piece h)) (leading (drop (i + 1) places)) e → RefusesOne limit c (leading (drop i places)) e
-unfolding RefusesOne
-run_refused limit c places i h e at fits out = rw (goes places i h at) (inr (fits, out))
+pub misfits_more : (limit : ℕ) (start : Coming) (all : List Piece) (begun : Option ℕ) (left rest : List Piece) (p : Piece) (e : LinkFault) → left ≡ p ∷ rest
+    → ((c : Coming) → IsBegun begun c → Misfits limit c p e) → Looked limit start all begun left → RefusesAll limit start all e
+unfolding MisfitsOne
+misfits_more limit start all begun left rest p BadSequence is check looked = looked.misfit BadSequence (rw is (inl (check looked.now looked.begun)))
+misfits_more limit start all begun left rest p MessageTooLong is check looked = looked.misfit MessageTooLong (rw is (inl (check looked.now looked.begun)))
+misfits_more limit start all begun left rest p Exhausted is check looked = absurd (check looked.now looked.begun)
+misfits_more limit start all begun left rest p NoMemory is check looked = absurd (check looked.now looked.begun)
+misfits_more limit start all begun left rest p BadSetup is check looked = absurd (check looked.now looked.begun)
+misfits_more limit start all begun left rest p (Malformed f) is check looked = absurd (check looked.now looked.begun)
+misfits_more limit start all begun left rest p WrongLink is check looked = absurd (check looked.now looked.begun)
+misfits_more limit start all begun left rest p Failed is check looked = absurd (check looked.now looked.begun)
+misfits_more limit start all begun left rest p NoSuchSegment is check looked = absurd (check looked.now looked.begun)
 
-pub run_counts : (places : List (Option Held)) (i : ℕ) (h : Held) → slice_get places i ≡ Some (Some h) → i + length (leading (drop i places)) ≡ (i + 1) + length (leading (drop (i + 1) places))
-run_counts places i h at = let e = ap length (goes places i h at) in omega arith
+-- those that fit leave no more begun than the limit
+pub fit_short : (limit : ℕ) (c : Coming) (ps : List Piece) → AllFit limit c ps → length (unwrap_or c.partial []) ≤ limit → length (unwrap_or (taken_all c ps).partial []) ≤ limit
+unfolding AllFit taken_all
+fit_short limit c [] fit short = short
+fit_short limit c (p ∷ ps) fit short = fit_short limit (taken c p) ps fit.1 (one_short c p.first p.last p.payload fit.0)
+  where
+    one_short : (c : Coming) (first last : Bool) (payload : List ℕ) → let p : Piece = record { first = first; last = last; payload = payload } in Fits limit c p → length (unwrap_or (taken c p).partial []) ≤ limit
+    one_short c first true payload fits = omega arith
+    one_short c first false payload fits = fits.1
+
+-- one more is taken
+pub taken_more : (c : Coming) (left rest : List Piece) (p : Piece) → left ≡ p ∷ rest → taken_all c left ≡ taken_all (taken c p) rest
+unfolding taken_all
+taken_more c left rest p is = ap (λ (ps : List Piece). taken_all c ps) is
 
 -- nothing is left to take
 pub none_taken : (c : Coming) (ps : List Piece) → ps ≡ [] → taken_all c ps ≡ c
 unfolding taken_all
 none_taken c ps e = rw e refl
 
-pub none_unfit : (limit : ℕ) (c : Coming) (ps : List Piece) → ps ≡ [] → AllFit limit c ps
-unfolding AllFit
-none_unfit limit c ps e = rw e tt
+-- one alone is taken
+pub one_taken : (c : Coming) (p : Piece) (left : List Piece) → length left ≡ 0 → taken_all c (p ∷ left) ≡ taken c p
+unfolding taken_all
+one_taken c p [] none = refl
+one_taken c p (q ∷ left) none = absurd (omega arith)

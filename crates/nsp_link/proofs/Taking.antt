@@ -12,7 +12,7 @@ use Rattle.std.proofs.lemmas.List.FromFn.{get_or-map-range_with_len}
 use Rattle.std.proofs.lemmas.Option.{slice_get_within, get_or_from_slice_get}
 use Rattle.nsp_link.specs.Cutting.{Piece, count_of, piece_at, cut_message, cut}
 use Rattle.nsp_link.specs.Link.{IsWhole, HasTaken, begun}
-use Rattle.nsp_link.specs.Coming.{Coming, body_with, taken, taken_all, AllFit, RefusesOne, Refuses, Fits}
+use Rattle.nsp_link.specs.Coming.{Coming, body_with, taken, taken_all, AllFit, Misfits, MisfitsOne, RefusesAll, Fits}
 use Rattle.nsp_link.specs.declared.fault.LinkFault.{LinkFault}
 use Rattle.nsp_link.specs.declared.fault.LinkFault.TheVariants.{BadSetup, Malformed, WrongLink, BadSequence, MessageTooLong, Failed, Exhausted, NoSuchSegment, NoMemory}
 use Rattle.nsp_link.specs.Limits.{most_segments}
@@ -205,26 +205,32 @@ unfolding taken_all
 received-all c [] = omega arith
 received-all c (p ∷ ps) = received-all (taken c p) ps ∙ omega arith
 
--- segments that fit are refused for want of numbers or memory alone
-pub refuses-fitting : (limit : ℕ) (c : Coming) (p : Piece) (e : LinkFault) → Fits limit c p → Refuses limit c p e → (e ≡ NoMemory) ⊎ ((e ≡ Exhausted) × (most_segments ≤ c.received))
-refuses-fitting limit c p BadSequence fits out = absurd (out fits.0)
-refuses-fitting limit c p MessageTooLong fits out = absurd (omega (arith, fits.1, out.1))
-refuses-fitting limit c p Exhausted fits out = inr (refl, out.1)
-refuses-fitting limit c p NoMemory fits out = inl refl
-refuses-fitting limit c p BadSetup fits out = absurd out
-refuses-fitting limit c p (Malformed f) fits out = absurd out
-refuses-fitting limit c p WrongLink fits out = absurd out
-refuses-fitting limit c p Failed fits out = absurd out
-refuses-fitting limit c p NoSuchSegment fits out = absurd out
+fits-not : (limit : ℕ) (c : Coming) (p : Piece) (e : LinkFault) → Fits limit c p → Misfits limit c p e → ⊥
+fits-not limit c p BadSequence fits out = out fits.0
+fits-not limit c p MessageTooLong fits out = absurd (omega (arith, fits.1, out.1))
+fits-not limit c p Exhausted fits out = out
+fits-not limit c p NoMemory fits out = out
+fits-not limit c p BadSetup fits out = out
+fits-not limit c p (Malformed f) fits out = out
+fits-not limit c p WrongLink fits out = out
+fits-not limit c p Failed fits out = out
+fits-not limit c p NoSuchSegment fits out = out
 
-pub refuses-all : (limit : ℕ) (c : Coming) (ps : List Piece) (e : LinkFault) → AllFit limit c ps → RefusesOne limit c ps e → (e ≡ NoMemory) ⊎ ((e ≡ Exhausted) × (most_segments < c.received + length ps))
-unfolding AllFit RefusesOne
-refuses-all limit c [] e fit out = absurd out
-refuses-all limit c (p ∷ ps) e fit (inl out) = elim (refuses-fitting limit c p e fit.0 out) [
-  | inl m ↦ inl m
-  | inr x ↦ inr (x.0, omega (arith, x.1))
-]
-refuses-all limit c (p ∷ ps) e fit (inr out) = elim (refuses-all limit (taken c p) ps e fit.1 out.1) [
-  | inl m ↦ inl m
-  | inr x ↦ inr (x.0, omega (arith, x.1))
-]
+fit-not : (limit : ℕ) (c : Coming) (ps : List Piece) (e : LinkFault) → AllFit limit c ps → MisfitsOne limit c ps e → ⊥
+unfolding AllFit MisfitsOne
+fit-not limit c [] e fit out = out
+fit-not limit c (p ∷ ps) e fit (inl out) = fits-not limit c p e fit.0 out
+fit-not limit c (p ∷ ps) e fit (inr out) = fit-not limit (taken c p) ps e fit.1 out.1
+
+-- segments that fit are refused for want of numbers or memory alone
+pub refuses-all : (limit : ℕ) (c : Coming) (ps : List Piece) (e : LinkFault) → AllFit limit c ps → RefusesAll limit c ps e
+    → ((e ≡ NoMemory) × (c.received + length ps ≤ most_segments)) ⊎ ((e ≡ Exhausted) × (most_segments < c.received + length ps))
+refuses-all limit c ps BadSequence fit out = absurd (fit-not limit c ps BadSequence fit out)
+refuses-all limit c ps MessageTooLong fit out = absurd (fit-not limit c ps MessageTooLong fit out)
+refuses-all limit c ps Exhausted fit out = inr (refl, out.1)
+refuses-all limit c ps NoMemory fit out = inl (refl, out.1)
+refuses-all limit c ps BadSetup fit out = absurd out
+refuses-all limit c ps (Malformed f) fit out = absurd out
+refuses-all limit c ps WrongLink fit out = absurd out
+refuses-all limit c ps Failed fit out = absurd out
+refuses-all limit c ps NoSuchSegment fit out = absurd out

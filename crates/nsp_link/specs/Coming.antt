@@ -28,17 +28,17 @@ taken c p = record {
 abbrev pub Fits : ℕ → Coming → Piece → Type 0
 Fits limit c p = (p.first ≡ is_none c.partial) × (length (body_with c p.payload) ≤ limit)
 
--- why a segment isn't taken: its mark comes before its length, this before the numbers, these before memory
-abbrev pub Refuses : ℕ → Coming → Piece → LinkFault → Type 0
-Refuses limit c p BadSequence = p.first ≢ is_none c.partial
-Refuses limit c p MessageTooLong = (p.first ≡ is_none c.partial) × (limit < length (body_with c p.payload))
-Refuses limit c p Exhausted = Fits limit c p × (most_segments ≤ c.received)
-Refuses limit c p NoMemory = Fits limit c p × (c.received < most_segments)
-Refuses limit c p BadSetup = ⊥
-Refuses limit c p (Malformed f) = ⊥
-Refuses limit c p WrongLink = ⊥
-Refuses limit c p Failed = ⊥
-Refuses limit c p NoSuchSegment = ⊥
+-- why a segment doesn't fit: its mark comes before its length
+abbrev pub Misfits : ℕ → Coming → Piece → LinkFault → Type 0
+Misfits limit c p BadSequence = p.first ≢ is_none c.partial
+Misfits limit c p MessageTooLong = (p.first ≡ is_none c.partial) × (limit < length (body_with c p.payload))
+Misfits limit c p Exhausted = ⊥
+Misfits limit c p NoMemory = ⊥
+Misfits limit c p BadSetup = ⊥
+Misfits limit c p (Malformed f) = ⊥
+Misfits limit c p WrongLink = ⊥
+Misfits limit c p Failed = ⊥
+Misfits limit c p NoSuchSegment = ⊥
 
 -- ---- several segments, one after the other
 
@@ -50,7 +50,20 @@ unfoldable pub AllFit : ℕ → Coming → List Piece → Type 0
 AllFit limit c [] = Unit {0}
 AllFit limit c (p ∷ ps) = Fits limit c p × AllFit limit (taken c p) ps
 
--- the first segment at fault decides
-unfoldable pub RefusesOne : ℕ → Coming → List Piece → LinkFault → Type 0
-RefusesOne limit c [] e = ⊥
-RefusesOne limit c (p ∷ ps) e = Refuses limit c p e ⊎ (Fits limit c p × RefusesOne limit (taken c p) ps e)
+-- the first that doesn't fit decides
+unfoldable pub MisfitsOne : ℕ → Coming → List Piece → LinkFault → Type 0
+MisfitsOne limit c [] e = ⊥
+MisfitsOne limit c (p ∷ ps) e = Misfits limit c p e ⊎ (Fits limit c p × MisfitsOne limit (taken c p) ps e)
+
+-- Why none of several segments is taken: the marks and lengths of all of them come before their number, and this
+-- before memory.
+abbrev pub RefusesAll : ℕ → Coming → List Piece → LinkFault → Type 0
+RefusesAll limit c ps BadSequence = MisfitsOne limit c ps BadSequence
+RefusesAll limit c ps MessageTooLong = MisfitsOne limit c ps MessageTooLong
+RefusesAll limit c ps Exhausted = AllFit limit c ps × (most_segments < c.received + length ps)
+RefusesAll limit c ps NoMemory = AllFit limit c ps × (c.received + length ps ≤ most_segments)
+RefusesAll limit c ps BadSetup = ⊥
+RefusesAll limit c ps (Malformed f) = ⊥
+RefusesAll limit c ps WrongLink = ⊥
+RefusesAll limit c ps Failed = ⊥
+RefusesAll limit c ps NoSuchSegment = ⊥

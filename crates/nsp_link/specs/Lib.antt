@@ -1,7 +1,7 @@
 pub mod Limits
 pub mod Cutting
 pub mod Coming
-pub mod Undoing
+pub mod Inner
 pub mod Holding
 pub mod Pieces
 pub mod Link

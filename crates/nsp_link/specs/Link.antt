@@ -249,5 +249,5 @@ pub record IsDue (v : LinkValue) (size : ℕ) (messages given : List (List ℕ))
 abbrev pub MayRefuse : LinkValue → Option ℕ → LinkFault → Type 0
 MayRefuse v None e = ⊥
 MayRefuse v (Some k) e =
-    ((e ≡ NoMemory) × ((k ≡ v.received + 1) ⊎ Keeps v k))
+    ((e ≡ NoMemory) × ((k ≡ v.received + 1) ⊎ Keeps v k) × (taken_after v (Some k) ≤ most_segments))
     ⊎ ((e ≡ Exhausted) × (k ≡ v.received + 1) × (most_segments < taken_after v (Some k)))

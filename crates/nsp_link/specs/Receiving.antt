@@ -7,7 +7,7 @@ use Rattle.nsp_seg.specs.Packets.{PacketValue, SegmentValue, segment, data_ack}
 use Rattle.nsp_link.specs.declared.link.Got.{Got}
 use Rattle.nsp_link.specs.declared.link.Got.TheVariants.{Accepted, Repeat, Early, AckOnly}
 use Rattle.nsp_link.specs.Cutting.{Piece}
-use Rattle.nsp_link.specs.Coming.{Coming, taken_all, AllFit, RefusesOne}
+use Rattle.nsp_link.specs.Coming.{Coming, taken_all, AllFit, RefusesAll}
 use Rattle.nsp_link.specs.Holding.{following, inserted}
 use Rattle.nsp_link.specs.Link.{LinkValue, coming, failed_link, first_ack, piece_of, IsBetween, Keeps}
 
@@ -51,7 +51,7 @@ stopped e v = if is_end e then failed_link v else v
 
 -- why the next segment and those that follow it are not taken, none of them, and what is left
 abbrev pub NotTaken : LinkValue → Piece → LinkFault → LinkValue → Type 0
-NotTaken old p e new = RefusesOne old.max_message (coming old) (run old p) e × (new ≡ stopped e old)
+NotTaken old p e new = RefusesAll old.max_message (coming old) (run old p) e × (new ≡ stopped e old)
 
 -- an end whose oldest segments are acknowledged
 abbrev pub forgotten : LinkValue → ℕ → LinkValue

@@ -6,7 +6,7 @@ ghost use Rattle.nsp_link.specs.Receiving.{is_end};
 
 use crate::cutting::{check_all, queue_all, queue_message, segment_count};
 use crate::fault::LinkFault;
-use crate::incoming::{Incoming, MOST_SEGMENTS, begun_len, take_run, undo};
+use crate::incoming::{Incoming, MOST_SEGMENTS, begun_len, take_run};
 use crate::ring::{Ring, advance, fill, free_places, is_free};
 use crate::segment::{Held, Segment};
 use nsp_seg::{AckField, Packet, Seq12, decode_packet, encode_packet};
@@ -427,11 +427,11 @@ impl LinkEnd {
     /// follow it without a hole, or none of them is (own).
     ///
     /// Refused, in this order: `Failed`; `Malformed`; `WrongLink`, where it isn't from the other end to this
-    /// one; `BadSequence`, where it acknowledges what wasn't sent; and of the next segment, or of the first
-    /// at fault of those that follow it, `BadSequence`, where a first mark stands elsewhere than in front of
-    /// a message; `MessageTooLong`, above `max_message`; `Exhausted`, above 2^40 segments; `NoMemory`. After
-    /// `BadSequence` and `MessageTooLong` nothing of the packet was taken and every later call that can
-    /// refuse answers `Failed`; every other refusal changes nothing.
+    /// one; `BadSequence`, where it acknowledges what wasn't sent; of the next segment, or of the first at
+    /// fault of those that follow it, `BadSequence`, where a first mark stands elsewhere than in front of a
+    /// message, or `MessageTooLong`, above `max_message`; `Exhausted`, where all of these would be more than
+    /// 2^40 segments; `NoMemory`. After `BadSequence` and `MessageTooLong` nothing of the packet was taken
+    /// and every later call that can refuse answers `Failed`; every other refusal changes nothing.
     pub fn receive(&mut self, packet: &[u8]) -> Result<Got, LinkFault>
         ensures failed { IsTrue self.old.failed → (result ≡ Err Failed) × (self.new ≡ self.old) }
         // Any packet, by the numbers that it shows.
@@ -468,9 +468,6 @@ impl LinkEnd {
             × (self.new ≡ closed self.old (record { first = first; last = last; payload = payload.now }))) }
         ensures err { IfErr result (λ e. NotTaken self.old (record { first = first; last = last; payload = payload.now }) e self.new) }
     {
-        let received = self.incoming.received;
-        let messages = self.incoming.inbox.len();
-        let begun = begun_len(&self.incoming.partial);
         match take_run(
             self.alloc,
             self.setup.max_message,
@@ -486,7 +483,6 @@ impl LinkEnd {
                 Ok(())
             }
             Err(fault) => {
-                undo(&mut self.incoming, received, messages, begun);
                 if ends_link(fault) {
                     self.failed = true;
                 }

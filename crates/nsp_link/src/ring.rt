@@ -1,7 +1,7 @@
 //! Places for early segments: the first is that of the number which is wanted next.
 
-ghost use Rattle.std.specs.Prelude.{◌≡◌, ◌<◌, ◌≤◌, [], ◌++◌, ℕ, Some, None, false, IfOk, MatchOption, is_none, length, drop, replicate, slice_get, slice_set};
-ghost use Rattle.nsp_link.specs.Pieces.{held_from};
+ghost use Rattle.std.specs.Prelude.{◌≡◌, ◌<◌, ◌≤◌, [], ◌∷◌, ◌++◌, ◌+◌, ℕ, Some, None, false, IfOk, IfSome, MatchOption, is_none, length, drop, replicate, slice_get, slice_set};
+ghost use Rattle.nsp_link.specs.Pieces.{held_from, held_piece, leading};
 
 use crate::segment::Held;
 use circular_buffer::HeapCircularBuffer;
@@ -58,10 +58,11 @@ pub(crate) fn advance(ring: &mut Ring, count: usize)
     }
 }
 
-/// The segment at the place.
+/// The segment at the place, if one is there.
 pub(crate) fn held_at(ring: &Ring, place: usize) -> Option<&Held>
-    requires { place < length ring.now.items }
-    ensures { MatchOption result (slice_get ring.now.items place ≡ Some None) (λ h. slice_get ring.now.items place ≡ Some (Some h.now)) }
+    ensures there { IfSome result (λ h. place < length ring.now.items) }
+    ensures leads { MatchOption result (leading (drop place ring.now.items) ≡ [])
+        (λ h. leading (drop place ring.now.items) ≡ held_piece h.now ∷ leading (drop (place + 1) ring.now.items)) }
 {
     match ring.get(place) {
         Some(slot) => slot.as_ref(),

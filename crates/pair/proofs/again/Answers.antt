@@ -13,8 +13,8 @@ repeated : (old new : LinkValue) (r : Result Got LinkFault) (size : ℕ) (messag
 repeated old new (Ok got) size messages given k a le m =
     let is : got_of old.received (Some k) ≡ Repeat = rw (ne_eqb k (old.received + 1) (λ e. omega arith), le-ltb old.received k le) refl in
     ap (λ (g : Got). Ok g) (m.0 ∙ is)
-repeated old new (Err e) size messages given k a le (inl (_, inl next), _) = absurd (omega arith)
-repeated old new (Err e) size messages given k a le (inl (_, inr keeps), _) = absurd (omega (arith, keeps.0))
+repeated old new (Err e) size messages given k a le (inl (_, inl next, _), _) = absurd (omega arith)
+repeated old new (Err e) size messages given k a le (inl (_, inr keeps, _), _) = absurd (omega (arith, keeps.0))
 repeated old new (Err e) size messages given k a le (inr (_, next, _), _) = absurd (omega arith)
 
 pub returns : goal.returns
