@@ -183,6 +183,7 @@ impl LinkEnd {
     ghost use Rattle.nsp_seg.specs.Packets.{IsWritable, view};
     ghost use Rattle.nsp_link.specs.declared.fault.LinkFault.TheVariants.{BadSetup, BadSequence, Failed, Exhausted, MessageTooLong, NoMemory, NoSuchSegment};
     ghost use Rattle.nsp_link.specs.Cutting.{Piece, cut, cut_message};
+    ghost use Rattle.nsp_link.specs.Limits.{most_segments};
     ghost use Rattle.nsp_link.specs.Pieces.{bodies};
     ghost use Rattle.nsp_link.specs.Link.{IsLink, LinkValue, Sends, Stands, MayEmit, Writes, IsSpelling};
     ghost use Rattle.nsp_link.specs.Sending.{WritesQueued, WritesSent, segment_packet, ack_packet_of, acknowledged, queued_link, SendFault, SendAllFault, MayQueue, MayQueueAll};
@@ -205,7 +206,7 @@ impl LinkEnd {
             return Err(LinkFault::MessageTooLong);
         }
         let count = segment_count(self.setup.seg_size, message.len());
-        if MOST_SEGMENTS - self.acked - (self.queue.len() as u64) < count as u64 {
+        if self.room() < count as u64 {
             return Err(LinkFault::Exhausted);
         }
         let before = self.queue.len();
@@ -228,11 +229,7 @@ impl LinkEnd {
         ensures err { IfErr result (λ e. SendAllFault self.old (bodies messages.now) e × (self.new ≡ self.old)) }
         ensures empty { self.old.failed ≡ false → messages.now ≡ [] → IsOk result × (self.new ≡ self.old) }
     {
-        if self.failed {
-            return Err(LinkFault::Failed);
-        }
-        let room = MOST_SEGMENTS - self.acked - (self.queue.len() as u64);
-        check_all(self.setup.seg_size, self.setup.max_message, room, messages)?;
+        self.check_messages(messages)?;
         let before = self.queue.len();
         match queue_all(self.alloc, &mut self.queue, self.setup.seg_size, messages) {
             Ok(()) => Ok(()),
@@ -246,13 +243,25 @@ impl LinkEnd {
     /// Whether `send_all` would take the messages, memory aside; refused as there.
     pub fn check_messages(&self, messages: &[Vec<u8>]) -> Result<(), LinkFault>
         ensures ok { OnOk result (MayQueueAll self.now (bodies messages.now)) }
+        ensures empty { self.now.failed ≡ false → messages.now ≡ [] → IsOk result }
         ensures err { IfErr result (λ e. (e ≢ NoMemory) × SendAllFault self.now (bodies messages.now) e) }
     {
         if self.failed {
             return Err(LinkFault::Failed);
         }
-        let room = MOST_SEGMENTS - self.acked - (self.queue.len() as u64);
-        check_all(self.setup.seg_size, self.setup.max_message, room, messages)
+        check_all(
+            self.setup.seg_size,
+            self.setup.max_message,
+            self.room(),
+            messages,
+        )
+    }
+
+    // How many segments may still be queued.
+    fn room(&self) -> u64
+        ensures { self.now.acked + length self.now.queue + result ≡ most_segments }
+    {
+        MOST_SEGMENTS - self.acked - (self.queue.len() as u64)
     }
 
     /// Whether a segment that was never sent waits and the window has room, so that `next_packet` writes one,
@@ -324,11 +333,10 @@ impl LinkEnd {
         if self.failed {
             return Err(LinkFault::Failed);
         }
-        let place = self.unacked();
-        if place == self.queue.len() || place == self.setup.window {
+        if !self.may_send() {
             return Ok(None);
         }
-        let packet = self.segment_at(place)?;
+        let packet = self.segment_at(self.unacked())?;
         self.sent += 1;
         Ok(Some(packet))
     }
