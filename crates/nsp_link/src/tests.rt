@@ -24,12 +24,15 @@ const B: LinkSetup = LinkSetup {
 fn message_delivered_once(rt: HostRuntime) -> Result<(), Fail> {
     let mut a = LinkEnd::new(rt.alloc(), A)?;
     let mut b = LinkEnd::new(rt.alloc(), B)?;
+    assert!(rt; !a.may_send());
     a.send(&[6, 2, 0])?;
+    assert!(rt; a.may_send());
     let packet = a.next_packet()?.ok_or("a packet")?;
     assert_eq!(rt;
         packet.as_slice(),
         [0x60, 2, 2, 1, 1, 0, 0x80, 1, 0, 6, 2, 0].as_slice()
     );
+    assert!(rt; !a.may_send());
     assert!(rt; a.next_packet()?.is_none());
     assert_eq!(rt; a.sent_count(), 1);
     assert_eq!(rt; b.receive(&packet)?, Got::Accepted);
@@ -305,6 +308,8 @@ fn all_messages_or_none(rt: HostRuntime) -> Result<(), Fail> {
     let long = Vec::from_slice(rt.alloc(), &[2; 65])?;
     assert_eq!(rt; a.send(&long), Err(LinkFault::MessageTooLong));
     let both = [short, long];
+    a.check_messages(&both[..1])?;
+    assert_eq!(rt; a.check_messages(&both), Err(LinkFault::MessageTooLong));
     assert_eq!(rt; a.send_all(&both), Err(LinkFault::MessageTooLong));
     assert!(rt; a.next_packet()?.is_none());
     a.send_all(&both[..1])?;
@@ -469,5 +474,43 @@ fn second_call_after_a_refused_growth(rt: HostRuntime) -> Result<(), Fail> {
     assert_eq!(rt; receives(&mut b, &last)?, Got::Accepted);
     let third = b.take_message().ok_or("the third message")?;
     assert_eq!(rt; third.as_slice(), b"z".as_slice());
+    Ok(())
+}
+
+// A message is begun by its first segment; its third is held, and then the second comes. What the second
+// is answered: the third has another first mark, or makes the message longer than 64 bytes.
+const GAPS: &[(u8, usize, LinkFault)] = &[
+    (0x20, 1, LinkFault::BadSequence),
+    (0x60, 64, LinkFault::BadSequence),
+    (0x00, 63, LinkFault::MessageTooLong),
+    (0x40, 64, LinkFault::MessageTooLong),
+];
+
+// The third segment, with these marks and so many bytes.
+fn third(marks: u8) -> [u8; 9 + 64] {
+    let mut bytes = [0x41; 9 + 64];
+    let front = [marks, 2, 2, 1, 1, 0, 0x80, 3, 0];
+    for at in 0..front.len() {
+        bytes[at] = front[at];
+    }
+    bytes
+}
+
+#[test]
+fn faults_of_a_run_before_memory(rt: HostRuntime) -> Result<(), Fail> {
+    for (marks, len, fault) in GAPS {
+        let setup = LinkSetup {
+            max_message: 64,
+            ..B
+        };
+        let mut b = starts(rt.alloc(), setup)?;
+        let first = [0x20, 2, 2, 1, 1, 0, 0x80, 1, 0, 7];
+        assert_eq!(rt; receives(&mut b, &first)?, Got::Accepted);
+        let third = third(*marks);
+        assert_eq!(rt; receives(&mut b, &third[..9 + *len])?, Got::Early);
+        let second = [0, 2, 2, 1, 1, 0, 0x80, 2, 0, 8];
+        assert_eq!(rt; b.receive(&second), Err(*fault));
+        assert_eq!(rt; counts(&b), (0, 0, 1, 1, 1));
+    }
     Ok(())
 }

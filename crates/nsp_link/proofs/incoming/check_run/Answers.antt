@@ -56,7 +56,7 @@ loop-held-preserved c =
       count = omega (arith, ap length c.in-Some.ensures.leads, c.loop-held.invariant.count);
       short = c.in_ok-begun-2.ensures.short;
       looked = looked_more c.args.limit start (run_in c.args.first c.args.last c.args.payload.now items) c.loop-held.begun c.in_ok-begun-2.begun (leading (drop c.loop-held.count items)) (leading (drop (c.loop-held.count + 1) items)) (held_piece h)
-      c.in-Some.ensures.leads ok c.loop-held.invariant.looked;
+          c.in-Some.ensures.leads ok c.loop-held.invariant.looked;
     }
 
 pub returns-clause-count : goal.returns-clause-count
