@@ -1,5 +1,5 @@
 -- What becomes of a packet that is due: the numbers that go round tell which it is.
-use Rattle.std.proofs.Common.{◌≡◌, ℕ, ◌+◌, ◌-◌, ◌<◌, ◌≤◌, max, List, [], ◌∷◌, length, drop, Option, Some, None, Result, Ok, Err, refl, sym, ap, ◌∙◌, arith, true, false, inl, inr, cond, subst, ◌==◌}
+use Rattle.std.proofs.Common.{◌≡◌, ℕ, ◌+◌, ◌-◌, ◌<◌, ◌≤◌, max, List, [], length, drop, Option, Some, None, Result, Ok, Err, refl, sym, ap, ◌∙◌, arith, true, false, inl, inr, cond, subst, ◌==◌}
 use Rattle.std.specs.Prelude.{slice_get, IfSome, MatchResult, IsOk, nat_lt}
 use Rattle.std.proofs.lemmas.Bool.{lt-ltb, le-ltb, cases_lt, cases_order, eq-eqb, ne_eqb}
 use Rattle.nsp_seg.specs.Numbers.{residue}
@@ -11,7 +11,7 @@ use Rattle.nsp_link.specs.declared.link.Got.TheVariants.{Accepted, Repeat, Early
 use Rattle.nsp_seg.specs.declared.packet.SegFault.{SegFault}
 use Rattle.nsp_link.specs.Cutting.{cut}
 use Rattle.nsp_link.specs.Cutting.{Piece}
-use Rattle.nsp_link.specs.Coming.{Coming, taken, taken_all, AllFit, RefusesAll}
+use Rattle.nsp_link.specs.Coming.{taken_all, AllFit, RefusesAll}
 use Rattle.nsp_link.specs.Holding.{following, inserted}
 use Rattle.nsp_link.specs.Limits.{most_segments}
 use Rattle.nsp_link.specs.Link.{LinkValue, IsLink, IsDue, Stands, HasTaken, Delivered, MayRefuse, Keeps, coming, got_of, taken_after, held_after, piece_of}

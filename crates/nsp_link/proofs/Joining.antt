@@ -1,9 +1,9 @@
 -- What is taken in aside and put behind what stands is what would have been taken in there.
-use Rattle.std.proofs.Common.{◌≡◌, ℕ, ◌+◌, List, [], ◌∷◌, ◌++◌, Option, Some, None, refl, sym, ap, ◌∙◌, Bool, true, false, append_assoc}
+use Rattle.std.proofs.Common.{◌≡◌, ℕ, List, [], ◌∷◌, ◌++◌, Option, Some, None, refl, sym, ap, ◌∙◌, Bool, true, false, append_assoc}
 use Rattle.std.specs.Prelude.{unwrap_or}
 use Rattle.std.proofs.lemmas.List.{append-nil}
 use Rattle.nsp_link.specs.Cutting.{Piece}
-use Rattle.nsp_link.specs.Coming.{Coming, taken, taken_all, body_with}
+use Rattle.nsp_link.specs.Coming.{Coming, taken, taken_all}
 use Rattle.nsp_link.specs.Inner.Joining.{joined, emptied_of}
 
 pub coming_same : (c d : Coming) → c.received ≡ d.received → c.partial ≡ d.partial → c.inbox ≡ d.inbox → c ≡ d

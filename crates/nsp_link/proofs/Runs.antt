@@ -1,11 +1,10 @@
 -- One segment more of several.
-use Rattle.std.proofs.Common.{◌≡◌, ◌⊎◌, ℕ, suc, ◌+◌, ◌<◌, ◌≤◌, List, [], ◌∷◌, length, refl, ap, ◌∙◌, arith, inl, inr, subst}
-use Rattle.std.specs.Prelude.{unwrap_or, option_map, Option, Some, None, true, false, Bool}
+use Rattle.std.proofs.Common.{◌≡◌, ℕ, ◌≤◌, List, [], ◌∷◌, length, refl, ap, arith, inl, inr}
+use Rattle.std.specs.Prelude.{unwrap_or, Option, true, false, Bool}
 use Rattle.nsp_link.specs.declared.fault.LinkFault.{LinkFault}
 use Rattle.nsp_link.specs.declared.fault.LinkFault.TheVariants.{BadSetup, Malformed, WrongLink, BadSequence, MessageTooLong, Failed, Exhausted, NoSuchSegment, NoMemory}
 use Rattle.nsp_link.specs.Cutting.{Piece}
 use Rattle.nsp_link.specs.Coming.{Coming, taken, taken_all, Fits, AllFit, Misfits, MisfitsOne, RefusesAll}
-use Rattle.nsp_link.specs.Limits.{most_segments}
 use Rattle.nsp_link.specs.Pieces.{IsBegun}
 
 -- What was looked at of several segments, and what is left: an end as it would be there.

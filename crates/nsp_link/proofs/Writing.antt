@@ -18,7 +18,7 @@ use Rattle.nsp_link.specs.Receiving.{forgotten, newly_acked, Acknowledges, Takes
 use Rattle.nsp_link.specs.Sending.{WritesQueued, segment_packet, queued_link}
 
 pub writes_segment : (v : LinkValue) (messages : List (List ℕ)) (bytes : List ℕ) (place : ℕ) → place < length v.queue
-    → WritesQueued v place bytes → Sends v messages → Writes v messages (Some (v.acked + 1 + place)) v.received bytes
+    → WritesQueued v place (v.acked + 1 + place) bytes → Sends v messages → Writes v messages (Some (v.acked + 1 + place)) v.received bytes
 writes_segment v messages bytes place lt spelled sends =
     let pieces = cut v.seg_size messages in
     let d : Piece = record { first = false; last = false; payload = [] } in

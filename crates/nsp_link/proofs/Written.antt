@@ -2,7 +2,7 @@
 use Rattle.std.proofs.Common.{◌≡◌, ℕ, List, Option, Some, None, refl, sym, ap, ◌∙◌, arith, subst}
 use Rattle.nsp_seg.specs.Packets.{PacketValue, Spells, spelling}
 use Rattle.nsp_link.specs.Cutting.{Piece}
-use Rattle.nsp_link.specs.Link.{IsPacketOf, IsWritten, IsBetween, Carries, written_segment, written_ack}
+use Rattle.nsp_link.specs.Link.{IsPacketOf, IsWritten, IsBetween, Carries, written_segment}
 
 packet_carries : (src dst : ℕ) (pieces : List Piece) (k : Option ℕ) (a : ℕ) (p : PacketValue) → IsPacketOf src dst pieces k a p → IsBetween src dst p × Carries p pieces k a
 packet_carries src dst pieces (Some k) a p (piece, some, at, is) =

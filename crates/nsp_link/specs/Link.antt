@@ -1,5 +1,5 @@
 -- One end of a link, as its callers see it.
-use Rattle.std.specs.Prelude.{◌≡◌, ◌⊎◌, ℕ, ◌+◌, ◌-◌, ◌*◌, ◌<◌, ◌≤◌, ◌==◌, max, Bool, true, false, List, [], ◌++◌, length, take, drop, Option, Some, None, IfSome, unwrap_or, nat_lt, if◌then◌else◌, slice_get, slice_index_or, All, ◌&&◌}
+use Rattle.std.specs.Prelude.{◌≡◌, ◌⊎◌, ℕ, ◌+◌, ◌-◌, ◌*◌, ◌<◌, ◌≤◌, ◌==◌, max, Bool, true, false, List, [], ◌∷◌, ◌++◌, length, take, drop, Option, Some, None, IfSome, unwrap_or, nat_lt, if◌then◌else◌, slice_get, slice_index_or, All, ◌&&◌}
 use Rattle.std.specs.List.{AllByRecursion}
 use Rattle.nsp_seg.specs.Numbers.{residue}
 use Rattle.nsp_seg.specs.declared.packet.AckField.{AckField}
@@ -8,7 +8,7 @@ use Rattle.nsp_link.specs.declared.link.LinkSetup.{LinkSetup}
 use Rattle.nsp_link.specs.declared.link.Got.{Got}
 use Rattle.nsp_link.specs.declared.link.Got.TheVariants.{Accepted, Repeat, Early, AckOnly}
 use Rattle.nsp_link.specs.declared.fault.LinkFault.{LinkFault}
-use Rattle.nsp_link.specs.declared.fault.LinkFault.TheVariants.{Exhausted, NoMemory}
+use Rattle.nsp_link.specs.declared.fault.LinkFault.TheVariants.{BadSetup, Exhausted, NoMemory}
 use Rattle.nsp_link.specs.Cutting.{Piece, cut}
 use Rattle.nsp_link.specs.Coming.{Coming}
 use Rattle.nsp_link.specs.Holding.{AreHeld, following, inserted, Lacks}
@@ -38,6 +38,10 @@ abbrev pub IsSetup : LinkSetup → Type 0
 IsSetup s =
     (1 ≤ s.seg_size) × (s.seg_size ≤ largest_segment) × (1 ≤ s.window) × (s.window ≤ largest_window)
     × (least_limit ≤ s.max_message) × (s.max_message ≤ largest_limit)
+
+-- why no end is made
+abbrev pub SetupFault : LinkSetup → LinkFault → Type 0
+SetupFault s e = ((e ≡ BadSetup) × (IsSetup s → ⊥)) ⊎ ((e ≡ NoMemory) × IsSetup s)
 
 abbrev pub new_link : LinkSetup → LinkValue
 new_link s = record {
@@ -85,6 +89,14 @@ failed_link v = record v { failed = true }
 pub record Sends (v : LinkValue) (messages : List (List ℕ)) : Type 0 where
   pub queue : v.queue ≡ drop v.acked (cut v.seg_size messages)
   pub acked : v.acked ≤ length (cut v.seg_size messages)
+
+-- whatever messages were sent, they are those that were sent still
+abbrev pub SendsStill : LinkValue → LinkValue → Type 0
+SendsStill old new = (messages : List (List ℕ)) → Sends old messages → Sends new messages
+
+-- behind whatever messages were sent, these were sent
+abbrev pub SendsMore : LinkValue → LinkValue → List (List ℕ) → Type 0
+SendsMore old new more = (messages : List (List ℕ)) → Sends old messages → Sends new (messages ++ more)
 
 -- a segment waits, and the window has room
 abbrev pub MayEmit : LinkValue → Type 0
@@ -190,6 +202,14 @@ pub record HasTaken (c : Coming) (size : ℕ) (messages given : List (List ℕ))
 pub record Stands (v : LinkValue) (size : ℕ) (messages given : List (List ℕ)) : Type 0 where
   pub taken : HasTaken (coming v) size messages given
   pub held : AllByRecursion (λ h. slice_get (cut size messages) (h.0 - 1) ≡ Some h.1) v.held
+
+-- whatever was taken and handed out, it is so still
+abbrev pub StandsStill : LinkValue → LinkValue → Type 0
+StandsStill old new = (size : ℕ) (messages given : List (List ℕ)) → Stands old size messages given → Stands new size messages given
+
+-- the oldest whole message was handed out
+abbrev pub HandsOut : LinkValue → LinkValue → List ℕ → Type 0
+HandsOut old new message = (old.inbox ≡ message ∷ new.inbox) × (new ≡ record old { inbox = new.inbox })
 
 -- neither the segment nor the acknowledgement is more than 2,047 old
 abbrev pub IsFresh : LinkValue → Option ℕ → ℕ → Type 0

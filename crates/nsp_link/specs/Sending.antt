@@ -1,13 +1,12 @@
 -- What is queued and written.
-use Rattle.std.specs.Prelude.{◌≡◌, ℕ, ◌+◌, ◌<◌, ◌≤◌, ◌++◌, ◌≢◌, false, IsTrue, List, [], length, All, slice_index_or, slice_get, Option, Some, None}
-use Rattle.nsp_seg.specs.Numbers.{residue}
+use Rattle.std.specs.Prelude.{◌≡◌, ◌⊎◌, ℕ, ◌+◌, ◌-◌, ◌<◌, ◌≤◌, ◌++◌, ◌≢◌, false, IsTrue, List, [], length, All, slice_index_or, slice_get, Option, Some}
 use Rattle.nsp_seg.specs.declared.packet.AckField.{AckField}
-use Rattle.nsp_seg.specs.Packets.{PacketValue, segment, data_ack}
+use Rattle.nsp_seg.specs.Packets.{PacketValue}
 use Rattle.nsp_link.specs.declared.fault.LinkFault.{LinkFault}
 use Rattle.nsp_link.specs.declared.fault.LinkFault.TheVariants.{BadSetup, Malformed, WrongLink, BadSequence, MessageTooLong, Failed, Exhausted, NoSuchSegment, NoMemory}
 use Rattle.nsp_link.specs.Cutting.{Piece, count_of, cut}
 use Rattle.nsp_link.specs.Limits.{most_segments}
-use Rattle.nsp_link.specs.Link.{LinkValue, Sends, Writes, IsSpelling, acknowledging, written_segment, written_ack}
+use Rattle.nsp_link.specs.Link.{LinkValue, MayEmit, Sends, Writes, IsSpelling, acknowledging, written_segment, written_ack}
 
 -- what every packet of an end acknowledges
 abbrev pub acknowledged : LinkValue → AckField
@@ -20,10 +19,19 @@ segment_packet v piece number = written_segment v.local v.remote piece number v.
 abbrev pub ack_packet_of : LinkValue → PacketValue
 ack_packet_of v = written_ack v.local v.remote v.received
 
--- the bytes are the segment at this place of the queue, under its number
-abbrev pub WritesQueued : LinkValue → ℕ → List ℕ → Type 0
-WritesQueued v place bytes =
-    (piece : Piece) → slice_get v.queue place ≡ Some piece → IsSpelling (segment_packet v piece (v.acked + 1 + place)) bytes
+-- the bytes are the segment at this place of the queue, under this number
+abbrev pub WritesQueued : LinkValue → ℕ → ℕ → List ℕ → Type 0
+WritesQueued v place number bytes =
+    (piece : Piece) → slice_get v.queue place ≡ Some piece → IsSpelling (segment_packet v piece number) bytes
+
+-- The next segment was written: it counts as sent, and nothing else changed.
+abbrev pub WritesNext : LinkValue → LinkValue → List ℕ → Type 0
+WritesNext old new bytes =
+    MayEmit old × (new ≡ record old { sent = old.sent + 1 }) × WritesQueued old (old.sent - old.acked) (old.sent + 1) bytes
+
+-- why the next segment isn't written
+abbrev pub NextFault : LinkValue → LinkFault → Type 0
+NextFault v e = ((e ≡ NoMemory) × MayEmit v) ⊎ ((e ≡ Failed) × IsTrue v.failed)
 
 -- of whatever messages were sent, the bytes are what this end writes of their k-th segment, or of none
 abbrev pub WritesSent : LinkValue → Option ℕ → List ℕ → Type 0

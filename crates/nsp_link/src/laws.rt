@@ -13,11 +13,17 @@ ghost use Rattle.nsp_link.specs.Separation.{IsSegmentNear, IsAckNear};
 
 /// What is said of the messages sent stays true when more are sent, and holds of a new end.
 pub fn messages_only_grow()
-    ensures carries { (p : PacketValue) (size : ℕ) (messages more : List (List ℕ)) (k : Option ℕ) (a : ℕ) → Carries p (cut size messages) k a → Carries p (cut size (messages ++ more)) k a }
-    ensures writes { (v : LinkValue) (messages more : List (List ℕ)) (k : Option ℕ) (a : ℕ) (bytes : List ℕ) → Writes v messages k a bytes → Writes v (messages ++ more) k a bytes }
-    ensures stands { (v : LinkValue) (size : ℕ) (messages more given : List (List ℕ)) → Stands v size messages given → Stands v size (messages ++ more) given }
-    ensures sends { (v : LinkValue) (messages more : List (List ℕ)) → Sends v messages → Sends (queued_link v (cut v.seg_size more)) (messages ++ more) }
-    ensures new_stands { (s : LinkSetup) (size : ℕ) (messages : List (List ℕ)) → Stands (new_link s) size messages [] }
+    ensures carries { (p : PacketValue) (size : ℕ) (messages more : List (List ℕ))
+        (k : Option ℕ) (a : ℕ)
+        → Carries p (cut size messages) k a → Carries p (cut size (messages ++ more)) k a }
+    ensures writes { (v : LinkValue) (messages more : List (List ℕ)) (k : Option ℕ) (a : ℕ)
+        (bytes : List ℕ) → Writes v messages k a bytes → Writes v (messages ++ more) k a bytes }
+    ensures stands { (v : LinkValue) (size : ℕ) (messages more given : List (List ℕ))
+        → Stands v size messages given → Stands v size (messages ++ more) given }
+    ensures sends { (v : LinkValue) (messages more : List (List ℕ))
+        → Sends v messages → Sends (queued_link v (cut v.seg_size more)) (messages ++ more) }
+    ensures new_stands { (s : LinkSetup) (size : ℕ) (messages : List (List ℕ))
+        → Stands (new_link s) size messages [] }
     ensures new_sends { (s : LinkSetup) → Sends (new_link s) [] }
 {}
 
@@ -25,16 +31,22 @@ pub fn messages_only_grow()
 /// sent is near the one that the other end wants next, and an acknowledgement is near the count that it
 /// is compared with; and no two that are near have the same number modulo 4,096.
 pub fn distances_separate()
-    ensures segment { (from to : LinkValue) (k : ℕ) → IsLink from → from.acked ≤ to.received → k ≤ from.sent
+    ensures segment { (from to : LinkValue) (k : ℕ)
+        → IsLink from → from.acked ≤ to.received → k ≤ from.sent
         → to.received + 1 ≤ k + greatest_age → IsSegmentNear to.received k }
-    ensures ack { (v : LinkValue) (a : ℕ) → IsLink v → a ≤ v.sent → v.acked ≤ a + greatest_age → IsAckNear v.acked a }
-    ensures segments_apart { (received k l : ℕ) → IsSegmentNear received k → IsSegmentNear received l
+    ensures ack { (v : LinkValue) (a : ℕ)
+        → IsLink v → a ≤ v.sent → v.acked ≤ a + greatest_age → IsAckNear v.acked a }
+    ensures segments_apart { (received k l : ℕ)
+        → IsSegmentNear received k → IsSegmentNear received l
         → residue k ≡ residue l → k ≡ l }
-    ensures acks_apart { (acked a b : ℕ) → IsAckNear acked a → IsAckNear acked b → residue a ≡ residue b → a ≡ b }
+    ensures acks_apart { (acked a b : ℕ)
+        → IsAckNear acked a → IsAckNear acked b → residue a ≡ residue b → a ≡ b }
 {}
 
 /// What is held, by its numbers alone.
 pub fn held_by_number()
-    ensures closes { (k : ℕ) (held : List (ℕ × Piece)) → closed_up k (numbers held) ≡ (k + length (following k held), numbers (drop (length (following k held)) held)) }
-    ensures keeps { (k : ℕ) (p : Piece) (held : List (ℕ × Piece)) → numbers (inserted k p held) ≡ with_number k (numbers held) }
+    ensures closes { (k : ℕ) (held : List (ℕ × Piece)) → closed_up k (numbers held)
+        ≡ (k + length (following k held), numbers (drop (length (following k held)) held)) }
+    ensures keeps { (k : ℕ) (p : Piece) (held : List (ℕ × Piece))
+        → numbers (inserted k p held) ≡ with_number k (numbers held) }
 {}

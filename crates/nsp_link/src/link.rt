@@ -29,7 +29,7 @@ pub struct LinkSetup {
     pub max_message: usize,
 }
 
-/// What became of a packet.
+/// What became of a packet that wasn't refused (own).
 #[derive(Clone, Copy, Debug, PartialEq, Eq)]
 pub enum Got {
     /// Its segment was the next one: it was taken, with all held ones that follow it without a hole.
@@ -42,13 +42,13 @@ pub enum Got {
     AckOnly,
 }
 
-/// The bytes of a segment at most.
+/// The bytes of a segment at most (own).
 const LARGEST_SEGMENT: usize = 1400;
 
-/// The segments sent and not acknowledged at most.
+/// The segments sent and not acknowledged at most (own): fewer than half of the 4,096 numbers.
 const LARGEST_WINDOW: usize = 2047;
 
-/// The limit on a message lies between these.
+/// The limit on a message lies between these (own).
 const LEAST_LIMIT: usize = 64;
 
 const LARGEST_LIMIT: usize = 65535;
@@ -83,14 +83,14 @@ impl Model for LinkEnd {
 impl LinkEnd {
     ghost use Rattle.std.specs.Prelude.{◌≡◌, ◌⊎◌, ◌+◌, ◌-◌, ◌^◌, ◌<◌, ◌≤◌, ◌++◌, [], ◌∷◌, length, drop, Ok, Err, Some, None, IfOk, IfErr, OnOk, OnErr, MatchOption, MatchResult, IsTrue, ℕ, List, false};
     ghost use Rattle.nsp_link.specs.declared.fault.LinkFault.TheVariants.{BadSetup, BadSequence, NoMemory};
-    ghost use Rattle.nsp_link.specs.Link.{IsSetup, IsLink, LinkValue, Sends, Stands, new_link, first_ack, failed_link};
-    ghost use Rattle.nsp_link.specs.Receiving.{newly_acked};
+    ghost use Rattle.nsp_link.specs.Link.{IsSetup, SetupFault, IsLink, LinkValue, Sends, Stands, new_link, first_ack, failed_link};
+    ghost use Rattle.nsp_link.specs.Receiving.{newly_acked, forgotten};
 
     /// A new end, which sent and took nothing. `BadSetup` where a limit of the setup isn't in its range;
     /// else `NoMemory` alone (own).
     pub fn new(alloc: Global, setup: LinkSetup) -> Result<LinkEnd, LinkFault>
         ensures ok { IfOk result (λ v. IsSetup setup × (v ≡ new_link setup)) }
-        ensures err { IfErr result (λ e. ((e ≡ BadSetup) × (IsSetup setup → ⊥)) ⊎ ((e ≡ NoMemory) × IsSetup setup)) }
+        ensures err { IfErr result (SetupFault setup) }
     {
         if !is_setup(&setup) {
             return Err(LinkFault::BadSetup);
@@ -113,7 +113,7 @@ impl LinkEnd {
         })
     }
 
-    /// The segments that were sent, each counted once, however often it was sent.
+    /// The segments that were sent, each counted once, however often it was sent (own). It takes no memory.
     pub fn sent_count(&self) -> u64
         ensures value { result ≡ self.now.sent }
         ensures valid { IsLink self.now }
@@ -121,7 +121,7 @@ impl LinkEnd {
         self.sent
     }
 
-    /// The segments that were taken in order.
+    /// The segments that were taken in order (own). It takes no memory.
     pub fn received_count(&self) -> u64
         ensures value { result ≡ self.now.received }
         ensures valid { IsLink self.now }
@@ -129,7 +129,7 @@ impl LinkEnd {
         self.incoming.received
     }
 
-    /// The segments that were sent and aren't acknowledged: at most the window.
+    /// The segments that were sent and aren't acknowledged: at most the window (own). It takes no memory.
     pub fn unacked(&self) -> usize
         ensures value { result ≡ self.now.sent - self.now.acked }
         ensures small { result ≤ self.now.window }
@@ -141,7 +141,7 @@ impl LinkEnd {
     // Drops the oldest segments, which are acknowledged.
     fn forget(&mut self, count: usize)
         requires { self.old.acked + count ≤ self.old.sent }
-        ensures { self.new ≡ record self.old { acked = self.old.acked + count; queue = drop count self.old.queue } }
+        ensures { self.new ≡ forgotten self.old count }
     {
         drop_front(&mut self.queue, count);
         self.acked += count as u64;
@@ -159,8 +159,12 @@ impl LinkEnd {
         ack1: Option<AckField>,
         ack2: Option<AckField>,
     ) -> Result<usize, LinkFault>
-        ensures ok { IfOk result (λ count. (newly_acked self.old (first_ack ack1 ack2) ≡ Some count) × (self.old.acked + count ≤ self.old.sent) × (self.new ≡ self.old)) }
-        ensures err { IfErr result (λ e. (e ≡ BadSequence) × (newly_acked self.old (first_ack ack1 ack2) ≡ None) × (self.new ≡ failed_link self.old)) }
+        ensures ok { IfOk result
+            (λ count. newly_acked self.old (first_ack ack1 ack2) ≡ Some count) }
+        ensures sent { IfOk result (λ count. self.old.acked + count ≤ self.old.sent) }
+        ensures unchanged { OnOk result (self.new ≡ self.old) }
+        ensures err { OnErr result (newly_acked self.old (first_ack ack1 ack2) ≡ None) }
+        ensures failed { IfErr result (λ e. (e ≡ BadSequence) × (self.new ≡ failed_link self.old)) }
     {
         let unacked = self.unacked();
         let Some(number) = plain_number(ack1).or(plain_number(ack2)) else {
@@ -185,19 +189,21 @@ impl LinkEnd {
     ghost use Rattle.nsp_link.specs.Cutting.{Piece, cut, cut_message};
     ghost use Rattle.nsp_link.specs.Limits.{most_segments};
     ghost use Rattle.nsp_link.specs.Pieces.{bodies};
-    ghost use Rattle.nsp_link.specs.Link.{IsLink, LinkValue, Sends, Stands, MayEmit, Writes, IsSpelling};
-    ghost use Rattle.nsp_link.specs.Sending.{WritesQueued, WritesSent, segment_packet, ack_packet_of, acknowledged, queued_link, SendFault, SendAllFault, MayQueue, MayQueueAll};
+    ghost use Rattle.nsp_link.specs.Link.{IsLink, LinkValue, Sends, Stands, SendsStill, SendsMore, StandsStill, MayEmit, Writes, IsSpelling};
+    ghost use Rattle.nsp_link.specs.Sending.{WritesQueued, WritesSent, WritesNext, NextFault, segment_packet, ack_packet_of, acknowledged, queued_link, SendFault, SendAllFault, MayQueue, MayQueueAll};
 
     /// Queues the segments of a message: one for each `seg_size` bytes or part of that, and one of no bytes
     /// for an empty message (NSP 4.0.0, data segment message). Refused, with nothing changed: `Failed`;
     /// `MessageTooLong`, above `max_message`; `Exhausted`, where this end would have had more than 2^40
     /// segments; `NoMemory`.
     pub fn send(&mut self, message: &[u8]) -> Result<(), LinkFault>
-        ensures ok { OnOk result (self.new ≡ queued_link self.old (cut_message self.old.seg_size message.now)) }
+        ensures ok { OnOk result
+            (self.new ≡ queued_link self.old (cut_message self.old.seg_size message.now)) }
         ensures fits { OnOk result (MayQueue self.old (length message.now)) }
-        ensures stands { (size : ℕ) (messages given : List (List ℕ)) → Stands self.old size messages given → Stands self.new size messages given }
-        ensures sends { OnOk result ((messages : List (List ℕ)) → Sends self.old messages → Sends self.new (messages ++ message.now ∷ [])) }
-        ensures err { IfErr result (λ e. SendFault self.old (length message.now) e × (self.new ≡ self.old)) }
+        ensures stands { StandsStill self.old self.new }
+        ensures sends { OnOk result (SendsMore self.old self.new (message.now ∷ [])) }
+        ensures err { IfErr result
+            (λ e. SendFault self.old (length message.now) e × (self.new ≡ self.old)) }
     {
         if self.failed {
             return Err(LinkFault::Failed);
@@ -219,15 +225,19 @@ impl LinkEnd {
         }
     }
 
-    /// Queues the segments of all messages, or of none. Refused as `send` is, where any message is too long
-    /// or all their segments are too many; an empty list is queued without memory.
+    /// Queues the segments of all messages, or of none (NSP 4.0.0, data segment message; all or none is own).
+    /// Refused as `send` is, where any message is too long or all their segments are too many; an empty
+    /// list is queued without memory.
     pub fn send_all(&mut self, messages: &[Vec<u8>]) -> Result<(), LinkFault>
-        ensures ok { OnOk result (self.new ≡ queued_link self.old (cut self.old.seg_size (bodies messages.now))) }
+        ensures ok { OnOk result
+            (self.new ≡ queued_link self.old (cut self.old.seg_size (bodies messages.now))) }
         ensures fits { OnOk result (MayQueueAll self.old (bodies messages.now)) }
-        ensures stands { (size : ℕ) (before given : List (List ℕ)) → Stands self.old size before given → Stands self.new size before given }
-        ensures sends { OnOk result ((before : List (List ℕ)) → Sends self.old before → Sends self.new (before ++ bodies messages.now)) }
-        ensures err { IfErr result (λ e. SendAllFault self.old (bodies messages.now) e × (self.new ≡ self.old)) }
-        ensures empty { self.old.failed ≡ false → messages.now ≡ [] → IsOk result × (self.new ≡ self.old) }
+        ensures stands { StandsStill self.old self.new }
+        ensures sends { OnOk result (SendsMore self.old self.new (bodies messages.now)) }
+        ensures err { IfErr result
+            (λ e. SendAllFault self.old (bodies messages.now) e × (self.new ≡ self.old)) }
+        ensures empty { self.old.failed ≡ false → messages.now ≡ []
+            → IsOk result × (self.new ≡ self.old) }
     {
         self.check_messages(messages)?;
         let before = self.queue.len();
@@ -240,11 +250,12 @@ impl LinkEnd {
         }
     }
 
-    /// Whether `send_all` would take the messages, memory aside; refused as there.
+    /// Whether `send_all` would take the messages, memory aside; refused as there (own). It takes no memory.
     pub fn check_messages(&self, messages: &[Vec<u8>]) -> Result<(), LinkFault>
         ensures ok { OnOk result (MayQueueAll self.now (bodies messages.now)) }
         ensures empty { self.now.failed ≡ false → messages.now ≡ [] → IsOk result }
-        ensures err { IfErr result (λ e. (e ≢ NoMemory) × SendAllFault self.now (bodies messages.now) e) }
+        ensures err { IfErr result
+            (λ e. (e ≢ NoMemory) × SendAllFault self.now (bodies messages.now) e) }
     {
         if self.failed {
             return Err(LinkFault::Failed);
@@ -265,7 +276,7 @@ impl LinkEnd {
     }
 
     /// Whether a segment that was never sent waits and the window has room, so that `next_packet` writes one,
-    /// unless the end has failed. It takes no memory.
+    /// unless the end has failed (own). It takes no memory.
     pub fn may_send(&self) -> bool
         ensures yes { result ≡ true → MayEmit self.now }
         ensures no { result ≡ false → MayEmit self.now → ⊥ }
@@ -277,8 +288,10 @@ impl LinkEnd {
     // The bytes of the segment at this place of the queue.
     fn segment_at(&self, place: usize) -> Result<Vec<u8>, LinkFault>
         requires { place < length self.now.queue }
-        ensures ok { IfOk result (λ v. WritesQueued self.now place v.items) }
-        ensures carries { IfOk result (λ v. WritesSent self.now (Some (self.now.acked + 1 + place)) v.items) }
+        ensures ok { IfOk result
+            (λ v. WritesQueued self.now place (self.now.acked + 1 + place) v.items) }
+        ensures carries { IfOk result
+            (λ v. WritesSent self.now (Some (self.now.acked + 1 + place)) v.items) }
         ensures err { IfErr result (λ e. e ≡ NoMemory) }
     {
         let segment = &self.queue[place];
@@ -322,12 +335,13 @@ impl LinkEnd {
     /// changed: `Failed`; `NoMemory`, where there is one to send.
     pub fn next_packet(&mut self) -> Result<Option<Vec<u8>>, LinkFault>
         ensures nothing { result ≡ Ok None → (self.new ≡ self.old) × (MayEmit self.old → ⊥) }
-        ensures segment { IfOk result (λ o. IfSome o (λ v. MayEmit self.old × (self.new ≡ record self.old { sent = self.old.sent + 1 })
-            × ((piece : Piece) → slice_get self.old.queue (self.old.sent - self.old.acked) ≡ Some piece → IsSpelling (segment_packet self.old piece (self.old.sent + 1)) v.items))) }
-        ensures carries { IfOk result (λ o. IfSome o (λ v. WritesSent self.old (Some (self.old.sent + 1)) v.items)) }
-        ensures sends { (messages : List (List ℕ)) → Sends self.old messages → Sends self.new messages }
-        ensures stands { (size : ℕ) (messages given : List (List ℕ)) → Stands self.old size messages given → Stands self.new size messages given }
-        ensures err { IfErr result (λ e. (self.new ≡ self.old) × (((e ≡ NoMemory) × MayEmit self.old) ⊎ ((e ≡ Failed) × IsTrue self.old.failed))) }
+        ensures segment { IfOk result (λ o. IfSome o
+            (λ v. WritesNext self.old self.new v.items)) }
+        ensures carries { IfOk result (λ o. IfSome o
+            (λ v. WritesSent self.old (Some (self.old.sent + 1)) v.items)) }
+        ensures sends { SendsStill self.old self.new }
+        ensures stands { StandsStill self.old self.new }
+        ensures err { IfErr result (λ e. (self.new ≡ self.old) × NextFault self.old e) }
         ensures failed { IsTrue self.old.failed → IsErrOf result Failed }
     {
         if self.failed {
@@ -341,14 +355,19 @@ impl LinkEnd {
         Ok(Some(packet))
     }
 
-    /// The packet of a segment that was sent and isn't acknowledged, again: the oldest is at place 0.
-    /// Refused: `Failed`; `NoSuchSegment`, from `unacked()` on; `NoMemory`.
+    /// The packet of a segment that was sent and isn't acknowledged, again: the oldest is at place 0
+    /// (NSP 4.0.0, data segment message). Refused: `Failed`; `NoSuchSegment`, from `unacked()` on;
+    /// `NoMemory`.
     pub fn resend(&self, place: usize) -> Result<Vec<u8>, LinkFault>
-        ensures segment { IfOk result (λ v. (place < self.now.sent - self.now.acked) × WritesQueued self.now place v.items) }
-        ensures carries { IfOk result (λ v. WritesSent self.now (Some (self.now.acked + 1 + place)) v.items) }
+        ensures segment { IfOk result (λ v. (place < self.now.sent - self.now.acked)
+            × WritesQueued self.now place (self.now.acked + 1 + place) v.items) }
+        ensures carries { IfOk result
+            (λ v. WritesSent self.now (Some (self.now.acked + 1 + place)) v.items) }
         ensures failed { IsTrue self.now.failed → IsErrOf result Failed }
-        ensures missing { self.now.failed ≡ false → self.now.sent - self.now.acked ≤ place → IsErrOf result NoSuchSegment }
-        ensures memory { self.now.failed ≡ false → place < self.now.sent - self.now.acked → IfErr result (λ e. e ≡ NoMemory) }
+        ensures missing { self.now.failed ≡ false → self.now.sent - self.now.acked ≤ place
+            → IsErrOf result NoSuchSegment }
+        ensures memory { self.now.failed ≡ false → place < self.now.sent - self.now.acked
+            → IfErr result (λ e. e ≡ NoMemory) }
     {
         if self.failed {
             return Err(LinkFault::Failed);
@@ -363,7 +382,8 @@ impl LinkEnd {
     /// acknowledgement message). Refused: `Failed`; `NoMemory`.
     pub fn ack_packet(&self) -> Result<Vec<u8>, LinkFault>
         ensures ack { IfOk result (λ v. IsSpelling (ack_packet_of self.now) v.items) }
-        ensures carries { IfOk result (λ v. (messages : List (List ℕ)) → Writes self.now messages None self.now.received v.items) }
+        ensures carries { IfOk result (λ v. (messages : List (List ℕ))
+            → Writes self.now messages None self.now.received v.items) }
         ensures failed { IsTrue self.now.failed → IsErrOf result Failed }
         ensures memory { self.now.failed ≡ false → IfErr result (λ e. e ≡ NoMemory) }
     {
@@ -386,23 +406,27 @@ impl LinkEnd {
     ghost use Rattle.nsp_link.specs.declared.fault.LinkFault.TheVariants.{BadSetup, BadSequence, Failed, Exhausted, MessageTooLong, NoMemory, NoSuchSegment, WrongLink, Malformed};
     ghost use Rattle.nsp_seg.specs.declared.packet.SegFault.{SegFault};
     ghost use Rattle.nsp_seg.specs.Packets.{HasFault};
-    ghost use Rattle.nsp_link.specs.Link.{IsLink, LinkValue, IsDue, MayRefuse, got_of, Delivered, Sends, Stands};
+    ghost use Rattle.nsp_link.specs.Link.{IsLink, LinkValue, IsDue, MayRefuse, got_of, Delivered, Sends, Stands, SendsStill, HandsOut};
+    ghost use Rattle.nsp_link.specs.Pieces.{piece_with};
     ghost use Rattle.nsp_link.specs.Coming.{AllFit};
     ghost use Rattle.nsp_link.specs.Link.{coming, Keeps};
     ghost use Rattle.nsp_link.specs.Receiving.{run, closed, kept, NotTaken, Received};
     ghost use Rattle.std.specs.Option.{option_copied};
 
-    /// The oldest whole message, which leaves. It takes no memory.
+    /// The oldest whole message, which leaves (own). It takes no memory.
     pub fn take_message(&mut self) -> Option<Vec<u8>>
-        ensures value { MatchOption result ((self.old.inbox ≡ []) × (self.new ≡ self.old)) (λ m. (self.old.inbox ≡ m.items ∷ self.new.inbox) × (self.new ≡ record self.old { inbox = self.new.inbox })) }
-        ensures stands { (size : ℕ) (messages given : List (List ℕ)) → Stands self.old size messages given
-            → MatchOption result (Stands self.new size messages given) (λ m. Stands self.new size messages (given ++ m.items ∷ [])) }
-        ensures sends { (messages : List (List ℕ)) → Sends self.old messages → Sends self.new messages }
+        ensures value { MatchOption result ((self.old.inbox ≡ []) × (self.new ≡ self.old))
+            (λ m. HandsOut self.old self.new m.items) }
+        ensures stands { (size : ℕ) (messages given : List (List ℕ))
+            → Stands self.old size messages given
+            → MatchOption result (Stands self.new size messages given)
+            (λ m. Stands self.new size messages (given ++ m.items ∷ [])) }
+        ensures sends { SendsStill self.old self.new }
     {
         self.incoming.inbox.pop_front()
     }
 
-    /// The oldest whole message, which stays. It takes no memory.
+    /// The oldest whole message, which stays (own). It takes no memory.
     pub fn peek_message(&self) -> Option<&[u8]>
         ensures { option_copied result ≡ slice_get self.now.inbox 0 }
     {
@@ -412,7 +436,7 @@ impl LinkEnd {
         }
     }
 
-    /// The early segments that are held: fewer than the window.
+    /// The early segments that are held: fewer than the window (own). It takes no memory.
     pub fn held_count(&self) -> usize
         ensures value { result ≡ length self.now.held }
         ensures small { result ≤ self.now.window - 1 }
@@ -420,7 +444,8 @@ impl LinkEnd {
         self.early
     }
 
-    /// The bytes of the message whose last segment is still to come; 0 where there is none.
+    /// The bytes of the message whose last segment is still to come; 0 where there is none (own). It takes
+    /// no memory.
     pub fn partial_len(&self) -> usize
         ensures value { result ≡ length (unwrap_or self.now.partial []) }
         ensures small { result ≤ self.now.max_message }
@@ -443,22 +468,32 @@ impl LinkEnd {
     pub fn receive(&mut self, packet: &[u8]) -> Result<Got, LinkFault>
         ensures failed { IsTrue self.old.failed → (result ≡ Err Failed) × (self.new ≡ self.old) }
         // Any packet, by the numbers that it shows.
-        ensures any { self.old.failed ≡ false → (p : PacketValue) → Spells p packet.now → Received self.old p result self.new }
+        ensures any { self.old.failed ≡ false → (p : PacketValue) → Spells p packet.now
+            → Received self.old p result self.new }
         // All bytes: they are malformed, which changes nothing, or they are a packet.
-        ensures whole { self.old.failed ≡ false → ((f : SegFault) × (result ≡ Err (Malformed f)) × HasFault f packet.now × (self.new ≡ self.old))
+        ensures whole { self.old.failed ≡ false
+            → ((f : SegFault) × (result ≡ Err (Malformed f)) × HasFault f packet.now
+            × (self.new ≡ self.old))
             ⊎ ((p : PacketValue) × Spells p packet.now × Received self.old p result self.new) }
         // Bytes at fault are malformed with that fault, and these alone; this changes nothing.
-        ensures fault_found { self.old.failed ≡ false → (f : SegFault) → HasFault f packet.now → (result ≡ Err (Malformed f)) × (self.new ≡ self.old) }
-        ensures malformed { (f : SegFault) → result ≡ Err (Malformed f) → HasFault f packet.now × (self.new ≡ self.old) }
+        ensures fault_found { self.old.failed ≡ false → (f : SegFault) → HasFault f packet.now
+            → (result ≡ Err (Malformed f)) × (self.new ≡ self.old) }
+        ensures malformed { (f : SegFault) → result ≡ Err (Malformed f)
+            → HasFault f packet.now × (self.new ≡ self.old) }
         // The messages sent stay those that were sent.
-        ensures sends { (messages : List (List ℕ)) → Sends self.old messages → Sends self.new messages }
+        ensures sends { SendsStill self.old self.new }
         // A packet that is due, by the counts for which its numbers stand.
-        ensures due { (size : ℕ) (messages given : List (List ℕ)) (p : PacketValue) (k : Option ℕ) (a : ℕ) → Spells p packet.now → IsDue self.old size messages given p k a
+        ensures due { (size : ℕ) (messages given : List (List ℕ)) (p : PacketValue)
+            (k : Option ℕ) (a : ℕ)
+            → Spells p packet.now → IsDue self.old size messages given p k a
             → MatchResult result
-            (λ got. (got ≡ got_of self.old.received k) × Delivered self.old self.new k a × Stands self.new size messages given)
+            (λ got. (got ≡ got_of self.old.received k) × Delivered self.old self.new k a
+            × Stands self.new size messages given)
             (λ e. MayRefuse self.old k e × (self.new ≡ self.old)) }
         // One that only acknowledges, or whose segment was taken before, is never refused.
-        ensures unrefused { (size : ℕ) (messages given : List (List ℕ)) (p : PacketValue) (k : Option ℕ) (a : ℕ) → Spells p packet.now → IsDue self.old size messages given p k a
+        ensures unrefused { (size : ℕ) (messages given : List (List ℕ)) (p : PacketValue)
+            (k : Option ℕ) (a : ℕ)
+            → Spells p packet.now → IsDue self.old size messages given p k a
             → IfSome k (λ n. n ≤ self.old.received) → IsOk result }
     {
         if self.failed {
@@ -472,9 +507,12 @@ impl LinkEnd {
 
     // Takes in the next segment and all that follow it, or none of them.
     fn take_next(&mut self, first: bool, last: bool, payload: &[u8]) -> Result<(), LinkFault>
-        ensures ok { OnOk result (AllFit self.old.max_message (coming self.old) (run self.old (record { first = first; last = last; payload = payload.now }))
-            × (self.new ≡ closed self.old (record { first = first; last = last; payload = payload.now }))) }
-        ensures err { IfErr result (λ e. NotTaken self.old (record { first = first; last = last; payload = payload.now }) e self.new) }
+        ensures ok { OnOk result (AllFit self.old.max_message (coming self.old)
+            (run self.old (piece_with first last payload.now))) }
+        ensures closed { OnOk result
+            (self.new ≡ closed self.old (piece_with first last payload.now)) }
+        ensures err { IfErr result
+            (λ e. NotTaken self.old (piece_with first last payload.now) e self.new) }
     {
         match take_run(
             self.alloc,
@@ -499,7 +537,8 @@ impl LinkEnd {
         }
     }
 
-    // Keeps an early segment, so many numbers after the next one, unless it is beyond the window or there already.
+    // Keeps an early segment, so many numbers after the next one, unless it is beyond the window or there
+    // already.
     fn keep(
         &mut self,
         place: usize,
@@ -508,8 +547,10 @@ impl LinkEnd {
         payload: &[u8],
     ) -> Result<(), LinkFault>
         requires { 0 < place }
-        ensures ok { OnOk result (self.new ≡ kept self.old (self.old.received + 1 + place) (record { first = first; last = last; payload = payload.now })) }
-        ensures err { IfErr result (λ e. (e ≡ NoMemory) × Keeps self.old (self.old.received + 1 + place) × (self.new ≡ self.old)) }
+        ensures ok { OnOk result (self.new
+            ≡ kept self.old (self.old.received + 1 + place) (piece_with first last payload.now)) }
+        ensures err { IfErr result (λ e. (e ≡ NoMemory)
+            × Keeps self.old (self.old.received + 1 + place) × (self.new ≡ self.old)) }
     {
         if is_free(&self.held, place) {
             let payload = Vec::from_slice(self.alloc, payload)?;
@@ -528,7 +569,8 @@ impl LinkEnd {
     }
 
     fn check_address(&self, dst: u16, src: u16) -> Result<(), LinkFault>
-        ensures { MatchResult result (λ _. (src ≡ self.now.remote) × (dst ≡ self.now.local)) (λ e. (e ≡ WrongLink) × ((src ≡ self.now.remote) × (dst ≡ self.now.local) → ⊥)) }
+        ensures { MatchResult result (λ _. (src ≡ self.now.remote) × (dst ≡ self.now.local))
+            (λ e. (e ≡ WrongLink) × ((src ≡ self.now.remote) × (dst ≡ self.now.local) → ⊥)) }
     {
         if src == self.setup.remote && dst == self.setup.local {
             Ok(())

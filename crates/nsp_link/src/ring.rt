@@ -37,7 +37,8 @@ pub(crate) fn fill(ring: &mut Ring, place: usize, held: Held)
 
 /// Whether the place is there, and free.
 pub(crate) fn is_free(ring: &Ring, place: usize) -> bool
-    ensures { MatchOption (slice_get ring.now.items place) (result ≡ false) (λ o. result ≡ is_none o) }
+    ensures { MatchOption (slice_get ring.now.items place) (result ≡ false)
+        (λ o. result ≡ is_none o) }
 {
     match ring.get(place) {
         Some(slot) => slot.is_none(),
@@ -62,7 +63,8 @@ pub(crate) fn advance(ring: &mut Ring, count: usize)
 pub(crate) fn held_at(ring: &Ring, place: usize) -> Option<&Held>
     ensures there { IfSome result (λ h. place < length ring.now.items) }
     ensures leads { MatchOption result (leading (drop place ring.now.items) ≡ [])
-        (λ h. leading (drop place ring.now.items) ≡ held_piece h.now ∷ leading (drop (place + 1) ring.now.items)) }
+        (λ h. leading (drop place ring.now.items)
+        ≡ held_piece h.now ∷ leading (drop (place + 1) ring.now.items)) }
 {
     match ring.get(place) {
         Some(slot) => slot.as_ref(),

@@ -1,5 +1,4 @@
-use Rattle.std.proofs.Common.{◌≡◌, ◌+◌, [], ◌∷◌, List, length, drop, refl, sym, ap, ◌∙◌, arith, subst, true}
-use Rattle.nsp_link.specs.Cutting.{Piece}
+use Rattle.std.proofs.Common.{◌≡◌, ◌+◌, length, drop, sym, ap, ◌∙◌, arith, true}
 use Rattle.nsp_link.specs.Coming.{Coming, taken, taken_all}
 use Rattle.nsp_link.specs.Pieces.{coming_of, leading, held_piece, run_in}
 use Rattle.nsp_link.proofs.Runs.{taken_more, none_taken}

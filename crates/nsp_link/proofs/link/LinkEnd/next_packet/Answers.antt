@@ -1,7 +1,5 @@
-use Rattle.std.proofs.Common.{◌≡◌, ◌+◌, ◌-◌, ℕ, length, ap, arith, subst}
-use Rattle.std.proofs.lemmas.List.{length-map}
+use Rattle.std.proofs.Common.{◌≡◌, ◌+◌, ◌-◌, ℕ, ap, arith, subst}
 use Rattle.nsp_link.specs.Link.{LinkValue, IsSpelling}
-use Rattle.nsp_link.specs.Pieces.{piece as piece_in}
 use Rattle.nsp_link.specs.Sending.{segment_packet}
 use Rattle.nsp_link.proofs.link.LinkEnd.next_packet.Goals as goal
 

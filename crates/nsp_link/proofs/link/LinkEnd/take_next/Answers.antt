@@ -50,14 +50,20 @@ invariant_of-self c =
 
 pub returns-in-Ok-clause-ok : goal.returns-in-Ok-clause-ok
 returns-in-Ok-clause-ok c =
+    let v = link_view c.self.inside in
+    let p : Piece = record { first = c.args.first; last = c.args.last; payload = c.args.payload.now } in
+    let fit = run_fit v c.self.inside.held.items refl c.self.invariant.free p v.max_message c.in-Ok.ensures.fit in
+    subst (λ (w : LinkValue). AllFit w.max_message (coming w) (run w p)) c.self.view_is fit
+
+pub returns-in-Ok-clause-closed : goal.returns-in-Ok-clause-closed
+returns-in-Ok-clause-closed c =
     let items = c.self.inside.held.items in
     let v = link_view c.self.inside in
     let p : Piece = record { first = c.args.first; last = c.args.last; payload = c.args.payload.now } in
     let is = c.in-Ok.ensures.taken in
     let on : c.take_run.new.incoming.received ≡ v.received + c.in-Ok.count = ap (λ (x : Coming). x.received) is ∙ received-all (coming v) (p ∷ leading (drop 1 items)) ∙ omega (arith, c.in-Ok.ensures.count) in
-    let fit = run_fit v items refl c.self.invariant.free p v.max_message c.in-Ok.ensures.fit in
-    let same = closed_is v items refl c.self.invariant.free p (coming_of c.take_run.new.incoming) c.in-Ok.count c.advance.new.ring.items is c.in-Ok.ensures.count on c.advance.ensures.items in
-    (subst (λ (w : LinkValue). AllFit w.max_message (coming w) (run w p)) c.self.view_is fit, same ∙ ap (λ (w : LinkValue). closed w p) c.self.view_is)
+    closed_is v items refl c.self.invariant.free p (coming_of c.take_run.new.incoming) c.in-Ok.count c.advance.new.ring.items is c.in-Ok.ensures.count on c.advance.ensures.items
+    ∙ ap (λ (w : LinkValue). closed w p) c.self.view_is
 
 pub returns-then-ends_link-clause-err : goal.returns-then-ends_link-clause-err
 returns-then-ends_link-clause-err c =
