@@ -70,8 +70,11 @@ fn serve_next(
     taken: &mut Vec<Vec<u8>>,
 ) -> Result<usize, WorldFault>
     requires { IsReady side.old }
-    ensures ok { IfOk result (λ n. ServedOne side.old side.new accessed.old accessed.new (bodies taken.old.items) (bodies taken.new.items) n) }
-    ensures err { IfErr result (λ f. (side.new ≡ side.old) × (accessed.new ≡ accessed.old) × (bodies taken.new.items ≡ bodies taken.old.items) × ServeFault side.old f) }
+    ensures ok { IfOk result
+        (λ n. ServedOne side.old side.new accessed.old accessed.new (bodies taken.old.items)
+        (bodies taken.new.items) n) }
+    ensures err { IfErr result (λ f. (side.new ≡ side.old) × (accessed.new ≡ accessed.old)
+        × (bodies taken.new.items ≡ bodies taken.old.items) × ServeFault side.old f) }
 {
     if !side.outbox.is_empty() {
         return Err(WorldFault::NothingToDo);
@@ -115,8 +118,12 @@ fn read_next(
     requires ready { IsReady side.old }
     requires expected { Expects side.old accessing.old }
     requires few { count.old < 2 ^ 63 }
-    ensures ok { IfOk result (λ told. ReadOne side.old side.new accessing.old accessing.new reports.old.items reports.new.items count.old count.new told) }
-    ensures err { IfErr result (λ f. (side.new ≡ side.old) × (accessing.new ≡ accessing.old) × (reports.new.items ≡ reports.old.items) × (count.new ≡ count.old) × ReadFault side.old f) }
+    ensures ok { IfOk result
+        (λ told. ReadOne side.old side.new accessing.old accessing.new reports.old.items
+        reports.new.items count.old count.new told) }
+    ensures err { IfErr result (λ f. (side.new ≡ side.old) × (accessing.new ≡ accessing.old)
+        × (reports.new.items ≡ reports.old.items) × (count.new ≡ count.old)
+        × ReadFault side.old f) }
 {
     let place = side.place;
     let message = match side.link.peek_message() {
@@ -184,8 +191,11 @@ fn ask_next(
     requests: &mut Vec<Request>,
     request: &Request,
 ) -> Result<usize, WorldFault>
-    ensures ok { IfOk result (λ n. AskedOne request.now side.old side.new accessing.old accessing.new requests.old.items requests.new.items n) }
-    ensures err { IfErr result (λ f. (side.new ≡ side.old) × (accessing.new ≡ accessing.old) × (requests.new.items ≡ requests.old.items) × AskFaultOf request.now accessing.old f) }
+    ensures ok { IfOk result
+        (λ n. AskedOne request.now side.old side.new accessing.old accessing.new requests.old.items
+        requests.new.items n) }
+    ensures err { IfErr result (λ f. (side.new ≡ side.old) × (accessing.new ≡ accessing.old)
+        × (requests.new.items ≡ requests.old.items) × AskFaultOf request.now accessing.old f) }
 {
     match accessing.check(request) {
         Ok(()) => ask_checked(alloc, side, accessing, requests, request),
@@ -203,8 +213,11 @@ fn ask_checked(
 ) -> Result<usize, WorldFault>
     requires works { accessing.old.failed ≡ false }
     requires admissible { MayAsk request.now accessing.old }
-    ensures ok { IfOk result (λ n. AskedOne request.now side.old side.new accessing.old accessing.new requests.old.items requests.new.items n) }
-    ensures err { IfErr result (λ f. (side.new ≡ side.old) × (accessing.new ≡ accessing.old) × (requests.new.items ≡ requests.old.items) × (f ≡ NoMemory)) }
+    ensures ok { IfOk result
+        (λ n. AskedOne request.now side.old side.new accessing.old accessing.new requests.old.items
+        requests.new.items n) }
+    ensures err { IfErr result (λ f. (side.new ≡ side.old) × (accessing.new ≡ accessing.old)
+        × (requests.new.items ≡ requests.old.items) × (f ≡ NoMemory)) }
 {
     let copy = copy_request(alloc, request)?;
     requests.reserve(1)?;

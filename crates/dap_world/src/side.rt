@@ -79,7 +79,9 @@ impl Side {
     // Writes the next segment.
     pub(crate) fn emit(&mut self) -> Result<usize, WorldFault>
         requires { self.old.link.failed ≡ false }
-        ensures ok { IfOk result (λ j. MayEmit self.old.link × WroteOne self.old self.new (self.old.link.sent + 1) (Some (self.old.link.sent + 1)) j) }
+        ensures ok { IfOk result (λ j. MayEmit self.old.link
+            × WroteOne self.old self.new (self.old.link.sent + 1) (Some (self.old.link.sent + 1))
+            j) }
         ensures err { IfErr result (λ f. (self.new ≡ self.old) × EmitFault self.old.link f) }
     {
         if !self.link.may_send() {
@@ -98,8 +100,11 @@ impl Side {
     // Writes a segment again.
     pub(crate) fn resend(&mut self, place: usize) -> Result<usize, WorldFault>
         requires { self.old.link.failed ≡ false }
-        ensures ok { IfOk result (λ j. (place < self.old.link.sent - self.old.link.acked) × WroteOne self.old self.new self.old.link.sent (Some (self.old.link.acked + 1 + place)) j) }
-        ensures err { IfErr result (λ f. (self.new ≡ self.old) × ResendFault self.old.link place f) }
+        ensures ok { IfOk result (λ j. (place < self.old.link.sent - self.old.link.acked)
+            × WroteOne self.old self.new self.old.link.sent (Some (self.old.link.acked + 1 +
+            place)) j) }
+        ensures err { IfErr result (λ f. (self.new ≡ self.old)
+            × ResendFault self.old.link place f) }
     {
         if place >= self.link.unacked() {
             return Err(WorldFault::NothingToDo);
@@ -130,7 +135,12 @@ impl Side {
     // The next DAP message of the oldest NSP message was handled; it was the last one where so said.
     pub(crate) fn handle(&mut self, last: bool, next: usize)
         ensures going { last ≡ false → self.new ≡ record self.old { place = next } }
-        ensures ends { last ≡ true → (bytes : List ℕ) (later : List (List ℕ)) → self.old.link.inbox ≡ bytes ∷ later → self.new ≡ record self.old { link = record self.old.link { inbox = later }; place = 0 } }
+        ensures ends { last ≡ true → (bytes : List ℕ) (later : List (List ℕ))
+            → self.old.link.inbox ≡ bytes ∷ later
+            → self.new ≡ record self.old {
+              link = record self.old.link { inbox = later };
+              place = 0;
+            } }
     {
         if last {
             let _message = self.link.take_message();
@@ -144,7 +154,8 @@ impl Side {
     pub(crate) fn check_post(&self) -> Result<(), WorldFault>
         requires running { self.now.link.failed ≡ false }
         requires short { AreShort self.now.link.max_message self.now.outbox }
-        ensures ok { OnOk result ((0 < length self.now.outbox) × (segments_queued self.now ≤ most_segments)) }
+        ensures ok { OnOk result ((0 < length self.now.outbox)
+            × (segments_queued self.now ≤ most_segments)) }
         ensures err { IfErr result (λ f. (f ≢ NoMemory) × PostFault self.now f) }
     {
         if self.outbox.is_empty() {
@@ -199,8 +210,10 @@ pub(crate) fn post_sent(
     requires running { side.old.link.failed ≡ false }
     requires short { AreShort side.old.link.max_message side.old.outbox }
     ensures ok { IfOk result (λ n. PostedAll side.old side.new n) }
-    ensures sent { OnOk result (SentAll side.old.outbox (bodies sent.old.items) (bodies sent.new.items)) }
-    ensures err { IfErr result (λ f. (side.new ≡ side.old) × (bodies sent.new.items ≡ bodies sent.old.items) × PostFault side.old f) }
+    ensures sent { OnOk result (SentAll side.old.outbox (bodies sent.old.items) (bodies
+        sent.new.items)) }
+    ensures err { IfErr result (λ f. (side.new ≡ side.old)
+        × (bodies sent.new.items ≡ bodies sent.old.items) × PostFault side.old f) }
 {
     match side.check_post() {
         Ok(()) => hand_over_sent(alloc, side, sent),
@@ -218,8 +231,10 @@ fn hand_over_sent(
     requires some { 0 < length side.old.outbox }
     requires few { segments_queued side.old ≤ most_segments }
     ensures ok { IfOk result (λ n. PostedAll side.old side.new n) }
-    ensures sent { OnOk result (SentAll side.old.outbox (bodies sent.old.items) (bodies sent.new.items)) }
-    ensures err { IfErr result (λ f. (side.new ≡ side.old) × (bodies sent.new.items ≡ bodies sent.old.items) × (f ≡ NoMemory)) }
+    ensures sent { OnOk result (SentAll side.old.outbox (bodies sent.old.items) (bodies
+        sent.new.items)) }
+    ensures err { IfErr result (λ f. (side.new ≡ side.old)
+        × (bodies sent.new.items ≡ bodies sent.old.items) × (f ≡ NoMemory)) }
 {
     let mut more = split_all(alloc, &side.outbox)?;
     sent.reserve(more.len())?;
@@ -232,7 +247,11 @@ fn hand_over_sent(
 fn put(wire: &mut Vec<Wired>, packet: Vec<u8>, segment: Option<u64>, acks: u64) -> usize
     requires { vec_len wire.old < vec_capacity wire.old }
     ensures place { result ≡ length wire.old.items }
-    ensures wire { map wired_value wire.new.items ≡ map wired_value wire.old.items ++ record { packet = packet.items; segment = segment; acks = acks } ∷ [] }
+    ensures wire { map wired_value wire.new.items ≡ map wired_value wire.old.items ++ record {
+      packet = packet.items;
+      segment = segment;
+      acks = acks;
+    } ∷ [] }
 {
     let place = wire.len();
     wire.push_reserved(Wired {
@@ -273,8 +292,11 @@ fn is_stale_wired(wired: &Wired, taken: u64, acked: u64) -> bool
 // Gives the link a packet that is due: it refuses only for memory.
 fn receive_due(link: &mut LinkEnd, wired: &Wired) -> Result<Got, LinkFault>
     requires { IsComing link.old (wired_value wired.now) }
-    ensures ok { IfOk result (λ got. (got ≡ got_of link.old.received wired.now.segment) × Delivered link.old link.new wired.now.segment wired.now.acks) }
-    ensures stands { OnOk result ((size : ℕ) (messages given : List (List ℕ)) → IsDueAs link.old size messages given (wired_value wired.now) → Stands link.new size messages given) }
+    ensures ok { IfOk result (λ got. (got ≡ got_of link.old.received wired.now.segment)
+        × Delivered link.old link.new wired.now.segment wired.now.acks) }
+    ensures stands { OnOk result ((size : ℕ) (messages given : List (List ℕ))
+        → IsDueAs link.old size messages given (wired_value wired.now)
+        → Stands link.new size messages given) }
     ensures sends { (messages : List (List ℕ)) → Sends link.old messages → Sends link.new messages }
     ensures err { OnErr result (TakesIn link.old wired.now.segment × (link.new ≡ link.old)) }
 {
@@ -286,10 +308,14 @@ fn receive_due(link: &mut LinkEnd, wired: &Wired) -> Result<Got, LinkFault>
 
 fn take_in(link: &mut LinkEnd, wired: &Wired) -> Result<Got, WorldFault>
     requires { IsComing link.old (wired_value wired.now) }
-    ensures ok { IfOk result (λ got. (got ≡ got_of link.old.received wired.now.segment) × Delivered link.old link.new wired.now.segment wired.now.acks) }
-    ensures stands { OnOk result ((size : ℕ) (messages given : List (List ℕ)) → IsDueAs link.old size messages given (wired_value wired.now) → Stands link.new size messages given) }
+    ensures ok { IfOk result (λ got. (got ≡ got_of link.old.received wired.now.segment)
+        × Delivered link.old link.new wired.now.segment wired.now.acks) }
+    ensures stands { OnOk result ((size : ℕ) (messages given : List (List ℕ))
+        → IsDueAs link.old size messages given (wired_value wired.now)
+        → Stands link.new size messages given) }
     ensures sends { (messages : List (List ℕ)) → Sends link.old messages → Sends link.new messages }
-    ensures err { IfErr result (λ f. (f ≡ NoMemory) × TakesIn link.old wired.now.segment × (link.new ≡ link.old)) }
+    ensures err { IfErr result (λ f. (f ≡ NoMemory) × TakesIn link.old wired.now.segment
+        × (link.new ≡ link.old)) }
 {
     match receive_due(link, wired) {
         Ok(got) => Ok(got),
@@ -299,14 +325,19 @@ fn take_in(link: &mut LinkEnd, wired: &Wired) -> Result<Got, WorldFault>
 
 // Gives an end the j-th packet that the other end wrote.
 pub(crate) fn deliver(to: &mut Side, from: &Side, j: usize) -> Result<Got, WorldFault>
-    requires way { (messages : List (List ℕ)) × (given : List (List ℕ)) × IsWay from.now to.old.link messages given }
+    requires way { (messages : List (List ℕ)) × (given : List (List ℕ))
+        × IsWay from.now to.old.link messages given }
     requires near { AllNear to.old.link from.now.wire }
-    ensures ok { IfOk result (λ got. (w : WiredValue) × (slice_get from.now.wire j ≡ Some w) × (is_old_wired to.old.link w ≡ false)
+    ensures ok { IfOk result (λ got. (w : WiredValue) × (slice_get from.now.wire j ≡ Some w)
+        × (is_old_wired to.old.link w ≡ false)
         × (got ≡ got_of to.old.link.received w.segment) × Delivered to.old.link to.new.link w.segment w.acks) }
     ensures rest { to.new ≡ record to.old { link = to.new.link } }
-    ensures stands { OnOk result ((messages given : List (List ℕ)) → IsWay from.now to.old.link messages given → IsWay from.now to.new.link messages given) }
-    ensures sends { (messages : List (List ℕ)) → Sends to.old.link messages → Sends to.new.link messages }
-    ensures err { IfErr result (λ f. (to.new ≡ to.old) × DeliverFault to.old.link from.now.wire j f) }
+    ensures stands { OnOk result ((messages given : List (List ℕ))
+        → IsWay from.now to.old.link messages given → IsWay from.now to.new.link messages given) }
+    ensures sends { (messages : List (List ℕ)) → Sends to.old.link messages
+        → Sends to.new.link messages }
+    ensures err { IfErr result (λ f. (to.new ≡ to.old)
+        × DeliverFault to.old.link from.now.wire j f) }
 {
     let taken = to.link.received_count();
     let acked = to.link.sent_count() - to.link.unacked() as u64;
