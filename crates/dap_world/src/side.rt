@@ -17,6 +17,9 @@ use nsp_link::{Got, LinkEnd, LinkFault};
 use std::alloc::Global;
 use std::marker::Model;
 
+/// How many numbers behind a packet may be that is delivered.
+const GREATEST_AGE: u64 = 2047;
+
 /// A packet that an end wrote.
 #[derive(Drop)]
 pub struct Wired {
@@ -266,7 +269,7 @@ fn put(wire: &mut Vec<Wired>, packet: Vec<u8>, segment: Option<u64>, acks: u64) 
 fn is_stale(number: u64, now: u64) -> bool
     ensures { result ≡ is_old number now }
 {
-    now > 2047 && number < now - 2047
+    now > GREATEST_AGE && number < now - GREATEST_AGE
 }
 
 fn is_stale_segment(segment: Option<u64>, taken: u64) -> bool
