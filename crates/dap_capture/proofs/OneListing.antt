@@ -1,6 +1,7 @@
 -- What the lines say is determined by the bytes, so an input has one listing at the most.
-use Rattle.std.proofs.Common.{◌≡◌, ◌<◌, ◌+◌, ◌*◌, ◌++◌, ℕ, suc, Bool, true, false, List, [], ◌∷◌, get_or, sym, ap, ◌∙◌, subst, refl}
-use Rattle.std.specs.List.{flat_map}
+use Rattle.std.proofs.Common.{◌≡◌, ◌<◌, ◌+◌, ◌*◌, ◌++◌, ℕ, suc, Bool, true, false, List, [], ◌∷◌, get_or, length, codes, sym, ap, ◌∙◌, subst, refl}
+use Rattle.std.specs.List.{concat, flat_map}
+use Rattle.std.specs.Fmt.{decimal}
 use Rattle.hex.proofs.HexLemmas.{decode_of-ok, decode_of-same}
 use Rattle.dap_msg.proofs.ForCallers.{have_items}
 use Rattle.nsp_seg.specs.Packets.{SegmentValue, segment, data_ack, Spells, marks, optional_ack}
@@ -8,7 +9,10 @@ use Rattle.std.specs.Int.{w16, to_le_bytes}
 use Rattle.nsp_seg.proofs.ForCallers.{spells-one, spells-apart, fault-one}
 use Rattle.dap_capture.specs.Messages.{IsMessagesText, item_line}
 use Rattle.dap_capture.specs.Packets.{IsPacketText, of_segment, of_ack, of_fault, SegmentMessages, segment_line, ack_line, fault_line as packet_fault_line}
-use Rattle.dap_capture.specs.Listing.{PacketLines, no_more, one_more as one_packet_more, Capture, HasOneListing, captures, heading, packet_limit}
+use Rattle.dap_capture.specs.Listing.{CaptureLines, IsCapturedText, IsMessageText, no_more, one_more as one_capture_more, Capture, HasOneListing, captures, heading, limit_of}
+use Rattle.dap_capture.specs.declared.listing.Listed.{Listed}
+use Rattle.dap_capture.specs.declared.listing.Listed.TheVariants.{Packets, Messages}
+use Rattle.dap_capture.specs.Text.{line_feed}
 
 -- each is a byte
 abbrev AreBytes : List ℕ → Type 0
@@ -53,13 +57,22 @@ one_packet bytes a b are (of_fault fault has) (of_segment s lines spelled text) 
 one_packet bytes a b are (of_fault fault has) (of_ack v spelled) = absurd (spells-apart (data_ack v) fault bytes are spelled has)
 one_packet bytes a b are (of_fault fault has) (of_fault fault' has') = ap packet_fault_line (fault-one fault fault' bytes are has has')
 
-one_list : (number : ℕ) (packets : List Capture) (a b : List ℕ) → PacketLines number packets a → PacketLines number packets b → a ≡ b
-one_list number packets a b no_more no_more = refl
-one_list number packets a b (one_packet_more {direction = direction} {digits = digits} {others = others} bytes first rest decoded text lines) (one_packet_more bytes' first' rest' decoded' text' lines') =
+one_message : (bytes a b : List ℕ) → AreBytes bytes → IsMessageText bytes a → IsMessageText bytes b → a ≡ b
+one_message bytes a b are text text' =
+    let same : text.messages ≡ text'.messages = one_text bytes text.messages text'.messages are text.listed text'.listed in
+    text.joined ∙ ap (λ t. concat (codes "message len=" ∷ decimal (length bytes) ∷ line_feed ∷ []) ++ t) same ∙ sym text'.joined
+
+one_captured : (listed : Listed) (bytes a b : List ℕ) → AreBytes bytes → IsCapturedText listed bytes a → IsCapturedText listed bytes b → a ≡ b
+one_captured Packets bytes a b are text text' = one_packet bytes a b are text text'
+one_captured Messages bytes a b are text text' = one_message bytes a b are text text'
+
+one_list : (listed : Listed) (number : ℕ) (captured : List Capture) (a b : List ℕ) → CaptureLines listed number captured a → CaptureLines listed number captured b → a ≡ b
+one_list listed number captured a b no_more no_more = refl
+one_list listed number captured a b (one_capture_more {direction = direction} {digits = digits} {others = others} bytes first rest decoded text lines) (one_capture_more bytes' first' rest' decoded' text' lines') =
     let same : bytes' ≡ bytes = decode_of-same digits bytes' bytes decoded' decoded in
-    let firsts = one_packet bytes first first' (decode_of-ok digits bytes decoded).3 text (subst (λ x. IsPacketText x first') same text') in
-    let rests = one_list (number + 1) others rest rest' lines lines' in
+    let firsts = one_captured listed bytes first first' (decode_of-ok digits bytes decoded).3 text (subst (λ x. IsCapturedText listed x first') same text') in
+    let rests = one_list listed (number + 1) others rest rest' lines lines' in
     ap (λ t. (heading number direction ++ t) ++ rest) firsts ∙ ap (λ t. (heading number direction ++ first') ++ t) rests
 
 pub one_listing : HasOneListing
-one_listing input a b listed listed' = one_list 1 (captures packet_limit input) a b listed.packets listed'.packets
+one_listing listed input a b text text' = one_list listed 1 (captures (limit_of listed) input) a b text text'

@@ -1,7 +1,15 @@
+pub mod Inner
 pub mod Input
 pub mod Output
+pub mod Gives
 pub mod Text
 pub mod Lines
+pub mod Words
+pub mod Orders
+pub mod Reports
+pub mod Tables
+pub mod Schedules
+pub mod Played
 pub mod Messages
 pub mod Packets
 pub mod Listing

@@ -1,19 +1,22 @@
--- The listing of a capture.
-use Rattle.std.specs.Prelude.{◌≡◌, ℕ, ◌+◌, ◌<◌, ◌≤◌, List, [], ◌∷◌, ◌++◌, length, slice_get, codes, Option, Some, None, Result, Ok, Err, ◌⊎◌}
+-- The listing of a capture: of packets, or of NSP messages.
+use Rattle.std.specs.Prelude.{◌≡◌, ℕ, ◌+◌, List, [], ◌∷◌, ◌++◌, length, codes, Option, Some, None, Result, Ok}
 use Rattle.std.specs.List.{concat, filter_map, enumerate_from}
 use Rattle.std.specs.Fmt.{decimal}
 use Rattle.std.specs.Str.Lines.{lines}
-use Rattle.std.specs.Io.KnownBytes.{Appends, Keeps}
 use Rattle.hex.specs.Hex.{decode_of}
 use Rattle.dap_capture.specs.Lines.{CaptureLine, captured, malformed, too_long, line_of}
 use Rattle.dap_capture.specs.Packets.{IsPacketText}
-use Rattle.dap_capture.specs.Output.{WritesFront}
+use Rattle.dap_capture.specs.Text.{line_feed}
+use Rattle.dap_capture.specs.Messages.{IsMessagesText}
+use Rattle.dap_capture.specs.Gives.{Gives}
+use Rattle.dap_capture.specs.declared.listing.Listed.{Listed}
+use Rattle.dap_capture.specs.declared.listing.Listed.TheVariants.{Packets, Messages}
 use Rattle.dap_capture.specs.declared.lines.Direction.{Direction}
 use Rattle.dap_capture.specs.declared.lines.Direction.TheVariants.{Right, Left}
 use Rattle.dap_capture.specs.declared.fault.Outcome.{Outcome}
 use Rattle.dap_capture.specs.declared.fault.Outcome.TheVariants.{Good, Stopped}
 use Rattle.dap_capture.specs.declared.fault.CaptureFault.{CaptureFault}
-use Rattle.dap_capture.specs.declared.fault.CaptureFault.TheVariants.{BadLine, TooLarge, ReadFailed, WriteFailed, NoMemory}
+use Rattle.dap_capture.specs.declared.fault.CaptureFault.TheVariants.{BadLine, TooLarge}
 
 -- what is wrong with the line of a number
 abbrev pub fault_of_line : ℕ → CaptureLine → Option CaptureFault
@@ -25,7 +28,7 @@ fault_of_line number _ = None
 abbrev pub line_faults : ℕ → List ℕ → List CaptureFault
 line_faults limit input = filter_map (λ (number, line). fault_of_line number (line_of limit line)) (enumerate_from 1 (lines input))
 
--- the direction of a captured packet and its hex digits
+-- the direction of captured bytes and their hex digits
 abbrev pub Capture : Type 0
 Capture = Direction × List ℕ
 
@@ -41,51 +44,51 @@ abbrev pub arrow_text : Direction → List ℕ
 arrow_text Right = codes ">"
 arrow_text Left = codes "<"
 
--- the number of a packet and its direction
+-- the number of what was captured, and its direction
 abbrev pub heading : ℕ → Direction → List ℕ
 heading number direction = concat (decimal number ∷ codes " " ∷ arrow_text direction ∷ codes " " ∷ [])
 
--- the lines of packets, the first of which has the number
-pub data PacketLines : ℕ → List Capture → List ℕ → Type 0 where
-  no_more : {number : ℕ} → PacketLines number [] []
+-- the line of an NSP message of so many bytes, and those of its messages
+pub record IsMessageText (bytes text : List ℕ) : Type 0 where
+  pub messages : List ℕ
+  pub listed : IsMessagesText bytes messages
+  pub joined : text ≡ concat (codes "message len=" ∷ decimal (length bytes) ∷ line_feed ∷ []) ++ messages
+
+-- what is listed of captured bytes after their number and direction
+abbrev pub IsCapturedText : Listed → List ℕ → List ℕ → Type 0
+IsCapturedText Packets bytes text = IsPacketText bytes text
+IsCapturedText Messages bytes text = IsMessageText bytes text
+
+-- the most bytes of a line
+abbrev pub limit_of : Listed → ℕ
+limit_of Packets = 4096
+limit_of Messages = 65535
+
+-- the lines of what was captured, the first of which has the number
+pub data CaptureLines (listed : Listed) : ℕ → List Capture → List ℕ → Type 0 where
+  no_more : {number : ℕ} → CaptureLines listed number [] []
   one_more : {number : ℕ} {direction : Direction} {digits : List ℕ} {others : List Capture} (bytes first rest : List ℕ)
-      → decode_of digits ≡ Ok bytes → IsPacketText bytes first → PacketLines (number + 1) others rest
-      → PacketLines number ((direction, digits) ∷ others) ((heading number direction ++ first) ++ rest)
+      → decode_of digits ≡ Ok bytes → IsCapturedText listed bytes first → CaptureLines listed (number + 1) others rest
+      → CaptureLines listed number ((direction, digits) ∷ others) ((heading number direction ++ first) ++ rest)
 
--- the most bytes of an input, and of a captured packet
-abbrev pub input_limit : ℕ
-input_limit = 16777216
+-- the text is the listing of the input, and all is good
+abbrev pub IsListing : Listed → List ℕ → Outcome → List ℕ → Type 0
+IsListing listed input Good text = CaptureLines listed 1 (captures (limit_of listed) input) text
+IsListing listed input Stopped text = ⊥
 
-abbrev pub packet_limit : ℕ
-packet_limit = 4096
+-- what a listing of the input answers
+abbrev pub ListingGives : Listed → List ℕ → Option (List ℕ) → Option (List ℕ)
+    → Result Outcome CaptureFault → Type 0
+ListingGives listed input = Gives (line_faults (limit_of listed) input) (IsListing listed input) input
 
--- the text is the listing of the input
-pub record IsListing (input text : List ℕ) : Type 0 where
-  pub small : length input ≤ input_limit
-  pub no_fault : line_faults packet_limit input ≡ []
-  pub packets : PacketLines 1 (captures packet_limit input) text
-
--- the first fault of the input's lines, of an input within the limit
-pub record HasLineFault (input : List ℕ) (fault : CaptureFault) : Type 0 where
-  pub small : length input ≤ input_limit
-  pub first : slice_get (line_faults packet_limit input) 0 ≡ Some fault
-
--- what a run over the input answers, and how the known bytes of the writer change from old to new
 abbrev pub ShowGives : List ℕ → Option (List ℕ) → Option (List ℕ) → Result Outcome CaptureFault → Type 0
-ShowGives input old new (Ok Good) = (text : List ℕ) × IsListing input text × Appends old new text
-ShowGives input old new (Ok Stopped) = ⊥
-ShowGives input old new (Err (BadLine number)) = HasLineFault input (BadLine number) × Keeps old new
-ShowGives input old new (Err TooLarge) = ((input_limit < length input) ⊎ HasLineFault input TooLarge) × Keeps old new
-ShowGives input old new (Err ReadFailed) = Keeps old new
-ShowGives input old new (Err NoMemory) = Keeps old new
-ShowGives input old new (Err WriteFailed) = (text : List ℕ) × IsListing input text × WritesFront old new text
+ShowGives = ListingGives Packets
 
--- a fault that a line can have
-abbrev pub IsOfLine : CaptureFault → Type 0
-IsOfLine (BadLine number) = Unit {0}
-IsOfLine TooLarge = Unit {0}
-IsOfLine _ = ⊥
+abbrev pub MessagesGive : List ℕ → Option (List ℕ) → Option (List ℕ) → Result Outcome CaptureFault → Type 0
+MessagesGive = ListingGives Messages
 
--- No input has two listings.
+-- No input has two listings of a kind.
 abbrev pub HasOneListing : Type 0
-HasOneListing = (input a b : List ℕ) → IsListing input a → IsListing input b → a ≡ b
+HasOneListing =
+    (listed : Listed) (input a b : List ℕ)
+    → IsListing listed input Good a → IsListing listed input Good b → a ≡ b

@@ -1,4 +1,5 @@
-//! Captures of NSP packets, and their listings.
+//! Captures of NSP packets and messages, and their listings; schedules of both ends, and what they
+//! come to.
 #![tactic(auto)]
 
 mod commands;
@@ -9,14 +10,29 @@ mod laws;
 mod lines;
 mod listing;
 mod message;
+mod orders;
 mod output;
 mod packet;
+mod play;
+mod reports;
+mod said;
+mod steps;
+mod tables;
 mod text;
+mod words;
 
-pub use commands::show;
+pub use commands::{messages, schedule, show};
 pub use fault::{CaptureFault, Outcome};
 pub use laws::listings_are_one;
 pub use output::write_text;
 
+#[cfg(test)]
+mod device_tests;
+#[cfg(test)]
+mod devices;
+#[cfg(test)]
+mod engines;
+#[cfg(test)]
+mod schedule_tests;
 #[cfg(test)]
 mod tests;

@@ -4,7 +4,7 @@ ghost use Rattle.std.specs.Prelude.{◌≡◌, ◌≤◌, ◌<◌, ◌*◌, ◌^
 ghost use Rattle.std.specs.List.{position, list_all};
 ghost use Rattle.std.specs.Char.{is_ascii_hexdigit};
 ghost use Rattle.std.specs.Str.Lines.{lines, strip_carriage_return};
-ghost use Rattle.dap_capture.specs.Lines.{HasDigits, line_of, digits_line, value_of_line};
+ghost use Rattle.dap_capture.specs.Lines.{is_hex_text as spelled, HasDigits, line_of, digits_line, value_of_line};
 
 /// The way that captured bytes went.
 #[derive(Clone, Copy, Debug, PartialEq, Eq)]
@@ -48,7 +48,8 @@ fn without_carriage_return(line: &[u8]) -> &[u8]
 /// The first line, without its end, and what stands after it.
 #[tactic(auto, using(crate::proofs::LineLemmas::first_line, crate::proofs::LineLemmas::last_line))]
 pub(crate) fn next_line(bytes: &[u8]) -> Option<(&[u8], &[u8])>
-    ensures { MatchOption result (bytes.now ≡ []) (λ cut. (lines bytes.now ≡ cut.0.now ∷ lines cut.1.now) × (length cut.1.now < length bytes.now)) }
+    ensures { MatchOption result (bytes.now ≡ [])
+        (λ cut. (lines bytes.now ≡ cut.0.now ∷ lines cut.1.now) × (length cut.1.now < length bytes.now)) }
 {
     if bytes.is_empty() {
         return None;
@@ -79,13 +80,20 @@ fn parse_digits(direction: Direction, digits: &[u8], limit: usize) -> Line<'_>
     ensures value { value_of_line result ≡ digits_line limit direction digits.now }
     ensures digits { HasDigits limit result }
 {
-    if digits.len() < 2 || digits.len() % 2 != 0 || !are_hex_digits(digits) {
+    if !is_hex_text(digits) {
         return Line::Malformed;
     }
     if digits.len() > 2 * limit {
         return Line::TooLong;
     }
     Line::Captured(direction, digits)
+}
+
+/// Whether it is an even number of hex digits, and at least two.
+pub(crate) fn is_hex_text(digits: &[u8]) -> bool
+    ensures { result ≡ spelled digits.now }
+{
+    digits.len() >= 2 && digits.len() % 2 == 0 && are_hex_digits(digits)
 }
 
 /// Whether all are hex digits.

@@ -1,30 +1,51 @@
-//! The listing of an input.
+//! The listing of an input: of packets, or of NSP messages.
 
 ghost use Rattle.std.specs.Prelude.{◌≡◌, ◌≤◌, ◌*◌, ◌++◌, ℕ, List, Ok, true, IfErr, IfOk, MatchResult, OnOk, [], length, slice_get, string_bytes};
 ghost use Rattle.hex.specs.Hex.{decode_of};
+ghost use Rattle.dap_capture.specs.Inner.Adding.{Adds, AddsCapture, AddsSome};
+ghost use Rattle.dap_capture.specs.Inner.Checking.{TellsFirst};
+ghost use Rattle.dap_capture.specs.Gives.{IsOfLine};
 ghost use Rattle.dap_capture.specs.Lines.{is_hex_text};
-ghost use Rattle.dap_capture.specs.Packets.{IsPacketText};
-ghost use Rattle.dap_capture.specs.Listing.{IsOfLine, PacketLines, arrow_text, captures, heading, line_faults};
+ghost use Rattle.dap_capture.specs.Listing.{IsCapturedText, IsListing, IsMessageText, arrow_text, limit_of, line_faults};
 
-use crate::CaptureFault;
 use crate::input::INPUT_LIMIT;
 use crate::lines::{Direction, Line, next_line, parse_line};
+use crate::message::push_messages;
 use crate::packet::push_packet;
+use crate::{CaptureFault, Outcome};
 use std::alloc::{AllocError, Global};
 
-/// The most bytes that a captured packet may have. Own.
-pub const PACKET_LIMIT: usize = 4096;
+/// What the lines of an input hold.
+#[derive(Clone, Copy, Debug, PartialEq, Eq)]
+pub(crate) enum Listed {
+    /// NSP packets.
+    Packets,
+    /// NSP messages.
+    Messages,
+}
+
+impl Listed {
+    /// The most bytes of a line. Own.
+    fn limit(self) -> usize
+        ensures { result ≡ limit_of self }
+    {
+        match self {
+            Listed::Packets => 4096,
+            Listed::Messages => 65_535,
+        }
+    }
+}
 
 /// Whether each line has a meaning within the limits, or else the first fault.
-pub(crate) fn check_lines(input: &[u8]) -> Result<(), CaptureFault>
+pub(crate) fn check_lines(listed: Listed, input: &[u8]) -> Result<(), CaptureFault>
     requires { length input.now ≤ INPUT_LIMIT }
-    ensures faults { MatchResult result (λ _. line_faults PACKET_LIMIT input.now ≡ []) (λ fault. slice_get (line_faults PACKET_LIMIT input.now) 0 ≡ Some fault) }
+    ensures faults { TellsFirst result (line_faults (limit_of listed) input.now) }
     ensures of_line { IfErr result IsOfLine }
 {
     let mut number = 1;
     let mut rest = input;
     while let Some((line, after)) = next_line(rest) {
-        match parse_line(line, PACKET_LIMIT) {
+        match parse_line(line, listed.limit()) {
             Line::Skipped | Line::Captured(_, _) => {}
             Line::Malformed => return Err(CaptureFault::BadLine(number)),
             Line::TooLong => return Err(CaptureFault::TooLarge),
@@ -55,9 +76,34 @@ fn decode_digits(digits: &[u8], bytes: &mut [u8])
     prove!(decoded.is_ok());
 }
 
-/// Appends the lines of the packet that has the hex digits. The room is for its bytes.
+/// Appends what the lines of an NSP message say after its number and direction.
+fn push_message(alloc: Global, text: &mut String, bytes: &[u8]) -> Result<(), AllocError>
+    ensures { OnOk result (AddsSome text.old text.new (IsMessageText bytes.now)) }
+{
+    let count = bytes.len();
+    writeln!(text, "message len={count}")?;
+    push_messages(alloc, text, bytes)
+}
+
+/// Appends what the lines of captured bytes say after their number and direction.
+fn push_captured(
+    listed: Listed,
+    alloc: Global,
+    text: &mut String,
+    bytes: &[u8],
+) -> Result<(), AllocError>
+    ensures { OnOk result (AddsSome text.old text.new (IsCapturedText listed bytes.now)) }
+{
+    match listed {
+        Listed::Packets => push_packet(alloc, text, bytes),
+        Listed::Messages => push_message(alloc, text, bytes),
+    }
+}
+
+/// Appends the lines of what has the hex digits. The room is for its bytes.
 #[tactic(auto, using(crate::proofs::HexTextLemmas::even_hex))]
 fn push_capture(
+    listed: Listed,
     alloc: Global,
     text: &mut String,
     number: usize,
@@ -67,30 +113,48 @@ fn push_capture(
 ) -> Result<(), AllocError>
     requires hex { is_hex_text digits.now ≡ true }
     requires short { length digits.now ≤ 2 * length room.old }
-    ensures { OnOk result ((bytes : List ℕ) × (lines : List ℕ) × (decode_of digits.now ≡ Ok bytes) × IsPacketText bytes lines × (string_bytes text.new ≡ string_bytes text.old ++ (heading number direction ++ lines))) }
+    ensures { OnOk result (AddsCapture listed number direction digits.now text.old text.new) }
 {
     let bytes = &mut room[..digits.len() / 2];
     decode_digits(digits, bytes);
     let sign = arrow(direction);
     write!(text, "{number} {sign} ")?;
-    push_packet(alloc, text, bytes)
+    push_captured(listed, alloc, text, bytes)
 }
 
-/// The lines of all packets of an input.
-pub(crate) fn list_packets(alloc: Global, input: &[u8]) -> Result<String, AllocError>
-    requires { length input.now ≤ INPUT_LIMIT }
-    ensures { IfOk result (λ text. PacketLines 1 (captures PACKET_LIMIT input.now) (string_bytes text)) }
+/// The lines of all that was captured. The room is for the bytes of a line.
+fn list_into(
+    listed: Listed,
+    alloc: Global,
+    input: &[u8],
+    room: &mut [u8],
+) -> Result<String, AllocError>
+    requires small { length input.now ≤ INPUT_LIMIT }
+    requires room { length room.old ≡ limit_of listed }
+    ensures { IfOk result (λ text. IsListing listed input.now Outcome.Good (string_bytes text)) }
 {
-    let mut room = [0; PACKET_LIMIT];
     let mut text = String::new(alloc);
     let mut number = 1;
     let mut rest = input;
     while let Some((line, after)) = next_line(rest) {
-        if let Line::Captured(direction, digits) = parse_line(line, PACKET_LIMIT) {
-            push_capture(alloc, &mut text, number, direction, digits, &mut room)?;
+        if let Line::Captured(direction, digits) = parse_line(line, listed.limit()) {
+            push_capture(listed, alloc, &mut text, number, direction, digits, room)?;
             number += 1;
         }
         rest = after;
     }
     Ok(text)
+}
+
+/// The lines of all that was captured.
+pub(crate) fn list_captures(
+    listed: Listed,
+    alloc: Global,
+    input: &[u8],
+) -> Result<String, AllocError>
+    requires { length input.now ≤ INPUT_LIMIT }
+    ensures { IfOk result (λ text. IsListing listed input.now Outcome.Good (string_bytes text)) }
+{
+    let mut room = vec![in alloc; 0; listed.limit()]?;
+    list_into(listed, alloc, input, &mut room)
 }

@@ -2,11 +2,12 @@
 ghost use Rattle.std.specs.Prelude.{◌≡◌, ◌⊎◌, ◌∷◌, ℕ, List, [], IfErr, IfOk, IfSome, codes, map, string_bytes};
 ghost use Rattle.std.specs.Io.KnownBytes.{Keeps};
 ghost use Rattle.clap.specs.Words.{FailsBy, kind_of, fault_of};
-ghost use Rattle.dap_cli.specs.Run.{AreMistakes, Chooses, IsCommandLine, IsMistake, RunGives, dapnsp, status_of};
+ghost use Rattle.dap_cli.specs.declared.run.Choice.{Choice};
+ghost use Rattle.dap_cli.specs.Run.{AreMistakes, Chooses, HasOneMore, IsCommandLine, IsMistake, RunGives, dapnsp, status_of, word_of};
 
 use clap::error::ErrorKind;
 use clap::{Command, Error};
-use dap_capture::{CaptureFault, Outcome, show, write_text};
+use dap_capture::{CaptureFault, Outcome, messages, schedule, show, write_text};
 use std::alloc::Global;
 use std::io::{Read, Write};
 
@@ -14,6 +15,23 @@ use std::io::{Read, Write};
 #[derive(Clone, Copy, Debug, PartialEq, Eq)]
 pub enum Choice {
     Show,
+    Msg,
+    Run,
+}
+
+/// The command line with one subcommand more, and what help says of it.
+fn with_command<'a>(
+    alloc: Global,
+    command: Command<'a>,
+    name: &'static str,
+    about: &'static str,
+) -> Result<Command<'a>, Error>
+    ensures added { IfOk result (HasOneMore command.entry name.now) }
+    ensures memory { IfErr result (λ error. kind_of error ≡ ErrorKind.OutOfMemory) }
+{
+    let subcommand = Command::new(alloc, name).about(about);
+    let command = command.subcommand(subcommand)?;
+    Ok(command)
 }
 
 /// The program's command line.
@@ -21,12 +39,12 @@ fn command_line<'a>(alloc: Global) -> Result<Command<'a>, Error>
     ensures line { IfOk result IsCommandLine }
     ensures memory { IfErr result (λ error. kind_of error ≡ ErrorKind.OutOfMemory) }
 {
-    let show = Command::new(alloc, "show");
     let command = Command::new(alloc, "dapnsp")
         .subcommand_required(true)
-        .disable_help_subcommand(true)
-        .subcommand(show)?;
-    Ok(command)
+        .disable_help_subcommand(true);
+    let command = with_command(alloc, command, "show", "Lists captured NSP packets")?;
+    let command = with_command(alloc, command, "msg", "Lists DAP messages")?;
+    with_command(alloc, command, "run", "Plays a schedule of both ends")
 }
 
 /// The command that the words name.
@@ -38,6 +56,8 @@ fn read_words<'a>(alloc: Global, words: &'a [String]) -> Result<Choice, Error>
     let matches = command.try_get_matches_from(words)?;
     match matches.subcommand_name() {
         Some("show") => Ok(Choice::Show),
+        Some("msg") => Ok(Choice::Msg),
+        Some("run") => Ok(Choice::Run),
         _ => unreachable!(),
     }
 }
@@ -67,9 +87,11 @@ fn refuse<W: Write, E: Write>(
     writer: &mut W,
     error_writer: &mut E,
 ) -> u8
-    ensures memory { kind_of error ≡ ErrorKind.OutOfMemory → (result ≡ 3) × Keeps (W.contents writer.old) (W.contents writer.new) }
+    ensures memory { kind_of error ≡ ErrorKind.OutOfMemory
+        → (result ≡ 3) × Keeps (W.contents writer.old) (W.contents writer.new) }
     ensures help { kind_of error ≡ ErrorKind.DisplayHelp → (result ≡ 0) ⊎ (result ≡ 3) }
-    ensures mistake { IsMistake (kind_of error) → ((result ≡ 2) ⊎ (result ≡ 3)) × Keeps (W.contents writer.old) (W.contents writer.new) }
+    ensures mistake { IsMistake (kind_of error)
+        → ((result ≡ 2) ⊎ (result ≡ 3)) × Keeps (W.contents writer.old) (W.contents writer.new) }
 {
     if error.kind() == ErrorKind::OutOfMemory {
         return finish(Err(CaptureFault::NoMemory), error_writer);
@@ -87,12 +109,32 @@ fn refuse<W: Write, E: Write>(
     }
 }
 
+/// Runs a command, and answers the exit status.
+fn run_choice<R: Read, W: Write, E: Write>(
+    alloc: Global,
+    choice: Choice,
+    reader: &mut R,
+    writer: &mut W,
+    error_writer: &mut E,
+) -> u8
+    ensures { IfSome (R.remaining reader.old)
+        (λ input. RunGives choice input (W.contents writer.old) (W.contents writer.new) result) }
+{
+    let outcome = match choice {
+        Choice::Show => show(alloc, reader, writer),
+        Choice::Msg => messages(alloc, reader, writer),
+        Choice::Run => schedule(alloc, reader, writer),
+    };
+    finish(outcome, error_writer)
+}
+
 /// Runs the command that the words name, the program's name first, and answers the exit status. Own.
 ///
-/// 0: all was done, or help was asked for and written. 1: a bad line, or an input or a packet over
-/// its limit. 2: the words name no command; the writer gets nothing. 3: the reader or the writer
-/// failed, or memory ran out. A fault is told in one line to the error writer, and so is what is
-/// wrong with the words; a failure of the error writer changes nothing.
+/// 0: all was done, or help was asked for and written. 1: a bad line, an input or a line over its
+/// limit, or a schedule that met an event without a step. 2: the words name no command; the writer
+/// gets nothing. 3: the reader or the writer failed, or memory ran out. A fault is told in one line to
+/// the error writer, and so is what is wrong with the words; a failure of the error writer changes
+/// nothing.
 pub fn run_words<R: Read, W: Write, E: Write>(
     alloc: Global,
     words: &[String],
@@ -100,22 +142,31 @@ pub fn run_words<R: Read, W: Write, E: Write>(
     writer: &mut W,
     error_writer: &mut E,
 ) -> u8
-    ensures show { (program : List ℕ) → map string_bytes words.now ≡ program ∷ codes "show" ∷ []
-        → IfSome (R.remaining reader.old) (λ input. RunGives input (W.contents writer.old) (W.contents writer.new) result) }
+    ensures named { (program : List ℕ) (choice : Choice)
+        → map string_bytes words.now ≡ program ∷ word_of choice ∷ []
+        → IfSome (R.remaining reader.old)
+        (λ input. RunGives choice input (W.contents writer.old) (W.contents writer.new) result) }
 
     // The words of clap: what is at fault in a list of words, first things first.
-    ensures parsed { fault_of dapnsp (map string_bytes words.now) ≡ []
-        → IfSome (R.remaining reader.old) (λ input. RunGives input (W.contents writer.old) (W.contents writer.new) result) }
+    ensures parsed { (choice : Choice)
+        → fault_of dapnsp (map string_bytes words.now) ≡ []
+        → Chooses (map string_bytes words.now) choice
+        → IfSome (R.remaining reader.old)
+        (λ input. RunGives choice input (W.contents writer.old) (W.contents writer.new) result) }
     ensures mistake { AreMistakes (fault_of dapnsp (map string_bytes words.now))
         → ((result ≡ 2) ⊎ (result ≡ 3)) × Keeps (W.contents writer.old) (W.contents writer.new) }
-    ensures unread { AreMistakes (fault_of dapnsp (map string_bytes words.now)) → R.remaining reader.new ≡ R.remaining reader.old }
-    ensures help { fault_of dapnsp (map string_bytes words.now) ≡ ErrorKind.DisplayHelp ∷ [] → (result ≡ 0) ⊎ (result ≡ 3) }
+    ensures unread { AreMistakes (fault_of dapnsp (map string_bytes words.now))
+        → R.remaining reader.new ≡ R.remaining reader.old }
+    ensures help { fault_of dapnsp (map string_bytes words.now) ≡ ErrorKind.DisplayHelp ∷ []
+        → (result ≡ 0) ⊎ (result ≡ 3) }
 {
     match read_words(alloc, words) {
-        Ok(Choice::Show) => finish(show(alloc, reader, writer), error_writer),
+        Ok(choice) => run_choice(alloc, choice, reader, writer, error_writer),
         Err(error) => refuse(alloc, error, writer, error_writer),
     }
 }
 
+#[cfg(test)]
+mod examples;
 #[cfg(test)]
 mod tests;

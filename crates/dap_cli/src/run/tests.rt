@@ -1,5 +1,6 @@
 //! Exit statuses and texts, and devices that fail.
 
+use crate::run::examples::EXAMPLES;
 use crate::run::run_words;
 use std::alloc::Global;
 use std::io;
@@ -46,6 +47,17 @@ fn lists_a_capture(rt: HostRuntime) -> Result<(), Fail> {
     Ok(())
 }
 
+#[test]
+fn gives_each_example(rt: HostRuntime) -> Result<(), Fail> {
+    for (command, input, status, text) in EXAMPLES {
+        let left = run(rt.alloc(), &[*command], input)?;
+        assert_eq!(&rt; left.status, *status);
+        assert_eq!(&rt; left.written.as_slice(), *text);
+        assert!(&rt; left.told.is_empty());
+    }
+    Ok(())
+}
+
 /// Wants a status, nothing written and a line told.
 fn fails(rt: &impl Abort, left: &Left, status: u8, line: &str) {
     assert_eq!(rt; left.status, status);
@@ -71,8 +83,8 @@ fn tells_faults_of_the_input(rt: HostRuntime) -> Result<(), Fail> {
 fn refuses_other_words(rt: HostRuntime) -> Result<(), Fail> {
     let rows: [&[&str]; 8] = [
         &[],
-        &["msg"],
-        &["run"],
+        &["list"],
+        &["messages"],
         &["help"],
         &["Show"],
         &["show", "show"],
@@ -97,6 +109,23 @@ fn helps(rt: HostRuntime) -> Result<(), Fail> {
         assert!(rt; !left.written.is_empty());
         assert!(rt; left.told.is_empty());
     }
+    Ok(())
+}
+
+#[test]
+fn runs_each_command(rt: HostRuntime) -> Result<(), Fail> {
+    let left = run(rt.alloc(), &["msg"], b"> 0600\n")?;
+    assert_eq!(rt; left.status, 0);
+    let want = b"1 > message len=2\n  ack\n";
+    assert_eq!(rt; left.written.as_slice(), want.as_slice());
+    let left = run(rt.alloc(), &["run"], b"setup 0 8 1024 1024\n")?;
+    assert_eq!(rt; left.status, 1);
+    let want = b"0 refused bad-setup\n";
+    assert_eq!(rt; left.written.as_slice(), want.as_slice());
+    assert!(rt; left.told.is_empty());
+    let left = run(rt.alloc(), &["run"], b"serve\n")?;
+    assert_eq!(rt; left.status, 1);
+    assert_eq!(rt; left.told.as_slice(), b"bad line 1\n".as_slice());
     Ok(())
 }
 
@@ -159,26 +188,47 @@ fn tells_help_that_is_not_taken(rt: HostRuntime) -> Result<(), Fail> {
     Ok(())
 }
 
-/// The status of a listing where a growth may be refused, with what it wrote.
-fn listed(alloc: Global, words: &[String]) -> (u8, Vec<u8>) {
-    let mut reader = b"> 6002\n".as_slice();
+/// Each command with an input, and what it writes.
+const RUNS: [(&str, &[u8], &[u8]); 3] = [
+    ("show", b"> 6002\n", b"1 > bad truncated at=1\n"),
+    ("msg", b"> 0600\n", b"1 > message len=2\n  ack\n"),
+    (
+        "run",
+        b"setup 512 8 64 64\nask hello\npost a\n",
+        b"1 asked 1\n2 posted 1\n",
+    ),
+];
+
+/// Runs a command where a growth may be refused, and wants its text, or status 3 and a front of it.
+fn runs_or_wants_memory(
+    rt: &impl Abort,
+    alloc: Global,
+    words: &[String],
+    input: &[u8],
+    text: &[u8],
+) -> bool {
+    let mut reader = input;
     let mut written = Vec::new(alloc);
     let mut told = Vec::new(alloc);
     let status = run_words(alloc, words, &mut reader, &mut written, &mut told);
-    (status, written)
+    if status == 0 {
+        assert_eq!(rt; written.as_slice(), text);
+        return true;
+    }
+    assert_eq!(rt; status, 3);
+    assert!(rt; text.starts_with(written.as_slice()));
+    false
 }
 
 #[test]
-fn lists_after_want_of_memory(rt: HostRuntime) -> Result<(), Fail> {
-    let words = [
-        String::from_str(rt.alloc(), "dapnsp")?,
-        String::from_str(rt.alloc(), "show")?,
-    ];
-    let (first, _written) = listed(rt.alloc(), &words);
-    assert!(rt; first == 0 || first == 3);
-    let (second, written) = listed(rt.alloc(), &words);
-    assert_eq!(rt; second, 0);
-    let want = b"1 > bad truncated at=1\n";
-    assert_eq!(rt; written.as_slice(), want.as_slice());
+fn goes_on_after_want_of_memory(rt: HostRuntime) -> Result<(), Fail> {
+    for (command, input, text) in RUNS {
+        let words = [
+            String::from_str(rt.alloc(), "dapnsp")?,
+            String::from_str(rt.alloc(), command)?,
+        ];
+        let first = runs_or_wants_memory(&rt, rt.alloc(), &words, input, text);
+        assert!(&rt; first || runs_or_wants_memory(&rt, rt.alloc(), &words, input, text));
+    }
     Ok(())
 }

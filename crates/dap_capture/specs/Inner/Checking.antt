@@ -1,0 +1,7 @@
+-- What a check of lines tells.
+use Rattle.std.specs.Prelude.{◌≡◌, List, [], slice_get, Some, Result, MatchResult}
+use Rattle.dap_capture.specs.declared.fault.CaptureFault.{CaptureFault}
+
+-- the first of the faults, where there is one
+abbrev pub TellsFirst : {X : Type 0} → Result X CaptureFault → List CaptureFault → Type 0
+TellsFirst result faults = MatchResult result (λ _. faults ≡ []) (λ fault. slice_get faults 0 ≡ Some fault)

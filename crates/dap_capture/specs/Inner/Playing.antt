@@ -1,0 +1,29 @@
+-- What the program does of one event.
+use Rattle.std.specs.Prelude.{◌≡◌, ℕ, List, ◌++◌, Some, String}
+use Rattle.dap_world.specs.declared.event.Event.{Event}
+use Rattle.dap_world.specs.declared.event.Step.{Step}
+use Rattle.dap_world.specs.declared.event.WorldFault.{WorldFault}
+use Rattle.dap_world.specs.Machine.{State, Steps, Refuses}
+use Rattle.dap_capture.specs.declared.fault.Outcome.{Outcome}
+use Rattle.dap_capture.specs.declared.fault.Outcome.TheVariants.{Good, Stopped}
+use Rattle.dap_capture.specs.Orders.{event_of}
+use Rattle.dap_capture.specs.Inner.Adding.{Adds}
+use Rattle.dap_capture.specs.Played.{IsStepText, event_line, refusal_line, refusal_text}
+
+-- The line of an event that came to this step is added.
+abbrev pub AddsStep : {Z : Type 0} → ℕ → State → Event → Step → String Z → String Z → Type 0
+AddsStep number s e step old new = (text : List ℕ) × IsStepText s e step text × Adds old new (event_line number text)
+
+-- The line of an event is appended, and the event came to a step, or to a refusal.
+abbrev pub PlaysOne : ℕ → Event → State → State → List ℕ → List ℕ → Outcome → Type 0
+PlaysOne number e old new before after Good =
+    (answer : Step) × (text : List ℕ) × Steps old e answer new × IsStepText new e answer text
+    × (after ≡ before ++ event_line number text)
+PlaysOne number e old new before after Stopped =
+    (f : WorldFault) × (word : List ℕ) × Refuses old e f × (refusal_text f ≡ Some word) × (new ≡ old)
+    × (after ≡ before ++ refusal_line number word)
+
+-- the same of the event that a line says
+abbrev pub PlaysLine : ℕ → List ℕ → State → State → List ℕ → List ℕ → Outcome → Type 0
+PlaysLine number line old new before after outcome =
+    (e : Event) × (event_of line ≡ Some e) × PlaysOne number e old new before after outcome

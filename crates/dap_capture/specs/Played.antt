@@ -1,0 +1,115 @@
+-- The text of a schedule: that of some run of the machine.
+use Rattle.std.specs.Prelude.{◌≡◌, ℕ, ◌+◌, ◌-◌, List, [], ◌∷◌, ◌++◌, length, slice_get, codes, Option, Some, None, Result}
+use Rattle.std.specs.List.{concat}
+use Rattle.std.specs.Fmt.{decimal}
+use Rattle.hex.specs.Hex.{encode_lower}
+use Rattle.dap_accessing.specs.declared.report.Report.{Report}
+use Rattle.dap_accessing.specs.declared.fault.AskFault.TheVariants as ask_fault
+use Rattle.dap_world.specs.declared.event.End.{End}
+use Rattle.dap_world.specs.declared.event.End.TheVariants.{A, B}
+use Rattle.dap_world.specs.declared.event.Event.{Event}
+use Rattle.nsp_link.specs.declared.link.Got.{Got}
+use Rattle.nsp_link.specs.declared.link.Got.TheVariants.{Accepted, Repeat, Early, AckOnly}
+use Rattle.dap_world.specs.declared.event.Step.{Step}
+use Rattle.dap_world.specs.declared.event.Step.TheVariants as step
+use Rattle.dap_world.specs.declared.event.WorldFault.{WorldFault}
+use Rattle.dap_world.specs.declared.event.WorldFault.TheVariants as fault
+use Rattle.dap_world.specs.declared.setup.WorldSetup.{WorldSetup}
+use Rattle.dap_world.specs.Machine.{State, Sending, Steps, Refuses, fresh, sends, reported, files_of}
+use Rattle.dap_world.specs.Setups.{IsWorldSetup}
+use Rattle.dap_world.specs.Wires.{IsPacketOf}
+use Rattle.dap_world.specs.Runs.{writer_of}
+use Rattle.dap_capture.specs.Text.{line_feed}
+use Rattle.dap_capture.specs.Reports.{report_text}
+use Rattle.dap_capture.specs.Tables.{files_text}
+use Rattle.dap_capture.specs.Orders.{setup_of}
+use Rattle.dap_capture.specs.Schedules.{Numbered, events_of, said, schedule_faults}
+use Rattle.dap_capture.specs.Gives.{Gives}
+use Rattle.dap_capture.specs.declared.fault.CaptureFault.{CaptureFault}
+use Rattle.dap_capture.specs.declared.fault.Outcome.{Outcome}
+use Rattle.dap_capture.specs.declared.fault.Outcome.TheVariants.{Good, Stopped}
+
+-- the line of the event of a number
+abbrev pub event_line : ℕ → List ℕ → List ℕ
+event_line number text = concat (decimal number ∷ codes " " ∷ text ∷ line_feed ∷ [])
+
+-- the line of an event that is refused
+abbrev pub refusal_line : ℕ → List ℕ → List ℕ
+refusal_line number word = event_line number (codes "refused " ++ word)
+
+abbrev pub end_text : End → List ℕ
+end_text A = codes "a"
+end_text B = codes "b"
+
+abbrev pub got_text : Got → List ℕ
+got_text Accepted = codes "accepted"
+got_text Repeat = codes "repeat"
+got_text Early = codes "early"
+got_text AckOnly = codes "ack-only"
+
+-- the packet at a place of an end's wire, in hex
+pub record IsPacketWritten (s : State) (end : End) (place : ℕ) (text : List ℕ) : Type 0 where
+  pub sending : Sending
+  pub bytes : List ℕ
+  pub written : slice_get (sends s end).wire place ≡ Some sending
+  pub packet : IsPacketOf s end sending bytes
+  pub printed :
+      text ≡ concat (codes "packet " ∷ end_text end ∷ codes " " ∷ decimal place ∷ codes " " ∷ encode_lower bytes ∷ [])
+
+-- the newest report
+pub record IsReported (s : State) (text : List ℕ) : Type 0 where
+  pub report : Report
+  pub newest : slice_get (reported s) (length (reported s) - 1) ≡ Some report
+  pub printed : text ≡ codes "report " ++ report_text report
+
+-- what is printed of an event that came to this step and left this state
+abbrev pub IsStepText : State → Event → Step → List ℕ → Type 0
+IsStepText s e (step.Asked count) text = text ≡ codes "asked " ++ decimal count
+IsStepText s e (step.Posted count) text = text ≡ codes "posted " ++ decimal count
+IsStepText s e (step.Packet place) text = (end : End) × (writer_of e ≡ Some end) × IsPacketWritten s end place text
+IsStepText s e (step.Delivered got) text = text ≡ got_text got
+IsStepText s e (step.Served count) text = text ≡ codes "served " ++ decimal count
+IsStepText s e step.Nothing text = text ≡ codes "read"
+IsStepText s e step.Reported text = IsReported s text
+
+-- the word for a refusal; want of memory has none
+abbrev pub refusal_text : WorldFault → Option (List ℕ)
+refusal_text fault.NoSuchPacket = Some (codes "no-such-packet")
+refusal_text fault.Stale = Some (codes "stale")
+refusal_text fault.NothingToDo = Some (codes "nothing-to-do")
+refusal_text (fault.Ask ask_fault.Failed) = Some (codes "ask-failed")
+refusal_text (fault.Ask ask_fault.Busy) = Some (codes "ask-busy")
+refusal_text (fault.Ask ask_fault.WrongPhase) = Some (codes "ask-phase")
+refusal_text (fault.Ask ask_fault.TooLarge) = Some (codes "ask-too-large")
+refusal_text (fault.Ask ask_fault.NoMemory) = None
+refusal_text fault.NoMemory = None
+refusal_text fault.Exhausted = Some (codes "exhausted")
+refusal_text fault.BadSetup = None
+
+-- The text of a run from a state over events, the first of which has the number: a line for each step, up to the first
+-- event without one, and then the files.
+pub data Plays : State → ℕ → List Event → Outcome → List ℕ → Type 0 where
+  over : {s : State} {number : ℕ} → Plays s number [] Good (files_text (files_of s))
+  goes : {s : State} {number : ℕ} {e : Event} {events : List Event} {outcome : Outcome}
+      (answer : Step) (new : State) (text rest : List ℕ)
+      → Steps s e answer new → IsStepText new e answer text → Plays new (number + 1) events outcome rest
+      → Plays s number (e ∷ events) outcome (event_line number text ++ rest)
+  stops : {s : State} {number : ℕ} {e : Event} {events : List Event}
+      (f : WorldFault) (word : List ℕ)
+      → Refuses s e f → refusal_text f ≡ Some word
+      → Plays s number (e ∷ events) Stopped (refusal_line number word ++ files_text (files_of s))
+
+-- The text of the lines of a schedule: nothing where there is none, or the refusal of the setup, or that of a run from
+-- a world in which nothing has happened.
+pub data Played : List Numbered → Outcome → List ℕ → Type 0 where
+  empty : Played [] Good []
+  setup_refused : {first : Numbered} {others : List Numbered} (setup : WorldSetup)
+      → setup_of first.1 ≡ Some setup → (IsWorldSetup setup → ⊥)
+      → Played (first ∷ others) Stopped (refusal_line 0 (codes "bad-setup"))
+  played : {first : Numbered} {others : List Numbered} {outcome : Outcome} {text : List ℕ} (setup : WorldSetup)
+      → setup_of first.1 ≡ Some setup → IsWorldSetup setup → Plays (fresh setup) 1 (events_of others) outcome text
+      → Played (first ∷ others) outcome text
+
+-- what a run over a schedule answers
+abbrev pub ScheduleGives : List ℕ → Option (List ℕ) → Option (List ℕ) → Result Outcome CaptureFault → Type 0
+ScheduleGives input = Gives (schedule_faults (said input)) (Played (said input)) input

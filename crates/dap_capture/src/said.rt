@@ -1,0 +1,81 @@
+//! The lines of a schedule that say something.
+
+ghost use Rattle.std.specs.Prelude.{◌≡◌, ◌≤◌, ◌+◌, ◌∷◌, [], length, IfSome, MatchOption};
+ghost use Rattle.dap_capture.specs.Schedules.{is_skipped as skipped, said, said_from};
+
+use crate::input::INPUT_LIMIT;
+use crate::lines::next_line;
+use std::marker::Model;
+
+/// Whether a line says nothing.
+fn is_skipped(line: &[u8]) -> bool
+    ensures { result ≡ skipped line.now }
+{
+    matches!(line, [] | [b'#', ..])
+}
+
+/// The first line that says something, behind its number, and what stands after it. The first of
+/// all lines has the number.
+fn next_said(number: usize, bytes: &[u8]) -> Option<(usize, &[u8], &[u8])>
+    requires { number + length bytes.now ≤ INPUT_LIMIT + 1 }
+    ensures said { MatchOption result (said_from number bytes.now ≡ [])
+        (λ found. said_from number bytes.now ≡ (found.0, found.1.now) ∷ said_from (found.0 + 1) found.2.now) }
+    ensures counted { IfSome result (λ found. found.0 + 1 + length found.2.now ≤ INPUT_LIMIT + 1) }
+{
+    let mut number = number;
+    let mut rest = bytes;
+    while let Some((line, after)) = next_line(rest) {
+        if !is_skipped(line) {
+            return Some((number, line, after));
+        }
+        number += 1;
+        rest = after;
+    }
+    None
+}
+
+/// The lines that say something, from a place of the input on, each behind its number.
+#[derive(Drop)]
+pub(crate) struct Said<'a> {
+    number: usize,
+    rest: &'a [u8],
+}
+
+impl<'a> Model for Said<'a> {
+    ghost use Rattle.std.specs.Prelude.{List, ◌+◌, ◌≤◌, length};
+    ghost use Rattle.dap_capture.specs.Schedules.{Numbered, said_from};
+
+    ghost Value = { List Numbered };
+
+    ghost view = { λ s. said_from s.number s.rest.now };
+
+    ghost invariant = { λ s. s.number + length s.rest.now ≤ 16777217 };
+}
+
+impl<'a> Said<'a> {
+    ghost use Rattle.std.specs.Prelude.{◌≡◌, ◌≤◌, ◌+◌, ◌∷◌, [], length, MatchOption};
+    ghost use Rattle.dap_capture.specs.Schedules.{said};
+
+    /// Those of a whole input.
+    pub(crate) fn of(input: &'a [u8]) -> Self
+        requires { length input.now ≤ INPUT_LIMIT }
+        ensures said { result ≡ said input.now }
+        ensures short { length result ≤ length input.now + 1 }
+    {
+        Said {
+            number: 1,
+            rest: input,
+        }
+    }
+
+    /// The next one.
+    pub(crate) fn next(&mut self) -> Option<(usize, &'a [u8])>
+        ensures { MatchOption result ((self.old ≡ []) × (self.new ≡ []))
+            (λ found. self.old ≡ (found.0, found.1.now) ∷ self.new) }
+    {
+        let (number, line, after) = next_said(self.number, self.rest)?;
+        self.number = number + 1;
+        self.rest = after;
+        Some((number, line))
+    }
+}

@@ -1,0 +1,144 @@
+//! What a schedule prints of its events.
+
+ghost use Rattle.std.specs.Prelude.{◌≡◌, ◌<◌, ◌++◌, ℕ, List, OnOk, None, codes, length, option_copied, string_bytes};
+ghost use Rattle.dap_world.specs.Machine.{reported, sends};
+ghost use Rattle.dap_world.specs.Runs.{Answers, writer_of};
+ghost use Rattle.dap_capture.specs.Inner.Adding.{Adds, AddsSome};
+ghost use Rattle.dap_capture.specs.Inner.Playing.{AddsStep};
+ghost use Rattle.dap_capture.specs.Played.{IsPacketWritten, IsReported, IsStepText, end_text, got_text, refusal_line, refusal_text};
+
+use crate::reports::push_report;
+use dap_world::{AskFault, End, Event, Got, Step, World, WorldFault};
+use std::alloc::{AllocError, Global};
+
+/// The word for an end.
+fn end_word(end: End) -> &'static str
+    ensures { result.now ≡ end_text end }
+{
+    match end {
+        End::A => "a",
+        End::B => "b",
+    }
+}
+
+/// The word for a delivery.
+fn got_word(got: Got) -> &'static str
+    ensures { result.now ≡ got_text got }
+{
+    match got {
+        Got::Accepted => "accepted",
+        Got::Repeat => "repeat",
+        Got::Early => "early",
+        Got::AckOnly => "ack-only",
+    }
+}
+
+/// The word for a refusal; want of memory has none.
+pub(crate) fn refusal_word(fault: WorldFault) -> Option<&'static str>
+    ensures { option_copied result ≡ refusal_text fault }
+{
+    match fault {
+        WorldFault::NoSuchPacket => Some("no-such-packet"),
+        WorldFault::Stale => Some("stale"),
+        WorldFault::NothingToDo => Some("nothing-to-do"),
+        WorldFault::Ask(AskFault::Failed) => Some("ask-failed"),
+        WorldFault::Ask(AskFault::Busy) => Some("ask-busy"),
+        WorldFault::Ask(AskFault::WrongPhase) => Some("ask-phase"),
+        WorldFault::Ask(AskFault::TooLarge) => Some("ask-too-large"),
+        WorldFault::Exhausted => Some("exhausted"),
+        WorldFault::Ask(AskFault::NoMemory) | WorldFault::NoMemory | WorldFault::BadSetup => None,
+    }
+}
+
+/// The end that writes a packet in this event.
+fn writer(event: &Event) -> Option<End>
+    ensures { result ≡ writer_of event.now }
+{
+    match event {
+        Event::Emit(end) | Event::Resend(end, _) | Event::Ack(end) => Some(*end),
+        _ => None,
+    }
+}
+
+/// Appends the packet at a place of an end's wire.
+fn push_packet(
+    alloc: Global,
+    text: &mut String,
+    world: &World,
+    end: End,
+    place: usize,
+) -> Result<(), AllocError>
+    requires { place < length (sends world.now end).wire }
+    ensures { OnOk result (AddsSome text.old text.new (IsPacketWritten world.now end place)) }
+{
+    let wire = world.wire(end);
+    let digits = hex::encode(alloc, wire[place].packet.as_slice())?;
+    let word = end_word(end);
+    write!(text, "packet {word} {place} {digits}")
+}
+
+/// Appends the newest report.
+fn push_newest(alloc: Global, text: &mut String, world: &World) -> Result<(), AllocError>
+    requires { 0 < length (reported world.now) }
+    ensures { OnOk result (AddsSome text.old text.new (IsReported world.now)) }
+{
+    let Some(newest) = world.reports().last() else {
+        unreachable!()
+    };
+    text.push_str("report ")?;
+    push_report(alloc, text, newest)
+}
+
+/// Appends what a step says.
+fn push_step(
+    alloc: Global,
+    text: &mut String,
+    world: &World,
+    event: &Event,
+    step: Step,
+) -> Result<(), AllocError>
+    requires { Answers event.now step world.now }
+    ensures { OnOk result (AddsSome text.old text.new (IsStepText world.now event.now step)) }
+{
+    match step {
+        Step::Asked(count) => write!(text, "asked {count}"),
+        Step::Posted(count) => write!(text, "posted {count}"),
+        Step::Packet(place) => {
+            let Some(end) = writer(event) else {
+                unreachable!()
+            };
+            push_packet(alloc, text, world, end, place)
+        }
+        Step::Delivered(got) => {
+            let word = got_word(got);
+            write!(text, "{word}")
+        }
+        Step::Served(count) => write!(text, "served {count}"),
+        Step::Nothing => text.push_str("read"),
+        Step::Reported => push_newest(alloc, text, world),
+    }
+}
+
+/// Appends the line of an event that came to a step.
+pub(crate) fn push_event(
+    alloc: Global,
+    text: &mut String,
+    number: usize,
+    world: &World,
+    event: &Event,
+    step: Step,
+) -> Result<(), AllocError>
+    requires { Answers event.now step world.now }
+    ensures { OnOk result (AddsStep number world.now event.now step text.old text.new) }
+{
+    write!(text, "{number} ")?;
+    push_step(alloc, text, world, event, step)?;
+    text.push_str("\n")
+}
+
+/// Appends the line of an event that was refused.
+pub(crate) fn push_refusal(text: &mut String, number: usize, word: &str) -> Result<(), AllocError>
+    ensures { OnOk result (Adds text.old text.new (refusal_line number word.now)) }
+{
+    writeln!(text, "{number} refused {word}")
+}

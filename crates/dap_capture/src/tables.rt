@@ -1,0 +1,97 @@
+//! How files are printed.
+
+ghost use Rattle.std.specs.Prelude.{◌≡◌, ◌<◌, ◌++◌, OnOk, length, string_bytes};
+ghost use Rattle.std.specs.FinMap.{entries};
+ghost use Rattle.std.specs.List.{flat_map};
+ghost use Rattle.rec_file.specs.AnyFiles.{any_value};
+ghost use Rattle.dap_capture.specs.Inner.Adding.{Adds};
+ghost use Rattle.dap_capture.specs.Tables.{file_line, file_text, files_text, format_text, org_text, record_line, records_text};
+
+use crate::text::image_digits;
+use dap_world::{AnyFile, FileTable, Format, Org, RecordFile, Shape};
+use rec_file::first_record;
+use std::alloc::{AllocError, Global};
+
+/// The word for an organization.
+fn org_word(org: Org) -> &'static str
+    ensures { result.now ≡ org_text org }
+{
+    match org {
+        Org::Seq => "seq",
+        Org::Rel => "rel",
+    }
+}
+
+/// The word for a record format.
+fn format_word(format: Format) -> &'static str
+    ensures { result.now ≡ format_text format }
+{
+    match format {
+        Format::Fixed => "fixed",
+        Format::Variable => "variable",
+    }
+}
+
+/// Appends the line of a file.
+fn push_file_line(
+    alloc: Global,
+    text: &mut String,
+    name: &[u8],
+    shape: Shape,
+) -> Result<(), AllocError>
+    ensures { OnOk result (Adds text.old text.new (file_line name.now shape)) }
+{
+    let name = image_digits(alloc, name)?;
+    let org = org_word(shape.org);
+    let format = format_word(shape.format);
+    let mrs = shape.mrs;
+    let mrn = shape.mrn;
+    writeln!(text, "file {name} {org} {format} {mrs} {mrn}")
+}
+
+/// Appends the line of a record.
+fn push_record(alloc: Global, text: &mut String, number: u32, body: &[u8]) -> Result<(), AllocError>
+    ensures { OnOk result (Adds text.old text.new (record_line (number, body.now))) }
+{
+    let body = image_digits(alloc, body)?;
+    writeln!(text, "  {number} {body}")
+}
+
+/// Appends the lines of a file's records, in the order of their numbers.
+fn push_records(alloc: Global, text: &mut String, file: &AnyFile) -> Result<(), AllocError>
+    ensures { OnOk result (Adds text.old text.new (records_text (any_value file.now))) }
+{
+    let mut next = 0;
+    while let Some((number, body)) = first_record(file, next) {
+        push_record(alloc, text, number, body)?;
+        next = number + 1;
+    }
+    Ok(())
+}
+
+/// Appends the lines of a file.
+fn push_file(
+    alloc: Global,
+    text: &mut String,
+    name: &[u8],
+    file: &AnyFile,
+) -> Result<(), AllocError>
+    ensures { OnOk result (Adds text.old text.new (file_text (name.now, any_value file.now))) }
+{
+    push_file_line(alloc, text, name, file.shape())?;
+    push_records(alloc, text, file)
+}
+
+/// Appends the lines of all files, in the order in which they were made.
+pub(crate) fn push_files(
+    alloc: Global,
+    text: &mut String,
+    files: &FileTable,
+) -> Result<(), AllocError>
+    ensures { OnOk result (Adds text.old text.new (files_text files.now)) }
+{
+    for at in 0..files.count() {
+        push_file(alloc, text, files.name(at), files.file(at))?;
+    }
+    Ok(())
+}

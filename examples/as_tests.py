@@ -1,0 +1,56 @@
+#!/usr/bin/env python3
+"""Writes the examples as a table of tests, crates/dap_cli/src/run/examples.rt.
+
+usage: as_tests.py            writes the table
+       as_tests.py --check    ends with status 1 where the table isn't that of the examples, or the
+                              README doesn't show those that are named after it
+"""
+import pathlib
+import sys
+
+HERE = pathlib.Path(__file__).resolve().parent
+TABLE = HERE.parent / "crates/dap_cli/src/run/examples.rt"
+
+# the command of each kind of input, and the examples that end with status 1
+COMMANDS = {".capture": "show", ".messages": "msg", ".schedule": "run"}
+STOPPED = ["lost"]
+
+
+def literal(data):
+    """The bytes as a byte string."""
+    return 'b"' + data.decode("ascii").replace("\\", "\\\\").replace('"', '\\"').replace("\n", "\\n") + '"'
+
+
+def table():
+    """The text of the table."""
+    lines = [
+        "//! The examples of `examples/`, as `examples/as_tests.py` writes them.",
+        "",
+        "/// A command, an input, the exit status, and what is written.",
+        "pub(super) const EXAMPLES: &[(&str, &[u8], u8, &[u8])] = &[",
+    ]
+    for file in sorted(HERE.iterdir()):
+        if file.suffix in COMMANDS:
+            status = 1 if file.stem in STOPPED else 0
+            lines += [
+                "    (",
+                f'        "{COMMANDS[file.suffix]}",',
+                f"        {literal(file.read_bytes())},",
+                f"        {status},",
+                f"        {literal(file.with_suffix('.out').read_bytes())},",
+                "    ),",
+            ]
+    return "\n".join(lines + ["];", ""])
+
+
+if sys.argv[1:] == ["--check"]:
+    readme = (HERE.parent / "README.md").read_text()
+    for file in HERE.glob("readme_*"):
+        if file.read_text() not in readme:
+            sys.exit(f"examples: the README doesn't show {file.name}")
+    if not TABLE.exists() or TABLE.read_text() != table():
+        sys.exit(f"examples: {TABLE} isn't that of the examples: run examples/as_tests.py")
+elif sys.argv[1:]:
+    sys.exit(__doc__)
+else:
+    TABLE.write_text(table())
