@@ -14,6 +14,7 @@ use Rattle.dap_capture.specs.declared.orders.Wanted.{Wanted}
 use Rattle.dap_capture.specs.declared.orders.Wanted.TheVariants as wanted
 use Rattle.dap_capture.specs.declared.orders.Verb.{Verb}
 use Rattle.dap_capture.specs.declared.orders.Verb.TheVariants as verb
+use Rattle.dap_capture.specs.declared.orders.NewFile.{NewFile}
 use Rattle.dap_capture.specs.declared.orders.Wish.{Wish}
 use Rattle.dap_capture.specs.declared.orders.Wish.TheVariants as wish
 use Rattle.dap_capture.specs.declared.orders.Order.{Order}
@@ -203,9 +204,12 @@ setup_of line = setup_words (words_of line)
 
 -- ---- What the orders of the program are.
 
+abbrev pub creation_of : NewFile → Request
+creation_of file = request.Create file.name file.org file.rfm file.mrs file.mrn file.fac
+
 abbrev pub request_of_wish : Wish → Request
 request_of_wish wish.Hello = request.Hello
-request_of_wish (wish.Create name org rfm mrs mrn fac) = request.Create name org rfm mrs mrn fac
+request_of_wish (wish.Create file) = creation_of file
 request_of_wish (wish.OpenFile name fac) = request.OpenFile name fac
 request_of_wish wish.Connect = request.Connect
 request_of_wish (wish.Get by) = request.Get by
