@@ -1,5 +1,5 @@
 -- A segment is sent, delivered and acknowledged.
-use Rattle.std.proofs.Common.{◌≡◌, ℕ, ◌+◌, ◌*◌, ◌≤◌, arith, refl, sym, ◌∙◌, subst, ap, Bool, true, false, length, le-ltb}
+use Rattle.std.proofs.Common.{◌≡◌, ℕ, ◌+◌, ◌*◌, ◌≤◌, ◌<◌, List, arith, refl, sym, ◌∙◌, subst, ap, Bool, true, false, length, le-ltb}
 use Rattle.std.specs.Prelude.{Option, Some, None, Err, slice_get}
 use Rattle.dap_world.specs.declared.event.End.{End}
 use Rattle.dap_world.specs.declared.event.End.TheVariants.{A, B}
@@ -7,11 +7,12 @@ use Rattle.dap_world.specs.declared.event.Event.TheVariants as event
 use Rattle.dap_world.specs.declared.event.Step.{Step}
 use Rattle.dap_world.specs.declared.event.WorldFault.{WorldFault}
 use Rattle.dap_world.specs.declared.event.WorldFault.TheVariants as fault
-use Rattle.dap_world.specs.Machine.{Refuses, State, Direction, Sending, sends, other, wrote, came, delivered, is_stale, MayEmit, Steps}
+use Rattle.dap_world.specs.Machine.{Refuses, State, Direction, Sending, sends, other, wrote, came, delivered, is_stale, MayEmit, segments_of, Steps}
+use Rattle.dap_msg.specs.Blocked.{NspMessage}
 use Rattle.dap_world.specs.Runs.{Went}
 use Rattle.dap_world.specs.Inner.Worlds.{IsWorld}
-use Rattle.dap_world.specs.Settling.{RanBy, RanTo, unacked}
-use Rattle.dap_world.specs.Inner.Settling.{SameBut, Brought}
+use Rattle.dap_world.specs.Settling.{RanBy, RanTo, SameBut, unacked}
+use Rattle.dap_world.specs.Inner.Settling.{Brought}
 use Rattle.dap_world.proofs.Directions.{came-moves, kept-came, AreTrue-at}
 use Rattle.dap_world.proofs.Settles.{ran_none, ran_one, ran_both, at_last, is_same, took}
 
@@ -47,10 +48,10 @@ same_both old mid new a b =
       acked = λ e. omega (arith, a.acked e, b.acked e);
     }
 
-same_is : (old mid new : State) → new ≡ mid → SameBut old mid → SameBut old new
+pub same_is : (old mid new : State) → new ≡ mid → SameBut old mid → SameBut old new
 same_is old mid new is h = subst (SameBut old) (sym is) h
 
-same_wrote : (s : State) (end : End) (sent : ℕ) (k : Option ℕ) → SameBut s (wrote s end sent k)
+pub same_wrote : (s : State) (end : End) (sent : ℕ) (k : Option ℕ) → SameBut s (wrote s end sent k)
 same_wrote s A sent k =
     record {
       seg_size = refl;
@@ -335,3 +336,11 @@ brought_more old mid new end n a b =
       back = b.back ∙ a.back;
       done = b.done;
     }
+
+-- where a segment may be sent later, one may be sent now
+pub could_emit : (old now : State) (end : End) (n : ℕ) → IsWorld old → unacked old end ≡ 0 → Brought old now end n → MayEmit now end → MayEmit old end
+could_emit old now end n h none b may = (
+  subst (λ (l : List NspMessage). (sends old end).sent < segments_of old.seg_size l) (b.same.handed end)
+      (subst (λ (k : ℕ). (sends old end).sent < segments_of k (sends now end).handed) b.same.seg_size (omega (arith, may.0, b.sent))),
+  omega (arith, none, h.some),
+)

@@ -1,5 +1,5 @@
 -- Every answer is read.
-use Rattle.std.proofs.Common.{◌≡◌, ℕ, ◌+◌, ◌-◌, ◌<◌, arith, refl, sym, ◌∙◌, subst, ap, length}
+use Rattle.std.proofs.Common.{◌≡◌, ℕ, ◌+◌, ◌-◌, ◌≤◌, ◌<◌, arith, refl, sym, ◌∙◌, subst, ap, length}
 use Rattle.std.specs.Prelude.{Err}
 use Rattle.dap_world.specs.declared.event.Event.TheVariants as event
 use Rattle.dap_world.specs.declared.event.Step.{Step}
@@ -8,8 +8,8 @@ use Rattle.dap_world.specs.declared.event.WorldFault.TheVariants as fault
 use Rattle.dap_world.specs.Machine.{Refuses, State, Steps, arrived_of}
 use Rattle.dap_world.specs.Runs.{Went}
 use Rattle.dap_world.specs.Inner.Worlds.{IsWorld}
-use Rattle.dap_world.specs.Settling.{RanBy, RanTo}
-use Rattle.dap_world.specs.Inner.Settling.{ReadEvery}
+use Rattle.dap_world.specs.Settling.{RanBy}
+use Rattle.dap_world.specs.Inner.Settling.{ReadEvery, ReadPart}
 use Rattle.dap_world.proofs.Settles.{ran_none, ran_more}
 
 -- so many were read so far
@@ -47,12 +47,15 @@ read_ends old now new n k h went is =
     subst (λ (m : ℕ). ReadEvery old new m) (sym count)
     (subst (λ (s : State). ReadEvery old s n) (sym went.1) (record { ran = h.ran; read = h.read; count = h.count; none_left = went.0 }))
 
-pub read_refused : (old now new : State) (n : ℕ) (f : WorldFault) → (f ≡ fault.NothingToDo → ⊥) → ReadSome old now n → Went now event.Read (Err f) new → (f ≡ fault.NoMemory) × RanTo old new
+pub read_refused : (old now new : State) (n : ℕ) (f : WorldFault) → (f ≡ fault.NothingToDo → ⊥) → IsWorld now → ReadSome old now n → Went now event.Read (Err f) new → (f ≡ fault.NoMemory) × ReadPart old new × IsWorld new
 unfolding Steps Refuses
-read_refused old now new n fault.NoMemory other h went = (refl, (n, subst (λ (s : State). RanBy old s n) (sym went.1) h.ran))
-read_refused old now new n fault.NothingToDo other h went = absurd (other refl)
-read_refused old now new n fault.NoSuchPacket other h went = absurd went.0
-read_refused old now new n fault.Stale other h went = absurd went.0
-read_refused old now new n (fault.Ask g) other h went = absurd went.0
-read_refused old now new n fault.Exhausted other h went = absurd went.0
-read_refused old now new n fault.BadSetup other h went = absurd went.0
+read_refused old now new n fault.NoMemory other w h went =
+    let may = went.0.0.2 in
+    let part : ReadPart old now = record { ran = (n, h.ran); read = h.read; more = omega (arith, h.count); next = may.0; there = may.1 } in
+    (refl, subst (ReadPart old) (sym went.1) part, subst IsWorld (sym went.1) w)
+read_refused old now new n fault.NothingToDo other w h went = absurd (other refl)
+read_refused old now new n fault.NoSuchPacket other w h went = absurd went.0
+read_refused old now new n fault.Stale other w h went = absurd went.0
+read_refused old now new n (fault.Ask g) other w h went = absurd went.0
+read_refused old now new n fault.Exhausted other w h went = absurd went.0
+read_refused old now new n fault.BadSetup other w h went = absurd went.0

@@ -109,5 +109,5 @@ all_few size (p ∷ packets) most fit short le =
     )
 
 pub few_messages : (size : ℕ) (packets : List NspMessage) (n : ℕ) → n ≤ length (messages_in packets) → AllFit (messages_in packets) → (most : ℕ) → AreShort most (all_joined packets) → most ≤ largest_limit
-    → length (cut size (all_joined packets)) ≤ most_segments → n < 2 ^ 63
+    → length (cut size (all_joined packets)) ≤ most_segments → n < 2 ^ 56
 few_messages size packets n le fit most short limit few = omega (arith, le, few, all_few size packets most fit short limit)

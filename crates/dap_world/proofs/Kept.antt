@@ -69,6 +69,7 @@ pub is_fresh : (setup : WorldSetup) → IsWorldSetup setup → IsWorld (fresh se
 is_fresh setup h =
     record {
       window = h.window_limit;
+      some = h.window;
       own_a = h.own_a;
       own_b = h.own_b;
       from_a = is_idle setup.seg_size setup.window;
@@ -114,6 +115,7 @@ kept-asked s r h m =
     let packets = asking s r in
     record {
       window = h.window;
+      some = h.some;
       own_a = h.own_a;
       own_b = h.own_b;
       from_a = kept-waiting s.seg_size s.window s.from_a s.from_b h.from_a (s.from_a.waiting ++ packets);
@@ -133,6 +135,7 @@ kept-posted : (s : State) (end : End) → IsWorld s → segments_then s end ≤ 
 kept-posted s A h few =
     record {
       window = h.window;
+      some = h.some;
       own_a = h.own_a;
       own_b = h.own_b;
       from_a = kept-handed s.seg_size s.window s.from_a s.from_b h.from_a [] s.from_a.waiting few;
@@ -146,6 +149,7 @@ kept-posted s A h few =
 kept-posted s B h few =
     record {
       window = h.window;
+      some = h.some;
       own_a = h.own_a;
       own_b = h.own_b;
       from_a = kept-back s.seg_size s.window s.from_a s.from_b h.from_a _ (omega arith);
@@ -164,6 +168,7 @@ kept-wrote : (s : State) (end : End) (sent : ℕ) (segment : Option ℕ) → IsW
 kept-wrote s A sent segment h le within there was =
     record {
       window = h.window;
+      some = h.some;
       own_a = h.own_a;
       own_b = h.own_b;
       from_a = kept-writes s.seg_size s.window s.from_a s.from_b h.from_a sent _ le within there was (omega arith);
@@ -177,6 +182,7 @@ kept-wrote s A sent segment h le within there was =
 kept-wrote s B sent segment h le within there was =
     record {
       window = h.window;
+      some = h.some;
       own_a = h.own_a;
       own_b = h.own_b;
       from_a = kept-back s.seg_size s.window s.from_a s.from_b h.from_a _ (omega arith);
@@ -211,6 +217,7 @@ kept-delivered keep s A p h was acks =
     let got = kept-came s.seg_size s.window s.from_b s.from_a h.from_b keep p.segment was in
     record {
       window = h.window;
+      some = h.some;
       own_a = h.own_a;
       own_b = h.own_b;
       from_a = kept-back s.seg_size s.window _ s.from_b (kept-acked s.seg_size s.window s.from_a s.from_b h.from_a p.acks acks) _ got.1;
@@ -225,6 +232,7 @@ kept-delivered keep s B p h was acks =
     let got = kept-came s.seg_size s.window s.from_a s.from_b h.from_a keep p.segment was in
     record {
       window = h.window;
+      some = h.some;
       own_a = h.own_a;
       own_b = h.own_b;
       from_a = kept-back s.seg_size s.window _ s.from_b got.0 _ (omega arith);
@@ -257,6 +265,7 @@ kept-served s m h empty e =
     let answers = added s.own_b (standing_of s) (Whole m) in
     record {
       window = h.window;
+      some = h.some;
       own_a = h.own_a;
       own_b = h.own_b;
       from_a = kept-back s.seg_size s.window s.from_a s.from_b h.from_a _ (omega arith);
@@ -277,6 +286,7 @@ kept-read : (s : State) (m : Message) → IsWorld s → slice_get (arrived_of s.
 kept-read s m h e =
     record {
       window = h.window;
+      some = h.some;
       own_a = h.own_a;
       own_b = h.own_b;
       from_a = h.from_a;

@@ -31,3 +31,12 @@ pub mod Emptying
 pub mod Naming
 pub mod Deciding
 pub mod Apart
+pub mod Resting
+pub mod Few
+pub mod Onward
+pub mod Posting
+pub mod Settled
+pub mod ServingAll
+pub mod SentBoth
+pub mod Untold
+pub mod Finishes

@@ -96,8 +96,8 @@ expects p h = λ bytes at.
           (p.requests, answers_read (state_of p), h.asking, subst (λ (i : Item). is_unexpected p.requests (answers_read (state_of p)) i ≢ true) one.0 (has_place p n.m h (next_read p bytes h n))));
     }
 
--- how many were read is far below 2^63
-pub few_read : (p : Parts) → AreParts p → p.read < 2 ^ 63
+-- how many were read is far below what a count holds
+pub few_read : (p : Parts) → AreParts p → p.read < 2 ^ 56
 few_read p h =
     let s = state_of p in
     let packets = take (length p.b.handed) (answers p) in

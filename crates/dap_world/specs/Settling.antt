@@ -1,18 +1,20 @@
 -- A stretch without loss.
-use Rattle.std.specs.Prelude.{◌≡◌, ◌⊎◌, ℕ, ◌+◌, ◌*◌, ◌-◌, ◌≤◌, List, [], ◌∷◌, length, map, Some, slice_get}
+use Rattle.std.specs.Prelude.{◌≡◌, ◌⊎◌, ℕ, ◌+◌, ◌*◌, ◌-◌, ◌≤◌, ◌<◌, List, [], ◌∷◌, length, map, take, Some, slice_get}
 use Rattle.dap_msg.specs.Items.{Whole}
-use Rattle.dap_accessed.specs.Groups.{Answers}
+use Rattle.dap_accessed.specs.Groups.{Answers, After}
 use Rattle.dap_accessing.specs.Asked.{Asked}
-use Rattle.dap_accessing.specs.Told.{Told}
 use Rattle.dap_accessing.specs.Phase.{IsRefused}
+use Rattle.dap_accessing.specs.declared.fault.AskFault.{AskFault}
+use Rattle.dap_accessing.specs.declared.fault.AskFault.TheVariants as ask_fault
 use Rattle.dap_accessing.specs.declared.request.Request.{Request}
+use Rattle.dap_world.specs.Agreement.{items_of, reports_of}
 use Rattle.dap_world.specs.declared.event.End.{End}
 use Rattle.dap_world.specs.declared.event.End.TheVariants.{A, B}
 use Rattle.dap_world.specs.declared.event.Event.{Event}
 use Rattle.dap_world.specs.declared.event.Event.TheVariants as event
 use Rattle.dap_world.specs.declared.event.WorldFault.{WorldFault}
 use Rattle.dap_world.specs.declared.event.WorldFault.TheVariants as fault
-use Rattle.dap_world.specs.Machine.{State, sends, sent_by, taken_of, answers_read, reported}
+use Rattle.dap_world.specs.Machine.{State, sends, segments_of, sent_by, taken_of, answers_read, reported, files_of}
 use Rattle.dap_world.specs.Runs.{Runs}
 
 -- no event asks
@@ -36,6 +38,25 @@ RanTo old new = (n : ℕ) × RanBy old new n
 abbrev pub unacked : State → End → ℕ
 unacked s end = (sends s end).sent - (sends s end).acked
 
+-- What the links' own events leave alone: all but the counts, the wires and what is held.
+pub record SameBut (old new : State) : Type 0 where
+  pub seg_size : new.seg_size ≡ old.seg_size
+  pub window : new.window ≡ old.window
+  pub own_a : new.own_a ≡ old.own_a
+  pub own_b : new.own_b ≡ old.own_b
+  pub requests : new.requests ≡ old.requests
+  pub served : new.served ≡ old.served
+  pub read : new.read ≡ old.read
+  pub handed : (end : End) → (sends new end).handed ≡ (sends old end).handed
+  pub waiting : (end : End) → (sends new end).waiting ≡ (sends old end).waiting
+  pub taken : (end : End) → (sends old end).taken ≤ (sends new end).taken
+  pub acked : (end : End) → (sends old end).acked ≤ (sends new end).acked
+
+-- and no segment is sent for the first time
+pub record SendsNothing (old new : State) : Type 0 where
+  pub same : SameBut old new
+  pub sent : (end : End) → (sends new end).sent ≡ (sends old end).sent
+
 -- ---- One end is settled.
 
 -- After so many events all segments of the end are acknowledged: none where there was nothing to do, and at most two for
@@ -49,20 +70,25 @@ pub record Settled (old new : State) (end : End) (n : ℕ) : Type 0 where
 
 -- ---- Both ends are finished.
 
--- nothing waits, nothing is unacknowledged, all that was sent was served, and all answers were read
+-- nothing waits at the end, and each of its segments was sent and is acknowledged
+pub record IsEmpty (s : State) (end : End) : Type 0 where
+  pub waiting : (sends s end).waiting ≡ []
+  pub sent : (sends s end).sent ≡ segments_of s.seg_size (sends s end).handed
+  pub acked : unacked s end ≡ 0
+
+-- there is nothing to do: all that was sent was served, and all answers were read
 pub record IsFinished (s : State) : Type 0 where
-  pub posted_a : s.from_a.waiting ≡ []
-  pub posted_b : s.from_b.waiting ≡ []
-  pub settled_a : unacked s A ≡ 0
-  pub settled_b : unacked s B ≡ 0
+  pub from_a : IsEmpty s A
+  pub from_b : IsEmpty s B
   pub served : taken_of s ≡ sent_by s.from_a
   pub read : answers_read s ≡ map Whole (Answers s.own_b (map Whole (taken_of s)))
 
--- Every request has its report, whatever was lost before.
+-- All that the requests ask was sent and served, the files are those after it, and every request has its report.
 pub record AllTold (s : State) : Type 0 where
   pub sent : sent_by s.from_a ≡ Asked s.own_a s.requests
   pub taken : taken_of s ≡ Asked s.own_a s.requests
-  pub reports : reported s ≡ Told s.requests (map Whole (Answers s.own_b (map Whole (taken_of s))))
+  pub files : files_of s ≡ After s.own_b (items_of s.own_a s.requests)
+  pub reports : reported s ≡ reports_of s.own_a s.own_b s.requests
   pub each : length (reported s) ≡ length s.requests
 
 -- the segments first sent between two states, and the messages served and answers read
@@ -72,31 +98,55 @@ sent_between old new = (new.from_a.sent - old.from_a.sent) + (new.from_b.sent - 
 abbrev pub handled_between : State → State → ℕ
 handled_between old new = (new.served - old.served) + (new.read - old.read)
 
+-- After so many events nothing is left to do, and every request has its report, whatever was lost before.
 pub record Finished (old new : State) (n : ℕ) : Type 0 where
   pub ran : RanBy old new n
   pub finished : IsFinished new
   pub told : AllTold new
   -- both ends are settled, what waits is handed over, and each segment and each message takes so many events
   pub bound : n ≤ 4 * old.window + 6 + 4 * sent_between old new + 2 * handled_between old new
-  pub nothing : IsFinished old → n ≡ 0
+  pub nothing : n ≡ 0 → new ≡ old
+  pub only : IsFinished old → n ≡ 0
 
 -- why not all is finished
 abbrev pub FinishFault : WorldFault → Type 0
 FinishFault f = (f ≡ fault.NoMemory) ⊎ (f ≡ fault.Exhausted)
+
+-- at most one request has no report yet
+abbrev pub IsOneDue : State → Type 0
+IsOneDue s = length s.requests ≤ length (reported s) + 1
 
 -- ---- Requests over perfect delivery.
 
 abbrev pub IsFresh : State → Type 0
 IsFresh s = (s.requests ≡ []) × (s.from_a.wire ≡ []) × (s.from_b.wire ≡ [])
 
--- each request has its report
+-- some events lead from the one state to the other
+abbrev pub RunsTo : State → State → Type 0
+RunsTo old new = (events : List Event) × Runs old events new
+
+-- these requests were asked, and each has its report
 pub record AllDone (requests : List Request) (new : State) : Type 0 where
   pub asked : new.requests ≡ requests
   pub told : AllTold new
 
--- The request at this place isn't admissible after those before it, each of which has its report; or memory or the numbers
--- ran out there.
+-- The request at this place isn't asked, after those before it, each of which has its report.
+pub record StopsWith (requests : List Request) (new : State) (i : ℕ) (f : AskFault) : Type 0 where
+  pub done : AllDone (take i requests) new
+  pub request : Request
+  pub there : slice_get requests i ≡ Some request
+  pub refused : IsRefused new.own_a new.requests (answers_read new) request f
+  pub why : (f ≡ ask_fault.WrongPhase) ⊎ (f ≡ ask_fault.TooLarge)
+
+-- Memory or the numbers ran out at the request of this place, which may have been asked: the reports are those of the
+-- requests before it.
+pub record RanOut (requests : List Request) (new : State) (i : ℕ) : Type 0 where
+  pub there : i < length requests
+  pub asked : (new.requests ≡ take i requests) ⊎ (new.requests ≡ take (i + 1) requests)
+  pub reports : reported new ≡ reports_of new.own_a new.own_b (take i requests)
+
 abbrev pub StopsAtRequest : List Request → State → ℕ × WorldFault → Type 0
-StopsAtRequest requests new (i, fault.Ask f) =
-    (request : Request) × (slice_get requests i ≡ Some request) × AllTold new × IsRefused new.own_a new.requests (answers_read new) request f
-StopsAtRequest requests new (i, f) = FinishFault f
+StopsAtRequest requests new (i, fault.Ask f) = StopsWith requests new i f
+StopsAtRequest requests new (i, fault.NoMemory) = RanOut requests new i
+StopsAtRequest requests new (i, fault.Exhausted) = RanOut requests new i
+StopsAtRequest requests new (i, f) = ⊥

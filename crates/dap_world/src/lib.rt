@@ -5,6 +5,7 @@
 mod copying;
 mod event;
 mod exchange;
+mod finishing;
 mod laws;
 mod settling;
 mod setup;

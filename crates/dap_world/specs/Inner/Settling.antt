@@ -1,8 +1,10 @@
 -- The parts of a stretch without loss.
-use Rattle.std.specs.Prelude.{◌≡◌, ℕ, ◌+◌, ◌*◌, ◌≤◌, ◌<◌, List, ◌++◌, length, Some, None, slice_get}
+use Rattle.std.specs.Prelude.{◌≡◌, ℕ, ◌+◌, ◌*◌, ◌-◌, ◌≤◌, ◌<◌, List, [], ◌++◌, length, Some, None, slice_get}
 use Rattle.dap_world.specs.declared.event.End.{End}
-use Rattle.dap_world.specs.Machine.{State, Sending, MayEmit, next_to_read, sends, other, with_sends}
-use Rattle.dap_world.specs.Settling.{RanBy, unacked}
+use Rattle.dap_world.specs.Machine.{State, Sending, MayEmit, next_to_read, posted, sends, sent_by, other, with_sends}
+use Rattle.dap_msg.specs.Message.{Message}
+use Rattle.dap_world.specs.Settling.{IsEmpty, RanBy, RanTo, SameBut, unacked}
+use Rattle.dap_world.specs.declared.event.End.TheVariants.{A, B}
 
 -- The first of the segments that aren't acknowledged were written again, and nothing else happened.
 pub record AllResent (old new : State) (end : End) (count : ℕ) : Type 0 where
@@ -27,20 +29,6 @@ pub record AllCame (old new : State) (end : End) (n : ℕ) : Type 0 where
   pub back : (sends new (other end)).taken ≡ (sends old (other end)).taken
   pub window : new.window ≡ old.window
 
--- What the links' own events leave alone: all but the counts, the wires and what is held.
-pub record SameBut (old new : State) : Type 0 where
-  pub seg_size : new.seg_size ≡ old.seg_size
-  pub window : new.window ≡ old.window
-  pub own_a : new.own_a ≡ old.own_a
-  pub own_b : new.own_b ≡ old.own_b
-  pub requests : new.requests ≡ old.requests
-  pub served : new.served ≡ old.served
-  pub read : new.read ≡ old.read
-  pub handed : (end : End) → (sends new end).handed ≡ (sends old end).handed
-  pub waiting : (end : End) → (sends new end).waiting ≡ (sends old end).waiting
-  pub taken : (end : End) → (sends old end).taken ≤ (sends new end).taken
-  pub acked : (end : End) → (sends old end).acked ≤ (sends new end).acked
-
 -- So many segments more were sent, and brought to the other end, which acknowledged them.
 pub record Brought (old new : State) (end : End) (n : ℕ) : Type 0 where
   pub ran : RanBy old new (4 * n)
@@ -56,9 +44,90 @@ pub record BroughtAll (old new : State) (end : End) (n : ℕ) : Type 0 where
   pub count : n ≡ 4 * segments
   pub none_left : MayEmit new end → ⊥
 
+-- ---- What waits.
+
+-- All that waits was handed over, by one event or none.
+pub record PostedAll (old new : State) (end : End) (n : ℕ) : Type 0 where
+  pub ran : RanBy old new n
+  pub is : new ≡ with_sends old end (posted (sends old end))
+  pub few : n ≤ 1
+  pub nothing : (sends old end).waiting ≡ [] → n ≡ 0
+
+-- All that waits was handed over, and all segments were brought to the other end.
+pub record Emptied (old new : State) (end : End) (n : ℕ) : Type 0 where
+  pub seg_size : new.seg_size ≡ old.seg_size
+  pub ran : RanBy old new n
+  pub empty : IsEmpty new end
+  pub served : new.served ≡ old.served
+  pub read : new.read ≡ old.read
+  pub handed : (sends new end).handed ≡ (sends old end).handed ++ (sends old end).waiting
+  pub back_waiting : (sends new (other end)).waiting ≡ (sends old (other end)).waiting
+  pub back_handed : (sends new (other end)).handed ≡ (sends old (other end)).handed
+  pub back_sent : (sends new (other end)).sent ≡ (sends old (other end)).sent
+  pub back_acked : (sends old (other end)).acked ≤ (sends new (other end)).acked
+  pub more : ℕ
+  pub sent : (sends new end).sent ≡ (sends old end).sent + more
+  pub count : n ≤ 1 + 4 * more
+  pub nothing : IsEmpty old end → n ≡ 0
+
+-- ---- All is settled, sent and served.
+
+abbrev pub AreEmpty : State → Type 0
+AreEmpty s = IsEmpty s A × IsEmpty s B
+
+-- Both ends were settled.
+pub record SettledBoth (old new : State) (n : ℕ) : Type 0 where
+  pub ran : RanBy old new n
+  pub a : unacked new A ≡ 0
+  pub b : unacked new B ≡ 0
+  pub count : n ≤ 4 * old.window + 4
+  pub nothing : unacked old A ≡ 0 → unacked old B ≡ 0 → n ≡ 0
+
+-- What waited was brought to the other end, both ways.
+pub record SentBoth (old new : State) (n : ℕ) : Type 0 where
+  pub ran : RanBy old new n
+  pub empty : AreEmpty new
+  pub served : new.served ≡ old.served
+  pub read : new.read ≡ old.read
+  pub more_a : ℕ
+  pub more_b : ℕ
+  pub sent_a : new.from_a.sent ≡ old.from_a.sent + more_a
+  pub sent_b : new.from_b.sent ≡ old.from_b.sent + more_b
+  pub count : n ≤ 2 + 4 * more_a + 4 * more_b
+  pub nothing : AreEmpty old → n ≡ 0
+
+-- So many messages were served, all that were sent, and their answers brought to A.
+pub record Served (old new : State) (n messages : ℕ) : Type 0 where
+  pub ran : RanBy old new n
+  pub empty : AreEmpty new
+  pub handed : new.from_a.handed ≡ old.from_a.handed
+  pub sent_a : new.from_a.sent ≡ old.from_a.sent
+  pub served : new.served ≡ old.served + messages
+  pub read : new.read ≡ old.read
+  pub more : ℕ
+  pub sent_b : new.from_b.sent ≡ old.from_b.sent + more
+  pub count : n ≤ 2 * messages + 4 * more
+  pub nothing : messages ≡ 0 → n ≡ 0
+
+pub record ServedEvery (old new : State) (n : ℕ) : Type 0 where
+  pub messages : ℕ
+  pub done : Served old new n messages
+  pub all : length (sent_by new.from_a) ≤ new.served
+  pub only : length (sent_by old.from_a) ≤ old.served → messages ≡ 0
+
+-- ---- Reading.
+
 -- So many answers were read, all that came, and nothing else moved.
 pub record ReadEvery (old new : State) (n : ℕ) : Type 0 where
   pub ran : RanBy old new n
   pub read : new ≡ record old { read = new.read }
   pub count : new.read ≡ old.read + n
   pub none_left : next_to_read new ≡ None
+
+-- Some answers were read, and one more is there.
+pub record ReadPart (old new : State) : Type 0 where
+  pub ran : RanTo old new
+  pub read : new ≡ record old { read = new.read }
+  pub more : old.read ≤ new.read
+  pub next : Message
+  pub there : next_to_read new ≡ Some next

@@ -41,6 +41,7 @@ pub record IsDirection (seg_size window : ℕ) (d back : Direction) : Type 0 whe
 
 pub record IsWorld (s : State) : Type 0 where
   pub window : s.window ≤ largest_window
+  pub some : 1 ≤ s.window
   pub own_a : IsBufsiz s.own_a
   pub own_b : IsBufsiz s.own_b
   pub from_a : IsDirection s.seg_size s.window s.from_a s.from_b

@@ -5,7 +5,7 @@ use Rattle.dap_world.specs.Machine.{Steps}
 use Rattle.dap_world.specs.Runs.{Went}
 use Rattle.dap_world.specs.Wires.{AreWired}
 use Rattle.dap_world.proofs.Settles.{acknowledged_all, back_refused, ack_refused, wire_length}
-use Rattle.dap_world.proofs.Bringing.{acked_same}
+use Rattle.dap_world.proofs.Resting.{rest_ack, rest_both, rest_deliver}
 use Rattle.dap_world.proofs.world.World.acknowledge.Goals as goal
 
 pub returns-in-Ok-step-clause-ok : goal.returns-in-Ok-step-clause-ok
@@ -22,10 +22,18 @@ returns-clause-err c =
     let first = subst (λ (e : End). Steps c.args.self.now (event.Ack e) c.in-Ok._step c.step.new.self) c.other-2.ensures c.in-Ok.ensures.went in
     back_refused c.args.self.now c.step.new.self c.step-2.new.self c.args.end (length shown) c.in-Ok._step c.in-Err-step.fault c.requires.world at first c.in-Err-step.ensures.went
 
-pub returns-in-Ok-step-clause-same : goal.returns-in-Ok-step-clause-same
-returns-in-Ok-step-clause-same c =
-    let first = subst (λ (e : End). Steps c.args.self.now (event.Ack e) c.in-Ok._step c.step.new.self) c.other-2.ensures c.in-Ok.ensures.went in
-    acked_same c.args.self.now c.step.new.self c.step-2.new.self c.args.end (length c.wire-place.result.now) c.in-Ok._step c.in-Ok-step._step c.in-Ok.ensures.world first c.in-Ok-step.ensures.went
+pub returns-in-Err-clause-rest : goal.returns-in-Err-clause-rest
+returns-in-Err-clause-rest c = rest_ack c.args.self.now c.step.new.self _ _ c.step.ensures.went
+
+pub returns-in-Ok-step-clause-rest : goal.returns-in-Ok-step-clause-rest
+returns-in-Ok-step-clause-rest c =
+    rest_both c.args.self.now c.step.new.self c.step-2.new.self (rest_ack c.args.self.now c.step.new.self _ _ c.step.ensures.went)
+    (rest_deliver c.step.new.self c.step-2.new.self _ _ _ c.in-Ok.ensures.world c.step-2.ensures.went)
+
+pub returns-clause-rest : goal.returns-clause-rest
+returns-clause-rest c =
+    rest_both c.args.self.now c.step.new.self c.step-2.new.self (rest_ack c.args.self.now c.step.new.self _ _ c.step.ensures.went)
+    (rest_deliver c.step.new.self c.step-2.new.self _ _ _ c.in-Ok.ensures.world c.step-2.ensures.went)
 
 pub returns-in-Err-clause-err : goal.returns-in-Err-clause-err
 returns-in-Err-clause-err c =

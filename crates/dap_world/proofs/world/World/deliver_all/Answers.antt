@@ -5,6 +5,7 @@ use Rattle.dap_world.specs.Machine.{Steps}
 use Rattle.dap_world.specs.Runs.{Went}
 use Rattle.dap_world.specs.Inner.Settling.{AllCame}
 use Rattle.dap_world.proofs.Settles.{came_more, came_refused}
+use Rattle.dap_world.proofs.Resting.{rest_both, rest_deliver}
 use Rattle.dap_world.proofs.world.World.deliver_all.Goals as goal
 
 pub loop-j-preserved : goal.loop-j-preserved
@@ -13,6 +14,7 @@ loop-j-preserved c =
     record {
       came = came_more c.args.self.now c.loop-j.self c.step.new.self c.args.end c.args.first c.args.last c.loop-j.j c.in-Ok._step c.loop-j.invariant.world c.loop-j.invariant.came c.requires.there
           c.loop-j.auto.j c.loop-j-test.true c.requires.few went;
+      rest = rest_both c.args.self.now c.loop-j.self c.step.new.self c.loop-j.invariant.rest (rest_deliver c.loop-j.self c.step.new.self _ _ _ c.loop-j.invariant.world c.step.ensures.went);
       world = c.in-Ok.ensures.world;
     }
 
@@ -26,3 +28,7 @@ pub returns-clause-ok : goal.returns-clause-ok
 returns-clause-ok c =
     let same : c.loop-j.j - c.args.first ≡ c.args.last - c.args.first = omega (arith, c.loop-j.auto.j-end c.requires.order, c.loop-j-test.false) in
     (subst (λ (n : ℕ). AllCame c.args.self.now c.loop-j.self c.args.end n) same c.loop-j.invariant.came, c.loop-j.invariant.world)
+
+pub returns-in-Err-clause-rest : goal.returns-in-Err-clause-rest
+returns-in-Err-clause-rest c =
+    rest_both c.args.self.now c.loop-j.self c.step.new.self c.loop-j.invariant.rest (rest_deliver c.loop-j.self c.step.new.self _ _ _ c.loop-j.invariant.world c.step.ensures.went)

@@ -1,6 +1,7 @@
 use Rattle.std.proofs.Common.{◌≡◌, ◌+◌, ◌-◌, ℕ, arith, subst, length, refl}
 use Rattle.dap_world.specs.Settling.{RanBy}
 use Rattle.dap_world.proofs.Settles.{there_again, wire_grew, same_unacked, all_taken, wire_length, ran_both}
+use Rattle.dap_world.proofs.Resting.{rest_both}
 use Rattle.dap_world.proofs.world.World.settle_some.Goals as goal
 
 pub deliver_all-requires-clause-order : goal.deliver_all-requires-clause-order
@@ -65,3 +66,16 @@ returns-in-Err-acknowledge-clause-err c =
             (ran_both c.args.self.now c.resend_all.new.self c.deliver_all.new.self c.args.count n c.in-Ok.ensures.ok.0.ran came) err.1.1,
       ),
     )
+
+pub returns-in-Err-deliver_all-clause-rest : goal.returns-in-Err-deliver_all-clause-rest
+returns-in-Err-deliver_all-clause-rest c = rest_both c.args.self.now c.resend_all.new.self c.deliver_all.new.self c.resend_all.ensures.rest c.deliver_all.ensures.rest
+
+pub returns-in-Ok-acknowledge-clause-rest : goal.returns-in-Ok-acknowledge-clause-rest
+returns-in-Ok-acknowledge-clause-rest c =
+    rest_both c.args.self.now c.deliver_all.new.self c.acknowledge.new.self
+    (rest_both c.args.self.now c.resend_all.new.self c.deliver_all.new.self c.resend_all.ensures.rest c.deliver_all.ensures.rest) c.acknowledge.ensures.rest
+
+pub returns-in-Err-acknowledge-clause-rest : goal.returns-in-Err-acknowledge-clause-rest
+returns-in-Err-acknowledge-clause-rest c =
+    rest_both c.args.self.now c.deliver_all.new.self c.acknowledge.new.self
+    (rest_both c.args.self.now c.resend_all.new.self c.deliver_all.new.self c.resend_all.ensures.rest c.deliver_all.ensures.rest) c.acknowledge.ensures.rest

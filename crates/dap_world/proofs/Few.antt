@@ -1,0 +1,29 @@
+-- Few messages were served.
+use Rattle.std.proofs.Common.{◌≡◌, ℕ, ◌<◌, ◌≤◌, ◌^◌, arith, sym, subst, ap, List, length, take}
+use Rattle.std.proofs.lemmas.List.{length-append}
+use Rattle.dap_msg.specs.Blocked.{messages_in}
+use Rattle.nsp_link.specs.Cutting.{cut}
+use Rattle.nsp_link.specs.Limits.{most_segments}
+use Rattle.dap_world.specs.Machine.{arrived, reported}
+use Rattle.dap_world.specs.Settling.{IsOneDue}
+use Rattle.dap_world.specs.Inner.Parts.{Parts, AreParts, asks, state_of}
+use Rattle.dap_world.specs.Inner.Ways.{AreShort}
+use Rattle.dap_world.proofs.Serving.{fit-take}
+use Rattle.dap_world.proofs.Counting.{handed-bytes}
+use Rattle.dap_world.proofs.Growing.{few_messages}
+use Rattle.dap_world.proofs.Packets.{arrived-front}
+
+pub few_served : (p : Parts) → AreParts p → length p.taken < 2 ^ 56
+few_served p h =
+    let s = state_of p in
+    let packets = take (length p.a.handed) (asks p) in
+    let front = arrived-front s.seg_size s.from_a.taken s.from_a.handed in
+    few_messages p.a.link.seg_size packets (length p.taken) (omega (arith, h.world.served, ap length front.1, length-append (messages_in (arrived s.seg_size s.from_a.taken s.from_a.handed)) front.0))
+    (fit-take (length p.a.handed) (asks p) h.from_a.fit) p.b.link.max_message
+    (subst (AreShort p.b.link.max_message) (handed-bytes p.a.handed p.a.outbox (asks p) h.from_a.bytes) h.from_a.way.short) (omega (arith, h.most, h.alike.limit))
+    (subst (λ (l : List (List ℕ)). length (cut p.a.link.seg_size l) ≤ most_segments) (handed-bytes p.a.handed p.a.outbox (asks p) h.from_a.bytes) h.from_a.way.few)
+
+-- at most one request has no report yet
+pub one_due : (p : Parts) → AreParts p → IsOneDue (state_of p)
+unfolding reported
+one_due p h = h.asking.alone

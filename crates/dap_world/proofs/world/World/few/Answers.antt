@@ -1,0 +1,16 @@
+use Rattle.std.proofs.Common.{◌<◌, ◌^◌, subst}
+use Rattle.dap_world.specs.Machine.{State}
+use Rattle.dap_world.specs.Inner.WorldView.{parts_of}
+use Rattle.dap_world.specs.Settling.{IsOneDue}
+use Rattle.dap_world.proofs.Few.{few_served, one_due}
+use Rattle.dap_world.proofs.ReadingOne.{few_read}
+use Rattle.dap_world.proofs.world.World.few.Goals as goal
+
+pub returns-clause-served : goal.returns-clause-served
+returns-clause-served c = subst (λ (s : State). s.served < 2 ^ 56) c.self.view_is (few_served (parts_of c.self.inside) c.self.invariant)
+
+pub returns-clause-read : goal.returns-clause-read
+returns-clause-read c = subst (λ (s : State). s.read < 2 ^ 56) c.self.view_is (few_read (parts_of c.self.inside) c.self.invariant)
+
+pub returns-clause-due : goal.returns-clause-due
+returns-clause-due c = subst (λ (s : State). IsOneDue s) c.self.view_is (one_due (parts_of c.self.inside) c.self.invariant)

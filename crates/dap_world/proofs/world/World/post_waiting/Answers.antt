@@ -1,0 +1,21 @@
+use Rattle.std.proofs.Common.{◌∙◌, ap, subst, Err}
+use Rattle.std.specs.Prelude.{Result}
+use Rattle.dap_world.specs.declared.event.Event.TheVariants as event
+use Rattle.dap_world.specs.declared.event.Step.{Step}
+use Rattle.dap_world.specs.declared.event.WorldFault.{WorldFault}
+use Rattle.dap_world.specs.Runs.{Went}
+use Rattle.dap_world.proofs.Posting.{posted_one, posted_none, post_refused}
+use Rattle.dap_world.proofs.world.World.post_waiting.Goals as goal
+
+pub returns-in-Ok-clause-ok : goal.returns-in-Ok-clause-ok
+returns-in-Ok-clause-ok c = (posted_one c.args.self.now c.step.new.self c.args.end c.in-Ok._step c.in-Ok.ensures.went, c.in-Ok.ensures.world)
+
+pub returns-then-is_nothing-clause-ok : goal.returns-then-is_nothing-clause-ok
+returns-then-is_nothing-clause-ok c = (
+  posted_none c.args.self.now c.step.new.self c.args.end
+      (subst (λ (r : Result Step WorldFault). Went c.args.self.now (event.Post c.args.end) r c.step.new.self) (c.in-Err.is ∙ ap (λ (f : WorldFault). Err f) (c.is_nothing.ensures.yes c.if-is_nothing.true)) c.step.ensures.went),
+  c.step.ensures.world,
+)
+
+pub returns-clause-err : goal.returns-clause-err
+returns-clause-err c = post_refused c.args.self.now c.step.new.self c.args.end c.in-Err.fault (c.is_nothing.ensures.no c.if-is_nothing.false) c.in-Err.ensures.went

@@ -1,0 +1,69 @@
+use Rattle.std.proofs.Common.{◌≡◌, ◌∙◌, ◌+◌, ℕ, sym, ap, Ok, Err, arith, subst, length, map}
+use Rattle.dap_world.specs.declared.event.End.{End}
+use Rattle.dap_world.specs.declared.event.Event.TheVariants as event
+use Rattle.dap_world.specs.Machine.{Steps, other}
+use Rattle.dap_world.specs.Runs.{Went}
+use Rattle.dap_world.specs.Settling.{RanBy}
+use Rattle.dap_world.proofs.Settles.{wire_length, ran_one, ran_both}
+use Rattle.dap_world.proofs.Bringing.{emit_refused, first_refused, arrived_all, brought_one}
+use Rattle.dap_world.proofs.Bringing.{same_both}
+use Rattle.dap_world.proofs.Resting.{same_emitted, rest_deliver}
+use Rattle.dap_world.proofs.world.World.send_one.Goals as goal
+
+pub returns-in-Err-clause-err : goal.returns-in-Err-clause-err
+returns-in-Err-clause-err c = emit_refused c.args.self.now c.step.new.self c.args.end c.in-Err.fault c.requires.may c.in-Err.ensures.went
+
+pub returns-in-Err-step-clause-err : goal.returns-in-Err-step-clause-err
+returns-in-Err-step-clause-err c =
+    let at = wire_length c.args.self.now c.args.end c.wire-place.result.now c.wire-place.ensures in
+    first_refused c.args.self.now c.step.new.self c.step-2.new.self c.args.end (length c.wire-place.result.now) c.in-Ok._step c.in-Err-step.fault c.requires.world c.in-Ok.ensures.world c.in-Ok.ensures.went at
+    (subst (λ (e : End). Went c.step.new.self (event.Deliver e (length c.wire-place.result.now)) (Err c.in-Err-step.fault) c.step-2.new.self) c.other.ensures c.in-Err-step.ensures.went)
+
+pub acknowledge-requires-clause-taken : goal.acknowledge-requires-clause-taken
+acknowledge-requires-clause-taken c =
+    let at = wire_length c.args.self.now c.args.end c.wire-place.result.now c.wire-place.ensures in
+    arrived_all c.args.self.now c.step.new.self c.step-2.new.self c.args.end (length c.wire-place.result.now) c.in-Ok._step c.in-Ok-step._step c.requires.world c.in-Ok.ensures.world c.requires.settled c.in-Ok.ensures.went at
+    (subst (λ (e : End). Steps c.step.new.self (event.Deliver e (length c.wire-place.result.now)) c.in-Ok-step._step c.step-2.new.self) c.other.ensures c.in-Ok-step.ensures.went)
+
+pub returns-in-Ok-acknowledge-clause-ok : goal.returns-in-Ok-acknowledge-clause-ok
+returns-in-Ok-acknowledge-clause-ok c =
+    let done = c.in-Ok-acknowledge.ensures.ok in
+    let rest = c.acknowledge.ensures.rest in (
+      brought_one c.args.self.now c.step.new.self c.step-2.new.self c.acknowledge.new.self c.args.end (length c.wire-place.result.now) c.in-Ok._step c.in-Ok-step._step c.in-Ok.ensures.world c.in-Ok.ensures.went
+          (subst (λ (e : End). Steps c.step.new.self (event.Deliver e (length c.wire-place.result.now)) c.in-Ok-step._step c.step-2.new.self) c.other.ensures c.in-Ok-step.ensures.went)
+          done.0 done.1 rest.same rest.sent,
+      c.in-Ok-acknowledge.ensures.world,
+    )
+
+pub returns-in-Err-acknowledge-clause-err : goal.returns-in-Err-acknowledge-clause-err
+returns-in-Err-acknowledge-clause-err c =
+    let err = c.in-Err-acknowledge.ensures.err in
+    let second = subst (λ (e : End). Steps c.step.new.self (event.Deliver e (length c.wire-place.result.now)) c.in-Ok-step._step c.step-2.new.self) c.other.ensures c.in-Ok-step.ensures.went in (
+      err.0,
+      (
+        2 + err.1.0,
+        ran_both c.args.self.now c.step-2.new.self c.acknowledge.new.self 2 err.1.0
+            (ran_both c.args.self.now c.step.new.self c.step-2.new.self 1 1 (ran_one c.args.self.now c.step.new.self (event.Emit c.args.end) c.in-Ok._step tt c.in-Ok.ensures.went)
+            (ran_one c.step.new.self c.step-2.new.self (event.Deliver (other c.args.end) (length c.wire-place.result.now)) c.in-Ok-step._step tt second)) err.1.1,
+      ),
+    )
+
+pub returns-in-Err-clause-same : goal.returns-in-Err-clause-same
+returns-in-Err-clause-same c = same_emitted c.args.self.now c.step.new.self _ _ c.step.ensures.went
+
+pub returns-in-Err-step-clause-same : goal.returns-in-Err-step-clause-same
+returns-in-Err-step-clause-same c =
+    same_both c.args.self.now c.step.new.self c.step-2.new.self (same_emitted c.args.self.now c.step.new.self _ _ c.step.ensures.went)
+    (rest_deliver c.step.new.self c.step-2.new.self _ _ _ c.in-Ok.ensures.world c.step-2.ensures.went).same
+
+pub returns-in-Ok-acknowledge-clause-same : goal.returns-in-Ok-acknowledge-clause-same
+returns-in-Ok-acknowledge-clause-same c =
+    same_both c.args.self.now c.step-2.new.self c.acknowledge.new.self
+    (same_both c.args.self.now c.step.new.self c.step-2.new.self (same_emitted c.args.self.now c.step.new.self _ _ c.step.ensures.went)
+    (rest_deliver c.step.new.self c.step-2.new.self _ _ _ c.in-Ok.ensures.world c.step-2.ensures.went).same) c.acknowledge.ensures.rest.same
+
+pub returns-in-Err-acknowledge-clause-same : goal.returns-in-Err-acknowledge-clause-same
+returns-in-Err-acknowledge-clause-same c =
+    same_both c.args.self.now c.step-2.new.self c.acknowledge.new.self
+    (same_both c.args.self.now c.step.new.self c.step-2.new.self (same_emitted c.args.self.now c.step.new.self _ _ c.step.ensures.went)
+    (rest_deliver c.step.new.self c.step-2.new.self _ _ _ c.in-Ok.ensures.world c.step-2.ensures.went).same) c.acknowledge.ensures.rest.same

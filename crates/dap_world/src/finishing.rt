@@ -1,0 +1,253 @@
+//! All that was asked comes to its reports, over a stretch without loss.
+
+use crate::event::{End, Event, WorldFault};
+use crate::world::World;
+use dap_accessing::Request;
+
+impl WorldFault {
+    ghost use Rattle.std.specs.Prelude.{◌≡◌, true, false};
+    ghost use Rattle.dap_world.specs.declared.event.WorldFault.TheVariants.{NothingToDo};
+
+    // Whether there was nothing to do.
+    fn is_nothing(&self) -> bool
+        ensures yes { result ≡ true → self.now ≡ NothingToDo }
+        ensures no { result ≡ false → self.now ≡ NothingToDo → ⊥ }
+    {
+        matches!(self, WorldFault::NothingToDo)
+    }
+}
+
+impl World {
+    ghost use Rattle.std.specs.Prelude.{◌≡◌, ◌≤◌, ◌<◌, ◌+◌, ◌*◌, ◌^◌, [], length, IfOk, IfErr, IsOk, OnOk, OnErr};
+    ghost use Rattle.dap_world.specs.Machine.{MayEmit, next_to_read, reported, sends, sent_by};
+    ghost use Rattle.dap_world.specs.Headline.{HeadlineOf};
+    ghost use Rattle.dap_world.specs.Inner.Worlds.{IsWorld};
+    ghost use Rattle.dap_world.specs.Settling.{AllDone, Finished, FinishFault, IsEmpty, IsFinished, IsFresh, IsOneDue, RanTo, RunsTo, SameBut, SendsNothing, StopsAtRequest, unacked};
+    ghost use Rattle.dap_world.specs.Inner.Settling.{AreEmpty, Brought, BroughtAll, Emptied, PostedAll, ReadEvery, ReadPart, SentBoth, ServedEvery, SettledBoth};
+    ghost use Rattle.dap_world.specs.declared.event.End.TheVariants.{A, B};
+    ghost use Rattle.dap_world.specs.declared.event.WorldFault.TheVariants.{NoMemory};
+
+    // Messages are few, and at most one request has no report yet.
+    fn few(&self)
+        ensures served { self.now.served < 2 ^ 56 }
+        ensures read { self.now.read < 2 ^ 56 }
+        ensures due { IsOneDue self.now }
+    {
+        let _ = &self.read;
+    }
+
+    // Writes the next segment, delivers it, and has it acknowledged.
+    fn send_one(&mut self, end: End) -> Result<(), WorldFault>
+        requires world { IsWorld self.old }
+        requires settled { unacked self.old end ≡ 0 }
+        requires may { MayEmit self.old end }
+        ensures ok { OnOk result (Brought self.old self.new end 1 × IsWorld self.new) }
+        ensures same { SameBut self.old self.new }
+        ensures err { IfErr result (λ f. (f ≡ NoMemory) × RanTo self.old self.new) }
+    {
+        let place = self.wire(end).len();
+        match self.step(&Event::Emit(end)) {
+            Ok(_step) => {}
+            Err(fault) => return Err(fault),
+        }
+        match self.step(&Event::Deliver(end.other(), place)) {
+            Ok(_step) => {}
+            Err(fault) => return Err(fault),
+        }
+        match self.acknowledge(end) {
+            Ok(()) => Ok(()),
+            Err(fault) => Err(fault),
+        }
+    }
+
+    // Brings every segment of an end to the other; how many events that were.
+    fn send_every(&mut self, end: End) -> Result<usize, WorldFault>
+        requires world { IsWorld self.old }
+        requires settled { unacked self.old end ≡ 0 }
+        ensures ok { IfOk result (λ n. BroughtAll self.old self.new end n × IsWorld self.new) }
+        ensures same { SameBut self.old self.new }
+        ensures err { IfErr result (λ f. (f ≡ NoMemory) × RanTo self.old self.new × MayEmit self.old end) }
+    {
+        let mut count = 0;
+        'segments: loop {
+            if !self.may_emit(end) {
+                return Ok(count);
+            }
+            match self.send_one(end) {
+                Ok(()) => count += 4,
+                Err(fault) => return Err(fault),
+            }
+        }
+    }
+
+    // Hands over what waits at an end, if anything does; how many events that was.
+    fn post_waiting(&mut self, end: End) -> Result<usize, WorldFault>
+        requires { IsWorld self.old }
+        ensures ok { IfOk result (λ n. PostedAll self.old self.new end n × IsWorld self.new) }
+        ensures err { IfErr result (λ f. FinishFault f × (self.new ≡ self.old) × (0 < length (sends self.old end).waiting)) }
+    {
+        match self.step(&Event::Post(end)) {
+            Ok(_step) => Ok(1),
+            Err(fault) => {
+                if fault.is_nothing() {
+                    return Ok(0);
+                }
+                Err(fault)
+            }
+        }
+    }
+
+    // Hands over what waits at an end, and brings all to the other.
+    fn send_waiting(&mut self, end: End) -> Result<usize, WorldFault>
+        requires world { IsWorld self.old }
+        requires settled { unacked self.old end ≡ 0 }
+        ensures ok { IfOk result (λ n. Emptied self.old self.new end n × IsWorld self.new) }
+        ensures read { self.new.read ≡ self.old.read }
+        ensures err { IfErr result (λ f. FinishFault f × RanTo self.old self.new × (IsEmpty self.old end → ⊥)) }
+    {
+        let posted = match self.post_waiting(end) {
+            Ok(posted) => posted,
+            Err(fault) => return Err(fault),
+        };
+        match self.send_every(end) {
+            Ok(count) => Ok(posted + count),
+            Err(fault) => Err(fault),
+        }
+    }
+
+    // Serves every message, and brings its answers to A.
+    fn serve_every(&mut self) -> Result<usize, WorldFault>
+        requires world { IsWorld self.old }
+        requires empty { AreEmpty self.old }
+        ensures ok { IfOk result (λ n. ServedEvery self.old self.new n × IsWorld self.new) }
+        ensures read { self.new.read ≡ self.old.read }
+        ensures err { IfErr result (λ f. FinishFault f × RanTo self.old self.new × (self.old.served < length (sent_by self.old.from_a))) }
+    {
+        let mut count = 0;
+        for served in self.taken().len()..self.sent().len() {
+            match self.step(&Event::Serve) {
+                Ok(_step) => {}
+                Err(fault) => return Err(fault),
+            }
+            match self.send_waiting(End::B) {
+                Ok(more) => {
+                    self.few();
+                    count += 1 + more;
+                }
+                Err(fault) => return Err(fault),
+            }
+        }
+        Ok(count)
+    }
+
+    // Reads every answer that came; how many.
+    fn read_every(&mut self) -> Result<usize, WorldFault>
+        requires { IsWorld self.old }
+        ensures ok { IfOk result (λ n. ReadEvery self.old self.new n × IsWorld self.new) }
+        ensures err { IfErr result (λ f. (f ≡ NoMemory) × ReadPart self.old self.new × IsWorld self.new) }
+    {
+        let before = self.read_count();
+        'answers: loop {
+            match self.step(&Event::Read) {
+                Ok(_step) => {}
+                Err(fault) => {
+                    if fault.is_nothing() {
+                        return Ok((self.read_count() - before) as usize);
+                    }
+                    return Err(fault);
+                }
+            }
+        }
+    }
+
+    // Settles both ends.
+    fn settle_both(&mut self) -> Result<usize, WorldFault>
+        requires { IsWorld self.old }
+        ensures ok { IfOk result (λ n. SettledBoth self.old self.new n × IsWorld self.new) }
+        ensures rest { SendsNothing self.old self.new }
+        ensures err { IfErr result (λ f. (f ≡ NoMemory) × RanTo self.old self.new × (unacked self.old A ≡ 0 → unacked self.old B ≡ 0 → ⊥)) }
+    {
+        let count = match self.settle_end(End::A) {
+            Ok(count) => count,
+            Err(fault) => return Err(fault),
+        };
+        self.sound();
+        match self.settle_end(End::B) {
+            Ok(more) => {
+                self.sound();
+                Ok(count + more)
+            }
+            Err(fault) => Err(fault),
+        }
+    }
+
+    // Brings what waits at both ends to the other.
+    fn send_both(&mut self) -> Result<usize, WorldFault>
+        requires world { IsWorld self.old }
+        requires a { unacked self.old A ≡ 0 }
+        requires b { unacked self.old B ≡ 0 }
+        ensures ok { IfOk result (λ n. SentBoth self.old self.new n × IsWorld self.new) }
+        ensures read { self.new.read ≡ self.old.read }
+        ensures err { IfErr result (λ f. FinishFault f × RanTo self.old self.new × (AreEmpty self.old → ⊥)) }
+    {
+        let count = match self.send_waiting(End::A) {
+            Ok(count) => count,
+            Err(fault) => return Err(fault),
+        };
+        match self.send_waiting(End::B) {
+            Ok(more) => Ok(count + more),
+            Err(fault) => Err(fault),
+        }
+    }
+
+    // Settles both ends, brings what waits to the other, serves all, and reads all.
+    fn finish_all(&mut self) -> Result<usize, WorldFault>
+        requires { IsWorld self.old }
+        ensures ok { IfOk result (λ n. Finished self.old self.new n) }
+        ensures err { IfErr result (λ f. FinishFault f × RanTo self.old self.new × (IsFinished self.old → ⊥)) }
+        ensures untold { OnErr result (IsOneDue self.old → reported self.new ≡ reported self.old) }
+    {
+        let settled = match self.settle_both() {
+            Ok(count) => count,
+            Err(fault) => return Err(fault),
+        };
+        let sent = match self.send_both() {
+            Ok(count) => count,
+            Err(fault) => return Err(fault),
+        };
+        let served = match self.serve_every() {
+            Ok(count) => count,
+            Err(fault) => return Err(fault),
+        };
+        self.few();
+        match self.read_every() {
+            Ok(read) => {
+                self.few();
+                Ok(settled + sent + served + read)
+            }
+            Err(fault) => {
+                self.sound();
+                Err(fault)
+            }
+        }
+    }
+
+    /// Settles both ends, and then hands over, sends, delivers, acknowledges, serves and reads until nothing
+    /// is left to do: every request then has its report, whatever was lost before. How many events that were,
+    /// 0 where there was nothing to do, which takes no memory. Refused for want of memory, or where a
+    /// direction would have too many segments, as the last event that wasn't refused left the world: no
+    /// report more was told.
+    pub fn finish(&mut self) -> Result<usize, WorldFault>
+        ensures ok { IfOk result (λ n. Finished self.old self.new n) }
+        ensures err { IfErr result (λ f. FinishFault f × RanTo self.old self.new) }
+        ensures untold { OnErr result (reported self.new ≡ reported self.old) }
+        ensures nothing { IsFinished self.old → IsOk result }
+        ensures headline { HeadlineOf self.new }
+    {
+        self.sound();
+        self.few();
+        let result = self.finish_all();
+        self.sound();
+        result
+    }
+}
