@@ -124,6 +124,9 @@ none_read s new n h w f r = omega (arith, none_to_read s h f, w.read, r.count, a
 
 -- ---- All of it.
 
+pub still_sent_from : (old s1 s2 : State) (n1 n2 : ℕ) → SettledBoth old s1 n1 → SentBoth s1 s2 n2 → IsFinished old → s2 ≡ old
+still_sent_from old s1 s2 n1 n2 a b f = let one = still_settled old s1 n1 f a in still_sent s1 s2 n2 (subst IsFinished (sym one) f) b ∙ one
+
 module _ (old s1 s2 s3 : State) (n1 n2 n3 : ℕ) (h : IsWorld old) (a : SettledBoth old s1 n1) (b : SentBoth s1 s2 n2) (c : ServedEvery s2 s3 n3) where
   pub ran_two : RanBy old s2 (n1 + n2)
   ran_two = ran_both old s1 s2 n1 n2 a.ran b.ran
@@ -135,7 +138,7 @@ module _ (old s1 s2 s3 : State) (n1 n2 n3 : ℕ) (h : IsWorld old) (a : SettledB
   still_two f = still_settled old s1 n1 f a
 
   pub still_three : IsFinished old → s2 ≡ old
-  still_three f = let one = still_two f in still_sent s1 s2 n2 (subst IsFinished (sym one) f) b ∙ one
+  still_three f = still_sent_from old s1 s2 n1 n2 a b f
 
   pub still_four : IsFinished old → s3 ≡ old
   still_four f = let two = still_three f in still_served s2 s3 n3 (subst IsWorld (sym two) h) (subst IsFinished (sym two) f) c ∙ two
