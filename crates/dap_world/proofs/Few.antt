@@ -4,7 +4,11 @@ use Rattle.std.proofs.lemmas.List.{length-append}
 use Rattle.dap_msg.specs.Blocked.{messages_in}
 use Rattle.nsp_link.specs.Cutting.{cut}
 use Rattle.nsp_link.specs.Limits.{most_segments}
-use Rattle.dap_world.specs.Machine.{arrived, reported}
+use Rattle.std.specs.Prelude.{◌≢◌, Option, Some, None}
+use Rattle.dap_accessing.specs.declared.pending.Pending.{Pending}
+use Rattle.dap_accessing.specs.Present.{FitsDue}
+use Rattle.dap_accessing.specs.Told.{Due, NothingDue, AnswersDue, Wrong, due_after}
+use Rattle.dap_world.specs.Machine.{answers_read, arrived, reported}
 use Rattle.dap_world.specs.Settling.{IsOneDue}
 use Rattle.dap_world.specs.Inner.Parts.{Parts, AreParts, asks, state_of}
 use Rattle.dap_world.specs.Inner.Ways.{AreShort}
@@ -27,3 +31,13 @@ few_served p h =
 pub one_due : (p : Parts) → AreParts p → IsOneDue (state_of p)
 unfolding reported
 one_due p h = h.asking.alone
+
+-- each answer had its place
+not_wrong : (d : Due) (p : Option Pending) → FitsDue d p → d ≢ Wrong
+not_wrong NothingDue p h = λ e. cc
+not_wrong (AnswersDue r so_far) p h = λ e. cc
+not_wrong Wrong None h = absurd h
+not_wrong Wrong (Some p) h = absurd h
+
+pub in_place : (p : Parts) → AreParts p → due_after (state_of p).requests (answers_read (state_of p)) ≢ Wrong
+in_place p h = not_wrong (due_after p.requests (answers_read (state_of p))) p.accessing.pending h.asking.pending

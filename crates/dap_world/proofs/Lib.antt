@@ -40,3 +40,4 @@ pub mod ServingAll
 pub mod SentBoth
 pub mod Untold
 pub mod Finishes
+pub mod Directing

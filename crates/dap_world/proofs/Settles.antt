@@ -40,7 +40,7 @@ quiet-on (event.Deliver end j ∷ events) more h g = quiet-on events more h g
 quiet-on (event.Serve ∷ events) more h g = quiet-on events more h g
 quiet-on (event.Read ∷ events) more h g = quiet-on events more h g
 
-runs-both : (first second : List Event) (old mid new : State) → Runs old first mid → Runs mid second new → Runs old (first ++ second) new
+pub runs-both : (first second : List Event) (old mid new : State) → Runs old first mid → Runs mid second new → Runs old (first ++ second) new
 unfolding Steps Refuses
 runs-both [] second old mid new r t = subst (λ (s : State). Runs s second new) r t
 runs-both (e ∷ first) second old mid new r t = (r.0, r.1, r.2, runs-both first second r.0 mid new r.3 t)

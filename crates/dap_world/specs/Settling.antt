@@ -7,7 +7,7 @@ use Rattle.dap_accessing.specs.Phase.{IsRefused}
 use Rattle.dap_accessing.specs.declared.fault.AskFault.{AskFault}
 use Rattle.dap_accessing.specs.declared.fault.AskFault.TheVariants as ask_fault
 use Rattle.dap_accessing.specs.declared.request.Request.{Request}
-use Rattle.dap_world.specs.Agreement.{items_of, reports_of}
+use Rattle.dap_world.specs.Agreement.{AreAdmissible, items_of, reports_of}
 use Rattle.dap_world.specs.declared.event.End.{End}
 use Rattle.dap_world.specs.declared.event.End.TheVariants.{A, B}
 use Rattle.dap_world.specs.declared.event.Event.{Event}
@@ -125,9 +125,10 @@ IsFresh s = (s.requests ≡ []) × (s.from_a.wire ≡ []) × (s.from_b.wire ≡ 
 abbrev pub RunsTo : State → State → Type 0
 RunsTo old new = (events : List Event) × Runs old events new
 
--- these requests were asked, and each has its report
+-- these requests were asked, each was admissible after those before it, and each has its report
 pub record AllDone (requests : List Request) (new : State) : Type 0 where
   pub asked : new.requests ≡ requests
+  pub admissible : AreAdmissible new.own_a new.own_b [] requests
   pub told : AllTold new
 
 -- The request at this place isn't asked, after those before it, each of which has its report.

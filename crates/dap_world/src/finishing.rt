@@ -18,8 +18,9 @@ impl WorldFault {
 }
 
 impl World {
-    ghost use Rattle.std.specs.Prelude.{◌≡◌, ◌≤◌, ◌<◌, ◌+◌, ◌*◌, ◌^◌, [], length, IfOk, IfErr, IsOk, OnOk, OnErr};
-    ghost use Rattle.dap_world.specs.Machine.{MayEmit, next_to_read, reported, sends, sent_by};
+    ghost use Rattle.std.specs.Prelude.{◌≡◌, ◌≢◌, ◌<◌, ◌^◌, [], length, IfOk, IfErr, IsOk, OnOk, OnErr};
+    ghost use Rattle.dap_accessing.specs.Told.{due_after, Wrong};
+    ghost use Rattle.dap_world.specs.Machine.{MayEmit, answers_read, reported, sends, sent_by};
     ghost use Rattle.dap_world.specs.Headline.{HeadlineOf};
     ghost use Rattle.dap_world.specs.Inner.Worlds.{IsWorld};
     ghost use Rattle.dap_world.specs.Settling.{AllDone, Finished, FinishFault, IsEmpty, IsFinished, IsFresh, IsOneDue, RanTo, RunsTo, SameBut, SendsNothing, StopsAtRequest, unacked};
@@ -27,11 +28,12 @@ impl World {
     ghost use Rattle.dap_world.specs.declared.event.End.TheVariants.{A, B};
     ghost use Rattle.dap_world.specs.declared.event.WorldFault.TheVariants.{NoMemory};
 
-    // Messages are few, and at most one request has no report yet.
+    // Messages are few, at most one request has no report yet, and each answer had its place.
     fn few(&self)
         ensures served { self.now.served < 2 ^ 56 }
         ensures read { self.now.read < 2 ^ 56 }
         ensures due { IsOneDue self.now }
+        ensures place { due_after self.now.requests (answers_read self.now) ≢ Wrong }
     {
         let _ = &self.read;
     }
@@ -247,6 +249,46 @@ impl World {
         self.sound();
         self.few();
         let result = self.finish_all();
+        self.sound();
+        result
+    }
+
+    // Each request to its report, in turn.
+    fn direct_all(&mut self, requests: &[Request]) -> Result<(), (usize, WorldFault)>
+        requires world { IsWorld self.old }
+        requires fresh { IsFresh self.old }
+        ensures ok { OnOk result (AllDone requests.now self.new) }
+        ensures err { IfErr result (λ stop. StopsAtRequest requests.now self.new stop) }
+        ensures ran { RunsTo self.old self.new }
+        ensures nothing { requests.now ≡ [] → IsOk result × (self.new ≡ self.old) }
+    {
+        for (place, request) in requests.iter().enumerate() {
+            self.few();
+            match self.ask(request) {
+                Ok(_step) => self.sound(),
+                Err(fault) => return Err((place, fault)),
+            }
+            match self.finish() {
+                Ok(_count) => self.sound(),
+                Err(fault) => return Err((place, fault)),
+            }
+        }
+        Ok(())
+    }
+
+    /// Each request to its report, over perfect delivery. Refused with the place of the first request that
+    /// isn't admissible after those before it and why, or of that at which memory or the numbers ran out:
+    /// the reports are then those of the requests before it. The empty list takes no memory.
+    pub fn direct(&mut self, requests: &[Request]) -> Result<(), (usize, WorldFault)>
+        requires { IsFresh self.old }
+        ensures ok { OnOk result (AllDone requests.now self.new) }
+        ensures err { IfErr result (λ stop. StopsAtRequest requests.now self.new stop) }
+        ensures ran { RunsTo self.old self.new }
+        ensures nothing { requests.now ≡ [] → IsOk result × (self.new ≡ self.old) }
+        ensures headline { HeadlineOf self.new }
+    {
+        self.sound();
+        let result = self.direct_all(requests);
         self.sound();
         result
     }

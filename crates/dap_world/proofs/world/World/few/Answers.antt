@@ -1,8 +1,10 @@
 use Rattle.std.proofs.Common.{◌<◌, ◌^◌, subst}
-use Rattle.dap_world.specs.Machine.{State}
+use Rattle.std.specs.Prelude.{◌≢◌}
+use Rattle.dap_accessing.specs.Told.{due_after, Wrong}
+use Rattle.dap_world.specs.Machine.{State, answers_read}
 use Rattle.dap_world.specs.Inner.WorldView.{parts_of}
 use Rattle.dap_world.specs.Settling.{IsOneDue}
-use Rattle.dap_world.proofs.Few.{few_served, one_due}
+use Rattle.dap_world.proofs.Few.{few_served, one_due, in_place}
 use Rattle.dap_world.proofs.ReadingOne.{few_read}
 use Rattle.dap_world.proofs.world.World.few.Goals as goal
 
@@ -14,3 +16,6 @@ returns-clause-read c = subst (λ (s : State). s.read < 2 ^ 56) c.self.view_is (
 
 pub returns-clause-due : goal.returns-clause-due
 returns-clause-due c = subst (λ (s : State). IsOneDue s) c.self.view_is (one_due (parts_of c.self.inside) c.self.invariant)
+
+pub returns-clause-place : goal.returns-clause-place
+returns-clause-place c = subst (λ (s : State). due_after s.requests (answers_read s) ≢ Wrong) c.self.view_is (in_place (parts_of c.self.inside) c.self.invariant)
