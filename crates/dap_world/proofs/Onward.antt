@@ -70,8 +70,16 @@ on_post : (old new : State) (end : End) (answer : Step) → IsWorld old → Step
 unfolding Steps
 on_post old new A answer h step =
     on_is old _ new step.3
-    (record { seg_size = refl; window = refl; own_a = refl; own_b = refl; requests = refl; read = omega arith; more = [];
-      taken = served-stays old.served old.seg_size old.from_a.taken old.from_a.handed old.from_a.waiting h.served ∙ sym (append-nil (taken_of old)) })
+    (record {
+      seg_size = refl;
+      window = refl;
+      own_a = refl;
+      own_b = refl;
+      requests = refl;
+      read = omega arith;
+      more = [];
+      taken = served-stays old.served old.seg_size old.from_a.taken old.from_a.handed old.from_a.waiting h.served ∙ sym (append-nil (taken_of old));
+    })
 on_post old new B answer h step =
     on_is old _ new step.3
     (record { seg_size = refl; window = refl; own_a = refl; own_b = refl; requests = refl; read = omega arith; more = []; taken = sym (append-nil (taken_of old)) })

@@ -19,10 +19,12 @@ answers-smaller c =
 
 pub returns-then-is_nothing-clause-ok : goal.returns-then-is_nothing-clause-ok
 returns-then-is_nothing-clause-ok c =
-    let so_far = c.answers.invariant.so_far in
-    (read_ends c.args.self.now c.answers.self c.step.new.self so_far.0 _ so_far.1
-      (subst (λ (r : Result Step WorldFault). Went c.answers.self event.Read r c.step.new.self) (c.in-Err.is ∙ ap (λ (f : WorldFault). Err f) (c.is_nothing.ensures.yes c.if-is_nothing.true)) c.step.ensures.went)
-      (omega (arith, c.read_count.ensures, c.read_count-before.ensures)), c.step.ensures.world)
+    let so_far = c.answers.invariant.so_far in (
+      read_ends c.args.self.now c.answers.self c.step.new.self so_far.0 _ so_far.1
+          (subst (λ (r : Result Step WorldFault). Went c.answers.self event.Read r c.step.new.self) (c.in-Err.is ∙ ap (λ (f : WorldFault). Err f) (c.is_nothing.ensures.yes c.if-is_nothing.true)) c.step.ensures.went)
+          (omega (arith, c.read_count.ensures, c.read_count-before.ensures)),
+      c.step.ensures.world,
+    )
 
 pub returns-in-Err-clause-err : goal.returns-in-Err-clause-err
 returns-in-Err-clause-err c =

@@ -1,0 +1,387 @@
+//! Stretches without loss: what is settled and finished after all on the wires was lost, and requests over
+//! a clean network.
+
+use super::*;
+use crate::AskFault;
+
+/// A request.
+#[derive(Clone, Copy)]
+enum One {
+    Is(Call),
+    Purge,
+}
+
+/// A report that is to come.
+#[derive(Clone, Copy)]
+enum Tells {
+    Is(Want),
+    /// To Store: nothing was refused.
+    AllStored,
+    /// To Store: the code, the reason and the place of what was refused first.
+    Stored(u16, u8, u64),
+}
+
+/// Requests over a clean network, then events whose packets may be lost, and then all is finished.
+#[derive(Clone, Copy)]
+struct Row {
+    /// Segment size, window and both buffers.
+    setup: (usize, usize, u16, u16),
+    direct: &'static [One],
+    lost: &'static [Do],
+    /// How many events finish it.
+    events: usize,
+    told: &'static [Tells],
+    names: &'static [&'static [u8]],
+    /// Records of the first file, and numbers without one.
+    records: &'static [(u32, Option<&'static [u8]>)],
+}
+
+const CREATE_F: One = One::Is(Call::Create(b"F", 16, 2, 0, 3, 7));
+
+const CREATE_LOG: One = One::Is(Call::Create(b"L", 0, 2, 0, 0, 3));
+
+const OPENED_F: Tells = Tells::Is(Want::Opened(16, 2, 0, 3));
+
+const OPENED_LOG: Tells = Tells::Is(Want::Opened(0, 2, 0, 0));
+
+const READY: Tells = Tells::Is(Want::Ready(1024));
+
+const CONNECTED: Tells = Tells::Is(Want::Connected);
+
+const CLOSED: Tells = Tells::Is(Want::Closed);
+
+const TEN: &[u8] = b"0123456789";
+
+const LONG: &[u8] = b"-------------------------------------------------------------------------";
+
+const ROWS: &[Row] = &[
+    // Files are created, refused and purged; the one that an access created is left.
+    Row {
+        setup: (512, 8, 1024, 1024),
+        direct: &[
+            One::Is(Call::Hello),
+            CREATE_F,
+            One::Is(Call::Close),
+            One::Is(Call::Open(b"G", 2)),
+            CREATE_F,
+            One::Is(Call::Open(b"F", 2)),
+            One::Purge,
+            One::Is(Call::Create(b"G", 16, 2, 0, 3, 7)),
+            One::Purge,
+        ],
+        lost: &[],
+        events: 0,
+        told: &[
+            READY,
+            OPENED_F,
+            CLOSED,
+            Tells::Is(Want::Refused(0x4032, 0)),
+            Tells::Is(Want::Refused(0x4000, 1)),
+            OPENED_F,
+            CLOSED,
+            OPENED_F,
+            CLOSED,
+        ],
+        names: &[b"F"],
+        records: &[(1, None)],
+    },
+    // A record that is too long for the buffer of the end that asks.
+    Row {
+        setup: (512, 8, 64, 1024),
+        direct: &[
+            One::Is(Call::Hello),
+            CREATE_LOG,
+            One::Is(Call::Connect),
+            One::Is(Call::Put(TEN)),
+            One::Is(Call::Put(LONG)),
+            One::Is(Call::Put(TEN)),
+            One::Is(Call::Rewind),
+            One::Is(Call::Fetch),
+            One::Is(Call::Again),
+            One::Is(Call::Skip),
+        ],
+        lost: &[],
+        events: 0,
+        told: &[
+            READY,
+            OPENED_LOG,
+            CONNECTED,
+            Tells::Is(Want::Done(1)),
+            Tells::Is(Want::Done(2)),
+            Tells::Is(Want::Done(3)),
+            Tells::Is(Want::Done(0)),
+            Tells::Is(Want::Stopped(&[(1, TEN)])),
+            Tells::Is(Want::Stopped(&[])),
+            Tells::Is(Want::Complete(&[(3, TEN)])),
+        ],
+        names: &[b"L"],
+        records: &[(2, Some(LONG)), (3, Some(TEN))],
+    },
+    // A store whose second record is too long for the file.
+    Row {
+        setup: (512, 8, 1024, 1024),
+        direct: &[
+            One::Is(Call::Hello),
+            One::Is(Call::Create(b"S", 0, 2, 5, 0, 1)),
+            One::Is(Call::Connect),
+            One::Is(Call::Store(&[b"A", b"BBBBBB", b"C"])),
+            One::Is(Call::Connect),
+        ],
+        lost: &[],
+        events: 0,
+        told: &[
+            READY,
+            Tells::Is(Want::Opened(0, 2, 5, 0)),
+            CONNECTED,
+            Tells::Stored(0x5000, 7, 2),
+            CONNECTED,
+        ],
+        names: &[b"S"],
+        records: &[(1, Some(b"A")), (2, None)],
+    },
+    // The only packet of a put is lost: four events settle it, two serve it, five bring the answer, and one
+    // reads it.
+    Row {
+        setup: (512, 8, 1024, 1024),
+        direct: &[One::Is(Call::Hello), CREATE_LOG, One::Is(Call::Connect)],
+        lost: &[Do::Ask(Call::Put(b"A")), Do::Post(End::A), Do::Emit(End::A)],
+        events: 12,
+        told: &[READY, OPENED_LOG, CONNECTED, Tells::Is(Want::Done(1))],
+        names: &[b"L"],
+        records: &[(1, Some(b"A")), (2, None)],
+    },
+    // The put was served, and its answer is lost, as is every acknowledgement.
+    Row {
+        setup: (512, 8, 1024, 1024),
+        direct: &[One::Is(Call::Hello), CREATE_LOG, One::Is(Call::Connect)],
+        lost: &[
+            Do::Ask(Call::Put(b"A")),
+            Do::Post(End::A),
+            Do::Emit(End::A),
+            Do::Deliver(End::B, 6),
+            Do::Serve,
+            Do::Serve,
+            Do::Post(End::B),
+            Do::Emit(End::B),
+        ],
+        events: 9,
+        told: &[READY, OPENED_LOG, CONNECTED, Tells::Is(Want::Done(1))],
+        names: &[b"L"],
+        records: &[(1, Some(b"A")), (2, None)],
+    },
+    // A request in two pieces, of which the second came and the first is lost: six events settle them.
+    Row {
+        setup: (8, 4, 1024, 1024),
+        direct: &[],
+        lost: &[
+            Do::Ask(Call::Hello),
+            Do::Post(End::A),
+            Do::Emit(End::A),
+            Do::Emit(End::A),
+            Do::Deliver(End::B, 1),
+        ],
+        events: 17,
+        told: &[READY],
+        names: &[],
+        records: &[],
+    },
+    // Two of three pieces of a store are lost: six events settle them, four bring the third, four serve the
+    // messages, five bring the answer, and one reads it.
+    Row {
+        setup: (8, 4, 1024, 1024),
+        direct: &[One::Is(Call::Hello), CREATE_LOG, One::Is(Call::Connect)],
+        lost: &[
+            Do::Ask(Call::Store(&[b"A", b"BB"])),
+            Do::Post(End::A),
+            Do::Emit(End::A),
+            Do::Emit(End::A),
+        ],
+        events: 20,
+        told: &[READY, OPENED_LOG, CONNECTED, Tells::AllStored],
+        names: &[b"L"],
+        records: &[(1, Some(b"A")), (2, Some(b"BB")), (3, None)],
+    },
+];
+
+fn make(alloc: Global, asks: One) -> Result<Request, WorldFault> {
+    match asks {
+        One::Is(call) => request(alloc, call),
+        One::Purge => Ok(Request::Purge),
+    }
+}
+
+fn all(alloc: Global, asks: &[One]) -> Result<Vec<Request>, WorldFault> {
+    let mut requests = Vec::new(alloc);
+    for each in asks {
+        requests.push(make(alloc, *each)?)?;
+    }
+    Ok(requests)
+}
+
+/// Whether the report is the one that was to come.
+fn is_told(report: &Report, tells: Tells) -> bool {
+    match (report, tells) {
+        (_, Tells::Is(want)) => is_wanted(report, want),
+        (Report::Stored(None), Tells::AllStored) => true,
+        (Report::Stored(Some(first)), Tells::Stored(code, reason, place)) => {
+            *first == (code, reason, place)
+        }
+        _ => false,
+    }
+}
+
+fn are_told(reports: &[Report], told: &[Tells]) -> bool {
+    reports.len() == told.len()
+        && reports
+            .iter()
+            .zip(told)
+            .all(|(report, tells)| is_told(report, *tells))
+}
+
+fn are_held(world: &World, row: Row) -> bool {
+    world.files().count() == row.names.len()
+        && row
+            .names
+            .iter()
+            .all(|name| world.files().find(name).is_some())
+        && row
+            .records
+            .iter()
+            .all(|(number, body)| is_held(world, *number, *body))
+}
+
+#[test]
+fn all_come_to_their_reports(rt: HostRuntime) -> Result<(), Fail> {
+    for row in ROWS {
+        let (seg_size, window, bufsiz_a, bufsiz_b) = row.setup;
+        let setup = WorldSetup {
+            seg_size,
+            window,
+            bufsiz_a,
+            bufsiz_b,
+        };
+        let mut world = World::new(rt.alloc(), setup)?;
+        let requests = all(rt.alloc(), row.direct)?;
+        assert_eq!(rt; world.direct(&requests), Ok(()));
+        for what in row.lost {
+            let _step = happen(rt.alloc(), &mut world, *what)?;
+        }
+        assert_eq!(rt; world.finish(), Ok(row.events));
+        assert_eq!(rt; world.finish(), Ok(0));
+        assert!(rt; are_told(world.reports(), row.told));
+        assert!(rt; are_held(&world, *row));
+    }
+    Ok(())
+}
+
+/// Requests of which the one at this place isn't asked.
+const REFUSED: &[(&[One], usize, AskFault)] = &[
+    (&[One::Is(Call::Connect)], 0, AskFault::WrongPhase),
+    (
+        &[
+            One::Is(Call::Hello),
+            CREATE_F,
+            One::Is(Call::Get),
+            One::Purge,
+        ],
+        2,
+        AskFault::WrongPhase,
+    ),
+    (
+        &[
+            One::Is(Call::Hello),
+            CREATE_LOG,
+            One::Is(Call::Connect),
+            One::Is(Call::Put(LONG)),
+        ],
+        3,
+        AskFault::TooLarge,
+    ),
+];
+
+#[test]
+fn requests_stop_at_one_that_is_refused(rt: HostRuntime) -> Result<(), Fail> {
+    let setup = WorldSetup {
+        seg_size: 512,
+        window: 8,
+        bufsiz_a: 1024,
+        bufsiz_b: 64,
+    };
+    for (asks, place, fault) in REFUSED {
+        let mut world = World::new(rt.alloc(), setup)?;
+        assert_eq!(rt; world.direct(&[]), Ok(()));
+        let requests = all(rt.alloc(), asks)?;
+        assert_eq!(rt;
+            world.direct(&requests),
+            Err((*place, WorldFault::Ask(*fault)))
+        );
+        assert_eq!(rt; world.requests().len(), *place);
+        assert_eq!(rt; world.reports().len(), *place);
+    }
+    Ok(())
+}
+
+/// The window, the requests before, the bytes that are put (none: Hello is asked), how many segments of one
+/// byte are written and how many of them are delivered, and how many events settle them.
+const SETTLED: &[(usize, &[One], usize, usize, usize, usize)] = &[
+    (4, &[], 0, 4, 0, 10),
+    (4, &[], 0, 4, 4, 10),
+    (
+        2047,
+        &[One::Is(Call::Hello), CREATE_LOG, One::Is(Call::Connect)],
+        2100,
+        2047,
+        0,
+        4096,
+    ),
+];
+
+fn asked(alloc: Global, bytes: usize) -> Result<Request, WorldFault> {
+    if bytes == 0 {
+        return Ok(Request::Hello);
+    }
+    let mut body = Vec::new(alloc);
+    for _ in 0..bytes {
+        body.push(b'A')?;
+    }
+    Ok(Request::Put {
+        key: None,
+        body: Octets(body),
+    })
+}
+
+#[test]
+fn settled_ends(rt: HostRuntime) -> Result<(), Fail> {
+    for (window, before, bytes, written, delivered, events) in SETTLED {
+        let setup = WorldSetup {
+            seg_size: 1,
+            window: *window,
+            bufsiz_a: 4096,
+            bufsiz_b: 4096,
+        };
+        let mut world = World::new(rt.alloc(), setup)?;
+        let requests = all(rt.alloc(), before)?;
+        assert_eq!(rt; world.direct(&requests), Ok(()));
+        let request = asked(rt.alloc(), *bytes)?;
+        world.apply(&Event::Ask(request))?;
+        world.apply(&Event::Post(End::A))?;
+        let (first, answers) = (world.wire(End::A).len(), world.wire(End::B).len());
+        let taken = world.link(End::B).received_count();
+        for _ in 0..*written {
+            world.apply(&Event::Emit(End::A))?;
+        }
+        for place in 0..*delivered {
+            world.apply(&Event::Deliver(End::B, first + place))?;
+        }
+        assert_eq!(rt; world.settle(End::A), Ok(*events));
+        assert_eq!(rt; world.settle(End::A), Ok(0));
+        assert_eq!(rt; world.link(End::A).unacked(), 0);
+        assert_eq!(rt;
+            world.link(End::B).received_count() - taken,
+            *written as u64
+        );
+        assert_eq!(rt; world.wire(End::A).len() - first, 2 * *written);
+        assert_eq!(rt; world.wire(End::B).len() - answers, 1);
+    }
+    Ok(())
+}
