@@ -22,7 +22,8 @@ pub use laws::{
     requests_keep_to_the_limit,
 };
 pub use nsp_link::{Got, LinkEnd, LinkFault};
-pub use rec_file::{AnyFile, Format, Org, RecordFile, Shape};
+pub use nsp_seg::SegFault;
+pub use rec_file::{AnyFile, Format, Org, RecordFile, RelFile, SeqFile, Shape};
 pub use setup::WorldSetup;
 pub use side::Wired;
 pub use world::World;

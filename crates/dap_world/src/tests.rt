@@ -1,5 +1,8 @@
 //! Scripts of events: what each comes to, the packets that are written, and what is reported.
 
+mod age;
+mod finishing;
+mod random;
 mod refused;
 mod rows;
 
@@ -290,9 +293,19 @@ fn play(
     script: &[Line],
 ) -> Result<World, Fail> {
     let mut world = World::new(rt.alloc(), setup)?;
+    go_on(rt, &mut world, script)?;
+    Ok(world)
+}
+
+/// Plays a script in a world.
+fn go_on(
+    rt: &(impl AllocGlobal + Abort),
+    world: &mut World,
+    script: &[Line],
+) -> Result<(), WorldFault> {
     for (at, line) in script.iter().enumerate() {
-        let so = is_so(rt.alloc(), &mut world, *line)?;
+        let so = is_so(rt.alloc(), world, *line)?;
         assert!(rt; so, "at line {at}");
     }
-    Ok(world)
+    Ok(())
 }

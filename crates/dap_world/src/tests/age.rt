@@ -1,0 +1,130 @@
+//! Packets that are 2,047 numbers old, and older ones. The first packet of A is delivered again, at a small
+//! window and at the largest.
+
+use super::Line::*;
+use super::*;
+
+/// Segments of one byte over a window of 127.
+const SMALL: WorldSetup = WorldSetup {
+    seg_size: 1,
+    window: 127,
+    bufsiz_a: 1024,
+    bufsiz_b: 1024,
+};
+
+/// The same over the largest window.
+const WIDE: WorldSetup = WorldSetup {
+    window: 2047,
+    ..SMALL
+};
+
+const CREATE: Call = Call::Create(b"F", 0, 2, 0, 0, 3);
+
+/// A record whose put has 1,002 bytes.
+const RECORD: &[u8] = &[0x41; 991];
+
+/// Records without bytes, so many that 2,011 bytes ask to store them.
+const EMPTY: &[&[u8]] = &[NONE; 500];
+
+const NONE: &[u8] = &[];
+
+/// Two puts make 2,047 segments, and one of a further request makes the first of all too old.
+const PUTS: &[Call] = &[
+    Call::Hello,
+    CREATE,
+    Call::Connect,
+    Call::Put(RECORD),
+    Call::Put(RECORD),
+];
+
+const AGED: &[Line] = &[
+    Does(Do::Deliver(End::B, 0), Ok(Step::Delivered(Got::Repeat))),
+    Does(Do::Ask(Call::Get), Ok(Step::Asked(1))),
+    Does(Do::Post(End::A), Ok(Step::Posted(1))),
+    Does(Do::Emit(End::A), Ok(Step::Packet(2112))),
+    Does(
+        Do::Deliver(End::B, 2112),
+        Ok(Step::Delivered(Got::Accepted)),
+    ),
+    Does(Do::Deliver(End::B, 0), Err(WorldFault::Stale)),
+    Counts(1, 5, 8),
+    Does(Do::Emit(End::A), Ok(Step::Packet(2113))),
+    Does(Do::Emit(End::A), Ok(Step::Packet(2114))),
+    Does(Do::Deliver(End::B, 2114), Ok(Step::Delivered(Got::Early))),
+    Does(
+        Do::Deliver(End::B, 2113),
+        Ok(Step::Delivered(Got::Accepted)),
+    ),
+    Does(Do::Deliver(End::B, 0), Err(WorldFault::Stale)),
+    Counts(3, 5, 8),
+];
+
+/// Each request has its report, and then the script is played.
+fn play_after(
+    rt: &(impl AllocGlobal + Abort),
+    setup: WorldSetup,
+    calls: &[Call],
+    script: &[Line],
+) -> Result<World, Fail> {
+    let mut world = World::new(rt.alloc(), setup)?;
+    let mut requests = Vec::new(rt.alloc());
+    for call in calls {
+        requests.push(request(rt.alloc(), *call)?)?;
+    }
+    assert_eq!(rt; world.direct(&requests), Ok(()));
+    go_on(rt, &mut world, script)?;
+    Ok(world)
+}
+
+#[test]
+fn edge_of_age(rt: HostRuntime) -> Result<(), Fail> {
+    for setup in [SMALL, WIDE] {
+        let world = play_after(&rt, setup, PUTS, AGED)?;
+        assert_eq!(rt; world.link(End::B).received_count(), 2050);
+    }
+    Ok(())
+}
+
+/// Emits and delivers the next segments of A, with an acknowledgement after each window.
+fn bring(world: &mut World, segments: usize) -> Result<(), WorldFault> {
+    for sent in 0..segments {
+        let place = world.wire(End::A).len();
+        world.apply(&Event::Emit(End::A))?;
+        world.apply(&Event::Deliver(End::B, place))?;
+        if sent % 127 == 126 {
+            let back = world.wire(End::B).len();
+            world.apply(&Event::Ack(End::B))?;
+            world.apply(&Event::Deliver(End::A, back))?;
+        }
+    }
+    Ok(())
+}
+
+/// A part of a long request was taken: 2,047 segments in all, and then one more.
+#[test]
+fn age_within_a_request(rt: HostRuntime) -> Result<(), Fail> {
+    let mut world = play_after(
+        &rt,
+        WorldSetup {
+            bufsiz_b: 4096,
+            ..SMALL
+        },
+        &[Call::Hello, CREATE, Call::Connect],
+        &[
+            Does(Do::Ask(Call::Store(EMPTY)), Ok(Step::Asked(1))),
+            Does(Do::Post(End::A), Ok(Step::Posted(1))),
+        ],
+    )?;
+    let before = world.link(End::B).received_count() as usize;
+    assert_eq!(rt; before, 43);
+    bring(&mut world, 2004)?;
+    assert_eq!(rt; world.link(End::B).received_count(), 2047);
+    let repeated = [Does(Do::Deliver(End::B, 0), Ok(Step::Delivered(Got::Repeat)))];
+    go_on(&rt, &mut world, &repeated)?;
+    bring(&mut world, 1)?;
+    assert_eq!(rt; world.link(End::B).received_count(), 2048);
+    let stale = [Does(Do::Deliver(End::B, 0), Err(WorldFault::Stale))];
+    go_on(&rt, &mut world, &stale)?;
+    assert_eq!(rt; world.link(End::B).received_count(), 2048);
+    Ok(())
+}
