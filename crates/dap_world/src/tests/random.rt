@@ -1,5 +1,7 @@
 //! Schedules drawn by lot, and what they come to once all is finished: the same as without a loss.
 
+ghost use Rattle.std.specs.Prelude.{◌<◌};
+
 use super::*;
 use crate::{AnyFile, FileTable};
 
