@@ -27,7 +27,7 @@ use Rattle.dap_world.specs.Inner.Worlds.{IsWorld}
 use Rattle.dap_world.specs.Settling.{AllDone, AllTold, Finished, FinishFault, IsFresh, RanOut, RanTo, RunsTo, StopsAtRequest}
 use Rattle.dap_world.proofs.Kept.{headline_of}
 use Rattle.dap_world.proofs.Onward.{ran_on, ran_world}
-use Rattle.dap_world.proofs.Resting.{still}
+use Rattle.dap_world.proofs.Others.{refused_same}
 use Rattle.dap_world.proofs.Settles.{runs-both}
 
 -- ---- Before the first request.
@@ -139,7 +139,7 @@ pub runs_asked : (old s mid : State) (r : Request) (answer : Step) → RunsTo ol
 runs_asked old s mid r answer run step = (run.0 ++ event.Ask r ∷ [], runs-both run.0 (event.Ask r ∷ []) old s mid run.1 (mid, answer, step, refl))
 
 pub runs_refused : (old s new : State) (r : Request) (f : WorldFault) → RunsTo old s → Went s (event.Ask r) (Err f) new → RunsTo old new
-runs_refused old s new r f run went = subst (λ (t : State). RunsTo old t) (sym (still s new (event.Ask r) f went)) run
+runs_refused old s new r f run went = subst (λ (t : State). RunsTo old t) (sym (refused_same s new (event.Ask r) f went)) run
 
 pub runs_to : (old mid new : State) → RunsTo old mid → RanTo mid new → RunsTo old new
 runs_to old mid new run ran = (run.0 ++ ran.1.events, runs-both run.0 ran.1.events old mid new run.1 ran.1.ran)

@@ -7,22 +7,12 @@ use Rattle.dap_world.specs.declared.event.Event.{Event}
 use Rattle.dap_world.specs.declared.event.Event.TheVariants as event
 use Rattle.dap_world.specs.declared.event.Step.{Step}
 use Rattle.dap_world.specs.declared.event.WorldFault.{WorldFault}
-use Rattle.dap_world.specs.declared.event.WorldFault.TheVariants as fault
 use Rattle.dap_world.specs.Machine.{State, sends, other, wrote, Steps, Refuses}
 use Rattle.dap_world.specs.Runs.{Went}
 use Rattle.dap_world.specs.Inner.Worlds.{IsWorld}
 use Rattle.dap_world.specs.Settling.{SameBut, SendsNothing}
+use Rattle.dap_world.proofs.Others.{refused_same}
 use Rattle.dap_world.proofs.Bringing.{same_none, same_both, same_is, same_wrote, same_emit, same_ack, same_deliver, ack_sent, deliver_sent}
-
--- a refusal changes nothing
-pub still : (old new : State) (e : Event) (f : WorldFault) → Went old e (Err f) new → new ≡ old
-still old new e fault.NoMemory went = went.1
-still old new e fault.NothingToDo went = went.1
-still old new e fault.NoSuchPacket went = went.1
-still old new e fault.Stale went = went.1
-still old new e (fault.Ask g) went = went.1
-still old new e fault.Exhausted went = went.1
-still old new e fault.BadSetup went = went.1
 
 pub rest_none : (s : State) → SendsNothing s s
 rest_none s = record { same = same_none s; sent = λ e. refl }
@@ -48,16 +38,16 @@ resend_sent old new B B i answer step = ap (λ (s : State). s.from_b.sent) step.
 
 pub rest_resend : (old new : State) (end : End) (i : ℕ) (r : Result Step WorldFault) → Went old (event.Resend end i) r new → SendsNothing old new
 rest_resend old new end i (Ok answer) went = record { same = resend_same old new end i answer went; sent = λ e. resend_sent old new end e i answer went }
-rest_resend old new end i (Err f) went = rest_is old new (still old new (event.Resend end i) f went)
+rest_resend old new end i (Err f) went = rest_is old new (refused_same old new (event.Resend end i) f went)
 
 pub rest_ack : (old new : State) (end : End) (r : Result Step WorldFault) → Went old (event.Ack end) r new → SendsNothing old new
 rest_ack old new end (Ok answer) went = record { same = same_ack old new end answer went; sent = λ e. ack_sent old new end e answer went }
-rest_ack old new end (Err f) went = rest_is old new (still old new (event.Ack end) f went)
+rest_ack old new end (Err f) went = rest_is old new (refused_same old new (event.Ack end) f went)
 
 pub rest_deliver : (old new : State) (end : End) (j : ℕ) (r : Result Step WorldFault) → IsWorld old → Went old (event.Deliver end j) r new → SendsNothing old new
 rest_deliver old new end j (Ok answer) h went = record { same = same_deliver old new end j answer h went; sent = λ e. deliver_sent old new end e j answer went }
-rest_deliver old new end j (Err f) h went = rest_is old new (still old new (event.Deliver end j) f went)
+rest_deliver old new end j (Err f) h went = rest_is old new (refused_same old new (event.Deliver end j) f went)
 
 pub same_emitted : (old new : State) (end : End) (r : Result Step WorldFault) → Went old (event.Emit end) r new → SameBut old new
 same_emitted old new end (Ok answer) went = same_emit old new end answer went
-same_emitted old new end (Err f) went = (rest_is old new (still old new (event.Emit end) f went)).same
+same_emitted old new end (Err f) went = (rest_is old new (refused_same old new (event.Emit end) f went)).same

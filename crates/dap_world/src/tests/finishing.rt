@@ -321,19 +321,50 @@ fn requests_stop_at_one_that_is_refused(rt: HostRuntime) -> Result<(), Fail> {
     Ok(())
 }
 
-/// The window, the requests before, the bytes that are put (none: Hello is asked), how many segments of one
-/// byte are written and how many of them are delivered, and how many events settle them.
-const SETTLED: &[(usize, &[One], usize, usize, usize, usize)] = &[
-    (4, &[], 0, 4, 0, 10),
-    (4, &[], 0, 4, 4, 10),
-    (
-        2047,
-        &[One::Is(Call::Hello), CREATE_LOG, One::Is(Call::Connect)],
-        2100,
-        2047,
-        0,
-        4096,
-    ),
+/// Segments of one byte that are written, and then settled.
+#[derive(Clone, Copy)]
+struct Settled {
+    window: usize,
+    direct: &'static [One],
+    /// How many bytes are put, and how many of their segments are written. None: Hello is asked.
+    bytes: usize,
+    written: usize,
+    /// Whether they came to the other end.
+    came: bool,
+    events: usize,
+    /// The packets of A and of B, and the segments that B took.
+    counts: (usize, usize, u64),
+}
+
+const SETTLED: &[Settled] = &[
+    Settled {
+        window: 4,
+        direct: &[],
+        bytes: 0,
+        written: 4,
+        came: false,
+        events: 10,
+        counts: (8, 1, 4),
+    },
+    Settled {
+        window: 4,
+        direct: &[],
+        bytes: 0,
+        written: 4,
+        came: true,
+        events: 10,
+        counts: (8, 1, 4),
+    },
+    // Three requests of 43 bytes, and 33 bytes of answers, each in a packet and acknowledged by one.
+    Settled {
+        window: 2047,
+        direct: &[One::Is(Call::Hello), CREATE_LOG, One::Is(Call::Connect)],
+        bytes: 2100,
+        written: 2047,
+        came: false,
+        events: 4096,
+        counts: (4170, 77, 2090),
+    },
 ];
 
 fn asked(alloc: Global, bytes: usize) -> Result<Request, WorldFault> {
@@ -350,38 +381,46 @@ fn asked(alloc: Global, bytes: usize) -> Result<Request, WorldFault> {
     })
 }
 
+fn write(world: &mut World, row: Settled) -> Result<(), WorldFault> {
+    world.apply(&Event::Post(End::A))?;
+    for _ in 0..row.written {
+        world.apply(&Event::Emit(End::A))?;
+    }
+    if row.came {
+        for place in 0..row.written {
+            world.apply(&Event::Deliver(End::B, place))?;
+        }
+    }
+    Ok(())
+}
+
+fn counts(world: &World) -> (usize, usize, u64) {
+    (
+        world.wire(End::A).len(),
+        world.wire(End::B).len(),
+        world.link(End::B).received_count(),
+    )
+}
+
 #[test]
 fn settled_ends(rt: HostRuntime) -> Result<(), Fail> {
-    for (window, before, bytes, written, delivered, events) in SETTLED {
+    for row in SETTLED {
         let setup = WorldSetup {
             seg_size: 1,
-            window: *window,
+            window: row.window,
             bufsiz_a: 4096,
             bufsiz_b: 4096,
         };
         let mut world = World::new(rt.alloc(), setup)?;
-        let requests = all(rt.alloc(), before)?;
+        let requests = all(rt.alloc(), row.direct)?;
         assert_eq!(rt; world.direct(&requests), Ok(()));
-        let request = asked(rt.alloc(), *bytes)?;
+        let request = asked(rt.alloc(), row.bytes)?;
         world.apply(&Event::Ask(request))?;
-        world.apply(&Event::Post(End::A))?;
-        let (first, answers) = (world.wire(End::A).len(), world.wire(End::B).len());
-        let taken = world.link(End::B).received_count();
-        for _ in 0..*written {
-            world.apply(&Event::Emit(End::A))?;
-        }
-        for place in 0..*delivered {
-            world.apply(&Event::Deliver(End::B, first + place))?;
-        }
-        assert_eq!(rt; world.settle(End::A), Ok(*events));
+        write(&mut world, *row)?;
+        assert_eq!(rt; world.settle(End::A), Ok(row.events));
         assert_eq!(rt; world.settle(End::A), Ok(0));
         assert_eq!(rt; world.link(End::A).unacked(), 0);
-        assert_eq!(rt;
-            world.link(End::B).received_count() - taken,
-            *written as u64
-        );
-        assert_eq!(rt; world.wire(End::A).len() - first, 2 * *written);
-        assert_eq!(rt; world.wire(End::B).len() - answers, 1);
+        assert_eq!(rt; counts(&world), row.counts);
     }
     Ok(())
 }
