@@ -84,7 +84,7 @@ is_finished s new n w e all r =
 
 -- ---- Where nothing is left to do, nothing is done.
 
-all_served : (s : State) → IsWorld s → IsFinished s → length (sent_by s.from_a) ≤ s.served
+pub all_served : (s : State) → IsWorld s → IsFinished s → length (sent_by s.from_a) ≤ s.served
 all_served s h f = omega (arith, ap length f.served, length-take-le s.served (sent_by s.from_a) (headline_of s h).taken_there)
 
 none_to_read : (s : State) → IsWorld s → IsFinished s → length (arrived_of s.seg_size s.from_b) ≤ s.read
@@ -110,9 +110,6 @@ still_sent old new n f h = ran_still old new n h.ran (h.nothing (are_empty old f
 
 pub still_served : (old new : State) (n : ℕ) → IsWorld old → IsFinished old → ServedEvery old new n → new ≡ old
 still_served old new n w f h = ran_still old new n h.done.ran (h.done.nothing (h.only (all_served old w f)))
-
-pub unserved : (s : State) → IsWorld s → s.served < length (sent_by s.from_a) → IsFinished s → ⊥
-unserved s h lt f = omega (arith, lt, all_served s h f)
 
 pub unread : (s new : State) → IsWorld s → ReadPart s new → IsFinished s → ⊥
 unread s new h part f =

@@ -24,7 +24,7 @@ impl World {
     ghost use Rattle.dap_world.specs.Headline.{HeadlineOf};
     ghost use Rattle.dap_world.specs.Inner.Worlds.{IsWorld};
     ghost use Rattle.dap_world.specs.Settling.{AllDone, Finished, FinishFault, IsEmpty, IsFinished, IsFresh, IsOneDue, RanTo, RunsTo, SameBut, SendsNothing, StopsAtRequest, unacked};
-    ghost use Rattle.dap_world.specs.Inner.Settling.{AreEmpty, Brought, BroughtAll, Emptied, PostedAll, ReadEvery, ReadPart, SentBoth, ServedEvery, SettledBoth};
+    ghost use Rattle.dap_world.specs.Inner.Settling.{AreEmpty, AreSettled, Brought, BroughtAll, Emptied, Halts, IsServed, PostedAll, ReadEvery, ReadPart, SentBoth, ServedEvery, SettledBoth};
     ghost use Rattle.dap_world.specs.declared.event.End.TheVariants.{A, B};
     ghost use Rattle.dap_world.specs.declared.event.WorldFault.TheVariants.{NoMemory};
 
@@ -68,7 +68,8 @@ impl World {
         requires settled { unacked self.old end ≡ 0 }
         ensures ok { IfOk result (λ n. BroughtAll self.old self.new end n × IsWorld self.new) }
         ensures same { SameBut self.old self.new }
-        ensures err { IfErr result (λ f. (f ≡ NoMemory) × RanTo self.old self.new × MayEmit self.old end) }
+        ensures err { IfErr result (λ f. (f ≡ NoMemory) × RanTo self.old self.new) }
+        ensures more { OnErr result (MayEmit self.old end) }
     {
         let mut count = 0;
         'segments: loop {
@@ -86,7 +87,8 @@ impl World {
     fn post_waiting(&mut self, end: End) -> Result<usize, WorldFault>
         requires { IsWorld self.old }
         ensures ok { IfOk result (λ n. PostedAll self.old self.new end n × IsWorld self.new) }
-        ensures err { IfErr result (λ f. FinishFault f × (self.new ≡ self.old) × (0 < length (sends self.old end).waiting)) }
+        ensures err { IfErr result (λ f. FinishFault f × (self.new ≡ self.old)) }
+        ensures waits { OnErr result (0 < length (sends self.old end).waiting) }
     {
         match self.step(&Event::Post(end)) {
             Ok(_step) => Ok(1),
@@ -105,7 +107,7 @@ impl World {
         requires settled { unacked self.old end ≡ 0 }
         ensures ok { IfOk result (λ n. Emptied self.old self.new end n × IsWorld self.new) }
         ensures read { self.new.read ≡ self.old.read }
-        ensures err { IfErr result (λ f. FinishFault f × RanTo self.old self.new × (IsEmpty self.old end → ⊥)) }
+        ensures err { IfErr result (Halts (IsEmpty self.old end) self.old self.new) }
     {
         let posted = match self.post_waiting(end) {
             Ok(posted) => posted,
@@ -123,7 +125,7 @@ impl World {
         requires empty { AreEmpty self.old }
         ensures ok { IfOk result (λ n. ServedEvery self.old self.new n × IsWorld self.new) }
         ensures read { self.new.read ≡ self.old.read }
-        ensures err { IfErr result (λ f. FinishFault f × RanTo self.old self.new × (self.old.served < length (sent_by self.old.from_a))) }
+        ensures err { IfErr result (Halts (IsServed self.old) self.old self.new) }
     {
         let mut count = 0;
         for served in self.taken().len()..self.sent().len() {
@@ -146,7 +148,8 @@ impl World {
     fn read_every(&mut self) -> Result<usize, WorldFault>
         requires { IsWorld self.old }
         ensures ok { IfOk result (λ n. ReadEvery self.old self.new n × IsWorld self.new) }
-        ensures err { IfErr result (λ f. (f ≡ NoMemory) × ReadPart self.old self.new × IsWorld self.new) }
+        ensures err { IfErr result (λ f. f ≡ NoMemory) }
+        ensures part { OnErr result (ReadPart self.old self.new × IsWorld self.new) }
     {
         let before = self.read_count();
         'answers: loop {
@@ -167,7 +170,7 @@ impl World {
         requires { IsWorld self.old }
         ensures ok { IfOk result (λ n. SettledBoth self.old self.new n × IsWorld self.new) }
         ensures rest { SendsNothing self.old self.new }
-        ensures err { IfErr result (λ f. (f ≡ NoMemory) × RanTo self.old self.new × (unacked self.old A ≡ 0 → unacked self.old B ≡ 0 → ⊥)) }
+        ensures err { IfErr result (Halts (AreSettled self.old) self.old self.new) }
     {
         let count = match self.settle_end(End::A) {
             Ok(count) => count,
@@ -190,7 +193,7 @@ impl World {
         requires b { unacked self.old B ≡ 0 }
         ensures ok { IfOk result (λ n. SentBoth self.old self.new n × IsWorld self.new) }
         ensures read { self.new.read ≡ self.old.read }
-        ensures err { IfErr result (λ f. FinishFault f × RanTo self.old self.new × (AreEmpty self.old → ⊥)) }
+        ensures err { IfErr result (Halts (AreEmpty self.old) self.old self.new) }
     {
         let count = match self.send_waiting(End::A) {
             Ok(count) => count,
@@ -206,7 +209,7 @@ impl World {
     fn finish_all(&mut self) -> Result<usize, WorldFault>
         requires { IsWorld self.old }
         ensures ok { IfOk result (λ n. Finished self.old self.new n) }
-        ensures err { IfErr result (λ f. FinishFault f × RanTo self.old self.new × (IsFinished self.old → ⊥)) }
+        ensures err { IfErr result (Halts (IsFinished self.old) self.old self.new) }
         ensures untold { OnErr result (IsOneDue self.old → reported self.new ≡ reported self.old) }
     {
         let settled = match self.settle_both() {

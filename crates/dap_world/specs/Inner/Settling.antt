@@ -1,9 +1,10 @@
 -- The parts of a stretch without loss.
 use Rattle.std.specs.Prelude.{◌≡◌, ℕ, ◌+◌, ◌*◌, ◌-◌, ◌≤◌, ◌<◌, List, [], ◌++◌, length, Some, None, slice_get}
 use Rattle.dap_world.specs.declared.event.End.{End}
+use Rattle.dap_world.specs.declared.event.WorldFault.{WorldFault}
 use Rattle.dap_world.specs.Machine.{State, Sending, MayEmit, next_to_read, posted, sends, sent_by, other, with_sends}
 use Rattle.dap_msg.specs.Message.{Message}
-use Rattle.dap_world.specs.Settling.{IsEmpty, RanBy, RanTo, SameBut, unacked}
+use Rattle.dap_world.specs.Settling.{FinishFault, IsEmpty, RanBy, RanTo, SameBut, unacked}
 use Rattle.dap_world.specs.declared.event.End.TheVariants.{A, B}
 
 -- The first of the segments that aren't acknowledged were written again, and nothing else happened.
@@ -71,6 +72,17 @@ pub record Emptied (old new : State) (end : End) (n : ℕ) : Type 0 where
   pub nothing : IsEmpty old end → n ≡ 0
 
 -- ---- All is settled, sent and served.
+
+-- Refused after some events: then not all of it was done before.
+abbrev pub Halts : (done : Type 0) → State → State → WorldFault → Type 0
+Halts done old new f = FinishFault f × RanTo old new × (done → ⊥)
+
+abbrev pub AreSettled : State → Type 0
+AreSettled s = (unacked s A ≡ 0) × (unacked s B ≡ 0)
+
+-- all that was sent was served
+abbrev pub IsServed : State → Type 0
+IsServed s = length (sent_by s.from_a) ≤ s.served
 
 abbrev pub AreEmpty : State → Type 0
 AreEmpty s = IsEmpty s A × IsEmpty s B

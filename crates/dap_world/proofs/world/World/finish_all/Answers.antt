@@ -1,13 +1,13 @@
 use Rattle.std.proofs.Common.{◌+◌, ◌∙◌, inl, subst, sym}
 use Rattle.dap_world.specs.Settling.{IsFinished}
-use Rattle.dap_world.proofs.Finishes.{finished, ran_three, still_settled, still_sent_from, still_four, are_empty, unserved, unread}
+use Rattle.dap_world.proofs.Finishes.{finished, ran_three, still_settled, still_sent_from, still_four, all_served, are_empty, unread}
 use Rattle.dap_world.proofs.Onward.{told_same}
 use Rattle.dap_world.proofs.Settles.{ran_both}
 use Rattle.dap_world.proofs.Untold.{untold}
 use Rattle.dap_world.proofs.world.World.finish_all.Goals as goal
 
 pub returns-in-Err-clause-err : goal.returns-in-Err-clause-err
-returns-in-Err-clause-err c = let err = c.in-Err.ensures.err in (inl err.0, err.1, λ f. err.2 f.from_a.acked f.from_b.acked)
+returns-in-Err-clause-err c = let err = c.in-Err.ensures.err in (err.0, err.1, λ f. err.2 (f.from_a.acked, f.from_b.acked))
 
 pub returns-in-Err-clause-untold : goal.returns-in-Err-clause-untold
 returns-in-Err-clause-untold c =
@@ -38,7 +38,7 @@ returns-in-Err-serve_every-clause-err c =
     let two = ran_both c.args.self.now c.settle_both.new.self c.send_both.new.self c.in-Ok.count c.in-Ok-send_both.count a.ran b.0.ran in (
       err.0,
       ((c.in-Ok.count + c.in-Ok-send_both.count) + err.1.0, ran_both c.args.self.now c.send_both.new.self c.serve_every.new.self (c.in-Ok.count + c.in-Ok-send_both.count) err.1.0 two err.1.1),
-      λ f. unserved c.send_both.new.self b.1 err.2 (subst IsFinished (sym (still_sent_from c.args.self.now c.settle_both.new.self c.send_both.new.self c.in-Ok.count c.in-Ok-send_both.count a b.0 f)) f),
+      λ f. err.2 (all_served c.send_both.new.self b.1 (subst IsFinished (sym (still_sent_from c.args.self.now c.settle_both.new.self c.send_both.new.self c.in-Ok.count c.in-Ok-send_both.count a b.0 f)) f)),
     )
 
 pub returns-in-Err-serve_every-clause-untold : goal.returns-in-Err-serve_every-clause-untold
@@ -60,25 +60,25 @@ returns-in-Ok-read_every-clause-ok c =
 
 pub returns-in-Err-read_every-clause-err : goal.returns-in-Err-read_every-clause-err
 returns-in-Err-read_every-clause-err c =
-    let err = c.in-Err-read_every.ensures.err in
+    let part = c.in-Err-read_every.ensures.part in
     let s = c.in-Ok-serve_every.ensures.ok in
     let a = c.in-Ok.ensures.ok.0 in
     let b = c.in-Ok-send_both.ensures.ok.0 in
     let n = (c.in-Ok.count + c.in-Ok-send_both.count) + c.in-Ok-serve_every.count in
     let three = ran_three c.args.self.now c.settle_both.new.self c.send_both.new.self c.serve_every.new.self c.in-Ok.count c.in-Ok-send_both.count c.in-Ok-serve_every.count c.requires a b s.0 in (
-      inl err.0,
-      (n + err.1.ran.0, ran_both c.args.self.now c.serve_every.new.self c.read_every.new.self n err.1.ran.0 three err.1.ran.1),
-      λ f. unread c.serve_every.new.self c.read_every.new.self s.1 err.1
+      inl c.in-Err-read_every.ensures.err,
+      (n + part.0.ran.0, ran_both c.args.self.now c.serve_every.new.self c.read_every.new.self n part.0.ran.0 three part.0.ran.1),
+      λ f. unread c.serve_every.new.self c.read_every.new.self s.1 part.0
           (subst IsFinished (sym (still_four c.args.self.now c.settle_both.new.self c.send_both.new.self c.serve_every.new.self c.in-Ok.count c.in-Ok-send_both.count c.in-Ok-serve_every.count c.requires a b s.0 f)) f),
     )
 
 pub returns-in-Err-read_every-clause-untold : goal.returns-in-Err-read_every-clause-untold
 returns-in-Err-read_every-clause-untold c =
-    let err = c.in-Err-read_every.ensures.err in
+    let part = c.in-Err-read_every.ensures.part in
     let s = c.in-Ok-serve_every.ensures.ok in
     let a = c.in-Ok.ensures.ok.0 in
     let b = c.in-Ok-send_both.ensures.ok.0 in
     let n = (c.in-Ok.count + c.in-Ok-send_both.count) + c.in-Ok-serve_every.count in
     let three = ran_three c.args.self.now c.settle_both.new.self c.send_both.new.self c.serve_every.new.self c.in-Ok.count c.in-Ok-send_both.count c.in-Ok-serve_every.count c.requires a b s.0 in
     λ due. untold c.args.self.now c.serve_every.new.self c.read_every.new.self n c.requires three
-    (c.serve_every.ensures.read ∙ c.send_both.ensures.read ∙ c.settle_both.ensures.rest.same.read) err.1 err.2 due
+    (c.serve_every.ensures.read ∙ c.send_both.ensures.read ∙ c.settle_both.ensures.rest.same.read) part.0 part.1 due

@@ -18,4 +18,9 @@ returns-then-is_nothing-clause-ok c = (
 )
 
 pub returns-clause-err : goal.returns-clause-err
-returns-clause-err c = post_refused c.args.self.now c.step.new.self c.args.end c.in-Err.fault (c.is_nothing.ensures.no c.if-is_nothing.false) c.in-Err.ensures.went
+returns-clause-err c =
+    let why = post_refused c.args.self.now c.step.new.self c.args.end c.in-Err.fault (c.is_nothing.ensures.no c.if-is_nothing.false) c.in-Err.ensures.went in
+    (why.0, why.1)
+
+pub returns-clause-waits : goal.returns-clause-waits
+returns-clause-waits c = (post_refused c.args.self.now c.step.new.self c.args.end c.in-Err.fault (c.is_nothing.ensures.no c.if-is_nothing.false) c.in-Err.ensures.went).2

@@ -29,4 +29,10 @@ returns-then-is_nothing-clause-ok c =
 pub returns-in-Err-clause-err : goal.returns-in-Err-clause-err
 returns-in-Err-clause-err c =
     let so_far = c.answers.invariant.so_far in
-    read_refused c.args.self.now c.answers.self c.step.new.self so_far.0 c.in-Err.fault (c.is_nothing.ensures.no c.if-is_nothing.false) c.answers.invariant.world so_far.1 c.in-Err.ensures.went
+    (read_refused c.args.self.now c.answers.self c.step.new.self so_far.0 c.in-Err.fault (c.is_nothing.ensures.no c.if-is_nothing.false) c.answers.invariant.world so_far.1 c.in-Err.ensures.went).0
+
+pub returns-in-Err-clause-part : goal.returns-in-Err-clause-part
+returns-in-Err-clause-part c =
+    let so_far = c.answers.invariant.so_far in
+    let why = read_refused c.args.self.now c.answers.self c.step.new.self so_far.0 c.in-Err.fault (c.is_nothing.ensures.no c.if-is_nothing.false) c.answers.invariant.world so_far.1 c.in-Err.ensures.went in
+    (why.1, why.2)

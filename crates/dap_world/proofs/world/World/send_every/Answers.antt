@@ -19,8 +19,12 @@ returns-in-Err-clause-err c =
     let err = c.in-Err.ensures.err in (
       err.0,
       (4 * so_far.0 + err.1.0, ran_both c.args.self.now c.segments.self c.send_one.new.self (4 * so_far.0) err.1.0 so_far.1.ran err.1.1),
-      could_emit c.args.self.now c.segments.self c.args.end so_far.0 c.requires.world c.requires.settled so_far.1 (c.may_emit.ensures.yes c.if-not-may_emit.false),
     )
+
+pub returns-in-Err-clause-more : goal.returns-in-Err-clause-more
+returns-in-Err-clause-more c =
+    let so_far = c.segments.invariant.brought in
+    could_emit c.args.self.now c.segments.self c.args.end so_far.0 c.requires.world c.requires.settled so_far.1 (c.may_emit.ensures.yes c.if-not-may_emit.false)
 
 pub returns-in-Err-clause-same : goal.returns-in-Err-clause-same
 returns-in-Err-clause-same c = same_both c.args.self.now c.segments.self c.send_one.new.self c.segments.invariant.same c.send_one.ensures.same

@@ -10,7 +10,7 @@ send_every-requires-clause-settled c = posted_settled c.args.self.now c.post_wai
 pub returns-in-Err-clause-err : goal.returns-in-Err-clause-err
 returns-in-Err-clause-err c =
     let err = c.in-Err.ensures.err in
-    (err.0, ran_none_is c.args.self.now c.post_waiting.new.self err.1, waits_then c.args.self.now c.args.end err.2)
+    (err.0, ran_none_is c.args.self.now c.post_waiting.new.self err.1, waits_then c.args.self.now c.args.end c.in-Err.ensures.waits)
 
 pub returns-in-Ok-send_every-clause-ok : goal.returns-in-Ok-send_every-clause-ok
 returns-in-Ok-send_every-clause-ok c =
@@ -29,5 +29,5 @@ returns-in-Err-send_every-clause-err c =
     let posted = c.in-Ok.ensures.ok.0 in (
       inl err.0,
       (c.in-Ok.posted + err.1.0, ran_both c.args.self.now c.post_waiting.new.self c.send_every.new.self c.in-Ok.posted err.1.0 posted.ran err.1.1),
-      not_empty c.args.self.now c.post_waiting.new.self c.args.end c.in-Ok.posted posted err.2,
+      not_empty c.args.self.now c.post_waiting.new.self c.args.end c.in-Ok.posted posted c.in-Err-send_every.ensures.more,
     )

@@ -19,7 +19,7 @@ returns-in-Err-clause-err c =
     let same = same_sent c.args.self.now c.loop-served.self c.loop-served.count (c.loop-served.served - c.args.self.now.served) inv.done in
     let lt = c.loop-served-test.true in
     let err = serve_refused c.args.self.now c.loop-served.self c.step.new.self c.loop-served.count (c.loop-served.served - c.args.self.now.served) c.in-Err.fault inv.world inv.done (omega (arith, end, same, inv.at, lt)) c.in-Err.ensures.went in
-    (err.0, err.1, omega (arith, end, inv.at, lt, inv.done.served))
+    (err.0, err.1, λ all. omega (arith, all, end, inv.at, lt, inv.done.served))
 
 pub send_waiting-requires-clause-settled : goal.send_waiting-requires-clause-settled
 send_waiting-requires-clause-settled c =
@@ -41,7 +41,7 @@ returns-in-Err-send_waiting-clause-err c =
         ran_both c.args.self.now c.step.new.self c.send_waiting.new.self (c.loop-served.count + 1) err.1.0
             (ran_both c.args.self.now c.loop-served.self c.step.new.self c.loop-served.count 1 inv.done.ran one.ran) err.1.1,
       ),
-      omega (arith, end, inv.at, c.loop-served-test.true, inv.done.served),
+      λ all. omega (arith, all, end, inv.at, c.loop-served-test.true, inv.done.served),
     )
 
 pub loop-served-preserved : goal.loop-served-preserved

@@ -1,4 +1,4 @@
-use Rattle.std.proofs.Common.{◌≡◌, ◌+◌, ◌≤◌, ◌*◌, ℕ, arith, Err}
+use Rattle.std.proofs.Common.{◌≡◌, ◌+◌, ◌≤◌, ◌*◌, ℕ, arith, Err, inl}
 use Rattle.dap_world.specs.declared.event.End.TheVariants.{A, B}
 use Rattle.dap_world.proofs.Settles.{ran_both}
 use Rattle.dap_world.proofs.Settled.{settled_both, settle_needs}
@@ -11,12 +11,12 @@ returns-in-Ok-settle_end-clause-ok c = (
 )
 
 pub returns-in-Err-clause-err : goal.returns-in-Err-clause-err
-returns-in-Err-clause-err c = (c.in-Err.ensures.err.0, c.in-Err.ensures.err.1, λ a b. settle_needs c.settle_end.result c.in-Err.fault c.in-Err.is (c.settle_end.ensures.nothing a))
+returns-in-Err-clause-err c = (inl c.in-Err.ensures.err.0, c.in-Err.ensures.err.1, λ s. settle_needs c.settle_end.result c.in-Err.fault c.in-Err.is (c.settle_end.ensures.nothing s.0))
 
 pub returns-in-Err-settle_end-clause-err : goal.returns-in-Err-settle_end-clause-err
 returns-in-Err-settle_end-clause-err c =
     let err = c.in-Err-settle_end.ensures.err in (
-      err.0,
+      inl err.0,
       (c.in-Ok.count + err.1.0, ran_both c.args.self.now c.settle_end.new.self c.settle_end-2.new.self c.in-Ok.count err.1.0 c.in-Ok.ensures.ok.ran err.1.1),
-      λ a b. settle_needs c.settle_end-2.result c.in-Err-settle_end.fault c.in-Err-settle_end.is (c.settle_end-2.ensures.nothing (omega (arith, b, c.settle_end.ensures.rest.sent B, c.settle_end.ensures.rest.same.acked B))),
+      λ s. settle_needs c.settle_end-2.result c.in-Err-settle_end.fault c.in-Err-settle_end.is (c.settle_end-2.ensures.nothing (omega (arith, s.1, c.settle_end.ensures.rest.sent B, c.settle_end.ensures.rest.same.acked B))),
     )
