@@ -17,7 +17,7 @@ use Rattle.dap_msg.specs.Message.{Attributes}
 use Rattle.rec_file.specs.declared.shapes.Org.{Org}
 use Rattle.rec_file.specs.declared.shapes.Org.TheVariants.{Seq, Rel}
 use Rattle.rec_file.specs.declared.shapes.Format.{Format}
-use Rattle.rec_file.specs.declared.shapes.TheConstants.{MAX_RECORD, MAX_NUMBER}
+use Rattle.rec_file.specs.Limits.{longest_record, greatest_number}
 use Rattle.rec_file.specs.Shapes.{is_shape, has_length, kept_mrn, org_of_code, format_of_code, shape_of as shape_asked}
 use Rattle.rec_file.specs.Keys.{little_endian}
 use Rattle.std.specs.Prelude.{unwrap_or}
@@ -46,10 +46,10 @@ use Rattle.dap_accessed.proofs.SoundTables.{file-there, all-with, distinct-with,
 abbrev pub Good : Option Shape → Type 0
 Good shape = IfSome shape (λ s. IsTrue (is_shape s))
 
-allowed : (org : Org) (format : Format) (mrs mrn : ℕ) (b : Bool) → (has_length format mrs && nat_le mrs MAX_RECORD && nat_le mrn MAX_NUMBER) ≡ b
+allowed : (org : Org) (format : Format) (mrs mrn : ℕ) (b : Bool) → (has_length format mrs && nat_le mrs longest_record && nat_le mrn greatest_number) ≡ b
     → Good (if b then Some (record { org = org; format = format; mrs = mrs; mrn = kept_mrn org mrn }) else None)
 allowed org format mrs mrn false e = tt
-allowed Seq format mrs mrn true e = ap (λ b. b && true && true) (both (has_length format mrs && nat_le mrs MAX_RECORD) (nat_le mrn MAX_NUMBER) e).0
+allowed Seq format mrs mrn true e = ap (λ b. b && true && true) (both (has_length format mrs && nat_le mrs longest_record) (nat_le mrn greatest_number) e).0
 allowed Rel format mrs mrn true e = ap (λ b. b && true) e
 
 good-of : (org : Option Org) (format : Option Format) (mrs mrn : ℕ) → Good (shape_asked org format mrs mrn)

@@ -5,7 +5,7 @@ use Rattle.dap_msg.specs.Message.{Message, Attrib, Access, Control, Contran, Fil
 use Rattle.dap_msg.specs.Items.{Item, Whole}
 use Rattle.dap_msg.specs.Exchange.{short_answer}
 use Rattle.rec_file.specs.declared.shapes.Shape.{Shape}
-use Rattle.rec_file.specs.declared.shapes.TheConstants.{MAX_NUMBER}
+use Rattle.rec_file.specs.Limits.{greatest_number}
 use Rattle.rec_file.specs.Shapes.{is_shape}
 use Rattle.rec_file.specs.Acts.{StreamVal}
 use Rattle.dap_accessed.specs.declared.phase.OpenFile.{OpenFile}
@@ -133,7 +133,7 @@ IsOpenIn files (phases.PutDue opened stream key) = opened.at < length files
 IsOpenIn files (phases.UpdateDue opened stream) = opened.at < length files
 IsOpenIn files (phases.Storing opened stream ordinal) = opened.at < length files
 IsOpenIn files (phases.Dropping opened stream ordinal) = opened.at < length files
-IsOpenIn files (phases.Stopped opened stream) = (opened.at < length files) × (stream.next ≤ MAX_NUMBER)
+IsOpenIn files (phases.Stopped opened stream) = (opened.at < length files) × (stream.next ≤ greatest_number)
 
 pub record IsKept (limit : ℕ) (files : Files) (kept : Option Shape) (phase : Phase) : Type 0 where
   pub opened : IsOpenIn files phase

@@ -5,7 +5,7 @@ use Rattle.dap_msg.specs.Message.{Message, Ack}
 use Rattle.dap_msg.specs.Canon.{file_data_size}
 use Rattle.dap_msg.specs.Exchange.{four_bytes, config_of, attributes_of, record_of, short_answer}
 use Rattle.dap_msg.specs.Blocked.{Blocked, all_joined, bodies, AllFit}
-use Rattle.rec_file.specs.declared.shapes.TheConstants.{MAX_RECORD}
+use Rattle.rec_file.specs.Limits.{longest_record}
 use Rattle.dap_accessed.specs.declared.answers.Answer.{Answer}
 use Rattle.dap_accessed.specs.declared.answers.Answer.TheVariants as answer
 use Rattle.dap_accessed.specs.Replies.{completed, bare_status, reason_status, done_status, org_number, format_number}
@@ -30,7 +30,7 @@ IsShort _ = Unit {0}
 -- The answer can be written, and is no longer than the limit.
 abbrev pub FitsIn : ℕ → Answer → Type 0
 FitsIn limit (answer.Record number body) =
-    (length body.now ≤ MAX_RECORD) × (file_data_size 4 (length body.now) ≤ limit)
+    (length body.now ≤ longest_record) × (file_data_size 4 (length body.now) ≤ limit)
 FitsIn limit _ = short_answer ≤ limit
 
 abbrev pub AllAtMost : ℕ → List (List ℕ) → Type 0

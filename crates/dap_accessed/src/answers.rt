@@ -5,7 +5,7 @@ ghost use Rattle.dap_msg.specs.Message.{Ack, Message as Meaning, Status, seen};
 ghost use Rattle.dap_msg.specs.Canon.{Fits, canon, file_data_size};
 ghost use Rattle.dap_msg.specs.Written.{Appends};
 ghost use Rattle.dap_msg.specs.Exchange.{attributes_of, config_of, record_of, short_answer};
-ghost use Rattle.rec_file.specs.declared.shapes.TheConstants.{MAX_RECORD};
+ghost use Rattle.rec_file.specs.Limits.{longest_record};
 ghost use Rattle.dap_accessed.specs.Replies.{completed, format_number, opened_with, org_number};
 ghost use Rattle.dap_accessed.specs.Written.{Answered, FitsIn, IsShort, message_of};
 
@@ -162,7 +162,7 @@ fn write_acknowledge(out: &mut Vec<u8>) -> Result<(), MsgFault>
 }
 
 fn write_record(number: u32, body: &[u8], out: &mut Vec<u8>) -> Result<(), MsgFault>
-    requires { length body.now ≤ MAX_RECORD }
+    requires { length body.now ≤ longest_record }
     ensures fits { Fits (record_of number body.now) }
     ensures size { length (canon (record_of number body.now)) ≡ file_data_size 4 (length body.now) }
     ensures appends { Appends (canon (record_of number body.now)) out.old out.new result }

@@ -2,7 +2,7 @@
 
 ghost use Rattle.std.specs.Prelude.{◌≡◌, ◌≤◌, [], length, unwrap_or};
 ghost use Rattle.std.specs.FinMap as map;
-ghost use Rattle.rec_file.specs.declared.shapes.TheConstants.{MAX_RECORD};
+ghost use Rattle.rec_file.specs.Limits.{longest_record};
 ghost use Rattle.dap_msg.specs.Message.{seen_control};
 ghost use Rattle.dap_msg.specs.Canon.{file_data_size};
 ghost use Rattle.dap_msg.specs.Exchange.{four_bytes};
@@ -140,7 +140,7 @@ pub(crate) fn settled<'a>(reply: Result<u32, Refusal>) -> Answer<'a>
 
 /// How many bytes the Filedata of a record has, with its number in 4 bytes.
 pub(crate) fn filedata_len(body: &[u8]) -> usize
-    requires { length body.now ≤ MAX_RECORD }
+    requires { length body.now ≤ longest_record }
     ensures { result ≡ file_data_size 4 (length body.now) }
 {
     let operand = 5 + body.len();
@@ -154,7 +154,7 @@ pub(crate) fn filedata_len(body: &[u8]) -> usize
 /// The record of a number, empty where there is none.
 pub(crate) fn body_of(file: &AnyFile, number: u32) -> &[u8]
     ensures same { result.now ≡ unwrap_or (map.get (any_value file.now).records number) [] }
-    ensures short { length result.now ≤ MAX_RECORD }
+    ensures short { length result.now ≤ longest_record }
 {
     match file.lookup(number) {
         Some(body) => body,

@@ -3,7 +3,7 @@
 ghost use Rattle.std.specs.Prelude.{◌≡◌, ◌≤◌, ◌<◌, ◌+◌, length, nat_lt, IfOk, IsOk, OnErr, false, true};
 ghost use Rattle.dap_msg.specs.Items.{seen_item};
 ghost use Rattle.dap_accessed.specs.Moves.{IsOpenIn, Moves, between, plain_memory, scene_in, settles, store_memory};
-ghost use Rattle.rec_file.specs.declared.shapes.TheConstants.{MAX_NUMBER};
+ghost use Rattle.rec_file.specs.Limits.{greatest_number};
 ghost use Rattle.dap_accessed.specs.Records.{at_number};
 ghost use Rattle.dap_accessed.specs.Past.{next_ordinal};
 ghost use Rattle.dap_accessed.specs.Present.{phase_at};
@@ -24,7 +24,7 @@ use rec_file::{Stream, first_record};
 /// The stream at another number, with no current record.
 fn at_number(mut stream: Stream, number: u32) -> Stream
     requires above { 1 ≤ number }
-    requires within { number ≤ MAX_NUMBER + 1 }
+    requires within { number ≤ greatest_number + 1 }
     ensures { result ≡ at_number number stream }
 {
     stream.seek(number);

@@ -2,7 +2,7 @@
 use Rattle.std.proofs.Common.{◌≡◌, ℕ, ◌-◌, ◌<◌, ◌≤◌, true, List, [], length, Some, None, IfSome, IsTrue, slice_get, refl, sym, ap, subst, ◌∙◌, arith, inl, inr}
 use Rattle.std.specs.Prelude.{replicate}
 use Rattle.std.specs.FinMap.{get}
-use Rattle.rec_file.specs.declared.shapes.TheConstants.{MAX_NUMBER}
+use Rattle.rec_file.specs.Limits.{greatest_number}
 use Rattle.rec_file.specs.Shapes.{is_seq, allows_length}
 use Rattle.rec_file.specs.Files.{FileVal, IsFile, lowest_from, highest_of}
 use Rattle.rec_file.specs.Numbered.{numbered}
@@ -42,7 +42,7 @@ blank_length n q =
       ]
     ]
 
-pub IsFile-blank : (n : ℕ) → n ≤ MAX_NUMBER → IsFile (blank_file n)
+pub IsFile-blank : (n : ℕ) → n ≤ greatest_number → IsFile (blank_file n)
 IsFile-blank n most = record {
   shape = refl;
   above = λ q some. (within-numbered (blanks n) q some).0;
@@ -58,7 +58,7 @@ module _ (n : ℕ) (f : FileVal) (e : blank_file n ≡ f) where
   pub highest_is_count : n ≡ highest_of f.records
   highest_is_count = sym (size n) ∙ sym (highest-numbered (blanks n)) ∙ ap highest_of records_are
 
-  pub fits : IsFile (blank_file n) → n ≤ MAX_NUMBER
+  pub fits : IsFile (blank_file n) → n ≤ greatest_number
   fits h = let most = count_fits any_length (blanks n) h in let same = size n in omega arith
 
   pub first_is : (q k : ℕ) → q ≤ k → 1 ≤ k → (2 ≤ k → k ≡ q) → k ≤ n → Some k ≡ lowest_from f.records q

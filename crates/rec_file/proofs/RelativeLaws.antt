@@ -14,9 +14,8 @@ use Rattle.std.proofs.lemmas.Option.{slice_get-map, slice_get_read, same_Some}
 use Rattle.rec_file.specs.declared.sorted.Entry.{Entry}
 use Rattle.rec_file.specs.declared.shapes.Shape.{Shape}
 use Rattle.rec_file.specs.Files.{FileVal, IsFile, lowest_from, highest_of, stored, removed}
-use Rattle.rec_file.specs.declared.shapes.TheConstants.{MAX_NUMBER}
-use Rattle.rec_file.specs.declared.pages.TheConstants.{LAST_PAGE}
-use Rattle.rec_file.specs.Pages.{Cells, cell, paged, paged_file, page_cell, page_of, cell_of, IsPage, IsFirstIn, IsLastIn, empty_cells}
+use Rattle.rec_file.specs.Limits.{greatest_number}
+use Rattle.rec_file.specs.Pages.{Cells, cell, paged, paged_file, page_cell, page_of, cell_of, IsPage, IsFirstIn, IsLastIn, empty_cells, last_page}
 use Rattle.rec_file.specs.Sorted.{IsInOrder, IsPlaceOf, IsGapFor}
 use Rattle.rec_file.proofs.Rising.{at, IsRising, rising_from_sorted, sorted_from_rising, find_is_at, same_or_not}
 use Rattle.rec_file.proofs.RecordsLaws.{lowest_from_some, lowest_from_none, highest_of_some, highest_of_none}
@@ -140,7 +139,7 @@ module _ (s : Shape) (ps : List (ℕ × Cells)) (f : FileVal) (e : paged_file s 
 
   -- as a search in the page of q answers it, where it finds one
   pub lowest_in_same : (n q i m : ℕ) (p : ℕ × Cells) → 1 ≤ q → n ≤ q → ((j : ℕ) → n ≤ j → 1 ≤ j → q ≤ j) → slice_get ps i ≡ Some p → p.0 ≡ page_of q → IsFile f
-      → (1 ≤ m) × (page_of m ≡ p.0) × IsFirstIn p.1 (cell_of q) (cell_of m) → (Some m ≡ lowest_from f.records n) × (m ≤ MAX_NUMBER)
+      → (1 ≤ m) × (page_of m ≡ p.0) × IsFirstIn p.1 (cell_of q) (cell_of m) → (Some m ≡ lowest_from f.records n) × (m ≤ greatest_number)
   lowest_in_same n q i m p least near from is same file first = (
     lowest_in_page n q i m p (cell_of q) least near from is first.0 first.1 first.2 (let le = first.2.from_on in omega arith) (λ j ge there. omega arith) (λ j ge lt. absurd (omega arith)),
     number_fits f m file (subst IsSome (here m i p first.0 is (sym first.1)) first.2.occupied),
@@ -148,7 +147,7 @@ module _ (s : Shape) (ps : List (ℕ × Cells)) (f : FileVal) (e : paged_file s 
 
   -- and as one in the first page behind it does
   pub lowest_behind : (n q i : ℕ) (p : ℕ × Cells) (m : Option ℕ) → 1 ≤ q → n ≤ q → ((j : ℕ) → n ≤ j → 1 ≤ j → q ≤ j) → IsPassed n i → slice_get ps i ≡ Some p → page_of q < p.0 → IsFile f
-      → IfNone m ((k : ℕ) → 0 ≤ k → cell p.1 k ≡ None) → IfSome m (λ m. (1 ≤ m) × (page_of m ≡ p.0) × IsFirstIn p.1 0 (cell_of m)) → (m ≡ lowest_from f.records n) × IfSome m (λ m. m ≤ MAX_NUMBER)
+      → IfNone m ((k : ℕ) → 0 ≤ k → cell p.1 k ≡ None) → IfSome m (λ m. (1 ≤ m) × (page_of m ≡ p.0) × IsFirstIn p.1 0 (cell_of m)) → (m ≡ lowest_from f.records n) × IfSome m (λ m. m ≤ greatest_number)
   lowest_behind n q i p None least near from passed is lt file none first =
       let page = page_is ps i p all is in
       absurd (not_both _ (sym (none page.occupied.0 (omega arith))) page.occupied.1)
@@ -183,7 +182,7 @@ module _ (s : Shape) (ps : List (ℕ × Cells)) (f : FileVal) (e : paged_file s 
       none_there j = get-from_entries nat_cmp_total (paged []) j
 
   -- a page with a record is not above the last page
-  pub page_fits : (i : ℕ) (p : ℕ × Cells) → slice_get ps i ≡ Some p → IsPage p.1 → IsFile f → p.0 ≤ LAST_PAGE
+  pub page_fits : (i : ℕ) (p : ℕ × Cells) → slice_get ps i ≡ Some p → IsPage p.1 → IsFile f → p.0 ≤ last_page
   page_fits i p is page file =
       let k = page.occupied.0 in
       let within : k < 64 = elim (cases_lt k 64) [ inl lt ↦ lt | inr past ↦ absurd (not_both _ (sym (cell_past p.1 k (let len = page.size in omega arith))) page.occupied.1) ] in

@@ -7,10 +7,9 @@ use Rattle.std.proofs.lemmas.List.{length-map}
 use Rattle.std.proofs.lemmas.Option.{slice_get-map, slice_get_read}
 use Rattle.rec_file.specs.declared.sorted.Entry.{Entry}
 use Rattle.rec_file.specs.declared.shapes.Shape.{Shape}
-use Rattle.rec_file.specs.declared.shapes.TheConstants.{MAX_NUMBER}
-use Rattle.rec_file.specs.declared.pages.TheConstants.{LAST_PAGE}
+use Rattle.rec_file.specs.Limits.{greatest_number}
 use Rattle.rec_file.specs.Files.{FileVal, IsFile, lowest_from, highest_of}
-use Rattle.rec_file.specs.Pages.{Cells, cell, paged_file, page_of, cell_of, IsPage, IsFirstIn, IsLastIn}
+use Rattle.rec_file.specs.Pages.{Cells, cell, paged_file, page_of, cell_of, IsPage, IsFirstIn, IsLastIn, last_page}
 use Rattle.rec_file.specs.Sorted.{IsPlaceOf, IsGapFor}
 use Rattle.rec_file.proofs.Rising.{IsRising}
 use Rattle.rec_file.proofs.FileLaws.{number_fits, not_both}
@@ -34,7 +33,7 @@ module _ (s : Shape) (vs : List (Entry Cells)) (f : FileVal) (e : paged_file s (
   read : (i : ℕ) (v : Entry Cells) → i < length vs → v ≡ get_or vs i v → slice_get (pages vs) i ≡ Some (v.number, v.value)
   read i v lt is = slice_get-map (λ v. (v.number, v.value)) vs i ∙ ap (option_map (λ v. (v.number, v.value))) (slice_get_read vs (length vs) i v refl lt is)
 
-  pub fits : (i : ℕ) (v : Entry Cells) → i < length vs → v ≡ get_or vs i v → v.number ≤ LAST_PAGE
+  pub fits : (i : ℕ) (v : Entry Cells) → i < length vs → v ≡ get_or vs i v → v.number ≤ last_page
   fits i v lt is = let there = read i v lt is in page_fits s (pages vs) f e r every i (v.number, v.value) there (page_is (pages vs) i (v.number, v.value) every there) file
 
   -- a page at a place holds a greater number than what stands before the place
@@ -48,7 +47,7 @@ module _ (s : Shape) (vs : List (Entry Cells)) (f : FileVal) (e : paged_file s (
   module _ (n q : ℕ) (is_q : q ≡ max n 1) (i : ℕ) where
     module _ (v : Entry Cells) (place : IsPlaceOf (map (λ v. v.number) vs) (page_of q) i) (is : v ≡ get_or vs i v) where
       -- the first from its cell on, in the number's own page
-      pub found_in_page : (m : ℕ) → (1 ≤ m) × (page_of m ≡ v.number) × IsFirstIn v.value (cell_of q) (cell_of m) → (Some m ≡ lowest_from f.records n) × (m ≤ MAX_NUMBER)
+      pub found_in_page : (m : ℕ) → (1 ≤ m) × (page_of m ≡ v.number) × IsFirstIn v.value (cell_of q) (cell_of m) → (Some m ≡ lowest_from f.records n) × (m ≤ greatest_number)
       found_in_page m first =
           let there = page_at vs (page_of q) i v place is in
           lowest_in_same s (pages vs) f e r every n q i m (v.number, v.value) (omega arith) (omega arith) (λ j ge pos. omega arith) there.0 there.1 file first
@@ -61,7 +60,7 @@ module _ (s : Shape) (vs : List (Entry Cells)) (f : FileVal) (e : paged_file s (
 
         -- else the first in the page behind it, if there is one
         pub found_behind : (w : Entry Cells) (m : Option ℕ) → i + 1 < length vs → w ≡ get_or vs (i + 1) w → IfNone m ((k : ℕ) → 0 ≤ k → cell w.value k ≡ None)
-            → IfSome m (λ m. (1 ≤ m) × (page_of m ≡ w.number) × IsFirstIn w.value 0 (cell_of m)) → (m ≡ lowest_from f.records n) × IfSome m (λ m. m ≤ MAX_NUMBER)
+            → IfSome m (λ m. (1 ≤ m) × (page_of m ≡ w.number) × IsFirstIn w.value 0 (cell_of m)) → (m ≡ lowest_from f.records n) × IfSome m (λ m. m ≤ greatest_number)
         found_behind w m lt is_w empty some =
             let there = page_at vs (page_of q) i v place is in
             let next = read (i + 1) w lt is_w in
@@ -78,7 +77,7 @@ module _ (s : Shape) (vs : List (Entry Cells)) (f : FileVal) (e : paged_file s (
 
       -- the first in the page at a gap, if there is one
       pub found_at_gap : (w : Entry Cells) (m : Option ℕ) → i < length vs → w ≡ get_or vs i w → IfNone m ((k : ℕ) → 0 ≤ k → cell w.value k ≡ None)
-          → IfSome m (λ m. (1 ≤ m) × (page_of m ≡ w.number) × IsFirstIn w.value 0 (cell_of m)) → (m ≡ lowest_from f.records n) × IfSome m (λ m. m ≤ MAX_NUMBER)
+          → IfSome m (λ m. (1 ≤ m) × (page_of m ≡ w.number) × IsFirstIn w.value 0 (cell_of m)) → (m ≡ lowest_from f.records n) × IfSome m (λ m. m ≤ greatest_number)
       found_at_gap w m lt is_w empty some =
           let next = read i w lt is_w in
           let up = (gap_of vs (page_of q) i gap).greater_after i (omega arith) (place_within (pages vs) i (w.number, w.value) next) in
@@ -90,7 +89,7 @@ module _ (s : Shape) (vs : List (Entry Cells)) (f : FileVal) (e : paged_file s (
 
   -- the last in the last page
   pub last_found : (v : Entry Cells) (m : Option ℕ) → 1 ≤ length vs → v ≡ get_or vs (length vs - 1) v → IfNone m ((k : ℕ) → cell v.value k ≡ None)
-      → IfSome m (λ m. (1 ≤ m) × (page_of m ≡ v.number) × IsLastIn v.value (cell_of m)) → (unwrap_or m 0 ≡ highest_of f.records) × (unwrap_or m 0 ≤ MAX_NUMBER)
+      → IfSome m (λ m. (1 ≤ m) × (page_of m ≡ v.number) × IsLastIn v.value (cell_of m)) → (unwrap_or m 0 ≡ highest_of f.records) × (unwrap_or m 0 ≤ greatest_number)
   last_found v None some is empty last =
       let there = read (length vs - 1) v (omega arith) is in
       let page = page_is (pages vs) (length vs - 1) (v.number, v.value) every there in

@@ -1,3 +1,4 @@
+pub mod Limits
 pub mod Shapes
 pub mod Keys
 pub mod Files

@@ -4,6 +4,7 @@ use Rattle.std.specs.Int.{bit_at}
 use Rattle.std.specs.FinMap.{from_entries, keys}
 use Rattle.std.specs.Set.{distinct_count}
 use Rattle.rec_file.specs.declared.shapes.Shape.{Shape}
+use Rattle.rec_file.specs.Limits.{greatest_number}
 use Rattle.rec_file.specs.Files.{Records, FileVal}
 
 -- the cells of a page, each with a record or none
@@ -32,6 +33,10 @@ page_of n = (n - 1) / 64
 
 abbrev pub cell_of : ℕ → ℕ
 cell_of n = (n - 1) % 64
+
+-- no record stands in a page above it
+abbrev pub last_page : ℕ
+last_page = page_of greatest_number
 
 -- the records of pages: page p begins with number 64 p + 1
 abbrev pub paged : List (ℕ × Cells) → List (ℕ × List ℕ)

@@ -1,7 +1,7 @@
 //! A sequential file of empty records, of which it keeps only how many there are: so one that has no
 //! number left takes no memory.
 ghost use Rattle.std.specs.Prelude.{◌≤◌};
-ghost use Rattle.rec_file.specs.declared.shapes.TheConstants.{MAX_NUMBER};
+ghost use Rattle.rec_file.specs.Limits.{greatest_number};
 
 use crate::files::RecordFile;
 use crate::shapes::{Format, Org, Shape};
@@ -31,7 +31,7 @@ impl Model for BlankFile {
 impl BlankFile {
     /// A file of so many records.
     pub fn new(count: u32) -> BlankFile
-        requires { count ≤ MAX_NUMBER }
+        requires { count ≤ greatest_number }
     {
         BlankFile { count }
     }

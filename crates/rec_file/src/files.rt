@@ -3,10 +3,10 @@ ghost use Rattle.std.specs.Prelude.{◌≡◌, ◌≤◌, ◌+◌, [], ◌∷◌
 ghost use Rattle.std.specs.Option.{option_copied};
 ghost use Rattle.std.specs.FinMap as map;
 ghost use Rattle.rec_file.specs.Shapes.{limit_of, allows_length, is_seq};
-ghost use Rattle.rec_file.specs.declared.shapes.TheConstants.{MAX_NUMBER, MAX_RECORD};
+ghost use Rattle.rec_file.specs.Limits.{greatest_number, longest_record};
 ghost use Rattle.rec_file.specs.Files.{FileVal, IsFile, lowest_from, highest_of, records_from, stored, removed};
 
-use crate::shapes::{MAX_NUMBER, MAX_RECORD, Shape};
+use crate::shapes::Shape;
 use std::alloc::AllocError;
 
 /// A file of numbered records, however it is kept (own, in the manner of RMS): its value is a shape
@@ -26,17 +26,17 @@ pub trait RecordFile {
     /// The record of a number, or None where the number is free.
     fn lookup(&self, number: u32) -> Option<&[u8]>
         ensures same { option_copied result ≡ map.get (value self.now).records number }
-        ensures short { IfSome result (λ body. length body.now ≤ MAX_RECORD) };
+        ensures short { IfSome result (λ body. length body.now ≤ longest_record) };
 
     /// The lowest occupied number from this one on, or None where there is none.
     fn first_from(&self, number: u32) -> Option<u32>
         ensures lowest { result ≡ lowest_from (value self.now).records number }
-        ensures within { IfSome result (λ n. n ≤ MAX_NUMBER) };
+        ensures within { IfSome result (λ n. n ≤ greatest_number) };
 
     /// The highest occupied number, or 0 where the file is empty.
     fn highest(&self) -> u32
         ensures same { result ≡ highest_of (value self.now).records }
-        ensures within { result ≤ MAX_NUMBER };
+        ensures within { result ≤ greatest_number };
 
     /// Stores a record under a free number, in a sequential file under the next one. An error is
     /// want of memory: nothing has changed.
@@ -69,8 +69,8 @@ pub trait RecordFile {
 pub fn first_record<F: RecordFile>(file: &F, number: u32) -> Option<(u32, &[u8])>
     ensures none { IfNone result (records_from (F.value file.now).records number ≡ []) }
     ensures some { IfSome result (λ r. records_from (F.value file.now).records number ≡ (r.0, r.1.now) ∷ records_from (F.value file.now).records (r.0 + 1)) }
-    ensures within { IfSome result (λ r. r.0 ≤ MAX_NUMBER) }
-    ensures short { IfSome result (λ r. length r.1.now ≤ MAX_RECORD) }
+    ensures within { IfSome result (λ r. r.0 ≤ greatest_number) }
+    ensures short { IfSome result (λ r. length r.1.now ≤ longest_record) }
 {
     let first = file.first_from(number)?;
     let body = file.lookup(first)?;

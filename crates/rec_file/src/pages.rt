@@ -1,19 +1,14 @@
 //! Pages of 64 cells.
 ghost use Rattle.std.specs.Prelude.{◌≡◌, ◌≤◌, ◌<◌, ◌↔◌, ℕ, length, None, Some, IfOk, IfSome, IfNone, IsTrue, slice_set};
 ghost use Rattle.std.specs.Option.{option_copied};
-ghost use Rattle.rec_file.specs.Pages.{cell, cell_of, page_of, empty_cells, IsFirstIn, IsLastIn};
-ghost use Rattle.rec_file.specs.declared.pages.TheConstants.{LAST_PAGE};
+ghost use Rattle.rec_file.specs.Pages.{cell, cell_of, page_of, last_page, empty_cells, IsFirstIn, IsLastIn};
 
-use crate::shapes::MAX_NUMBER;
 use crate::sorted::Entry;
 use std::alloc::{AllocError, Global};
 use std::marker::Model;
 
 /// How many cells a page has.
 pub const CELLS: u32 = 64;
-
-/// No record stands in a page above it.
-pub const LAST_PAGE: u32 = (MAX_NUMBER - 1) / CELLS;
 
 /// The page of a number.
 pub fn page_of(number: u32) -> u32
@@ -133,7 +128,7 @@ impl Page {
 
 /// The number of the first record in a page's cells from this one on.
 pub fn first_in(page: &Entry<Page>, from: usize) -> Option<u32>
-    requires page { page.now.number ≤ LAST_PAGE }
+    requires page { page.now.number ≤ last_page }
     requires cell { from < 64 }
     ensures none { IfNone result ((k : ℕ) → from ≤ k → cell page.now.value k ≡ None) }
     ensures some { IfSome result (λ n. (1 ≤ n) × (page_of n ≡ page.now.number) × IsFirstIn page.now.value from (cell_of n)) }
@@ -144,7 +139,7 @@ pub fn first_in(page: &Entry<Page>, from: usize) -> Option<u32>
 
 /// The number of a page's last record.
 pub fn last_in(page: &Entry<Page>) -> Option<u32>
-    requires { page.now.number ≤ LAST_PAGE }
+    requires { page.now.number ≤ last_page }
     ensures none { IfNone result ((k : ℕ) → cell page.now.value k ≡ None) }
     ensures some { IfSome result (λ n. (1 ≤ n) × (page_of n ≡ page.now.number) × IsLastIn page.now.value (cell_of n)) }
 {

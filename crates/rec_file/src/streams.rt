@@ -2,7 +2,7 @@
 ghost use Rattle.std.specs.Prelude.{◌≡◌, ◌≤◌, ◌+◌, false, length, IfOk, IsSome, IsTrue};
 ghost use Rattle.std.specs.FinMap as map;
 ghost use Rattle.rec_file.specs.Shapes.{limit_of, allows_length};
-ghost use Rattle.rec_file.specs.declared.shapes.TheConstants.{MAX_NUMBER};
+ghost use Rattle.rec_file.specs.Limits.{greatest_number};
 ghost use Rattle.rec_file.specs.Acts.{act, Acts, IsOutcome, is_no_memory, get_record, put_record, update_record, delete_record};
 
 use crate::files::RecordFile;
@@ -26,14 +26,14 @@ pub struct Stream {
 
 impl Model for Stream {
     ghost use Rattle.std.specs.Prelude.{◌≤◌, ◌+◌};
-    ghost use Rattle.rec_file.specs.declared.shapes.TheConstants.{MAX_NUMBER};
+    ghost use Rattle.rec_file.specs.Limits.{greatest_number};
     ghost use Rattle.rec_file.specs.Acts.{StreamVal};
 
     ghost Value = { StreamVal };
 
     ghost view = { λ s. record { rights = s.rights; next = s.next; current = s.current } };
 
-    ghost invariant = { λ s. (1 ≤ s.next) × (s.next ≤ MAX_NUMBER + 1) };
+    ghost invariant = { λ s. (1 ≤ s.next) × (s.next ≤ greatest_number + 1) };
 
     ghost inverse = { λ v. record { rights = v.rights; next = v.next; current = v.current } };
 }
@@ -61,7 +61,7 @@ impl Stream {
     pub fn next(&self) -> u32
         ensures same { result ≡ self.now.next }
         ensures above { 1 ≤ result }
-        ensures within { result ≤ MAX_NUMBER + 1 }
+        ensures within { result ≤ greatest_number + 1 }
     {
         self.next
     }
@@ -69,7 +69,7 @@ impl Stream {
     /// The next get searches from n on. No record is current then.
     pub fn seek(&mut self, n: u32)
         requires above { 1 ≤ n }
-        requires within { n ≤ MAX_NUMBER + 1 }
+        requires within { n ≤ greatest_number + 1 }
         ensures { self.new ≡ record self.old { next = n; current = None } }
     {
         *self = Stream {
@@ -120,7 +120,7 @@ impl Stream {
     // The number that a get finds.
     fn found<F: RecordFile>(&self, file: &F, pick: Pick) -> Result<u32, Refusal>
         ensures reply { result ≡ (act (get_record pick) (F.value file.now) self.now).reply }
-        ensures within { IfOk result (λ n. n ≤ MAX_NUMBER) }
+        ensures within { IfOk result (λ n. n ≤ greatest_number) }
         ensures no_memory_wanted { is_no_memory result ≡ false }
     {
         if !self.rights.get {
