@@ -8,7 +8,7 @@ pub mod PlainLaws
 pub mod BlankLaws
 pub mod PageLaws
 pub mod PagedLaws
+pub mod Keyed
 pub mod RelativeLaws
-pub mod SearchLaws
 pub mod CountLaws
 pub mod ForCallers

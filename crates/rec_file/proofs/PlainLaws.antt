@@ -6,7 +6,6 @@ use Rattle.std.specs.FinMap.{get, empty, get-empty, insert as put, remove as tak
 use Rattle.std.proofs.lemmas.List.{length-map}
 use Rattle.std.proofs.lemmas.Simd.{map-map}
 use Rattle.std.proofs.lemmas.Option.{slice_get_within, slice_get-map, slice_get_read}
-use Rattle.rec_file.specs.declared.sorted.Entry.{Entry}
 use Rattle.rec_file.specs.declared.shapes.Shape.{Shape}
 use Rattle.rec_file.specs.Files.{FileVal, lowest_from, highest_of, stored, removed}
 use Rattle.rec_file.specs.Plain.{plain_file}
@@ -104,33 +103,33 @@ module _ (s : Shape) (es : List (ℕ × List ℕ)) (f : FileVal) (e : plain_file
       ∙ ap (λ g. removed g p.0) e
 
 -- the numbers and the bytes of entries
-abbrev pub pairs : List (Entry (Vec ℕ Global)) → List (ℕ × List ℕ)
-pairs vs = map (λ v. (v.number, v.value.items)) vs
+abbrev pub pairs : List (ℕ × Vec ℕ Global) → List (ℕ × List ℕ)
+pairs vs = map (λ v. (v.0, v.1.items)) vs
 
-pub pairs_numbers : (vs : List (Entry (Vec ℕ Global))) → map (λ v. v.number) vs ≡ numbers (pairs vs)
-pairs_numbers vs = sym (map-map (λ (e : ℕ × List ℕ). e.0) (λ (v : Entry (Vec ℕ Global)). (v.number, v.value.items)) vs)
+pub pairs_numbers : (vs : List (ℕ × Vec ℕ Global)) → map (λ v. v.0) vs ≡ numbers (pairs vs)
+pairs_numbers vs = sym (map-map (λ (e : ℕ × List ℕ). e.0) (λ (v : ℕ × Vec ℕ Global). (v.0, v.1.items)) vs)
 
 -- the numbers of a file are in order for a search
-pub searchable : (vs : List (Entry (Vec ℕ Global))) → IsRising (pairs vs) → IsInOrder (map (λ v. v.number) vs)
+pub searchable : (vs : List (ℕ × Vec ℕ Global)) → IsRising (pairs vs) → IsInOrder (map (λ v. v.0) vs)
 searchable vs r = subst IsInOrder (sym (pairs_numbers vs)) (ordered (pairs vs) r)
 
-pub gap_of : (vs : List (Entry (Vec ℕ Global))) (n i : ℕ) → IsGapFor (map (λ v. v.number) vs) n i → IsGapFor (numbers (pairs vs)) n i
+pub gap_of : (vs : List (ℕ × Vec ℕ Global)) (n i : ℕ) → IsGapFor (map (λ v. v.0) vs) n i → IsGapFor (numbers (pairs vs)) n i
 gap_of vs n i g = subst (λ ns. IsGapFor ns n i) (pairs_numbers vs) g
 
 -- an entry that was read at an index
-pub read : (vs : List (Entry (Vec ℕ Global))) (i : ℕ) (v : Entry (Vec ℕ Global)) → i < length vs → v ≡ get_or vs i v → slice_get (pairs vs) i ≡ Some (v.number, v.value.items)
-read vs i v lt is = slice_get-map (λ v. (v.number, v.value.items)) vs i ∙ ap (option_map (λ v. (v.number, v.value.items))) (slice_get_read vs (length vs) i v refl lt is)
+pub read : (vs : List (ℕ × Vec ℕ Global)) (i : ℕ) (v : ℕ × Vec ℕ Global) → i < length vs → v ≡ get_or vs i v → slice_get (pairs vs) i ≡ Some (v.0, v.1.items)
+read vs i v lt is = slice_get-map (λ v. (v.0, v.1.items)) vs i ∙ ap (option_map (λ v. (v.0, v.1.items))) (slice_get_read vs (length vs) i v refl lt is)
 
 -- the number of the entry at the place of a number
-pub place_is : (vs : List (Entry (Vec ℕ Global))) (n i : ℕ) (v : Entry (Vec ℕ Global)) → IsPlaceOf (map (λ v. v.number) vs) n i → v ≡ get_or vs i v → v.number ≡ n
+pub place_is : (vs : List (ℕ × Vec ℕ Global)) (n i : ℕ) (v : ℕ × Vec ℕ Global) → IsPlaceOf (map (λ v. v.0) vs) n i → v ≡ get_or vs i v → v.0 ≡ n
 place_is vs n i v p is =
     let lt : i < length vs = subst (λ m. i < m) (length-map vs _) p.in_range in
-    sym (number_at (pairs vs) i (v.number, v.value.items) (read vs i v lt is)) ∙ ap (λ ns. get_or ns i 0) (sym (pairs_numbers vs)) ∙ p.same
+    sym (number_at (pairs vs) i (v.0, v.1.items) (read vs i v lt is)) ∙ ap (λ ns. get_or ns i 0) (sym (pairs_numbers vs)) ∙ p.same
 
 -- what stands at the place of a number
-pub pair_at : (vs : List (Entry (Vec ℕ Global))) (n i : ℕ) → IsPlaceOf (map (λ v. v.number) vs) n i → (body : List ℕ) × (slice_get (pairs vs) i ≡ Some (n, body))
+pub pair_at : (vs : List (ℕ × Vec ℕ Global)) (n i : ℕ) → IsPlaceOf (map (λ v. v.0) vs) n i → (body : List ℕ) × (slice_get (pairs vs) i ≡ Some (n, body))
 pair_at [] n i p = absurd (omega (arith, p.in_range))
-pair_at (v ∷ vs) n zero p = (v.value.items, ap (λ k. Some (k, v.value.items)) p.same)
+pair_at (v ∷ vs) n zero p = (v.1.items, ap (λ k. Some (k, v.1.items)) p.same)
 pair_at (v ∷ vs) n (suc i) p = pair_at vs n i (record { in_range = omega (arith, p.in_range); same = p.same })
 
 pub plain-empty : from_sorted {X = List ℕ} {R = nat_cmp} [] ≡ empty
@@ -140,6 +139,6 @@ pub no_items : {A : Type 0} (l : List A) → length l ≤ 0 → l ≡ []
 no_items [] h = refl
 no_items (x ∷ l) h = absurd (omega arith)
 
-pub pairs_length : (vs : List (Entry (Vec ℕ Global))) → length (pairs vs) ≡ length vs
+pub pairs_length : (vs : List (ℕ × Vec ℕ Global)) → length (pairs vs) ≡ length vs
 pairs_length [] = refl
 pairs_length (v ∷ vs) = omega (arith, pairs_length vs)

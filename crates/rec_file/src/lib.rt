@@ -19,6 +19,7 @@ pub mod refusals;
 pub mod relative;
 pub mod sequential;
 pub mod shapes;
+#[cfg(test)]
 mod sorted;
 pub mod streams;
 

@@ -3,7 +3,6 @@ ghost use Rattle.std.specs.Prelude.{◌≡◌, ◌≤◌, ◌<◌, ◌↔◌, �
 ghost use Rattle.std.specs.Option.{option_copied};
 ghost use Rattle.rec_file.specs.Pages.{cell, cell_of, page_of, last_page, empty_cells, IsFirstIn, IsLastIn};
 
-use crate::sorted::Entry;
 use std::alloc::{AllocError, Global};
 use std::marker::Model;
 
@@ -126,23 +125,23 @@ impl Page {
     }
 }
 
-/// The number of the first record in a page's cells from this one on.
-pub fn first_in(page: &Entry<Page>, from: usize) -> Option<u32>
-    requires page { page.now.number ≤ last_page }
+/// The number of the first record in the cells of the page with this number, from one on.
+pub fn first_in(at: u32, page: &Page, from: usize) -> Option<u32>
+    requires page { at ≤ last_page }
     requires cell { from < 64 }
-    ensures none { IfNone result ((k : ℕ) → from ≤ k → cell page.now.value k ≡ None) }
-    ensures some { IfSome result (λ n. (1 ≤ n) × (page_of n ≡ page.now.number) × IsFirstIn page.now.value from (cell_of n)) }
+    ensures none { IfNone result ((k : ℕ) → from ≤ k → cell page.now k ≡ None) }
+    ensures some { IfSome result (λ n. (1 ≤ n) × (page_of n ≡ at) × IsFirstIn page.now from (cell_of n)) }
 {
-    let cell = page.value.first_from(from)?;
-    Some(CELLS * page.number + cell as u32 + 1)
+    let cell = page.first_from(from)?;
+    Some(CELLS * at + cell as u32 + 1)
 }
 
-/// The number of a page's last record.
-pub fn last_in(page: &Entry<Page>) -> Option<u32>
-    requires { page.now.number ≤ last_page }
-    ensures none { IfNone result ((k : ℕ) → cell page.now.value k ≡ None) }
-    ensures some { IfSome result (λ n. (1 ≤ n) × (page_of n ≡ page.now.number) × IsLastIn page.now.value (cell_of n)) }
+/// The number of the last record in the page with this number.
+pub fn last_in(at: u32, page: &Page) -> Option<u32>
+    requires { at ≤ last_page }
+    ensures none { IfNone result ((k : ℕ) → cell page.now k ≡ None) }
+    ensures some { IfSome result (λ n. (1 ≤ n) × (page_of n ≡ at) × IsLastIn page.now (cell_of n)) }
 {
-    let cell = page.value.last()?;
-    Some(CELLS * page.number + cell as u32 + 1)
+    let cell = page.last()?;
+    Some(CELLS * at + cell as u32 + 1)
 }

@@ -6,7 +6,7 @@ ghost use Rattle.rec_file.specs.Shapes.{is_shape, is_seq};
 
 use crate::files::RecordFile;
 use crate::shapes::Shape;
-use crate::sorted::{Entry, search};
+use crate::sorted::search;
 use std::alloc::{AllocError, Global};
 use std::marker::Model;
 
@@ -14,7 +14,7 @@ use std::marker::Model;
 #[derive(Drop)]
 pub struct PlainFile {
     shape: Shape,
-    entries: Vec<Entry<Vec<u8>>>,
+    entries: Vec<(u32, Vec<u8>)>,
 }
 
 impl Model for PlainFile {
@@ -29,9 +29,9 @@ impl Model for PlainFile {
 
     ghost coded = { file_code };
 
-    ghost view = { λ a. plain_file a.shape (map (λ e. (e.number, e.value.items)) a.entries.items) };
+    ghost view = { λ a. plain_file a.shape (map (λ e. (e.0, e.1.items)) a.entries.items) };
 
-    ghost invariant = { λ a. IsFile (plain_file a.shape (map (λ e. (e.number, e.value.items)) a.entries.items)) × (is_seq a.shape.org ≡ false) × (is_sorted nat_cmp (map (λ e. (e.number, e.value.items)) a.entries.items) ≡ true) };
+    ghost invariant = { λ a. IsFile (plain_file a.shape (map (λ e. (e.0, e.1.items)) a.entries.items)) × (is_seq a.shape.org ≡ false) × (is_sorted nat_cmp (map (λ e. (e.0, e.1.items)) a.entries.items) ≡ true) };
 }
 
 impl PlainFile {
@@ -57,7 +57,7 @@ impl RecordFile for PlainFile {
 
     fn lookup(&self, number: u32) -> Option<&[u8]> {
         match search(&self.entries, number) {
-            Ok(at) => Some(self.entries[at].value.as_slice()),
+            Ok(at) => Some(self.entries[at].1.as_slice()),
             Err(_) => None,
         }
     }
@@ -66,7 +66,7 @@ impl RecordFile for PlainFile {
         match search(&self.entries, number) {
             Ok(_) => Some(number),
             Err(at) => match self.entries.get(at) {
-                Some(entry) => Some(entry.number),
+                Some(entry) => Some(entry.0),
                 None => None,
             },
         }
@@ -74,23 +74,23 @@ impl RecordFile for PlainFile {
 
     fn highest(&self) -> u32 {
         match self.entries.last() {
-            Some(entry) => entry.number,
+            Some(entry) => entry.0,
             None => 0,
         }
     }
 
     fn place(&mut self, number: u32, body: &[u8]) -> Result<(), AllocError> {
-        let value = Vec::from_slice(*self.entries.allocator(), body)?;
+        let body = Vec::from_slice(*self.entries.allocator(), body)?;
         if let Err(at) = search(&self.entries, number) {
-            self.entries.insert(at, Entry { number, value })?;
+            self.entries.insert(at, (number, body))?;
         }
         Ok(())
     }
 
     fn replace(&mut self, number: u32, body: &[u8]) -> Result<(), AllocError> {
-        let value = Vec::from_slice(*self.entries.allocator(), body)?;
+        let body = Vec::from_slice(*self.entries.allocator(), body)?;
         if let Ok(at) = search(&self.entries, number) {
-            self.entries[at].value = value;
+            self.entries[at].1 = body;
         }
         Ok(())
     }

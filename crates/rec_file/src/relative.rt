@@ -7,17 +7,18 @@ ghost use Rattle.rec_file.specs.Pages.{occupied_pages};
 use crate::files::RecordFile;
 use crate::pages::{Page, cell_of, first_in, last_in, page_of};
 use crate::shapes::Shape;
-use crate::sorted::{Entry, search};
 use std::alloc::{AllocError, Global};
+use std::collections::BTreeMap;
 use std::marker::Model;
 
 /// A relative file (own, in the manner of RMS): each number from 1 to the limit has a record or
 /// none. Number n stands in cell `(n - 1) % 64` of page `(n - 1) / 64`; a page is kept while it has
-/// a record, and the pages stand in order, so that a record is found by a binary search among them.
+/// a record, and the pages stand in a tree in the order of their numbers.
 #[derive(Drop)]
 pub struct RelFile {
     shape: Shape,
-    pages: Vec<Entry<Page>>,
+    alloc: Global,
+    pages: BTreeMap<u32, Page>,
 }
 
 impl Model for RelFile {
@@ -33,9 +34,9 @@ impl Model for RelFile {
 
     ghost coded = { file_code };
 
-    ghost view = { λ a. paged_file a.shape (map (λ p. (p.number, p.value)) a.pages.items) };
+    ghost view = { λ a. paged_file a.shape a.pages.entries };
 
-    ghost invariant = { λ a. IsFile (paged_file a.shape (map (λ p. (p.number, p.value)) a.pages.items)) × (is_seq a.shape.org ≡ false) × (is_sorted nat_cmp (map (λ p. (p.number, p.value)) a.pages.items) ≡ true) × AllByRecursion IsPage (map (λ p. p.value) a.pages.items) };
+    ghost invariant = { λ a. IsFile (paged_file a.shape a.pages.entries) × (is_seq a.shape.org ≡ false) × (is_sorted nat_cmp a.pages.entries ≡ true) × AllByRecursion IsPage (map (λ p. p.1) a.pages.entries) };
 }
 
 impl RelFile {
@@ -47,7 +48,8 @@ impl RelFile {
     {
         RelFile {
             shape,
-            pages: Vec::new(alloc),
+            alloc,
+            pages: BTreeMap::new(alloc),
         }
     }
 
@@ -72,64 +74,62 @@ impl RecordFile for RelFile {
         if number == 0 {
             return None;
         }
-        match search(pages, page_of(number)) {
-            Ok(at) => pages[at].value.get(cell_of(number)),
-            Err(_) => None,
-        }
+        let page = pages.get(&page_of(number))?;
+        page.get(cell_of(number))
     }
 
     fn first_from(&self, number: u32) -> Option<u32> {
-        let pages = &self.pages;
         let least = number.max(1);
-        match search(pages, page_of(least)) {
-            Ok(at) => match first_in(&pages[at], cell_of(least)) {
-                Some(first) => Some(first),
-                None => first_in(pages.get(at + 1)?, 0),
-            },
-            Err(at) => first_in(pages.get(at)?, 0),
+        let own = page_of(least);
+        let mut rest = self.pages.range(own..);
+        let (at, page) = rest.next()?;
+        let from = if *at == own { cell_of(least) } else { 0 };
+        match first_in(*at, page, from) {
+            Some(first) => Some(first),
+            None => {
+                let (at, page) = rest.next()?;
+                first_in(*at, page, 0)
+            }
         }
     }
 
     fn highest(&self) -> u32 {
-        match self.pages.last() {
-            Some(page) => last_in(page).unwrap_or(0),
+        match self.pages.last_key_value() {
+            Some((at, page)) => last_in(*at, page).unwrap_or(0),
             None => 0,
         }
     }
 
     fn place(&mut self, number: u32, body: &[u8]) -> Result<(), AllocError> {
-        let alloc = *self.pages.allocator();
-        let body = Vec::from_slice(alloc, body)?;
-        match search(&self.pages, page_of(number)) {
-            Ok(at) => {
-                let page = &mut self.pages[at].value;
-                page.put(cell_of(number), body);
-            }
-            Err(at) => {
-                let value = Page::with(alloc, cell_of(number), body)?;
-                let number = page_of(number);
-                self.pages.insert(at, Entry { number, value })?;
-            }
+        let body = Vec::from_slice(self.alloc, body)?;
+        let at = page_of(number);
+        if let Some(page) = self.pages.get_mut(&at) {
+            page.put(cell_of(number), body);
+            return Ok(());
         }
+        let page = Page::with(self.alloc, cell_of(number), body)?;
+        self.pages.insert(at, page)?;
         Ok(())
     }
 
     fn replace(&mut self, number: u32, body: &[u8]) -> Result<(), AllocError> {
-        let body = Vec::from_slice(*self.pages.allocator(), body)?;
-        if let Ok(at) = search(&self.pages, page_of(number)) {
-            let page = &mut self.pages[at].value;
-            page.put(cell_of(number), body);
-        }
+        let body = Vec::from_slice(self.alloc, body)?;
+        let Some(page) = self.pages.get_mut(&page_of(number)) else {
+            return Ok(());
+        };
+        page.put(cell_of(number), body);
         Ok(())
     }
 
     fn remove(&mut self, number: u32) {
-        if let Ok(at) = search(&self.pages, page_of(number)) {
-            let page = &mut self.pages[at].value;
-            page.clear(cell_of(number));
-            if page.is_empty() {
-                let _ = self.pages.remove(at);
-            }
+        let pages = &mut self.pages;
+        let at = page_of(number);
+        let Some(page) = pages.get_mut(&at) else {
+            return;
+        };
+        page.clear(cell_of(number));
+        if page.is_empty() {
+            let _ = pages.remove(&at);
         }
     }
 }

@@ -21,13 +21,13 @@ pub returns-in-Some-clause-lowest : goal.returns-in-Some-clause-lowest
 returns-in-Some-clause-lowest c =
     let lookup = rw c.deref-in-Err.ensures.value at c.in-Some.ensures.lookup in
     let pair = read c.self.inside.entries.items c.in-Err.at c.in-Some.entry.now lookup.3.0 lookup.1 in
-    first_after _ _ c.args.self.now c.self.view_is (rising_test _ c.self.invariant.2) c.args.number c.in-Err.at (c.in-Some.entry.now.number, c.in-Some.entry.now.value.items) (gap_of _ _ _ (rw c.deref.ensures.value at c.in-Err.ensures.gap)) pair
+    first_after _ _ c.args.self.now c.self.view_is (rising_test _ c.self.invariant.2) c.args.number c.in-Err.at (c.in-Some.entry.now.0, c.in-Some.entry.now.1.items) (gap_of _ _ _ (rw c.deref.ensures.value at c.in-Err.ensures.gap)) pair
 
 pub returns-in-Some-clause-within : goal.returns-in-Some-clause-within
 returns-in-Some-clause-within c =
     let lookup = rw c.deref-in-Err.ensures.value at c.in-Some.ensures.lookup in
     let pair = read c.self.inside.entries.items c.in-Err.at c.in-Some.entry.now lookup.3.0 lookup.1 in
-    number_fits c.args.self.now c.in-Some.entry.now.number (subst IsFile c.self.view_is c.self.invariant.0) (some_of c.args.self.now c.in-Some.entry.now.number c.in-Some.entry.now.value.items (here _ _ c.args.self.now c.self.view_is (rising_test _ c.self.invariant.2) c.in-Err.at (c.in-Some.entry.now.number, c.in-Some.entry.now.value.items) pair))
+    number_fits c.args.self.now c.in-Some.entry.now.0 (subst IsFile c.self.view_is c.self.invariant.0) (some_of c.args.self.now c.in-Some.entry.now.0 c.in-Some.entry.now.1.items (here _ _ c.args.self.now c.self.view_is (rising_test _ c.self.invariant.2) c.in-Err.at (c.in-Some.entry.now.0, c.in-Some.entry.now.1.items) pair))
 
 pub returns-in-None-clause-lowest : goal.returns-in-None-clause-lowest
 returns-in-None-clause-lowest c =

@@ -11,7 +11,7 @@ search-requires c = rw c.deref.ensures.value (searchable _ (rising_test _ c.self
 pub returns-in-Ok-clause-same : goal.returns-in-Ok-clause-same
 returns-in-Ok-clause-same c =
     let found = rw c.deref.ensures.value at c.in-Ok.ensures.found in
-    let pair = read c.self.inside.entries.items c.in-Ok.at c.index.result.now (omega (arith, found.in_range, length-map c.self.inside.entries.items (λ v. v.number))) c.index.ensures in
+    let pair = read c.self.inside.entries.items c.in-Ok.at c.index.result.now (omega (arith, found.in_range, length-map c.self.inside.entries.items (λ v. v.0))) c.index.ensures in
     let number = place_is c.self.inside.entries.items c.args.number c.in-Ok.at c.index.result.now found c.index.ensures in
     rw (c.as_slice.ensures.value, ← number) (here _ _ c.args.self.now c.self.view_is (rising_test _ c.self.invariant.2) c.in-Ok.at _ pair)
 

@@ -14,7 +14,7 @@ invariant_of-self c =
     let rise = rising_test _ c.self.invariant.2 in
     let gap = gap_of c.self.inside.entries.items c.args.number c.in-Err.at (rw c.deref.ensures.value at c.in-Err.ensures.gap) in
     let file = placed _ _ c.args.self.now c.self.view_is rise c.args.number c.in-Err.at c.args.body.now gap in
-    rw (c.in_ok-insert.ensures.items, map_insert, c.in_ok-value.ensures.items) (
+    rw (c.in_ok-insert.ensures.items, map_insert, c.in_ok-body.ensures.items) (
       subst IsFile (sym file) (IsFile-placed c.args.self.now c.args.number c.args.body.now (subst IsFile c.self.view_is c.self.invariant.0) c.requires.above c.requires.within c.requires.next c.requires.length),
       c.self.invariant.1,
       test_rising _ (rising-insert _ c.args.number c.in-Err.at c.args.body.now rise gap),
@@ -23,7 +23,7 @@ invariant_of-self c =
 pub returns-in_ok-insert-clause-ok : goal.returns-in_ok-insert-clause-ok
 returns-in_ok-insert-clause-ok c =
     let gap = gap_of c.self.inside.entries.items c.args.number c.in-Err.at (rw c.deref.ensures.value at c.in-Err.ensures.gap) in
-    rw (c.in_ok-insert.ensures.items, map_insert, c.in_ok-value.ensures.items)
+    rw (c.in_ok-insert.ensures.items, map_insert, c.in_ok-body.ensures.items)
     (placed _ _ c.args.self.now c.self.view_is (rising_test _ c.self.invariant.2) c.args.number c.in-Err.at c.args.body.now gap)
 
 pub returns-in_default-clause-ok : goal.returns-in_default-clause-ok

@@ -14,14 +14,14 @@ invariant_of-self c =
     let rise = rising_test (pairs c.self.inside.entries.items) c.self.invariant.2 in
     let found = rw c.deref.ensures.value at c.in-Ok.ensures.found in
     let number = place_is c.self.inside.entries.items c.args.number c.in-Ok.at c.index_mut.result.now found c.index_mut.ensures.value in
-    let pair : slice_get (pairs c.self.inside.entries.items) c.in-Ok.at ≡ Some (c.args.number, c.index_mut.result.now.value.items) =
-    subst (λ n. slice_get (pairs c.self.inside.entries.items) c.in-Ok.at ≡ Some (n, c.index_mut.result.now.value.items)) number
-    (read c.self.inside.entries.items c.in-Ok.at c.index_mut.result.now (omega (arith, found.in_range, length-map c.self.inside.entries.items (λ v. v.number))) c.index_mut.ensures.value) in
-    let file = set_is _ _ c.args.self.now c.self.view_is rise c.in-Ok.at (c.args.number, c.index_mut.result.now.value.items) c.args.body.now pair in
-    rw (map-set, number, c.in_ok-value.ensures.items) (
+    let pair : slice_get (pairs c.self.inside.entries.items) c.in-Ok.at ≡ Some (c.args.number, c.index_mut.result.now.1.items) =
+    subst (λ n. slice_get (pairs c.self.inside.entries.items) c.in-Ok.at ≡ Some (n, c.index_mut.result.now.1.items)) number
+    (read c.self.inside.entries.items c.in-Ok.at c.index_mut.result.now (omega (arith, found.in_range, length-map c.self.inside.entries.items (λ v. v.0))) c.index_mut.ensures.value) in
+    let file = set_is _ _ c.args.self.now c.self.view_is rise c.in-Ok.at (c.args.number, c.index_mut.result.now.1.items) c.args.body.now pair in
+    rw (map-set, number, c.in_ok-body.ensures.items) (
       subst IsFile (sym file) (IsFile-replaced c.args.self.now c.args.number c.args.body.now (subst IsFile c.self.view_is c.self.invariant.0) c.requires.occupied c.requires.length),
       c.self.invariant.1,
-      test_rising _ (rising-set _ c.in-Ok.at (c.args.number, c.index_mut.result.now.value.items) c.args.body.now rise pair),
+      test_rising _ (rising-set _ c.in-Ok.at (c.args.number, c.index_mut.result.now.1.items) c.args.body.now rise pair),
     )
 
 pub returns-in-Ok-clause-ok : goal.returns-in-Ok-clause-ok
@@ -29,11 +29,11 @@ returns-in-Ok-clause-ok c =
     let rise = rising_test (pairs c.self.inside.entries.items) c.self.invariant.2 in
     let found = rw c.deref.ensures.value at c.in-Ok.ensures.found in
     let number = place_is c.self.inside.entries.items c.args.number c.in-Ok.at c.index_mut.result.now found c.index_mut.ensures.value in
-    let pair : slice_get (pairs c.self.inside.entries.items) c.in-Ok.at ≡ Some (c.args.number, c.index_mut.result.now.value.items) =
-    subst (λ n. slice_get (pairs c.self.inside.entries.items) c.in-Ok.at ≡ Some (n, c.index_mut.result.now.value.items)) number
-    (read c.self.inside.entries.items c.in-Ok.at c.index_mut.result.now (omega (arith, found.in_range, length-map c.self.inside.entries.items (λ v. v.number))) c.index_mut.ensures.value) in
-    let file = set_is _ _ c.args.self.now c.self.view_is rise c.in-Ok.at (c.args.number, c.index_mut.result.now.value.items) c.args.body.now pair in
-    rw (map-set, number, c.in_ok-value.ensures.items) file
+    let pair : slice_get (pairs c.self.inside.entries.items) c.in-Ok.at ≡ Some (c.args.number, c.index_mut.result.now.1.items) =
+    subst (λ n. slice_get (pairs c.self.inside.entries.items) c.in-Ok.at ≡ Some (n, c.index_mut.result.now.1.items)) number
+    (read c.self.inside.entries.items c.in-Ok.at c.index_mut.result.now (omega (arith, found.in_range, length-map c.self.inside.entries.items (λ v. v.0))) c.index_mut.ensures.value) in
+    let file = set_is _ _ c.args.self.now c.self.view_is rise c.in-Ok.at (c.args.number, c.index_mut.result.now.1.items) c.args.body.now pair in
+    rw (map-set, number, c.in_ok-body.ensures.items) file
 
 pub returns-in_default-clause-ok : goal.returns-in_default-clause-ok
 returns-in_default-clause-ok c =

@@ -1,25 +1,26 @@
-use Rattle.std.proofs.Common.{◌-◌, length, subst, ◌∙◌, arith}
+use Rattle.std.proofs.Common.{sym, subst, ◌∙◌}
 use Rattle.rec_file.specs.Files.{IsFile}
-use Rattle.rec_file.proofs.SearchLaws.{fits, last_found, none_found}
+use Rattle.rec_file.proofs.Keyed.{lookup_is_at}
+use Rattle.rec_file.proofs.RelativeLaws.{held, page_fits, highest_in_page, no_highest, none_above, none_kept}
 use Rattle.rec_file.proofs.relative.RelFileRecordFile.highest.Goals as goal
 
 pub last_in-requires : goal.last_in-requires
 last_in-requires c =
-    let item = rw c.deref.ensures.value at c.in-Some.ensures.item in
-    fits _ c.self.inside.pages.items c.args.self.now c.self.view_is c.self.invariant.2 c.self.invariant.3 (subst IsFile c.self.view_is c.self.invariant.0) (length c.self.inside.pages.items - 1) c.in-Some.page.now (omega (arith, item.3.0)) item.1
+    page_fits _ _ c.args.self.now (held c.self.inside.shape c.self.inside.pages.entries c.args.self.now c.self.view_is c.self.invariant.2 c.self.invariant.3) c.in-Some.at.now c.in-Some.page.now
+    (sym (lookup_is_at c.self.inside.pages.entries c.in-Some.at.now) ∙ c.in-Some.ensures.value) (subst IsFile c.self.view_is c.self.invariant.0)
 
 pub returns-in-Some-clause-same : goal.returns-in-Some-clause-same
 returns-in-Some-clause-same c =
-    let item = rw c.deref.ensures.value at c.in-Some.ensures.item in
-    c.unwrap_or.ensures ∙ (last_found _ c.self.inside.pages.items c.args.self.now c.self.view_is c.self.invariant.2 c.self.invariant.3 (subst IsFile c.self.view_is c.self.invariant.0) c.in-Some.page.now c.last_in.result (omega (arith, item.3.0)) item.1 c.last_in.ensures.none c.last_in.ensures.some).0
+    c.unwrap_or.ensures
+    ∙ (highest_in_page _ _ c.args.self.now (held c.self.inside.shape c.self.inside.pages.entries c.args.self.now c.self.view_is c.self.invariant.2 c.self.invariant.3) c.in-Some.at.now c.in-Some.page.now c.last_in.result
+    (sym (lookup_is_at c.self.inside.pages.entries c.in-Some.at.now) ∙ c.in-Some.ensures.value) (none_above c.self.inside.pages.entries c.in-Some.at.now c.in-Some.ensures.greatest) (subst IsFile c.self.view_is c.self.invariant.0) c.last_in.ensures.none c.last_in.ensures.some).0
 
 pub returns-in-Some-clause-within : goal.returns-in-Some-clause-within
 returns-in-Some-clause-within c =
-    let item = rw c.deref.ensures.value at c.in-Some.ensures.item in
-    let last = last_found _ c.self.inside.pages.items c.args.self.now c.self.view_is c.self.invariant.2 c.self.invariant.3 (subst IsFile c.self.view_is c.self.invariant.0) c.in-Some.page.now c.last_in.result (omega (arith, item.3.0)) item.1 c.last_in.ensures.none c.last_in.ensures.some in
-    rw c.unwrap_or.ensures last.1
+    rw c.unwrap_or.ensures
+    (highest_in_page _ _ c.args.self.now (held c.self.inside.shape c.self.inside.pages.entries c.args.self.now c.self.view_is c.self.invariant.2 c.self.invariant.3) c.in-Some.at.now c.in-Some.page.now c.last_in.result
+    (sym (lookup_is_at c.self.inside.pages.entries c.in-Some.at.now) ∙ c.in-Some.ensures.value) (none_above c.self.inside.pages.entries c.in-Some.at.now c.in-Some.ensures.greatest) (subst IsFile c.self.view_is c.self.invariant.0) c.last_in.ensures.none c.last_in.ensures.some).1
 
 pub returns-in-None-clause-same : goal.returns-in-None-clause-same
 returns-in-None-clause-same c =
-    let item = rw c.deref.ensures.value at c.in-None.ensures.item in
-    none_found _ c.self.inside.pages.items c.args.self.now c.self.view_is c.self.invariant.2 c.self.invariant.3 (subst IsFile c.self.view_is c.self.invariant.0) (omega (arith, item.3))
+    no_highest _ _ c.args.self.now (held c.self.inside.shape c.self.inside.pages.entries c.args.self.now c.self.view_is c.self.invariant.2 c.self.invariant.3) (none_kept c.self.inside.pages.entries (λ some. let is = c.in-None.ensures.variant.1 some in cc))
