@@ -2,12 +2,9 @@
 
 -- a file without records is a file
 pub use Rattle.rec_file.proofs.FileLaws.{IsFile-empty}
-
 -- one with a record more
 pub use Rattle.rec_file.proofs.FileLaws.{IsFile-placed}
-
 -- one with a record less
 pub use Rattle.rec_file.proofs.FileLaws.{IsFile-removed}
-
 -- one with a record replaced
 pub use Rattle.rec_file.proofs.FileLaws.{IsFile-replaced}

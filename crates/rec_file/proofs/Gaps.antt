@@ -1,5 +1,5 @@
 -- A binary search among numbered values, and an edit at the place that it finds.
-use Rattle.std.proofs.Common.{◌≡◌, ℕ, zero, suc, ◌+◌, ◌<◌, ◌≤◌, cond, eqb, List, [], ◌∷◌, length, get_or, set, map, Some, None, Result, Ok, Err, IfOk, IfErr, slice_get, refl, sym, ap, subst, ◌∙◌, arith, inl, inr}
+use Rattle.std.proofs.Common.{◌≡◌, ℕ, zero, suc, ◌<◌, ◌≤◌, cond, eqb, List, [], ◌∷◌, length, get_or, set, map, Some, None, Result, Ok, Err, IfOk, IfErr, slice_get, refl, sym, ap, subst, ◌∙◌, arith, inl, inr}
 use Rattle.std.specs.List.{insert, remove}
 use Rattle.std.specs.List.Sorted.{IsSearchInRange, IsBinarySearchResult, IsNonDecreasingBy}
 use Rattle.std.specs.Ordering.{nat_cmp, ordering_index}
@@ -174,28 +174,6 @@ module _ {X : Type 0} where
   number_at [] i e is = cc
   number_at (x ∷ es) zero e is = ap (λ p. p.0) (same_Some x e is)
   number_at (x ∷ es) (suc i) e is = number_at es i e is
-
-  pub place_within : (es : List (ℕ × X)) (i : ℕ) (e : ℕ × X) → slice_get es i ≡ Some e → i < length (numbers es)
-  place_within [] i e is = cc
-  place_within (x ∷ es) zero e is = omega arith
-  place_within (x ∷ es) (suc i) e is = let rest = place_within es i e is in omega arith
-
-  -- behind the place of a number there is a gap for each number up to the next
-  pub gap_behind : (es : List (ℕ × X)) (i k : ℕ) (e : ℕ × X) → IsRising es → slice_get es i ≡ Some e → e.0 < k → (i + 1 < length (numbers es) → k < get_or (numbers es) (i + 1) 0) → IsGapFor (numbers es) k (i + 1)
-  gap_behind es i k e r is lt below =
-      let there = place_within es i e is in
-      let here = number_at es i e is in
-      record {
-        in_range = omega arith;
-        smaller_before = λ j before. elim (same_or_not j i) [
-          | inl same ↦ let at_it = ap (λ m. get_or (numbers es) m 0) same in omega arith
-          | inr other ↦ let up = ordered es r j i (omega arith) there in omega arith
-        ];
-        greater_after = λ j ge in_range. elim (same_or_not j (i + 1)) [
-          | inl same ↦ subst (λ m. k < get_or (numbers es) m 0) (sym same) (below (omega arith))
-          | inr other ↦ let up = ordered es r (i + 1) j (omega arith) in_range in let h = below (omega arith) in omega arith
-        ];
-      }
 
 pub map_insert : {A B : Type 0} (f : A → B) (l : List A) (i : ℕ) (x : A) → map f (insert l i x) ≡ insert (map f l) i (f x)
 map_insert f l zero x = refl
