@@ -1,28 +1,25 @@
 -- Each request to its report, over perfect delivery.
-use Rattle.std.proofs.Common.{◌≡◌, ℕ, suc, ◌+◌, ◌≤◌, ◌<◌, arith, refl, sym, ◌∙◌, subst, ap, List, [], ◌∷◌, ◌++◌, length, map, take, inl, inr}
+use Rattle.std.proofs.Common.{◌≡◌, ℕ, suc, ◌+◌, ◌<◌, arith, refl, sym, ◌∙◌, subst, ap, List, [], ◌∷◌, ◌++◌, length, map, take, inl, inr}
 use Rattle.std.specs.Prelude.{◌≢◌, Err, Some, slice_get}
 use Rattle.std.proofs.lemmas.List.{take_more, take_all}
 use Rattle.std.proofs.lemmas.Option.{slice_get_within, get_or_from_slice_get}
 use Rattle.dap_msg.specs.Message.{Message}
 use Rattle.dap_msg.specs.Items.{Item, Whole}
 use Rattle.dap_accessed.specs.Groups.{After}
-use Rattle.dap_accessing.specs.declared.fault.AskFault.{AskFault}
 use Rattle.dap_accessing.specs.declared.fault.AskFault.TheVariants as ask_fault
 use Rattle.dap_accessing.specs.declared.request.Request.{Request}
-use Rattle.dap_accessing.specs.declared.report.Report.{Report}
 use Rattle.dap_accessing.specs.Asked.{Asked}
 use Rattle.dap_accessing.specs.Phase.{IsNoneDue}
-use Rattle.dap_accessing.specs.Told.{Hearing, Reports, Waits, Unexpected, Due, NothingDue, AnswersDue, Wrong, due_after, hear, Told}
+use Rattle.dap_accessing.specs.Told.{Hearing, Reports, Waits, Unexpected, NothingDue, Wrong, due_after, hear, Told}
 use Rattle.dap_accessing.proofs.Hearings.{told_by, Told-told_by}
 use Rattle.dap_accessing.proofs.Laws.{asked_one, due_by, due-due_by}
 use Rattle.dap_world.specs.Agreement.{AreAdmissible, answers_to, reports_of}
-use Rattle.dap_world.specs.declared.event.Event.{Event}
 use Rattle.dap_world.specs.declared.event.Event.TheVariants as event
 use Rattle.dap_world.specs.declared.event.Step.{Step}
 use Rattle.dap_world.specs.declared.event.WorldFault.{WorldFault}
 use Rattle.dap_world.specs.declared.event.WorldFault.TheVariants as fault
 use Rattle.dap_world.specs.Machine.{State, answers_read, asked, files_of, reported, sent_by, taken_of, Steps, Refuses}
-use Rattle.dap_world.specs.Runs.{Runs, Went}
+use Rattle.dap_world.specs.Runs.{Went}
 use Rattle.dap_world.specs.Inner.Worlds.{IsWorld}
 use Rattle.dap_world.specs.Settling.{AllDone, AllTold, Finished, FinishFault, IsFresh, RanOut, RanTo, RunsTo, StopsAtRequest}
 use Rattle.dap_world.proofs.Kept.{headline_of}

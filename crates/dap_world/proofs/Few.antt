@@ -1,5 +1,5 @@
 -- Few messages were served.
-use Rattle.std.proofs.Common.{◌≡◌, ℕ, ◌<◌, ◌≤◌, ◌^◌, arith, sym, subst, ap, List, length, take}
+use Rattle.std.proofs.Common.{ℕ, ◌<◌, ◌≤◌, ◌^◌, arith, subst, ap, List, length, take}
 use Rattle.std.proofs.lemmas.List.{length-append}
 use Rattle.dap_msg.specs.Blocked.{messages_in}
 use Rattle.nsp_link.specs.Cutting.{cut}

@@ -1,11 +1,10 @@
 -- Nothing is left to do: every request has its report.
-use Rattle.std.proofs.Common.{◌≡◌, ℕ, ◌+◌, ◌-◌, ◌*◌, ◌≤◌, ◌<◌, arith, refl, sym, ◌∙◌, subst, ap, List, [], ◌∷◌, ◌++◌, length, map, take, inl, inr}
-use Rattle.std.specs.Prelude.{Some, None}
-use Rattle.std.proofs.lemmas.List.{append-nil, length-append, length-map, length-take-le, take_all}
+use Rattle.std.proofs.Common.{◌≡◌, ℕ, ◌+◌, ◌≤◌, ◌<◌, arith, sym, ◌∙◌, subst, ap, List, [], ◌++◌, length, map, take}
+use Rattle.std.specs.Prelude.{None}
+use Rattle.std.proofs.lemmas.List.{append-nil, length-map, length-take-le, take_all}
 use Rattle.std.proofs.lemmas.Option.{slice_get_within}
-use Rattle.std.proofs.Math.Nat.{eq-or-lt_of_le}
 use Rattle.dap_msg.specs.Message.{Message}
-use Rattle.dap_msg.specs.Items.{Item, Whole}
+use Rattle.dap_msg.specs.Items.{Whole}
 use Rattle.dap_msg.specs.Blocked.{NspMessage, messages_in}
 use Rattle.dap_accessed.specs.Groups.{Answers, After}
 use Rattle.dap_accessing.specs.Asked.{Asked}
@@ -13,14 +12,13 @@ use Rattle.dap_accessing.specs.Told.{Told}
 use Rattle.dap_world.specs.Agreement.{reports_of}
 use Rattle.dap_world.specs.declared.event.End.{End}
 use Rattle.dap_world.specs.declared.event.End.TheVariants.{A, B}
-use Rattle.dap_world.specs.Machine.{State, arrived_of, answers_read, files_of, next_to_read, reported, segments_of, sends, sent_by, taken_of}
+use Rattle.dap_world.specs.Machine.{State, arrived_of, answers_read, files_of, next_to_read, reported, segments_of, sent_by, taken_of}
 use Rattle.dap_world.specs.Inner.Worlds.{IsWorld}
-use Rattle.dap_world.specs.Settling.{AllTold, Finished, IsEmpty, IsFinished, RanBy, RanTo, SendsNothing, unacked}
+use Rattle.dap_world.specs.Settling.{AllTold, Finished, IsEmpty, IsFinished, RanBy, SendsNothing, unacked}
 use Rattle.dap_world.specs.Inner.Settling.{AreEmpty, ReadEvery, ReadPart, SentBoth, ServedEvery, SettledBoth}
 use Rattle.dap_world.proofs.Agreeing.{one-report-each}
 use Rattle.dap_world.proofs.Kept.{headline_of}
 use Rattle.dap_world.proofs.Onward.{ran_still}
-use Rattle.dap_world.proofs.Packets.{messages_in-append}
 use Rattle.dap_world.proofs.ServingAll.{arrived_empty_b, none_past}
 use Rattle.dap_world.proofs.Settles.{ran_both}
 use Rattle.dap_world.proofs.Untold.{answered_length}

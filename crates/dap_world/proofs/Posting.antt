@@ -1,5 +1,5 @@
 -- What waits is handed over, and brought to the other end.
-use Rattle.std.proofs.Common.{◌≡◌, ℕ, ◌+◌, ◌-◌, ◌*◌, ◌≤◌, ◌<◌, arith, refl, sym, ◌∙◌, subst, ap, List, [], ◌∷◌, ◌++◌, length, inl, inr}
+use Rattle.std.proofs.Common.{◌≡◌, ℕ, ◌+◌, ◌<◌, arith, refl, sym, ◌∙◌, subst, ap, List, [], ◌++◌, length, inl, inr}
 use Rattle.std.specs.Prelude.{Err}
 use Rattle.std.proofs.lemmas.List.{append-nil}
 use Rattle.std.proofs.Math.Nat.{eq-or-lt_of_le}
@@ -13,8 +13,8 @@ use Rattle.dap_world.specs.declared.event.WorldFault.TheVariants as fault
 use Rattle.dap_world.specs.Machine.{State, Direction, sends, with_sends, other, posted, segments_of, MayEmit, Steps, Refuses}
 use Rattle.dap_world.specs.Runs.{Went}
 use Rattle.dap_world.specs.Inner.Worlds.{IsWorld}
-use Rattle.dap_world.specs.Settling.{RanBy, RanTo, IsEmpty, FinishFault, SameBut, unacked}
-use Rattle.dap_world.specs.Inner.Settling.{Brought, BroughtAll, Emptied, PostedAll}
+use Rattle.dap_world.specs.Settling.{RanBy, IsEmpty, FinishFault, unacked}
+use Rattle.dap_world.specs.Inner.Settling.{BroughtAll, Emptied, PostedAll}
 use Rattle.dap_world.proofs.Kept.{direction}
 use Rattle.dap_world.proofs.Settles.{ran_none, ran_one, ran_both}
 

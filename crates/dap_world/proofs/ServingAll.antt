@@ -1,6 +1,6 @@
 -- Every message is served.
-use Rattle.std.proofs.Common.{◌≡◌, ℕ, zero, suc, ◌+◌, ◌-◌, ◌*◌, ◌≤◌, ◌<◌, ◌^◌, arith, refl, sym, ◌∙◌, subst, ap, true, false, List, [], ◌∷◌, ◌++◌, length, map, take, inl, inr}
-use Rattle.std.specs.Prelude.{nat_le, if◌then◌else◌, Some, None, Err, slice_get}
+use Rattle.std.proofs.Common.{◌≡◌, ℕ, zero, suc, ◌+◌, ◌-◌, ◌≤◌, ◌<◌, arith, refl, sym, ◌∙◌, subst, ap, true, false, List, [], ◌∷◌, length, map, take, inl, inr}
+use Rattle.std.specs.Prelude.{nat_le, if◌then◌else◌, None, Err, slice_get}
 use Rattle.std.proofs.lemmas.List.{length-map}
 use Rattle.std.proofs.lemmas.Grind.{common_steps}
 use Rattle.dap_msg.specs.Canon.{canon}
@@ -12,7 +12,7 @@ use Rattle.dap_world.specs.declared.event.Event.TheVariants as event
 use Rattle.dap_world.specs.declared.event.Step.{Step}
 use Rattle.dap_world.specs.declared.event.WorldFault.{WorldFault}
 use Rattle.dap_world.specs.declared.event.WorldFault.TheVariants as fault
-use Rattle.dap_world.specs.Machine.{State, Direction, arrived, arrived_of, segments_of, sends, sent_by, taken_of, Steps, Refuses}
+use Rattle.dap_world.specs.Machine.{State, Direction, arrived, arrived_of, segments_of, sent_by, taken_of, Steps, Refuses}
 use Rattle.dap_world.specs.Runs.{Went}
 use Rattle.dap_world.specs.Inner.Worlds.{IsWorld}
 use Rattle.dap_world.specs.Settling.{RanBy, RanTo, IsEmpty, FinishFault, unacked}

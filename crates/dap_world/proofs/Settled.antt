@@ -1,10 +1,10 @@
 -- Both ends are settled.
-use Rattle.std.proofs.Common.{◌≡◌, ℕ, ◌+◌, ◌-◌, ◌*◌, ◌≤◌, arith, refl, sym, ◌∙◌, subst, ap, Ok, Err}
+use Rattle.std.proofs.Common.{◌≡◌, ℕ, ◌+◌, arith, Ok, Err}
 use Rattle.std.specs.Prelude.{Result, IsOk}
 use Rattle.dap_world.specs.declared.event.End.TheVariants.{A, B}
 use Rattle.dap_world.specs.declared.event.WorldFault.{WorldFault}
 use Rattle.dap_world.specs.Machine.{State}
-use Rattle.dap_world.specs.Settling.{RanBy, SendsNothing, Settled, unacked}
+use Rattle.dap_world.specs.Settling.{SendsNothing, Settled}
 use Rattle.dap_world.specs.Inner.Settling.{SettledBoth}
 use Rattle.dap_world.proofs.Settles.{ran_both}
 

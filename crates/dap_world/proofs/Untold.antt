@@ -1,6 +1,5 @@
 -- While an answer is left to be read, a report is due.
-use Rattle.std.proofs.Common.{◌≡◌, ℕ, suc, ◌+◌, ◌≤◌, ◌<◌, arith, refl, sym, ◌∙◌, subst, ap, List, [], ◌∷◌, ◌++◌, length, map, take}
-use Rattle.std.specs.Prelude.{Some}
+use Rattle.std.proofs.Common.{◌≡◌, ℕ, suc, ◌+◌, ◌≤◌, ◌<◌, arith, sym, ◌∙◌, ap, List, [], ◌∷◌, ◌++◌, length, map, take}
 use Rattle.std.proofs.lemmas.List.{append-nil, length-append, length-map, length-take-le, take-append-drop, take-take, map-append}
 use Rattle.std.proofs.lemmas.Option.{slice_get_within}
 use Rattle.std.specs.Prelude.{drop}
@@ -20,7 +19,7 @@ use Rattle.dap_world.specs.Settling.{RanBy, IsOneDue}
 use Rattle.dap_world.specs.Inner.Settling.{ReadPart}
 use Rattle.dap_world.proofs.Agreeing.{none-unexpected}
 use Rattle.dap_world.proofs.Asking.{all_read, answers-front}
-use Rattle.dap_world.proofs.Kept.{came-handed, headline_of, read-front, served-front}
+use Rattle.dap_world.proofs.Kept.{came-handed, read-front, served-front}
 use Rattle.dap_world.proofs.Onward.{ran_on, told_same}
 use Rattle.dap_world.proofs.Packets.{messages_in-append}
 

@@ -1,4 +1,4 @@
-use Rattle.std.proofs.Common.{◌+◌, ◌-◌, ◌∙◌, ap, subst, arith, Err}
+use Rattle.std.proofs.Common.{◌+◌, ◌∙◌, ap, subst, arith, Err}
 use Rattle.std.specs.Prelude.{Result}
 use Rattle.dap_world.specs.declared.event.Event.TheVariants as event
 use Rattle.dap_world.specs.declared.event.Step.{Step}

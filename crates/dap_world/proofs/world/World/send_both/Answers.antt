@@ -1,4 +1,4 @@
-use Rattle.std.proofs.Common.{◌+◌, ◌∙◌}
+use Rattle.std.proofs.Common.{◌+◌}
 use Rattle.dap_world.proofs.Settles.{ran_both}
 use Rattle.dap_world.proofs.SentBoth.{sent_both, settled_b, still_b}
 use Rattle.dap_world.proofs.world.World.send_both.Goals as goal

@@ -1,9 +1,8 @@
-use Rattle.std.proofs.Common.{◌≡◌, ◌∙◌, ◌+◌, ℕ, sym, ap, Ok, Err, arith, subst, length, map}
+use Rattle.std.proofs.Common.{◌+◌, Err, subst, length}
 use Rattle.dap_world.specs.declared.event.End.{End}
 use Rattle.dap_world.specs.declared.event.Event.TheVariants as event
 use Rattle.dap_world.specs.Machine.{Steps, other}
 use Rattle.dap_world.specs.Runs.{Went}
-use Rattle.dap_world.specs.Settling.{RanBy}
 use Rattle.dap_world.proofs.Settles.{wire_length, ran_one, ran_both}
 use Rattle.dap_world.proofs.Bringing.{emit_refused, first_refused, arrived_all, brought_one}
 use Rattle.dap_world.proofs.Bringing.{same_both}

@@ -1,6 +1,4 @@
-use Rattle.std.proofs.Common.{◌≡◌, ◌+◌, ◌-◌, ◌*◌, ◌∙◌, ◌<◌, ◌≤◌, ◌^◌, ℕ, arith, subst, sym, length, List}
-use Rattle.dap_msg.specs.Canon.{canon}
-use Rattle.dap_world.specs.Machine.{sent_by}
+use Rattle.std.proofs.Common.{◌≡◌, ◌+◌, ◌-◌, ◌∙◌, ℕ, arith, subst, sym, length}
 use Rattle.dap_world.specs.Inner.Settling.{Served}
 use Rattle.dap_world.proofs.Settles.{ran_both}
 use Rattle.dap_world.proofs.ServingAll.{count_taken, count_sent, same_sent, served_none, served_more, served_one, served_settled, served_every, serve_refused}

@@ -1,4 +1,4 @@
-use Rattle.std.proofs.Common.{◌≡◌, ◌-◌, ℕ}
+use Rattle.std.proofs.Common.{◌≡◌, ◌-◌}
 use Rattle.dap_world.specs.Inner.Settling.{Served}
 use Rattle.dap_world.specs.Inner.Worlds.{IsWorld}
 use Rattle.dap_world.proofs.world.World.serve_every.Given as goal

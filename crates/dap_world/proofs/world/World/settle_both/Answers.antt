@@ -1,5 +1,5 @@
-use Rattle.std.proofs.Common.{◌≡◌, ◌+◌, ◌≤◌, ◌*◌, ℕ, arith, Err, inl}
-use Rattle.dap_world.specs.declared.event.End.TheVariants.{A, B}
+use Rattle.std.proofs.Common.{◌+◌, arith, inl}
+use Rattle.dap_world.specs.declared.event.End.TheVariants.{B}
 use Rattle.dap_world.proofs.Settles.{ran_both}
 use Rattle.dap_world.proofs.Settled.{settled_both, settle_needs}
 use Rattle.dap_world.proofs.world.World.settle_both.Goals as goal
