@@ -2,18 +2,13 @@
 
 -- where an end stands after one item more
 pub use Rattle.dap_accessed.proofs.Cuts.{cut-more}
-
 -- the answers to a list and one item more are those to the list, and those that the item adds
 pub use Rattle.dap_accessed.proofs.Cuts.{Answers-more}
-
 -- after any items the files are files, and the open one is there
 pub use Rattle.dap_accessed.proofs.SoundLists.{all-sound}
-
 -- a file of the table is a file
 pub use Rattle.dap_accessed.proofs.SoundTables.{file-there}
-
 -- the shape that attributes ask for is one that the check gives
 pub use Rattle.dap_accessed.proofs.SoundGroups.{good-shape}
-
 -- the place of a name is within the table
 pub use Rattle.dap_accessed.proofs.SoundGroups.{place-within}
