@@ -100,7 +100,8 @@ fn bring(world: &mut World, segments: usize) -> Result<(), WorldFault> {
     Ok(())
 }
 
-/// A part of a long request was taken: 2,047 segments in all, and then one more.
+/// A part of a long request was taken: 2,047 segments in all, and then one more. What follows is lost, and all
+/// is finished.
 #[test]
 fn age_within_a_request(rt: HostRuntime) -> Result<(), Fail> {
     let mut world = play_after(
@@ -123,8 +124,15 @@ fn age_within_a_request(rt: HostRuntime) -> Result<(), Fail> {
     go_on(&rt, &mut world, &repeated)?;
     bring(&mut world, 1)?;
     assert_eq!(rt; world.link(End::B).received_count(), 2048);
-    let stale = [Does(Do::Deliver(End::B, 0), Err(WorldFault::Stale))];
-    go_on(&rt, &mut world, &stale)?;
+    let lost = [
+        Does(Do::Deliver(End::B, 0), Err(WorldFault::Stale)),
+        Does(Do::Emit(End::A), Ok(Step::Packet(2081))),
+        Does(Do::Emit(End::A), Ok(Step::Packet(2082))),
+    ];
+    go_on(&rt, &mut world, &lost)?;
     assert_eq!(rt; world.link(End::B).received_count(), 2048);
+    world.finish()?;
+    assert!(rt; matches!(world.reports().last(), Some(Report::Stored(None))));
+    assert!(rt; is_held(&world, 500, Some(NONE)) && is_held(&world, 501, None));
     Ok(())
 }

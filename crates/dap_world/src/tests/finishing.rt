@@ -169,6 +169,40 @@ const ROWS: &[Row] = &[
         names: &[b"L"],
         records: &[(1, Some(b"A")), (2, None)],
     },
+    // A transfer stopped at a record that is too long, and its answer is lost: four events settle each end, and
+    // two messages are read.
+    Row {
+        setup: (512, 8, 64, 1024),
+        direct: &[
+            One::Is(Call::Hello),
+            CREATE_LOG,
+            One::Is(Call::Connect),
+            One::Is(Call::Put(TEN)),
+            One::Is(Call::Put(LONG)),
+            One::Is(Call::Rewind),
+        ],
+        lost: &[
+            Do::Ask(Call::Fetch),
+            Do::Post(End::A),
+            Do::Emit(End::A),
+            Do::Deliver(End::B, 12),
+            Do::Serve,
+            Do::Post(End::B),
+            Do::Emit(End::B),
+        ],
+        events: 10,
+        told: &[
+            READY,
+            OPENED_LOG,
+            CONNECTED,
+            Tells::Is(Want::Done(1)),
+            Tells::Is(Want::Done(2)),
+            Tells::Is(Want::Done(0)),
+            Tells::Is(Want::Stopped(&[(1, TEN)])),
+        ],
+        names: &[b"L"],
+        records: &[(1, Some(TEN)), (2, Some(LONG))],
+    },
     // A request in two pieces, of which the second came and the first is lost: six events settle them.
     Row {
         setup: (8, 4, 1024, 1024),
