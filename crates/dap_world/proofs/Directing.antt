@@ -11,8 +11,8 @@ use Rattle.dap_accessing.specs.declared.request.Request.{Request}
 use Rattle.dap_accessing.specs.Asked.{Asked}
 use Rattle.dap_accessing.specs.Phase.{IsNoneDue}
 use Rattle.dap_accessing.specs.Told.{Hearing, Reports, Waits, Unexpected, NothingDue, Wrong, due_after, hear, Told}
-use Rattle.dap_accessing.proofs.Hearings.{told_by, Told-told_by}
-use Rattle.dap_accessing.proofs.Laws.{asked_one, due_by, due-due_by}
+use Rattle.dap_accessing.proofs.ForCallers.{told_by, Told-told_by}
+use Rattle.dap_accessing.proofs.ForCallers.{asked_one, due_by, due-due_by}
 use Rattle.dap_world.specs.Agreement.{AreAdmissible, answers_to, reports_of}
 use Rattle.dap_world.specs.declared.event.Event.TheVariants as event
 use Rattle.dap_world.specs.declared.event.Step.{Step}

@@ -11,7 +11,7 @@ use Rattle.dap_accessing.specs.declared.request.Request.{Request}
 use Rattle.dap_accessing.specs.declared.report.Report.{Report}
 use Rattle.dap_accessing.specs.Told.{Hearing, Reports, Waits, Unexpected, hear, Told}
 use Rattle.dap_accessing.specs.Phase.{IsNoneDue}
-use Rattle.dap_accessing.proofs.Hearings.{told_by, Told-told_by, reports_grow}
+use Rattle.dap_accessing.proofs.ForCallers.{told_by, Told-told_by, reports_grow}
 use Rattle.dap_world.specs.Agreement.{answers_to}
 use Rattle.dap_world.specs.Machine.{State, arrived_of, sent_by, taken_of, answers_read, reported}
 use Rattle.dap_world.specs.Inner.Worlds.{IsWorld}
