@@ -73,7 +73,8 @@ impl World {
         requires world { IsWorld self.old }
         requires all { count ≡ unacked self.old end }
         requires small { count ≤ 2047 }
-        ensures ok { IfOk result (λ n. RanBy self.old self.new n × (unacked self.new end ≡ 0) × (n ≡ (count + count) + 2)) }
+        ensures ok { IfOk result (λ n. RanBy self.old self.new n × (unacked self.new end ≡ 0)
+            × (n ≡ (count + count) + 2)) }
         ensures rest { SendsNothing self.old self.new }
         ensures err { IfErr result (λ f. (f ≡ NoMemory) × RanTo self.old self.new) }
     {

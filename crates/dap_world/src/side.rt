@@ -333,7 +333,8 @@ pub(crate) fn deliver(to: &mut Side, from: &Side, j: usize) -> Result<Got, World
     requires near { AllNear to.old.link from.now.wire }
     ensures ok { IfOk result (λ got. (w : WiredValue) × (slice_get from.now.wire j ≡ Some w)
         × (is_old_wired to.old.link w ≡ false)
-        × (got ≡ got_of to.old.link.received w.segment) × Delivered to.old.link to.new.link w.segment w.acks) }
+        × (got ≡ got_of to.old.link.received w.segment)
+        × Delivered to.old.link to.new.link w.segment w.acks) }
     ensures rest { to.new ≡ record to.old { link = to.new.link } }
     ensures stands { OnOk result ((messages given : List (List ℕ))
         → IsWay from.now to.old.link messages given → IsWay from.now to.new.link messages given) }
