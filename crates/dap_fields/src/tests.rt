@@ -1,3 +1,5 @@
+//! What no clause says: values from the document's rules, and that each call can succeed.
+
 ghost use Rattle.std.specs.Prelude.{◌<◌, ◌≤◌, ◌^◌, length};
 
 use super::*;
@@ -66,53 +68,29 @@ fn images_are_read_within_their_limit(rt: HostRuntime) {
 }
 
 #[test]
+fn images_stand_for_numbers(rt: HostRuntime) {
+    assert_eq!(rt; number_of(&[]), 0);
+    assert_eq!(rt; number_of(&[3, 0, 0, 0]), 3);
+    assert_eq!(rt; number_of(&[0x27, 0x50]), 0x5027);
+}
+
+#[test]
 fn numbers_fit_below_their_limit(rt: HostRuntime) {
     assert!(rt; ex_fits(127, 1));
     assert!(rt; !ex_fits(128, 1));
     assert!(rt; ex_fits((1 << 84) - 1, 12));
     assert!(rt; !ex_fits(1 << 84, 12));
     assert!(rt; ex_fits(0, 0));
-}
-
-/// A refused writer has changed nothing, and writes when it is called again.
-fn has_written(rt: &impl Abort, answer: Result<(), FieldFault>, out: &[u8]) -> bool {
-    match answer {
-        Ok(()) => true,
-        Err(fault) => {
-            assert_eq!(rt; fault, FieldFault::NoMemory);
-            assert!(rt; out.is_empty());
-            false
-        }
-    }
+    assert!(rt; !ex_fits(u128::MAX, 18));
+    assert!(rt; ex_fits(u128::MAX, 19));
+    assert!(rt; ex_fits(u128::MAX, usize::MAX));
 }
 
 #[test]
-fn a_refused_writer_can_be_called_again(rt: HostRuntime) {
-    let mut byte = Vec::new(rt.alloc());
-    let answer = write_u8(7, &mut byte);
-    if !has_written(&rt, answer, &byte) {
-        assert_eq!(rt; write_u8(7, &mut byte), Ok(()));
-    }
-    assert_eq!(rt; byte.as_slice(), [7].as_slice());
-
-    let mut word = Vec::new(rt.alloc());
-    let answer = write_u16(0x5027, &mut word);
-    if !has_written(&rt, answer, &word) {
-        assert_eq!(rt; write_u16(0x5027, &mut word), Ok(()));
-    }
-    assert_eq!(rt; word.as_slice(), [0x27, 0x50].as_slice());
-
-    let mut number = Vec::new(rt.alloc());
-    let answer = write_ex(550, &mut number);
-    if !has_written(&rt, answer, &number) {
-        assert_eq!(rt; write_ex(550, &mut number), Ok(()));
-    }
-    assert_eq!(rt; number.as_slice(), [0xa6, 4].as_slice());
-
-    let mut image = Vec::new(rt.alloc());
-    let answer = write_image(&[1, 2, 3], &mut image);
-    if !has_written(&rt, answer, &image) {
-        assert_eq!(rt; write_image(&[1, 2, 3], &mut image), Ok(()));
-    }
-    assert_eq!(rt; image.as_slice(), [3, 1, 2, 3].as_slice());
+fn fields_are_written(rt: HostRuntime) {
+    let mut out = Vec::new(rt.alloc());
+    assert_eq!(rt; write_u8(7, &mut out), Ok(()));
+    assert_eq!(rt; write_u16(0x5027, &mut out), Ok(()));
+    assert_eq!(rt; write_image(&[1, 2, 3], &mut out), Ok(()));
+    assert_eq!(rt; out.as_slice(), [7, 0x27, 0x50, 3, 1, 2, 3].as_slice());
 }
