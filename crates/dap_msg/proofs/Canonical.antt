@@ -1,20 +1,20 @@
 -- The written spelling is a spelling.
 use Rattle.std.proofs.Common.{◌≡◌, ℕ, zero, suc, ◌+◌, ◌*◌, ◌/◌, ◌%◌, ◌^◌, ◌<◌, ◌≤◌, Bool, true, false, cond, eqb, List, [], ◌∷◌, ◌++◌, length, get_or, take, Option, Some, None, Result, Ok, refl, sym, ap, subst, ◌∙◌, lit≤, arith, inl, inr}
 use Rattle.std.specs.Prelude.{is_some}
-use Rattle.std.proofs.lemmas.Bool.{cases_lt, lt-ltb, le-ltb}
+use Rattle.std.proofs.lemmas.Bool.{cases_lt, lt-ltb, le-ltb, le-leb}
 use Rattle.std.proofs.lemmas.List.{length-append, take_at}
 use Rattle.std.proofs.lemmas.Nat.Bits.{bit_at-suc, bit_at-zero}
 use Rattle.std.proofs.Math.Nat.{pow-succ'}
 use Rattle.dap_fields.specs.Spelling.{FixedValue}
 use Rattle.dap_fields.specs.Writing.{shortest}
-use Rattle.dap_fields.specs.Shortest.{groups_spell}
+use Rattle.dap_fields.proofs.ForCallers.{groups_spell}
 use Rattle.dap_msg.specs.Grammar.{Kind, Byte, Word, Extensible, Image, ValueOf, SpellsField, When, OrElse, UnlessEnd, SpellsPart, Spells}
 use Rattle.dap_msg.specs.Message.{Configuration, Attributes, AccessFields, ControlFields, Completion, StatusFields, Message, Config, Attrib, Access, Control, Contran, Ack, Accomp, Filedata, Status, Other}
 use Rattle.dap_msg.specs.Formats.{any, has, refuses_bits, header, operand, configuration, attributes, access, control, continuation, acknowledge, completion, file_data, status, other}
 use Rattle.dap_msg.specs.Decoding.{SpellsMessage}
 use Rattle.dap_msg.specs.declared.fault.Fault.{Fault}
 use Rattle.dap_msg.specs.Laws.{IsReadBack}
-use Rattle.dap_msg.specs.Whole.{message_at}
+use Rattle.dap_msg.specs.Inner.Whole.{message_at}
 use Rattle.dap_msg.proofs.Messages.{ok_only}
 use Rattle.dap_msg.specs.Canon.{field_bytes, option_bytes, bits_of, attribute_bits, control_bits, number_of, header_bytes, operand_bytes, canon, FitsField, FitsOption, FieldsFit, Fits}
 
@@ -532,7 +532,7 @@ header_short n len some lt small rest = (
   n ∷ [],
   2 ∷ len ∷ [],
   refl,
-  (byte_spelled n (omega arith), rw (lt-ltb 0 n some, lt-ltb n 17 lt) refl),
+  (byte_spelled n (omega arith), rw (lt-ltb 0 n some, le-leb n 16 (omega arith)) refl),
   (
     2,
     2 ∷ [],
@@ -571,7 +571,7 @@ header_long n low high some lt small below rest = (
   n ∷ [],
   6 ∷ low ∷ high ∷ [],
   refl,
-  (byte_spelled n (omega arith), rw (lt-ltb 0 n some, lt-ltb n 17 lt) refl),
+  (byte_spelled n (omega arith), rw (lt-ltb 0 n some, le-leb n 16 (omega arith)) refl),
   (
     6,
     6 ∷ [],
@@ -603,7 +603,7 @@ header_long n low high some lt small below rest = (
   ),
 )
 
-number_fits : (m : Message) → FieldsFit m → (0 < number_of m) × (number_of m < 17)
+pub number_fits : (m : Message) → FieldsFit m → (0 < number_of m) × (number_of m < 17)
 number_fits (Config c) h = (omega arith, omega arith)
 number_fits (Attrib a) h = (omega arith, omega arith)
 number_fits (Access a) h = (omega arith, omega arith)

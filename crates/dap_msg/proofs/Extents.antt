@@ -6,7 +6,8 @@ use Rattle.std.proofs.lemmas.List.{length-append}
 use Rattle.dap_fields.specs.Writing.{groups}
 use Rattle.dap_msg.specs.Message.{Message, StatusFields, Ack, Filedata, Status}
 use Rattle.dap_msg.specs.Canon.{canon, number_of, header_bytes, operand_bytes, header_size, file_data_size, FieldsFit, Fits}
-use Rattle.dap_msg.specs.Exchange.{config_of, complete_with, attributes_of, record_of, IsShortAnswer, AnswersFit}
+use Rattle.dap_msg.specs.Exchange.{config_of, complete_with, attributes_of, record_of}
+use Rattle.dap_msg.specs.Inner.Answers.{IsShortAnswer, AnswersFit}
 use Rattle.dap_msg.proofs.Sizes.{IsPlainMessage, plain_short}
 
 header_length : (number len : ℕ) → length (header_bytes number len) ≡ header_size len
@@ -21,7 +22,7 @@ unfolding canon
 canon_length m =
     omega (arith, length-append (header_bytes (number_of m) (length (operand_bytes m))) (operand_bytes m), header_length (number_of m) (length (operand_bytes m)))
 
-file_data_operand : (recnum payload : List ℕ) → length (operand_bytes (Filedata recnum payload)) ≡ 1 + length recnum + length payload
+pub file_data_operand : (recnum payload : List ℕ) → length (operand_bytes (Filedata recnum payload)) ≡ 1 + length recnum + length payload
 file_data_operand recnum payload = omega (arith, length-append recnum (payload ++ []), length-append payload [])
 
 pub file_data_measured : (recnum payload : List ℕ) → length (canon (Filedata recnum payload)) ≡ file_data_size (length recnum) (length payload)

@@ -12,3 +12,11 @@ pub use Rattle.dap_msg.proofs.Places.{read_in_place}
 pub use Rattle.dap_msg.proofs.Extents.{answers_fit}
 -- the length of a Filedata's spelling
 pub use Rattle.dap_msg.proofs.Extents.{file_data_measured}
+-- one message more, in the last NSP message or in a new one
+pub use Rattle.dap_msg.proofs.BlockedLaws.{Blocked-more}
+-- blocking loses none, and keeps their order
+pub use Rattle.dap_msg.proofs.BlockedLaws.{messages_in-Blocked}
+-- none of several messages is longer than the limit
+pub use Rattle.dap_msg.proofs.BlockedLaws.{within_limit}
+-- the type of a message that was read is one byte
+pub use Rattle.dap_msg.proofs.Types.{type_short}

@@ -4,7 +4,8 @@ use Rattle.std.specs.List.{concat}
 use Rattle.dap_msg.specs.Message.{Message}
 use Rattle.dap_msg.specs.Canon.{canon}
 use Rattle.dap_msg.specs.Blocked.{joined, Blocked, all_joined, AllFit, AreSpelled}
-use Rattle.dap_msg.specs.BlockedLaws.{EachStepIsBlocked, Blocked-more, messages_in-Blocked, end_to_end, within_limit}
+use Rattle.dap_msg.specs.BlockedLaws.{EachStepIsBlocked}
+use Rattle.dap_msg.proofs.BlockedLaws.{Blocked-more, messages_in-Blocked, end_to_end, within_limit}
 use Rattle.dap_msg.proofs.Canonical.{canon_spells}
 
 pub spelled_all : (messages : List Message) → AllFit messages → AreSpelled messages (joined messages)

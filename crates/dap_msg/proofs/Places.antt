@@ -3,11 +3,11 @@ use Rattle.std.proofs.Common.{◌≡◌, ◌≢◌, ℕ, zero, suc, ◌+◌, ◌
 use Rattle.std.specs.Prelude.{map}
 use Rattle.std.proofs.lemmas.Bool.{cases_lt}
 use Rattle.std.proofs.lemmas.List.{take_at, drop_at, length-append, length-drop}
-use Rattle.dap_fields.specs.Readers.{AreBytes}
+use Rattle.dap_fields.specs.Spelling.{AreBytes}
 use Rattle.dap_msg.specs.declared.fault.MsgFault.{MsgFault}
 use Rattle.dap_msg.specs.Message.{Message}
 use Rattle.dap_msg.specs.Decoding.{SpellsMessage, StandsInFront, IsAnswer}
-use Rattle.dap_msg.specs.Whole.{message_at, told}
+use Rattle.dap_msg.specs.Inner.Whole.{message_at, told}
 use Rattle.dap_msg.specs.Canon.{canon, Fits}
 use Rattle.dap_msg.specs.Blocked.{joined, AllFit}
 use Rattle.dap_msg.specs.Items.{Item, Whole, Malformed, ItemAt, ItemsFrom}

@@ -1,5 +1,6 @@
 -- The formats of the messages' operands, and of the header.
-use Rattle.std.specs.Prelude.{ℕ, ◌/◌, ◌%◌, ◌^◌, ◌==◌, nat_lt, if◌then◌else◌, Bool, ◌&&◌, ◌||◌, not, [], Option, Some, None}
+use Rattle.std.specs.Prelude.{ℕ, ◌/◌, ◌%◌, ◌^◌, ◌==◌, nat_lt, nat_le, if◌then◌else◌, Bool, ◌&&◌, ◌||◌, not, [], Option, Some, None}
+use Rattle.dap_msg.specs.Codes.{type_configuration, type_attributes, type_access, type_control, type_continue, type_acknowledge, type_complete, type_data, type_status, greatest_type}
 use Rattle.dap_msg.specs.declared.fault.FaultKind.{FaultKind}
 use Rattle.dap_msg.specs.declared.fault.FaultKind.TheVariants.{BadFlags, BadStream, UnknownType, BadMenu}
 use Rattle.dap_msg.specs.Grammar.{Kind, Byte, Word, Extensible, Image, Part, Must, When, OrElse, UnlessEnd, Remainder, Grammar, Done, Next, ◌>>=◌}
@@ -169,20 +170,20 @@ other number = do
 -- The operand's format by the type of the message.
 abbrev pub operand : ℕ → Grammar Message
 operand number =
-    if number == 1 then configuration else
-    if number == 2 then attributes else
-    if number == 3 then access else
-    if number == 4 then control else
-    if number == 5 then continuation else
-    if number == 6 then acknowledge else
-    if number == 7 then completion else
-    if number == 8 then file_data else
-    if number == 9 then status else other number
+    if number == type_configuration then configuration else
+    if number == type_attributes then attributes else
+    if number == type_access then access else
+    if number == type_control then control else
+    if number == type_continue then continuation else
+    if number == type_acknowledge then acknowledge else
+    if number == type_complete then completion else
+    if number == type_data then file_data else
+    if number == type_status then status else other number
 
 -- ---- The header.
 
 abbrev pub refuses_type : ℕ → Option FaultKind
-refuses_type number = if nat_lt 0 number && nat_lt number 17 then None else Some UnknownType
+refuses_type number = if nat_lt 0 number && nat_le number greatest_type then None else Some UnknownType
 
 -- Flags: bit 0 STREAMID, bit 1 LENGTH, bit 2 LEN256, which needs LENGTH.
 abbrev pub flags_are_known : ℕ → Bool

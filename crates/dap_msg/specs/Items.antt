@@ -1,5 +1,5 @@
 -- What stands in an NSP message: DAP messages, one after another.
-use Rattle.std.specs.Prelude.{◌≡◌, ℕ, ◌+◌, ◌<◌, List, [], ◌∷◌, length, drop}
+use Rattle.std.specs.Prelude.{◌≡◌, ℕ, ◌+◌, ◌<◌, ◌⊎◌, List, [], ◌∷◌, length, drop}
 use Rattle.dap_msg.specs.declared.fault.MsgFault.{MsgFault}
 use Rattle.dap_msg.specs.declared.items.Item.{Item as LentItem}
 use Rattle.dap_msg.specs.declared.items.Item.TheVariants as lent
@@ -17,12 +17,20 @@ abbrev pub seen_item : LentItem → Item
 seen_item (lent.Whole message) = Whole (seen message)
 seen_item (lent.Malformed fault) = Malformed fault
 
+-- a place at which an item begins; an NSP message without bytes has one too
+abbrev pub IsPlace : ℕ → List ℕ → Type 0
+IsPlace at bytes = (at < length bytes) ⊎ ((at ≡ 0) × (length bytes ≡ 0))
+
 -- the item that stands at a place of the bytes, and the place behind it
 abbrev pub ItemAt : List ℕ → ℕ → Item → ℕ → Type 0
 ItemAt bytes at (Whole m) next = (n : ℕ) × StandsInFront m n (drop at bytes) × (next ≡ at + n)
 ItemAt bytes at (Malformed fault) next =
     (offset : ℕ) × IsFault (drop at bytes) fault.kind offset × (fault.offset ≡ at + offset)
     × (fault.message_type ≡ type_in_front (drop at bytes)) × (next ≡ length bytes)
+
+-- it stands somewhere in some bytes
+abbrev pub IsRead : Item → Type 0
+IsRead item = (bytes : List ℕ) × (at : ℕ) × (next : ℕ) × ItemAt bytes at item next
 
 -- The items from a place on: each begins where the one before it ends, and the last ends with the bytes.
 abbrev pub ItemsFrom : List ℕ → ℕ → List Item → Type 0

@@ -2,10 +2,11 @@
 
 ghost use Rattle.std.specs.Prelude.{ℕ, ◌≡◌, ◌≤◌, ◌<◌, ◌+◌, ◌^◌, ◌++◌, length, OnOk, OnErr, IsErr, IsOk, option_copied, vec_len, vec_capacity};
 ghost use Rattle.dap_fields.specs.Writing.{shortest};
-ghost use Rattle.dap_msg.specs.Message.{Config, Attrib, Access, Control as ControlOf, Accomp, Status, seen, seen_attributes, seen_control};
+ghost use Rattle.dap_msg.specs.Message.{Attrib, Control as ControlOf, seen, seen_attributes, seen_control};
 ghost use Rattle.dap_msg.specs.Grammar as kinds;
 ghost use Rattle.dap_msg.specs.Canon.{canon, Fits, FieldsFit, FitsOption, operand_bytes, header_bytes, option_bytes, bits_of};
-ghost use Rattle.dap_msg.specs.Written.{bytes_of, fields_bytes, CanWrite, CanWriteAll, Appends};
+ghost use Rattle.dap_msg.specs.Written.{Appends};
+ghost use Rattle.dap_msg.specs.Inner.Fields.{bytes_of, fields_bytes, message_bytes, CanWrite, CanWriteAll, status_of, completion_of, configuration_of, access_of};
 
 use crate::fault::{FaultKind, MsgFault};
 use crate::message::{Attributes, Control, Message};
@@ -96,6 +97,11 @@ fn fields_len(fields: &[Field]) -> usize
     }
 }
 
+/// FLAGS where LENGTH follows, and where LEN256 follows too.
+const WITH_LENGTH: u8 = 2;
+
+const WITH_BOTH_LENGTHS: u8 = 6;
+
 /// Appends a header, for which there is room.
 fn put_header(number: u8, len: usize, out: &mut Vec<u8>)
     requires small { len < 2 ^ 16 }
@@ -104,9 +110,10 @@ fn put_header(number: u8, len: usize, out: &mut Vec<u8>)
     ensures capacity { vec_capacity out.old ≤ vec_capacity out.new }
 {
     if len < 256 {
-        put_rest(&[number, 2, len as u8], out);
+        put_rest(&[number, WITH_LENGTH, len as u8], out);
     } else {
-        put_rest(&[number, 6, (len % 256) as u8, (len / 256) as u8], out);
+        let (low, high) = ((len % 256) as u8, (len / 256) as u8);
+        put_rest(&[number, WITH_BOTH_LENGTHS, low, high], out);
     }
 }
 
@@ -131,7 +138,7 @@ fn message_len(len: usize) -> usize
 fn fields_message_len(fields: &[Field]) -> usize
     requires fit { CanWriteAll fields.now }
     requires small { length (fields_bytes fields.now) < 2 ^ 16 }
-    ensures { (number : ℕ) → result ≡ length (header_bytes number (length (fields_bytes fields.now)) ++ fields_bytes fields.now) }
+    ensures { (number : ℕ) → result ≡ length (message_bytes number fields.now) }
 {
     message_len(fields_len(fields))
 }
@@ -140,7 +147,8 @@ fn fields_message_len(fields: &[Field]) -> usize
 fn write_message(number: u8, fields: &[Field], out: &mut Vec<u8>) -> Result<(), MsgFault>
     requires fit { CanWriteAll fields.now }
     requires small { length (fields_bytes fields.now) < 2 ^ 16 }
-    ensures { Appends (header_bytes number (length (fields_bytes fields.now)) ++ fields_bytes fields.now) out.old out.new result }
+    ensures appends { Appends (message_bytes number fields.now) out.old out.new result }
+    ensures capacity { vec_capacity out.old ≤ vec_capacity out.new }
 {
     let len = fields_len(fields);
     if out.reserve(message_len(len)).is_err() {
@@ -229,8 +237,9 @@ fn menu_bits(there: &[bool]) -> u64
 }
 
 fn status_fields<'a>(code: u16, rfa: &'a [u8], recnum: &'a [u8], stv: &'a [u8]) -> [Field<'a>; 4]
-    requires { FieldsFit (Status (record { code = code; rfa = rfa.now; recnum = recnum.now; stv = stv.now })) }
-    ensures bytes { fields_bytes result ≡ operand_bytes (Status (record { code = code; rfa = rfa.now; recnum = recnum.now; stv = stv.now })) }
+    requires { FieldsFit (status_of code rfa.now recnum.now stv.now) }
+    ensures bytes { fields_bytes result
+        ≡ operand_bytes (status_of code rfa.now recnum.now stv.now) }
     ensures can { CanWriteAll result }
 {
     [
@@ -242,8 +251,8 @@ fn status_fields<'a>(code: u16, rfa: &'a [u8], recnum: &'a [u8], stv: &'a [u8]) 
 }
 
 fn completion_fields<'a>(func: u8, fop: u64, check: Option<u16>) -> [Field<'a>; 3]
-    requires { FieldsFit (Accomp (record { func = func; fop = fop; check = check })) }
-    ensures bytes { fields_bytes result ≡ operand_bytes (Accomp (record { func = func; fop = fop; check = check })) }
+    requires { FieldsFit (completion_of func fop check) }
+    ensures bytes { fields_bytes result ≡ operand_bytes (completion_of func fop check) }
     ensures can { CanWriteAll result }
 {
     [
@@ -264,8 +273,10 @@ fn configuration_fields<'a>(
     usrsoft: u8,
     syscap: u128,
 ) -> [Field<'a>; 9]
-    requires { FieldsFit (Config (record { bufsiz = bufsiz; ostype = ostype; filesys = filesys; vernum = vernum; econum = econum; usrnum = usrnum; softver = softver; usrsoft = usrsoft; syscap = syscap })) }
-    ensures bytes { fields_bytes result ≡ operand_bytes (Config (record { bufsiz = bufsiz; ostype = ostype; filesys = filesys; vernum = vernum; econum = econum; usrnum = usrnum; softver = softver; usrsoft = usrsoft; syscap = syscap })) }
+    requires { FieldsFit (configuration_of bufsiz ostype filesys vernum econum usrnum softver
+        usrsoft syscap) }
+    ensures bytes { fields_bytes result ≡ operand_bytes (configuration_of bufsiz ostype filesys
+        vernum econum usrnum softver usrsoft syscap) }
     ensures can { CanWriteAll result }
 {
     [
@@ -290,8 +301,9 @@ fn access_fields<'a>(
     display: u32,
     password: &'a [u8],
 ) -> [Field<'a>; 7]
-    requires { FieldsFit (Access (record { func = func; opt = opt; name = name.now; fac = fac; shr = shr; display = display; password = password.now })) }
-    ensures bytes { fields_bytes result ≡ operand_bytes (Access (record { func = func; opt = opt; name = name.now; fac = fac; shr = shr; display = display; password = password.now })) }
+    requires { FieldsFit (access_of func opt name.now fac shr display password.now) }
+    ensures bytes { fields_bytes result
+        ≡ operand_bytes (access_of func opt name.now fac shr display password.now) }
     ensures can { CanWriteAll result }
 {
     [
@@ -330,7 +342,7 @@ fn control_fields(here: Control<'_>) -> [Field<'_>; 8]
     ]
 }
 
-fn attributes_fields(here: Attributes<'_>) -> [Field<'_>; 22]
+fn attributes_fields(here: Attributes<'_>) -> [Field<'_>; MOST_FIELDS]
     requires { FieldsFit (Attrib (seen_attributes here)) }
     ensures bytes { fields_bytes result ≡ operand_bytes (Attrib (seen_attributes here.entry)) }
     ensures can { CanWriteAll result }
@@ -384,113 +396,88 @@ fn attributes_fields(here: Attributes<'_>) -> [Field<'_>; 22]
     ]
 }
 
+/// No operand has more fields: an Attributes message has a menu and 21 others.
+const MOST_FIELDS: usize = 22;
+
+/// The fields, and behind them such as are not there.
+fn padded<'a>(fields: &[Field<'a>]) -> [Field<'a>; MOST_FIELDS]
+    requires { length fields.now ≤ 22 }
+    ensures bytes { fields_bytes result ≡ fields_bytes fields.now }
+    ensures can { CanWriteAll fields.now → CanWriteAll result }
+{
+    let mut all = [Field::Absent; MOST_FIELDS];
+    all[..fields.len()].copy_from_slice(fields);
+    all
+}
+
+/// The fields of the message's operand, in order.
+fn operand_fields<'a>(message: &Message<'a>) -> [Field<'a>; MOST_FIELDS]
+    requires { FieldsFit (seen message.now) }
+    ensures bytes { fields_bytes result ≡ operand_bytes (seen message.now) }
+    ensures can { CanWriteAll result }
+{
+    match *message {
+        Message::Config {
+            bufsiz,
+            ostype,
+            filesys,
+            vernum,
+            econum,
+            usrnum,
+            softver,
+            usrsoft,
+            syscap,
+        } => padded(&configuration_fields(
+            bufsiz, ostype, filesys, vernum, econum, usrnum, softver, usrsoft, syscap,
+        )),
+        Message::Attrib(attributes) => attributes_fields(attributes),
+        Message::Access {
+            func,
+            opt,
+            name,
+            fac,
+            shr,
+            display,
+            password,
+        } => padded(&access_fields(func, opt, name, fac, shr, display, password)),
+        Message::Control(control) => padded(&control_fields(control)),
+        Message::Contran { func } => padded(&[Field::Byte(func)]),
+        Message::Ack => padded(&[]),
+        Message::Accomp { func, fop, check } => padded(&completion_fields(func, fop, check)),
+        Message::Filedata { recnum, payload } => {
+            padded(&[Field::Image(recnum), Field::Rest(payload)])
+        }
+        Message::Status {
+            code,
+            rfa,
+            recnum,
+            stv,
+        } => padded(&status_fields(code, rfa, recnum, stv)),
+        Message::Other { body, .. } => padded(&[Field::Rest(body)]),
+    }
+}
+
 /// Appends the canonical spelling of a message: LENGTH always, LEN256 exactly where the operand has 256 bytes or
 /// more, all fields, numbers in their shortest spelling, nothing after the last field (own; the formats are those
 /// of DAP 5.6.0).
 ///
 /// The message must fit, as [`fits`] tells. The only refusal is `FaultKind::NoMemory`, with type and offset 0, which
-/// comes only where `out` lacked the room and leaves it unchanged. Room is reserved once.
+/// comes only where `out` lacked the room and leaves it unchanged. Room is reserved once, and none is given back.
 #[tactic(auto, unfolding(crate::specs::Canon::canon))]
 pub fn encode(message: &Message<'_>, out: &mut Vec<u8>) -> Result<(), MsgFault>
     requires { Fits (seen message.now) }
-    ensures { Appends (canon (seen message.now)) out.old out.new result }
+    ensures appends { Appends (canon (seen message.now)) out.old out.new result }
+    ensures capacity { vec_capacity out.old ≤ vec_capacity out.new }
 {
-    match *message {
-        Message::Config {
-            bufsiz,
-            ostype,
-            filesys,
-            vernum,
-            econum,
-            usrnum,
-            softver,
-            usrsoft,
-            syscap,
-        } => write_message(
-            1,
-            &configuration_fields(
-                bufsiz, ostype, filesys, vernum, econum, usrnum, softver, usrsoft, syscap,
-            ),
-            out,
-        ),
-        Message::Attrib(attributes) => write_message(2, &attributes_fields(attributes), out),
-        Message::Access {
-            func,
-            opt,
-            name,
-            fac,
-            shr,
-            display,
-            password,
-        } => write_message(
-            3,
-            &access_fields(func, opt, name, fac, shr, display, password),
-            out,
-        ),
-        Message::Control(control) => write_message(4, &control_fields(control), out),
-        Message::Contran { func } => write_message(5, &[Field::Byte(func)], out),
-        Message::Ack => write_message(6, &[], out),
-        Message::Accomp { func, fop, check } => {
-            write_message(7, &completion_fields(func, fop, check), out)
-        }
-        Message::Filedata { recnum, payload } => {
-            write_message(8, &[Field::Image(recnum), Field::Rest(payload)], out)
-        }
-        Message::Status {
-            code,
-            rfa,
-            recnum,
-            stv,
-        } => write_message(9, &status_fields(code, rfa, recnum, stv), out),
-        Message::Other { number, body } => write_message(number, &[Field::Rest(body)], out),
-    }
+    write_message(message.number(), &operand_fields(message), out)
 }
 
-/// The number of bytes that [`encode`] appends for a message that fits. Takes no memory.
+/// The number of bytes that [`encode`] appends for a message that fits (own; DAP 5.6.0, message formats). Takes no
+/// memory.
 #[tactic(auto, unfolding(crate::specs::Canon::canon))]
 pub fn encoded_len(message: &Message<'_>) -> usize
     requires { Fits (seen message.now) }
     ensures { result ≡ length (canon (seen message.now)) }
 {
-    match *message {
-        Message::Config {
-            bufsiz,
-            ostype,
-            filesys,
-            vernum,
-            econum,
-            usrnum,
-            softver,
-            usrsoft,
-            syscap,
-        } => fields_message_len(&configuration_fields(
-            bufsiz, ostype, filesys, vernum, econum, usrnum, softver, usrsoft, syscap,
-        )),
-        Message::Attrib(attributes) => fields_message_len(&attributes_fields(attributes)),
-        Message::Access {
-            func,
-            opt,
-            name,
-            fac,
-            shr,
-            display,
-            password,
-        } => fields_message_len(&access_fields(func, opt, name, fac, shr, display, password)),
-        Message::Control(control) => fields_message_len(&control_fields(control)),
-        Message::Contran { func } => fields_message_len(&[Field::Byte(func)]),
-        Message::Ack => fields_message_len(&[]),
-        Message::Accomp { func, fop, check } => {
-            fields_message_len(&completion_fields(func, fop, check))
-        }
-        Message::Filedata { recnum, payload } => {
-            fields_message_len(&[Field::Image(recnum), Field::Rest(payload)])
-        }
-        Message::Status {
-            code,
-            rfa,
-            recnum,
-            stv,
-        } => fields_message_len(&status_fields(code, rfa, recnum, stv)),
-        Message::Other { body, .. } => fields_message_len(&[Field::Rest(body)]),
-    }
+    fields_message_len(&operand_fields(message))
 }

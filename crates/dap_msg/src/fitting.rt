@@ -5,13 +5,15 @@ ghost use Rattle.dap_msg.specs.Message.{Attrib, Control as ControlOf, seen, seen
 ghost use Rattle.dap_msg.specs.Grammar as kinds;
 ghost use Rattle.dap_msg.specs.Canon.{Fits, FieldsFit, FitsOption, operand_bytes};
 
+use crate::codes::{GREATEST_TYPE, TYPE_STATUS};
 use crate::message::{Attributes, Control, Message};
+use dap_fields::ex_fits;
 
 fn option_u16_fits(value: Option<u16>) -> bool
     ensures { IsTrue result ↔ FitsOption (kinds.Extensible 2) value }
 {
     match value {
-        Some(value) => value < 1 << 14,
+        Some(value) => ex_fits(u128::from(value), 2),
         None => true,
     }
 }
@@ -20,7 +22,7 @@ fn option_rat_fits(value: Option<u32>) -> bool
     ensures { IsTrue result ↔ FitsOption (kinds.Extensible 3) value }
 {
     match value {
-        Some(value) => value < 1 << 21,
+        Some(value) => ex_fits(u128::from(value), 3),
         None => true,
     }
 }
@@ -29,7 +31,7 @@ fn option_display_fits(value: Option<u32>) -> bool
     ensures { IsTrue result ↔ FitsOption (kinds.Extensible 4) value }
 {
     match value {
-        Some(value) => value < 1 << 28,
+        Some(value) => ex_fits(u128::from(value), 4),
         None => true,
     }
 }
@@ -38,7 +40,7 @@ fn option_u64_fits(value: Option<u64>) -> bool
     ensures { IsTrue result ↔ FitsOption (kinds.Extensible 6) value }
 {
     match value {
-        Some(value) => value < 1 << 42,
+        Some(value) => ex_fits(u128::from(value), 6),
         None => true,
     }
 }
@@ -82,7 +84,7 @@ fn fields_fit(message: Message<'_>) -> bool
     ensures { IsTrue result ↔ FieldsFit (seen message.entry) }
 {
     match message {
-        Message::Config { syscap, .. } => syscap < 1 << 84,
+        Message::Config { syscap, .. } => ex_fits(syscap, 12),
         Message::Attrib(here) => attributes_fit(here),
         Message::Access {
             opt,
@@ -93,17 +95,17 @@ fn fields_fit(message: Message<'_>) -> bool
             password,
             ..
         } => {
-            opt < 1 << 35
+            ex_fits(u128::from(opt), 5)
                 && name.len() <= 255
-                && fac < 1 << 21
-                && shr < 1 << 21
-                && display < 1 << 28
+                && ex_fits(u128::from(fac), 3)
+                && ex_fits(u128::from(shr), 3)
+                && ex_fits(u128::from(display), 4)
                 && password.len() <= 40
         }
         Message::Control(here) => control_fits(here),
         Message::Contran { .. } => true,
         Message::Ack => true,
-        Message::Accomp { fop, .. } => fop < 1 << 42,
+        Message::Accomp { fop, .. } => ex_fits(u128::from(fop), 6),
         Message::Filedata { recnum, .. } => recnum.len() <= 8,
         Message::Status {
             rfa,
@@ -111,9 +113,12 @@ fn fields_fit(message: Message<'_>) -> bool
             stv,
             ..
         } => rfa.len() <= 8 && recnum.len() <= 8 && stv.len() <= 8,
-        Message::Other { number, .. } => (10..=16).contains(&number),
+        Message::Other { number, .. } => number > TYPE_STATUS && number <= GREATEST_TYPE,
     }
 }
+
+/// What LENGTH and LEN256 can tell, in bytes.
+const LONGEST_OPERAND: usize = 65535;
 
 /// Whether the operand of a message whose values fit has a length that can be told.
 fn operand_fits(message: &Message<'_>) -> bool
@@ -121,8 +126,8 @@ fn operand_fits(message: &Message<'_>) -> bool
     ensures { IsTrue result ↔ (length (operand_bytes (seen message.now)) < 2 ^ 16) }
 {
     match *message {
-        Message::Filedata { recnum, payload } => payload.len() < 65535 - recnum.len(),
-        Message::Other { body, .. } => body.len() < 65536,
+        Message::Filedata { recnum, payload } => payload.len() < LONGEST_OPERAND - recnum.len(),
+        Message::Other { body, .. } => body.len() <= LONGEST_OPERAND,
         _ => true,
     }
 }

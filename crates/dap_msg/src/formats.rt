@@ -3,7 +3,7 @@
 ghost use Rattle.std.specs.Prelude.{◌≡◌, [], List};
 ghost use Rattle.dap_msg.specs.Message.{seen};
 ghost use Rattle.dap_msg.specs.Formats.{access, acknowledge, attributes, completion, configuration, continuation, control, file_data, other, status};
-ghost use Rattle.dap_msg.specs.Reading.{read, Gives};
+ghost use Rattle.dap_msg.specs.Inner.Reading.{read, Gives};
 
 use crate::fault::Fault;
 use crate::message::{Attributes, Control, Message};

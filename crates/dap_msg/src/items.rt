@@ -24,7 +24,8 @@ pub enum Item<'a> {
 pub fn item_at(nsp_message: &[u8], at: usize) -> (Item<'_>, usize)
     requires { at ≤ length nsp_message.now }
     ensures exact { ItemAt nsp_message.now at (seen_item result.0) result.1 }
-    ensures only { (item : TheItem) (next : ℕ) → ItemAt nsp_message.now at item next → (item ≡ seen_item result.0) × (next ≡ result.1) }
+    ensures only { (item : TheItem) (next : ℕ) → ItemAt nsp_message.now at item next
+        → (item ≡ seen_item result.0) × (next ≡ result.1) }
     ensures within { result.1 ≤ length nsp_message.now }
     ensures further { at < length nsp_message.now → at < result.1 }
     ensures images { ItemImagesFit (seen_item result.0) }

@@ -6,8 +6,10 @@
 #![tactic(auto)]
 
 mod blocking;
+pub mod codes;
 mod decoding;
 mod encoding;
+mod exchange;
 mod fault;
 mod file_access;
 mod fitting;
@@ -19,15 +21,19 @@ mod message;
 mod reading;
 mod status;
 
-pub use blocking::{append_blocked, blocks_in_steps};
+pub use blocking::{append_blocked, append_message, blocks_in_steps};
 pub use decoding::decode;
 pub use encoding::{encode, encoded_len};
+pub use exchange::{
+    GREATEST_MESSAGE, LEAST_BUFFER, is_too_small, limit_of, names_the_limits, number_of,
+};
 pub use fault::{FaultKind, MsgFault};
 pub use file_access::FileAccess;
 pub use fitting::fits;
 pub use items::{Item, item_at};
 pub use laws::{
-    answers_fit, has_items, lists_messages, measures_file_data, reads_back, reads_in_place,
+    fits_what_is_spelled, has_items, lists_messages, measures_file_data, one_item_stands,
+    reads_back, reads_in_place,
 };
 pub use message::{Attributes, Control, Message};
 pub use status::{StatusCode, status_for};

@@ -4,6 +4,11 @@ ghost use Rattle.std.specs.Prelude.{◌≡◌};
 ghost use Rattle.dap_msg.specs.Message.{seen};
 ghost use Rattle.dap_msg.specs.Canon.{number_of};
 
+use crate::codes::{
+    TYPE_ACCESS, TYPE_ACKNOWLEDGE, TYPE_ATTRIBUTES, TYPE_COMPLETE, TYPE_CONFIGURATION,
+    TYPE_CONTINUE, TYPE_CONTROL, TYPE_DATA, TYPE_STATUS,
+};
+
 /// The fields of an Attributes message, each of them there exactly where its bit of ATTMENU is set
 /// (DAP 5.6.0, Attributes message). Images are in the order in which they stand in the message; those that
 /// stand for a number have the least byte first.
@@ -149,15 +154,15 @@ impl Message<'_> {
         ensures { result ≡ number_of (seen self.now) }
     {
         match *self {
-            Message::Config { .. } => 1,
-            Message::Attrib(_) => 2,
-            Message::Access { .. } => 3,
-            Message::Control(_) => 4,
-            Message::Contran { .. } => 5,
-            Message::Ack => 6,
-            Message::Accomp { .. } => 7,
-            Message::Filedata { .. } => 8,
-            Message::Status { .. } => 9,
+            Message::Config { .. } => TYPE_CONFIGURATION,
+            Message::Attrib(_) => TYPE_ATTRIBUTES,
+            Message::Access { .. } => TYPE_ACCESS,
+            Message::Control(_) => TYPE_CONTROL,
+            Message::Contran { .. } => TYPE_CONTINUE,
+            Message::Ack => TYPE_ACKNOWLEDGE,
+            Message::Accomp { .. } => TYPE_COMPLETE,
+            Message::Filedata { .. } => TYPE_DATA,
+            Message::Status { .. } => TYPE_STATUS,
             Message::Other { number, .. } => number,
         }
     }

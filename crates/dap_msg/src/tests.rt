@@ -1,7 +1,7 @@
 //! What no clause says: values from the document's examples, and that each call can succeed.
 
-mod altered;
 mod blocked;
+mod codes;
 mod faults;
 mod items;
 mod limits;

@@ -1,13 +1,7 @@
-//! Several messages in one NSP message, and calls that are made again after a refusal.
+//! Several messages in one NSP message.
 
-use crate::{FaultKind, Message, MsgFault, append_blocked, encode, fits};
+use crate::{Message, append_blocked, append_message, fits};
 use std::test::Fail;
-
-const NO_MEMORY: MsgFault = MsgFault {
-    kind: FaultKind::NoMemory,
-    message_type: 0,
-    offset: 0,
-};
 
 #[test]
 fn messages_are_joined_within_the_limit(rt: HostRuntime) -> Result<(), Fail> {
@@ -42,34 +36,15 @@ fn a_message_past_the_limit_stands_alone(rt: HostRuntime) -> Result<(), Fail> {
 }
 
 #[test]
-fn a_refused_encoder_can_be_called_again(rt: HostRuntime) {
-    let message = Message::Filedata {
-        recnum: &[],
-        payload: &[0x41],
-    };
+fn messages_are_written_in_place(rt: HostRuntime) -> Result<(), Fail> {
+    let message = Message::Ack;
     assert!(rt; fits(&message));
-    let mut out = Vec::new(rt.alloc());
-    if let Err(fault) = encode(&message, &mut out) {
-        assert_eq!(rt; fault, NO_MEMORY);
-        assert!(rt; out.is_empty());
-        assert_eq!(rt; encode(&message, &mut out), Ok(()));
-    }
-    assert_eq!(rt; out.as_slice(), [8, 2, 2, 0, 0x41].as_slice());
-}
-
-#[test]
-fn a_refused_message_can_be_joined_again(rt: HostRuntime) {
     let mut list = Vec::new(rt.alloc());
     for limit in [10, 10, 3] {
-        let count = list.len();
-        if let Err(fault) = append_blocked(rt.alloc(), &mut list, &[6, 2, 0], limit) {
-            assert_eq!(rt; fault, NO_MEMORY);
-            assert_eq!(rt; list.len(), count);
-            let again = append_blocked(rt.alloc(), &mut list, &[6, 2, 0], limit);
-            assert_eq!(rt; again, Ok(()));
-        }
+        append_message(rt.alloc(), &mut list, &message, limit)?;
     }
     assert_eq!(rt; list.len(), 2);
     assert_eq!(rt; list[0].as_slice(), [6, 2, 0, 6, 2, 0].as_slice());
     assert_eq!(rt; list[1].as_slice(), [6, 2, 0].as_slice());
+    Ok(())
 }

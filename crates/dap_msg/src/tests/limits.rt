@@ -4,29 +4,34 @@ use crate::{Attributes, Control, FileAccess, Message, fits};
 use bitflags::Flags;
 use std::test::Fail;
 
-const NO_ATTRIBUTES: Attributes<'static> = Attributes {
-    datatype: None,
-    org: None,
-    rfm: None,
-    rat: None,
-    bls: None,
-    mrs: None,
-    alq: None,
-    bks: None,
-    fsz: None,
-    mrn: None,
-    runsys: None,
-    deq: None,
-    fop: None,
-    bsz: None,
-    dev: None,
-    sdc: None,
-    lrl: None,
-    hbk: None,
-    ebk: None,
-    ffb: None,
-    sbn: None,
-};
+/// The greatest values of extensible fields of 2 to 12 bytes.
+const EX_2: u16 = 16383;
+
+const EX_3: u32 = 2097151;
+
+const EX_4: u32 = 268435455;
+
+const EX_5: u64 = 34359738367;
+
+const EX_6: u64 = 4398046511103;
+
+const EX_12: u128 = 19342813113834066795298815;
+
+const I_5: &[u8] = &[0; 5];
+
+const I_6: &[u8] = &[0; 6];
+
+const I_8: &[u8] = &[0; 8];
+
+const I_9: &[u8] = &[0; 9];
+
+const I_40: &[u8] = &[0; 40];
+
+const I_41: &[u8] = &[0; 41];
+
+const I_255: &[u8] = &[0; 255];
+
+const I_256: &[u8] = &[0; 256];
 
 fn data<'a>(recnum: &'a [u8], payload: &'a [u8]) -> Message<'a> {
     Message::Filedata { recnum, payload }
@@ -64,46 +69,232 @@ fn of_other_messages(rt: HostRuntime) -> Result<(), Fail> {
     Ok(())
 }
 
+/// DATATYPE, RAT, ALQ, MRN, RUNSYS, FOP, DEV, SDC, HBK, EBK and SBN, and whether the message fits.
+type AttributesRow = (
+    u16,
+    u32,
+    &'static [u8],
+    &'static [u8],
+    &'static [u8],
+    u64,
+    u64,
+    u64,
+    &'static [u8],
+    &'static [u8],
+    &'static [u8],
+    bool,
+);
+
+const ATTRIBUTES: &[AttributesRow] = &[
+    (
+        EX_2, EX_3, I_5, I_5, I_40, EX_6, EX_6, EX_6, I_5, I_5, I_5, true,
+    ),
+    (
+        EX_2 + 1,
+        EX_3,
+        I_5,
+        I_5,
+        I_40,
+        EX_6,
+        EX_6,
+        EX_6,
+        I_5,
+        I_5,
+        I_5,
+        false,
+    ),
+    (
+        EX_2,
+        EX_3 + 1,
+        I_5,
+        I_5,
+        I_40,
+        EX_6,
+        EX_6,
+        EX_6,
+        I_5,
+        I_5,
+        I_5,
+        false,
+    ),
+    (
+        EX_2, EX_3, I_6, I_5, I_40, EX_6, EX_6, EX_6, I_5, I_5, I_5, false,
+    ),
+    (
+        EX_2, EX_3, I_5, I_6, I_40, EX_6, EX_6, EX_6, I_5, I_5, I_5, false,
+    ),
+    (
+        EX_2, EX_3, I_5, I_5, I_41, EX_6, EX_6, EX_6, I_5, I_5, I_5, false,
+    ),
+    (
+        EX_2,
+        EX_3,
+        I_5,
+        I_5,
+        I_40,
+        EX_6 + 1,
+        EX_6,
+        EX_6,
+        I_5,
+        I_5,
+        I_5,
+        false,
+    ),
+    (
+        EX_2,
+        EX_3,
+        I_5,
+        I_5,
+        I_40,
+        EX_6,
+        EX_6 + 1,
+        EX_6,
+        I_5,
+        I_5,
+        I_5,
+        false,
+    ),
+    (
+        EX_2,
+        EX_3,
+        I_5,
+        I_5,
+        I_40,
+        EX_6,
+        EX_6,
+        EX_6 + 1,
+        I_5,
+        I_5,
+        I_5,
+        false,
+    ),
+    (
+        EX_2, EX_3, I_5, I_5, I_40, EX_6, EX_6, EX_6, I_6, I_5, I_5, false,
+    ),
+    (
+        EX_2, EX_3, I_5, I_5, I_40, EX_6, EX_6, EX_6, I_5, I_6, I_5, false,
+    ),
+    (
+        EX_2, EX_3, I_5, I_5, I_40, EX_6, EX_6, EX_6, I_5, I_5, I_6, false,
+    ),
+];
+
 #[test]
 fn of_attributes(rt: HostRuntime) {
-    let long = [0; 41];
-    let good = Attributes {
-        datatype: Some(0x3fff),
-        runsys: Some(&long[..40]),
-        ..NO_ATTRIBUTES
-    };
-    assert!(rt; fits(&Message::Attrib(good)));
-    let datatype = Attributes {
-        datatype: Some(0x4000),
-        ..NO_ATTRIBUTES
-    };
-    assert!(rt; !fits(&Message::Attrib(datatype)));
-    let runsys = Attributes {
-        runsys: Some(&long),
-        ..NO_ATTRIBUTES
-    };
-    assert!(rt; !fits(&Message::Attrib(runsys)));
+    for (datatype, rat, alq, mrn, runsys, fop, dev, sdc, hbk, ebk, sbn, good) in ATTRIBUTES {
+        let attributes = Attributes {
+            datatype: Some(*datatype),
+            rat: Some(*rat),
+            alq: Some(alq),
+            mrn: Some(mrn),
+            runsys: Some(runsys),
+            fop: Some(*fop),
+            dev: Some(*dev),
+            sdc: Some(*sdc),
+            hbk: Some(hbk),
+            ebk: Some(ebk),
+            sbn: Some(sbn),
+            ..Attributes::none()
+        };
+        assert_eq!(rt; fits(&Message::Attrib(attributes)), *good);
+    }
 }
+
+/// OPT, NAME, FAC, SHR, DISPLAY and PASSWORD.
+const ACCESS: &[(u64, &[u8], u32, u32, u32, &[u8], bool)] = &[
+    (EX_5, I_255, EX_3, EX_3, EX_4, I_40, true),
+    (EX_5 + 1, I_255, EX_3, EX_3, EX_4, I_40, false),
+    (EX_5, I_256, EX_3, EX_3, EX_4, I_40, false),
+    (EX_5, I_255, EX_3 + 1, EX_3, EX_4, I_40, false),
+    (EX_5, I_255, EX_3, EX_3 + 1, EX_4, I_40, false),
+    (EX_5, I_255, EX_3, EX_3, EX_4 + 1, I_40, false),
+    (EX_5, I_255, EX_3, EX_3, EX_4, I_41, false),
+];
+
+#[test]
+fn of_access(rt: HostRuntime) {
+    for (opt, name, fac, shr, display, password, good) in ACCESS {
+        let access = Message::Access {
+            func: 1,
+            opt: *opt,
+            name,
+            fac: *fac,
+            shr: *shr,
+            display: *display,
+            password,
+        };
+        assert_eq!(rt; fits(&access), *good);
+    }
+}
+
+/// KEY, ROP, HSH and DISPLAY.
+const CONTROL: &[(&[u8], u64, &[u8], u32, bool)] = &[
+    (I_255, EX_6, I_5, EX_4, true),
+    (I_256, EX_6, I_5, EX_4, false),
+    (I_255, EX_6 + 1, I_5, EX_4, false),
+    (I_255, EX_6, I_6, EX_4, false),
+    (I_255, EX_6, I_5, EX_4 + 1, false),
+];
 
 #[test]
 fn of_control(rt: HostRuntime) {
-    let key = [0; 256];
-    let control = Control {
-        func: 1,
-        rac: None,
-        key: Some(&key[..255]),
-        krf: None,
-        rop: None,
-        hsh: None,
-        display: None,
-    };
-    assert!(rt; fits(&Message::Control(control)));
-    assert!(rt;
-        !fits(&Message::Control(Control {
-            key: Some(&key),
-            ..control
-        }))
-    );
+    for (key, rop, hsh, display, good) in CONTROL {
+        let control = Control {
+            func: 1,
+            rac: None,
+            key: Some(key),
+            krf: None,
+            rop: Some(*rop),
+            hsh: Some(hsh),
+            display: Some(*display),
+        };
+        assert_eq!(rt; fits(&Message::Control(control)), *good);
+    }
+}
+
+/// RFA, RECNUM and STV.
+const STATUS: &[(&[u8], &[u8], &[u8], bool)] = &[
+    (I_8, I_8, I_8, true),
+    (I_9, I_8, I_8, false),
+    (I_8, I_9, I_8, false),
+    (I_8, I_8, I_9, false),
+];
+
+#[test]
+fn of_status(rt: HostRuntime) {
+    for (rfa, recnum, stv, good) in STATUS {
+        let status = Message::Status {
+            code: 0,
+            rfa,
+            recnum,
+            stv,
+        };
+        assert_eq!(rt; fits(&status), *good);
+    }
+}
+
+#[test]
+fn of_configuration_and_completion(rt: HostRuntime) {
+    for (syscap, fop, good) in [(EX_12, EX_6, true), (EX_12 + 1, EX_6 + 1, false)] {
+        let config = Message::Config {
+            bufsiz: 0,
+            ostype: 0,
+            filesys: 0,
+            vernum: 0,
+            econum: 0,
+            usrnum: 0,
+            softver: 0,
+            usrsoft: 0,
+            syscap,
+        };
+        assert_eq!(rt; fits(&config), good);
+        let complete = Message::Accomp {
+            func: 1,
+            fop,
+            check: None,
+        };
+        assert_eq!(rt; fits(&complete), good);
+    }
 }
 
 #[test]
@@ -113,4 +304,9 @@ fn the_operations_of_a_file(rt: HostRuntime) {
     assert!(rt; access.contains(FileAccess::PUT));
     assert!(rt; !access.contains(FileAccess::GET));
     assert_eq!(rt; FileAccess::from_bits(16), None);
+    let access = FileAccess::of_fac(0x10a);
+    assert!(rt; access.allows_get());
+    assert!(rt; access.allows_update());
+    assert!(rt; !access.allows_put());
+    assert!(rt; !access.allows_delete());
 }

@@ -1,0 +1,5 @@
+-- What only the contracts of private functions cite, and proofs: nobody has to believe it.
+pub mod Answers
+pub mod Fields
+pub mod Reading
+pub mod Whole

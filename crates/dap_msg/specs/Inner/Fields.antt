@@ -1,0 +1,61 @@
+-- The fields that the encoder writes, one after another.
+use Rattle.std.specs.Prelude.{ℕ, ◌<◌, ◌≤◌, ◌^◌, List, [], ◌∷◌, ◌++◌, length, Option}
+use Rattle.dap_fields.specs.Writing.{shortest}
+use Rattle.dap_msg.specs.declared.encoding.Field.{Field}
+use Rattle.dap_msg.specs.declared.encoding.Field.TheVariants.{Absent, Byte, Word, Extensible, Image, Rest}
+use Rattle.dap_msg.specs.Grammar as kinds
+use Rattle.dap_msg.specs.Message.{Message, Config, Access, Accomp, Status}
+use Rattle.dap_msg.specs.Canon.{field_bytes, header_bytes}
+
+abbrev pub bytes_of : Field → List ℕ
+bytes_of Absent = []
+bytes_of (Byte v) = v ∷ []
+bytes_of (Word v) = field_bytes kinds.Word v
+bytes_of (Extensible v) = shortest v
+bytes_of (Image image) = length image.now ∷ image.now
+bytes_of (Rest bytes) = bytes.now
+
+abbrev pub fields_bytes : List Field → List ℕ
+fields_bytes [] = []
+fields_bytes (field ∷ fields) = bytes_of field ++ fields_bytes fields
+
+-- the bytes of a message of these fields
+abbrev pub message_bytes : ℕ → List Field → List ℕ
+message_bytes number fields = header_bytes number (length (fields_bytes fields)) ++ fields_bytes fields
+
+abbrev pub CanWrite : Field → Type 0
+CanWrite Absent = Unit {0}
+CanWrite (Byte v) = Unit {0}
+CanWrite (Word v) = Unit {0}
+CanWrite (Extensible v) = v < 2 ^ 84
+CanWrite (Image image) = length image.now ≤ 255
+CanWrite (Rest bytes) = Unit {0}
+
+abbrev pub CanWriteAll : List Field → Type 0
+CanWriteAll [] = Unit {0}
+CanWriteAll (field ∷ fields) = CanWrite field × CanWriteAll fields
+
+-- ---- Messages by their fields.
+
+abbrev pub configuration_of : (bufsiz ostype filesys vernum econum usrnum softver usrsoft syscap : ℕ) → Message
+configuration_of bufsiz ostype filesys vernum econum usrnum softver usrsoft syscap = Config (record {
+  bufsiz = bufsiz;
+  ostype = ostype;
+  filesys = filesys;
+  vernum = vernum;
+  econum = econum;
+  usrnum = usrnum;
+  softver = softver;
+  usrsoft = usrsoft;
+  syscap = syscap;
+})
+
+abbrev pub access_of : (func opt : ℕ) → List ℕ → (fac shr display : ℕ) → List ℕ → Message
+access_of func opt name fac shr display password =
+    Access (record { func = func; opt = opt; name = name; fac = fac; shr = shr; display = display; password = password })
+
+abbrev pub completion_of : (func fop : ℕ) → Option ℕ → Message
+completion_of func fop check = Accomp (record { func = func; fop = fop; check = check })
+
+abbrev pub status_of : ℕ → (rfa recnum stv : List ℕ) → Message
+status_of code rfa recnum stv = Status (record { code = code; rfa = rfa; recnum = recnum; stv = stv })

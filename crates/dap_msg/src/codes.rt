@@ -1,0 +1,245 @@
+//! The numbers of the protocol, named once for both ends (DAP 5.6.0; which of them have a meaning here is own).
+
+ghost use Rattle.std.specs.Prelude.{◌≡◌};
+ghost use Rattle.dap_msg.specs.Codes as codes;
+
+/// The type of a Configuration message (DAP 5.6.0, message format).
+pub const TYPE_CONFIGURATION: u8 = 1;
+
+/// The type of an Attributes message.
+pub const TYPE_ATTRIBUTES: u8 = 2;
+
+/// The type of an Access message.
+pub const TYPE_ACCESS: u8 = 3;
+
+/// The type of a Control message.
+pub const TYPE_CONTROL: u8 = 4;
+
+/// The type of a Continue Transfer message.
+pub const TYPE_CONTINUE: u8 = 5;
+
+/// The type of an Acknowledge message.
+pub const TYPE_ACKNOWLEDGE: u8 = 6;
+
+/// The type of an Access Complete message.
+pub const TYPE_COMPLETE: u8 = 7;
+
+/// The type of a Data message.
+pub const TYPE_DATA: u8 = 8;
+
+/// The type of a Status message.
+pub const TYPE_STATUS: u8 = 9;
+/// No message has a greater type; those above 9 are kept as bytes (own).
+pub const GREATEST_TYPE: u8 = 16;
+
+/// ACCFUNC (DAP 5.6.0, Access message): to open a file that is there.
+pub const ACCFUNC_OPEN: u8 = 1;
+/// To make a new file.
+pub const ACCFUNC_CREATE: u8 = 2;
+
+/// CTLFUNC (DAP 5.6.0, Control message): to read a record, or the whole file.
+pub const CTLFUNC_GET: u8 = 1;
+/// To begin a stream of records.
+pub const CTLFUNC_CONNECT: u8 = 2;
+/// To replace the current record.
+pub const CTLFUNC_UPDATE: u8 = 3;
+/// To write a record, or records until the stream ends.
+pub const CTLFUNC_PUT: u8 = 4;
+/// To remove the current record.
+pub const CTLFUNC_DELETE: u8 = 5;
+/// To go back to the first record.
+pub const CTLFUNC_REWIND: u8 = 6;
+
+/// RAC (DAP 5.6.0, Control message): the next record.
+pub const RAC_SEQUENTIAL: u8 = 0;
+/// The record of a key.
+pub const RAC_KEYED: u8 = 1;
+/// The record of a record file address.
+pub const RAC_ADDRESS: u8 = 2;
+/// All records from the next on.
+pub const RAC_WHOLE_FILE: u8 = 3;
+
+/// CONFUNC (DAP 5.6.0, Continue Transfer message): to try the record again.
+pub const CONFUNC_AGAIN: u8 = 1;
+/// To go on behind the record.
+pub const CONFUNC_SKIP: u8 = 2;
+/// To end the transfer.
+pub const CONFUNC_ABORT: u8 = 3;
+/// To go on.
+pub const CONFUNC_RESUME: u8 = 4;
+
+/// CMPFUNC (DAP 5.6.0, Access Complete message): to close the file.
+pub const CMPFUNC_CLOSE: u8 = 1;
+/// The answer to an Access Complete.
+pub const CMPFUNC_RESPONSE: u8 = 2;
+/// To close the file, and to remove it where this Access made it.
+pub const CMPFUNC_PURGE: u8 = 3;
+/// To end the stream.
+pub const CMPFUNC_END_OF_STREAM: u8 = 4;
+/// To leave the rest out.
+pub const CMPFUNC_SKIP: u8 = 5;
+
+/// ORG (DAP 5.6.0, Attributes message): records in the order in which they came.
+pub const ORG_SEQUENTIAL: u8 = 0;
+/// Records by number.
+pub const ORG_RELATIVE: u8 = 16;
+
+/// RFM (DAP 5.6.0, Attributes message): records of one length.
+pub const RFM_FIXED: u8 = 1;
+/// Records of any length.
+pub const RFM_VARIABLE: u8 = 2;
+
+/// MACCODE (DAP 5.6.0, Status message): the operation is done.
+pub const MACCODE_SUCCESS: u8 = 1;
+
+/// STSCODE (DAP 5.6.0, Status message): the operation is done.
+pub const SUCCESS: u16 = 0x1000;
+/// An Access to open finds no file of the name.
+pub const FILE_NOT_FOUND: u16 = 0x4032;
+/// An Access is refused, for the [`Reason`] in STV.
+pub const ACCESS_REFUSED: u16 = 0x4000;
+/// An operation on a record is refused, for the [`Reason`] in STV.
+pub const RECORD_REFUSED: u16 = 0x5000;
+/// No record follows.
+pub const END_OF_FILE: u16 = 0x5027;
+
+const UNSUPPORTED: u16 = 0x2000;
+
+const MALFORMED: u16 = 0x8000;
+
+const INVALID: u16 = 0x9000;
+
+const OUT_OF_PLACE: u16 = 0xa000;
+/// What a message's type counts in MICCODE, the field below it being 0 (DAP 5.6.0, Status message; field 0 is own).
+const TYPE_UNIT: u16 = 64;
+
+/// The STSCODE where a message of this type asks for what is not supported: MACCODE 2 (DAP 5.6.0, Status message).
+/// Takes no memory.
+pub fn unsupported(message_type: u8) -> u16
+    ensures { result ≡ codes.unsupported message_type }
+{
+    UNSUPPORTED + TYPE_UNIT * u16::from(message_type)
+}
+
+/// The STSCODE where a message of this type has a value that is not allowed: MACCODE 9 (DAP 5.6.0, Status message).
+/// Takes no memory.
+pub fn invalid(message_type: u8) -> u16
+    ensures { result ≡ codes.invalid message_type }
+{
+    INVALID + TYPE_UNIT * u16::from(message_type)
+}
+
+/// The STSCODE where a message of this type has no place in the exchange: MACCODE 10, with the type as MICCODE (own).
+/// Takes no memory.
+pub fn out_of_place(message_type: u8) -> u16
+    ensures { result ≡ codes.out_of_place message_type }
+{
+    OUT_OF_PLACE + u16::from(message_type)
+}
+
+/// The STSCODE where no message of this type can be read: MACCODE 8 (DAP 5.6.0, Status message).
+pub(crate) fn malformed(message_type: u8) -> u16
+    ensures { result ≡ codes.status_code_for message_type }
+{
+    if message_type <= GREATEST_TYPE {
+        MALFORMED + TYPE_UNIT * u16::from(message_type)
+    } else {
+        MALFORMED
+    }
+}
+
+/// A law: the constants are the numbers that the definitions name (own).
+pub fn names_the_numbers()
+    ensures config { TYPE_CONFIGURATION ≡ codes.type_configuration }
+    ensures attributes { TYPE_ATTRIBUTES ≡ codes.type_attributes }
+    ensures access { TYPE_ACCESS ≡ codes.type_access }
+    ensures control { TYPE_CONTROL ≡ codes.type_control }
+    ensures continuing { TYPE_CONTINUE ≡ codes.type_continue }
+    ensures acknowledge { TYPE_ACKNOWLEDGE ≡ codes.type_acknowledge }
+    ensures complete { TYPE_COMPLETE ≡ codes.type_complete }
+    ensures data { TYPE_DATA ≡ codes.type_data }
+    ensures status { TYPE_STATUS ≡ codes.type_status }
+    ensures greatest { GREATEST_TYPE ≡ codes.greatest_type }
+    ensures open { ACCFUNC_OPEN ≡ codes.accfunc_open }
+    ensures create { ACCFUNC_CREATE ≡ codes.accfunc_create }
+    ensures get { CTLFUNC_GET ≡ codes.ctlfunc_get }
+    ensures connect { CTLFUNC_CONNECT ≡ codes.ctlfunc_connect }
+    ensures update { CTLFUNC_UPDATE ≡ codes.ctlfunc_update }
+    ensures put { CTLFUNC_PUT ≡ codes.ctlfunc_put }
+    ensures delete { CTLFUNC_DELETE ≡ codes.ctlfunc_delete }
+    ensures rewind { CTLFUNC_REWIND ≡ codes.ctlfunc_rewind }
+    ensures sequential { RAC_SEQUENTIAL ≡ codes.rac_sequential }
+    ensures keyed { RAC_KEYED ≡ codes.rac_keyed }
+    ensures address { RAC_ADDRESS ≡ codes.rac_address }
+    ensures whole_file { RAC_WHOLE_FILE ≡ codes.rac_whole_file }
+    ensures again { CONFUNC_AGAIN ≡ codes.confunc_again }
+    ensures skip { CONFUNC_SKIP ≡ codes.confunc_skip }
+    ensures abort { CONFUNC_ABORT ≡ codes.confunc_abort }
+    ensures resume { CONFUNC_RESUME ≡ codes.confunc_resume }
+    ensures close { CMPFUNC_CLOSE ≡ codes.cmpfunc_close }
+    ensures response { CMPFUNC_RESPONSE ≡ codes.cmpfunc_response }
+    ensures purge { CMPFUNC_PURGE ≡ codes.cmpfunc_purge }
+    ensures end_of_stream { CMPFUNC_END_OF_STREAM ≡ codes.cmpfunc_end_of_stream }
+    ensures skip_rest { CMPFUNC_SKIP ≡ codes.cmpfunc_skip }
+    ensures org_sequential { ORG_SEQUENTIAL ≡ codes.org_sequential }
+    ensures org_relative { ORG_RELATIVE ≡ codes.org_relative }
+    ensures rfm_fixed { RFM_FIXED ≡ codes.rfm_fixed }
+    ensures rfm_variable { RFM_VARIABLE ≡ codes.rfm_variable }
+    ensures success_kind { MACCODE_SUCCESS ≡ codes.maccode_success }
+    ensures success { SUCCESS ≡ codes.success }
+    ensures file_not_found { FILE_NOT_FOUND ≡ codes.file_not_found }
+    ensures access_refused { ACCESS_REFUSED ≡ codes.access_refused }
+    ensures record_refused { RECORD_REFUSED ≡ codes.record_refused }
+    ensures end_of_file { END_OF_FILE ≡ codes.end_of_file }
+{}
+
+/// Why an operation is refused (own): the one byte of STV beside [`ACCESS_REFUSED`] and [`RECORD_REFUSED`].
+#[derive(Clone, Copy, Debug, PartialEq, Eq)]
+pub enum Reason {
+    /// There is a file of the name.
+    FileExists,
+    /// The file was not opened for the operation.
+    NotPermitted,
+    /// No record is current.
+    NoCurrent,
+    /// There is no record of the number.
+    RecordNotFound,
+    /// There is a record of the number.
+    RecordExists,
+    /// No record may have the number.
+    NumberOutOfRange,
+    /// No record of the file may have this length.
+    BadLength,
+    /// The file's records are not found so.
+    BadAccessMode,
+    /// Nothing is removed from a file of this organization.
+    DeleteNotAllowed,
+    /// The record's Data message is longer than the peer takes.
+    TooLargeForBuffer,
+    /// No file has these attributes.
+    BadAttributes,
+    /// The key is no number.
+    BadKey,
+}
+
+impl Reason {
+    /// The byte that stands for the reason, 1 to 12 (own). Takes no memory.
+    pub fn number(self) -> u8
+        ensures { result ≡ codes.reason_number self }
+    {
+        match self {
+            Reason::FileExists => 1,
+            Reason::NotPermitted => 2,
+            Reason::NoCurrent => 3,
+            Reason::RecordNotFound => 4,
+            Reason::RecordExists => 5,
+            Reason::NumberOutOfRange => 6,
+            Reason::BadLength => 7,
+            Reason::BadAccessMode => 8,
+            Reason::DeleteNotAllowed => 9,
+            Reason::TooLargeForBuffer => 10,
+            Reason::BadAttributes => 11,
+            Reason::BadKey => 12,
+        }
+    }
+}

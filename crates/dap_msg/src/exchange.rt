@@ -1,0 +1,119 @@
+//! What both ends say of limits and numbers, and the messages that both of them write.
+
+ghost use Rattle.std.specs.Prelude.{◌≡◌, ◌≤◌, ◌<◌, ◌^◌, length};
+ghost use Rattle.dap_msg.specs.Message.{seen, seen_attributes};
+ghost use Rattle.dap_msg.specs.Exchange as exchange;
+
+use crate::message::{Attributes, Message};
+
+/// The longest message that any end takes, in bytes (own).
+pub const GREATEST_MESSAGE: u16 = 65535;
+
+/// The least BUFSIZ, in bytes, but for 0, which sets no limit (own).
+pub const LEAST_BUFFER: u16 = 64;
+
+/// OSTYPE, FILESYS and the version of the protocol, as each end tells them in its Config (own).
+const OSTYPE: u8 = 7;
+
+const FILESYS: u8 = 3;
+
+const VERNUM: u8 = 5;
+
+const ECONUM: u8 = 6;
+
+/// A law: the limits are those that the definitions name (own).
+pub fn names_the_limits()
+    ensures greatest { GREATEST_MESSAGE ≡ exchange.greatest_message }
+    ensures least { LEAST_BUFFER ≡ exchange.least_buffer }
+{}
+
+/// Whether a BUFSIZ, in bytes, is too small for the exchange: 1 to 63 (own). Takes no memory.
+pub fn is_too_small(bufsiz: u16) -> bool
+    ensures { result ≡ exchange.is_too_small bufsiz }
+{
+    bufsiz > 0 && bufsiz < LEAST_BUFFER
+}
+
+/// How long a message, in bytes, an end takes that has this BUFSIZ: as long as any where that is 0 (DAP 5.6.0,
+/// Configuration message). Takes no memory.
+pub fn limit_of(bufsiz: u16) -> u16
+    ensures { result ≡ exchange.limit_of bufsiz }
+{
+    if bufsiz == 0 {
+        GREATEST_MESSAGE
+    } else {
+        bufsiz
+    }
+}
+
+/// The number that an image of at most 8 bytes stands for, the least byte first; 0 where it is empty (DAP 5.6.0,
+/// message format notation, an image field). Takes no memory.
+pub fn number_of(image: &[u8]) -> u64
+    requires { length image.now ≤ 8 }
+    ensures exact { result ≡ exchange.number_of image.now }
+    ensures small { result < 256 ^ length image.now }
+{
+    dap_fields::number_of(image)
+}
+
+impl<'a> Attributes<'a> {
+    /// Attributes with no field (DAP 5.6.0, Attributes message). Takes no memory.
+    pub fn none() -> Attributes<'a>
+        ensures { seen_attributes result ≡ exchange.no_attributes }
+    {
+        Attributes {
+            datatype: None,
+            org: None,
+            rfm: None,
+            rat: None,
+            bls: None,
+            mrs: None,
+            alq: None,
+            bks: None,
+            fsz: None,
+            mrn: None,
+            runsys: None,
+            deq: None,
+            fop: None,
+            bsz: None,
+            dev: None,
+            sdc: None,
+            lrl: None,
+            hbk: None,
+            ebk: None,
+            ffb: None,
+            sbn: None,
+        }
+    }
+}
+
+impl<'a> Message<'a> {
+    /// The Config that each end sends, with its BUFSIZ in bytes (DAP 5.6.0, Configuration message; its values are
+    /// own). Takes no memory.
+    pub fn config_of(bufsiz: u16) -> Message<'a>
+        ensures { seen result ≡ exchange.config_of bufsiz }
+    {
+        Message::Config {
+            bufsiz,
+            ostype: OSTYPE,
+            filesys: FILESYS,
+            vernum: VERNUM,
+            econum: ECONUM,
+            usrnum: 0,
+            softver: 0,
+            usrsoft: 0,
+            syscap: 0,
+        }
+    }
+
+    /// An Access Complete with this CMPFUNC and nothing else (DAP 5.6.0, Access Complete message). Takes no memory.
+    pub fn complete_with(func: u8) -> Message<'a>
+        ensures { seen result ≡ exchange.complete_with func }
+    {
+        Message::Accomp {
+            func,
+            fop: 0,
+            check: None,
+        }
+    }
+}
