@@ -2,7 +2,7 @@
 use Rattle.std.proofs.Common.{◌≡◌, ◌⊎◌, ℕ, ◌<◌, List, Result, Ok, Err, get_or, refl, arith, inl, inr}
 use Rattle.nsp_seg.specs.declared.packet.SegFault.{SegFault}
 use Rattle.nsp_seg.specs.Packets.{PacketValue, Spells, Fits, HasFault, spelling}
-use Rattle.nsp_seg.specs.Reading.{read}
+use Rattle.nsp_seg.specs.Inner.Reading.{read}
 use Rattle.nsp_seg.proofs.Spelled.{read-spelled}
 use Rattle.nsp_seg.proofs.Found.{read_found}
 use Rattle.nsp_seg.proofs.Faults.{read_fault, IsBytes}

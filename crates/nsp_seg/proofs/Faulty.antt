@@ -4,7 +4,7 @@ use Rattle.std.proofs.lemmas.Bool.{lt-ltb, le-ltb, ne_eqb, cases_Bool}
 use Rattle.nsp_seg.specs.declared.packet.SegFault.{SegFault}
 use Rattle.nsp_seg.specs.declared.packet.SegFault.TheVariants.{Truncated, Trailing, NotHere, BadNumber, NoMemory}
 use Rattle.nsp_seg.specs.Packets.{PacketValue, HasFault, IsUsedFlag, IsSegmentFlag, IsAckFlag, IsFieldDue, IsShort, MayNotFollow, MayNotBeNumber}
-use Rattle.nsp_seg.specs.Reading.{tail_of, segment_of, second_of, data_ack_of, read, Gives}
+use Rattle.nsp_seg.specs.Inner.Reading.{tail_of, segment_of, second_of, data_ack_of, read, Gives}
 use Rattle.nsp_seg.proofs.Faults.{IsBytes, high_word, low_word, is_segment, used_of}
 
 read-segment : (flag : ℕ) (rest : List ℕ) → IsSegmentFlag flag → read (flag ∷ rest) ≡ segment_of flag rest

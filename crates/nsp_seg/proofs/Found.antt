@@ -7,7 +7,7 @@ use Rattle.nsp_seg.specs.declared.packet.AckField.{AckField}
 use Rattle.nsp_seg.specs.declared.packet.SegFault.{SegFault}
 use Rattle.nsp_seg.specs.Numbers.{residue}
 use Rattle.nsp_seg.specs.Packets.{PacketValue, Spells, AckFits, Beside, optional_ack, marks, IsSegmentFlag}
-use Rattle.nsp_seg.specs.Reading.{◌>>=◌, tail_of, segment_of, second_of, data_ack_of, read, Gives}
+use Rattle.nsp_seg.specs.Inner.Reading.{◌>>=◌, tail_of, segment_of, second_of, data_ack_of, read, Gives}
 use Rattle.nsp_seg.proofs.Faults.{IsBytes, high_word, low_word, is_segment, used_of}
 
 low_cell : (low high : ℕ) → low < 256 → high < 256 → (low + 256 * high) % 256 ≡ low

@@ -6,7 +6,7 @@ use Rattle.std.proofs.lemmas.Bool.{lt-ltb}
 use Rattle.nsp_seg.specs.declared.packet.AckField.{AckField}
 use Rattle.nsp_seg.specs.declared.packet.SegFault.{SegFault}
 use Rattle.nsp_seg.specs.Packets.{PacketValue, segment, data_ack, AckFits, Beside, Spells, ack_bytes, optional_ack, marks}
-use Rattle.nsp_seg.specs.Reading.{Gives, tail_of, segment_of, second_of, data_ack_of, read}
+use Rattle.nsp_seg.specs.Inner.Reading.{Gives, tail_of, segment_of, second_of, data_ack_of, read}
 use Rattle.nsp_seg.proofs.Words.{word_back, ack_word-above, ack_word-qual, ack_word-number, ack_word-high, free-number}
 
 pub tail_of-spelled : (a b : Option AckField) (word : ℕ) (payload : List ℕ) → IfSome a AckFits → IfSome b AckFits → Beside a b → word < 0x8000 → tail_of (optional_ack a ++ optional_ack b ++ to_le_bytes w16 word ++ payload) ≡ Ok (a, b, word, payload)

@@ -1,5 +1,5 @@
 -- The packets that are used here, byte by byte: data segments and data acknowledgements.
-use Rattle.std.specs.Prelude.{◌≡◌, ℕ, ◌+◌, ◌*◌, ◌<◌, ◌≤◌, ◌^◌, Bool, ◌⊎◌, List, [], ◌∷◌, ◌++◌, length, Option, Some, None, IfSome, if◌then◌else◌}
+use Rattle.std.specs.Prelude.{◌≡◌, ℕ, ◌+◌, ◌*◌, ◌<◌, ◌≤◌, ◌^◌, Bool, ◌⊎◌, List, [], ◌∷◌, ◌++◌, length, slice_index, Option, Some, None, IfSome, if◌then◌else◌}
 use Rattle.std.specs.Int.{w16, to_le_bytes}
 use Rattle.nsp_seg.specs.declared.packet.AckField.{AckField}
 use Rattle.nsp_seg.specs.declared.packet.Packet.{Packet}
@@ -36,6 +36,9 @@ view (packet.Segment first last dst src ack1 ack2 number payload) =
 view (packet.DataAck dst src ack1 ack2) = data_ack (record { dst = dst; src = src; ack1 = ack1; ack2 = ack2 })
 
 -- ---- spelling
+
+abbrev pub AreBytes : List ℕ → Type 0
+AreBytes bytes = (i : ℕ) → slice_index bytes i < 256
 
 -- the first byte of a segment: 0x20 marks the first of a message, 0x40 the last
 abbrev pub marks : Bool → Bool → ℕ

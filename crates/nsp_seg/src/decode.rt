@@ -2,9 +2,11 @@
 
 ghost use Rattle.std.specs.Prelude.{◌≡◌, Err, IsOkAnd, IfOk, IfErr};
 ghost use Rattle.nsp_seg.specs.Packets.{PacketValue, Spells, HasFault, view};
-ghost use Rattle.nsp_seg.specs.Reading.{Gives, word_at, ack_of, tail_of, segment_of, second_of, data_ack_of, read};
+ghost use Rattle.nsp_seg.specs.Inner.Reading.{Gives, word_at, ack_of, tail_of, segment_of, second_of, data_ack_of, read};
 
-use crate::packet::{AckField, Packet, SegFault};
+use crate::packet::{
+    ACK_FIELD, AckField, FIRST, FlagKind, LAST, Packet, QUAL_UNIT, SegFault, flag_kind,
+};
 use crate::seq12::Seq12;
 use byteorder::{ByteOrder, LittleEndian};
 
@@ -23,11 +25,11 @@ fn take_word(bytes: &[u8], at: usize) -> Result<(u16, &[u8]), SegFault>
 fn ack_field(word: u16) -> Option<AckField>
     ensures { result ≡ ack_of word }
 {
-    if word < 0x8000 {
+    if word < ACK_FIELD {
         return None;
     }
     Some(AckField {
-        qual: (word / 4096 % 8) as u8,
+        qual: (word / QUAL_UNIT % 8) as u8,
         number: Seq12::of(u64::from(word)),
     })
 }
@@ -36,26 +38,26 @@ fn ack_field(word: u16) -> Option<AckField>
 // of a segment.
 type Tail<'a> = (Option<AckField>, Option<AckField>, u16, &'a [u8]);
 
-#[tactic(auto, unfolding(crate::specs::Reading::tail_of))]
+#[tactic(auto, unfolding(crate::specs::Inner::Reading::tail_of))]
 fn take_tail(bytes: &[u8]) -> Result<Tail<'_>, SegFault>
     ensures { Gives (λ t. (t.0, t.1, t.2, t.3.now)) result (tail_of bytes.now) }
 {
     let (one, rest) = take_word(bytes, 5)?;
-    if one < 0x8000 {
+    if one < ACK_FIELD {
         return Ok((None, None, one, rest));
     }
     let (two, rest) = take_word(rest, 7)?;
-    if two < 0x8000 {
+    if two < ACK_FIELD {
         return Ok((ack_field(one), None, two, rest));
     }
     let (three, rest) = take_word(rest, 9)?;
-    if three < 0x8000 {
+    if three < ACK_FIELD {
         return Ok((ack_field(one), ack_field(two), three, rest));
     }
     Err(SegFault::BadNumber(9))
 }
 
-#[tactic(auto, unfolding(crate::specs::Reading::segment_of))]
+#[tactic(auto, unfolding(crate::specs::Inner::Reading::segment_of))]
 fn segment(flag: u8, bytes: &[u8]) -> Result<Packet<'_>, SegFault>
     ensures { Gives view result (segment_of flag bytes.now) }
 {
@@ -66,8 +68,8 @@ fn segment(flag: u8, bytes: &[u8]) -> Result<Packet<'_>, SegFault>
         Err(fault) => return Err(fault),
     };
     Ok(Packet::Segment {
-        first: flag == 0x20 || flag == 0x60,
-        last: flag == 0x40 || flag == 0x60,
+        first: flag == FIRST || flag == FIRST + LAST,
+        last: flag == LAST || flag == FIRST + LAST,
         dst,
         src,
         ack1,
@@ -78,20 +80,20 @@ fn segment(flag: u8, bytes: &[u8]) -> Result<Packet<'_>, SegFault>
 }
 
 // What follows the first field of an acknowledgement, from offset 7 on.
-#[tactic(auto, unfolding(crate::specs::Reading::second_of))]
+#[tactic(auto, unfolding(crate::specs::Inner::Reading::second_of))]
 fn second_ack(bytes: &[u8]) -> Result<Option<AckField>, SegFault>
     ensures { Gives (λ a. a) result (second_of bytes.now) }
 {
     match bytes {
         [] => Ok(None),
         [_] => Err(SegFault::Trailing(7)),
-        [low, high] if *high >= 0x80 => Ok(ack_field(u16::from(*low) + 256 * u16::from(*high))),
+        [_, high] if *high >= 0x80 => Ok(ack_field(LittleEndian::read_u16(bytes))),
         [_, high, ..] if *high >= 0x80 => Err(SegFault::Trailing(9)),
         _ => Err(SegFault::Trailing(7)),
     }
 }
 
-#[tactic(auto, unfolding(crate::specs::Reading::data_ack_of))]
+#[tactic(auto, unfolding(crate::specs::Inner::Reading::data_ack_of))]
 fn data_ack(bytes: &[u8]) -> Result<Packet<'_>, SegFault>
     ensures { Gives view result (data_ack_of bytes.now) }
 {
@@ -110,15 +112,15 @@ fn data_ack(bytes: &[u8]) -> Result<Packet<'_>, SegFault>
     })
 }
 
-#[tactic(auto, unfolding(crate::specs::Reading::read))]
+#[tactic(auto, unfolding(crate::specs::Inner::Reading::read))]
 fn packet(bytes: &[u8]) -> Result<Packet<'_>, SegFault>
     ensures { Gives view result (read bytes.now) }
 {
     match bytes {
         [] => Err(SegFault::Truncated(0)),
-        [flag, rest @ ..] => match *flag {
-            0x00 | 0x20 | 0x40 | 0x60 => segment(*flag, rest),
-            0x04 => data_ack(rest),
+        [flag, rest @ ..] => match flag_kind(*flag) {
+            FlagKind::Segment => segment(*flag, rest),
+            FlagKind::DataAck => data_ack(rest),
             _ => Err(SegFault::NotHere(*flag)),
         },
     }

@@ -5,7 +5,7 @@ ghost use Rattle.std.specs.Int.{w16, to_le_bytes};
 ghost use Rattle.nsp_seg.specs.Packets.{view, spelling, Fits, AckFits, IsWritable, optional_ack, ack_bytes, QualFits};
 ghost use Rattle.nsp_seg.specs.declared.packet.SegFault.TheVariants.{NoMemory};
 
-use crate::packet::{AckField, Packet, SegFault};
+use crate::packet::{ACK_FIELD, AckField, DATA_ACK, FIRST, LAST, Packet, QUAL_UNIT, SegFault};
 use byteorder::{ByteOrder, LittleEndian};
 
 // Appends a two-byte number, for which there is room.
@@ -31,7 +31,7 @@ fn put_ack(out: &mut Vec<u8>, ack: AckField)
 {
     put_word(
         out,
-        0x8000 + 0x1000 * u16::from(ack.qual) + ack.number.get(),
+        ACK_FIELD + QUAL_UNIT * u16::from(ack.qual) + ack.number.get(),
     );
 }
 
@@ -76,6 +76,7 @@ fn put_packet(out: &mut Vec<u8>, packet: &Packet<'_>)
     requires writable { IsWritable (view packet.now) }
     requires room { vec_len out.old + length (spelling (view packet.now)) ≤ vec_capacity out.old }
     ensures items { out.new.items ≡ out.old.items ++ spelling (view packet.now) }
+    ensures capacity { vec_capacity out.old ≤ vec_capacity out.new }
     ensures fits { Fits (view packet.now) }
 {
     match packet {
@@ -89,7 +90,7 @@ fn put_packet(out: &mut Vec<u8>, packet: &Packet<'_>)
             number,
             payload,
         } => {
-            out.push_reserved(if *first { 0x20 } else { 0 } + if *last { 0x40 } else { 0 });
+            out.push_reserved(if *first { FIRST } else { 0 } + if *last { LAST } else { 0 });
             put_word(out, *dst);
             put_word(out, *src);
             put_optional_ack(out, *ack1);
@@ -103,7 +104,7 @@ fn put_packet(out: &mut Vec<u8>, packet: &Packet<'_>)
             ack1,
             ack2,
         } => {
-            out.push_reserved(0x04);
+            out.push_reserved(DATA_ACK);
             put_word(out, *dst);
             put_word(out, *src);
             put_ack(out, *ack1);
@@ -115,14 +116,17 @@ fn put_packet(out: &mut Vec<u8>, packet: &Packet<'_>)
 /// Appends the packet's bytes; the free bits of a segment's number are written 0 (own). The caller sees
 /// to it that each qualifier is at most 7, and that a second acknowledgement field stands only beside a
 /// first. It is refused for want of memory alone, which leaves `out` as it was, and never where `out`
-/// has the room already (NSP 4.0.0, data segment message and data acknowledgement message).
+/// has the room already; no room is given back (NSP 4.0.0, data segment message and data
+/// acknowledgement message).
 pub fn encode_packet(packet: &Packet<'_>, out: &mut Vec<u8>) -> Result<(), SegFault>
     requires { IsWritable (view packet.now) }
     ensures ok { OnOk result (out.new.items ≡ out.old.items ++ spelling (view packet.now)) }
     ensures fits { OnOk result (Fits (view packet.now)) }
     ensures err { OnErr result (out.new.items ≡ out.old.items) }
     ensures fault { IsOkUnless result NoMemory }
-    ensures room { vec_len out.old + length (spelling (view packet.now)) ≤ vec_capacity out.old → IsOk result }
+    ensures room { vec_len out.old + length (spelling (view packet.now)) ≤ vec_capacity out.old
+        → IsOk result }
+    ensures capacity { vec_capacity out.old ≤ vec_capacity out.new }
 {
     out.reserve(packet_len(packet))?;
     put_packet(out, packet);

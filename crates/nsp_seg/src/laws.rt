@@ -1,27 +1,27 @@
 //! Laws of the definitions, for whoever keeps packets as bytes and numbers as counts.
 
-ghost use Rattle.std.specs.Prelude.{◌≡◌, ◌+◌, ◌-◌, ◌<◌, ◌⊎◌, ℕ, List, slice_index};
+ghost use Rattle.std.specs.Prelude.{◌≡◌, ◌+◌, ◌-◌, ◌<◌, ◌⊎◌, ℕ, List};
 ghost use Rattle.nsp_seg.specs.declared.packet.SegFault.{SegFault};
 ghost use Rattle.nsp_seg.specs.Numbers.{residue, distance};
-ghost use Rattle.nsp_seg.specs.Packets.{PacketValue, Spells, Fits, HasFault, spelling};
+ghost use Rattle.nsp_seg.specs.Packets.{PacketValue, Spells, Fits, AreBytes, HasFault, spelling};
 
 /// Bytes spell one packet or have one fault, never both; and what is written of a packet whose values
 /// fit spells that packet and no other. So what `encode_packet` appended is read back by
-/// `decode_packet`.
+/// `decode_packet` (own).
 pub fn packets_are_exact()
-    ensures some { (bytes : List ℕ) → ((i : ℕ) → slice_index bytes i < 256)
+    ensures some { (bytes : List ℕ) → AreBytes bytes
         → ((p : PacketValue) × Spells p bytes) ⊎ ((f : SegFault) × HasFault f bytes) }
     ensures one { (p q : PacketValue) (bytes : List ℕ) → Spells p bytes → Spells q bytes → p ≡ q }
-    ensures one_fault { (f g : SegFault) (bytes : List ℕ) → ((i : ℕ) → slice_index bytes i < 256)
+    ensures one_fault { (f g : SegFault) (bytes : List ℕ) → AreBytes bytes
         → HasFault f bytes → HasFault g bytes → f ≡ g }
-    ensures apart { (p : PacketValue) (f : SegFault) (bytes : List ℕ) → ((i : ℕ) → slice_index bytes i < 256)
+    ensures apart { (p : PacketValue) (f : SegFault) (bytes : List ℕ) → AreBytes bytes
         → Spells p bytes → HasFault f bytes → ⊥ }
     ensures written { (p : PacketValue) → Fits p → Spells p (spelling p) }
     ensures read_back { (p q : PacketValue) → Fits p → Spells q (spelling p) → q ≡ p }
 {}
 
 /// Numbers that go round: `ahead_of` of two residues is the distance of the whole numbers, and two
-/// numbers less than 4,096 apart with equal residues are equal.
+/// numbers less than 4,096 apart with equal residues are equal (own).
 pub fn residues_separate()
     ensures ahead { (x y : ℕ) → residue (residue x + 4096 - residue y) ≡ distance x y }
     ensures apart { (x y : ℕ) → x < y + 4096 → y < x + 4096 → residue x ≡ residue y → x ≡ y }

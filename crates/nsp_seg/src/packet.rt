@@ -7,6 +7,17 @@ ghost use Rattle.nsp_seg.specs.Flags.{flag_kind_of};
 use crate::seq12::Seq12;
 use std::alloc::AllocError;
 
+/// The first byte of a data acknowledgement (NSP 4.0.0, MSGFLG).
+pub(crate) const DATA_ACK: u8 = 0x04;
+/// In the first byte of a data segment: it is the first of its message, and the last.
+pub(crate) const FIRST: u8 = 0x20;
+
+pub(crate) const LAST: u8 = 0x40;
+/// From this number on a two-byte number is an acknowledgement field, since its bit 15 is set.
+pub(crate) const ACK_FIELD: u16 = 0x8000;
+/// What QUAL counts in an acknowledgement field, the number standing below it.
+pub(crate) const QUAL_UNIT: u16 = 0x1000;
+
 /// An acknowledgement field (NSP 4.0.0, data acknowledgement message).
 #[derive(Clone, Copy, Debug, PartialEq, Eq)]
 pub struct AckField {
@@ -87,13 +98,13 @@ pub enum FlagKind {
     Unknown,
 }
 
-/// What a packet with this first byte is, for listings (NSP 4.0.0, message formats).
+/// What a packet with this first byte is (NSP 4.0.0, message formats). Takes no memory.
 pub fn flag_kind(flag: u8) -> FlagKind
     ensures { result ≡ flag_kind_of flag }
 {
     match flag {
         0x00 | 0x20 | 0x40 | 0x60 => FlagKind::Segment,
-        0x04 => FlagKind::DataAck,
+        DATA_ACK => FlagKind::DataAck,
         0x10 => FlagKind::LinkService,
         0x30 => FlagKind::Interrupt,
         0x14 => FlagKind::OtherAck,

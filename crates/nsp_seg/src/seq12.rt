@@ -9,6 +9,9 @@ use std::marker::Model;
 #[derive(Clone, Copy, Debug, PartialEq, Eq)]
 pub struct Seq12(u16);
 
+/// So many numbers there are.
+const ROUND: u16 = 4096;
+
 impl Model for Seq12 {
     ghost use Rattle.std.specs.Prelude.{ℕ, ◌<◌};
 
@@ -22,15 +25,15 @@ impl Model for Seq12 {
 }
 
 impl Seq12 {
-    /// The number modulo 4,096.
+    /// The number modulo 4,096 (NSP 4.0.0, segment numbers). Takes no memory.
     #[tactic(auto, unfolding(crate::specs::Numbers::residue))]
     pub fn of(number: u64) -> Seq12
         ensures { result ≡ residue number }
     {
-        Seq12((number % 4096) as u16)
+        Seq12((number % u64::from(ROUND)) as u16)
     }
 
-    /// The number itself.
+    /// The number itself, below 4,096 (NSP 4.0.0, segment numbers). Takes no memory.
     pub fn get(self) -> u16
         ensures value { result ≡ self }
         ensures small { result < 4096 }
@@ -38,20 +41,21 @@ impl Seq12 {
         self.0
     }
 
-    /// The number that follows: 0 after 4,095.
+    /// The number that follows: 0 after 4,095 (NSP 4.0.0, segment numbers). Takes no memory.
     #[tactic(auto, unfolding(crate::specs::Numbers::residue))]
     pub fn after(self) -> Seq12
         ensures { result ≡ residue (self + 1) }
     {
-        Seq12((self.0 + 1) % 4096)
+        Seq12((self.0 + 1) % ROUND)
     }
 
-    /// How far this number is ahead of the other, going round: this one minus the other, modulo 4,096.
+    /// How far this number is ahead of the other, going round: this one minus the other, modulo 4,096 (own). Takes no
+    /// memory.
     #[tactic(auto, unfolding(crate::specs::Numbers::residue))]
     pub fn ahead_of(self, other: Seq12) -> u16
         ensures ahead { result ≡ residue (self + 4096 - other) }
         ensures small { result < 4096 }
     {
-        (self.0 + 4096 - other.0) % 4096
+        (self.0 + ROUND - other.0) % ROUND
     }
 }

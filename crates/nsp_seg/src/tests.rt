@@ -148,43 +148,6 @@ fn second_field_of_an_acknowledgement(rt: HostRuntime) {
     );
 }
 
-// Whether the bytes are answered, and not by want of memory.
-fn is_answered(bytes: &[u8]) -> bool {
-    fault_of(bytes) != Some(SegFault::NoMemory)
-}
-
-#[test]
-fn cut_and_changed_bytes(rt: HostRuntime) {
-    for len in 0..ONLY_SEGMENT.len() {
-        assert!(rt; is_answered(&ONLY_SEGMENT[..len]));
-        let is_whole = len >= 9;
-        assert_eq!(rt;
-            fault_of(&ONLY_SEGMENT[..len]).is_none(),
-            is_whole,
-            "cut to {len}"
-        );
-    }
-    for len in 0..ACKNOWLEDGEMENT.len() {
-        let fault = fault_of(&ACKNOWLEDGEMENT[..len]);
-        let at = if len == 0 { 0 } else { len - (len + 1) % 2 };
-        assert_eq!(rt; fault, Some(SegFault::Truncated(at)), "cut to {len}");
-    }
-    for at in 0..ONLY_SEGMENT.len() {
-        for change in 1..=255 {
-            let mut bytes = ONLY_SEGMENT;
-            bytes[at] ^= change;
-            assert!(rt; is_answered(&bytes));
-        }
-    }
-    for at in 0..ACKNOWLEDGEMENT.len() {
-        for change in 1..=255 {
-            let mut bytes = ACKNOWLEDGEMENT;
-            bytes[at] ^= change;
-            assert!(rt; is_answered(&bytes));
-        }
-    }
-}
-
 #[test]
 fn kinds_of_first_bytes(rt: HostRuntime) {
     for (flag, kind) in [

@@ -1,5 +1,4 @@
--- Reading a packet from left to right, with the first fault that is met: what the private readers compute.
--- What callers are promised is in Packets.
+-- Reading a packet from left to right, with the first fault that is met. What callers are promised is in Packets.
 use Rattle.std.specs.Prelude.{◌≡◌, ℕ, ◌+◌, ◌*◌, ◌/◌, ◌%◌, List, [], ◌∷◌, Option, Some, None, Result, Ok, Err, nat_lt, ◌==◌, ◌||◌, if◌then◌else◌}
 use Rattle.nsp_seg.specs.declared.packet.AckField.{AckField}
 use Rattle.nsp_seg.specs.declared.packet.SegFault.{SegFault}
