@@ -8,7 +8,7 @@ use Rattle.std.proofs.lemmas.List.{drop_all, length-append, length-drop, length-
 use Rattle.nsp_link.specs.declared.segment.Held.{Held}
 use Rattle.nsp_link.specs.Cutting.{Piece}
 use Rattle.nsp_link.specs.Holding.{AreHeld, following, inserted, Lacks}
-use Rattle.nsp_link.specs.Pieces.{held_from, held_piece, leading}
+use Rattle.nsp_link.specs.Inner.Pieces.{held_from, held_piece, leading}
 use Rattle.nsp_link.proofs.Taking.{AreNext}
 
 -- ---- bounds

@@ -8,7 +8,7 @@ use Rattle.nsp_link.specs.Cutting.{Piece}
 use Rattle.nsp_link.specs.Coming.{Coming, taken_all, AllFit, RefusesAll}
 use Rattle.nsp_link.specs.Holding.{following, inserted}
 use Rattle.nsp_link.specs.Link.{LinkValue, Keeps, coming}
-use Rattle.nsp_link.specs.Pieces.{held_from, held_piece, leading}
+use Rattle.nsp_link.specs.Inner.Pieces.{held_from, held_piece, leading}
 use Rattle.nsp_link.specs.Receiving.{run, closed, kept, coming_link}
 use Rattle.nsp_link.proofs.Held.{held_put, held_there, held_lacks, ring_follows, ring_closed}
 

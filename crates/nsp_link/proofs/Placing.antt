@@ -10,7 +10,7 @@ use Rattle.nsp_seg.specs.Packets.{PacketValue, segment}
 use Rattle.nsp_link.specs.Link.{LinkValue, IsSpelling}
 use Rattle.nsp_link.specs.Sending.{acknowledged, segment_packet}
 use Rattle.nsp_link.specs.Cutting.{Piece}
-use Rattle.nsp_link.specs.Pieces.{piece, pieces}
+use Rattle.nsp_link.specs.Inner.Pieces.{piece, pieces}
 
 pub if_ok_map : {X E : Type 0} (r : Result X E) (P Q : X → Type 0) → IfOk r P → ((x : X) → P x → Q x) → IfOk r Q
 if_ok_map (Ok x) P Q h f = f x h

@@ -5,7 +5,7 @@ use Rattle.nsp_link.specs.declared.fault.LinkFault.{LinkFault}
 use Rattle.nsp_link.specs.declared.fault.LinkFault.TheVariants.{BadSetup, Malformed, WrongLink, BadSequence, MessageTooLong, Failed, Exhausted, NoSuchSegment, NoMemory}
 use Rattle.nsp_link.specs.Cutting.{Piece}
 use Rattle.nsp_link.specs.Coming.{Coming, taken, taken_all, Fits, AllFit, Misfits, MisfitsOne, RefusesAll}
-use Rattle.nsp_link.specs.Pieces.{IsBegun}
+use Rattle.nsp_link.specs.Inner.Pieces.{IsBegun}
 
 -- What was looked at of several segments, and what is left: an end as it would be there.
 pub record Looked (limit : ℕ) (start : Coming) (all : List Piece) (len : Option ℕ) (left : List Piece) : Type 0 where

@@ -3,9 +3,7 @@ pub mod Cutting
 pub mod Coming
 pub mod Inner
 pub mod Holding
-pub mod Pieces
 pub mod Link
-pub mod View
 pub mod Receiving
 pub mod Separation
 pub mod Sending

@@ -73,7 +73,7 @@ impl Model for LinkEnd {
 
     ghost Value = { LinkValue };
 
-    ghost use Rattle.nsp_link.specs.View.{link_view, IsEnd};
+    ghost use Rattle.nsp_link.specs.Inner.View.{link_view, IsEnd};
 
     ghost view = { link_view };
 
@@ -188,7 +188,7 @@ impl LinkEnd {
     ghost use Rattle.nsp_link.specs.declared.fault.LinkFault.TheVariants.{BadSetup, BadSequence, Failed, Exhausted, MessageTooLong, NoMemory, NoSuchSegment};
     ghost use Rattle.nsp_link.specs.Cutting.{Piece, cut, cut_message};
     ghost use Rattle.nsp_link.specs.Limits.{most_segments};
-    ghost use Rattle.nsp_link.specs.Pieces.{bodies};
+    ghost use Rattle.nsp_link.specs.Cutting.{bodies};
     ghost use Rattle.nsp_link.specs.Link.{IsLink, LinkValue, Sends, Stands, SendsStill, SendsMore, StandsStill, MayEmit, Writes, IsSpelling};
     ghost use Rattle.nsp_link.specs.Sending.{WritesQueued, WritesSent, WritesNext, NextFault, segment_packet, ack_packet_of, acknowledged, queued_link, SendFault, SendAllFault, MayQueue, MayQueueAll};
 
@@ -407,7 +407,7 @@ impl LinkEnd {
     ghost use Rattle.nsp_seg.specs.declared.packet.SegFault.{SegFault};
     ghost use Rattle.nsp_seg.specs.Packets.{HasFault};
     ghost use Rattle.nsp_link.specs.Link.{IsLink, LinkValue, IsDue, MayRefuse, got_of, Delivered, Sends, Stands, SendsStill, HandsOut};
-    ghost use Rattle.nsp_link.specs.Pieces.{piece_with};
+    ghost use Rattle.nsp_link.specs.Inner.Pieces.{piece_with};
     ghost use Rattle.nsp_link.specs.Coming.{AllFit};
     ghost use Rattle.nsp_link.specs.Link.{coming, Keeps};
     ghost use Rattle.nsp_link.specs.Receiving.{run, closed, kept, NotTaken, Received};

@@ -1,7 +1,7 @@
 //! Places for early segments: the first is that of the number which is wanted next.
 
 ghost use Rattle.std.specs.Prelude.{◌≡◌, ◌<◌, ◌≤◌, [], ◌∷◌, ◌++◌, ◌+◌, ℕ, Some, None, false, IfOk, IfSome, MatchOption, is_none, length, drop, replicate, slice_get, slice_set};
-ghost use Rattle.nsp_link.specs.Pieces.{held_from, held_piece, leading};
+ghost use Rattle.nsp_link.specs.Inner.Pieces.{held_from, held_piece, leading};
 
 use crate::segment::Held;
 use circular_buffer::HeapCircularBuffer;

@@ -374,109 +374,6 @@ fn counts(end: &LinkEnd) -> (usize, u64, u64, usize, usize) {
     )
 }
 
-// The same call again where memory ran out; a refusal that changed the counts is told as `BadSetup`.
-fn sends(end: &mut LinkEnd, messages: &[Vec<u8>]) -> Result<(), LinkFault> {
-    let before = counts(end);
-    match end.send_all(messages) {
-        Err(LinkFault::NoMemory) if counts(end) == before => end.send_all(messages),
-        Err(LinkFault::NoMemory) => Err(LinkFault::BadSetup),
-        other => other,
-    }
-}
-
-fn sends_one(end: &mut LinkEnd, message: &[u8]) -> Result<(), LinkFault> {
-    let before = counts(end);
-    match end.send(message) {
-        Err(LinkFault::NoMemory) if counts(end) == before => end.send(message),
-        Err(LinkFault::NoMemory) => Err(LinkFault::BadSetup),
-        other => other,
-    }
-}
-
-fn emits(end: &mut LinkEnd) -> Result<Option<Vec<u8>>, LinkFault> {
-    let before = counts(end);
-    match end.next_packet() {
-        Err(LinkFault::NoMemory) if counts(end) == before => end.next_packet(),
-        Err(LinkFault::NoMemory) => Err(LinkFault::BadSetup),
-        other => other,
-    }
-}
-
-fn resends(end: &LinkEnd, place: usize) -> Result<Vec<u8>, LinkFault> {
-    match end.resend(place) {
-        Err(LinkFault::NoMemory) => end.resend(place),
-        other => other,
-    }
-}
-
-fn acknowledges(end: &LinkEnd) -> Result<Vec<u8>, LinkFault> {
-    match end.ack_packet() {
-        Err(LinkFault::NoMemory) => end.ack_packet(),
-        other => other,
-    }
-}
-
-fn receives(end: &mut LinkEnd, packet: &[u8]) -> Result<Got, LinkFault> {
-    let before = counts(end);
-    match end.receive(packet) {
-        Err(LinkFault::NoMemory) if counts(end) == before => end.receive(packet),
-        Err(LinkFault::NoMemory) => Err(LinkFault::BadSetup),
-        other => other,
-    }
-}
-
-fn starts(alloc: Global, setup: LinkSetup) -> Result<LinkEnd, LinkFault> {
-    match LinkEnd::new(alloc, setup) {
-        Err(LinkFault::NoMemory) => LinkEnd::new(alloc, setup),
-        other => other,
-    }
-}
-
-fn bytes_of(alloc: Global, bytes: &[u8]) -> Result<Vec<u8>, LinkFault> {
-    match Vec::from_slice(alloc, bytes) {
-        Ok(vec) => Ok(vec),
-        Err(_) => Ok(Vec::from_slice(alloc, bytes)?),
-    }
-}
-
-#[test]
-fn second_call_after_a_refused_growth(rt: HostRuntime) -> Result<(), Fail> {
-    let mut a = starts(rt.alloc(), LinkSetup { seg_size: 2, ..A })?;
-    let mut b = starts(rt.alloc(), B)?;
-    let both = [
-        bytes_of(rt.alloc(), b"hello")?,
-        bytes_of(rt.alloc(), b"abc")?,
-    ];
-    sends(&mut a, &both)?;
-    sends_one(&mut a, b"z")?;
-    let one = emits(&mut a)?.ok_or("one")?;
-    let two = emits(&mut a)?.ok_or("two")?;
-    let three = emits(&mut a)?.ok_or("three")?;
-    let four = emits(&mut a)?.ok_or("four")?;
-    let five = emits(&mut a)?.ok_or("five")?;
-    assert_eq!(rt; receives(&mut b, &four)?, Got::Early);
-    assert_eq!(rt; receives(&mut b, &two)?, Got::Early);
-    assert_eq!(rt; receives(&mut b, &three)?, Got::Early);
-    assert_eq!(rt; receives(&mut b, &one)?, Got::Accepted);
-    assert_eq!(rt; counts(&b), (0, 0, 4, 2, 0));
-    let ack = acknowledges(&b)?;
-    assert_eq!(rt; receives(&mut a, &ack)?, Got::AckOnly);
-    assert_eq!(rt; a.unacked(), 1);
-    let again = resends(&a, 0)?;
-    assert_eq!(rt; again.as_slice(), five.as_slice());
-    assert_eq!(rt; receives(&mut b, &again)?, Got::Accepted);
-    assert_eq!(rt; receives(&mut b, &five)?, Got::Repeat);
-    let first = b.take_message().ok_or("the first message")?;
-    assert_eq!(rt; first.as_slice(), b"hello".as_slice());
-    let second = b.take_message().ok_or("the second message")?;
-    assert_eq!(rt; second.as_slice(), b"abc".as_slice());
-    let last = emits(&mut a)?.ok_or("the last")?;
-    assert_eq!(rt; receives(&mut b, &last)?, Got::Accepted);
-    let third = b.take_message().ok_or("the third message")?;
-    assert_eq!(rt; third.as_slice(), b"z".as_slice());
-    Ok(())
-}
-
 // A message is begun by its first segment; its third is held, and then the second comes. What the second
 // is answered: the third has another first mark, or makes the message longer than 64 bytes.
 const GAPS: &[(u8, usize, LinkFault)] = &[
@@ -497,17 +394,17 @@ fn third(marks: u8) -> [u8; 9 + 64] {
 }
 
 #[test]
-fn faults_of_a_run_before_memory(rt: HostRuntime) -> Result<(), Fail> {
+fn faults_of_a_run(rt: HostRuntime) -> Result<(), Fail> {
     for (marks, len, fault) in GAPS {
         let setup = LinkSetup {
             max_message: 64,
             ..B
         };
-        let mut b = starts(rt.alloc(), setup)?;
+        let mut b = LinkEnd::new(rt.alloc(), setup)?;
         let first = [0x20, 2, 2, 1, 1, 0, 0x80, 1, 0, 7];
-        assert_eq!(rt; receives(&mut b, &first)?, Got::Accepted);
+        assert_eq!(rt; b.receive(&first)?, Got::Accepted);
         let third = third(*marks);
-        assert_eq!(rt; receives(&mut b, &third[..9 + *len])?, Got::Early);
+        assert_eq!(rt; b.receive(&third[..9 + *len])?, Got::Early);
         let second = [0, 2, 2, 1, 1, 0, 0x80, 2, 0, 8];
         assert_eq!(rt; b.receive(&second), Err(*fault));
         assert_eq!(rt; counts(&b), (0, 0, 1, 1, 1));

@@ -4,7 +4,7 @@ use Rattle.std.specs.Prelude.{slice_range}
 use Rattle.std.proofs.lemmas.Grind.{common_steps}
 use Rattle.nsp_link.specs.declared.segment.Segment.{Segment}
 use Rattle.nsp_link.specs.Cutting.{count_of, cut_message}
-use Rattle.nsp_link.specs.Pieces.{pieces}
+use Rattle.nsp_link.specs.Inner.Pieces.{pieces}
 use Rattle.nsp_link.proofs.Counts.{queued_more, piece_is, starts_within, piece_payload}
 use Rattle.nsp_link.proofs.cutting.queue_message.Goals as goal
 

@@ -1,7 +1,7 @@
 use Rattle.std.proofs.Common.{◌≡◌, ◌+◌, length, drop, refl, ap, arith, subst}
 use Rattle.nsp_link.specs.Cutting.{Piece}
 use Rattle.nsp_link.specs.Coming.{Coming, Fits, taken, Misfits}
-use Rattle.nsp_link.specs.Pieces.{coming_of, leading, held_piece, run_in, IsBegun}
+use Rattle.nsp_link.specs.Inner.Pieces.{coming_of, leading, held_piece, run_in, IsBegun}
 use Rattle.nsp_link.proofs.Placing.{if_err_and}
 use Rattle.nsp_link.proofs.Runs.{looked_first, looked_more, looked_all, misfits_first, misfits_more}
 use Rattle.nsp_link.proofs.incoming.check_run.Goals as goal

@@ -1,6 +1,6 @@
 use Rattle.std.proofs.Common.{◌≡◌, ◌+◌, ◌-◌, ◌≤◌, length, drop}
 use Rattle.std.specs.Prelude.{unwrap_or}
-use Rattle.nsp_link.specs.Pieces.{coming_of, leading, run_in}
+use Rattle.nsp_link.specs.Inner.Pieces.{coming_of, leading, run_in}
 use Rattle.nsp_link.proofs.Runs.{Looked}
 use Rattle.nsp_link.proofs.incoming.check_run.Given as goal
 

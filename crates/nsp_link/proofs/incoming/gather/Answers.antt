@@ -1,6 +1,6 @@
 use Rattle.std.proofs.Common.{◌≡◌, ◌+◌, length, drop, sym, ap, ◌∙◌, arith, true}
 use Rattle.nsp_link.specs.Coming.{Coming, taken, taken_all}
-use Rattle.nsp_link.specs.Pieces.{coming_of, leading, held_piece, run_in}
+use Rattle.nsp_link.specs.Inner.Pieces.{coming_of, leading, held_piece, run_in}
 use Rattle.nsp_link.proofs.Runs.{taken_more, none_taken}
 use Rattle.nsp_link.proofs.incoming.gather.Goals as goal
 

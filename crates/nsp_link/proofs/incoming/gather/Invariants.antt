@@ -1,7 +1,7 @@
 use Rattle.std.proofs.Common.{◌≡◌, ◌+◌, ◌-◌, ◌≤◌, Bool, length, drop}
 use Rattle.nsp_link.specs.Coming.{taken_all}
 use Rattle.nsp_link.specs.Limits.{most_segments}
-use Rattle.nsp_link.specs.Pieces.{coming_of, leading, run_in}
+use Rattle.nsp_link.specs.Inner.Pieces.{coming_of, leading, run_in}
 use Rattle.nsp_link.specs.Inner.Joining.{emptied_of}
 use Rattle.nsp_link.proofs.incoming.gather.Given as goal
 

@@ -1,7 +1,7 @@
 use Rattle.std.proofs.Common.{◌≡◌, length, drop, sym, ap, ◌∙◌, arith}
 use Rattle.nsp_link.specs.Cutting.{Piece}
 use Rattle.nsp_link.specs.Coming.{Coming}
-use Rattle.nsp_link.specs.Pieces.{coming_of, leading, run_in}
+use Rattle.nsp_link.specs.Inner.Pieces.{coming_of, leading, run_in}
 use Rattle.nsp_link.specs.Inner.Joining.{joined}
 use Rattle.nsp_link.proofs.Joining.{joined_run}
 use Rattle.nsp_link.proofs.Runs.{one_taken}

@@ -6,9 +6,9 @@ use Rattle.circular_buffer.proofs.Places.{slice_get-set_other}
 use Rattle.nsp_link.specs.declared.segment.Held.{Held}
 use Rattle.nsp_link.specs.Cutting.{Piece}
 use Rattle.nsp_link.specs.Link.{LinkValue, Keeps}
-use Rattle.nsp_link.specs.Pieces.{held_from}
+use Rattle.nsp_link.specs.Inner.Pieces.{held_from}
 use Rattle.nsp_link.specs.Receiving.{kept}
-use Rattle.nsp_link.specs.View.{link_view}
+use Rattle.nsp_link.specs.Inner.View.{link_view}
 use Rattle.nsp_link.proofs.Held.{is_free_read, is_taken_read, beyond, there, held_end, held_few, length-held_put}
 use Rattle.nsp_link.proofs.Keeping.{kept_filled, kept_there, kept_beyond, keeps_free}
 use Rattle.nsp_link.proofs.Placing.{if_err_and}

@@ -2,7 +2,7 @@ use Rattle.std.proofs.Common.{◌≡◌, ◌+◌, ◌<◌, length, ap, arith, So
 use Rattle.std.specs.Prelude.{slice_get}
 use Rattle.std.proofs.lemmas.List.{length-map}
 use Rattle.nsp_link.specs.Link.{LinkValue}
-use Rattle.nsp_link.specs.Pieces.{piece as piece_in, pieces}
+use Rattle.nsp_link.specs.Inner.Pieces.{piece as piece_in, pieces}
 use Rattle.nsp_link.proofs.Writing.{writes_segment}
 use Rattle.nsp_link.proofs.Placing.{if_ok_map, piece_read, packet_is, spelling_same}
 use Rattle.nsp_link.proofs.link.LinkEnd.segment_at.Goals as goal

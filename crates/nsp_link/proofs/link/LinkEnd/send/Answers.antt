@@ -2,8 +2,8 @@ use Rattle.std.proofs.Common.{◌≡◌, ◌+◌, ◌++◌, length, ◌∙◌, a
 use Rattle.std.proofs.lemmas.List.{length-append, length-map}
 use Rattle.nsp_link.specs.Cutting.{cut_message}
 use Rattle.nsp_link.specs.Link.{LinkValue, Sends}
-use Rattle.nsp_link.specs.View.{link_view}
-use Rattle.nsp_link.specs.Pieces.{piece, pieces}
+use Rattle.nsp_link.specs.Inner.View.{link_view}
+use Rattle.nsp_link.specs.Inner.Pieces.{piece, pieces}
 use Rattle.nsp_link.proofs.Writing.{sends_more}
 use Rattle.nsp_link.proofs.Counts.{length-cut_message}
 use Rattle.nsp_link.proofs.link.LinkEnd.send.Goals as goal

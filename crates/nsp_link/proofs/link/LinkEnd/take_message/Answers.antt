@@ -1,6 +1,6 @@
 use Rattle.std.proofs.Common.{refl, sym, subst}
 use Rattle.nsp_link.specs.Link.{LinkValue, Stands}
-use Rattle.nsp_link.specs.View.{link_view}
+use Rattle.nsp_link.specs.Inner.View.{link_view}
 use Rattle.nsp_link.proofs.Giving.{stands_popped}
 use Rattle.nsp_link.proofs.link.LinkEnd.take_message.Goals as goal
 

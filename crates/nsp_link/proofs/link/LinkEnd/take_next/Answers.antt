@@ -4,9 +4,9 @@ use Rattle.nsp_link.specs.declared.segment.Held.{Held}
 use Rattle.nsp_link.specs.Cutting.{Piece}
 use Rattle.nsp_link.specs.Coming.{Coming, AllFit, RefusesAll}
 use Rattle.nsp_link.specs.Link.{LinkValue, coming, failed_link}
-use Rattle.nsp_link.specs.Pieces.{held_from, leading, run_in, coming_of}
+use Rattle.nsp_link.specs.Inner.Pieces.{held_from, leading, run_in, coming_of}
 use Rattle.nsp_link.specs.Receiving.{run, closed, coming_link}
-use Rattle.nsp_link.specs.View.{link_view}
+use Rattle.nsp_link.specs.Inner.View.{link_view}
 use Rattle.nsp_link.proofs.Taking.{received-all}
 use Rattle.nsp_link.proofs.Held.{ring_fewer, ring_free, ring_long, held_end, length-ring_closed, follows_held}
 use Rattle.nsp_link.proofs.Runs.{fit_short}
