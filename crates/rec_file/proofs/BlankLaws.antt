@@ -5,8 +5,8 @@ use Rattle.std.specs.FinMap.{get}
 use Rattle.rec_file.specs.Limits.{greatest_number}
 use Rattle.rec_file.specs.Shapes.{is_seq, allows_length}
 use Rattle.rec_file.specs.Files.{FileVal, IsFile, lowest_from, highest_of}
-use Rattle.rec_file.specs.Numbered.{numbered}
-use Rattle.rec_file.specs.Blank.{any_length, blank_file}
+use Rattle.rec_file.specs.Inner.Numbered.{numbered}
+use Rattle.rec_file.specs.Inner.Blank.{any_length, blank_file}
 use Rattle.rec_file.proofs.SequentialLaws.{count_fits}
 use Rattle.std.proofs.lemmas.Bool.{cases_lt}
 use Rattle.std.proofs.lemmas.List.{length-replicate, get_or-replicate}

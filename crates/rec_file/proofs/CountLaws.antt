@@ -10,7 +10,8 @@ use Rattle.std.proofs.lemmas.List.{length-map}
 use Rattle.std.proofs.lemmas.Map.Made.{length-from_keys}
 use Rattle.rec_file.specs.declared.shapes.Shape.{Shape}
 use Rattle.rec_file.specs.Files.{FileVal, IsFile}
-use Rattle.rec_file.specs.Pages.{Cells, paged_file, page_of, cell_of, page_cell, occupied_pages}
+use Rattle.rec_file.specs.Inner.Pages.{Cells, paged_file, cell_of, page_cell}
+use Rattle.rec_file.specs.Pages.{page_of, occupied_pages}
 use Rattle.rec_file.proofs.Rising.{at, AllAbove, IsRising, at_tail, at_first, at_below, same_or_not}
 use Rattle.rec_file.proofs.RecordsLaws.{get_is_at, rising}
 use Rattle.rec_file.proofs.FileLaws.{not_both}

@@ -8,3 +8,6 @@ pub use Rattle.rec_file.proofs.FileLaws.{IsFile-placed}
 pub use Rattle.rec_file.proofs.FileLaws.{IsFile-removed}
 -- one with a record replaced
 pub use Rattle.rec_file.proofs.FileLaws.{IsFile-replaced}
+-- no record of a file is longer than the longest
+pub use Rattle.rec_file.proofs.Bodies.{AreShort, records_short}
+pub use Rattle.rec_file.proofs.FileLaws.{body_fits}

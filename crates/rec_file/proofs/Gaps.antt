@@ -7,7 +7,7 @@ use Rattle.std.proofs.lemmas.Cmp.{ranked}
 use Rattle.std.proofs.lemmas.Bool.Decides.{nat_tests}
 use Rattle.std.proofs.lemmas.List.{length-map}
 use Rattle.std.proofs.lemmas.Option.{same_Some}
-use Rattle.rec_file.specs.Sorted.{IsInOrder, IsPlaceOf, IsGapFor}
+use Rattle.rec_file.specs.Inner.Sorted.{IsInOrder, IsPlaceOf, IsGapFor}
 use Rattle.rec_file.proofs.Rising.{at, AllAbove, IsRising, at_below, at_tail, at_first, same_or_not}
 
 -- what holds of an element at each default holds of it among the results of f

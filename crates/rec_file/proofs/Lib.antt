@@ -10,5 +10,6 @@ pub mod PageLaws
 pub mod PagedLaws
 pub mod Keyed
 pub mod RelativeLaws
+pub mod Bodies
 pub mod CountLaws
 pub mod ForCallers

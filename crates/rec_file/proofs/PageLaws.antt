@@ -8,7 +8,7 @@ use Rattle.std.proofs.lemmas.Bool.Decides.{nat_tests}
 use Rattle.std.proofs.lemmas.Nat.{shr-shr}
 use Rattle.std.proofs.Common.{pow_pos, div-lt_iff_lt-mul, le-div_iff_mul-le}
 use Rattle.std.proofs.Math.Nat.{div-le_self, two-pow-succ}
-use Rattle.rec_file.specs.Pages.{cell, MasksCells}
+use Rattle.rec_file.specs.Inner.Pages.{cell, MasksCells}
 use Rattle.rec_file.proofs.Rising.{same_or_not}
 
 pub le_lt : (a b c : ℕ) → a ≤ b → b < c → a < c

@@ -8,8 +8,8 @@ use Rattle.std.proofs.lemmas.Simd.{map-map}
 use Rattle.std.proofs.lemmas.Option.{slice_get_within, slice_get-map, slice_get_read}
 use Rattle.rec_file.specs.declared.shapes.Shape.{Shape}
 use Rattle.rec_file.specs.Files.{FileVal, lowest_from, highest_of, stored, removed}
-use Rattle.rec_file.specs.Plain.{plain_file}
-use Rattle.rec_file.specs.Sorted.{IsInOrder, IsPlaceOf, IsGapFor}
+use Rattle.rec_file.specs.Inner.Plain.{plain_file}
+use Rattle.rec_file.specs.Inner.Sorted.{IsInOrder, IsPlaceOf, IsGapFor}
 use Rattle.rec_file.proofs.Rising.{at, IsRising, find_is_at, sorted_from_rising, rising_from_sorted, same_or_not}
 use Rattle.rec_file.proofs.RecordsLaws.{lowest_from_some, lowest_from_none, highest_of_some, highest_of_none}
 use Rattle.rec_file.proofs.FileLaws.{get_stored, get_removed, same_records}

@@ -12,7 +12,8 @@ use Rattle.std.proofs.lemmas.Bool.Decides.{nat_tests}
 use Rattle.rec_file.specs.declared.shapes.Shape.{Shape}
 use Rattle.rec_file.specs.Limits.{greatest_number}
 use Rattle.rec_file.specs.Files.{FileVal, IsFile, lowest_from, highest_of, stored, removed}
-use Rattle.rec_file.specs.Pages.{Cells, cell, paged, paged_file, page_cell, page_of, cell_of, IsPage, IsFirstIn, IsLastIn, empty_cells, last_page}
+use Rattle.rec_file.specs.Inner.Pages.{Cells, cell, paged, paged_file, page_cell, cell_of, IsPage, IsFirstIn, IsLastIn, empty_cells, last_page}
+use Rattle.rec_file.specs.Pages.{page_of}
 use Rattle.rec_file.proofs.Rising.{at, AllAbove, IsRising, rising_from_sorted, sorted_from_rising, find_is_at, same_or_not, at_first, at_tail, at_below}
 use Rattle.rec_file.proofs.RecordsLaws.{lowest_from_some, lowest_from_none, highest_of_some, highest_of_none}
 use Rattle.rec_file.proofs.FileLaws.{not_both, number_fits, get_stored, get_removed, same_records}

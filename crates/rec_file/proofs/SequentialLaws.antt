@@ -6,7 +6,7 @@ use Rattle.rec_file.specs.declared.shapes.Shape.{Shape}
 use Rattle.rec_file.specs.Limits.{greatest_number}
 use Rattle.rec_file.specs.Shapes.{is_seq}
 use Rattle.rec_file.specs.Files.{FileVal, IsFile, lowest_from, highest_of, stored}
-use Rattle.rec_file.specs.Numbered.{numbered, sequential_file}
+use Rattle.rec_file.specs.Inner.Numbered.{numbered, sequential_file}
 use Rattle.rec_file.proofs.FileLaws.{limit_le, same_records}
 use Rattle.std.proofs.lemmas.List.{length-map, map-append, map-set}
 use Rattle.std.proofs.lemmas.Option.{slice_get-map, slice_get_read}

@@ -3,9 +3,6 @@ pub mod Shapes
 pub mod Keys
 pub mod Files
 pub mod Acts
-pub mod Numbered
-pub mod Sorted
-pub mod Plain
-pub mod Blank
 pub mod AnyFiles
 pub mod Pages
+pub mod Inner

@@ -1,78 +1,13 @@
--- Pages of 64 cells, and a list of them as the records of a relative file.
-use Rattle.std.specs.Prelude.{◌≡◌, ℕ, zero, suc, ◌+◌, ◌-◌, ◌*◌, ◌/◌, ◌%◌, ◌≤◌, ◌<◌, nat_eq, map, List, [], ◌∷◌, ◌++◌, length, Option, None, Some, is_some, IsSome, replicate, if◌then◌else◌}
-use Rattle.std.specs.Int.{bit_at}
-use Rattle.std.specs.FinMap.{from_entries, keys}
+-- Pages of 64 numbers, as a relative file keeps them.
+use Rattle.std.specs.Prelude.{ℕ, ◌-◌, ◌/◌, nat_eq, map}
+use Rattle.std.specs.FinMap.{keys}
 use Rattle.std.specs.Set.{distinct_count}
-use Rattle.rec_file.specs.declared.shapes.Shape.{Shape}
-use Rattle.rec_file.specs.Limits.{greatest_number}
-use Rattle.rec_file.specs.Files.{Records, FileVal}
+use Rattle.rec_file.specs.Files.{Records}
 
--- the cells of a page, each with a record or none
-abbrev pub Cells : Type 0
-Cells = List (Option (List ℕ))
-
--- the cell k, and none past the end
-abbrev pub cell : {X : Type 0} → List (Option X) → ℕ → Option X
-cell [] k = None
-cell (c ∷ cs) zero = c
-cell (c ∷ cs) (suc k) = cell cs k
-
--- a bit is set exactly where the cell is occupied
-abbrev pub MasksCells : {X : Type 0} → ℕ → List (Option X) → Type 0
-MasksCells mask cells = (k : ℕ) → k < 64 → bit_at mask k ≡ (if is_some (cell cells k) then 1 else 0)
-
--- the records of cells, the first of which has the number n
-abbrev pub numbered_cells : ℕ → Cells → List (ℕ × List ℕ)
-numbered_cells n [] = []
-numbered_cells n (None ∷ cs) = numbered_cells (n + 1) cs
-numbered_cells n (Some body ∷ cs) = (n, body) ∷ numbered_cells (n + 1) cs
-
--- the page and the cell of a number, from 1 on
+-- the page of a number, from 1 on
 abbrev pub page_of : ℕ → ℕ
 page_of n = (n - 1) / 64
-
-abbrev pub cell_of : ℕ → ℕ
-cell_of n = (n - 1) % 64
-
--- no record stands in a page above it
-abbrev pub last_page : ℕ
-last_page = page_of greatest_number
-
--- the records of pages: page p begins with number 64 p + 1
-abbrev pub paged : List (ℕ × Cells) → List (ℕ × List ℕ)
-paged [] = []
-paged (p ∷ ps) = numbered_cells (64 * p.0 + 1) p.1 ++ paged ps
-
-abbrev pub paged_file : Shape → List (ℕ × Cells) → FileVal
-paged_file shape pages = record { shape = shape; records = from_entries (paged pages) }
-
--- the record of a number, through its page and cell: what a reader may take for the meaning of pages
-abbrev pub page_cell : Option Cells → ℕ → Option (List ℕ)
-page_cell None k = None
-page_cell (Some cells) k = cell cells k
-
--- each page has 64 cells, and one of them is occupied
-pub record IsPage (cells : Cells) : Type 0 where
-  pub size : length cells ≡ 64
-  pub occupied : (k : ℕ) × IsSome (cell cells k)
-
--- cell k is the first from cell i on with a record
-pub record IsFirstIn (cells : Cells) (i k : ℕ) : Type 0 where
-  pub from_on : i ≤ k
-  pub within : k < 64
-  pub occupied : IsSome (cell cells k)
-  pub none_before : (j : ℕ) → i ≤ j → j < k → cell cells j ≡ None
-
--- cell k is the last with a record
-pub record IsLastIn (cells : Cells) (k : ℕ) : Type 0 where
-  pub within : k < 64
-  pub occupied : IsSome (cell cells k)
-  pub none_after : (j : ℕ) → k < j → cell cells j ≡ None
 
 -- how many pages have a record: the different pages of the occupied numbers
 abbrev pub occupied_pages : Records → ℕ
 occupied_pages m = distinct_count nat_eq (map page_of (keys m))
-
--- a page with no record
-abbrev pub empty_cells : Cells
-empty_cells = replicate 64 None

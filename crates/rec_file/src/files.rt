@@ -44,7 +44,8 @@ pub trait RecordFile {
         requires above { 1 ≤ number }
         requires within { number ≤ limit_of (value self.old).shape }
         requires free { map.get (value self.old).records number ≡ None }
-        requires next { IsTrue (is_seq (value self.old).shape.org) → number ≡ highest_of (value self.old).records + 1 }
+        requires next { IsTrue (is_seq (value self.old).shape.org)
+            → number ≡ highest_of (value self.old).records + 1 }
         requires length { IsTrue (allows_length (value self.old).shape (length body.now)) }
         ensures ok { OnOk result (value self.new ≡ stored (value self.old) number body.now) }
         ensures err { OnErr result (value self.new ≡ value self.old) };
@@ -68,7 +69,8 @@ pub trait RecordFile {
 /// the records of a file in order. None where there is no such record. It takes no memory.
 pub fn first_record<F: RecordFile>(file: &F, number: u32) -> Option<(u32, &[u8])>
     ensures none { IfNone result (records_from (F.value file.now).records number ≡ []) }
-    ensures some { IfSome result (λ r. records_from (F.value file.now).records number ≡ (r.0, r.1.now) ∷ records_from (F.value file.now).records (r.0 + 1)) }
+    ensures some { IfSome result (λ r. records_from (F.value file.now).records number
+        ≡ (r.0, r.1.now) ∷ records_from (F.value file.now).records (r.0 + 1)) }
     ensures within { IfSome result (λ r. r.0 ≤ greatest_number) }
     ensures short { IfSome result (λ r. length r.1.now ≤ longest_record) }
 {

@@ -7,21 +7,15 @@
 //! operation's whose condition holds.
 #![tactic(auto)]
 
-pub mod any;
-#[cfg(test)]
-mod blank;
-pub mod files;
+mod any;
+mod files;
 mod pages;
-pub mod picks;
-#[cfg(test)]
-mod plain;
-pub mod refusals;
-pub mod relative;
-pub mod sequential;
-pub mod shapes;
-#[cfg(test)]
-mod sorted;
-pub mod streams;
+mod picks;
+mod refusals;
+mod relative;
+mod sequential;
+mod shapes;
+mod streams;
 
 pub use any::AnyFile;
 pub use files::{RecordFile, first_record};

@@ -1,7 +1,8 @@
 //! Pages of 64 cells.
 ghost use Rattle.std.specs.Prelude.{◌≡◌, ◌≤◌, ◌<◌, ◌↔◌, ℕ, length, None, Some, IfOk, IfSome, IfNone, IsTrue, slice_set};
 ghost use Rattle.std.specs.Option.{option_copied};
-ghost use Rattle.rec_file.specs.Pages.{cell, cell_of, page_of, last_page, empty_cells, IsFirstIn, IsLastIn};
+ghost use Rattle.rec_file.specs.Inner.Pages.{cell, cell_of, last_page, empty_cells, IsFirstIn, IsLastIn};
+ghost use Rattle.rec_file.specs.Pages.{page_of};
 
 use std::alloc::{AllocError, Global};
 use std::marker::Model;
@@ -37,13 +38,14 @@ pub struct Page {
 impl Model for Page {
     ghost use Rattle.std.specs.Prelude.{◌≡◌, ◌<◌, ◌^◌, ℕ, List, Option, map, length};
     ghost use Rattle.std.specs.Option.{option_map};
-    ghost use Rattle.rec_file.specs.Pages.{MasksCells};
+    ghost use Rattle.rec_file.specs.Inner.Pages.{MasksCells};
 
     ghost Value = { List (Option (List ℕ)) };
 
     ghost view = { λ a. map (option_map (λ v. v.items)) a.cells.items };
 
-    ghost invariant = { λ a. (length a.cells.items ≡ 64) × (a.mask < 2 ^ 64) × MasksCells a.mask a.cells.items };
+    ghost invariant = { λ a. (length a.cells.items ≡ 64) × (a.mask < 2 ^ 64)
+        × MasksCells a.mask a.cells.items };
 }
 
 impl Page {
@@ -130,7 +132,8 @@ pub fn first_in(at: u32, page: &Page, from: usize) -> Option<u32>
     requires page { at ≤ last_page }
     requires cell { from < 64 }
     ensures none { IfNone result ((k : ℕ) → from ≤ k → cell page.now k ≡ None) }
-    ensures some { IfSome result (λ n. (1 ≤ n) × (page_of n ≡ at) × IsFirstIn page.now from (cell_of n)) }
+    ensures some { IfSome result
+        (λ n. (1 ≤ n) × (page_of n ≡ at) × IsFirstIn page.now from (cell_of n)) }
 {
     let cell = page.first_from(from)?;
     Some(CELLS * at + cell as u32 + 1)

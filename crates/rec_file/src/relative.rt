@@ -27,7 +27,7 @@ impl Model for RelFile {
     ghost use Rattle.std.specs.Ordering.{nat_cmp};
     ghost use Rattle.std.specs.FinMap.{is_sorted};
     ghost use Rattle.rec_file.specs.Shapes.{is_seq};
-    ghost use Rattle.rec_file.specs.Pages.{paged_file, IsPage};
+    ghost use Rattle.rec_file.specs.Inner.Pages.{paged_file, IsPage};
     ghost use Rattle.rec_file.specs.Files.{FileVal, IsFile, file_code};
 
     ghost Value = { FileVal };
@@ -36,7 +36,9 @@ impl Model for RelFile {
 
     ghost view = { λ a. paged_file a.shape a.pages.entries };
 
-    ghost invariant = { λ a. IsFile (paged_file a.shape a.pages.entries) × (is_seq a.shape.org ≡ false) × (is_sorted nat_cmp a.pages.entries ≡ true) × AllByRecursion IsPage (map (λ p. p.1) a.pages.entries) };
+    ghost invariant = { λ a. IsFile (paged_file a.shape a.pages.entries) × (is_seq a.shape.org ≡ false)
+        × (is_sorted nat_cmp a.pages.entries ≡ true)
+        × AllByRecursion IsPage (map (λ p. p.1) a.pages.entries) };
 }
 
 impl RelFile {

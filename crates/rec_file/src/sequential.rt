@@ -19,7 +19,7 @@ pub struct SeqFile {
 impl Model for SeqFile {
     ghost use Rattle.std.specs.Prelude.{◌≡◌, List, ℕ, map, true};
     ghost use Rattle.rec_file.specs.Shapes.{is_seq};
-    ghost use Rattle.rec_file.specs.Numbered.{sequential_file};
+    ghost use Rattle.rec_file.specs.Inner.Numbered.{sequential_file};
     ghost use Rattle.rec_file.specs.Files.{FileVal, IsFile, file_code};
 
     ghost Value = { FileVal };
@@ -28,7 +28,8 @@ impl Model for SeqFile {
 
     ghost view = { λ a. sequential_file a.shape (map (λ v. v.items) a.records.items) };
 
-    ghost invariant = { λ a. IsFile (sequential_file a.shape (map (λ v. v.items) a.records.items)) × (is_seq a.shape.org ≡ true) };
+    ghost invariant = { λ a. IsFile (sequential_file a.shape (map (λ v. v.items) a.records.items))
+        × (is_seq a.shape.org ≡ true) };
 }
 
 impl SeqFile {

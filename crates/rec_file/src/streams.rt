@@ -152,7 +152,8 @@ impl Stream {
         key: Option<u32>,
         body: &[u8],
     ) -> Result<u32, Refusal>
-        ensures { Acts (put_record key body.now) (F.value file.old) self.old (F.value file.new) self.new result }
+        ensures { Acts (put_record key body.now) (F.value file.old) self.old
+            (F.value file.new) self.new result }
     {
         let number = match self.free_number(file, key, body) {
             Ok(number) => number,
@@ -181,7 +182,8 @@ impl Stream {
         ensures above { IfOk result (λ n. 1 ≤ n) }
         ensures within { IfOk result (λ n. n ≤ limit_of (F.value file.now).shape) }
         ensures free { IfOk result (λ n. map.get (F.value file.now).records n ≡ None) }
-        ensures length { IfOk result (λ _. IsTrue (allows_length (F.value file.now).shape (length body.now))) }
+        ensures length { IfOk result
+            (λ _. IsTrue (allows_length (F.value file.now).shape (length body.now))) }
     {
         if !self.rights.put {
             return Err(Refusal::NotPermitted);
@@ -211,7 +213,8 @@ impl Stream {
     ///
     /// Refusals in order: NotPermitted, NoCurrent, BadLength, NoMemory.
     pub fn update<F: RecordFile>(&mut self, file: &mut F, body: &[u8]) -> Result<u32, Refusal>
-        ensures { Acts (update_record body.now) (F.value file.old) self.old (F.value file.new) self.new result }
+        ensures { Acts (update_record body.now) (F.value file.old) self.old
+            (F.value file.new) self.new result }
     {
         let number = match self.updated_number(file, body) {
             Ok(number) => number,
@@ -231,7 +234,8 @@ impl Stream {
     fn updated_number<F: RecordFile>(&self, file: &F, body: &[u8]) -> Result<u32, Refusal>
         ensures reply { result ≡ (act (update_record body.now) (F.value file.now) self.now).reply }
         ensures occupied { IfOk result (λ n. IsSome (map.get (F.value file.now).records n)) }
-        ensures length { IfOk result (λ _. IsTrue (allows_length (F.value file.now).shape (length body.now))) }
+        ensures length { IfOk result
+            (λ _. IsTrue (allows_length (F.value file.now).shape (length body.now))) }
     {
         if !self.rights.upd {
             return Err(Refusal::NotPermitted);
@@ -253,7 +257,8 @@ impl Stream {
     ///
     /// Refusals in order: NotPermitted, DeleteNotAllowed (a sequential file), NoCurrent.
     pub fn delete<F: RecordFile>(&mut self, file: &mut F) -> Result<u32, Refusal>
-        ensures outcome { IsOutcome (act delete_record (F.value file.old) self.old) (F.value file.new) self.new result }
+        ensures outcome { IsOutcome (act delete_record (F.value file.old) self.old)
+            (F.value file.new) self.new result }
         ensures no_memory_wanted { is_no_memory result ≡ false }
     {
         let current = self.current.take();

@@ -1,15 +1,19 @@
-//! Scripts over each kind of file: worked examples, each refusal beside a call that isn't refused,
-//! and growth that may be refused.
+//! Scripts over each kind of file: worked examples, and each refusal beside a call that isn't refused.
+
+mod blank;
+mod plain;
+mod sorted;
+
 use crate::any::AnyFile;
-use crate::blank::BlankFile;
 use crate::files::{RecordFile, first_record};
 use crate::picks::{Pick, Rights};
-use crate::plain::PlainFile;
 use crate::refusals::{Refusal, key_number};
 use crate::relative::RelFile;
 use crate::sequential::SeqFile;
 use crate::shapes::{Format, MAX_NUMBER, Org, Shape};
 use crate::streams::Stream;
+use blank::BlankFile;
+use plain::PlainFile;
 use std::process::Abort;
 
 const ALL: Rights = Rights {
@@ -75,8 +79,8 @@ fn play<F: RecordFile>(
     for (call, answer) in script {
         let reply = match *call {
             Call::Get(pick) => stream.get(file, pick),
-            Call::Put(key, body) => put_surely(rt, file, stream, key, body),
-            Call::Update(body) => update_surely(rt, file, stream, body),
+            Call::Put(key, body) => stream.put(file, key, body),
+            Call::Update(body) => stream.update(file, body),
             Call::Delete => stream.delete(file),
             Call::Rewind => {
                 stream.rewind();
@@ -84,41 +88,6 @@ fn play<F: RecordFile>(
             }
         };
         assert_eq!(rt; reply, *answer, "at {call:?}");
-    }
-}
-
-// A put that is made again where memory was refused: the second has to find all as it was.
-fn put_surely<F: RecordFile>(
-    rt: &impl Abort,
-    file: &mut F,
-    stream: &mut Stream,
-    key: Option<u32>,
-    body: &[u8],
-) -> Result<u32, Refusal> {
-    let before = (stream.next(), file.highest(), file.first_from(1));
-    match stream.put(file, key, body) {
-        Err(Refusal::NoMemory) => {
-            assert_eq!(rt; (stream.next(), file.highest(), file.first_from(1)), before);
-            stream.put(file, key, body)
-        }
-        reply => reply,
-    }
-}
-
-// The same for an update, which has to find its current record again.
-fn update_surely<F: RecordFile>(
-    rt: &impl Abort,
-    file: &mut F,
-    stream: &mut Stream,
-    body: &[u8],
-) -> Result<u32, Refusal> {
-    let before = (stream.next(), file.highest(), file.first_from(1));
-    match stream.update(file, body) {
-        Err(Refusal::NoMemory) => {
-            assert_eq!(rt; (stream.next(), file.highest(), file.first_from(1)), before);
-            stream.update(file, body)
-        }
-        reply => reply,
     }
 }
 
@@ -422,10 +391,7 @@ fn the_longest_record(rt: HostRuntime) {
     let mut file = AnyFile::new(rt.alloc(), RELATIVE);
     let mut stream = Stream::new(ALL);
     assert_eq!(rt; stream.put(&mut file, None, &LONG), Err(Refusal::BadLength));
-    assert_eq!(rt;
-        put_surely(&rt, &mut file, &mut stream, None, &LONG[1..]),
-        Ok(1)
-    );
+    assert_eq!(rt; stream.put(&mut file, None, &LONG[1..]), Ok(1));
     assert_eq!(rt;
         first_record(&file, 0).map(|(n, body)| (n, body.len())),
         Some((1, 32767))
@@ -442,10 +408,7 @@ fn a_stream_at_its_end(rt: HostRuntime) {
     let mut stream = Stream::new(ALL);
     assert_eq!(rt; stream.rights(), ALL);
     stream.seek(MAX_NUMBER);
-    assert_eq!(rt;
-        put_surely(&rt, &mut file, &mut stream, None, b"z"),
-        Ok(MAX_NUMBER)
-    );
+    assert_eq!(rt; stream.put(&mut file, None, b"z"), Ok(MAX_NUMBER));
     assert_eq!(rt; stream.next(), 2147483648);
     assert_eq!(rt; stream.get(&file, Pick::Next), Err(Refusal::EndOfFile));
     assert_eq!(rt;
@@ -534,8 +497,8 @@ fn pages_answer_as_the_plain_list(rt: HostRuntime) {
         let number = (seed >> 8) % 300 + 1;
         if step % 5 < 2 {
             assert_eq!(rt;
-                put_surely(&rt, &mut pages, &mut here, Some(number), b"put"),
-                put_surely(&rt, &mut plain, &mut there, Some(number), b"put")
+                here.put(&mut pages, Some(number), b"put"),
+                there.put(&mut plain, Some(number), b"put")
             );
         } else {
             let pick = if step % 2 == 0 {
@@ -548,8 +511,8 @@ fn pages_answer_as_the_plain_list(rt: HostRuntime) {
                 assert_eq!(rt; here.delete(&mut pages), there.delete(&mut plain));
             } else {
                 assert_eq!(rt;
-                    update_surely(&rt, &mut pages, &mut here, b"updated"),
-                    update_surely(&rt, &mut plain, &mut there, b"updated")
+                    here.update(&mut pages, b"updated"),
+                    there.update(&mut plain, b"updated")
                 );
             }
         }

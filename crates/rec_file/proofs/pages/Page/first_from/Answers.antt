@@ -1,6 +1,6 @@
 use Rattle.std.proofs.Common.{ℕ, Vec, Global, ◌+◌, ◌/◌, ◌^◌, IsSome, option_map, sym, ap, subst, ◌∙◌, arith, w64}
 use Rattle.std.specs.Int.{trailing_zeros}
-use Rattle.rec_file.specs.Pages.{cell}
+use Rattle.rec_file.specs.Inner.Pages.{cell}
 use Rattle.rec_file.proofs.PageLaws.{none_from, first_is, cell-map, is_some-map}
 use Rattle.rec_file.proofs.pages.Page.first_from.Goals as goal
 

@@ -1,5 +1,5 @@
 use Rattle.std.proofs.Common.{ℕ, Vec, Global, IsSome, option_map, sym, ap, subst, ◌∙◌}
-use Rattle.rec_file.specs.Pages.{cell}
+use Rattle.rec_file.specs.Inner.Pages.{cell}
 use Rattle.rec_file.proofs.PageLaws.{none_at_all, last_is, cell-map, is_some-map}
 use Rattle.rec_file.proofs.pages.Page.last.Goals as goal
 

@@ -3,7 +3,7 @@ use Rattle.std.specs.Ordering.{nat_cmp}
 use Rattle.std.specs.Map.{remove_entry}
 use Rattle.std.specs.BTreeMap.{is_at}
 use Rattle.rec_file.specs.Files.{IsFile, removed}
-use Rattle.rec_file.specs.Pages.{cell}
+use Rattle.rec_file.specs.Inner.Pages.{cell}
 use Rattle.rec_file.proofs.FileLaws.{IsFile-removed, not_both}
 use Rattle.rec_file.proofs.Keyed.{lookup_is_at, removed-written}
 use Rattle.rec_file.proofs.RelativeLaws.{HoldsFile, held, absent, clear_in_page, drop_page, not_true}
