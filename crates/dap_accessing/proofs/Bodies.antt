@@ -7,7 +7,7 @@ use Rattle.dap_accessing.specs.declared.pending.Pending.TheVariants as pending
 use Rattle.dap_accessing.specs.declared.pending.Heard.{Heard}
 use Rattle.dap_accessing.specs.declared.pending.Heard.TheVariants as heard
 use Rattle.dap_accessing.specs.Told.{hear_batch}
-use Rattle.dap_accessing.specs.Present.{Hears, AddsBody}
+use Rattle.dap_accessing.specs.Inner.Hears.{Hears, AddsBody}
 
 pub body_heard : (bodies : List (ℕ × List ℕ)) (recnum payload : List ℕ) (number : ℕ) (result : Heard) → number ≡ number_of recnum → AddsBody bodies number payload result → Hears (pending.Batch bodies) (Whole (Filedata recnum payload)) result
 body_heard bodies recnum payload number (heard.NoMemory same) e a = (a, inl (pending.Batch (bodies ++ (number_of recnum, payload) ∷ []), λ rest. refl))

@@ -18,3 +18,7 @@ pub use Rattle.dap_accessing.proofs.Laws.{due-due_by}
 pub use Rattle.dap_accessing.proofs.Laws.{Asked1}
 -- where nothing is due, one request more tells nothing more
 pub use Rattle.dap_accessing.proofs.Laws.{asked_one}
+-- where none is due, each request has its report
+pub use Rattle.dap_accessing.proofs.Laws.{each_told}
+-- where each has, and each answer had its place, none is due
+pub use Rattle.dap_accessing.proofs.Laws.{none_due}

@@ -1,14 +1,16 @@
 -- What was heard stays heard when more answers come.
 use Rattle.std.proofs.Common.{◌≡◌, ℕ, refl, sym, ◌∙◌, true, false, Bool, ap, List, [], ◌∷◌, ◌++◌}
-use Rattle.std.specs.Prelude.{nat_le, nat_lt, ◌&&◌, ◌==◌, Option, Some, None, if◌then◌else◌, unwrap_or}
+use Rattle.std.specs.Prelude.{nat_le, ◌==◌, Option, Some, None, if◌then◌else◌, unwrap_or}
 use Rattle.dap_msg.specs.Message.{Config, Attrib, Ack, Accomp, Filedata, Status, Other, StatusFields}
 use Rattle.dap_msg.specs.Items.{Item, Whole}
-use Rattle.dap_msg.specs.Exchange.{number_of}
+use Rattle.dap_msg.specs.Codes.{cmpfunc_response, end_of_file}
+use Rattle.dap_msg.specs.Exchange.{number_of, is_too_small}
 use Rattle.dap_accessing.specs.declared.request.Request.{Request}
 use Rattle.dap_accessing.specs.declared.request.Request.TheVariants.{Hello, Create, OpenFile, Connect, Get, Put, Update, Delete, Rewind, Fetch, Store, Continue, Close, Purge}
 use Rattle.dap_accessing.specs.declared.report.Report.{Report}
 use Rattle.dap_accessing.specs.declared.report.Report.TheVariants as report
-use Rattle.dap_accessing.specs.Told.{Hearing, Reports, Waits, Unexpected, is_success, refusal, reports_or_unexpected, hear, hear_config, hear_ack, hear_opened, opened_as, hear_attributes, hear_record, hear_done, hear_batch, hear_stored, first_kept, ending_of, reason_in, hear_closed, Told}
+use Rattle.dap_msg.specs.Codes.{is_success}
+use Rattle.dap_accessing.specs.Told.{Hearing, Reports, Waits, Unexpected, refusal, reports_or_unexpected, hear, hear_config, hear_ack, hear_opened, opened_as, greatest_mrn, hear_attributes, hear_record, hear_done, hear_batch, hear_stored, first_kept, ending_of, reason_in, hear_closed, Told}
 use Rattle.dap_accessing.specs.Steps.{ReportsGrow}
 
 -- what a hearing comes to with more answers behind it, if it isn't still waiting
@@ -37,7 +39,7 @@ stays-refusal status rest more =
 
 stays-config : (answers more : List Item) → Stays (hear_config answers) (hear_config (answers ++ more)) more
 stays-config [] more = tt
-stays-config (Whole (Config config) ∷ rest) more = stays-if (nat_lt 0 config.bufsiz && nat_lt config.bufsiz 64) (report.Ready config.bufsiz) rest more
+stays-config (Whole (Config config) ∷ rest) more = stays-if (is_too_small config.bufsiz) (report.Ready config.bufsiz) rest more
 stays-config (Whole (Status status) ∷ rest) more = stays-refusal status rest more
 stays-config (_ ∷ rest) more = refl
 
@@ -58,7 +60,7 @@ stays-attributes : (answers more : List Item) → Stays (hear_attributes answers
 stays-attributes [] more = tt
 stays-attributes (Whole (Other _ _) ∷ rest) more = stays-attributes rest more
 stays-attributes (Whole (Attrib a) ∷ rest) more =
-    elim (nat_le (number_of (unwrap_or a.mrn [])) 2147483647) as (λ b. Stays (if b then hear_opened (opened_as a) rest else Unexpected) (if b then hear_opened (opened_as a) (rest ++ more) else Unexpected) more) [
+    elim (nat_le (number_of (unwrap_or a.mrn [])) greatest_mrn) as (λ b. Stays (if b then hear_opened (opened_as a) rest else Unexpected) (if b then hear_opened (opened_as a) (rest ++ more) else Unexpected) more) [
       | true ↦ stays-opened (opened_as a) rest more
       | false ↦ refl
     ]
@@ -69,7 +71,7 @@ stays-record : (answers more : List Item) → Stays (hear_record answers) (hear_
 stays-record [] more = tt
 stays-record (Whole (Filedata recnum body) ∷ rest) more = refl
 stays-record (Whole (Status status) ∷ rest) more =
-    elim (status.code == 0x5027) as (λ b. Stays (if b then Reports report.EndOfFile rest else refusal status rest) (if b then Reports report.EndOfFile (rest ++ more) else refusal status (rest ++ more)) more) [
+    elim (status.code == end_of_file) as (λ b. Stays (if b then Reports report.EndOfFile rest else refusal status rest) (if b then Reports report.EndOfFile (rest ++ more) else refusal status (rest ++ more)) more) [
       | true ↦ refl
       | false ↦ stays-refusal status rest more
     ]
@@ -95,12 +97,12 @@ stays-stored kept (Whole (Status status) ∷ rest) more =
       | true ↦ refl
       | false ↦ stays-stored (first_kept kept status) rest more
     ]
-stays-stored kept (Whole (Accomp c) ∷ rest) more = stays-if-not (c.func == 2) (report.Stored kept) rest more
+stays-stored kept (Whole (Accomp c) ∷ rest) more = stays-if-not (c.func == cmpfunc_response) (report.Stored kept) rest more
 stays-stored kept (_ ∷ rest) more = refl
 
 stays-closed : (answers more : List Item) → Stays (hear_closed answers) (hear_closed (answers ++ more)) more
 stays-closed [] more = tt
-stays-closed (Whole (Accomp c) ∷ rest) more = stays-if-not (c.func == 2) report.Closed rest more
+stays-closed (Whole (Accomp c) ∷ rest) more = stays-if-not (c.func == cmpfunc_response) report.Closed rest more
 stays-closed (Whole (Status status) ∷ rest) more = stays-refusal status rest more
 stays-closed (_ ∷ rest) more = refl
 

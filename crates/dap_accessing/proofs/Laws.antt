@@ -1,6 +1,6 @@
 -- How an end stands after one more request, and after one more answer.
-use Rattle.std.proofs.Common.{◌≡◌, ℕ, suc, ◌+◌, ◌≤◌, refl, inl, inr, sym, ◌∙◌, true, false, Bool, ap, subst, arith, append_assoc, length-append, List, [], ◌∷◌, ◌++◌, length}
-use Rattle.std.specs.Prelude.{Option, Some, None, fold, is_some, Ok, Err, drop}
+use Rattle.std.proofs.Common.{◌≡◌, ◌≢◌, ℕ, suc, ◌+◌, ◌≤◌, refl, inl, inr, sym, ◌∙◌, true, false, Bool, ap, subst, arith, append_assoc, length-append, List, [], ◌∷◌, ◌++◌, length}
+use Rattle.std.specs.Prelude.{Option, Some, None, fold, is_some, Ok, Err}
 use Rattle.std.proofs.lemmas.List.{append-nil}
 use Rattle.dap_msg.specs.Items.{Item, Whole, Malformed, ItemAt}
 use Rattle.dap_accessing.specs.declared.request.Request.{Request}
@@ -11,9 +11,11 @@ use Rattle.dap_accessing.specs.declared.pending.Pending.TheVariants as pending
 use Rattle.dap_accessing.specs.Told.{Hearing, Reports, Waits, Unexpected, hear, Told, Due, NothingDue, AnswersDue, Wrong, due_after, is_unexpected}
 use Rattle.dap_msg.specs.Exchange.{greatest_message}
 use Rattle.dap_accessing.specs.declared.phase.Phase.TheVariants.{Fresh}
-use Rattle.dap_accessing.specs.Phase.{phase_next, phase_after, limit_next, limit_after, IsNoneDue, phase_fits, IsRefused, IsAdmissible, AreSendable}
-use Rattle.dap_accessing.specs.Present.{Present, StandsAfter, hear_from, pending_of, FitsDue, HasNoPlace, HasPlace, Takes}
-use Rattle.dap_accessing.specs.Outgoing.{Admits}
+use Rattle.dap_msg.specs.Sendable.{AreSendable}
+use Rattle.dap_accessing.specs.Phase.{phase_next, phase_after, limit_next, limit_after, IsNoneDue, phase_fits, IsRefused, IsAdmissible}
+use Rattle.dap_accessing.specs.Inner.Hears.{pending_of, HasNoPlace, HasPlace, Takes}
+use Rattle.dap_accessing.specs.Present.{Present, StandsAfter, hear_from, FitsDue}
+use Rattle.dap_accessing.specs.Inner.Outgoing.{Admits}
 use Rattle.dap_accessing.specs.Calls.{IsAdmittedBy, Asks, Reads, ReadRefused}
 use Rattle.dap_msg.specs.Blocked.{Blocked, all_joined}
 use Rattle.dap_accessing.specs.Asked.{messages_of}
@@ -22,8 +24,6 @@ use Rattle.dap_accessing.specs.declared.fault.ReadFault.{ReadFault}
 use Rattle.dap_accessing.specs.declared.fault.ReadFault.TheVariants as read_fault
 use Rattle.dap_msg.specs.declared.fault.MsgFault.{MsgFault}
 use Rattle.dap_msg.specs.Message.{Message}
-use Rattle.dap_msg.specs.Decoding.{IsAnswer}
-use Rattle.dap_msg.specs.Codes.{status_code_for}
 use Rattle.dap_accessing.proofs.Hearings.{Stays, stays, told_by, Told-told_by}
 
 -- what is due, by the hearing of the first request
@@ -103,6 +103,24 @@ asked_one (first ∷ requests) answers request e =
       due = due-due_by first (requests ++ request ∷ []) answers ∙ r.1;
       none_due = ap length (Told-told_by first requests answers) ∙ r.2;
     }
+
+-- where none is due, each request has its report
+pub each_told : (requests : List Request) (answers : List Item) → IsNoneDue requests answers → length (Told requests answers) ≡ length requests
+each_told requests answers none = (asked_one requests answers Hello none).none_due
+
+none_due_by : (r : Request) (rs : List Request) (answers : List Item) (first : Hearing) → length (told_by rs first) ≡ suc (length rs) → due_by r rs answers first ≢ Wrong
+    → ((rest : List Item) → length (Told rs rest) ≡ length rs → due_after rs rest ≢ Wrong → IsNoneDue rs rest) → due_by r rs answers first ≡ NothingDue
+none_due_by r rs answers (Reports done rest) e right on = on rest (omega arith) right
+none_due_by r rs answers Waits e right on = let none : ⊥ = omega arith in absurd none
+none_due_by r rs answers Unexpected e right on = let none : ⊥ = omega arith in absurd none
+
+-- and where each has, and each answer had its place, none is due
+pub none_due : (rs : List Request) (answers : List Item) → length (Told rs answers) ≡ length rs → due_after rs answers ≢ Wrong → IsNoneDue rs answers
+none_due [] [] e right = refl
+none_due [] (a ∷ answers) e right = absurd (right refl)
+none_due (r ∷ rs) answers e right =
+    due-due_by r rs answers
+    ∙ none_due_by r rs answers (hear r answers) (ap length (sym (Told-told_by r rs answers)) ∙ e) (λ w. right (due-due_by r rs answers ∙ w)) (λ rest f g. none_due rs rest f g)
 
 -- ---- One more answer.
 
@@ -205,12 +223,12 @@ stands_asked request old none requests answers s =
 
 pub nothing_due : (old : Present) → old.pending ≡ None → (requests : List Request) (answers : List Item) → StandsAfter requests answers old → IsNoneDue requests answers
 nothing_due old none requests answers s =
-    (asked_one requests answers Hello (none_pending (due_after requests answers) (subst (λ p. FitsDue (due_after requests answers) p) none s.pending))).none_due
+    none_pending (due_after requests answers) (subst (λ p. FitsDue (due_after requests answers) p) none s.pending)
 
 pub something_due : (old : Present) (p : Pending) → old.pending ≡ Some p → (requests : List Request) (answers : List Item) → StandsAfter requests answers old → IsNoneDue requests answers → ⊥
 something_due old p some requests answers s none =
     let l = locate requests answers p s.alone (subst (λ p. FitsDue (due_after requests answers) p) some s.pending) in
-    omega (arith, none, l.short)
+    omega (arith, (asked_one requests answers Hello none).none_due, l.short)
 
 -- the end waits for more
 pub stands_waiting : (answer : Item) (old : Present) (p next : Pending) → old.pending ≡ Some p → ((rest : List Item) → hear_from p (answer ∷ rest) ≡ hear_from next rest)
@@ -392,4 +410,5 @@ asks_of request old p messages works none right sendable spelled e =
       spelled = spelled;
       admissible = admit request old none right sendable;
       stands = λ requests answers s. subst (λ q. StandsAfter (requests ++ request ∷ []) answers (record old { pending = Some q })) (sym e) (stands_asked request old (none_of old.pending none) requests answers s);
+      told = λ requests answers s. (asked_one requests answers request (nothing_due old (none_of old.pending none) requests answers s)).told;
     }

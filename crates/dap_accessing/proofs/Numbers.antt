@@ -3,7 +3,7 @@ use Rattle.std.proofs.Common.{ℕ, ◌≤◌, List, [], length, arith, lit≤}
 use Rattle.std.specs.Prelude.{Option, Some, None, unwrap_or}
 use Rattle.dap_msg.specs.Message.{Message, Config, Attrib, Access, Control, Contran, Ack, Accomp, Filedata, Status, Other}
 use Rattle.dap_msg.specs.Images.{IsOptionWithin, ImagesFit}
-use Rattle.dap_accessing.specs.Present.{HasShortNumbers}
+use Rattle.dap_accessing.specs.Inner.Hears.{HasShortNumbers}
 
 option_short : (o : Option (List ℕ)) → IsOptionWithin o 5 → length (unwrap_or o []) ≤ 8
 option_short (Some image) f = omega (arith, f)

@@ -1,7 +1,8 @@
 -- The messages of a request.
 use Rattle.std.specs.Prelude.{ℕ, List, [], ◌∷◌, ◌++◌, map, Option, Some, None}
 use Rattle.dap_msg.specs.Message.{Message, Attrib, Access, Control, Contran, Filedata}
-use Rattle.dap_msg.specs.Exchange.{four_bytes, config_of, complete_with}
+use Rattle.dap_msg.specs.Codes as codes
+use Rattle.dap_msg.specs.Exchange.{four_bytes, config_of, complete_with, no_attributes}
 use Rattle.dap_accessing.specs.declared.request.By.{By}
 use Rattle.dap_accessing.specs.declared.request.By.TheVariants.{Next, Key, Rfa}
 use Rattle.dap_accessing.specs.declared.request.How.{How}
@@ -10,30 +11,7 @@ use Rattle.dap_accessing.specs.declared.request.Request.{Request}
 use Rattle.dap_accessing.specs.declared.request.Request.TheVariants.{Hello, Create, OpenFile, Connect, Get, Put, Update, Delete, Rewind, Fetch, Store, Continue, Close, Purge}
 
 abbrev pub attributes : Option ℕ → Option ℕ → Option ℕ → Option (List ℕ) → Message
-attributes org rfm mrs mrn =
-    Attrib (record {
-      datatype = None;
-      org = org;
-      rfm = rfm;
-      rat = None;
-      bls = None;
-      mrs = mrs;
-      alq = None;
-      bks = None;
-      fsz = None;
-      mrn = mrn;
-      runsys = None;
-      deq = None;
-      fop = None;
-      bsz = None;
-      dev = None;
-      sdc = None;
-      lrl = None;
-      hbk = None;
-      ebk = None;
-      ffb = None;
-      sbn = None;
-    })
+attributes org rfm mrs mrn = Attrib (record no_attributes { org = org; rfm = rfm; mrs = mrs; mrn = mrn })
 
 abbrev pub access : ℕ → List ℕ → ℕ → Message
 access func name fac =
@@ -44,39 +22,54 @@ control func rac key =
     Control (record { func = func; rac = rac; key = key; krf = None; rop = None; hsh = None; display = None })
 
 abbrev pub get_by : By → Message
-get_by Next = control 1 (Some 0) None
-get_by (Key n) = control 1 (Some 1) (Some (four_bytes n))
-get_by (Rfa n) = control 1 (Some 2) (Some (four_bytes n))
+get_by Next = control codes.ctlfunc_get (Some codes.rac_sequential) None
+get_by (Key n) = control codes.ctlfunc_get (Some codes.rac_keyed) (Some (four_bytes n))
+get_by (Rfa n) = control codes.ctlfunc_get (Some codes.rac_address) (Some (four_bytes n))
 
 abbrev pub put_at : Option ℕ → Message
-put_at None = control 4 (Some 0) None
-put_at (Some n) = control 4 (Some 1) (Some (four_bytes n))
+put_at None = control codes.ctlfunc_put (Some codes.rac_sequential) None
+put_at (Some n) = control codes.ctlfunc_put (Some codes.rac_keyed) (Some (four_bytes n))
+
+abbrev pub updating : Message
+updating = control codes.ctlfunc_update (Some codes.rac_sequential) None
+
+abbrev pub deleting : Message
+deleting = control codes.ctlfunc_delete (Some codes.rac_sequential) None
+
+abbrev pub rewinding : Message
+rewinding = control codes.ctlfunc_rewind (Some codes.rac_sequential) None
+
+abbrev pub fetching : Message
+fetching = control codes.ctlfunc_get (Some codes.rac_whole_file) None
+
+abbrev pub storing : Message
+storing = control codes.ctlfunc_put (Some codes.rac_whole_file) None
 
 abbrev pub record_of : List ℕ → Message
 record_of body = Filedata [] body
 
 abbrev pub how_to_go_on : How → ℕ
-how_to_go_on Again = 1
-how_to_go_on Skip = 2
-how_to_go_on Abort = 3
+how_to_go_on Again = codes.confunc_again
+how_to_go_on Skip = codes.confunc_skip
+how_to_go_on Abort = codes.confunc_abort
 
 -- the messages of a request, to an end of this BUFSIZ
 abbrev pub messages_of : ℕ → Request → List Message
 messages_of own Hello = config_of own ∷ []
 messages_of own (Create name org rfm mrs mrn fac) =
-    attributes (Some org) (Some rfm) (Some mrs) (Some (four_bytes mrn)) ∷ access 2 name fac ∷ []
-messages_of own (OpenFile name fac) = attributes None None None None ∷ access 1 name fac ∷ []
-messages_of own Connect = control 2 None None ∷ []
+    attributes (Some org) (Some rfm) (Some mrs) (Some (four_bytes mrn)) ∷ access codes.accfunc_create name fac ∷ []
+messages_of own (OpenFile name fac) = attributes None None None None ∷ access codes.accfunc_open name fac ∷ []
+messages_of own Connect = control codes.ctlfunc_connect None None ∷ []
 messages_of own (Get by) = get_by by ∷ []
 messages_of own (Put key body) = put_at key ∷ record_of body ∷ []
-messages_of own (Update body) = control 3 (Some 0) None ∷ record_of body ∷ []
-messages_of own Delete = control 5 (Some 0) None ∷ []
-messages_of own Rewind = control 6 (Some 0) None ∷ []
-messages_of own Fetch = control 1 (Some 3) None ∷ []
-messages_of own (Store bodies) = (control 4 (Some 3) None ∷ map record_of bodies) ++ complete_with 4 ∷ []
+messages_of own (Update body) = updating ∷ record_of body ∷ []
+messages_of own Delete = deleting ∷ []
+messages_of own Rewind = rewinding ∷ []
+messages_of own Fetch = fetching ∷ []
+messages_of own (Store bodies) = (storing ∷ map record_of bodies) ++ complete_with codes.cmpfunc_end_of_stream ∷ []
 messages_of own (Continue how) = Contran (how_to_go_on how) ∷ []
-messages_of own Close = complete_with 1 ∷ []
-messages_of own Purge = complete_with 3 ∷ []
+messages_of own Close = complete_with codes.cmpfunc_close ∷ []
+messages_of own Purge = complete_with codes.cmpfunc_purge ∷ []
 
 -- the messages of all requests, in order
 abbrev pub Asked : ℕ → List Request → List Message

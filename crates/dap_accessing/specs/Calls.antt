@@ -1,5 +1,5 @@
 -- What `ask` and `read` come to.
-use Rattle.std.specs.Prelude.{ℕ, ◌≡◌, ◌<◌, ◌⊎◌, length, true, false, List, [], ◌∷◌, ◌++◌, option_to_list}
+use Rattle.std.specs.Prelude.{ℕ, ◌≡◌, true, false, List, [], ◌∷◌, ◌++◌, option_to_list}
 use Rattle.dap_msg.specs.Items.{Item, ItemAt}
 use Rattle.dap_msg.specs.Blocked.{Blocked, all_joined}
 use Rattle.dap_accessing.specs.declared.request.Request.{Request}
@@ -13,10 +13,6 @@ use Rattle.dap_accessing.specs.Told.{Told, is_unexpected}
 use Rattle.dap_accessing.specs.Phase.{IsAdmissible, IsRefused}
 use Rattle.dap_accessing.specs.Present.{Present, StandsAfter}
 
--- a place where a message can begin
-abbrev pub IsPlace : ℕ → List ℕ → Type 0
-IsPlace at bytes = (at < length bytes) ⊎ ((at ≡ 0) × (length bytes ≡ 0))
-
 -- the request is admissible, whatever requests and answers the end stands after
 abbrev pub IsAdmittedBy : Present → Request → Type 0
 IsAdmittedBy old request =
@@ -28,6 +24,9 @@ pub record Asks (request : Request) (old new : Present) (messages : List (List �
   pub spelled : messages ≡ all_joined (Blocked old.limit (messages_of old.own request))
   pub admissible : IsAdmittedBy old request
   pub stands : (requests : List Request) (answers : List Item) → StandsAfter requests answers old → StandsAfter (requests ++ request ∷ []) answers new
+  -- asking alone tells nothing more
+  pub told : (requests : List Request) (answers : List Item) → StandsAfter requests answers old →
+      Told (requests ++ request ∷ []) answers ≡ Told requests answers
 
 -- why a request is refused
 abbrev pub AskRefused : Request → Present → AskFault → Type 0

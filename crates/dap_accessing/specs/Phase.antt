@@ -1,9 +1,8 @@
 -- The phase and the peer's limit follow from the reports; which requests may be asked follows from these.
-use Rattle.std.specs.Prelude.{◌≡◌, ◌≤◌, ℕ, Bool, true, false, List, [], ◌∷◌, length, fold}
-use Rattle.dap_msg.specs.Message.{Message}
+use Rattle.std.specs.Prelude.{◌≡◌, ℕ, Bool, true, false, List, fold}
 use Rattle.dap_msg.specs.Items.{Item}
 use Rattle.dap_msg.specs.Exchange.{limit_of, greatest_message}
-use Rattle.dap_msg.specs.Canon.{canon, Fits}
+use Rattle.dap_msg.specs.Sendable.{AreSendable}
 use Rattle.dap_accessing.specs.declared.request.Request.{Request}
 use Rattle.dap_accessing.specs.declared.request.Request.TheVariants.{Hello, Create, OpenFile, Connect, Get, Put, Update, Delete, Rewind, Fetch, Store, Continue, Close, Purge}
 use Rattle.dap_accessing.specs.declared.report.Report.{Report}
@@ -14,7 +13,7 @@ use Rattle.dap_accessing.specs.declared.fault.AskFault.TheVariants.{Failed, Busy
 use Rattle.dap_accessing.specs.declared.phase.Phase.{Phase}
 use Rattle.dap_accessing.specs.declared.phase.Phase.TheVariants.{Fresh, Ready, Opened, Connected, Stopped}
 use Rattle.dap_accessing.specs.Asked.{messages_of}
-use Rattle.dap_accessing.specs.Told.{Told}
+use Rattle.dap_accessing.specs.Told.{Told, NothingDue, due_after}
 
 -- the phase after a report
 abbrev pub phase_next : Phase → Report → Phase
@@ -60,17 +59,9 @@ phase_fits Connected Close = true
 phase_fits Connected Purge = true
 phase_fits _ _ = false
 
--- a message has a spelling, and it is within the limit
-abbrev pub IsSendable : ℕ → Message → Type 0
-IsSendable limit m = Fits m × (length (canon m) ≤ limit)
-
-abbrev pub AreSendable : ℕ → List Message → Type 0
-AreSendable limit [] = Unit {0}
-AreSendable limit (m ∷ messages) = IsSendable limit m × AreSendable limit messages
-
--- as many reports as requests: none is due
+-- after these answers no report is due
 abbrev pub IsNoneDue : List Request → List Item → Type 0
-IsNoneDue requests answers = length (Told requests answers) ≡ length requests
+IsNoneDue requests answers = due_after requests answers ≡ NothingDue
 
 abbrev pub IsInPhase : List Request → List Item → Request → Type 0
 IsInPhase requests answers request = phase_fits (phase_after (Told requests answers)) request ≡ true
@@ -78,7 +69,8 @@ IsInPhase requests answers request = phase_fits (phase_after (Told requests answ
 -- a request is admissible after requests and answers
 abbrev pub IsAdmissible : ℕ → List Request → List Item → Request → Type 0
 IsAdmissible own requests answers request =
-    IsNoneDue requests answers × IsInPhase requests answers request × AreSendable (limit_after (Told requests answers)) (messages_of own request)
+    IsNoneDue requests answers × IsInPhase requests answers request
+    × AreSendable (limit_after (Told requests answers)) (messages_of own request)
 
 -- why it isn't: the first of these that holds
 abbrev pub IsRefused : ℕ → List Request → List Item → Request → AskFault → Type 0

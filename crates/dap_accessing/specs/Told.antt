@@ -1,8 +1,10 @@
 -- What answers to requests report: each request takes its answers from the front of what is left.
-use Rattle.std.specs.Prelude.{ℕ, ◌/◌, Bool, true, false, ◌&&◌, nat_lt, nat_le, ◌==◌, if◌then◌else◌, List, [], ◌∷◌, ◌++◌, Option, Some, None, unwrap_or}
+use Rattle.std.specs.Prelude.{ℕ, Bool, true, false, ◌&&◌, nat_le, ◌==◌, if◌then◌else◌, List, [], ◌∷◌, ◌++◌, Option, Some, None, unwrap_or}
+use Rattle.dap_msg.specs.Codes as codes
+use Rattle.dap_msg.specs.declared.codes.Reason.TheVariants.{TooLargeForBuffer}
 use Rattle.dap_msg.specs.Message.{Config, Attrib, Ack, Accomp, Filedata, Status, Other, Attributes, StatusFields}
 use Rattle.dap_msg.specs.Items.{Item, Whole}
-use Rattle.dap_msg.specs.Exchange.{number_of}
+use Rattle.dap_msg.specs.Exchange.{number_of, is_too_small}
 use Rattle.dap_accessing.specs.declared.request.Request.{Request}
 use Rattle.dap_accessing.specs.declared.request.Request.TheVariants.{Hello, Create, OpenFile, Connect, Get, Put, Update, Delete, Rewind, Fetch, Store, Continue, Close, Purge}
 use Rattle.dap_accessing.specs.declared.report.Report.{Report}
@@ -16,9 +18,6 @@ pub data Hearing : Type 0 where
   Waits : Hearing
   Unexpected : Hearing
 
-abbrev pub is_success : ℕ → Bool
-is_success code = code / 4096 == 1
-
 -- the reason, where there is one byte of it
 abbrev pub reason_in : List ℕ → ℕ
 reason_in (reason ∷ []) = reason
@@ -26,7 +25,7 @@ reason_in _ = 0
 
 -- the report of a Status where one is due, unless it is a success
 abbrev pub refused_by : ℕ → ℕ → Option Report
-refused_by code reason = if is_success code then None else Some (report.Refused code reason)
+refused_by code reason = if codes.is_success code then None else Some (report.Refused code reason)
 
 abbrev pub reports_or_unexpected : Option Report → List Item → Hearing
 reports_or_unexpected None rest = Unexpected
@@ -38,7 +37,7 @@ refusal status rest = reports_or_unexpected (refused_by status.code (reason_in s
 abbrev pub hear_config : List Item → Hearing
 hear_config [] = Waits
 hear_config (Whole (Config config) ∷ rest) =
-    if nat_lt 0 config.bufsiz && nat_lt config.bufsiz 64 then Unexpected else Reports (report.Ready config.bufsiz) rest
+    if is_too_small config.bufsiz then Unexpected else Reports (report.Ready config.bufsiz) rest
 hear_config (Whole (Status status) ∷ rest) = refusal status rest
 hear_config (_ ∷ rest) = Unexpected
 
@@ -56,34 +55,39 @@ hear_opened done answers = hear_ack done answers
 
 abbrev pub opened_as : Attributes → Report
 opened_as a =
-    report.Opened (unwrap_or a.org 0) (unwrap_or a.rfm 2) (unwrap_or a.mrs 0) (number_of (unwrap_or a.mrn []))
+    report.Opened (unwrap_or a.org codes.org_sequential) (unwrap_or a.rfm codes.rfm_variable) (unwrap_or a.mrs 0)
+    (number_of (unwrap_or a.mrn []))
+
+-- no record of a file has a greater number
+abbrev pub greatest_mrn : ℕ
+greatest_mrn = 2147483647
 
 -- the attributes of the file and then the Ack
 abbrev pub hear_attributes : List Item → Hearing
 hear_attributes [] = Waits
 hear_attributes (Whole (Other _ _) ∷ rest) = hear_attributes rest
 hear_attributes (Whole (Attrib a) ∷ rest) =
-    if nat_le (number_of (unwrap_or a.mrn [])) 2147483647 then hear_opened (opened_as a) rest else Unexpected
+    if nat_le (number_of (unwrap_or a.mrn [])) greatest_mrn then hear_opened (opened_as a) rest else Unexpected
 hear_attributes (Whole (Status status) ∷ rest) = refusal status rest
 hear_attributes (_ ∷ rest) = Unexpected
 
 abbrev pub hear_record : List Item → Hearing
 hear_record [] = Waits
 hear_record (Whole (Filedata recnum body) ∷ rest) = Reports (report.Found (number_of recnum) body) rest
-hear_record (Whole (Status status) ∷ rest) = if status.code == 0x5027 then Reports report.EndOfFile rest else refusal status rest
+hear_record (Whole (Status status) ∷ rest) = if status.code == codes.end_of_file then Reports report.EndOfFile rest else refusal status rest
 hear_record (_ ∷ rest) = Unexpected
 
 abbrev pub hear_done : List Item → Hearing
 hear_done [] = Waits
 hear_done (Whole (Status status) ∷ rest) =
-    if is_success status.code then Reports (report.Done (number_of status.recnum)) rest else refusal status rest
+    if codes.is_success status.code then Reports (report.Done (number_of status.recnum)) rest else refusal status rest
 hear_done (_ ∷ rest) = Unexpected
 
 -- how a fetch ended, by the code and the reason of its Status
 abbrev pub ending_by : ℕ → ℕ → Ending
 ending_by code reason =
-    if code == 0x5027 then ending.Complete
-    else if code == 0x5000 && reason == 10 then ending.Stopped
+    if code == codes.end_of_file then ending.Complete
+    else if code == codes.record_refused && reason == codes.reason_number TooLargeForBuffer then ending.Stopped
     else ending.Refused code reason
 
 abbrev pub ending_of : StatusFields → Ending
@@ -94,7 +98,7 @@ abbrev pub hear_batch : List (ℕ × List ℕ) → List Item → Hearing
 hear_batch bodies [] = Waits
 hear_batch bodies (Whole (Filedata recnum body) ∷ rest) = hear_batch (bodies ++ (number_of recnum, body) ∷ []) rest
 hear_batch bodies (Whole (Status status) ∷ rest) =
-    if is_success status.code then Unexpected else Reports (report.Batch bodies (ending_of status)) rest
+    if codes.is_success status.code then Unexpected else Reports (report.Batch bodies (ending_of status)) rest
 hear_batch bodies (_ ∷ rest) = Unexpected
 
 -- the first refusal of a Store is kept
@@ -102,13 +106,13 @@ abbrev pub first_kept : Option (ℕ × ℕ × ℕ) → StatusFields → Option (
 first_kept (Some kept) status = Some kept
 first_kept None status = Some (status.code, reason_in status.stv, number_of status.recnum)
 
--- an Accomp: with CMPFUNC 2 there is this report, any other has no place
+-- an Accomp that answers: there is this report; any other has no place
 abbrev pub completes : ℕ → Report → List Item → Hearing
-completes func done rest = if func == 2 then Reports done rest else Unexpected
+completes func done rest = if func == codes.cmpfunc_response then Reports done rest else Unexpected
 
 abbrev pub hear_stored : Option (ℕ × ℕ × ℕ) → List Item → Hearing
 hear_stored kept [] = Waits
-hear_stored kept (Whole (Status status) ∷ rest) = if is_success status.code then Unexpected else hear_stored (first_kept kept status) rest
+hear_stored kept (Whole (Status status) ∷ rest) = if codes.is_success status.code then Unexpected else hear_stored (first_kept kept status) rest
 hear_stored kept (Whole (Accomp c) ∷ rest) = completes c.func (report.Stored kept) rest
 hear_stored kept (_ ∷ rest) = Unexpected
 

@@ -2,13 +2,15 @@
 
 ghost use Rattle.std.specs.Prelude.{◌≡◌, ◌≢◌, ◌≤◌, ◌<◌, [], false, length, map, IfOk, IfErr, OnOk, OnErr};
 ghost use Rattle.dap_accessing.specs.declared.fault.AskFault.TheVariants.{NoMemory};
-ghost use Rattle.dap_accessing.specs.Outgoing.{Admits, number_carried, outgoing_messages};
-ghost use Rattle.dap_msg.specs.Exchange.{four_bytes, greatest_message, limit_of as the_limit};
+ghost use Rattle.dap_accessing.specs.Inner.Outgoing.{Admits, number_carried, outgoing_messages};
+ghost use Rattle.dap_msg.specs.Exchange.{four_bytes, greatest_message, least_buffer};
 ghost use Rattle.dap_msg.specs.Message.{seen};
 ghost use Rattle.dap_msg.specs.Items.{Whole};
 ghost use Rattle.dap_msg.specs.Blocked.{bodies};
-ghost use Rattle.dap_accessing.specs.Present.{StandsAfter, HasShortNumbers, Takes};
-ghost use Rattle.dap_accessing.specs.Calls.{Asks, AskRefused, IsAdmittedBy, IsPlace, Reads, ReadRefused};
+ghost use Rattle.dap_accessing.specs.Inner.Hears.{HasShortNumbers, Takes};
+ghost use Rattle.dap_accessing.specs.Present.{StandsAfter};
+ghost use Rattle.dap_msg.specs.Items.{IsPlace};
+ghost use Rattle.dap_accessing.specs.Calls.{Asks, AskRefused, IsAdmittedBy, Reads, ReadRefused};
 ghost use Rattle.dap_accessing.specs.Steps.{ReportsGrow};
 
 use crate::asking::{Outgoing, carried_number};
@@ -17,12 +19,9 @@ use crate::pending::{Heard, Pending};
 use crate::phase::Phase;
 use crate::report::Report;
 use crate::request::Request;
-use dap_msg::{Item, Message, item_at};
+use dap_msg::{GREATEST_MESSAGE, Item, Message, item_at, limit_of};
 use std::alloc::Global;
 use std::marker::Model;
-
-/// The longest message that any end takes.
-const GREATEST_MESSAGE: u16 = 65535;
 
 /// The end that asks. It keeps no list of what was asked or answered: it stands as after any requests
 /// and answers that leave what it keeps. Own.
@@ -41,14 +40,20 @@ impl Model for Accessing {
 
     ghost Value = { Present };
 
-    ghost view = { λ a. record { own = a.bufsiz; failed = a.failed; phase = a.phase; limit = a.limit; pending = a.pending } };
+    ghost view = { λ a. record {
+      own = a.bufsiz;
+      failed = a.failed;
+      phase = a.phase;
+      limit = a.limit;
+      pending = a.pending;
+    } };
 }
 
 impl Accessing {
     /// An end that nothing was asked of, with a buffer of so many bytes, at least 64. It takes no
     /// memory.
     pub fn new(alloc: Global, bufsiz: u16) -> Accessing
-        requires low { 64 ≤ bufsiz }
+        requires low { least_buffer ≤ bufsiz }
         requires high { bufsiz ≤ greatest_message }
         ensures own { result.own ≡ bufsiz }
         ensures stands { StandsAfter [] [] result }
@@ -68,7 +73,8 @@ impl Accessing {
     /// Refusals in order: Failed, Busy, WrongPhase, TooLarge, NoMemory; each leaves the end
     /// unchanged.
     pub fn ask(&mut self, request: &Request) -> Result<Vec<Vec<u8>>, AskFault>
-        ensures asks { IfOk result (λ messages. Asks request.now self.old self.new (bodies messages.items)) }
+        ensures asks { IfOk result
+            (λ messages. Asks request.now self.old self.new (bodies messages.items)) }
         ensures refused { IfErr result (λ f. AskRefused request.now self.old f) }
         ensures unchanged { OnErr result (self.new ≡ self.old) }
         ensures own { self.new.own ≡ self.old.own }
@@ -176,17 +182,6 @@ impl Accessing {
             Ok(report) => Ok(ReadStep { report, next }),
             Err(fault) => Err(fault),
         }
-    }
-}
-
-/// How long a message a peer takes that has this BUFSIZ.
-fn limit_of(bufsiz: u16) -> u16
-    ensures { result ≡ the_limit bufsiz }
-{
-    if bufsiz == 0 || bufsiz > GREATEST_MESSAGE {
-        GREATEST_MESSAGE
-    } else {
-        bufsiz
     }
 }
 

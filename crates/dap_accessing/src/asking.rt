@@ -1,17 +1,23 @@
 //! The messages of a request.
 
-ghost use Rattle.std.specs.Prelude.{◌≡◌, ◌≤◌, ◌↔◌, IsTrue, IfOk, OnOk, map, option_map, Option, option_copied};
+ghost use Rattle.std.specs.Prelude.{◌≡◌, ◌↔◌, IsTrue, IfOk, option_copied};
 ghost use Rattle.dap_msg.specs.Message.{seen};
-ghost use Rattle.dap_msg.specs.Exchange.{four_bytes, config_of, complete_with};
-ghost use Rattle.dap_msg.specs.Blocked.{Blocked, all_joined, bodies, one_more};
+ghost use Rattle.dap_msg.specs.Exchange.{four_bytes};
+ghost use Rattle.dap_msg.specs.Blocked.{AddsOne};
 ghost use Rattle.dap_msg.specs.Canon.{canon, Fits};
 ghost use Rattle.dap_accessing.specs.Asked as asked;
-ghost use Rattle.dap_accessing.specs.Outgoing.{number_carried, first_of, bodies_of, last_of, outgoing_messages, seen_option};
-ghost use Rattle.dap_accessing.specs.Phase.{IsSendable, AreSendable};
+ghost use Rattle.dap_accessing.specs.Inner.Outgoing.{IsBlocked, number_carried, first_of, bodies_of, last_of, outgoing_messages, seen_option};
+ghost use Rattle.dap_msg.specs.Sendable.{IsSendable, AreSendable};
 
 use crate::bytes::Octets;
 use crate::request::{By, How, Request};
-use dap_msg::{Attributes, Control, Message, MsgFault, append_blocked, encode, encoded_len, fits};
+use dap_msg::codes::{
+    ACCFUNC_CREATE, ACCFUNC_OPEN, CMPFUNC_CLOSE, CMPFUNC_END_OF_STREAM, CMPFUNC_PURGE,
+    CONFUNC_ABORT, CONFUNC_AGAIN, CONFUNC_SKIP, CTLFUNC_CONNECT, CTLFUNC_DELETE, CTLFUNC_GET,
+    CTLFUNC_PUT, CTLFUNC_REWIND, CTLFUNC_UPDATE, RAC_ADDRESS, RAC_KEYED, RAC_SEQUENTIAL,
+    RAC_WHOLE_FILE,
+};
+use dap_msg::{Attributes, Control, Message, MsgFault, append_message, encoded_len, fits};
 use std::alloc::Global;
 
 /// The number that a request carries in four bytes, 0 where it carries none.
@@ -33,27 +39,11 @@ fn attributes(org: Option<u8>, rfm: Option<u8>, mrs: Option<u16>, mrn: Option<&[
     ensures { seen result ≡ asked.attributes org rfm mrs (option_copied mrn.entry) }
 {
     Message::Attrib(Attributes {
-        datatype: None,
         org,
         rfm,
-        rat: None,
-        bls: None,
         mrs,
-        alq: None,
-        bks: None,
-        fsz: None,
         mrn,
-        runsys: None,
-        deq: None,
-        fop: None,
-        bsz: None,
-        dev: None,
-        sdc: None,
-        lrl: None,
-        hbk: None,
-        ebk: None,
-        ffb: None,
-        sbn: None,
+        ..Attributes::none()
     })
 }
 
@@ -94,59 +84,37 @@ fn record(body: &Octets) -> Message<'_>
     }
 }
 
-fn complete_with<'a>(func: u8) -> Message<'a>
-    ensures { seen result ≡ complete_with func }
-{
-    Message::Accomp {
-        func,
-        fop: 0,
-        check: None,
-    }
-}
-
-fn configuration<'a>(bufsiz: u16) -> Message<'a>
-    ensures { seen result ≡ config_of bufsiz }
-{
-    Message::Config {
-        bufsiz,
-        ostype: 7,
-        filesys: 3,
-        vernum: 5,
-        econum: 6,
-        usrnum: 0,
-        softver: 0,
-        usrsoft: 0,
-        syscap: 0,
-    }
-}
-
 /// The first message of a request that carries these four bytes.
 fn first_message<'a>(own: u16, request: &'a Request, number: &'a [u8]) -> Message<'a>
     requires { number.now ≡ four_bytes (number_carried request.now) }
     ensures { seen result ≡ first_of own request.now }
 {
     match request {
-        Request::Hello => configuration(own),
+        Request::Hello => Message::config_of(own),
         Request::Create { org, rfm, mrs, .. } => {
             attributes(Some(*org), Some(*rfm), Some(*mrs), Some(number))
         }
         Request::OpenFile { .. } => attributes(None, None, None, None),
-        Request::Connect => control(2, None, None),
-        Request::Get(By::Next) => control(1, Some(0), None),
-        Request::Get(By::Key(_)) => control(1, Some(1), Some(number)),
-        Request::Get(By::Rfa(_)) => control(1, Some(2), Some(number)),
-        Request::Put { key: None, .. } => control(4, Some(0), None),
-        Request::Put { key: Some(_), .. } => control(4, Some(1), Some(number)),
-        Request::Update { .. } => control(3, Some(0), None),
-        Request::Delete => control(5, Some(0), None),
-        Request::Rewind => control(6, Some(0), None),
-        Request::Fetch => control(1, Some(3), None),
-        Request::Store(_) => control(4, Some(3), None),
-        Request::Continue(How::Again) => Message::Contran { func: 1 },
-        Request::Continue(How::Skip) => Message::Contran { func: 2 },
-        Request::Continue(How::Abort) => Message::Contran { func: 3 },
-        Request::Close => complete_with(1),
-        Request::Purge => complete_with(3),
+        Request::Connect => control(CTLFUNC_CONNECT, None, None),
+        Request::Get(By::Next) => control(CTLFUNC_GET, Some(RAC_SEQUENTIAL), None),
+        Request::Get(By::Key(_)) => control(CTLFUNC_GET, Some(RAC_KEYED), Some(number)),
+        Request::Get(By::Rfa(_)) => control(CTLFUNC_GET, Some(RAC_ADDRESS), Some(number)),
+        Request::Put { key: None, .. } => control(CTLFUNC_PUT, Some(RAC_SEQUENTIAL), None),
+        Request::Put { key: Some(_), .. } => control(CTLFUNC_PUT, Some(RAC_KEYED), Some(number)),
+        Request::Update { .. } => control(CTLFUNC_UPDATE, Some(RAC_SEQUENTIAL), None),
+        Request::Delete => control(CTLFUNC_DELETE, Some(RAC_SEQUENTIAL), None),
+        Request::Rewind => control(CTLFUNC_REWIND, Some(RAC_SEQUENTIAL), None),
+        Request::Fetch => control(CTLFUNC_GET, Some(RAC_WHOLE_FILE), None),
+        Request::Store(_) => control(CTLFUNC_PUT, Some(RAC_WHOLE_FILE), None),
+        Request::Continue(How::Again) => Message::Contran {
+            func: CONFUNC_AGAIN,
+        },
+        Request::Continue(How::Skip) => Message::Contran { func: CONFUNC_SKIP },
+        Request::Continue(How::Abort) => Message::Contran {
+            func: CONFUNC_ABORT,
+        },
+        Request::Close => Message::complete_with(CMPFUNC_CLOSE),
+        Request::Purge => Message::complete_with(CMPFUNC_PURGE),
     }
 }
 
@@ -155,10 +123,10 @@ fn last_message(request: &Request) -> Option<Message<'_>>
     ensures { seen_option result ≡ last_of request.now }
 {
     match request {
-        Request::Create { name, fac, .. } => Some(access(2, name, *fac)),
-        Request::OpenFile { name, fac } => Some(access(1, name, *fac)),
+        Request::Create { name, fac, .. } => Some(access(ACCFUNC_CREATE, name, *fac)),
+        Request::OpenFile { name, fac } => Some(access(ACCFUNC_OPEN, name, *fac)),
         Request::Put { body, .. } | Request::Update { body } => Some(record(body)),
-        Request::Store(_) => Some(complete_with(4)),
+        Request::Store(_) => Some(Message::complete_with(CMPFUNC_END_OF_STREAM)),
         _ => None,
     }
 }
@@ -188,11 +156,9 @@ fn append(
     limit: u16,
 ) -> Result<(), MsgFault>
     requires { Fits (seen message.now) }
-    ensures { OnOk result (bodies list.new.items ≡ one_more limit (bodies list.old.items) (canon (seen message.now))) }
+    ensures { AddsOne limit (canon (seen message.now)) list.old list.new result }
 {
-    let mut bytes = Vec::new(alloc);
-    encode(message, &mut bytes)?;
-    append_blocked(alloc, list, &bytes, usize::from(limit))
+    append_message(alloc, list, message, usize::from(limit))
 }
 
 /// The messages of a request.
@@ -236,7 +202,7 @@ impl<'a> Outgoing<'a> {
     /// The messages, joined as far as the limit goes.
     pub(crate) fn blocked(&self, alloc: Global, limit: u16) -> Result<Vec<Vec<u8>>, MsgFault>
         requires { AreSendable limit (outgoing_messages self.now) }
-        ensures { IfOk result (λ list. bodies list.items ≡ all_joined (Blocked limit (outgoing_messages self.now))) }
+        ensures { IfOk result (IsBlocked limit (outgoing_messages self.now)) }
     {
         let mut list = Vec::new(alloc);
         append(alloc, &mut list, &self.first, limit)?;

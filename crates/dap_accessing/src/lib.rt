@@ -5,6 +5,7 @@
 mod accessing;
 mod asking;
 mod bytes;
+mod copying;
 mod fault;
 mod pending;
 mod phase;

@@ -1,21 +1,23 @@
 //! What is still to come of the answers to a request.
 
-ghost use Rattle.std.specs.Prelude.{◌≡◌, ◌≤◌, ◌<◌, ◌^◌, length};
+ghost use Rattle.std.specs.Prelude.{◌≡◌};
 ghost use Rattle.dap_msg.specs.Items.{Whole};
 ghost use Rattle.dap_msg.specs.Message.{seen};
-ghost use Rattle.dap_msg.specs.Exchange.{number_of};
 ghost use Rattle.dap_accessing.specs.declared.pending.Pending.TheVariants as pending;
 ghost use Rattle.dap_accessing.specs.Told.{ending_by, reason_in, refused_by};
-ghost use Rattle.dap_accessing.specs.Present.{AddsBody, HasShortNumbers, Hears, pending_of};
+ghost use Rattle.dap_accessing.specs.Inner.Hears.{AddsBody, HasShortNumbers, Hears, pending_of, refused_as};
 
 use crate::bytes::{Numbered, Octets};
 use crate::report::{Ending, Report};
 use crate::request::Request;
-use dap_msg::{Message, StatusCode};
+use dap_msg::codes::{
+    CMPFUNC_RESPONSE, END_OF_FILE, ORG_SEQUENTIAL, RECORD_REFUSED, RFM_VARIABLE, Reason,
+};
+use dap_msg::{Message, StatusCode, is_too_small, number_of};
 use std::alloc::Global;
 
-/// The end of a file, as the code of a Status.
-const END_OF_FILE: u16 = 0x5027;
+/// No record of a file has a greater number.
+const GREATEST_MRN: u64 = 2_147_483_647;
 
 #[derive(Drop)]
 pub(crate) enum Pending {
@@ -47,18 +49,6 @@ pub(crate) enum Heard {
     NoMemory(Pending),
 }
 
-/// The number that at most 8 bytes stand for.
-fn number(bytes: &[u8]) -> u64
-    requires { length bytes.now ≤ 8 }
-    ensures exact { result ≡ number_of bytes.now }
-    ensures small { result < 256 ^ length bytes.now }
-{
-    match bytes {
-        [] => 0,
-        [first, rest @ ..] => u64::from(*first) + 256 * number(rest),
-    }
-}
-
 /// The reason, where there is one byte of it.
 fn reason(stv: &[u8]) -> u8
     ensures { result ≡ reason_in stv.now }
@@ -73,10 +63,11 @@ fn reason(stv: &[u8]) -> u8
 fn ending(code: u16, stv: &[u8]) -> Ending
     ensures { result ≡ ending_by code (reason_in stv.now) }
 {
-    match (code, reason(stv)) {
-        (END_OF_FILE, _) => Ending::Complete,
-        (0x5000, 10) => Ending::Stopped,
-        (code, reason) => Ending::Refused(code, reason),
+    let reason = reason(stv);
+    match code {
+        END_OF_FILE => Ending::Complete,
+        RECORD_REFUSED if reason == Reason::TooLargeForBuffer.number() => Ending::Stopped,
+        _ => Ending::Refused(code, reason),
     }
 }
 
@@ -118,14 +109,14 @@ impl Pending {
     }
 }
 
-/// The report of a Status where one is due, unless the Status is a success.
-fn refusal(code: u16, stv: &[u8]) -> Option<Report>
-    ensures { result ≡ refused_by code (reason_in stv.now) }
+/// A Status where a report is due: it refuses, or has no place where it is a success.
+fn hear_status(code: u16, stv: &[u8]) -> Heard
+    ensures { result ≡ refused_as (refused_by code (reason_in stv.now)) }
 {
     if StatusCode(code).is_success() {
-        None
+        Heard::Unexpected
     } else {
-        Some(Report::Refused(code, reason(stv)))
+        Heard::Reports(Report::Refused(code, reason(stv)))
     }
 }
 
@@ -134,16 +125,13 @@ fn hear_config(message: &Message<'_>) -> Heard
 {
     match *message {
         Message::Config { bufsiz, .. } => {
-            if bufsiz > 0 && bufsiz < 64 {
+            if is_too_small(bufsiz) {
                 Heard::Unexpected
             } else {
                 Heard::Reports(Report::Ready(bufsiz))
             }
         }
-        Message::Status { code, stv, .. } => match refusal(code, stv) {
-            Some(report) => Heard::Reports(report),
-            None => Heard::Unexpected,
-        },
+        Message::Status { code, stv, .. } => hear_status(code, stv),
         _ => Heard::Unexpected,
     }
 }
@@ -154,11 +142,11 @@ fn hear_attributes(message: &Message<'_>) -> Heard
 {
     match *message {
         Message::Attrib(attributes) => {
-            let mrn = number(attributes.mrn.unwrap_or(&[]));
-            if mrn <= 2_147_483_647 {
+            let mrn = number_of(attributes.mrn.unwrap_or(&[]));
+            if mrn <= GREATEST_MRN {
                 Heard::Waits(Pending::Opened {
-                    org: attributes.org.unwrap_or(0),
-                    rfm: attributes.rfm.unwrap_or(2),
+                    org: attributes.org.unwrap_or(ORG_SEQUENTIAL),
+                    rfm: attributes.rfm.unwrap_or(RFM_VARIABLE),
                     mrs: attributes.mrs.unwrap_or(0),
                     mrn: mrn as u32,
                 })
@@ -167,10 +155,7 @@ fn hear_attributes(message: &Message<'_>) -> Heard
             }
         }
         Message::Other { .. } => Heard::Waits(Pending::Attributes),
-        Message::Status { code, stv, .. } => match refusal(code, stv) {
-            Some(report) => Heard::Reports(report),
-            None => Heard::Unexpected,
-        },
+        Message::Status { code, stv, .. } => hear_status(code, stv),
         _ => Heard::Unexpected,
     }
 }
@@ -181,10 +166,7 @@ fn hear_opened(org: u8, rfm: u8, mrs: u16, mrn: u32, message: &Message<'_>) -> H
     match *message {
         Message::Ack => Heard::Reports(Report::Opened { org, rfm, mrs, mrn }),
         Message::Other { .. } => Heard::Waits(Pending::Opened { org, rfm, mrs, mrn }),
-        Message::Status { code, stv, .. } => match refusal(code, stv) {
-            Some(report) => Heard::Reports(report),
-            None => Heard::Unexpected,
-        },
+        Message::Status { code, stv, .. } => hear_status(code, stv),
         _ => Heard::Unexpected,
     }
 }
@@ -194,10 +176,7 @@ fn hear_connected(message: &Message<'_>) -> Heard
 {
     match *message {
         Message::Ack => Heard::Reports(Report::Connected),
-        Message::Status { code, stv, .. } => match refusal(code, stv) {
-            Some(report) => Heard::Reports(report),
-            None => Heard::Unexpected,
-        },
+        Message::Status { code, stv, .. } => hear_status(code, stv),
         _ => Heard::Unexpected,
     }
 }
@@ -209,7 +188,7 @@ fn hear_record(alloc: Global, message: &Message<'_>) -> Heard
     match *message {
         Message::Filedata { recnum, payload } => match Vec::from_slice(alloc, payload) {
             Ok(body) => Heard::Reports(Report::Found {
-                number: number(recnum),
+                number: number_of(recnum),
                 body: Octets(body),
             }),
             Err(_) => Heard::NoMemory(Pending::Record),
@@ -218,10 +197,7 @@ fn hear_record(alloc: Global, message: &Message<'_>) -> Heard
             if code == END_OF_FILE {
                 return Heard::Reports(Report::EndOfFile);
             }
-            match refusal(code, stv) {
-                Some(report) => Heard::Reports(report),
-                None => Heard::Unexpected,
-            }
+            hear_status(code, stv)
         }
         _ => Heard::Unexpected,
     }
@@ -239,7 +215,7 @@ fn hear_done(message: &Message<'_>) -> Heard
             ..
         } => {
             if StatusCode(code).is_success() {
-                Heard::Reports(Report::Done(number(recnum)))
+                Heard::Reports(Report::Done(number_of(recnum)))
             } else {
                 Heard::Reports(Report::Refused(code, reason(stv)))
             }
@@ -267,7 +243,12 @@ fn hear_batch(alloc: Global, bodies: Numbered, message: &Message<'_>) -> Heard
     ensures { Hears (pending.Batch bodies) (Whole (seen message.now)) result }
 {
     match *message {
-        Message::Filedata { recnum, payload } => hear_body(alloc, bodies, number(recnum), payload),
+        Message::Filedata { recnum, payload } => hear_body(
+            alloc,
+            bodies,
+            number_of(recnum),
+            payload,
+        ),
         Message::Status { code, stv, .. } => {
             if StatusCode(code).is_success() {
                 Heard::Unexpected
@@ -298,11 +279,11 @@ fn hear_stored(kept: Option<(u16, u8, u64)>, message: &Message<'_>) -> Heard
             }
             Heard::Waits(Pending::Stored(match kept {
                 Some(first) => Some(first),
-                None => Some((code, reason(stv), number(recnum))),
+                None => Some((code, reason(stv), number_of(recnum))),
             }))
         }
         Message::Accomp { func, .. } => {
-            if func == 2 {
+            if func == CMPFUNC_RESPONSE {
                 Heard::Reports(Report::Stored(kept))
             } else {
                 Heard::Unexpected
@@ -317,16 +298,13 @@ fn hear_closed(message: &Message<'_>) -> Heard
 {
     match *message {
         Message::Accomp { func, .. } => {
-            if func == 2 {
+            if func == CMPFUNC_RESPONSE {
                 Heard::Reports(Report::Closed)
             } else {
                 Heard::Unexpected
             }
         }
-        Message::Status { code, stv, .. } => match refusal(code, stv) {
-            Some(report) => Heard::Reports(report),
-            None => Heard::Unexpected,
-        },
+        Message::Status { code, stv, .. } => hear_status(code, stv),
         _ => Heard::Unexpected,
     }
 }

@@ -1,10 +1,8 @@
-//! What no clause says: worked examples, which answers each request hears, that each call can
-//! succeed, growth that is refused, and answers that are altered.
+//! What no clause says: worked examples, which answers each request hears, and that each call can
+//! succeed.
 
-mod altered;
 mod answers;
 mod ends;
-mod growth;
 mod limits;
 mod requests;
 mod sessions;

@@ -157,49 +157,8 @@ fn request(alloc: Global, ask: Ask) -> Result<Request, AllocError> {
     })
 }
 
-/// The request, also where memory runs out once.
-fn request_surely(alloc: Global, ask: Ask) -> Result<Request, AllocError> {
-    match request(alloc, ask) {
-        Err(_) => request(alloc, ask),
-        made => made,
-    }
-}
-
-/// The NSP messages of the request. Where memory runs out it is asked again: nothing was due then, as is
-/// seen by a request that is refused for its phase and not because a report is due.
-pub(super) fn asked(end: &mut Accessing, request: &Request) -> Result<Vec<Vec<u8>>, AskFault> {
-    match end.ask(request) {
-        Err(AskFault::NoMemory) => {
-            let unfit = match request {
-                Request::Hello => Request::Connect,
-                _ => Request::Hello,
-            };
-            match end.ask(&unfit) {
-                Err(AskFault::WrongPhase) => end.ask(request),
-                other => other,
-            }
-        }
-        reply => reply,
-    }
-}
-
-/// What the answer at `at` comes to, and where the next begins. Where memory runs out it is read again:
-/// the report was still due then.
+/// What the answer at `at` comes to, and where the next begins.
 pub(super) fn reply_to(
-    end: &mut Accessing,
-    bytes: &[u8],
-    at: usize,
-) -> Result<(Option<Report>, usize), ReadFault> {
-    match read(end, bytes, at) {
-        Err(ReadFault::NoMemory) => match end.ask(&Request::Hello) {
-            Err(AskFault::Busy) => read(end, bytes, at),
-            _ => Err(ReadFault::NoMemory),
-        },
-        reply => reply,
-    }
-}
-
-fn read(
     end: &mut Accessing,
     bytes: &[u8],
     at: usize,
@@ -276,7 +235,7 @@ fn hears(end: &mut Accessing, bytes: &[u8], at: usize, next: usize, expected: He
 
 /// Whether the request is one NSP message of these bytes.
 fn sends(end: &mut Accessing, request: &Request, expected: &[u8]) -> bool {
-    match asked(end, request) {
+    match end.ask(request) {
         Ok(messages) => match messages.as_slice() {
             [only] => only.as_slice() == expected,
             _ => false,
@@ -288,14 +247,14 @@ fn sends(end: &mut Accessing, request: &Request, expected: &[u8]) -> bool {
 /// Whether the end does what the line says.
 fn does(alloc: Global, end: &mut Accessing, line: Line) -> Result<bool, AllocError> {
     Ok(match line {
-        Line::Sends(ask, bytes) => sends(end, &request_surely(alloc, ask)?, bytes),
+        Line::Sends(ask, bytes) => sends(end, &request(alloc, ask)?, bytes),
         Line::Asks(ask) => {
-            let request = request_surely(alloc, ask)?;
-            end.check(&request).is_ok() && asked(end, &request).is_ok()
+            let request = request(alloc, ask)?;
+            end.check(&request).is_ok() && end.ask(&request).is_ok()
         }
         Line::Refuses(ask, fault) => {
-            let request = request_surely(alloc, ask)?;
-            end.check(&request) == Err(fault) && asked(end, &request).err() == Some(fault)
+            let request = request(alloc, ask)?;
+            end.check(&request) == Err(fault) && end.ask(&request).err() == Some(fault)
         }
         Line::Hears(bytes, expected) => hears(end, bytes, 0, bytes.len(), expected),
         Line::HearsAt(bytes, at, next, expected) => hears(end, bytes, at, next, expected),

@@ -168,7 +168,7 @@ fn end_for(
 
 /// How long the NSP messages of the request are, in bytes.
 fn lengths(end: &mut Accessing, request: &Request) -> Result<(usize, usize, usize), AskFault> {
-    let messages = asked(end, request)?;
+    let messages = end.ask(request)?;
     match messages.as_slice() {
         [only] => Ok((only.len(), 0, 0)),
         [first, second] => Ok((first.len(), second.len(), 0)),
@@ -179,7 +179,7 @@ fn lengths(end: &mut Accessing, request: &Request) -> Result<(usize, usize, usiz
 
 /// Whether the request is one NSP message that begins and ends so.
 fn is_spelled(end: &mut Accessing, request: &Request, front: &[u8], back: &[u8]) -> bool {
-    match asked(end, request) {
+    match end.ask(request) {
         Ok(messages) => match messages.as_slice() {
             [only] => only.starts_with(front) && only.ends_with(back),
             _ => false,

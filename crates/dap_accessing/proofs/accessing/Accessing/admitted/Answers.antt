@@ -1,9 +1,9 @@
 use Rattle.std.proofs.Common.{◌≢◌, ◌∙◌, sym, subst, rules, IsTrue, true, false}
 use Rattle.dap_accessing.specs.declared.fault.AskFault.TheVariants as fault
-use Rattle.dap_accessing.specs.Phase.{AreSendable}
+use Rattle.dap_msg.specs.Sendable.{AreSendable}
 use Rattle.dap_accessing.specs.Present.{Present}
 use Rattle.dap_accessing.specs.Calls.{AskRefused}
-use Rattle.dap_accessing.specs.Outgoing.{Admits, outgoing_messages}
+use Rattle.dap_accessing.specs.Inner.Outgoing.{Admits, outgoing_messages}
 use Rattle.dap_accessing.specs.contracts.accessing.Accessing.{the_view}
 use Rattle.dap_accessing.proofs.Laws.{refuse_busy, refuse_phase, refuse_large}
 use Rattle.dap_accessing.proofs.accessing.Accessing.admitted.Goals as goal
