@@ -17,7 +17,7 @@ use Rattle.dap_accessed.specs.Standing.{Scene, Effect, enters, Connected, Stoppe
 use Rattle.dap_accessed.specs.Replies.{too_large, end_of_file}
 use Rattle.dap_accessed.specs.Records.{filedata_of, fits_limit, at_number}
 use Rattle.dap_accessed.specs.Transfers.{fetch, fetch_ends}
-use Rattle.dap_accessed.specs.Written.{Answered}
+use Rattle.dap_accessed.specs.Inner.Written.{Answered}
 
 -- These records were given, from n on, and what is left begins at next.
 pub record GoesOn (limit : ℕ) (file : FileVal) (n next : ℕ) (answers : Vec (Vec ℕ)) : Type 0 where

@@ -12,3 +12,5 @@ pub use Rattle.dap_accessed.proofs.SoundTables.{file-there}
 pub use Rattle.dap_accessed.proofs.SoundGroups.{good-shape}
 -- the place of a name is within the table
 pub use Rattle.dap_accessed.proofs.SoundGroups.{place-within}
+-- each answer to one message more has a spelling that the peer takes
+pub use Rattle.dap_accessed.proofs.Answering.{HasShortType, added-sends}

@@ -8,4 +8,5 @@ pub mod Kept
 pub mod SoundTables
 pub mod SoundGroups
 pub mod SoundLists
+pub mod Answering
 pub mod ForCallers

@@ -4,7 +4,7 @@ use Rattle.rec_file.specs.declared.shapes.Shape.{Shape}
 use Rattle.rec_file.specs.Files.{FileVal}
 use Rattle.dap_accessed.specs.Standing.{Files, with_file}
 use Rattle.dap_accessed.specs.declared.phase.Phase.{Phase}
-use Rattle.dap_accessed.specs.Moves.{IsKept, IsOpenIn}
+use Rattle.dap_accessed.specs.Inner.Moves.{IsKept, IsOpenIn}
 use Rattle.dap_accessed.proofs.Tables.{length-with}
 
 pub open-there : (limit : ℕ) (was files : Files) (kept : Option Shape) (phase now : Phase) → IsKept limit was kept phase → was ≡ files → phase ≡ now → IsOpenIn files now

@@ -33,7 +33,8 @@ use Rattle.dap_accessed.specs.Past.{Memory, looked_back, shape_of, kept_attribut
 use Rattle.dap_accessed.specs.Accesses.{open_file, create_file, access_as, access_kind, AccessKind, Opening, Creating, NoAccess, complete, completing, Completing, Closing, Purging, EndingStream, Skipping, NoCompletion}
 use Rattle.dap_accessed.specs.Records.{at_number, verb_of, get_pick, found, got, record_got, settled, Change, Putting, Updating, changed, fits_limit}
 use Rattle.dap_accessed.specs.Transfers.{fetch, fetch_ends, fetch_if, going, Going, Again, Skip, Abort, Resume, NoGoing, continue_fetch, store_one, continue_store}
-use Rattle.dap_accessed.specs.Exchange.{configure, is_too_small, control_opened, control_connected, effect_in, effect_of, effect_with, Begun, begins_in, begun_by, change_begun}
+use Rattle.dap_msg.specs.Exchange.{is_too_small}
+use Rattle.dap_accessed.specs.Exchange.{configure, control_opened, control_connected, effect_in, effect_of, effect_with, Begun, begins_in, begun_by, change_begun}
 use Rattle.dap_accessed.specs.Groups.{scene_of, after_one, after_two, next_group, more_after}
 use Rattle.dap_accessed.specs.Sound.{AllFiles, AreDistinct, IsOpenAt, IsSoundAt, IsSound}
 use Rattle.dap_accessed.proofs.Tables.{length-with}
@@ -60,7 +61,7 @@ good-of (Some org) (Some format) mrs mrn = allowed org format mrs mrn _ refl
 pub good-shape : (a : Attributes) → Good (shape_of a)
 good-shape a = good-of (org_of_code (unwrap_or a.org 0)) (format_of_code (unwrap_or a.rfm 2)) (unwrap_or a.mrs 0) (little_endian (unwrap_or a.mrn []))
 
-good-memory : (place : Place) (past : List Group) → Good (looked_back place past).shape
+pub good-memory : (place : Place) (past : List Group) → Good (looked_back place past).shape
 good-memory Fresh past = good-shape (kept_attributes past)
 good-memory Ready past = good-shape (kept_attributes past)
 good-memory (Opened o) past = good-shape (kept_attributes past)

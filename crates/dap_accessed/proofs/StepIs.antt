@@ -16,7 +16,7 @@ use Rattle.dap_accessed.specs.Records.{Change, Putting, Updating}
 use Rattle.dap_accessed.specs.Exchange.{Begun, begins_in, effect_of, effect_with}
 use Rattle.dap_accessed.specs.Groups.{Cut, over, scene_of, next_group, next_answers, one_more, added, stands_after}
 use Rattle.dap_accessed.specs.Present.{Present, present_of, phase_at, store_phase, StandsAfter}
-use Rattle.dap_accessed.specs.Moves.{Move, move, move_in, between, turns, settles, remembers, plain_memory, store_memory, scene_in, drops_next, ordinal_next}
+use Rattle.dap_accessed.specs.Inner.Moves.{Move, move, move_in, between, turns, settles, remembers, plain_memory, store_memory, scene_in, drops_next, ordinal_next}
 use Rattle.dap_accessed.proofs.Cuts.{present-more}
 
 -- ---- What counts of the past after a group.

@@ -1,5 +1,5 @@
 -- What is written of answers: each fits, and is no longer than the limit; one more keeps to the limit.
-use Rattle.std.proofs.Common.{◌≡◌, ℕ, ◌^◌, ◌<◌, ◌≤◌, List, [], ◌∷◌, ◌++◌, length, Result, Ok, Err, arith, lit<, ap, sym, subst, ◌∙◌}
+use Rattle.std.proofs.Common.{◌≡◌, ℕ, ◌^◌, ◌<◌, ◌≤◌, List, [], ◌∷◌, ◌++◌, length, Result, Ok, Err, arith, lit<, lit≤, ap, sym, subst, ◌∙◌}
 use Rattle.std.specs.Global.{Vec}
 use Rattle.std.specs.Vec.{vec_capacity}
 use Rattle.dap_msg.specs.declared.fault.MsgFault.{MsgFault}
@@ -8,7 +8,7 @@ use Rattle.dap_msg.specs.Canon.{canon, Fits}
 use Rattle.dap_msg.specs.Written.{Appends}
 use Rattle.dap_msg.specs.Exchange.{short_answer}
 use Rattle.dap_msg.specs.Blocked.{bodies, one_more, AllFit}
-use Rattle.dap_msg.specs.BlockedLaws.{Blocked-more}
+use Rattle.dap_msg.proofs.ForCallers.{Blocked-more}
 use Rattle.std.proofs.Common.{inl, inr}
 use Rattle.std.proofs.lemmas.Bool.{cases_lt, lt-leb, le-leb}
 use Rattle.std.proofs.lemmas.List.{append-nil}
@@ -19,7 +19,8 @@ use Rattle.rec_file.specs.declared.shapes.Format.TheVariants.{Fixed, Variable}
 use Rattle.dap_accessed.specs.Replies.{org_number, format_number}
 use Rattle.dap_accessed.specs.declared.answers.Answer.{Answer}
 use Rattle.dap_accessed.specs.declared.answers.Answer.TheVariants as answer
-use Rattle.dap_accessed.specs.Written.{IsShort, FitsIn, AllAtMost, Answered}
+use Rattle.dap_accessed.specs.Served.{AllAtMost}
+use Rattle.dap_accessed.specs.Inner.Written.{IsShort, FitsIn, Answered, most_bytes}
 
 pub org_small : (org : Org) → org_number org < 2 ^ 8
 org_small Seq = lit< tt
@@ -70,12 +71,23 @@ answered_more limit messages m old new f h before e =
     }
 
 pub fits_short : (limit : ℕ) (a : Answer) → IsShort a → short_answer ≤ limit → FitsIn limit a
-fits_short limit (answer.Config bufsiz) s h = h
-fits_short limit (answer.Attributes shape) s h = h
-fits_short limit answer.Ack s h = h
-fits_short limit answer.Complete s h = h
-fits_short limit (answer.Status code) s h = h
-fits_short limit (answer.Reason code reason) s h = h
-fits_short limit (answer.StoreRefusal reason ordinal) s h = h
-fits_short limit (answer.Done number) s h = h
+fits_short limit (answer.Config bufsiz) s h = (tt, h)
+fits_short limit (answer.Attributes shape) s h = (tt, h)
+fits_short limit answer.Ack s h = (tt, h)
+fits_short limit answer.Complete s h = (tt, h)
+fits_short limit (answer.Status code) s h = (tt, h)
+fits_short limit (answer.Reason code reason) s h = (tt, h)
+fits_short limit (answer.StoreRefusal reason ordinal) s h = (tt, h)
+fits_short limit (answer.Done number) s h = (tt, h)
 fits_short limit (answer.Record number body) s h = absurd s
+
+pub short_most : (a : Answer) → IsShort a → most_bytes a ≤ short_answer
+short_most (answer.Config bufsiz) s = lit≤ tt
+short_most (answer.Attributes shape) s = lit≤ tt
+short_most answer.Ack s = lit≤ tt
+short_most answer.Complete s = lit≤ tt
+short_most (answer.Status code) s = lit≤ tt
+short_most (answer.Reason code reason) s = lit≤ tt
+short_most (answer.StoreRefusal reason ordinal) s = lit≤ tt
+short_most (answer.Done number) s = lit≤ tt
+short_most (answer.Record number body) s = absurd s

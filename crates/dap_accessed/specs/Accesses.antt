@@ -1,18 +1,22 @@
 -- Opening and making files, and what ends an access (DAP 5.6.0, Access and Access Complete messages).
-use Rattle.std.specs.Prelude.{ℕ, ◌/◌, ◌%◌, ◌^◌, Bool, true, false, ◌==◌, if◌then◌else◌, List, [], ◌∷◌, ◌++◌, length, Option, Some, None}
-use Rattle.std.specs.FinMap as map
+use Rattle.std.specs.Prelude.{ℕ, true, false, ◌==◌, if◌then◌else◌, List, [], ◌∷◌, ◌++◌, length, Option, Some, None}
+use Rattle.dap_msg.specs.Codes as codes
+use Rattle.dap_msg.specs.declared.codes.Reason.TheVariants.{FileExists, BadAttributes}
 use Rattle.dap_msg.specs.Message.{Message, AccessFields}
 use Rattle.rec_file.specs.declared.shapes.Shape.{Shape}
 use Rattle.rec_file.specs.declared.picks.Rights.{Rights}
 use Rattle.dap_accessed.specs.declared.phase.OpenFile.{OpenFile}
-use Rattle.dap_accessed.specs.Standing.{Files, place_of, file_at, without_file, Place, Ready, Opened, Scene, Effect, enters, leaves}
-use Rattle.dap_accessed.specs.Replies.{bare_status, reason_status, opened_with, completed}
-
-abbrev pub fac_has : (fac bit : ℕ) → Bool
-fac_has fac bit = fac / 2 ^ bit % 2 == 1
+use Rattle.dap_accessed.specs.Standing.{Files, new_file, place_of, file_at, without_file, Place, Ready, Opened, Scene, Effect, enters, leaves}
+use Rattle.dap_accessed.specs.Replies.{bare_status, refused_access, opened_with, completed}
 
 abbrev pub rights_of : ℕ → Rights
-rights_of fac = record { get = fac_has fac 1; put = fac_has fac 0; upd = fac_has fac 3; del = fac_has fac 2 }
+rights_of fac =
+    record {
+      get = codes.asks_for fac codes.fac_get;
+      put = codes.asks_for fac codes.fac_put;
+      upd = codes.asks_for fac codes.fac_update;
+      del = codes.asks_for fac codes.fac_delete;
+    }
 
 -- FAC 0 stands for GET on open, and for PUT on create
 abbrev pub fac_or : (fac usual : ℕ) → ℕ
@@ -23,18 +27,18 @@ refuse_access scene status = enters scene Ready (status ∷ [])
 
 -- with the place of the file of that name
 abbrev pub open_file : Scene → (fac : ℕ) → Option ℕ → Effect
-open_file scene fac None = refuse_access scene (bare_status 0x4032)
+open_file scene fac None = refuse_access scene (bare_status codes.file_not_found)
 open_file scene fac (Some at) =
-    enters scene (Opened (record { at = at; is_new = false; rights = rights_of (fac_or fac 2) }))
+    enters scene (Opened (record { at = at; is_new = false; rights = rights_of (fac_or fac codes.fac_get) }))
     (opened_with (file_at at scene.files).shape)
 
 -- with the shape that it would have; a new file stands behind all others
 abbrev pub create_file : Scene → (name : List ℕ) → (fac : ℕ) → Option ℕ → Option Shape → Effect
-create_file scene name fac (Some at) shape = refuse_access scene (reason_status 0x4000 1 [])
-create_file scene name fac None None = refuse_access scene (reason_status 0x4000 11 [])
+create_file scene name fac (Some at) shape = refuse_access scene (refused_access FileExists)
+create_file scene name fac None None = refuse_access scene (refused_access BadAttributes)
 create_file scene name fac None (Some shape) =
-    leaves scene (scene.files ++ (name, record { shape = shape; records = map.empty }) ∷ [])
-    (Opened (record { at = length scene.files; is_new = true; rights = rights_of (fac_or fac 1) }))
+    leaves scene (scene.files ++ (name, new_file shape) ∷ [])
+    (Opened (record { at = length scene.files; is_new = true; rights = rights_of (fac_or fac codes.fac_put) }))
     (opened_with shape)
 
 pub data AccessKind : Type 0 where
@@ -43,12 +47,12 @@ pub data AccessKind : Type 0 where
   NoAccess : AccessKind
 
 abbrev pub access_kind : ℕ → AccessKind
-access_kind func = if func == 1 then Opening else if func == 2 then Creating else NoAccess
+access_kind func = if func == codes.accfunc_open then Opening else if func == codes.accfunc_create then Creating else NoAccess
 
 abbrev pub access_as : AccessKind → Scene → AccessFields → Option Shape → Effect
 access_as Opening scene access shape = open_file scene access.fac (place_of access.name scene.files)
 access_as Creating scene access shape = create_file scene access.name access.fac (place_of access.name scene.files) shape
-access_as NoAccess scene access shape = refuse_access scene (bare_status 0x20C0)
+access_as NoAccess scene access shape = refuse_access scene (bare_status (codes.unsupported codes.type_access))
 
 -- ---- Access Complete.
 
@@ -65,18 +69,18 @@ pub data Completing : Type 0 where
 
 abbrev pub completing : ℕ → Completing
 completing func =
-    if func == 1 then Closing
-    else if func == 3 then Purging
-    else if func == 4 then EndingStream
-    else if func == 5 then Skipping else NoCompletion
+    if func == codes.cmpfunc_close then Closing
+    else if func == codes.cmpfunc_purge then Purging
+    else if func == codes.cmpfunc_end_of_stream then EndingStream
+    else if func == codes.cmpfunc_skip then Skipping else NoCompletion
 
 -- in a place in which a file is open; what the end of a stream does is given, since it depends on the place
 abbrev pub complete : Completing → Scene → OpenFile → Place → (end_of_stream : Effect) → Effect
 complete Closing scene opened place end_of_stream = enters scene Ready (completed ∷ [])
 complete Purging scene opened place end_of_stream = leaves scene (purged opened scene.files) Ready (completed ∷ [])
 complete EndingStream scene opened place end_of_stream = end_of_stream
-complete Skipping scene opened place end_of_stream = enters scene place (bare_status 0x21C0 ∷ [])
-complete NoCompletion scene opened place end_of_stream = enters scene place (bare_status 0x91C0 ∷ [])
+complete Skipping scene opened place end_of_stream = enters scene place (bare_status (codes.unsupported codes.type_complete) ∷ [])
+complete NoCompletion scene opened place end_of_stream = enters scene place (bare_status (codes.invalid codes.type_complete) ∷ [])
 
 abbrev pub end_stream : Scene → OpenFile → Effect
 end_stream scene opened = enters scene (Opened opened) (completed ∷ [])

@@ -1,16 +1,16 @@
 -- What each group of items does, and its answers, by the place in which it is served (DAP 5.6.0, message sequences;
 -- the answers to a message that has no place are own).
-use Rattle.std.specs.Prelude.{ℕ, Bool, true, false, ◌&&◌, nat_lt, [], ◌∷◌, Option, Some, None}
-use Rattle.dap_msg.specs.Codes.{status_code_for}
+use Rattle.std.specs.Prelude.{ℕ, Bool, true, false, [], ◌∷◌, Option, Some, None}
+use Rattle.dap_msg.specs.Codes as codes
 use Rattle.dap_msg.specs.Message.{Message, Config, Attrib, Access, Control, Contran, Ack, Accomp, Filedata, Other, ControlFields}
-use Rattle.dap_msg.specs.Exchange.{limit_of, config_of}
+use Rattle.dap_msg.specs.Exchange.{limit_of, config_of, is_too_small}
 use Rattle.dap_msg.specs.Items.{Item, Whole, Malformed}
 use Rattle.rec_file.specs.Acts.{StreamVal, delete_record, act}
 use Rattle.dap_accessed.specs.declared.phase.OpenFile.{OpenFile}
 use Rattle.dap_accessed.specs.declared.verbs.Verb.{Verb}
 use Rattle.dap_accessed.specs.declared.verbs.Verb.TheVariants as verbs
 use Rattle.dap_accessed.specs.Standing.{the_file, Place, Fresh, Ready, Opened, Connected, Store, Stopped, Scene, Effect, enters}
-use Rattle.dap_accessed.specs.Replies.{bare_status, sync_code, sync_status}
+use Rattle.dap_accessed.specs.Replies.{bare_status, sync_status}
 use Rattle.dap_accessed.specs.Past.{Memory}
 use Rattle.dap_accessed.specs.Accesses.{access_as, access_kind, complete, completing, end_stream}
 use Rattle.dap_accessed.specs.Records.{at_number, new_stream, verb_of, get_pick, record_got, put_key, settled, Change, Putting, Updating, changed}
@@ -20,19 +20,15 @@ use Rattle.dap_accessed.specs.Transfers.{fetch_if, going, continue_fetch, store_
 abbrev pub sync : Scene → Place → Message → Effect
 sync scene place message = enters scene place (sync_status message ∷ [])
 
--- a BUFSIZ from 1 to 63
-abbrev pub is_too_small : ℕ → Bool
-is_too_small bufsiz = nat_lt 0 bufsiz && nat_lt bufsiz 64
-
 abbrev pub configure : (too_small : Bool) → Scene → (bufsiz : ℕ) → Effect
-configure true scene bufsiz = enters scene Fresh (bare_status 0x9040 ∷ [])
+configure true scene bufsiz = enters scene Fresh (bare_status (codes.invalid codes.type_configuration) ∷ [])
 configure false scene bufsiz =
     record { files = scene.files; limit = limit_of bufsiz; place = Ready; answers = config_of scene.own ∷ [] }
 
 -- a Control that has no place; one that this end doesn't know has none anywhere
 abbrev pub control_status : Verb → Message
-control_status verbs.Unknown = bare_status 0x2100
-control_status verb = bare_status (sync_code 4)
+control_status verbs.Unknown = bare_status (codes.unsupported codes.type_control)
+control_status verb = bare_status (codes.out_of_place codes.type_control)
 
 abbrev pub refuse_control : Verb → Scene → Place → Effect
 refuse_control verb scene place = enters scene place (control_status verb ∷ [])
@@ -50,7 +46,7 @@ control_connected verbs.Store scene opened stream control = enters scene (Store 
 control_connected verbs.Delete scene opened stream control =
     settled scene opened (act delete_record (the_file scene.files opened) stream)
 control_connected verbs.Rewind scene opened stream control =
-    enters scene (Connected opened (at_number 1 stream)) (bare_status 0x1000 ∷ [])
+    enters scene (Connected opened (at_number 1 stream)) (bare_status codes.success ∷ [])
 control_connected verb scene opened stream control = refuse_control verb scene (Connected opened stream)
 
 -- what a whole message does that is a group by itself
@@ -85,7 +81,7 @@ effect_in scene memory place message = sync scene place message
 -- what an item does that is a group by itself; a malformed one has its format Status
 abbrev pub effect_of : Scene → Memory → Place → Item → Effect
 effect_of scene memory place (Malformed fault) =
-    enters scene place (bare_status (status_code_for fault.message_type) ∷ [])
+    enters scene place (bare_status (codes.status_code_for fault.message_type) ∷ [])
 effect_of scene memory place (Whole message) = effect_in scene memory place message
 
 -- ---- Groups of two.
@@ -118,4 +114,4 @@ abbrev pub effect_with : Change → Scene → OpenFile → StreamVal → Item �
 effect_with change scene opened stream (Whole (Filedata _ body)) = changed change scene opened stream body
 effect_with change scene opened stream (Whole message) = sync scene (Connected opened stream) message
 effect_with change scene opened stream (Malformed fault) =
-    enters scene (Connected opened stream) (bare_status (status_code_for fault.message_type) ∷ [])
+    enters scene (Connected opened stream) (bare_status (codes.status_code_for fault.message_type) ∷ [])

@@ -56,6 +56,10 @@ answers_in (group ∷ past) = answers_in past ++ group.answers
 abbrev pub stands_after : ℕ → List Item → Cut
 stands_after own items = cut own start items
 
+-- how long a message the peer takes then
+abbrev pub limit_for : ℕ → List Item → ℕ
+limit_for own items = (stands_after own items).standing.limit
+
 -- the file table after the operations of all groups
 abbrev pub After : ℕ → List Item → Files
 After own items = (stands_after own items).standing.files

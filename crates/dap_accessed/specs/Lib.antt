@@ -8,7 +8,6 @@ pub mod Transfers
 pub mod Exchange
 pub mod Groups
 pub mod Present
-pub mod Written
-pub mod Moves
 pub mod Served
 pub mod Sound
+pub mod Inner

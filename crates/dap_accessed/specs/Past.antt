@@ -1,6 +1,8 @@
 -- What is looked back for in the groups so far, the newest first.
 use Rattle.std.specs.Prelude.{ℕ, ◌+◌, Bool, true, false, not, ◌&&◌, nat_lt, ◌==◌, min, List, [], length, filter, filter_map, slice_get, Option, Some, None, unwrap_or}
 use Rattle.std.specs.List.{list_any}
+use Rattle.dap_msg.specs.Codes as codes
+use Rattle.dap_msg.specs.Exchange.{no_attributes}
 use Rattle.dap_msg.specs.Message.{Attrib, Access, Contran, Filedata, Attributes}
 use Rattle.dap_msg.specs.Items.{Item, Whole}
 use Rattle.rec_file.specs.declared.shapes.Shape.{Shape}
@@ -31,36 +33,10 @@ is_filedata _ = false
 
 -- a Continue Transfer that takes up the Store again
 abbrev pub is_skip : Item → Bool
-is_skip (Whole (Contran func)) = func == 2
+is_skip (Whole (Contran func)) = func == codes.confunc_skip
 is_skip _ = false
 
 -- ---- Attributes.
-
--- attributes with no field
-abbrev pub no_attributes : Attributes
-no_attributes = record {
-  datatype = None;
-  org = None;
-  rfm = None;
-  rat = None;
-  bls = None;
-  mrs = None;
-  alq = None;
-  bks = None;
-  fsz = None;
-  mrn = None;
-  runsys = None;
-  deq = None;
-  fop = None;
-  bsz = None;
-  dev = None;
-  sdc = None;
-  lrl = None;
-  hbk = None;
-  ebk = None;
-  ffb = None;
-  sbn = None;
-}
 
 -- the groups in Ready since the Access before
 abbrev pub since_access : List Group → List Group
@@ -73,7 +49,9 @@ kept_attributes past =
 
 -- the shape that attributes ask for, if a file may have it; a field that is missing has the value given here
 abbrev pub shape_of : Attributes → Option Shape
-shape_of a = checked_shape (unwrap_or a.org 0) (unwrap_or a.rfm 2) (unwrap_or a.mrs 0) (little_endian (unwrap_or a.mrn []))
+shape_of a =
+    checked_shape (unwrap_or a.org codes.org_sequential) (unwrap_or a.rfm codes.rfm_variable) (unwrap_or a.mrs 0)
+    (little_endian (unwrap_or a.mrn []))
 
 -- ---- A Store.
 

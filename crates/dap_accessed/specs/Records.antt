@@ -1,6 +1,7 @@
 -- Operations on records (DAP 5.6.0, Control message).
 use Rattle.std.specs.Prelude.{ℕ, Bool, true, false, not, ◌&&◌, ◌||◌, nat_lt, nat_le, ◌==◌, if◌then◌else◌, List, [], ◌∷◌, length, Option, Some, None, is_err, unwrap_or, Result, Ok, Err}
 use Rattle.std.specs.FinMap as map
+use Rattle.dap_msg.specs.Codes as codes
 use Rattle.dap_msg.specs.Message.{Message, ControlFields}
 use Rattle.dap_msg.specs.Canon.{file_data_size}
 use Rattle.dap_msg.specs.Exchange.{record_of}
@@ -30,19 +31,28 @@ at_number n stream = record stream { next = n; current = None }
 abbrev pub new_stream : Rights → StreamVal
 new_stream rights = record { rights = rights; next = 1; current = None }
 
--- RAC missing is 0
+-- RAC missing is that of the next record
 abbrev pub rac_of : ControlFields → ℕ
-rac_of control = unwrap_or control.rac 0
+rac_of control = unwrap_or control.rac codes.rac_sequential
 
--- what a Control asks for: with RAC 3 a GET or a PUT is for a whole file
+abbrev pub is_whole : ControlFields → Bool
+is_whole control = rac_of control == codes.rac_whole_file
+
+abbrev pub is_next : ControlFields → Bool
+is_next control = rac_of control == codes.rac_sequential
+
+abbrev pub is_keyed : ControlFields → Bool
+is_keyed control = rac_of control == codes.rac_keyed
+
+-- what a Control asks for: a GET or a PUT may be for a whole file
 abbrev pub verb_of : ControlFields → Verb
 verb_of control =
-    if control.func == 1 then (if rac_of control == 3 then verbs.Fetch else verbs.Get)
-    else if control.func == 2 then verbs.Connect
-    else if control.func == 3 then verbs.Update
-    else if control.func == 4 then (if rac_of control == 3 then verbs.Store else verbs.Put)
-    else if control.func == 5 then verbs.Delete
-    else if control.func == 6 then verbs.Rewind else verbs.Unknown
+    if control.func == codes.ctlfunc_get then (if is_whole control then verbs.Fetch else verbs.Get)
+    else if control.func == codes.ctlfunc_connect then verbs.Connect
+    else if control.func == codes.ctlfunc_update then verbs.Update
+    else if control.func == codes.ctlfunc_put then (if is_whole control then verbs.Store else verbs.Put)
+    else if control.func == codes.ctlfunc_delete then verbs.Delete
+    else if control.func == codes.ctlfunc_rewind then verbs.Rewind else verbs.Unknown
 
 -- KEY missing is empty
 abbrev pub key_of : ControlFields → Result ℕ Refusal
@@ -60,15 +70,15 @@ or_refusal (Some refusal) x = Err refusal
 
 abbrev pub pick_of : ControlFields → Pick
 pick_of control =
-    if rac_of control == 0 then Next
-    else if rac_of control == 1 then Key (number_in (key_of control)) else Rfa (number_in (key_of control))
+    if is_next control then Next
+    else if is_keyed control then Key (number_in (key_of control)) else Rfa (number_in (key_of control))
 
 -- what is refused of a GET before its key is a number
 abbrev pub get_refusals_before : FileVal → StreamVal → ControlFields → List (Bool × Refusal)
 get_refusals_before file stream control =
     (not stream.rights.get, NotPermitted)
-    ∷ (nat_lt 2 (rac_of control) || (rac_of control == 1 && is_seq file.shape.org), BadAccessMode)
-    ∷ (not (rac_of control == 0) && is_err (key_of control), BadKey) ∷ []
+    ∷ (nat_lt codes.rac_address (rac_of control) || (is_keyed control && is_seq file.shape.org), BadAccessMode)
+    ∷ (not (is_next control) && is_err (key_of control), BadKey) ∷ []
 
 -- the record that a GET is for, or why it is refused
 abbrev pub get_pick : FileVal → StreamVal → ControlFields → Result Pick Refusal
@@ -110,14 +120,14 @@ record_got (Ok pick) scene opened stream =
 abbrev pub put_refusals_before : FileVal → StreamVal → ControlFields → List (Bool × Refusal)
 put_refusals_before file stream control =
     (not stream.rights.put, NotPermitted)
-    ∷ (nat_lt 1 (rac_of control) || (rac_of control == 1 && is_seq file.shape.org), BadAccessMode)
-    ∷ (rac_of control == 1 && is_err (key_of control), BadKey) ∷ []
+    ∷ (nat_lt codes.rac_keyed (rac_of control) || (is_keyed control && is_seq file.shape.org), BadAccessMode)
+    ∷ (is_keyed control && is_err (key_of control), BadKey) ∷ []
 
 -- the key of a PUT, if it has one, or why it is refused
 abbrev pub put_key : FileVal → StreamVal → ControlFields → Result (Option ℕ) Refusal
 put_key file stream control =
     or_refusal (first_refusal (put_refusals_before file stream control))
-    (if rac_of control == 1 then Some (number_in (key_of control)) else None)
+    (if is_keyed control then Some (number_in (key_of control)) else None)
 
 -- an operation that may change the file, and its Status
 abbrev pub settled : Scene → OpenFile → Outcome → Effect

@@ -1,5 +1,8 @@
 -- The answers of the accessed end (DAP 5.6.0, Status message; the codes and reasons are own).
-use Rattle.std.specs.Prelude.{ℕ, ◌+◌, List, [], ◌∷◌, Result, Ok, Err}
+use Rattle.std.specs.Prelude.{ℕ, List, [], ◌∷◌, Result, Ok, Err}
+use Rattle.dap_msg.specs.Codes as codes
+use Rattle.dap_msg.specs.declared.codes.Reason.{Reason}
+use Rattle.dap_msg.specs.declared.codes.Reason.TheVariants as reason
 use Rattle.dap_msg.specs.Message.{Message, Status, Ack}
 use Rattle.dap_msg.specs.Canon.{number_of as type_of}
 use Rattle.dap_msg.specs.Exchange.{four_bytes, complete_with, attributes_of}
@@ -11,42 +14,47 @@ use Rattle.rec_file.specs.declared.shapes.Shape.{Shape}
 use Rattle.rec_file.specs.declared.refusals.Refusal.{Refusal}
 use Rattle.rec_file.specs.declared.refusals.Refusal.TheVariants.{NotPermitted, NoCurrent, RecordNotFound, RecordExists, NumberOutOfRange, BadLength, BadAccessMode, DeleteNotAllowed, BadKey, EndOfFile, NoMemory}
 
+abbrev pub status : (code : ℕ) → (rfa recnum stv : List ℕ) → Message
+status code rfa recnum stv = Status (record { code = code; rfa = rfa; recnum = recnum; stv = stv })
+
 -- a Status with a code alone
 abbrev pub bare_status : ℕ → Message
-bare_status code = Status (record { code = code; rfa = []; recnum = []; stv = [] })
+bare_status code = status code [] [] []
 
 -- a Status with a reason, and perhaps the number of a record
 abbrev pub reason_status : (code reason : ℕ) → List ℕ → Message
-reason_status code reason recnum = Status (record { code = code; rfa = []; recnum = recnum; stv = reason ∷ [] })
+reason_status code reason recnum = status code [] recnum (reason ∷ [])
 
--- out of synchronization: a message of this type has no place here
-abbrev pub sync_code : ℕ → ℕ
-sync_code message_type = 0xA000 + message_type
+-- an Access that opens nothing
+abbrev pub refused_access : Reason → Message
+refused_access why = reason_status codes.access_refused (codes.reason_number why) []
 
+-- a message has no place here
 abbrev pub sync_status : Message → Message
-sync_status message = bare_status (sync_code (type_of message))
+sync_status message = bare_status (codes.out_of_place (type_of message))
 
+-- 0 where there is none
 abbrev pub reason_of : Refusal → ℕ
-reason_of NotPermitted = 2
-reason_of NoCurrent = 3
-reason_of RecordNotFound = 4
-reason_of RecordExists = 5
-reason_of NumberOutOfRange = 6
-reason_of BadLength = 7
-reason_of BadAccessMode = 8
-reason_of DeleteNotAllowed = 9
-reason_of BadKey = 12
+reason_of NotPermitted = codes.reason_number reason.NotPermitted
+reason_of NoCurrent = codes.reason_number reason.NoCurrent
+reason_of RecordNotFound = codes.reason_number reason.RecordNotFound
+reason_of RecordExists = codes.reason_number reason.RecordExists
+reason_of NumberOutOfRange = codes.reason_number reason.NumberOutOfRange
+reason_of BadLength = codes.reason_number reason.BadLength
+reason_of BadAccessMode = codes.reason_number reason.BadAccessMode
+reason_of DeleteNotAllowed = codes.reason_number reason.DeleteNotAllowed
+reason_of BadKey = codes.reason_number reason.BadKey
 reason_of EndOfFile = 0
 reason_of NoMemory = 0
 
 -- the Status of a refused operation on a record; in a Store it has the ordinal
 abbrev pub refusal_status : Refusal → (recnum : List ℕ) → Message
-refusal_status EndOfFile recnum = bare_status 0x5027
-refusal_status refusal recnum = reason_status 0x5000 (reason_of refusal) recnum
+refusal_status EndOfFile recnum = bare_status codes.end_of_file
+refusal_status refusal recnum = reason_status codes.record_refused (reason_of refusal) recnum
 
 -- success of PUT, UPDATE and DELETE, with the record's number
 abbrev pub done_status : ℕ → Message
-done_status n = Status (record { code = 0x1000; rfa = four_bytes n; recnum = four_bytes n; stv = [] })
+done_status n = status codes.success (four_bytes n) (four_bytes n) []
 
 abbrev pub record_status : Result ℕ Refusal → Message
 record_status (Ok n) = done_status n
@@ -54,24 +62,26 @@ record_status (Err refusal) = refusal_status refusal []
 
 -- a record's Filedata is longer than the peer takes
 abbrev pub too_large : Message
-too_large = reason_status 0x5000 10 []
+too_large = reason_status codes.record_refused (codes.reason_number reason.TooLargeForBuffer) []
 
 abbrev pub end_of_file : Message
-end_of_file = bare_status 0x5027
+end_of_file = bare_status codes.end_of_file
 
 -- what ends an access or a stream
 abbrev pub completed : Message
-completed = complete_with 2
+completed = complete_with codes.cmpfunc_response
 
 abbrev pub org_number : Org → ℕ
-org_number Seq = 0
-org_number Rel = 16
+org_number Seq = codes.org_sequential
+org_number Rel = codes.org_relative
 
 abbrev pub format_number : Format → ℕ
-format_number Fixed = 1
-format_number Variable = 2
+format_number Fixed = codes.rfm_fixed
+format_number Variable = codes.rfm_variable
+
+abbrev pub attributes_for : Shape → Message
+attributes_for shape = attributes_of (org_number shape.org) (format_number shape.format) shape.mrs shape.mrn
 
 -- a file is open: its Attributes, then Acknowledge
 abbrev pub opened_with : Shape → List Message
-opened_with shape =
-    attributes_of (org_number shape.org) (format_number shape.format) shape.mrs shape.mrn ∷ Ack ∷ []
+opened_with shape = attributes_for shape ∷ Ack ∷ []

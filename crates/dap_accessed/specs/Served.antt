@@ -1,5 +1,6 @@
 -- What a call of `serve` does.
-use Rattle.std.specs.Prelude.{ℕ, ◌≡◌, ◌<◌, ◌⊎◌, ◌==◌, Bool, true, false, List, [], ◌∷◌, ◌++◌, length, Result, IsOk}
+use Rattle.std.specs.Prelude.{ℕ, ◌≡◌, ◌≤◌, ◌==◌, Bool, true, false, List, [], ◌∷◌, ◌++◌, length, Result, IsOk}
+use Rattle.dap_msg.specs.Codes as codes
 use Rattle.dap_msg.specs.Message.{Attrib, Control, Contran, Filedata, Other}
 use Rattle.dap_msg.specs.Items.{Item, Whole, ItemAt}
 use Rattle.dap_msg.specs.Blocked.{Blocked, all_joined, bodies, AllFit}
@@ -12,15 +13,15 @@ use Rattle.dap_accessed.specs.declared.verbs.Verb.TheVariants as verbs
 use Rattle.dap_accessed.specs.Records.{verb_of}
 use Rattle.dap_accessed.specs.Groups.{added, stands_after}
 use Rattle.dap_accessed.specs.Present.{Present, StandsAfter}
-use Rattle.dap_accessed.specs.Written.{AllAtMost}
 
--- a place at which an item may be read: within the bytes, or at the front of none
-abbrev pub IsPlace : ℕ → List ℕ → Type 0
-IsPlace at bytes = (at < length bytes) ⊎ ((at ≡ 0) × (length bytes ≡ 0))
+-- none is longer than the limit
+abbrev pub AllAtMost : ℕ → List (List ℕ) → Type 0
+AllAtMost limit [] = Unit {0}
+AllAtMost limit (bytes ∷ more) = (length bytes ≤ limit) × AllAtMost limit more
 
 -- The item at a place was served: after any items, an end that stood as after these stands as after these and it, and
--- gives just the answers that it adds, joined as far as the peer's limit goes. Each has a spelling, and none is longer than that limit, which
--- is 64 bytes before the peer's Config.
+-- gives just the answers that it adds, joined as far as the peer's limit goes. Each has a spelling, and none is longer
+-- than that limit, which is that of the least buffer before the peer's Config.
 pub record Serves (bytes : List ℕ) (at : ℕ) (old new : Present) (served : Served) : Type 0 where
   pub item : Item
   pub reads : ItemAt bytes at item served.next
@@ -47,7 +48,7 @@ is_silent phases.Ready (Whole (Other _ _)) = true
 is_silent phases.Ready (Whole (Attrib _)) = true
 is_silent (phases.Connected opened stream) (Whole (Control control)) = begins_only (verb_of control)
 is_silent (phases.Dropping opened stream ordinal) (Whole (Filedata _ _)) = true
-is_silent (phases.Dropping opened stream ordinal) (Whole (Contran func)) = func == 2
+is_silent (phases.Dropping opened stream ordinal) (Whole (Contran func)) = func == codes.confunc_skip
 is_silent _ _ = false
 
 -- A silent item at the place is served without memory.

@@ -1,6 +1,7 @@
 -- What holds of an end after any items.
 use Rattle.std.specs.Prelude.{◌≢◌, ℕ, ◌<◌, ◌≤◌, List, [], ◌∷◌, length, IfSome}
 use Rattle.dap_msg.specs.Exchange.{greatest_message}
+use Rattle.dap_msg.specs.Items.{Item, IsRead}
 use Rattle.rec_file.specs.Files.{IsFile}
 use Rattle.dap_accessed.specs.Standing.{Files, Place, Fresh, Ready, Opened, Connected, Store, Stopped, least_limit}
 use Rattle.dap_accessed.specs.Groups.{Cut}
@@ -41,3 +42,8 @@ pub record IsSoundAt (table : Files) (limit : ℕ) (place : Place) : Type 0 wher
 pub record IsSound (c : Cut) : Type 0 where
   pub standing : IsSoundAt c.standing.files c.standing.limit c.standing.place
   pub begun : IfSome c.begun (λ b. b.opened.at < length c.standing.files)
+
+-- each was read from some bytes
+abbrev pub AreRead : List Item → Type 0
+AreRead [] = Unit {0}
+AreRead (item ∷ items) = IsRead item × AreRead items

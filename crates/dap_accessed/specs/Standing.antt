@@ -3,6 +3,7 @@ use Rattle.std.specs.Prelude.{ℕ, zero, suc, List, [], ◌∷◌, Option, bytes
 use Rattle.std.specs.List.{position, remove}
 use Rattle.std.specs.FinMap as map
 use Rattle.std.specs.Coded.{Coded, coded×, coded_ℕ, coded_list}
+use Rattle.dap_msg.specs.Exchange.{least_buffer}
 use Rattle.dap_msg.specs.Message.{Message}
 use Rattle.dap_msg.specs.Items.{Item}
 use Rattle.rec_file.specs.declared.shapes.Shape.{Shape}
@@ -28,9 +29,13 @@ place_of name files = position (λ (f : List ℕ × FileVal). bytes_eq f.0 name)
 abbrev pub plain_shape : Shape
 plain_shape = record { org = Seq; format = Variable; mrs = 0; mrn = 0 }
 
+-- a file without records
+abbrev pub new_file : Shape → FileVal
+new_file shape = record { shape = shape; records = map.empty }
+
 -- the file at a place; one that isn't there would have no records
 abbrev pub file_at : ℕ → Files → FileVal
-file_at n [] = record { shape = plain_shape; records = map.empty }
+file_at n [] = new_file plain_shape
 file_at zero (f ∷ files) = f.1
 file_at (suc n) (f ∷ files) = file_at n files
 
@@ -99,7 +104,7 @@ leaves scene files place answers = record { files = files; limit = scene.limit; 
 
 -- the shortest limit that a peer can have
 abbrev pub least_limit : ℕ
-least_limit = 64
+least_limit = least_buffer
 
 -- No files, and no Config of the peer yet.
 abbrev pub start : Standing

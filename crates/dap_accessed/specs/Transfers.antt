@@ -1,5 +1,6 @@
 -- Sequential file transfer, and Continue Transfer (DAP 5.6.0, Continue Transfer message; where a fetch stops is own).
 use Rattle.std.specs.Prelude.{ℕ, ◌+◌, Bool, true, false, ◌==◌, if◌then◌else◌, List, [], ◌∷◌, ◌++◌, map, None, Result, Ok, Err}
+use Rattle.dap_msg.specs.Codes as codes
 use Rattle.dap_msg.specs.Message.{Message, Contran}
 use Rattle.dap_msg.specs.Exchange.{four_bytes}
 use Rattle.rec_file.specs.declared.refusals.Refusal.{Refusal}
@@ -42,18 +43,18 @@ pub data Going : Type 0 where
 
 abbrev pub going : ℕ → Going
 going func =
-    if func == 1 then Again
-    else if func == 2 then Skip
-    else if func == 3 then Abort
-    else if func == 4 then Resume else NoGoing
+    if func == codes.confunc_again then Again
+    else if func == codes.confunc_skip then Skip
+    else if func == codes.confunc_abort then Abort
+    else if func == codes.confunc_resume then Resume else NoGoing
 
 -- after a fetch that stopped
 abbrev pub continue_fetch : Going → Scene → OpenFile → StreamVal → Effect
 continue_fetch Again scene opened stream = fetch scene opened stream
 continue_fetch Skip scene opened stream = fetch scene opened (at_number (stream.next + 1) stream)
 continue_fetch Abort scene opened stream = enters scene (Connected opened stream) (end_of_file ∷ [])
-continue_fetch Resume scene opened stream = enters scene (Stopped opened stream) (bare_status 0x2140 ∷ [])
-continue_fetch NoGoing scene opened stream = enters scene (Stopped opened stream) (bare_status 0x9140 ∷ [])
+continue_fetch Resume scene opened stream = enters scene (Stopped opened stream) (bare_status (codes.unsupported codes.type_continue) ∷ [])
+continue_fetch NoGoing scene opened stream = enters scene (Stopped opened stream) (bare_status (codes.invalid codes.type_continue) ∷ [])
 
 -- ---- To this end.
 
@@ -74,5 +75,5 @@ store_one false ordinal scene opened stream body =
 abbrev pub continue_store : (dropping : Bool) → Going → Scene → OpenFile → StreamVal → (func : ℕ) → Effect
 continue_store false going scene opened stream func = enters scene (Store opened stream) (sync_status (Contran func) ∷ [])
 continue_store true Skip scene opened stream func = enters scene (Store opened stream) []
-continue_store true Resume scene opened stream func = enters scene (Store opened stream) (bare_status 0x2140 ∷ [])
-continue_store true _ scene opened stream func = enters scene (Store opened stream) (bare_status 0x9140 ∷ [])
+continue_store true Resume scene opened stream func = enters scene (Store opened stream) (bare_status (codes.unsupported codes.type_continue) ∷ [])
+continue_store true _ scene opened stream func = enters scene (Store opened stream) (bare_status (codes.invalid codes.type_continue) ∷ [])

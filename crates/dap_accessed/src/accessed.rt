@@ -1,23 +1,23 @@
 //! The accessed end.
 
-ghost use Rattle.std.specs.Prelude.{◌≡◌, ◌≢◌, ◌≤◌, ◌<◌, ℕ, [], ◌∷◌, length, IfOk, IsOk, IfSome, IsTrue, OnErr, false, min, true};
-ghost use Rattle.dap_msg.specs.Exchange.{greatest_message, limit_of};
-ghost use Rattle.dap_msg.specs.Items.{seen_item};
-ghost use Rattle.dap_msg.specs.Message.{seen_attributes};
+ghost use Rattle.std.specs.Prelude.{◌≡◌, ◌≤◌, ◌<◌, ℕ, List, [], ◌∷◌, length, IfOk, IsOk, IfSome, IsTrue, OnErr, min, true};
+ghost use Rattle.dap_msg.specs.Exchange.{greatest_message, least_buffer};
+ghost use Rattle.dap_msg.specs.Items.{IsPlace, Item as TheItem, seen_item};
+ghost use Rattle.dap_msg.specs.Message.{seen, seen_attributes, seen_control};
+ghost use Rattle.dap_msg.specs.Codes.{status_code_for};
 ghost use Rattle.rec_file.specs.Keys.{little_endian};
 ghost use Rattle.rec_file.specs.Shapes.{is_shape};
-ghost use Rattle.dap_msg.specs.Codes.{status_code_for};
-ghost use Rattle.dap_msg.specs.Message.{seen, seen_control};
 ghost use Rattle.dap_accessed.specs.Exchange.{control_status};
+ghost use Rattle.dap_accessed.specs.Groups.{After};
 ghost use Rattle.dap_accessed.specs.Records.{verb_of};
-ghost use Rattle.dap_accessed.specs.Accesses.{create_file, fac_or, open_file, refuse_access, rights_of};
-ghost use Rattle.dap_accessed.specs.Replies.{bare_status, sync_status};
-ghost use Rattle.dap_accessed.specs.Moves.{Moves, begins, between, move, plain_memory, scene_in, settles, shape_next};
-ghost use Rattle.dap_accessed.specs.Past.{no_attributes, shape_of};
-ghost use Rattle.dap_accessed.specs.Present.{Present, StandsAfter};
-ghost use Rattle.dap_accessed.specs.Served.{IsPlace, IsUnrefused, Serves, is_silent};
-ghost use Rattle.dap_accessed.specs.Standing.{Fresh, Ready, place_of};
-ghost use Rattle.dap_accessed.specs.Written.{Answered, IsShort, message_of};
+ghost use Rattle.dap_accessed.specs.Accesses.{fac_or, rights_of};
+ghost use Rattle.dap_accessed.specs.Replies.{bare_status, refused_access, sync_status};
+ghost use Rattle.dap_accessed.specs.Past.{shape_of};
+ghost use Rattle.dap_accessed.specs.Present.{StandsAfter};
+ghost use Rattle.dap_accessed.specs.Served.{IsUnrefused, Serves, is_silent};
+ghost use Rattle.dap_accessed.specs.Standing.{Fresh, Ready};
+ghost use Rattle.dap_accessed.specs.Inner.Moves.{Makes, creates, move, opens, opens_nothing, plainly};
+ghost use Rattle.dap_accessed.specs.Inner.Written.{Answered, IsShort, message_of};
 ghost use Rattle.dap_accessed.specs.declared.phase.Phase.TheVariants as phases;
 
 use crate::answers::{Answer, one, opening};
@@ -26,7 +26,14 @@ use crate::phase::{OpenFile, Phase};
 use crate::served::Served;
 use crate::table::FileTable;
 use crate::verbs::{Verb, verb_of};
-use dap_msg::{Attributes, Control, Item, Message, MsgFault, item_at, status_for};
+use dap_msg::codes::{
+    self, ACCESS_REFUSED, ACCFUNC_CREATE, ACCFUNC_OPEN, FILE_NOT_FOUND, ORG_SEQUENTIAL,
+    RFM_VARIABLE, Reason, TYPE_ACCESS, TYPE_CONFIGURATION, TYPE_CONTROL, invalid, unsupported,
+};
+use dap_msg::{
+    Attributes, Control, FileAccess, Item, LEAST_BUFFER, Message, MsgFault, is_too_small, item_at,
+    limit_of, status_for,
+};
 use rec_file::{Format, Org, RecordFile, Rights, Shape};
 use std::alloc::Global;
 use std::marker::Model;
@@ -49,13 +56,19 @@ pub struct Accessed {
 
 impl Model for Accessed {
     ghost use Rattle.dap_accessed.specs.Present.{Present, present_code};
-    ghost use Rattle.dap_accessed.specs.Moves.{IsKept};
+    ghost use Rattle.dap_accessed.specs.Inner.Moves.{IsKept};
 
     ghost Value = { Present };
 
     ghost coded = { present_code };
 
-    ghost view = { λ a. record { own = a.bufsiz; limit = a.limit; files = a.files; kept = a.kept; phase = a.phase } };
+    ghost view = { λ a. record {
+      own = a.bufsiz;
+      limit = a.limit;
+      files = a.files;
+      kept = a.kept;
+      phase = a.phase;
+    } };
 
     ghost invariant = { λ a. IsKept a.limit a.files a.kept a.phase };
 }
@@ -67,23 +80,6 @@ const PLAIN: Shape = Shape {
     mrs: 0,
     mrn: 0,
 };
-
-/// The longest message that any end takes.
-const GREATEST_MESSAGE: u16 = 65535;
-
-/// What is known of the peer before its Config.
-const LEAST_LIMIT: u16 = 64;
-
-/// How long a message an end takes that has this BUFSIZ.
-fn limit_for(bufsiz: u16) -> u16
-    ensures { result ≡ limit_of bufsiz }
-{
-    if bufsiz == 0 {
-        GREATEST_MESSAGE
-    } else {
-        bufsiz
-    }
-}
 
 /// The number that bytes spell, the least first, or the greatest where it is greater.
 fn number(bytes: &[u8]) -> u64
@@ -107,30 +103,39 @@ fn shape_for(attributes: &Attributes<'_>) -> Option<Shape>
         None => 0,
     };
     Shape::check(
-        attributes.org.unwrap_or(0),
-        attributes.rfm.unwrap_or(2),
+        attributes.org.unwrap_or(ORG_SEQUENTIAL),
+        attributes.rfm.unwrap_or(RFM_VARIABLE),
         attributes.mrs.unwrap_or(0),
         mrn,
     )
 }
 
-/// The rights that FAC gives.
-fn rights_for(fac: u32) -> Rights
-    ensures { result ≡ rights_of fac }
+/// The rights that FAC gives, or those of the usual operation where it is 0.
+fn rights_for(fac: u32, usual: FileAccess) -> Rights
+    ensures { result ≡ rights_of (fac_or fac usual.0) }
 {
+    let access = if fac == 0 {
+        usual
+    } else {
+        FileAccess::of_fac(fac)
+    };
     Rights {
-        get: fac / 2 % 2 == 1,
-        put: fac % 2 == 1,
-        upd: fac / 8 % 2 == 1,
-        del: fac / 4 % 2 == 1,
+        get: access.allows_get(),
+        put: access.allows_put(),
+        upd: access.allows_update(),
+        del: access.allows_delete(),
     }
 }
 
-/// FAC, or what stands for FAC 0.
-fn fac_for(fac: u32, usual: u32) -> u32
-    ensures { result ≡ fac_or fac usual }
+/// The answer to an Access that opens nothing.
+fn refused_access<'a>(reason: Reason) -> Answer<'a>
+    ensures message { message_of result ≡ refused_access reason }
+    ensures short { IsShort result }
 {
-    if fac == 0 { usual } else { fac }
+    Answer::Reason {
+        code: ACCESS_REFUSED,
+        reason: reason.number(),
+    }
 }
 
 /// The answer to a message that has no place here.
@@ -138,7 +143,7 @@ pub(crate) fn out_of_place<'a>(message: &Message<'_>) -> Answer<'a>
     ensures message { message_of result ≡ sync_status (seen message.now) }
     ensures short { IsShort result }
 {
-    Answer::Status(0xA000 + u16::from(message.number()))
+    Answer::Status(codes::out_of_place(message.number()))
 }
 
 /// The answer to a Control that has no place here.
@@ -147,8 +152,8 @@ pub(crate) fn misplaced<'a>(control: &Control<'_>) -> Answer<'a>
     ensures short { IsShort result }
 {
     match verb_of(control) {
-        Verb::Unknown => Answer::Status(0x2100),
-        _ => Answer::Status(0xA004),
+        Verb::Unknown => Answer::Status(unsupported(TYPE_CONTROL)),
+        _ => Answer::Status(codes::out_of_place(TYPE_CONTROL)),
     }
 }
 
@@ -164,7 +169,7 @@ impl Accessed {
     /// An end with no files that waits for the peer's Config, with a buffer of so many bytes, at least
     /// 64. It takes no memory.
     pub fn new(alloc: Global, bufsiz: u16) -> Accessed
-        requires low { 64 ≤ bufsiz }
+        requires low { least_buffer ≤ bufsiz }
         requires high { bufsiz ≤ greatest_message }
         ensures own { result.own ≡ bufsiz }
         ensures stands { StandsAfter [] result }
@@ -172,16 +177,19 @@ impl Accessed {
         Accessed {
             alloc,
             bufsiz,
-            limit: LEAST_LIMIT,
+            limit: LEAST_BUFFER,
             files: FileTable::new(alloc),
             kept: Some(PLAIN),
             phase: Phase::Fresh,
         }
     }
 
-    /// The files, in the order in which they were made. It takes no memory.
+    /// The files, in the order in which they were made: what all groups of messages so far have made of
+    /// them. It takes no memory. Own.
     pub fn files(&self) -> &FileTable
-        ensures { result.now ≡ self.now.files }
+        ensures held { result.now ≡ self.now.files }
+        ensures after { (items : List TheItem) → StandsAfter items self.now
+            → result.now ≡ After self.now.own items }
     {
         &self.files
     }
@@ -203,17 +211,18 @@ impl Accessed {
 
     fn serve_fresh(&mut self, item: Item<'_>) -> Result<Vec<Vec<u8>>, NoMemory>
         requires { self.old.phase ≡ phases.Fresh }
-        ensures ok { IfOk result (Moves self.old (between self.old (plain_memory self.old.kept) Fresh (seen_item item.entry)) self.new) }
+        ensures ok { Makes (plainly self.old Fresh (seen_item item.entry))
+            self.old self.new result }
         ensures err { OnErr result (self.new ≡ self.old) }
         ensures silent { is_silent self.old.phase (seen_item item.entry) ≡ true → IsOk result }
     {
         match item {
             Item::Whole(Message::Config { bufsiz, .. }) => {
-                if bufsiz > 0 && bufsiz < 64 {
-                    return self.one(Answer::Status(0x9040));
+                if is_too_small(bufsiz) {
+                    return self.one(Answer::Status(invalid(TYPE_CONFIGURATION)));
                 }
                 let answers = self.one(Answer::Config(self.bufsiz))?;
-                self.limit = limit_for(bufsiz);
+                self.limit = limit_of(bufsiz);
                 self.phase = Phase::Ready;
                 Ok(answers)
             }
@@ -225,7 +234,8 @@ impl Accessed {
 
     fn serve_ready(&mut self, item: Item<'_>) -> Result<Vec<Vec<u8>>, NoMemory>
         requires { self.old.phase ≡ phases.Ready }
-        ensures ok { IfOk result (Moves self.old (between self.old (plain_memory self.old.kept) Ready (seen_item item.entry)) self.new) }
+        ensures ok { Makes (plainly self.old Ready (seen_item item.entry))
+            self.old self.new result }
         ensures err { OnErr result (self.new ≡ self.old) }
         ensures silent { is_silent self.old.phase (seen_item item.entry) ≡ true → IsOk result }
     {
@@ -242,9 +252,9 @@ impl Accessed {
                     ..
                 },
             ) => match func {
-                1 => self.open(name, fac),
-                2 => self.create(name, fac),
-                _ => self.refuse_access(Answer::Status(0x20C0)),
+                ACCFUNC_OPEN => self.open(name, fac),
+                ACCFUNC_CREATE => self.create(name, fac),
+                _ => self.refuse_access(Answer::Status(unsupported(TYPE_ACCESS))),
             },
             Item::Whole(Message::Other { .. }) => Ok(self.none()),
             Item::Whole(message) => self.one(out_of_place(&message)),
@@ -256,7 +266,8 @@ impl Accessed {
     fn refuse_access(&mut self, answer: Answer<'_>) -> Result<Vec<Vec<u8>>, NoMemory>
         requires phase { self.old.phase ≡ phases.Ready }
         requires short { IsShort answer }
-        ensures ok { IfOk result (Moves self.old (settles self.old (plain_memory (shape_of no_attributes)) (refuse_access (scene_in self.old) (message_of answer.entry))) self.new) }
+        ensures ok { Makes (opens_nothing self.old (message_of answer.entry))
+            self.old self.new result }
         ensures err { OnErr result (self.new ≡ self.old) }
     {
         let answers = self.one(answer)?;
@@ -266,38 +277,32 @@ impl Accessed {
 
     fn open(&mut self, name: &[u8], fac: u32) -> Result<Vec<Vec<u8>>, NoMemory>
         requires { self.old.phase ≡ phases.Ready }
-        ensures ok { IfOk result (Moves self.old (settles self.old (plain_memory (shape_of no_attributes)) (open_file (scene_in self.old) fac (place_of name.now self.old.files))) self.new) }
+        ensures ok { Makes (opens self.old name.now fac) self.old self.new result }
         ensures err { OnErr result (self.new ≡ self.old) }
     {
         let Some(at) = self.files.find(name) else {
-            return self.refuse_access(Answer::Status(0x4032));
+            return self.refuse_access(Answer::Status(FILE_NOT_FOUND));
         };
         let answers = opening(self.alloc, self.limit, self.files.file(at).shape())?;
         self.kept = Some(PLAIN);
         self.phase = Phase::Opened(OpenFile {
             at,
             is_new: false,
-            rights: rights_for(fac_for(fac, 2)),
+            rights: rights_for(fac, FileAccess::GET),
         });
         Ok(answers)
     }
 
     fn create(&mut self, name: &[u8], fac: u32) -> Result<Vec<Vec<u8>>, NoMemory>
         requires { self.old.phase ≡ phases.Ready }
-        ensures ok { IfOk result (Moves self.old (settles self.old (plain_memory (shape_of no_attributes)) (create_file (scene_in self.old) name.now fac (place_of name.now self.old.files) self.old.kept)) self.new) }
+        ensures ok { Makes (creates self.old name.now fac) self.old self.new result }
         ensures err { OnErr result (self.new ≡ self.old) }
     {
         if self.files.find(name).is_some() {
-            return self.refuse_access(Answer::Reason {
-                code: 0x4000,
-                reason: 1,
-            });
+            return self.refuse_access(refused_access(Reason::FileExists));
         }
         let Some(shape) = self.kept else {
-            return self.refuse_access(Answer::Reason {
-                code: 0x4000,
-                reason: 11,
-            });
+            return self.refuse_access(refused_access(Reason::BadAttributes));
         };
         let answers = opening(self.alloc, self.limit, shape)?;
         let at = self.files.count();
@@ -306,7 +311,7 @@ impl Accessed {
         self.phase = Phase::Opened(OpenFile {
             at,
             is_new: true,
-            rights: rights_for(fac_for(fac, 1)),
+            rights: rights_for(fac, FileAccess::PUT),
         });
         Ok(answers)
     }
@@ -331,7 +336,7 @@ impl Accessed {
     }
 
     fn serve_item(&mut self, item: Item<'_>) -> Result<Vec<Vec<u8>>, NoMemory>
-        ensures ok { IfOk result (Moves self.old (move self.old (seen_item item.entry)) self.new) }
+        ensures ok { Makes (move self.old (seen_item item.entry)) self.old self.new result }
         ensures err { OnErr result (self.new ≡ self.old) }
         ensures silent { is_silent self.old.phase (seen_item item.entry) ≡ true → IsOk result }
     {

@@ -1,16 +1,19 @@
 //! Answers, and their messages.
 
-ghost use Rattle.std.specs.Prelude.{◌≡◌, ◌≤◌, ◌++◌, List, [], ◌∷◌, IfOk, OnOk, length};
-ghost use Rattle.dap_msg.specs.Message.{Ack, Message as Meaning, Status, seen};
-ghost use Rattle.dap_msg.specs.Canon.{Fits, canon, file_data_size};
-ghost use Rattle.dap_msg.specs.Written.{Appends};
-ghost use Rattle.dap_msg.specs.Exchange.{attributes_of, config_of, record_of, short_answer};
+ghost use Rattle.std.specs.Prelude.{◌≡◌, ◌≤◌, [], ◌∷◌, IfOk, length};
+ghost use Rattle.dap_msg.specs.Message.{Ack, Filedata, seen};
+ghost use Rattle.dap_msg.specs.Canon.{Fits, file_data_size};
+ghost use Rattle.dap_msg.specs.Exchange.{config_of, four_bytes, short_answer};
 ghost use Rattle.rec_file.specs.Limits.{longest_record};
-ghost use Rattle.dap_accessed.specs.Replies.{completed, format_number, opened_with, org_number};
-ghost use Rattle.dap_accessed.specs.Written.{Answered, FitsIn, IsShort, message_of};
+ghost use Rattle.dap_accessed.specs.Replies.{attributes_for, completed, format_number, opened_with, org_number, status, too_large};
+ghost use Rattle.dap_accessed.specs.Inner.Written.{AddsAnswer, Answered, FitsIn, IsAtMost, IsShort, IsWritable, message_of, most_bytes, number_in, reason_in};
 
 use crate::fault::NoMemory;
-use dap_msg::{Attributes, Message, MsgFault, append_blocked, encode};
+use dap_msg::codes::{
+    CMPFUNC_RESPONSE, ORG_RELATIVE, ORG_SEQUENTIAL, RECORD_REFUSED, RFM_FIXED, RFM_VARIABLE,
+    Reason, SUCCESS,
+};
+use dap_msg::{Attributes, LEAST_BUFFER, Message, append_message, encode};
 use rec_file::{Format, Org, Shape};
 use std::alloc::Global;
 use std::marker::Model;
@@ -34,43 +37,61 @@ pub(crate) enum Answer<'a> {
     Record { number: u32, body: &'a [u8] },
 }
 
-/// The refusal of a record that is longer than the peer takes.
-pub(crate) const TOO_LARGE: Answer<'static> = Answer::Reason {
-    code: 0x5000,
-    reason: 10,
-};
+/// The number that the answer's message has in four bytes, 0 where it has none.
+fn number_in(answer: &Answer<'_>) -> u32
+    ensures { result ≡ number_in answer.now }
+{
+    match answer {
+        Answer::Attributes(shape) => shape.mrn,
+        Answer::StoreRefusal { ordinal, .. } => *ordinal,
+        Answer::Done(number) | Answer::Record { number, .. } => *number,
+        _ => 0,
+    }
+}
 
-fn write_status(
-    code: u16,
-    rfa: &[u8],
-    recnum: &[u8],
-    stv: &[u8],
-    out: &mut Vec<u8>,
-) -> Result<(), MsgFault>
+/// Its reason, 0 where it has none.
+fn reason_in(answer: &Answer<'_>) -> u8
+    ensures { result ≡ reason_in answer.now }
+{
+    match answer {
+        Answer::Reason { reason, .. } | Answer::StoreRefusal { reason, .. } => *reason,
+        _ => 0,
+    }
+}
+
+/// The refusal of a record that is longer than the peer takes.
+pub(crate) fn too_large<'a>() -> Answer<'a>
+    ensures message { message_of result ≡ too_large }
+    ensures short { IsShort result }
+{
+    Answer::Reason {
+        code: RECORD_REFUSED,
+        reason: Reason::TooLargeForBuffer.number(),
+    }
+}
+
+fn status<'a>(code: u16, rfa: &'a [u8], recnum: &'a [u8], stv: &'a [u8]) -> Message<'a>
     requires rfa { length rfa.now ≤ 4 }
     requires recnum { length recnum.now ≤ 4 }
     requires stv { length stv.now ≤ 4 }
-    ensures fits { Fits (Status (record { code = code; rfa = rfa.now; recnum = recnum.now; stv = stv.now })) }
-    ensures short { length (canon (Status (record { code = code; rfa = rfa.now; recnum = recnum.now; stv = stv.now }))) ≤ short_answer }
-    ensures appends { Appends (canon (Status (record { code = code; rfa = rfa.now; recnum = recnum.now; stv = stv.now }))) out.old out.new result }
+    ensures same { seen result ≡ status code rfa.now recnum.now stv.now }
+    ensures fits { Fits (status code rfa.now recnum.now stv.now) }
+    ensures short { IsAtMost short_answer (status code rfa.now recnum.now stv.now) }
 {
-    encode(
-        &Message::Status {
-            code,
-            rfa,
-            recnum,
-            stv,
-        },
-        out,
-    )
+    Message::Status {
+        code,
+        rfa,
+        recnum,
+        stv,
+    }
 }
 
 fn org_code(org: Org) -> u8
     ensures { result ≡ org_number org }
 {
     match org {
-        Org::Seq => 0,
-        Org::Rel => 16,
+        Org::Seq => ORG_SEQUENTIAL,
+        Org::Rel => ORG_RELATIVE,
     }
 }
 
@@ -78,126 +99,84 @@ fn format_code(format: Format) -> u8
     ensures { result ≡ format_number format }
 {
     match format {
-        Format::Fixed => 1,
-        Format::Variable => 2,
+        Format::Fixed => RFM_FIXED,
+        Format::Variable => RFM_VARIABLE,
     }
 }
 
-fn write_attributes(shape: Shape, out: &mut Vec<u8>) -> Result<(), MsgFault>
-    ensures fits { Fits (attributes_of (org_number shape.org) (format_number shape.format) shape.mrs shape.mrn) }
-    ensures short { length (canon (attributes_of (org_number shape.org) (format_number shape.format) shape.mrs shape.mrn)) ≤ short_answer }
-    ensures appends { Appends (canon (attributes_of (org_number shape.org) (format_number shape.format) shape.mrs shape.mrn)) out.old out.new result }
+/// The Attributes of a file, with its MRN in these four bytes.
+fn attributes(shape: Shape, mrn: &[u8]) -> Message<'_>
+    requires { mrn.now ≡ four_bytes shape.mrn }
+    ensures same { seen result ≡ attributes_for shape }
+    ensures fits { Fits (attributes_for shape) }
+    ensures short { IsAtMost short_answer (attributes_for shape) }
 {
-    let mrn = shape.mrn.to_le_bytes();
-    encode(
-        &Message::Attrib(Attributes {
-            datatype: None,
-            org: Some(org_code(shape.org)),
-            rfm: Some(format_code(shape.format)),
-            rat: None,
-            bls: None,
-            mrs: Some(shape.mrs),
-            alq: None,
-            bks: None,
-            fsz: None,
-            mrn: Some(&mrn),
-            runsys: None,
-            deq: None,
-            fop: None,
-            bsz: None,
-            dev: None,
-            sdc: None,
-            lrl: None,
-            hbk: None,
-            ebk: None,
-            ffb: None,
-            sbn: None,
-        }),
-        out,
-    )
+    Message::Attrib(Attributes {
+        org: Some(org_code(shape.org)),
+        rfm: Some(format_code(shape.format)),
+        mrs: Some(shape.mrs),
+        mrn: Some(mrn),
+        ..Attributes::none()
+    })
 }
 
-fn write_config(bufsiz: u16, out: &mut Vec<u8>) -> Result<(), MsgFault>
+fn config<'a>(bufsiz: u16) -> Message<'a>
+    ensures same { seen result ≡ config_of bufsiz }
     ensures fits { Fits (config_of bufsiz) }
-    ensures short { length (canon (config_of bufsiz)) ≤ short_answer }
-    ensures appends { Appends (canon (config_of bufsiz)) out.old out.new result }
+    ensures short { IsAtMost short_answer (config_of bufsiz) }
 {
-    encode(
-        &Message::Config {
-            bufsiz,
-            ostype: 7,
-            filesys: 3,
-            vernum: 5,
-            econum: 6,
-            usrnum: 0,
-            softver: 0,
-            usrsoft: 0,
-            syscap: 0,
-        },
-        out,
-    )
+    Message::config_of(bufsiz)
 }
 
-fn write_complete(out: &mut Vec<u8>) -> Result<(), MsgFault>
+fn complete<'a>() -> Message<'a>
+    ensures same { seen result ≡ completed }
     ensures fits { Fits completed }
-    ensures short { length (canon completed) ≤ short_answer }
-    ensures appends { Appends (canon completed) out.old out.new result }
+    ensures short { IsAtMost short_answer completed }
 {
-    encode(
-        &Message::Accomp {
-            func: 2,
-            fop: 0,
-            check: None,
-        },
-        out,
-    )
+    Message::complete_with(CMPFUNC_RESPONSE)
 }
 
-fn write_acknowledge(out: &mut Vec<u8>) -> Result<(), MsgFault>
+fn acknowledge<'a>() -> Message<'a>
+    ensures same { seen result ≡ Ack }
     ensures fits { Fits Ack }
-    ensures short { length (canon Ack) ≤ short_answer }
-    ensures appends { Appends (canon Ack) out.old out.new result }
+    ensures short { IsAtMost short_answer Ack }
 {
-    encode(&Message::Ack, out)
+    Message::Ack
 }
 
-fn write_record(number: u32, body: &[u8], out: &mut Vec<u8>) -> Result<(), MsgFault>
-    requires { length body.now ≤ longest_record }
-    ensures fits { Fits (record_of number body.now) }
-    ensures size { length (canon (record_of number body.now)) ≡ file_data_size 4 (length body.now) }
-    ensures appends { Appends (canon (record_of number body.now)) out.old out.new result }
+/// A record, with its number in these four bytes.
+fn record<'a>(number: &'a [u8], body: &'a [u8]) -> Message<'a>
+    requires four { length number.now ≡ 4 }
+    requires short { length body.now ≤ longest_record }
+    ensures same { seen result ≡ Filedata number.now body.now }
+    ensures fits { Fits (Filedata number.now body.now) }
+    ensures size { IsAtMost (file_data_size 4 (length body.now)) (Filedata number.now body.now) }
 {
-    encode(
-        &Message::Filedata {
-            recnum: &number.to_le_bytes(),
-            payload: body,
-        },
-        out,
-    )
+    Message::Filedata {
+        recnum: number,
+        payload: body,
+    }
 }
 
-/// Appends the message of an answer.
-fn write(answer: Answer<'_>, limit: u16, out: &mut Vec<u8>) -> Result<(), MsgFault>
-    requires { FitsIn limit answer }
+/// The message of an answer, with its number in these four bytes and its reason in this one.
+fn message<'a>(answer: Answer<'a>, number: &'a [u8], reason: &'a [u8]) -> Message<'a>
+    requires writable { IsWritable answer }
+    requires number { number.now ≡ four_bytes (number_in answer) }
+    requires reason { reason.now ≡ reason_in answer ∷ [] }
+    ensures same { seen result ≡ message_of answer.entry }
     ensures fits { Fits (message_of answer.entry) }
-    ensures within { length (canon (message_of answer.entry)) ≤ limit }
-    ensures appends { Appends (canon (message_of answer.entry)) out.old out.new result }
+    ensures within { IsAtMost (most_bytes answer.entry) (message_of answer.entry) }
 {
     match answer {
-        Answer::Config(bufsiz) => write_config(bufsiz, out),
-        Answer::Attributes(shape) => write_attributes(shape, out),
-        Answer::Ack => write_acknowledge(out),
-        Answer::Complete => write_complete(out),
-        Answer::Status(code) => write_status(code, &[], &[], &[], out),
-        Answer::Reason { code, reason } => write_status(code, &[], &[], &[reason], out),
-        Answer::StoreRefusal { reason, ordinal } => {
-            write_status(0x5000, &[], &ordinal.to_le_bytes(), &[reason], out)
-        }
-        Answer::Done(number) => {
-            let image = number.to_le_bytes();
-            write_status(0x1000, &image, &image, &[], out)
-        }
-        Answer::Record { number, body } => write_record(number, body, out),
+        Answer::Config(bufsiz) => config(bufsiz),
+        Answer::Attributes(shape) => attributes(shape, number),
+        Answer::Ack => acknowledge(),
+        Answer::Complete => complete(),
+        Answer::Status(code) => status(code, &[], &[], &[]),
+        Answer::Reason { code, .. } => status(code, &[], &[], reason),
+        Answer::StoreRefusal { .. } => status(RECORD_REFUSED, &[], number, reason),
+        Answer::Done(_) => status(SUCCESS, number, number, &[]),
+        Answer::Record { body, .. } => record(number, body),
     }
 }
 
@@ -206,10 +185,8 @@ pub(crate) fn one(alloc: Global, limit: u16, answer: Answer<'_>) -> Result<Vec<V
     requires { FitsIn limit answer }
     ensures { IfOk result (Answered limit (message_of answer.entry ∷ [])) }
 {
-    let mut bytes = Vec::new(alloc);
-    write(answer, limit, &mut bytes)?;
     let mut answers = Vec::new(alloc);
-    answers.push(bytes)?;
+    append(alloc, limit, answer, &mut answers)?;
     Ok(answers)
 }
 
@@ -221,11 +198,12 @@ pub(crate) fn append(
     answers: &mut Vec<Vec<u8>>,
 ) -> Result<(), NoMemory>
     requires { FitsIn limit answer }
-    ensures { OnOk result ((messages : List Meaning) → Answered limit messages answers.old → Answered limit (messages ++ message_of answer.entry ∷ []) answers.new) }
+    ensures { AddsAnswer limit (message_of answer.entry) answers.old answers.new result }
 {
-    let mut bytes = Vec::new(alloc);
-    write(answer, limit, &mut bytes)?;
-    append_blocked(alloc, answers, &bytes, usize::from(limit))?;
+    let number = number_in(&answer).to_le_bytes();
+    let reason = [reason_in(&answer)];
+    let message = message(answer, &number, &reason);
+    append_message(alloc, answers, &message, usize::from(limit))?;
     Ok(())
 }
 
@@ -248,19 +226,21 @@ pub(crate) struct Room {
 }
 
 impl Model for Room {
-    ghost use Rattle.std.specs.Prelude.{◌≤◌, ◌≡◌, vec_capacity, [], Bool, true};
+    ghost use Rattle.std.specs.Prelude.{Bool, true};
+    ghost use Rattle.dap_msg.specs.Exchange.{least_buffer};
+    ghost use Rattle.dap_accessed.specs.Inner.Written.{IsEmptyFor};
 
     ghost Value = { Bool };
 
     ghost view = { λ a. true };
 
-    ghost invariant = { λ a. (a.answers.items ≡ []) × (1 ≤ vec_capacity a.answers) × (a.bytes.items ≡ []) × (64 ≤ vec_capacity a.bytes) };
+    ghost invariant = { λ a. IsEmptyFor 1 a.answers × IsEmptyFor least_buffer a.bytes };
 }
 
 impl Room {
     pub(crate) fn new(alloc: Global) -> Result<Room, NoMemory> {
         let answers = Vec::with_capacity(alloc, 1)?;
-        let bytes = Vec::with_capacity(alloc, 64)?;
+        let bytes = Vec::with_capacity(alloc, usize::from(LEAST_BUFFER))?;
         Ok(Room { answers, bytes })
     }
 
@@ -274,7 +254,9 @@ impl Room {
             mut answers,
             mut bytes,
         } = self;
-        let _written = write(answer, 64, &mut bytes);
+        let number = number_in(&answer).to_le_bytes();
+        let reason = [reason_in(&answer)];
+        let _written = encode(&message(answer, &number, &reason), &mut bytes);
         answers.push_reserved(bytes);
         answers
     }

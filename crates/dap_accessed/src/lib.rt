@@ -6,6 +6,7 @@ mod accessed;
 mod answers;
 mod fault;
 mod laws;
+mod measuring;
 mod opened;
 mod phase;
 mod refusing;
@@ -16,11 +17,9 @@ mod verbs;
 
 pub use accessed::Accessed;
 pub use fault::NoMemory;
-pub use laws::{answers_grow, stays_sound};
-pub use phase::{OpenFile, Phase};
+pub use laws::{answers_are_sendable, answers_fit, answers_grow, stays_sound};
 pub use served::Served;
 pub use table::FileTable;
-pub use verbs::Verb;
 
 #[cfg(test)]
 mod tests;

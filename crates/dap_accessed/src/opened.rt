@@ -1,27 +1,27 @@
-//! What is served while a file is open.
+//! What is served while a file is open. The line `let _ = &self.phase` lets a proof see what every end keeps.
 
-ghost use Rattle.std.specs.Prelude.{◌≡◌, ◌≢◌, ◌<◌, [], ◌∷◌, length, IfOk, IsOk, OnErr, false, true};
+ghost use Rattle.std.specs.Prelude.{◌≡◌, ◌≢◌, ◌<◌, length, IsOk, OnErr, true};
+ghost use Rattle.dap_msg.specs.Codes.{cmpfunc_end_of_stream};
 ghost use Rattle.dap_msg.specs.Items.{seen_item};
 ghost use Rattle.dap_msg.specs.Message.{seen_control};
-ghost use Rattle.rec_file.specs.Acts.{act, delete_record};
-ghost use Rattle.dap_accessed.specs.Accesses.{complete, completing, end_stream};
-ghost use Rattle.dap_accessed.specs.Moves.{Moves, between, control_move, plain_memory, scene_in, settles, within};
-ghost use Rattle.dap_accessed.specs.Past.{Memory};
-ghost use Rattle.dap_accessed.specs.Present.{phase_at};
-ghost use Rattle.dap_accessed.specs.Records.{Putting, Updating, changed, get_pick, record_got, refused, settled};
+ghost use Rattle.dap_accessed.specs.Records.{Putting, Updating};
 ghost use Rattle.dap_accessed.specs.Served.{begins_only, is_silent};
-ghost use Rattle.dap_accessed.specs.Standing.{Connected, Effect, Opened, Place, Store, enters, file_at, the_file};
-ghost use Rattle.dap_accessed.specs.Written.{IsShort, message_of};
+ghost use Rattle.dap_accessed.specs.Standing.{Connected, Opened};
+ghost use Rattle.dap_accessed.specs.Inner.Moves.{Completes, CompletesStream, Makes, changes, control_move, deletes, drops, gets, plainly, refuses, within};
+ghost use Rattle.dap_accessed.specs.Inner.Written.{IsShort, message_of};
 ghost use Rattle.dap_accessed.specs.declared.phase.Phase.TheVariants as phases;
 
 use crate::accessed::{Accessed, malformed, misplaced, out_of_place};
-use crate::answers::{Answer, Room, TOO_LARGE, one};
+use crate::answers::{Answer, Room, one, too_large};
 use crate::fault::NoMemory;
+use crate::measuring::{body_of, filedata_len};
 use crate::phase::{OpenFile, Phase};
-use crate::refusing::{
-    body_of, filedata_len, key_for, pick_for, refused, settled, wants_memory, without_current,
-};
+use crate::refusing::{key_for, pick_for, refused, settled, wants_memory, without_current};
 use crate::verbs::{Verb, verb_of};
+use dap_msg::codes::{
+    self, CMPFUNC_CLOSE, CMPFUNC_END_OF_STREAM, CMPFUNC_PURGE, CMPFUNC_SKIP, SUCCESS,
+    TYPE_COMPLETE, TYPE_CONTROL, invalid, unsupported,
+};
 use dap_msg::{Control, Item, Message};
 use rec_file::{Refusal, Stream};
 
@@ -32,7 +32,8 @@ impl Accessed {
         item: Item<'_>,
     ) -> Result<Vec<Vec<u8>>, NoMemory>
         requires { self.old.phase ≡ phases.Opened opened }
-        ensures ok { IfOk result (Moves self.old (between self.old (plain_memory self.old.kept) (Opened opened) (seen_item item.entry)) self.new) }
+        ensures ok { Makes (plainly self.old (Opened opened) (seen_item item.entry))
+            self.old self.new result }
         ensures err { OnErr result (self.new ≡ self.old) }
         ensures silent { is_silent self.old.phase (seen_item item.entry) ≡ true → IsOk result }
     {
@@ -46,7 +47,12 @@ impl Accessed {
                 }
                 _ => self.one(misplaced(&control)),
             },
-            Item::Whole(Message::Accomp { func: 4, .. }) => self.one(Answer::Status(0xA007)),
+            Item::Whole(
+                Message::Accomp {
+                    func: CMPFUNC_END_OF_STREAM,
+                    ..
+                },
+            ) => { self.one(Answer::Status(codes::out_of_place(TYPE_COMPLETE))) }
             Item::Whole(Message::Accomp { func, .. }) => self.complete(opened, func),
             Item::Whole(message) => self.one(out_of_place(&message)),
             Item::Malformed(fault) => self.one(malformed(fault)),
@@ -56,17 +62,17 @@ impl Accessed {
     /// A completion other than the end of a stream.
     pub(crate) fn complete(&mut self, opened: OpenFile, func: u8) -> Result<Vec<Vec<u8>>, NoMemory>
         requires there { opened.at < length self.old.files }
-        requires other { func ≢ 4 }
-        ensures ok { IfOk result (λ answers. (place : Place) (memory : Memory) (ends : Effect) → self.old.phase ≡ phase_at place memory → memory.shape ≡ self.old.kept → Moves self.old (settles self.old memory (complete (completing func) (scene_in self.old) opened place ends)) self.new answers) }
+        requires other { func ≢ cmpfunc_end_of_stream }
+        ensures ok { Completes func opened self.old self.new result }
         ensures err { OnErr result (self.new ≡ self.old) }
     {
         match func {
-            1 => {
+            CMPFUNC_CLOSE => {
                 let answers = self.one(Answer::Complete)?;
                 self.phase = Phase::Ready;
                 Ok(answers)
             }
-            3 => {
+            CMPFUNC_PURGE => {
                 let answers = self.one(Answer::Complete)?;
                 if opened.is_new {
                     self.files.remove(opened.at);
@@ -74,8 +80,8 @@ impl Accessed {
                 self.phase = Phase::Ready;
                 Ok(answers)
             }
-            5 => self.one(Answer::Status(0x21C0)),
-            _ => self.one(Answer::Status(0x91C0)),
+            CMPFUNC_SKIP => self.one(Answer::Status(unsupported(TYPE_COMPLETE))),
+            _ => self.one(Answer::Status(invalid(TYPE_COMPLETE))),
         }
     }
 
@@ -86,10 +92,10 @@ impl Accessed {
         func: u8,
     ) -> Result<Vec<Vec<u8>>, NoMemory>
         requires { opened.at < length self.old.files }
-        ensures ok { IfOk result (λ answers. (place : Place) (memory : Memory) → self.old.phase ≡ phase_at place memory → memory.shape ≡ self.old.kept → Moves self.old (settles self.old memory (complete (completing func) (scene_in self.old) opened place (end_stream (scene_in self.old) opened))) self.new answers) }
+        ensures ok { CompletesStream func opened self.old self.new result }
         ensures err { OnErr result (self.new ≡ self.old) }
     {
-        if func == 4 {
+        if func == CMPFUNC_END_OF_STREAM {
             let answers = self.one(Answer::Complete)?;
             self.phase = Phase::Opened(opened);
             Ok(answers)
@@ -105,7 +111,8 @@ impl Accessed {
         item: Item<'_>,
     ) -> Result<Vec<Vec<u8>>, NoMemory>
         requires { self.old.phase ≡ phases.Connected opened stream }
-        ensures ok { IfOk result (Moves self.old (between self.old (plain_memory self.old.kept) (Connected opened stream) (seen_item item.entry)) self.new) }
+        ensures ok { Makes (plainly self.old (Connected opened stream) (seen_item item.entry))
+            self.old self.new result }
         ensures err { OnErr result (self.new ≡ self.old) }
         ensures silent { is_silent self.old.phase (seen_item item.entry) ≡ true → IsOk result }
     {
@@ -128,7 +135,8 @@ impl Accessed {
         control: Control<'_>,
     ) -> Result<Vec<Vec<u8>>, NoMemory>
         requires { self.old.phase ≡ phases.Connected opened stream }
-        ensures ok { IfOk result (Moves self.old (control_move verb self.old opened stream (seen_control control.entry)) self.new) }
+        ensures ok { Makes (control_move verb self.old opened stream (seen_control control.entry))
+            self.old self.new result }
         ensures err { OnErr result (self.new ≡ self.old) }
         ensures silent { begins_only verb ≡ true → IsOk result }
     {
@@ -152,14 +160,14 @@ impl Accessed {
             }
             Verb::Delete => self.delete(opened, stream),
             Verb::Rewind => {
-                let answers = self.one(Answer::Status(0x1000))?;
+                let answers = self.one(Answer::Status(SUCCESS))?;
                 let mut stream = stream;
                 stream.rewind();
                 self.phase = Phase::Connected(opened, stream);
                 Ok(answers)
             }
-            Verb::Connect => self.one(Answer::Status(0xA004)),
-            Verb::Unknown => self.one(Answer::Status(0x2100)),
+            Verb::Connect => self.one(Answer::Status(codes::out_of_place(TYPE_CONTROL))),
+            Verb::Unknown => self.one(Answer::Status(unsupported(TYPE_CONTROL))),
         }
     }
 
@@ -170,7 +178,8 @@ impl Accessed {
         control: Control<'_>,
     ) -> Result<Vec<Vec<u8>>, NoMemory>
         requires { self.old.phase ≡ phases.Connected opened stream }
-        ensures ok { IfOk result (Moves self.old (settles self.old (plain_memory self.old.kept) (record_got (get_pick (the_file self.old.files opened) stream (seen_control control.entry)) (scene_in self.old) opened stream)) self.new) }
+        ensures ok { Makes (gets self.old opened stream (seen_control control.entry))
+            self.old self.new result }
         ensures err { OnErr result (self.new ≡ self.old) }
     {
         let _ = &self.phase;
@@ -186,7 +195,7 @@ impl Accessed {
         };
         let body = body_of(file, number);
         if filedata_len(body) > usize::from(self.limit) {
-            let answers = self.one(TOO_LARGE)?;
+            let answers = self.one(too_large())?;
             self.phase = Phase::Connected(opened, without_current(stream));
             return Ok(answers);
         }
@@ -203,7 +212,7 @@ impl Accessed {
         refusal: Refusal,
     ) -> Result<Vec<Vec<u8>>, NoMemory>
         requires { opened.at < length self.old.files }
-        ensures ok { IfOk result (Moves self.old (settles self.old (plain_memory self.old.kept) (refused (scene_in self.old) opened stream refusal)) self.new) }
+        ensures ok { Makes (refuses self.old opened stream refusal) self.old self.new result }
         ensures err { OnErr result (self.new ≡ self.old) }
     {
         let answers = self.one(refused(refusal))?;
@@ -213,7 +222,7 @@ impl Accessed {
 
     fn delete(&mut self, opened: OpenFile, stream: Stream) -> Result<Vec<Vec<u8>>, NoMemory>
         requires { opened.at < length self.old.files }
-        ensures ok { IfOk result (Moves self.old (settles self.old (plain_memory self.old.kept) (settled (scene_in self.old) opened (act delete_record (the_file self.old.files opened) stream))) self.new) }
+        ensures ok { Makes (deletes self.old opened stream) self.old self.new result }
         ensures err { OnErr result (self.new ≡ self.old) }
     {
         let room = Room::new(self.alloc)?;
@@ -232,7 +241,8 @@ impl Accessed {
     ) -> Result<Vec<Vec<u8>>, NoMemory>
         requires there { opened.at < length self.old.files }
         requires short { IsShort answer }
-        ensures ok { IfOk result (Moves self.old (settles self.old (plain_memory self.old.kept) (enters (scene_in self.old) (Connected opened stream) (message_of answer.entry ∷ []))) self.new) }
+        ensures ok { Makes (drops self.old opened stream (message_of answer.entry))
+            self.old self.new result }
         ensures err { OnErr result (self.new ≡ self.old) }
     {
         let answers = self.one(answer)?;
@@ -248,7 +258,8 @@ impl Accessed {
         item: Item<'_>,
     ) -> Result<Vec<Vec<u8>>, NoMemory>
         requires { self.old.phase ≡ phases.PutDue opened stream key }
-        ensures ok { IfOk result (Moves self.old (within self.old (Putting key) opened stream (seen_item item.entry)) self.new) }
+        ensures ok { Makes (within self.old (Putting key) opened stream (seen_item item.entry))
+            self.old self.new result }
         ensures err { OnErr result (self.new ≡ self.old) }
         ensures silent { is_silent self.old.phase (seen_item item.entry) ≡ true → IsOk result }
     {
@@ -269,7 +280,8 @@ impl Accessed {
         item: Item<'_>,
     ) -> Result<Vec<Vec<u8>>, NoMemory>
         requires { self.old.phase ≡ phases.UpdateDue opened stream }
-        ensures ok { IfOk result (Moves self.old (within self.old Updating opened stream (seen_item item.entry)) self.new) }
+        ensures ok { Makes (within self.old Updating opened stream (seen_item item.entry))
+            self.old self.new result }
         ensures err { OnErr result (self.new ≡ self.old) }
         ensures silent { is_silent self.old.phase (seen_item item.entry) ≡ true → IsOk result }
     {
@@ -291,7 +303,8 @@ impl Accessed {
         body: &[u8],
     ) -> Result<Vec<Vec<u8>>, NoMemory>
         requires { opened.at < length self.old.files }
-        ensures ok { IfOk result (Moves self.old (settles self.old (plain_memory self.old.kept) (changed (Putting key) (scene_in self.old) opened stream body.now)) self.new) }
+        ensures ok { Makes (changes self.old (Putting key) opened stream body.now)
+            self.old self.new result }
         ensures err { OnErr result (self.new ≡ self.old) }
     {
         let key = match key {
@@ -315,7 +328,8 @@ impl Accessed {
         body: &[u8],
     ) -> Result<Vec<Vec<u8>>, NoMemory>
         requires { opened.at < length self.old.files }
-        ensures ok { IfOk result (Moves self.old (settles self.old (plain_memory self.old.kept) (changed Updating (scene_in self.old) opened stream body.now)) self.new) }
+        ensures ok { Makes (changes self.old Updating opened stream body.now)
+            self.old self.new result }
         ensures err { OnErr result (self.new ≡ self.old) }
     {
         let room = Room::new(self.alloc)?;

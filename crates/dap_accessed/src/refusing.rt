@@ -1,19 +1,17 @@
 //! What is refused of a GET or a PUT before its key is a number, and the answers to refusals.
 
-ghost use Rattle.std.specs.Prelude.{◌≡◌, ◌≤◌, [], length, unwrap_or};
-ghost use Rattle.std.specs.FinMap as map;
-ghost use Rattle.rec_file.specs.Limits.{longest_record};
+ghost use Rattle.std.specs.Prelude.{◌≡◌, []};
 ghost use Rattle.dap_msg.specs.Message.{seen_control};
-ghost use Rattle.dap_msg.specs.Canon.{file_data_size};
 ghost use Rattle.dap_msg.specs.Exchange.{four_bytes};
 ghost use Rattle.rec_file.specs.AnyFiles.{any_value};
 ghost use Rattle.rec_file.specs.Acts.{is_no_memory};
 ghost use Rattle.dap_accessed.specs.Replies.{reason_of, record_status, refusal_status};
 ghost use Rattle.dap_accessed.specs.Records.{get_pick, key_of, put_key, uncurrent};
-ghost use Rattle.dap_accessed.specs.Written.{IsShort, message_of};
+ghost use Rattle.dap_accessed.specs.Inner.Written.{IsShort, message_of};
 
 use crate::answers::Answer;
 use dap_msg::Control;
+use dap_msg::codes::{END_OF_FILE, RAC_ADDRESS, RAC_KEYED, RAC_SEQUENTIAL, RECORD_REFUSED, Reason};
 use rec_file::{AnyFile, Pick, RecordFile, Refusal, Stream, key_number};
 
 /// The number that KEY spells.
@@ -37,15 +35,15 @@ pub(crate) fn pick_for(
     if !stream.rights().get {
         return Err(Refusal::NotPermitted);
     }
-    match control.rac.unwrap_or(0) {
-        0 => Ok(Pick::Next),
-        1 => {
+    match control.rac.unwrap_or(RAC_SEQUENTIAL) {
+        RAC_SEQUENTIAL => Ok(Pick::Next),
+        RAC_KEYED => {
             if file.shape().is_sequential() {
                 return Err(Refusal::BadAccessMode);
             }
             Ok(Pick::Key(key(control)?))
         }
-        2 => Ok(Pick::Rfa(key(control)?)),
+        RAC_ADDRESS => Ok(Pick::Rfa(key(control)?)),
         _ => Err(Refusal::BadAccessMode),
     }
 }
@@ -61,9 +59,9 @@ pub(crate) fn key_for(
     if !stream.rights().put {
         return Err(Refusal::NotPermitted);
     }
-    match control.rac.unwrap_or(0) {
-        0 => Ok(None),
-        1 => {
+    match control.rac.unwrap_or(RAC_SEQUENTIAL) {
+        RAC_SEQUENTIAL => Ok(None),
+        RAC_KEYED => {
             if file.shape().is_sequential() {
                 return Err(Refusal::BadAccessMode);
             }
@@ -86,15 +84,15 @@ fn reason_number(refusal: Refusal) -> u8
     ensures { result ≡ reason_of refusal }
 {
     match refusal {
-        Refusal::NotPermitted => 2,
-        Refusal::NoCurrent => 3,
-        Refusal::RecordNotFound => 4,
-        Refusal::RecordExists => 5,
-        Refusal::NumberOutOfRange => 6,
-        Refusal::BadLength => 7,
-        Refusal::BadAccessMode => 8,
-        Refusal::DeleteNotAllowed => 9,
-        Refusal::BadKey => 12,
+        Refusal::NotPermitted => Reason::NotPermitted.number(),
+        Refusal::NoCurrent => Reason::NoCurrent.number(),
+        Refusal::RecordNotFound => Reason::RecordNotFound.number(),
+        Refusal::RecordExists => Reason::RecordExists.number(),
+        Refusal::NumberOutOfRange => Reason::NumberOutOfRange.number(),
+        Refusal::BadLength => Reason::BadLength.number(),
+        Refusal::BadAccessMode => Reason::BadAccessMode.number(),
+        Refusal::DeleteNotAllowed => Reason::DeleteNotAllowed.number(),
+        Refusal::BadKey => Reason::BadKey.number(),
         Refusal::EndOfFile | Refusal::NoMemory => 0,
     }
 }
@@ -105,9 +103,9 @@ pub(crate) fn refused<'a>(refusal: Refusal) -> Answer<'a>
     ensures short { IsShort result }
 {
     match refusal {
-        Refusal::EndOfFile => Answer::Status(0x5027),
+        Refusal::EndOfFile => Answer::Status(END_OF_FILE),
         _ => Answer::Reason {
-            code: 0x5000,
+            code: RECORD_REFUSED,
             reason: reason_number(refusal),
         },
     }
@@ -119,7 +117,7 @@ pub(crate) fn store_refused<'a>(refusal: Refusal, ordinal: u32) -> Answer<'a>
     ensures short { IsShort result }
 {
     match refusal {
-        Refusal::EndOfFile => Answer::Status(0x5027),
+        Refusal::EndOfFile => Answer::Status(END_OF_FILE),
         _ => Answer::StoreRefusal {
             reason: reason_number(refusal),
             ordinal,
@@ -135,30 +133,6 @@ pub(crate) fn settled<'a>(reply: Result<u32, Refusal>) -> Answer<'a>
     match reply {
         Ok(number) => Answer::Done(number),
         Err(refusal) => refused(refusal),
-    }
-}
-
-/// How many bytes the Filedata of a record has, with its number in 4 bytes.
-pub(crate) fn filedata_len(body: &[u8]) -> usize
-    requires { length body.now ≤ longest_record }
-    ensures { result ≡ file_data_size 4 (length body.now) }
-{
-    let operand = 5 + body.len();
-    if operand < 256 {
-        3 + operand
-    } else {
-        4 + operand
-    }
-}
-
-/// The record of a number, empty where there is none.
-pub(crate) fn body_of(file: &AnyFile, number: u32) -> &[u8]
-    ensures same { result.now ≡ unwrap_or (map.get (any_value file.now).records number) [] }
-    ensures short { length result.now ≤ longest_record }
-{
-    match file.lookup(number) {
-        Some(body) => body,
-        None => &[],
     }
 }
 

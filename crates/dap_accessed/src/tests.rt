@@ -1,8 +1,6 @@
 //! What no clause says: worked exchanges from outside, and that each call can succeed.
 
-mod altered;
 mod attributes;
-mod growth;
 mod keys;
 mod limits;
 mod malformed;
@@ -14,7 +12,8 @@ mod stores;
 mod stream_ends;
 mod transfers;
 
-use crate::{Accessed, Phase, Served};
+use crate::phase::Phase;
+use crate::{Accessed, Served};
 use rec_file::{RecordFile, first_record};
 use std::process::Abort;
 
@@ -485,17 +484,10 @@ fn held(end: &Accessed) -> (usize, u32) {
     }
 }
 
-/// Serves the message at a place; where memory was refused nothing has changed, and it is served again.
+/// Serves the message at a place.
 fn serve_at(rt: &impl Abort, end: &mut Accessed, bytes: &[u8], at: usize) -> Served {
-    let before = (stage_of(end), numbers(end), held(end));
     assert!(rt; at < bytes.len());
-    match end.serve(bytes, at) {
-        Ok(served) => served,
-        Err(_) => {
-            assert_eq!(rt; (stage_of(end), numbers(end), held(end)), before);
-            end.serve(bytes, at).expect(rt, "the second call")
-        }
-    }
+    end.serve(bytes, at).expect(rt, "memory")
 }
 
 /// The answers are this one NSP message, or none where it is empty.

@@ -1,23 +1,25 @@
-//! File transfers: all records to the peer, or records from it until the stream ends.
+//! File transfers: all records to the peer, or records from it until the stream ends. The line
+//! `let _ = &self.phase` lets a proof see what every end keeps.
 
-ghost use Rattle.std.specs.Prelude.{◌≡◌, ◌≤◌, ◌<◌, ◌+◌, length, nat_lt, IfOk, IsOk, OnErr, false, true};
+ghost use Rattle.std.specs.Prelude.{◌≡◌, ◌≤◌, ◌<◌, ◌+◌, length, IfOk, IsOk, OnErr, false, true};
 ghost use Rattle.dap_msg.specs.Items.{seen_item};
-ghost use Rattle.dap_accessed.specs.Moves.{IsOpenIn, Moves, between, plain_memory, scene_in, settles, store_memory};
+ghost use Rattle.dap_accessed.specs.Inner.Moves.{HasFetched, IsOpenIn, Makes, fetched_phase, fetches, in_store, plainly, stores};
 ghost use Rattle.rec_file.specs.Limits.{greatest_number};
 ghost use Rattle.dap_accessed.specs.Records.{at_number};
-ghost use Rattle.dap_accessed.specs.Past.{next_ordinal};
-ghost use Rattle.dap_accessed.specs.Present.{phase_at};
 ghost use Rattle.dap_accessed.specs.Served.{is_silent};
-ghost use Rattle.dap_accessed.specs.Standing.{Stopped, Store};
-ghost use Rattle.dap_accessed.specs.Transfers.{fetch, store_one};
-ghost use Rattle.dap_accessed.specs.Written.{Answered};
+ghost use Rattle.dap_accessed.specs.Standing.{Stopped};
 ghost use Rattle.dap_accessed.specs.declared.phase.Phase.TheVariants as phases;
 
 use crate::accessed::{Accessed, malformed, misplaced, out_of_place};
-use crate::answers::{Answer, Room, TOO_LARGE, append};
+use crate::answers::{Answer, Room, append, too_large};
 use crate::fault::NoMemory;
+use crate::measuring::filedata_len;
 use crate::phase::{OpenFile, Phase};
-use crate::refusing::{filedata_len, store_refused, wants_memory};
+use crate::refusing::{store_refused, wants_memory};
+use dap_msg::codes::{
+    CONFUNC_ABORT, CONFUNC_AGAIN, CONFUNC_RESUME, CONFUNC_SKIP, END_OF_FILE, TYPE_CONTINUE,
+    invalid, unsupported,
+};
 use dap_msg::{Item, Message};
 use rec_file::{Stream, first_record};
 
@@ -40,7 +42,8 @@ impl Accessed {
         item: Item<'_>,
     ) -> Result<Vec<Vec<u8>>, NoMemory>
         requires { self.old.phase ≡ phases.Storing opened stream ordinal }
-        ensures ok { IfOk result (Moves self.old (between self.old (store_memory self.old.kept false ordinal) (Store opened stream) (seen_item item.entry)) self.new) }
+        ensures ok { Makes (in_store false self.old opened stream ordinal (seen_item item.entry))
+            self.old self.new result }
         ensures err { OnErr result (self.new ≡ self.old) }
         ensures silent { is_silent self.old.phase (seen_item item.entry) ≡ true → IsOk result }
     {
@@ -65,7 +68,8 @@ impl Accessed {
         body: &[u8],
     ) -> Result<Vec<Vec<u8>>, NoMemory>
         requires { opened.at < length self.old.files }
-        ensures ok { IfOk result (let e = store_one false ordinal (scene_in self.old) opened stream body.now in Moves self.old (settles self.old (store_memory self.old.kept (nat_lt 0 (length e.answers)) (next_ordinal ordinal)) e) self.new) }
+        ensures ok { Makes (stores self.old opened stream ordinal body.now)
+            self.old self.new result }
         ensures err { OnErr result (self.new ≡ self.old) }
     {
         let room = Room::new(self.alloc)?;
@@ -95,7 +99,8 @@ impl Accessed {
         item: Item<'_>,
     ) -> Result<Vec<Vec<u8>>, NoMemory>
         requires { self.old.phase ≡ phases.Dropping opened stream ordinal }
-        ensures ok { IfOk result (Moves self.old (between self.old (store_memory self.old.kept true ordinal) (Store opened stream) (seen_item item.entry)) self.new) }
+        ensures ok { Makes (in_store true self.old opened stream ordinal (seen_item item.entry))
+            self.old self.new result }
         ensures err { OnErr result (self.new ≡ self.old) }
         ensures silent { is_silent self.old.phase (seen_item item.entry) ≡ true → IsOk result }
     {
@@ -106,12 +111,12 @@ impl Accessed {
                 Ok(self.none())
             }
             Item::Whole(Message::Contran { func }) => match func {
-                2 => {
+                CONFUNC_SKIP => {
                     self.phase = Phase::Storing(opened, stream, ordinal);
                     Ok(self.none())
                 }
-                4 => self.one(Answer::Status(0x2140)),
-                _ => self.one(Answer::Status(0x9140)),
+                CONFUNC_RESUME => self.one(Answer::Status(unsupported(TYPE_CONTINUE))),
+                _ => self.one(Answer::Status(invalid(TYPE_CONTINUE))),
             },
             Item::Whole(Message::Control(control)) => self.one(misplaced(&control)),
             Item::Whole(Message::Accomp { func, .. }) => self.complete_stream(opened, func),
@@ -127,22 +132,23 @@ impl Accessed {
         item: Item<'_>,
     ) -> Result<Vec<Vec<u8>>, NoMemory>
         requires { self.old.phase ≡ phases.Stopped opened stream }
-        ensures ok { IfOk result (Moves self.old (between self.old (plain_memory self.old.kept) (Stopped opened stream) (seen_item item.entry)) self.new) }
+        ensures ok { Makes (plainly self.old (Stopped opened stream) (seen_item item.entry))
+            self.old self.new result }
         ensures err { OnErr result (self.new ≡ self.old) }
         ensures silent { is_silent self.old.phase (seen_item item.entry) ≡ true → IsOk result }
     {
         let _ = &self.phase;
         match item {
             Item::Whole(Message::Contran { func }) => match func {
-                1 => self.fetch(opened, stream),
-                2 => self.fetch(opened, at_number(stream, stream.next() + 1)),
-                3 => {
-                    let answers = self.one(Answer::Status(0x5027))?;
+                CONFUNC_AGAIN => self.fetch(opened, stream),
+                CONFUNC_SKIP => self.fetch(opened, at_number(stream, stream.next() + 1)),
+                CONFUNC_ABORT => {
+                    let answers = self.one(Answer::Status(END_OF_FILE))?;
                     self.phase = Phase::Connected(opened, stream);
                     Ok(answers)
                 }
-                4 => self.one(Answer::Status(0x2140)),
-                _ => self.one(Answer::Status(0x9140)),
+                CONFUNC_RESUME => self.one(Answer::Status(unsupported(TYPE_CONTINUE))),
+                _ => self.one(Answer::Status(invalid(TYPE_CONTINUE))),
             },
             Item::Whole(Message::Control(control)) => self.one(misplaced(&control)),
             Item::Whole(Message::Accomp { func, .. }) => self.complete_stream(opened, func),
@@ -158,7 +164,7 @@ impl Accessed {
         stream: Stream,
     ) -> Result<Vec<Vec<u8>>, NoMemory>
         requires { opened.at < length self.old.files }
-        ensures ok { IfOk result (Moves self.old (settles self.old (plain_memory self.old.kept) (fetch (scene_in self.old) opened stream)) self.new) }
+        ensures ok { Makes (fetches self.old opened stream) self.old self.new result }
         ensures err { OnErr result (self.new ≡ self.old) }
     {
         let (answers, phase) = self.batch(opened, stream)?;
@@ -169,8 +175,8 @@ impl Accessed {
     /// The records from the stream's next on, and the phase behind them.
     fn batch(&self, opened: OpenFile, stream: Stream) -> Result<(Vec<Vec<u8>>, Phase), NoMemory>
         requires { opened.at < length self.now.files }
-        ensures place { IfOk result (λ r. r.1 ≡ phase_at (fetch (scene_in self.now) opened stream).place (plain_memory self.now.kept)) }
-        ensures answers { IfOk result (λ r. Answered self.now.limit (fetch (scene_in self.now) opened stream).answers r.0) }
+        ensures place { IfOk result (λ r. r.1 ≡ fetched_phase self.now opened stream) }
+        ensures answers { IfOk result (λ r. HasFetched self.now opened stream r.0) }
         ensures there { IfOk result (λ r. IsOpenIn self.now.files r.1) }
     {
         let file = self.files.file(opened.at);
@@ -178,7 +184,7 @@ impl Accessed {
         let mut next = stream.next();
         while let Some((number, body)) = first_record(file, next) {
             if filedata_len(body) > usize::from(self.limit) {
-                append(self.alloc, self.limit, TOO_LARGE, &mut answers)?;
+                append(self.alloc, self.limit, too_large(), &mut answers)?;
                 return Ok((answers, Phase::Stopped(opened, at_number(stream, number))));
             }
             append(
@@ -189,7 +195,12 @@ impl Accessed {
             )?;
             next = number + 1;
         }
-        append(self.alloc, self.limit, Answer::Status(0x5027), &mut answers)?;
+        append(
+            self.alloc,
+            self.limit,
+            Answer::Status(END_OF_FILE),
+            &mut answers,
+        )?;
         Ok((answers, Phase::Connected(opened, at_number(stream, next))))
     }
 }

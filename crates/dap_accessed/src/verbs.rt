@@ -5,6 +5,10 @@ ghost use Rattle.dap_msg.specs.Message.{seen_control};
 ghost use Rattle.dap_accessed.specs.Records.{verb_of};
 
 use dap_msg::Control;
+use dap_msg::codes::{
+    CTLFUNC_CONNECT, CTLFUNC_DELETE, CTLFUNC_GET, CTLFUNC_PUT, CTLFUNC_REWIND, CTLFUNC_UPDATE,
+    RAC_SEQUENTIAL, RAC_WHOLE_FILE,
+};
 
 /// What a Control asks for (DAP 5.6.0, Control message, CTLFUNC and RAC).
 #[derive(Clone, Copy, PartialEq, Eq, Debug)]
@@ -29,20 +33,20 @@ pub enum Verb {
     Unknown,
 }
 
-/// What a Control asks for: RAC 3 is for whole files.
+/// What a Control asks for: a GET or a PUT may be for a whole file.
 pub(crate) fn verb_of(control: &Control<'_>) -> Verb
     ensures { result ≡ verb_of (seen_control control.now) }
 {
-    let whole = control.rac.unwrap_or(0) == 3;
+    let whole = control.rac.unwrap_or(RAC_SEQUENTIAL) == RAC_WHOLE_FILE;
     match control.func {
-        1 if whole => Verb::Fetch,
-        1 => Verb::Get,
-        2 => Verb::Connect,
-        3 => Verb::Update,
-        4 if whole => Verb::Store,
-        4 => Verb::Put,
-        5 => Verb::Delete,
-        6 => Verb::Rewind,
+        CTLFUNC_GET if whole => Verb::Fetch,
+        CTLFUNC_GET => Verb::Get,
+        CTLFUNC_CONNECT => Verb::Connect,
+        CTLFUNC_UPDATE => Verb::Update,
+        CTLFUNC_PUT if whole => Verb::Store,
+        CTLFUNC_PUT => Verb::Put,
+        CTLFUNC_DELETE => Verb::Delete,
+        CTLFUNC_REWIND => Verb::Rewind,
         _ => Verb::Unknown,
     }
 }

@@ -1,13 +1,17 @@
-use Rattle.std.proofs.Common.{ap, ◌∙◌, ◌++◌, List, ℕ}
+use Rattle.std.proofs.Common.{ap, ◌∙◌, ◌≤◌, ℕ, length, arith}
 use Rattle.dap_msg.specs.Canon.{canon}
+use Rattle.dap_msg.specs.Message.{Message, seen}
 use Rattle.dap_msg.specs.Blocked.{bodies, one_more}
-use Rattle.dap_accessed.specs.Written.{message_of}
+use Rattle.dap_accessed.specs.Inner.Written.{message_of, most_bytes}
 use Rattle.dap_accessed.proofs.Writing.{answered_more}
 use Rattle.dap_accessed.proofs.answers.append.Goals as goal
 
 pub returns : goal.returns
 returns c =
-    λ messages before. answered_more c.args.limit messages (message_of c.args.answer) c.args.answers.now c.append_blocked.new.list c.in_ok-write.ensures.fits c.in_ok-write.ensures.within before
-    (c.in_ok-append_blocked.ensures
-    ∙ ap (λ (n : ℕ). one_more n (bodies c.args.answers.now.items) c.deref.result.now) c.from.ensures
-    ∙ ap (one_more c.args.limit (bodies c.args.answers.now.items)) (c.deref.ensures.value ∙ c.in_ok-write.ensures.appends ∙ ap (λ (x : List ℕ). x ++ canon (message_of c.args.answer)) c.new-bytes.ensures.items))
+    λ messages before.
+    let m = message_of c.args.answer in
+    let most : length (canon m) ≤ most_bytes c.args.answer = c.message-message.ensures.within in
+    answered_more c.args.limit messages m c.args.answers.now c.append_message.new.list c.message-message.ensures.fits (omega (arith, most, c.requires.1)) before
+    (c.in_ok-append_message.ensures
+    ∙ ap (λ (n : ℕ). one_more n (bodies c.args.answers.now.items) (canon (seen c.message-message.result))) c.from.ensures
+    ∙ ap (λ (m : Message). one_more c.args.limit (bodies c.args.answers.now.items) (canon m)) c.message-message.ensures.same)

@@ -1,7 +1,8 @@
 use Rattle.std.proofs.Common.{[], ◌∷◌, ap, sym, subst, List, ℕ}
 use Rattle.std.specs.Global.{Vec}
 use Rattle.dap_msg.specs.Blocked.{bodies}
-use Rattle.dap_accessed.specs.Written.{message_of, AllAtMost}
+use Rattle.dap_accessed.specs.Served.{AllAtMost}
+use Rattle.dap_accessed.specs.Inner.Written.{message_of}
 use Rattle.dap_accessed.specs.declared.answers.Answer.TheVariants as answer
 use Rattle.dap_accessed.proofs.answers.opening.Goals as goal
 

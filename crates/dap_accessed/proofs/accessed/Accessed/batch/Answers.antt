@@ -5,12 +5,13 @@ use Rattle.dap_accessed.specs.declared.phase.Phase.TheVariants as phases
 use Rattle.dap_accessed.specs.Standing.{Effect, the_file}
 use Rattle.dap_accessed.specs.Replies.{too_large, end_of_file}
 use Rattle.dap_accessed.specs.Present.{phase_at}
-use Rattle.dap_accessed.specs.Moves.{plain_memory, scene_in}
+use Rattle.dap_accessed.specs.Inner.Moves.{plain_memory, scene_in}
 use Rattle.rec_file.specs.AnyFiles.{any_value}
 use Rattle.rec_file.specs.Files.{records_from}
 use Rattle.dap_msg.specs.Canon.{file_data_size}
+use Rattle.dap_msg.specs.Message.{Message}
 use Rattle.dap_accessed.specs.Present.{Present}
-use Rattle.dap_accessed.specs.Written.{Answered}
+use Rattle.dap_accessed.specs.Inner.Written.{Answered}
 use Rattle.dap_accessed.specs.Records.{filedata_of}
 use Rattle.dap_accessed.proofs.Fetching.{GoesOn, begins, goes_on, above_next, ends_there, stops_there}
 use Rattle.dap_accessed.proofs.accessed.Accessed.batch.Goals as goal
@@ -57,7 +58,7 @@ returns-then-filedata_len-from-clause-answers c =
     (sym (stops_there (scene_in c.args.self.now) c.args.opened c.args.stream (any_value c.file-file.result.now) c.loop-number.next c.loop-number.answers
     (c.in-Some.number, c.in-Some.body.now) (records_from (any_value c.file-file.result.now).records (c.in-Some.number + 1)) file c.loop-number.invariant c.in-Some.ensures.some (lt-leb _ _ large)))
     (subst (λ (l : ℕ). Answered l (map filedata_of given ++ too_large ∷ []) c.append.new.answers) limit
-    (c.in_ok-append.ensures (map filedata_of given) (subst (λ (l : ℕ). Answered l (map filedata_of given) c.loop-number.answers) (sym limit) c.loop-number.invariant.answered)))
+    (subst (λ (m : Message). Answered c.self.inside.limit (map filedata_of given ++ m ∷ []) c.append.new.answers) c.too_large.ensures.message (c.in_ok-append.ensures (map filedata_of given) (subst (λ (l : ℕ). Answered l (map filedata_of given) c.loop-number.answers) (sym limit) c.loop-number.invariant.answered))))
 
 pub returns-clause-place : goal.returns-clause-place
 returns-clause-place c =

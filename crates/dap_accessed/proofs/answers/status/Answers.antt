@@ -1,6 +1,6 @@
 use Rattle.std.proofs.Common.{arith}
 use Rattle.dap_msg.proofs.ForCallers.{answers_fit}
-use Rattle.dap_accessed.proofs.answers.write_status.Goals as goal
+use Rattle.dap_accessed.proofs.answers.status.Goals as goal
 
 pub returns-clause-short : goal.returns-clause-short
 returns-clause-short c =

@@ -1,5 +1,5 @@
 use Rattle.dap_msg.proofs.ForCallers.{answers_fit}
-use Rattle.dap_accessed.proofs.answers.write_acknowledge.Goals as goal
+use Rattle.dap_accessed.proofs.answers.acknowledge.Goals as goal
 
 pub returns-clause-short : goal.returns-clause-short
 returns-clause-short c = answers_fit.ack.short

@@ -1,23 +1,29 @@
 -- What an item does to what an end keeps, and its answers.
-use Rattle.std.specs.Prelude.{ℕ, ◌≡◌, ◌<◌, ◌≤◌, Bool, true, false, not, ◌==◌, nat_lt, List, [], length, Option, Some, None, IfSome, IsTrue}
+use Rattle.std.specs.Prelude.{ℕ, ◌≡◌, ◌<◌, ◌≤◌, Bool, true, false, not, ◌==◌, nat_lt, List, [], ◌∷◌, length, Option, Some, None, IfSome, IsTrue, Result, IfOk}
 use Rattle.std.specs.Global.{Vec}
+use Rattle.dap_msg.specs.Codes as codes
 use Rattle.dap_msg.specs.Message.{Message, Attrib, Access, Control, Contran, Filedata, ControlFields}
 use Rattle.dap_msg.specs.Items.{Item, Whole}
 use Rattle.dap_msg.specs.Exchange.{short_answer}
 use Rattle.rec_file.specs.declared.shapes.Shape.{Shape}
 use Rattle.rec_file.specs.Limits.{greatest_number}
 use Rattle.rec_file.specs.Shapes.{is_shape}
-use Rattle.rec_file.specs.Acts.{StreamVal}
+use Rattle.rec_file.specs.Acts.{StreamVal, act, delete_record}
+use Rattle.rec_file.specs.declared.refusals.Refusal.{Refusal}
+use Rattle.dap_accessed.specs.declared.fault.NoMemory.{NoMemory}
 use Rattle.dap_accessed.specs.declared.phase.OpenFile.{OpenFile}
 use Rattle.dap_accessed.specs.declared.phase.Phase.{Phase}
 use Rattle.dap_accessed.specs.declared.phase.Phase.TheVariants as phases
 use Rattle.dap_accessed.specs.declared.verbs.Verb.{Verb}
-use Rattle.dap_accessed.specs.Standing.{Files, Place, Scene, Effect, Fresh, Ready, Opened, Connected, Store, Stopped}
-use Rattle.dap_accessed.specs.Past.{Memory, shape_of, no_attributes, next_ordinal}
-use Rattle.dap_accessed.specs.Records.{Change, Putting, Updating}
+use Rattle.dap_accessed.specs.Standing.{Files, place_of, the_file, enters, Place, Scene, Effect, Fresh, Ready, Opened, Connected, Store, Stopped}
+use Rattle.dap_msg.specs.Exchange.{no_attributes}
+use Rattle.dap_accessed.specs.Past.{Memory, shape_of, next_ordinal}
+use Rattle.dap_accessed.specs.Accesses.{refuse_access, open_file, create_file, complete, completing, end_stream}
+use Rattle.dap_accessed.specs.Records.{Change, Putting, Updating, changed, get_pick, record_got, refused, settled}
+use Rattle.dap_accessed.specs.Transfers.{fetch, store_one}
 use Rattle.dap_accessed.specs.Exchange.{Begun, begins_in, begun_by, change_begun, control_connected, effect_of, effect_with}
 use Rattle.dap_accessed.specs.Present.{Present, phase_at, phase_within}
-use Rattle.dap_accessed.specs.Written.{Answered}
+use Rattle.dap_accessed.specs.Inner.Written.{Answered}
 
 -- what an item leaves, and its answers
 pub record Move : Type 0 where
@@ -46,7 +52,7 @@ shape_next shape _ = shape
 abbrev pub drops_next : Bool → Item → List Message → Bool
 drops_next false (Whole (Filedata _ _)) answers = nat_lt 0 (length answers)
 drops_next false _ answers = false
-drops_next true (Whole (Contran func)) answers = not (func == 2)
+drops_next true (Whole (Contran func)) answers = not (func == codes.confunc_skip)
 drops_next true _ answers = true
 
 abbrev pub ordinal_next : ℕ → Item → ℕ
@@ -120,6 +126,87 @@ move p item = move_in p.phase p item
 pub record Moves (old : Present) (step : Move) (new : Present) (answers : Vec (Vec ℕ)) : Type 0 where
   pub present : new ≡ step.present
   pub answered : Answered old.limit step.answers answers
+
+-- ---- The words of the contracts.
+
+-- where the call answers, the end moved so
+abbrev pub Makes : Move → (old new : Present) → Result (Vec (Vec ℕ)) NoMemory → Type 0
+Makes step old new result = IfOk result (Moves old step new)
+
+-- a group that is over, outside a Store
+abbrev pub does : Present → Effect → Move
+does p effect = settles p (plain_memory p.kept) effect
+
+-- an Access, which uses up the attributes that were kept
+abbrev pub accesses : Present → Effect → Move
+accesses p effect = settles p (plain_memory (shape_of no_attributes)) effect
+
+abbrev pub opens_nothing : Present → Message → Move
+opens_nothing p status = accesses p (refuse_access (scene_in p) status)
+
+abbrev pub opens : Present → (name : List ℕ) → (fac : ℕ) → Move
+opens p name fac = accesses p (open_file (scene_in p) fac (place_of name p.files))
+
+abbrev pub creates : Present → (name : List ℕ) → (fac : ℕ) → Move
+creates p name fac = accesses p (create_file (scene_in p) name fac (place_of name p.files) p.kept)
+
+-- an item outside a Store
+abbrev pub plainly : Present → Place → Item → Move
+plainly p place item = between p (plain_memory p.kept) place item
+
+-- an item in a Store, which may drop what comes
+abbrev pub in_store : (dropping : Bool) → Present → OpenFile → StreamVal → (ordinal : ℕ) → Item → Move
+in_store dropping p opened stream ordinal item =
+    between p (store_memory p.kept dropping ordinal) (Store opened stream) item
+
+-- a Filedata that a Store doesn't drop
+abbrev pub stores : Present → OpenFile → StreamVal → (ordinal : ℕ) → (body : List ℕ) → Move
+stores p opened stream ordinal body =
+    let e = store_one false ordinal (scene_in p) opened stream body in
+    settles p (store_memory p.kept (nat_lt 0 (length e.answers)) (next_ordinal ordinal)) e
+
+-- a GET
+abbrev pub gets : Present → OpenFile → StreamVal → ControlFields → Move
+gets p opened stream control =
+    does p (record_got (get_pick (the_file p.files opened) stream control) (scene_in p) opened stream)
+
+-- a DELETE
+abbrev pub deletes : Present → OpenFile → StreamVal → Move
+deletes p opened stream =
+    does p (settled (scene_in p) opened (act delete_record (the_file p.files opened) stream))
+
+-- a PUT or an UPDATE, with the record's bytes
+abbrev pub changes : Present → Change → OpenFile → StreamVal → (body : List ℕ) → Move
+changes p change opened stream body = does p (changed change (scene_in p) opened stream body)
+
+-- a group of two without its operation
+abbrev pub drops : Present → OpenFile → StreamVal → Message → Move
+drops p opened stream status = does p (enters (scene_in p) (Connected opened stream) (status ∷ []))
+
+abbrev pub refuses : Present → OpenFile → StreamVal → Refusal → Move
+refuses p opened stream refusal = does p (refused (scene_in p) opened stream refusal)
+
+abbrev pub fetches : Present → OpenFile → StreamVal → Move
+fetches p opened stream = does p (fetch (scene_in p) opened stream)
+
+-- a completion in any place in which this file is open, whatever the end of a stream does there
+abbrev pub Completes : (func : ℕ) → OpenFile → (old new : Present) → Result (Vec (Vec ℕ)) NoMemory → Type 0
+Completes func opened old new result =
+    IfOk result (λ answers. (place : Place) (memory : Memory) (ends : Effect) → old.phase ≡ phase_at place memory
+    → memory.shape ≡ old.kept → Moves old (settles old memory (complete (completing func) (scene_in old) opened place ends)) new answers)
+
+-- and where a stream is there
+abbrev pub CompletesStream : (func : ℕ) → OpenFile → (old new : Present) → Result (Vec (Vec ℕ)) NoMemory → Type 0
+CompletesStream func opened old new result =
+    IfOk result (λ answers. (place : Place) (memory : Memory) → old.phase ≡ phase_at place memory → memory.shape ≡ old.kept
+    → Moves old (settles old memory (complete (completing func) (scene_in old) opened place (end_stream (scene_in old) opened))) new answers)
+
+-- the phase behind a fetch
+abbrev pub fetched_phase : Present → OpenFile → StreamVal → Phase
+fetched_phase p opened stream = phase_at (fetch (scene_in p) opened stream).place (plain_memory p.kept)
+
+abbrev pub HasFetched : Present → OpenFile → StreamVal → Vec (Vec ℕ) → Type 0
+HasFetched p opened stream answers = Answered p.limit (fetch (scene_in p) opened stream).answers answers
 
 -- ---- What is true of all that an end keeps.
 

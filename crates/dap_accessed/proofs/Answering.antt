@@ -1,0 +1,308 @@
+-- Every answer has a spelling, and none is longer than the peer takes.
+use Rattle.std.proofs.Common.{subst, ◌≡◌, ℕ, ◌+◌, ◌^◌, ◌<◌, ◌≤◌, Bool, true, false, List, [], ◌∷◌, ◌++◌, length, map, Option, Some, None, Result, Ok, Err, refl, sym, arith, lit≤, lit<}
+use Rattle.std.proofs.lemmas.List.{append-nil}
+use Rattle.dap_accessed.proofs.Cuts.{Answers-more}
+use Rattle.std.proofs.Common.{append_assoc}
+use Rattle.std.specs.Prelude.{IfSome, IsTrue, nat_le, unwrap_or, if◌then◌else◌}
+use Rattle.std.specs.FinMap.{get}
+use Rattle.std.proofs.lemmas.Bool.Decides.{nat_tests}
+use Rattle.dap_msg.specs.Codes as codes
+use Rattle.dap_msg.specs.Message.{Message, Config, Attrib, Access, Control, Contran, Ack, Accomp, Filedata, Other, AccessFields, ControlFields}
+use Rattle.dap_msg.specs.Canon.{number_of as type_of}
+use Rattle.dap_msg.specs.Inner.Answers.{IsShortAnswer}
+use Rattle.dap_msg.specs.Exchange.{four_bytes, short_answer}
+use Rattle.dap_msg.specs.Items.{Item, Whole, Malformed, IsRead}
+use Rattle.dap_msg.specs.Blocked.{AllFit}
+use Rattle.dap_msg.specs.Sendable.{IsSendable, AreSendable}
+use Rattle.dap_msg.proofs.ForCallers.{answers_fit, file_data_measured, type_short}
+use Rattle.rec_file.specs.declared.shapes.Shape.{Shape}
+use Rattle.rec_file.specs.declared.refusals.Refusal.{Refusal}
+use Rattle.rec_file.specs.declared.refusals.Refusal.TheVariants.{NotPermitted, EndOfFile}
+use Rattle.rec_file.specs.declared.picks.Pick.{Pick}
+use Rattle.rec_file.specs.Limits.{longest_record}
+use Rattle.rec_file.specs.Shapes.{is_shape}
+use Rattle.rec_file.specs.Files.{IsFile, records_from}
+use Rattle.rec_file.specs.Acts.{StreamVal, act, get_record, put_record, update_record, delete_record}
+use Rattle.rec_file.proofs.ForCallers.{AreShort, records_short, body_fits}
+use Rattle.dap_accessed.specs.declared.phase.OpenFile.{OpenFile}
+use Rattle.dap_accessed.specs.declared.verbs.Verb.{Verb}
+use Rattle.dap_accessed.specs.declared.verbs.Verb.TheVariants as verbs
+use Rattle.dap_accessed.specs.Lists.{leading, from_failing}
+use Rattle.dap_accessed.specs.Standing.{place_of, file_at, the_file, Place, Fresh, Ready, Opened, Connected, Store, Stopped, Standing, Scene, Effect}
+use Rattle.dap_accessed.specs.Past.{Memory, looked_back, next_ordinal}
+use Rattle.dap_accessed.specs.Replies.{bare_status, reason_status, sync_status, reason_of, refusal_status, done_status, record_status, too_large, end_of_file, completed, org_number, format_number, opened_with}
+use Rattle.dap_accessed.specs.Accesses.{open_file, create_file, access_as, access_kind, AccessKind, Opening, Creating, NoAccess, complete, completing, Completing, Closing, Purging, EndingStream, Skipping, NoCompletion}
+use Rattle.dap_accessed.specs.Records.{at_number, verb_of, get_pick, found, got, record_got, Change, Putting, Updating, changed, fits_limit, filedata_of}
+use Rattle.dap_accessed.specs.Transfers.{fetch, fetch_ends, fetch_if, going, Going, Again, Skip, Abort, Resume, NoGoing, continue_fetch, store_one, stored_answers, continue_store}
+use Rattle.dap_msg.specs.Exchange.{is_too_small}
+use Rattle.dap_accessed.specs.Exchange.{configure, control_status, control_opened, control_connected, effect_in, effect_of, effect_with, Begun, begins_in}
+use Rattle.dap_accessed.specs.Groups.{Answers, scene_of, stands_after, next_answers, answers_after, added}
+use Rattle.dap_accessed.specs.Sound.{AllFiles, AreRead, IsOpenAt, IsSoundAt, IsSound}
+use Rattle.dap_accessed.proofs.Kept.{both}
+use Rattle.dap_accessed.proofs.SoundTables.{file-there}
+use Rattle.dap_accessed.proofs.SoundGroups.{Good, good-memory, place-within}
+use Rattle.dap_accessed.proofs.SoundLists.{all-sound}
+use Rattle.dap_accessed.proofs.Writing.{org_small, format_small}
+
+-- the type of a message is one byte
+abbrev pub HasShortType : Item → Type 0
+HasShortType (Whole m) = type_of m < 256
+HasShortType (Malformed fault) = Unit {0}
+
+pub read-short : (item : Item) → IsRead item → HasShortType item
+read-short (Whole m) r = type_short r.0 r.1 m r.2 r.3
+read-short (Malformed fault) r = tt
+
+code_small : (n : ℕ) → codes.status_code_for n < 2 ^ 16
+code_small n = grind (arith, nat_tests)
+
+small : (n : ℕ) → nat_le n longest_record ≡ true → n < 2 ^ 16
+small n le = grind (arith, nat_tests)
+
+shape_small : (s : Shape) → IsTrue (is_shape s) → s.mrs < 2 ^ 16
+shape_small s h =
+    let one = both _ _ h in
+    let two = both _ _ one.0 in
+    let le : nat_le s.mrs longest_record ≡ true = (both _ _ two.0).1 in
+    small s.mrs le
+
+module _ (limit : ℕ) (least : short_answer ≤ limit) where
+  short : (m : Message) → IsShortAnswer m → IsSendable limit m
+  short m s = (s.fits, omega (arith, s.short, least))
+
+  bare : (code : ℕ) → code < 2 ^ 16 → IsSendable limit (bare_status code)
+  bare code h = short (bare_status code) (answers_fit.status _ h (lit≤ tt) (lit≤ tt) (lit≤ tt))
+
+  reasoned : (code reason : ℕ) (recnum : List ℕ) → code < 2 ^ 16 → length recnum ≤ 4 → IsSendable limit (reason_status code reason recnum)
+  reasoned code reason recnum h k = short (reason_status code reason recnum) (answers_fit.status _ h (lit≤ tt) k (lit≤ tt))
+
+  done : (n : ℕ) → IsSendable limit (done_status n)
+  done n = short (done_status n) (answers_fit.status _ (lit< tt) (lit≤ tt) (lit≤ tt) (lit≤ tt))
+
+  refusing : (r : Refusal) (recnum : List ℕ) → length recnum ≤ 4 → IsSendable limit (refusal_status r recnum)
+  refusing EndOfFile recnum k = bare 0x5027 (lit< tt)
+  refusing r recnum k = reasoned 0x5000 (reason_of r) recnum (lit< tt) k
+
+  replying : (reply : Result ℕ Refusal) → IsSendable limit (record_status reply)
+  replying (Ok n) = done n
+  replying (Err r) = refusing r [] (lit≤ tt)
+
+  out : (m : Message) → type_of m < 256 → IsSendable limit (sync_status m)
+  out m h = bare (codes.out_of_place (type_of m)) (omega (arith, h))
+
+  misplaced : (verb : Verb) → IsSendable limit (control_status verb)
+  misplaced verbs.Unknown = bare 0x2100 (lit< tt)
+  misplaced verb = bare (codes.out_of_place codes.type_control) (lit< tt)
+
+  malformed : (n : ℕ) → IsSendable limit (bare_status (codes.status_code_for n))
+  malformed n = bare (codes.status_code_for n) (code_small n)
+
+  ended : IsSendable limit completed
+  ended = short completed (answers_fit.complete 2 (lit< tt))
+
+  opened : (shape : Shape) → IsTrue (is_shape shape) → AreSendable limit (opened_with shape)
+  opened shape h = (
+    short _ (answers_fit.attributes (org_number shape.org) (format_number shape.format) shape.mrs shape.mrn (org_small shape.org) (format_small shape.format) (shape_small shape h)),
+    (short Ack answers_fit.ack, tt),
+  )
+
+  recorded : (r : ℕ × List ℕ) → length r.1 ≤ longest_record → fits_limit limit r ≡ true → IsSendable limit (filedata_of r)
+  recorded r h e = (
+    answers_fit.filedata r.0 r.1 h,
+    (let size = file_data_measured (four_bytes r.0) r.1 in grind (arith, nat_tests)),
+  )
+
+  sendable_more : (one two : List Message) → AreSendable limit one → AreSendable limit two → AreSendable limit (one ++ two)
+  sendable_more [] two h k = k
+  sendable_more (m ∷ one) two h k = (h.0, sendable_more one two h.1 k)
+
+  leads : (r : ℕ × List ℕ) (rs : List (ℕ × List ℕ)) (b : Bool) → fits_limit limit r ≡ b → length r.1 ≤ longest_record
+      → AreSendable limit (map filedata_of (leading (fits_limit limit) rs)) → AreSendable limit (map filedata_of (if b then r ∷ leading (fits_limit limit) rs else []))
+  leads r rs true e h k = (recorded r h e, k)
+  leads r rs false e h k = tt
+
+  all_recorded : (rs : List (ℕ × List ℕ)) → AreShort rs → AreSendable limit (map filedata_of (leading (fits_limit limit) rs))
+  all_recorded [] h = tt
+  all_recorded (r ∷ rs) h = leads r rs (fits_limit limit r) refl h.0 (all_recorded rs h.1)
+
+module _ (scene : Scene) (own : scene.own < 2 ^ 16) (files : AllFiles scene.files) (least : short_answer ≤ scene.limit) where
+  abbrev Sends : Effect → Type 0
+  Sends e = AreSendable scene.limit e.answers
+
+  -- ---- Accesses.
+
+  opening : (fac : ℕ) (at : Option ℕ) → IfSome at (λ n. n < length scene.files) → Sends (open_file scene fac at)
+  opening fac None h = (bare scene.limit least 0x4032 (lit< tt), tt)
+  opening fac (Some at) h = opened scene.limit least (file_at at scene.files).shape (file-there scene.files at files h).shape
+
+  creating : (name : List ℕ) (fac : ℕ) (at : Option ℕ) (shape : Option Shape) → Good shape → Sends (create_file scene name fac at shape)
+  creating name fac (Some at) shape g = (reasoned scene.limit least 0x4000 1 [] (lit< tt) (lit≤ tt), tt)
+  creating name fac None None g = (reasoned scene.limit least 0x4000 11 [] (lit< tt) (lit≤ tt), tt)
+  creating name fac None (Some shape) g = opened scene.limit least shape g
+
+  accessing : (kind : AccessKind) (a : AccessFields) (shape : Option Shape) → Good shape → Sends (access_as kind scene a shape)
+  accessing Opening a shape g = opening a.fac (place_of a.name scene.files) (place-within a.name scene.files)
+  accessing Creating a shape g = creating a.name a.fac (place_of a.name scene.files) shape g
+  accessing NoAccess a shape g = (bare scene.limit least 0x20C0 (lit< tt), tt)
+
+  completing-sends : (kind : Completing) (o : OpenFile) (place : Place) (ends : Effect) → Sends ends → Sends (complete kind scene o place ends)
+  completing-sends Closing o place ends h = (ended scene.limit least, tt)
+  completing-sends Purging o place ends h = (ended scene.limit least, tt)
+  completing-sends EndingStream o place ends h = h
+  completing-sends Skipping o place ends h = (bare scene.limit least 0x21C0 (lit< tt), tt)
+  completing-sends NoCompletion o place ends h = (bare scene.limit least 0x91C0 (lit< tt), tt)
+
+  -- ---- Records.
+
+  module _ (o : OpenFile) (there : o.at < length scene.files) where
+    file-is : IsFile (the_file scene.files o)
+    file-is = file-there scene.files o.at files there
+
+    body-short : (n : ℕ) (body : Option (List ℕ)) → get (the_file scene.files o).records n ≡ body → length (unwrap_or body []) ≤ longest_record
+    body-short n None e = lit≤ tt
+    body-short n (Some body) e = body_fits (the_file scene.files o) n body file-is (sym e)
+
+    finding : (fits : Bool) (before after : StreamVal) (r : ℕ × List ℕ) → length r.1 ≤ longest_record → fits_limit scene.limit r ≡ fits → Sends (found fits scene o before after r)
+    finding true before after r h e = (recorded scene.limit least r h e, tt)
+    finding false before after r h e = (reasoned scene.limit least 0x5000 10 [] (lit< tt) (lit≤ tt), tt)
+
+    getting : (reply : Result ℕ Refusal) (before after : StreamVal) → Sends (got reply scene o before after)
+    getting (Err refusal) before after = (refusing scene.limit least refusal [] (lit≤ tt), tt)
+    getting (Ok n) before after = finding _ before after _ (body-short n _ refl) refl
+
+    picked : (pick : Result Pick Refusal) (s : StreamVal) → Sends (record_got pick scene o s)
+    picked (Err refusal) s = (refusing scene.limit least refusal [] (lit≤ tt), tt)
+    picked (Ok pick) s = getting (act (get_record pick) (the_file scene.files o) s).reply s (act (get_record pick) (the_file scene.files o) s).stream
+
+    second : (change : Change) (s : StreamVal) (body : List ℕ) → Sends (changed change scene o s body)
+    second (Putting (Err refusal)) s body = (refusing scene.limit least refusal [] (lit≤ tt), tt)
+    second (Putting (Ok key)) s body = (replying scene.limit least (act (put_record key body) (the_file scene.files o) s).reply, tt)
+    second Updating s body = (replying scene.limit least (act (update_record body) (the_file scene.files o) s).reply, tt)
+
+    -- ---- Transfers.
+
+    fetch-ends : (s : StreamVal) (given rest : List (ℕ × List ℕ)) → AreSendable scene.limit (map filedata_of given) → Sends (fetch_ends scene o s given rest)
+    fetch-ends s given [] h = sendable_more scene.limit least (map filedata_of given) (end_of_file ∷ []) h (bare scene.limit least 0x5027 (lit< tt), tt)
+    fetch-ends s given (large ∷ more) h = sendable_more scene.limit least (map filedata_of given) (too_large ∷ []) h (reasoned scene.limit least 0x5000 10 [] (lit< tt) (lit≤ tt), tt)
+
+    fetching : (s : StreamVal) → Sends (fetch scene o s)
+    fetching s =
+        let due = records_from (the_file scene.files o).records s.next in
+        fetch-ends s (leading (fits_limit scene.limit) due) (from_failing (fits_limit scene.limit) due) (all_recorded scene.limit least due (records_short (the_file scene.files o) s.next file-is))
+
+    fetching-if : (permitted : Bool) (s : StreamVal) → Sends (fetch_if permitted scene o s)
+    fetching-if true s = fetching s
+    fetching-if false s = (refusing scene.limit least NotPermitted [] (lit≤ tt), tt)
+
+    continuing : (g : Going) (s : StreamVal) → Sends (continue_fetch g scene o s)
+    continuing Again s = fetching s
+    continuing Skip s = fetching (at_number (s.next + 1) s)
+    continuing Abort s = (bare scene.limit least 0x5027 (lit< tt), tt)
+    continuing Resume s = (bare scene.limit least 0x2140 (lit< tt), tt)
+    continuing NoGoing s = (bare scene.limit least 0x9140 (lit< tt), tt)
+
+    stored : (ordinal : ℕ) (reply : Result ℕ Refusal) → AreSendable scene.limit (stored_answers ordinal reply)
+    stored ordinal (Ok n) = tt
+    stored ordinal (Err refusal) = (refusing scene.limit least refusal (four_bytes ordinal) (lit≤ tt), tt)
+
+    storing : (dropping : Bool) (ordinal : ℕ) (s : StreamVal) (body : List ℕ) → Sends (store_one dropping ordinal scene o s body)
+    storing true ordinal s body = tt
+    storing false ordinal s body = stored (next_ordinal ordinal) (act (put_record None body) (the_file scene.files o) s).reply
+
+    resuming : (dropping : Bool) (g : Going) (s : StreamVal) (func : ℕ) → Sends (continue_store dropping g scene o s func)
+    resuming false g s func = (bare scene.limit least (codes.out_of_place codes.type_continue) (lit< tt), tt)
+    resuming true Again s func = (bare scene.limit least 0x9140 (lit< tt), tt)
+    resuming true Skip s func = tt
+    resuming true Abort s func = (bare scene.limit least 0x9140 (lit< tt), tt)
+    resuming true Resume s func = (bare scene.limit least 0x2140 (lit< tt), tt)
+    resuming true NoGoing s func = (bare scene.limit least 0x9140 (lit< tt), tt)
+
+    -- ---- The places.
+
+    opened-control : (verb : Verb) → Sends (control_opened verb scene o)
+    opened-control verbs.Connect = (short scene.limit least Ack answers_fit.ack, tt)
+    opened-control verb = (misplaced scene.limit least verb, tt)
+
+    connected-control : (verb : Verb) (s : StreamVal) (c : ControlFields) → Sends (control_connected verb scene o s c)
+    connected-control verbs.Get s c = picked (get_pick (the_file scene.files o) s c) s
+    connected-control verbs.Fetch s c = fetching-if s.rights.get s
+    connected-control verbs.Store s c = tt
+    connected-control verbs.Delete s c = (replying scene.limit least (act delete_record (the_file scene.files o) s).reply, tt)
+    connected-control verbs.Rewind s c = (bare scene.limit least 0x1000 (lit< tt), tt)
+    connected-control verb s c = (misplaced scene.limit least verb, tt)
+
+    with-second : (change : Change) (s : StreamVal) (item : Item) → HasShortType item → Sends (effect_with change scene o s item)
+    with-second change s (Malformed fault) h = (malformed scene.limit least fault.message_type, tt)
+    with-second change s (Whole (Filedata r body)) h = second change s body
+    with-second change s (Whole message) h = (out scene.limit least message h, tt)
+
+  configuring : (small : Bool) (bufsiz : ℕ) → Sends (configure small scene bufsiz)
+  configuring true bufsiz = (bare scene.limit least 0x9040 (lit< tt), tt)
+  configuring false bufsiz = (short scene.limit least _ (answers_fit.config scene.own own), tt)
+
+  of-message : (memory : Memory) → Good memory.shape → (place : Place) → IsOpenAt scene.files place → (m : Message) → type_of m < 256 → Sends (effect_in scene memory place m)
+  of-message memory g Fresh h (Config c) t = configuring (is_too_small c.bufsiz) c.bufsiz
+  of-message memory g Fresh h (Other _ _) t = tt
+  of-message memory g Fresh h m t = (out scene.limit least m t, tt)
+  of-message memory g Ready h (Other _ _) t = tt
+  of-message memory g Ready h (Attrib _) t = tt
+  of-message memory g Ready h (Access a) t = accessing (access_kind a.func) a memory.shape g
+  of-message memory g Ready h m t = (out scene.limit least m t, tt)
+  of-message memory g (Opened o) h (Control c) t = opened-control o h (verb_of c)
+  of-message memory g (Opened o) h (Accomp c) t = completing-sends (completing c.func) o (Opened o) _ (out scene.limit least (Accomp c) t, tt)
+  of-message memory g (Opened o) h m t = (out scene.limit least m t, tt)
+  of-message memory g (Connected o s) h (Control c) t = connected-control o h (verb_of c) s c
+  of-message memory g (Connected o s) h (Accomp c) t = completing-sends (completing c.func) o (Connected o s) _ (ended scene.limit least, tt)
+  of-message memory g (Connected o s) h m t = (out scene.limit least m t, tt)
+  of-message memory g (Store o s) h (Control c) t = (misplaced scene.limit least (verb_of c), tt)
+  of-message memory g (Store o s) h (Filedata r body) t = storing o h memory.dropping memory.ordinal s body
+  of-message memory g (Store o s) h (Contran func) t = resuming o h memory.dropping (going func) s func
+  of-message memory g (Store o s) h (Accomp c) t = completing-sends (completing c.func) o (Store o s) _ (ended scene.limit least, tt)
+  of-message memory g (Store o s) h m t = (out scene.limit least m t, tt)
+  of-message memory g (Stopped o s) h (Control c) t = (misplaced scene.limit least (verb_of c), tt)
+  of-message memory g (Stopped o s) h (Contran func) t = continuing o h (going func) s
+  of-message memory g (Stopped o s) h (Accomp c) t = completing-sends (completing c.func) o (Stopped o s) _ (ended scene.limit least, tt)
+  of-message memory g (Stopped o s) h m t = (out scene.limit least m t, tt)
+
+  of-item : (memory : Memory) → Good memory.shape → (place : Place) → IsOpenAt scene.files place → (item : Item) → HasShortType item → Sends (effect_of scene memory place item)
+  of-item memory g place h (Malformed fault) t = (malformed scene.limit least fault.message_type, tt)
+  of-item memory g place h (Whole m) t = of-message memory g place h m t
+
+-- ---- One item more, and every list of items.
+
+module _ (own : ℕ) (small : own < 2 ^ 16) where
+  next-sends : (s : Standing) (item : Item) (b : Option Begun) → IsSoundAt s.files s.limit s.place → HasShortType item → AreSendable s.limit (next_answers own s item b)
+  next-sends s item None h t =
+      of-item (scene_of own s) small h.files h.least (looked_back s.place s.past) (good-memory s.place s.past) s.place h.opened item t
+  next-sends s item (Some b) h t = tt
+
+  one-sends : (s : Standing) (b : Option Begun) (item : Item) → IsSound (record { standing = s; begun = b }) → HasShortType item → AreSendable s.limit (answers_after own s b item)
+  one-sends s None item h t = next-sends s item (begins_in (scene_of own s) s.place item) h.standing t
+  one-sends s (Some b) item h t = with-second (scene_of own s) small h.standing.files h.standing.least b.opened h.begun b.change b.stream item t
+
+  -- what one item more adds may be sent
+  pub added-sends : (items : List Item) (item : Item) → HasShortType item → AreSendable (stands_after own items).standing.limit (added own (stands_after own items) item)
+  added-sends items item t =
+      let c = stands_after own items in
+      one-sends c.standing c.begun item (all-sound own items) t
+
+-- ---- All answers to items that were read have spellings.
+
+sendable-fit : (limit : ℕ) (messages : List Message) → AreSendable limit messages → AllFit messages
+sendable-fit limit [] h = tt
+sendable-fit limit (m ∷ messages) h = (h.0.0, sendable-fit limit messages h.1)
+
+fit-both : (one two : List Message) → AllFit one → AllFit two → AllFit (one ++ two)
+fit-both [] two h k = k
+fit-both (m ∷ one) two h k = (h.0, fit-both one two h.1 k)
+
+fit-on : (own : ℕ) → own < 2 ^ 16 → (before more : List Item) → AllFit (Answers own before) → AreRead more → AllFit (Answers own (before ++ more))
+fit-on own small before [] h r = subst (λ (l : List Item). AllFit (Answers own l)) (sym (append-nil before)) h
+fit-on own small before (item ∷ more) h r =
+    let here = added own (stands_after own before) item in
+    let fit : AllFit here = sendable-fit (stands_after own before).standing.limit here (added-sends own small before item (read-short item r.0)) in
+    let one : AllFit (Answers own (before ++ item ∷ [])) = subst AllFit (sym (Answers-more own before item)) (fit-both (Answers own before) here h fit) in
+    subst (λ (l : List Item). AllFit (Answers own l)) (append_assoc before (item ∷ []) more) (fit-on own small (before ++ item ∷ []) more one r.1)
+
+pub all-fit : (own : ℕ) → own < 2 ^ 16 → (items : List Item) → AreRead items → AllFit (Answers own items)
+all-fit own small items r = fit-on own small [] items tt r

@@ -1,0 +1,76 @@
+-- The messages that answers stand for, and how answers are written.
+use Rattle.std.specs.Prelude.{ℕ, ◌≡◌, ◌≤◌, List, [], ◌∷◌, ◌++◌, length, Result, OnOk}
+use Rattle.std.specs.Global.{Vec}
+use Rattle.std.specs.Vec.{vec_capacity}
+use Rattle.dap_msg.specs.Codes as codes
+use Rattle.dap_msg.specs.Message.{Message, Ack}
+use Rattle.dap_msg.specs.Canon.{canon, file_data_size}
+use Rattle.dap_msg.specs.Exchange.{four_bytes, config_of, record_of, short_answer}
+use Rattle.dap_msg.specs.Blocked.{Blocked, all_joined, bodies, AllFit}
+use Rattle.rec_file.specs.Limits.{longest_record}
+use Rattle.dap_accessed.specs.declared.answers.Answer.{Answer}
+use Rattle.dap_accessed.specs.declared.answers.Answer.TheVariants as answer
+use Rattle.dap_accessed.specs.declared.fault.NoMemory.{NoMemory}
+use Rattle.dap_accessed.specs.Replies.{attributes_for, completed, bare_status, reason_status, done_status}
+use Rattle.dap_accessed.specs.Served.{AllAtMost}
+
+abbrev pub message_of : Answer → Message
+message_of (answer.Config bufsiz) = config_of bufsiz
+message_of (answer.Attributes shape) = attributes_for shape
+message_of answer.Ack = Ack
+message_of answer.Complete = completed
+message_of (answer.Status code) = bare_status code
+message_of (answer.Reason code reason) = reason_status code reason []
+message_of (answer.StoreRefusal reason ordinal) = reason_status codes.record_refused reason (four_bytes ordinal)
+message_of (answer.Done number) = done_status number
+message_of (answer.Record number body) = record_of number body.now
+
+-- the number that an answer's message has in 4 bytes, and its reason
+abbrev pub number_in : Answer → ℕ
+number_in (answer.Attributes shape) = shape.mrn
+number_in (answer.StoreRefusal reason ordinal) = ordinal
+number_in (answer.Done number) = number
+number_in (answer.Record number body) = number
+number_in _ = 0
+
+abbrev pub reason_in : Answer → ℕ
+reason_in (answer.Reason code reason) = reason
+reason_in (answer.StoreRefusal reason ordinal) = reason
+reason_in _ = 0
+
+-- every answer but a record is short
+abbrev pub IsShort : Answer → Type 0
+IsShort (answer.Record number body) = ⊥
+IsShort _ = Unit {0}
+
+-- a record is one that a file may have
+abbrev pub IsWritable : Answer → Type 0
+IsWritable (answer.Record number body) = length body.now ≤ longest_record
+IsWritable _ = Unit {0}
+
+-- its message has no more bytes than these
+abbrev pub most_bytes : Answer → ℕ
+most_bytes (answer.Record number body) = file_data_size 4 (length body.now)
+most_bytes _ = short_answer
+
+-- the answer can be written, and is no longer than the limit
+abbrev pub FitsIn : ℕ → Answer → Type 0
+FitsIn limit a = IsWritable a × (most_bytes a ≤ limit)
+
+abbrev pub IsAtMost : ℕ → Message → Type 0
+IsAtMost most m = length (canon m) ≤ most
+
+-- NSP messages with these messages, each of which has a spelling, joined as far as the limit goes, and none longer than it
+pub record Answered (limit : ℕ) (messages : List Message) (answers : Vec (Vec ℕ)) : Type 0 where
+  pub bytes : bodies answers.items ≡ all_joined (Blocked limit messages)
+  pub within : AllAtMost limit (bodies answers.items)
+  pub fits : AllFit messages
+
+-- where the call answers, the message stands behind those before
+abbrev pub AddsAnswer : ℕ → Message → Vec (Vec ℕ) → Vec (Vec ℕ) → Result (Unit {0}) NoMemory → Type 0
+AddsAnswer limit m old new result =
+    OnOk result ((messages : List Message) → Answered limit messages old → Answered limit (messages ++ m ∷ []) new)
+
+-- it is empty, and so many more take no memory
+abbrev pub IsEmptyFor : {X : Type 0} → ℕ → Vec X → Type 0
+IsEmptyFor n v = (v.items ≡ []) × (n ≤ vec_capacity v)
