@@ -9,7 +9,7 @@ use Rattle.dap_accessing.specs.declared.request.Request.{Request}
 use Rattle.dap_accessing.specs.Told.{Hearing, Reports, Waits, Unexpected, hear, Told, Due, NothingDue, AnswersDue, Wrong, due_after, is_unexpected}
 use Rattle.dap_accessing.specs.Phase.{IsNoneDue, IsAdmissible}
 use Rattle.dap_accessing.proofs.ForCallers.{Stays, stays, told_by, Told-told_by}
-use Rattle.dap_accessing.proofs.ForCallers.{due_by, due-due_by}
+use Rattle.dap_accessing.proofs.ForCallers.{due_by, due-due_by, each_told}
 use Rattle.dap_world.specs.Agreement.{answers_to, AreAdmissible, NothingUnexpected}
 
 no_place_by : (r : Request) (rs : List Request) (answers : List Item) (answer : Item) (first : Hearing) → Stays first (hear r (answers ++ answer ∷ [])) (answer ∷ [])
@@ -35,11 +35,25 @@ unexpected_by Wrong e = refl
 pub is_unexpected-then : (rs : List Request) (answers : List Item) (answer : Item) → length (Told rs answers) ≡ length rs → is_unexpected rs answers answer ≡ true
 is_unexpected-then rs answers answer e = unexpected_by (due_after rs (answers ++ answer ∷ [])) (no_place rs answers answer e)
 
--- a front of the answers that leaves no report due is all of them
+-- a front of the answers that leaves no report to come is all of them
+left_by : (own_a own_b : ℕ) (rs : List Request) (front back : List Item) → NothingUnexpected own_a own_b rs → front ++ back ≡ map Whole (answers_to own_a own_b rs)
+    → length (Told rs front) ≡ length rs → back ≡ []
+left_by own_a own_b rs front [] expected e told = refl
+left_by own_a own_b rs front (answer ∷ back) expected e told = absurd (expected front back answer e (is_unexpected-then rs front answer told))
+
+pub all_told : (own_a own_b : ℕ) (rs : List Request) (front back : List Item) → NothingUnexpected own_a own_b rs → front ++ back ≡ map Whole (answers_to own_a own_b rs)
+    → length (Told rs front) ≡ length rs → front ≡ map Whole (answers_to own_a own_b rs)
+all_told own_a own_b rs front back expected e told =
+    sym (append-nil front) ∙ ap (λ (l : List Item). front ++ l) (sym (left_by own_a own_b rs front back expected e told)) ∙ e
+
+-- none is left behind a front after which no report is due
+pub none_left : (own_a own_b : ℕ) (rs : List Request) (front back : List Item) → NothingUnexpected own_a own_b rs → front ++ back ≡ map Whole (answers_to own_a own_b rs)
+    → IsNoneDue rs front → back ≡ []
+none_left own_a own_b rs front back expected e none = left_by own_a own_b rs front back expected e (each_told rs front none)
+
 pub all_read : (own_a own_b : ℕ) (rs : List Request) (front back : List Item) → NothingUnexpected own_a own_b rs → front ++ back ≡ map Whole (answers_to own_a own_b rs)
     → IsNoneDue rs front → front ≡ map Whole (answers_to own_a own_b rs)
-all_read own_a own_b rs front [] expected e none = sym (append-nil front) ∙ e
-all_read own_a own_b rs front (answer ∷ back) expected e none = absurd (expected front back answer e (is_unexpected-then rs front answer none))
+all_read own_a own_b rs front back expected e none = all_told own_a own_b rs front back expected e (each_told rs front none)
 
 -- the answers to a front of items are a front of the answers
 pub answers-front : (own : ℕ) (items more : List Item) → (rest : List Message) × (Answers own items ++ rest ≡ Answers own (items ++ more))

@@ -1,13 +1,13 @@
 -- Asking a request is a step of the machine.
 use Rattle.std.proofs.Common.{◌≡◌, ◌≢◌, ℕ, zero, suc, ◌+◌, ◌≤◌, arith, refl, sym, ◌∙◌, subst, ap, true, false, List, [], ◌∷◌, ◌++◌, length, take, drop, map}
-use Rattle.std.specs.Prelude.{Option, Result, Ok, Err, IfOk, IfErr, nat_le, if◌then◌else◌}
-use Rattle.std.proofs.lemmas.List.{length-append, length-map, take-append-le, append-nil}
+use Rattle.std.specs.Prelude.{Result, Ok, Err, IfOk, IfErr, nat_le, if◌then◌else◌}
+use Rattle.std.proofs.lemmas.List.{length-append, length-map, take-append-le}
 use Rattle.std.proofs.lemmas.List.Elements.{All-cons}
 use Rattle.dap_msg.specs.Message.{Message}
 use Rattle.dap_msg.specs.Items.{Item, Whole}
 use Rattle.dap_msg.specs.Canon.{canon}
-use Rattle.dap_msg.specs.Blocked.{NspMessage, joined, Blocked, blocked_after, all_joined, messages_in, AllFit, AllWithin, IsWithin}
-use Rattle.dap_msg.specs.BlockedLaws.{messages_in-Blocked, within_limit}
+use Rattle.dap_msg.specs.Blocked.{NspMessage, joined, Blocked, blocked_after, all_joined, messages_in, AllFit, AllWithin}
+use Rattle.dap_msg.proofs.ForCallers.{messages_in-Blocked, within_limit}
 use Rattle.dap_accessed.specs.Standing as at
 use Rattle.dap_accessed.specs.Standing.{Place}
 use Rattle.dap_accessed.specs.Groups.{stands_after}
@@ -15,8 +15,9 @@ use Rattle.dap_accessed.specs.Present as accessed
 use Rattle.dap_accessing.specs.Present as accessing
 use Rattle.dap_accessing.specs.Present.{FitsDue}
 use Rattle.dap_accessing.specs.Asked.{Asked, messages_of}
-use Rattle.dap_accessing.specs.Told.{Told, Due, NothingDue, AnswersDue, Wrong, due_after, Hearing, Reports, Waits, Unexpected, hear}
-use Rattle.dap_accessing.specs.Phase.{IsAdmissible, IsNoneDue, AreSendable, phase_after, limit_after, phase_fits}
+use Rattle.dap_accessing.specs.Told.{Told}
+use Rattle.dap_msg.specs.Sendable.{AreSendable}
+use Rattle.dap_accessing.specs.Phase.{IsAdmissible, IsNoneDue, phase_after, limit_after, phase_fits}
 use Rattle.dap_accessing.specs.declared.phase.Phase.{Phase}
 use Rattle.dap_accessing.specs.declared.phase.Phase.TheVariants.{Fresh, Ready, Opened, Connected, Stopped}
 use Rattle.dap_accessing.specs.declared.request.Request.{Request}
@@ -25,9 +26,10 @@ use Rattle.dap_accessing.specs.declared.report.Report.{Report}
 use Rattle.dap_accessing.specs.declared.fault.AskFault.{AskFault}
 use Rattle.dap_accessing.specs.declared.fault.AskFault.TheVariants as ask_fault
 use Rattle.dap_accessing.specs.Calls.{AskRefused}
-use Rattle.dap_accessing.proofs.ForCallers.{told_by, Told-told_by}
-use Rattle.dap_accessing.proofs.ForCallers.{due_by, due-due_by, asked_one}
-use Rattle.dap_world.specs.Agreement.{AgreeAt, AreWithin, answers_to, items_of, reports_of}
+use Rattle.dap_accessing.proofs.ForCallers.{asked_one}
+use Rattle.dap_world.specs.Inner.Within.{AreWithin}
+use Rattle.dap_world.specs.Agreement.{AgreeAt, AreAdmissible, IsBufsiz, NextWithin, answers_to, items_of, reports_of}
+use Rattle.dap_accessed.specs.Served.{AllAtMost}
 use Rattle.dap_world.specs.declared.event.Event.TheVariants as event
 use Rattle.dap_world.specs.declared.event.Step.TheVariants as step
 use Rattle.dap_world.specs.declared.event.WorldFault.{WorldFault}
@@ -47,6 +49,7 @@ use Rattle.dap_world.proofs.Growing.{told_to, told_more, handed_same}
 use Rattle.dap_world.proofs.Kept.{kept-step, all-answers, served-front}
 use Rattle.dap_world.proofs.Agreeing.{both-agree}
 use Rattle.dap_world.proofs.Within.{messages-within}
+use Rattle.dap_world.proofs.Blocking.{blocked-within, within-one, within-front, within-back}
 use Rattle.dap_world.proofs.Posted.{AreThen}
 
 -- ---- The limit that A knows is B's buffer, where more than one message could be joined.
@@ -55,7 +58,7 @@ fresh-blocked : (own_a limit own_b : ℕ) (r : Request) → phase_fits Fresh r �
 fresh-blocked own_a limit own_b request.Hello e = refl
 fresh-blocked own_a limit own_b r e = cc
 
-same-blocked : (own_a own_b : ℕ) (phase : Phase) (place : Place) (limit_b limit_a : ℕ) (r : Request) → AgreeAt own_a own_b phase place limit_b limit_a → phase_fits phase r ≡ true
+pub same-blocked : (own_a own_b : ℕ) (phase : Phase) (place : Place) (limit_b limit_a : ℕ) (r : Request) → AgreeAt own_a own_b phase place limit_b limit_a → phase_fits phase r ≡ true
     → Blocked limit_a (messages_of own_a r) ≡ Blocked own_b (messages_of own_a r)
 same-blocked own_a own_b Fresh place limit_b limit_a r h e = fresh-blocked own_a limit_a own_b r e
 same-blocked own_a own_b Ready at.Ready limit_b limit_a r h e = ap (λ (l : ℕ). Blocked l (messages_of own_a r)) h.1
@@ -81,27 +84,20 @@ asking_is s r h m =
 
 -- ---- None is too long.
 
-alone : (m : Message) (limit : ℕ) → length (canon m) ≤ limit → length (joined (m ∷ [])) ≤ limit
-alone m limit h = let one = ap length (append-nil (canon m)) in omega (arith, one, h)
-
-within-one : (limit : ℕ) (p : NspMessage) → IsWithin limit p → AreWithin limit p → length (joined p) ≤ limit
-within-one limit [] h all = absurd h
-within-one limit (m ∷ []) h all = alone m limit all.0
-within-one limit (m ∷ n ∷ more) h all = h
-
-within-front : (limit : ℕ) (xs ys : List Message) → AreWithin limit (xs ++ ys) → AreWithin limit xs
-within-front limit [] ys h = tt
-within-front limit (x ∷ xs) ys h = (h.0, within-front limit xs ys h.1)
-
-within-back : (limit : ℕ) (xs ys : List Message) → AreWithin limit (xs ++ ys) → AreWithin limit ys
-within-back limit [] ys h = h
-within-back limit (x ∷ xs) ys h = within-back limit xs ys h.1
-
 short-packets : (limit most : ℕ) (packets : List NspMessage) → limit ≤ most → AllWithin limit packets → AreWithin limit (messages_in packets) → AreShort most (all_joined packets)
 short-packets limit most [] le h all = λ k d lt. absurd (omega arith)
 short-packets limit most (p ∷ packets) le h all =
     let one = within-one limit p h.0 (within-front limit p (messages_in packets) all) in
     All-cons (λ m. length m ≤ most) (joined p) (all_joined packets) (omega (arith, one, le)) (short-packets limit most packets le h.1 (within-back limit p (messages_in packets) all))
+
+-- the NSP messages of one request more that is admissible
+pub request-blocked : (own_a own_b : ℕ) → IsBufsiz own_a → IsBufsiz own_b → (rs : List Request) → AreAdmissible own_a own_b [] rs → NextWithin own_a own_b rs
+request-blocked own_a own_b a b rs all = λ r m.
+    let agree = both-agree own_a own_b a b rs all in
+    let standing = (stands_after own_b (items_of own_a rs)).standing in
+    let reports = reports_of own_a own_b rs in
+    subst (λ (l : List NspMessage). AllAtMost own_b (all_joined l)) (sym (same-blocked own_a own_b (phase_after reports) standing.place standing.limit (limit_after reports) r agree.places m.1))
+    (blocked-within own_b own_b (messages_of own_a r) (omega arith) (messages-within own_a own_b a b rs all r m))
 
 all-fit : (limit : ℕ) (messages : List Message) → AreSendable limit messages → AllFit messages
 all-fit limit [] h = tt
@@ -109,26 +105,8 @@ all-fit limit (m ∷ messages) h = (h.0.0, all-fit limit messages h.1)
 
 -- ---- No report comes of a request alone.
 
-not_wrong : (due : Due) (p : Option _) → FitsDue due p → due ≢ Wrong
-not_wrong NothingDue p h = λ e. cc
-not_wrong (AnswersDue r l) p h = λ e. cc
-not_wrong Wrong p h = absurd h
-
-none_due_by : (r : Request) (rs : List Request) (answers : List Item) (first : Hearing) → length (told_by rs first) ≡ suc (length rs) → due_by r rs answers first ≢ Wrong
-    → ((rest : List Item) → length (Told rs rest) ≡ length rs → due_after rs rest ≢ Wrong → due_after rs rest ≡ NothingDue) → due_by r rs answers first ≡ NothingDue
-none_due_by r rs answers (Reports done rest) e right on = on rest (omega arith) right
-none_due_by r rs answers Waits e right on = let none : ⊥ = omega arith in absurd none
-none_due_by r rs answers Unexpected e right on = let none : ⊥ = omega arith in absurd none
-
-none_due : (rs : List Request) (answers : List Item) → length (Told rs answers) ≡ length rs → due_after rs answers ≢ Wrong → due_after rs answers ≡ NothingDue
-none_due [] [] e right = refl
-none_due [] (a ∷ answers) e right = absurd (right refl)
-none_due (r ∷ rs) answers e right =
-    due-due_by r rs answers
-    ∙ none_due_by r rs answers (hear r answers) (ap length (sym (Told-told_by r rs answers)) ∙ e) (λ w. right (due-due_by r rs answers ∙ w)) (λ rest f g. none_due rs rest f g)
-
 same_told : (rs : List Request) (answers : List Item) (v : accessing.Present) (r : Request) → accessing.StandsAfter rs answers v → IsNoneDue rs answers → Told (rs ++ r ∷ []) answers ≡ Told rs answers
-same_told rs answers v r stands none = (asked_one rs answers r (none_due rs answers none (not_wrong (due_after rs answers) v.pending stands.pending))).told
+same_told rs answers v r stands none = (asked_one rs answers r none).told
 
 -- ---- The step.
 

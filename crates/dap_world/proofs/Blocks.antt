@@ -4,7 +4,7 @@ use Rattle.std.proofs.lemmas.List.{append-nil}
 use Rattle.dap_msg.specs.Message.{Message}
 use Rattle.dap_msg.specs.Items.{Item}
 use Rattle.dap_msg.specs.Blocked.{NspMessage, Blocked, messages_in, AllFit, AllWithin}
-use Rattle.dap_msg.specs.BlockedLaws.{messages_in-Blocked, within_limit}
+use Rattle.dap_msg.proofs.ForCallers.{messages_in-Blocked, within_limit}
 use Rattle.dap_accessed.specs.Groups.{Answers, added, stands_after}
 use Rattle.dap_accessed.proofs.ForCallers.{Answers-more}
 use Rattle.dap_accessing.specs.declared.request.Request.{Request}

@@ -1,18 +1,17 @@
 -- Each request to its report, over perfect delivery.
-use Rattle.std.proofs.Common.{◌≡◌, ℕ, suc, ◌+◌, ◌<◌, arith, refl, sym, ◌∙◌, subst, ap, List, [], ◌∷◌, ◌++◌, length, map, take, inl, inr}
+use Rattle.std.proofs.Common.{◌≡◌, ℕ, ◌+◌, ◌<◌, arith, refl, sym, ◌∙◌, subst, ap, List, [], ◌∷◌, ◌++◌, length, map, take, inl, inr}
 use Rattle.std.specs.Prelude.{◌≢◌, Err, Some, slice_get}
 use Rattle.std.proofs.lemmas.List.{take_more, take_all}
 use Rattle.std.proofs.lemmas.Option.{slice_get_within, get_or_from_slice_get}
 use Rattle.dap_msg.specs.Message.{Message}
-use Rattle.dap_msg.specs.Items.{Item, Whole}
+use Rattle.dap_msg.specs.Items.{Whole}
 use Rattle.dap_accessed.specs.Groups.{After}
 use Rattle.dap_accessing.specs.declared.fault.AskFault.TheVariants as ask_fault
 use Rattle.dap_accessing.specs.declared.request.Request.{Request}
 use Rattle.dap_accessing.specs.Asked.{Asked}
 use Rattle.dap_accessing.specs.Phase.{IsNoneDue}
-use Rattle.dap_accessing.specs.Told.{Hearing, Reports, Waits, Unexpected, NothingDue, Wrong, due_after, hear, Told}
-use Rattle.dap_accessing.proofs.ForCallers.{told_by, Told-told_by}
-use Rattle.dap_accessing.proofs.ForCallers.{asked_one, due_by, due-due_by}
+use Rattle.dap_accessing.specs.Told.{Wrong, due_after, Told}
+use Rattle.dap_accessing.proofs.ForCallers.{asked_one, none_due}
 use Rattle.dap_world.specs.Agreement.{AreAdmissible, answers_to, reports_of}
 use Rattle.dap_world.specs.declared.event.Event.TheVariants as event
 use Rattle.dap_world.specs.declared.event.Step.{Step}
@@ -53,27 +52,14 @@ fresh_done s requests h f = record { asked = f.0; admissible = tt; told = fresh_
 
 -- ---- A request is asked.
 
-due_none_by : (r : Request) (rs : List Request) (answers : List Item) (h : Hearing) → length (told_by rs h) ≡ suc (length rs) → due_by r rs answers h ≢ Wrong
-    → ((rest : List Item) → IsNoneDue rs rest → due_after rs rest ≢ Wrong → due_after rs rest ≡ NothingDue) → due_by r rs answers h ≡ NothingDue
-due_none_by r rs answers (Reports done rest) e right on = on rest (omega (arith, e)) right
-due_none_by r rs answers Waits e right on = absurd (omega (arith, e))
-due_none_by r rs answers Unexpected e right on = absurd (omega (arith, e))
-
-due_none : (rs : List Request) (answers : List Item) → IsNoneDue rs answers → due_after rs answers ≢ Wrong → due_after rs answers ≡ NothingDue
-due_none [] [] e right = refl
-due_none [] (a ∷ answers) e right = absurd (right refl)
-due_none (r ∷ rs) answers e right =
-    due-due_by r rs answers
-    ∙ due_none_by r rs answers (hear r answers) (ap length (sym (Told-told_by r rs answers)) ∙ e) (λ w. right (due-due_by r rs answers ∙ w)) (λ rest f g. due_none rs rest f g)
-
-none_due : (s : State) → AllTold s → IsNoneDue s.requests (answers_read s)
+told_due : (s : State) → AllTold s → due_after s.requests (answers_read s) ≢ Wrong → IsNoneDue s.requests (answers_read s)
 unfolding reported
-none_due s told = told.each
+told_due s told right = none_due s.requests (answers_read s) told.each right
 
 -- no report comes of it
 asked_told : (s : State) (r : Request) → AllTold s → due_after s.requests (answers_read s) ≢ Wrong → reported (asked s r) ≡ reported s
 unfolding reported
-asked_told s r told right = (asked_one s.requests (answers_read s) r (due_none s.requests (answers_read s) (none_due s told) right)).told
+asked_told s r told right = (asked_one s.requests (answers_read s) r (told_due s told right)).told
 
 take_one : (requests : List Request) (i : ℕ) (r : Request) → slice_get requests i ≡ Some r → take i requests ++ r ∷ [] ≡ take (i + 1) requests
 take_one requests i r there = sym (take_more requests i r (slice_get_within requests i r there) ∙ ap (λ (x : Request). take i requests ++ x ∷ []) (get_or_from_slice_get requests i r r there))
@@ -84,23 +70,24 @@ asked_is s new r answer step = step.2
 
 -- ---- The reasons to stop.
 
-pub ask_stops : (s new : State) (requests : List Request) (i : ℕ) (r : Request) (f : WorldFault) → AllDone (take i requests) s → slice_get requests i ≡ Some r → Went s (event.Ask r) (Err f) new → StopsAtRequest requests new (i, f)
+pub ask_stops : (s new : State) (requests : List Request) (i : ℕ) (r : Request) (f : WorldFault) → due_after s.requests (answers_read s) ≢ Wrong → AllDone (take i requests) s → slice_get requests i ≡ Some r → Went s (event.Ask r) (Err f) new
+    → StopsAtRequest requests new (i, f)
 unfolding Steps Refuses
-ask_stops s new requests i r fault.NoMemory done there went =
+ask_stops s new requests i r fault.NoMemory right done there went =
     subst (λ (t : State). StopsAtRequest requests t (i, fault.NoMemory)) (sym went.1)
     (record { there = slice_get_within requests i r there; asked = inl done.asked; reports = done.told.reports ∙ ap (reports_of s.own_a s.own_b) done.asked })
-ask_stops s new requests i r (fault.Ask ask_fault.Busy) done there went = absurd (went.0 (none_due s done.told))
-ask_stops s new requests i r (fault.Ask ask_fault.WrongPhase) done there went =
+ask_stops s new requests i r (fault.Ask ask_fault.Busy) right done there went = absurd (went.0 (told_due s done.told right))
+ask_stops s new requests i r (fault.Ask ask_fault.WrongPhase) right done there went =
     subst (λ (t : State). StopsAtRequest requests t (i, fault.Ask ask_fault.WrongPhase)) (sym went.1) (record { done = done; request = r; there = there; refused = went.0; why = inl refl })
-ask_stops s new requests i r (fault.Ask ask_fault.TooLarge) done there went =
+ask_stops s new requests i r (fault.Ask ask_fault.TooLarge) right done there went =
     subst (λ (t : State). StopsAtRequest requests t (i, fault.Ask ask_fault.TooLarge)) (sym went.1) (record { done = done; request = r; there = there; refused = went.0; why = inr refl })
-ask_stops s new requests i r (fault.Ask ask_fault.NoMemory) done there went = absurd went.0
-ask_stops s new requests i r (fault.Ask ask_fault.Failed) done there went = absurd went.0
-ask_stops s new requests i r fault.NothingToDo done there went = absurd went.0
-ask_stops s new requests i r fault.NoSuchPacket done there went = absurd went.0
-ask_stops s new requests i r fault.Stale done there went = absurd went.0
-ask_stops s new requests i r fault.Exhausted done there went = absurd went.0
-ask_stops s new requests i r fault.BadSetup done there went = absurd went.0
+ask_stops s new requests i r (fault.Ask ask_fault.NoMemory) right done there went = absurd went.0
+ask_stops s new requests i r (fault.Ask ask_fault.Failed) right done there went = absurd went.0
+ask_stops s new requests i r fault.NothingToDo right done there went = absurd went.0
+ask_stops s new requests i r fault.NoSuchPacket right done there went = absurd went.0
+ask_stops s new requests i r fault.Stale right done there went = absurd went.0
+ask_stops s new requests i r fault.Exhausted right done there went = absurd went.0
+ask_stops s new requests i r fault.BadSetup right done there went = absurd went.0
 
 -- the state after the request, and the events that came then
 module _ (s mid new : State) (requests : List Request) (i : ℕ) (r : Request) (answer : Step) (w : IsWorld mid) (done : AllDone (take i requests) s) (there : slice_get requests i ≡ Some r) (step : Steps s (event.Ask r) answer mid) where

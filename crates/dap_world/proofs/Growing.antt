@@ -5,7 +5,7 @@ use Rattle.std.proofs.lemmas.List.Elements.{All-append, All-cons}
 use Rattle.dap_msg.specs.Message.{Message}
 use Rattle.dap_msg.specs.Blocked.{NspMessage, joined, all_joined, messages_in, AllFit}
 use Rattle.dap_msg.specs.Canon.{canon}
-use Rattle.dap_accessed.specs.Written.{AllAtMost}
+use Rattle.dap_accessed.specs.Served.{AllAtMost}
 use Rattle.nsp_link.specs.Cutting.{cut, count_of}
 use Rattle.nsp_link.specs.Limits.{largest_limit, most_segments}
 use Rattle.dap_world.specs.Inner.Sides.{SideValue}

@@ -5,7 +5,7 @@ use Rattle.dap_msg.specs.Items.{Item, ItemAt}
 use Rattle.dap_msg.specs.Blocked.{bodies}
 use Rattle.dap_accessed.specs.Present as accessed
 use Rattle.dap_accessed.specs.Served.{Serves}
-use Rattle.dap_accessed.specs.Written.{AllAtMost}
+use Rattle.dap_accessed.specs.Served.{AllAtMost}
 use Rattle.dap_accessed.specs.declared.served.Served.{Served}
 use Rattle.dap_world.specs.Inner.Sides.{SideValue}
 use Rattle.dap_accessing.specs.Present as accessing

@@ -3,6 +3,7 @@ pub mod Stores
 pub mod Agreeing
 pub mod Limits
 pub mod Within
+pub mod Blocking
 pub mod Directions
 pub mod Packets
 pub mod Asking

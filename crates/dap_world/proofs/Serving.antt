@@ -6,10 +6,10 @@ use Rattle.dap_msg.specs.Message.{Message}
 use Rattle.dap_msg.specs.Items.{Item, Whole}
 use Rattle.dap_msg.specs.Canon.{canon}
 use Rattle.dap_msg.specs.Blocked.{NspMessage, joined, Blocked, all_joined, messages_in, AllFit}
-use Rattle.dap_msg.specs.BlockedLaws.{messages_in-Blocked}
+use Rattle.dap_msg.proofs.ForCallers.{messages_in-Blocked}
 use Rattle.dap_accessed.specs.Groups.{Answers, added, stands_after}
 use Rattle.dap_accessed.specs.Present as accessed
-use Rattle.dap_accessed.specs.Written.{AllAtMost}
+use Rattle.dap_accessed.specs.Served.{AllAtMost}
 use Rattle.dap_accessed.proofs.ForCallers.{Answers-more}
 use Rattle.dap_accessing.specs.Present as accessing
 use Rattle.dap_accessing.specs.Asked.{Asked}

@@ -10,7 +10,6 @@ use Rattle.dap_accessed.specs.Groups.{Answers}
 use Rattle.dap_accessing.specs.declared.request.Request.{Request}
 use Rattle.dap_accessing.specs.declared.report.Report.{Report}
 use Rattle.dap_accessing.specs.Told.{Hearing, Reports, Waits, Unexpected, hear, Told}
-use Rattle.dap_accessing.specs.Phase.{IsNoneDue}
 use Rattle.dap_accessing.proofs.ForCallers.{told_by, Told-told_by, reports_grow}
 use Rattle.dap_world.specs.Agreement.{answers_to}
 use Rattle.dap_world.specs.Machine.{State, arrived_of, sent_by, taken_of, answers_read, reported}
@@ -18,7 +17,7 @@ use Rattle.dap_world.specs.Inner.Worlds.{IsWorld}
 use Rattle.dap_world.specs.Settling.{RanBy, IsOneDue}
 use Rattle.dap_world.specs.Inner.Settling.{ReadPart}
 use Rattle.dap_world.proofs.Agreeing.{none-unexpected}
-use Rattle.dap_world.proofs.Asking.{all_read, answers-front}
+use Rattle.dap_world.proofs.Asking.{all_told, answers-front}
 use Rattle.dap_world.proofs.Kept.{came-handed, read-front, served-front}
 use Rattle.dap_world.proofs.Onward.{ran_on, told_same}
 use Rattle.dap_world.proofs.Packets.{messages_in-append}
@@ -40,10 +39,10 @@ answered_length s h =
     omega (arith, came-handed s.seg_size s.from_b, length-append (sent_by s.from_b) (messages_in s.from_b.waiting), all)
 
 -- with an answer left, some request has no report
-pub some_due : (s : State) → IsWorld s → s.read < length (Answers s.own_b (map Whole (taken_of s))) → IsNoneDue s.requests (answers_read s) → ⊥
+pub some_due : (s : State) → IsWorld s → s.read < length (Answers s.own_b (map Whole (taken_of s))) → length (Told s.requests (answers_read s)) ≡ length s.requests → ⊥
 some_due s h lt none =
     let front = read-front s h in
-    let all = all_read s.own_a s.own_b s.requests (answers_read s) front.0 (none-unexpected s.own_a s.own_b h.own_a h.own_b s.requests h.admissible) front.1 none in
+    let all = all_told s.own_a s.own_b s.requests (answers_read s) front.0 (none-unexpected s.own_a s.own_b h.own_a h.own_b s.requests h.admissible) front.1 none in
     let asked = served-front s h in
     let more = answers-front s.own_b (map Whole (taken_of s)) (map Whole asked.0) in
     let same : Answers s.own_b (map Whole (taken_of s)) ++ more.0 ≡ answers_to s.own_a s.own_b s.requests =

@@ -9,5 +9,6 @@ pub mod SideView
 pub mod Sides
 pub mod Splitting
 pub mod Ways
+pub mod Within
 pub mod WorldView
 pub mod Worlds

@@ -2,13 +2,13 @@
 
 ghost use Rattle.std.specs.Prelude.{◌≡◌, ◌⊎◌, ◌<◌, [], length, IfOk, IfErr, Some, slice_get, IfSome, ◌++◌, ◌^◌, false, is_some, option_to_list, vec_len, vec_capacity};
 ghost use Rattle.dap_msg.specs.Blocked.{bodies};
-ghost use Rattle.dap_accessed.specs.Served.{IsPlace};
+ghost use Rattle.dap_msg.specs.Items.{IsPlace};
 ghost use Rattle.dap_world.specs.Inner.Handling.{ServedOne, ServeFault, IsReady, Expects, ExpectsAt, ReadsOne, ReadOne, ReadFault};
 ghost use Rattle.dap_world.specs.Inner.Answers.{serve_of, read_of, ask_of};
 ghost use Rattle.dap_world.specs.Inner.Asking.{AskedOne, AskFaultOf, MayAsk};
 ghost use Rattle.dap_world.specs.declared.event.WorldFault.TheVariants.{NoMemory};
 
-use crate::copying::{copy_request, most_messages};
+use crate::copying::most_messages;
 use crate::event::{Event, Step, WorldFault};
 use crate::side::Side;
 use crate::world::World;
@@ -219,7 +219,7 @@ fn ask_checked(
     ensures err { IfErr result (λ f. (side.new ≡ side.old) × (accessing.new ≡ accessing.old)
         × (requests.new.items ≡ requests.old.items) × (f ≡ NoMemory)) }
 {
-    let copy = copy_request(alloc, request)?;
+    let copy = request.copy(alloc)?;
     requests.reserve(1)?;
     side.outbox.reserve(most_messages(request))?;
     let Ok(mut messages) = accessing.ask(request) else {

@@ -5,6 +5,7 @@ mod finishing;
 mod random;
 mod refused;
 mod rows;
+mod scripts;
 
 use crate::{
     By, End, Ending, Event, Got, How, Numbered, Octets, OctetsList, RecordFile, Report, Request,
@@ -23,6 +24,8 @@ enum Call {
     Open(&'static [u8], u32),
     Connect,
     Get,
+    GetKey(u32),
+    GetRfa(u32),
     Put(&'static [u8]),
     PutKey(u32, &'static [u8]),
     Update(&'static [u8]),
@@ -32,7 +35,9 @@ enum Call {
     Store(&'static [&'static [u8]]),
     Again,
     Skip,
+    Abort,
     Close,
+    Purge,
 }
 
 /// Records behind their numbers.
@@ -50,6 +55,11 @@ enum Want {
     Refused(u16, u8),
     Complete(Records),
     Stopped(Records),
+    BatchRefused(Records, u16, u8),
+    /// To Store: nothing was refused.
+    Stored,
+    /// To Store: the code, the reason and the place of what was refused first.
+    StoredSave(u16, u8, u64),
     Closed,
 }
 
@@ -112,7 +122,6 @@ fn request(alloc: Global, call: Call) -> Result<Request, WorldFault> {
             fac,
         },
         Call::Connect => Request::Connect,
-        Call::Get => Request::Get(By::Next),
         Call::Put(body) => Request::Put {
             key: None,
             body: octets(alloc, body)?,
@@ -132,12 +141,17 @@ fn request(alloc: Global, call: Call) -> Result<Request, WorldFault> {
 /// The requests that hold no bytes.
 fn plain(call: Call) -> Request {
     match call {
+        Call::Get => Request::Get(By::Next),
+        Call::GetKey(number) => Request::Get(By::Key(number)),
+        Call::GetRfa(number) => Request::Get(By::Rfa(number)),
         Call::Delete => Request::Delete,
         Call::Rewind => Request::Rewind,
         Call::Fetch => Request::Fetch,
         Call::Again => Request::Continue(How::Again),
         Call::Skip => Request::Continue(How::Skip),
-        _ => Request::Close,
+        Call::Abort => Request::Continue(How::Abort),
+        Call::Close => Request::Close,
+        _ => Request::Purge,
     }
 }
 
@@ -162,13 +176,24 @@ fn is_wanted(report: &Report, want: Want) -> bool {
         (Report::Done(number), Want::Done(wanted)) => *number == wanted,
         (Report::EndOfFile, Want::EndOfFile) => true,
         (Report::Refused(code, reason), Want::Refused(c, r)) => *code == c && *reason == r,
-        (Report::Batch { bodies, ending }, Want::Complete(records)) => {
-            matches!(ending, Ending::Complete) && has(bodies, records)
-        }
-        (Report::Batch { bodies, ending }, Want::Stopped(records)) => {
-            matches!(ending, Ending::Stopped) && has(bodies, records)
+        (Report::Batch { bodies, ending }, want) => is_batch(bodies, *ending, want),
+        (Report::Stored(None), Want::Stored) => true,
+        (Report::Stored(Some(first)), Want::StoredSave(code, reason, place)) => {
+            *first == (code, reason, place)
         }
         (Report::Closed, Want::Closed) => true,
+        _ => false,
+    }
+}
+
+/// Whether the batch is the one that was wanted.
+fn is_batch(batch: &Numbered, ending: Ending, want: Want) -> bool {
+    match (ending, want) {
+        (Ending::Complete, Want::Complete(records)) => has(batch, records),
+        (Ending::Stopped, Want::Stopped(records)) => has(batch, records),
+        (Ending::Refused(code, reason), Want::BatchRefused(records, c, r)) => {
+            code == c && reason == r && has(batch, records)
+        }
         _ => false,
     }
 }

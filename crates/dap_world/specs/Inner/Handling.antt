@@ -4,7 +4,7 @@ use Rattle.dap_msg.specs.Items.{Item, ItemAt}
 use Rattle.dap_msg.specs.Blocked.{Blocked, all_joined, AllFit}
 use Rattle.dap_accessed.specs.Groups.{added, stands_after}
 use Rattle.dap_accessed.specs.Present as accessed
-use Rattle.dap_accessed.specs.Written.{AllAtMost}
+use Rattle.dap_accessed.specs.Served.{AllAtMost}
 use Rattle.dap_accessing.specs.Present as accessing
 use Rattle.dap_accessing.specs.Calls.{Reads}
 use Rattle.dap_accessing.specs.declared.fault.ReadStep.{ReadStep}

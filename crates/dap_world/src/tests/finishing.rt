@@ -4,156 +4,55 @@
 use super::*;
 use crate::AskFault;
 
-/// A request.
-#[derive(Clone, Copy)]
-enum One {
-    Is(Call),
-    Purge,
-}
-
-/// A report that is to come.
-#[derive(Clone, Copy)]
-enum Tells {
-    Is(Want),
-    /// To Store: nothing was refused.
-    AllStored,
-    /// To Store: the code, the reason and the place of what was refused first.
-    Stored(u16, u8, u64),
-}
-
 /// Requests over a clean network, then events whose packets may be lost, and then all is finished.
 #[derive(Clone, Copy)]
 struct Row {
     /// Segment size, window and both buffers.
     setup: (usize, usize, u16, u16),
-    direct: &'static [One],
+    direct: &'static [Call],
     lost: &'static [Do],
     /// How many events finish it.
     events: usize,
-    told: &'static [Tells],
+    told: &'static [Want],
     names: &'static [&'static [u8]],
     /// Records of the first file, and numbers without one.
     records: &'static [(u32, Option<&'static [u8]>)],
 }
 
-const CREATE_F: One = One::Is(Call::Create(b"F", 16, 2, 0, 3, 7));
+const CREATE_F: Call = Call::Create(b"F", 16, 2, 0, 3, 7);
 
-const CREATE_LOG: One = One::Is(Call::Create(b"L", 0, 2, 0, 0, 3));
+const CREATE_LOG: Call = Call::Create(b"L", 0, 2, 0, 0, 3);
 
-const OPENED_F: Tells = Tells::Is(Want::Opened(16, 2, 0, 3));
+const OPENED_F: Want = Want::Opened(16, 2, 0, 3);
 
-const OPENED_LOG: Tells = Tells::Is(Want::Opened(0, 2, 0, 0));
+const OPENED_LOG: Want = Want::Opened(0, 2, 0, 0);
 
-const READY: Tells = Tells::Is(Want::Ready(1024));
+const READY: Want = Want::Ready(1024);
 
-const CONNECTED: Tells = Tells::Is(Want::Connected);
+const CONNECTED: Want = Want::Connected;
 
-const CLOSED: Tells = Tells::Is(Want::Closed);
+const CLOSED: Want = Want::Closed;
 
 const TEN: &[u8] = b"0123456789";
 
 const LONG: &[u8] = b"-------------------------------------------------------------------------";
 
 const ROWS: &[Row] = &[
-    // Files are created, refused and purged; the one that an access created is left.
-    Row {
-        setup: (512, 8, 1024, 1024),
-        direct: &[
-            One::Is(Call::Hello),
-            CREATE_F,
-            One::Is(Call::Close),
-            One::Is(Call::Open(b"G", 2)),
-            CREATE_F,
-            One::Is(Call::Open(b"F", 2)),
-            One::Purge,
-            One::Is(Call::Create(b"G", 16, 2, 0, 3, 7)),
-            One::Purge,
-        ],
-        lost: &[],
-        events: 0,
-        told: &[
-            READY,
-            OPENED_F,
-            CLOSED,
-            Tells::Is(Want::Refused(0x4032, 0)),
-            Tells::Is(Want::Refused(0x4000, 1)),
-            OPENED_F,
-            CLOSED,
-            OPENED_F,
-            CLOSED,
-        ],
-        names: &[b"F"],
-        records: &[(1, None)],
-    },
-    // A record that is too long for the buffer of the end that asks.
-    Row {
-        setup: (512, 8, 64, 1024),
-        direct: &[
-            One::Is(Call::Hello),
-            CREATE_LOG,
-            One::Is(Call::Connect),
-            One::Is(Call::Put(TEN)),
-            One::Is(Call::Put(LONG)),
-            One::Is(Call::Put(TEN)),
-            One::Is(Call::Rewind),
-            One::Is(Call::Fetch),
-            One::Is(Call::Again),
-            One::Is(Call::Skip),
-        ],
-        lost: &[],
-        events: 0,
-        told: &[
-            READY,
-            OPENED_LOG,
-            CONNECTED,
-            Tells::Is(Want::Done(1)),
-            Tells::Is(Want::Done(2)),
-            Tells::Is(Want::Done(3)),
-            Tells::Is(Want::Done(0)),
-            Tells::Is(Want::Stopped(&[(1, TEN)])),
-            Tells::Is(Want::Stopped(&[])),
-            Tells::Is(Want::Complete(&[(3, TEN)])),
-        ],
-        names: &[b"L"],
-        records: &[(2, Some(LONG)), (3, Some(TEN))],
-    },
-    // A store whose second record is too long for the file.
-    Row {
-        setup: (512, 8, 1024, 1024),
-        direct: &[
-            One::Is(Call::Hello),
-            One::Is(Call::Create(b"S", 0, 2, 5, 0, 1)),
-            One::Is(Call::Connect),
-            One::Is(Call::Store(&[b"A", b"BBBBBB", b"C"])),
-            One::Is(Call::Connect),
-        ],
-        lost: &[],
-        events: 0,
-        told: &[
-            READY,
-            Tells::Is(Want::Opened(0, 2, 5, 0)),
-            CONNECTED,
-            Tells::Stored(0x5000, 7, 2),
-            CONNECTED,
-        ],
-        names: &[b"S"],
-        records: &[(1, Some(b"A")), (2, None)],
-    },
     // The only packet of a put is lost: four events settle it, two serve it, five bring the answer, and one
     // reads it.
     Row {
         setup: (512, 8, 1024, 1024),
-        direct: &[One::Is(Call::Hello), CREATE_LOG, One::Is(Call::Connect)],
+        direct: &[Call::Hello, CREATE_LOG, Call::Connect],
         lost: &[Do::Ask(Call::Put(b"A")), Do::Post(End::A), Do::Emit(End::A)],
         events: 12,
-        told: &[READY, OPENED_LOG, CONNECTED, Tells::Is(Want::Done(1))],
+        told: &[READY, OPENED_LOG, CONNECTED, Want::Done(1)],
         names: &[b"L"],
         records: &[(1, Some(b"A")), (2, None)],
     },
     // The put was served, and its answer is lost, as is every acknowledgement.
     Row {
         setup: (512, 8, 1024, 1024),
-        direct: &[One::Is(Call::Hello), CREATE_LOG, One::Is(Call::Connect)],
+        direct: &[Call::Hello, CREATE_LOG, Call::Connect],
         lost: &[
             Do::Ask(Call::Put(b"A")),
             Do::Post(End::A),
@@ -165,7 +64,7 @@ const ROWS: &[Row] = &[
             Do::Emit(End::B),
         ],
         events: 9,
-        told: &[READY, OPENED_LOG, CONNECTED, Tells::Is(Want::Done(1))],
+        told: &[READY, OPENED_LOG, CONNECTED, Want::Done(1)],
         names: &[b"L"],
         records: &[(1, Some(b"A")), (2, None)],
     },
@@ -174,12 +73,12 @@ const ROWS: &[Row] = &[
     Row {
         setup: (512, 8, 64, 1024),
         direct: &[
-            One::Is(Call::Hello),
+            Call::Hello,
             CREATE_LOG,
-            One::Is(Call::Connect),
-            One::Is(Call::Put(TEN)),
-            One::Is(Call::Put(LONG)),
-            One::Is(Call::Rewind),
+            Call::Connect,
+            Call::Put(TEN),
+            Call::Put(LONG),
+            Call::Rewind,
         ],
         lost: &[
             Do::Ask(Call::Fetch),
@@ -195,10 +94,10 @@ const ROWS: &[Row] = &[
             READY,
             OPENED_LOG,
             CONNECTED,
-            Tells::Is(Want::Done(1)),
-            Tells::Is(Want::Done(2)),
-            Tells::Is(Want::Done(0)),
-            Tells::Is(Want::Stopped(&[(1, TEN)])),
+            Want::Done(1),
+            Want::Done(2),
+            Want::Done(0),
+            Want::Stopped(&[(1, TEN)]),
         ],
         names: &[b"L"],
         records: &[(1, Some(TEN)), (2, Some(LONG))],
@@ -223,7 +122,7 @@ const ROWS: &[Row] = &[
     // messages, five bring the answer, and one reads it.
     Row {
         setup: (8, 4, 1024, 1024),
-        direct: &[One::Is(Call::Hello), CREATE_LOG, One::Is(Call::Connect)],
+        direct: &[Call::Hello, CREATE_LOG, Call::Connect],
         lost: &[
             Do::Ask(Call::Store(&[b"A", b"BB"])),
             Do::Post(End::A),
@@ -231,45 +130,26 @@ const ROWS: &[Row] = &[
             Do::Emit(End::A),
         ],
         events: 20,
-        told: &[READY, OPENED_LOG, CONNECTED, Tells::AllStored],
+        told: &[READY, OPENED_LOG, CONNECTED, Want::Stored],
         names: &[b"L"],
         records: &[(1, Some(b"A")), (2, Some(b"BB")), (3, None)],
     },
 ];
 
-fn make(alloc: Global, asks: One) -> Result<Request, WorldFault> {
-    match asks {
-        One::Is(call) => request(alloc, call),
-        One::Purge => Ok(Request::Purge),
-    }
-}
-
-fn all(alloc: Global, asks: &[One]) -> Result<Vec<Request>, WorldFault> {
+fn all(alloc: Global, asks: &[Call]) -> Result<Vec<Request>, WorldFault> {
     let mut requests = Vec::new(alloc);
     for each in asks {
-        requests.push(make(alloc, *each)?)?;
+        requests.push(request(alloc, *each)?)?;
     }
     Ok(requests)
 }
 
-/// Whether the report is the one that was to come.
-fn is_told(report: &Report, tells: Tells) -> bool {
-    match (report, tells) {
-        (_, Tells::Is(want)) => is_wanted(report, want),
-        (Report::Stored(None), Tells::AllStored) => true,
-        (Report::Stored(Some(first)), Tells::Stored(code, reason, place)) => {
-            *first == (code, reason, place)
-        }
-        _ => false,
-    }
-}
-
-fn are_told(reports: &[Report], told: &[Tells]) -> bool {
+fn are_told(reports: &[Report], told: &[Want]) -> bool {
     reports.len() == told.len()
         && reports
             .iter()
             .zip(told)
-            .all(|(report, tells)| is_told(report, *tells))
+            .all(|(report, want)| is_wanted(report, *want))
 }
 
 fn are_held(world: &World, row: Row) -> bool {
@@ -309,25 +189,15 @@ fn all_come_to_their_reports(rt: HostRuntime) -> Result<(), Fail> {
 }
 
 /// Requests of which the one at this place isn't asked.
-const REFUSED: &[(&[One], usize, AskFault)] = &[
-    (&[One::Is(Call::Connect)], 0, AskFault::WrongPhase),
+const REFUSED: &[(&[Call], usize, AskFault)] = &[
+    (&[Call::Connect], 0, AskFault::WrongPhase),
     (
-        &[
-            One::Is(Call::Hello),
-            CREATE_F,
-            One::Is(Call::Get),
-            One::Purge,
-        ],
+        &[Call::Hello, CREATE_F, Call::Get, Call::Purge],
         2,
         AskFault::WrongPhase,
     ),
     (
-        &[
-            One::Is(Call::Hello),
-            CREATE_LOG,
-            One::Is(Call::Connect),
-            One::Is(Call::Put(LONG)),
-        ],
+        &[Call::Hello, CREATE_LOG, Call::Connect, Call::Put(LONG)],
         3,
         AskFault::TooLarge,
     ),
@@ -359,7 +229,7 @@ fn requests_stop_at_one_that_is_refused(rt: HostRuntime) -> Result<(), Fail> {
 #[derive(Clone, Copy)]
 struct Settled {
     window: usize,
-    direct: &'static [One],
+    direct: &'static [Call],
     /// How many bytes are put, and how many of their segments are written. None: Hello is asked.
     bytes: usize,
     written: usize,
@@ -392,7 +262,7 @@ const SETTLED: &[Settled] = &[
     // Three requests of 43 bytes, and 33 bytes of answers, each in a packet and acknowledged by one.
     Settled {
         window: 2047,
-        direct: &[One::Is(Call::Hello), CREATE_LOG, One::Is(Call::Connect)],
+        direct: &[Call::Hello, CREATE_LOG, Call::Connect],
         bytes: 2100,
         written: 2047,
         came: false,

@@ -433,6 +433,68 @@ const JOINED: &[Line] = &[
     ])),
 ];
 
+/// The second record of a store is too long for the file: its number among those sent is told, and the third
+/// isn't stored.
+const STORE: &[Line] = &[
+    Turn(
+        Call::Hello,
+        "60020201010080010001020a00040703050600000000",
+        1,
+        "60010102020180010001020a00040703050600000000",
+        1,
+        Want::Ready(1024),
+    ),
+    Turn(
+        Call::Create(b"F", 0, 2, 5, 0, 1),
+        "60020201010180020002020ba6040002050004000000000302080200014601000000",
+        2,
+        "60010102020280020002020ba604000205000400000000060200",
+        2,
+        Want::Opened(0, 2, 5, 0),
+    ),
+    Turn(
+        Call::Connect,
+        "6002020101028003000402020200",
+        1,
+        "600101020203800300060200",
+        1,
+        Want::Connected,
+    ),
+    Does(
+        Do::Ask(Call::Store(&[b"A", b"BBBBBB", b"C"])),
+        Ok(Step::Asked(1)),
+    ),
+    Does(Do::Post(End::A), Ok(Step::Posted(1))),
+    Writes(
+        Do::Emit(End::A),
+        End::A,
+        3,
+        "60020201010380040004020304010308020200410802070042424242424208020200430702020400",
+    ),
+    Does(Do::Deliver(End::B, 3), Ok(Step::Delivered(Got::Accepted))),
+    Does(Do::Serve, Ok(Step::Served(0))),
+    Does(Do::Serve, Ok(Step::Served(0))),
+    Does(Do::Serve, Ok(Step::Served(1))),
+    Does(Do::Post(End::B), Ok(Step::Posted(1))),
+    Writes(
+        Do::Emit(End::B),
+        End::B,
+        3,
+        "60010102020480040009020a00500004020000000107",
+    ),
+    Does(Do::Serve, Ok(Step::Served(0))),
+    Does(Do::Serve, Ok(Step::Served(1))),
+    Does(Do::Post(End::B), Ok(Step::Posted(1))),
+    Writes(Do::Emit(End::B), End::B, 4, "6001010202048005000702020200"),
+    Does(Do::Deliver(End::A, 3), Ok(Step::Delivered(Got::Accepted))),
+    Does(Do::Read, Ok(Step::Nothing)),
+    Does(Do::Deliver(End::A, 4), Ok(Step::Delivered(Got::Accepted))),
+    Does(Do::Read, Ok(Step::Reported)),
+    Reports(Want::StoredSave(0x5000, 7, 2)),
+    Holds(1, Some(b"A")),
+    Holds(2, None),
+];
+
 /// Both buffers of 1,024 bytes.
 const ROOMY: WorldSetup = WorldSetup {
     seg_size: 512,
@@ -453,6 +515,7 @@ const ROWS: &[(WorldSetup, &[Line])] = &[
     (ROOMY, KEYS),
     (ROOMY, LOST),
     (ROOMY, UPDATES),
+    (ROOMY, STORE),
     (NARROW, FETCH),
     (NARROW, JOINED),
 ];
