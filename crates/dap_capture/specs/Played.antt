@@ -47,12 +47,16 @@ got_text Repeat = codes "repeat"
 got_text Early = codes "early"
 got_text AckOnly = codes "ack-only"
 
--- the packet at a place of an end's wire, in hex
-pub record IsPacketWritten (s : State) (end : End) (place : ℕ) (text : List ℕ) : Type 0 where
+-- these are the bytes of the packet at a place of an end's wire
+pub record IsPacketAt (s : State) (end : End) (place : ℕ) (bytes : List ℕ) : Type 0 where
   pub sending : Sending
-  pub bytes : List ℕ
   pub written : slice_get (sends s end).wire place ≡ Some sending
   pub packet : IsPacketOf s end sending bytes
+
+-- the packet at a place of an end's wire, in hex
+pub record IsPacketWritten (s : State) (end : End) (place : ℕ) (text : List ℕ) : Type 0 where
+  pub bytes : List ℕ
+  pub packet : IsPacketAt s end place bytes
   pub printed :
       text ≡ concat (codes "packet " ∷ end_text end ∷ codes " " ∷ decimal place ∷ codes " " ∷ encode_lower bytes ∷ [])
 

@@ -27,10 +27,6 @@ pub use laws::listings_are_one;
 pub use output::write_text;
 
 #[cfg(test)]
-mod device_tests;
-#[cfg(test)]
-mod devices;
-#[cfg(test)]
 mod engines;
 #[cfg(test)]
 mod schedule_tests;

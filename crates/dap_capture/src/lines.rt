@@ -1,10 +1,12 @@
 //! The lines of a capture.
 
-ghost use Rattle.std.specs.Prelude.{◌≡◌, ◌≤◌, ◌<◌, ◌*◌, ◌^◌, ◌==◌, length, MatchOption, [], ◌∷◌};
+ghost use Rattle.std.specs.Prelude.{ℕ, ◌≡◌, ◌≤◌, ◌<◌, ◌*◌, ◌^◌, ◌==◌, length, MatchOption, [], ◌∷◌};
 ghost use Rattle.std.specs.List.{position, list_all};
 ghost use Rattle.std.specs.Char.{is_ascii_hexdigit};
 ghost use Rattle.std.specs.Str.Lines.{lines, strip_carriage_return};
-ghost use Rattle.dap_capture.specs.Lines.{is_hex_text as spelled, HasDigits, line_of, digits_line, value_of_line};
+ghost use Rattle.dap_capture.specs.Lines.{is_hex_text as spelled, HasDigits, digits_line, line_of, line_of_head, value_of_line};
+
+use memchr::memchr;
 
 /// The way that captured bytes went.
 #[derive(Clone, Copy, Debug, PartialEq, Eq)]
@@ -13,6 +15,17 @@ pub(crate) enum Direction {
     Right,
     /// `<`
     Left,
+}
+
+/// What the first bytes of a line say.
+#[derive(Clone, Copy, Debug)]
+pub(crate) enum Head<'a> {
+    /// The line says nothing: it is empty or a comment.
+    Skipped,
+    /// What follows are to be the hex digits of captured bytes.
+    Digits(Direction, &'a [u8]),
+    /// The line has no meaning.
+    Malformed,
 }
 
 /// What a line of a capture says.
@@ -29,10 +42,11 @@ pub(crate) enum Line<'a> {
 }
 
 /// Where the first line feed stands.
+#[tactic(auto, using(crate::proofs::LineLemmas::first_place))]
 fn find_line_feed(bytes: &[u8]) -> Option<usize>
     ensures { result ≡ position (λ byte. byte == 10) bytes.now }
 {
-    bytes.iter().position(|byte| *byte == b'\n')
+    memchr(b'\n', bytes)
 }
 
 /// A line without the carriage return at its end, if it has one.
@@ -60,17 +74,28 @@ pub(crate) fn next_line(bytes: &[u8]) -> Option<(&[u8], &[u8])>
     }
 }
 
+/// What the first bytes of a line say.
+pub(crate) fn parse_head(line: &[u8]) -> Head<'_>
+    ensures { (limit : ℕ) → line_of_head limit result ≡ line_of limit line.now }
+{
+    match line {
+        [] | [b'#', ..] => Head::Skipped,
+        [b'>', b' ', digits @ ..] => Head::Digits(Direction::Right, digits),
+        [b'<', b' ', digits @ ..] => Head::Digits(Direction::Left, digits),
+        _ => Head::Malformed,
+    }
+}
+
 /// What a line says, where captured bytes may be so many.
 pub(crate) fn parse_line(line: &[u8], limit: usize) -> Line<'_>
     requires { limit < 2 ^ 32 }
     ensures value { value_of_line result ≡ line_of limit line.now }
     ensures digits { HasDigits limit result }
 {
-    match line {
-        [] | [b'#', ..] => Line::Skipped,
-        [b'>', b' ', digits @ ..] => parse_digits(Direction::Right, digits, limit),
-        [b'<', b' ', digits @ ..] => parse_digits(Direction::Left, digits, limit),
-        _ => Line::Malformed,
+    match parse_head(line) {
+        Head::Skipped => Line::Skipped,
+        Head::Digits(direction, digits) => parse_digits(direction, digits, limit),
+        Head::Malformed => Line::Malformed,
     }
 }
 
@@ -96,9 +121,14 @@ pub(crate) fn is_hex_text(digits: &[u8]) -> bool
     digits.len() >= 2 && digits.len() % 2 == 0 && are_hex_digits(digits)
 }
 
-/// Whether all are hex digits.
+/// Whether all are hex digits. It looks at each of them, whatever those before it are, so that they are
+/// looked at many at a time.
 fn are_hex_digits(digits: &[u8]) -> bool
     ensures { result ≡ list_all is_ascii_hexdigit digits.now }
 {
-    digits.iter().all(|digit| digit.is_ascii_hexdigit())
+    let mut good = true;
+    for digit in digits {
+        good &= digit.is_ascii_hexdigit();
+    }
+    good
 }

@@ -9,7 +9,7 @@ ghost use Rattle.dap_capture.specs.Lines.{is_hex_text};
 ghost use Rattle.dap_capture.specs.Listing.{IsCapturedText, IsListing, IsMessageText, arrow_text, limit_of, line_faults};
 
 use crate::input::INPUT_LIMIT;
-use crate::lines::{Direction, Line, next_line, parse_line};
+use crate::lines::{Direction, Head, Line, next_line, parse_head, parse_line};
 use crate::message::push_messages;
 use crate::packet::push_packet;
 use crate::{CaptureFault, Outcome};
@@ -77,26 +77,21 @@ fn decode_digits(digits: &[u8], bytes: &mut [u8])
 }
 
 /// Appends what the lines of an NSP message say after its number and direction.
-fn push_message(alloc: Global, text: &mut String, bytes: &[u8]) -> Result<(), AllocError>
+fn push_message(text: &mut String, bytes: &[u8]) -> Result<(), AllocError>
     ensures { OnOk result (AddsSome text.old text.new (IsMessageText bytes.now)) }
 {
     let count = bytes.len();
     writeln!(text, "message len={count}")?;
-    push_messages(alloc, text, bytes)
+    push_messages(text, bytes)
 }
 
 /// Appends what the lines of captured bytes say after their number and direction.
-fn push_captured(
-    listed: Listed,
-    alloc: Global,
-    text: &mut String,
-    bytes: &[u8],
-) -> Result<(), AllocError>
+fn push_captured(listed: Listed, text: &mut String, bytes: &[u8]) -> Result<(), AllocError>
     ensures { OnOk result (AddsSome text.old text.new (IsCapturedText listed bytes.now)) }
 {
     match listed {
-        Listed::Packets => push_packet(alloc, text, bytes),
-        Listed::Messages => push_message(alloc, text, bytes),
+        Listed::Packets => push_packet(text, bytes),
+        Listed::Messages => push_message(text, bytes),
     }
 }
 
@@ -104,7 +99,6 @@ fn push_captured(
 #[tactic(auto, using(crate::proofs::HexTextLemmas::even_hex))]
 fn push_capture(
     listed: Listed,
-    alloc: Global,
     text: &mut String,
     number: usize,
     direction: Direction,
@@ -119,10 +113,11 @@ fn push_capture(
     decode_digits(digits, bytes);
     let sign = arrow(direction);
     write!(text, "{number} {sign} ")?;
-    push_captured(listed, alloc, text, bytes)
+    push_captured(listed, text, bytes)
 }
 
-/// The lines of all that was captured. The room is for the bytes of a line.
+/// The lines of all that was captured, in an input whose lines have no fault. The room is for the bytes
+/// of a line.
 fn list_into(
     listed: Listed,
     alloc: Global,
@@ -130,6 +125,7 @@ fn list_into(
     room: &mut [u8],
 ) -> Result<String, AllocError>
     requires small { length input.now ≤ INPUT_LIMIT }
+    requires good { line_faults (limit_of listed) input.now ≡ [] }
     requires room { length room.old ≡ limit_of listed }
     ensures { IfOk result (λ text. IsListing listed input.now Outcome.Good (string_bytes text)) }
 {
@@ -137,8 +133,8 @@ fn list_into(
     let mut number = 1;
     let mut rest = input;
     while let Some((line, after)) = next_line(rest) {
-        if let Line::Captured(direction, digits) = parse_line(line, listed.limit()) {
-            push_capture(listed, alloc, &mut text, number, direction, digits, room)?;
+        if let Head::Digits(direction, digits) = parse_head(line) {
+            push_capture(listed, &mut text, number, direction, digits, room)?;
             number += 1;
         }
         rest = after;
@@ -146,13 +142,14 @@ fn list_into(
     Ok(text)
 }
 
-/// The lines of all that was captured.
+/// The lines of all that was captured, in an input whose lines have no fault.
 pub(crate) fn list_captures(
     listed: Listed,
     alloc: Global,
     input: &[u8],
 ) -> Result<String, AllocError>
-    requires { length input.now ≤ INPUT_LIMIT }
+    requires small { length input.now ≤ INPUT_LIMIT }
+    requires good { line_faults (limit_of listed) input.now ≡ [] }
     ensures { IfOk result (λ text. IsListing listed input.now Outcome.Good (string_bytes text)) }
 {
     let mut room = vec![in alloc; 0; listed.limit()]?;

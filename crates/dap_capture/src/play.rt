@@ -42,7 +42,6 @@ pub(crate) fn check_schedule(input: &[u8]) -> Result<(), CaptureFault>
 
 /// Plays an event and appends its line. It is stopped where the event is refused.
 fn play_event(
-    alloc: Global,
     text: &mut String,
     number: usize,
     world: &mut World,
@@ -54,7 +53,7 @@ fn play_event(
 {
     match world.apply(event) {
         Ok(step) => {
-            push_event(alloc, text, number, world, event, step)?;
+            push_event(text, number, world, event, step)?;
             Ok(Outcome::Good)
         }
         Err(fault) => {
@@ -84,7 +83,7 @@ fn play_line(
         unreachable!()
     };
     let event = order.to_event(alloc)?;
-    play_event(alloc, text, number, world, &event)
+    play_event(text, number, world, &event)
 }
 
 /// Plays the events of lines, up to the first that is refused, and answers what they came to and
@@ -106,12 +105,12 @@ fn play_events<'a>(
         match play_line(alloc, &mut text, number, world, line)? {
             Outcome::Good => number += 1,
             Outcome::Stopped => {
-                push_files(alloc, &mut text, world.files())?;
+                push_files(&mut text, world.files())?;
                 return Ok((Outcome::Stopped, text));
             }
         }
     }
-    push_files(alloc, &mut text, world.files())?;
+    push_files(&mut text, world.files())?;
     Ok((Outcome::Good, text))
 }
 

@@ -5,9 +5,9 @@ ghost use Rattle.std.specs.List.{flat_map};
 ghost use Rattle.dap_capture.specs.Inner.Adding.{Adds};
 ghost use Rattle.dap_capture.specs.Reports.{ending_text, numbered_text, refused_text, report_text, stored_text};
 
-use crate::text::{Word, image_digits};
+use crate::text::{Image, Word};
 use dap_world::{Ending, Octets, Report};
-use std::alloc::{AllocError, Global};
+use std::alloc::AllocError;
 use std::fmt;
 
 /// The code of a Status, and its reason.
@@ -38,16 +38,12 @@ fn push_ending(text: &mut String, ending: Ending) -> Result<(), AllocError>
 }
 
 /// Appends the records of a batch.
-fn push_records(
-    alloc: Global,
-    text: &mut String,
-    records: &[(u64, Octets)],
-) -> Result<(), AllocError>
+fn push_records(text: &mut String, records: &[(u64, Octets)]) -> Result<(), AllocError>
     ensures { OnOk result (Adds text.old text.new (flat_map numbered_text records.now)) }
 {
     for record in records {
         let number = record.0;
-        let body = image_digits(alloc, &record.1.0)?;
+        let body = Image(&record.1.0);
         write!(text, " {number}:{body}")?;
     }
     Ok(())
@@ -67,11 +63,7 @@ fn push_stored(text: &mut String, kept: Option<(u16, u8, u64)>) -> Result<(), Al
 }
 
 /// Appends a report.
-pub(crate) fn push_report(
-    alloc: Global,
-    text: &mut String,
-    report: &Report,
-) -> Result<(), AllocError>
+pub(crate) fn push_report(text: &mut String, report: &Report) -> Result<(), AllocError>
     ensures { OnOk result (Adds text.old text.new (report_text report.now)) }
 {
     match report {
@@ -79,7 +71,7 @@ pub(crate) fn push_report(
         Report::Opened { org, rfm, mrs, mrn } => write!(text, "opened {org} {rfm} {mrs} {mrn}"),
         Report::Connected => text.push_str("connected"),
         Report::Found { number, body } => {
-            let body = image_digits(alloc, &body.0)?;
+            let body = Image(&body.0);
             write!(text, "found {number} {body}")
         }
         Report::Done(number) => write!(text, "done {number}"),
@@ -92,7 +84,7 @@ pub(crate) fn push_report(
             let count = bodies.0.len();
             write!(text, "batch {count} ")?;
             push_ending(text, *ending)?;
-            push_records(alloc, text, &bodies.0)
+            push_records(text, &bodies.0)
         }
         Report::Stored(kept) => push_stored(text, *kept),
         Report::Closed => text.push_str("closed"),

@@ -221,7 +221,7 @@ fn reads_events(rt: HostRuntime) {
 /// Prints a report, and wants the text.
 fn reports(rt: &impl Abort, alloc: Global, report: &Report, want: &str) {
     let mut text = String::new(alloc);
-    assert!(rt; push_report(alloc, &mut text, report).is_ok());
+    assert!(rt; push_report(&mut text, report).is_ok());
     assert_eq!(rt; text.as_str(), want);
 }
 

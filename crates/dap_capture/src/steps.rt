@@ -5,11 +5,12 @@ ghost use Rattle.dap_world.specs.Machine.{reported, sends};
 ghost use Rattle.dap_world.specs.Runs.{Answers, writer_of};
 ghost use Rattle.dap_capture.specs.Inner.Adding.{Adds, AddsSome};
 ghost use Rattle.dap_capture.specs.Inner.Playing.{AddsStep};
-ghost use Rattle.dap_capture.specs.Played.{IsPacketWritten, IsReported, IsStepText, end_text, got_text, refusal_line, refusal_text};
+ghost use Rattle.dap_capture.specs.Played.{IsPacketAt, IsPacketWritten, IsReported, IsStepText, end_text, got_text, refusal_line, refusal_text};
 
 use crate::reports::push_report;
+use crate::text::Hex;
 use dap_world::{AskFault, End, Event, Got, Step, World, WorldFault};
-use std::alloc::{AllocError, Global};
+use std::alloc::AllocError;
 
 /// The word for an end.
 fn end_word(end: End) -> &'static str
@@ -60,25 +61,27 @@ fn writer(event: &Event) -> Option<End>
     }
 }
 
+/// The packet at a place of an end's wire.
+fn packet_at(world: &World, end: End, place: usize) -> &[u8]
+    requires { place < length (sends world.now end).wire }
+    ensures { IsPacketAt world.now end place result.now }
+{
+    let wire = world.wire(end);
+    wire[place].packet.as_slice()
+}
+
 /// Appends the packet at a place of an end's wire.
-fn push_packet(
-    alloc: Global,
-    text: &mut String,
-    world: &World,
-    end: End,
-    place: usize,
-) -> Result<(), AllocError>
+fn push_packet(text: &mut String, world: &World, end: End, place: usize) -> Result<(), AllocError>
     requires { place < length (sends world.now end).wire }
     ensures { OnOk result (AddsSome text.old text.new (IsPacketWritten world.now end place)) }
 {
-    let wire = world.wire(end);
-    let digits = hex::encode(alloc, wire[place].packet.as_slice())?;
+    let digits = Hex(packet_at(world, end, place));
     let word = end_word(end);
     write!(text, "packet {word} {place} {digits}")
 }
 
 /// Appends the newest report.
-fn push_newest(alloc: Global, text: &mut String, world: &World) -> Result<(), AllocError>
+fn push_newest(text: &mut String, world: &World) -> Result<(), AllocError>
     requires { 0 < length (reported world.now) }
     ensures { OnOk result (AddsSome text.old text.new (IsReported world.now)) }
 {
@@ -86,17 +89,11 @@ fn push_newest(alloc: Global, text: &mut String, world: &World) -> Result<(), Al
         unreachable!()
     };
     text.push_str("report ")?;
-    push_report(alloc, text, newest)
+    push_report(text, newest)
 }
 
 /// Appends what a step says.
-fn push_step(
-    alloc: Global,
-    text: &mut String,
-    world: &World,
-    event: &Event,
-    step: Step,
-) -> Result<(), AllocError>
+fn push_step(text: &mut String, world: &World, event: &Event, step: Step) -> Result<(), AllocError>
     requires { Answers event.now step world.now }
     ensures { OnOk result (AddsSome text.old text.new (IsStepText world.now event.now step)) }
 {
@@ -107,7 +104,7 @@ fn push_step(
             let Some(end) = writer(event) else {
                 unreachable!()
             };
-            push_packet(alloc, text, world, end, place)
+            push_packet(text, world, end, place)
         }
         Step::Delivered(got) => {
             let word = got_word(got);
@@ -115,13 +112,12 @@ fn push_step(
         }
         Step::Served(count) => write!(text, "served {count}"),
         Step::Nothing => text.push_str("read"),
-        Step::Reported => push_newest(alloc, text, world),
+        Step::Reported => push_newest(text, world),
     }
 }
 
 /// Appends the line of an event that came to a step.
 pub(crate) fn push_event(
-    alloc: Global,
     text: &mut String,
     number: usize,
     world: &World,
@@ -132,7 +128,7 @@ pub(crate) fn push_event(
     ensures { OnOk result (AddsStep number world.now event.now step text.old text.new) }
 {
     write!(text, "{number} ")?;
-    push_step(alloc, text, world, event, step)?;
+    push_step(text, world, event, step)?;
     text.push_str("\n")
 }
 

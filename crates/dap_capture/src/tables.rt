@@ -7,10 +7,10 @@ ghost use Rattle.rec_file.specs.AnyFiles.{any_value};
 ghost use Rattle.dap_capture.specs.Inner.Adding.{Adds};
 ghost use Rattle.dap_capture.specs.Tables.{file_line, file_text, files_text, format_text, org_text, record_line, records_text};
 
-use crate::text::image_digits;
+use crate::text::Image;
 use dap_world::{AnyFile, FileTable, Format, Org, RecordFile, Shape};
 use rec_file::first_record;
-use std::alloc::{AllocError, Global};
+use std::alloc::AllocError;
 
 /// The word for an organization.
 fn org_word(org: Org) -> &'static str
@@ -33,15 +33,10 @@ fn format_word(format: Format) -> &'static str
 }
 
 /// Appends the line of a file.
-fn push_file_line(
-    alloc: Global,
-    text: &mut String,
-    name: &[u8],
-    shape: Shape,
-) -> Result<(), AllocError>
+fn push_file_line(text: &mut String, name: &[u8], shape: Shape) -> Result<(), AllocError>
     ensures { OnOk result (Adds text.old text.new (file_line name.now shape)) }
 {
-    let name = image_digits(alloc, name)?;
+    let name = Image(name);
     let org = org_word(shape.org);
     let format = format_word(shape.format);
     let mrs = shape.mrs;
@@ -50,48 +45,39 @@ fn push_file_line(
 }
 
 /// Appends the line of a record.
-fn push_record(alloc: Global, text: &mut String, number: u32, body: &[u8]) -> Result<(), AllocError>
+fn push_record(text: &mut String, number: u32, body: &[u8]) -> Result<(), AllocError>
     ensures { OnOk result (Adds text.old text.new (record_line (number, body.now))) }
 {
-    let body = image_digits(alloc, body)?;
+    let body = Image(body);
     writeln!(text, "  {number} {body}")
 }
 
 /// Appends the lines of a file's records, in the order of their numbers.
-fn push_records(alloc: Global, text: &mut String, file: &AnyFile) -> Result<(), AllocError>
+fn push_records(text: &mut String, file: &AnyFile) -> Result<(), AllocError>
     ensures { OnOk result (Adds text.old text.new (records_text (any_value file.now))) }
 {
     let mut next = 0;
     while let Some((number, body)) = first_record(file, next) {
-        push_record(alloc, text, number, body)?;
+        push_record(text, number, body)?;
         next = number + 1;
     }
     Ok(())
 }
 
 /// Appends the lines of a file.
-fn push_file(
-    alloc: Global,
-    text: &mut String,
-    name: &[u8],
-    file: &AnyFile,
-) -> Result<(), AllocError>
+fn push_file(text: &mut String, name: &[u8], file: &AnyFile) -> Result<(), AllocError>
     ensures { OnOk result (Adds text.old text.new (file_text (name.now, any_value file.now))) }
 {
-    push_file_line(alloc, text, name, file.shape())?;
-    push_records(alloc, text, file)
+    push_file_line(text, name, file.shape())?;
+    push_records(text, file)
 }
 
 /// Appends the lines of all files, in the order in which they were made.
-pub(crate) fn push_files(
-    alloc: Global,
-    text: &mut String,
-    files: &FileTable,
-) -> Result<(), AllocError>
+pub(crate) fn push_files(text: &mut String, files: &FileTable) -> Result<(), AllocError>
     ensures { OnOk result (Adds text.old text.new (files_text files.now)) }
 {
     for at in 0..files.count() {
-        push_file(alloc, text, files.name(at), files.file(at))?;
+        push_file(text, files.name(at), files.file(at))?;
     }
     Ok(())
 }

@@ -19,6 +19,17 @@ pub enum Choice {
     Run,
 }
 
+const ABOUT: &str =
+    "Lists DECnet packets and messages, and plays file accesses. Each command reads standard input.";
+
+const SHOW: &str = "Lists captured NSP packets, and the DAP messages in them";
+
+const MSG: &str = "Lists DAP messages that come without packets";
+
+const RUN: &str = "Plays requests, losses, repeats and reorderings over both ends of a file access";
+
+const EXAMPLE: &str = "Example: echo '> 600201040305800100060200' | ./dapnsp show";
+
 /// The command line with one subcommand more, and what help says of it.
 fn with_command<'a>(
     alloc: Global,
@@ -40,11 +51,13 @@ fn command_line<'a>(alloc: Global) -> Result<Command<'a>, Error>
     ensures memory { IfErr result (λ error. kind_of error ≡ ErrorKind.OutOfMemory) }
 {
     let command = Command::new(alloc, "dapnsp")
+        .about(ABOUT)
+        .after_help(EXAMPLE)
         .subcommand_required(true)
         .disable_help_subcommand(true);
-    let command = with_command(alloc, command, "show", "Lists captured NSP packets")?;
-    let command = with_command(alloc, command, "msg", "Lists DAP messages")?;
-    with_command(alloc, command, "run", "Plays a schedule of both ends")
+    let command = with_command(alloc, command, "show", SHOW)?;
+    let command = with_command(alloc, command, "msg", MSG)?;
+    with_command(alloc, command, "run", RUN)
 }
 
 /// The command that the words name.
