@@ -1,12 +1,17 @@
 #!/usr/bin/env python3
-"""Writes a capture of typical packets, of about so many bytes, to the standard output.
+"""Writes a capture of about so many bytes to the standard output.
 
-usage: capture.py BYTES
+usage: capture.py BYTES KIND [messages]
 
-Acknowledgements, data segments with 20 to 500 bytes of records, attributes and statuses, in turns
-that a fixed generator chooses, so that each run writes the same capture.
+typical: acknowledgements, and data segments with 20 to 500 bytes of records, attributes and statuses,
+in turns that a fixed generator chooses, so that each run writes the same capture. short: of all these
+the shortest alone, acknowledgements, or statuses where messages are wanted. long: packets of 258 bytes
+alone, each with a record. With the word messages it writes the NSP messages in place of the packets.
 """
 import sys
+
+ATTRIBUTES = bytes.fromhex("02020ba604100200000400000300060200")
+STATUS = bytes.fromhex("09020d00100401000000040100000000")
 
 
 def numbers(seed=1):
@@ -15,39 +20,61 @@ def numbers(seed=1):
         yield seed >> 33
 
 
-def segment(payload, number, marks=0x60):
-    head = bytes([marks, 0x02, 0x01, 0x04, 0x03, number & 0xFF, 0x80 | number >> 8 & 0x0F])
-    return head + (number & 0xFFF).to_bytes(2, "little") + payload
+def head(marks, number):
+    return bytes([marks, 0x02, 0x01, 0x04, 0x03, number & 0xFF, 0x80 | number >> 8 & 0x0F])
 
 
-def packets(choose):
-    number = 0
+def record(choose, count):
+    length = count + 1
+    size = [0x02, length] if length < 256 else [0x06, length % 256, length // 256]
+    return bytes([0x08, *size, 0x00]) + bytes(next(choose) & 0xFF for _ in range(count))
+
+
+def typical(choose):
     while True:
-        number += 1
         kind = next(choose) % 4
         if kind == 0:
-            yield bytes([0x04, 0x02, 0x01, 0x04, 0x03, number & 0xFF, 0x80 | number >> 8 & 0x0F])
+            yield None
         elif kind == 1:
-            count = 20 + next(choose) % 481
-            record = bytes(next(choose) & 0xFF for _ in range(count))
-            length = count + 1
-            if length < 256:
-                yield segment(bytes([0x08, 0x02, length, 0x00]) + record, number)
-            else:
-                yield segment(bytes([0x08, 0x06, length % 256, length // 256, 0x00]) + record, number)
-        elif kind == 2:
-            yield segment(bytes.fromhex("02020ba60410020000040300000006020 0".replace(" ", "")), number)
+            yield record(choose, 20 + next(choose) % 481)
         else:
-            yield segment(bytes.fromhex("09020d001004010000000401000000 00".replace(" ", "")), number)
+            yield ATTRIBUTES if kind == 2 else STATUS
+
+
+def short(choose, messages):
+    while True:
+        yield STATUS if messages else None
+
+
+def long(choose):
+    while True:
+        yield record(choose, 245)
+
+
+def payloads(kind, choose, messages):
+    """The NSP messages of a kind, and None for each acknowledgement."""
+    if kind == "typical":
+        return typical(choose)
+    return long(choose) if kind == "long" else short(choose, messages)
+
+
+def packet(payload, number):
+    if payload is None:
+        return head(0x04, number)
+    return head(0x60, number) + (number & 0xFFF).to_bytes(2, "little") + payload
 
 
 def main():
-    wanted = int(sys.argv[1])
+    wanted, kind, messages = int(sys.argv[1]), sys.argv[2], sys.argv[3:] == ["messages"]
     choose = numbers()
     signs = [b"> ", b"< "]
-    lines, size = [], 0
-    for packet in packets(choose):
-        line = signs[next(choose) % 2] + packet.hex().encode() + b"\n"
+    lines, size, number = [], 0, 0
+    for payload in payloads(kind, choose, messages):
+        if messages and payload is None:
+            continue
+        number += 1
+        captured = payload if messages else packet(payload, number)
+        line = signs[next(choose) % 2] + captured.hex().encode() + b"\n"
         if size + len(line) > wanted:
             break
         lines.append(line)
