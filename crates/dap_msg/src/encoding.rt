@@ -342,7 +342,7 @@ fn control_fields(here: Control<'_>) -> [Field<'_>; 8]
     ]
 }
 
-fn attributes_fields(here: Attributes<'_>) -> [Field<'_>; MOST_FIELDS]
+fn attributes_fields(here: Attributes<'_>) -> [Field<'_>; 22]
     requires { FieldsFit (Attrib (seen_attributes here)) }
     ensures bytes { fields_bytes result ≡ operand_bytes (Attrib (seen_attributes here.entry)) }
     ensures can { CanWriteAll result }
@@ -396,65 +396,77 @@ fn attributes_fields(here: Attributes<'_>) -> [Field<'_>; MOST_FIELDS]
     ]
 }
 
-/// No operand has more fields: an Attributes message has a menu and 21 others.
-const MOST_FIELDS: usize = 22;
-
-/// The fields, and behind them such as are not there.
-fn padded<'a>(fields: &[Field<'a>]) -> [Field<'a>; MOST_FIELDS]
-    requires { length fields.now ≤ 22 }
-    ensures bytes { fields_bytes result ≡ fields_bytes fields.now }
-    ensures can { CanWriteAll fields.now → CanWriteAll result }
-{
-    let mut all = [Field::Absent; MOST_FIELDS];
-    all[..fields.len()].copy_from_slice(fields);
-    all
-}
-
-/// The fields of the message's operand, in order.
-fn operand_fields<'a>(message: &Message<'a>) -> [Field<'a>; MOST_FIELDS]
-    requires { FieldsFit (seen message.now) }
-    ensures bytes { fields_bytes result ≡ operand_bytes (seen message.now) }
-    ensures can { CanWriteAll result }
-{
-    match *message {
-        Message::Config {
-            bufsiz,
-            ostype,
-            filesys,
-            vernum,
-            econum,
-            usrnum,
-            softver,
-            usrsoft,
-            syscap,
-        } => padded(&configuration_fields(
-            bufsiz, ostype, filesys, vernum, econum, usrnum, softver, usrsoft, syscap,
-        )),
-        Message::Attrib(attributes) => attributes_fields(attributes),
-        Message::Access {
-            func,
-            opt,
-            name,
-            fac,
-            shr,
-            display,
-            password,
-        } => padded(&access_fields(func, opt, name, fac, shr, display, password)),
-        Message::Control(control) => padded(&control_fields(control)),
-        Message::Contran { func } => padded(&[Field::Byte(func)]),
-        Message::Ack => padded(&[]),
-        Message::Accomp { func, fop, check } => padded(&completion_fields(func, fop, check)),
-        Message::Filedata { recnum, payload } => {
-            padded(&[Field::Image(recnum), Field::Rest(payload)])
+/// What is made of the fields of the message's operand, which are in order.
+macro_rules! with_fields {
+    ($message:expr, $fields:ident => $made:expr) => {
+        match *$message {
+            Message::Config {
+                bufsiz,
+                ostype,
+                filesys,
+                vernum,
+                econum,
+                usrnum,
+                softver,
+                usrsoft,
+                syscap,
+            } => {
+                let $fields = &configuration_fields(
+                    bufsiz, ostype, filesys, vernum, econum, usrnum, softver, usrsoft, syscap,
+                );
+                $made
+            }
+            Message::Attrib(attributes) => {
+                let $fields = &attributes_fields(attributes);
+                $made
+            }
+            Message::Access {
+                func,
+                opt,
+                name,
+                fac,
+                shr,
+                display,
+                password,
+            } => {
+                let $fields = &access_fields(func, opt, name, fac, shr, display, password);
+                $made
+            }
+            Message::Control(control) => {
+                let $fields = &control_fields(control);
+                $made
+            }
+            Message::Contran { func } => {
+                let $fields = &[Field::Byte(func)];
+                $made
+            }
+            Message::Ack => {
+                let $fields = &[];
+                $made
+            }
+            Message::Accomp { func, fop, check } => {
+                let $fields = &completion_fields(func, fop, check);
+                $made
+            }
+            Message::Filedata { recnum, payload } => {
+                let $fields = &[Field::Image(recnum), Field::Rest(payload)];
+                $made
+            }
+            Message::Status {
+                code,
+                rfa,
+                recnum,
+                stv,
+            } => {
+                let $fields = &status_fields(code, rfa, recnum, stv);
+                $made
+            }
+            Message::Other { body, .. } => {
+                let $fields = &[Field::Rest(body)];
+                $made
+            }
         }
-        Message::Status {
-            code,
-            rfa,
-            recnum,
-            stv,
-        } => padded(&status_fields(code, rfa, recnum, stv)),
-        Message::Other { body, .. } => padded(&[Field::Rest(body)]),
-    }
+    };
 }
 
 /// Appends the canonical spelling of a message: LENGTH always, LEN256 exactly where the operand has 256 bytes or
@@ -469,7 +481,7 @@ pub fn encode(message: &Message<'_>, out: &mut Vec<u8>) -> Result<(), MsgFault>
     ensures appends { Appends (canon (seen message.now)) out.old out.new result }
     ensures capacity { vec_capacity out.old ≤ vec_capacity out.new }
 {
-    write_message(message.number(), &operand_fields(message), out)
+    with_fields!(message, fields => write_message(message.number(), fields, out))
 }
 
 /// The number of bytes that [`encode`] appends for a message that fits (own; DAP 5.6.0, message formats). Takes no
@@ -479,5 +491,5 @@ pub fn encoded_len(message: &Message<'_>) -> usize
     requires { Fits (seen message.now) }
     ensures { result ≡ length (canon (seen message.now)) }
 {
-    fields_message_len(&operand_fields(message))
+    with_fields!(message, fields => fields_message_len(fields))
 }
