@@ -4,7 +4,7 @@ use Rattle.std.specs.List.{filter}
 use Rattle.std.specs.FinMap.{entries}
 use Rattle.rec_file.specs.Limits.{longest_record}
 use Rattle.rec_file.specs.Files.{FileVal, IsFile, records_from}
-use Rattle.rec_file.proofs.Rising.{at, AllAbove, IsRising, at_below, at_first, at_tail, same_or_not}
+use Rattle.rec_file.proofs.Rising.{at, IsRising, at_below, at_first, at_tail, same_or_not}
 use Rattle.rec_file.proofs.RecordsLaws.{get_is_at, rising}
 use Rattle.rec_file.proofs.FileLaws.{body_fits}
 

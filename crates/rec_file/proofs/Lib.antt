@@ -7,6 +7,7 @@ pub mod Gaps
 pub mod PlainLaws
 pub mod BlankLaws
 pub mod PageLaws
+pub mod PackedLaws
 pub mod PagedLaws
 pub mod Keyed
 pub mod RelativeLaws

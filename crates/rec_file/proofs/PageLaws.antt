@@ -1,5 +1,5 @@
 -- The cells of a page, and the bits of its mask.
-use Rattle.std.proofs.Common.{◌≡◌, ℕ, zero, suc, ◌+◌, ◌-◌, ◌*◌, ◌/◌, ◌%◌, ◌^◌, ◌<◌, ◌≤◌, cond, eqb, true, List, [], ◌∷◌, length, get_or, set, map, Option, Some, None, IsSome, is_some, option_map, bit_and, bit_or, w64, refl, sym, ap, ◌∙◌, arith, inl, inr}
+use Rattle.std.proofs.Common.{◌≡◌, ℕ, zero, suc, ◌+◌, ◌-◌, ◌*◌, ◌/◌, ◌%◌, ◌^◌, ◌<◌, ◌≤◌, cond, eqb, true, List, [], ◌∷◌, length, set, Option, Some, None, IsSome, is_some, bit_and, bit_or, w64, refl, sym, ap, ◌∙◌, arith, inl, inr}
 use Rattle.std.specs.Prelude.{replicate}
 use Rattle.std.specs.Int.{bit_at, bit_not, trailing_zeros}
 use Rattle.std.proofs.lemmas.Nat.Bits.{bit_at_set_same, bit_at_set_other, bit_at_clear_same, bit_at_clear_other, bit_at-zero, bit_at_above, bit_at-trailing_zeros, same_from_bits}
@@ -22,11 +22,6 @@ module _ {X : Type 0} where
   cell-set (c ∷ cs) (suc i) v zero lt = grind (arith, nat_tests)
   cell-set (c ∷ cs) (suc i) v (suc k) lt = let r = cell-set cs i v k (omega arith) in grind (arith, nat_tests)
 
-  pub cell_read : (cs : List (Option X)) (k : ℕ) (v : Option X) → k < length cs → v ≡ get_or cs k v → cell cs k ≡ v
-  cell_read [] k v lt is = absurd (omega arith)
-  cell_read (c ∷ cs) zero v lt is = sym is
-  cell_read (c ∷ cs) (suc k) v lt is = cell_read cs k v (omega arith) is
-
   pub cell_past : (cs : List (Option X)) (k : ℕ) → length cs ≤ k → cell cs k ≡ None
   cell_past [] k le = refl
   cell_past (c ∷ cs) zero le = absurd (omega arith)
@@ -46,6 +41,19 @@ module _ {X : Type 0} where
         bit_at_set_other w64 mask i lt k other ∙ m k in_range ∙ ap (λ o. cond (is_some o) 1 0) (sym kept)
   ]
 
+  -- kept where another record comes
+  pub masks-replaced : (mask : ℕ) (cs : List (Option X)) (i : ℕ) (x : X) → MasksCells mask cs → IsSome (cell cs i) → i < length cs → MasksCells mask (set cs i (Some x))
+  masks-replaced mask cs i x m some lt k in_range = elim (same_or_not k i) [
+    | inl same ↦
+        let here : cell (set cs i (Some x)) k ≡ cond (eqb k i) (Some x) (cell cs k) = cell-set cs i (Some x) k lt in
+        let filled : cell (set cs i (Some x)) k ≡ Some x = grind (arith, nat_tests) in
+        m k in_range ∙ ap (λ b. cond b 1 0) (ap (λ j. is_some (cell cs j)) same ∙ some) ∙ ap (λ o. cond (is_some o) 1 0) (sym filled)
+    | inr other ↦
+        let here : cell (set cs i (Some x)) k ≡ cond (eqb k i) (Some x) (cell cs k) = cell-set cs i (Some x) k lt in
+        let kept : cell (set cs i (Some x)) k ≡ cell cs k = grind (arith, nat_tests) in
+        m k in_range ∙ ap (λ o. cond (is_some o) 1 0) (sym kept)
+  ]
+
   -- and cleared where one is emptied
   pub masks-clear : (mask : ℕ) (cs : List (Option X)) (i : ℕ) → MasksCells mask cs → i < 64 → length cs ≡ 64 → MasksCells (bit_and mask (bit_not w64 (1 * 2 ^ i % 2 ^ 64))) (set cs i None)
   masks-clear mask cs i m lt len k in_range = elim (same_or_not k i) [
@@ -59,11 +67,6 @@ module _ {X : Type 0} where
         let kept : cell (set cs i None) k ≡ cell cs k = grind (arith, nat_tests) in
         bit_at_clear_other w64 mask i lt k in_range other ∙ m k in_range ∙ ap (λ o. cond (is_some o) 1 0) (sym kept)
   ]
-
-pub cell-map : {X Y : Type 0} (f : X → Y) (cs : List (Option X)) (k : ℕ) → cell (map (option_map f) cs) k ≡ option_map f (cell cs k)
-cell-map f [] k = refl
-cell-map f (c ∷ cs) zero = refl
-cell-map f (c ∷ cs) (suc k) = cell-map f cs k
 
 -- the bits of a number that is shifted down
 bit_at-shifted : (n k i : ℕ) → bit_at (n / 2 ^ k) i ≡ bit_at n (k + i)
@@ -130,16 +133,6 @@ module _ {X : Type 0} (mask : ℕ) (cs : List (Option X)) (m : MasksCells mask c
     | inl within ↦ m i within ∙ ap (λ o. cond (is_some o) 1 0) (none i) ∙ sym (bit_at-zero i)
     | inr past ↦ bit_at_above mask 64 i fits past ∙ sym (bit_at-zero i)
   ])
-
-pub none_of_map : {X Y : Type 0} (f : X → Y) (o : Option X) → option_map f o ≡ None → o ≡ None
-none_of_map f None h = refl
-none_of_map f (Some x) h = cc
-
-pub is_some-map : {X Y : Type 0} (f : X → Y) (cs : List (Option X)) (k : ℕ) → IsSome (cell cs k) → IsSome (cell (map (option_map f) cs) k)
-is_some-map f [] k h = h
-is_some-map f (None ∷ cs) zero h = h
-is_some-map f (Some x ∷ cs) zero h = refl
-is_some-map f (c ∷ cs) (suc k) h = is_some-map f cs k h
 
 pub eqb_is : (a b : ℕ) → eqb a b ≡ true → a ≡ b
 eqb_is a b h = grind (arith, nat_tests)

@@ -1,6 +1,6 @@
 -- What a paged file answers, by its pages in order.
 use Rattle.std.proofs.Common.{◌≡◌, ℕ, zero, suc, ◌+◌, ◌-◌, ◌*◌, ◌/◌, ◌%◌, ◌<◌, ◌≤◌, ◌≢◌, cond, eqb, max, Bool, true, false, List, [], ◌∷◌, length, set, map, Option, Some, None, IsSome, IfSome, IfNone, is_some, unwrap_or, refl, sym, ap, subst, ◌∙◌, T, length-set, arith, inl, inr}
-use Rattle.std.specs.Prelude.{replicate}
+use Rattle.std.specs.Prelude.{replicate, Result, Ok, Err, OnErr}
 use Rattle.std.specs.List.{AllByRecursion}
 use Rattle.std.specs.Ordering.{nat_cmp, is_lt}
 use Rattle.std.specs.Cmp.{nat_cmp_total}
@@ -390,6 +390,11 @@ module _ (s : Shape) (ps : List (ℕ × Cells)) (f : FileVal) (h : HoldsFile s p
         sorted = test_pages _ rise;
         all = every;
       }
+
+-- what holds, holds at an error
+pub on_err : {T E P : Type 0} (r : Result T E) → P → OnErr r P
+on_err (Ok t) h = tt
+on_err (Err e) h = h
 
 pub not_true : (b : Bool) → b ≡ false → b ≡ true → ⊥
 not_true true f t = cc

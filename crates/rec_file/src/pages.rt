@@ -1,7 +1,7 @@
 //! Pages of 64 cells.
-ghost use Rattle.std.specs.Prelude.{◌≡◌, ◌≤◌, ◌<◌, ◌↔◌, ℕ, length, None, Some, IfOk, IfSome, IfNone, IsTrue, slice_set};
+ghost use Rattle.std.specs.Prelude.{◌≡◌, ◌≤◌, ◌<◌, ◌↔◌, ℕ, None, Some, IfOk, OnOk, OnErr, IsSome, IfSome, IfNone, IsTrue, slice_set};
 ghost use Rattle.std.specs.Option.{option_copied};
-ghost use Rattle.rec_file.specs.Inner.Pages.{cell, cell_of, last_page, empty_cells, IsFirstIn, IsLastIn};
+ghost use Rattle.rec_file.specs.Inner.Pages.{cell, cell_of, last_page, empty_cells, occupied_below, IsFirstIn, IsLastIn};
 ghost use Rattle.rec_file.specs.Pages.{page_of};
 
 use std::alloc::{AllocError, Global};
@@ -32,20 +32,19 @@ pub fn cell_of(number: u32) -> usize
 pub struct Page {
     // Bit k is set exactly where cell k is occupied.
     mask: u64,
-    cells: Vec<Option<Vec<u8>>>,
+    // The records of the occupied cells, in the order of the cells.
+    bodies: Vec<Vec<u8>>,
 }
 
 impl Model for Page {
-    ghost use Rattle.std.specs.Prelude.{◌≡◌, ◌<◌, ◌^◌, ℕ, List, Option, map, length};
-    ghost use Rattle.std.specs.Option.{option_map};
-    ghost use Rattle.rec_file.specs.Inner.Pages.{MasksCells};
+    ghost use Rattle.std.specs.Prelude.{map};
+    ghost use Rattle.rec_file.specs.Inner.Pages.{Cells, cells_of, IsPacked};
 
-    ghost Value = { List (Option (List ℕ)) };
+    ghost Value = { Cells };
 
-    ghost view = { λ a. map (option_map (λ v. v.items)) a.cells.items };
+    ghost view = { λ a. cells_of a.mask (map (λ v. v.items) a.bodies.items) };
 
-    ghost invariant = { λ a. (length a.cells.items ≡ 64) × (a.mask < 2 ^ 64)
-        × MasksCells a.mask a.cells.items };
+    ghost invariant = { λ a. IsPacked a.mask (map (λ v. v.items) a.bodies.items) };
 }
 
 impl Page {
@@ -54,14 +53,10 @@ impl Page {
         requires { at < 64 }
         ensures { IfOk result (λ page. page ≡ slice_set empty_cells at (Some body.items)) }
     {
-        let count = CELLS as usize;
-        let mut cells = Vec::with_capacity(alloc, count)?;
-        for _cell in 0..count {
-            cells.push(None)?;
-        }
-        let mut page = Page { mask: 0, cells };
-        page.put(at, body);
-        Ok(page)
+        Ok(Page {
+            mask: 1u64 << at,
+            bodies: Vec::from_array(alloc, [body])?,
+        })
     }
 
     /// The record of a cell.
@@ -69,28 +64,53 @@ impl Page {
         requires { at < 64 }
         ensures { option_copied result ≡ cell self.now at }
     {
-        match &self.cells[at] {
-            Some(body) => Some(body.as_slice()),
-            None => None,
+        if (self.mask >> at) & 1 == 0 {
+            return None;
         }
+        Some(self.bodies[self.rank(at)].as_slice())
     }
 
-    /// Stores a record in a cell.
-    pub fn put(&mut self, at: usize, body: Vec<u8>)
-        requires { at < 64 }
+    /// Stores a record in an empty cell. An error is want of memory: nothing has changed.
+    pub fn put(&mut self, at: usize, body: Vec<u8>) -> Result<(), AllocError>
+        requires within { at < 64 }
+        requires empty { cell self.old at ≡ None }
+        ensures ok { OnOk result (self.new ≡ slice_set self.old at (Some body.items)) }
+        ensures err { OnErr result (self.new ≡ self.old) }
+    {
+        let rank = self.rank(at);
+        self.bodies.insert(rank, body)?;
+        self.mask |= 1u64 << at;
+        Ok(())
+    }
+
+    /// Stores another record in an occupied cell. It takes no memory.
+    pub fn replace(&mut self, at: usize, body: Vec<u8>)
+        requires within { at < 64 }
+        requires occupied { IsSome (cell self.old at) }
         ensures { self.new ≡ slice_set self.old at (Some body.items) }
     {
-        self.cells[at] = Some(body);
-        self.mask |= 1u64 << at;
+        let rank = self.rank(at);
+        self.bodies[rank] = body;
     }
 
-    /// Empties a cell.
+    /// Empties an occupied cell. It takes no memory.
     pub fn clear(&mut self, at: usize)
-        requires { at < 64 }
+        requires within { at < 64 }
+        requires occupied { IsSome (cell self.old at) }
         ensures { self.new ≡ slice_set self.old at None }
     {
-        self.cells[at] = None;
+        let rank = self.rank(at);
+        let _ = self.bodies.remove(rank);
         self.mask &= !(1u64 << at);
+    }
+
+    // How many cells below this one are occupied: the place of its record.
+    fn rank(&self, at: usize) -> usize
+        requires { at < 64 }
+        ensures { result ≡ occupied_below self.now at }
+    {
+        let below = self.mask & ((1u64 << at) - 1);
+        below.count_ones() as usize
     }
 
     /// Whether no cell is occupied.

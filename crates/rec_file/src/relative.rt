@@ -106,7 +106,7 @@ impl RecordFile for RelFile {
         let body = Vec::from_slice(self.alloc, body)?;
         let at = page_of(number);
         if let Some(page) = self.pages.get_mut(&at) {
-            page.put(cell_of(number), body);
+            page.put(cell_of(number), body)?;
             return Ok(());
         }
         let page = Page::with(self.alloc, cell_of(number), body)?;
@@ -119,7 +119,7 @@ impl RecordFile for RelFile {
         let Some(page) = self.pages.get_mut(&page_of(number)) else {
             return Ok(());
         };
-        page.put(cell_of(number), body);
+        page.replace(cell_of(number), body);
         Ok(())
     }
 

@@ -1,5 +1,6 @@
 -- Pages of 64 cells, and a list of them as the records of a relative file.
-use Rattle.std.specs.Prelude.{◌≡◌, ℕ, zero, suc, ◌+◌, ◌-◌, ◌*◌, ◌/◌, ◌%◌, ◌≤◌, ◌<◌, List, [], ◌∷◌, ◌++◌, length, Option, None, Some, is_some, IsSome, replicate, if◌then◌else◌}
+use Rattle.std.specs.Prelude.{◌≡◌, ℕ, zero, suc, ◌+◌, ◌-◌, ◌*◌, ◌%◌, ◌≤◌, ◌<◌, List, [], ◌∷◌, ◌++◌, length, Option, None, Some, is_some, IsSome, replicate, ◌==◌, ◌^◌, take, drop, slice_get, if◌then◌else◌}
+use Rattle.std.specs.List.{filter_map}
 use Rattle.std.specs.Int.{bit_at}
 use Rattle.std.specs.FinMap.{from_entries}
 use Rattle.rec_file.specs.declared.shapes.Shape.{Shape}
@@ -20,6 +21,32 @@ cell (c ∷ cs) (suc k) = cell cs k
 -- a bit is set exactly where the cell is occupied
 abbrev pub MasksCells : {X : Type 0} → ℕ → List (Option X) → Type 0
 MasksCells mask cells = (k : ℕ) → k < 64 → bit_at mask k ≡ (if is_some (cell cells k) then 1 else 0)
+
+-- the records of cells, in order
+abbrev pub bodies_of : Cells → List (List ℕ)
+bodies_of cells = filter_map (λ c. c) cells
+
+-- how many cells below cell k are occupied
+abbrev pub occupied_below : Cells → ℕ → ℕ
+occupied_below cells k = length (bodies_of (take k cells))
+
+-- from cell k on, so many cells: those whose bit is set have the records, in order
+unfoldable pub cells_from : ℕ → ℕ → ℕ → List (List ℕ) → Cells
+cells_from mask k zero bodies = []
+cells_from mask k (suc many) bodies =
+    if bit_at mask k == 0
+    then None ∷ cells_from mask (k + 1) many bodies
+    else slice_get bodies 0 ∷ cells_from mask (k + 1) many (drop 1 bodies)
+
+-- the 64 cells that a mask and the records of its set bits make
+abbrev pub cells_of : ℕ → List (List ℕ) → Cells
+cells_of mask bodies = cells_from mask 0 64 bodies
+
+-- there is a record for each set bit, and no other
+pub record IsPacked (mask : ℕ) (bodies : List (List ℕ)) : Type 0 where
+  pub fits : mask < 2 ^ 64
+  pub bits : MasksCells mask (cells_of mask bodies)
+  pub records : bodies ≡ bodies_of (cells_of mask bodies)
 
 -- the records of cells, the first of which has the number n
 abbrev pub numbered_cells : ℕ → Cells → List (ℕ × List ℕ)

@@ -1,4 +1,4 @@
-use Rattle.std.proofs.Common.{sym, ap, subst, ◌∙◌}
+use Rattle.std.proofs.Common.{IsSome, sym, ap, subst, ◌∙◌}
 use Rattle.std.specs.Ordering.{nat_cmp}
 use Rattle.std.specs.Map.{remove_entry}
 use Rattle.std.specs.BTreeMap.{is_at}
@@ -6,9 +6,14 @@ use Rattle.rec_file.specs.Files.{IsFile, removed}
 use Rattle.rec_file.specs.Inner.Pages.{cell}
 use Rattle.rec_file.proofs.FileLaws.{IsFile-removed, not_both}
 use Rattle.rec_file.proofs.Keyed.{lookup_is_at, removed-written}
-use Rattle.rec_file.proofs.RelativeLaws.{HoldsFile, held, absent, clear_in_page, drop_page, not_true}
+use Rattle.rec_file.proofs.RelativeLaws.{HoldsFile, held, here, absent, clear_in_page, drop_page, not_true}
 use Rattle.rec_file.proofs.relative.RelFileRecordFile.remove.Goals as goal
 use Rattle.rec_file.proofs.relative.RelFileRecordFile.remove.Goals.{then-is_empty+in-Some-1, then-is_empty+in-None-1, else-is_empty}
+
+pub clear-requires-clause-occupied : goal.clear-requires-clause-occupied
+clear-requires-clause-occupied c =
+    subst IsSome (sym (rw c.cell_of.ensures.same (here _ _ c.args.self.now (held c.self.inside.shape c.self.inside.pages.entries c.args.self.now c.self.view_is c.self.invariant.2 c.self.invariant.3) c.args.number c.in-Some.page.now ((subst IsFile c.self.view_is c.self.invariant.0).above c.args.number c.requires.occupied)
+    (sym (lookup_is_at c.self.inside.pages.entries _) ∙ sym (rw c.page_of-at.ensures at c.in-Some.ensures.value))))) c.requires.occupied
 
 pub returns-in_default : goal.returns-in_default
 returns-in_default c =
