@@ -2,6 +2,8 @@
 ghost use Rattle.std.specs.Prelude.{◌≡◌, length};
 ghost use Rattle.rec_file.specs.Keys.{number_of_key};
 
+use dap_fields::number_of;
+
 /// Why an operation on a stream is refused (own, in the manner of RMS).
 #[derive(Clone, Copy, Debug, PartialEq, Eq)]
 pub enum Refusal {
@@ -34,11 +36,9 @@ pub enum Refusal {
 pub fn key_number(key: &[u8]) -> Result<u32, Refusal>
     ensures { result ≡ number_of_key key.now }
 {
-    match *key {
-        [a] => Ok(u32::from_le_bytes([a, 0, 0, 0])),
-        [a, b] => Ok(u32::from_le_bytes([a, b, 0, 0])),
-        [a, b, c] => Ok(u32::from_le_bytes([a, b, c, 0])),
-        [a, b, c, d] => Ok(u32::from_le_bytes([a, b, c, d])),
-        _ => Err(Refusal::BadKey),
+    if key.is_empty() || key.len() > 4 {
+        return Err(Refusal::BadKey);
     }
+    let number = number_of(key) as u32;
+    Ok(number)
 }

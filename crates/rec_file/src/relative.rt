@@ -36,7 +36,8 @@ impl Model for RelFile {
 
     ghost view = { λ a. paged_file a.shape a.pages.entries };
 
-    ghost invariant = { λ a. IsFile (paged_file a.shape a.pages.entries) × (is_seq a.shape.org ≡ false)
+    ghost invariant = { λ a. IsFile (paged_file a.shape a.pages.entries)
+        × (is_seq a.shape.org ≡ false)
         × (is_sorted nat_cmp a.pages.entries ≡ true)
         × AllByRecursion IsPage (map (λ p. p.1) a.pages.entries) };
 }

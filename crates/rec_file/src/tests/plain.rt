@@ -31,7 +31,10 @@ impl Model for PlainFile {
 
     ghost view = { λ a. plain_file a.shape (map (λ e. (e.0, e.1.items)) a.entries.items) };
 
-    ghost invariant = { λ a. IsFile (plain_file a.shape (map (λ e. (e.0, e.1.items)) a.entries.items)) × (is_seq a.shape.org ≡ false) × (is_sorted nat_cmp (map (λ e. (e.0, e.1.items)) a.entries.items) ≡ true) };
+    ghost invariant = { λ a.
+        IsFile (plain_file a.shape (map (λ e. (e.0, e.1.items)) a.entries.items))
+        × (is_seq a.shape.org ≡ false)
+        × (is_sorted nat_cmp (map (λ e. (e.0, e.1.items)) a.entries.items) ≡ true) };
 }
 
 impl PlainFile {
