@@ -1,5 +1,11 @@
 -- What the crates above may cite of this one's proofs. No other file here is for them.
 
+-- one answer more in front, of the kind that is looked for
+pub use Rattle.dap_accessing.proofs.Fronts.{behind-more}
+-- one record more in front
+pub use Rattle.dap_accessing.proofs.Fronts.{records-more}
+-- one Status more in front
+pub use Rattle.dap_accessing.proofs.Fronts.{statuses-more}
 -- a hearing with more answers is the same with these behind it, unless it waits
 pub use Rattle.dap_accessing.proofs.Hearings.{Stays}
 -- so is that of each request

@@ -1,23 +1,22 @@
 -- What was heard stays heard when more answers come.
-use Rattle.std.proofs.Common.{◌≡◌, ℕ, refl, sym, ◌∙◌, true, false, Bool, ap, List, [], ◌∷◌, ◌++◌}
+use Rattle.std.proofs.Common.{◌≡◌, ℕ, refl, sym, ◌∙◌, true, false, Bool, ap, subst, List, [], ◌∷◌, ◌++◌}
+use Rattle.std.specs.Option.{option_or}
 use Rattle.std.specs.Prelude.{nat_le, ◌==◌, Option, Some, None, if◌then◌else◌, unwrap_or}
 use Rattle.dap_msg.specs.Message.{Config, Attrib, Ack, Accomp, Filedata, Status, Other, StatusFields}
 use Rattle.dap_msg.specs.Items.{Item, Whole}
 use Rattle.dap_msg.specs.Codes.{cmpfunc_response, end_of_file}
 use Rattle.dap_msg.specs.Exchange.{number_of, is_too_small}
 use Rattle.dap_accessing.specs.declared.request.Request.{Request}
-use Rattle.dap_accessing.specs.declared.request.Request.TheVariants.{Hello, Create, OpenFile, Connect, Get, Put, Update, Delete, Rewind, Fetch, Store, Continue, Close, Purge}
 use Rattle.dap_accessing.specs.declared.report.Report.{Report}
 use Rattle.dap_accessing.specs.declared.report.Report.TheVariants as report
 use Rattle.dap_msg.specs.Codes.{is_success}
-use Rattle.dap_accessing.specs.Told.{Hearing, Reports, Waits, Unexpected, refusal, reports_or_unexpected, hear, hear_config, hear_ack, hear_opened, opened_as, greatest_mrn, hear_attributes, hear_record, hear_done, hear_batch, hear_stored, first_kept, ending_of, reason_in, hear_closed, Told}
+use Rattle.dap_accessing.specs.Told.{Hearing, Reports, Waits, Unexpected, refusal, reports_or_unexpected, hear, hear_config, hear_ack, opened_as, greatest_mrn, hear_record, hear_done, ending_of, reason_in, told_of, hear_closed, Told}
+use Rattle.dap_accessing.specs.declared.pending.Pending.{Pending}
+use Rattle.dap_accessing.specs.declared.pending.Pending.TheVariants as pending
+use Rattle.dap_accessing.specs.Inner.Hears.{pending_of}
+use Rattle.dap_accessing.specs.Inner.Gathers.{gather_opened, gather_attributes, gather_batch, gather_stored, gather}
+use Rattle.dap_accessing.proofs.Gathering.{asked_gathered}
 use Rattle.dap_accessing.specs.Steps.{ReportsGrow}
-
--- what a hearing comes to with more answers behind it, if it isn't still waiting
-abbrev pub behind : Hearing → List Item → Hearing
-behind (Reports done rest) more = Reports done (rest ++ more)
-behind Waits more = Waits
-behind Unexpected more = Unexpected
 
 -- the hearing with more answers: the same with these behind it, unless it waits
 abbrev pub Stays : Hearing → Hearing → List Item → Type 0
@@ -49,18 +48,18 @@ stays-ack done (Whole Ack ∷ rest) more = refl
 stays-ack done (Whole (Status status) ∷ rest) more = stays-refusal status rest more
 stays-ack done (_ ∷ rest) more = refl
 
-stays-opened : (done : Report) (answers more : List Item) → Stays (hear_opened done answers) (hear_opened done (answers ++ more)) more
+stays-opened : (done : Report) (answers more : List Item) → Stays (gather_opened done answers) (gather_opened done (answers ++ more)) more
 stays-opened done [] more = tt
 stays-opened done (Whole (Other _ _) ∷ rest) more = stays-opened done rest more
 stays-opened done (Whole Ack ∷ rest) more = refl
 stays-opened done (Whole (Status status) ∷ rest) more = stays-refusal status rest more
 stays-opened done (_ ∷ rest) more = refl
 
-stays-attributes : (answers more : List Item) → Stays (hear_attributes answers) (hear_attributes (answers ++ more)) more
+stays-attributes : (answers more : List Item) → Stays (gather_attributes answers) (gather_attributes (answers ++ more)) more
 stays-attributes [] more = tt
 stays-attributes (Whole (Other _ _) ∷ rest) more = stays-attributes rest more
 stays-attributes (Whole (Attrib a) ∷ rest) more =
-    elim (nat_le (number_of (unwrap_or a.mrn [])) greatest_mrn) as (λ b. Stays (if b then hear_opened (opened_as a) rest else Unexpected) (if b then hear_opened (opened_as a) (rest ++ more) else Unexpected) more) [
+    elim (nat_le (number_of (unwrap_or a.mrn [])) greatest_mrn) as (λ b. Stays (if b then gather_opened (opened_as a) rest else Unexpected) (if b then gather_opened (opened_as a) (rest ++ more) else Unexpected) more) [
       | true ↦ stays-opened (opened_as a) rest more
       | false ↦ refl
     ]
@@ -84,21 +83,21 @@ stays-done (Whole (Status status) ∷ rest) more =
     (if b then Reports (report.Done (number_of status.recnum)) (rest ++ more) else reports_or_unexpected (if b then None else Some (report.Refused status.code (reason_in status.stv))) (rest ++ more)) more) [ true ↦ refl | false ↦ refl ]
 stays-done (_ ∷ rest) more = refl
 
-stays-batch : (bodies : List (ℕ × List ℕ)) (answers more : List Item) → Stays (hear_batch bodies answers) (hear_batch bodies (answers ++ more)) more
-stays-batch bodies [] more = tt
-stays-batch bodies (Whole (Filedata recnum body) ∷ rest) more = stays-batch (bodies ++ (number_of recnum, body) ∷ []) rest more
-stays-batch bodies (Whole (Status status) ∷ rest) more = stays-if (is_success status.code) (report.Batch bodies (ending_of status)) rest more
-stays-batch bodies (_ ∷ rest) more = refl
+stays-batch : (records : List (ℕ × List ℕ)) (answers more : List Item) → Stays (gather_batch records answers) (gather_batch records (answers ++ more)) more
+stays-batch records [] more = tt
+stays-batch records (Whole (Filedata recnum body) ∷ rest) more = stays-batch (records ++ (number_of recnum, body) ∷ []) rest more
+stays-batch records (Whole (Status status) ∷ rest) more = stays-if (is_success status.code) (report.Batch records (ending_of status)) rest more
+stays-batch records (_ ∷ rest) more = refl
 
-stays-stored : (kept : Option (ℕ × ℕ × ℕ)) (answers more : List Item) → Stays (hear_stored kept answers) (hear_stored kept (answers ++ more)) more
-stays-stored kept [] more = tt
-stays-stored kept (Whole (Status status) ∷ rest) more =
-    elim (is_success status.code) as (λ b. Stays (if b then Unexpected else hear_stored (first_kept kept status) rest) (if b then Unexpected else hear_stored (first_kept kept status) (rest ++ more)) more) [
+stays-stored : (first : Option (ℕ × ℕ × ℕ)) (answers more : List Item) → Stays (gather_stored first answers) (gather_stored first (answers ++ more)) more
+stays-stored first [] more = tt
+stays-stored first (Whole (Status status) ∷ rest) more =
+    elim (is_success status.code) as (λ b. Stays (if b then Unexpected else gather_stored (option_or first (Some (told_of status))) rest) (if b then Unexpected else gather_stored (option_or first (Some (told_of status))) (rest ++ more)) more) [
       | true ↦ refl
-      | false ↦ stays-stored (first_kept kept status) rest more
+      | false ↦ stays-stored (option_or first (Some (told_of status))) rest more
     ]
-stays-stored kept (Whole (Accomp c) ∷ rest) more = stays-if-not (c.func == cmpfunc_response) (report.Stored kept) rest more
-stays-stored kept (_ ∷ rest) more = refl
+stays-stored first (Whole (Accomp c) ∷ rest) more = stays-if-not (c.func == cmpfunc_response) (report.Stored first) rest more
+stays-stored first (_ ∷ rest) more = refl
 
 stays-closed : (answers more : List Item) → Stays (hear_closed answers) (hear_closed (answers ++ more)) more
 stays-closed [] more = tt
@@ -106,21 +105,22 @@ stays-closed (Whole (Accomp c) ∷ rest) more = stays-if-not (c.func == cmpfunc_
 stays-closed (Whole (Status status) ∷ rest) more = stays-refusal status rest more
 stays-closed (_ ∷ rest) more = refl
 
+stays-pending : (p : Pending) (answers more : List Item) → Stays (gather p answers) (gather p (answers ++ more)) more
+stays-pending pending.Config answers more = stays-config answers more
+stays-pending pending.Attributes answers more = stays-attributes answers more
+stays-pending (pending.Opened org rfm mrs mrn) answers more = stays-opened (report.Opened org rfm mrs mrn) answers more
+stays-pending pending.Connected answers more = stays-ack report.Connected answers more
+stays-pending pending.Record answers more = stays-record answers more
+stays-pending pending.Done answers more = stays-done answers more
+stays-pending (pending.Batch records) answers more = stays-batch records answers more
+stays-pending (pending.Stored first) answers more = stays-stored first answers more
+stays-pending pending.Closed answers more = stays-closed answers more
+
 pub stays : (request : Request) (answers more : List Item) → Stays (hear request answers) (hear request (answers ++ more)) more
-stays Hello answers more = stays-config answers more
-stays (Create _ _ _ _ _ _) answers more = stays-attributes answers more
-stays (OpenFile _ _) answers more = stays-attributes answers more
-stays Connect answers more = stays-ack report.Connected answers more
-stays (Get _) answers more = stays-record answers more
-stays (Put _ _) answers more = stays-done answers more
-stays (Update _) answers more = stays-done answers more
-stays Delete answers more = stays-done answers more
-stays Rewind answers more = stays-done answers more
-stays Fetch answers more = stays-batch [] answers more
-stays (Store _) answers more = stays-stored None answers more
-stays (Continue _) answers more = stays-batch [] answers more
-stays Close answers more = stays-closed answers more
-stays Purge answers more = stays-closed answers more
+stays request answers more =
+    subst (λ h. Stays h (hear request (answers ++ more)) more) (sym (asked_gathered request answers))
+    (subst (λ h. Stays (gather (pending_of request) answers) h more) (sym (asked_gathered request (answers ++ more)))
+    (stays-pending (pending_of request) answers more))
 
 -- the reports of a request's hearing and those of the requests after it
 abbrev pub told_by : List Request → Hearing → List Report

@@ -14,7 +14,8 @@ use Rattle.dap_accessing.specs.declared.phase.Phase.TheVariants.{Fresh}
 use Rattle.dap_msg.specs.Sendable.{AreSendable}
 use Rattle.dap_accessing.specs.Phase.{phase_next, phase_after, limit_next, limit_after, IsNoneDue, phase_fits, IsRefused, IsAdmissible}
 use Rattle.dap_accessing.specs.Inner.Hears.{pending_of, HasNoPlace, HasPlace, Takes}
-use Rattle.dap_accessing.specs.Present.{Present, StandsAfter, hear_from, FitsDue}
+use Rattle.dap_accessing.specs.Present.{Present, StandsAfter, FitsDue}
+use Rattle.dap_accessing.specs.Inner.Gathers.{gather}
 use Rattle.dap_accessing.specs.Inner.Outgoing.{Admits}
 use Rattle.dap_accessing.specs.Calls.{IsAdmittedBy, Asks, Reads, ReadRefused}
 use Rattle.dap_msg.specs.Blocked.{Blocked, all_joined}
@@ -24,6 +25,7 @@ use Rattle.dap_accessing.specs.declared.fault.ReadFault.{ReadFault}
 use Rattle.dap_accessing.specs.declared.fault.ReadFault.TheVariants as read_fault
 use Rattle.dap_msg.specs.declared.fault.MsgFault.{MsgFault}
 use Rattle.dap_msg.specs.Message.{Message}
+use Rattle.dap_accessing.proofs.Gathering.{starts_as, gathered}
 use Rattle.dap_accessing.proofs.Hearings.{Stays, stays, told_by, Told-told_by}
 
 -- what is due, by the hearing of the first request
@@ -57,22 +59,6 @@ starts_waiting (Store _) = refl
 starts_waiting (Continue _) = refl
 starts_waiting Close = refl
 starts_waiting Purge = refl
-
-pub starts_as : (request : Request) (answers : List Item) → hear request answers ≡ hear_from (pending_of request) answers
-starts_as Hello answers = refl
-starts_as (Create _ _ _ _ _ _) answers = refl
-starts_as (OpenFile _ _) answers = refl
-starts_as Connect answers = refl
-starts_as (Get _) answers = refl
-starts_as (Put _ _) answers = refl
-starts_as (Update _) answers = refl
-starts_as Delete answers = refl
-starts_as Rewind answers = refl
-starts_as Fetch answers = refl
-starts_as (Store _) answers = refl
-starts_as (Continue _) answers = refl
-starts_as Close answers = refl
-starts_as Purge answers = refl
 
 pub record Asked1 (requests : List Request) (answers : List Item) (request : Request) : Type 0 where
   pub told : Told (requests ++ request ∷ []) answers ≡ Told requests answers
@@ -125,7 +111,7 @@ none_due (r ∷ rs) answers e right =
 -- ---- One more answer.
 
 -- where this is still to come, more answers are waited for
-pub still_waits : (p : Pending) → hear_from p [] ≡ Waits
+pub still_waits : (p : Pending) → gather p [] ≡ Waits
 still_waits pending.Config = refl
 still_waits pending.Attributes = refl
 still_waits (pending.Opened org rfm mrs mrn) = refl
@@ -141,9 +127,9 @@ pub record Located (requests : List Request) (answers : List Item) (p : Pending)
   pub last : Request
   pub so_far : List Item
   pub short : length (Told requests answers) + 1 ≡ length requests
-  pub hears : (more : List Item) → hear last (so_far ++ more) ≡ hear_from p more
-  pub told : (more : List Item) → Told requests (answers ++ more) ≡ Told requests answers ++ told_by [] (hear_from p more)
-  pub due : (more : List Item) → due_after requests (answers ++ more) ≡ due_by last [] (so_far ++ more) (hear_from p more)
+  pub hears : (more : List Item) → hear last (so_far ++ more) ≡ gather p more
+  pub told : (more : List Item) → Told requests (answers ++ more) ≡ Told requests answers ++ told_by [] (gather p more)
+  pub due : (more : List Item) → due_after requests (answers ++ more) ≡ due_by last [] (so_far ++ more) (gather p more)
 
 locate_by : (first : Request) (requests : List Request) (answers : List Item) (p : Pending) (h : Hearing)
     → hear first answers ≡ h → length (first ∷ requests) ≤ length (told_by requests h) + 1 → FitsDue (due_by first requests answers h) (Some p)
@@ -161,7 +147,7 @@ locate_by first requests answers p (Reports done rest) e alone fits step =
           Told-told_by first requests (answers ++ more)
           ∙ ap (told_by requests) (subst (λ h. Stays h (hear first (answers ++ more)) more) e (stays first answers more))
           ∙ ap (λ l. done ∷ l) (s.told more)
-          ∙ ap (λ l. l ++ told_by [] (hear_from p more)) (sym first_told);
+          ∙ ap (λ l. l ++ told_by [] (gather p more)) (sym first_told);
       due = λ more.
           due-due_by first requests (answers ++ more)
           ∙ ap (due_by first requests (answers ++ more)) (subst (λ h. Stays h (hear first (answers ++ more)) more) e (stays first answers more))
@@ -173,12 +159,12 @@ locate_by first [] answers p Waits e alone fits step =
       last = first;
       so_far = answers;
       short = ap (λ l. length l + 1) none_told;
-      hears = fits;
+      hears = λ more. fits more ∙ gathered p more;
       told = λ more.
           Told-told_by first [] (answers ++ more)
-          ∙ ap (told_by []) (fits more)
-          ∙ ap (λ l. l ++ told_by [] (hear_from p more)) (sym none_told);
-      due = λ more. due-due_by first [] (answers ++ more) ∙ ap (due_by first [] (answers ++ more)) (fits more);
+          ∙ ap (told_by []) (fits more ∙ gathered p more)
+          ∙ ap (λ l. l ++ told_by [] (gather p more)) (sym none_told);
+      due = λ more. due-due_by first [] (answers ++ more) ∙ ap (due_by first [] (answers ++ more)) (fits more ∙ gathered p more);
     }
 locate_by first (second ∷ requests) answers p Waits e alone fits step = absurd (omega (arith, alone))
 locate_by first requests answers p Unexpected e alone fits step = absurd fits
@@ -231,12 +217,12 @@ something_due old p some requests answers s none =
     omega (arith, (asked_one requests answers Hello none).none_due, l.short)
 
 -- the end waits for more
-pub stands_waiting : (answer : Item) (old : Present) (p next : Pending) → old.pending ≡ Some p → ((rest : List Item) → hear_from p (answer ∷ rest) ≡ hear_from next rest)
+pub stands_waiting : (answer : Item) (old : Present) (p next : Pending) → old.pending ≡ Some p → ((rest : List Item) → gather p (answer ∷ rest) ≡ gather next rest)
     → (requests : List Request) (answers : List Item) → StandsAfter requests answers old
     → StandsAfter requests (answers ++ answer ∷ []) (record old { pending = Some next }) × (Told requests (answers ++ answer ∷ []) ≡ Told requests answers ++ [])
 stands_waiting answer old p next some e requests answers s =
     let l = locate requests answers p s.alone (subst (λ p. FitsDue (due_after requests answers) p) some s.pending) in
-    let waits : hear_from p (answer ∷ []) ≡ Waits = e [] ∙ still_waits next in
+    let waits : gather p (answer ∷ []) ≡ Waits = e [] ∙ still_waits next in
     let told : Told requests (answers ++ answer ∷ []) ≡ Told requests answers = l.told (answer ∷ []) ∙ ap (λ h. Told requests answers ++ told_by [] h) waits ∙ append-nil (Told requests answers) in
     let due : due_after requests (answers ++ answer ∷ []) ≡ AnswersDue l.last (l.so_far ++ answer ∷ []) = l.due (answer ∷ []) ∙ ap (due_by l.last [] (l.so_far ++ answer ∷ [])) waits in (
       record {
@@ -244,13 +230,13 @@ stands_waiting answer old p next some e requests answers s =
         phase = s.phase ∙ ap phase_after (sym told);
         limit = s.limit ∙ ap limit_after (sym told);
         alone = omega (arith, ap length told, s.alone);
-        pending = subst (λ d. FitsDue d (Some next)) (sym due) (λ more. ap (hear l.last) (append_assoc l.so_far (answer ∷ []) more) ∙ l.hears (answer ∷ more) ∙ e more);
+        pending = subst (λ d. FitsDue d (Some next)) (sym due) (λ more. ap (hear l.last) (append_assoc l.so_far (answer ∷ []) more) ∙ l.hears (answer ∷ more) ∙ e more ∙ sym (gathered next more));
       },
       told ∙ sym (append-nil (Told requests answers)),
     )
 
 -- the report comes
-pub stands_reported : (answer : Item) (old : Present) (p : Pending) (done : Report) → old.pending ≡ Some p → ((rest : List Item) → hear_from p (answer ∷ rest) ≡ Reports done rest)
+pub stands_reported : (answer : Item) (old : Present) (p : Pending) (done : Report) → old.pending ≡ Some p → ((rest : List Item) → gather p (answer ∷ rest) ≡ Reports done rest)
     → (requests : List Request) (answers : List Item) → StandsAfter requests answers old
     → StandsAfter requests (answers ++ answer ∷ []) (record old { phase = phase_next old.phase done; limit = limit_next old.limit done; pending = None })
     × (Told requests (answers ++ answer ∷ []) ≡ Told requests answers ++ done ∷ [])
@@ -274,7 +260,7 @@ is_wrong (AnswersDue _ _) = false
 is_wrong Wrong = true
 
 -- an answer that has no place
-pub misplaced : (answer : Item) (old : Present) (p : Pending) → old.pending ≡ Some p → ((rest : List Item) → hear_from p (answer ∷ rest) ≡ Unexpected)
+pub misplaced : (answer : Item) (old : Present) (p : Pending) → old.pending ≡ Some p → ((rest : List Item) → gather p (answer ∷ rest) ≡ Unexpected)
     → (requests : List Request) (answers : List Item) → StandsAfter requests answers old → due_after requests (answers ++ answer ∷ []) ≡ Wrong
 misplaced answer old p some e requests answers s =
     let l = locate requests answers p s.alone (subst (λ p. FitsDue (due_after requests answers) p) some s.pending) in
@@ -345,7 +331,7 @@ unexpected_by answer old (Some p) e none requests answers s = wrong_unexpected r
 pub unexpected : (answer : Item) (old : Present) → HasNoPlace answer old.pending → (requests : List Request) (answers : List Item) → StandsAfter requests answers old → is_unexpected requests answers answer ≡ true
 unexpected answer old none requests answers s = unexpected_by answer old old.pending refl none requests answers s
 
-pub malformed : (p : Pending) (fault : MsgFault) (rest : List Item) → hear_from p (Malformed fault ∷ rest) ≡ Unexpected
+pub malformed : (p : Pending) (fault : MsgFault) (rest : List Item) → gather p (Malformed fault ∷ rest) ≡ Unexpected
 malformed pending.Config fault rest = refl
 malformed pending.Attributes fault rest = refl
 malformed (pending.Opened org rfm mrs mrn) fault rest = refl

@@ -1,5 +1,6 @@
 -- What answers to requests report: each request takes its answers from the front of what is left.
-use Rattle.std.specs.Prelude.{ℕ, Bool, true, false, ◌&&◌, nat_le, ◌==◌, if◌then◌else◌, List, [], ◌∷◌, ◌++◌, Option, Some, None, unwrap_or}
+use Rattle.std.specs.Prelude.{ℕ, Bool, true, false, ◌&&◌, nat_le, ◌==◌, if◌then◌else◌, List, [], ◌∷◌, ◌++◌, drop, slice_get, take_while, filter_map, Option, Some, None, is_some, unwrap_or, option_map}
+use Rattle.std.specs.List.{prefix_len, list_any}
 use Rattle.dap_msg.specs.Codes as codes
 use Rattle.dap_msg.specs.declared.codes.Reason.TheVariants.{TooLargeForBuffer}
 use Rattle.dap_msg.specs.Message.{Config, Attrib, Ack, Accomp, Filedata, Status, Other, Attributes, StatusFields}
@@ -17,6 +18,10 @@ pub data Hearing : Type 0 where
   Reports : Report → (rest : List Item) → Hearing
   Waits : Hearing
   Unexpected : Hearing
+
+-- the answers behind those in front that pass the test
+abbrev pub behind : (Item → Bool) → List Item → List Item
+behind test answers = drop (prefix_len test answers) answers
 
 -- the reason, where there is one byte of it
 abbrev pub reason_in : List ℕ → ℕ
@@ -48,10 +53,14 @@ hear_ack done (Whole Ack ∷ rest) = Reports done rest
 hear_ack done (Whole (Status status) ∷ rest) = refusal status rest
 hear_ack done (_ ∷ rest) = Unexpected
 
+-- the answer is of a type from 10 to 16
+abbrev pub is_other : Item → Bool
+is_other (Whole (Other _ _)) = true
+is_other _ = false
+
 -- the Ack of an open or a create; messages of types 10 to 16 before it are ignored
 abbrev pub hear_opened : Report → List Item → Hearing
-hear_opened done (Whole (Other _ _) ∷ rest) = hear_opened done rest
-hear_opened done answers = hear_ack done answers
+hear_opened done answers = hear_ack done (behind is_other answers)
 
 abbrev pub opened_as : Attributes → Report
 opened_as a =
@@ -62,14 +71,17 @@ opened_as a =
 abbrev pub greatest_mrn : ℕ
 greatest_mrn = 2147483647
 
--- the attributes of the file and then the Ack
-abbrev pub hear_attributes : List Item → Hearing
-hear_attributes [] = Waits
-hear_attributes (Whole (Other _ _) ∷ rest) = hear_attributes rest
-hear_attributes (Whole (Attrib a) ∷ rest) =
+-- the attributes of a file, and then the Ack
+abbrev pub hear_file : List Item → Hearing
+hear_file [] = Waits
+hear_file (Whole (Attrib a) ∷ rest) =
     if nat_le (number_of (unwrap_or a.mrn [])) greatest_mrn then hear_opened (opened_as a) rest else Unexpected
-hear_attributes (Whole (Status status) ∷ rest) = refusal status rest
-hear_attributes (_ ∷ rest) = Unexpected
+hear_file (Whole (Status status) ∷ rest) = refusal status rest
+hear_file (_ ∷ rest) = Unexpected
+
+-- the same; messages of types 10 to 16 before the attributes are ignored too
+abbrev pub hear_attributes : List Item → Hearing
+hear_attributes answers = hear_file (behind is_other answers)
 
 abbrev pub hear_record : List Item → Hearing
 hear_record [] = Waits
@@ -93,28 +105,67 @@ ending_by code reason =
 abbrev pub ending_of : StatusFields → Ending
 ending_of status = ending_by status.code (reason_in status.stv)
 
--- the records of a fetch, after those so far, and then its Status
-abbrev pub hear_batch : List (ℕ × List ℕ) → List Item → Hearing
-hear_batch bodies [] = Waits
-hear_batch bodies (Whole (Filedata recnum body) ∷ rest) = hear_batch (bodies ++ (number_of recnum, body) ∷ []) rest
-hear_batch bodies (Whole (Status status) ∷ rest) =
-    if codes.is_success status.code then Unexpected else Reports (report.Batch bodies (ending_of status)) rest
-hear_batch bodies (_ ∷ rest) = Unexpected
+-- the number and the bytes of a record
+abbrev pub record_in : Item → Option (ℕ × List ℕ)
+record_in (Whole (Filedata recnum body)) = Some (number_of recnum, body)
+record_in _ = None
 
--- the first refusal of a Store is kept
-abbrev pub first_kept : Option (ℕ × ℕ × ℕ) → StatusFields → Option (ℕ × ℕ × ℕ)
-first_kept (Some kept) status = Some kept
-first_kept None status = Some (status.code, reason_in status.stv, number_of status.recnum)
+abbrev pub is_record : Item → Bool
+is_record answer = is_some (record_in answer)
+
+-- the records before the first answer that is none
+abbrev pub records_in_front : List Item → List (ℕ × List ℕ)
+records_in_front answers = filter_map record_in (take_while is_record answers)
+
+-- the Status of a fetch, with these records before it; a success has no place
+abbrev pub hear_batch_end : List (ℕ × List ℕ) → List Item → Hearing
+hear_batch_end records [] = Waits
+hear_batch_end records (Whole (Status status) ∷ rest) =
+    if codes.is_success status.code then Unexpected else Reports (report.Batch records (ending_of status)) rest
+hear_batch_end records (_ ∷ rest) = Unexpected
+
+-- the records of a fetch, and then its Status
+abbrev pub hear_batch : List Item → Hearing
+hear_batch answers = hear_batch_end (records_in_front answers) (behind is_record answers)
+
+abbrev pub status_in : Item → Option StatusFields
+status_in (Whole (Status status)) = Some status
+status_in _ = None
+
+abbrev pub is_status : Item → Bool
+is_status answer = is_some (status_in answer)
+
+-- the Statuses before the first answer that is none
+abbrev pub statuses_in_front : List Item → List StatusFields
+statuses_in_front answers = filter_map status_in (take_while is_status answers)
+
+-- one of them is a success
+abbrev pub has_success : List StatusFields → Bool
+has_success statuses = list_any (λ status. codes.is_success status.code) statuses
+
+-- what a store tells of a refusal: the code, the reason and the number of the record
+abbrev pub told_of : StatusFields → ℕ × ℕ × ℕ
+told_of status = (status.code, reason_in status.stv, number_of status.recnum)
+
+-- what it tells of these: the first, if there is one
+abbrev pub first_told : List StatusFields → Option (ℕ × ℕ × ℕ)
+first_told statuses = option_map told_of (slice_get statuses 0)
 
 -- an Accomp that answers: there is this report; any other has no place
 abbrev pub completes : ℕ → Report → List Item → Hearing
 completes func done rest = if func == codes.cmpfunc_response then Reports done rest else Unexpected
 
-abbrev pub hear_stored : Option (ℕ × ℕ × ℕ) → List Item → Hearing
-hear_stored kept [] = Waits
-hear_stored kept (Whole (Status status) ∷ rest) = if codes.is_success status.code then Unexpected else hear_stored (first_kept kept status) rest
-hear_stored kept (Whole (Accomp c) ∷ rest) = completes c.func (report.Stored kept) rest
-hear_stored kept (_ ∷ rest) = Unexpected
+-- the Accomp of a store, with this first refusal before it
+abbrev pub hear_store_end : Option (ℕ × ℕ × ℕ) → List Item → Hearing
+hear_store_end first [] = Waits
+hear_store_end first (Whole (Accomp c) ∷ rest) = completes c.func (report.Stored first) rest
+hear_store_end first (_ ∷ rest) = Unexpected
+
+-- the refusals of a store, and then its Accomp; a success among them has no place
+abbrev pub hear_stored : List Item → Hearing
+hear_stored answers =
+    if has_success (statuses_in_front answers) then Unexpected
+    else hear_store_end (first_told (statuses_in_front answers)) (behind is_status answers)
 
 abbrev pub hear_closed : List Item → Hearing
 hear_closed [] = Waits
@@ -133,9 +184,9 @@ hear (Put _ _) answers = hear_done answers
 hear (Update _) answers = hear_done answers
 hear Delete answers = hear_done answers
 hear Rewind answers = hear_done answers
-hear Fetch answers = hear_batch [] answers
-hear (Store _) answers = hear_stored None answers
-hear (Continue _) answers = hear_batch [] answers
+hear Fetch answers = hear_batch answers
+hear (Store _) answers = hear_stored answers
+hear (Continue _) answers = hear_batch answers
 hear Close answers = hear_closed answers
 hear Purge answers = hear_closed answers
 

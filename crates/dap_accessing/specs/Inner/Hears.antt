@@ -13,7 +13,8 @@ use Rattle.dap_accessing.specs.declared.fault.ReadFault.{ReadFault}
 use Rattle.dap_accessing.specs.declared.fault.ReadFault.TheVariants as read_fault
 use Rattle.dap_accessing.specs.Told.{Hearing, Reports, Waits, Unexpected}
 use Rattle.dap_accessing.specs.Phase.{phase_next, limit_next}
-use Rattle.dap_accessing.specs.Present.{Present, hear_from}
+use Rattle.dap_accessing.specs.Present.{Present}
+use Rattle.dap_accessing.specs.Inner.Gathers.{gather}
 
 -- what is still to come once a request is asked
 abbrev pub pending_of : Request → Pending
@@ -39,7 +40,7 @@ refused_as (Some done) = heard.Reports done
 
 -- what an answer comes to, with the answers behind it
 abbrev pub heard_as : Heard → List Item → Hearing
-heard_as (heard.Waits pending) rest = hear_from pending rest
+heard_as (heard.Waits pending) rest = gather pending rest
 heard_as (heard.Reports done) rest = Reports done rest
 heard_as heard.Unexpected rest = Unexpected
 heard_as (heard.NoMemory pending) rest = Waits
@@ -47,13 +48,13 @@ heard_as (heard.NoMemory pending) rest = Waits
 -- an answer has its place here: more is waited for, or the report comes
 abbrev pub HasPlace : Pending → Item → Type 0
 HasPlace pending item =
-    ((next : Pending) × ((rest : List Item) → hear_from pending (item ∷ rest) ≡ hear_from next rest))
-    ⊎ ((done : Report) × ((rest : List Item) → hear_from pending (item ∷ rest) ≡ Reports done rest))
+    ((next : Pending) × ((rest : List Item) → gather pending (item ∷ rest) ≡ gather next rest))
+    ⊎ ((done : Report) × ((rest : List Item) → gather pending (item ∷ rest) ≡ Reports done rest))
 
 -- The answer comes to this; or it has its place and there was no memory for it, and the same is still to come.
 abbrev pub Hears : Pending → Item → Heard → Type 0
 Hears pending item (heard.NoMemory same) = (same ≡ pending) × HasPlace pending item
-Hears pending item result = (rest : List Item) → hear_from pending (item ∷ rest) ≡ heard_as result rest
+Hears pending item result = (rest : List Item) → gather pending (item ∷ rest) ≡ heard_as result rest
 
 -- a record is added to a batch
 abbrev pub AddsBody : List (ℕ × List ℕ) → ℕ → List ℕ → Heard → Type 0
@@ -69,15 +70,15 @@ HasShortNumbers _ = Unit {0}
 
 abbrev pub HasNoPlace : Item → Option Pending → Type 0
 HasNoPlace item None = Unit {0}
-HasNoPlace item (Some p) = (rest : List Item) → hear_from p (item ∷ rest) ≡ Unexpected
+HasNoPlace item (Some p) = (rest : List Item) → gather p (item ∷ rest) ≡ Unexpected
 
 -- What the next answer does to an end that works: it waits for more, or reports, or has no place; or there is no memory, and nothing is changed.
 abbrev pub Takes : Item → Present → Present → Result (Option Report) ReadFault → Type 0
 Takes item old new (Ok None) =
-    (p : Pending) × (next : Pending) × (old.pending ≡ Some p) × ((rest : List Item) → hear_from p (item ∷ rest) ≡ hear_from next rest)
+    (p : Pending) × (next : Pending) × (old.pending ≡ Some p) × ((rest : List Item) → gather p (item ∷ rest) ≡ gather next rest)
     × (new ≡ record old { pending = Some next })
 Takes item old new (Ok (Some done)) =
-    (p : Pending) × (old.pending ≡ Some p) × ((rest : List Item) → hear_from p (item ∷ rest) ≡ Reports done rest)
+    (p : Pending) × (old.pending ≡ Some p) × ((rest : List Item) → gather p (item ∷ rest) ≡ Reports done rest)
     × (new ≡ record old { phase = phase_next old.phase done; limit = limit_next old.limit done; pending = None })
 Takes item old new (Err read_fault.Unexpected) = (new.failed ≡ true) × HasNoPlace item old.pending
 Takes item old new (Err read_fault.NoMemory) = (new ≡ old) × ((p : Pending) × (old.pending ≡ Some p) × HasPlace p item)
