@@ -12,12 +12,11 @@ use Rattle.dap_accessing.specs.Told.{Hearing, Reports, Waits, Unexpected, hear, 
 use Rattle.dap_msg.specs.Exchange.{greatest_message}
 use Rattle.dap_accessing.specs.declared.phase.Phase.TheVariants.{Fresh}
 use Rattle.dap_msg.specs.Sendable.{AreSendable}
-use Rattle.dap_accessing.specs.Phase.{phase_next, phase_after, limit_next, limit_after, IsNoneDue, phase_fits, IsRefused, IsAdmissible}
+use Rattle.dap_accessing.specs.Phase.{phase_next, phase_after, limit_next, limit_after, IsNoneDue, phase_fits, IsRefused}
 use Rattle.dap_accessing.specs.Inner.Hears.{pending_of, HasNoPlace, HasPlace, Takes}
 use Rattle.dap_accessing.specs.Present.{Present, StandsAfter, FitsDue}
 use Rattle.dap_accessing.specs.Inner.Gathers.{gather}
-use Rattle.dap_accessing.specs.Inner.Outgoing.{Admits}
-use Rattle.dap_accessing.specs.Calls.{IsAdmittedBy, Asks, Reads, ReadRefused}
+use Rattle.dap_accessing.specs.Calls.{IsAdmittedBy, MayAsk, Asks, Reads, ReadRefused}
 use Rattle.dap_msg.specs.Blocked.{Blocked, all_joined}
 use Rattle.dap_accessing.specs.Asked.{messages_of}
 use Rattle.dap_accessing.specs.declared.fault.AskFault.TheVariants as fault
@@ -309,14 +308,15 @@ pub refuse_large : (request : Request) (old : Present) → is_some old.pending �
 refuse_large request old none right large requests answers s =
     (nothing_due old (none_of old.pending none) requests answers s, in_phase request old true right requests answers s, λ e. large (subst (λ n. AreSendable n (messages_of old.own request)) (sym s.limit) e))
 
-pub admit : (request : Request) (old : Present) → is_some old.pending ≡ false → phase_fits old.phase request ≡ true → AreSendable old.limit (messages_of old.own request)
-    → (requests : List Request) (answers : List Item) → StandsAfter requests answers old → IsAdmissible old.own requests answers request
-admit request old none right sendable requests answers s =
-    (nothing_due old (none_of old.pending none) requests answers s, in_phase request old true right requests answers s, subst (λ n. AreSendable n (messages_of old.own request)) s.limit sendable)
+pub admit : (request : Request) (old : Present) → MayAsk old request → IsAdmittedBy old request
+admit request old may = λ requests answers s. (
+  nothing_due old may.none_due requests answers s,
+  in_phase request old true may.in_phase requests answers s,
+  subst (λ n. AreSendable n (messages_of old.own request)) s.limit may.sendable,
+)
 
--- a request that the end takes is admissible
-pub admitted_by : (request : Request) (old : Present) (messages : List Message) → Admits old request messages → IsAdmittedBy old request
-admitted_by request old messages h = admit request old h.none h.right h.sendable
+pub may_ask : (request : Request) (old : Present) → old.failed ≡ false → is_some old.pending ≡ false → phase_fits old.phase request ≡ true → AreSendable old.limit (messages_of old.own request) → MayAsk old request
+may_ask request old works none right sendable = record { works = works; none_due = none_of old.pending none; in_phase = right; sendable = sendable }
 
 -- ---- What `read` answers.
 
@@ -387,14 +387,13 @@ pub rest_refused : (bytes : List ℕ) (at : ℕ) (fault : MsgFault) (next : ℕ)
 rest_refused bytes at fault next old new works reads failed =
     (works, failed, (Malformed fault, next, reads, unexpected (Malformed fault) old (malformed_misplaced old.pending fault)))
 
-pub asks_of : (request : Request) (old : Present) (p : Pending) (messages : List (List ℕ)) → old.failed ≡ false → is_some old.pending ≡ false → phase_fits old.phase request ≡ true
-    → AreSendable old.limit (messages_of old.own request) → messages ≡ all_joined (Blocked old.limit (messages_of old.own request)) → p ≡ pending_of request
+pub asks_of : (request : Request) (old : Present) (p : Pending) (messages : List (List ℕ)) → MayAsk old request → messages ≡ all_joined (Blocked old.limit (messages_of old.own request)) → p ≡ pending_of request
     → Asks request old (record old { pending = Some p }) messages
-asks_of request old p messages works none right sendable spelled e =
+asks_of request old p messages may spelled e =
     record {
-      works = works;
+      works = may.works;
       spelled = spelled;
-      admissible = admit request old none right sendable;
-      stands = λ requests answers s. subst (λ q. StandsAfter (requests ++ request ∷ []) answers (record old { pending = Some q })) (sym e) (stands_asked request old (none_of old.pending none) requests answers s);
-      told = λ requests answers s. (asked_one requests answers request (nothing_due old (none_of old.pending none) requests answers s)).told;
+      admissible = admit request old may;
+      stands = λ requests answers s. subst (λ q. StandsAfter (requests ++ request ∷ []) answers (record old { pending = Some q })) (sym e) (stands_asked request old may.none_due requests answers s);
+      told = λ requests answers s. (asked_one requests answers request (nothing_due old may.none_due requests answers s)).told;
     }

@@ -1,7 +1,8 @@
 -- What `ask` and `read` come to.
-use Rattle.std.specs.Prelude.{ℕ, ◌≡◌, true, false, List, [], ◌∷◌, ◌++◌, option_to_list}
+use Rattle.std.specs.Prelude.{ℕ, ◌≡◌, true, false, List, [], ◌∷◌, ◌++◌, None, option_to_list}
 use Rattle.dap_msg.specs.Items.{Item, ItemAt}
 use Rattle.dap_msg.specs.Blocked.{Blocked, all_joined}
+use Rattle.dap_msg.specs.Sendable.{AreSendable}
 use Rattle.dap_accessing.specs.declared.request.Request.{Request}
 use Rattle.dap_accessing.specs.declared.fault.AskFault.{AskFault}
 use Rattle.dap_accessing.specs.declared.fault.AskFault.TheVariants as ask_fault
@@ -10,13 +11,20 @@ use Rattle.dap_accessing.specs.declared.fault.ReadFault.{ReadFault}
 use Rattle.dap_accessing.specs.declared.fault.ReadFault.TheVariants as read_fault
 use Rattle.dap_accessing.specs.Asked.{messages_of}
 use Rattle.dap_accessing.specs.Told.{Told, is_unexpected}
-use Rattle.dap_accessing.specs.Phase.{IsAdmissible, IsRefused}
+use Rattle.dap_accessing.specs.Phase.{phase_fits, IsAdmissible, IsRefused}
 use Rattle.dap_accessing.specs.Present.{Present, StandsAfter}
 
 -- the request is admissible, whatever requests and answers the end stands after
 abbrev pub IsAdmittedBy : Present → Request → Type 0
 IsAdmittedBy old request =
     (requests : List Request) (answers : List Item) → StandsAfter requests answers old → IsAdmissible old.own requests answers request
+
+-- the end may ask the request as it stands: the request is admissible by what the end keeps
+pub record MayAsk (old : Present) (request : Request) : Type 0 where
+  pub works : old.failed ≡ false
+  pub none_due : old.pending ≡ None
+  pub in_phase : phase_fits old.phase request ≡ true
+  pub sendable : AreSendable old.limit (messages_of old.own request)
 
 -- The request is asked: it was admissible, these NSP messages are its messages, blocked, and the end stands as after it too.
 pub record Asks (request : Request) (old new : Present) (messages : List (List ℕ)) : Type 0 where

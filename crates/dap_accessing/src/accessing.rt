@@ -2,15 +2,14 @@
 
 ghost use Rattle.std.specs.Prelude.{◌≡◌, ◌≢◌, ◌≤◌, ◌<◌, [], false, length, map, IfOk, IfErr, OnOk, OnErr};
 ghost use Rattle.dap_accessing.specs.declared.fault.AskFault.TheVariants.{NoMemory};
-ghost use Rattle.dap_accessing.specs.Inner.Outgoing.{Admits, number_carried, outgoing_messages};
-ghost use Rattle.dap_msg.specs.Exchange.{four_bytes, greatest_message, least_buffer};
+ghost use Rattle.dap_msg.specs.Exchange.{greatest_message, least_buffer};
 ghost use Rattle.dap_msg.specs.Message.{seen};
 ghost use Rattle.dap_msg.specs.Items.{Whole};
 ghost use Rattle.dap_msg.specs.Blocked.{bodies};
 ghost use Rattle.dap_accessing.specs.Inner.Hears.{HasShortNumbers, Takes};
 ghost use Rattle.dap_accessing.specs.Present.{StandsAfter};
 ghost use Rattle.dap_msg.specs.Items.{IsPlace};
-ghost use Rattle.dap_accessing.specs.Calls.{Asks, AskRefused, IsAdmittedBy, Reads, ReadRefused};
+ghost use Rattle.dap_accessing.specs.Calls.{Asks, AskRefused, IsAdmittedBy, MayAsk, Reads, ReadRefused};
 ghost use Rattle.dap_accessing.specs.Steps.{ReportsGrow};
 
 use crate::asking::{Outgoing, carried_number};
@@ -79,11 +78,22 @@ impl Accessing {
         ensures unchanged { OnErr result (self.new ≡ self.old) }
         ensures own { self.new.own ≡ self.old.own }
     {
+        self.check(request)?;
+        self.ask_checked(request)
+    }
+
+    /// The same of a request that `check` lets through. It isn't looked at again, and refused for
+    /// want of memory alone. Own.
+    pub fn ask_checked(&mut self, request: &Request) -> Result<Vec<Vec<u8>>, AskFault>
+        requires { MayAsk self.old request.now }
+        ensures asks { IfOk result
+            (λ messages. Asks request.now self.old self.new (bodies messages.items)) }
+        ensures refused { IfErr result (λ f. f ≡ NoMemory) }
+        ensures unchanged { OnErr result (self.new ≡ self.old) }
+        ensures own { self.new.own ≡ self.old.own }
+    {
         let number = carried_number(request).to_le_bytes();
-        let outgoing = match self.admitted(request, &number) {
-            Ok(outgoing) => outgoing,
-            Err(fault) => return Err(fault),
-        };
+        let outgoing = Outgoing::of(self.bufsiz, request, &number);
         let Ok(messages) = outgoing.blocked(self.alloc, self.limit) else {
             return Err(AskFault::NoMemory);
         };
@@ -95,19 +105,7 @@ impl Accessing {
     pub fn check(&self, request: &Request) -> Result<(), AskFault>
         ensures works { OnOk result (self.now.failed ≡ false) }
         ensures admissible { OnOk result (IsAdmittedBy self.now request.now) }
-        ensures refused { IfErr result (λ f. (f ≢ NoMemory) × AskRefused request.now self.now f) }
-    {
-        let number = carried_number(request).to_le_bytes();
-        match self.admitted(request, &number) {
-            Ok(_messages) => Ok(()),
-            Err(fault) => Err(fault),
-        }
-    }
-
-    // The messages of a request that may be asked, memory aside.
-    fn admitted<'a>(&self, request: &'a Request, number: &'a [u8]) -> Result<Outgoing<'a>, AskFault>
-        requires { number.now ≡ four_bytes (number_carried request.now) }
-        ensures admits { IfOk result (λ o. Admits self.now request.now (outgoing_messages o)) }
+        ensures may { OnOk result (MayAsk self.now request.now) }
         ensures refused { IfErr result (λ f. (f ≢ NoMemory) × AskRefused request.now self.now f) }
     {
         if self.failed {
@@ -119,11 +117,11 @@ impl Accessing {
         if !self.phase.fits(request) {
             return Err(AskFault::WrongPhase);
         }
-        let outgoing = Outgoing::of(self.bufsiz, request, number);
-        if !outgoing.is_sendable(self.limit) {
+        let number = carried_number(request).to_le_bytes();
+        if !Outgoing::of(self.bufsiz, request, &number).is_sendable(self.limit) {
             return Err(AskFault::TooLarge);
         }
-        Ok(outgoing)
+        Ok(())
     }
 
     /// Takes the message as the next answer.

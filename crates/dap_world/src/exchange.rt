@@ -1,11 +1,12 @@
 //! What both ends of the file access do in a world.
 
-ghost use Rattle.std.specs.Prelude.{◌≡◌, ◌⊎◌, ◌<◌, [], length, IfOk, IfErr, Some, slice_get, IfSome, ◌++◌, ◌^◌, false, is_some, option_to_list, vec_len, vec_capacity};
+ghost use Rattle.std.specs.Prelude.{◌≡◌, ◌⊎◌, ◌<◌, [], length, IfOk, IfErr, Some, slice_get, IfSome, ◌++◌, ◌^◌, is_some, option_to_list, vec_len, vec_capacity};
 ghost use Rattle.dap_msg.specs.Blocked.{bodies};
 ghost use Rattle.dap_msg.specs.Items.{IsPlace};
 ghost use Rattle.dap_world.specs.Inner.Handling.{ServedOne, ServeFault, IsReady, Expects, ExpectsAt, ReadsOne, ReadOne, ReadFault};
 ghost use Rattle.dap_world.specs.Inner.Answers.{serve_of, read_of, ask_of};
-ghost use Rattle.dap_world.specs.Inner.Asking.{AskedOne, AskFaultOf, MayAsk};
+ghost use Rattle.dap_accessing.specs.Calls.{MayAsk};
+ghost use Rattle.dap_world.specs.Inner.Asking.{AskedOne, AskFaultOf};
 ghost use Rattle.dap_world.specs.declared.event.WorldFault.TheVariants.{NoMemory};
 
 use crate::copying::most_messages;
@@ -211,8 +212,7 @@ fn ask_checked(
     requests: &mut Vec<Request>,
     request: &Request,
 ) -> Result<usize, WorldFault>
-    requires works { accessing.old.failed ≡ false }
-    requires admissible { MayAsk request.now accessing.old }
+    requires { MayAsk accessing.old request.now }
     ensures ok { IfOk result
         (λ n. AskedOne request.now side.old side.new accessing.old accessing.new requests.old.items
         requests.new.items n) }
@@ -222,7 +222,7 @@ fn ask_checked(
     let copy = request.copy(alloc)?;
     requests.reserve(1)?;
     side.outbox.reserve(most_messages(request))?;
-    let Ok(mut messages) = accessing.ask(request) else {
+    let Ok(mut messages) = accessing.ask_checked(request) else {
         return Err(WorldFault::NoMemory);
     };
     let count = messages.len();

@@ -250,7 +250,7 @@ fn does(alloc: Global, end: &mut Accessing, line: Line) -> Result<bool, AllocErr
         Line::Sends(ask, bytes) => sends(end, &request(alloc, ask)?, bytes),
         Line::Asks(ask) => {
             let request = request(alloc, ask)?;
-            end.check(&request).is_ok() && end.ask(&request).is_ok()
+            end.check(&request).is_ok() && end.ask_checked(&request).is_ok()
         }
         Line::Refuses(ask, fault) => {
             let request = request(alloc, ask)?;

@@ -1,11 +1,9 @@
 -- A request is asked.
 use Rattle.std.specs.Prelude.{◌≡◌, ◌≢◌, ℕ, List, [], ◌∷◌, ◌++◌, length}
 use Rattle.dap_accessing.specs.Present as accessing
-use Rattle.dap_accessing.specs.Calls.{Asks, AskRefused}
-use Rattle.dap_accessing.specs.Phase.{IsAdmissible}
+use Rattle.dap_accessing.specs.Calls.{Asks, AskRefused, IsAdmittedBy}
 use Rattle.dap_accessing.specs.declared.request.Request.{Request}
 use Rattle.dap_accessing.specs.declared.fault.AskFault.TheVariants as ask_fault
-use Rattle.dap_msg.specs.Items.{Item}
 use Rattle.dap_world.specs.Inner.Sides.{SideValue}
 use Rattle.dap_world.specs.declared.event.WorldFault.{WorldFault}
 use Rattle.dap_world.specs.declared.event.WorldFault.TheVariants as fault
@@ -19,12 +17,8 @@ pub record AskedOne (request : Request) (old new : SideValue) (before after : ac
   pub added : requests ≡ told ++ request ∷ []
   pub count : n ≡ length messages
 
--- it was admissible, memory aside
-abbrev pub MayAsk : Request → accessing.Present → Type 0
-MayAsk request old = (requests : List Request) (answers : List Item) → accessing.StandsAfter requests answers old → IsAdmissible old.own requests answers request
-
 -- why it isn't asked
 abbrev pub AskFaultOf : Request → accessing.Present → WorldFault → Type 0
 AskFaultOf request old (fault.Ask f) = (f ≢ ask_fault.NoMemory) × AskRefused request old f
-AskFaultOf request old fault.NoMemory = MayAsk request old
+AskFaultOf request old fault.NoMemory = IsAdmittedBy old request
 AskFaultOf request old _ = ⊥
