@@ -4,7 +4,7 @@ ghost use Rattle.std.specs.Prelude.{ℕ, ◌≡◌, ◌≤◌, ◌<◌, ◌+◌,
 ghost use Rattle.dap_fields.specs.Writing.{shortest};
 ghost use Rattle.dap_msg.specs.Message.{Attrib, Control as ControlOf, seen, seen_attributes, seen_control};
 ghost use Rattle.dap_msg.specs.Grammar as kinds;
-ghost use Rattle.dap_msg.specs.Canon.{canon, Fits, FieldsFit, FitsOption, operand_bytes, header_bytes, option_bytes, bits_of};
+ghost use Rattle.dap_msg.specs.Canon.{canon, Fits, FieldsFit, FitsOption, operand_bytes, header_bytes, option_bytes, bits_of, attribute_bits};
 ghost use Rattle.dap_msg.specs.Written.{Appends};
 ghost use Rattle.dap_msg.specs.Inner.Fields.{bytes_of, fields_bytes, message_bytes, CanWrite, CanWriteAll, status_of, completion_of, configuration_of, access_of};
 
@@ -342,12 +342,11 @@ fn control_fields(here: Control<'_>) -> [Field<'_>; 8]
     ]
 }
 
-fn attributes_fields(here: Attributes<'_>) -> [Field<'_>; 22]
-    requires { FieldsFit (Attrib (seen_attributes here)) }
-    ensures bytes { fields_bytes result ≡ operand_bytes (Attrib (seen_attributes here.entry)) }
-    ensures can { CanWriteAll result }
+/// The menu of an Attributes message.
+fn attribute_menu(here: Attributes<'_>) -> u64
+    ensures { result ≡ attribute_bits (seen_attributes here.entry) }
 {
-    let bits = menu_bits(&[
+    menu_bits(&[
         here.datatype.is_some(),
         here.org.is_some(),
         here.rfm.is_some(),
@@ -369,9 +368,16 @@ fn attributes_fields(here: Attributes<'_>) -> [Field<'_>; 22]
         here.ebk.is_some(),
         here.ffb.is_some(),
         here.sbn.is_some(),
-    ]);
+    ])
+}
+
+fn attributes_fields(here: Attributes<'_>) -> [Field<'_>; 22]
+    requires { FieldsFit (Attrib (seen_attributes here)) }
+    ensures bytes { fields_bytes result ≡ operand_bytes (Attrib (seen_attributes here.entry)) }
+    ensures can { CanWriteAll result }
+{
     [
-        Field::Extensible(u128::from(bits)),
+        Field::Extensible(u128::from(attribute_menu(here))),
         extensible_u16_or_absent(here.datatype),
         byte_or_absent(here.org),
         byte_or_absent(here.rfm),
