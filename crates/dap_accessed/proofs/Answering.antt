@@ -1,7 +1,8 @@
 -- Every answer has a spelling, and none is longer than the peer takes.
 use Rattle.std.proofs.Common.{subst, ◌≡◌, ℕ, ◌+◌, ◌^◌, ◌<◌, ◌≤◌, Bool, true, false, List, [], ◌∷◌, ◌++◌, length, map, Option, Some, None, Result, Ok, Err, refl, sym, arith, lit≤, lit<}
 use Rattle.std.proofs.lemmas.List.{append-nil}
-use Rattle.dap_accessed.proofs.Cuts.{Answers-more}
+use Rattle.dap_accessed.proofs.OneMore.{next_answers, answers_after}
+use Rattle.dap_accessed.proofs.Cuts.{Answers-more, added-is}
 use Rattle.std.proofs.Common.{append_assoc}
 use Rattle.std.specs.Prelude.{IfSome, IsTrue, nat_le, unwrap_or, if◌then◌else◌}
 use Rattle.std.specs.FinMap.{get}
@@ -36,7 +37,7 @@ use Rattle.dap_accessed.specs.Records.{at_number, verb_of, get_pick, found, got,
 use Rattle.dap_accessed.specs.Transfers.{fetch, fetch_ends, fetch_if, going, Going, Again, Skip, Abort, Resume, NoGoing, continue_fetch, store_one, stored_answers, continue_store}
 use Rattle.dap_msg.specs.Exchange.{is_too_small}
 use Rattle.dap_accessed.specs.Exchange.{configure, control_status, control_opened, control_connected, effect_in, effect_of, effect_with, Begun, begins_in}
-use Rattle.dap_accessed.specs.Groups.{Answers, scene_of, stands_after, next_answers, answers_after, added}
+use Rattle.dap_accessed.specs.Groups.{Answers, scene_of, stands_after, added}
 use Rattle.dap_accessed.specs.Sound.{AllFiles, AreRead, IsOpenAt, IsSoundAt, IsSound}
 use Rattle.dap_accessed.proofs.Kept.{both}
 use Rattle.dap_accessed.proofs.SoundTables.{file-there}
@@ -281,10 +282,10 @@ module _ (own : ℕ) (small : own < 2 ^ 16) where
   one-sends s (Some b) item h t = with-second (scene_of own s) small h.standing.files h.standing.least b.opened h.begun b.change b.stream item t
 
   -- what one item more adds may be sent
-  pub added-sends : (items : List Item) (item : Item) → HasShortType item → AreSendable (stands_after own items).standing.limit (added own (stands_after own items) item)
+  pub added-sends : (items : List Item) (item : Item) → HasShortType item → AreSendable (stands_after own items).standing.limit (added own items item)
   added-sends items item t =
       let c = stands_after own items in
-      one-sends c.standing c.begun item (all-sound own items) t
+      subst (AreSendable c.standing.limit) (sym (added-is own items item)) (one-sends c.standing c.begun item (all-sound own items) t)
 
 -- ---- All answers to items that were read have spellings.
 
@@ -299,7 +300,7 @@ fit-both (m ∷ one) two h k = (h.0, fit-both one two h.1 k)
 fit-on : (own : ℕ) → own < 2 ^ 16 → (before more : List Item) → AllFit (Answers own before) → AreRead more → AllFit (Answers own (before ++ more))
 fit-on own small before [] h r = subst (λ (l : List Item). AllFit (Answers own l)) (sym (append-nil before)) h
 fit-on own small before (item ∷ more) h r =
-    let here = added own (stands_after own before) item in
+    let here = added own before item in
     let fit : AllFit here = sendable-fit (stands_after own before).standing.limit here (added-sends own small before item (read-short item r.0)) in
     let one : AllFit (Answers own (before ++ item ∷ [])) = subst AllFit (sym (Answers-more own before item)) (fit-both (Answers own before) here h fit) in
     subst (λ (l : List Item). AllFit (Answers own l)) (append_assoc before (item ∷ []) more) (fit-on own small (before ++ item ∷ []) more one r.1)

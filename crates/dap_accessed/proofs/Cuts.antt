@@ -1,12 +1,15 @@
 -- One item more finishes a group or begins one.
-use Rattle.std.proofs.Common.{◌≡◌, ℕ, List, [], ◌∷◌, ◌++◌, refl, ap, sym, ◌∙◌}
+use Rattle.std.proofs.Common.{◌≡◌, ℕ, List, [], ◌∷◌, ◌++◌, length, drop, refl, ap, sym, ◌∙◌}
+use Rattle.std.proofs.Math.Seq.{drop-append_seam}
 use Rattle.std.specs.Prelude.{Option, Some, None}
 use Rattle.std.proofs.lemmas.List.{append-nil}
+use Rattle.dap_msg.specs.Message.{Message}
 use Rattle.dap_msg.specs.Items.{Item}
 use Rattle.dap_accessed.specs.Standing.{Standing, start}
 use Rattle.dap_accessed.specs.Exchange.{Begun, begins_in}
-use Rattle.dap_accessed.specs.Groups.{Cut, scene_of, after_one, after_two, cut, stands_after, one_more, next_group, more_after, next_answers, answers_after, added, answers_in, Answers}
+use Rattle.dap_accessed.specs.Groups.{Cut, scene_of, after_one, after_two, cut, stands_after, added, answers_in, Answers}
 use Rattle.dap_accessed.specs.Present.{present_of}
+use Rattle.dap_accessed.proofs.OneMore.{one_more, next_group, more_after, next_answers, answers_after, answers_of}
 
 pub cut-more : (own : ℕ) (s : Standing) (items : List Item) (item : Item) → cut own s (items ++ item ∷ []) ≡ one_more own (cut own s items) item
 cut-more own s [] item = refl
@@ -33,11 +36,19 @@ answers_after-more : (own : ℕ) (s : Standing) (b : Option Begun) (item : Item)
 answers_after-more own s None item = next_answers-more own s item (begins_in (scene_of own s) s.place item)
 answers_after-more own s (Some begun) item = refl
 
--- The answers to a list and one item more are those to the list, and those that the item adds.
-pub Answers-more : (own : ℕ) (items : List Item) (item : Item) → Answers own (items ++ item ∷ []) ≡ Answers own items ++ added own (stands_after own items) item
-Answers-more own items item =
+Answers-then : (own : ℕ) (items : List Item) (item : Item) → Answers own (items ++ item ∷ []) ≡ Answers own items ++ answers_of own (stands_after own items) item
+Answers-then own items item =
     let c = stands_after own items in
     ap (λ (c : Cut). answers_in c.standing.past) (cut-more own start items item) ∙ answers_after-more own c.standing c.begun item
+
+-- what an item adds is what the end answers from where it stands
+pub added-is : (own : ℕ) (items : List Item) (item : Item) → added own items item ≡ answers_of own (stands_after own items) item
+added-is own items item =
+    ap (drop (length (Answers own items))) (Answers-then own items item) ∙ drop-append_seam (Answers own items) (answers_of own (stands_after own items) item)
+
+-- The answers to a list and one item more are those to the list, and those that the item adds.
+pub Answers-more : (own : ℕ) (items : List Item) (item : Item) → Answers own (items ++ item ∷ []) ≡ Answers own items ++ added own items item
+Answers-more own items item = Answers-then own items item ∙ ap (λ (l : List Message). Answers own items ++ l) (sym (added-is own items item))
 
 pub present-more : (own : ℕ) (items : List Item) (item : Item) → present_of own (stands_after own (items ++ item ∷ [])) ≡ present_of own (one_more own (stands_after own items) item)
 present-more own items item = ap (present_of own) (cut-more own start items item)

@@ -2,6 +2,7 @@ pub mod Tables
 pub mod Opens
 pub mod Writing
 pub mod Fetching
+pub mod OneMore
 pub mod Cuts
 pub mod StepIs
 pub mod Kept

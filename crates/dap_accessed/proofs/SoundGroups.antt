@@ -35,8 +35,9 @@ use Rattle.dap_accessed.specs.Records.{at_number, verb_of, get_pick, found, got,
 use Rattle.dap_accessed.specs.Transfers.{fetch, fetch_ends, fetch_if, going, Going, Again, Skip, Abort, Resume, NoGoing, continue_fetch, store_one, continue_store}
 use Rattle.dap_msg.specs.Exchange.{is_too_small}
 use Rattle.dap_accessed.specs.Exchange.{configure, control_opened, control_connected, effect_in, effect_of, effect_with, Begun, begins_in, begun_by, change_begun}
-use Rattle.dap_accessed.specs.Groups.{scene_of, after_one, after_two, next_group, more_after}
+use Rattle.dap_accessed.specs.Groups.{scene_of, after_one, after_two}
 use Rattle.dap_accessed.specs.Sound.{AllFiles, AreDistinct, IsOpenAt, IsSoundAt, IsSound}
+use Rattle.dap_accessed.proofs.OneMore.{next_group, more_after}
 use Rattle.dap_accessed.proofs.Tables.{length-with}
 use Rattle.dap_accessed.proofs.Kept.{act-keeps, both}
 use Rattle.dap_accessed.proofs.SoundTables.{file-there, all-with, distinct-with, all-without, distinct-without, all-more, distinct-more, new-name}

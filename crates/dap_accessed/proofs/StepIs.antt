@@ -14,10 +14,11 @@ use Rattle.dap_accessed.specs.Standing.{Files, Place, Group, Standing, Effect, F
 use Rattle.dap_accessed.specs.Past.{Memory, looked_back, shape_of, kept_attributes, is_dropping, ordinal_so_far, this_store, is_skip, is_filedata, was_refused, greatest_ordinal, next_ordinal}
 use Rattle.dap_accessed.specs.Records.{Change, Putting, Updating}
 use Rattle.dap_accessed.specs.Exchange.{Begun, begins_in, effect_of, effect_with}
-use Rattle.dap_accessed.specs.Groups.{Cut, over, scene_of, next_group, next_answers, one_more, added, stands_after}
+use Rattle.dap_accessed.specs.Groups.{Cut, over, scene_of, added, stands_after}
 use Rattle.dap_accessed.specs.Present.{Present, present_of, phase_at, store_phase, StandsAfter}
 use Rattle.dap_accessed.specs.Inner.Moves.{Move, move, move_in, between, turns, settles, remembers, plain_memory, store_memory, scene_in, drops_next, ordinal_next}
-use Rattle.dap_accessed.proofs.Cuts.{present-more}
+use Rattle.dap_accessed.proofs.OneMore.{next_group, next_answers, one_more, answers_of}
+use Rattle.dap_accessed.proofs.Cuts.{present-more, added-is}
 
 -- ---- What counts of the past after a group.
 
@@ -149,7 +150,7 @@ module _ (own : ℕ) (files : Files) (limit : ℕ) (past : List Group) where
   pub two-follows : (place : Place) (o : OpenFile) (s : StreamVal) (change : Change) (first item : Item) →
       let begun : Begun = record { first = first; opened = o; stream = s; change = change } in
       let c : Cut = record { standing = at place; begun = Some begun } in
-      Agrees (move (present_of own c) item) (present_of own (one_more own c item)) (added own c item)
+      Agrees (move (present_of own c) item) (present_of own (one_more own c item)) (answers_of own c item)
   two-follows place o s (Putting key) first item =
       record {
         same_present = after-group (record { own = own; limit = limit; files = files; kept = shape_of (kept_attributes past); phase = phases.PutDue o s key }) (at place) (Connected o s) first (effect_with (Putting key) (scene_of own (at place)) o s item) refl refl;
@@ -163,7 +164,7 @@ module _ (own : ℕ) (files : Files) (limit : ℕ) (past : List Group) where
 
 pub step-is : (own : ℕ) (s : Standing) (begun : Option Begun) (item : Item) →
     let c : Cut = record { standing = s; begun = begun } in
-    Agrees own s.files s.limit s.past (move (present_of own c) item) (present_of own (one_more own c item)) (added own c item)
+    Agrees own s.files s.limit s.past (move (present_of own c) item) (present_of own (one_more own c item)) (answers_of own c item)
 step-is own s None item = one-follows own s.files s.limit s.past s.place item
 step-is own s (Some b) item = two-follows own s.files s.limit s.past s.place b.opened b.stream b.change b.first item
 
@@ -171,8 +172,8 @@ step-is own s (Some b) item = two-follows own s.files s.limit s.past s.place b.o
 pub present-moves : (own : ℕ) (items : List Item) (item : Item) → present_of own (stands_after own (items ++ item ∷ [])) ≡ (move (present_of own (stands_after own items)) item).present
 present-moves own items item = let c = stands_after own items in present-more own items item ∙ (step-is own c.standing c.begun item).same_present
 
-pub answers-move : (own : ℕ) (items : List Item) (item : Item) → added own (stands_after own items) item ≡ (move (present_of own (stands_after own items)) item).answers
-answers-move own items item = let c = stands_after own items in (step-is own c.standing c.begun item).same_answers
+pub answers-move : (own : ℕ) (items : List Item) (item : Item) → added own items item ≡ (move (present_of own (stands_after own items)) item).answers
+answers-move own items item = let c = stands_after own items in added-is own items item ∙ (step-is own c.standing c.begun item).same_answers
 
 -- an end's own BUFSIZ stays
 turns-own : (b : Option Begun) (p : Present) (memory : Memory) (place : Place) (item : Item) (e : Effect) → (turns b p memory place item e).present.own ≡ p.own
@@ -199,5 +200,5 @@ stands-more old new item e items h =
     let own : new.own ≡ old.own = ap (λ (p : Present). p.own) e ∙ same-own old item in
     e ∙ ap (λ (p : Present). (move p item).present) h ∙ sym (present-moves old.own items item) ∙ ap (λ (n : ℕ). present_of n (stands_after n (items ++ item ∷ []))) (sym own)
 
-pub answers-are : (old : Present) (item : Item) (items : List Item) → StandsAfter items old → (move old item).answers ≡ added old.own (stands_after old.own items) item
+pub answers-are : (old : Present) (item : Item) (items : List Item) → StandsAfter items old → (move old item).answers ≡ added old.own items item
 answers-are old item items h = ap (λ (p : Present). (move p item).answers) h ∙ sym (answers-move old.own items item)

@@ -1,6 +1,6 @@
 -- The list of items that were served is cut from its front into groups: one item, save that a PUT or an UPDATE in
 -- Connected has the item after it in its group.
-use Rattle.std.specs.Prelude.{ℕ, List, [], ◌∷◌, ◌++◌, Option, Some, None}
+use Rattle.std.specs.Prelude.{ℕ, List, [], ◌∷◌, ◌++◌, length, drop, Option, Some, None}
 use Rattle.dap_msg.specs.Message.{Message}
 use Rattle.dap_msg.specs.Items.{Item}
 use Rattle.dap_accessed.specs.Standing.{Files, Place, Connected, Group, Standing, Scene, Effect, start}
@@ -68,28 +68,6 @@ After own items = (stands_after own items).standing.files
 abbrev pub Answers : ℕ → List Item → List Message
 Answers own items = answers_in (stands_after own items).standing.past
 
--- ---- One item more finishes the group that was begun, or is a group, or begins one.
-
-abbrev pub next_group : ℕ → Standing → Item → Option Begun → Cut
-next_group own s item None = record { standing = after_one own s item; begun = None }
-next_group own s item (Some begun) = record { standing = s; begun = Some begun }
-
-abbrev pub more_after : ℕ → Standing → Option Begun → Item → Cut
-more_after own s None item = next_group own s item (begins_in (scene_of own s) s.place item)
-more_after own s (Some begun) item = record { standing = after_two own s begun item; begun = None }
-
-abbrev pub one_more : ℕ → Cut → Item → Cut
-one_more own c item = more_after own c.standing c.begun item
-
-abbrev pub next_answers : ℕ → Standing → Item → Option Begun → List Message
-next_answers own s item None = (effect_of (scene_of own s) (looked_back s.place s.past) s.place item).answers
-next_answers own s item (Some begun) = []
-
-abbrev pub answers_after : ℕ → Standing → Option Begun → Item → List Message
-answers_after own s None item = next_answers own s item (begins_in (scene_of own s) s.place item)
-answers_after own s (Some begun) item =
-    (effect_with begun.change (scene_of own s) begun.opened begun.stream item).answers
-
--- the answers that one item more adds
-abbrev pub added : ℕ → Cut → Item → List Message
-added own c item = answers_after own c.standing c.begun item
+-- what one item more adds: the answers to the list and it, behind those to the list
+abbrev pub added : ℕ → List Item → Item → List Message
+added own items item = drop (length (Answers own items)) (Answers own (items ++ item ∷ []))

@@ -11,7 +11,7 @@ use Rattle.dap_accessed.specs.declared.served.Served.{Served}
 use Rattle.dap_accessed.specs.declared.verbs.Verb.{Verb}
 use Rattle.dap_accessed.specs.declared.verbs.Verb.TheVariants as verbs
 use Rattle.dap_accessed.specs.Records.{verb_of}
-use Rattle.dap_accessed.specs.Groups.{added, stands_after}
+use Rattle.dap_accessed.specs.Groups.{added}
 use Rattle.dap_accessed.specs.Present.{Present, StandsAfter}
 
 -- none is longer than the limit
@@ -27,8 +27,8 @@ pub record Serves (bytes : List ℕ) (at : ℕ) (old new : Present) (served : Se
   pub reads : ItemAt bytes at item served.next
   pub stands : (items : List Item) → StandsAfter items old → StandsAfter (items ++ item ∷ []) new
   pub answers : (items : List Item) → StandsAfter items old →
-      bodies served.answers.items ≡ all_joined (Blocked old.limit (added old.own (stands_after old.own items) item))
-  pub fits : (items : List Item) → StandsAfter items old → AllFit (added old.own (stands_after old.own items) item)
+      bodies served.answers.items ≡ all_joined (Blocked old.limit (added old.own items item))
+  pub fits : (items : List Item) → StandsAfter items old → AllFit (added old.own items item)
   pub within : AllAtMost old.limit (bodies served.answers.items)
   pub same_own : new.own ≡ old.own
 

@@ -11,8 +11,7 @@ ghost use Rattle.dap_accessed.specs.Groups.{Answers, added, limit_for, stands_af
 /// One message more adds its own answers to those of the messages before it, and no others.
 pub fn answers_grow()
     ensures { (own : ℕ) (items : List TheItem) (item : TheItem)
-        → Answers own (items ++ item ∷ [])
-        ≡ Answers own items ++ added own (stands_after own items) item }
+        → Answers own (items ++ item ∷ []) ≡ Answers own items ++ added own items item }
 {}
 
 /// After any messages each file obeys its shape, which is one that `Shape::check` gives, no two files
@@ -26,7 +25,7 @@ pub fn stays_sound()
 pub fn answers_are_sendable()
     ensures { (own : ℕ) → own < 2 ^ 16 → (items : List TheItem) (item : TheItem)
         → IsRead item
-        → AreSendable (limit_for own items) (added own (stands_after own items) item) }
+        → AreSendable (limit_for own items) (added own items item) }
 {}
 
 /// All answers to messages that were read have spellings.

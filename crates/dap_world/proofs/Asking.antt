@@ -3,7 +3,7 @@ use Rattle.std.proofs.Common.{◌≡◌, ℕ, suc, refl, sym, ◌∙◌, true, f
 use Rattle.std.proofs.lemmas.List.{append-nil}
 use Rattle.dap_msg.specs.Message.{Message}
 use Rattle.dap_msg.specs.Items.{Item, Whole}
-use Rattle.dap_accessed.specs.Groups.{Answers, added, stands_after}
+use Rattle.dap_accessed.specs.Groups.{Answers, added}
 use Rattle.dap_accessed.proofs.ForCallers.{Answers-more}
 use Rattle.dap_accessing.specs.declared.request.Request.{Request}
 use Rattle.dap_accessing.specs.Told.{Hearing, Reports, Waits, Unexpected, hear, Told, Due, NothingDue, AnswersDue, Wrong, due_after, is_unexpected}
@@ -60,7 +60,7 @@ pub answers-front : (own : ℕ) (items more : List Item) → (rest : List Messag
 answers-front own items [] = ([], append-nil (Answers own items) ∙ ap (Answers own) (sym (append-nil items)))
 answers-front own items (x ∷ more) =
     let next = answers-front own (items ++ x ∷ []) more in
-    let here = added own (stands_after own items) x in (
+    let here = added own items x in (
       here ++ next.0,
       sym (append_assoc (Answers own items) here next.0) ∙ ap (λ (l : List Message). l ++ next.0) (sym (Answers-more own items x)) ∙ next.1 ∙ ap (Answers own) (append_assoc items (x ∷ []) more),
     )

@@ -9,7 +9,7 @@ use Rattle.dap_msg.specs.Sendable.{AreSendable}
 use Rattle.dap_msg.specs.Blocked.{NspMessage, joined, Blocked, all_joined, messages_in, AllWithin, IsWithin}
 use Rattle.dap_msg.proofs.ForCallers.{messages_in-Blocked, within_limit}
 use Rattle.std.proofs.lemmas.List.{append-nil}
-use Rattle.dap_accessed.specs.Groups.{added, limit_for, stands_after}
+use Rattle.dap_accessed.specs.Groups.{added, limit_for}
 use Rattle.dap_accessed.specs.Served.{AllAtMost}
 use Rattle.dap_accessed.proofs.ForCallers.{HasShortType, added-sends}
 use Rattle.dap_accessing.specs.declared.request.Request.{Request}
@@ -98,5 +98,5 @@ pub answers-blocked : (own_a own_b : ℕ) → IsBufsiz own_a → IsBufsiz own_b 
 answers-blocked own_a own_b a b rs = λ front back item e.
     let short = short-there front back item (subst AllShort (sym e) (short-asked own_a rs)) in
     let sends = added-sends own_b (omega (arith, b.most)) front item short in
-    blocked-within (limit_for own_b front) own_a (added own_b (stands_after own_b front) item) (answers-within own_a a own_b rs front (item ∷ back) e)
-    (sendable-within (limit_for own_b front) (added own_b (stands_after own_b front) item) sends)
+    blocked-within (limit_for own_b front) own_a (added own_b front item) (answers-within own_a a own_b rs front (item ∷ back) e)
+    (sendable-within (limit_for own_b front) (added own_b front item) sends)

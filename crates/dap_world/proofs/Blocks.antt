@@ -29,7 +29,7 @@ asked-more own_a own_b (q ∷ rs) r =
     ∙ sym (append_assoc (Blocked own_b (messages_of own_a q)) (asked_packets own_a own_b rs) (Blocked own_b (messages_of own_a r)))
 
 abbrev pub answer_block : ℕ → List Item → Item → List NspMessage
-answer_block own items item = Blocked (stands_after own items).standing.limit (added own (stands_after own items) item)
+answer_block own items item = Blocked (stands_after own items).standing.limit (added own items item)
 
 answers-more-after : (own : ℕ) (before items : List Item) (item : Item) → answer_packets own before (items ++ item ∷ []) ≡ answer_packets own before items ++ answer_block own (before ++ items) item
 answers-more-after own before [] item =
@@ -46,7 +46,7 @@ answers-more own items item = answers-more-after own [] items item
 answers-all-after : (own : ℕ) (before items : List Item) → Answers own before ++ messages_in (answer_packets own before items) ≡ Answers own (before ++ items)
 answers-all-after own before [] = append-nil (Answers own before) ∙ ap (Answers own) (sym (append-nil before))
 answers-all-after own before (x ∷ items) =
-    let here = added own (stands_after own before) x in
+    let here = added own before x in
     let later = messages_in (answer_packets own (before ++ x ∷ []) items) in
     ap (λ (l : List Message). Answers own before ++ l) (messages_in-append (answer_block own before x) (answer_packets own (before ++ x ∷ []) items)
     ∙ ap (λ (l : List Message). l ++ later) (messages_in-Blocked _ here))
@@ -84,7 +84,7 @@ asked-full own_a own_b (r ∷ rs) = full-append (Blocked own_b (messages_of own_
 
 full-answers-after : (own : ℕ) (before items : List Item) → AreFull (answer_packets own before items)
 full-answers-after own before [] = tt
-full-answers-after own before (x ∷ items) = full-append (answer_block own before x) (answer_packets own (before ++ x ∷ []) items) (full-blocked _ (added own (stands_after own before) x)) (full-answers-after own (before ++ x ∷ []) items)
+full-answers-after own before (x ∷ items) = full-append (answer_block own before x) (answer_packets own (before ++ x ∷ []) items) (full-blocked _ (added own before x)) (full-answers-after own (before ++ x ∷ []) items)
 
 pub answers-full : (own : ℕ) (items : List Item) → AreFull (answer_packets own [] items)
 answers-full own items = full-answers-after own [] items

@@ -21,7 +21,7 @@ use Rattle.dap_world.specs.declared.event.Event.TheVariants as event
 use Rattle.dap_world.specs.declared.event.Step.{Step}
 use Rattle.dap_world.specs.declared.setup.WorldSetup.{WorldSetup}
 use Rattle.dap_world.specs.Setups.{IsWorldSetup}
-use Rattle.dap_world.specs.Machine.{files_of, reported, State, Direction, Sending, fresh, idle, other, sends, with_sends, arrived, arrived_of, sent_by, taken_of, answers_read, asking, asked, posted, wrote, came, delivered, answering, standing_of, served_one, read_one, segments_of, segments_then, Steps}
+use Rattle.dap_world.specs.Machine.{files_of, reported, State, Direction, Sending, fresh, idle, other, sends, with_sends, arrived, arrived_of, sent_by, taken_of, answers_read, asking, asked, posted, wrote, came, delivered, answering, served_one, read_one, segments_of, segments_then, Steps}
 use Rattle.dap_world.specs.Runs.{Runs}
 use Rattle.dap_accessed.specs.Present as accessed
 use Rattle.dap_world.specs.Inner.Parts.{Parts, state_of}
@@ -262,7 +262,7 @@ taken-more s m e =
 
 kept-served : (s : State) (m : Message) → IsWorld s → s.from_b.waiting ≡ [] → slice_get (arrived_of s.seg_size s.from_a) s.served ≡ Some m → IsWorld (served_one s m)
 kept-served s m h empty e =
-    let answers = added s.own_b (standing_of s) (Whole m) in
+    let answers = added s.own_b (map Whole (taken_of s)) (Whole m) in
     record {
       window = h.window;
       some = h.some;

@@ -87,7 +87,7 @@ read-stays p m h =
     let all = ap length (sym (messages_in-append s.from_b.handed s.from_b.waiting) ∙ h.world.answered) in
     ap (λ l. take p.read (Answers p.accessed.own l)) (map-append Whole (taken_of s) (m ∷ []))
     ∙ ap (take p.read) (Answers-more p.accessed.own items (Whole m))
-    ∙ take-append-le p.read (Answers p.accessed.own items) (added p.accessed.own (stands_after p.accessed.own items) (Whole m))
+    ∙ take-append-le p.read (Answers p.accessed.own items) (added p.accessed.own items (Whole m))
     (omega (
       arith,
       h.world.read,
@@ -170,7 +170,7 @@ module _ (p : Parts) (h : AreParts p) (m : Message) (next : next_to_serve (state
 
   parts_served : (bytes : List ℕ) (later outbox : List (List ℕ)) (next_place : ℕ) (after : accessed.Present) (n : Next p.a p.b (asks p) (length p.taken) bytes)
       → n.m ≡ m → p.b.link.inbox ≡ bytes ∷ later → length (joined n.begun) + length (canon n.m) ≡ next_place
-      → outbox ≡ all_joined (answer_block p.accessed.own (served_items p) (Whole m)) → AllFit (added p.accessed.own (stands_after p.accessed.own (served_items p)) (Whole m)) → AllAtMost p.accessed.limit outbox
+      → outbox ≡ all_joined (answer_block p.accessed.own (served_items p) (Whole m)) → AllFit (added p.accessed.own (served_items p) (Whole m)) → AllAtMost p.accessed.limit outbox
       → accessed.StandsAfter (map Whole (taken_of (state_of p)) ++ Whole m ∷ []) (kept_own p after)
       → IsWorld (served_one (state_of p) m)
       → (let s = handled_side p.b bytes later next_place in AreParts (q_of s.link.inbox s.place outbox after))
@@ -181,7 +181,7 @@ module _ (p : Parts) (h : AreParts p) (m : Message) (next : next_to_serve (state
       let state = state_served s.link.inbox s.place outbox after in
       let taken : taken_of (served_one (state_of p) m) ≡ taken_of (state_of p) ++ m ∷ [] = taken-more (state_of p) m next in
       let b = answer_block p.accessed.own (served_items p) (Whole m) in
-      let all = messages_in-Blocked (stands_after p.accessed.own (served_items p)).standing.limit (added p.accessed.own (stands_after p.accessed.own (served_items p)) (Whole m)) in
+      let all = messages_in-Blocked (stands_after p.accessed.own (served_items p)).standing.limit (added p.accessed.own (served_items p) (Whole m)) in
       let fit_block : AllFit (messages_in b) = subst AllFit (sym all) fit in
       let short : AreShort p.b.link.max_message outbox = all_short p.accessed.limit p.b.link.max_message outbox (omega (arith, limit_within h.serving, h.limit_a, h.alike.limit)) within in
       let read : answers_read (served_one (state_of p) m) ≡ answers_read (state_of p) =
@@ -257,10 +257,10 @@ served_step p s after taken (Ok n) h o err =
     let stood : accessed.StandsAfter (served_items p) p.accessed = subst (λ (l : List Item). accessed.StandsAfter l p.accessed) (sym (served_is p h)) h.serving in
     let limit : p.accessed.limit ≡ (stands_after p.accessed.own (served_items p)).standing.limit = ap (λ (y : accessed.Present). y.limit) stood in
     let outbox : s.outbox ≡ all_joined (answer_block p.accessed.own (served_items p) (Whole m)) =
-    o.answers (served_items p) stood ∙ ap (λ (l : ℕ). all_joined (Blocked l (added p.accessed.own (stands_after p.accessed.own (served_items p)) o.item))) limit
+    o.answers (served_items p) stood ∙ ap (λ (l : ℕ). all_joined (Blocked l (added p.accessed.own (served_items p) o.item))) limit
     ∙ ap (λ (i : Item). all_joined (answer_block p.accessed.own (served_items p) i)) (sym one.0) in
-    let fit : AllFit (added p.accessed.own (stands_after p.accessed.own (served_items p)) (Whole m)) =
-    subst (λ (i : Item). AllFit (added p.accessed.own (stands_after p.accessed.own (served_items p)) i)) (sym one.0) (o.fit (served_items p) stood) in
+    let fit : AllFit (added p.accessed.own (served_items p) (Whole m)) =
+    subst (λ (i : Item). AllFit (added p.accessed.own (served_items p) i)) (sym one.0) (o.fit (served_items p) stood) in
     let own : after ≡ record after { own = p.accessed.own } = ap (λ (k : ℕ). record after { own = k }) o.own in
     let stands : accessed.StandsAfter (map Whole (taken_of (state_of p)) ++ Whole m ∷ []) (record after { own = p.accessed.own }) =
     subst (λ (y : accessed.Present). accessed.StandsAfter (map Whole (taken_of (state_of p)) ++ Whole m ∷ []) y) own

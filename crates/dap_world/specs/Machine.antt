@@ -175,7 +175,7 @@ is_stale s end p = is_old_segment (sends s (other end)).taken p.segment || is_ol
 
 -- the answers to one message more, joined as far as the limit of A goes that B knows
 abbrev pub answering : State → Message → List NspMessage
-answering s m = Blocked (standing_of s).standing.limit (added s.own_b (standing_of s) (Whole m))
+answering s m = Blocked (standing_of s).standing.limit (added s.own_b (map Whole (taken_of s)) (Whole m))
 
 abbrev pub served_one : State → Message → State
 served_one s m = record s { from_b = record s.from_b { waiting = answering s m }; served = s.served + 1 }

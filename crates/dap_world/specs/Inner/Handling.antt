@@ -2,7 +2,7 @@
 use Rattle.std.specs.Prelude.{◌≡◌, ◌≢◌, ◌⊎◌, ℕ, ◌+◌, ◌-◌, Bool, true, false, Option, is_some, ◌<◌, ◌==◌, if◌then◌else◌, List, [], ◌∷◌, ◌++◌, length, take, drop, option_to_list, slice_get, get_or, Some}
 use Rattle.dap_msg.specs.Items.{Item, ItemAt}
 use Rattle.dap_msg.specs.Blocked.{Blocked, all_joined, AllFit}
-use Rattle.dap_accessed.specs.Groups.{added, stands_after}
+use Rattle.dap_accessed.specs.Groups.{added}
 use Rattle.dap_accessed.specs.Present as accessed
 use Rattle.dap_accessed.specs.Served.{AllAtMost}
 use Rattle.dap_accessing.specs.Present as accessing
@@ -36,8 +36,8 @@ pub record ServedOne (old new : SideValue) (before after : accessed.Present) (to
   pub one : IsOne bytes old.place item next
   pub stands : (items : List Item) → accessed.StandsAfter items before → accessed.StandsAfter (items ++ item ∷ []) after
   pub answers : (items : List Item) → accessed.StandsAfter items before
-      → new.outbox ≡ all_joined (Blocked before.limit (added before.own (stands_after before.own items) item))
-  pub fit : (items : List Item) → accessed.StandsAfter items before → AllFit (added before.own (stands_after before.own items) item)
+      → new.outbox ≡ all_joined (Blocked before.limit (added before.own items item))
+  pub fit : (items : List Item) → accessed.StandsAfter items before → AllFit (added before.own items item)
   pub within : AllAtMost before.limit new.outbox
   pub own : after.own ≡ before.own
   pub side : new ≡ record (handled_side old bytes later next) { outbox = new.outbox }

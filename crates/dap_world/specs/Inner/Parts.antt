@@ -43,7 +43,7 @@ asked_packets own_a own_b (request ∷ requests) = Blocked own_b (messages_of ow
 abbrev pub answer_packets : (own : ℕ) → (before items : List Item) → List NspMessage
 answer_packets own before [] = []
 answer_packets own before (item ∷ items) =
-    Blocked (stands_after own before).standing.limit (added own (stands_after own before) item) ++ answer_packets own (before ++ item ∷ []) items
+    Blocked (stands_after own before).standing.limit (added own before item) ++ answer_packets own (before ++ item ∷ []) items
 
 -- the messages that B served, as its number tells
 abbrev pub served_items : Parts → List Item
