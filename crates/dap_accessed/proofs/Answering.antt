@@ -33,12 +33,12 @@ use Rattle.dap_accessed.specs.Standing.{place_of, file_at, the_file, Place, Fres
 use Rattle.dap_accessed.specs.Past.{Memory, looked_back, next_ordinal}
 use Rattle.dap_accessed.specs.Replies.{bare_status, reason_status, sync_status, reason_of, refusal_status, done_status, record_status, too_large, end_of_file, completed, org_number, format_number, opened_with}
 use Rattle.dap_accessed.specs.Accesses.{open_file, create_file, access_as, access_kind, AccessKind, Opening, Creating, NoAccess, complete, completing, Completing, Closing, Purging, EndingStream, Skipping, NoCompletion}
-use Rattle.dap_accessed.specs.Records.{at_number, verb_of, get_pick, found, got, record_got, Change, Putting, Updating, changed, fits_limit, filedata_of}
-use Rattle.dap_accessed.specs.Transfers.{fetch, fetch_ends, fetch_if, going, Going, Again, Skip, Abort, Resume, NoGoing, continue_fetch, store_one, stored_answers, continue_store}
+use Rattle.dap_accessed.specs.Records.{at_number, verb_of, get_pick, record_given, record_too_large, got, record_got, refused, Change, Putting, Updating, changed, fits_limit, filedata_of}
+use Rattle.dap_accessed.specs.Transfers.{fetch, fetch_ends, going, Going, Again, Skip, Abort, Resume, NoGoing, continue_fetch, store_one, drop_one, stored_answers, continue_store}
 use Rattle.dap_msg.specs.Exchange.{is_too_small}
-use Rattle.dap_accessed.specs.Exchange.{configure, control_status, control_opened, control_connected, effect_in, effect_of, effect_with, Begun, begins_in}
+use Rattle.dap_accessed.specs.Exchange.{Begun, Turn, sync, config_refused, configured, control_status, control_opened, control_connected, turn_in, turn_of, effect_with}
 use Rattle.dap_accessed.specs.Groups.{Answers, scene_of, stands_after, added}
-use Rattle.dap_accessed.specs.Sound.{AllFiles, AreRead, IsOpenAt, IsSoundAt, IsSound}
+use Rattle.dap_accessed.specs.Sound.{AllFiles, AreRead, IsOpenAt, IsSound}
 use Rattle.dap_accessed.proofs.Kept.{both}
 use Rattle.dap_accessed.proofs.SoundTables.{file-there}
 use Rattle.dap_accessed.proofs.SoundGroups.{Good, good-memory, place-within}
@@ -130,6 +130,9 @@ module _ (scene : Scene) (own : scene.own < 2 ^ 16) (files : AllFiles scene.file
   abbrev Sends : Effect → Type 0
   Sends e = AreSendable scene.limit e.answers
 
+  abbrev SendsIn : Turn → Type 0
+  SendsIn t = AreSendable scene.limit (next_answers t)
+
   -- ---- Accesses.
 
   opening : (fac : ℕ) (at : Option ℕ) → IfSome at (λ n. n < length scene.files) → Sends (open_file scene fac at)
@@ -163,7 +166,7 @@ module _ (scene : Scene) (own : scene.own < 2 ^ 16) (files : AllFiles scene.file
     body-short n None e = lit≤ tt
     body-short n (Some body) e = body_fits (the_file scene.files o) n body file-is (sym e)
 
-    finding : (fits : Bool) (before after : StreamVal) (r : ℕ × List ℕ) → length r.1 ≤ longest_record → fits_limit scene.limit r ≡ fits → Sends (found fits scene o before after r)
+    finding : (fits : Bool) (before after : StreamVal) (r : ℕ × List ℕ) → length r.1 ≤ longest_record → fits_limit scene.limit r ≡ fits → Sends (if fits then record_given scene o after r else record_too_large scene o before)
     finding true before after r h e = (recorded scene.limit least r h e, tt)
     finding false before after r h e = (reasoned scene.limit least 0x5000 10 [] (lit< tt) (lit≤ tt), tt)
 
@@ -191,7 +194,7 @@ module _ (scene : Scene) (own : scene.own < 2 ^ 16) (files : AllFiles scene.file
         let due = records_from (the_file scene.files o).records s.next in
         fetch-ends s (leading (fits_limit scene.limit) due) (from_failing (fits_limit scene.limit) due) (all_recorded scene.limit least due (records_short (the_file scene.files o) s.next file-is))
 
-    fetching-if : (permitted : Bool) (s : StreamVal) → Sends (fetch_if permitted scene o s)
+    fetching-if : (permitted : Bool) (s : StreamVal) → Sends (if permitted then fetch scene o s else refused scene o s NotPermitted)
     fetching-if true s = fetching s
     fetching-if false s = (refusing scene.limit least NotPermitted [] (lit≤ tt), tt)
 
@@ -206,17 +209,20 @@ module _ (scene : Scene) (own : scene.own < 2 ^ 16) (files : AllFiles scene.file
     stored ordinal (Ok n) = tt
     stored ordinal (Err refusal) = (refusing scene.limit least refusal (four_bytes ordinal) (lit≤ tt), tt)
 
-    storing : (dropping : Bool) (ordinal : ℕ) (s : StreamVal) (body : List ℕ) → Sends (store_one dropping ordinal scene o s body)
+    storing : (dropping : Bool) (ordinal : ℕ) (s : StreamVal) (body : List ℕ) → Sends (if dropping then drop_one scene o s else store_one ordinal scene o s body)
     storing true ordinal s body = tt
     storing false ordinal s body = stored (next_ordinal ordinal) (act (put_record None body) (the_file scene.files o) s).reply
 
-    resuming : (dropping : Bool) (g : Going) (s : StreamVal) (func : ℕ) → Sends (continue_store dropping g scene o s func)
-    resuming false g s func = (bare scene.limit least (codes.out_of_place codes.type_continue) (lit< tt), tt)
-    resuming true Again s func = (bare scene.limit least 0x9140 (lit< tt), tt)
-    resuming true Skip s func = tt
-    resuming true Abort s func = (bare scene.limit least 0x9140 (lit< tt), tt)
-    resuming true Resume s func = (bare scene.limit least 0x2140 (lit< tt), tt)
-    resuming true NoGoing s func = (bare scene.limit least 0x9140 (lit< tt), tt)
+    resuming : (g : Going) (s : StreamVal) → Sends (continue_store g scene o s)
+    resuming Again s = (bare scene.limit least 0x9140 (lit< tt), tt)
+    resuming Skip s = tt
+    resuming Abort s = (bare scene.limit least 0x9140 (lit< tt), tt)
+    resuming Resume s = (bare scene.limit least 0x2140 (lit< tt), tt)
+    resuming NoGoing s = (bare scene.limit least 0x9140 (lit< tt), tt)
+
+    resuming-if : (dropping : Bool) (s : StreamVal) (func : ℕ) → Sends (if dropping then continue_store (going func) scene o s else sync scene (Store o s) (Contran func))
+    resuming-if true s func = resuming (going func) s
+    resuming-if false s func = (bare scene.limit least (codes.out_of_place codes.type_continue) (lit< tt), tt)
 
     -- ---- The places.
 
@@ -224,9 +230,11 @@ module _ (scene : Scene) (own : scene.own < 2 ^ 16) (files : AllFiles scene.file
     opened-control verbs.Connect = (short scene.limit least Ack answers_fit.ack, tt)
     opened-control verb = (misplaced scene.limit least verb, tt)
 
-    connected-control : (verb : Verb) (s : StreamVal) (c : ControlFields) → Sends (control_connected verb scene o s c)
+    connected-control : (verb : Verb) (s : StreamVal) (c : ControlFields) → SendsIn (control_connected verb scene o s c)
     connected-control verbs.Get s c = picked (get_pick (the_file scene.files o) s c) s
     connected-control verbs.Fetch s c = fetching-if s.rights.get s
+    connected-control verbs.Put s c = tt
+    connected-control verbs.Update s c = tt
     connected-control verbs.Store s c = tt
     connected-control verbs.Delete s c = (replying scene.limit least (act delete_record (the_file scene.files o) s).reply, tt)
     connected-control verbs.Rewind s c = (bare scene.limit least 0x1000 (lit< tt), tt)
@@ -237,11 +245,11 @@ module _ (scene : Scene) (own : scene.own < 2 ^ 16) (files : AllFiles scene.file
     with-second change s (Whole (Filedata r body)) h = second change s body
     with-second change s (Whole message) h = (out scene.limit least message h, tt)
 
-  configuring : (small : Bool) (bufsiz : ℕ) → Sends (configure small scene bufsiz)
+  configuring : (small : Bool) (bufsiz : ℕ) → Sends (if small then config_refused scene else configured scene bufsiz)
   configuring true bufsiz = (bare scene.limit least 0x9040 (lit< tt), tt)
   configuring false bufsiz = (short scene.limit least _ (answers_fit.config scene.own own), tt)
 
-  of-message : (memory : Memory) → Good memory.shape → (place : Place) → IsOpenAt scene.files place → (m : Message) → type_of m < 256 → Sends (effect_in scene memory place m)
+  of-message : (memory : Memory) → Good memory.shape → (place : Place) → IsOpenAt scene.files place → (m : Message) → type_of m < 256 → SendsIn (turn_in scene memory place m)
   of-message memory g Fresh h (Config c) t = configuring (is_too_small c.bufsiz) c.bufsiz
   of-message memory g Fresh h (Other _ _) t = tt
   of-message memory g Fresh h m t = (out scene.limit least m t, tt)
@@ -257,7 +265,7 @@ module _ (scene : Scene) (own : scene.own < 2 ^ 16) (files : AllFiles scene.file
   of-message memory g (Connected o s) h m t = (out scene.limit least m t, tt)
   of-message memory g (Store o s) h (Control c) t = (misplaced scene.limit least (verb_of c), tt)
   of-message memory g (Store o s) h (Filedata r body) t = storing o h memory.dropping memory.ordinal s body
-  of-message memory g (Store o s) h (Contran func) t = resuming o h memory.dropping (going func) s func
+  of-message memory g (Store o s) h (Contran func) t = resuming-if o h memory.dropping s func
   of-message memory g (Store o s) h (Accomp c) t = completing-sends (completing c.func) o (Store o s) _ (ended scene.limit least, tt)
   of-message memory g (Store o s) h m t = (out scene.limit least m t, tt)
   of-message memory g (Stopped o s) h (Control c) t = (misplaced scene.limit least (verb_of c), tt)
@@ -265,20 +273,17 @@ module _ (scene : Scene) (own : scene.own < 2 ^ 16) (files : AllFiles scene.file
   of-message memory g (Stopped o s) h (Accomp c) t = completing-sends (completing c.func) o (Stopped o s) _ (ended scene.limit least, tt)
   of-message memory g (Stopped o s) h m t = (out scene.limit least m t, tt)
 
-  of-item : (memory : Memory) → Good memory.shape → (place : Place) → IsOpenAt scene.files place → (item : Item) → HasShortType item → Sends (effect_of scene memory place item)
+  of-item : (memory : Memory) → Good memory.shape → (place : Place) → IsOpenAt scene.files place → (item : Item) → HasShortType item → SendsIn (turn_of scene memory place item)
   of-item memory g place h (Malformed fault) t = (malformed scene.limit least fault.message_type, tt)
   of-item memory g place h (Whole m) t = of-message memory g place h m t
 
 -- ---- One item more, and every list of items.
 
 module _ (own : ℕ) (small : own < 2 ^ 16) where
-  next-sends : (s : Standing) (item : Item) (b : Option Begun) → IsSoundAt s.files s.limit s.place → HasShortType item → AreSendable s.limit (next_answers own s item b)
-  next-sends s item None h t =
-      of-item (scene_of own s) small h.files h.least (looked_back s.place s.past) (good-memory s.place s.past) s.place h.opened item t
-  next-sends s item (Some b) h t = tt
-
   one-sends : (s : Standing) (b : Option Begun) (item : Item) → IsSound (record { standing = s; begun = b }) → HasShortType item → AreSendable s.limit (answers_after own s b item)
-  one-sends s None item h t = next-sends s item (begins_in (scene_of own s) s.place item) h.standing t
+  one-sends s None item h t =
+      let h = h.standing in
+      of-item (scene_of own s) small h.files h.least (looked_back s.place s.past) (good-memory s.place s.past) s.place h.opened item t
   one-sends s (Some b) item h t = with-second (scene_of own s) small h.standing.files h.standing.least b.opened h.begun b.change b.stream item t
 
   -- what one item more adds may be sent

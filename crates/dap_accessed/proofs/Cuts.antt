@@ -6,34 +6,34 @@ use Rattle.std.proofs.lemmas.List.{append-nil}
 use Rattle.dap_msg.specs.Message.{Message}
 use Rattle.dap_msg.specs.Items.{Item}
 use Rattle.dap_accessed.specs.Standing.{Standing, start}
-use Rattle.dap_accessed.specs.Exchange.{Begun, begins_in}
-use Rattle.dap_accessed.specs.Groups.{Cut, scene_of, after_one, after_two, cut, stands_after, added, answers_in, Answers}
+use Rattle.dap_accessed.specs.Exchange.{Begun, Turn, Does, Begins}
+use Rattle.dap_accessed.specs.Groups.{Cut, turn_at, over, after_two, cut, stands_after, added, answers_in, Answers}
 use Rattle.dap_accessed.specs.Present.{present_of}
 use Rattle.dap_accessed.proofs.OneMore.{one_more, next_group, more_after, next_answers, answers_after, answers_of}
 
 pub cut-more : (own : ℕ) (s : Standing) (items : List Item) (item : Item) → cut own s (items ++ item ∷ []) ≡ one_more own (cut own s items) item
 cut-more own s [] item = refl
 cut-more own s (first ∷ []) item =
-    elim (begins_in (scene_of own s) s.place first) as (λ (b : Option Begun).
-    ◌≡◌ {A = Cut} (elim b [ None ↦ cut own (after_one own s first) (item ∷ []) | Some begun ↦ cut own (after_two own s begun item) [] ])
-    (one_more own (elim b [ None ↦ record { standing = after_one own s first; begun = None } | Some begun ↦ record { standing = s; begun = Some begun } ]) item)) [
-      | None ↦ refl
-      | Some begun ↦ refl
+    elim (turn_at own s first) as (λ (t : Turn).
+    ◌≡◌ {A = Cut} (elim t [ Does effect ↦ cut own (over s s.place first effect) (item ∷ []) | Begins begun ↦ cut own (after_two own s begun item) [] ])
+    (one_more own (elim t [ Does effect ↦ record { standing = over s s.place first effect; begun = None } | Begins begun ↦ record { standing = s; begun = Some begun } ]) item)) [
+      | Does effect ↦ refl
+      | Begins begun ↦ refl
     ]
 cut-more own s (first ∷ second ∷ items) item =
-    elim (begins_in (scene_of own s) s.place first) as (λ (b : Option Begun).
-    ◌≡◌ {A = Cut} (elim b [ None ↦ cut own (after_one own s first) (second ∷ (items ++ item ∷ [])) | Some begun ↦ cut own (after_two own s begun second) (items ++ item ∷ []) ])
-    (one_more own (elim b [ None ↦ cut own (after_one own s first) (second ∷ items) | Some begun ↦ cut own (after_two own s begun second) items ]) item)) [
-      | None ↦ cut-more own (after_one own s first) (second ∷ items) item
-      | Some begun ↦ cut-more own (after_two own s begun second) items item
+    elim (turn_at own s first) as (λ (t : Turn).
+    ◌≡◌ {A = Cut} (elim t [ Does effect ↦ cut own (over s s.place first effect) (second ∷ (items ++ item ∷ [])) | Begins begun ↦ cut own (after_two own s begun second) (items ++ item ∷ []) ])
+    (one_more own (elim t [ Does effect ↦ cut own (over s s.place first effect) (second ∷ items) | Begins begun ↦ cut own (after_two own s begun second) items ]) item)) [
+      | Does effect ↦ cut-more own (over s s.place first effect) (second ∷ items) item
+      | Begins begun ↦ cut-more own (after_two own s begun second) items item
     ]
 
-next_answers-more : (own : ℕ) (s : Standing) (item : Item) (b : Option Begun) → answers_in (next_group own s item b).standing.past ≡ answers_in s.past ++ next_answers own s item b
-next_answers-more own s item None = refl
-next_answers-more own s item (Some begun) = sym (append-nil (answers_in s.past))
+next_answers-more : (s : Standing) (item : Item) (t : Turn) → answers_in (next_group s item t).standing.past ≡ answers_in s.past ++ next_answers t
+next_answers-more s item (Does effect) = refl
+next_answers-more s item (Begins begun) = sym (append-nil (answers_in s.past))
 
 answers_after-more : (own : ℕ) (s : Standing) (b : Option Begun) (item : Item) → answers_in (more_after own s b item).standing.past ≡ answers_in s.past ++ answers_after own s b item
-answers_after-more own s None item = next_answers-more own s item (begins_in (scene_of own s) s.place item)
+answers_after-more own s None item = next_answers-more s item (turn_at own s item)
 answers_after-more own s (Some begun) item = refl
 
 Answers-then : (own : ℕ) (items : List Item) (item : Item) → Answers own (items ++ item ∷ []) ≡ Answers own items ++ answers_of own (stands_after own items) item

@@ -3,18 +3,17 @@ use Rattle.std.proofs.Common.{ℕ, List, [], Option, Some, None}
 use Rattle.dap_msg.specs.Message.{Message}
 use Rattle.dap_msg.specs.Items.{Item}
 use Rattle.dap_accessed.specs.Standing.{Standing}
-use Rattle.dap_accessed.specs.Past.{looked_back}
-use Rattle.dap_accessed.specs.Exchange.{Begun, begins_in, effect_of, effect_with}
-use Rattle.dap_accessed.specs.Groups.{Cut, scene_of, after_one, after_two}
+use Rattle.dap_accessed.specs.Exchange.{Begun, Turn, Does, Begins, effect_with}
+use Rattle.dap_accessed.specs.Groups.{Cut, scene_of, turn_at, over, after_two}
 
 -- ---- Where an end stands then.
 
-abbrev pub next_group : ℕ → Standing → Item → Option Begun → Cut
-next_group own s item None = record { standing = after_one own s item; begun = None }
-next_group own s item (Some begun) = record { standing = s; begun = Some begun }
+abbrev pub next_group : Standing → Item → Turn → Cut
+next_group s item (Does effect) = record { standing = over s s.place item effect; begun = None }
+next_group s item (Begins begun) = record { standing = s; begun = Some begun }
 
 abbrev pub more_after : ℕ → Standing → Option Begun → Item → Cut
-more_after own s None item = next_group own s item (begins_in (scene_of own s) s.place item)
+more_after own s None item = next_group s item (turn_at own s item)
 more_after own s (Some begun) item = record { standing = after_two own s begun item; begun = None }
 
 abbrev pub one_more : ℕ → Cut → Item → Cut
@@ -22,12 +21,12 @@ one_more own c item = more_after own c.standing c.begun item
 
 -- ---- Its answers.
 
-abbrev pub next_answers : ℕ → Standing → Item → Option Begun → List Message
-next_answers own s item None = (effect_of (scene_of own s) (looked_back s.place s.past) s.place item).answers
-next_answers own s item (Some begun) = []
+abbrev pub next_answers : Turn → List Message
+next_answers (Does effect) = effect.answers
+next_answers (Begins begun) = []
 
 abbrev pub answers_after : ℕ → Standing → Option Begun → Item → List Message
-answers_after own s None item = next_answers own s item (begins_in (scene_of own s) s.place item)
+answers_after own s None item = next_answers (turn_at own s item)
 answers_after own s (Some begun) item =
     (effect_with begun.change (scene_of own s) begun.opened begun.stream item).answers
 

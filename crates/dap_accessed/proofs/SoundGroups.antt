@@ -7,6 +7,7 @@ use Rattle.dap_msg.specs.Exchange.{limit_of, greatest_message}
 use Rattle.dap_msg.specs.Items.{Item, Whole, Malformed}
 use Rattle.rec_file.specs.declared.shapes.Shape.{Shape}
 use Rattle.rec_file.specs.declared.refusals.Refusal.{Refusal}
+use Rattle.rec_file.specs.declared.refusals.Refusal.TheVariants.{NotPermitted}
 use Rattle.rec_file.specs.declared.picks.Pick.{Pick}
 use Rattle.std.specs.Prelude.{◌&&◌, nat_le}
 use Rattle.std.proofs.Common.{cond}
@@ -31,11 +32,11 @@ use Rattle.dap_accessed.specs.Lists.{leading, from_failing}
 use Rattle.dap_accessed.specs.Standing.{Files, place_of, with_file, without_file, the_file, Place, Fresh, Ready, Opened, Connected, Store, Stopped, Group, Standing, Scene, Effect, start}
 use Rattle.dap_accessed.specs.Past.{Memory, looked_back, shape_of, kept_attributes}
 use Rattle.dap_accessed.specs.Accesses.{open_file, create_file, access_as, access_kind, AccessKind, Opening, Creating, NoAccess, complete, completing, Completing, Closing, Purging, EndingStream, Skipping, NoCompletion}
-use Rattle.dap_accessed.specs.Records.{at_number, verb_of, get_pick, found, got, record_got, settled, Change, Putting, Updating, changed, fits_limit}
-use Rattle.dap_accessed.specs.Transfers.{fetch, fetch_ends, fetch_if, going, Going, Again, Skip, Abort, Resume, NoGoing, continue_fetch, store_one, continue_store}
+use Rattle.dap_accessed.specs.Records.{at_number, verb_of, get_pick, record_given, record_too_large, got, record_got, refused, settled, Change, Putting, Updating, changed, fits_limit}
+use Rattle.dap_accessed.specs.Transfers.{fetch, fetch_ends, going, Going, Again, Skip, Abort, Resume, NoGoing, continue_fetch, store_one, drop_one, continue_store}
 use Rattle.dap_msg.specs.Exchange.{is_too_small}
-use Rattle.dap_accessed.specs.Exchange.{configure, control_opened, control_connected, effect_in, effect_of, effect_with, Begun, begins_in, begun_by, change_begun}
-use Rattle.dap_accessed.specs.Groups.{scene_of, after_one, after_two}
+use Rattle.dap_accessed.specs.Exchange.{Begun, Turn, Does, Begins, sync, config_refused, configured, control_opened, control_connected, turn_in, turn_of, effect_with}
+use Rattle.dap_accessed.specs.Groups.{scene_of, turn_at, after_two}
 use Rattle.dap_accessed.specs.Sound.{AllFiles, AreDistinct, IsOpenAt, IsSoundAt, IsSound}
 use Rattle.dap_accessed.proofs.OneMore.{next_group, more_after}
 use Rattle.dap_accessed.proofs.Tables.{length-with}
@@ -96,6 +97,11 @@ within-of false n len f = tt
 
 pub place-within : (name : List ℕ) (files : Files) → IfSome (place_of name files) (λ n. n < length files)
 place-within name files = within-of _ _ _ (λ e. grind (arith, nat_tests))
+
+-- the end that a turn leaves is sound, or the open file is in the table
+abbrev IsSoundTurn : Scene → Turn → Type 0
+IsSoundTurn scene (Does e) = IsSoundAt e.files e.limit e.place
+IsSoundTurn scene (Begins b) = b.opened.at < length scene.files
 
 module _ (scene : Scene) (files : AllFiles scene.files) (distinct : AreDistinct scene.files) (least : 64 ≤ scene.limit) (most : scene.limit ≤ greatest_message) where
   abbrev Leaves : Effect → Type 0
@@ -164,7 +170,7 @@ module _ (scene : Scene) (files : AllFiles scene.files) (distinct : AreDistinct 
   -- ---- Records.
 
   module _ (o : OpenFile) (h : o.at < length scene.files) where
-    finding : (fits : Bool) (before after : StreamVal) (r : ℕ × List ℕ) → Leaves (found fits scene o before after r)
+    finding : (fits : Bool) (before after : StreamVal) (r : ℕ × List ℕ) → Leaves (if fits then record_given scene o after r else record_too_large scene o before)
     finding true before after r = entering (Connected o after) h
     finding false before after r = entering (Connected o _) h
 
@@ -192,7 +198,7 @@ module _ (scene : Scene) (files : AllFiles scene.files) (distinct : AreDistinct 
         let due = records_from (the_file scene.files o).records s.next in
         fetch-ends s (leading (fits_limit scene.limit) due) (from_failing (fits_limit scene.limit) due)
 
-    fetching-if : (permitted : Bool) (s : StreamVal) → Leaves (fetch_if permitted scene o s)
+    fetching-if : (permitted : Bool) (s : StreamVal) → Leaves (if permitted then fetch scene o s else refused scene o s NotPermitted)
     fetching-if true s = fetching s
     fetching-if false s = entering (Connected o _) h
 
@@ -203,18 +209,21 @@ module _ (scene : Scene) (files : AllFiles scene.files) (distinct : AreDistinct 
     continuing Resume s = entering (Stopped o s) h
     continuing NoGoing s = entering (Stopped o s) h
 
-    storing : (dropping : Bool) (ordinal : ℕ) (s : StreamVal) (body : List ℕ) → Leaves (store_one dropping ordinal scene o s body)
+    storing : (dropping : Bool) (ordinal : ℕ) (s : StreamVal) (body : List ℕ) → Leaves (if dropping then drop_one scene o s else store_one ordinal scene o s body)
     storing true ordinal s body = entering (Store o s) h
     storing false ordinal s body =
         changing (put_record None body) o s (Store o (act (put_record None body) (the_file scene.files o) s).stream) h (still o (act (put_record None body) (the_file scene.files o) s).file h)
 
-    resuming : (dropping : Bool) (g : Going) (s : StreamVal) (func : ℕ) → Leaves (continue_store dropping g scene o s func)
-    resuming false g s func = entering (Store o s) h
-    resuming true Again s func = entering (Store o s) h
-    resuming true Skip s func = entering (Store o s) h
-    resuming true Abort s func = entering (Store o s) h
-    resuming true Resume s func = entering (Store o s) h
-    resuming true NoGoing s func = entering (Store o s) h
+    resuming : (g : Going) (s : StreamVal) → Leaves (continue_store g scene o s)
+    resuming Again s = entering (Store o s) h
+    resuming Skip s = entering (Store o s) h
+    resuming Abort s = entering (Store o s) h
+    resuming Resume s = entering (Store o s) h
+    resuming NoGoing s = entering (Store o s) h
+
+    resuming-if : (dropping : Bool) (s : StreamVal) (func : ℕ) → Leaves (if dropping then continue_store (going func) scene o s else sync scene (Store o s) (Contran func))
+    resuming-if true s func = resuming (going func) s
+    resuming-if false s func = entering (Store o s) h
 
     -- ---- The places.
 
@@ -222,9 +231,11 @@ module _ (scene : Scene) (files : AllFiles scene.files) (distinct : AreDistinct 
     opened-control verbs.Connect = entering (Connected o _) h
     opened-control verb = entering (Opened o) h
 
-    connected-control : (verb : Verb) (s : StreamVal) (c : ControlFields) → Leaves (control_connected verb scene o s c)
+    connected-control : (verb : Verb) (s : StreamVal) (c : ControlFields) → IsSoundTurn scene (control_connected verb scene o s c)
     connected-control verbs.Get s c = picked (get_pick (the_file scene.files o) s c) s
     connected-control verbs.Fetch s c = fetching-if s.rights.get s
+    connected-control verbs.Put s c = h
+    connected-control verbs.Update s c = h
     connected-control verbs.Store s c = entering (Store o s) h
     connected-control verbs.Delete s c = settling delete_record o s h
     connected-control verbs.Rewind s c = entering (Connected o _) h
@@ -235,12 +246,12 @@ module _ (scene : Scene) (files : AllFiles scene.files) (distinct : AreDistinct 
     with-second change s (Whole (Filedata r body)) = second change s body
     with-second change s (Whole message) = entering (Connected o s) h
 
-  configuring : (small : Bool) (bufsiz : ℕ) → is_too_small bufsiz ≡ small → Leaves (configure small scene bufsiz)
+  configuring : (small : Bool) (bufsiz : ℕ) → is_too_small bufsiz ≡ small → Leaves (if small then config_refused scene else configured scene bufsiz)
   configuring true bufsiz e = entering Fresh tt
   configuring false bufsiz e =
       record { files = files; distinct = distinct; opened = tt; least = limit-least bufsiz e; most = limit-most bufsiz }
 
-  of-message : (memory : Memory) → Good memory.shape → (place : Place) → IsOpenAt scene.files place → (m : Message) → Leaves (effect_in scene memory place m)
+  of-message : (memory : Memory) → Good memory.shape → (place : Place) → IsOpenAt scene.files place → (m : Message) → IsSoundTurn scene (turn_in scene memory place m)
   of-message memory g Fresh h (Config c) = configuring (is_too_small c.bufsiz) c.bufsiz refl
   of-message memory g Fresh h m = entering Fresh tt
   of-message memory g Ready h (Access a) = accessing (access_kind a.func) a memory.shape g
@@ -252,14 +263,14 @@ module _ (scene : Scene) (files : AllFiles scene.files) (distinct : AreDistinct 
   of-message memory g (Connected o s) h (Accomp c) = completed-soundly (completing c.func) o (Connected o s) _ h (entering (Opened o) h)
   of-message memory g (Connected o s) h m = entering (Connected o s) h
   of-message memory g (Store o s) h (Filedata r body) = storing o h memory.dropping memory.ordinal s body
-  of-message memory g (Store o s) h (Contran func) = resuming o h memory.dropping (going func) s func
+  of-message memory g (Store o s) h (Contran func) = resuming-if o h memory.dropping s func
   of-message memory g (Store o s) h (Accomp c) = completed-soundly (completing c.func) o (Store o s) _ h (entering (Opened o) h)
   of-message memory g (Store o s) h m = entering (Store o s) h
   of-message memory g (Stopped o s) h (Contran func) = continuing o h (going func) s
   of-message memory g (Stopped o s) h (Accomp c) = completed-soundly (completing c.func) o (Stopped o s) _ h (entering (Opened o) h)
   of-message memory g (Stopped o s) h m = entering (Stopped o s) h
 
-  pub of-item : (memory : Memory) → Good memory.shape → (place : Place) → IsOpenAt scene.files place → (item : Item) → Leaves (effect_of scene memory place item)
+  pub of-item : (memory : Memory) → Good memory.shape → (place : Place) → IsOpenAt scene.files place → (item : Item) → IsSoundTurn scene (turn_of scene memory place item)
   of-item memory g place h (Malformed fault) = entering place h
   of-item memory g place h (Whole m) = of-message memory g place h m
 
@@ -271,31 +282,17 @@ module _ (scene : Scene) (files : AllFiles scene.files) (distinct : AreDistinct 
 pub start-sound : IsSound (record { standing = start; begun = None })
 start-sound = record { standing = record { files = tt; distinct = tt; opened = tt; least = lit≤ tt; most = lit≤ tt }; begun = tt }
 
-one-sound : (own : ℕ) (s : Standing) (item : Item) → IsSoundAt s.files s.limit s.place → let t = after_one own s item in IsSoundAt t.files t.limit t.place
+one-sound : (own : ℕ) (s : Standing) (item : Item) → IsSoundAt s.files s.limit s.place → IsSoundTurn (scene_of own s) (turn_at own s item)
 one-sound own s item h =
     of-item (scene_of own s) h.files h.distinct h.least h.most (looked_back s.place s.past) (good-memory s.place s.past) s.place h.opened item
 
 two-sound : (own : ℕ) (s : Standing) (b : Begun) (item : Item) → IsSoundAt s.files s.limit s.place → b.opened.at < length s.files → let t = after_two own s b item in IsSoundAt t.files t.limit t.place
 two-sound own s b item h there = of-second (scene_of own s) h.files h.distinct h.least h.most b.change b.opened b.stream item there
 
-change-there : (item : Item) (o : OpenFile) (s : StreamVal) (change : Option Change) (len : ℕ) → o.at < len → IfSome (begun_by item o s change) (λ b. b.opened.at < len)
-change-there item o s None len h = tt
-change-there item o s (Some change) len h = h
-
-begun-there : (scene : Scene) (place : Place) (item : Item) → IsOpenAt scene.files place → IfSome (begins_in scene place item) (λ b. b.opened.at < length scene.files)
-begun-there scene (Connected o s) (Whole (Control c)) h = change-there (Whole (Control c)) o s (change_begun (verb_of c) scene o s c) (length scene.files) h
-begun-there scene (Connected o s) (Whole m) h = tt
-begun-there scene (Connected o s) (Malformed fault) h = tt
-begun-there scene Fresh item h = tt
-begun-there scene Ready item h = tt
-begun-there scene (Opened o) item h = tt
-begun-there scene (Store o s) item h = tt
-begun-there scene (Stopped o s) item h = tt
-
-next-sound : (own : ℕ) (s : Standing) (item : Item) (b : Option Begun) → IsSoundAt s.files s.limit s.place → IfSome b (λ b. b.opened.at < length s.files) → IsSound (next_group own s item b)
-next-sound own s item None h there = record { standing = one-sound own s item h; begun = tt }
-next-sound own s item (Some b) h there = record { standing = h; begun = there }
+next-sound : (own : ℕ) (s : Standing) (item : Item) (t : Turn) → IsSoundAt s.files s.limit s.place → IsSoundTurn (scene_of own s) t → IsSound (next_group s item t)
+next-sound own s item (Does e) h sound = record { standing = sound; begun = tt }
+next-sound own s item (Begins b) h there = record { standing = h; begun = there }
 
 pub more-sound : (own : ℕ) (s : Standing) (b : Option Begun) (item : Item) → IsSound (record { standing = s; begun = b }) → IsSound (more_after own s b item)
-more-sound own s None item h = next-sound own s item (begins_in (scene_of own s) s.place item) h.standing (begun-there (scene_of own s) s.place item h.standing.opened)
+more-sound own s None item h = next-sound own s item (turn_at own s item) h.standing (one-sound own s item h.standing)
 more-sound own s (Some b) item h = record { standing = two-sound own s b item h.standing h.begun; begun = tt }

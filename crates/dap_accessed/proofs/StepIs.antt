@@ -13,8 +13,8 @@ use Rattle.dap_accessed.specs.Lists.{leading}
 use Rattle.dap_accessed.specs.Standing.{Files, Place, Group, Standing, Effect, Fresh, Ready, Opened, Connected, Store, Stopped}
 use Rattle.dap_accessed.specs.Past.{Memory, looked_back, shape_of, kept_attributes, is_dropping, ordinal_so_far, this_store, is_skip, is_filedata, was_refused, greatest_ordinal, next_ordinal}
 use Rattle.dap_accessed.specs.Records.{Change, Putting, Updating}
-use Rattle.dap_accessed.specs.Exchange.{Begun, begins_in, effect_of, effect_with}
-use Rattle.dap_accessed.specs.Groups.{Cut, over, scene_of, added, stands_after}
+use Rattle.dap_accessed.specs.Exchange.{Begun, Turn, Does, Begins, turn_of, effect_with}
+use Rattle.dap_accessed.specs.Groups.{Cut, over, scene_of, turn_at, added, stands_after}
 use Rattle.dap_accessed.specs.Present.{Present, present_of, phase_at, store_phase, StandsAfter}
 use Rattle.dap_accessed.specs.Inner.Moves.{Move, move, move_in, between, turns, settles, remembers, plain_memory, store_memory, scene_in, drops_next, ordinal_next}
 use Rattle.dap_accessed.proofs.OneMore.{next_group, next_answers, one_more, answers_of}
@@ -120,19 +120,17 @@ module _ (own : ℕ) (files : Files) (limit : ℕ) (past : List Group) where
     pub same_present : present ≡ step.present
     pub same_answers : answers ≡ step.answers
 
-  turned : (place : Place) (item : Item) (b : Option Begun) →
-      Agrees (turns b (kept_at place) (looked_back place past) place item (effect_of (scene_of own (at place)) (looked_back place past) place item))
-      (present_of own (next_group own (at place) item b)) (next_answers own (at place) item b)
-  turned place item None =
-      record { same_present = after-group (kept_at place) (at place) place item (effect_of (scene_of own (at place)) (looked_back place past) place item) refl refl; same_answers = refl }
-  turned place item (Some begun) = record { same_present = refl; same_answers = refl }
+  turned : (place : Place) (item : Item) (t : Turn) →
+      Agrees (turns t (kept_at place) (looked_back place past) place item) (present_of own (next_group (at place) item t)) (next_answers t)
+  turned place item (Does effect) = record { same_present = after-group (kept_at place) (at place) place item effect refl refl; same_answers = refl }
+  turned place item (Begins begun) = record { same_present = refl; same_answers = refl }
 
   abbrev Follows : Place → Item → Move → Type 0
   Follows place item step =
-      Agrees step (present_of own (next_group own (at place) item (begins_in (scene_of own (at place)) place item))) (next_answers own (at place) item (begins_in (scene_of own (at place)) place item))
+      Agrees step (present_of own (next_group (at place) item (turn_at own (at place) item))) (next_answers (turn_at own (at place) item))
 
   follows : (place : Place) (item : Item) → Follows place item (between (kept_at place) (looked_back place past) place item)
-  follows place item = turned place item (begins_in (scene_of own (at place)) place item)
+  follows place item = turned place item (turn_at own (at place) item)
 
   store-moves : (d : Bool) (o : OpenFile) (s : StreamVal) (n : ℕ) (p : Present) (item : Item) → move_in (store_phase d o s n) p item ≡ between p (store_memory p.kept d n) (Store o s) item
   store-moves true o s n p item = refl
@@ -176,20 +174,23 @@ pub answers-move : (own : ℕ) (items : List Item) (item : Item) → added own i
 answers-move own items item = let c = stands_after own items in added-is own items item ∙ (step-is own c.standing c.begun item).same_answers
 
 -- an end's own BUFSIZ stays
-turns-own : (b : Option Begun) (p : Present) (memory : Memory) (place : Place) (item : Item) (e : Effect) → (turns b p memory place item e).present.own ≡ p.own
-turns-own None p memory place item e = refl
-turns-own (Some begun) p memory place item e = refl
+turns-own : (t : Turn) (p : Present) (memory : Memory) (place : Place) (item : Item) → (turns t p memory place item).present.own ≡ p.own
+turns-own (Does effect) p memory place item = refl
+turns-own (Begins begun) p memory place item = refl
+
+between-own : (p : Present) (memory : Memory) (place : Place) (item : Item) → (between p memory place item).present.own ≡ p.own
+between-own p memory place item = turns-own (turn_of (scene_in p) memory place item) p memory place item
 
 moves-own : (phase : Phase) (p : Present) (item : Item) → (move_in phase p item).present.own ≡ p.own
-moves-own phases.Fresh p item = refl
-moves-own phases.Ready p item = refl
-moves-own (phases.Opened o) p item = refl
-moves-own (phases.Connected o s) p item = turns-own (begins_in (scene_in p) (Connected o s) item) p (plain_memory p.kept) (Connected o s) item (effect_of (scene_in p) (plain_memory p.kept) (Connected o s) item)
+moves-own phases.Fresh p item = between-own p (plain_memory p.kept) Fresh item
+moves-own phases.Ready p item = between-own p (plain_memory p.kept) Ready item
+moves-own (phases.Opened o) p item = between-own p (plain_memory p.kept) (Opened o) item
+moves-own (phases.Connected o s) p item = between-own p (plain_memory p.kept) (Connected o s) item
 moves-own (phases.PutDue o s key) p item = refl
 moves-own (phases.UpdateDue o s) p item = refl
-moves-own (phases.Storing o s n) p item = refl
-moves-own (phases.Dropping o s n) p item = refl
-moves-own (phases.Stopped o s) p item = refl
+moves-own (phases.Storing o s n) p item = between-own p (store_memory p.kept false n) (Store o s) item
+moves-own (phases.Dropping o s n) p item = between-own p (store_memory p.kept true n) (Store o s) item
+moves-own (phases.Stopped o s) p item = between-own p (plain_memory p.kept) (Stopped o s) item
 
 pub same-own : (p : Present) (item : Item) → (move p item).present.own ≡ p.own
 same-own p item = moves-own p.phase p item

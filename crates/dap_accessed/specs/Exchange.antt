@@ -1,10 +1,12 @@
--- What each group of items does, and its answers, by the place in which it is served (DAP 5.6.0, message sequences;
--- the answers to a message that has no place are own).
-use Rattle.std.specs.Prelude.{ℕ, Bool, true, false, [], ◌∷◌, Option, Some, None}
+-- What each item does, and its answers, by the place in which it is served (DAP 5.6.0, message sequences; the answers
+-- to a message that has no place are own).
+use Rattle.std.specs.Prelude.{ℕ, if◌then◌else◌, [], ◌∷◌, Option}
 use Rattle.dap_msg.specs.Codes as codes
 use Rattle.dap_msg.specs.Message.{Message, Config, Attrib, Access, Control, Contran, Ack, Accomp, Filedata, Other, ControlFields}
 use Rattle.dap_msg.specs.Exchange.{limit_of, config_of, is_too_small}
 use Rattle.dap_msg.specs.Items.{Item, Whole, Malformed}
+use Rattle.rec_file.specs.declared.refusals.Refusal.TheVariants.{NotPermitted}
+use Rattle.rec_file.specs.declared.shapes.Shape.{Shape}
 use Rattle.rec_file.specs.Acts.{StreamVal, delete_record, act}
 use Rattle.dap_accessed.specs.declared.phase.OpenFile.{OpenFile}
 use Rattle.dap_accessed.specs.declared.verbs.Verb.{Verb}
@@ -13,17 +15,25 @@ use Rattle.dap_accessed.specs.Standing.{the_file, Place, Fresh, Ready, Opened, C
 use Rattle.dap_accessed.specs.Replies.{bare_status, sync_status}
 use Rattle.dap_accessed.specs.Past.{Memory}
 use Rattle.dap_accessed.specs.Accesses.{access_as, access_kind, complete, completing, end_stream}
-use Rattle.dap_accessed.specs.Records.{at_number, new_stream, verb_of, get_pick, record_got, put_key, settled, Change, Putting, Updating, changed}
-use Rattle.dap_accessed.specs.Transfers.{fetch_if, going, continue_fetch, store_one, continue_store}
+use Rattle.dap_accessed.specs.Records.{at_number, new_stream, verb_of, get_pick, record_got, put_key, refused, settled, Change, Putting, Updating, changed}
+use Rattle.dap_accessed.specs.Transfers.{fetch, going, continue_fetch, store_one, drop_one, continue_store}
+
+-- what a group of two begins with, and where it stands
+pub record Begun : Type 0 where
+  pub first : Item
+  pub opened : OpenFile
+  pub stream : StreamVal
+  pub change : Change
+
+-- What an item does that is not the second of a group: it is a group by itself, with this effect, or it begins one of
+-- two, and has no effect yet.
+pub data Turn : Type 0 where
+  Does : Effect → Turn
+  Begins : Begun → Turn
 
 -- a message that has no place here changes nothing
 abbrev pub sync : Scene → Place → Message → Effect
 sync scene place message = enters scene place (sync_status message ∷ [])
-
-abbrev pub configure : (too_small : Bool) → Scene → (bufsiz : ℕ) → Effect
-configure true scene bufsiz = enters scene Fresh (bare_status (codes.invalid codes.type_configuration) ∷ [])
-configure false scene bufsiz =
-    record { files = scene.files; limit = limit_of bufsiz; place = Ready; answers = config_of scene.own ∷ [] }
 
 -- a Control that has no place; one that this end doesn't know has none anywhere
 abbrev pub control_status : Verb → Message
@@ -33,83 +43,115 @@ control_status verb = bare_status (codes.out_of_place codes.type_control)
 abbrev pub refuse_control : Verb → Scene → Place → Effect
 refuse_control verb scene place = enters scene place (control_status verb ∷ [])
 
+-- ---- Fresh.
+
+-- a Config with a buffer that is too small, and any other
+abbrev pub config_refused : Scene → Effect
+config_refused scene = enters scene Fresh (bare_status (codes.invalid codes.type_configuration) ∷ [])
+
+abbrev pub configured : Scene → (bufsiz : ℕ) → Effect
+configured scene bufsiz =
+    record { files = scene.files; limit = limit_of bufsiz; place = Ready; answers = config_of scene.own ∷ [] }
+
+abbrev pub effect_fresh : Scene → Message → Effect
+effect_fresh scene (Config c) = if is_too_small c.bufsiz then config_refused scene else configured scene c.bufsiz
+effect_fresh scene (Other _ _) = enters scene Fresh []
+effect_fresh scene message = sync scene Fresh message
+
+-- ---- Ready.
+
+-- an Access may make a file, of the shape that is given
+abbrev pub effect_ready : Scene → Option Shape → Message → Effect
+effect_ready scene shape (Other _ _) = enters scene Ready []
+effect_ready scene shape (Attrib _) = enters scene Ready []
+effect_ready scene shape (Access access) = access_as (access_kind access.func) scene access shape
+effect_ready scene shape message = sync scene Ready message
+
+-- ---- Opened.
+
 abbrev pub control_opened : Verb → Scene → OpenFile → Effect
 control_opened verbs.Connect scene opened = enters scene (Connected opened (new_stream opened.rights)) (Ack ∷ [])
 control_opened verb scene opened = refuse_control verb scene (Opened opened)
 
--- a PUT or an UPDATE isn't a group by itself
-abbrev pub control_connected : Verb → Scene → OpenFile → StreamVal → ControlFields → Effect
-control_connected verbs.Get scene opened stream control =
-    record_got (get_pick (the_file scene.files opened) stream control) scene opened stream
-control_connected verbs.Fetch scene opened stream control = fetch_if stream.rights.get scene opened stream
-control_connected verbs.Store scene opened stream control = enters scene (Store opened stream) []
-control_connected verbs.Delete scene opened stream control =
-    settled scene opened (act delete_record (the_file scene.files opened) stream)
-control_connected verbs.Rewind scene opened stream control =
-    enters scene (Connected opened (at_number 1 stream)) (bare_status codes.success ∷ [])
-control_connected verb scene opened stream control = refuse_control verb scene (Connected opened stream)
-
--- what a whole message does that is a group by itself
-abbrev pub effect_in : Scene → Memory → Place → Message → Effect
-effect_in scene memory Fresh (Config c) = configure (is_too_small c.bufsiz) scene c.bufsiz
-effect_in scene memory Fresh (Other _ _) = enters scene Fresh []
-effect_in scene memory Ready (Other _ _) = enters scene Ready []
-effect_in scene memory Ready (Attrib _) = enters scene Ready []
-effect_in scene memory Ready (Access access) = access_as (access_kind access.func) scene access memory.shape
-effect_in scene memory (Opened opened) (Control control) = control_opened (verb_of control) scene opened
-effect_in scene memory (Opened opened) (Accomp c) =
+abbrev pub effect_opened : Scene → OpenFile → Message → Effect
+effect_opened scene opened (Control control) = control_opened (verb_of control) scene opened
+effect_opened scene opened (Accomp c) =
     complete (completing c.func) scene opened (Opened opened) (sync scene (Opened opened) (Accomp c))
-effect_in scene memory (Connected opened stream) (Control control) =
+effect_opened scene opened message = sync scene (Opened opened) message
+
+-- ---- Connected.
+
+-- a Control that has the item after it in its group
+abbrev pub begins_with : ControlFields → OpenFile → StreamVal → Change → Turn
+begins_with control opened stream change =
+    Begins (record { first = Whole (Control control); opened = opened; stream = stream; change = change })
+
+-- a PUT and an UPDATE begin a group of two
+abbrev pub control_connected : Verb → Scene → OpenFile → StreamVal → ControlFields → Turn
+control_connected verbs.Get scene opened stream control =
+    Does (record_got (get_pick (the_file scene.files opened) stream control) scene opened stream)
+control_connected verbs.Fetch scene opened stream control =
+    Does (if stream.rights.get then fetch scene opened stream else refused scene opened stream NotPermitted)
+control_connected verbs.Put scene opened stream control =
+    begins_with control opened stream (Putting (put_key (the_file scene.files opened) stream control))
+control_connected verbs.Update scene opened stream control = begins_with control opened stream Updating
+control_connected verbs.Store scene opened stream control = Does (enters scene (Store opened stream) [])
+control_connected verbs.Delete scene opened stream control =
+    Does (settled scene opened (act delete_record (the_file scene.files opened) stream))
+control_connected verbs.Rewind scene opened stream control =
+    Does (enters scene (Connected opened (at_number 1 stream)) (bare_status codes.success ∷ []))
+control_connected verb scene opened stream control = Does (refuse_control verb scene (Connected opened stream))
+
+abbrev pub turn_connected : Scene → OpenFile → StreamVal → Message → Turn
+turn_connected scene opened stream (Control control) =
     control_connected (verb_of control) scene opened stream control
-effect_in scene memory (Connected opened stream) (Accomp c) =
-    complete (completing c.func) scene opened (Connected opened stream) (end_stream scene opened)
-effect_in scene memory (Store opened stream) (Control control) =
+turn_connected scene opened stream (Accomp c) =
+    Does (complete (completing c.func) scene opened (Connected opened stream) (end_stream scene opened))
+turn_connected scene opened stream message = Does (sync scene (Connected opened stream) message)
+
+-- ---- Store. A Continue Transfer has a place only after a Filedata that was refused.
+
+abbrev pub effect_store : Scene → Memory → OpenFile → StreamVal → Message → Effect
+effect_store scene memory opened stream (Control control) =
     refuse_control (verb_of control) scene (Store opened stream)
-effect_in scene memory (Store opened stream) (Filedata _ body) =
-    store_one memory.dropping memory.ordinal scene opened stream body
-effect_in scene memory (Store opened stream) (Contran func) =
-    continue_store memory.dropping (going func) scene opened stream func
-effect_in scene memory (Store opened stream) (Accomp c) =
+effect_store scene memory opened stream (Filedata _ body) =
+    if memory.dropping then drop_one scene opened stream else store_one memory.ordinal scene opened stream body
+effect_store scene memory opened stream (Contran func) =
+    if memory.dropping then continue_store (going func) scene opened stream
+    else sync scene (Store opened stream) (Contran func)
+effect_store scene memory opened stream (Accomp c) =
     complete (completing c.func) scene opened (Store opened stream) (end_stream scene opened)
-effect_in scene memory (Stopped opened stream) (Control control) =
+effect_store scene memory opened stream message = sync scene (Store opened stream) message
+
+-- ---- Stopped.
+
+abbrev pub effect_stopped : Scene → OpenFile → StreamVal → Message → Effect
+effect_stopped scene opened stream (Control control) =
     refuse_control (verb_of control) scene (Stopped opened stream)
-effect_in scene memory (Stopped opened stream) (Contran func) = continue_fetch (going func) scene opened stream
-effect_in scene memory (Stopped opened stream) (Accomp c) =
+effect_stopped scene opened stream (Contran func) = continue_fetch (going func) scene opened stream
+effect_stopped scene opened stream (Accomp c) =
     complete (completing c.func) scene opened (Stopped opened stream) (end_stream scene opened)
-effect_in scene memory place message = sync scene place message
+effect_stopped scene opened stream message = sync scene (Stopped opened stream) message
 
--- what an item does that is a group by itself; a malformed one has its format Status
-abbrev pub effect_of : Scene → Memory → Place → Item → Effect
-effect_of scene memory place (Malformed fault) =
-    enters scene place (bare_status (codes.status_code_for fault.message_type) ∷ [])
-effect_of scene memory place (Whole message) = effect_in scene memory place message
+-- ---- All places. Only in Connected does a message begin a group of two.
 
--- ---- Groups of two.
+abbrev pub turn_in : Scene → Memory → Place → Message → Turn
+turn_in scene memory Fresh message = Does (effect_fresh scene message)
+turn_in scene memory Ready message = Does (effect_ready scene memory.shape message)
+turn_in scene memory (Opened opened) message = Does (effect_opened scene opened message)
+turn_in scene memory (Connected opened stream) message = turn_connected scene opened stream message
+turn_in scene memory (Store opened stream) message = Does (effect_store scene memory opened stream message)
+turn_in scene memory (Stopped opened stream) message = Does (effect_stopped scene opened stream message)
 
--- what a group of two begins with, and where it stands
-pub record Begun : Type 0 where
-  pub first : Item
-  pub opened : OpenFile
-  pub stream : StreamVal
-  pub change : Change
+-- a malformed item has its format Status
+abbrev pub turn_of : Scene → Memory → Place → Item → Turn
+turn_of scene memory place (Malformed fault) =
+    Does (enters scene place (bare_status (codes.status_code_for fault.message_type) ∷ []))
+turn_of scene memory place (Whole message) = turn_in scene memory place message
 
--- A PUT or an UPDATE in Connected has the item after it in its group.
-abbrev pub change_begun : Verb → Scene → OpenFile → StreamVal → ControlFields → Option Change
-change_begun verbs.Put scene opened stream control = Some (Putting (put_key (the_file scene.files opened) stream control))
-change_begun verbs.Update scene opened stream control = Some Updating
-change_begun _ scene opened stream control = None
+-- ---- The second item of a group of two.
 
-abbrev pub begun_by : Item → OpenFile → StreamVal → Option Change → Option Begun
-begun_by first opened stream None = None
-begun_by first opened stream (Some change) =
-    Some (record { first = first; opened = opened; stream = stream; change = change })
-
-abbrev pub begins_in : Scene → Place → Item → Option Begun
-begins_in scene (Connected opened stream) (Whole (Control control)) =
-    begun_by (Whole (Control control)) opened stream (change_begun (verb_of control) scene opened stream control)
-begins_in scene _ _ = None
-
--- A second item that isn't a Filedata ends the group without its operation.
+-- one that isn't a Filedata ends the group without its operation
 abbrev pub effect_with : Change → Scene → OpenFile → StreamVal → Item → Effect
 effect_with change scene opened stream (Whole (Filedata _ body)) = changed change scene opened stream body
 effect_with change scene opened stream (Whole message) = sync scene (Connected opened stream) message

@@ -5,11 +5,15 @@ use Rattle.dap_msg.specs.Message.{Message}
 use Rattle.dap_msg.specs.Items.{Item}
 use Rattle.dap_accessed.specs.Standing.{Files, Place, Connected, Group, Standing, Scene, Effect, start}
 use Rattle.dap_accessed.specs.Past.{looked_back}
-use Rattle.dap_accessed.specs.Exchange.{Begun, begins_in, effect_of, effect_with}
+use Rattle.dap_accessed.specs.Exchange.{Begun, Turn, Does, Begins, turn_of, effect_with}
 
 -- what a group finds that is served now
 abbrev pub scene_of : ℕ → Standing → Scene
 scene_of own s = record { own = own; limit = s.limit; files = s.files }
+
+-- what an item does that is served now, outside a group of two
+abbrev pub turn_at : ℕ → Standing → Item → Turn
+turn_at own s item = turn_of (scene_of own s) (looked_back s.place s.past) s.place item
 
 -- the standing after a group
 abbrev pub over : Standing → Place → Item → Effect → Standing
@@ -20,9 +24,6 @@ over s place first effect =
       place = effect.place;
       past = record { place = place; first = first; answers = effect.answers } ∷ s.past;
     }
-
-abbrev pub after_one : ℕ → Standing → Item → Standing
-after_one own s item = over s s.place item (effect_of (scene_of own s) (looked_back s.place s.past) s.place item)
 
 abbrev pub after_two : ℕ → Standing → Begun → Item → Standing
 after_two own s begun second =
@@ -37,14 +38,14 @@ pub record Cut : Type 0 where
 abbrev pub cut : ℕ → Standing → List Item → Cut
 cut own s [] = record { standing = s; begun = None }
 cut own s (item ∷ []) =
-    elim (begins_in (scene_of own s) s.place item) [
-      | None ↦ record { standing = after_one own s item; begun = None }
-      | Some begun ↦ record { standing = s; begun = Some begun }
+    elim (turn_at own s item) [
+      | Does effect ↦ record { standing = over s s.place item effect; begun = None }
+      | Begins begun ↦ record { standing = s; begun = Some begun }
     ]
 cut own s (item ∷ second ∷ items) =
-    elim (begins_in (scene_of own s) s.place item) [
-      | None ↦ cut own (after_one own s item) (second ∷ items)
-      | Some begun ↦ cut own (after_two own s begun second) items
+    elim (turn_at own s item) [
+      | Does effect ↦ cut own (over s s.place item effect) (second ∷ items)
+      | Begins begun ↦ cut own (after_two own s begun second) items
     ]
 
 -- the answers of the groups, the oldest first

@@ -1,5 +1,5 @@
 -- Operations on records (DAP 5.6.0, Control message).
-use Rattle.std.specs.Prelude.{ℕ, Bool, true, false, not, ◌&&◌, ◌||◌, nat_lt, nat_le, ◌==◌, if◌then◌else◌, List, [], ◌∷◌, length, Option, Some, None, is_err, unwrap_or, Result, Ok, Err}
+use Rattle.std.specs.Prelude.{ℕ, Bool, not, ◌&&◌, ◌||◌, nat_lt, nat_le, ◌==◌, if◌then◌else◌, List, [], ◌∷◌, length, Option, Some, None, is_err, unwrap_or, Result, Ok, Err}
 use Rattle.std.specs.FinMap as map
 use Rattle.dap_msg.specs.Codes as codes
 use Rattle.dap_msg.specs.Message.{Message, ControlFields}
@@ -96,17 +96,18 @@ filedata_of r = record_of r.0 r.1
 abbrev pub fits_limit : ℕ → ℕ × List ℕ → Bool
 fits_limit limit r = nat_le (file_data_size 4 (length r.1)) limit
 
--- a record that was found, if its Filedata is within the limit; else the GET is refused
-abbrev pub found : (fits : Bool) → Scene → OpenFile → (before after : StreamVal) → ℕ × List ℕ → Effect
-found true scene opened before after r = enters scene (Connected opened after) (filedata_of r ∷ [])
-found false scene opened before after r = enters scene (Connected opened (uncurrent before)) (too_large ∷ [])
+abbrev pub record_given : Scene → OpenFile → StreamVal → ℕ × List ℕ → Effect
+record_given scene opened stream r = enters scene (Connected opened stream) (filedata_of r ∷ [])
 
--- with the reply of the operation
+abbrev pub record_too_large : Scene → OpenFile → StreamVal → Effect
+record_too_large scene opened stream = enters scene (Connected opened (uncurrent stream)) (too_large ∷ [])
+
+-- with the reply of the operation; a record whose Filedata is longer than the limit is a GET that is refused
 abbrev pub got : Result ℕ Refusal → Scene → OpenFile → (before after : StreamVal) → Effect
 got (Err refusal) scene opened before after = refused scene opened before refusal
 got (Ok n) scene opened before after =
     let r : ℕ × List ℕ = (n, unwrap_or (map.get (the_file scene.files opened).records n) []) in
-    found (fits_limit scene.limit r) scene opened before after r
+    if fits_limit scene.limit r then record_given scene opened after r else record_too_large scene opened before
 
 abbrev pub record_got : Result Pick Refusal → Scene → OpenFile → StreamVal → Effect
 record_got (Err refusal) scene opened stream = refused scene opened stream refusal

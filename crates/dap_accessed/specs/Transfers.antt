@@ -1,18 +1,17 @@
 -- Sequential file transfer, and Continue Transfer (DAP 5.6.0, Continue Transfer message; where a fetch stops is own).
-use Rattle.std.specs.Prelude.{ℕ, ◌+◌, Bool, true, false, ◌==◌, if◌then◌else◌, List, [], ◌∷◌, ◌++◌, map, None, Result, Ok, Err}
+use Rattle.std.specs.Prelude.{ℕ, ◌+◌, ◌==◌, if◌then◌else◌, List, [], ◌∷◌, ◌++◌, map, None, Result, Ok, Err}
 use Rattle.dap_msg.specs.Codes as codes
-use Rattle.dap_msg.specs.Message.{Message, Contran}
+use Rattle.dap_msg.specs.Message.{Message}
 use Rattle.dap_msg.specs.Exchange.{four_bytes}
 use Rattle.rec_file.specs.declared.refusals.Refusal.{Refusal}
-use Rattle.rec_file.specs.declared.refusals.Refusal.TheVariants.{NotPermitted}
 use Rattle.rec_file.specs.Files.{records_from}
 use Rattle.rec_file.specs.Acts.{StreamVal, put_record, act}
 use Rattle.dap_accessed.specs.declared.phase.OpenFile.{OpenFile}
 use Rattle.dap_accessed.specs.Lists.{leading, from_failing, behind}
 use Rattle.dap_accessed.specs.Standing.{with_file, the_file, Connected, Store, Stopped, Scene, Effect, enters, leaves}
-use Rattle.dap_accessed.specs.Replies.{bare_status, sync_status, refusal_status, too_large, end_of_file}
+use Rattle.dap_accessed.specs.Replies.{bare_status, refusal_status, too_large, end_of_file}
 use Rattle.dap_accessed.specs.Past.{next_ordinal}
-use Rattle.dap_accessed.specs.Records.{at_number, refused, filedata_of, fits_limit}
+use Rattle.dap_accessed.specs.Records.{at_number, filedata_of, fits_limit}
 
 -- ---- To the peer.
 
@@ -28,10 +27,6 @@ abbrev pub fetch : Scene → OpenFile → StreamVal → Effect
 fetch scene opened stream =
     let due = records_from (the_file scene.files opened).records stream.next in
     fetch_ends scene opened stream (leading (fits_limit scene.limit) due) (from_failing (fits_limit scene.limit) due)
-
-abbrev pub fetch_if : (permitted : Bool) → Scene → OpenFile → StreamVal → Effect
-fetch_if true scene opened stream = fetch scene opened stream
-fetch_if false scene opened stream = refused scene opened stream NotPermitted
 
 -- what a Continue Transfer asks for
 pub data Going : Type 0 where
@@ -63,17 +58,19 @@ abbrev pub stored_answers : (ordinal : ℕ) → Result ℕ Refusal → List Mess
 stored_answers ordinal (Ok n) = []
 stored_answers ordinal (Err refusal) = refusal_status refusal (four_bytes ordinal) ∷ []
 
--- a Filedata is a PUT without a key; after one that was refused it does nothing
-abbrev pub store_one : (dropping : Bool) → (ordinal : ℕ) → Scene → OpenFile → StreamVal → List ℕ → Effect
-store_one true ordinal scene opened stream body = enters scene (Store opened stream) []
-store_one false ordinal scene opened stream body =
+-- a Filedata is a PUT without a key
+abbrev pub store_one : (ordinal : ℕ) → Scene → OpenFile → StreamVal → List ℕ → Effect
+store_one ordinal scene opened stream body =
     let outcome = act (put_record None body) (the_file scene.files opened) stream in
     leaves scene (with_file opened.at outcome.file scene.files) (Store opened outcome.stream)
     (stored_answers (next_ordinal ordinal) outcome.reply)
 
--- a Continue Transfer has a place only after a Filedata that was refused
-abbrev pub continue_store : (dropping : Bool) → Going → Scene → OpenFile → StreamVal → (func : ℕ) → Effect
-continue_store false going scene opened stream func = enters scene (Store opened stream) (sync_status (Contran func) ∷ [])
-continue_store true Skip scene opened stream func = enters scene (Store opened stream) []
-continue_store true Resume scene opened stream func = enters scene (Store opened stream) (bare_status (codes.unsupported codes.type_continue) ∷ [])
-continue_store true _ scene opened stream func = enters scene (Store opened stream) (bare_status (codes.invalid codes.type_continue) ∷ [])
+-- after one that was refused it does nothing
+abbrev pub drop_one : Scene → OpenFile → StreamVal → Effect
+drop_one scene opened stream = enters scene (Store opened stream) []
+
+-- a Continue Transfer after a Filedata that was refused
+abbrev pub continue_store : Going → Scene → OpenFile → StreamVal → Effect
+continue_store Skip scene opened stream = enters scene (Store opened stream) []
+continue_store Resume scene opened stream = enters scene (Store opened stream) (bare_status (codes.unsupported codes.type_continue) ∷ [])
+continue_store _ scene opened stream = enters scene (Store opened stream) (bare_status (codes.invalid codes.type_continue) ∷ [])

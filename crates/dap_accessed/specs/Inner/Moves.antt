@@ -1,5 +1,5 @@
 -- What an item does to what an end keeps, and its answers.
-use Rattle.std.specs.Prelude.{ℕ, ◌≡◌, ◌<◌, ◌≤◌, Bool, true, false, not, ◌==◌, nat_lt, List, [], ◌∷◌, length, Option, Some, None, IfSome, IsTrue, Result, IfOk}
+use Rattle.std.specs.Prelude.{ℕ, ◌≡◌, ◌<◌, ◌≤◌, Bool, true, false, not, ◌==◌, nat_lt, List, [], ◌∷◌, length, Option, IfSome, IsTrue, Result, IfOk}
 use Rattle.std.specs.Global.{Vec}
 use Rattle.dap_msg.specs.Codes as codes
 use Rattle.dap_msg.specs.Message.{Message, Attrib, Access, Control, Contran, Filedata, ControlFields}
@@ -21,7 +21,7 @@ use Rattle.dap_accessed.specs.Past.{Memory, shape_of, next_ordinal}
 use Rattle.dap_accessed.specs.Accesses.{refuse_access, open_file, create_file, complete, completing, end_stream}
 use Rattle.dap_accessed.specs.Records.{Change, Putting, Updating, changed, get_pick, record_got, refused, settled}
 use Rattle.dap_accessed.specs.Transfers.{fetch, store_one}
-use Rattle.dap_accessed.specs.Exchange.{Begun, begins_in, begun_by, change_begun, control_connected, effect_of, effect_with}
+use Rattle.dap_accessed.specs.Exchange.{Turn, Does, Begins, control_connected, turn_of, effect_with}
 use Rattle.dap_accessed.specs.Present.{Present, phase_at, phase_within}
 use Rattle.dap_accessed.specs.Inner.Written.{Answered}
 
@@ -86,13 +86,12 @@ abbrev pub begins : Present → Phase → Move
 begins p phase = record { present = record p { phase = phase }; answers = [] }
 
 -- an item that begins a group, or is one with this effect
-abbrev pub turns : Option Begun → Present → Memory → Place → Item → Effect → Move
-turns None p memory place item effect = settles p (remembers memory place item effect.answers) effect
-turns (Some begun) p memory place item effect = begins p (phase_within begun.change begun.opened begun.stream)
+abbrev pub turns : Turn → Present → Memory → Place → Item → Move
+turns (Does effect) p memory place item = settles p (remembers memory place item effect.answers) effect
+turns (Begins begun) p memory place item = begins p (phase_within begun.change begun.opened begun.stream)
 
 abbrev pub between : Present → Memory → Place → Item → Move
-between p memory place item =
-    turns (begins_in (scene_in p) place item) p memory place item (effect_of (scene_in p) memory place item)
+between p memory place item = turns (turn_of (scene_in p) memory place item) p memory place item
 
 -- the second item of a group of two
 abbrev pub within : Present → Change → OpenFile → StreamVal → Item → Move
@@ -102,9 +101,8 @@ within p change opened stream item =
 -- a Control in Connected
 abbrev pub control_move : Verb → Present → OpenFile → StreamVal → ControlFields → Move
 control_move verb p opened stream control =
-    turns (begun_by (Whole (Control control)) opened stream (change_begun verb (scene_in p) opened stream control)) p
+    turns (control_connected verb (scene_in p) opened stream control) p
     (plain_memory p.kept) (Connected opened stream) (Whole (Control control))
-    (control_connected verb (scene_in p) opened stream control)
 
 abbrev pub move_in : Phase → Present → Item → Move
 move_in phases.Fresh p item = between p (plain_memory p.kept) Fresh item
@@ -162,7 +160,7 @@ in_store dropping p opened stream ordinal item =
 -- a Filedata that a Store doesn't drop
 abbrev pub stores : Present → OpenFile → StreamVal → (ordinal : ℕ) → (body : List ℕ) → Move
 stores p opened stream ordinal body =
-    let e = store_one false ordinal (scene_in p) opened stream body in
+    let e = store_one ordinal (scene_in p) opened stream body in
     settles p (store_memory p.kept (nat_lt 0 (length e.answers)) (next_ordinal ordinal)) e
 
 -- a GET
