@@ -3,7 +3,7 @@ use Rattle.std.proofs.Common.{◌≡◌, ℕ, ◌+◌, ◌<◌, ◌≤◌, Bool,
 use Rattle.std.specs.Prelude.{IfSome, IsTrue, if◌then◌else◌}
 use Rattle.std.specs.FinMap as map
 use Rattle.dap_msg.specs.Message.{Message, Config, Access, Control, Contran, Accomp, Filedata, AccessFields, ControlFields}
-use Rattle.dap_msg.specs.Exchange.{limit_of, greatest_message}
+use Rattle.dap_msg.specs.Exchange.{limit_of, greatest_message, number_of}
 use Rattle.dap_msg.specs.Items.{Item, Whole, Malformed}
 use Rattle.rec_file.specs.declared.shapes.Shape.{Shape}
 use Rattle.rec_file.specs.declared.refusals.Refusal.{Refusal}
@@ -20,7 +20,6 @@ use Rattle.rec_file.specs.declared.shapes.Org.TheVariants.{Seq, Rel}
 use Rattle.rec_file.specs.declared.shapes.Format.{Format}
 use Rattle.rec_file.specs.Limits.{longest_record, greatest_number}
 use Rattle.rec_file.specs.Shapes.{is_shape, has_length, kept_mrn, org_of_code, format_of_code, shape_of as shape_asked}
-use Rattle.rec_file.specs.Keys.{little_endian}
 use Rattle.std.specs.Prelude.{unwrap_or}
 use Rattle.rec_file.specs.Files.{FileVal, IsFile, records_from}
 use Rattle.rec_file.specs.Acts.{Operation, StreamVal, act, get_record, put_record, update_record, delete_record}
@@ -61,7 +60,7 @@ good-of (Some org) None mrs mrn = tt
 good-of (Some org) (Some format) mrs mrn = allowed org format mrs mrn _ refl
 
 pub good-shape : (a : Attributes) → Good (shape_of a)
-good-shape a = good-of (org_of_code (unwrap_or a.org 0)) (format_of_code (unwrap_or a.rfm 2)) (unwrap_or a.mrs 0) (little_endian (unwrap_or a.mrn []))
+good-shape a = good-of (org_of_code (unwrap_or a.org 0)) (format_of_code (unwrap_or a.rfm 2)) (unwrap_or a.mrs 0) (number_of (unwrap_or a.mrn []))
 
 pub good-memory : (place : Place) (past : List Group) → Good (looked_back place past).shape
 good-memory Fresh past = good-shape (kept_attributes past)

@@ -2,12 +2,11 @@
 use Rattle.std.specs.Prelude.{ℕ, ◌+◌, Bool, true, false, not, ◌&&◌, nat_lt, ◌==◌, min, List, [], length, filter, filter_map, slice_get, Option, Some, None, unwrap_or}
 use Rattle.std.specs.List.{list_any}
 use Rattle.dap_msg.specs.Codes as codes
-use Rattle.dap_msg.specs.Exchange.{no_attributes}
+use Rattle.dap_msg.specs.Exchange.{no_attributes, number_of}
 use Rattle.dap_msg.specs.Message.{Attrib, Access, Contran, Filedata, Attributes}
 use Rattle.dap_msg.specs.Items.{Item, Whole}
 use Rattle.rec_file.specs.declared.shapes.Shape.{Shape}
 use Rattle.rec_file.specs.Shapes.{checked_shape}
-use Rattle.rec_file.specs.Keys.{little_endian}
 use Rattle.dap_accessed.specs.Lists.{leading}
 use Rattle.dap_accessed.specs.Standing.{Place, Ready, Store, Group}
 
@@ -51,7 +50,7 @@ kept_attributes past =
 abbrev pub shape_of : Attributes → Option Shape
 shape_of a =
     checked_shape (unwrap_or a.org codes.org_sequential) (unwrap_or a.rfm codes.rfm_variable) (unwrap_or a.mrs 0)
-    (little_endian (unwrap_or a.mrn []))
+    (number_of (unwrap_or a.mrn []))
 
 -- ---- A Store.
 

@@ -1,11 +1,11 @@
 //! The accessed end.
 
-ghost use Rattle.std.specs.Prelude.{◌≡◌, ◌≤◌, ◌<◌, ℕ, List, [], ◌∷◌, length, IfOk, IsOk, IfSome, IsTrue, OnErr, min, true};
+ghost use Rattle.std.specs.Prelude.{◌≡◌, ◌≤◌, ◌<◌, ℕ, List, [], ◌∷◌, length, IfOk, IsOk, IfSome, IsTrue, OnErr, true};
 ghost use Rattle.dap_msg.specs.Exchange.{greatest_message, least_buffer};
-ghost use Rattle.dap_msg.specs.Items.{IsPlace, Item as TheItem, seen_item};
-ghost use Rattle.dap_msg.specs.Message.{seen, seen_attributes, seen_control};
+ghost use Rattle.dap_msg.specs.Items.{IsPlace, Item as TheItem, ItemImagesFit, seen_item};
+ghost use Rattle.dap_msg.specs.Images.{ImagesFit};
+ghost use Rattle.dap_msg.specs.Message.{Attrib, seen, seen_attributes, seen_control};
 ghost use Rattle.dap_msg.specs.Codes.{status_code_for};
-ghost use Rattle.rec_file.specs.Keys.{little_endian};
 ghost use Rattle.rec_file.specs.Shapes.{is_shape};
 ghost use Rattle.dap_accessed.specs.Exchange.{control_status};
 ghost use Rattle.dap_accessed.specs.Groups.{After};
@@ -32,7 +32,7 @@ use dap_msg::codes::{
 };
 use dap_msg::{
     Attributes, Control, FileAccess, Item, LEAST_BUFFER, Message, MsgFault, is_too_small, item_at,
-    limit_of, status_for,
+    limit_of, number_of, status_for,
 };
 use rec_file::{Format, Org, RecordFile, Rights, Shape};
 use std::alloc::Global;
@@ -81,25 +81,14 @@ const PLAIN: Shape = Shape {
     mrn: 0,
 };
 
-/// The number that bytes spell, the least first, or the greatest where it is greater.
-fn number(bytes: &[u8]) -> u64
-    ensures { result ≡ min (little_endian bytes.now) 18446744073709551615 }
-{
-    match bytes {
-        [] => 0,
-        [byte, rest @ ..] => number(rest)
-            .saturating_mul(256)
-            .saturating_add(u64::from(*byte)),
-    }
-}
-
-/// The shape that the attributes ask for.
+/// The shape that the attributes of a message that was read ask for.
 fn shape_for(attributes: &Attributes<'_>) -> Option<Shape>
+    requires { ImagesFit (Attrib (seen_attributes attributes.now)) }
     ensures same { result ≡ shape_of (seen_attributes attributes.now) }
     ensures good { IfSome result (λ shape. IsTrue (is_shape shape)) }
 {
     let mrn = match attributes.mrn {
-        Some(image) => number(image),
+        Some(image) => number_of(image),
         None => 0,
     };
     Shape::check(
@@ -233,7 +222,8 @@ impl Accessed {
     }
 
     fn serve_ready(&mut self, item: Item<'_>) -> Result<Vec<Vec<u8>>, NoMemory>
-        requires { self.old.phase ≡ phases.Ready }
+        requires phase { self.old.phase ≡ phases.Ready }
+        requires images { ItemImagesFit (seen_item item) }
         ensures ok { Makes (plainly self.old Ready (seen_item item.entry))
             self.old self.new result }
         ensures err { OnErr result (self.new ≡ self.old) }
@@ -336,6 +326,7 @@ impl Accessed {
     }
 
     fn serve_item(&mut self, item: Item<'_>) -> Result<Vec<Vec<u8>>, NoMemory>
+        requires { ItemImagesFit (seen_item item) }
         ensures ok { Makes (move self.old (seen_item item.entry)) self.old self.new result }
         ensures err { OnErr result (self.new ≡ self.old) }
         ensures silent { is_silent self.old.phase (seen_item item.entry) ≡ true → IsOk result }
