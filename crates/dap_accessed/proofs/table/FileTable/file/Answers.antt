@@ -1,17 +1,13 @@
-use Rattle.std.proofs.Common.{arith, ap, length, sym, ◌∙◌, List, ℕ}
+use Rattle.std.proofs.Common.{arith, ap, length, sym, ◌∙◌}
 use Rattle.rec_file.specs.AnyFiles.{any_value}
-use Rattle.rec_file.specs.Files.{FileVal}
 use Rattle.std.proofs.lemmas.List.{length-map}
 use Rattle.dap_accessed.specs.Standing.{file_at}
 use Rattle.dap_accessed.specs.declared.table.Entry.{Entry}
+use Rattle.dap_accessed.proofs.Entries.{view}
 use Rattle.dap_accessed.proofs.Tables.{file_at-map}
 use Rattle.dap_accessed.proofs.table.FileTable.file.Goals as goal
 
-view : Entry → List ℕ × FileVal
-view e = (e.name.items, any_value e.file)
-
 pub returns : goal.returns
-unfolding view
 returns c =
     ap (λ (e : Entry). any_value e.file) c.index.ensures
     ∙ sym (file_at-map view c.self.inside.entries.items c.args.at c.index.result.now (omega (arith, length-map c.self.inside.entries.items view, ap length c.self.view_is, c.requires)))

@@ -1,35 +1,17 @@
-use Rattle.std.proofs.Common.{ap, map, sym, ◌∙◌, set, List, ℕ, subst}
-use Rattle.rec_file.specs.AnyFiles.{any_value}
-use Rattle.rec_file.specs.Files.{FileVal}
-use Rattle.rec_file.specs.Acts.{Acts, put_record}
-use Rattle.dap_accessed.specs.Standing.{file_at}
-use Rattle.dap_accessed.specs.declared.table.Entry.{Entry}
-use Rattle.dap_accessed.proofs.Tables.{others, there, was, unchanged}
+use Rattle.rec_file.specs.Acts.{put_record}
+use Rattle.dap_accessed.proofs.Entries.{others_stay, acts, stays}
 use Rattle.dap_accessed.proofs.table.FileTable.put.Goals as goal
 
-view : Entry → List ℕ × FileVal
-view e = (e.name.items, any_value e.file)
-
 pub returns-clause-others : goal.returns-clause-others
-unfolding view
 returns-clause-others c =
-    others view c.self.inside.entries.items c.args.at c.index_mut-entry.result.now (record { name = c.index_mut-entry.result.now.name; file = c.put.new.file })
-    c.args.self.now c.self.view_is c.requires (ap (λ (e : Entry). e.name.items) c.index_mut-entry.ensures.value)
+    others_stay c.self.inside.entries.items c.args.at c.index_mut-entry.result.now c.put.new.file c.args.self.now c.self.view_is c.requires c.index_mut-entry.ensures.value
 
 pub returns-clause-acts : goal.returns-clause-acts
-unfolding view
 returns-clause-acts c =
-    let now : Entry = record { name = c.index_mut-entry.result.now.name; file = c.put.new.file } in
-    let same = ap (λ (e : Entry). e.name.items) c.index_mut-entry.ensures.value in
-    let new_is = there view c.self.inside.entries.items c.args.at c.index_mut-entry.result.now now c.args.self.now c.self.view_is c.requires same in
-    let old_is = ap (λ (e : Entry). any_value e.file) c.index_mut-entry.ensures.value
-    ∙ was view c.self.inside.entries.items c.args.at c.index_mut-entry.result.now now c.args.self.now c.self.view_is c.requires same in
-    subst (λ (old : FileVal). Acts (put_record c.args.key c.args.body.now) old c.args.stream.now (file_at c.args.at (map view (set c.self.inside.entries.items c.args.at now))) c.put.new.self c.put.result) old_is
-    (subst (λ (new : FileVal). Acts (put_record c.args.key c.args.body.now) (any_value c.index_mut-entry.result.now.file) c.args.stream.now new c.put.new.self c.put.result) (sym new_is) c.put.ensures)
+    acts c.self.inside.entries.items c.args.at c.index_mut-entry.result.now c.put.new.file c.args.self.now c.self.view_is c.requires c.index_mut-entry.ensures.value
+    (put_record c.args.key c.args.body.now) c.args.stream.now c.put.new.self c.put.result c.put.ensures
 
 pub returns-clause-no_memory : goal.returns-clause-no_memory
-unfolding view
-returns-clause-no_memory c =
-    λ e. unchanged (put_record c.args.key c.args.body.now) c.args.at c.args.self.now
-    (map view (set c.self.inside.entries.items c.args.at (record { name = c.index_mut-entry.result.now.name; file = c.put.new.file })))
-    c.args.stream.now c.put.new.self c.put.result (returns-clause-others c) (returns-clause-acts c) e
+returns-clause-no_memory c = λ lacks.
+    stays c.self.inside.entries.items c.args.at c.index_mut-entry.result.now c.put.new.file c.args.self.now c.self.view_is c.requires c.index_mut-entry.ensures.value
+    (put_record c.args.key c.args.body.now) c.args.stream.now c.put.new.self c.put.result c.put.ensures lacks
