@@ -63,12 +63,7 @@ pub good-shape : (a : Attributes) → Good (shape_of a)
 good-shape a = good-of (org_of_code (unwrap_or a.org 0)) (format_of_code (unwrap_or a.rfm 2)) (unwrap_or a.mrs 0) (number_of (unwrap_or a.mrn []))
 
 pub good-memory : (place : Place) (past : List Group) → Good (looked_back place past).shape
-good-memory Fresh past = good-shape (kept_attributes past)
-good-memory Ready past = good-shape (kept_attributes past)
-good-memory (Opened o) past = good-shape (kept_attributes past)
-good-memory (Connected o s) past = good-shape (kept_attributes past)
-good-memory (Store o s) past = good-shape (kept_attributes past)
-good-memory (Stopped o s) past = good-shape (kept_attributes past)
+good-memory place past = good-shape (kept_attributes past)
 
 limit-most : (bufsiz : ℕ) → limit_of bufsiz ≤ greatest_message
 limit-most bufsiz =

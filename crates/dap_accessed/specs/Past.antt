@@ -1,5 +1,5 @@
 -- What is looked back for in the groups so far, the newest first.
-use Rattle.std.specs.Prelude.{ℕ, ◌+◌, Bool, true, false, not, ◌&&◌, nat_lt, ◌==◌, min, List, [], length, filter, filter_map, slice_get, Option, Some, None, unwrap_or}
+use Rattle.std.specs.Prelude.{ℕ, ◌+◌, Bool, true, false, not, ◌&&◌, nat_lt, ◌==◌, if◌then◌else◌, min, List, [], length, filter, filter_map, slice_get, Option, Some, None, unwrap_or}
 use Rattle.std.specs.List.{list_any}
 use Rattle.dap_msg.specs.Codes as codes
 use Rattle.dap_msg.specs.Exchange.{no_attributes, number_of}
@@ -86,10 +86,10 @@ pub record Memory : Type 0 where
   pub dropping : Bool
   pub ordinal : ℕ
 
-abbrev pub of_store : Bool → List Group → Memory
-of_store true past =
-    record { shape = shape_of (kept_attributes past); dropping = is_dropping past; ordinal = ordinal_so_far past }
-of_store false past = record { shape = shape_of (kept_attributes past); dropping = false; ordinal = 0 }
-
 abbrev pub looked_back : Place → List Group → Memory
-looked_back place past = of_store (is_store place) past
+looked_back place past =
+    record {
+      shape = shape_of (kept_attributes past);
+      dropping = is_store place && is_dropping past;
+      ordinal = if is_store place then ordinal_so_far past else 0;
+    }
