@@ -27,6 +27,3 @@ pub use rec_file::{AnyFile, Format, Org, RecordFile, RelFile, SeqFile, Shape};
 pub use setup::WorldSetup;
 pub use side::Wired;
 pub use world::World;
-
-#[cfg(test)]
-mod tests;

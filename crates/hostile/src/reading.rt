@@ -2,7 +2,7 @@
 
 use crate::growing::{note, note_bytes};
 use dap_accessed::FileTable;
-use dap_accessing::{Ending, Report};
+use dap_accessing::{By, Ending, How, Report, Request};
 use nsp_link::LinkEnd;
 use rec_file::{RecordFile, first_record};
 use std::io;
@@ -84,5 +84,68 @@ pub fn look_at_link(link: &LinkEnd, seen: &mut Vec<u8>) -> io::Result<()> {
     match link.peek_message() {
         Some(message) => note_bytes(seen, "message", message),
         None => Ok(()),
+    }
+}
+
+/// Which record a Get asks for.
+fn look_at_pick(by: By, seen: &mut Vec<u8>) -> io::Result<()> {
+    match by {
+        By::Next => write!(seen, "\n get"),
+        By::Key(number) => write!(seen, "\n get key {number}"),
+        By::Rfa(number) => write!(seen, "\n get rfa {number}"),
+    }
+}
+
+/// How a Fetch goes on.
+fn look_at_how(how: How, seen: &mut Vec<u8>) -> io::Result<()> {
+    match how {
+        How::Again => write!(seen, "\n continue again"),
+        How::Skip => write!(seen, "\n continue skip"),
+        How::Abort => write!(seen, "\n continue abort"),
+    }
+}
+
+/// A request that was asked.
+pub fn look_at_request(request: &Request, seen: &mut Vec<u8>) -> io::Result<()> {
+    match request {
+        Request::Hello => write!(seen, "\n hello"),
+        Request::Create {
+            name,
+            org,
+            rfm,
+            mrs,
+            mrn,
+            fac,
+        } => {
+            write!(seen, "\n create {org} {rfm} {mrs} {mrn} {fac}")?;
+            note_bytes(seen, "name", &name.0)
+        }
+        Request::OpenFile { name, fac } => {
+            write!(seen, "\n open {fac}")?;
+            note_bytes(seen, "name", &name.0)
+        }
+        Request::Connect => write!(seen, "\n connect"),
+        Request::Get(by) => look_at_pick(*by, seen),
+        Request::Put { key, body } => {
+            write!(seen, "\n put {key:?}")?;
+            note_bytes(seen, "body", &body.0)
+        }
+        Request::Update { body } => {
+            write!(seen, "\n update")?;
+            note_bytes(seen, "body", &body.0)
+        }
+        Request::Delete => write!(seen, "\n delete"),
+        Request::Rewind => write!(seen, "\n rewind"),
+        Request::Fetch => write!(seen, "\n fetch"),
+        Request::Store(list) => {
+            write!(seen, "\n store")?;
+            for body in &list.0 {
+                note_bytes(seen, "body", &body.0)?;
+            }
+            Ok(())
+        }
+        Request::Continue(how) => look_at_how(*how, seen),
+        Request::Close => write!(seen, "\n close"),
+        Request::Purge => write!(seen, "\n purge"),
     }
 }

@@ -1,7 +1,7 @@
 //! Both ends over both links, event by event.
 
 use crate::growing::{Came, Growing, Trouble, note, note_bytes};
-use crate::reading::{look_at_files, look_at_link, look_at_report};
+use crate::reading::{look_at_files, look_at_link, look_at_report, look_at_request};
 use crate::requests::{Call, request};
 use End::{A, B};
 use dap_accessing::How;
@@ -237,7 +237,9 @@ fn happen(alloc: Global, world: &mut World, act: Act) -> Result<Option<Step>, Tr
 }
 
 fn look_at_world(world: &World, seen: &mut Vec<u8>) -> io::Result<()> {
-    note(seen, "requests", world.requests().len() as u64)?;
+    for request in world.requests() {
+        look_at_request(request, seen)?;
+    }
     note(seen, "read", world.read_count())?;
     for message in world.sent() {
         note_bytes(seen, "sent", message)?;

@@ -2,8 +2,9 @@
 
 ghost use Rattle.std.specs.Prelude.{◌<◌};
 
+use super::calls::{directed, finish};
 use super::*;
-use crate::{AnyFile, FileTable};
+use dap_world::{AnyFile, FileTable};
 
 /// Small segments over a small window, so that messages have several and the window is often full.
 const SETUP: WorldSetup = WorldSetup {
@@ -66,7 +67,7 @@ fn draw_event(world: &World, seed: &mut u32) -> Do {
         1 | 2 => Do::Emit(end),
         3 => Do::Resend(end, draw(seed, 4)),
         4 => Do::Ack(end),
-        5..=7 => Do::Deliver(end, draw_packet(world.wire(end.other()).len(), seed)),
+        5..=7 => Do::Deliver(end, draw_packet(written(world, end.other()), seed)),
         8 => Do::Serve,
         _ => Do::Read,
     }
@@ -122,14 +123,13 @@ fn are_same(one: &FileTable, other: &FileTable) -> bool {
 
 /// The world after so many requests over a clean network.
 fn clean(alloc: Global, asked: usize) -> Result<World, WorldFault> {
-    let mut world = World::new(alloc, SETUP)?;
     let mut requests = Vec::new(alloc);
     for (call, _report) in TURNS.iter().take(asked) {
         requests.push(request(alloc, *call)?)?;
     }
-    match world.direct(&requests) {
-        Ok(()) => Ok(world),
-        Err((_place, fault)) => Err(fault),
+    match directed(alloc, SETUP, &requests)? {
+        (world, Ok(())) => Ok(world),
+        (_world, Err((_place, fault))) => Err(fault),
     }
 }
 
@@ -138,9 +138,9 @@ fn whatever_was_lost(rt: HostRuntime) -> Result<(), Fail> {
     let mut most = 0;
     for schedule in 0..SCHEDULES {
         let mut seed = schedule.wrapping_mul(7919).wrapping_add(1);
-        let mut world = World::new(rt.alloc(), SETUP)?;
+        let mut world = begin(rt.alloc(), SETUP)?;
         let asked = play_drawn(rt.alloc(), &mut world, &mut seed);
-        world.finish()?;
+        finish(&mut world)?;
         let other = clean(rt.alloc(), asked)?;
         assert!(rt;
             are_wanted(&world, asked) && are_wanted(&other, asked),
@@ -150,7 +150,7 @@ fn whatever_was_lost(rt: HostRuntime) -> Result<(), Fail> {
             are_same(world.files(), other.files()),
             "schedule {schedule}"
         );
-        assert_eq!(rt; world.finish(), Ok(0));
+        assert_eq!(rt; finish(&mut world), Ok(0));
         most = asked.max(most);
     }
     assert_eq!(rt; most, TURNS.len());

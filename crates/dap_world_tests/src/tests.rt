@@ -1,16 +1,18 @@
 //! Scripts of events: what each comes to, the packets that are written, and what is reported.
 
 mod age;
+mod calls;
 mod finishing;
 mod random;
 mod refused;
 mod rows;
 mod scripts;
 
-use crate::{
+use dap_world::{
     By, End, Ending, Event, Got, How, Numbered, Octets, OctetsList, RecordFile, Report, Request,
     Step, World, WorldFault, WorldSetup,
 };
+use calls::{apply, begin, count_unacked, written};
 use std::alloc::Global;
 use std::process::Abort;
 use std::test::Fail;
@@ -219,27 +221,27 @@ fn is_hex(bytes: &[u8], text: &str) -> bool {
 /// A request is asked.
 fn ask(alloc: Global, world: &mut World, call: Call) -> Result<Step, WorldFault> {
     let event = Event::Ask(request(alloc, call)?);
-    world.apply(&event)
+    apply(world, &event)
 }
 
 /// One event.
 fn happen(alloc: Global, world: &mut World, what: Do) -> Result<Step, WorldFault> {
     match what {
         Do::Ask(call) => ask(alloc, world, call),
-        Do::Post(end) => world.apply(&Event::Post(end)),
-        Do::Emit(end) => world.apply(&Event::Emit(end)),
-        Do::Resend(end, place) => world.apply(&Event::Resend(end, place)),
-        Do::Ack(end) => world.apply(&Event::Ack(end)),
-        Do::Deliver(end, j) => world.apply(&Event::Deliver(end, j)),
-        Do::Serve => world.apply(&Event::Serve),
-        Do::Read => world.apply(&Event::Read),
+        Do::Post(end) => apply(world, &Event::Post(end)),
+        Do::Emit(end) => apply(world, &Event::Emit(end)),
+        Do::Resend(end, place) => apply(world, &Event::Resend(end, place)),
+        Do::Ack(end) => apply(world, &Event::Ack(end)),
+        Do::Deliver(end, j) => apply(world, &Event::Deliver(end, j)),
+        Do::Serve => apply(world, &Event::Serve),
+        Do::Read => apply(world, &Event::Read),
     }
 }
 
 /// Whether a packet with these bytes stands at the place of the end's wire, and is the last one.
 fn is_written(world: &World, end: End, place: usize, hex: &str) -> bool {
     match world.wire(end).last() {
-        Some(last) => place.checked_add(1) == Some(world.wire(end).len())
+        Some(last) => place.checked_add(1) == Some(written(world, end))
             && is_hex(&last.packet, hex),
         None => false,
     }
@@ -266,20 +268,20 @@ fn turn(
     serves: usize,
     reads: usize,
 ) -> Result<(), WorldFault> {
-    let (asked, answered) = (world.wire(End::A).len(), world.wire(End::B).len());
+    let (asked, answered) = (written(world, End::A), written(world, End::B));
     let request = request(alloc, call)?;
-    world.apply(&Event::Ask(request))?;
-    world.apply(&Event::Post(End::A))?;
-    world.apply(&Event::Emit(End::A))?;
-    world.apply(&Event::Deliver(End::B, asked))?;
+    apply(world, &Event::Ask(request))?;
+    apply(world, &Event::Post(End::A))?;
+    apply(world, &Event::Emit(End::A))?;
+    apply(world, &Event::Deliver(End::B, asked))?;
     for _ in 0..serves {
-        world.apply(&Event::Serve)?;
+        apply(world, &Event::Serve)?;
     }
-    world.apply(&Event::Post(End::B))?;
-    world.apply(&Event::Emit(End::B))?;
-    world.apply(&Event::Deliver(End::A, answered))?;
+    apply(world, &Event::Post(End::B))?;
+    apply(world, &Event::Emit(End::B))?;
+    apply(world, &Event::Deliver(End::A, answered))?;
     for _ in 0..reads {
-        world.apply(&Event::Read)?;
+        apply(world, &Event::Read)?;
     }
     Ok(())
 }
@@ -294,13 +296,13 @@ fn is_so(alloc: Global, world: &mut World, line: Line) -> Result<bool, WorldFaul
         }
         Line::Reports(want) => is_newest(world, want),
         Line::Counts(unacked, reports, taken) => {
-            world.link(End::A).unacked() == unacked
+            count_unacked(world, End::A) == unacked
                 && world.reports().len() == reports
                 && world.taken().len() == taken
         }
         Line::Holds(number, body) => is_held(world, number, body),
         Line::Turn(call, sent, serves, answered, reads, want) => {
-            let (asks, answers) = (world.wire(End::A).len(), world.wire(End::B).len());
+            let (asks, answers) = (written(world, End::A), written(world, End::B));
             let told = world.reports().len();
             turn(alloc, world, call, serves, reads)?;
             is_written(world, End::A, asks, sent)
@@ -317,7 +319,7 @@ fn play(
     setup: WorldSetup,
     script: &[Line],
 ) -> Result<World, Fail> {
-    let mut world = World::new(rt.alloc(), setup)?;
+    let mut world = begin(rt.alloc(), setup)?;
     go_on(rt, &mut world, script)?;
     Ok(world)
 }

@@ -1,7 +1,8 @@
 //! Requests over a clean network, each with its report, and the files that they leave.
 
+use super::calls::directed;
 use super::*;
-use crate::{AnyFile, FileTable};
+use dap_world::{AnyFile, FileTable};
 use rec_file::first_record;
 
 /// The names of the files in order, and all their records behind their numbers.
@@ -230,9 +231,9 @@ fn requests_and_their_reports(rt: HostRuntime) -> Result<(), Fail> {
             bufsiz_a: *bufsiz_a,
             bufsiz_b: *bufsiz_b,
         };
-        let mut world = World::new(rt.alloc(), setup)?;
         let requests = all(rt.alloc(), script)?;
-        assert_eq!(rt; world.direct(&requests), Ok(()));
+        let (world, came) = directed(rt.alloc(), setup, &requests)?;
+        assert_eq!(rt; came, Ok(()));
         assert!(rt; are_told(world.reports(), script));
         assert!(rt; holds(world.files(), files));
     }

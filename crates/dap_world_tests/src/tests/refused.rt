@@ -1,8 +1,9 @@
 //! What has no step, and what no world can be made of.
 
 use super::Line::*;
+use super::calls::run;
 use super::*;
-use crate::AskFault;
+use dap_world::AskFault;
 
 const NOTHING: Result<Step, WorldFault> = Err(WorldFault::NothingToDo);
 
@@ -104,7 +105,7 @@ fn sizes_of_worlds(rt: HostRuntime) -> Result<(), Fail> {
             bufsiz_a: *bufsiz_a,
             bufsiz_b: *bufsiz_b,
         };
-        match World::new(rt.alloc(), setup) {
+        match begin(rt.alloc(), setup) {
             Ok(world) => assert!(rt; *good && world.is_fresh()),
             Err(fault) => assert!(rt; !*good && fault == WorldFault::BadSetup),
         }
@@ -114,11 +115,11 @@ fn sizes_of_worlds(rt: HostRuntime) -> Result<(), Fail> {
 
 #[test]
 fn runs_stop_at_a_refused_event(rt: HostRuntime) -> Result<(), Fail> {
-    let mut world = World::new(rt.alloc(), SETUP)?;
-    assert_eq!(rt; world.run(&[]), Ok(()));
+    let mut world = begin(rt.alloc(), SETUP)?;
+    assert_eq!(rt; run(&mut world, &[]), Ok(()));
     assert!(rt; world.is_fresh());
     assert_eq!(rt;
-        world.run(&[Event::Serve]),
+        run(&mut world, &[Event::Serve]),
         Err((0, WorldFault::NothingToDo))
     );
     let events = [
@@ -127,7 +128,7 @@ fn runs_stop_at_a_refused_event(rt: HostRuntime) -> Result<(), Fail> {
         Event::Emit(End::B),
         Event::Serve,
     ];
-    assert_eq!(rt; world.run(&events), Err((2, WorldFault::NothingToDo)));
+    assert_eq!(rt; run(&mut world, &events), Err((2, WorldFault::NothingToDo)));
     assert_eq!(rt; world.requests().len(), 1);
     assert_eq!(rt; world.sent().len(), 1);
     assert_eq!(rt; world.read_count(), 0);

@@ -1,8 +1,9 @@
 //! Stretches without loss: what is settled and finished after all on the wires was lost, and requests over
 //! a clean network.
 
+use super::calls::{directed, finish, settle, taken};
 use super::*;
-use crate::AskFault;
+use dap_world::AskFault;
 
 /// Requests over a clean network, then events whose packets may be lost, and then all is finished.
 #[derive(Clone, Copy)]
@@ -174,14 +175,14 @@ fn all_come_to_their_reports(rt: HostRuntime) -> Result<(), Fail> {
             bufsiz_a,
             bufsiz_b,
         };
-        let mut world = World::new(rt.alloc(), setup)?;
         let requests = all(rt.alloc(), row.direct)?;
-        assert_eq!(rt; world.direct(&requests), Ok(()));
+        let (mut world, came) = directed(rt.alloc(), setup, &requests)?;
+        assert_eq!(rt; came, Ok(()));
         for what in row.lost {
             let _step = happen(rt.alloc(), &mut world, *what)?;
         }
-        assert_eq!(rt; world.finish(), Ok(row.events));
-        assert_eq!(rt; world.finish(), Ok(0));
+        assert_eq!(rt; finish(&mut world), Ok(row.events));
+        assert_eq!(rt; finish(&mut world), Ok(0));
         assert!(rt; are_told(world.reports(), row.told));
         assert!(rt; are_held(&world, *row));
     }
@@ -286,13 +287,13 @@ fn asked(alloc: Global, bytes: usize) -> Result<Request, WorldFault> {
 }
 
 fn write(world: &mut World, row: Settled) -> Result<(), WorldFault> {
-    world.apply(&Event::Post(End::A))?;
+    apply(world, &Event::Post(End::A))?;
     for _ in 0..row.written {
-        world.apply(&Event::Emit(End::A))?;
+        apply(world, &Event::Emit(End::A))?;
     }
     if row.came {
         for place in 0..row.written {
-            world.apply(&Event::Deliver(End::B, place))?;
+            apply(world, &Event::Deliver(End::B, place))?;
         }
     }
     Ok(())
@@ -300,9 +301,9 @@ fn write(world: &mut World, row: Settled) -> Result<(), WorldFault> {
 
 fn counts(world: &World) -> (usize, usize, u64) {
     (
-        world.wire(End::A).len(),
-        world.wire(End::B).len(),
-        world.link(End::B).received_count(),
+        written(world, End::A),
+        written(world, End::B),
+        taken(world, End::B),
     )
 }
 
@@ -315,15 +316,15 @@ fn settled_ends(rt: HostRuntime) -> Result<(), Fail> {
             bufsiz_a: 4096,
             bufsiz_b: 4096,
         };
-        let mut world = World::new(rt.alloc(), setup)?;
         let requests = all(rt.alloc(), row.direct)?;
-        assert_eq!(rt; world.direct(&requests), Ok(()));
+        let (mut world, came) = directed(rt.alloc(), setup, &requests)?;
+        assert_eq!(rt; came, Ok(()));
         let request = asked(rt.alloc(), row.bytes)?;
-        world.apply(&Event::Ask(request))?;
+        apply(&mut world, &Event::Ask(request))?;
         write(&mut world, *row)?;
-        assert_eq!(rt; world.settle(End::A), Ok(row.events));
-        assert_eq!(rt; world.settle(End::A), Ok(0));
-        assert_eq!(rt; world.link(End::A).unacked(), 0);
+        assert_eq!(rt; settle(&mut world, End::A), Ok(row.events));
+        assert_eq!(rt; settle(&mut world, End::A), Ok(0));
+        assert_eq!(rt; count_unacked(&world, End::A), 0);
         assert_eq!(rt; counts(&world), row.counts);
     }
     Ok(())

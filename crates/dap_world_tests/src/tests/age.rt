@@ -2,6 +2,7 @@
 //! window and at the largest.
 
 use super::Line::*;
+use super::calls::{directed, finish, taken};
 use super::*;
 
 /// Segments of one byte over a window of 127.
@@ -66,12 +67,12 @@ fn play_after(
     calls: &[Call],
     script: &[Line],
 ) -> Result<World, Fail> {
-    let mut world = World::new(rt.alloc(), setup)?;
     let mut requests = Vec::new(rt.alloc());
     for call in calls {
         requests.push(request(rt.alloc(), *call)?)?;
     }
-    assert_eq!(rt; world.direct(&requests), Ok(()));
+    let (mut world, came) = directed(rt.alloc(), setup, &requests)?;
+    assert_eq!(rt; came, Ok(()));
     go_on(rt, &mut world, script)?;
     Ok(world)
 }
@@ -80,7 +81,7 @@ fn play_after(
 fn edge_of_age(rt: HostRuntime) -> Result<(), Fail> {
     for setup in [SMALL, WIDE] {
         let world = play_after(&rt, setup, PUTS, AGED)?;
-        assert_eq!(rt; world.link(End::B).received_count(), 2050);
+        assert_eq!(rt; taken(&world, End::B), 2050);
     }
     Ok(())
 }
@@ -88,13 +89,13 @@ fn edge_of_age(rt: HostRuntime) -> Result<(), Fail> {
 /// Emits and delivers the next segments of A, with an acknowledgement after each window.
 fn bring(world: &mut World, segments: usize) -> Result<(), WorldFault> {
     for sent in 0..segments {
-        let place = world.wire(End::A).len();
-        world.apply(&Event::Emit(End::A))?;
-        world.apply(&Event::Deliver(End::B, place))?;
+        let place = written(world, End::A);
+        apply(world, &Event::Emit(End::A))?;
+        apply(world, &Event::Deliver(End::B, place))?;
         if sent % 127 == 126 {
-            let back = world.wire(End::B).len();
-            world.apply(&Event::Ack(End::B))?;
-            world.apply(&Event::Deliver(End::A, back))?;
+            let back = written(world, End::B);
+            apply(world, &Event::Ack(End::B))?;
+            apply(world, &Event::Deliver(End::A, back))?;
         }
     }
     Ok(())
@@ -116,22 +117,22 @@ fn age_within_a_request(rt: HostRuntime) -> Result<(), Fail> {
             Does(Do::Post(End::A), Ok(Step::Posted(1))),
         ],
     )?;
-    let before = world.link(End::B).received_count() as usize;
+    let before = taken(&world, End::B) as usize;
     assert_eq!(rt; before, 43);
     bring(&mut world, 2004)?;
-    assert_eq!(rt; world.link(End::B).received_count(), 2047);
+    assert_eq!(rt; taken(&world, End::B), 2047);
     let repeated = [Does(Do::Deliver(End::B, 0), Ok(Step::Delivered(Got::Repeat)))];
     go_on(&rt, &mut world, &repeated)?;
     bring(&mut world, 1)?;
-    assert_eq!(rt; world.link(End::B).received_count(), 2048);
+    assert_eq!(rt; taken(&world, End::B), 2048);
     let lost = [
         Does(Do::Deliver(End::B, 0), Err(WorldFault::Stale)),
         Does(Do::Emit(End::A), Ok(Step::Packet(2081))),
         Does(Do::Emit(End::A), Ok(Step::Packet(2082))),
     ];
     go_on(&rt, &mut world, &lost)?;
-    assert_eq!(rt; world.link(End::B).received_count(), 2048);
-    world.finish()?;
+    assert_eq!(rt; taken(&world, End::B), 2048);
+    finish(&mut world)?;
     assert!(rt; matches!(world.reports().last(), Some(Report::Stored(None))));
     assert!(rt; is_held(&world, 500, Some(NONE)) && is_held(&world, 501, None));
     Ok(())

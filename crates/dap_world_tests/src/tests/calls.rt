@@ -1,0 +1,51 @@
+//! The calls that tests make of a world. A test looks at what they answer, so they promise no more of it here, and
+//! proofs of tests stay short.
+
+use dap_world::{End, Event, Request, Step, World, WorldFault, WorldSetup};
+use std::alloc::Global;
+
+pub(crate) fn begin(alloc: Global, setup: WorldSetup) -> Result<World, WorldFault> {
+    World::new(alloc, setup)
+}
+
+pub(crate) fn apply(world: &mut World, event: &Event) -> Result<Step, WorldFault> {
+    world.apply(event)
+}
+
+/// What requests over a clean network came to in a new world.
+pub(crate) fn directed(
+    alloc: Global,
+    setup: WorldSetup,
+    requests: &[Request],
+) -> Result<(World, Result<(), (usize, WorldFault)>), WorldFault> {
+    let mut world = World::new(alloc, setup)?;
+    let came = world.direct(requests);
+    Ok((world, came))
+}
+
+pub(crate) fn settle(world: &mut World, end: End) -> Result<usize, WorldFault> {
+    world.settle(end)
+}
+
+pub(crate) fn finish(world: &mut World) -> Result<usize, WorldFault> {
+    world.finish()
+}
+
+pub(crate) fn run(world: &mut World, events: &[Event]) -> Result<(), (usize, WorldFault)> {
+    world.run(events)
+}
+
+/// How many packets an end wrote.
+pub(crate) fn written(world: &World, end: End) -> usize {
+    world.wire(end).len()
+}
+
+/// How many segments an end took.
+pub(crate) fn taken(world: &World, end: End) -> u64 {
+    world.link(end).received_count()
+}
+
+/// How many segments an end sent that aren't acknowledged.
+pub(crate) fn count_unacked(world: &World, end: End) -> usize {
+    world.link(end).unacked()
+}
