@@ -8,11 +8,11 @@ mod refused;
 mod rows;
 mod scripts;
 
+use calls::{apply, begin, count_unacked, written};
 use dap_world::{
     By, End, Ending, Event, Got, How, Numbered, Octets, OctetsList, RecordFile, Report, Request,
     Step, World, WorldFault, WorldSetup,
 };
-use calls::{apply, begin, count_unacked, written};
 use std::alloc::Global;
 use std::process::Abort;
 use std::test::Fail;

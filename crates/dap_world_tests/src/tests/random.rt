@@ -54,6 +54,13 @@ fn draw_end(seed: &mut u32) -> End {
     if draw(seed, 2) == 0 { End::A } else { End::B }
 }
 
+fn other(end: End) -> End {
+    match end {
+        End::A => End::B,
+        End::B => End::A,
+    }
+}
+
 /// The place of one of the last packets of a wire that has so many.
 fn draw_packet(written: usize, seed: &mut u32) -> usize {
     written.saturating_sub(draw(seed, 6).saturating_add(1))
@@ -67,7 +74,7 @@ fn draw_event(world: &World, seed: &mut u32) -> Do {
         1 | 2 => Do::Emit(end),
         3 => Do::Resend(end, draw(seed, 4)),
         4 => Do::Ack(end),
-        5..=7 => Do::Deliver(end, draw_packet(written(world, end.other()), seed)),
+        5..=7 => Do::Deliver(end, draw_packet(written(world, other(end)), seed)),
         8 => Do::Serve,
         _ => Do::Read,
     }
