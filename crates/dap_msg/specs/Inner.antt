@@ -1,5 +1,6 @@
 -- What only the contracts of private functions cite, and proofs: nobody has to believe it.
 pub mod Answers
+pub mod Attributes
 pub mod Fields
 pub mod Reading
 pub mod Whole

@@ -1,8 +1,9 @@
 //! The operands of the messages.
 
 ghost use Rattle.std.specs.Prelude.{◌≡◌, [], List};
-ghost use Rattle.dap_msg.specs.Message.{seen};
+ghost use Rattle.dap_msg.specs.Message.{seen, seen_attributes};
 ghost use Rattle.dap_msg.specs.Formats.{access, acknowledge, attributes, completion, configuration, continuation, control, file_data, other, status};
+ghost use Rattle.dap_msg.specs.Inner.Attributes.{later_attributes};
 ghost use Rattle.dap_msg.specs.Inner.Reading.{read, Gives};
 
 use crate::fault::Fault;
@@ -60,7 +61,7 @@ pub(crate) fn read_control(operand: &[u8]) -> Result<Message<'_>, Fault>
     }))
 }
 
-#[tactic(auto, unfolding(crate::specs::Formats::attributes))]
+#[tactic(auto, unfolding(crate::specs::Formats::attributes, crate::specs::Inner::Attributes::later_attributes))]
 pub(crate) fn read_attributes(operand: &[u8]) -> Result<Message<'_>, Fault>
     ensures { Gives (λ m. (seen m, [])) result (read attributes operand.now) }
 {
@@ -75,7 +76,33 @@ pub(crate) fn read_attributes(operand: &[u8]) -> Result<Message<'_>, Fault>
     let (bks, rest) = optional_byte(is_set(bits, 7), rest)?;
     let (fsz, rest) = optional_byte(is_set(bits, 8), rest)?;
     let (mrn, rest) = optional_image(is_set(bits, 9), rest, 5)?;
-    let (runsys, rest) = optional_image(is_set(bits, 10), rest, 40)?;
+    let first = Attributes {
+        datatype,
+        org,
+        rfm,
+        rat,
+        bls,
+        mrs,
+        alq,
+        bks,
+        fsz,
+        mrn,
+        ..Attributes::none()
+    };
+    read_later_attributes(bits, first, rest)
+}
+
+/// The later attributes, from the runtime system on, behind these.
+#[tactic(auto, unfolding(crate::specs::Inner::Attributes::later_attributes))]
+fn read_later_attributes<'a>(
+    bits: u64,
+    first: Attributes<'a>,
+    operand: &'a [u8],
+) -> Result<Message<'a>, Fault>
+    ensures { Gives (λ m. (seen m, [])) result
+        (read (later_attributes bits (seen_attributes first.entry)) operand.now) }
+{
+    let (runsys, rest) = optional_image(is_set(bits, 10), operand, 40)?;
     let (deq, rest) = optional_word(is_set(bits, 11), rest)?;
     let (fop, rest) = optional_u64(is_set(bits, 12), rest, 6)?;
     let (bsz, rest) = optional_byte(is_set(bits, 13), rest)?;
@@ -87,16 +114,6 @@ pub(crate) fn read_attributes(operand: &[u8]) -> Result<Message<'_>, Fault>
     let (ffb, rest) = optional_word(is_set(bits, 19), rest)?;
     let (sbn, _ignored) = optional_image(is_set(bits, 20), rest, 5)?;
     Ok(Message::Attrib(Attributes {
-        datatype,
-        org,
-        rfm,
-        rat,
-        bls,
-        mrs,
-        alq,
-        bks,
-        fsz,
-        mrn,
         runsys,
         deq,
         fop,
@@ -108,6 +125,7 @@ pub(crate) fn read_attributes(operand: &[u8]) -> Result<Message<'_>, Fault>
         ebk,
         ffb,
         sbn,
+        ..first
     }))
 }
 
