@@ -36,12 +36,6 @@ Gives faults IsText input old new (Err NoMemory) = Keeps old new
 Gives faults IsText input old new (Err WriteFailed) =
     (outcome : Outcome) × (text : List ℕ) × IsTextOf faults (IsText outcome) input text × WritesFront old new text
 
--- a fault that a line can have
-abbrev pub IsOfLine : CaptureFault → Type 0
-IsOfLine (BadLine number) = Unit {0}
-IsOfLine TooLarge = Unit {0}
-IsOfLine _ = ⊥
-
 -- A fault leaves it as it was, save one of the writer.
 abbrev pub KeepsUnwritten : Result Outcome CaptureFault → Option (List ℕ) → Option (List ℕ) → Type 0
 KeepsUnwritten result old new = OnErr result ((result ≢ Err WriteFailed) → Keeps old new)

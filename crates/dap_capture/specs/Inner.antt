@@ -2,3 +2,9 @@
 pub mod Adding
 pub mod Checking
 pub mod Playing
+pub mod Input
+pub mod Lines
+pub mod Words
+pub mod Orders
+pub mod Messages
+pub mod Fields

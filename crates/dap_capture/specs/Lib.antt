@@ -1,5 +1,4 @@
 pub mod Inner
-pub mod Input
 pub mod Output
 pub mod Gives
 pub mod Text
@@ -13,4 +12,3 @@ pub mod Played
 pub mod Messages
 pub mod Packets
 pub mod Listing
-pub mod Fields

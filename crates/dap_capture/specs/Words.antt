@@ -49,9 +49,3 @@ with_text (Some bytes) (Some others) = Some (bytes ∷ others)
 abbrev pub texts_of : List (List ℕ) → Option (List (List ℕ))
 texts_of [] = Some []
 texts_of (word ∷ words) = with_text (text_of word) (texts_of words)
-
--- ---- What the words of the program are.
-
-abbrev pub words_left : Option (List ℕ) → List (List ℕ)
-words_left None = []
-words_left (Some line) = words_of line

@@ -4,7 +4,8 @@ ghost use Rattle.std.specs.Prelude.{ℕ, ◌≡◌, ◌≤◌, ◌<◌, ◌*◌,
 ghost use Rattle.std.specs.List.{position, list_all};
 ghost use Rattle.std.specs.Char.{is_ascii_hexdigit};
 ghost use Rattle.std.specs.Str.Lines.{lines, strip_carriage_return};
-ghost use Rattle.dap_capture.specs.Lines.{is_hex_text as spelled, HasDigits, digits_line, line_of, line_of_head, value_of_line};
+ghost use Rattle.dap_capture.specs.Lines.{is_hex_text as spelled, digits_line, line_of};
+ghost use Rattle.dap_capture.specs.Inner.Lines.{HasDigits, line_of_head, value_of_line};
 
 use memchr::memchr;
 
@@ -63,7 +64,8 @@ fn without_carriage_return(line: &[u8]) -> &[u8]
 #[tactic(auto, using(crate::proofs::LineLemmas::first_line, crate::proofs::LineLemmas::last_line))]
 pub(crate) fn next_line(bytes: &[u8]) -> Option<(&[u8], &[u8])>
     ensures { MatchOption result (bytes.now ≡ [])
-        (λ cut. (lines bytes.now ≡ cut.0.now ∷ lines cut.1.now) × (length cut.1.now < length bytes.now)) }
+        (λ cut. (lines bytes.now ≡ cut.0.now ∷ lines cut.1.now)
+        × (length cut.1.now < length bytes.now)) }
 {
     if bytes.is_empty() {
         return None;

@@ -3,8 +3,7 @@
 ghost use Rattle.std.specs.Prelude.{◌≡◌, ◌≤◌, ◌*◌, ◌++◌, ℕ, List, Ok, true, IfErr, IfOk, MatchResult, OnOk, [], length, slice_get, string_bytes};
 ghost use Rattle.hex.specs.Hex.{decode_of};
 ghost use Rattle.dap_capture.specs.Inner.Adding.{Adds, AddsCapture, AddsSome};
-ghost use Rattle.dap_capture.specs.Inner.Checking.{TellsFirst};
-ghost use Rattle.dap_capture.specs.Gives.{IsOfLine};
+ghost use Rattle.dap_capture.specs.Inner.Checking.{IsOfLine, TellsFirst};
 ghost use Rattle.dap_capture.specs.Lines.{is_hex_text};
 ghost use Rattle.dap_capture.specs.Listing.{IsCapturedText, IsListing, IsMessageText, arrow_text, limit_of, line_faults};
 

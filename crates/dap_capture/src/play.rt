@@ -2,8 +2,7 @@
 
 ghost use Rattle.std.specs.Prelude.{◌≡◌, ◌≤◌, ◌+◌, [], IfErr, IfOk, IsSome, MatchResult, length, slice_get, string_bytes};
 ghost use Rattle.std.specs.List.{filter_map};
-ghost use Rattle.dap_capture.specs.Gives.{IsOfLine};
-ghost use Rattle.dap_capture.specs.Inner.Checking.{TellsFirst};
+ghost use Rattle.dap_capture.specs.Inner.Checking.{IsOfLine, TellsFirst};
 ghost use Rattle.dap_capture.specs.Inner.Playing.{PlaysLine, PlaysOne};
 ghost use Rattle.dap_capture.specs.Orders.{event_of};
 ghost use Rattle.dap_capture.specs.Played.{Played, Plays};
@@ -47,8 +46,8 @@ fn play_event(
     world: &mut World,
     event: &Event,
 ) -> Result<Outcome, CaptureFault>
-    ensures plays { IfOk result
-        (PlaysOne number event.now world.old world.new (string_bytes text.old) (string_bytes text.new)) }
+    ensures plays { IfOk result (PlaysOne number event.now world.old world.new
+        (string_bytes text.old) (string_bytes text.new)) }
     ensures fault { IfErr result (λ fault. fault ≡ CaptureFault.NoMemory) }
 {
     match world.apply(event) {
@@ -75,8 +74,8 @@ fn play_line(
     line: &[u8],
 ) -> Result<Outcome, CaptureFault>
     requires { IsSome (event_of line.now) }
-    ensures plays { IfOk result
-        (PlaysLine number line.now world.old world.new (string_bytes text.old) (string_bytes text.new)) }
+    ensures plays { IfOk result (PlaysLine number line.now world.old world.new
+        (string_bytes text.old) (string_bytes text.new)) }
     ensures fault { IfErr result (λ fault. fault ≡ CaptureFault.NoMemory) }
 {
     let Some(order) = read_order(line) else {

@@ -19,7 +19,8 @@ fn is_skipped(line: &[u8]) -> bool
 fn next_said(number: usize, bytes: &[u8]) -> Option<(usize, &[u8], &[u8])>
     requires { number + length bytes.now ≤ INPUT_LIMIT + 1 }
     ensures said { MatchOption result (said_from number bytes.now ≡ [])
-        (λ found. said_from number bytes.now ≡ (found.0, found.1.now) ∷ said_from (found.0 + 1) found.2.now) }
+        (λ found. said_from number bytes.now
+        ≡ (found.0, found.1.now) ∷ said_from (found.0 + 1) found.2.now) }
     ensures counted { IfSome result (λ found. found.0 + 1 + length found.2.now ≤ INPUT_LIMIT + 1) }
 {
     let mut number = number;

@@ -4,7 +4,8 @@ ghost use Rattle.std.specs.Prelude.{◌≡◌, ◌≢◌, ◌≤◌, ◌<◌, �
 ghost use Rattle.std.specs.Prelude.{◌==◌, bytes_eq, true};
 ghost use Rattle.std.specs.List.{list_all, position};
 ghost use Rattle.std.specs.Char.{is_ascii_digit};
-ghost use Rattle.dap_capture.specs.Words.{end_of, number_of, text_of, texts_of, words_left, words_of};
+ghost use Rattle.dap_capture.specs.Words.{end_of, number_of, text_of, texts_of, words_of};
+ghost use Rattle.dap_capture.specs.Inner.Words.{words_left};
 
 use crate::lines::is_hex_text;
 use dap_world::{End, Octets, OctetsList};
@@ -19,7 +20,7 @@ pub(crate) struct Words<'a> {
 
 impl<'a> Model for Words<'a> {
     ghost use Rattle.std.specs.Prelude.{List, ℕ, option_copied};
-    ghost use Rattle.dap_capture.specs.Words.{words_left};
+    ghost use Rattle.dap_capture.specs.Inner.Words.{words_left};
 
     ghost Value = { List (List ℕ) };
 
