@@ -87,28 +87,35 @@ pub fn look_at_link(link: &LinkEnd, seen: &mut Vec<u8>) -> io::Result<()> {
     }
 }
 
-/// Which record a Get asks for.
-fn look_at_pick(by: By, seen: &mut Vec<u8>) -> io::Result<()> {
-    match by {
-        By::Next => write!(seen, "\n get"),
-        By::Key(number) => write!(seen, "\n get key {number}"),
-        By::Rfa(number) => write!(seen, "\n get rfa {number}"),
-    }
-}
-
-/// How a Fetch goes on.
-fn look_at_how(how: How, seen: &mut Vec<u8>) -> io::Result<()> {
-    match how {
-        How::Again => write!(seen, "\n continue again"),
-        How::Skip => write!(seen, "\n continue skip"),
-        How::Abort => write!(seen, "\n continue abort"),
+/// The word for what is asked.
+fn word_of(request: &Request) -> &'static str {
+    match request {
+        Request::Hello => "hello",
+        Request::Create { .. } => "create",
+        Request::OpenFile { .. } => "open",
+        Request::Connect => "connect",
+        Request::Get(By::Next) => "get",
+        Request::Get(By::Key(_)) => "get key",
+        Request::Get(By::Rfa(_)) => "get rfa",
+        Request::Put { .. } => "put",
+        Request::Update { .. } => "update",
+        Request::Delete => "delete",
+        Request::Rewind => "rewind",
+        Request::Fetch => "fetch",
+        Request::Store(_) => "store",
+        Request::Continue(How::Again) => "continue again",
+        Request::Continue(How::Skip) => "continue skip",
+        Request::Continue(How::Abort) => "continue abort",
+        Request::Close => "close",
+        Request::Purge => "purge",
     }
 }
 
 /// A request that was asked.
 pub fn look_at_request(request: &Request, seen: &mut Vec<u8>) -> io::Result<()> {
+    let word = word_of(request);
+    write!(seen, "\n {word}")?;
     match request {
-        Request::Hello => write!(seen, "\n hello"),
         Request::Create {
             name,
             org,
@@ -117,35 +124,25 @@ pub fn look_at_request(request: &Request, seen: &mut Vec<u8>) -> io::Result<()> 
             mrn,
             fac,
         } => {
-            write!(seen, "\n create {org} {rfm} {mrs} {mrn} {fac}")?;
+            write!(seen, " {org} {rfm} {mrs} {mrn} {fac}")?;
             note_bytes(seen, "name", &name.0)
         }
         Request::OpenFile { name, fac } => {
-            write!(seen, "\n open {fac}")?;
+            write!(seen, " {fac}")?;
             note_bytes(seen, "name", &name.0)
         }
-        Request::Connect => write!(seen, "\n connect"),
-        Request::Get(by) => look_at_pick(*by, seen),
+        Request::Get(By::Key(number) | By::Rfa(number)) => write!(seen, " {number}"),
         Request::Put { key, body } => {
-            write!(seen, "\n put {key:?}")?;
+            write!(seen, " {key:?}")?;
             note_bytes(seen, "body", &body.0)
         }
-        Request::Update { body } => {
-            write!(seen, "\n update")?;
-            note_bytes(seen, "body", &body.0)
-        }
-        Request::Delete => write!(seen, "\n delete"),
-        Request::Rewind => write!(seen, "\n rewind"),
-        Request::Fetch => write!(seen, "\n fetch"),
+        Request::Update { body } => note_bytes(seen, "body", &body.0),
         Request::Store(list) => {
-            write!(seen, "\n store")?;
             for body in &list.0 {
                 note_bytes(seen, "body", &body.0)?;
             }
             Ok(())
         }
-        Request::Continue(how) => look_at_how(*how, seen),
-        Request::Close => write!(seen, "\n close"),
-        Request::Purge => write!(seen, "\n purge"),
+        _ => Ok(()),
     }
 }
