@@ -93,7 +93,7 @@ module _ (limit : ℕ) (least : short_answer ≤ limit) where
 
   misplaced : (verb : Verb) → IsSendable limit (control_status verb)
   misplaced verbs.Unknown = bare 0x2100 (lit< tt)
-  misplaced verb = bare (codes.out_of_place codes.type_control) (lit< tt)
+  misplaced verb = bare (codes.out_of_place codes.types.control) (lit< tt)
 
   malformed : (n : ℕ) → IsSendable limit (bare_status (codes.status_code_for n))
   malformed n = bare (codes.status_code_for n) (code_small n)
@@ -222,7 +222,7 @@ module _ (scene : Scene) (own : scene.own < 2 ^ 16) (files : AllFiles scene.file
 
     resuming-if : (dropping : Bool) (s : StreamVal) (func : ℕ) → Sends (if dropping then continue_store (going func) scene o s else sync scene (Store o s) (Contran func))
     resuming-if true s func = resuming (going func) s
-    resuming-if false s func = (bare scene.limit least (codes.out_of_place codes.type_continue) (lit< tt), tt)
+    resuming-if false s func = (bare scene.limit least (codes.out_of_place codes.types.contran) (lit< tt), tt)
 
     -- ---- The places.
 

@@ -12,10 +12,10 @@ use Rattle.dap_accessed.specs.Replies.{bare_status, refused_access, opened_with,
 abbrev pub rights_of : ℕ → Rights
 rights_of fac =
     record {
-      get = codes.asks_for fac codes.fac_get;
-      put = codes.asks_for fac codes.fac_put;
-      upd = codes.asks_for fac codes.fac_update;
-      del = codes.asks_for fac codes.fac_delete;
+      get = codes.asks_for fac codes.fac_bits.get;
+      put = codes.asks_for fac codes.fac_bits.put;
+      upd = codes.asks_for fac codes.fac_bits.update;
+      del = codes.asks_for fac codes.fac_bits.delete;
     }
 
 -- FAC 0 stands for GET on open, and for PUT on create
@@ -29,7 +29,7 @@ refuse_access scene status = enters scene Ready (status ∷ [])
 abbrev pub open_file : Scene → (fac : ℕ) → Option ℕ → Effect
 open_file scene fac None = refuse_access scene (bare_status codes.file_not_found)
 open_file scene fac (Some at) =
-    enters scene (Opened (record { at = at; is_new = false; rights = rights_of (fac_or fac codes.fac_get) }))
+    enters scene (Opened (record { at = at; is_new = false; rights = rights_of (fac_or fac codes.fac_bits.get) }))
     (opened_with (file_at at scene.files).shape)
 
 -- with the shape that it would have; a new file stands behind all others
@@ -38,7 +38,7 @@ create_file scene name fac (Some at) shape = refuse_access scene (refused_access
 create_file scene name fac None None = refuse_access scene (refused_access BadAttributes)
 create_file scene name fac None (Some shape) =
     leaves scene (scene.files ++ (name, new_file shape) ∷ [])
-    (Opened (record { at = length scene.files; is_new = true; rights = rights_of (fac_or fac codes.fac_put) }))
+    (Opened (record { at = length scene.files; is_new = true; rights = rights_of (fac_or fac codes.fac_bits.put) }))
     (opened_with shape)
 
 pub data AccessKind : Type 0 where
@@ -47,12 +47,12 @@ pub data AccessKind : Type 0 where
   NoAccess : AccessKind
 
 abbrev pub access_kind : ℕ → AccessKind
-access_kind func = if func == codes.accfunc_open then Opening else if func == codes.accfunc_create then Creating else NoAccess
+access_kind func = if func == codes.accfunc.opening then Opening else if func == codes.accfunc.creating then Creating else NoAccess
 
 abbrev pub access_as : AccessKind → Scene → AccessFields → Option Shape → Effect
 access_as Opening scene access shape = open_file scene access.fac (place_of access.name scene.files)
 access_as Creating scene access shape = create_file scene access.name access.fac (place_of access.name scene.files) shape
-access_as NoAccess scene access shape = refuse_access scene (bare_status (codes.unsupported codes.type_access))
+access_as NoAccess scene access shape = refuse_access scene (bare_status (codes.unsupported codes.types.access))
 
 -- ---- Access Complete.
 
@@ -69,18 +69,18 @@ pub data Completing : Type 0 where
 
 abbrev pub completing : ℕ → Completing
 completing func =
-    if func == codes.cmpfunc_close then Closing
-    else if func == codes.cmpfunc_purge then Purging
-    else if func == codes.cmpfunc_end_of_stream then EndingStream
-    else if func == codes.cmpfunc_skip then Skipping else NoCompletion
+    if func == codes.cmpfunc.close then Closing
+    else if func == codes.cmpfunc.purge then Purging
+    else if func == codes.cmpfunc.end_of_stream then EndingStream
+    else if func == codes.cmpfunc.skip then Skipping else NoCompletion
 
 -- in a place in which a file is open; what the end of a stream does is given, since it depends on the place
 abbrev pub complete : Completing → Scene → OpenFile → Place → (end_of_stream : Effect) → Effect
 complete Closing scene opened place end_of_stream = enters scene Ready (completed ∷ [])
 complete Purging scene opened place end_of_stream = leaves scene (purged opened scene.files) Ready (completed ∷ [])
 complete EndingStream scene opened place end_of_stream = end_of_stream
-complete Skipping scene opened place end_of_stream = enters scene place (bare_status (codes.unsupported codes.type_complete) ∷ [])
-complete NoCompletion scene opened place end_of_stream = enters scene place (bare_status (codes.invalid codes.type_complete) ∷ [])
+complete Skipping scene opened place end_of_stream = enters scene place (bare_status (codes.unsupported codes.types.accomp) ∷ [])
+complete NoCompletion scene opened place end_of_stream = enters scene place (bare_status (codes.invalid codes.types.accomp) ∷ [])
 
 abbrev pub end_stream : Scene → OpenFile → Effect
 end_stream scene opened = enters scene (Opened opened) (completed ∷ [])

@@ -37,8 +37,8 @@ sync scene place message = enters scene place (sync_status message ∷ [])
 
 -- a Control that has no place; one that this end doesn't know has none anywhere
 abbrev pub control_status : Verb → Message
-control_status verbs.Unknown = bare_status (codes.unsupported codes.type_control)
-control_status verb = bare_status (codes.out_of_place codes.type_control)
+control_status verbs.Unknown = bare_status (codes.unsupported codes.types.control)
+control_status verb = bare_status (codes.out_of_place codes.types.control)
 
 abbrev pub refuse_control : Verb → Scene → Place → Effect
 refuse_control verb scene place = enters scene place (control_status verb ∷ [])
@@ -47,7 +47,7 @@ refuse_control verb scene place = enters scene place (control_status verb ∷ []
 
 -- a Config with a buffer that is too small, and any other
 abbrev pub config_refused : Scene → Effect
-config_refused scene = enters scene Fresh (bare_status (codes.invalid codes.type_configuration) ∷ [])
+config_refused scene = enters scene Fresh (bare_status (codes.invalid codes.types.config) ∷ [])
 
 abbrev pub configured : Scene → (bufsiz : ℕ) → Effect
 configured scene bufsiz =

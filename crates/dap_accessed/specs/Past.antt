@@ -32,7 +32,7 @@ is_filedata _ = false
 
 -- a Continue Transfer that takes up the Store again
 abbrev pub is_skip : Item → Bool
-is_skip (Whole (Contran func)) = func == codes.confunc_skip
+is_skip (Whole (Contran func)) = func == codes.confunc.skip
 is_skip _ = false
 
 -- ---- Attributes.
@@ -49,7 +49,7 @@ kept_attributes past =
 -- the shape that attributes ask for, if a file may have it; a field that is missing has the value given here
 abbrev pub shape_of : Attributes → Option Shape
 shape_of a =
-    checked_shape (unwrap_or a.org codes.org_sequential) (unwrap_or a.rfm codes.rfm_variable) (unwrap_or a.mrs 0)
+    checked_shape (unwrap_or a.org codes.org.sequential) (unwrap_or a.rfm codes.rfm.variable) (unwrap_or a.mrs 0)
     (number_of (unwrap_or a.mrn []))
 
 -- ---- A Store.

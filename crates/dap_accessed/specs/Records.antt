@@ -33,26 +33,26 @@ new_stream rights = record { rights = rights; next = 1; current = None }
 
 -- RAC missing is that of the next record
 abbrev pub rac_of : ControlFields → ℕ
-rac_of control = unwrap_or control.rac codes.rac_sequential
+rac_of control = unwrap_or control.rac codes.rac.sequential
 
 abbrev pub is_whole : ControlFields → Bool
-is_whole control = rac_of control == codes.rac_whole_file
+is_whole control = rac_of control == codes.rac.whole_file
 
 abbrev pub is_next : ControlFields → Bool
-is_next control = rac_of control == codes.rac_sequential
+is_next control = rac_of control == codes.rac.sequential
 
 abbrev pub is_keyed : ControlFields → Bool
-is_keyed control = rac_of control == codes.rac_keyed
+is_keyed control = rac_of control == codes.rac.keyed
 
 -- what a Control asks for: a GET or a PUT may be for a whole file
 abbrev pub verb_of : ControlFields → Verb
 verb_of control =
-    if control.func == codes.ctlfunc_get then (if is_whole control then verbs.Fetch else verbs.Get)
-    else if control.func == codes.ctlfunc_connect then verbs.Connect
-    else if control.func == codes.ctlfunc_update then verbs.Update
-    else if control.func == codes.ctlfunc_put then (if is_whole control then verbs.Store else verbs.Put)
-    else if control.func == codes.ctlfunc_delete then verbs.Delete
-    else if control.func == codes.ctlfunc_rewind then verbs.Rewind else verbs.Unknown
+    if control.func == codes.ctlfunc.get then (if is_whole control then verbs.Fetch else verbs.Get)
+    else if control.func == codes.ctlfunc.connect then verbs.Connect
+    else if control.func == codes.ctlfunc.update then verbs.Update
+    else if control.func == codes.ctlfunc.put then (if is_whole control then verbs.Store else verbs.Put)
+    else if control.func == codes.ctlfunc.delete then verbs.Delete
+    else if control.func == codes.ctlfunc.rewind then verbs.Rewind else verbs.Unknown
 
 -- KEY missing is empty
 abbrev pub key_of : ControlFields → Result ℕ Refusal
@@ -77,7 +77,7 @@ pick_of control =
 abbrev pub get_refusals_before : FileVal → StreamVal → ControlFields → List (Bool × Refusal)
 get_refusals_before file stream control =
     (not stream.rights.get, NotPermitted)
-    ∷ (nat_lt codes.rac_address (rac_of control) || (is_keyed control && is_seq file.shape.org), BadAccessMode)
+    ∷ (nat_lt codes.rac.address (rac_of control) || (is_keyed control && is_seq file.shape.org), BadAccessMode)
     ∷ (not (is_next control) && is_err (key_of control), BadKey) ∷ []
 
 -- the record that a GET is for, or why it is refused
@@ -121,7 +121,7 @@ record_got (Ok pick) scene opened stream =
 abbrev pub put_refusals_before : FileVal → StreamVal → ControlFields → List (Bool × Refusal)
 put_refusals_before file stream control =
     (not stream.rights.put, NotPermitted)
-    ∷ (nat_lt codes.rac_keyed (rac_of control) || (is_keyed control && is_seq file.shape.org), BadAccessMode)
+    ∷ (nat_lt codes.rac.keyed (rac_of control) || (is_keyed control && is_seq file.shape.org), BadAccessMode)
     ∷ (is_keyed control && is_err (key_of control), BadKey) ∷ []
 
 -- the key of a PUT, if it has one, or why it is refused

@@ -69,15 +69,15 @@ end_of_file = bare_status codes.end_of_file
 
 -- what ends an access or a stream
 abbrev pub completed : Message
-completed = complete_with codes.cmpfunc_response
+completed = complete_with codes.cmpfunc.response
 
 abbrev pub org_number : Org → ℕ
-org_number Seq = codes.org_sequential
-org_number Rel = codes.org_relative
+org_number Seq = codes.org.sequential
+org_number Rel = codes.org.relative
 
 abbrev pub format_number : Format → ℕ
-format_number Fixed = codes.rfm_fixed
-format_number Variable = codes.rfm_variable
+format_number Fixed = codes.rfm.fixed
+format_number Variable = codes.rfm.variable
 
 abbrev pub attributes_for : Shape → Message
 attributes_for shape = attributes_of (org_number shape.org) (format_number shape.format) shape.mrs shape.mrn

@@ -48,7 +48,7 @@ is_silent phases.Ready (Whole (Other _ _)) = true
 is_silent phases.Ready (Whole (Attrib _)) = true
 is_silent (phases.Connected opened stream) (Whole (Control control)) = begins_only (verb_of control)
 is_silent (phases.Dropping opened stream ordinal) (Whole (Filedata _ _)) = true
-is_silent (phases.Dropping opened stream ordinal) (Whole (Contran func)) = func == codes.confunc_skip
+is_silent (phases.Dropping opened stream ordinal) (Whole (Contran func)) = func == codes.confunc.skip
 is_silent _ _ = false
 
 -- A silent item at the place is served without memory.

@@ -38,18 +38,18 @@ pub data Going : Type 0 where
 
 abbrev pub going : ℕ → Going
 going func =
-    if func == codes.confunc_again then Again
-    else if func == codes.confunc_skip then Skip
-    else if func == codes.confunc_abort then Abort
-    else if func == codes.confunc_resume then Resume else NoGoing
+    if func == codes.confunc.again then Again
+    else if func == codes.confunc.skip then Skip
+    else if func == codes.confunc.abort then Abort
+    else if func == codes.confunc.resume then Resume else NoGoing
 
 -- after a fetch that stopped
 abbrev pub continue_fetch : Going → Scene → OpenFile → StreamVal → Effect
 continue_fetch Again scene opened stream = fetch scene opened stream
 continue_fetch Skip scene opened stream = fetch scene opened (at_number (stream.next + 1) stream)
 continue_fetch Abort scene opened stream = enters scene (Connected opened stream) (end_of_file ∷ [])
-continue_fetch Resume scene opened stream = enters scene (Stopped opened stream) (bare_status (codes.unsupported codes.type_continue) ∷ [])
-continue_fetch NoGoing scene opened stream = enters scene (Stopped opened stream) (bare_status (codes.invalid codes.type_continue) ∷ [])
+continue_fetch Resume scene opened stream = enters scene (Stopped opened stream) (bare_status (codes.unsupported codes.types.contran) ∷ [])
+continue_fetch NoGoing scene opened stream = enters scene (Stopped opened stream) (bare_status (codes.invalid codes.types.contran) ∷ [])
 
 -- ---- To this end.
 
@@ -72,5 +72,5 @@ drop_one scene opened stream = enters scene (Store opened stream) []
 -- a Continue Transfer after a Filedata that was refused
 abbrev pub continue_store : Going → Scene → OpenFile → StreamVal → Effect
 continue_store Skip scene opened stream = enters scene (Store opened stream) []
-continue_store Resume scene opened stream = enters scene (Store opened stream) (bare_status (codes.unsupported codes.type_continue) ∷ [])
-continue_store _ scene opened stream = enters scene (Store opened stream) (bare_status (codes.invalid codes.type_continue) ∷ [])
+continue_store Resume scene opened stream = enters scene (Store opened stream) (bare_status (codes.unsupported codes.types.contran) ∷ [])
+continue_store _ scene opened stream = enters scene (Store opened stream) (bare_status (codes.invalid codes.types.contran) ∷ [])

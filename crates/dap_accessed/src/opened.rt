@@ -1,7 +1,7 @@
 //! What is served while a file is open. The line `let _ = &self.phase` lets a proof see what every end keeps.
 
 ghost use Rattle.std.specs.Prelude.{◌≡◌, ◌≢◌, ◌<◌, length, IsOk, OnErr, true};
-ghost use Rattle.dap_msg.specs.Codes.{cmpfunc_end_of_stream};
+ghost use Rattle.dap_msg.specs.Codes.{cmpfunc};
 ghost use Rattle.dap_msg.specs.Items.{seen_item};
 ghost use Rattle.dap_msg.specs.Message.{seen_control};
 ghost use Rattle.dap_accessed.specs.Records.{Putting, Updating};
@@ -62,7 +62,7 @@ impl Accessed {
     /// A completion other than the end of a stream.
     pub(crate) fn complete(&mut self, opened: OpenFile, func: u8) -> Result<Vec<Vec<u8>>, NoMemory>
         requires there { opened.at < length self.old.files }
-        requires other { func ≢ cmpfunc_end_of_stream }
+        requires other { func ≢ cmpfunc.end_of_stream }
         ensures ok { Completes func opened self.old self.new result }
         ensures err { OnErr result (self.new ≡ self.old) }
     {

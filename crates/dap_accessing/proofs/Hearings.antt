@@ -4,7 +4,7 @@ use Rattle.std.specs.Option.{option_or}
 use Rattle.std.specs.Prelude.{nat_le, ◌==◌, Option, Some, None, if◌then◌else◌, unwrap_or}
 use Rattle.dap_msg.specs.Message.{Config, Attrib, Ack, Accomp, Filedata, Status, Other, StatusFields}
 use Rattle.dap_msg.specs.Items.{Item, Whole}
-use Rattle.dap_msg.specs.Codes.{cmpfunc_response, end_of_file}
+use Rattle.dap_msg.specs.Codes.{cmpfunc, end_of_file}
 use Rattle.dap_msg.specs.Exchange.{number_of, is_too_small}
 use Rattle.dap_accessing.specs.declared.request.Request.{Request}
 use Rattle.dap_accessing.specs.declared.report.Report.{Report}
@@ -96,12 +96,12 @@ stays-stored first (Whole (Status status) ∷ rest) more =
       | true ↦ refl
       | false ↦ stays-stored (option_or first (Some (told_of status))) rest more
     ]
-stays-stored first (Whole (Accomp c) ∷ rest) more = stays-if-not (c.func == cmpfunc_response) (report.Stored first) rest more
+stays-stored first (Whole (Accomp c) ∷ rest) more = stays-if-not (c.func == cmpfunc.response) (report.Stored first) rest more
 stays-stored first (_ ∷ rest) more = refl
 
 stays-closed : (answers more : List Item) → Stays (hear_closed answers) (hear_closed (answers ++ more)) more
 stays-closed [] more = tt
-stays-closed (Whole (Accomp c) ∷ rest) more = stays-if-not (c.func == cmpfunc_response) report.Closed rest more
+stays-closed (Whole (Accomp c) ∷ rest) more = stays-if-not (c.func == cmpfunc.response) report.Closed rest more
 stays-closed (Whole (Status status) ∷ rest) more = stays-refusal status rest more
 stays-closed (_ ∷ rest) more = refl
 

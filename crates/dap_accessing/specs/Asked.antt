@@ -22,54 +22,54 @@ control func rac key =
     Control (record { func = func; rac = rac; key = key; krf = None; rop = None; hsh = None; display = None })
 
 abbrev pub get_by : By → Message
-get_by Next = control codes.ctlfunc_get (Some codes.rac_sequential) None
-get_by (Key n) = control codes.ctlfunc_get (Some codes.rac_keyed) (Some (four_bytes n))
-get_by (Rfa n) = control codes.ctlfunc_get (Some codes.rac_address) (Some (four_bytes n))
+get_by Next = control codes.ctlfunc.get (Some codes.rac.sequential) None
+get_by (Key n) = control codes.ctlfunc.get (Some codes.rac.keyed) (Some (four_bytes n))
+get_by (Rfa n) = control codes.ctlfunc.get (Some codes.rac.address) (Some (four_bytes n))
 
 abbrev pub put_at : Option ℕ → Message
-put_at None = control codes.ctlfunc_put (Some codes.rac_sequential) None
-put_at (Some n) = control codes.ctlfunc_put (Some codes.rac_keyed) (Some (four_bytes n))
+put_at None = control codes.ctlfunc.put (Some codes.rac.sequential) None
+put_at (Some n) = control codes.ctlfunc.put (Some codes.rac.keyed) (Some (four_bytes n))
 
 abbrev pub updating : Message
-updating = control codes.ctlfunc_update (Some codes.rac_sequential) None
+updating = control codes.ctlfunc.update (Some codes.rac.sequential) None
 
 abbrev pub deleting : Message
-deleting = control codes.ctlfunc_delete (Some codes.rac_sequential) None
+deleting = control codes.ctlfunc.delete (Some codes.rac.sequential) None
 
 abbrev pub rewinding : Message
-rewinding = control codes.ctlfunc_rewind (Some codes.rac_sequential) None
+rewinding = control codes.ctlfunc.rewind (Some codes.rac.sequential) None
 
 abbrev pub fetching : Message
-fetching = control codes.ctlfunc_get (Some codes.rac_whole_file) None
+fetching = control codes.ctlfunc.get (Some codes.rac.whole_file) None
 
 abbrev pub storing : Message
-storing = control codes.ctlfunc_put (Some codes.rac_whole_file) None
+storing = control codes.ctlfunc.put (Some codes.rac.whole_file) None
 
 abbrev pub record_of : List ℕ → Message
 record_of body = Filedata [] body
 
 abbrev pub how_to_go_on : How → ℕ
-how_to_go_on Again = codes.confunc_again
-how_to_go_on Skip = codes.confunc_skip
-how_to_go_on Abort = codes.confunc_abort
+how_to_go_on Again = codes.confunc.again
+how_to_go_on Skip = codes.confunc.skip
+how_to_go_on Abort = codes.confunc.abort
 
 -- the messages of a request, to an end of this BUFSIZ
 abbrev pub messages_of : ℕ → Request → List Message
 messages_of own Hello = config_of own ∷ []
 messages_of own (Create name org rfm mrs mrn fac) =
-    attributes (Some org) (Some rfm) (Some mrs) (Some (four_bytes mrn)) ∷ access codes.accfunc_create name fac ∷ []
-messages_of own (OpenFile name fac) = attributes None None None None ∷ access codes.accfunc_open name fac ∷ []
-messages_of own Connect = control codes.ctlfunc_connect None None ∷ []
+    attributes (Some org) (Some rfm) (Some mrs) (Some (four_bytes mrn)) ∷ access codes.accfunc.creating name fac ∷ []
+messages_of own (OpenFile name fac) = attributes None None None None ∷ access codes.accfunc.opening name fac ∷ []
+messages_of own Connect = control codes.ctlfunc.connect None None ∷ []
 messages_of own (Get by) = get_by by ∷ []
 messages_of own (Put key body) = put_at key ∷ record_of body ∷ []
 messages_of own (Update body) = updating ∷ record_of body ∷ []
 messages_of own Delete = deleting ∷ []
 messages_of own Rewind = rewinding ∷ []
 messages_of own Fetch = fetching ∷ []
-messages_of own (Store bodies) = (storing ∷ map record_of bodies) ++ complete_with codes.cmpfunc_end_of_stream ∷ []
+messages_of own (Store bodies) = (storing ∷ map record_of bodies) ++ complete_with codes.cmpfunc.end_of_stream ∷ []
 messages_of own (Continue how) = Contran (how_to_go_on how) ∷ []
-messages_of own Close = complete_with codes.cmpfunc_close ∷ []
-messages_of own Purge = complete_with codes.cmpfunc_purge ∷ []
+messages_of own Close = complete_with codes.cmpfunc.close ∷ []
+messages_of own Purge = complete_with codes.cmpfunc.purge ∷ []
 
 -- the messages of all requests, in order
 abbrev pub Asked : ℕ → List Request → List Message

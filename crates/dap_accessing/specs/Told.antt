@@ -64,7 +64,7 @@ hear_opened done answers = hear_ack done (behind is_other answers)
 
 abbrev pub opened_as : Attributes → Report
 opened_as a =
-    report.Opened (unwrap_or a.org codes.org_sequential) (unwrap_or a.rfm codes.rfm_variable) (unwrap_or a.mrs 0)
+    report.Opened (unwrap_or a.org codes.org.sequential) (unwrap_or a.rfm codes.rfm.variable) (unwrap_or a.mrs 0)
     (number_of (unwrap_or a.mrn []))
 
 -- no record of a file has a greater number
@@ -153,7 +153,7 @@ first_told statuses = option_map told_of (slice_get statuses 0)
 
 -- an Accomp that answers: there is this report; any other has no place
 abbrev pub completes : ℕ → Report → List Item → Hearing
-completes func done rest = if func == codes.cmpfunc_response then Reports done rest else Unexpected
+completes func done rest = if func == codes.cmpfunc.response then Reports done rest else Unexpected
 
 -- the Accomp of a store, with this first refusal before it
 abbrev pub hear_store_end : Option (ℕ × ℕ × ℕ) → List Item → Hearing

@@ -3,7 +3,7 @@ use Rattle.std.specs.Prelude.{ℕ, ◌+◌, ◌*◌, ◌/◌, ◌%◌, ◌^◌, 
 use Rattle.std.specs.Int.{bytes_low_first}
 use Rattle.std.specs.List.{concat}
 use Rattle.dap_fields.specs.Writing.{shortest}
-use Rattle.dap_msg.specs.Codes.{type_configuration, type_attributes, type_access, type_control, type_continue, type_acknowledge, type_complete, type_data, type_status, greatest_type}
+use Rattle.dap_msg.specs.Codes.{types, greatest_type}
 use Rattle.dap_msg.specs.Grammar.{Kind, Byte, Word, Extensible, Image, ValueOf}
 use Rattle.dap_msg.specs.Message.{Attributes, ControlFields, Message, Config, Attrib, Access, Control, Contran, Ack, Accomp, Filedata, Status, Other}
 
@@ -65,15 +65,15 @@ operand_fields (Status s) = field_bytes Word s.code ∷ field_bytes (Image 8) s.
 operand_fields (Other number body) = body ∷ []
 
 abbrev pub number_of : Message → ℕ
-number_of (Config c) = type_configuration
-number_of (Attrib a) = type_attributes
-number_of (Access a) = type_access
-number_of (Control c) = type_control
-number_of (Contran func) = type_continue
-number_of Ack = type_acknowledge
-number_of (Accomp c) = type_complete
-number_of (Filedata recnum payload) = type_data
-number_of (Status s) = type_status
+number_of (Config c) = types.config
+number_of (Attrib a) = types.attrib
+number_of (Access a) = types.access
+number_of (Control c) = types.control
+number_of (Contran func) = types.contran
+number_of Ack = types.ack
+number_of (Accomp c) = types.accomp
+number_of (Filedata recnum payload) = types.filedata
+number_of (Status s) = types.status
 number_of (Other number body) = number
 
 -- LENGTH always, LEN256 exactly where the operand has 256 bytes or more
@@ -129,7 +129,7 @@ FieldsFit Ack = Unit {0}
 FieldsFit (Accomp c) = FitsField Byte c.func × FitsField (Extensible 6) c.fop × FitsOption Word c.check
 FieldsFit (Filedata recnum payload) = FitsField (Image 8) recnum
 FieldsFit (Status s) = FitsField Word s.code × FitsField (Image 8) s.rfa × FitsField (Image 8) s.recnum × FitsField (Image 8) s.stv
-FieldsFit (Other number body) = (type_status < number) × (number ≤ greatest_type)
+FieldsFit (Other number body) = (types.status < number) × (number ≤ greatest_type)
 
 pub record Fits (m : Message) : Type 0 where
   pub fields : FieldsFit m

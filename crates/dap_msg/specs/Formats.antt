@@ -1,6 +1,6 @@
 -- The formats of the messages' operands, and of the header.
 use Rattle.std.specs.Prelude.{ℕ, ◌/◌, ◌%◌, ◌^◌, ◌==◌, nat_lt, nat_le, if◌then◌else◌, Bool, ◌&&◌, ◌||◌, not, [], Option, Some, None}
-use Rattle.dap_msg.specs.Codes.{type_configuration, type_attributes, type_access, type_control, type_continue, type_acknowledge, type_complete, type_data, type_status, greatest_type}
+use Rattle.dap_msg.specs.Codes.{types, greatest_type}
 use Rattle.dap_msg.specs.declared.fault.FaultKind.{FaultKind}
 use Rattle.dap_msg.specs.declared.fault.FaultKind.TheVariants.{BadFlags, BadStream, UnknownType, BadMenu}
 use Rattle.dap_msg.specs.Grammar.{Kind, Byte, Word, Extensible, Image, Part, Must, When, OrElse, UnlessEnd, Remainder, Grammar, Done, Next, ◌>>=◌}
@@ -170,15 +170,15 @@ other number = do
 -- The operand's format by the type of the message.
 abbrev pub operand : ℕ → Grammar Message
 operand number =
-    if number == type_configuration then configuration else
-    if number == type_attributes then attributes else
-    if number == type_access then access else
-    if number == type_control then control else
-    if number == type_continue then continuation else
-    if number == type_acknowledge then acknowledge else
-    if number == type_complete then completion else
-    if number == type_data then file_data else
-    if number == type_status then status else other number
+    if number == types.config then configuration else
+    if number == types.attrib then attributes else
+    if number == types.access then access else
+    if number == types.control then control else
+    if number == types.contran then continuation else
+    if number == types.ack then acknowledge else
+    if number == types.accomp then completion else
+    if number == types.filedata then file_data else
+    if number == types.status then status else other number
 
 -- ---- The header.
 

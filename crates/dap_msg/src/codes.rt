@@ -150,41 +150,41 @@ pub(crate) fn malformed(message_type: u8) -> u16
 
 /// A law: the constants are the numbers that the definitions name (own).
 pub fn names_the_numbers()
-    ensures config { TYPE_CONFIGURATION ≡ codes.type_configuration }
-    ensures attributes { TYPE_ATTRIBUTES ≡ codes.type_attributes }
-    ensures access { TYPE_ACCESS ≡ codes.type_access }
-    ensures control { TYPE_CONTROL ≡ codes.type_control }
-    ensures continuing { TYPE_CONTINUE ≡ codes.type_continue }
-    ensures acknowledge { TYPE_ACKNOWLEDGE ≡ codes.type_acknowledge }
-    ensures complete { TYPE_COMPLETE ≡ codes.type_complete }
-    ensures data { TYPE_DATA ≡ codes.type_data }
-    ensures status { TYPE_STATUS ≡ codes.type_status }
+    ensures config { TYPE_CONFIGURATION ≡ codes.types.config }
+    ensures attributes { TYPE_ATTRIBUTES ≡ codes.types.attrib }
+    ensures access { TYPE_ACCESS ≡ codes.types.access }
+    ensures control { TYPE_CONTROL ≡ codes.types.control }
+    ensures continuing { TYPE_CONTINUE ≡ codes.types.contran }
+    ensures acknowledge { TYPE_ACKNOWLEDGE ≡ codes.types.ack }
+    ensures complete { TYPE_COMPLETE ≡ codes.types.accomp }
+    ensures data { TYPE_DATA ≡ codes.types.filedata }
+    ensures status { TYPE_STATUS ≡ codes.types.status }
     ensures greatest { GREATEST_TYPE ≡ codes.greatest_type }
-    ensures open { ACCFUNC_OPEN ≡ codes.accfunc_open }
-    ensures create { ACCFUNC_CREATE ≡ codes.accfunc_create }
-    ensures get { CTLFUNC_GET ≡ codes.ctlfunc_get }
-    ensures connect { CTLFUNC_CONNECT ≡ codes.ctlfunc_connect }
-    ensures update { CTLFUNC_UPDATE ≡ codes.ctlfunc_update }
-    ensures put { CTLFUNC_PUT ≡ codes.ctlfunc_put }
-    ensures delete { CTLFUNC_DELETE ≡ codes.ctlfunc_delete }
-    ensures rewind { CTLFUNC_REWIND ≡ codes.ctlfunc_rewind }
-    ensures sequential { RAC_SEQUENTIAL ≡ codes.rac_sequential }
-    ensures keyed { RAC_KEYED ≡ codes.rac_keyed }
-    ensures address { RAC_ADDRESS ≡ codes.rac_address }
-    ensures whole_file { RAC_WHOLE_FILE ≡ codes.rac_whole_file }
-    ensures again { CONFUNC_AGAIN ≡ codes.confunc_again }
-    ensures skip { CONFUNC_SKIP ≡ codes.confunc_skip }
-    ensures abort { CONFUNC_ABORT ≡ codes.confunc_abort }
-    ensures resume { CONFUNC_RESUME ≡ codes.confunc_resume }
-    ensures close { CMPFUNC_CLOSE ≡ codes.cmpfunc_close }
-    ensures response { CMPFUNC_RESPONSE ≡ codes.cmpfunc_response }
-    ensures purge { CMPFUNC_PURGE ≡ codes.cmpfunc_purge }
-    ensures end_of_stream { CMPFUNC_END_OF_STREAM ≡ codes.cmpfunc_end_of_stream }
-    ensures skip_rest { CMPFUNC_SKIP ≡ codes.cmpfunc_skip }
-    ensures org_sequential { ORG_SEQUENTIAL ≡ codes.org_sequential }
-    ensures org_relative { ORG_RELATIVE ≡ codes.org_relative }
-    ensures rfm_fixed { RFM_FIXED ≡ codes.rfm_fixed }
-    ensures rfm_variable { RFM_VARIABLE ≡ codes.rfm_variable }
+    ensures open { ACCFUNC_OPEN ≡ codes.accfunc.opening }
+    ensures create { ACCFUNC_CREATE ≡ codes.accfunc.creating }
+    ensures get { CTLFUNC_GET ≡ codes.ctlfunc.get }
+    ensures connect { CTLFUNC_CONNECT ≡ codes.ctlfunc.connect }
+    ensures update { CTLFUNC_UPDATE ≡ codes.ctlfunc.update }
+    ensures put { CTLFUNC_PUT ≡ codes.ctlfunc.put }
+    ensures delete { CTLFUNC_DELETE ≡ codes.ctlfunc.delete }
+    ensures rewind { CTLFUNC_REWIND ≡ codes.ctlfunc.rewind }
+    ensures sequential { RAC_SEQUENTIAL ≡ codes.rac.sequential }
+    ensures keyed { RAC_KEYED ≡ codes.rac.keyed }
+    ensures address { RAC_ADDRESS ≡ codes.rac.address }
+    ensures whole_file { RAC_WHOLE_FILE ≡ codes.rac.whole_file }
+    ensures again { CONFUNC_AGAIN ≡ codes.confunc.again }
+    ensures skip { CONFUNC_SKIP ≡ codes.confunc.skip }
+    ensures abort { CONFUNC_ABORT ≡ codes.confunc.abort }
+    ensures resume { CONFUNC_RESUME ≡ codes.confunc.resume }
+    ensures close { CMPFUNC_CLOSE ≡ codes.cmpfunc.close }
+    ensures response { CMPFUNC_RESPONSE ≡ codes.cmpfunc.response }
+    ensures purge { CMPFUNC_PURGE ≡ codes.cmpfunc.purge }
+    ensures end_of_stream { CMPFUNC_END_OF_STREAM ≡ codes.cmpfunc.end_of_stream }
+    ensures skip_rest { CMPFUNC_SKIP ≡ codes.cmpfunc.skip }
+    ensures org_sequential { ORG_SEQUENTIAL ≡ codes.org.sequential }
+    ensures org_relative { ORG_RELATIVE ≡ codes.org.relative }
+    ensures rfm_fixed { RFM_FIXED ≡ codes.rfm.fixed }
+    ensures rfm_variable { RFM_VARIABLE ≡ codes.rfm.variable }
     ensures success_kind { MACCODE_SUCCESS ≡ codes.maccode_success }
     ensures success { SUCCESS ≡ codes.success }
     ensures file_not_found { FILE_NOT_FOUND ≡ codes.file_not_found }

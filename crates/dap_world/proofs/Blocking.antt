@@ -3,7 +3,7 @@ use Rattle.std.proofs.Common.{ℕ, ◌≤◌, List, [], ◌∷◌, ◌++◌, len
 use Rattle.dap_msg.specs.Message.{Message}
 use Rattle.dap_msg.specs.Canon.{canon}
 use Rattle.dap_msg.specs.Items.{Item, Whole}
-use Rattle.dap_msg.specs.Codes.{cmpfunc_end_of_stream}
+use Rattle.dap_msg.specs.Codes.{cmpfunc}
 use Rattle.dap_msg.specs.Exchange.{complete_with}
 use Rattle.dap_msg.specs.Sendable.{AreSendable}
 use Rattle.dap_msg.specs.Blocked.{NspMessage, joined, Blocked, all_joined, messages_in, AllWithin, IsWithin}
@@ -79,7 +79,7 @@ short-messages n (request.Update body) = (lit< tt, (lit< tt, tt))
 short-messages n request.Delete = (lit< tt, tt)
 short-messages n request.Rewind = (lit< tt, tt)
 short-messages n request.Fetch = (lit< tt, tt)
-short-messages n (request.Store bodies) = (lit< tt, short-append (map record_of bodies) (complete_with cmpfunc_end_of_stream ∷ []) (short-records bodies) (lit< tt, tt))
+short-messages n (request.Store bodies) = (lit< tt, short-append (map record_of bodies) (complete_with cmpfunc.end_of_stream ∷ []) (short-records bodies) (lit< tt, tt))
 short-messages n (request.Continue how) = (lit< tt, tt)
 short-messages n request.Close = (lit< tt, tt)
 short-messages n request.Purge = (lit< tt, tt)

@@ -52,7 +52,7 @@ shape_next shape _ = shape
 abbrev pub drops_next : Bool → Item → List Message → Bool
 drops_next false (Whole (Filedata _ _)) answers = nat_lt 0 (length answers)
 drops_next false _ answers = false
-drops_next true (Whole (Contran func)) answers = not (func == codes.confunc_skip)
+drops_next true (Whole (Contran func)) answers = not (func == codes.confunc.skip)
 drops_next true _ answers = true
 
 abbrev pub ordinal_next : ℕ → Item → ℕ
