@@ -2,8 +2,8 @@
 
 ghost use Rattle.std.specs.Prelude.{◌≡◌, ◌≤◌, ◌<◌, ℕ, List, [], ◌∷◌, length, IfOk, IsOk, IfSome, IsTrue, OnErr, true};
 ghost use Rattle.dap_msg.specs.Exchange.{greatest_message, least_buffer};
-ghost use Rattle.dap_msg.specs.Items.{IsPlace, Item as TheItem, ItemImagesFit, seen_item};
-ghost use Rattle.dap_msg.specs.Images.{ImagesFit};
+ghost use Rattle.dap_msg.specs.Items.{IsPlace, Item as TheItem, ItemFits, seen_item};
+ghost use Rattle.dap_msg.specs.Canon.{FieldsFit};
 ghost use Rattle.dap_msg.specs.Message.{Attrib, seen, seen_attributes, seen_control};
 ghost use Rattle.dap_msg.specs.Codes.{status_code_for};
 ghost use Rattle.rec_file.specs.Shapes.{is_shape};
@@ -83,7 +83,7 @@ const PLAIN: Shape = Shape {
 
 /// The shape that the attributes of a message that was read ask for.
 fn shape_for(attributes: &Attributes<'_>) -> Option<Shape>
-    requires { ImagesFit (Attrib (seen_attributes attributes.now)) }
+    requires { FieldsFit (Attrib (seen_attributes attributes.now)) }
     ensures same { result ≡ shape_of (seen_attributes attributes.now) }
     ensures good { IfSome result (λ shape. IsTrue (is_shape shape)) }
 {
@@ -223,7 +223,7 @@ impl Accessed {
 
     fn serve_ready(&mut self, item: Item<'_>) -> Result<Vec<Vec<u8>>, NoMemory>
         requires phase { self.old.phase ≡ phases.Ready }
-        requires images { ItemImagesFit (seen_item item) }
+        requires fields { ItemFits (seen_item item) }
         ensures ok { Makes (plainly self.old Ready (seen_item item.entry))
             self.old self.new result }
         ensures err { OnErr result (self.new ≡ self.old) }
@@ -326,7 +326,7 @@ impl Accessed {
     }
 
     fn serve_item(&mut self, item: Item<'_>) -> Result<Vec<Vec<u8>>, NoMemory>
-        requires { ItemImagesFit (seen_item item) }
+        requires { ItemFits (seen_item item) }
         ensures ok { Makes (move self.old (seen_item item.entry)) self.old self.new result }
         ensures err { OnErr result (self.new ≡ self.old) }
         ensures silent { is_silent self.old.phase (seen_item item.entry) ≡ true → IsOk result }

@@ -1,5 +1,5 @@
 -- What a format says of each of its values holds of what it spells. So a message with a closed spelling fits.
-use Rattle.std.proofs.Common.{◌≡◌, ℕ, ◌+◌, ◌*◌, ◌^◌, ◌<◌, ◌≤◌, ◌==◌, ◌&&◌, List, [], ◌∷◌, ◌++◌, length, true, false, Bool, eqb, refl, sym, ap, subst, arith, inl, inr, lit≤, lit<, length-append}
+use Rattle.std.proofs.Common.{◌≡◌, ℕ, ◌+◌, ◌*◌, ◌^◌, ◌<◌, ◌≤◌, ◌==◌, ◌&&◌, List, [], ◌∷◌, ◌++◌, length, take, true, false, Bool, eqb, refl, sym, ap, subst, arith, inl, inr, lit≤, lit<, length-append}
 use Rattle.std.specs.Prelude.{Option, Some, None, Result, Ok, Err, IfOk, if◌then◌else◌, nat_lt, nat_le}
 use Rattle.std.proofs.Math.Nat.{pow-succ', pow-le-pow_right}
 use Rattle.std.proofs.lemmas.Bool.Decides.{nat_tests}
@@ -14,7 +14,6 @@ use Rattle.dap_msg.specs.Formats.{refuses_type, header, configuration, attribute
 use Rattle.dap_msg.specs.Decoding.{HasLength, SpellsMessage, IsAnswer}
 use Rattle.dap_msg.specs.Answer.{seen_answer}
 use Rattle.dap_msg.specs.Canon.{FitsField, FitsOption, FieldsFit, Fits, operand_bytes}
-use Rattle.dap_msg.specs.Images.{IsOptionWithin, ImagesFit}
 use Rattle.dap_msg.proofs.Sizes.{plain_short}
 use Rattle.dap_msg.proofs.Extents.{file_data_operand}
 
@@ -176,27 +175,7 @@ closed_fits m bytes s =
     let short = short_body (length_of s.head.low s.head.high) s.body (λ n e. length_below s.head.low s.head.high n h.low h.high e) s.extent in
     record { fields = v.0; length = operand_short m (0 + length s.body) v.0 v.1 (omega (arith, short)) }
 
--- ---- Images.
-
-option_within : (o : Option (List ℕ)) (max : ℕ) → FitsOption (Image max) o → IsOptionWithin o max
-option_within (Some image) max f = f
-option_within None max f = tt
-
-within : (m : Message) → FieldsFit m → ImagesFit m
-within (Attrib a) f = option_within a.mrn 5 f.9
-within (Access a) f = f.2
-within (Control c) f = option_within c.key 255 f.2
-within (Filedata recnum payload) f = f
-within (Status s) f = (f.1, f.2, f.3)
-within (Config c) f = tt
-within (Contran func) f = tt
-within Ack f = tt
-within (Accomp c) f = tt
-within (Other number body) f = tt
-
-pub images_fit : (bytes : List ℕ) (result : Result (LentMessage × ℕ) MsgFault) → IsAnswer bytes (seen_answer result) → IfOk result (λ x. ImagesFit (seen x.0))
-images_fit bytes (Ok x) a =
-    let s = a.spelled in
-    let h = header_fits s.head s.front s.body s.header in
-    within (seen x.0) (holds (operand s.head.number) ValuesFit (seen x.0) s.body [] 0 (yields s.head.number h.some h.known) s.operand).0
-images_fit bytes (Err f) a = tt
+-- the fields of a message that was read fit
+pub read_fits : (bytes : List ℕ) (result : Result (LentMessage × ℕ) MsgFault) → IsAnswer bytes (seen_answer result) → IfOk result (λ x. FieldsFit (seen x.0))
+read_fits bytes (Ok x) a = spelled_fields (seen x.0) (take x.1 bytes) a.closed a.spelled
+read_fits bytes (Err f) a = tt

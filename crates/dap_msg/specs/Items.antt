@@ -5,7 +5,7 @@ use Rattle.dap_msg.specs.declared.items.Item.{Item as LentItem}
 use Rattle.dap_msg.specs.declared.items.Item.TheVariants as lent
 use Rattle.dap_msg.specs.Message.{Message, seen}
 use Rattle.dap_msg.specs.Decoding.{StandsInFront, IsFault, type_in_front}
-use Rattle.dap_msg.specs.Images.{ImagesFit}
+use Rattle.dap_msg.specs.Canon.{FieldsFit}
 
 -- A message; or the rest of the NSP message, of which no message can be read, with its first fault. The fault's
 -- offset is counted from the start of the NSP message.
@@ -43,7 +43,7 @@ ItemsFrom bytes at (item ∷ second ∷ more) =
 abbrev pub Items : List ℕ → List Item → Type 0
 Items bytes items = ItemsFrom bytes 0 items
 
--- the images of the message that was read are within their fields' limits
-abbrev pub ItemImagesFit : Item → Type 0
-ItemImagesFit (Whole m) = ImagesFit m
-ItemImagesFit (Malformed fault) = Unit {0}
+-- the values of the message that was read fit their fields
+abbrev pub ItemFits : Item → Type 0
+ItemFits (Whole m) = FieldsFit m
+ItemFits (Malformed fault) = Unit {0}

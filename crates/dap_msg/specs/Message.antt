@@ -2,7 +2,6 @@
 use Rattle.std.specs.Prelude.{ℕ, ◌+◌, ◌*◌, List, Option, Some, None, option_copied}
 use Rattle.dap_msg.specs.declared.message.Attributes.{Attributes as LentAttributes}
 use Rattle.dap_msg.specs.declared.message.Control.{Control as LentControl}
-use Rattle.dap_msg.specs.declared.header.Header.{Header as LentHeader}
 use Rattle.dap_msg.specs.declared.message.Message.{Message as LentMessage}
 use Rattle.dap_msg.specs.declared.message.Message.TheVariants as lent
 
@@ -151,9 +150,6 @@ pub record Header : Type 0 where
   -- the low and the high byte of the operand's length, where they are there
   pub low : Option ℕ
   pub high : Option ℕ
-
-abbrev pub seen_header : LentHeader → Header
-seen_header h = record { number = h.number; flags = h.flags.0; low = h.low; high = h.high }
 
 -- the operand's length, where the header has one
 abbrev pub length_of : Option ℕ → Option ℕ → Option ℕ

@@ -1,5 +1,6 @@
 -- What may be sent to an end that takes messages of so many bytes.
-use Rattle.std.specs.Prelude.{ℕ, ◌≤◌, List, [], ◌∷◌, length}
+use Rattle.std.specs.Prelude.{ℕ, ◌≤◌, List, length}
+use Rattle.std.specs.List.{AllByRecursion}
 use Rattle.dap_msg.specs.Message.{Message}
 use Rattle.dap_msg.specs.Canon.{canon, Fits}
 
@@ -8,5 +9,4 @@ abbrev pub IsSendable : ℕ → Message → Type 0
 IsSendable limit m = Fits m × (length (canon m) ≤ limit)
 
 abbrev pub AreSendable : ℕ → List Message → Type 0
-AreSendable limit [] = Unit {0}
-AreSendable limit (m ∷ messages) = IsSendable limit m × AreSendable limit messages
+AreSendable limit messages = AllByRecursion (IsSendable limit) messages

@@ -1,7 +1,7 @@
 //! What stands in an NSP message.
 
 ghost use Rattle.std.specs.Prelude.{◌≡◌, ◌<◌, ℕ, ◌≤◌, length};
-ghost use Rattle.dap_msg.specs.Items.{Item as TheItem, ItemAt, ItemImagesFit, seen_item};
+ghost use Rattle.dap_msg.specs.Items.{Item as TheItem, ItemAt, ItemFits, seen_item};
 
 use crate::decoding::decode;
 use crate::fault::MsgFault;
@@ -28,7 +28,7 @@ pub fn item_at(nsp_message: &[u8], at: usize) -> (Item<'_>, usize)
         → (item ≡ seen_item result.0) × (next ≡ result.1) }
     ensures within { result.1 ≤ length nsp_message.now }
     ensures further { at < length nsp_message.now → at < result.1 }
-    ensures images { ItemImagesFit (seen_item result.0) }
+    ensures fields { ItemFits (seen_item result.0) }
 {
     let (_before, rest) = nsp_message.split_at(at);
     match decode(rest) {

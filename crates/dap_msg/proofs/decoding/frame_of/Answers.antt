@@ -1,5 +1,5 @@
 use Rattle.std.proofs.Common.{arith}
-use Rattle.dap_msg.specs.Message.{seen_header}
+use Rattle.dap_msg.specs.Inner.Reading.{seen_header}
 use Rattle.dap_msg.proofs.Frames.{frame_fits}
 use Rattle.dap_msg.proofs.Messages.{header_leaves}
 use Rattle.dap_msg.proofs.decoding.frame_of.Goals as goal

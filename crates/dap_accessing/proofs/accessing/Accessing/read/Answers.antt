@@ -1,5 +1,5 @@
 use Rattle.std.proofs.Common.{◌∙◌, ap, sym, subst, refl, true}
-use Rattle.dap_msg.specs.Items.{ItemAt, ItemImagesFit, seen_item}
+use Rattle.dap_msg.specs.Items.{ItemAt, ItemFits, seen_item}
 use Rattle.dap_msg.specs.Message.{seen}
 use Rattle.dap_accessing.specs.Present.{Present}
 use Rattle.dap_accessing.proofs.Numbers.{short_numbers}
@@ -23,5 +23,5 @@ returns-in-Ok-clause-reads c =
 
 pub take-requires : goal.take-requires
 take-requires c = record {
-  short = short_numbers (seen c.in-Whole.message) (subst (λ i. ItemImagesFit (seen_item i)) c.in-Whole.is c.item_at-next.ensures.images);
+  short = short_numbers (seen c.in-Whole.message) (subst (λ i. ItemFits (seen_item i)) c.in-Whole.is c.item_at-next.ensures.fields);
 }
