@@ -32,13 +32,7 @@ Fits limit c p = (p.first ≡ is_none c.partial) × (length (body_with c p.paylo
 abbrev pub Misfits : ℕ → Coming → Piece → LinkFault → Type 0
 Misfits limit c p BadSequence = p.first ≢ is_none c.partial
 Misfits limit c p MessageTooLong = (p.first ≡ is_none c.partial) × (limit < length (body_with c p.payload))
-Misfits limit c p Exhausted = ⊥
-Misfits limit c p NoMemory = ⊥
-Misfits limit c p BadSetup = ⊥
-Misfits limit c p (Malformed f) = ⊥
-Misfits limit c p WrongLink = ⊥
-Misfits limit c p Failed = ⊥
-Misfits limit c p NoSuchSegment = ⊥
+Misfits limit c p _ = ⊥
 
 -- ---- several segments, one after the other
 
@@ -62,8 +56,4 @@ RefusesAll limit c ps BadSequence = MisfitsOne limit c ps BadSequence
 RefusesAll limit c ps MessageTooLong = MisfitsOne limit c ps MessageTooLong
 RefusesAll limit c ps Exhausted = AllFit limit c ps × (most_segments < c.received + length ps)
 RefusesAll limit c ps NoMemory = AllFit limit c ps × (c.received + length ps ≤ most_segments)
-RefusesAll limit c ps BadSetup = ⊥
-RefusesAll limit c ps (Malformed f) = ⊥
-RefusesAll limit c ps WrongLink = ⊥
-RefusesAll limit c ps Failed = ⊥
-RefusesAll limit c ps NoSuchSegment = ⊥
+RefusesAll limit c ps _ = ⊥

@@ -126,8 +126,7 @@ abbrev pub Carries : PacketValue → List Piece → Option ℕ → ℕ → Type 
 Carries (segment s) pieces (Some k) a =
     (1 ≤ k) × (slice_get pieces (k - 1) ≡ Some (piece_of s)) × (s.number ≡ residue k) × (first_ack s.ack1 s.ack2 ≡ Some (residue a))
 Carries (data_ack s) pieces None a = first_ack (Some s.ack1) s.ack2 ≡ Some (residue a)
-Carries (segment s) pieces None a = ⊥
-Carries (data_ack s) pieces (Some k) a = ⊥
+Carries _ pieces _ a = ⊥
 
 abbrev pub IsBetween : ℕ → ℕ → PacketValue → Type 0
 IsBetween src dst (segment s) = (s.src ≡ src) × (s.dst ≡ dst)

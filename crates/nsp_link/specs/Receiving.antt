@@ -37,13 +37,7 @@ kept v k p = if nat_lt k (v.received + 1 + v.window) then record v { held = inse
 abbrev pub is_end : LinkFault → Bool
 is_end BadSequence = true
 is_end MessageTooLong = true
-is_end BadSetup = false
-is_end (Malformed f) = false
-is_end WrongLink = false
-is_end Failed = false
-is_end Exhausted = false
-is_end NoSuchSegment = false
-is_end NoMemory = false
+is_end _ = false
 
 -- what is left where segments were not taken
 abbrev pub stopped : LinkFault → LinkValue → LinkValue

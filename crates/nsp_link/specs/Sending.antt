@@ -51,11 +51,7 @@ SendFault v len Failed = IsTrue v.failed
 SendFault v len MessageTooLong = (v.failed ≡ false) × (v.max_message < len)
 SendFault v len Exhausted = (v.failed ≡ false) × (len ≤ v.max_message) × (most_segments < v.acked + length v.queue + count_of v.seg_size len)
 SendFault v len NoMemory = MayQueue v len
-SendFault v len BadSetup = ⊥
-SendFault v len (Malformed f) = ⊥
-SendFault v len WrongLink = ⊥
-SendFault v len BadSequence = ⊥
-SendFault v len NoSuchSegment = ⊥
+SendFault v len _ = ⊥
 
 -- every message is short enough for this end
 abbrev pub AreShort : LinkValue → List (List ℕ) → Type 0
@@ -72,8 +68,4 @@ SendAllFault v messages MessageTooLong = (v.failed ≡ false) × ((k : ℕ) × (
 SendAllFault v messages Exhausted =
     (v.failed ≡ false) × AreShort v messages × (most_segments < v.acked + length v.queue + length (cut v.seg_size messages))
 SendAllFault v messages NoMemory = MayQueueAll v messages × (messages ≢ [])
-SendAllFault v messages BadSetup = ⊥
-SendAllFault v messages (Malformed f) = ⊥
-SendAllFault v messages WrongLink = ⊥
-SendAllFault v messages BadSequence = ⊥
-SendAllFault v messages NoSuchSegment = ⊥
+SendAllFault v messages _ = ⊥

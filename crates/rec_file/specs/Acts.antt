@@ -119,16 +119,12 @@ file_after delete_record file stream = removed file (number_of delete_record fil
 abbrev pub next_after : Operation → FileVal → StreamVal → ℕ
 next_after (get_record pick) file stream = number_of (get_record pick) file stream + 1
 next_after (put_record None body) file stream = if is_seq file.shape.org then stream.next else stream.next + 1
-next_after (put_record (Some n) body) file stream = stream.next
-next_after (update_record body) file stream = stream.next
-next_after delete_record file stream = stream.next
+next_after _ file stream = stream.next
 
 -- the current record after such an operation: a get alone makes one
 abbrev pub current_after : Operation → FileVal → StreamVal → Option ℕ
 current_after (get_record pick) file stream = Some (number_of (get_record pick) file stream)
-current_after (put_record key body) file stream = None
-current_after (update_record body) file stream = None
-current_after delete_record file stream = None
+current_after _ file stream = None
 
 -- what an operation leaves, and its answer
 pub record Outcome : Type 0 where
