@@ -1,5 +1,6 @@
 -- The one spelling that is written of each message.
-use Rattle.std.specs.Prelude.{ℕ, ◌+◌, ◌*◌, ◌/◌, ◌%◌, ◌^◌, ◌<◌, ◌≤◌, Bool, nat_lt, if◌then◌else◌, List, [], ◌∷◌, ◌++◌, length, Option, Some, None, is_some}
+use Rattle.std.specs.Prelude.{ℕ, ◌+◌, ◌*◌, ◌/◌, ◌%◌, ◌^◌, ◌<◌, ◌≤◌, Bool, nat_lt, if◌then◌else◌, List, [], ◌∷◌, ◌++◌, length, Option, IfSome, is_some}
+use Rattle.std.specs.Option.{option_map_or}
 use Rattle.std.specs.Int.{bytes_low_first}
 use Rattle.std.specs.List.{concat}
 use Rattle.dap_fields.specs.Writing.{shortest}
@@ -15,8 +16,7 @@ field_bytes (Image max) image = length image ∷ image
 
 -- the field, where it is there
 abbrev pub option_bytes : (k : Kind) → Option (ValueOf k) → List ℕ
-option_bytes k (Some v) = field_bytes k v
-option_bytes k None = []
+option_bytes k v = option_map_or (field_bytes k) v []
 
 -- The number whose bits say which fields are there, bit 0 for the first.
 abbrev pub bits_of : List Bool → ℕ
@@ -103,8 +103,7 @@ FitsField (Extensible max) v = v < 128 ^ max
 FitsField (Image max) image = length image ≤ max
 
 abbrev pub FitsOption : (k : Kind) → Option (ValueOf k) → Type 0
-FitsOption k (Some v) = FitsField k v
-FitsOption k None = Unit {0}
+FitsOption k v = IfSome v (FitsField k)
 
 abbrev pub FieldsFit : Message → Type 0
 FieldsFit (Config c) =

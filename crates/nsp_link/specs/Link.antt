@@ -1,5 +1,6 @@
 -- One end of a link, as its callers see it.
 use Rattle.std.specs.Prelude.{◌≡◌, ◌⊎◌, ℕ, ◌+◌, ◌-◌, ◌*◌, ◌<◌, ◌≤◌, ◌==◌, max, Bool, true, false, List, [], ◌∷◌, ◌++◌, length, take, drop, Option, Some, None, IfSome, unwrap_or, nat_lt, if◌then◌else◌, slice_get, slice_index_or, All, ◌&&◌}
+use Rattle.std.specs.Option.{option_or}
 use Rattle.std.specs.List.{AllByRecursion}
 use Rattle.nsp_seg.specs.Numbers.{residue}
 use Rattle.nsp_seg.specs.declared.packet.AckField.{AckField}
@@ -109,13 +110,8 @@ abbrev pub plain_ack : Option AckField → Option ℕ
 plain_ack None = None
 plain_ack (Some a) = if a.qual == 0 then Some a.number else None
 
--- the first of two that is there
-abbrev pub first_of : Option ℕ → Option ℕ → Option ℕ
-first_of None second = second
-first_of (Some n) second = Some n
-
 abbrev pub first_ack : Option AckField → Option AckField → Option ℕ
-first_ack ack1 ack2 = first_of (plain_ack ack1) (plain_ack ack2)
+first_ack ack1 ack2 = option_or (plain_ack ack1) (plain_ack ack2)
 
 abbrev pub piece_of : SegmentValue → Piece
 piece_of s = record { first = s.first; last = s.last; payload = s.payload }

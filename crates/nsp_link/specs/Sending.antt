@@ -1,16 +1,11 @@
 -- What is queued and written.
 use Rattle.std.specs.Prelude.{◌≡◌, ◌⊎◌, ℕ, ◌+◌, ◌-◌, ◌<◌, ◌≤◌, ◌++◌, ◌≢◌, false, IsTrue, List, [], length, All, slice_index_or, slice_get, Option, Some}
-use Rattle.nsp_seg.specs.declared.packet.AckField.{AckField}
 use Rattle.nsp_seg.specs.Packets.{PacketValue}
 use Rattle.nsp_link.specs.declared.fault.LinkFault.{LinkFault}
 use Rattle.nsp_link.specs.declared.fault.LinkFault.TheVariants.{BadSetup, Malformed, WrongLink, BadSequence, MessageTooLong, Failed, Exhausted, NoSuchSegment, NoMemory}
 use Rattle.nsp_link.specs.Cutting.{Piece, count_of, cut}
 use Rattle.nsp_link.specs.Limits.{most_segments}
-use Rattle.nsp_link.specs.Link.{LinkValue, MayEmit, Sends, Writes, IsSpelling, acknowledging, written_segment, written_ack}
-
--- what every packet of an end acknowledges
-abbrev pub acknowledged : LinkValue → AckField
-acknowledged v = acknowledging v.received
+use Rattle.nsp_link.specs.Link.{LinkValue, MayEmit, Sends, Writes, IsSpelling, written_segment, written_ack}
 
 -- a segment under its number
 abbrev pub segment_packet : LinkValue → Piece → ℕ → PacketValue

@@ -189,8 +189,8 @@ impl LinkEnd {
     ghost use Rattle.nsp_link.specs.Cutting.{Piece, cut, cut_message};
     ghost use Rattle.nsp_link.specs.Limits.{most_segments};
     ghost use Rattle.nsp_link.specs.Cutting.{bodies};
-    ghost use Rattle.nsp_link.specs.Link.{IsLink, LinkValue, Sends, Stands, SendsStill, SendsMore, StandsStill, MayEmit, Writes, IsSpelling};
-    ghost use Rattle.nsp_link.specs.Sending.{WritesQueued, WritesSent, WritesNext, NextFault, segment_packet, ack_packet_of, acknowledged, queued_link, SendFault, SendAllFault, MayQueue, MayQueueAll};
+    ghost use Rattle.nsp_link.specs.Link.{IsLink, LinkValue, Sends, Stands, SendsStill, SendsMore, StandsStill, MayEmit, Writes, IsSpelling, acknowledging};
+    ghost use Rattle.nsp_link.specs.Sending.{WritesQueued, WritesSent, WritesNext, NextFault, segment_packet, ack_packet_of, queued_link, SendFault, SendAllFault, MayQueue, MayQueueAll};
 
     /// Queues the segments of a message: one for each `seg_size` bytes or part of that, and one of no bytes
     /// for an empty message (NSP 4.0.0, data segment message). Refused, with nothing changed: `Failed`;
@@ -310,7 +310,7 @@ impl LinkEnd {
 
     // What every packet acknowledges.
     fn acknowledgement(&self) -> AckField
-        ensures { result ≡ acknowledged self.now }
+        ensures { result ≡ acknowledging self.now.received }
     {
         AckField {
             qual: 0,

@@ -1,5 +1,6 @@
 -- The packets that are used here, byte by byte: data segments and data acknowledgements.
 use Rattle.std.specs.Prelude.{◌≡◌, ℕ, ◌+◌, ◌*◌, ◌<◌, ◌≤◌, ◌^◌, Bool, ◌⊎◌, List, [], ◌∷◌, ◌++◌, length, slice_index, Option, Some, None, IfSome, if◌then◌else◌}
+use Rattle.std.specs.Option.{option_map_or}
 use Rattle.std.specs.Int.{w16, to_le_bytes}
 use Rattle.nsp_seg.specs.declared.packet.AckField.{AckField}
 use Rattle.nsp_seg.specs.declared.packet.Packet.{Packet}
@@ -49,8 +50,7 @@ abbrev pub ack_bytes : AckField → List ℕ
 ack_bytes a = to_le_bytes w16 (0x8000 + 0x1000 * a.qual + a.number)
 
 abbrev pub optional_ack : Option AckField → List ℕ
-optional_ack None = []
-optional_ack (Some a) = ack_bytes a
+optional_ack a = option_map_or ack_bytes a []
 
 -- The bytes of a packet. Bits 12 to 14 of a segment's number are free, and bit 15 is clear.
 abbrev pub spelling_with : ℕ → PacketValue → List ℕ

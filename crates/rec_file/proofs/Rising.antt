@@ -1,12 +1,16 @@
 -- Lists of numbered values whose numbers rise.
 use Rattle.std.proofs.Common.{◌≡◌, ℕ, ◌+◌, ◌<◌, ◌≤◌, ◌≢◌, Bool, true, false, cond, ◌&&◌, eqb, leb, T, List, [], ◌∷◌, map, Option, Some, None, IsSome, refl, sym, ap, subst, ◌∙◌, arith, inl, inr, ◌⊎◌}
-use Rattle.std.specs.List.{filter}
+use Rattle.std.specs.List.{filter, slice_get}
 use Rattle.std.specs.Ordering.{nat_cmp, eq_by_cmp, is_lt}
 use Rattle.std.specs.FinMap.Entries.{find, is_sorted, below_all}
 use Rattle.std.proofs.lemmas.Bool.{cases_lt}
 use Rattle.std.proofs.lemmas.Bool.Decides.{nat_tests}
 use Rattle.std.proofs.lemmas.Option.{same_Some}
-use Rattle.rec_file.specs.Files.{first_of, last_of}
+use Rattle.rec_file.specs.Files.{last_of}
+
+-- the first of a list
+abbrev first_in : List ℕ → Option ℕ
+first_in ns = slice_get ns 0
 
 some-none : (n : ℕ) → Some n ≡ None → ⊥
 some-none n h = cc
@@ -82,11 +86,11 @@ module _ {X : Type 0} where
   at_first e es q same = grind (arith, nat_tests)
 
   -- the first number from n on, where k is it
-  pub first_of_some : (es : List (ℕ × X)) (n k : ℕ) → IsRising es → n ≤ k → IsSome (at es k) → ((j : ℕ) → n ≤ j → j < k → at es j ≡ None) → first_of (filter (leb n) (map (λ e. e.0) es)) ≡ Some k
+  pub first_of_some : (es : List (ℕ × X)) (n k : ℕ) → IsRising es → n ≤ k → IsSome (at es k) → ((j : ℕ) → n ≤ j → j < k → at es j ≡ None) → first_in (filter (leb n) (map (λ e. e.0) es)) ≡ Some k
   first_of_some [] n k r le some none = cc
   first_of_some (e ∷ es) n k r le some none = elim (cases_lt e.0 n) [
     | inl low ↦
-        let rest : first_of (filter (leb n) (map (λ e. e.0) es)) ≡ Some k =
+        let rest : first_in (filter (leb n) (map (λ e. e.0) es)) ≡ Some k =
         first_of_some es n k r.1 le (subst IsSome (at_tail e es k (omega arith)) some) (λ j a b. sym (at_tail e es j (omega arith)) ∙ none j a b) in
         grind (arith, nat_tests)
     | inr high ↦ elim (cases_lt e.0 k) [
@@ -98,11 +102,11 @@ module _ {X : Type 0} where
     ]
   ]
 
-  pub first_of_none : (es : List (ℕ × X)) (n : ℕ) → ((j : ℕ) → n ≤ j → at es j ≡ None) → first_of (filter (leb n) (map (λ e. e.0) es)) ≡ None
+  pub first_of_none : (es : List (ℕ × X)) (n : ℕ) → ((j : ℕ) → n ≤ j → at es j ≡ None) → first_in (filter (leb n) (map (λ e. e.0) es)) ≡ None
   first_of_none [] n none = refl
   first_of_none (e ∷ es) n none = elim (cases_lt e.0 n) [
     | inl low ↦
-        let rest : first_of (filter (leb n) (map (λ e. e.0) es)) ≡ None = first_of_none es n (λ j a. sym (at_tail e es j (omega arith)) ∙ none j a) in
+        let rest : first_in (filter (leb n) (map (λ e. e.0) es)) ≡ None = first_of_none es n (λ j a. sym (at_tail e es j (omega arith)) ∙ none j a) in
         grind (arith, nat_tests)
     | inr high ↦ cc (none e.0 high, at_first e es e.0 refl)
   ]
@@ -139,33 +143,33 @@ module _ {X : Type 0} where
       ap (λ b. cond b (e ∷ filter (λ e. leb n e.0) es) (filter (λ e. leb n e.0) es)) test ∙ ap (λ l. e ∷ l) rest
 
   -- the first from a number on is not below it
-  first_above : (es : List (ℕ × X)) (n k : ℕ) → first_of (filter (leb n) (map (λ e. e.0) es)) ≡ Some k → n ≤ k
+  first_above : (es : List (ℕ × X)) (n k : ℕ) → first_in (filter (leb n) (map (λ e. e.0) es)) ≡ Some k → n ≤ k
   first_above [] n k is = cc
   first_above (e ∷ es) n k is = elim (cases_lt e.0 n) [
-    | inl low ↦ let no : leb n e.0 ≡ false = grind (arith, nat_tests) in first_above es n k (sym (ap (λ b. first_of (cond b (e.0 ∷ filter (leb n) (map (λ e. e.0) es)) (filter (leb n) (map (λ e. e.0) es)))) no) ∙ is)
+    | inl low ↦ let no : leb n e.0 ≡ false = grind (arith, nat_tests) in first_above es n k (sym (ap (λ b. first_in (cond b (e.0 ∷ filter (leb n) (map (λ e. e.0) es)) (filter (leb n) (map (λ e. e.0) es)))) no) ∙ is)
     | inr high ↦
         let yes : leb n e.0 ≡ true = grind (arith, nat_tests) in
-        let same : e.0 ≡ k = same_Some e.0 k (sym (ap (λ b. first_of (cond b (e.0 ∷ filter (leb n) (map (λ e. e.0) es)) (filter (leb n) (map (λ e. e.0) es)))) yes) ∙ is) in
+        let same : e.0 ≡ k = same_Some e.0 k (sym (ap (λ b. first_in (cond b (e.0 ∷ filter (leb n) (map (λ e. e.0) es)) (filter (leb n) (map (λ e. e.0) es)))) yes) ∙ is) in
         omega arith
   ]
 
   -- and something stands at it
-  pub first_there : (es : List (ℕ × X)) (n k : ℕ) → IsRising es → first_of (filter (leb n) (map (λ e. e.0) es)) ≡ Some k → at es k ≡ None → ⊥
+  pub first_there : (es : List (ℕ × X)) (n k : ℕ) → IsRising es → first_in (filter (leb n) (map (λ e. e.0) es)) ≡ Some k → at es k ≡ None → ⊥
   first_there [] n k r is none = cc
   first_there (e ∷ es) n k r is none = elim (same_or_not k e.0) [
     | inl same ↦ cc (at_first e es k same, none)
     | inr other ↦ elim (cases_lt e.0 n) [
       | inl low ↦
           let no : leb n e.0 ≡ false = grind (arith, nat_tests) in
-          first_there es n k r.1 (sym (ap (λ b. first_of (cond b (e.0 ∷ filter (leb n) (map (λ e. e.0) es)) (filter (leb n) (map (λ e. e.0) es)))) no) ∙ is) (sym (at_tail e es k other) ∙ none)
+          first_there es n k r.1 (sym (ap (λ b. first_in (cond b (e.0 ∷ filter (leb n) (map (λ e. e.0) es)) (filter (leb n) (map (λ e. e.0) es)))) no) ∙ is) (sym (at_tail e es k other) ∙ none)
       | inr high ↦
           let yes : leb n e.0 ≡ true = grind (arith, nat_tests) in
-          other (sym (same_Some e.0 k (sym (ap (λ b. first_of (cond b (e.0 ∷ filter (leb n) (map (λ e. e.0) es)) (filter (leb n) (map (λ e. e.0) es)))) yes) ∙ is)))
+          other (sym (same_Some e.0 k (sym (ap (λ b. first_in (cond b (e.0 ∷ filter (leb n) (map (λ e. e.0) es)) (filter (leb n) (map (λ e. e.0) es)))) yes) ∙ is)))
     ]
   ]
 
   -- and behind it stand those from the next number on
-  pub from_some : (es : List (ℕ × X)) (n k : ℕ) (v : X) → IsRising es → first_of (filter (leb n) (map (λ e. e.0) es)) ≡ Some k → at es k ≡ Some v
+  pub from_some : (es : List (ℕ × X)) (n k : ℕ) (v : X) → IsRising es → first_in (filter (leb n) (map (λ e. e.0) es)) ≡ Some k → at es k ≡ Some v
       → filter (λ e. leb n e.0) es ≡ (k, v) ∷ filter (λ e. leb (k + 1) e.0) es
   from_some [] n k v r is here = cc
   from_some (e ∷ es) n k v r is here =
@@ -174,12 +178,12 @@ module _ {X : Type 0} where
         | inl low ↦
             let no : leb n e.0 ≡ false = grind (arith, nat_tests) in
             let later : leb (k + 1) e.0 ≡ false = grind (arith, nat_tests) in
-            let rest = from_some es n k v r.1 (sym (ap (λ b. first_of (cond b (e.0 ∷ filter (leb n) (map (λ e. e.0) es)) (filter (leb n) (map (λ e. e.0) es)))) no) ∙ is) (sym (at_tail e es k (omega arith)) ∙ here) in
+            let rest = from_some es n k v r.1 (sym (ap (λ b. first_in (cond b (e.0 ∷ filter (leb n) (map (λ e. e.0) es)) (filter (leb n) (map (λ e. e.0) es)))) no) ∙ is) (sym (at_tail e es k (omega arith)) ∙ here) in
             ap (λ b. cond b (e ∷ filter (λ e. leb n e.0) es) (filter (λ e. leb n e.0) es)) no ∙ rest
             ∙ sym (ap (λ b. (k, v) ∷ cond b (e ∷ filter (λ e. leb (k + 1) e.0) es) (filter (λ e. leb (k + 1) e.0) es)) later)
         | inr high ↦
             let yes : leb n e.0 ≡ true = grind (arith, nat_tests) in
-            let same : e.0 ≡ k = same_Some e.0 k (sym (ap (λ b. first_of (cond b (e.0 ∷ filter (leb n) (map (λ e. e.0) es)) (filter (leb n) (map (λ e. e.0) es)))) yes) ∙ is) in
+            let same : e.0 ≡ k = same_Some e.0 k (sym (ap (λ b. first_in (cond b (e.0 ∷ filter (leb n) (map (λ e. e.0) es)) (filter (leb n) (map (λ e. e.0) es)))) yes) ∙ is) in
             let value : e.1 ≡ v = same_Some e.1 v (sym (at_first e es k (sym same)) ∙ here) in
             let later : leb (k + 1) e.0 ≡ false = grind (arith, nat_tests) in
             ap (λ b. cond b (e ∷ filter (λ e. leb n e.0) es) (filter (λ e. leb n e.0) es)) yes
@@ -188,14 +192,14 @@ module _ {X : Type 0} where
             ∙ sym (ap (λ b. (k, v) ∷ cond b (e ∷ filter (λ e. leb (k + 1) e.0) es) (filter (λ e. leb (k + 1) e.0) es)) later)
       ]
 
-  pub from_none : (es : List (ℕ × X)) (n : ℕ) → first_of (filter (leb n) (map (λ e. e.0) es)) ≡ None → filter (λ e. leb n e.0) es ≡ []
+  pub from_none : (es : List (ℕ × X)) (n : ℕ) → first_in (filter (leb n) (map (λ e. e.0) es)) ≡ None → filter (λ e. leb n e.0) es ≡ []
   from_none [] n is = refl
   from_none (e ∷ es) n is = elim (cases_lt e.0 n) [
     | inl low ↦
         let no : leb n e.0 ≡ false = grind (arith, nat_tests) in
         ap (λ b. cond b (e ∷ filter (λ e. leb n e.0) es) (filter (λ e. leb n e.0) es)) no
-        ∙ from_none es n (sym (ap (λ b. first_of (cond b (e.0 ∷ filter (leb n) (map (λ e. e.0) es)) (filter (leb n) (map (λ e. e.0) es)))) no) ∙ is)
+        ∙ from_none es n (sym (ap (λ b. first_in (cond b (e.0 ∷ filter (leb n) (map (λ e. e.0) es)) (filter (leb n) (map (λ e. e.0) es)))) no) ∙ is)
     | inr high ↦
         let yes : leb n e.0 ≡ true = grind (arith, nat_tests) in
-        absurd (some-none e.0 (sym (ap (λ b. first_of (cond b (e.0 ∷ filter (leb n) (map (λ e. e.0) es)) (filter (leb n) (map (λ e. e.0) es)))) yes) ∙ is))
+        absurd (some-none e.0 (sym (ap (λ b. first_in (cond b (e.0 ∷ filter (leb n) (map (λ e. e.0) es)) (filter (leb n) (map (λ e. e.0) es)))) yes) ∙ is))
   ]

@@ -1,5 +1,5 @@
 -- A record file as a value: a shape, and a finite map from numbers to records.
-use Rattle.std.specs.Prelude.{ℕ, ◌≤◌, nat_le, List, [], ◌∷◌, length, filter, Option, None, Some, IsSome, IsTrue, IfSome, refl}
+use Rattle.std.specs.Prelude.{ℕ, ◌≤◌, nat_le, List, [], ◌∷◌, length, filter, slice_get, Option, IsSome, IsTrue, IfSome, refl}
 use Rattle.std.specs.Ordering.{nat_cmp}
 use Rattle.std.specs.FinMap.{FinMap, get, keys, entries, insert, remove, code}
 use Rattle.std.specs.Coded.{Coded, code_by, coded×, coded_ℕ, coded_list}
@@ -15,11 +15,6 @@ pub record FileVal : Type 0 where
   pub shape : Shape
   pub records : Records
 
--- the first of a list
-abbrev pub first_of : List ℕ → Option ℕ
-first_of [] = None
-first_of (n ∷ ns) = Some n
-
 -- the last of a list of numbers, and 0 where it is empty
 abbrev pub last_of : List ℕ → ℕ
 last_of [] = 0
@@ -28,7 +23,7 @@ last_of (n ∷ m ∷ ns) = last_of (m ∷ ns)
 
 -- the lowest occupied number from n on: the keys of a finite map stand in order
 abbrev pub lowest_from : Records → ℕ → Option ℕ
-lowest_from m n = first_of (filter (nat_le n) (keys m))
+lowest_from m n = slice_get (filter (nat_le n) (keys m)) 0
 
 -- the highest occupied number, and 0 where there is none
 abbrev pub highest_of : Records → ℕ
