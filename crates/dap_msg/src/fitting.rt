@@ -3,44 +3,43 @@
 ghost use Rattle.std.specs.Prelude.{◌<◌, ◌^◌, ◌↔◌, length, IsTrue, option_copied};
 ghost use Rattle.dap_msg.specs.Message.{Attrib, Control as ControlOf, seen, seen_attributes, seen_control};
 ghost use Rattle.dap_msg.specs.Grammar as kinds;
-ghost use Rattle.dap_msg.specs.Canon.{Fits, FieldsFit, FitsOption, operand_bytes};
+ghost use Rattle.dap_msg.specs.Canon.{Fits, FieldsFit, FitsField, FitsOption, operand_bytes};
 
 use crate::codes::{GREATEST_TYPE, TYPE_STATUS};
 use crate::message::{Attributes, Control, Message};
+use crate::width;
 use dap_fields::ex_fits;
 
-fn option_u16_fits(value: Option<u16>) -> bool
-    ensures { IsTrue result ↔ FitsOption (kinds.Extensible 2) value }
+/// Whether a number has a spelling of at most `max` bytes.
+fn number_fits(value: u128, max: usize) -> bool
+    ensures { IsTrue result ↔ FitsField (kinds.Extensible max) value }
+{
+    ex_fits(value, max)
+}
+
+fn option_u16_fits(value: Option<u16>, max: usize) -> bool
+    ensures { IsTrue result ↔ FitsOption (kinds.Extensible max) value }
 {
     match value {
-        Some(value) => ex_fits(u128::from(value), 2),
+        Some(value) => number_fits(u128::from(value), max),
         None => true,
     }
 }
 
-fn option_rat_fits(value: Option<u32>) -> bool
-    ensures { IsTrue result ↔ FitsOption (kinds.Extensible 3) value }
+fn option_u32_fits(value: Option<u32>, max: usize) -> bool
+    ensures { IsTrue result ↔ FitsOption (kinds.Extensible max) value }
 {
     match value {
-        Some(value) => ex_fits(u128::from(value), 3),
+        Some(value) => number_fits(u128::from(value), max),
         None => true,
     }
 }
 
-fn option_display_fits(value: Option<u32>) -> bool
-    ensures { IsTrue result ↔ FitsOption (kinds.Extensible 4) value }
+fn option_u64_fits(value: Option<u64>, max: usize) -> bool
+    ensures { IsTrue result ↔ FitsOption (kinds.Extensible max) value }
 {
     match value {
-        Some(value) => ex_fits(u128::from(value), 4),
-        None => true,
-    }
-}
-
-fn option_u64_fits(value: Option<u64>) -> bool
-    ensures { IsTrue result ↔ FitsOption (kinds.Extensible 6) value }
-{
-    match value {
-        Some(value) => ex_fits(u128::from(value), 6),
+        Some(value) => number_fits(u128::from(value), max),
         None => true,
     }
 }
@@ -57,26 +56,26 @@ fn option_image_fits(value: Option<&[u8]>, max: usize) -> bool
 fn attributes_fit(here: Attributes<'_>) -> bool
     ensures { IsTrue result ↔ FieldsFit (Attrib (seen_attributes here.entry)) }
 {
-    option_u16_fits(here.datatype)
-        && option_rat_fits(here.rat)
-        && option_image_fits(here.alq, 5)
-        && option_image_fits(here.mrn, 5)
-        && option_image_fits(here.runsys, 40)
-        && option_u64_fits(here.fop)
-        && option_u64_fits(here.dev)
-        && option_u64_fits(here.sdc)
-        && option_image_fits(here.hbk, 5)
-        && option_image_fits(here.ebk, 5)
-        && option_image_fits(here.sbn, 5)
+    option_u16_fits(here.datatype, width::DATATYPE)
+        && option_u32_fits(here.rat, width::RAT)
+        && option_image_fits(here.alq, width::ALQ)
+        && option_image_fits(here.mrn, width::MRN)
+        && option_image_fits(here.runsys, width::RUNSYS)
+        && option_u64_fits(here.fop, width::FOP)
+        && option_u64_fits(here.dev, width::DEV)
+        && option_u64_fits(here.sdc, width::SDC)
+        && option_image_fits(here.hbk, width::HBK)
+        && option_image_fits(here.ebk, width::EBK)
+        && option_image_fits(here.sbn, width::SBN)
 }
 
 fn control_fits(here: Control<'_>) -> bool
     ensures { IsTrue result ↔ FieldsFit (ControlOf (seen_control here.entry)) }
 {
-    option_image_fits(here.key, 255)
-        && option_u64_fits(here.rop)
-        && option_image_fits(here.hsh, 5)
-        && option_display_fits(here.display)
+    option_image_fits(here.key, width::KEY)
+        && option_u64_fits(here.rop, width::ROP)
+        && option_image_fits(here.hsh, width::HSH)
+        && option_u32_fits(here.display, width::DISPLAY)
 }
 
 /// Whether each value fits its field. Those that fill their type need no test.
@@ -84,7 +83,7 @@ fn fields_fit(message: Message<'_>) -> bool
     ensures { IsTrue result ↔ FieldsFit (seen message.entry) }
 {
     match message {
-        Message::Config { syscap, .. } => ex_fits(syscap, 12),
+        Message::Config { syscap, .. } => number_fits(syscap, width::SYSCAP),
         Message::Attrib(here) => attributes_fit(here),
         Message::Access {
             opt,
@@ -95,24 +94,24 @@ fn fields_fit(message: Message<'_>) -> bool
             password,
             ..
         } => {
-            ex_fits(u128::from(opt), 5)
-                && name.len() <= 255
-                && ex_fits(u128::from(fac), 3)
-                && ex_fits(u128::from(shr), 3)
-                && ex_fits(u128::from(display), 4)
-                && password.len() <= 40
+            number_fits(u128::from(opt), width::ACCOPT)
+                && name.len() <= width::FILESPEC
+                && number_fits(u128::from(fac), width::FAC)
+                && number_fits(u128::from(shr), width::SHR)
+                && number_fits(u128::from(display), width::DISPLAY)
+                && password.len() <= width::PASSWORD
         }
         Message::Control(here) => control_fits(here),
         Message::Contran { .. } => true,
         Message::Ack => true,
-        Message::Accomp { fop, .. } => ex_fits(u128::from(fop), 6),
-        Message::Filedata { recnum, .. } => recnum.len() <= 8,
+        Message::Accomp { fop, .. } => number_fits(u128::from(fop), width::FOP),
+        Message::Filedata { recnum, .. } => recnum.len() <= width::RECNUM,
         Message::Status {
             rfa,
             recnum,
             stv,
             ..
-        } => rfa.len() <= 8 && recnum.len() <= 8 && stv.len() <= 8,
+        } => rfa.len() <= width::RFA && recnum.len() <= width::RECNUM && stv.len() <= width::STV,
         Message::Other { number, .. } => number > TYPE_STATUS && number <= GREATEST_TYPE,
     }
 }

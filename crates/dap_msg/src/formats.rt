@@ -13,6 +13,7 @@ use crate::reading::{
     optional_image, optional_u16, optional_u32, optional_u64, optional_word, u32_or_zero,
     u64_or_zero, word, word_unless_end,
 };
+use crate::{menu, width};
 
 #[tactic(auto, unfolding(crate::specs::Formats::acknowledge))]
 pub(crate) fn read_acknowledge(operand: &[u8]) -> Result<Message<'_>, Fault>
@@ -27,9 +28,9 @@ pub(crate) fn read_status(operand: &[u8]) -> Result<Message<'_>, Fault>
     ensures { Gives (λ m. (seen m, [])) result (read status operand.now) }
 {
     let (code, rest) = word(operand)?;
-    let (rfa, rest) = image_or_empty(rest, 8)?;
-    let (recnum, rest) = image_or_empty(rest, 8)?;
-    let (stv, _ignored) = image_or_empty(rest, 8)?;
+    let (rfa, rest) = image_or_empty(rest, width::RFA)?;
+    let (recnum, rest) = image_or_empty(rest, width::RECNUM)?;
+    let (stv, _ignored) = image_or_empty(rest, width::STV)?;
     Ok(Message::Status {
         code,
         rfa,
@@ -43,13 +44,13 @@ pub(crate) fn read_control(operand: &[u8]) -> Result<Message<'_>, Fault>
     ensures { Gives (λ m. (seen m, [])) result (read control operand.now) }
 {
     let (func, rest) = byte(operand)?;
-    let (bits, rest) = menu_of(rest, 4, 6)?;
-    let (rac, rest) = optional_byte(is_set(bits, 0), rest)?;
-    let (key, rest) = optional_image(is_set(bits, 1), rest, 255)?;
-    let (krf, rest) = optional_byte(is_set(bits, 2), rest)?;
-    let (rop, rest) = optional_u64(is_set(bits, 3), rest, 6)?;
-    let (hsh, rest) = optional_image(is_set(bits, 4), rest, 5)?;
-    let (display, _ignored) = optional_u32(is_set(bits, 5), rest, 4)?;
+    let (bits, rest) = menu_of(rest, width::CTLMENU, menu::CONTROL)?;
+    let (rac, rest) = optional_byte(is_set(bits, menu::RAC), rest)?;
+    let (key, rest) = optional_image(is_set(bits, menu::KEY), rest, width::KEY)?;
+    let (krf, rest) = optional_byte(is_set(bits, menu::KRF), rest)?;
+    let (rop, rest) = optional_u64(is_set(bits, menu::ROP), rest, width::ROP)?;
+    let (hsh, rest) = optional_image(is_set(bits, menu::HSH), rest, width::HSH)?;
+    let (display, _ignored) = optional_u32(is_set(bits, menu::DISPLAY), rest, width::DISPLAY)?;
     Ok(Message::Control(Control {
         func,
         rac,
@@ -65,17 +66,17 @@ pub(crate) fn read_control(operand: &[u8]) -> Result<Message<'_>, Fault>
 pub(crate) fn read_attributes(operand: &[u8]) -> Result<Message<'_>, Fault>
     ensures { Gives (λ m. (seen m, [])) result (read attributes operand.now) }
 {
-    let (bits, rest) = menu_of(operand, 6, 21)?;
-    let (datatype, rest) = optional_u16(is_set(bits, 0), rest, 2)?;
-    let (org, rest) = optional_byte(is_set(bits, 1), rest)?;
-    let (rfm, rest) = optional_byte(is_set(bits, 2), rest)?;
-    let (rat, rest) = optional_u32(is_set(bits, 3), rest, 3)?;
-    let (bls, rest) = optional_word(is_set(bits, 4), rest)?;
-    let (mrs, rest) = optional_word(is_set(bits, 5), rest)?;
-    let (alq, rest) = optional_image(is_set(bits, 6), rest, 5)?;
-    let (bks, rest) = optional_byte(is_set(bits, 7), rest)?;
-    let (fsz, rest) = optional_byte(is_set(bits, 8), rest)?;
-    let (mrn, rest) = optional_image(is_set(bits, 9), rest, 5)?;
+    let (bits, rest) = menu_of(operand, width::ATTMENU, menu::ATTRIBUTES)?;
+    let (datatype, rest) = optional_u16(is_set(bits, menu::DATATYPE), rest, width::DATATYPE)?;
+    let (org, rest) = optional_byte(is_set(bits, menu::ORG), rest)?;
+    let (rfm, rest) = optional_byte(is_set(bits, menu::RFM), rest)?;
+    let (rat, rest) = optional_u32(is_set(bits, menu::RAT), rest, width::RAT)?;
+    let (bls, rest) = optional_word(is_set(bits, menu::BLS), rest)?;
+    let (mrs, rest) = optional_word(is_set(bits, menu::MRS), rest)?;
+    let (alq, rest) = optional_image(is_set(bits, menu::ALQ), rest, width::ALQ)?;
+    let (bks, rest) = optional_byte(is_set(bits, menu::BKS), rest)?;
+    let (fsz, rest) = optional_byte(is_set(bits, menu::FSZ), rest)?;
+    let (mrn, rest) = optional_image(is_set(bits, menu::MRN), rest, width::MRN)?;
     let first = Attributes {
         datatype,
         org,
@@ -102,17 +103,17 @@ fn read_later_attributes<'a>(
     ensures { Gives (λ m. (seen m, [])) result
         (read (later_attributes bits (seen_attributes first.entry)) operand.now) }
 {
-    let (runsys, rest) = optional_image(is_set(bits, 10), operand, 40)?;
-    let (deq, rest) = optional_word(is_set(bits, 11), rest)?;
-    let (fop, rest) = optional_u64(is_set(bits, 12), rest, 6)?;
-    let (bsz, rest) = optional_byte(is_set(bits, 13), rest)?;
-    let (dev, rest) = optional_u64(is_set(bits, 14), rest, 6)?;
-    let (sdc, rest) = optional_u64(is_set(bits, 15), rest, 6)?;
-    let (lrl, rest) = optional_word(is_set(bits, 16), rest)?;
-    let (hbk, rest) = optional_image(is_set(bits, 17), rest, 5)?;
-    let (ebk, rest) = optional_image(is_set(bits, 18), rest, 5)?;
-    let (ffb, rest) = optional_word(is_set(bits, 19), rest)?;
-    let (sbn, _ignored) = optional_image(is_set(bits, 20), rest, 5)?;
+    let (runsys, rest) = optional_image(is_set(bits, menu::RUNSYS), operand, width::RUNSYS)?;
+    let (deq, rest) = optional_word(is_set(bits, menu::DEQ), rest)?;
+    let (fop, rest) = optional_u64(is_set(bits, menu::FOP), rest, width::FOP)?;
+    let (bsz, rest) = optional_byte(is_set(bits, menu::BSZ), rest)?;
+    let (dev, rest) = optional_u64(is_set(bits, menu::DEV), rest, width::DEV)?;
+    let (sdc, rest) = optional_u64(is_set(bits, menu::SDC), rest, width::SDC)?;
+    let (lrl, rest) = optional_word(is_set(bits, menu::LRL), rest)?;
+    let (hbk, rest) = optional_image(is_set(bits, menu::HBK), rest, width::HBK)?;
+    let (ebk, rest) = optional_image(is_set(bits, menu::EBK), rest, width::EBK)?;
+    let (ffb, rest) = optional_word(is_set(bits, menu::FFB), rest)?;
+    let (sbn, _ignored) = optional_image(is_set(bits, menu::SBN), rest, width::SBN)?;
     Ok(Message::Attrib(Attributes {
         runsys,
         deq,
@@ -141,7 +142,7 @@ pub(crate) fn read_configuration(operand: &[u8]) -> Result<Message<'_>, Fault>
     let (usrnum, rest) = byte(rest)?;
     let (softver, rest) = byte(rest)?;
     let (usrsoft, rest) = byte(rest)?;
-    let (syscap, _ignored) = extensible(rest, 12)?;
+    let (syscap, _ignored) = extensible(rest, width::SYSCAP)?;
     Ok(Message::Config {
         bufsiz,
         ostype,
@@ -160,12 +161,12 @@ pub(crate) fn read_access(operand: &[u8]) -> Result<Message<'_>, Fault>
     ensures { Gives (λ m. (seen m, [])) result (read access operand.now) }
 {
     let (func, rest) = byte(operand)?;
-    let (opt, rest) = extensible_u64(rest, 5)?;
-    let (name, rest) = image(rest, 255)?;
-    let (fac, rest) = u32_or_zero(rest, 3)?;
-    let (shr, rest) = u32_or_zero(rest, 3)?;
-    let (display, rest) = u32_or_zero(rest, 4)?;
-    let (password, _ignored) = image_or_empty(rest, 40)?;
+    let (opt, rest) = extensible_u64(rest, width::ACCOPT)?;
+    let (name, rest) = image(rest, width::FILESPEC)?;
+    let (fac, rest) = u32_or_zero(rest, width::FAC)?;
+    let (shr, rest) = u32_or_zero(rest, width::SHR)?;
+    let (display, rest) = u32_or_zero(rest, width::DISPLAY)?;
+    let (password, _ignored) = image_or_empty(rest, width::PASSWORD)?;
     Ok(Message::Access {
         func,
         opt,
@@ -190,7 +191,7 @@ pub(crate) fn read_completion(operand: &[u8]) -> Result<Message<'_>, Fault>
     ensures { Gives (λ m. (seen m, [])) result (read completion operand.now) }
 {
     let (func, rest) = byte(operand)?;
-    let (fop, rest) = u64_or_zero(rest, 6)?;
+    let (fop, rest) = u64_or_zero(rest, width::FOP)?;
     let (check, _ignored) = word_unless_end(rest)?;
     Ok(Message::Accomp { func, fop, check })
 }
@@ -199,7 +200,7 @@ pub(crate) fn read_completion(operand: &[u8]) -> Result<Message<'_>, Fault>
 pub(crate) fn read_file_data(operand: &[u8]) -> Result<Message<'_>, Fault>
     ensures { Gives (λ m. (seen m, [])) result (read file_data operand.now) }
 {
-    let (recnum, payload) = image(operand, 8)?;
+    let (recnum, payload) = image(operand, width::RECNUM)?;
     Ok(Message::Filedata { recnum, payload })
 }
 

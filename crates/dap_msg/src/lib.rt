@@ -17,9 +17,11 @@ mod formats;
 mod header;
 mod items;
 mod laws;
+mod menu;
 mod message;
 mod reading;
 mod status;
+mod width;
 
 pub use blocking::{append_blocked, append_message, blocks_in_steps};
 pub use decoding::decode;
