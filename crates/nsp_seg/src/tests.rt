@@ -9,18 +9,22 @@ const ACKNOWLEDGEMENT: [u8; 7] = [0x04, 2, 1, 4, 3, 0xFF, 0x8F];
 
 #[test]
 fn segment_both_ways(rt: HostRuntime) -> Result<(), Fail> {
-    let Ok(
-        Packet::Segment {
-            first,
-            last,
-            dst,
-            src,
-            ack1,
-            ack2,
-            number,
-            payload,
-        },
-    ) = decode_packet(&ONLY_SEGMENT)
+    let Ok(packet) = decode_packet(&ONLY_SEGMENT) else {
+        return Err(Fail::from("no packet"));
+    };
+    let mut out = Vec::new(rt.alloc());
+    assert!(rt; encode_packet(&packet, &mut out).is_ok());
+    assert_eq!(rt; out.as_slice(), ONLY_SEGMENT.as_slice());
+    let Packet::Segment {
+        first,
+        last,
+        dst,
+        src,
+        ack1,
+        ack2,
+        number,
+        payload,
+    } = packet
     else {
         return Err(Fail::from("no segment"));
     };
@@ -36,19 +40,6 @@ fn segment_both_ways(rt: HostRuntime) -> Result<(), Fail> {
     assert!(rt; ack2.is_none());
     assert_eq!(rt; number.get(), 1);
     assert_eq!(rt; payload, [6, 2, 0].as_slice());
-    let packet = Packet::Segment {
-        first,
-        last,
-        dst,
-        src,
-        ack1,
-        ack2,
-        number,
-        payload,
-    };
-    let mut out = Vec::new(rt.alloc());
-    assert!(rt; encode_packet(&packet, &mut out).is_ok());
-    assert_eq!(rt; out.as_slice(), ONLY_SEGMENT.as_slice());
     Ok(())
 }
 

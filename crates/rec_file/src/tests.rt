@@ -91,6 +91,14 @@ fn play<F: RecordFile>(
     }
 }
 
+fn get_and_delete<F: RecordFile>(rt: &impl Abort, file: &mut F, stream: &mut Stream, number: u32) {
+    let calls = [
+        (Call::Get(Pick::Key(number)), Ok(number)),
+        (Call::Delete, Ok(number)),
+    ];
+    play(rt, file, stream, &calls);
+}
+
 fn holds<F: RecordFile>(file: &F, number: u32, body: &[u8]) -> bool {
     file.lookup(number) == Some(body)
 }
@@ -219,23 +227,10 @@ fn pages_of_four_records(rt: HostRuntime) {
     }
     assert!(rt; holds(&file, 1, b""));
     assert_eq!(rt; file.lookup(2), None);
-    play(
-        &rt,
-        &mut file,
-        &mut stream,
-        &[(Call::Get(Pick::Key(64)), Ok(64)), (Call::Delete, Ok(64))],
-    );
+    get_and_delete(&rt, &mut file, &mut stream, 64);
     assert_eq!(rt; file.first_from(2), Some(65));
     assert_eq!(rt; file.page_count(), 3);
-    play(
-        &rt,
-        &mut file,
-        &mut stream,
-        &[
-            (Call::Get(Pick::Key(2147483647)), Ok(2147483647)),
-            (Call::Delete, Ok(2147483647)),
-        ],
-    );
+    get_and_delete(&rt, &mut file, &mut stream, 2147483647);
     assert_eq!(rt; file.highest(), 65);
     assert_eq!(rt; file.page_count(), 2);
 }
@@ -307,47 +302,44 @@ fn each_refusal_of_a_sequential_file(rt: HostRuntime) {
     sequential_refusals(&rt, &mut AnyFile::new(rt.alloc(), shape));
 }
 
+const RELATIVE_REFUSALS: [(Call, Result<u32, Refusal>); 33] = [
+    (Call::Get(Pick::Next), Err(Refusal::EndOfFile)),
+    (Call::Get(Pick::Key(0)), Err(Refusal::NumberOutOfRange)),
+    (Call::Get(Pick::Key(4)), Err(Refusal::NumberOutOfRange)),
+    (Call::Get(Pick::Key(1)), Err(Refusal::RecordNotFound)),
+    (Call::Get(Pick::Rfa(0)), Err(Refusal::NumberOutOfRange)),
+    (Call::Get(Pick::Rfa(4)), Err(Refusal::NumberOutOfRange)),
+    (Call::Get(Pick::Rfa(1)), Err(Refusal::RecordNotFound)),
+    (Call::Put(None, b"abc"), Err(Refusal::BadLength)),
+    (Call::Put(None, b"a"), Ok(1)),
+    (Call::Put(None, b"b"), Ok(2)),
+    (Call::Rewind, Ok(1)),
+    (Call::Put(None, b"c"), Err(Refusal::RecordExists)),
+    (Call::Put(None, b"abc"), Err(Refusal::BadLength)),
+    (Call::Put(Some(0), b"abc"), Err(Refusal::BadLength)),
+    (Call::Put(Some(2), b"abc"), Err(Refusal::BadLength)),
+    (Call::Put(Some(0), b"c"), Err(Refusal::NumberOutOfRange)),
+    (Call::Put(Some(4), b"c"), Err(Refusal::NumberOutOfRange)),
+    (Call::Put(Some(2), b"c"), Err(Refusal::RecordExists)),
+    (Call::Put(Some(3), b""), Ok(3)),
+    (Call::Get(Pick::Next), Ok(1)),
+    (Call::Get(Pick::Key(3)), Ok(3)),
+    (Call::Put(None, b"abc"), Err(Refusal::BadLength)),
+    (Call::Put(None, b"c"), Err(Refusal::NumberOutOfRange)),
+    (Call::Update(b"abc"), Err(Refusal::NoCurrent)),
+    (Call::Get(Pick::Key(1)), Ok(1)),
+    (Call::Update(b"abc"), Err(Refusal::BadLength)),
+    (Call::Delete, Err(Refusal::NoCurrent)),
+    (Call::Get(Pick::Key(1)), Ok(1)),
+    (Call::Update(b"zz"), Ok(1)),
+    (Call::Get(Pick::Rfa(2)), Ok(2)),
+    (Call::Delete, Ok(2)),
+    (Call::Get(Pick::Key(2)), Err(Refusal::RecordNotFound)),
+    (Call::Get(Pick::Next), Ok(3)),
+];
+
 fn relative_refusals<F: RecordFile>(rt: &impl Abort, file: &mut F) {
-    play(
-        rt,
-        file,
-        &mut Stream::new(ALL),
-        &[
-            (Call::Get(Pick::Next), Err(Refusal::EndOfFile)),
-            (Call::Get(Pick::Key(0)), Err(Refusal::NumberOutOfRange)),
-            (Call::Get(Pick::Key(4)), Err(Refusal::NumberOutOfRange)),
-            (Call::Get(Pick::Key(1)), Err(Refusal::RecordNotFound)),
-            (Call::Get(Pick::Rfa(0)), Err(Refusal::NumberOutOfRange)),
-            (Call::Get(Pick::Rfa(4)), Err(Refusal::NumberOutOfRange)),
-            (Call::Get(Pick::Rfa(1)), Err(Refusal::RecordNotFound)),
-            (Call::Put(None, b"abc"), Err(Refusal::BadLength)),
-            (Call::Put(None, b"a"), Ok(1)),
-            (Call::Put(None, b"b"), Ok(2)),
-            (Call::Rewind, Ok(1)),
-            (Call::Put(None, b"c"), Err(Refusal::RecordExists)),
-            (Call::Put(None, b"abc"), Err(Refusal::BadLength)),
-            (Call::Put(Some(0), b"abc"), Err(Refusal::BadLength)),
-            (Call::Put(Some(2), b"abc"), Err(Refusal::BadLength)),
-            (Call::Put(Some(0), b"c"), Err(Refusal::NumberOutOfRange)),
-            (Call::Put(Some(4), b"c"), Err(Refusal::NumberOutOfRange)),
-            (Call::Put(Some(2), b"c"), Err(Refusal::RecordExists)),
-            (Call::Put(Some(3), b""), Ok(3)),
-            (Call::Get(Pick::Next), Ok(1)),
-            (Call::Get(Pick::Key(3)), Ok(3)),
-            (Call::Put(None, b"abc"), Err(Refusal::BadLength)),
-            (Call::Put(None, b"c"), Err(Refusal::NumberOutOfRange)),
-            (Call::Update(b"abc"), Err(Refusal::NoCurrent)),
-            (Call::Get(Pick::Key(1)), Ok(1)),
-            (Call::Update(b"abc"), Err(Refusal::BadLength)),
-            (Call::Delete, Err(Refusal::NoCurrent)),
-            (Call::Get(Pick::Key(1)), Ok(1)),
-            (Call::Update(b"zz"), Ok(1)),
-            (Call::Get(Pick::Rfa(2)), Ok(2)),
-            (Call::Delete, Ok(2)),
-            (Call::Get(Pick::Key(2)), Err(Refusal::RecordNotFound)),
-            (Call::Get(Pick::Next), Ok(3)),
-        ],
-    );
+    play(rt, file, &mut Stream::new(ALL), &RELATIVE_REFUSALS);
     assert!(rt; holds(file, 1, b"zz"));
     not_permitted(rt, file);
     two_streams(rt, file);
@@ -357,9 +349,8 @@ fn relative_refusals<F: RecordFile>(rt: &impl Abort, file: &mut F) {
 fn two_streams<F: RecordFile>(rt: &impl Abort, file: &mut F) {
     let mut first = Stream::new(ALL);
     let mut second = Stream::new(ALL);
-    let get_and_delete = [(Call::Get(Pick::Key(1)), Ok(1)), (Call::Delete, Ok(1))];
     play(rt, file, &mut first, &[(Call::Get(Pick::Key(1)), Ok(1))]);
-    play(rt, file, &mut second, &get_and_delete);
+    get_and_delete(rt, file, &mut second, 1);
     play(
         rt,
         file,
@@ -370,7 +361,7 @@ fn two_streams<F: RecordFile>(rt: &impl Abort, file: &mut F) {
             (Call::Get(Pick::Key(1)), Ok(1)),
         ],
     );
-    play(rt, file, &mut second, &get_and_delete);
+    get_and_delete(rt, file, &mut second, 1);
     play(
         rt,
         file,
