@@ -27,7 +27,7 @@ refuse_access scene status = enters scene Ready (status ∷ [])
 
 -- with the place of the file of that name
 abbrev pub open_file : Scene → (fac : ℕ) → Option ℕ → Effect
-open_file scene fac None = refuse_access scene (bare_status codes.file_not_found)
+open_file scene fac None = refuse_access scene (bare_status codes.stscode.file_not_found)
 open_file scene fac (Some at) =
     enters scene (Opened (record { at = at; is_new = false; rights = rights_of (fac_or fac codes.fac_bits.get) }))
     (opened_with (file_at at scene.files).shape)

@@ -99,7 +99,7 @@ control_connected verbs.Store scene opened stream control = Does (enters scene (
 control_connected verbs.Delete scene opened stream control =
     Does (settled scene opened (act delete_record (the_file scene.files opened) stream))
 control_connected verbs.Rewind scene opened stream control =
-    Does (enters scene (Connected opened (at_number 1 stream)) (bare_status codes.success ∷ []))
+    Does (enters scene (Connected opened (at_number 1 stream)) (bare_status codes.stscode.success ∷ []))
 control_connected verb scene opened stream control = Does (refuse_control verb scene (Connected opened stream))
 
 abbrev pub turn_connected : Scene → OpenFile → StreamVal → Message → Turn

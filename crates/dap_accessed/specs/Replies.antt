@@ -27,7 +27,7 @@ reason_status code reason recnum = status code [] recnum (reason ∷ [])
 
 -- an Access that opens nothing
 abbrev pub refused_access : Reason → Message
-refused_access why = reason_status codes.access_refused (codes.reason_number why) []
+refused_access why = reason_status codes.stscode.access_refused (codes.reason_number why) []
 
 -- a message has no place here
 abbrev pub sync_status : Message → Message
@@ -49,12 +49,12 @@ reason_of NoMemory = 0
 
 -- the Status of a refused operation on a record; in a Store it has the ordinal
 abbrev pub refusal_status : Refusal → (recnum : List ℕ) → Message
-refusal_status EndOfFile recnum = bare_status codes.end_of_file
-refusal_status refusal recnum = reason_status codes.record_refused (reason_of refusal) recnum
+refusal_status EndOfFile recnum = bare_status codes.stscode.end_of_file
+refusal_status refusal recnum = reason_status codes.stscode.record_refused (reason_of refusal) recnum
 
 -- success of PUT, UPDATE and DELETE, with the record's number
 abbrev pub done_status : ℕ → Message
-done_status n = status codes.success (four_bytes n) (four_bytes n) []
+done_status n = status codes.stscode.success (four_bytes n) (four_bytes n) []
 
 abbrev pub record_status : Result ℕ Refusal → Message
 record_status (Ok n) = done_status n
@@ -62,10 +62,10 @@ record_status (Err refusal) = refusal_status refusal []
 
 -- a record's Filedata is longer than the peer takes
 abbrev pub too_large : Message
-too_large = reason_status codes.record_refused (codes.reason_number reason.TooLargeForBuffer) []
+too_large = reason_status codes.stscode.record_refused (codes.reason_number reason.TooLargeForBuffer) []
 
 abbrev pub end_of_file : Message
-end_of_file = bare_status codes.end_of_file
+end_of_file = bare_status codes.stscode.end_of_file
 
 -- what ends an access or a stream
 abbrev pub completed : Message

@@ -4,7 +4,7 @@ use Rattle.std.specs.Option.{option_or}
 use Rattle.std.specs.Prelude.{nat_le, ◌==◌, Option, Some, None, if◌then◌else◌, unwrap_or}
 use Rattle.dap_msg.specs.Message.{Config, Attrib, Ack, Accomp, Filedata, Status, Other, StatusFields}
 use Rattle.dap_msg.specs.Items.{Item, Whole}
-use Rattle.dap_msg.specs.Codes.{cmpfunc, end_of_file}
+use Rattle.dap_msg.specs.Codes.{cmpfunc, stscode}
 use Rattle.dap_msg.specs.Exchange.{number_of, is_too_small}
 use Rattle.dap_accessing.specs.declared.request.Request.{Request}
 use Rattle.dap_accessing.specs.declared.report.Report.{Report}
@@ -70,7 +70,7 @@ stays-record : (answers more : List Item) → Stays (hear_record answers) (hear_
 stays-record [] more = tt
 stays-record (Whole (Filedata recnum body) ∷ rest) more = refl
 stays-record (Whole (Status status) ∷ rest) more =
-    elim (status.code == end_of_file) as (λ b. Stays (if b then Reports report.EndOfFile rest else refusal status rest) (if b then Reports report.EndOfFile (rest ++ more) else refusal status (rest ++ more)) more) [
+    elim (status.code == stscode.end_of_file) as (λ b. Stays (if b then Reports report.EndOfFile rest else refusal status rest) (if b then Reports report.EndOfFile (rest ++ more) else refusal status (rest ++ more)) more) [
       | true ↦ refl
       | false ↦ stays-refusal status rest more
     ]

@@ -86,7 +86,7 @@ hear_attributes answers = hear_file (behind is_other answers)
 abbrev pub hear_record : List Item → Hearing
 hear_record [] = Waits
 hear_record (Whole (Filedata recnum body) ∷ rest) = Reports (report.Found (number_of recnum) body) rest
-hear_record (Whole (Status status) ∷ rest) = if status.code == codes.end_of_file then Reports report.EndOfFile rest else refusal status rest
+hear_record (Whole (Status status) ∷ rest) = if status.code == codes.stscode.end_of_file then Reports report.EndOfFile rest else refusal status rest
 hear_record (_ ∷ rest) = Unexpected
 
 abbrev pub hear_done : List Item → Hearing
@@ -98,8 +98,8 @@ hear_done (_ ∷ rest) = Unexpected
 -- how a fetch ended, by the code and the reason of its Status
 abbrev pub ending_by : ℕ → ℕ → Ending
 ending_by code reason =
-    if code == codes.end_of_file then ending.Complete
-    else if code == codes.record_refused && reason == codes.reason_number TooLargeForBuffer then ending.Stopped
+    if code == codes.stscode.end_of_file then ending.Complete
+    else if code == codes.stscode.record_refused && reason == codes.reason_number TooLargeForBuffer then ending.Stopped
     else ending.Refused code reason
 
 abbrev pub ending_of : StatusFields → Ending

@@ -186,11 +186,11 @@ pub fn names_the_numbers()
     ensures rfm_fixed { RFM_FIXED ≡ codes.rfm.fixed }
     ensures rfm_variable { RFM_VARIABLE ≡ codes.rfm.variable }
     ensures success_kind { MACCODE_SUCCESS ≡ codes.maccode_success }
-    ensures success { SUCCESS ≡ codes.success }
-    ensures file_not_found { FILE_NOT_FOUND ≡ codes.file_not_found }
-    ensures access_refused { ACCESS_REFUSED ≡ codes.access_refused }
-    ensures record_refused { RECORD_REFUSED ≡ codes.record_refused }
-    ensures end_of_file { END_OF_FILE ≡ codes.end_of_file }
+    ensures success { SUCCESS ≡ codes.stscode.success }
+    ensures file_not_found { FILE_NOT_FOUND ≡ codes.stscode.file_not_found }
+    ensures access_refused { ACCESS_REFUSED ≡ codes.stscode.access_refused }
+    ensures record_refused { RECORD_REFUSED ≡ codes.stscode.record_refused }
+    ensures end_of_file { END_OF_FILE ≡ codes.stscode.end_of_file }
 {}
 
 /// Why an operation is refused (own): the one byte of STV beside [`ACCESS_REFUSED`] and [`RECORD_REFUSED`].

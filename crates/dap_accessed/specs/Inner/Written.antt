@@ -21,7 +21,7 @@ message_of answer.Ack = Ack
 message_of answer.Complete = completed
 message_of (answer.Status code) = bare_status code
 message_of (answer.Reason code reason) = reason_status code reason []
-message_of (answer.StoreRefusal reason ordinal) = reason_status codes.record_refused reason (four_bytes ordinal)
+message_of (answer.StoreRefusal reason ordinal) = reason_status codes.stscode.record_refused reason (four_bytes ordinal)
 message_of (answer.Done number) = done_status number
 message_of (answer.Record number body) = record_of number body.now
 
