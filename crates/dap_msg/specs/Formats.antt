@@ -4,7 +4,7 @@ use Rattle.dap_msg.specs.Codes.{types, greatest_type}
 use Rattle.dap_msg.specs.declared.fault.FaultKind.{FaultKind}
 use Rattle.dap_msg.specs.declared.fault.FaultKind.TheVariants.{BadFlags, BadStream, UnknownType, BadMenu}
 use Rattle.dap_msg.specs.Grammar.{Kind, Byte, Word, Extensible, Image, Part, Must, When, OrElse, UnlessEnd, Remainder, Grammar, Done, Next, ◌>>=◌}
-use Rattle.dap_msg.specs.Message.{Header, Message, Config, Attrib, Access, Control, Contran, Ack, Accomp, Filedata, Status, Other}
+use Rattle.dap_msg.specs.Message.{Header, Message, configuration_of, attributes_by, Attrib, Access, Control, Contran, Ack, Accomp, Filedata, Status, Other}
 
 -- any value of the field will do
 abbrev pub any : {V : Type 0} → V → Option FaultKind
@@ -50,17 +50,7 @@ configuration = do
   softver ← must Byte
   usrsoft ← must Byte
   syscap ← must (Extensible 12)
-  ending (Config (record {
-    bufsiz = bufsiz;
-    ostype = ostype;
-    filesys = filesys;
-    vernum = vernum;
-    econum = econum;
-    usrnum = usrnum;
-    softver = softver;
-    usrsoft = usrsoft;
-    syscap = syscap;
-  }))
+  ending (configuration_of bufsiz ostype filesys vernum econum usrnum softver usrsoft syscap)
 
 unfoldable pub attributes : Grammar Message
 attributes = do
@@ -86,29 +76,8 @@ attributes = do
   ebk ← optional bits 18 (Image 5)
   ffb ← optional bits 19 Word
   sbn ← optional bits 20 (Image 5)
-  ending (Attrib (record {
-    datatype = datatype;
-    org = org;
-    rfm = rfm;
-    rat = rat;
-    bls = bls;
-    mrs = mrs;
-    alq = alq;
-    bks = bks;
-    fsz = fsz;
-    mrn = mrn;
-    runsys = runsys;
-    deq = deq;
-    fop = fop;
-    bsz = bsz;
-    dev = dev;
-    sdc = sdc;
-    lrl = lrl;
-    hbk = hbk;
-    ebk = ebk;
-    ffb = ffb;
-    sbn = sbn;
-  }))
+  ending (Attrib (
+      attributes_by datatype org rfm rat bls mrs alq bks fsz mrn runsys deq fop bsz dev sdc lrl hbk ebk ffb sbn))
 
 unfoldable pub access : Grammar Message
 access = do

@@ -80,32 +80,55 @@ pub data Message : Type 0 where
   Status : StatusFields → Message
   Other : (number : ℕ) (body : List ℕ) → Message
 
+-- a Configuration by its fields, in order
+abbrev pub configuration_of : (bufsiz ostype filesys vernum econum usrnum softver usrsoft syscap : ℕ) → Message
+configuration_of bufsiz ostype filesys vernum econum usrnum softver usrsoft syscap = Config (record {
+  bufsiz = bufsiz;
+  ostype = ostype;
+  filesys = filesys;
+  vernum = vernum;
+  econum = econum;
+  usrnum = usrnum;
+  softver = softver;
+  usrsoft = usrsoft;
+  syscap = syscap;
+})
+
+-- attributes by their fields, in the order of their bits
+abbrev pub attributes_by :
+    (datatype org rfm rat bls mrs : Option ℕ) (alq : Option (List ℕ)) (bks fsz : Option ℕ) (mrn runsys : Option (List ℕ))
+    (deq fop bsz dev sdc lrl : Option ℕ) (hbk ebk : Option (List ℕ)) (ffb : Option ℕ) (sbn : Option (List ℕ)) → Attributes
+attributes_by datatype org rfm rat bls mrs alq bks fsz mrn runsys deq fop bsz dev sdc lrl hbk ebk ffb sbn = record {
+  datatype = datatype;
+  org = org;
+  rfm = rfm;
+  rat = rat;
+  bls = bls;
+  mrs = mrs;
+  alq = alq;
+  bks = bks;
+  fsz = fsz;
+  mrn = mrn;
+  runsys = runsys;
+  deq = deq;
+  fop = fop;
+  bsz = bsz;
+  dev = dev;
+  sdc = sdc;
+  lrl = lrl;
+  hbk = hbk;
+  ebk = ebk;
+  ffb = ffb;
+  sbn = sbn;
+}
+
 -- ---- What a message of the program is.
 
 abbrev pub seen_attributes : LentAttributes → Attributes
-seen_attributes a = record {
-  datatype = a.datatype;
-  org = a.org;
-  rfm = a.rfm;
-  rat = a.rat;
-  bls = a.bls;
-  mrs = a.mrs;
-  alq = option_copied a.alq;
-  bks = a.bks;
-  fsz = a.fsz;
-  mrn = option_copied a.mrn;
-  runsys = option_copied a.runsys;
-  deq = a.deq;
-  fop = a.fop;
-  bsz = a.bsz;
-  dev = a.dev;
-  sdc = a.sdc;
-  lrl = a.lrl;
-  hbk = option_copied a.hbk;
-  ebk = option_copied a.ebk;
-  ffb = a.ffb;
-  sbn = option_copied a.sbn;
-}
+seen_attributes a =
+    attributes_by a.datatype a.org a.rfm a.rat a.bls a.mrs (option_copied a.alq) a.bks a.fsz (option_copied a.mrn)
+    (option_copied a.runsys) a.deq a.fop a.bsz a.dev a.sdc a.lrl (option_copied a.hbk) (option_copied a.ebk) a.ffb
+    (option_copied a.sbn)
 
 abbrev pub seen_control : LentControl → ControlFields
 seen_control c = record {
@@ -119,17 +142,8 @@ seen_control c = record {
 }
 
 abbrev pub seen : LentMessage → Message
-seen (lent.Config bufsiz ostype filesys vernum econum usrnum softver usrsoft syscap) = Config (record {
-  bufsiz = bufsiz;
-  ostype = ostype;
-  filesys = filesys;
-  vernum = vernum;
-  econum = econum;
-  usrnum = usrnum;
-  softver = softver;
-  usrsoft = usrsoft;
-  syscap = syscap;
-})
+seen (lent.Config bufsiz ostype filesys vernum econum usrnum softver usrsoft syscap) =
+    configuration_of bufsiz ostype filesys vernum econum usrnum softver usrsoft syscap
 seen (lent.Attrib attributes) = Attrib (seen_attributes attributes)
 seen (lent.Access func opt name fac shr display password) =
     Access (record { func = func; opt = opt; name = name.now; fac = fac; shr = shr; display = display; password = password.now })

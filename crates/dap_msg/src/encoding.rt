@@ -2,11 +2,11 @@
 
 ghost use Rattle.std.specs.Prelude.{ℕ, ◌≡◌, ◌≤◌, ◌<◌, ◌+◌, ◌^◌, ◌++◌, length, OnOk, OnErr, IsErr, IsOk, option_copied, vec_len, vec_capacity};
 ghost use Rattle.dap_fields.specs.Writing.{shortest};
-ghost use Rattle.dap_msg.specs.Message.{Attrib, Control as ControlOf, seen, seen_attributes, seen_control};
+ghost use Rattle.dap_msg.specs.Message.{Attrib, configuration_of, Control as ControlOf, seen, seen_attributes, seen_control};
 ghost use Rattle.dap_msg.specs.Grammar as kinds;
 ghost use Rattle.dap_msg.specs.Canon.{canon, Fits, FieldsFit, FitsOption, operand_bytes, header_bytes, option_bytes, bits_of, attribute_bits};
 ghost use Rattle.dap_msg.specs.Written.{Appends};
-ghost use Rattle.dap_msg.specs.Inner.Fields.{bytes_of, fields_bytes, message_bytes, CanWrite, CanWriteAll, status_of, completion_of, configuration_of, access_of};
+ghost use Rattle.dap_msg.specs.Inner.Fields.{bytes_of, fields_bytes, message_bytes, CanWrite, CanWriteAll, status_of, completion_of, access_of};
 
 use crate::fault::{FaultKind, MsgFault};
 use crate::message::{Attributes, Control, Message};

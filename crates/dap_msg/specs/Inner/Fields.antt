@@ -4,7 +4,7 @@ use Rattle.dap_fields.specs.Writing.{shortest}
 use Rattle.dap_msg.specs.declared.encoding.Field.{Field}
 use Rattle.dap_msg.specs.declared.encoding.Field.TheVariants.{Absent, Byte, Word, Extensible, Image, Rest}
 use Rattle.dap_msg.specs.Grammar as kinds
-use Rattle.dap_msg.specs.Message.{Message, Config, Access, Accomp, Status}
+use Rattle.dap_msg.specs.Message.{Message, Access, Accomp, Status}
 use Rattle.dap_msg.specs.Canon.{field_bytes, header_bytes}
 
 abbrev pub bytes_of : Field → List ℕ
@@ -36,19 +36,6 @@ CanWriteAll [] = Unit {0}
 CanWriteAll (field ∷ fields) = CanWrite field × CanWriteAll fields
 
 -- ---- Messages by their fields.
-
-abbrev pub configuration_of : (bufsiz ostype filesys vernum econum usrnum softver usrsoft syscap : ℕ) → Message
-configuration_of bufsiz ostype filesys vernum econum usrnum softver usrsoft syscap = Config (record {
-  bufsiz = bufsiz;
-  ostype = ostype;
-  filesys = filesys;
-  vernum = vernum;
-  econum = econum;
-  usrnum = usrnum;
-  softver = softver;
-  usrsoft = usrsoft;
-  syscap = syscap;
-})
 
 abbrev pub access_of : (func opt : ℕ) → List ℕ → (fac shr display : ℕ) → List ℕ → Message
 access_of func opt name fac shr display password =
