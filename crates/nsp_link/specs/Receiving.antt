@@ -81,7 +81,8 @@ abbrev pub RefusesSegment : LinkValue → SegmentValue → LinkFault → LinkVal
 RefusesSegment old s e new =
     ((newly_acked old (first_ack s.ack1 s.ack2) ≡ None) × (e ≡ BadSequence) × (new ≡ failed_link old))
     ⊎ (Believes old (first_ack s.ack1 s.ack2) × (ahead_of_next old s.number ≡ 0) × NotTaken old (piece_of s) e new)
-    ⊎ (Believes old (first_ack s.ack1 s.ack2) × Keeps old (early_number old s.number) × (ahead_of_next old s.number < 2048) × (e ≡ NoMemory) × (new ≡ old))
+    ⊎ (Believes old (first_ack s.ack1 s.ack2) × Keeps old (early_number old s.number) × (ahead_of_next old s.number < 2048)
+    × (e ≡ NoMemory) × (new ≡ old))
 
 -- What an end that hasn't failed does with any packet: what it answers, and what it is afterwards.
 abbrev pub Received : LinkValue → PacketValue → Result Got LinkFault → LinkValue → Type 0
@@ -95,4 +96,5 @@ Received old (segment s) (Err e) new =
     ⊎ (IsBetween old.remote old.local (segment s) × RefusesSegment old s e new)
 Received old (data_ack s) (Err e) new =
     ((IsBetween old.remote old.local (data_ack s) → ⊥) × (e ≡ WrongLink) × (new ≡ old))
-    ⊎ (IsBetween old.remote old.local (data_ack s) × (newly_acked old (first_ack (Some s.ack1) s.ack2) ≡ None) × (e ≡ BadSequence) × (new ≡ failed_link old))
+    ⊎ (IsBetween old.remote old.local (data_ack s) × (newly_acked old (first_ack (Some s.ack1) s.ack2) ≡ None)
+    × (e ≡ BadSequence) × (new ≡ failed_link old))

@@ -44,7 +44,8 @@ MayQueue v len = (v.failed ≡ false) × (len ≤ v.max_message) × (v.acked + l
 abbrev pub SendFault : LinkValue → ℕ → LinkFault → Type 0
 SendFault v len Failed = IsTrue v.failed
 SendFault v len MessageTooLong = (v.failed ≡ false) × (v.max_message < len)
-SendFault v len Exhausted = (v.failed ≡ false) × (len ≤ v.max_message) × (most_segments < v.acked + length v.queue + count_of v.seg_size len)
+SendFault v len Exhausted =
+    (v.failed ≡ false) × (len ≤ v.max_message) × (most_segments < v.acked + length v.queue + count_of v.seg_size len)
 SendFault v len NoMemory = MayQueue v len
 SendFault v len _ = ⊥
 
@@ -59,7 +60,8 @@ MayQueueAll v messages =
 -- why messages are not sent, none of them, in the order of the tests
 abbrev pub SendAllFault : LinkValue → List (List ℕ) → LinkFault → Type 0
 SendAllFault v messages Failed = IsTrue v.failed
-SendAllFault v messages MessageTooLong = (v.failed ≡ false) × ((k : ℕ) × (k < length messages) × (v.max_message < length (slice_index_or messages k [])))
+SendAllFault v messages MessageTooLong =
+    (v.failed ≡ false) × ((k : ℕ) × (k < length messages) × (v.max_message < length (slice_index_or messages k [])))
 SendAllFault v messages Exhausted =
     (v.failed ≡ false) × AreShort v messages × (most_segments < v.acked + length v.queue + length (cut v.seg_size messages))
 SendAllFault v messages NoMemory = MayQueueAll v messages × (messages ≢ [])

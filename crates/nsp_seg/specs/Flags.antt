@@ -12,4 +12,5 @@ flag_kind_of flag =
     (if flag == 0x30 then Interrupt else
     (if flag == 0x14 then OtherAck else
     (if flag == 0x24 then ConnectAck else
-    (if flag == 0x08 || flag == 0x18 || flag == 0x28 || flag == 0x38 || flag == 0x48 || flag == 0x58 || flag == 0x68 || flag == 0x78 then Control else Unknown))))))
+    (if flag == 0x08 || flag == 0x18 || flag == 0x28 || flag == 0x38
+    || flag == 0x48 || flag == 0x58 || flag == 0x68 || flag == 0x78 then Control else Unknown))))))
