@@ -96,18 +96,13 @@ filedata_of r = record_of r.0 r.1
 abbrev pub fits_limit : ℕ → ℕ × List ℕ → Bool
 fits_limit limit r = nat_le (file_data_size 4 (length r.1)) limit
 
-abbrev pub record_given : Scene → OpenFile → StreamVal → ℕ × List ℕ → Effect
-record_given scene opened stream r = enters scene (Connected opened stream) (filedata_of r ∷ [])
-
-abbrev pub record_too_large : Scene → OpenFile → StreamVal → Effect
-record_too_large scene opened stream = enters scene (Connected opened (uncurrent stream)) (too_large ∷ [])
-
 -- with the reply of the operation; a record whose Filedata is longer than the limit is a GET that is refused
 abbrev pub got : Result ℕ Refusal → Scene → OpenFile → (before after : StreamVal) → Effect
 got (Err refusal) scene opened before after = refused scene opened before refusal
 got (Ok n) scene opened before after =
     let r : ℕ × List ℕ = (n, unwrap_or (map.get (the_file scene.files opened).records n) []) in
-    if fits_limit scene.limit r then record_given scene opened after r else record_too_large scene opened before
+    if fits_limit scene.limit r then enters scene (Connected opened after) (filedata_of r ∷ [])
+    else enters scene (Connected opened (uncurrent before)) (too_large ∷ [])
 
 abbrev pub record_got : Result Pick Refusal → Scene → OpenFile → StreamVal → Effect
 record_got (Err refusal) scene opened stream = refused scene opened stream refusal

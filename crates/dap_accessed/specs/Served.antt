@@ -1,5 +1,6 @@
 -- What a call of `serve` does.
 use Rattle.std.specs.Prelude.{ℕ, ◌≡◌, ◌≤◌, ◌==◌, Bool, true, false, List, [], ◌∷◌, ◌++◌, length, Result, IsOk}
+use Rattle.std.specs.List.{AllByRecursion}
 use Rattle.dap_msg.specs.Codes as codes
 use Rattle.dap_msg.specs.Message.{Attrib, Control, Contran, Filedata, Other}
 use Rattle.dap_msg.specs.Items.{Item, Whole, ItemAt}
@@ -16,8 +17,7 @@ use Rattle.dap_accessed.specs.Present.{Present, StandsAfter}
 
 -- none is longer than the limit
 abbrev pub AllAtMost : ℕ → List (List ℕ) → Type 0
-AllAtMost limit [] = Unit {0}
-AllAtMost limit (bytes ∷ more) = (length bytes ≤ limit) × AllAtMost limit more
+AllAtMost limit list = AllByRecursion (λ bytes. length bytes ≤ limit) list
 
 -- The item at a place was served: after any items, an end that stood as after these stands as after these and it, and
 -- gives just the answers that it adds, joined as far as the peer's limit goes. Each has a spelling, and none is longer

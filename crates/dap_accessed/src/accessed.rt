@@ -55,8 +55,9 @@ pub struct Accessed {
 }
 
 impl Model for Accessed {
-    ghost use Rattle.dap_accessed.specs.Present.{Present, present_code};
+    ghost use Rattle.dap_accessed.specs.Present.{Present};
     ghost use Rattle.dap_accessed.specs.Inner.Moves.{IsKept};
+    ghost use Rattle.dap_accessed.specs.Inner.Stored.{present_code};
 
     ghost Value = { Present };
 
