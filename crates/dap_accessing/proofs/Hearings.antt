@@ -10,7 +10,7 @@ use Rattle.dap_accessing.specs.declared.request.Request.{Request}
 use Rattle.dap_accessing.specs.declared.report.Report.{Report}
 use Rattle.dap_accessing.specs.declared.report.Report.TheVariants as report
 use Rattle.dap_msg.specs.Codes.{is_success}
-use Rattle.dap_accessing.specs.Told.{Hearing, Reports, Waits, Unexpected, refusal, reports_or_unexpected, hear, hear_config, hear_ack, opened_as, greatest_mrn, hear_record, hear_done, ending_of, reason_in, told_of, hear_closed, Told}
+use Rattle.dap_accessing.specs.Told.{Hearing, Reports, Waits, Unexpected, refusal, hear, hear_config, hear_ack, opened_as, greatest_mrn, hear_record, hear_done, ending_of, reason_in, told_of, hear_closed, Told}
 use Rattle.dap_accessing.specs.declared.pending.Pending.{Pending}
 use Rattle.dap_accessing.specs.declared.pending.Pending.TheVariants as pending
 use Rattle.dap_accessing.specs.Inner.Hears.{pending_of}
@@ -34,7 +34,7 @@ stays-if-not false done rest more = refl
 
 stays-refusal : (status : StatusFields) (rest more : List Item) → Stays (refusal status rest) (refusal status (rest ++ more)) more
 stays-refusal status rest more =
-    elim (is_success status.code) as (λ b. Stays (reports_or_unexpected (if b then None else Some (report.Refused status.code (reason_in status.stv))) rest) (reports_or_unexpected (if b then None else Some (report.Refused status.code (reason_in status.stv))) (rest ++ more)) more) [ true ↦ refl | false ↦ refl ]
+    elim (is_success status.code) as (λ b. Stays (if b then Unexpected else Reports (report.Refused status.code (reason_in status.stv)) rest) (if b then Unexpected else Reports (report.Refused status.code (reason_in status.stv)) (rest ++ more)) more) [ true ↦ refl | false ↦ refl ]
 
 stays-config : (answers more : List Item) → Stays (hear_config answers) (hear_config (answers ++ more)) more
 stays-config [] more = tt
@@ -79,8 +79,8 @@ stays-record (_ ∷ rest) more = refl
 stays-done : (answers more : List Item) → Stays (hear_done answers) (hear_done (answers ++ more)) more
 stays-done [] more = tt
 stays-done (Whole (Status status) ∷ rest) more =
-    elim (is_success status.code) as (λ b. Stays (if b then Reports (report.Done (number_of status.recnum)) rest else reports_or_unexpected (if b then None else Some (report.Refused status.code (reason_in status.stv))) rest)
-    (if b then Reports (report.Done (number_of status.recnum)) (rest ++ more) else reports_or_unexpected (if b then None else Some (report.Refused status.code (reason_in status.stv))) (rest ++ more)) more) [ true ↦ refl | false ↦ refl ]
+    elim (is_success status.code) as (λ b. Stays (if b then Reports (report.Done (number_of status.recnum)) rest else if b then Unexpected else Reports (report.Refused status.code (reason_in status.stv)) rest)
+    (if b then Reports (report.Done (number_of status.recnum)) (rest ++ more) else if b then Unexpected else Reports (report.Refused status.code (reason_in status.stv)) (rest ++ more)) more) [ true ↦ refl | false ↦ refl ]
 stays-done (_ ∷ rest) more = refl
 
 stays-batch : (records : List (ℕ × List ℕ)) (answers more : List Item) → Stays (gather_batch records answers) (gather_batch records (answers ++ more)) more
