@@ -11,7 +11,8 @@ use Rattle.dap_world.specs.Machine.{Refuses, State, Direction, Sending, sends, o
 use Rattle.dap_msg.specs.Blocked.{NspMessage}
 use Rattle.dap_world.specs.Runs.{Went}
 use Rattle.dap_world.specs.Inner.Worlds.{IsWorld}
-use Rattle.dap_world.specs.Settling.{RanBy, RanTo, SameBut, unacked}
+use Rattle.dap_world.specs.Settling.{RanBy, RanTo, unacked}
+use Rattle.dap_world.specs.Inner.Settling.{SameBut}
 use Rattle.dap_world.specs.Inner.Settling.{Brought}
 use Rattle.dap_world.proofs.Directions.{came-moves, kept-came, AreTrue-at}
 use Rattle.dap_world.proofs.Settles.{ran_none, ran_one, ran_both, at_last, is_same, took}
