@@ -1,5 +1,5 @@
 -- A Status that refuses is the report, and one that tells a success has no place.
-use Rattle.std.proofs.Common.{◌≡◌, ℕ, Bool, true, false, List, ◌∷◌}
+use Rattle.std.proofs.Common.{◌≡◌, Bool, true, false, List, ◌∷◌}
 use Rattle.std.specs.Prelude.{if◌then◌else◌}
 use Rattle.dap_msg.specs.Codes.{is_success}
 use Rattle.dap_msg.specs.Message.{StatusFields, Status}
