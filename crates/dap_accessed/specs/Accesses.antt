@@ -41,6 +41,7 @@ create_file scene name fac None (Some shape) =
     (Opened (record { at = length scene.files; is_new = true; rights = rights_of (fac_or fac codes.fac_put) }))
     (opened_with shape)
 
+-- by ACCFUNC; only the two are supported
 abbrev pub access_file : Scene → AccessFields → Option Shape → Effect
 access_file scene access shape =
     if access.func == codes.accfunc_open then open_file scene access.fac (place_of access.name scene.files)
@@ -53,7 +54,7 @@ access_file scene access shape =
 abbrev pub purged : OpenFile → Files → Files
 purged opened files = if opened.is_new then without_file opened.at files else files
 
--- in a place in which a file is open; what the end of a stream does is given, since it depends on the place
+-- by CMPFUNC, in a place in which a file is open; what the end of a stream does is given, since it depends on the place
 abbrev pub complete : (func : ℕ) → Scene → OpenFile → Place → (end_of_stream : Effect) → Effect
 complete func scene opened place end_of_stream =
     if func == codes.cmpfunc_close then enters scene Ready (completed ∷ [])

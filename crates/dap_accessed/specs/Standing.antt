@@ -28,7 +28,7 @@ plain_shape = record { org = Seq; format = Variable; mrs = 0; mrn = 0 }
 abbrev pub new_file : Shape → FileVal
 new_file shape = record { shape = shape; records = map.empty }
 
--- what stands at a place, where there is one: the name of a file, and the file
+-- the name of the file at a place, and the file; where there is none, no name and no records
 abbrev pub name_at : ℕ → Files → List ℕ
 name_at n files = (get_or files n ([], new_file plain_shape)).0
 

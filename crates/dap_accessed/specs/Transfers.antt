@@ -15,7 +15,8 @@ use Rattle.dap_accessed.specs.Records.{at_number, filedata_of, fits_limit}
 
 -- ---- To the peer.
 
--- the records that are given, and how it ends: with the end of the file, or at a record that is too large
+-- The records that are given, and how it ends: with the end of the file, at the number behind the last one given, or
+-- at a record that is too large.
 abbrev pub fetch_ends : Scene → OpenFile → StreamVal → (given rest : List (ℕ × List ℕ)) → Effect
 fetch_ends scene opened stream given [] =
     enters scene (Connected opened (at_number (fold (λ n r. r.0 + 1) stream.next given) stream))
@@ -29,7 +30,7 @@ fetch scene opened stream =
     let due = records_from (the_file scene.files opened).records stream.next in
     fetch_ends scene opened stream (take_while (fits_limit scene.limit) due) (drop (prefix_len (fits_limit scene.limit) due) due)
 
--- a Continue Transfer that asks for nothing that may be done: a resumption is known, and not supported
+-- a Continue Transfer that asks for nothing that is done here: a resumption isn't supported, and anything else is none
 abbrev pub continue_refused : (func : ℕ) → Message
 continue_refused func =
     bare_status (if func == codes.confunc_resume then codes.unsupported codes.type_continue else codes.invalid codes.type_continue)

@@ -2,7 +2,7 @@
 
 ghost use Rattle.std.specs.Prelude.{◌≡◌, ◌≤◌, ◌<◌, ℕ, List, [], ◌∷◌, length, IfOk, IsOk, IfSome, IsTrue, OnErr, true};
 ghost use Rattle.dap_msg.specs.Exchange.{greatest_message, least_buffer};
-ghost use Rattle.dap_msg.specs.Items.{IsPlace, Item as TheItem, ItemImagesFit, seen_item};
+ghost use Rattle.dap_msg.specs.Items.{IsPlace, Item as TheItem, ItemAt, ItemImagesFit, seen_item};
 ghost use Rattle.dap_msg.specs.Images.{ImagesFit};
 ghost use Rattle.dap_msg.specs.Message.{Attrib, seen, seen_attributes, seen_control};
 ghost use Rattle.dap_msg.specs.Codes.{status_code_for};
@@ -322,6 +322,19 @@ impl Accessed {
         ensures unrefused { IsUnrefused nsp_message.now at self.old result }
     {
         let (item, next) = item_at(nsp_message, at);
+        self.serve_read(item, next)
+    }
+
+    /// The same of what was read already: the message or fault that `item_at` answered, and the place
+    /// behind it. Own.
+    pub fn serve_read(&mut self, item: Item<'_>, next: usize) -> Result<Served, NoMemory>
+        requires { ItemImagesFit (seen_item item) }
+        ensures serves { (bytes : List ℕ) (at : ℕ) → ItemAt bytes at (seen_item item.entry) next
+            → IfOk result (Serves bytes at self.old self.new) }
+        ensures next { IfOk result (λ served. served.next ≡ next) }
+        ensures no_memory { OnErr result (self.new ≡ self.old) }
+        ensures unrefused { is_silent self.old.phase (seen_item item.entry) ≡ true → IsOk result }
+    {
         let answers = self.serve_item(item)?;
         Ok(Served { answers, next })
     }
