@@ -67,7 +67,7 @@ sends_nothing old new h =
     let f = h.sent B in
     let at : ℕ → ℕ → ℕ → ℕ → List Request → Direction → Direction → ℕ → ℕ → State =
     λ seg_size window own_a own_b requests from_a from_b served read.
-        record { seg_size = seg_size; window = window; own_a = own_a; own_b = own_b; requests = requests; from_a = from_a; from_b = from_b; served = served; read = read } in
+    record { seg_size = seg_size; window = window; own_a = own_a; own_b = own_b; requests = requests; from_a = from_a; from_b = from_b; served = served; read = read } in
     let way : List NspMessage → List NspMessage → ℕ → Direction → Direction =
     λ waiting handed sent new. record new { waiting = waiting; handed = handed; sent = sent } in
     let from_a : new.from_a ≡ moved old.from_a new.from_a =

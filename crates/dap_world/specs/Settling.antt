@@ -38,11 +38,11 @@ RanTo old new = (n : ℕ) × RanBy old new n
 abbrev pub unacked : State → End → ℕ
 unacked s end = (sends s end).sent - (sends s end).acked
 
--- a direction of which no segment more is sent, and nothing is handed over: the counts, the wire and what is held move
+-- what moves of a direction: the counts of segments taken and acknowledged, the wire, and what the peer holds
 abbrev pub moved : (old new : Direction) → Direction
 moved old new = record old { taken = new.taken; acked = new.acked; held = new.held; wire = new.wire }
 
--- nothing but that moved, and no count back
+-- nothing else moved, so that no segment more was sent, and no count went back
 pub record SendsNothing (old new : State) : Type 0 where
   pub rest : new ≡ record old { from_a = moved old.from_a new.from_a; from_b = moved old.from_b new.from_b }
   pub taken : (end : End) → (sends old end).taken ≤ (sends new end).taken
