@@ -5,7 +5,6 @@ use Rattle.dap_msg.specs.Codes as codes
 use Rattle.dap_msg.specs.Message.{Attrib, Control, Contran, Filedata, Other}
 use Rattle.dap_msg.specs.Items.{Item, Whole, ItemAt}
 use Rattle.dap_msg.specs.Blocked.{Blocked, all_joined, bodies, AllFit}
-use Rattle.dap_accessed.specs.declared.fault.NoMemory.{NoMemory}
 use Rattle.dap_accessed.specs.declared.phase.Phase.{Phase}
 use Rattle.dap_accessed.specs.declared.phase.Phase.TheVariants as phases
 use Rattle.dap_accessed.specs.declared.served.Served.{Served}
@@ -50,8 +49,3 @@ is_silent (phases.Connected opened stream) (Whole (Control control)) = begins_on
 is_silent (phases.Dropping opened stream ordinal) (Whole (Filedata _ _)) = true
 is_silent (phases.Dropping opened stream ordinal) (Whole (Contran func)) = func == codes.confunc_skip
 is_silent _ _ = false
-
--- A silent item at the place is served without memory.
-abbrev pub IsUnrefused : List ℕ → ℕ → Present → Result Served NoMemory → Type 0
-IsUnrefused bytes at old result =
-    (item : Item) (next : ℕ) → ItemAt bytes at item next → is_silent old.phase item ≡ true → IsOk result

@@ -1,9 +1,9 @@
 -- What holds of an end after any items.
 use Rattle.std.specs.Prelude.{◌≢◌, ℕ, ◌<◌, ◌≤◌, [], ◌∷◌, length, IfSome}
 use Rattle.std.specs.List.{AllByRecursion}
-use Rattle.dap_msg.specs.Exchange.{greatest_message}
+use Rattle.dap_msg.specs.Exchange.{greatest_message, least_buffer}
 use Rattle.rec_file.specs.Files.{IsFile}
-use Rattle.dap_accessed.specs.Standing.{Files, Place, Fresh, Ready, Opened, Connected, Store, Stopped, least_limit}
+use Rattle.dap_accessed.specs.Standing.{Files, Place, Fresh, Ready, Opened, Connected, Store, Stopped}
 use Rattle.dap_accessed.specs.Groups.{Cut}
 
 -- no two files have the same name
@@ -26,7 +26,7 @@ pub record IsSoundAt (table : Files) (limit : ℕ) (place : Place) : Type 0 wher
   pub distinct : AreDistinct table
   pub opened : IsOpenAt table place
   -- what a peer takes is not less than the least, and not more than any end takes
-  pub least : least_limit ≤ limit
+  pub least : least_buffer ≤ limit
   pub most : limit ≤ greatest_message
 
 -- also inside a group of two

@@ -90,10 +90,6 @@ enters scene place answers = record { files = scene.files; limit = scene.limit; 
 abbrev pub leaves : Scene → Files → Place → List Message → Effect
 leaves scene files place answers = record { files = files; limit = scene.limit; place = place; answers = answers }
 
--- the shortest limit that a peer can have
-abbrev pub least_limit : ℕ
-least_limit = least_buffer
-
--- No files, and no Config of the peer yet.
+-- No files, and no Config of the peer yet, which may have the least buffer.
 abbrev pub start : Standing
-start = record { files = []; limit = least_limit; place = Fresh; past = [] }
+start = record { files = []; limit = least_buffer; place = Fresh; past = [] }

@@ -14,7 +14,7 @@ ghost use Rattle.dap_accessed.specs.Accesses.{fac_or, rights_of};
 ghost use Rattle.dap_accessed.specs.Replies.{bare_status, refused_access, sync_status};
 ghost use Rattle.dap_accessed.specs.Past.{shape_of};
 ghost use Rattle.dap_accessed.specs.Present.{StandsAfter};
-ghost use Rattle.dap_accessed.specs.Served.{IsUnrefused, Serves, is_silent};
+ghost use Rattle.dap_accessed.specs.Served.{Serves, is_silent};
 ghost use Rattle.dap_accessed.specs.Standing.{Fresh, Ready};
 ghost use Rattle.dap_accessed.specs.Inner.Moves.{Makes, creates, move, opens, opens_nothing, plainly};
 ghost use Rattle.dap_accessed.specs.Inner.Written.{Answered, IsShort, message_of};
@@ -319,7 +319,8 @@ impl Accessed {
         ensures within { IfOk result (λ served. served.next ≤ length nsp_message.now) }
         ensures further { at < length nsp_message.now → IfOk result (λ served. at < served.next) }
         ensures no_memory { OnErr result (self.new ≡ self.old) }
-        ensures unrefused { IsUnrefused nsp_message.now at self.old result }
+        ensures unrefused { (item : TheItem) (next : ℕ) → ItemAt nsp_message.now at item next
+            → is_silent self.old.phase item ≡ true → IsOk result }
     {
         let (item, next) = item_at(nsp_message, at);
         self.serve_read(item, next)

@@ -16,7 +16,6 @@ use Rattle.dap_accessing.specs.declared.pending.Pending.TheVariants as pending
 use Rattle.dap_accessing.specs.Inner.Hears.{pending_of}
 use Rattle.dap_accessing.specs.Inner.Gathers.{gather_opened, gather_attributes, gather_batch, gather_stored, gather}
 use Rattle.dap_accessing.proofs.Gathering.{asked_gathered}
-use Rattle.dap_accessing.specs.Steps.{ReportsGrow}
 
 -- the hearing with more answers: the same with these behind it, unless it waits
 abbrev pub Stays : Hearing → Hearing → List Item → Type 0
@@ -143,7 +142,7 @@ grow-by requests more Waits later s rest = (told_by requests later, refl)
 grow-by requests more Unexpected later s rest = ([], ap (told_by requests) s)
 grow-by requests more (Reports done left) later s rest = let r = rest left in (r.0, ap (told_by requests) s ∙ ap (λ l. done ∷ l) r.1)
 
-pub reports_grow : ReportsGrow
+pub reports_grow : (requests : List Request) (answers more : List Item) → (reports : List Report) × (Told requests (answers ++ more) ≡ Told requests answers ++ reports)
 reports_grow [] answers more = ([], refl)
 reports_grow (request ∷ requests) answers more =
     let g = grow-by requests more (hear request answers) (hear request (answers ++ more)) (stays request answers more) (λ rest. reports_grow requests rest more) in

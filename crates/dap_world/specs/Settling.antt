@@ -108,10 +108,6 @@ FinishFault f = (f ≡ fault.NoMemory) ⊎ (f ≡ fault.Exhausted)
 abbrev pub IsFresh : State → Type 0
 IsFresh s = (s.requests ≡ []) × (s.from_a.wire ≡ []) × (s.from_b.wire ≡ [])
 
--- some events lead from the one state to the other
-abbrev pub RunsTo : State → State → Type 0
-RunsTo old new = (events : List Event) × Runs old events new
-
 -- these requests were asked, each was admissible after those before it, and each has its report
 pub record AllDone (requests : List Request) (new : State) : Type 0 where
   pub asked : new.requests ≡ requests

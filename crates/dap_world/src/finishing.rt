@@ -23,8 +23,8 @@ impl World {
     ghost use Rattle.dap_world.specs.Machine.{MayEmit, answers_read, reported, sends, sent_by};
     ghost use Rattle.dap_world.specs.Headline.{HeadlineOf};
     ghost use Rattle.dap_world.specs.Inner.Worlds.{IsWorld};
-    ghost use Rattle.dap_world.specs.Settling.{AllDone, Finished, FinishFault, IsEmpty, IsFinished, IsFresh, RanTo, RunsTo, StopsAtRequest, unacked};
-    ghost use Rattle.dap_world.specs.Inner.Settling.{AreEmpty, AreSettled, Brought, BroughtAll, Emptied, Halts, IsOneDue, IsServed, NothingSent, PostedAll, ReadEvery, ReadPart, SameBut, SentBoth, ServedEvery, SettledBoth};
+    ghost use Rattle.dap_world.specs.Settling.{AllDone, Finished, FinishFault, IsEmpty, IsFinished, IsFresh, RanTo, StopsAtRequest, unacked};
+    ghost use Rattle.dap_world.specs.Inner.Settling.{AreEmpty, AreSettled, Brought, BroughtAll, Emptied, Halts, IsOneDue, IsServed, NothingSent, PostedAll, ReadEvery, ReadPart, RunsTo, SameBut, SentBoth, ServedEvery, SettledBoth};
     ghost use Rattle.dap_world.specs.declared.event.End.TheVariants.{A, B};
     ghost use Rattle.dap_world.specs.declared.event.WorldFault.TheVariants.{NoMemory};
 
@@ -286,7 +286,7 @@ impl World {
         requires { IsFresh self.old }
         ensures ok { OnOk result (AllDone requests.now self.new) }
         ensures err { IfErr result (λ stop. StopsAtRequest requests.now self.new stop) }
-        ensures ran { RunsTo self.old self.new }
+        ensures ran { (events : List TheEvent) × Runs self.old events self.new }
         ensures nothing { requests.now ≡ [] → IsOk result × (self.new ≡ self.old) }
         ensures headline { HeadlineOf self.new }
     {

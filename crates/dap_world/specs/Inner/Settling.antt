@@ -1,7 +1,9 @@
 -- The parts of a stretch without loss.
 use Rattle.std.specs.Prelude.{◌≡◌, ℕ, ◌+◌, ◌*◌, ◌≤◌, ◌<◌, List, [], ◌++◌, length, Some, None, slice_get}
 use Rattle.dap_world.specs.declared.event.End.{End}
+use Rattle.dap_world.specs.declared.event.Event.{Event}
 use Rattle.dap_world.specs.declared.event.WorldFault.{WorldFault}
+use Rattle.dap_world.specs.Runs.{Runs}
 use Rattle.dap_world.specs.Machine.{State, Sending, MayEmit, next_to_read, posted, reported, sends, sent_by, other, with_sends}
 use Rattle.dap_msg.specs.Message.{Message}
 use Rattle.dap_world.specs.Settling.{FinishFault, IsEmpty, RanBy, RanTo, unacked}
@@ -166,3 +168,9 @@ pub record ReadPart (old new : State) : Type 0 where
   pub more : old.read ≤ new.read
   pub next : Message
   pub there : next_to_read new ≡ Some next
+
+-- ---- Requests.
+
+-- some events lead from the one state to the other
+abbrev pub RunsTo : State → State → Type 0
+RunsTo old new = (events : List Event) × Runs old events new
