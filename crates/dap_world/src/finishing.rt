@@ -18,10 +18,12 @@ impl WorldFault {
 }
 
 impl World {
-    ghost use Rattle.std.specs.Prelude.{◌≡◌, ◌≢◌, ◌<◌, ◌^◌, [], length, IfOk, IfErr, IsOk, OnOk, OnErr};
+    ghost use Rattle.std.specs.Prelude.{◌≡◌, ◌≢◌, ◌<◌, ◌^◌, List, [], length, IfOk, IfErr, IsOk, OnOk, OnErr};
     ghost use Rattle.dap_accessing.specs.Told.{due_after, Wrong};
     ghost use Rattle.dap_world.specs.Machine.{MayEmit, answers_read, reported, sends, sent_by};
     ghost use Rattle.dap_world.specs.Headline.{HeadlineOf};
+    ghost use Rattle.dap_world.specs.Runs.{Runs};
+    ghost use Rattle.dap_world.specs.declared.event.Event.{Event as TheEvent};
     ghost use Rattle.dap_world.specs.Inner.Worlds.{IsWorld};
     ghost use Rattle.dap_world.specs.Settling.{AllDone, Finished, FinishFault, IsEmpty, IsFinished, IsFresh, RanTo, StopsAtRequest, unacked};
     ghost use Rattle.dap_world.specs.Inner.Settling.{AreEmpty, AreSettled, Brought, BroughtAll, Emptied, Halts, IsOneDue, IsServed, NothingSent, PostedAll, ReadEvery, ReadPart, RunsTo, SameBut, SentBoth, ServedEvery, SettledBoth};
