@@ -28,19 +28,23 @@ use Rattle.rec_file.proofs.ForCallers.{AreShort, records_short, body_fits}
 use Rattle.dap_accessed.specs.declared.phase.OpenFile.{OpenFile}
 use Rattle.dap_accessed.specs.declared.verbs.Verb.{Verb}
 use Rattle.dap_accessed.specs.declared.verbs.Verb.TheVariants as verbs
-use Rattle.dap_accessed.specs.Lists.{leading, from_failing}
+use Rattle.std.specs.Prelude.{◌==◌, take_while, drop}
+use Rattle.std.specs.List.{prefix_len, AllByRecursion}
+use Rattle.std.proofs.lemmas.List.Sums.{take_while-cons}
+use Rattle.dap_msg.specs.Exchange.{config_of, limit_of}
+use Rattle.dap_accessed.specs.Standing.{enters}
 use Rattle.dap_accessed.specs.Standing.{place_of, file_at, the_file, Place, Fresh, Ready, Opened, Connected, Store, Stopped, Standing, Scene, Effect}
 use Rattle.dap_accessed.specs.Past.{Memory, looked_back, next_ordinal}
-use Rattle.dap_accessed.specs.Replies.{bare_status, reason_status, sync_status, reason_of, refusal_status, done_status, record_status, too_large, end_of_file, completed, org_number, format_number, opened_with}
-use Rattle.dap_accessed.specs.Accesses.{open_file, create_file, access_as, access_kind, AccessKind, Opening, Creating, NoAccess, complete, completing, Completing, Closing, Purging, EndingStream, Skipping, NoCompletion}
-use Rattle.dap_accessed.specs.Records.{at_number, verb_of, get_pick, record_given, record_too_large, got, record_got, refused, Change, Putting, Updating, changed, fits_limit, filedata_of}
-use Rattle.dap_accessed.specs.Transfers.{fetch, fetch_ends, going, Going, Again, Skip, Abort, Resume, NoGoing, continue_fetch, store_one, drop_one, stored_answers, continue_store}
+use Rattle.dap_accessed.specs.Replies.{bare_status, reason_status, sync_status, reason_of, refusal_status, done_status, record_status, too_large, completed, org_number, format_number, opened_with}
+use Rattle.dap_accessed.specs.Accesses.{open_file, create_file, access_file, complete}
+use Rattle.dap_accessed.specs.Records.{at_number, uncurrent, verb_of, get_pick, got, record_got, Change, Putting, Updating, changed, fits_limit, filedata_of}
+use Rattle.dap_accessed.specs.Transfers.{fetch, fetch_ends, continue_refused, continue_fetch, store_one, stored_answers, continue_store}
 use Rattle.dap_msg.specs.Exchange.{is_too_small}
-use Rattle.dap_accessed.specs.Exchange.{Begun, Turn, sync, config_refused, configured, control_status, control_opened, control_connected, turn_in, turn_of, effect_with}
+use Rattle.dap_accessed.specs.Exchange.{Begun, Turn, control_status, control_opened, control_connected, turn_in, turn_of, effect_with}
 use Rattle.dap_accessed.specs.Groups.{Answers, scene_of, stands_after, added}
-use Rattle.dap_accessed.specs.Sound.{AllFiles, AreRead, IsOpenAt, IsSound}
+use Rattle.dap_accessed.specs.Sound.{IsOpenAt, IsSound}
 use Rattle.dap_accessed.proofs.Kept.{both}
-use Rattle.dap_accessed.proofs.SoundTables.{file-there}
+use Rattle.dap_accessed.proofs.SoundTables.{AllFiles, file-there}
 use Rattle.dap_accessed.proofs.SoundGroups.{Good, good-memory, place-within}
 use Rattle.dap_accessed.proofs.SoundLists.{all-sound}
 use Rattle.dap_accessed.proofs.Writing.{org_small, format_small}
@@ -118,13 +122,14 @@ module _ (limit : ℕ) (least : short_answer ≤ limit) where
   sendable_more (m ∷ one) two h k = (h.0, sendable_more one two h.1 k)
 
   leads : (r : ℕ × List ℕ) (rs : List (ℕ × List ℕ)) (b : Bool) → fits_limit limit r ≡ b → length r.1 ≤ longest_record
-      → AreSendable limit (map filedata_of (leading (fits_limit limit) rs)) → AreSendable limit (map filedata_of (if b then r ∷ leading (fits_limit limit) rs else []))
+      → AreSendable limit (map filedata_of (take_while (fits_limit limit) rs)) → AreSendable limit (map filedata_of (if b then r ∷ take_while (fits_limit limit) rs else []))
   leads r rs true e h k = (recorded r h e, k)
   leads r rs false e h k = tt
 
-  all_recorded : (rs : List (ℕ × List ℕ)) → AreShort rs → AreSendable limit (map filedata_of (leading (fits_limit limit) rs))
+  all_recorded : (rs : List (ℕ × List ℕ)) → AreShort rs → AreSendable limit (map filedata_of (take_while (fits_limit limit) rs))
   all_recorded [] h = tt
-  all_recorded (r ∷ rs) h = leads r rs (fits_limit limit r) refl h.0 (all_recorded rs h.1)
+  all_recorded (r ∷ rs) h =
+      subst (λ (l : List (ℕ × List ℕ)). AreSendable limit (map filedata_of l)) (sym (take_while-cons (fits_limit limit) r rs)) (leads r rs (fits_limit limit r) refl h.0 (all_recorded rs h.1))
 
 module _ (scene : Scene) (own : scene.own < 2 ^ 16) (files : AllFiles scene.files) (least : short_answer ≤ scene.limit) where
   abbrev Sends : Effect → Type 0
@@ -144,17 +149,21 @@ module _ (scene : Scene) (own : scene.own < 2 ^ 16) (files : AllFiles scene.file
   creating name fac None None g = (reasoned scene.limit least 0x4000 11 [] (lit< tt) (lit≤ tt), tt)
   creating name fac None (Some shape) g = opened scene.limit least shape g
 
-  accessing : (kind : AccessKind) (a : AccessFields) (shape : Option Shape) → Good shape → Sends (access_as kind scene a shape)
-  accessing Opening a shape g = opening a.fac (place_of a.name scene.files) (place-within a.name scene.files)
-  accessing Creating a shape g = creating a.name a.fac (place_of a.name scene.files) shape g
-  accessing NoAccess a shape g = (bare scene.limit least 0x20C0 (lit< tt), tt)
+  either : (b : Bool) (one two : Effect) → Sends one → Sends two → Sends (if b then one else two)
+  either true one two h k = h
+  either false one two h k = k
 
-  completing-sends : (kind : Completing) (o : OpenFile) (place : Place) (ends : Effect) → Sends ends → Sends (complete kind scene o place ends)
-  completing-sends Closing o place ends h = (ended scene.limit least, tt)
-  completing-sends Purging o place ends h = (ended scene.limit least, tt)
-  completing-sends EndingStream o place ends h = h
-  completing-sends Skipping o place ends h = (bare scene.limit least 0x21C0 (lit< tt), tt)
-  completing-sends NoCompletion o place ends h = (bare scene.limit least 0x91C0 (lit< tt), tt)
+  accessing : (a : AccessFields) (shape : Option Shape) → Good shape → Sends (access_file scene a shape)
+  accessing a shape g =
+      either (a.func == codes.accfunc.opening) _ _ (opening a.fac (place_of a.name scene.files) (place-within a.name scene.files))
+      (either (a.func == codes.accfunc.creating) _ _ (creating a.name a.fac (place_of a.name scene.files) shape g) (bare scene.limit least 0x20C0 (lit< tt), tt))
+
+  completing-sends : (func : ℕ) (o : OpenFile) (place : Place) (ends : Effect) → Sends ends → Sends (complete func scene o place ends)
+  completing-sends func o place ends h =
+      either (func == codes.cmpfunc.close) _ _ (ended scene.limit least, tt)
+      (either (func == codes.cmpfunc.purge) _ _ (ended scene.limit least, tt)
+      (either (func == codes.cmpfunc.end_of_stream) _ _ h
+      (either (func == codes.cmpfunc.skip) _ _ (bare scene.limit least 0x21C0 (lit< tt), tt) (bare scene.limit least 0x91C0 (lit< tt), tt))))
 
   -- ---- Records.
 
@@ -166,7 +175,7 @@ module _ (scene : Scene) (own : scene.own < 2 ^ 16) (files : AllFiles scene.file
     body-short n None e = lit≤ tt
     body-short n (Some body) e = body_fits (the_file scene.files o) n body file-is (sym e)
 
-    finding : (fits : Bool) (before after : StreamVal) (r : ℕ × List ℕ) → length r.1 ≤ longest_record → fits_limit scene.limit r ≡ fits → Sends (if fits then record_given scene o after r else record_too_large scene o before)
+    finding : (fits : Bool) (before after : StreamVal) (r : ℕ × List ℕ) → length r.1 ≤ longest_record → fits_limit scene.limit r ≡ fits → Sends (if fits then enters scene (Connected o after) (filedata_of r ∷ []) else enters scene (Connected o (uncurrent before)) (too_large ∷ []))
     finding true before after r h e = (recorded scene.limit least r h e, tt)
     finding false before after r h e = (reasoned scene.limit least 0x5000 10 [] (lit< tt) (lit≤ tt), tt)
 
@@ -186,43 +195,37 @@ module _ (scene : Scene) (own : scene.own < 2 ^ 16) (files : AllFiles scene.file
     -- ---- Transfers.
 
     fetch-ends : (s : StreamVal) (given rest : List (ℕ × List ℕ)) → AreSendable scene.limit (map filedata_of given) → Sends (fetch_ends scene o s given rest)
-    fetch-ends s given [] h = sendable_more scene.limit least (map filedata_of given) (end_of_file ∷ []) h (bare scene.limit least 0x5027 (lit< tt), tt)
+    fetch-ends s given [] h = sendable_more scene.limit least (map filedata_of given) (bare_status codes.end_of_file ∷ []) h (bare scene.limit least 0x5027 (lit< tt), tt)
     fetch-ends s given (large ∷ more) h = sendable_more scene.limit least (map filedata_of given) (too_large ∷ []) h (reasoned scene.limit least 0x5000 10 [] (lit< tt) (lit≤ tt), tt)
 
     fetching : (s : StreamVal) → Sends (fetch scene o s)
     fetching s =
         let due = records_from (the_file scene.files o).records s.next in
-        fetch-ends s (leading (fits_limit scene.limit) due) (from_failing (fits_limit scene.limit) due) (all_recorded scene.limit least due (records_short (the_file scene.files o) s.next file-is))
+        fetch-ends s (take_while (fits_limit scene.limit) due) (drop (prefix_len (fits_limit scene.limit) due) due) (all_recorded scene.limit least due (records_short (the_file scene.files o) s.next file-is))
 
-    fetching-if : (permitted : Bool) (s : StreamVal) → Sends (if permitted then fetch scene o s else refused scene o s NotPermitted)
-    fetching-if true s = fetching s
-    fetching-if false s = (refusing scene.limit least NotPermitted [] (lit≤ tt), tt)
+    not-continued : (known : Bool) → IsSendable scene.limit (bare_status (if known then codes.unsupported codes.types.contran else codes.invalid codes.types.contran))
+    not-continued true = bare scene.limit least 0x2140 (lit< tt)
+    not-continued false = bare scene.limit least 0x9140 (lit< tt)
 
-    continuing : (g : Going) (s : StreamVal) → Sends (continue_fetch g scene o s)
-    continuing Again s = fetching s
-    continuing Skip s = fetching (at_number (s.next + 1) s)
-    continuing Abort s = (bare scene.limit least 0x5027 (lit< tt), tt)
-    continuing Resume s = (bare scene.limit least 0x2140 (lit< tt), tt)
-    continuing NoGoing s = (bare scene.limit least 0x9140 (lit< tt), tt)
+    continuing : (func : ℕ) (s : StreamVal) → Sends (continue_fetch func scene o s)
+    continuing func s =
+        either (func == codes.confunc.again) _ _ (fetching s)
+        (either (func == codes.confunc.skip) _ _ (fetching (at_number (s.next + 1) s))
+        (either (func == codes.confunc.abort) _ _ (bare scene.limit least 0x5027 (lit< tt), tt) (not-continued (func == codes.confunc.resume), tt)))
 
     stored : (ordinal : ℕ) (reply : Result ℕ Refusal) → AreSendable scene.limit (stored_answers ordinal reply)
     stored ordinal (Ok n) = tt
     stored ordinal (Err refusal) = (refusing scene.limit least refusal (four_bytes ordinal) (lit≤ tt), tt)
 
-    storing : (dropping : Bool) (ordinal : ℕ) (s : StreamVal) (body : List ℕ) → Sends (if dropping then drop_one scene o s else store_one ordinal scene o s body)
-    storing true ordinal s body = tt
-    storing false ordinal s body = stored (next_ordinal ordinal) (act (put_record None body) (the_file scene.files o) s).reply
+    storing : (ordinal : ℕ) (s : StreamVal) (body : List ℕ) → Sends (store_one ordinal scene o s body)
+    storing ordinal s body = stored (next_ordinal ordinal) (act (put_record None body) (the_file scene.files o) s).reply
 
-    resuming : (g : Going) (s : StreamVal) → Sends (continue_store g scene o s)
-    resuming Again s = (bare scene.limit least 0x9140 (lit< tt), tt)
-    resuming Skip s = tt
-    resuming Abort s = (bare scene.limit least 0x9140 (lit< tt), tt)
-    resuming Resume s = (bare scene.limit least 0x2140 (lit< tt), tt)
-    resuming NoGoing s = (bare scene.limit least 0x9140 (lit< tt), tt)
+    resumed : (skip : Bool) (func : ℕ) → AreSendable scene.limit (if skip then [] else continue_refused func ∷ [])
+    resumed true func = tt
+    resumed false func = (not-continued (func == codes.confunc.resume), tt)
 
-    resuming-if : (dropping : Bool) (s : StreamVal) (func : ℕ) → Sends (if dropping then continue_store (going func) scene o s else sync scene (Store o s) (Contran func))
-    resuming-if true s func = resuming (going func) s
-    resuming-if false s func = (bare scene.limit least (codes.out_of_place codes.types.contran) (lit< tt), tt)
+    resuming : (func : ℕ) (s : StreamVal) → Sends (continue_store func scene o s)
+    resuming func s = resumed (func == codes.confunc.skip) func
 
     -- ---- The places.
 
@@ -232,7 +235,7 @@ module _ (scene : Scene) (own : scene.own < 2 ^ 16) (files : AllFiles scene.file
 
     connected-control : (verb : Verb) (s : StreamVal) (c : ControlFields) → SendsIn (control_connected verb scene o s c)
     connected-control verbs.Get s c = picked (get_pick (the_file scene.files o) s c) s
-    connected-control verbs.Fetch s c = fetching-if s.rights.get s
+    connected-control verbs.Fetch s c = either s.rights.get _ _ (fetching s) (refusing scene.limit least NotPermitted [] (lit≤ tt), tt)
     connected-control verbs.Put s c = tt
     connected-control verbs.Update s c = tt
     connected-control verbs.Store s c = tt
@@ -245,7 +248,7 @@ module _ (scene : Scene) (own : scene.own < 2 ^ 16) (files : AllFiles scene.file
     with-second change s (Whole (Filedata r body)) h = second change s body
     with-second change s (Whole message) h = (out scene.limit least message h, tt)
 
-  configuring : (small : Bool) (bufsiz : ℕ) → Sends (if small then config_refused scene else configured scene bufsiz)
+  configuring : (small : Bool) (bufsiz : ℕ) → AreSendable scene.limit (if small then enters scene Fresh (bare_status (codes.invalid codes.types.config) ∷ []) else enters (record scene { limit = limit_of bufsiz }) Ready (config_of scene.own ∷ [])).answers
   configuring true bufsiz = (bare scene.limit least 0x9040 (lit< tt), tt)
   configuring false bufsiz = (short scene.limit least _ (answers_fit.config scene.own own), tt)
 
@@ -255,22 +258,22 @@ module _ (scene : Scene) (own : scene.own < 2 ^ 16) (files : AllFiles scene.file
   of-message memory g Fresh h m t = (out scene.limit least m t, tt)
   of-message memory g Ready h (Other _ _) t = tt
   of-message memory g Ready h (Attrib _) t = tt
-  of-message memory g Ready h (Access a) t = accessing (access_kind a.func) a memory.shape g
+  of-message memory g Ready h (Access a) t = accessing a memory.shape g
   of-message memory g Ready h m t = (out scene.limit least m t, tt)
   of-message memory g (Opened o) h (Control c) t = opened-control o h (verb_of c)
-  of-message memory g (Opened o) h (Accomp c) t = completing-sends (completing c.func) o (Opened o) _ (out scene.limit least (Accomp c) t, tt)
+  of-message memory g (Opened o) h (Accomp c) t = completing-sends c.func o (Opened o) _ (out scene.limit least (Accomp c) t, tt)
   of-message memory g (Opened o) h m t = (out scene.limit least m t, tt)
   of-message memory g (Connected o s) h (Control c) t = connected-control o h (verb_of c) s c
-  of-message memory g (Connected o s) h (Accomp c) t = completing-sends (completing c.func) o (Connected o s) _ (ended scene.limit least, tt)
+  of-message memory g (Connected o s) h (Accomp c) t = completing-sends c.func o (Connected o s) _ (ended scene.limit least, tt)
   of-message memory g (Connected o s) h m t = (out scene.limit least m t, tt)
   of-message memory g (Store o s) h (Control c) t = (misplaced scene.limit least (verb_of c), tt)
-  of-message memory g (Store o s) h (Filedata r body) t = storing o h memory.dropping memory.ordinal s body
-  of-message memory g (Store o s) h (Contran func) t = resuming-if o h memory.dropping s func
-  of-message memory g (Store o s) h (Accomp c) t = completing-sends (completing c.func) o (Store o s) _ (ended scene.limit least, tt)
+  of-message memory g (Store o s) h (Filedata r body) t = either memory.dropping _ _ tt (storing o h memory.ordinal s body)
+  of-message memory g (Store o s) h (Contran func) t = either memory.dropping _ _ (resuming o h func s) (bare scene.limit least (codes.out_of_place codes.types.contran) (lit< tt), tt)
+  of-message memory g (Store o s) h (Accomp c) t = completing-sends c.func o (Store o s) _ (ended scene.limit least, tt)
   of-message memory g (Store o s) h m t = (out scene.limit least m t, tt)
   of-message memory g (Stopped o s) h (Control c) t = (misplaced scene.limit least (verb_of c), tt)
-  of-message memory g (Stopped o s) h (Contran func) t = continuing o h (going func) s
-  of-message memory g (Stopped o s) h (Accomp c) t = completing-sends (completing c.func) o (Stopped o s) _ (ended scene.limit least, tt)
+  of-message memory g (Stopped o s) h (Contran func) t = continuing o h func s
+  of-message memory g (Stopped o s) h (Accomp c) t = completing-sends c.func o (Stopped o s) _ (ended scene.limit least, tt)
   of-message memory g (Stopped o s) h m t = (out scene.limit least m t, tt)
 
   of-item : (memory : Memory) → Good memory.shape → (place : Place) → IsOpenAt scene.files place → (item : Item) → HasShortType item → SendsIn (turn_of scene memory place item)
@@ -302,7 +305,7 @@ fit-both : (one two : List Message) → AllFit one → AllFit two → AllFit (on
 fit-both [] two h k = k
 fit-both (m ∷ one) two h k = (h.0, fit-both one two h.1 k)
 
-fit-on : (own : ℕ) → own < 2 ^ 16 → (before more : List Item) → AllFit (Answers own before) → AreRead more → AllFit (Answers own (before ++ more))
+fit-on : (own : ℕ) → own < 2 ^ 16 → (before more : List Item) → AllFit (Answers own before) → AllByRecursion IsRead more → AllFit (Answers own (before ++ more))
 fit-on own small before [] h r = subst (λ (l : List Item). AllFit (Answers own l)) (sym (append-nil before)) h
 fit-on own small before (item ∷ more) h r =
     let here = added own before item in
@@ -310,5 +313,5 @@ fit-on own small before (item ∷ more) h r =
     let one : AllFit (Answers own (before ++ item ∷ [])) = subst AllFit (sym (Answers-more own before item)) (fit-both (Answers own before) here h fit) in
     subst (λ (l : List Item). AllFit (Answers own l)) (append_assoc before (item ∷ []) more) (fit-on own small (before ++ item ∷ []) more one r.1)
 
-pub all-fit : (own : ℕ) → own < 2 ^ 16 → (items : List Item) → AreRead items → AllFit (Answers own items)
+pub all-fit : (own : ℕ) → own < 2 ^ 16 → (items : List Item) → AllByRecursion IsRead items → AllFit (Answers own items)
 all-fit own small items r = fit-on own small [] items tt r

@@ -12,18 +12,32 @@ use Rattle.rec_file.specs.Limits.{greatest_number}
 use Rattle.rec_file.specs.Files.{FileVal, Records, records_from}
 use Rattle.rec_file.specs.Acts.{StreamVal}
 use Rattle.dap_accessed.specs.declared.phase.OpenFile.{OpenFile}
-use Rattle.dap_accessed.specs.Lists.{leading, from_failing, behind}
+use Rattle.std.specs.Prelude.{fold, take_while, drop}
+use Rattle.std.specs.List.{prefix_len}
+use Rattle.std.proofs.lemmas.List.Sums.{take_while-cons}
+use Rattle.std.proofs.Common.{suc}
+use Rattle.dap_msg.specs.Codes as codes
 use Rattle.dap_accessed.specs.Standing.{Scene, Effect, enters, Connected, Stopped, the_file}
-use Rattle.dap_accessed.specs.Replies.{too_large, end_of_file}
+use Rattle.dap_accessed.specs.Replies.{bare_status, too_large}
 use Rattle.dap_accessed.specs.Records.{filedata_of, fits_limit, at_number}
 use Rattle.dap_accessed.specs.Transfers.{fetch, fetch_ends}
 use Rattle.dap_accessed.specs.Inner.Written.{Answered}
 
+-- the records before the first that is too large, and that one and all behind it
+abbrev leading : ℕ → List (ℕ × List ℕ) → List (ℕ × List ℕ)
+leading limit rs = take_while (fits_limit limit) rs
+
+abbrev beyond : ℕ → List (ℕ × List ℕ) → List (ℕ × List ℕ)
+beyond limit rs = drop (prefix_len (fits_limit limit) rs) rs
+
+abbrev behind : ℕ → List (ℕ × List ℕ) → ℕ
+behind n records = fold (λ n r. r.0 + 1) n records
+
 -- These records were given, from n on, and what is left begins at next.
 pub record GoesOn (limit : ℕ) (file : FileVal) (n next : ℕ) (answers : Vec (Vec ℕ)) : Type 0 where
   pub given : List (ℕ × List ℕ)
-  pub leads : leading (fits_limit limit) (records_from file.records n) ≡ given ++ leading (fits_limit limit) (records_from file.records next)
-  pub fails : from_failing (fits_limit limit) (records_from file.records n) ≡ from_failing (fits_limit limit) (records_from file.records next)
+  pub leads : leading limit (records_from file.records n) ≡ given ++ leading limit (records_from file.records next)
+  pub fails : beyond limit (records_from file.records n) ≡ beyond limit (records_from file.records next)
   pub stands : next ≡ behind n given
   pub above : 1 ≤ next
   pub within : next ≤ greatest_number + 1
@@ -33,16 +47,19 @@ behind-more : (n : ℕ) (given : List (ℕ × List ℕ)) (r : ℕ × List ℕ) �
 behind-more n [] r = refl
 behind-more n (s ∷ given) r = behind-more (s.0 + 1) given r
 
-leading-fits : (limit : ℕ) (r : ℕ × List ℕ) (rest : List (ℕ × List ℕ)) → fits_limit limit r ≡ true → leading (fits_limit limit) (r ∷ rest) ≡ r ∷ leading (fits_limit limit) rest
-leading-fits limit r rest e = rw e refl
+leading-fits : (limit : ℕ) (r : ℕ × List ℕ) (rest : List (ℕ × List ℕ)) → fits_limit limit r ≡ true → leading limit (r ∷ rest) ≡ r ∷ leading limit rest
+leading-fits limit r rest e = take_while-cons (fits_limit limit) r rest ∙ ap (λ b. cond b (r ∷ leading limit rest) []) e
 
-failing-fits : (limit : ℕ) (r : ℕ × List ℕ) (rest : List (ℕ × List ℕ)) → fits_limit limit r ≡ true → from_failing (fits_limit limit) (r ∷ rest) ≡ from_failing (fits_limit limit) rest
-failing-fits limit r rest e = rw e refl
+failing-fits : (limit : ℕ) (r : ℕ × List ℕ) (rest : List (ℕ × List ℕ)) → fits_limit limit r ≡ true → beyond limit (r ∷ rest) ≡ beyond limit rest
+failing-fits limit r rest e =
+    let one : prefix_len (fits_limit limit) (r ∷ rest) ≡ 1 + prefix_len (fits_limit limit) rest = ap (λ b. cond b (1 + prefix_len (fits_limit limit) rest) 0) e in
+    let next : prefix_len (fits_limit limit) (r ∷ rest) ≡ suc (prefix_len (fits_limit limit) rest) = one ∙ omega arith in
+    ap (λ n. drop n (r ∷ rest)) next
 
-leading-large : (limit : ℕ) (r : ℕ × List ℕ) (rest : List (ℕ × List ℕ)) → fits_limit limit r ≡ false → leading (fits_limit limit) (r ∷ rest) ≡ []
+leading-large : (limit : ℕ) (r : ℕ × List ℕ) (rest : List (ℕ × List ℕ)) → fits_limit limit r ≡ false → leading limit (r ∷ rest) ≡ []
 leading-large limit r rest e = rw e refl
 
-failing-large : (limit : ℕ) (r : ℕ × List ℕ) (rest : List (ℕ × List ℕ)) → fits_limit limit r ≡ false → from_failing (fits_limit limit) (r ∷ rest) ≡ r ∷ rest
+failing-large : (limit : ℕ) (r : ℕ × List ℕ) (rest : List (ℕ × List ℕ)) → fits_limit limit r ≡ false → beyond limit (r ∷ rest) ≡ r ∷ rest
 failing-large limit r rest e = rw e refl
 
 pub begins : (limit : ℕ) (file : FileVal) (n : ℕ) (answers : Vec (Vec ℕ)) → 1 ≤ n → n ≤ greatest_number + 1 → Answered limit [] answers → GoesOn limit file n n answers
@@ -55,9 +72,9 @@ pub goes_on : (limit : ℕ) (file : FileVal) (n next : ℕ) (old new : Vec (Vec 
 goes_on limit file n next old new r g some fits within a =
     record {
       given = g.given ++ r ∷ [];
-      leads = g.leads ∙ ap (λ l. g.given ++ leading (fits_limit limit) l) some ∙ ap (λ l. g.given ++ l) (leading-fits limit r (records_from file.records (r.0 + 1)) fits)
-          ∙ sym (append_assoc g.given (r ∷ []) (leading (fits_limit limit) (records_from file.records (r.0 + 1))));
-      fails = g.fails ∙ ap (from_failing (fits_limit limit)) some ∙ failing-fits limit r (records_from file.records (r.0 + 1)) fits;
+      leads = g.leads ∙ ap (λ l. g.given ++ leading limit l) some ∙ ap (λ l. g.given ++ l) (leading-fits limit r (records_from file.records (r.0 + 1)) fits)
+          ∙ sym (append_assoc g.given (r ∷ []) (leading limit (records_from file.records (r.0 + 1))));
+      fails = g.fails ∙ ap (beyond limit) some ∙ failing-fits limit r (records_from file.records (r.0 + 1)) fits;
       stands = sym (behind-more n g.given r);
       above = omega arith;
       within = omega (arith, within);
@@ -66,7 +83,7 @@ goes_on limit file n next old new r g some fits within a =
 
 abbrev fetch_of : ℕ → Scene → OpenFile → StreamVal → FileVal → Effect
 fetch_of limit scene opened stream file =
-    fetch_ends scene opened stream (leading (fits_limit limit) (records_from file.records stream.next)) (from_failing (fits_limit limit) (records_from file.records stream.next))
+    fetch_ends scene opened stream (leading limit (records_from file.records stream.next)) (beyond limit (records_from file.records stream.next))
 
 fetched : (scene : Scene) (opened : OpenFile) (stream : StreamVal) (file : FileVal) → file ≡ the_file scene.files opened → fetch scene opened stream ≡ fetch_of scene.limit scene opened stream file
 fetched scene opened stream file e = ap (fetch_of scene.limit scene opened stream) (sym e)
@@ -74,12 +91,12 @@ fetched scene opened stream file e = ap (fetch_of scene.limit scene opened strea
 -- the end of the file
 pub ends_there : (scene : Scene) (opened : OpenFile) (stream : StreamVal) (file : FileVal) (next : ℕ) (answers : Vec (Vec ℕ)) → file ≡ the_file scene.files opened
     → (g : GoesOn scene.limit file stream.next next answers) → records_from file.records next ≡ []
-    → fetch scene opened stream ≡ enters scene (Connected opened (at_number next stream)) (map filedata_of g.given ++ end_of_file ∷ [])
+    → fetch scene opened stream ≡ enters scene (Connected opened (at_number next stream)) (map filedata_of g.given ++ bare_status codes.end_of_file ∷ [])
 ends_there scene opened stream file next answers e g none =
     fetched scene opened stream file e
-    ∙ ap (λ (rest : List (ℕ × List ℕ)). fetch_ends scene opened stream (leading (fits_limit scene.limit) (records_from file.records stream.next)) rest) (g.fails ∙ ap (from_failing (fits_limit scene.limit)) none)
-    ∙ ap (λ (given : List (ℕ × List ℕ)). fetch_ends scene opened stream given []) (g.leads ∙ ap (λ l. g.given ++ leading (fits_limit scene.limit) l) none ∙ append-nil g.given)
-    ∙ ap (λ (n : ℕ). enters scene (Connected opened (at_number n stream)) (map filedata_of g.given ++ end_of_file ∷ [])) (sym g.stands)
+    ∙ ap (λ (rest : List (ℕ × List ℕ)). fetch_ends scene opened stream (leading scene.limit (records_from file.records stream.next)) rest) (g.fails ∙ ap (beyond scene.limit) none)
+    ∙ ap (λ (given : List (ℕ × List ℕ)). fetch_ends scene opened stream given []) (g.leads ∙ ap (λ l. g.given ++ leading scene.limit l) none ∙ append-nil g.given)
+    ∙ ap (λ (n : ℕ). enters scene (Connected opened (at_number n stream)) (map filedata_of g.given ++ bare_status codes.end_of_file ∷ [])) (sym g.stands)
 
 -- a record that is too large
 pub stops_there : (scene : Scene) (opened : OpenFile) (stream : StreamVal) (file : FileVal) (next : ℕ) (answers : Vec (Vec ℕ)) (r : ℕ × List ℕ) (rest : List (ℕ × List ℕ)) → file ≡ the_file scene.files opened
@@ -87,8 +104,8 @@ pub stops_there : (scene : Scene) (opened : OpenFile) (stream : StreamVal) (file
     → fetch scene opened stream ≡ enters scene (Stopped opened (at_number r.0 stream)) (map filedata_of g.given ++ too_large ∷ [])
 stops_there scene opened stream file next answers r rest e g some large =
     fetched scene opened stream file e
-    ∙ ap (λ (rest : List (ℕ × List ℕ)). fetch_ends scene opened stream (leading (fits_limit scene.limit) (records_from file.records stream.next)) rest) (g.fails ∙ ap (from_failing (fits_limit scene.limit)) some ∙ failing-large scene.limit r rest large)
-    ∙ ap (λ (given : List (ℕ × List ℕ)). fetch_ends scene opened stream given (r ∷ rest)) (g.leads ∙ ap (λ l. g.given ++ leading (fits_limit scene.limit) l) some ∙ ap (λ l. g.given ++ l) (leading-large scene.limit r rest large) ∙ append-nil g.given)
+    ∙ ap (λ (rest : List (ℕ × List ℕ)). fetch_ends scene opened stream (leading scene.limit (records_from file.records stream.next)) rest) (g.fails ∙ ap (beyond scene.limit) some ∙ failing-large scene.limit r rest large)
+    ∙ ap (λ (given : List (ℕ × List ℕ)). fetch_ends scene opened stream given (r ∷ rest)) (g.leads ∙ ap (λ l. g.given ++ leading scene.limit l) some ∙ ap (λ l. g.given ++ l) (leading-large scene.limit r rest large) ∙ append-nil g.given)
 
 from_there : (n : ℕ) (es : List (ℕ × List ℕ)) (r : ℕ × List ℕ) (rest : List (ℕ × List ℕ)) → filter (λ (e : ℕ × List ℕ). nat_le n e.0) es ≡ r ∷ rest → n ≤ r.0
 from_there n [] r rest is = cc

@@ -7,7 +7,6 @@ use Rattle.dap_msg.specs.Exchange.{limit_of, greatest_message, number_of}
 use Rattle.dap_msg.specs.Items.{Item, Whole, Malformed}
 use Rattle.rec_file.specs.declared.shapes.Shape.{Shape}
 use Rattle.rec_file.specs.declared.refusals.Refusal.{Refusal}
-use Rattle.rec_file.specs.declared.refusals.Refusal.TheVariants.{NotPermitted}
 use Rattle.rec_file.specs.declared.picks.Pick.{Pick}
 use Rattle.std.specs.Prelude.{◌&&◌, nat_le}
 use Rattle.std.proofs.Common.{cond}
@@ -27,20 +26,24 @@ use Rattle.rec_file.proofs.ForCallers.{IsFile-empty}
 use Rattle.dap_accessed.specs.declared.phase.OpenFile.{OpenFile}
 use Rattle.dap_accessed.specs.declared.verbs.Verb.{Verb}
 use Rattle.dap_accessed.specs.declared.verbs.Verb.TheVariants as verbs
-use Rattle.dap_accessed.specs.Lists.{leading, from_failing}
-use Rattle.dap_accessed.specs.Standing.{Files, place_of, with_file, without_file, the_file, Place, Fresh, Ready, Opened, Connected, Store, Stopped, Group, Standing, Scene, Effect, start}
+use Rattle.std.specs.Prelude.{◌==◌, take_while, drop}
+use Rattle.std.specs.List.{prefix_len}
+use Rattle.dap_msg.specs.Codes as codes
+use Rattle.dap_msg.specs.Exchange.{config_of}
+use Rattle.dap_accessed.specs.Replies.{bare_status}
+use Rattle.dap_accessed.specs.Standing.{Files, place_of, with_file, without_file, the_file, Place, Fresh, Ready, Opened, Connected, Store, Stopped, Group, Standing, Scene, Effect, start, enters}
 use Rattle.dap_accessed.specs.Past.{Memory, looked_back, shape_of, kept_attributes}
-use Rattle.dap_accessed.specs.Accesses.{open_file, create_file, access_as, access_kind, AccessKind, Opening, Creating, NoAccess, complete, completing, Completing, Closing, Purging, EndingStream, Skipping, NoCompletion}
-use Rattle.dap_accessed.specs.Records.{at_number, verb_of, get_pick, record_given, record_too_large, got, record_got, refused, settled, Change, Putting, Updating, changed, fits_limit}
-use Rattle.dap_accessed.specs.Transfers.{fetch, fetch_ends, going, Going, Again, Skip, Abort, Resume, NoGoing, continue_fetch, store_one, drop_one, continue_store}
+use Rattle.dap_accessed.specs.Accesses.{open_file, create_file, access_file, complete}
+use Rattle.dap_accessed.specs.Records.{at_number, verb_of, get_pick, got, record_got, settled, Change, Putting, Updating, changed, fits_limit}
+use Rattle.dap_accessed.specs.Transfers.{fetch, fetch_ends, continue_fetch, store_one}
 use Rattle.dap_msg.specs.Exchange.{is_too_small}
-use Rattle.dap_accessed.specs.Exchange.{Begun, Turn, Does, Begins, sync, config_refused, configured, control_opened, control_connected, turn_in, turn_of, effect_with}
+use Rattle.dap_accessed.specs.Exchange.{Begun, Turn, Does, Begins, control_opened, control_connected, turn_in, turn_of, effect_with}
 use Rattle.dap_accessed.specs.Groups.{scene_of, turn_at, after_two}
-use Rattle.dap_accessed.specs.Sound.{AllFiles, AreDistinct, IsOpenAt, IsSoundAt, IsSound}
+use Rattle.dap_accessed.specs.Sound.{AreDistinct, IsOpenAt, IsSoundAt, IsSound}
 use Rattle.dap_accessed.proofs.OneMore.{next_group, more_after}
 use Rattle.dap_accessed.proofs.Tables.{length-with}
 use Rattle.dap_accessed.proofs.Kept.{act-keeps, both}
-use Rattle.dap_accessed.proofs.SoundTables.{file-there, all-with, distinct-with, all-without, distinct-without, all-more, distinct-more, new-name}
+use Rattle.dap_accessed.proofs.SoundTables.{AllFiles, file-there, all-with, distinct-with, all-without, distinct-without, all-more, distinct-more, new-name}
 
 -- ---- Shapes, limits and places.
 
@@ -145,32 +148,31 @@ module _ (scene : Scene) (files : AllFiles scene.files) (distinct : AreDistinct 
         most = most;
       }
 
-  accessing : (kind : AccessKind) (a : AccessFields) (shape : Option Shape) → Good shape → Leaves (access_as kind scene a shape)
-  accessing Opening a shape g = opening a.fac a.name (place_of a.name scene.files) (place-within a.name scene.files)
-  accessing Creating a shape g = creating a.name a.fac (place_of a.name scene.files) shape refl g
-  accessing NoAccess a shape g = entering Ready tt
+  either : (b : Bool) (one two : Effect) → Leaves one → Leaves two → Leaves (if b then one else two)
+  either true one two h k = h
+  either false one two h k = k
+
+  accessing : (a : AccessFields) (shape : Option Shape) → Good shape → Leaves (access_file scene a shape)
+  accessing a shape g =
+      either (a.func == codes.accfunc.opening) _ _ (opening a.fac a.name (place_of a.name scene.files) (place-within a.name scene.files))
+      (either (a.func == codes.accfunc.creating) _ _ (creating a.name a.fac (place_of a.name scene.files) shape refl g) (entering Ready tt))
 
   purging : (o : OpenFile) (new : Bool) → IsSoundAt (if new then without_file o.at scene.files else scene.files) scene.limit Ready
   purging o true = record { files = all-without scene.files o.at files; distinct = distinct-without scene.files o.at distinct; opened = tt; least = least; most = most }
   purging o false = entering Ready tt
 
-  completed-soundly : (kind : Completing) (o : OpenFile) (place : Place) (ends : Effect) → IsOpenAt scene.files place → Leaves ends → Leaves (complete kind scene o place ends)
-  completed-soundly Closing o place ends h e = entering Ready tt
-  completed-soundly Purging o place ends h e = purging o o.is_new
-  completed-soundly EndingStream o place ends h e = e
-  completed-soundly Skipping o place ends h e = entering place h
-  completed-soundly NoCompletion o place ends h e = entering place h
+  completed-soundly : (func : ℕ) (o : OpenFile) (place : Place) (ends : Effect) → IsOpenAt scene.files place → Leaves ends → Leaves (complete func scene o place ends)
+  completed-soundly func o place ends h e =
+      either (func == codes.cmpfunc.close) _ _ (entering Ready tt)
+      (either (func == codes.cmpfunc.purge) _ _ (purging o o.is_new)
+      (either (func == codes.cmpfunc.end_of_stream) _ _ e (either (func == codes.cmpfunc.skip) _ _ (entering place h) (entering place h))))
 
   -- ---- Records.
 
   module _ (o : OpenFile) (h : o.at < length scene.files) where
-    finding : (fits : Bool) (before after : StreamVal) (r : ℕ × List ℕ) → Leaves (if fits then record_given scene o after r else record_too_large scene o before)
-    finding true before after r = entering (Connected o after) h
-    finding false before after r = entering (Connected o _) h
-
     getting : (reply : Result ℕ Refusal) (before after : StreamVal) → Leaves (got reply scene o before after)
     getting (Err refusal) before after = entering (Connected o _) h
-    getting (Ok n) before after = finding _ before after _
+    getting (Ok n) before after = either _ _ _ (entering (Connected o after) h) (entering (Connected o _) h)
 
     picked : (pick : Result Pick Refusal) (s : StreamVal) → Leaves (record_got pick scene o s)
     picked (Err refusal) s = entering (Connected o _) h
@@ -190,34 +192,17 @@ module _ (scene : Scene) (files : AllFiles scene.files) (distinct : AreDistinct 
     fetching : (s : StreamVal) → Leaves (fetch scene o s)
     fetching s =
         let due = records_from (the_file scene.files o).records s.next in
-        fetch-ends s (leading (fits_limit scene.limit) due) (from_failing (fits_limit scene.limit) due)
+        fetch-ends s (take_while (fits_limit scene.limit) due) (drop (prefix_len (fits_limit scene.limit) due) due)
 
-    fetching-if : (permitted : Bool) (s : StreamVal) → Leaves (if permitted then fetch scene o s else refused scene o s NotPermitted)
-    fetching-if true s = fetching s
-    fetching-if false s = entering (Connected o _) h
+    continuing : (func : ℕ) (s : StreamVal) → Leaves (continue_fetch func scene o s)
+    continuing func s =
+        either (func == codes.confunc.again) _ _ (fetching s)
+        (either (func == codes.confunc.skip) _ _ (fetching (at_number (s.next + 1) s))
+        (either (func == codes.confunc.abort) _ _ (entering (Connected o s) h) (entering (Stopped o s) h)))
 
-    continuing : (g : Going) (s : StreamVal) → Leaves (continue_fetch g scene o s)
-    continuing Again s = fetching s
-    continuing Skip s = fetching (at_number (s.next + 1) s)
-    continuing Abort s = entering (Connected o s) h
-    continuing Resume s = entering (Stopped o s) h
-    continuing NoGoing s = entering (Stopped o s) h
-
-    storing : (dropping : Bool) (ordinal : ℕ) (s : StreamVal) (body : List ℕ) → Leaves (if dropping then drop_one scene o s else store_one ordinal scene o s body)
-    storing true ordinal s body = entering (Store o s) h
-    storing false ordinal s body =
+    storing : (ordinal : ℕ) (s : StreamVal) (body : List ℕ) → Leaves (store_one ordinal scene o s body)
+    storing ordinal s body =
         changing (put_record None body) o s (Store o (act (put_record None body) (the_file scene.files o) s).stream) h (still o (act (put_record None body) (the_file scene.files o) s).file h)
-
-    resuming : (g : Going) (s : StreamVal) → Leaves (continue_store g scene o s)
-    resuming Again s = entering (Store o s) h
-    resuming Skip s = entering (Store o s) h
-    resuming Abort s = entering (Store o s) h
-    resuming Resume s = entering (Store o s) h
-    resuming NoGoing s = entering (Store o s) h
-
-    resuming-if : (dropping : Bool) (s : StreamVal) (func : ℕ) → Leaves (if dropping then continue_store (going func) scene o s else sync scene (Store o s) (Contran func))
-    resuming-if true s func = resuming (going func) s
-    resuming-if false s func = entering (Store o s) h
 
     -- ---- The places.
 
@@ -227,7 +212,7 @@ module _ (scene : Scene) (files : AllFiles scene.files) (distinct : AreDistinct 
 
     connected-control : (verb : Verb) (s : StreamVal) (c : ControlFields) → IsSoundTurn scene (control_connected verb scene o s c)
     connected-control verbs.Get s c = picked (get_pick (the_file scene.files o) s c) s
-    connected-control verbs.Fetch s c = fetching-if s.rights.get s
+    connected-control verbs.Fetch s c = either s.rights.get _ _ (fetching s) (entering (Connected o _) h)
     connected-control verbs.Put s c = h
     connected-control verbs.Update s c = h
     connected-control verbs.Store s c = entering (Store o s) h
@@ -240,7 +225,7 @@ module _ (scene : Scene) (files : AllFiles scene.files) (distinct : AreDistinct 
     with-second change s (Whole (Filedata r body)) = second change s body
     with-second change s (Whole message) = entering (Connected o s) h
 
-  configuring : (small : Bool) (bufsiz : ℕ) → is_too_small bufsiz ≡ small → Leaves (if small then config_refused scene else configured scene bufsiz)
+  configuring : (small : Bool) (bufsiz : ℕ) → is_too_small bufsiz ≡ small → Leaves (if small then enters scene Fresh (bare_status (codes.invalid codes.types.config) ∷ []) else enters (record scene { limit = limit_of bufsiz }) Ready (config_of scene.own ∷ []))
   configuring true bufsiz e = entering Fresh tt
   configuring false bufsiz e =
       record { files = files; distinct = distinct; opened = tt; least = limit-least bufsiz e; most = limit-most bufsiz }
@@ -248,20 +233,20 @@ module _ (scene : Scene) (files : AllFiles scene.files) (distinct : AreDistinct 
   of-message : (memory : Memory) → Good memory.shape → (place : Place) → IsOpenAt scene.files place → (m : Message) → IsSoundTurn scene (turn_in scene memory place m)
   of-message memory g Fresh h (Config c) = configuring (is_too_small c.bufsiz) c.bufsiz refl
   of-message memory g Fresh h m = entering Fresh tt
-  of-message memory g Ready h (Access a) = accessing (access_kind a.func) a memory.shape g
+  of-message memory g Ready h (Access a) = accessing a memory.shape g
   of-message memory g Ready h m = entering Ready tt
   of-message memory g (Opened o) h (Control c) = opened-control o h (verb_of c)
-  of-message memory g (Opened o) h (Accomp c) = completed-soundly (completing c.func) o (Opened o) _ h (entering (Opened o) h)
+  of-message memory g (Opened o) h (Accomp c) = completed-soundly c.func o (Opened o) _ h (entering (Opened o) h)
   of-message memory g (Opened o) h m = entering (Opened o) h
   of-message memory g (Connected o s) h (Control c) = connected-control o h (verb_of c) s c
-  of-message memory g (Connected o s) h (Accomp c) = completed-soundly (completing c.func) o (Connected o s) _ h (entering (Opened o) h)
+  of-message memory g (Connected o s) h (Accomp c) = completed-soundly c.func o (Connected o s) _ h (entering (Opened o) h)
   of-message memory g (Connected o s) h m = entering (Connected o s) h
-  of-message memory g (Store o s) h (Filedata r body) = storing o h memory.dropping memory.ordinal s body
-  of-message memory g (Store o s) h (Contran func) = resuming-if o h memory.dropping s func
-  of-message memory g (Store o s) h (Accomp c) = completed-soundly (completing c.func) o (Store o s) _ h (entering (Opened o) h)
+  of-message memory g (Store o s) h (Filedata r body) = either memory.dropping _ _ (entering (Store o s) h) (storing o h memory.ordinal s body)
+  of-message memory g (Store o s) h (Contran func) = either memory.dropping _ _ (entering (Store o s) h) (entering (Store o s) h)
+  of-message memory g (Store o s) h (Accomp c) = completed-soundly c.func o (Store o s) _ h (entering (Opened o) h)
   of-message memory g (Store o s) h m = entering (Store o s) h
-  of-message memory g (Stopped o s) h (Contran func) = continuing o h (going func) s
-  of-message memory g (Stopped o s) h (Accomp c) = completed-soundly (completing c.func) o (Stopped o s) _ h (entering (Opened o) h)
+  of-message memory g (Stopped o s) h (Contran func) = continuing o h func s
+  of-message memory g (Stopped o s) h (Accomp c) = completed-soundly c.func o (Stopped o s) _ h (entering (Opened o) h)
   of-message memory g (Stopped o s) h m = entering (Stopped o s) h
 
   pub of-item : (memory : Memory) → Good memory.shape → (place : Place) → IsOpenAt scene.files place → (item : Item) → IsSoundTurn scene (turn_of scene memory place item)

@@ -1,13 +1,20 @@
 -- What a change of the table keeps.
 use Rattle.std.proofs.Common.{◌≡◌, ℕ, zero, suc, ◌+◌, ◌<◌, ◌≤◌, not, cond, List, [], ◌∷◌, ◌++◌, length, Some, None, ap, sym, inl, inr, arith}
 use Rattle.std.specs.Prelude.{bytes_eq, ◌≢◌}
-use Rattle.std.specs.List.{prefix_len}
+use Rattle.std.specs.List.{prefix_len, AllByRecursion}
 use Rattle.std.proofs.lemmas.Bool.{cases_Bool, cases_lt, lt-ltb}
 use Rattle.std.proofs.lemmas.Bool.Decides.{not_from_Decides}
 use Rattle.std.proofs.lemmas.Slice.Eq.{bytes_eq-Decides}
 use Rattle.rec_file.specs.Files.{FileVal, IsFile}
 use Rattle.dap_accessed.specs.Standing.{Files, place_of, file_at, with_file, without_file}
-use Rattle.dap_accessed.specs.Sound.{AllFiles, HasNone, AreDistinct}
+use Rattle.dap_accessed.specs.Sound.{AreDistinct}
+
+abbrev pub AllFiles : Files → Type 0
+AllFiles files = AllByRecursion (λ f. IsFile f.1) files
+
+-- no file has this name
+abbrev HasNone : List ℕ → Files → Type 0
+HasNone name files = AllByRecursion (λ f. f.0 ≢ name) files
 
 pub file-there : (files : Files) (at : ℕ) → AllFiles files → at < length files → IsFile (file_at at files)
 file-there [] at h lt = absurd (omega arith)

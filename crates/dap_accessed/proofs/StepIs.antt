@@ -1,30 +1,42 @@
 -- One item more moves what an end keeps as `move` says, and adds the answers that it says.
 use Rattle.std.proofs.Common.{◌≡◌, ℕ, suc, Bool, true, false, List, [], ◌∷◌, ◌++◌, length, Option, Some, None, refl, ap, sym, subst, ◌∙◌, arith}
-use Rattle.std.specs.Prelude.{min, nat_lt, not, ◌==◌, filter, ◌||◌, if◌then◌else◌}
+use Rattle.std.specs.Prelude.{min, nat_lt, not, ◌==◌, filter, filter_map, slice_get, unwrap_or, take_while, ◌||◌, if◌then◌else◌}
 use Rattle.std.specs.List.{list_any}
+use Rattle.std.proofs.lemmas.List.Sums.{take_while-cons}
 use Rattle.dap_msg.specs.Message.{Message, Config, Attrib, Access, Control, Contran, Ack, Accomp, Filedata, Status, Other}
 use Rattle.dap_msg.specs.Items.{Item, Whole, Malformed}
+use Rattle.dap_msg.specs.Exchange.{no_attributes}
 use Rattle.rec_file.specs.declared.shapes.Shape.{Shape}
 use Rattle.rec_file.specs.Acts.{StreamVal}
 use Rattle.dap_accessed.specs.declared.phase.OpenFile.{OpenFile}
 use Rattle.dap_accessed.specs.declared.phase.Phase.{Phase}
 use Rattle.dap_accessed.specs.declared.phase.Phase.TheVariants as phases
-use Rattle.dap_accessed.specs.Lists.{leading}
 use Rattle.dap_accessed.specs.Standing.{Files, Place, Group, Standing, Effect, Fresh, Ready, Opened, Connected, Store, Stopped}
-use Rattle.dap_accessed.specs.Past.{Memory, looked_back, shape_of, kept_attributes, is_dropping, ordinal_so_far, this_store, is_skip, is_filedata, was_refused, greatest_ordinal, next_ordinal}
+use Rattle.dap_accessed.specs.Past.{Memory, looked_back, shape_of, kept_attributes, is_dropping, ordinal_so_far, this_store, is_skip, is_ready, is_store, is_access, is_filedata, attributes_in, since_access, was_refused, greatest_ordinal, next_ordinal}
 use Rattle.dap_accessed.specs.Records.{Change, Putting, Updating}
 use Rattle.dap_accessed.specs.Exchange.{Begun, Turn, Does, Begins, turn_of, effect_with}
 use Rattle.dap_accessed.specs.Groups.{Cut, over, scene_of, turn_at, added, stands_after}
-use Rattle.dap_accessed.specs.Present.{Present, present_of, phase_at, store_phase, StandsAfter}
+use Rattle.dap_accessed.specs.Present.{Present, present_of, phase_at, StandsAfter}
 use Rattle.dap_accessed.specs.Inner.Moves.{Move, move, move_in, between, turns, settles, remembers, plain_memory, store_memory, scene_in, drops_next, ordinal_next}
 use Rattle.dap_accessed.proofs.OneMore.{next_group, next_answers, one_more, answers_of}
 use Rattle.dap_accessed.proofs.Cuts.{present-more, added-is}
 
 -- ---- What counts of the past after a group.
 
+abbrev store_phase : (dropping : Bool) → OpenFile → StreamVal → ℕ → Phase
+store_phase dropping o s ordinal = if dropping then phases.Dropping o s ordinal else phases.Storing o s ordinal
+
 module _ (past : List Group) where
   abbrev group_of : Place → Item → List Message → Group
   group_of place item answers = record { place = place; first = item; answers = answers }
+
+  -- the groups in Ready since an Access, with one more
+  shape-more : (item : Item) (answers : List Message) →
+      shape_of (kept_attributes (group_of Ready item answers ∷ past))
+      ≡ shape_of (unwrap_or (slice_get (filter_map (λ (g : Group). attributes_in g.first) (if not (is_access item) then group_of Ready item answers ∷ since_access past else [])) 0) no_attributes)
+  shape-more item answers =
+      ap (λ (l : List Group). shape_of (unwrap_or (slice_get (filter_map (λ (g : Group). attributes_in g.first) l) 0) no_attributes))
+      (take_while-cons (λ (g : Group). not (is_access g.first)) (group_of Ready item answers) (filter (λ (g : Group). is_ready g.place) past))
 
   shape-kept : (place : Place) (item : Item) (answers : List Message) → shape_of (kept_attributes (group_of place item answers ∷ past)) ≡ (remembers (looked_back place past) place item answers).shape
   shape-kept Fresh item answers = refl
@@ -32,17 +44,17 @@ module _ (past : List Group) where
   shape-kept (Connected o s) item answers = refl
   shape-kept (Store o s) item answers = refl
   shape-kept (Stopped o s) item answers = refl
-  shape-kept Ready (Malformed fault) answers = refl
-  shape-kept Ready (Whole (Config c)) answers = refl
-  shape-kept Ready (Whole (Attrib a)) answers = refl
-  shape-kept Ready (Whole (Access a)) answers = refl
-  shape-kept Ready (Whole (Control c)) answers = refl
-  shape-kept Ready (Whole (Contran f)) answers = refl
-  shape-kept Ready (Whole Ack) answers = refl
-  shape-kept Ready (Whole (Accomp c)) answers = refl
-  shape-kept Ready (Whole (Filedata r b)) answers = refl
-  shape-kept Ready (Whole (Status s)) answers = refl
-  shape-kept Ready (Whole (Other n b)) answers = refl
+  shape-kept Ready (Malformed fault) answers = shape-more (Malformed fault) answers
+  shape-kept Ready (Whole (Config c)) answers = shape-more (Whole (Config c)) answers
+  shape-kept Ready (Whole (Attrib a)) answers = shape-more (Whole (Attrib a)) answers
+  shape-kept Ready (Whole (Access a)) answers = shape-more (Whole (Access a)) answers
+  shape-kept Ready (Whole (Control c)) answers = shape-more (Whole (Control c)) answers
+  shape-kept Ready (Whole (Contran f)) answers = shape-more (Whole (Contran f)) answers
+  shape-kept Ready (Whole Ack) answers = shape-more (Whole Ack) answers
+  shape-kept Ready (Whole (Accomp c)) answers = shape-more (Whole (Accomp c)) answers
+  shape-kept Ready (Whole (Filedata r b)) answers = shape-more (Whole (Filedata r b)) answers
+  shape-kept Ready (Whole (Status s)) answers = shape-more (Whole (Status s)) answers
+  shape-kept Ready (Whole (Other n b)) answers = shape-more (Whole (Other n b)) answers
 
   or-false : (b : Bool) → (b || false) ≡ b
   or-false true = refl
@@ -60,23 +72,43 @@ module _ (past : List Group) where
     skips false true group store e r = ap (λ b. b || list_any was_refused store) r ∙ e
     skips false false group store e r = ap (λ b. b || list_any was_refused store) r ∙ e
 
+    abbrev goes_on : Group → Bool
+    goes_on group = not (is_skip group.first)
+
+    -- the groups of this Store since it was taken up
+    abbrev since_skip : List Group
+    since_skip = take_while goes_on (this_store past)
+
+    -- one group of the Store more
+    store-more : (group : Group) → is_store group.place ≡ true → this_store (group ∷ past) ≡ group ∷ this_store past
+    store-more group e = take_while-cons (λ (g : Group). is_store g.place) group past ∙ ap (λ b. if b then group ∷ this_store past else []) e
+
+    more-drops : (item : Item) (answers : List Message) → is_dropping (group_of (Store o s) item answers ∷ past) ≡ list_any was_refused (if not (is_skip item) then group_of (Store o s) item answers ∷ since_skip else [])
+    more-drops item answers =
+        let group = group_of (Store o s) item answers in
+        ap (λ (l : List Group). list_any was_refused (take_while goes_on l)) (store-more group refl) ∙ ap (list_any was_refused) (take_while-cons goes_on group (this_store past))
+
     store-drops : (d : Bool) → is_dropping past ≡ d → (item : Item) (answers : List Message) → is_dropping (group_of (Store o s) item answers ∷ past) ≡ drops_next d item answers
-    store-drops false e (Whole (Filedata r b)) answers = ap (λ x. nat_lt 0 (length answers) || x) e ∙ or-false (nat_lt 0 (length answers))
-    store-drops true e (Whole (Filedata r b)) answers = ap (λ x. nat_lt 0 (length answers) || x) e ∙ or-true (nat_lt 0 (length answers))
-    store-drops false e (Whole (Contran func)) answers = skips (func == 2) false (group_of (Store o s) (Whole (Contran func)) answers) (leading (λ group. not (is_skip group.first)) (this_store past)) e refl
-    store-drops true e (Whole (Contran func)) answers = skips (func == 2) true (group_of (Store o s) (Whole (Contran func)) answers) (leading (λ group. not (is_skip group.first)) (this_store past)) e refl
-    store-drops false e (Malformed fault) answers = e
-    store-drops true e (Malformed fault) answers = e
-    store-drops false e (Whole message) answers = e
-    store-drops true e (Whole message) answers = e
+    store-drops false e (Whole (Filedata r b)) answers = more-drops (Whole (Filedata r b)) answers ∙ ap (λ x. nat_lt 0 (length answers) || x) e ∙ or-false (nat_lt 0 (length answers))
+    store-drops true e (Whole (Filedata r b)) answers = more-drops (Whole (Filedata r b)) answers ∙ ap (λ x. nat_lt 0 (length answers) || x) e ∙ or-true (nat_lt 0 (length answers))
+    store-drops false e (Whole (Contran func)) answers = more-drops (Whole (Contran func)) answers ∙ skips (func == 2) false (group_of (Store o s) (Whole (Contran func)) answers) since_skip e refl
+    store-drops true e (Whole (Contran func)) answers = more-drops (Whole (Contran func)) answers ∙ skips (func == 2) true (group_of (Store o s) (Whole (Contran func)) answers) since_skip e refl
+    store-drops false e (Malformed fault) answers = more-drops (Malformed fault) answers ∙ e
+    store-drops true e (Malformed fault) answers = more-drops (Malformed fault) answers ∙ e
+    store-drops false e (Whole message) answers = more-drops (Whole message) answers ∙ e
+    store-drops true e (Whole message) answers = more-drops (Whole message) answers ∙ e
 
     counted : (n : ℕ) → min (suc n) greatest_ordinal ≡ next_ordinal (min n greatest_ordinal)
     counted n = omega arith
 
+    more-counted : (item : Item) (answers : List Message) → ordinal_so_far (group_of (Store o s) item answers ∷ past) ≡ min (length (filter (λ (g : Group). is_filedata g.first) (group_of (Store o s) item answers ∷ this_store past))) greatest_ordinal
+    more-counted item answers =
+        ap (λ (l : List Group). min (length (filter (λ (g : Group). is_filedata g.first) l)) greatest_ordinal) (store-more (group_of (Store o s) item answers) refl)
+
     store-counts : (item : Item) (answers : List Message) → ordinal_so_far (group_of (Store o s) item answers ∷ past) ≡ ordinal_next (ordinal_so_far past) item
-    store-counts (Whole (Filedata r b)) answers = counted (length (filter (λ group. is_filedata group.first) (this_store past)))
-    store-counts (Malformed fault) answers = refl
-    store-counts (Whole message) answers = refl
+    store-counts (Whole (Filedata r b)) answers = more-counted (Whole (Filedata r b)) answers ∙ counted (length (filter (λ group. is_filedata group.first) (this_store past)))
+    store-counts (Malformed fault) answers = more-counted (Malformed fault) answers
+    store-counts (Whole message) answers = more-counted (Whole message) answers
 
   -- the phase that is entered in a Store
   store-entered : (place : Place) (item : Item) (answers : List Message) (o : OpenFile) (s : StreamVal) →

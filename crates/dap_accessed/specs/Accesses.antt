@@ -41,18 +41,12 @@ create_file scene name fac None (Some shape) =
     (Opened (record { at = length scene.files; is_new = true; rights = rights_of (fac_or fac codes.fac_bits.put) }))
     (opened_with shape)
 
-pub data AccessKind : Type 0 where
-  Opening : AccessKind
-  Creating : AccessKind
-  NoAccess : AccessKind
-
-abbrev pub access_kind : ℕ → AccessKind
-access_kind func = if func == codes.accfunc.opening then Opening else if func == codes.accfunc.creating then Creating else NoAccess
-
-abbrev pub access_as : AccessKind → Scene → AccessFields → Option Shape → Effect
-access_as Opening scene access shape = open_file scene access.fac (place_of access.name scene.files)
-access_as Creating scene access shape = create_file scene access.name access.fac (place_of access.name scene.files) shape
-access_as NoAccess scene access shape = refuse_access scene (bare_status (codes.unsupported codes.types.access))
+-- by ACCFUNC; only the two are supported
+abbrev pub access_file : Scene → AccessFields → Option Shape → Effect
+access_file scene access shape =
+    if access.func == codes.accfunc.opening then open_file scene access.fac (place_of access.name scene.files)
+    else if access.func == codes.accfunc.creating then create_file scene access.name access.fac (place_of access.name scene.files) shape
+    else refuse_access scene (bare_status (codes.unsupported codes.types.access))
 
 -- ---- Access Complete.
 
@@ -60,27 +54,14 @@ access_as NoAccess scene access shape = refuse_access scene (bare_status (codes.
 abbrev pub purged : OpenFile → Files → Files
 purged opened files = if opened.is_new then without_file opened.at files else files
 
-pub data Completing : Type 0 where
-  Closing : Completing
-  Purging : Completing
-  EndingStream : Completing
-  Skipping : Completing
-  NoCompletion : Completing
-
-abbrev pub completing : ℕ → Completing
-completing func =
-    if func == codes.cmpfunc.close then Closing
-    else if func == codes.cmpfunc.purge then Purging
-    else if func == codes.cmpfunc.end_of_stream then EndingStream
-    else if func == codes.cmpfunc.skip then Skipping else NoCompletion
-
--- in a place in which a file is open; what the end of a stream does is given, since it depends on the place
-abbrev pub complete : Completing → Scene → OpenFile → Place → (end_of_stream : Effect) → Effect
-complete Closing scene opened place end_of_stream = enters scene Ready (completed ∷ [])
-complete Purging scene opened place end_of_stream = leaves scene (purged opened scene.files) Ready (completed ∷ [])
-complete EndingStream scene opened place end_of_stream = end_of_stream
-complete Skipping scene opened place end_of_stream = enters scene place (bare_status (codes.unsupported codes.types.accomp) ∷ [])
-complete NoCompletion scene opened place end_of_stream = enters scene place (bare_status (codes.invalid codes.types.accomp) ∷ [])
+-- by CMPFUNC, in a place in which a file is open; what the end of a stream does is given, since it depends on the place
+abbrev pub complete : (func : ℕ) → Scene → OpenFile → Place → (end_of_stream : Effect) → Effect
+complete func scene opened place end_of_stream =
+    if func == codes.cmpfunc.close then enters scene Ready (completed ∷ [])
+    else if func == codes.cmpfunc.purge then leaves scene (purged opened scene.files) Ready (completed ∷ [])
+    else if func == codes.cmpfunc.end_of_stream then end_of_stream
+    else if func == codes.cmpfunc.skip then enters scene place (bare_status (codes.unsupported codes.types.accomp) ∷ [])
+    else enters scene place (bare_status (codes.invalid codes.types.accomp) ∷ [])
 
 abbrev pub end_stream : Scene → OpenFile → Effect
 end_stream scene opened = enters scene (Opened opened) (completed ∷ [])

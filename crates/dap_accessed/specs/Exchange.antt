@@ -1,6 +1,6 @@
 -- What each item does, and its answers, by the place in which it is served (DAP 5.6.0, message sequences; the answers
 -- to a message that has no place are own).
-use Rattle.std.specs.Prelude.{ℕ, if◌then◌else◌, [], ◌∷◌, Option}
+use Rattle.std.specs.Prelude.{if◌then◌else◌, [], ◌∷◌, Option}
 use Rattle.dap_msg.specs.Codes as codes
 use Rattle.dap_msg.specs.Message.{Message, Config, Attrib, Access, Control, Contran, Ack, Accomp, Filedata, Other, ControlFields}
 use Rattle.dap_msg.specs.Exchange.{limit_of, config_of, is_too_small}
@@ -14,9 +14,9 @@ use Rattle.dap_accessed.specs.declared.verbs.Verb.TheVariants as verbs
 use Rattle.dap_accessed.specs.Standing.{the_file, Place, Fresh, Ready, Opened, Connected, Store, Stopped, Scene, Effect, enters}
 use Rattle.dap_accessed.specs.Replies.{bare_status, sync_status}
 use Rattle.dap_accessed.specs.Past.{Memory}
-use Rattle.dap_accessed.specs.Accesses.{access_as, access_kind, complete, completing, end_stream}
+use Rattle.dap_accessed.specs.Accesses.{access_file, complete, end_stream}
 use Rattle.dap_accessed.specs.Records.{at_number, new_stream, verb_of, get_pick, record_got, put_key, refused, settled, Change, Putting, Updating, changed}
-use Rattle.dap_accessed.specs.Transfers.{fetch, going, continue_fetch, store_one, drop_one, continue_store}
+use Rattle.dap_accessed.specs.Transfers.{fetch, continue_fetch, store_one, continue_store}
 
 -- what a group of two begins with, and where it stands
 pub record Begun : Type 0 where
@@ -45,16 +45,11 @@ refuse_control verb scene place = enters scene place (control_status verb ∷ []
 
 -- ---- Fresh.
 
--- a Config with a buffer that is too small, and any other
-abbrev pub config_refused : Scene → Effect
-config_refused scene = enters scene Fresh (bare_status (codes.invalid codes.types.config) ∷ [])
-
-abbrev pub configured : Scene → (bufsiz : ℕ) → Effect
-configured scene bufsiz =
-    record { files = scene.files; limit = limit_of bufsiz; place = Ready; answers = config_of scene.own ∷ [] }
-
+-- a Config says how long a message the peer takes
 abbrev pub effect_fresh : Scene → Message → Effect
-effect_fresh scene (Config c) = if is_too_small c.bufsiz then config_refused scene else configured scene c.bufsiz
+effect_fresh scene (Config c) =
+    if is_too_small c.bufsiz then enters scene Fresh (bare_status (codes.invalid codes.types.config) ∷ [])
+    else enters (record scene { limit = limit_of c.bufsiz }) Ready (config_of scene.own ∷ [])
 effect_fresh scene (Other _ _) = enters scene Fresh []
 effect_fresh scene message = sync scene Fresh message
 
@@ -64,7 +59,7 @@ effect_fresh scene message = sync scene Fresh message
 abbrev pub effect_ready : Scene → Option Shape → Message → Effect
 effect_ready scene shape (Other _ _) = enters scene Ready []
 effect_ready scene shape (Attrib _) = enters scene Ready []
-effect_ready scene shape (Access access) = access_as (access_kind access.func) scene access shape
+effect_ready scene shape (Access access) = access_file scene access shape
 effect_ready scene shape message = sync scene Ready message
 
 -- ---- Opened.
@@ -76,7 +71,7 @@ control_opened verb scene opened = refuse_control verb scene (Opened opened)
 abbrev pub effect_opened : Scene → OpenFile → Message → Effect
 effect_opened scene opened (Control control) = control_opened (verb_of control) scene opened
 effect_opened scene opened (Accomp c) =
-    complete (completing c.func) scene opened (Opened opened) (sync scene (Opened opened) (Accomp c))
+    complete c.func scene opened (Opened opened) (sync scene (Opened opened) (Accomp c))
 effect_opened scene opened message = sync scene (Opened opened) message
 
 -- ---- Connected.
@@ -106,21 +101,21 @@ abbrev pub turn_connected : Scene → OpenFile → StreamVal → Message → Tur
 turn_connected scene opened stream (Control control) =
     control_connected (verb_of control) scene opened stream control
 turn_connected scene opened stream (Accomp c) =
-    Does (complete (completing c.func) scene opened (Connected opened stream) (end_stream scene opened))
+    Does (complete c.func scene opened (Connected opened stream) (end_stream scene opened))
 turn_connected scene opened stream message = Does (sync scene (Connected opened stream) message)
 
--- ---- Store. A Continue Transfer has a place only after a Filedata that was refused.
+-- ---- Store. After a Filedata that was refused those behind it do nothing, and only then a Continue Transfer has a place.
 
 abbrev pub effect_store : Scene → Memory → OpenFile → StreamVal → Message → Effect
 effect_store scene memory opened stream (Control control) =
     refuse_control (verb_of control) scene (Store opened stream)
 effect_store scene memory opened stream (Filedata _ body) =
-    if memory.dropping then drop_one scene opened stream else store_one memory.ordinal scene opened stream body
+    if memory.dropping then enters scene (Store opened stream) [] else store_one memory.ordinal scene opened stream body
 effect_store scene memory opened stream (Contran func) =
-    if memory.dropping then continue_store (going func) scene opened stream
+    if memory.dropping then continue_store func scene opened stream
     else sync scene (Store opened stream) (Contran func)
 effect_store scene memory opened stream (Accomp c) =
-    complete (completing c.func) scene opened (Store opened stream) (end_stream scene opened)
+    complete c.func scene opened (Store opened stream) (end_stream scene opened)
 effect_store scene memory opened stream message = sync scene (Store opened stream) message
 
 -- ---- Stopped.
@@ -128,9 +123,9 @@ effect_store scene memory opened stream message = sync scene (Store opened strea
 abbrev pub effect_stopped : Scene → OpenFile → StreamVal → Message → Effect
 effect_stopped scene opened stream (Control control) =
     refuse_control (verb_of control) scene (Stopped opened stream)
-effect_stopped scene opened stream (Contran func) = continue_fetch (going func) scene opened stream
+effect_stopped scene opened stream (Contran func) = continue_fetch func scene opened stream
 effect_stopped scene opened stream (Accomp c) =
-    complete (completing c.func) scene opened (Stopped opened stream) (end_stream scene opened)
+    complete c.func scene opened (Stopped opened stream) (end_stream scene opened)
 effect_stopped scene opened stream message = sync scene (Stopped opened stream) message
 
 -- ---- All places. Only in Connected does a message begin a group of two.

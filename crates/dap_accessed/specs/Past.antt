@@ -1,5 +1,5 @@
 -- What is looked back for in the groups so far, the newest first.
-use Rattle.std.specs.Prelude.{ℕ, ◌+◌, Bool, true, false, not, ◌&&◌, nat_lt, ◌==◌, if◌then◌else◌, min, List, [], length, filter, filter_map, slice_get, Option, Some, None, unwrap_or}
+use Rattle.std.specs.Prelude.{ℕ, ◌+◌, Bool, true, false, not, ◌&&◌, nat_lt, ◌==◌, if◌then◌else◌, min, List, [], length, filter, filter_map, slice_get, take_while, Option, Some, None, unwrap_or}
 use Rattle.std.specs.List.{list_any}
 use Rattle.dap_msg.specs.Codes as codes
 use Rattle.dap_msg.specs.Exchange.{no_attributes, number_of}
@@ -7,7 +7,6 @@ use Rattle.dap_msg.specs.Message.{Attrib, Access, Contran, Filedata, Attributes}
 use Rattle.dap_msg.specs.Items.{Item, Whole}
 use Rattle.rec_file.specs.declared.shapes.Shape.{Shape}
 use Rattle.rec_file.specs.Shapes.{checked_shape}
-use Rattle.dap_accessed.specs.Lists.{leading}
 use Rattle.dap_accessed.specs.Standing.{Place, Ready, Store, Group}
 
 abbrev pub is_ready : Place → Bool
@@ -39,7 +38,7 @@ is_skip _ = false
 
 -- the groups in Ready since the Access before
 abbrev pub since_access : List Group → List Group
-since_access past = leading (λ group. not (is_access group.first)) (filter (λ group. is_ready group.place) past)
+since_access past = take_while (λ group. not (is_access group.first)) (filter (λ group. is_ready group.place) past)
 
 -- the attributes of an Access: those of the last Attributes message in Ready since the Access before
 abbrev pub kept_attributes : List Group → Attributes
@@ -56,7 +55,7 @@ shape_of a =
 
 -- the groups of this Store, since its PUT
 abbrev pub this_store : List Group → List Group
-this_store past = leading (λ group. is_store group.place) past
+this_store past = take_while (λ group. is_store group.place) past
 
 abbrev pub greatest_ordinal : ℕ
 greatest_ordinal = 4294967295
@@ -75,7 +74,7 @@ was_refused group = is_filedata group.first && nat_lt 0 (length group.answers)
 
 -- A Filedata of this Store was refused, and the Store wasn't taken up again since.
 abbrev pub is_dropping : List Group → Bool
-is_dropping past = list_any was_refused (leading (λ group. not (is_skip group.first)) (this_store past))
+is_dropping past = list_any was_refused (take_while (λ group. not (is_skip group.first)) (this_store past))
 
 -- ---- Together.
 

@@ -1,15 +1,12 @@
 -- What an end keeps of the items that it served: it stands as after any list of items that leaves just this.
-use Rattle.std.specs.Prelude.{ℕ, Bool, ◌≡◌, if◌then◌else◌, List, Option, Some, None, refl}
-use Rattle.std.specs.Coded.{Coded, code_by, coded×, coded_ℕ, coded_option}
+use Rattle.std.specs.Prelude.{ℕ, ◌≡◌, if◌then◌else◌, List, Option, Some, None}
 use Rattle.dap_msg.specs.Items.{Item}
 use Rattle.rec_file.specs.declared.shapes.Shape.{Shape}
-use Rattle.rec_file.specs.contracts.shapes.Shape as shape_type
 use Rattle.rec_file.specs.Acts.{StreamVal}
 use Rattle.dap_accessed.specs.declared.phase.OpenFile.{OpenFile}
 use Rattle.dap_accessed.specs.declared.phase.Phase.{Phase}
 use Rattle.dap_accessed.specs.declared.phase.Phase.TheVariants as phases
-use Rattle.dap_accessed.specs.contracts.phase.Phase as phase_type
-use Rattle.dap_accessed.specs.Standing.{Files, files_code, Place, Standing, Fresh, Ready, Opened, Connected, Store, Stopped}
+use Rattle.dap_accessed.specs.Standing.{Files, Place, Standing, Fresh, Ready, Opened, Connected, Store, Stopped}
 use Rattle.dap_accessed.specs.Past.{Memory, looked_back, kept_attributes, shape_of}
 use Rattle.dap_accessed.specs.Records.{Change, Putting, Updating}
 use Rattle.dap_accessed.specs.Exchange.{Begun}
@@ -25,17 +22,14 @@ pub record Present : Type 0 where
   pub kept : Option Shape
   pub phase : Phase
 
-abbrev pub store_phase : (dropping : Bool) → OpenFile → StreamVal → ℕ → Phase
-store_phase dropping opened stream ordinal =
-    if dropping then phases.Dropping opened stream ordinal else phases.Storing opened stream ordinal
-
 -- the phase between groups
 abbrev pub phase_at : Place → Memory → Phase
 phase_at Fresh memory = phases.Fresh
 phase_at Ready memory = phases.Ready
 phase_at (Opened opened) memory = phases.Opened opened
 phase_at (Connected opened stream) memory = phases.Connected opened stream
-phase_at (Store opened stream) memory = store_phase memory.dropping opened stream memory.ordinal
+phase_at (Store opened stream) memory =
+    if memory.dropping then phases.Dropping opened stream memory.ordinal else phases.Storing opened stream memory.ordinal
 phase_at (Stopped opened stream) memory = phases.Stopped opened stream
 
 -- the phase inside a group of two
@@ -60,12 +54,3 @@ present_of own c =
 -- the end stands as one with its BUFSIZ after these items
 abbrev pub StandsAfter : List Item → Present → Type 0
 StandsAfter items present = present ≡ present_of present.own (stands_after present.own items)
-
--- what an end keeps is stored as its parts
-abbrev pub present_code : Coded Present
-present_code =
-    code_by (ℕ × (ℕ × (Files × (Option Shape × Phase))))
-    (coded× coded_ℕ (coded× coded_ℕ (coded× files_code (coded× (coded_option shape_type.the_row.coded) phase_type.the_row.coded))))
-    (λ p. (p.own, (p.limit, (p.files, (p.kept, p.phase)))))
-    (λ p. record { own = p.0; limit = p.1.0; files = p.1.1.0; kept = p.1.1.1.0; phase = p.1.1.1.1 })
-    (λ _. refl)

@@ -1,5 +1,6 @@
 -- Operations on records (DAP 5.6.0, Control message).
 use Rattle.std.specs.Prelude.{ℕ, Bool, not, ◌&&◌, ◌||◌, nat_lt, nat_le, ◌==◌, if◌then◌else◌, List, [], ◌∷◌, length, Option, Some, None, is_err, unwrap_or, Result, Ok, Err}
+use Rattle.std.specs.Result.{result_unwrap_or}
 use Rattle.std.specs.FinMap as map
 use Rattle.dap_msg.specs.Codes as codes
 use Rattle.dap_msg.specs.Message.{Message, ControlFields}
@@ -35,9 +36,6 @@ new_stream rights = record { rights = rights; next = 1; current = None }
 abbrev pub rac_of : ControlFields → ℕ
 rac_of control = unwrap_or control.rac codes.rac.sequential
 
-abbrev pub is_whole : ControlFields → Bool
-is_whole control = rac_of control == codes.rac.whole_file
-
 abbrev pub is_next : ControlFields → Bool
 is_next control = rac_of control == codes.rac.sequential
 
@@ -47,20 +45,16 @@ is_keyed control = rac_of control == codes.rac.keyed
 -- what a Control asks for: a GET or a PUT may be for a whole file
 abbrev pub verb_of : ControlFields → Verb
 verb_of control =
-    if control.func == codes.ctlfunc.get then (if is_whole control then verbs.Fetch else verbs.Get)
+    if control.func == codes.ctlfunc.get then (if rac_of control == codes.rac.whole_file then verbs.Fetch else verbs.Get)
     else if control.func == codes.ctlfunc.connect then verbs.Connect
     else if control.func == codes.ctlfunc.update then verbs.Update
-    else if control.func == codes.ctlfunc.put then (if is_whole control then verbs.Store else verbs.Put)
+    else if control.func == codes.ctlfunc.put then (if rac_of control == codes.rac.whole_file then verbs.Store else verbs.Put)
     else if control.func == codes.ctlfunc.delete then verbs.Delete
     else if control.func == codes.ctlfunc.rewind then verbs.Rewind else verbs.Unknown
 
 -- KEY missing is empty
 abbrev pub key_of : ControlFields → Result ℕ Refusal
 key_of control = number_of_key (unwrap_or control.key [])
-
-abbrev pub number_in : Result ℕ Refusal → ℕ
-number_in (Ok n) = n
-number_in (Err _) = 0
 
 abbrev pub or_refusal : {X : Type 0} → Option Refusal → X → Result X Refusal
 or_refusal None x = Ok x
@@ -71,7 +65,7 @@ or_refusal (Some refusal) x = Err refusal
 abbrev pub pick_of : ControlFields → Pick
 pick_of control =
     if is_next control then Next
-    else if is_keyed control then Key (number_in (key_of control)) else Rfa (number_in (key_of control))
+    else if is_keyed control then Key (result_unwrap_or (key_of control) 0) else Rfa (result_unwrap_or (key_of control) 0)
 
 -- what is refused of a GET before its key is a number
 abbrev pub get_refusals_before : FileVal → StreamVal → ControlFields → List (Bool × Refusal)
@@ -96,18 +90,13 @@ filedata_of r = record_of r.0 r.1
 abbrev pub fits_limit : ℕ → ℕ × List ℕ → Bool
 fits_limit limit r = nat_le (file_data_size 4 (length r.1)) limit
 
-abbrev pub record_given : Scene → OpenFile → StreamVal → ℕ × List ℕ → Effect
-record_given scene opened stream r = enters scene (Connected opened stream) (filedata_of r ∷ [])
-
-abbrev pub record_too_large : Scene → OpenFile → StreamVal → Effect
-record_too_large scene opened stream = enters scene (Connected opened (uncurrent stream)) (too_large ∷ [])
-
 -- with the reply of the operation; a record whose Filedata is longer than the limit is a GET that is refused
 abbrev pub got : Result ℕ Refusal → Scene → OpenFile → (before after : StreamVal) → Effect
 got (Err refusal) scene opened before after = refused scene opened before refusal
 got (Ok n) scene opened before after =
     let r : ℕ × List ℕ = (n, unwrap_or (map.get (the_file scene.files opened).records n) []) in
-    if fits_limit scene.limit r then record_given scene opened after r else record_too_large scene opened before
+    if fits_limit scene.limit r then enters scene (Connected opened after) (filedata_of r ∷ [])
+    else enters scene (Connected opened (uncurrent before)) (too_large ∷ [])
 
 abbrev pub record_got : Result Pick Refusal → Scene → OpenFile → StreamVal → Effect
 record_got (Err refusal) scene opened stream = refused scene opened stream refusal
@@ -128,7 +117,7 @@ put_refusals_before file stream control =
 abbrev pub put_key : FileVal → StreamVal → ControlFields → Result (Option ℕ) Refusal
 put_key file stream control =
     or_refusal (first_refusal (put_refusals_before file stream control))
-    (if is_keyed control then Some (number_in (key_of control)) else None)
+    (if is_keyed control then Some (result_unwrap_or (key_of control) 0) else None)
 
 -- an operation that may change the file, and its Status
 abbrev pub settled : Scene → OpenFile → Outcome → Effect

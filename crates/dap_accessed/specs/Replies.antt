@@ -12,7 +12,7 @@ use Rattle.rec_file.specs.declared.shapes.Format.{Format}
 use Rattle.rec_file.specs.declared.shapes.Format.TheVariants.{Fixed, Variable}
 use Rattle.rec_file.specs.declared.shapes.Shape.{Shape}
 use Rattle.rec_file.specs.declared.refusals.Refusal.{Refusal}
-use Rattle.rec_file.specs.declared.refusals.Refusal.TheVariants.{NotPermitted, NoCurrent, RecordNotFound, RecordExists, NumberOutOfRange, BadLength, BadAccessMode, DeleteNotAllowed, BadKey, EndOfFile, NoMemory}
+use Rattle.rec_file.specs.declared.refusals.Refusal.TheVariants.{NotPermitted, NoCurrent, RecordNotFound, RecordExists, NumberOutOfRange, BadLength, BadAccessMode, DeleteNotAllowed, BadKey, EndOfFile}
 
 abbrev pub status : (code : ℕ) → (rfa recnum stv : List ℕ) → Message
 status code rfa recnum stv = Status (record { code = code; rfa = rfa; recnum = recnum; stv = stv })
@@ -44,8 +44,7 @@ reason_of BadLength = codes.reason_number reason.BadLength
 reason_of BadAccessMode = codes.reason_number reason.BadAccessMode
 reason_of DeleteNotAllowed = codes.reason_number reason.DeleteNotAllowed
 reason_of BadKey = codes.reason_number reason.BadKey
-reason_of EndOfFile = 0
-reason_of NoMemory = 0
+reason_of _ = 0
 
 -- the Status of a refused operation on a record; in a Store it has the ordinal
 abbrev pub refusal_status : Refusal → (recnum : List ℕ) → Message
@@ -63,9 +62,6 @@ record_status (Err refusal) = refusal_status refusal []
 -- a record's Filedata is longer than the peer takes
 abbrev pub too_large : Message
 too_large = reason_status codes.stscode.record_refused (codes.reason_number reason.TooLargeForBuffer) []
-
-abbrev pub end_of_file : Message
-end_of_file = bare_status codes.stscode.end_of_file
 
 -- what ends an access or a stream
 abbrev pub completed : Message

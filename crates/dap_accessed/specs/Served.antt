@@ -1,10 +1,10 @@
 -- What a call of `serve` does.
-use Rattle.std.specs.Prelude.{ℕ, ◌≡◌, ◌≤◌, ◌==◌, Bool, true, false, List, [], ◌∷◌, ◌++◌, length, Result, IsOk}
+use Rattle.std.specs.Prelude.{ℕ, ◌≡◌, ◌≤◌, ◌==◌, Bool, true, false, List, [], ◌∷◌, ◌++◌, length}
+use Rattle.std.specs.List.{AllByRecursion}
 use Rattle.dap_msg.specs.Codes as codes
 use Rattle.dap_msg.specs.Message.{Attrib, Control, Contran, Filedata, Other}
 use Rattle.dap_msg.specs.Items.{Item, Whole, ItemAt}
 use Rattle.dap_msg.specs.Blocked.{Blocked, all_joined, bodies, AllFit}
-use Rattle.dap_accessed.specs.declared.fault.NoMemory.{NoMemory}
 use Rattle.dap_accessed.specs.declared.phase.Phase.{Phase}
 use Rattle.dap_accessed.specs.declared.phase.Phase.TheVariants as phases
 use Rattle.dap_accessed.specs.declared.served.Served.{Served}
@@ -16,8 +16,7 @@ use Rattle.dap_accessed.specs.Present.{Present, StandsAfter}
 
 -- none is longer than the limit
 abbrev pub AllAtMost : ℕ → List (List ℕ) → Type 0
-AllAtMost limit [] = Unit {0}
-AllAtMost limit (bytes ∷ more) = (length bytes ≤ limit) × AllAtMost limit more
+AllAtMost limit list = AllByRecursion (λ bytes. length bytes ≤ limit) list
 
 -- The item at a place was served: after any items, an end that stood as after these stands as after these and it, and
 -- gives just the answers that it adds, joined as far as the peer's limit goes. Each has a spelling, and none is longer
@@ -50,8 +49,3 @@ is_silent (phases.Connected opened stream) (Whole (Control control)) = begins_on
 is_silent (phases.Dropping opened stream ordinal) (Whole (Filedata _ _)) = true
 is_silent (phases.Dropping opened stream ordinal) (Whole (Contran func)) = func == codes.confunc.skip
 is_silent _ _ = false
-
--- A silent item at the place is served without memory.
-abbrev pub IsUnrefused : List ℕ → ℕ → Present → Result Served NoMemory → Type 0
-IsUnrefused bytes at old result =
-    (item : Item) (next : ℕ) → ItemAt bytes at item next → is_silent old.phase item ≡ true → IsOk result

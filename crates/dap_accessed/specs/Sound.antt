@@ -1,25 +1,15 @@
 -- What holds of an end after any items.
-use Rattle.std.specs.Prelude.{◌≢◌, ℕ, ◌<◌, ◌≤◌, List, [], ◌∷◌, length, IfSome}
-use Rattle.dap_msg.specs.Exchange.{greatest_message}
-use Rattle.dap_msg.specs.Items.{Item, IsRead}
+use Rattle.std.specs.Prelude.{◌≢◌, ℕ, ◌<◌, ◌≤◌, [], ◌∷◌, length, IfSome}
+use Rattle.std.specs.List.{AllByRecursion}
+use Rattle.dap_msg.specs.Exchange.{greatest_message, least_buffer}
 use Rattle.rec_file.specs.Files.{IsFile}
-use Rattle.dap_accessed.specs.Standing.{Files, Place, Fresh, Ready, Opened, Connected, Store, Stopped, least_limit}
+use Rattle.dap_accessed.specs.Standing.{Files, Place, Fresh, Ready, Opened, Connected, Store, Stopped}
 use Rattle.dap_accessed.specs.Groups.{Cut}
-
--- each file obeys its shape, which is one that the check gives
-abbrev pub AllFiles : Files → Type 0
-AllFiles [] = Unit {0}
-AllFiles (f ∷ files) = IsFile f.1 × AllFiles files
-
--- no file has this name
-abbrev pub HasNone : List ℕ → Files → Type 0
-HasNone name [] = Unit {0}
-HasNone name (f ∷ files) = (f.0 ≢ name) × HasNone name files
 
 -- no two files have the same name
 abbrev pub AreDistinct : Files → Type 0
 AreDistinct [] = Unit {0}
-AreDistinct (f ∷ files) = HasNone f.0 files × AreDistinct files
+AreDistinct (f ∷ files) = AllByRecursion (λ other. other.0 ≢ f.0) files × AreDistinct files
 
 -- the file that is open is in the table
 abbrev pub IsOpenAt : Files → Place → Type 0
@@ -31,19 +21,15 @@ IsOpenAt files (Store opened stream) = opened.at < length files
 IsOpenAt files (Stopped opened stream) = opened.at < length files
 
 pub record IsSoundAt (table : Files) (limit : ℕ) (place : Place) : Type 0 where
-  pub files : AllFiles table
+  -- each obeys its shape, which is one that the check gives
+  pub files : AllByRecursion (λ f. IsFile f.1) table
   pub distinct : AreDistinct table
   pub opened : IsOpenAt table place
   -- what a peer takes is not less than the least, and not more than any end takes
-  pub least : least_limit ≤ limit
+  pub least : least_buffer ≤ limit
   pub most : limit ≤ greatest_message
 
 -- also inside a group of two
 pub record IsSound (c : Cut) : Type 0 where
   pub standing : IsSoundAt c.standing.files c.standing.limit c.standing.place
   pub begun : IfSome c.begun (λ b. b.opened.at < length c.standing.files)
-
--- each was read from some bytes
-abbrev pub AreRead : List Item → Type 0
-AreRead [] = Unit {0}
-AreRead (item ∷ items) = IsRead item × AreRead items

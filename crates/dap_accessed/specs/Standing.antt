@@ -1,25 +1,20 @@
 -- Where the accessed end stands between two groups of messages.
-use Rattle.std.specs.Prelude.{ℕ, zero, suc, List, [], ◌∷◌, Option, bytes_eq}
+use Rattle.std.specs.Prelude.{ℕ, List, [], get_or, set, Option, bytes_eq}
 use Rattle.std.specs.List.{position, remove}
 use Rattle.std.specs.FinMap as map
-use Rattle.std.specs.Coded.{Coded, coded×, coded_ℕ, coded_list}
 use Rattle.dap_msg.specs.Exchange.{least_buffer}
 use Rattle.dap_msg.specs.Message.{Message}
 use Rattle.dap_msg.specs.Items.{Item}
 use Rattle.rec_file.specs.declared.shapes.Shape.{Shape}
 use Rattle.rec_file.specs.declared.shapes.Org.TheVariants.{Seq}
 use Rattle.rec_file.specs.declared.shapes.Format.TheVariants.{Variable}
-use Rattle.rec_file.specs.Files.{FileVal, file_code}
+use Rattle.rec_file.specs.Files.{FileVal}
 use Rattle.rec_file.specs.Acts.{StreamVal}
 use Rattle.dap_accessed.specs.declared.phase.OpenFile.{OpenFile}
 
 -- the files, each with its name, in the order in which they were made
 abbrev pub Files : Type 0
 Files = List (List ℕ × FileVal)
-
--- a table is stored as the names and files
-abbrev pub files_code : Coded Files
-files_code = coded_list (coded× (coded_list coded_ℕ) file_code)
 
 -- the place of the first file with this name
 abbrev pub place_of : List ℕ → Files → Option ℕ
@@ -33,23 +28,16 @@ plain_shape = record { org = Seq; format = Variable; mrs = 0; mrn = 0 }
 abbrev pub new_file : Shape → FileVal
 new_file shape = record { shape = shape; records = map.empty }
 
--- the file at a place; one that isn't there would have no records
-abbrev pub file_at : ℕ → Files → FileVal
-file_at n [] = new_file plain_shape
-file_at zero (f ∷ files) = f.1
-file_at (suc n) (f ∷ files) = file_at n files
-
--- the name of the file at a place
+-- the name of the file at a place, and the file; where there is none, no name and no records
 abbrev pub name_at : ℕ → Files → List ℕ
-name_at n [] = []
-name_at zero (f ∷ files) = f.0
-name_at (suc n) (f ∷ files) = name_at n files
+name_at n files = (get_or files n ([], new_file plain_shape)).0
+
+abbrev pub file_at : ℕ → Files → FileVal
+file_at n files = (get_or files n ([], new_file plain_shape)).1
 
 -- the files with another one at a place
 abbrev pub with_file : ℕ → FileVal → Files → Files
-with_file n file [] = []
-with_file zero file (f ∷ files) = (f.0, file) ∷ files
-with_file (suc n) file (f ∷ files) = f ∷ with_file n file files
+with_file n file files = set files n (name_at n files, file)
 
 abbrev pub without_file : ℕ → Files → Files
 without_file n files = remove files n
@@ -102,10 +90,6 @@ enters scene place answers = record { files = scene.files; limit = scene.limit; 
 abbrev pub leaves : Scene → Files → Place → List Message → Effect
 leaves scene files place answers = record { files = files; limit = scene.limit; place = place; answers = answers }
 
--- the shortest limit that a peer can have
-abbrev pub least_limit : ℕ
-least_limit = least_buffer
-
--- No files, and no Config of the peer yet.
+-- No files, and no Config of the peer yet, which may have the least buffer.
 abbrev pub start : Standing
-start = record { files = []; limit = least_limit; place = Fresh; past = [] }
+start = record { files = []; limit = least_buffer; place = Fresh; past = [] }

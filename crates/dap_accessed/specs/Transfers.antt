@@ -1,5 +1,6 @@
 -- Sequential file transfer, and Continue Transfer (DAP 5.6.0, Continue Transfer message; where a fetch stops is own).
-use Rattle.std.specs.Prelude.{ℕ, ◌+◌, ◌==◌, if◌then◌else◌, List, [], ◌∷◌, ◌++◌, map, None, Result, Ok, Err}
+use Rattle.std.specs.Prelude.{ℕ, ◌+◌, ◌==◌, if◌then◌else◌, List, [], ◌∷◌, ◌++◌, map, fold, take_while, drop, None, Result, Ok, Err}
+use Rattle.std.specs.List.{prefix_len}
 use Rattle.dap_msg.specs.Codes as codes
 use Rattle.dap_msg.specs.Message.{Message}
 use Rattle.dap_msg.specs.Exchange.{four_bytes}
@@ -7,18 +8,19 @@ use Rattle.rec_file.specs.declared.refusals.Refusal.{Refusal}
 use Rattle.rec_file.specs.Files.{records_from}
 use Rattle.rec_file.specs.Acts.{StreamVal, put_record, act}
 use Rattle.dap_accessed.specs.declared.phase.OpenFile.{OpenFile}
-use Rattle.dap_accessed.specs.Lists.{leading, from_failing, behind}
 use Rattle.dap_accessed.specs.Standing.{with_file, the_file, Connected, Store, Stopped, Scene, Effect, enters, leaves}
-use Rattle.dap_accessed.specs.Replies.{bare_status, refusal_status, too_large, end_of_file}
+use Rattle.dap_accessed.specs.Replies.{bare_status, refusal_status, too_large}
 use Rattle.dap_accessed.specs.Past.{next_ordinal}
 use Rattle.dap_accessed.specs.Records.{at_number, filedata_of, fits_limit}
 
 -- ---- To the peer.
 
--- the records that are given, and how it ends: with the end of the file, or at a record that is too large
+-- The records that are given, and how it ends: with the end of the file, at the number behind the last one given, or
+-- at a record that is too large.
 abbrev pub fetch_ends : Scene → OpenFile → StreamVal → (given rest : List (ℕ × List ℕ)) → Effect
 fetch_ends scene opened stream given [] =
-    enters scene (Connected opened (at_number (behind stream.next given) stream)) (map filedata_of given ++ end_of_file ∷ [])
+    enters scene (Connected opened (at_number (fold (λ n r. r.0 + 1) stream.next given) stream))
+    (map filedata_of given ++ bare_status codes.end_of_file ∷ [])
 fetch_ends scene opened stream given (large ∷ more) =
     enters scene (Stopped opened (at_number large.0 stream)) (map filedata_of given ++ too_large ∷ [])
 
@@ -26,30 +28,20 @@ fetch_ends scene opened stream given (large ∷ more) =
 abbrev pub fetch : Scene → OpenFile → StreamVal → Effect
 fetch scene opened stream =
     let due = records_from (the_file scene.files opened).records stream.next in
-    fetch_ends scene opened stream (leading (fits_limit scene.limit) due) (from_failing (fits_limit scene.limit) due)
+    fetch_ends scene opened stream (take_while (fits_limit scene.limit) due) (drop (prefix_len (fits_limit scene.limit) due) due)
 
--- what a Continue Transfer asks for
-pub data Going : Type 0 where
-  Again : Going
-  Skip : Going
-  Abort : Going
-  Resume : Going
-  NoGoing : Going
+-- a Continue Transfer that asks for nothing that is done here: a resumption isn't supported, and anything else is none
+abbrev pub continue_refused : (func : ℕ) → Message
+continue_refused func =
+    bare_status (if func == codes.confunc.resume then codes.unsupported codes.types.contran else codes.invalid codes.types.contran)
 
-abbrev pub going : ℕ → Going
-going func =
-    if func == codes.confunc.again then Again
-    else if func == codes.confunc.skip then Skip
-    else if func == codes.confunc.abort then Abort
-    else if func == codes.confunc.resume then Resume else NoGoing
-
--- after a fetch that stopped
-abbrev pub continue_fetch : Going → Scene → OpenFile → StreamVal → Effect
-continue_fetch Again scene opened stream = fetch scene opened stream
-continue_fetch Skip scene opened stream = fetch scene opened (at_number (stream.next + 1) stream)
-continue_fetch Abort scene opened stream = enters scene (Connected opened stream) (end_of_file ∷ [])
-continue_fetch Resume scene opened stream = enters scene (Stopped opened stream) (bare_status (codes.unsupported codes.types.contran) ∷ [])
-continue_fetch NoGoing scene opened stream = enters scene (Stopped opened stream) (bare_status (codes.invalid codes.types.contran) ∷ [])
+-- a Continue Transfer after a fetch that stopped
+abbrev pub continue_fetch : (func : ℕ) → Scene → OpenFile → StreamVal → Effect
+continue_fetch func scene opened stream =
+    if func == codes.confunc.again then fetch scene opened stream
+    else if func == codes.confunc.skip then fetch scene opened (at_number (stream.next + 1) stream)
+    else if func == codes.confunc.abort then enters scene (Connected opened stream) (bare_status codes.end_of_file ∷ [])
+    else enters scene (Stopped opened stream) (continue_refused func ∷ [])
 
 -- ---- To this end.
 
@@ -65,12 +57,7 @@ store_one ordinal scene opened stream body =
     leaves scene (with_file opened.at outcome.file scene.files) (Store opened outcome.stream)
     (stored_answers (next_ordinal ordinal) outcome.reply)
 
--- after one that was refused it does nothing
-abbrev pub drop_one : Scene → OpenFile → StreamVal → Effect
-drop_one scene opened stream = enters scene (Store opened stream) []
-
 -- a Continue Transfer after a Filedata that was refused
-abbrev pub continue_store : Going → Scene → OpenFile → StreamVal → Effect
-continue_store Skip scene opened stream = enters scene (Store opened stream) []
-continue_store Resume scene opened stream = enters scene (Store opened stream) (bare_status (codes.unsupported codes.types.contran) ∷ [])
-continue_store _ scene opened stream = enters scene (Store opened stream) (bare_status (codes.invalid codes.types.contran) ∷ [])
+abbrev pub continue_store : (func : ℕ) → Scene → OpenFile → StreamVal → Effect
+continue_store func scene opened stream =
+    enters scene (Store opened stream) (if func == codes.confunc.skip then [] else continue_refused func ∷ [])

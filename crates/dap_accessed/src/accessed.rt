@@ -2,7 +2,7 @@
 
 ghost use Rattle.std.specs.Prelude.{◌≡◌, ◌≤◌, ◌<◌, ℕ, List, [], ◌∷◌, length, IfOk, IsOk, IfSome, IsTrue, OnErr, true};
 ghost use Rattle.dap_msg.specs.Exchange.{greatest_message, least_buffer};
-ghost use Rattle.dap_msg.specs.Items.{IsPlace, Item as TheItem, ItemFits, seen_item};
+ghost use Rattle.dap_msg.specs.Items.{IsPlace, Item as TheItem, ItemAt, ItemFits, seen_item};
 ghost use Rattle.dap_msg.specs.Canon.{FieldsFit};
 ghost use Rattle.dap_msg.specs.Message.{Attrib, seen, seen_attributes, seen_control};
 ghost use Rattle.dap_msg.specs.Codes.{status_code_for};
@@ -14,7 +14,7 @@ ghost use Rattle.dap_accessed.specs.Accesses.{fac_or, rights_of};
 ghost use Rattle.dap_accessed.specs.Replies.{bare_status, refused_access, sync_status};
 ghost use Rattle.dap_accessed.specs.Past.{shape_of};
 ghost use Rattle.dap_accessed.specs.Present.{StandsAfter};
-ghost use Rattle.dap_accessed.specs.Served.{IsUnrefused, Serves, is_silent};
+ghost use Rattle.dap_accessed.specs.Served.{Serves, is_silent};
 ghost use Rattle.dap_accessed.specs.Standing.{Fresh, Ready};
 ghost use Rattle.dap_accessed.specs.Inner.Moves.{Makes, creates, move, opens, opens_nothing, plainly};
 ghost use Rattle.dap_accessed.specs.Inner.Written.{Answered, IsShort, message_of};
@@ -55,8 +55,9 @@ pub struct Accessed {
 }
 
 impl Model for Accessed {
-    ghost use Rattle.dap_accessed.specs.Present.{Present, present_code};
+    ghost use Rattle.dap_accessed.specs.Present.{Present};
     ghost use Rattle.dap_accessed.specs.Inner.Moves.{IsKept};
+    ghost use Rattle.dap_accessed.specs.Inner.Stored.{present_code};
 
     ghost Value = { Present };
 
@@ -318,9 +319,23 @@ impl Accessed {
         ensures within { IfOk result (λ served. served.next ≤ length nsp_message.now) }
         ensures further { at < length nsp_message.now → IfOk result (λ served. at < served.next) }
         ensures no_memory { OnErr result (self.new ≡ self.old) }
-        ensures unrefused { IsUnrefused nsp_message.now at self.old result }
+        ensures unrefused { (item : TheItem) (next : ℕ) → ItemAt nsp_message.now at item next
+            → is_silent self.old.phase item ≡ true → IsOk result }
     {
         let (item, next) = item_at(nsp_message, at);
+        self.serve_read(item, next)
+    }
+
+    /// The same of what was read already: the message or fault that `item_at` answered, and the place
+    /// behind it. Own.
+    pub fn serve_read(&mut self, item: Item<'_>, next: usize) -> Result<Served, NoMemory>
+        requires { ItemImagesFit (seen_item item) }
+        ensures serves { (bytes : List ℕ) (at : ℕ) → ItemAt bytes at (seen_item item.entry) next
+            → IfOk result (Serves bytes at self.old self.new) }
+        ensures next { IfOk result (λ served. served.next ≡ next) }
+        ensures no_memory { OnErr result (self.new ≡ self.old) }
+        ensures unrefused { is_silent self.old.phase (seen_item item.entry) ≡ true → IsOk result }
+    {
         let answers = self.serve_item(item)?;
         Ok(Served { answers, next })
     }

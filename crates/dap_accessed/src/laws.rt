@@ -5,7 +5,8 @@ ghost use Rattle.std.specs.Prelude.{◌≡◌, ◌<◌, ◌^◌, ℕ, List, [], 
 ghost use Rattle.dap_msg.specs.Items.{IsRead, Item as TheItem};
 ghost use Rattle.dap_msg.specs.Blocked.{AllFit};
 ghost use Rattle.dap_msg.specs.Sendable.{AreSendable};
-ghost use Rattle.dap_accessed.specs.Sound.{AreRead, IsSound};
+ghost use Rattle.std.specs.List.{AllByRecursion};
+ghost use Rattle.dap_accessed.specs.Sound.{IsSound};
 ghost use Rattle.dap_accessed.specs.Groups.{Answers, added, limit_for, stands_after};
 
 /// One message more adds its own answers to those of the messages before it, and no others.
@@ -31,5 +32,5 @@ pub fn answers_are_sendable()
 /// All answers to messages that were read have spellings.
 pub fn answers_fit()
     ensures { (own : ℕ) → own < 2 ^ 16 → (items : List TheItem)
-        → AreRead items → AllFit (Answers own items) }
+        → AllByRecursion IsRead items → AllFit (Answers own items) }
 {}

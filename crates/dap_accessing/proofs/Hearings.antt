@@ -1,7 +1,7 @@
 -- What was heard stays heard when more answers come.
 use Rattle.std.proofs.Common.{◌≡◌, ℕ, refl, sym, ◌∙◌, true, false, Bool, ap, subst, List, [], ◌∷◌, ◌++◌}
 use Rattle.std.specs.Option.{option_or}
-use Rattle.std.specs.Prelude.{nat_le, ◌==◌, Option, Some, None, if◌then◌else◌, unwrap_or}
+use Rattle.std.specs.Prelude.{nat_le, ◌==◌, Option, Some, if◌then◌else◌, unwrap_or}
 use Rattle.dap_msg.specs.Message.{Config, Attrib, Ack, Accomp, Filedata, Status, Other, StatusFields}
 use Rattle.dap_msg.specs.Items.{Item, Whole}
 use Rattle.dap_msg.specs.Codes.{cmpfunc, stscode}
@@ -10,13 +10,12 @@ use Rattle.dap_accessing.specs.declared.request.Request.{Request}
 use Rattle.dap_accessing.specs.declared.report.Report.{Report}
 use Rattle.dap_accessing.specs.declared.report.Report.TheVariants as report
 use Rattle.dap_msg.specs.Codes.{is_success}
-use Rattle.dap_accessing.specs.Told.{Hearing, Reports, Waits, Unexpected, refusal, reports_or_unexpected, hear, hear_config, hear_ack, opened_as, greatest_mrn, hear_record, hear_done, ending_of, reason_in, told_of, hear_closed, Told}
+use Rattle.dap_accessing.specs.Told.{Hearing, Reports, Waits, Unexpected, refusal, hear, hear_config, hear_ack, opened_as, greatest_mrn, hear_record, hear_done, ending_of, reason_in, told_of, hear_closed, Told}
 use Rattle.dap_accessing.specs.declared.pending.Pending.{Pending}
 use Rattle.dap_accessing.specs.declared.pending.Pending.TheVariants as pending
 use Rattle.dap_accessing.specs.Inner.Hears.{pending_of}
 use Rattle.dap_accessing.specs.Inner.Gathers.{gather_opened, gather_attributes, gather_batch, gather_stored, gather}
 use Rattle.dap_accessing.proofs.Gathering.{asked_gathered}
-use Rattle.dap_accessing.specs.Steps.{ReportsGrow}
 
 -- the hearing with more answers: the same with these behind it, unless it waits
 abbrev pub Stays : Hearing → Hearing → List Item → Type 0
@@ -34,7 +33,7 @@ stays-if-not false done rest more = refl
 
 stays-refusal : (status : StatusFields) (rest more : List Item) → Stays (refusal status rest) (refusal status (rest ++ more)) more
 stays-refusal status rest more =
-    elim (is_success status.code) as (λ b. Stays (reports_or_unexpected (if b then None else Some (report.Refused status.code (reason_in status.stv))) rest) (reports_or_unexpected (if b then None else Some (report.Refused status.code (reason_in status.stv))) (rest ++ more)) more) [ true ↦ refl | false ↦ refl ]
+    elim (is_success status.code) as (λ b. Stays (if b then Unexpected else Reports (report.Refused status.code (reason_in status.stv)) rest) (if b then Unexpected else Reports (report.Refused status.code (reason_in status.stv)) (rest ++ more)) more) [ true ↦ refl | false ↦ refl ]
 
 stays-config : (answers more : List Item) → Stays (hear_config answers) (hear_config (answers ++ more)) more
 stays-config [] more = tt
@@ -79,8 +78,8 @@ stays-record (_ ∷ rest) more = refl
 stays-done : (answers more : List Item) → Stays (hear_done answers) (hear_done (answers ++ more)) more
 stays-done [] more = tt
 stays-done (Whole (Status status) ∷ rest) more =
-    elim (is_success status.code) as (λ b. Stays (if b then Reports (report.Done (number_of status.recnum)) rest else reports_or_unexpected (if b then None else Some (report.Refused status.code (reason_in status.stv))) rest)
-    (if b then Reports (report.Done (number_of status.recnum)) (rest ++ more) else reports_or_unexpected (if b then None else Some (report.Refused status.code (reason_in status.stv))) (rest ++ more)) more) [ true ↦ refl | false ↦ refl ]
+    elim (is_success status.code) as (λ b. Stays (if b then Reports (report.Done (number_of status.recnum)) rest else if b then Unexpected else Reports (report.Refused status.code (reason_in status.stv)) rest)
+    (if b then Reports (report.Done (number_of status.recnum)) (rest ++ more) else if b then Unexpected else Reports (report.Refused status.code (reason_in status.stv)) (rest ++ more)) more) [ true ↦ refl | false ↦ refl ]
 stays-done (_ ∷ rest) more = refl
 
 stays-batch : (records : List (ℕ × List ℕ)) (answers more : List Item) → Stays (gather_batch records answers) (gather_batch records (answers ++ more)) more
@@ -143,7 +142,7 @@ grow-by requests more Waits later s rest = (told_by requests later, refl)
 grow-by requests more Unexpected later s rest = ([], ap (told_by requests) s)
 grow-by requests more (Reports done left) later s rest = let r = rest left in (r.0, ap (told_by requests) s ∙ ap (λ l. done ∷ l) r.1)
 
-pub reports_grow : ReportsGrow
+pub reports_grow : (requests : List Request) (answers more : List Item) → (reports : List Report) × (Told requests (answers ++ more) ≡ Told requests answers ++ reports)
 reports_grow [] answers more = ([], refl)
 reports_grow (request ∷ requests) answers more =
     let g = grow-by requests more (hear request answers) (hear request (answers ++ more)) (stays request answers more) (λ rest. reports_grow requests rest more) in

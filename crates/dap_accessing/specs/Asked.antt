@@ -30,21 +30,6 @@ abbrev pub put_at : Option ℕ → Message
 put_at None = control codes.ctlfunc.put (Some codes.rac.sequential) None
 put_at (Some n) = control codes.ctlfunc.put (Some codes.rac.keyed) (Some (four_bytes n))
 
-abbrev pub updating : Message
-updating = control codes.ctlfunc.update (Some codes.rac.sequential) None
-
-abbrev pub deleting : Message
-deleting = control codes.ctlfunc.delete (Some codes.rac.sequential) None
-
-abbrev pub rewinding : Message
-rewinding = control codes.ctlfunc.rewind (Some codes.rac.sequential) None
-
-abbrev pub fetching : Message
-fetching = control codes.ctlfunc.get (Some codes.rac.whole_file) None
-
-abbrev pub storing : Message
-storing = control codes.ctlfunc.put (Some codes.rac.whole_file) None
-
 abbrev pub record_of : List ℕ → Message
 record_of body = Filedata [] body
 
@@ -62,11 +47,12 @@ messages_of own (OpenFile name fac) = attributes None None None None ∷ access 
 messages_of own Connect = control codes.ctlfunc.connect None None ∷ []
 messages_of own (Get by) = get_by by ∷ []
 messages_of own (Put key body) = put_at key ∷ record_of body ∷ []
-messages_of own (Update body) = updating ∷ record_of body ∷ []
-messages_of own Delete = deleting ∷ []
-messages_of own Rewind = rewinding ∷ []
-messages_of own Fetch = fetching ∷ []
-messages_of own (Store bodies) = (storing ∷ map record_of bodies) ++ complete_with codes.cmpfunc.end_of_stream ∷ []
+messages_of own (Update body) = control codes.ctlfunc.update (Some codes.rac.sequential) None ∷ record_of body ∷ []
+messages_of own Delete = control codes.ctlfunc.delete (Some codes.rac.sequential) None ∷ []
+messages_of own Rewind = control codes.ctlfunc.rewind (Some codes.rac.sequential) None ∷ []
+messages_of own Fetch = control codes.ctlfunc.get (Some codes.rac.whole_file) None ∷ []
+messages_of own (Store bodies) =
+    (control codes.ctlfunc.put (Some codes.rac.whole_file) None ∷ map record_of bodies) ++ complete_with codes.cmpfunc.end_of_stream ∷ []
 messages_of own (Continue how) = Contran (how_to_go_on how) ∷ []
 messages_of own Close = complete_with codes.cmpfunc.close ∷ []
 messages_of own Purge = complete_with codes.cmpfunc.purge ∷ []

@@ -1,5 +1,5 @@
 -- What `ask` and `read` come to.
-use Rattle.std.specs.Prelude.{ℕ, ◌≡◌, true, false, List, [], ◌∷◌, ◌++◌, None, option_to_list}
+use Rattle.std.specs.Prelude.{ℕ, ◌≡◌, Bool, true, false, List, [], ◌∷◌, ◌++◌, None, option_to_list}
 use Rattle.dap_msg.specs.Items.{Item, ItemAt}
 use Rattle.dap_msg.specs.Blocked.{Blocked, all_joined}
 use Rattle.dap_msg.specs.Sendable.{AreSendable}
@@ -52,14 +52,14 @@ pub record Reads (bytes : List ℕ) (at : ℕ) (old new : Present) (read : ReadS
   pub told : (requests : List Request) (answers : List Item) → StandsAfter requests answers old →
       Told requests (answers ++ answer ∷ []) ≡ Told requests answers ++ option_to_list read.report
 
+-- what stands at the place is unexpected, or it isn't, after all requests and answers that the end stands after
+abbrev pub IsThere : List ℕ → ℕ → Present → (unexpected : Bool) → Type 0
+IsThere bytes at old unexpected =
+    (answer : Item) × (next : ℕ) × ItemAt bytes at answer next
+    × ((requests : List Request) (answers : List Item) → StandsAfter requests answers old → is_unexpected requests answers answer ≡ unexpected)
+
 -- why an answer is refused, and what that leaves
 abbrev pub ReadRefused : List ℕ → ℕ → Present → Present → ReadFault → Type 0
 ReadRefused bytes at old new read_fault.Failed = (old.failed ≡ true) × (new ≡ old)
-ReadRefused bytes at old new read_fault.NoMemory =
-    (old.failed ≡ false) × (new ≡ old)
-    × ((answer : Item) × (next : ℕ) × ItemAt bytes at answer next
-    × ((requests : List Request) (answers : List Item) → StandsAfter requests answers old → is_unexpected requests answers answer ≡ false))
-ReadRefused bytes at old new read_fault.Unexpected =
-    (old.failed ≡ false) × (new.failed ≡ true)
-    × ((answer : Item) × (next : ℕ) × ItemAt bytes at answer next
-    × ((requests : List Request) (answers : List Item) → StandsAfter requests answers old → is_unexpected requests answers answer ≡ true))
+ReadRefused bytes at old new read_fault.NoMemory = (old.failed ≡ false) × (new ≡ old) × IsThere bytes at old false
+ReadRefused bytes at old new read_fault.Unexpected = (old.failed ≡ false) × (new.failed ≡ true) × IsThere bytes at old true

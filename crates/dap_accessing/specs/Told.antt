@@ -28,16 +28,10 @@ abbrev pub reason_in : List ℕ → ℕ
 reason_in (reason ∷ []) = reason
 reason_in _ = 0
 
--- the report of a Status where one is due, unless it is a success
-abbrev pub refused_by : ℕ → ℕ → Option Report
-refused_by code reason = if codes.is_success code then None else Some (report.Refused code reason)
-
-abbrev pub reports_or_unexpected : Option Report → List Item → Hearing
-reports_or_unexpected None rest = Unexpected
-reports_or_unexpected (Some done) rest = Reports done rest
-
+-- a Status where a report is due: it refuses, and a success has no place
 abbrev pub refusal : StatusFields → List Item → Hearing
-refusal status rest = reports_or_unexpected (refused_by status.code (reason_in status.stv)) rest
+refusal status rest =
+    if codes.is_success status.code then Unexpected else Reports (report.Refused status.code (reason_in status.stv)) rest
 
 abbrev pub hear_config : List Item → Hearing
 hear_config [] = Waits

@@ -1,16 +1,18 @@
 //! The accessing end.
 
-ghost use Rattle.std.specs.Prelude.{◌≡◌, ◌≢◌, ◌≤◌, ◌<◌, [], false, length, map, IfOk, IfErr, OnOk, OnErr};
+ghost use Rattle.std.specs.Prelude.{◌≡◌, ◌≢◌, ◌≤◌, ◌<◌, List, [], ◌++◌, false, length, map, IfOk, IfErr, OnOk, OnErr};
 ghost use Rattle.dap_accessing.specs.declared.fault.AskFault.TheVariants.{NoMemory};
 ghost use Rattle.dap_msg.specs.Exchange.{greatest_message, least_buffer};
 ghost use Rattle.dap_msg.specs.Message.{seen};
-ghost use Rattle.dap_msg.specs.Items.{Whole};
+ghost use Rattle.dap_msg.specs.Items.{Item as TheItem, Whole};
 ghost use Rattle.dap_msg.specs.Blocked.{bodies};
 ghost use Rattle.dap_accessing.specs.Inner.Hears.{HasShortNumbers, Takes};
 ghost use Rattle.dap_accessing.specs.Present.{StandsAfter};
 ghost use Rattle.dap_msg.specs.Items.{IsPlace};
 ghost use Rattle.dap_accessing.specs.Calls.{Asks, AskRefused, IsAdmittedBy, MayAsk, Reads, ReadRefused};
-ghost use Rattle.dap_accessing.specs.Steps.{ReportsGrow};
+ghost use Rattle.dap_accessing.specs.Told.{Told};
+ghost use Rattle.dap_accessing.specs.declared.request.Request.{Request as TheRequest};
+ghost use Rattle.dap_accessing.specs.declared.report.Report.{Report as TheReport};
 
 use crate::asking::{Outgoing, carried_number};
 use crate::fault::{AskFault, ReadFault, ReadStep};
@@ -186,5 +188,6 @@ impl Accessing {
 /// More answers never take a report back: the reports are a function of the requests and of a front of
 /// the answers. Own.
 pub fn reports_grow()
-    ensures { ReportsGrow }
+    ensures { (requests : List TheRequest) (answers more : List TheItem) → (reports : List TheReport)
+        × (Told requests (answers ++ more) ≡ Told requests answers ++ reports) }
 {}

@@ -4,7 +4,7 @@ ghost use Rattle.std.specs.Prelude.{◌≡◌};
 ghost use Rattle.dap_msg.specs.Items.{Whole};
 ghost use Rattle.dap_msg.specs.Message.{seen};
 ghost use Rattle.dap_accessing.specs.declared.pending.Pending.TheVariants as pending;
-ghost use Rattle.dap_accessing.specs.Told.{ending_by, reason_in, refused_by};
+ghost use Rattle.dap_accessing.specs.Told.{ending_by, reason_in};
 ghost use Rattle.dap_accessing.specs.Inner.Hears.{AddsBody, HasShortNumbers, Hears, pending_of, refused_as};
 
 use crate::bytes::{Numbered, Octets};
@@ -111,7 +111,7 @@ impl Pending {
 
 /// A Status where a report is due: it refuses, or has no place where it is a success.
 fn hear_status(code: u16, stv: &[u8]) -> Heard
-    ensures { result ≡ refused_as (refused_by code (reason_in stv.now)) }
+    ensures { result ≡ refused_as code (reason_in stv.now) }
 {
     if StatusCode(code).is_success() {
         Heard::Unexpected

@@ -7,17 +7,31 @@ use Rattle.dap_world.specs.declared.event.Event.TheVariants as event
 use Rattle.dap_world.specs.declared.event.Step.{Step}
 use Rattle.dap_world.specs.declared.event.WorldFault.{WorldFault}
 use Rattle.dap_world.specs.declared.event.WorldFault.TheVariants as fault
-use Rattle.dap_world.specs.Machine.{Refuses, State, Direction, Sending, sends, other, wrote, came, delivered, is_stale, MayEmit, segments_of, Steps}
+use Rattle.dap_world.specs.Machine.{Refuses, State, Direction, Sending, sends, other, wrote, acknowledged, came, delivered, is_stale, MayEmit, segments_of, Steps}
 use Rattle.dap_msg.specs.Blocked.{NspMessage}
 use Rattle.dap_world.specs.Runs.{Went}
 use Rattle.dap_world.specs.Inner.Worlds.{IsWorld}
-use Rattle.dap_world.specs.Settling.{RanBy, RanTo, SameBut, unacked}
+use Rattle.dap_world.specs.Settling.{RanBy, RanTo, unacked}
+use Rattle.dap_world.specs.Inner.Settling.{SameBut}
 use Rattle.dap_world.specs.Inner.Settling.{Brought}
 use Rattle.dap_world.proofs.Directions.{came-moves, kept-came, AreTrue-at}
 use Rattle.dap_world.proofs.Settles.{ran_none, ran_one, ran_both, at_last, is_same, took}
 
-pub same_none : (s : State) → SameBut s s
-same_none s =
+-- of a direction nothing moves but the counts, none of them back, the wire and what is held
+record Stays (old new : Direction) : Type 0 where
+  handed : new.handed ≡ old.handed
+  waiting : new.waiting ≡ old.waiting
+  taken : old.taken ≤ new.taken
+  acked : old.acked ≤ new.acked
+
+stays : (d : Direction) → Stays d d
+stays d = record { handed = refl; waiting = refl; taken = omega arith; acked = omega arith }
+
+abbrev with_both : State → Direction → Direction → State
+with_both s a b = record s { from_a = a; from_b = b }
+
+same_ends : (s : State) (a b : Direction) → Stays s.from_a a → Stays s.from_b b → SameBut s (with_both s a b)
+same_ends s a b x y =
     record {
       seg_size = refl;
       window = refl;
@@ -26,11 +40,30 @@ same_none s =
       requests = refl;
       served = refl;
       read = refl;
-      handed = λ e. refl;
-      waiting = λ e. refl;
-      taken = λ e. omega arith;
-      acked = λ e. omega arith;
+      handed = λ e. handed e;
+      waiting = λ e. waiting e;
+      taken = λ e. taken e;
+      acked = λ e. acked e;
     }
+  where
+    handed : (e : End) → (sends (with_both s a b) e).handed ≡ (sends s e).handed
+    handed A = x.handed
+    handed B = y.handed
+
+    waiting : (e : End) → (sends (with_both s a b) e).waiting ≡ (sends s e).waiting
+    waiting A = x.waiting
+    waiting B = y.waiting
+
+    taken : (e : End) → (sends s e).taken ≤ (sends (with_both s a b) e).taken
+    taken A = x.taken
+    taken B = y.taken
+
+    acked : (e : End) → (sends s e).acked ≤ (sends (with_both s a b) e).acked
+    acked A = x.acked
+    acked B = y.acked
+
+pub same_none : (s : State) → SameBut s s
+same_none s = same_ends s s.from_a s.from_b (stays s.from_a) (stays s.from_b)
 
 pub same_both : (old mid new : State) → SameBut old mid → SameBut mid new → SameBut old new
 same_both old mid new a b =
@@ -52,66 +85,8 @@ pub same_is : (old mid new : State) → new ≡ mid → SameBut old mid → Same
 same_is old mid new is h = subst (SameBut old) (sym is) h
 
 pub same_wrote : (s : State) (end : End) (sent : ℕ) (k : Option ℕ) → SameBut s (wrote s end sent k)
-same_wrote s A sent k =
-    record {
-      seg_size = refl;
-      window = refl;
-      own_a = refl;
-      own_b = refl;
-      requests = refl;
-      served = refl;
-      read = refl;
-      handed = λ e. handed e;
-      waiting = λ e. waiting e;
-      taken = λ e. taken e;
-      acked = λ e. acked e;
-    }
-  where
-    handed : (e : End) → (sends (wrote s A sent k) e).handed ≡ (sends s e).handed
-    handed A = refl
-    handed B = refl
-
-    waiting : (e : End) → (sends (wrote s A sent k) e).waiting ≡ (sends s e).waiting
-    waiting A = refl
-    waiting B = refl
-
-    taken : (e : End) → (sends s e).taken ≤ (sends (wrote s A sent k) e).taken
-    taken A = omega arith
-    taken B = omega arith
-
-    acked : (e : End) → (sends s e).acked ≤ (sends (wrote s A sent k) e).acked
-    acked A = omega arith
-    acked B = omega arith
-same_wrote s B sent k =
-    record {
-      seg_size = refl;
-      window = refl;
-      own_a = refl;
-      own_b = refl;
-      requests = refl;
-      served = refl;
-      read = refl;
-      handed = λ e. handed e;
-      waiting = λ e. waiting e;
-      taken = λ e. taken e;
-      acked = λ e. acked e;
-    }
-  where
-    handed : (e : End) → (sends (wrote s B sent k) e).handed ≡ (sends s e).handed
-    handed A = refl
-    handed B = refl
-
-    waiting : (e : End) → (sends (wrote s B sent k) e).waiting ≡ (sends s e).waiting
-    waiting A = refl
-    waiting B = refl
-
-    taken : (e : End) → (sends s e).taken ≤ (sends (wrote s B sent k) e).taken
-    taken A = omega arith
-    taken B = omega arith
-
-    acked : (e : End) → (sends s e).acked ≤ (sends (wrote s B sent k) e).acked
-    acked A = omega arith
-    acked B = omega arith
+same_wrote s A sent k = same_ends s _ s.from_b (record { handed = refl; waiting = refl; taken = omega arith; acked = omega arith }) (stays s.from_b)
+same_wrote s B sent k = same_ends s s.from_a _ (stays s.from_a) (record { handed = refl; waiting = refl; taken = omega arith; acked = omega arith })
 
 came_handed : (keep : Bool) (d : Direction) (k : Option ℕ) → (came keep d k).handed ≡ d.handed
 came_handed keep d k = ap (λ (x : Direction). x.handed) (came-moves keep d k).2
@@ -125,71 +100,20 @@ came_acked keep d k = ap (λ (x : Direction). x.acked) (came-moves keep d k).2
 pub came_sent : (keep : Bool) (d : Direction) (k : Option ℕ) → (came keep d k).sent ≡ d.sent
 came_sent keep d k = ap (λ (x : Direction). x.sent) (came-moves keep d k).2
 
+came_stays : (keep : Bool) (d : Direction) (k : Option ℕ) → d.taken ≤ (came keep d k).taken → Stays d (came keep d k)
+came_stays keep d k grew =
+    record { handed = came_handed keep d k; waiting = came_waiting keep d k; taken = grew; acked = omega (arith, came_acked keep d k) }
+
+acknowledged_stays : (d : Direction) (a : ℕ) → Stays d (acknowledged d a)
+acknowledged_stays d a = record { handed = refl; waiting = refl; taken = omega arith; acked = omega arith }
+
 same_delivered : (s : State) (end : End) (keep : Bool) (j : ℕ) (p : Sending) → IsWorld s → slice_get (sends s (other end)).wire j ≡ Some p → SameBut s (delivered keep s end p)
 same_delivered s A keep j p h at =
     let was = (AreTrue-at s.from_b.wire j p s.from_b.sent s.from_a.taken h.from_b.wire at).0 in
-    let grew = (kept-came s.seg_size s.window s.from_b s.from_a h.from_b keep p.segment was).1 in
-    record {
-      seg_size = refl;
-      window = refl;
-      own_a = refl;
-      own_b = refl;
-      requests = refl;
-      served = refl;
-      read = refl;
-      handed = λ e. handed e;
-      waiting = λ e. waiting e;
-      taken = λ e. taken grew e;
-      acked = λ e. acked e;
-    }
-  where
-    handed : (e : End) → (sends (delivered keep s A p) e).handed ≡ (sends s e).handed
-    handed A = refl
-    handed B = came_handed keep s.from_b p.segment
-
-    waiting : (e : End) → (sends (delivered keep s A p) e).waiting ≡ (sends s e).waiting
-    waiting A = refl
-    waiting B = came_waiting keep s.from_b p.segment
-
-    taken : s.from_b.taken ≤ (came keep s.from_b p.segment).taken → (e : End) → (sends s e).taken ≤ (sends (delivered keep s A p) e).taken
-    taken grew A = omega arith
-    taken grew B = grew
-
-    acked : (e : End) → (sends s e).acked ≤ (sends (delivered keep s A p) e).acked
-    acked A = omega arith
-    acked B = omega (arith, came_acked keep s.from_b p.segment)
+    same_ends s _ _ (acknowledged_stays s.from_a p.acks) (came_stays keep s.from_b p.segment (kept-came s.seg_size s.window s.from_b s.from_a h.from_b keep p.segment was).1)
 same_delivered s B keep j p h at =
     let was = (AreTrue-at s.from_a.wire j p s.from_a.sent s.from_b.taken h.from_a.wire at).0 in
-    let grew = (kept-came s.seg_size s.window s.from_a s.from_b h.from_a keep p.segment was).1 in
-    record {
-      seg_size = refl;
-      window = refl;
-      own_a = refl;
-      own_b = refl;
-      requests = refl;
-      served = refl;
-      read = refl;
-      handed = λ e. handed e;
-      waiting = λ e. waiting e;
-      taken = λ e. taken grew e;
-      acked = λ e. acked e;
-    }
-  where
-    handed : (e : End) → (sends (delivered keep s B p) e).handed ≡ (sends s e).handed
-    handed A = came_handed keep s.from_a p.segment
-    handed B = refl
-
-    waiting : (e : End) → (sends (delivered keep s B p) e).waiting ≡ (sends s e).waiting
-    waiting A = came_waiting keep s.from_a p.segment
-    waiting B = refl
-
-    taken : s.from_a.taken ≤ (came keep s.from_a p.segment).taken → (e : End) → (sends s e).taken ≤ (sends (delivered keep s B p) e).taken
-    taken grew A = grew
-    taken grew B = omega arith
-
-    acked : (e : End) → (sends s e).acked ≤ (sends (delivered keep s B p) e).acked
-    acked A = omega (arith, came_acked keep s.from_a p.segment)
-    acked B = omega arith
+    same_ends s _ _ (came_stays keep s.from_a p.segment (kept-came s.seg_size s.window s.from_a s.from_b h.from_a keep p.segment was).1) (acknowledged_stays s.from_b p.acks)
 
 -- ---- Each step.
 

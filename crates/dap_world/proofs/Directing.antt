@@ -20,7 +20,8 @@ use Rattle.dap_world.specs.declared.event.WorldFault.TheVariants as fault
 use Rattle.dap_world.specs.Machine.{State, answers_read, asked, files_of, reported, sent_by, taken_of, Steps, Refuses}
 use Rattle.dap_world.specs.Runs.{Went}
 use Rattle.dap_world.specs.Inner.Worlds.{IsWorld}
-use Rattle.dap_world.specs.Settling.{AllDone, AllTold, Finished, FinishFault, IsFresh, RanOut, RanTo, RunsTo, StopsAtRequest}
+use Rattle.dap_world.specs.Settling.{AllDone, AllTold, Finished, FinishFault, IsFresh, RanOut, RanTo, StopsAtRequest}
+use Rattle.dap_world.specs.Inner.Settling.{RunsTo}
 use Rattle.dap_world.proofs.Kept.{headline_of}
 use Rattle.dap_world.proofs.Onward.{ran_on, ran_world}
 use Rattle.dap_world.proofs.Others.{refused_same}

@@ -9,7 +9,7 @@ use Rattle.dap_accessing.specs.declared.pending.Pending.{Pending}
 use Rattle.dap_accessing.specs.Present.{FitsDue}
 use Rattle.dap_accessing.specs.Told.{Due, NothingDue, AnswersDue, Wrong, due_after}
 use Rattle.dap_world.specs.Machine.{answers_read, arrived, reported}
-use Rattle.dap_world.specs.Settling.{IsOneDue}
+use Rattle.dap_world.specs.Inner.Settling.{IsOneDue}
 use Rattle.dap_world.specs.Inner.Parts.{Parts, AreParts, asks, state_of}
 use Rattle.dap_world.specs.Inner.Ways.{AreShort}
 use Rattle.dap_world.proofs.Serving.{fit-take}

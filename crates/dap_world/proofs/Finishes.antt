@@ -14,7 +14,8 @@ use Rattle.dap_world.specs.declared.event.End.{End}
 use Rattle.dap_world.specs.declared.event.End.TheVariants.{A, B}
 use Rattle.dap_world.specs.Machine.{State, arrived_of, answers_read, files_of, next_to_read, reported, segments_of, sent_by, taken_of}
 use Rattle.dap_world.specs.Inner.Worlds.{IsWorld}
-use Rattle.dap_world.specs.Settling.{AllTold, Finished, IsEmpty, IsFinished, RanBy, SendsNothing, unacked}
+use Rattle.dap_world.specs.Settling.{AllTold, Finished, IsEmpty, IsFinished, RanBy, unacked}
+use Rattle.dap_world.specs.Inner.Settling.{NothingSent}
 use Rattle.dap_world.specs.Inner.Settling.{AreEmpty, ReadEvery, ReadPart, SentBoth, ServedEvery, SettledBoth}
 use Rattle.dap_world.proofs.Agreeing.{one-report-each}
 use Rattle.dap_world.proofs.Kept.{headline_of}
@@ -138,7 +139,7 @@ module _ (old s1 s2 s3 : State) (n1 n2 n3 : ℕ) (h : IsWorld old) (a : SettledB
   pub still_four : IsFinished old → s3 ≡ old
   still_four f = let two = still_three f in still_served s2 s3 n3 (subst IsWorld (sym two) h) (subst IsFinished (sym two) f) c ∙ two
 
-  pub finished : (new : State) (n4 : ℕ) → SendsNothing old s1 → IsWorld s3 → IsWorld new → ReadEvery s3 new n4 → Finished old new (((n1 + n2) + n3) + n4)
+  pub finished : (new : State) (n4 : ℕ) → NothingSent old s1 → IsWorld s3 → IsWorld new → ReadEvery s3 new n4 → Finished old new (((n1 + n2) + n3) + n4)
   finished new n4 rest w3 w r =
       let done = is_finished s3 new n4 w c.done.empty c.all r in
       let ran = ran_both old s3 new ((n1 + n2) + n3) n4 ran_three r.ran in

@@ -15,7 +15,8 @@ use Rattle.dap_world.specs.declared.event.Step.{Step}
 use Rattle.dap_world.specs.Machine.{State, sends, sent_by, taken_of, answers_read, reported, Steps}
 use Rattle.dap_world.specs.Runs.{Runs}
 use Rattle.dap_world.specs.Inner.Worlds.{IsWorld}
-use Rattle.dap_world.specs.Settling.{AsksNothing, RanBy, RanTo, SameBut}
+use Rattle.dap_world.specs.Settling.{AsksNothing, RanBy, RanTo}
+use Rattle.dap_world.specs.Inner.Settling.{SameBut}
 use Rattle.dap_world.proofs.Asking.{answers-front}
 use Rattle.dap_world.proofs.Bringing.{same_emit, same_ack, same_deliver, same_wrote, same_is}
 use Rattle.dap_world.proofs.Kept.{kept-step, taken-more, headline_of}

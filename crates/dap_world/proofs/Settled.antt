@@ -4,11 +4,12 @@ use Rattle.std.specs.Prelude.{Result, IsOk}
 use Rattle.dap_world.specs.declared.event.End.TheVariants.{A, B}
 use Rattle.dap_world.specs.declared.event.WorldFault.{WorldFault}
 use Rattle.dap_world.specs.Machine.{State}
-use Rattle.dap_world.specs.Settling.{SendsNothing, Settled}
+use Rattle.dap_world.specs.Settling.{Settled}
+use Rattle.dap_world.specs.Inner.Settling.{NothingSent}
 use Rattle.dap_world.specs.Inner.Settling.{SettledBoth}
 use Rattle.dap_world.proofs.Settles.{ran_both}
 
-pub settled_both : (old mid new : State) (n k : ℕ) → Settled old mid A n → SendsNothing old mid → Settled mid new B k → SendsNothing mid new → SettledBoth old new (n + k)
+pub settled_both : (old mid new : State) (n k : ℕ) → Settled old mid A n → NothingSent old mid → Settled mid new B k → NothingSent mid new → SettledBoth old new (n + k)
 settled_both old mid new n k a ra b rb =
     record {
       ran = ran_both old mid new n k a.ran b.ran;

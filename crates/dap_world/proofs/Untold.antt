@@ -14,7 +14,8 @@ use Rattle.dap_accessing.proofs.ForCallers.{told_by, Told-told_by, reports_grow}
 use Rattle.dap_world.specs.Agreement.{answers_to}
 use Rattle.dap_world.specs.Machine.{State, arrived_of, sent_by, taken_of, answers_read, reported}
 use Rattle.dap_world.specs.Inner.Worlds.{IsWorld}
-use Rattle.dap_world.specs.Settling.{RanBy, IsOneDue}
+use Rattle.dap_world.specs.Settling.{RanBy}
+use Rattle.dap_world.specs.Inner.Settling.{IsOneDue}
 use Rattle.dap_world.specs.Inner.Settling.{ReadPart}
 use Rattle.dap_world.proofs.Agreeing.{none-unexpected}
 use Rattle.dap_world.proofs.Asking.{all_told, answers-front}

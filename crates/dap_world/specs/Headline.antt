@@ -10,14 +10,11 @@ use Rattle.dap_accessing.specs.Asked.{Asked}
 use Rattle.dap_accessing.specs.Told.{Told}
 use Rattle.dap_world.specs.Machine.{State, sent_by, taken_of, files_of, reported}
 
-abbrev pub IsPrefix : {X : Type 0} → List X → List X → Type 0
-IsPrefix {X} xs ys = (rest : List X) × (xs ++ rest ≡ ys)
-
 -- The messages that were sent are a front of what the requests ask. Those that were taken are the first of those sent,
 -- each once and in order. The files are those after what was taken. The reports are what is told of the requests and
 -- the first answers to what was taken.
 pub record Headline (own_a own_b : ℕ) (requests : List Request) (sent taken : List Message) (taken_count : ℕ) (files : Files) (reports : List Report) (read_count : ℕ) : Type 0 where
-  pub sent_in_order : IsPrefix sent (Asked own_a requests)
+  pub sent_in_order : (rest : List Message) × (sent ++ rest ≡ Asked own_a requests)
   pub taken_in_order : taken ≡ take taken_count sent
   pub taken_there : taken_count ≤ length sent
   pub files_after : files ≡ After own_b (map Whole taken)

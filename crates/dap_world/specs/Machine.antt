@@ -4,7 +4,7 @@ use Rattle.dap_msg.specs.Message.{Message}
 use Rattle.dap_msg.specs.Items.{Item, Whole}
 use Rattle.dap_msg.specs.Blocked.{NspMessage, joined, Blocked, messages_in}
 use Rattle.dap_accessed.specs.Standing.{Files}
-use Rattle.dap_accessed.specs.Groups.{Answers, After, Cut, added, stands_after}
+use Rattle.dap_accessed.specs.Groups.{Answers, After, added, limit_for}
 use Rattle.dap_accessing.specs.declared.request.Request.{Request}
 use Rattle.dap_accessing.specs.declared.report.Report.{Report}
 use Rattle.dap_accessing.specs.declared.fault.AskFault.TheVariants as ask_fault
@@ -109,10 +109,6 @@ arrived_of seg_size d = messages_in (arrived seg_size d.taken d.handed)
 abbrev pub taken_of : State → List Message
 taken_of s = take s.served (sent_by s.from_a)
 
--- where B stands after them
-abbrev pub standing_of : State → Cut
-standing_of s = stands_after s.own_b (map Whole (taken_of s))
-
 -- the answers that A read
 abbrev pub answers_read : State → List Item
 answers_read s = map Whole (take s.read (Answers s.own_b (map Whole (taken_of s))))
@@ -175,7 +171,7 @@ is_stale s end p = is_old_segment (sends s (other end)).taken p.segment || is_ol
 
 -- the answers to one message more, joined as far as the limit of A goes that B knows
 abbrev pub answering : State → Message → List NspMessage
-answering s m = Blocked (standing_of s).standing.limit (added s.own_b (map Whole (taken_of s)) (Whole m))
+answering s m = let taken = map Whole (taken_of s) in Blocked (limit_for s.own_b taken) (added s.own_b taken (Whole m))
 
 abbrev pub served_one : State → Message → State
 served_one s m = record s { from_b = record s.from_b { waiting = answering s m }; served = s.served + 1 }

@@ -14,7 +14,7 @@ use Rattle.dap_world.specs.declared.event.Event.{Event}
 use Rattle.dap_world.specs.declared.event.Event.TheVariants as event
 use Rattle.dap_world.specs.declared.event.WorldFault.{WorldFault}
 use Rattle.dap_world.specs.declared.event.WorldFault.TheVariants as fault
-use Rattle.dap_world.specs.Machine.{State, sends, segments_of, sent_by, taken_of, answers_read, reported, files_of}
+use Rattle.dap_world.specs.Machine.{State, Direction, sends, segments_of, sent_by, taken_of, answers_read, reported, files_of}
 use Rattle.dap_world.specs.Runs.{Runs}
 
 -- no event asks
@@ -38,24 +38,15 @@ RanTo old new = (n : ℕ) × RanBy old new n
 abbrev pub unacked : State → End → ℕ
 unacked s end = (sends s end).sent - (sends s end).acked
 
--- What the links' own events leave alone: all but the counts, the wires and what is held.
-pub record SameBut (old new : State) : Type 0 where
-  pub seg_size : new.seg_size ≡ old.seg_size
-  pub window : new.window ≡ old.window
-  pub own_a : new.own_a ≡ old.own_a
-  pub own_b : new.own_b ≡ old.own_b
-  pub requests : new.requests ≡ old.requests
-  pub served : new.served ≡ old.served
-  pub read : new.read ≡ old.read
-  pub handed : (end : End) → (sends new end).handed ≡ (sends old end).handed
-  pub waiting : (end : End) → (sends new end).waiting ≡ (sends old end).waiting
+-- what moves of a direction: the counts of segments taken and acknowledged, the wire, and what the peer holds
+abbrev pub moved : (old new : Direction) → Direction
+moved old new = record old { taken = new.taken; acked = new.acked; held = new.held; wire = new.wire }
+
+-- nothing else moved, so that no segment more was sent, and no count went back
+pub record SendsNothing (old new : State) : Type 0 where
+  pub rest : new ≡ record old { from_a = moved old.from_a new.from_a; from_b = moved old.from_b new.from_b }
   pub taken : (end : End) → (sends old end).taken ≤ (sends new end).taken
   pub acked : (end : End) → (sends old end).acked ≤ (sends new end).acked
-
--- and no segment is sent for the first time
-pub record SendsNothing (old new : State) : Type 0 where
-  pub same : SameBut old new
-  pub sent : (end : End) → (sends new end).sent ≡ (sends old end).sent
 
 -- ---- One end is settled.
 
@@ -112,18 +103,10 @@ pub record Finished (old new : State) (n : ℕ) : Type 0 where
 abbrev pub FinishFault : WorldFault → Type 0
 FinishFault f = (f ≡ fault.NoMemory) ⊎ (f ≡ fault.Exhausted)
 
--- at most one request has no report yet
-abbrev pub IsOneDue : State → Type 0
-IsOneDue s = length s.requests ≤ length (reported s) + 1
-
 -- ---- Requests over perfect delivery.
 
 abbrev pub IsFresh : State → Type 0
 IsFresh s = (s.requests ≡ []) × (s.from_a.wire ≡ []) × (s.from_b.wire ≡ [])
-
--- some events lead from the one state to the other
-abbrev pub RunsTo : State → State → Type 0
-RunsTo old new = (events : List Event) × Runs old events new
 
 -- these requests were asked, each was admissible after those before it, and each has its report
 pub record AllDone (requests : List Request) (new : State) : Type 0 where

@@ -85,11 +85,11 @@ fn serve_next(
         None => return Err(WorldFault::NothingToDo),
         Some(message) => message,
     };
-    let (_item, next) = item_at(message, place);
+    let (item, next) = item_at(message, place);
     let at_end = next == message.len();
     taken.reserve(1)?;
     let body = Vec::from_slice(alloc, &message[place..next])?;
-    let Ok(served) = accessed.serve(message, place) else {
+    let Ok(served) = accessed.serve_read(item, next) else {
         return Err(WorldFault::NoMemory);
     };
     let count = served.answers.len();

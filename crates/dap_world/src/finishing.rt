@@ -18,13 +18,15 @@ impl WorldFault {
 }
 
 impl World {
-    ghost use Rattle.std.specs.Prelude.{◌≡◌, ◌≢◌, ◌<◌, ◌^◌, [], length, IfOk, IfErr, IsOk, OnOk, OnErr};
+    ghost use Rattle.std.specs.Prelude.{◌≡◌, ◌≢◌, ◌<◌, ◌^◌, List, [], length, IfOk, IfErr, IsOk, OnOk, OnErr};
     ghost use Rattle.dap_accessing.specs.Told.{due_after, Wrong};
     ghost use Rattle.dap_world.specs.Machine.{MayEmit, answers_read, reported, sends, sent_by};
     ghost use Rattle.dap_world.specs.Headline.{HeadlineOf};
+    ghost use Rattle.dap_world.specs.Runs.{Runs};
+    ghost use Rattle.dap_world.specs.declared.event.Event.{Event as TheEvent};
     ghost use Rattle.dap_world.specs.Inner.Worlds.{IsWorld};
-    ghost use Rattle.dap_world.specs.Settling.{AllDone, Finished, FinishFault, IsEmpty, IsFinished, IsFresh, IsOneDue, RanTo, RunsTo, SameBut, SendsNothing, StopsAtRequest, unacked};
-    ghost use Rattle.dap_world.specs.Inner.Settling.{AreEmpty, AreSettled, Brought, BroughtAll, Emptied, Halts, IsServed, PostedAll, ReadEvery, ReadPart, SentBoth, ServedEvery, SettledBoth};
+    ghost use Rattle.dap_world.specs.Settling.{AllDone, Finished, FinishFault, IsEmpty, IsFinished, IsFresh, RanTo, StopsAtRequest, unacked};
+    ghost use Rattle.dap_world.specs.Inner.Settling.{AreEmpty, AreSettled, Brought, BroughtAll, Emptied, Halts, IsOneDue, IsServed, NothingSent, PostedAll, ReadEvery, ReadPart, RunsTo, SameBut, SentBoth, ServedEvery, SettledBoth};
     ghost use Rattle.dap_world.specs.declared.event.End.TheVariants.{A, B};
     ghost use Rattle.dap_world.specs.declared.event.WorldFault.TheVariants.{NoMemory};
 
@@ -169,7 +171,7 @@ impl World {
     fn settle_both(&mut self) -> Result<usize, WorldFault>
         requires { IsWorld self.old }
         ensures ok { IfOk result (λ n. SettledBoth self.old self.new n × IsWorld self.new) }
-        ensures rest { SendsNothing self.old self.new }
+        ensures rest { NothingSent self.old self.new }
         ensures err { IfErr result (Halts (AreSettled self.old) self.old self.new) }
     {
         let count = match self.settle_end(End::A) {
@@ -286,7 +288,7 @@ impl World {
         requires { IsFresh self.old }
         ensures ok { OnOk result (AllDone requests.now self.new) }
         ensures err { IfErr result (λ stop. StopsAtRequest requests.now self.new stop) }
-        ensures ran { RunsTo self.old self.new }
+        ensures ran { (events : List TheEvent) × Runs self.old events self.new }
         ensures nothing { requests.now ≡ [] → IsOk result × (self.new ≡ self.old) }
         ensures headline { HeadlineOf self.new }
     {

@@ -8,7 +8,7 @@ impl World {
     ghost use Rattle.dap_world.specs.Machine.{sends, other};
     ghost use Rattle.dap_world.specs.Inner.Worlds.{IsWorld};
     ghost use Rattle.dap_world.specs.Settling.{RanBy, RanTo, SendsNothing, Settled, unacked};
-    ghost use Rattle.dap_world.specs.Inner.Settling.{AllResent, AreThere, AllCame};
+    ghost use Rattle.dap_world.specs.Inner.Settling.{AllResent, AreThere, AllCame, NothingSent};
     ghost use Rattle.dap_world.specs.Headline.{HeadlineOf};
     ghost use Rattle.dap_world.specs.declared.event.End.{End};
     ghost use Rattle.dap_world.specs.declared.event.WorldFault.TheVariants.{NoMemory};
@@ -18,7 +18,7 @@ impl World {
         requires world { IsWorld self.old }
         requires few { count ≤ unacked self.old end }
         ensures ok { OnOk result (AllResent self.old self.new end count × IsWorld self.new) }
-        ensures rest { SendsNothing self.old self.new }
+        ensures rest { NothingSent self.old self.new }
         ensures err { IfErr result (λ f. (f ≡ NoMemory) × RanTo self.old self.new) }
     {
         for place in 0..count {
@@ -37,7 +37,7 @@ impl World {
         requires few { last - first ≤ unacked self.old end }
         requires there { AreThere self.old end first (last - first) }
         ensures ok { OnOk result (AllCame self.old self.new end (last - first) × IsWorld self.new) }
-        ensures rest { SendsNothing self.old self.new }
+        ensures rest { NothingSent self.old self.new }
         ensures err { IfErr result (λ f. (f ≡ NoMemory) × RanTo self.old self.new) }
     {
         for j in first..last {
@@ -54,7 +54,7 @@ impl World {
         requires world { IsWorld self.old }
         requires taken { (sends self.old end).sent ≤ (sends self.old end).taken }
         ensures ok { OnOk result (RanBy self.old self.new 2 × (unacked self.new end ≡ 0)) }
-        ensures rest { SendsNothing self.old self.new }
+        ensures rest { NothingSent self.old self.new }
         ensures world { OnOk result (IsWorld self.new) }
         ensures err { IfErr result (λ f. (f ≡ NoMemory) × RanTo self.old self.new) }
     {
@@ -75,7 +75,7 @@ impl World {
         requires small { count ≤ 2047 }
         ensures ok { IfOk result (λ n. RanBy self.old self.new n × (unacked self.new end ≡ 0)
             × (n ≡ (count + count) + 2)) }
-        ensures rest { SendsNothing self.old self.new }
+        ensures rest { NothingSent self.old self.new }
         ensures err { IfErr result (λ f. (f ≡ NoMemory) × RanTo self.old self.new) }
     {
         let first = self.wire(end).len();
@@ -114,7 +114,7 @@ impl World {
     pub(crate) fn settle_end(&mut self, end: End) -> Result<usize, WorldFault>
         requires world { IsWorld self.old }
         ensures ok { IfOk result (λ n. Settled self.old self.new end n) }
-        ensures rest { SendsNothing self.old self.new }
+        ensures rest { NothingSent self.old self.new }
         ensures err { IfErr result (λ f. (f ≡ NoMemory) × RanTo self.old self.new) }
         ensures nothing { unacked self.old end ≡ 0 → IsOk result }
     {

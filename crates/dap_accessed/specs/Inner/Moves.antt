@@ -18,7 +18,7 @@ use Rattle.dap_accessed.specs.declared.verbs.Verb.{Verb}
 use Rattle.dap_accessed.specs.Standing.{Files, place_of, the_file, enters, Place, Scene, Effect, Fresh, Ready, Opened, Connected, Store, Stopped}
 use Rattle.dap_msg.specs.Exchange.{no_attributes}
 use Rattle.dap_accessed.specs.Past.{Memory, shape_of, next_ordinal}
-use Rattle.dap_accessed.specs.Accesses.{refuse_access, open_file, create_file, complete, completing, end_stream}
+use Rattle.dap_accessed.specs.Accesses.{refuse_access, open_file, create_file, complete, end_stream}
 use Rattle.dap_accessed.specs.Records.{Change, Putting, Updating, changed, get_pick, record_got, refused, settled}
 use Rattle.dap_accessed.specs.Transfers.{fetch, store_one}
 use Rattle.dap_accessed.specs.Exchange.{Turn, Does, Begins, control_connected, turn_of, effect_with}
@@ -191,13 +191,13 @@ fetches p opened stream = does p (fetch (scene_in p) opened stream)
 abbrev pub Completes : (func : ℕ) → OpenFile → (old new : Present) → Result (Vec (Vec ℕ)) NoMemory → Type 0
 Completes func opened old new result =
     IfOk result (λ answers. (place : Place) (memory : Memory) (ends : Effect) → old.phase ≡ phase_at place memory
-    → memory.shape ≡ old.kept → Moves old (settles old memory (complete (completing func) (scene_in old) opened place ends)) new answers)
+    → memory.shape ≡ old.kept → Moves old (settles old memory (complete func (scene_in old) opened place ends)) new answers)
 
 -- and where a stream is there
 abbrev pub CompletesStream : (func : ℕ) → OpenFile → (old new : Present) → Result (Vec (Vec ℕ)) NoMemory → Type 0
 CompletesStream func opened old new result =
     IfOk result (λ answers. (place : Place) (memory : Memory) → old.phase ≡ phase_at place memory → memory.shape ≡ old.kept
-    → Moves old (settles old memory (complete (completing func) (scene_in old) opened place (end_stream (scene_in old) opened))) new answers)
+    → Moves old (settles old memory (complete func (scene_in old) opened place (end_stream (scene_in old) opened))) new answers)
 
 -- the phase behind a fetch
 abbrev pub fetched_phase : Present → OpenFile → StreamVal → Phase

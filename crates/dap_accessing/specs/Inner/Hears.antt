@@ -1,10 +1,12 @@
 -- What one answer does to what an end keeps.
-use Rattle.std.specs.Prelude.{ℕ, ◌≡◌, ◌≤◌, ◌⊎◌, true, List, [], ◌∷◌, ◌++◌, length, Option, Some, None, unwrap_or, Result, Ok, Err}
+use Rattle.std.specs.Prelude.{ℕ, ◌≡◌, ◌≤◌, ◌⊎◌, true, List, [], ◌∷◌, ◌++◌, length, Option, Some, None, unwrap_or, if◌then◌else◌, Result, Ok, Err}
+use Rattle.dap_msg.specs.Codes as codes
 use Rattle.dap_msg.specs.Message.{Message, Attrib, Filedata, Status}
 use Rattle.dap_msg.specs.Items.{Item}
 use Rattle.dap_accessing.specs.declared.request.Request.{Request}
 use Rattle.dap_accessing.specs.declared.request.Request.TheVariants as request
 use Rattle.dap_accessing.specs.declared.report.Report.{Report}
+use Rattle.dap_accessing.specs.declared.report.Report.TheVariants as report
 use Rattle.dap_accessing.specs.declared.pending.Pending.{Pending}
 use Rattle.dap_accessing.specs.declared.pending.Pending.TheVariants as pending
 use Rattle.dap_accessing.specs.declared.pending.Heard.{Heard}
@@ -33,10 +35,9 @@ pending_of (request.Continue _) = pending.Batch []
 pending_of request.Close = pending.Closed
 pending_of request.Purge = pending.Closed
 
--- what a Status comes to that refuses, or has no place
-abbrev pub refused_as : Option Report → Heard
-refused_as None = heard.Unexpected
-refused_as (Some done) = heard.Reports done
+-- what a Status of this code and reason comes to where a report is due
+abbrev pub refused_as : ℕ → ℕ → Heard
+refused_as code reason = if codes.is_success code then heard.Unexpected else heard.Reports (report.Refused code reason)
 
 -- what an answer comes to, with the answers behind it
 abbrev pub heard_as : Heard → List Item → Hearing

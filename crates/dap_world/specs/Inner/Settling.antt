@@ -1,11 +1,36 @@
 -- The parts of a stretch without loss.
 use Rattle.std.specs.Prelude.{◌≡◌, ℕ, ◌+◌, ◌*◌, ◌≤◌, ◌<◌, List, [], ◌++◌, length, Some, None, slice_get}
 use Rattle.dap_world.specs.declared.event.End.{End}
+use Rattle.dap_world.specs.declared.event.Event.{Event}
 use Rattle.dap_world.specs.declared.event.WorldFault.{WorldFault}
-use Rattle.dap_world.specs.Machine.{State, Sending, MayEmit, next_to_read, posted, sends, sent_by, other, with_sends}
+use Rattle.dap_world.specs.Runs.{Runs}
+use Rattle.dap_world.specs.Machine.{State, Sending, MayEmit, next_to_read, posted, reported, sends, sent_by, other, with_sends}
 use Rattle.dap_msg.specs.Message.{Message}
-use Rattle.dap_world.specs.Settling.{FinishFault, IsEmpty, RanBy, RanTo, SameBut, unacked}
+use Rattle.dap_world.specs.Settling.{FinishFault, IsEmpty, RanBy, RanTo, unacked}
 use Rattle.dap_world.specs.declared.event.End.TheVariants.{A, B}
+
+-- What the links' own events leave alone: all but the counts, the wires and what is held.
+pub record SameBut (old new : State) : Type 0 where
+  pub seg_size : new.seg_size ≡ old.seg_size
+  pub window : new.window ≡ old.window
+  pub own_a : new.own_a ≡ old.own_a
+  pub own_b : new.own_b ≡ old.own_b
+  pub requests : new.requests ≡ old.requests
+  pub served : new.served ≡ old.served
+  pub read : new.read ≡ old.read
+  pub handed : (end : End) → (sends new end).handed ≡ (sends old end).handed
+  pub waiting : (end : End) → (sends new end).waiting ≡ (sends old end).waiting
+  pub taken : (end : End) → (sends old end).taken ≤ (sends new end).taken
+  pub acked : (end : End) → (sends old end).acked ≤ (sends new end).acked
+
+-- and no segment is sent for the first time
+pub record NothingSent (old new : State) : Type 0 where
+  pub same : SameBut old new
+  pub sent : (end : End) → (sends new end).sent ≡ (sends old end).sent
+
+-- at most one request has no report yet
+abbrev pub IsOneDue : State → Type 0
+IsOneDue s = length s.requests ≤ length (reported s) + 1
 
 -- The first of the segments that aren't acknowledged were written again, and nothing else happened.
 pub record AllResent (old new : State) (end : End) (count : ℕ) : Type 0 where
@@ -143,3 +168,9 @@ pub record ReadPart (old new : State) : Type 0 where
   pub more : old.read ≤ new.read
   pub next : Message
   pub there : next_to_read new ≡ Some next
+
+-- ---- Requests.
+
+-- some events lead from the one state to the other
+abbrev pub RunsTo : State → State → Type 0
+RunsTo old new = (events : List Event) × Runs old events new

@@ -3,7 +3,8 @@ use Rattle.std.proofs.Common.{◌∙◌, ◌<◌}
 use Rattle.std.proofs.lemmas.Bool.{le-leb, lt-leb}
 use Rattle.dap_accessed.specs.declared.phase.Phase.TheVariants as phases
 use Rattle.dap_accessed.specs.Standing.{Effect, the_file}
-use Rattle.dap_accessed.specs.Replies.{too_large, end_of_file}
+use Rattle.dap_msg.specs.Codes as codes
+use Rattle.dap_accessed.specs.Replies.{bare_status, too_large}
 use Rattle.dap_accessed.specs.Present.{phase_at}
 use Rattle.dap_accessed.specs.Inner.Moves.{plain_memory, scene_in}
 use Rattle.rec_file.specs.AnyFiles.{any_value}
@@ -75,5 +76,5 @@ returns-clause-answers c =
     subst (λ (e : Effect). Answered c.args.self.now.limit e.answers c.append-2.new.answers)
     (sym (ends_there (scene_in c.args.self.now) c.args.opened c.args.stream (any_value c.file-file.result.now) c.loop-number.next c.loop-number.answers
     file c.loop-number.invariant c.in_default.ensures.none))
-    (subst (λ (l : ℕ). Answered l (map filedata_of given ++ end_of_file ∷ []) c.append-2.new.answers) limit
+    (subst (λ (l : ℕ). Answered l (map filedata_of given ++ bare_status codes.end_of_file ∷ []) c.append-2.new.answers) limit
     (c.in_ok-append-3.ensures (map filedata_of given) (subst (λ (l : ℕ). Answered l (map filedata_of given) c.loop-number.answers) (sym limit) c.loop-number.invariant.answered)))

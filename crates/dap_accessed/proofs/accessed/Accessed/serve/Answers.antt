@@ -1,21 +1,12 @@
-use Rattle.std.proofs.Common.{ap, ◌∙◌, subst}
-use Rattle.dap_msg.specs.Items.{seen_item}
-use Rattle.dap_msg.specs.Blocked.{Blocked, all_joined, AllFit}
-use Rattle.dap_accessed.proofs.StepIs.{stands-more, answers-are, same-own}
-use Rattle.dap_accessed.specs.Present.{Present}
+use Rattle.std.proofs.Common.{arith}
+use Rattle.dap_accessed.proofs.Opens.{if_ok}
 use Rattle.dap_accessed.proofs.accessed.Accessed.serve.Goals as goal
 
 pub returns-clause-serves : goal.returns-clause-serves
-returns-clause-serves c =
-    let item = seen_item c.item_at-next.result.0 in
-    let old = c.args.self.now in
-    let moves = c.in_ok-answers.ensures.ok in
-    record {
-      item = item;
-      reads = c.item_at-next.ensures.exact;
-      stands = stands-more old c.serve_item.new.self item moves.present;
-      answers = λ items h. moves.answered.bytes ∙ ap (λ l. all_joined (Blocked old.limit l)) (answers-are old item items h);
-      fits = λ items h. subst AllFit (answers-are old item items h) moves.answered.fits;
-      within = moves.answered.within;
-      same_own = ap (λ (p : Present). p.own) moves.present ∙ same-own old item;
-    }
+returns-clause-serves c = c.serve_read.ensures.serves c.args.nsp_message.now c.args.at c.item_at-next.ensures.exact
+
+pub returns-clause-within : goal.returns-clause-within
+returns-clause-within c = if_ok c.serve_read.result c.serve_read.ensures.next (λ served e. omega (arith, e, c.item_at-next.ensures.within))
+
+pub returns-clause-further : goal.returns-clause-further
+returns-clause-further c some = if_ok c.serve_read.result c.serve_read.ensures.next (λ served e. omega (arith, e, c.item_at-next.ensures.further some))

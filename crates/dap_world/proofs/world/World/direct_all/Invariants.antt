@@ -1,6 +1,7 @@
 use Rattle.std.proofs.Common.{◌≡◌, take}
 use Rattle.dap_world.specs.Inner.Worlds.{IsWorld}
-use Rattle.dap_world.specs.Settling.{AllDone, RunsTo}
+use Rattle.dap_world.specs.Settling.{AllDone}
+use Rattle.dap_world.specs.Inner.Settling.{RunsTo}
 use Rattle.dap_world.proofs.world.World.direct_all.Given as goal
 
 abbrev pub invariant-loop-place : goal.invariant-loop-place

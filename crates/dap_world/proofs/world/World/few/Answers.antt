@@ -3,7 +3,7 @@ use Rattle.std.specs.Prelude.{◌≢◌}
 use Rattle.dap_accessing.specs.Told.{due_after, Wrong}
 use Rattle.dap_world.specs.Machine.{State, answers_read}
 use Rattle.dap_world.specs.Inner.WorldView.{parts_of}
-use Rattle.dap_world.specs.Settling.{IsOneDue}
+use Rattle.dap_world.specs.Inner.Settling.{IsOneDue}
 use Rattle.dap_world.proofs.Few.{few_served, one_due, in_place}
 use Rattle.dap_world.proofs.ReadingOne.{few_read}
 use Rattle.dap_world.proofs.world.World.few.Goals as goal

@@ -1,7 +1,7 @@
 use Rattle.std.proofs.Common.{◌≡◌, ◌-◌, ◌*◌, ℕ}
 use Rattle.dap_world.specs.Machine.{sends, segments_of}
 use Rattle.dap_world.specs.Inner.Worlds.{IsWorld}
-use Rattle.dap_world.specs.Settling.{SameBut}
+use Rattle.dap_world.specs.Inner.Settling.{SameBut}
 use Rattle.dap_world.specs.Inner.Settling.{Brought}
 use Rattle.dap_world.proofs.world.World.send_every.Given as goal
 

@@ -1,0 +1,21 @@
+use Rattle.std.proofs.Common.{ap, ◌∙◌, subst}
+use Rattle.dap_msg.specs.Items.{seen_item}
+use Rattle.dap_msg.specs.Blocked.{Blocked, all_joined, AllFit}
+use Rattle.dap_accessed.proofs.StepIs.{stands-more, answers-are, same-own}
+use Rattle.dap_accessed.specs.Present.{Present}
+use Rattle.dap_accessed.proofs.accessed.Accessed.serve_read.Goals as goal
+
+pub returns-clause-serves : goal.returns-clause-serves
+returns-clause-serves c bytes at there =
+    let item = seen_item c.args.item in
+    let old = c.args.self.now in
+    let moves = c.in_ok-answers.ensures.ok in
+    record {
+      item = item;
+      reads = there;
+      stands = stands-more old c.serve_item.new.self item moves.present;
+      answers = λ items h. moves.answered.bytes ∙ ap (λ l. all_joined (Blocked old.limit l)) (answers-are old item items h);
+      fits = λ items h. subst AllFit (answers-are old item items h) moves.answered.fits;
+      within = moves.answered.within;
+      same_own = ap (λ (p : Present). p.own) moves.present ∙ same-own old item;
+    }

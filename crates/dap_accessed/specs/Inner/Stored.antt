@@ -1,0 +1,18 @@
+-- What an end keeps is stored as its parts.
+use Rattle.std.specs.Prelude.{ℕ, Option, refl}
+use Rattle.std.specs.Coded.{Coded, code_by, coded×, coded_ℕ, coded_option}
+use Rattle.rec_file.specs.declared.shapes.Shape.{Shape}
+use Rattle.rec_file.specs.contracts.shapes.Shape as shape_type
+use Rattle.dap_accessed.specs.declared.phase.Phase.{Phase}
+use Rattle.dap_accessed.specs.contracts.phase.Phase as phase_type
+use Rattle.dap_accessed.specs.Standing.{Files}
+use Rattle.dap_accessed.specs.Present.{Present}
+use Rattle.dap_accessed.specs.Inner.Tables.{files_code}
+
+abbrev pub present_code : Coded Present
+present_code =
+    code_by (ℕ × (ℕ × (Files × (Option Shape × Phase))))
+    (coded× coded_ℕ (coded× coded_ℕ (coded× files_code (coded× (coded_option shape_type.the_row.coded) phase_type.the_row.coded))))
+    (λ p. (p.own, (p.limit, (p.files, (p.kept, p.phase)))))
+    (λ p. record { own = p.0; limit = p.1.0; files = p.1.1.0; kept = p.1.1.1.0; phase = p.1.1.1.1 })
+    (λ _. refl)
