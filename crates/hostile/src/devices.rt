@@ -105,7 +105,7 @@ fn unread(row: Row, fault: CaptureFault) -> Left {
     }
 }
 
-/// Runs an engine over an input that comes in pieces and fails at a call.
+/// Runs an engine over an input that comes in pieces and fails at a call, and wants what it leaves.
 fn reads(alloc: Global, row: Row, step: usize, fail_at: usize, want: Left) -> Result<(), Trouble> {
     let (engine, bytes, _end, _text) = row;
     let mut reader = FaultyReader {
@@ -123,7 +123,7 @@ fn reads(alloc: Global, row: Row, step: usize, fail_at: usize, want: Left) -> Re
     }
 }
 
-/// Runs an engine over an input without an end.
+/// Runs an engine over an input without an end, and wants it to be too large, where it is read at all.
 fn reads_without_end(alloc: Global, row: Row, step: usize) -> Result<(), Trouble> {
     let (engine, input, _end, _text) = row;
     let mut reader = EndlessReader { step, given: 0 };
@@ -138,7 +138,7 @@ fn reads_without_end(alloc: Global, row: Row, step: usize) -> Result<(), Trouble
     }
 }
 
-/// Runs an engine with a writer, and wants a failed write behind a front of the text.
+/// Runs an engine with a writer, and wants a failed write behind a front of the text, where it fails.
 fn writes(
     alloc: Global,
     row: Row,
