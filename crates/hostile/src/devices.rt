@@ -1,8 +1,8 @@
 //! Devices that fail.
 
 use crate::growing::Trouble;
-use crate::listings::{ENGINES, Engine, run};
-use dap_capture::{CaptureFault, Outcome};
+use crate::listings::{End, Row, run};
+use dap_capture::CaptureFault;
 use std::alloc::Global;
 use std::io;
 use std::io::{ErrorKind, Read, Write};
@@ -47,15 +47,20 @@ impl Read for EndlessReader {
     }
 }
 
-/// What a faulty writer does at the call that is its last.
+/// What is wrong with a faulty writer.
 #[derive(Clone, Copy, PartialEq, Eq)]
 enum Fault {
+    /// Its last call fails.
     Error,
+    /// Its last call takes nothing.
     Nothing,
+    /// It takes all, and its flush fails.
+    Flush,
+    /// Nothing: it takes all.
+    Sound,
 }
 
-/// A writer that takes at most `step` bytes a call, until it fails at its call `fail_at`, from 0.
-/// Its flush fails where `flush_fails`.
+/// A writer that takes at most `step` bytes a call, until its call `fail_at`, from 0, which is its last.
 #[derive(Drop)]
 struct FaultyWriter {
     held: Vec<u8>,
@@ -63,15 +68,14 @@ struct FaultyWriter {
     calls: usize,
     fail_at: usize,
     fault: Fault,
-    flush_fails: bool,
 }
 
 impl Write for FaultyWriter {
     fn write(&mut self, bytes: &[u8]) -> io::Result<usize> {
         if self.calls == self.fail_at {
             return match self.fault {
-                Fault::Error => Err(io::Error::from(ErrorKind::Other)),
                 Fault::Nothing => Ok(0),
+                _ => Err(io::Error::from(ErrorKind::Other)),
             };
         }
         self.calls = self.calls.saturating_add(1);
@@ -81,27 +85,29 @@ impl Write for FaultyWriter {
     }
 
     fn flush(&mut self) -> io::Result<()> {
-        if self.flush_fails {
+        if self.fault == Fault::Flush {
             return Err(io::Error::from(ErrorKind::Other));
         }
         Ok(())
     }
 }
 
-/// An engine with its input and the text of it.
-type Row = (Engine, &'static [u8], &'static [u8]);
+/// What a run leaves: how it ended, and what was written.
+type Left = (End, &'static [u8]);
 
-/// Runs an engine over an input that comes in pieces and fails at a call, and wants the outcome and what is
-/// written.
-fn reads(
-    alloc: Global,
-    row: Row,
-    step: usize,
-    fail_at: usize,
-    want: Result<Outcome, CaptureFault>,
-    text: &[u8],
-) -> Result<(), Trouble> {
-    let (engine, bytes, _text) = row;
+/// What a run leaves whose reader is at fault: the same as ever, where it reads nothing.
+fn unread(row: Row, fault: CaptureFault) -> Left {
+    let (_engine, input, end, text) = row;
+    if input.is_empty() {
+        (end, text)
+    } else {
+        (End::Fault(fault), b"")
+    }
+}
+
+/// Runs an engine over an input that comes in pieces and fails at a call, and wants what it leaves.
+fn reads(alloc: Global, row: Row, step: usize, fail_at: usize, want: Left) -> Result<(), Trouble> {
+    let (engine, bytes, _end, _text) = row;
     let mut reader = FaultyReader {
         bytes,
         step,
@@ -109,14 +115,30 @@ fn reads(
         fail_at,
     };
     let mut writer = Vec::new(alloc);
-    if run(alloc, engine, &mut reader, &mut writer) == want && writer.as_slice() == text {
+    let end = run(alloc, engine, &mut reader, &mut writer)?;
+    if (end, writer.as_slice()) == want {
         Ok(())
     } else {
         Err(Trouble::Wrong)
     }
 }
 
-/// Runs an engine with a writer, and wants a failed write behind a front of the text.
+/// Runs an engine over an input without an end, and wants it to be too large, where it is read at all.
+fn reads_without_end(alloc: Global, row: Row, step: usize) -> Result<(), Trouble> {
+    let (engine, input, _end, _text) = row;
+    let mut reader = EndlessReader { step, given: 0 };
+    let mut writer = Vec::new(alloc);
+    let end = run(alloc, engine, &mut reader, &mut writer)?;
+    let given = if input.is_empty() { 0 } else { 16_777_217 };
+    let want = unread(row, CaptureFault::TooLarge);
+    if (end, writer.as_slice()) == want && reader.given == given {
+        Ok(())
+    } else {
+        Err(Trouble::Wrong)
+    }
+}
+
+/// Runs an engine with a writer, and wants a failed write behind a front of the text, where it fails.
 fn writes(
     alloc: Global,
     row: Row,
@@ -124,7 +146,7 @@ fn writes(
     fail_at: usize,
     fault: Fault,
 ) -> Result<(), Trouble> {
-    let (engine, input, text) = row;
+    let (engine, input, sound_end, text) = row;
     let mut reader = input;
     let mut writer = FaultyWriter {
         held: Vec::new(alloc),
@@ -132,71 +154,59 @@ fn writes(
         calls: 0,
         fail_at,
         fault,
-        flush_fails: fail_at == NEVER,
     };
-    let outcome = run(alloc, engine, &mut reader, &mut writer);
+    let end = run(alloc, engine, &mut reader, &mut writer)?;
+    let want = if text.is_empty() || fault == Fault::Sound {
+        sound_end
+    } else {
+        End::Fault(CaptureFault::WriteFailed)
+    };
     let front = text.len().min(step.saturating_mul(fail_at));
-    if outcome == Err(CaptureFault::WriteFailed) && writer.held.as_slice() == &text[..front] {
+    if end == want && writer.held.as_slice() == &text[..front] {
         Ok(())
     } else {
         Err(Trouble::Wrong)
     }
 }
 
-/// Runs an engine over an input without an end.
-fn reads_without_end(alloc: Global, engine: Engine, step: usize) -> Result<(), Trouble> {
-    let mut reader = EndlessReader { step, given: 0 };
-    let mut writer = Vec::new(alloc);
-    let outcome = run(alloc, engine, &mut reader, &mut writer);
-    if outcome == Err(CaptureFault::TooLarge) && reader.given == 16_777_217 && writer.is_empty() {
-        Ok(())
-    } else {
-        Err(Trouble::Wrong)
-    }
-}
-
-/// Each engine over readers that give a byte a call, or a few, and fail at each call in turn; and over one
+/// Each row over readers that give a byte a call, or a few, and fail at each call in turn; and over those
 /// without an end. How many runs that were.
-pub fn read_all(alloc: Global) -> Result<u64, Trouble> {
+pub fn read_all(alloc: Global, rows: &[Row]) -> Result<u64, Trouble> {
     let mut runs: u64 = 0;
-    for row in ENGINES {
-        let (engine, input, text) = *row;
+    for row in rows {
+        let (_engine, input, end, text) = *row;
         for step in [1, 2, 7] {
-            reads(alloc, *row, step, NEVER, Ok(Outcome::Good), text)?;
+            reads(alloc, *row, step, NEVER, (end, text))?;
             for fail_at in 0..=input.len().div_ceil(step) {
-                reads(
-                    alloc,
-                    *row,
-                    step,
-                    fail_at,
-                    Err(CaptureFault::ReadFailed),
-                    b"",
-                )?;
+                let want = unread(*row, CaptureFault::ReadFailed);
+                reads(alloc, *row, step, fail_at, want)?;
                 runs = runs.saturating_add(1);
             }
             runs = runs.saturating_add(1);
         }
-        reads_without_end(alloc, engine, 65_536)?;
-        runs = runs.saturating_add(1);
+        for step in [1, 65_536] {
+            reads_without_end(alloc, *row, step)?;
+            runs = runs.saturating_add(1);
+        }
     }
-    reads_without_end(alloc, Engine::Show, 1)?;
-    Ok(runs.saturating_add(1))
+    Ok(runs)
 }
 
-/// Each engine with writers that take a byte a call, or a few, and fail or take nothing at each call in
-/// turn, or at the flush. How many runs that were.
-pub fn write_all(alloc: Global) -> Result<u64, Trouble> {
+/// Each row with writers that take a byte a call, or a few, and fail or take nothing at each call in
+/// turn, or at the flush alone, or never. How many runs that were.
+pub fn write_all(alloc: Global, rows: &[Row]) -> Result<u64, Trouble> {
     let mut runs: u64 = 0;
-    for row in ENGINES {
-        let (_engine, _input, text) = *row;
+    for row in rows {
+        let (_engine, _input, _end, text) = *row;
         for step in [1, 5, NEVER] {
             for fail_at in 0..text.len().div_ceil(step) {
                 writes(alloc, *row, step, fail_at, Fault::Error)?;
                 writes(alloc, *row, step, fail_at, Fault::Nothing)?;
                 runs = runs.saturating_add(2);
             }
-            writes(alloc, *row, step, NEVER, Fault::Error)?;
-            runs = runs.saturating_add(1);
+            writes(alloc, *row, step, NEVER, Fault::Flush)?;
+            writes(alloc, *row, step, NEVER, Fault::Sound)?;
+            runs = runs.saturating_add(2);
         }
     }
     Ok(runs)

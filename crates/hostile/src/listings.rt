@@ -1,18 +1,34 @@
-//! Listings and schedules.
+//! Listings and schedules, as calls of the library and as words of the program.
 
 use crate::growing::{Came, Growing, Trouble};
 use dap_capture::{CaptureFault, Outcome, messages, schedule, show};
+use dap_cli::run_words;
 use std::alloc::{AllocError, Global};
 use std::io;
 use std::io::{Read, Write};
 
 /// What is run over an input.
-#[derive(Clone, Copy, Debug, PartialEq, Eq)]
+#[derive(Clone, Copy)]
 pub enum Engine {
     Show,
     Msg,
     Run,
+    /// The program, with this word behind its name.
+    Word(&'static str),
 }
+
+/// How a run ended.
+#[derive(Clone, Copy, PartialEq, Eq)]
+pub enum End {
+    Good,
+    Stopped,
+    /// The word is a mistake.
+    Mistake,
+    Fault(CaptureFault),
+}
+
+/// What is run, its input, how it ends, and what it writes. What has no input here reads none.
+pub type Row = (Engine, &'static [u8], End, &'static [u8]);
 
 const CAPTURE: &[u8] = b"> 600201040305800100060200\n< 0402010403ff8f\n> 1002010403\n";
 
@@ -30,12 +46,75 @@ const GREETING: &[u8] =
 const GREETING_PLAYED: &[u8] =
     b"1 asked 1\n2 posted 1\n3 packet a 0 60020201010080010001020a00040703050600000000\n4 accepted\n5 served 1\n6 posted 1\n7 packet b 0 60010102020180010001020a00040703050600000000\n8 accepted\n9 report ready 1024\n";
 
-/// Each engine with an input that is good, and the text of it.
-pub const ENGINES: &[(Engine, &[u8], &[u8])] = &[
-    (Engine::Show, CAPTURE, LISTING),
-    (Engine::Msg, MESSAGES, MESSAGES_LISTING),
-    (Engine::Run, GREETING, GREETING_PLAYED),
+/// What the program tells for help.
+const HELP: &[u8] =
+    b"Lists DECnet packets and messages, and plays file accesses. Each command reads standard input.\n\nUsage: dapnsp <COMMAND>\n\nCommands:\n  show  Lists captured NSP packets, and the DAP messages in them\n  msg   Lists DAP messages that come without packets\n  run   Plays requests, losses, repeats and reorderings over both ends of a file access\n\nOptions:\n  -h, --help  Print help\n\nExample: echo '> 600201040305800100060200' | ./dapnsp show\n";
+
+/// What it tells of a word that is a mistake.
+const MISTAKEN: &[u8] =
+    b"error: unexpected argument '-x' found\n\nUsage: dapnsp <COMMAND>\n\nFor more information, try '--help'.\n";
+
+/// The calls of the library.
+pub const ENGINES: &[Row] = &[
+    (Engine::Show, CAPTURE, End::Good, LISTING),
+    (Engine::Msg, MESSAGES, End::Good, MESSAGES_LISTING),
+    (Engine::Run, GREETING, End::Good, GREETING_PLAYED),
 ];
+
+/// The words of the program.
+pub const WORDS: &[Row] = &[
+    (Engine::Word("show"), CAPTURE, End::Good, LISTING),
+    (Engine::Word("msg"), MESSAGES, End::Good, MESSAGES_LISTING),
+    (Engine::Word("run"), GREETING, End::Good, GREETING_PLAYED),
+    (
+        Engine::Word("run"),
+        b"setup 0 8 1024 1024\n",
+        End::Stopped,
+        b"0 refused bad-setup\n",
+    ),
+    (
+        Engine::Word("msg"),
+        b"> 0600\n> 6\n",
+        End::Fault(CaptureFault::BadLine(2)),
+        b"",
+    ),
+    (Engine::Word("--help"), b"", End::Good, HELP),
+    (Engine::Word("-x"), b"", End::Mistake, b""),
+];
+
+/// What an exit status and what was told say of the end.
+const ENDS: &[(u8, &[u8], End)] = &[
+    (0, b"", End::Good),
+    (1, b"", End::Stopped),
+    (1, b"bad line 2\n", End::Fault(CaptureFault::BadLine(2))),
+    (1, b"too large\n", End::Fault(CaptureFault::TooLarge)),
+    (2, MISTAKEN, End::Mistake),
+    (3, b"read failed\n", End::Fault(CaptureFault::ReadFailed)),
+    (3, b"write failed\n", End::Fault(CaptureFault::WriteFailed)),
+    (3, b"no memory\n", End::Fault(CaptureFault::NoMemory)),
+];
+
+/// The most bytes that the program tells.
+const MOST_TOLD: usize = 1024;
+
+/// Runs the program with a word, over room for what it tells.
+fn run_word<R: Read, W: Write>(
+    alloc: Global,
+    word: &str,
+    reader: &mut R,
+    writer: &mut W,
+) -> Result<End, Trouble> {
+    let program = String::from_str(alloc, "dapnsp")?;
+    let words = [program, String::from_str(alloc, word)?];
+    let mut told = Vec::with_capacity(alloc, MOST_TOLD)?;
+    let status = run_words(alloc, &words, reader, writer, &mut told);
+    for (its_status, line, end) in ENDS {
+        if status == *its_status && told.as_slice() == *line {
+            return Ok(*end);
+        }
+    }
+    Err(Trouble::Wrong)
+}
 
 /// Runs an engine.
 pub fn run<R: Read, W: Write>(
@@ -43,37 +122,48 @@ pub fn run<R: Read, W: Write>(
     engine: Engine,
     reader: &mut R,
     writer: &mut W,
-) -> Result<Outcome, CaptureFault> {
-    match engine {
+) -> Result<End, Trouble> {
+    let outcome = match engine {
         Engine::Show => show(alloc, reader, writer),
         Engine::Msg => messages(alloc, reader, writer),
         Engine::Run => schedule(alloc, reader, writer),
-    }
+        Engine::Word(word) => return run_word(alloc, word, reader, writer),
+    };
+    Ok(match outcome {
+        Ok(Outcome::Good) => End::Good,
+        Ok(Outcome::Stopped) => End::Stopped,
+        Err(fault) => End::Fault(fault),
+    })
 }
 
-/// What the engines wrote.
+/// What was written of a table.
 #[derive(Drop)]
 pub struct Listing {
     alloc: Global,
+    rows: &'static [Row],
     written: Vec<u8>,
 }
 
 impl Listing {
-    pub fn new(alloc: Global) -> Result<Listing, AllocError> {
+    pub fn new(alloc: Global, rows: &'static [Row]) -> Result<Listing, AllocError> {
         let written = Vec::with_capacity(alloc, 4096)?;
-        Ok(Listing { alloc, written })
+        Ok(Listing {
+            alloc,
+            rows,
+            written,
+        })
     }
 }
 
 impl Growing for Listing {
     fn call(&mut self, place: usize) -> Result<Came, Trouble> {
-        let Some((engine, input, text)) = ENGINES.get(place) else {
+        let Some((engine, input, end, text)) = self.rows.get(place) else {
             return Ok(Came::Over);
         };
         let mut reader = *input;
-        match run(self.alloc, *engine, &mut reader, &mut self.written) {
-            Ok(Outcome::Good) if self.written.ends_with(text) => Ok(Came::Done),
-            Err(CaptureFault::NoMemory) => Err(Trouble::Wants),
+        match run(self.alloc, *engine, &mut reader, &mut self.written)? {
+            came if came == *end && self.written.ends_with(text) => Ok(Came::Done),
+            End::Fault(CaptureFault::NoMemory) => Err(Trouble::Wants),
             _ => Err(Trouble::Wrong),
         }
     }

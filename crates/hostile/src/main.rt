@@ -26,7 +26,7 @@ use ends::{ASKED_RECORDS, ASKED_STORING, ASKED_TRANSFER, Asking, Line, Serving};
 use files::{Act, BY_NUMBER, Filing, IN_ORDER, RELATIVE, SEQUENTIAL};
 use growing::{Ending, Seen, make_all};
 use links::Links;
-use listings::Listing;
+use listings::{ENGINES, Listing, Row, WORDS};
 use std::alloc::Global;
 use std::io::{Read, Write};
 use std::process::ExitCode;
@@ -84,6 +84,12 @@ const WORLDS: &[(&str, WorldSetup, Script, bool)] = &[
         SETTLING,
         false,
     ),
+];
+
+/// Listings and schedules, as calls of the library and as words of the program.
+const LISTED: &[(&str, &[Row])] = &[
+    ("listings and a schedule", ENGINES),
+    ("words of the program", WORDS),
 ];
 
 /// All writers.
@@ -169,15 +175,16 @@ fn direct<W: Write, E: Write>(
     make_all("a world that is directed", &mut directing, seen, out, told)
 }
 
-/// Listings and a schedule.
+/// What is listed and scheduled.
 fn list<W: Write, E: Write>(
     alloc: Global,
+    (name, rows): (&str, &'static [Row]),
     seen: &mut Seen,
     out: &mut W,
     told: &mut E,
 ) -> Result<(), Ending> {
-    let mut listing = Listing::new(alloc)?;
-    make_all("listings and a schedule", &mut listing, seen, out, told)
+    let mut listing = Listing::new(alloc, rows)?;
+    make_all(name, &mut listing, seen, out, told)
 }
 
 /// The calls of all ends.
@@ -208,7 +215,10 @@ fn grow<W: Write, E: Write>(alloc: Global, out: &mut W, told: &mut E) -> Result<
     link(alloc, &mut seen, out, told)?;
     grow_ends(alloc, &mut seen, out, told)?;
     direct(alloc, &mut seen, out, told)?;
-    list(alloc, &mut seen, out, told)
+    for row in LISTED {
+        list(alloc, *row, &mut seen, out, told)?;
+    }
+    Ok(())
 }
 
 fn alter<W: Write>(alloc: Global, out: &mut W) -> Result<(), Ending> {
@@ -221,16 +231,19 @@ fn alter<W: Write>(alloc: Global, out: &mut W) -> Result<(), Ending> {
 }
 
 fn fail_devices<W: Write>(alloc: Global, out: &mut W) -> Result<(), Ending> {
-    let runs = read_all(alloc)?;
-    writeln!(
-        out,
-        "readers that fail, give little or never end: {runs} runs"
-    )?;
-    let runs = write_all(alloc)?;
-    writeln!(
-        out,
-        "writers that fail, take little or nothing: {runs} runs"
-    )?;
+    for (name, rows) in LISTED {
+        writeln!(out, "{name}, devices at fault:")?;
+        let runs = read_all(alloc, rows)?;
+        writeln!(
+            out,
+            " readers that fail, give little or never end: {runs} runs"
+        )?;
+        let runs = write_all(alloc, rows)?;
+        writeln!(
+            out,
+            " writers that fail, take little or nothing: {runs} runs"
+        )?;
+    }
     Ok(())
 }
 

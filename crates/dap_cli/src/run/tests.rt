@@ -16,17 +16,34 @@ struct Left {
     told: Vec<u8>,
 }
 
-/// Runs the program on words, the program's name before them, and an input.
-fn run(alloc: Global, words: &[&str], input: &[u8]) -> Result<Left, Fail> {
+/// The program's name, and words behind it.
+fn words_of(alloc: Global, words: &[&str]) -> Result<Vec<String>, Fail> {
     let mut list = Vec::new(alloc);
     list.push(String::from_str(alloc, "dapnsp")?)?;
     for word in words {
         list.push(String::from_str(alloc, word)?)?;
     }
+    Ok(list)
+}
+
+/// Runs the program on words and devices: its exit status, and what it told.
+fn run_over<R: Read, W: Write>(
+    alloc: Global,
+    words: &[&str],
+    reader: &mut R,
+    writer: &mut W,
+) -> Result<(u8, Vec<u8>), Fail> {
+    let list = words_of(alloc, words)?;
+    let mut told = Vec::new(alloc);
+    let status = run_words(alloc, &list, reader, writer, &mut told);
+    Ok((status, told))
+}
+
+/// Runs the program on words and an input.
+fn run(alloc: Global, words: &[&str], input: &[u8]) -> Result<Left, Fail> {
     let mut reader = input;
     let mut written = Vec::new(alloc);
-    let mut told = Vec::new(alloc);
-    let status = run_words(alloc, &list, &mut reader, &mut written, &mut told);
+    let (status, told) = run_over(alloc, words, &mut reader, &mut written)?;
     Ok(Left {
         status,
         written,
@@ -129,9 +146,11 @@ fn runs_each_command(rt: HostRuntime) -> Result<(), Fail> {
     Ok(())
 }
 
-/// A device whose every call fails.
+/// A device whose calls fail; one that takes all fails at its flush alone.
 #[derive(Drop)]
-struct Broken;
+struct Broken {
+    takes_all: bool,
+}
 
 impl Read for Broken {
     fn read(&mut self, _buffer: &mut [u8]) -> io::Result<usize> {
@@ -140,7 +159,10 @@ impl Read for Broken {
 }
 
 impl Write for Broken {
-    fn write(&mut self, _bytes: &[u8]) -> io::Result<usize> {
+    fn write(&mut self, bytes: &[u8]) -> io::Result<usize> {
+        if self.takes_all {
+            return Ok(bytes.len());
+        }
         Err(io::Error::from(ErrorKind::Other))
     }
 
@@ -150,40 +172,46 @@ impl Write for Broken {
 }
 
 #[test]
-fn tells_failing_devices(rt: HostRuntime) -> Result<(), Fail> {
-    let program = String::from_str(rt.alloc(), "dapnsp")?;
-    let show = String::from_str(rt.alloc(), "show")?;
-    let words = [program, show];
-    let mut told = Vec::new(rt.alloc());
+fn tells_a_reader_that_fails(rt: HostRuntime) -> Result<(), Fail> {
+    let mut reader = Broken { takes_all: false };
     let mut written = Vec::new(rt.alloc());
-    let unread = run_words(rt.alloc(), &words, &mut Broken, &mut written, &mut told);
-    assert_eq!(rt; unread, 3);
+    let (status, told) = run_over(rt.alloc(), &["show"], &mut reader, &mut written)?;
+    assert_eq!(rt; status, 3);
     assert!(rt; written.is_empty());
     assert_eq!(rt; told.as_slice(), b"read failed\n".as_slice());
+    Ok(())
+}
 
-    let mut reader = b"> 6002\n".as_slice();
-    let mut told = Vec::new(rt.alloc());
-    let unwritten = run_words(rt.alloc(), &words, &mut reader, &mut Broken, &mut told);
-    assert_eq!(rt; unwritten, 3);
-    assert_eq!(rt; told.as_slice(), b"write failed\n".as_slice());
+/// Words, and an input over which something is written.
+const WRITING: &[(&str, &[u8])] = &[
+    ("show", b"> 6002\n"),
+    ("msg", b"> 0600\n"),
+    ("run", b"setup 0 8 1024 1024\n"),
+    ("--help", b""),
+];
 
-    let mut reader = b"> 6\n".as_slice();
-    let mut written = Vec::new(rt.alloc());
-    let untold = run_words(rt.alloc(), &words, &mut reader, &mut written, &mut Broken);
-    assert_eq!(rt; untold, 1);
-    assert!(rt; written.is_empty());
+#[test]
+fn tells_writers_that_fail(rt: HostRuntime) -> Result<(), Fail> {
+    for takes_all in [false, true] {
+        for (word, input) in WRITING {
+            let mut reader = *input;
+            let mut writer = Broken { takes_all };
+            let (status, told) = run_over(rt.alloc(), &[*word], &mut reader, &mut writer)?;
+            assert_eq!(&rt; status, 3);
+            assert_eq!(&rt; told.as_slice(), b"write failed\n".as_slice());
+        }
+    }
     Ok(())
 }
 
 #[test]
-fn tells_help_that_is_not_taken(rt: HostRuntime) -> Result<(), Fail> {
-    let program = String::from_str(rt.alloc(), "dapnsp")?;
-    let help = String::from_str(rt.alloc(), "--help")?;
-    let mut reader = b"".as_slice();
-    let mut told = Vec::new(rt.alloc());
-    let words = [program, help];
-    let status = run_words(rt.alloc(), &words, &mut reader, &mut Broken, &mut told);
-    assert_eq!(rt; status, 3);
-    assert_eq!(rt; told.as_slice(), b"write failed\n".as_slice());
+fn goes_on_where_nothing_can_be_told(rt: HostRuntime) -> Result<(), Fail> {
+    let words = words_of(rt.alloc(), &["show"])?;
+    let mut reader = b"> 6\n".as_slice();
+    let mut written = Vec::new(rt.alloc());
+    let mut broken = Broken { takes_all: false };
+    let status = run_words(rt.alloc(), &words, &mut reader, &mut written, &mut broken);
+    assert_eq!(rt; status, 1);
+    assert!(rt; written.is_empty());
     Ok(())
 }
