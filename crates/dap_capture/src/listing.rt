@@ -11,6 +11,7 @@ use crate::input::INPUT_LIMIT;
 use crate::lines::{Direction, Head, is_hex_text, next_line, parse_head};
 use crate::message::push_messages;
 use crate::packet::push_packet;
+use crate::text::push_decimal;
 use crate::{CaptureFault, Outcome};
 use std::alloc::{AllocError, Global};
 
@@ -163,8 +164,10 @@ fn push_capture(
 ) -> Result<(), AllocError>
     ensures { OnOk result (AddsCapture listed number direction bytes.now text.old text.new) }
 {
-    let sign = arrow(direction);
-    write!(text, "{number} {sign} ")?;
+    push_decimal(text, number as u64)?;
+    text.push_str(" ")?;
+    text.push_str(arrow(direction))?;
+    text.push_str(" ")?;
     push_captured(listed, text, bytes)
 }
 
