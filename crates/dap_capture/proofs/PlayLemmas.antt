@@ -1,5 +1,5 @@
 -- A run goes on by one event, or stops, or is over.
-use Rattle.std.proofs.Common.{◌≡◌, ◌+◌, ◌++◌, ℕ, List, [], ◌∷◌, Option, Some, None, IsSome, Err, refl, sym, ap, ◌∙◌, subst}
+use Rattle.std.proofs.Common.{◌≡◌, ◌+◌, ◌++◌, ℕ, List, [], ◌∷◌, Option, Some, None, Err, refl, sym, ap, ◌∙◌, subst}
 use Rattle.std.specs.List.{filter_map, cons_option}
 use Rattle.std.specs.Prelude.{codes}
 use Rattle.std.proofs.lemmas.List.{append_assoc}
@@ -10,14 +10,13 @@ use Rattle.dap_world.specs.declared.event.Event.{Event}
 use Rattle.dap_world.specs.declared.event.WorldFault.{WorldFault}
 use Rattle.dap_world.specs.declared.event.WorldFault.TheVariants as fault
 use Rattle.dap_world.specs.Runs.{Went}
-use Rattle.dap_capture.specs.declared.fault.CaptureFault.{CaptureFault}
 use Rattle.dap_capture.specs.declared.fault.Outcome.{Outcome}
 use Rattle.dap_capture.specs.declared.fault.Outcome.TheVariants.{Good, Stopped}
 use Rattle.dap_capture.specs.Orders.{event_of, setup_of}
 use Rattle.dap_capture.specs.Schedules.{Numbered, event_fault, events_of, fault_unless}
 use Rattle.dap_capture.specs.Tables.{files_text}
 use Rattle.dap_capture.specs.Played.{Plays, over, goes, stops, Played, empty, setup_refused, played, event_line, refusal_line, refusal_text}
-use Rattle.dap_capture.specs.Inner.Playing.{PlaysLine}
+use Rattle.dap_capture.specs.Inner.Playing.{PlaysOne}
 
 -- what a text so far comes to, once the rest of the run is known
 abbrev pub GoesOn : State → List Event → State → ℕ → List Event → List ℕ → Type 0
@@ -28,22 +27,20 @@ next_event : (number : ℕ) (line : List ℕ) (rest lines : List Numbered) (e : 
     → events_of lines ≡ e ∷ events_of rest
 next_event number line rest lines e cut says = ap events_of cut ∙ ap (λ o. cons_option o (events_of rest)) says
 
-pub goes_further : (start s new : State) (events : List Event) (number at : ℕ) (line : List ℕ) (rest lines : List Numbered) (text after : List ℕ)
-    → lines ≡ (at, line) ∷ rest → PlaysLine number line s new text after Good
+pub goes_further : (start s new : State) (events : List Event) (number at : ℕ) (line : List ℕ) (rest lines : List Numbered) (e : Event) (text after : List ℕ)
+    → lines ≡ (at, line) ∷ rest → Some e ≡ event_of line → PlaysOne number e s new text after Good
     → GoesOn start events s number (events_of lines) text → GoesOn start events new (number + 1) (events_of rest) after
-goes_further start s new events number at line rest lines text after cut plays so_far outcome more run =
-    let one = plays.2 in
-    let whole = so_far outcome (event_line number one.1 ++ more) (subst (λ left. Plays s number left outcome (event_line number one.1 ++ more)) (sym (next_event at line rest lines plays.0 cut plays.1)) (goes one.0 new one.1 more one.2 one.3 run)) in
+goes_further start s new events number at line rest lines e text after cut says one so_far outcome more run =
+    let whole = so_far outcome (event_line number one.1 ++ more) (subst (λ left. Plays s number left outcome (event_line number one.1 ++ more)) (sym (next_event at line rest lines e cut (sym says))) (goes one.0 new one.1 more one.2 one.3 run)) in
     subst (Plays start 1 events outcome) (sym (append_assoc text (event_line number one.1) more) ∙ ap (λ t. t ++ more) (sym one.4)) whole
 
-pub stops_here : (start s new : State) (events : List Event) (number at : ℕ) (line : List ℕ) (rest lines : List Numbered) (text after end : List ℕ)
-    → lines ≡ (at, line) ∷ rest → PlaysLine number line s new text after Stopped → end ≡ after ++ files_text (files_of new)
+pub stops_here : (start s new : State) (events : List Event) (number at : ℕ) (line : List ℕ) (rest lines : List Numbered) (e : Event) (text after end : List ℕ)
+    → lines ≡ (at, line) ∷ rest → Some e ≡ event_of line → PlaysOne number e s new text after Stopped → end ≡ after ++ files_text (files_of new)
     → GoesOn start events s number (events_of lines) text → Plays start 1 events Stopped end
-stops_here start s new events number at line rest lines text after end cut plays files so_far =
-    let one = plays.2 in
+stops_here start s new events number at line rest lines e text after end cut says one files so_far =
     let said = refusal_line number one.1 in
     let last = said ++ files_text (files_of s) in
-    let whole = so_far Stopped last (subst (λ left. Plays s number left Stopped last) (sym (next_event at line rest lines plays.0 cut plays.1)) (stops one.0 one.1 one.2 one.3)) in
+    let whole = so_far Stopped last (subst (λ left. Plays s number left Stopped last) (sym (next_event at line rest lines e cut (sym says))) (stops one.0 one.1 one.2 one.3)) in
     let same : text ++ last ≡ end = sym (append_assoc text said (files_text (files_of s))) ∙ ap (λ t. t ++ files_text (files_of s)) (sym one.5) ∙ ap (λ w. after ++ files_text (files_of w)) (sym one.4) ∙ sym files in
     subst (Plays start 1 events Stopped) same whole
 
@@ -53,19 +50,14 @@ is_over start s events number lines text end none files so_far =
     let whole = so_far Good (files_text (files_of s)) (subst (λ left. Plays s number left Good (files_text (files_of s))) (sym (ap events_of none)) over) in
     subst (Plays start 1 events Good) (sym files) whole
 
-has_event : (number : ℕ) (o : Option Event) (rest : List CaptureFault) → cons_option (fault_unless number o) rest ≡ [] → IsSome o
-has_event number None rest none = let no : ⊥ = cc in absurd no
-has_event number (Some e) rest none = refl
+no_fault : (number : ℕ) (o : Option Event) (e : Event) → Some e ≡ o → fault_unless number o ≡ None
+no_fault number o e is = rw (← is) refl
 
-pub good_first : (number : ℕ) (line : List ℕ) (rest lines : List Numbered) → lines ≡ (number, line) ∷ rest → filter_map event_fault lines ≡ [] → IsSome (event_of line)
-good_first number line rest lines cut good = has_event number (event_of line) (filter_map event_fault rest) (ap (filter_map event_fault) (sym cut) ∙ good)
-
-no_fault_left : (number : ℕ) (o : Option Event) (rest : List CaptureFault) → cons_option (fault_unless number o) rest ≡ [] → rest ≡ []
-no_fault_left number None rest none = let no : ⊥ = cc in absurd no
-no_fault_left number (Some e) rest none = none
-
-pub good_rest : (number : ℕ) (line : List ℕ) (rest lines : List Numbered) → lines ≡ (number, line) ∷ rest → filter_map event_fault lines ≡ [] → filter_map event_fault rest ≡ []
-good_rest number line rest lines cut good = no_fault_left number (event_of line) (filter_map event_fault rest) (ap (filter_map event_fault) (sym cut) ∙ good)
+-- a line that says an event leaves the faults of the others
+pub faults_after : (number : ℕ) (line : List ℕ) (rest lines : List Numbered) (e : Event) → lines ≡ (number, line) ∷ rest → Some e ≡ event_of line
+    → filter_map event_fault lines ≡ filter_map event_fault rest
+faults_after number line rest lines e cut says =
+    ap (filter_map event_fault) cut ∙ ap (λ o. cons_option o (filter_map event_fault rest)) (no_fault number (event_of line) e says)
 
 -- a refusal that has a word is one of the machine
 pub refused : (old new : State) (e : Event) (f : WorldFault) (word : List ℕ) → refusal_text f ≡ Some word → Went old e (Err f) new → Refuses old e f × (new ≡ old)

@@ -1,11 +1,11 @@
 //! The lines of a capture.
 
-ghost use Rattle.std.specs.Prelude.{ℕ, ◌≡◌, ◌≤◌, ◌<◌, ◌*◌, ◌^◌, ◌==◌, length, MatchOption, [], ◌∷◌};
+ghost use Rattle.std.specs.Prelude.{ℕ, ◌≡◌, ◌<◌, ◌==◌, length, MatchOption, [], ◌∷◌};
 ghost use Rattle.std.specs.List.{position, list_all};
 ghost use Rattle.std.specs.Char.{is_ascii_hexdigit};
 ghost use Rattle.std.specs.Str.Lines.{lines, strip_carriage_return};
-ghost use Rattle.dap_capture.specs.Lines.{is_hex_text as spelled, digits_line, line_of};
-ghost use Rattle.dap_capture.specs.Inner.Lines.{HasDigits, line_of_head, value_of_line};
+ghost use Rattle.dap_capture.specs.Lines.{is_hex_text as spelled, line_of};
+ghost use Rattle.dap_capture.specs.Inner.Lines.{line_of_head};
 
 use memchr::memchr;
 
@@ -27,19 +27,6 @@ pub(crate) enum Head<'a> {
     Digits(Direction, &'a [u8]),
     /// The line has no meaning.
     Malformed,
-}
-
-/// What a line of a capture says.
-#[derive(Clone, Copy, Debug)]
-pub(crate) enum Line<'a> {
-    /// Nothing: it is empty or a comment.
-    Skipped,
-    /// Captured bytes, by their hex digits.
-    Captured(Direction, &'a [u8]),
-    /// It has no meaning.
-    Malformed,
-    /// It has more bytes than the limit.
-    TooLong,
 }
 
 /// Where the first line feed stands.
@@ -86,34 +73,6 @@ pub(crate) fn parse_head(line: &[u8]) -> Head<'_>
         [b'<', b' ', digits @ ..] => Head::Digits(Direction::Left, digits),
         _ => Head::Malformed,
     }
-}
-
-/// What a line says, where captured bytes may be so many.
-pub(crate) fn parse_line(line: &[u8], limit: usize) -> Line<'_>
-    requires { limit < 2 ^ 32 }
-    ensures value { value_of_line result ≡ line_of limit line.now }
-    ensures digits { HasDigits limit result }
-{
-    match parse_head(line) {
-        Head::Skipped => Line::Skipped,
-        Head::Digits(direction, digits) => parse_digits(direction, digits, limit),
-        Head::Malformed => Line::Malformed,
-    }
-}
-
-/// What the digits of a line say.
-fn parse_digits(direction: Direction, digits: &[u8], limit: usize) -> Line<'_>
-    requires { limit < 2 ^ 32 }
-    ensures value { value_of_line result ≡ digits_line limit direction digits.now }
-    ensures digits { HasDigits limit result }
-{
-    if !is_hex_text(digits) {
-        return Line::Malformed;
-    }
-    if digits.len() > 2 * limit {
-        return Line::TooLong;
-    }
-    Line::Captured(direction, digits)
 }
 
 /// Whether it is an even number of hex digits, and at least two.

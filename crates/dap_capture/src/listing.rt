@@ -1,16 +1,17 @@
 //! The listing of an input: of packets, or of NSP messages.
 
-ghost use Rattle.std.specs.Prelude.{◌≡◌, ◌≤◌, ◌*◌, ◌++◌, ℕ, List, Ok, true, IfErr, IfOk, MatchResult, OnOk, [], length, slice_get, string_bytes};
-ghost use Rattle.hex.specs.Hex.{decode_of};
+ghost use Rattle.std.specs.Prelude.{◌≡◌, ◌≤◌, ◌<◌, ◌*◌, ◌/◌, ◌^◌, ◌++◌, ℕ, List, Some, true, false, IfErr, IfOk, MatchOption, MatchResult, OnOk, length, string_bytes};
 ghost use Rattle.dap_capture.specs.Inner.Adding.{Adds, AddsCapture, AddsSome};
-ghost use Rattle.dap_capture.specs.Inner.Checking.{IsOfLine, TellsFirst};
-ghost use Rattle.dap_capture.specs.Lines.{is_hex_text};
-ghost use Rattle.dap_capture.specs.Listing.{IsCapturedText, IsListing, IsMessageText, arrow_text, limit_of, line_faults};
+ghost use Rattle.dap_capture.specs.Inner.Checking.{IsOfLine, TellsFirst, TellsFirstOrWants, TellsFirstThenWants};
+ghost use Rattle.dap_capture.specs.Inner.Lines.{IsRead, StandInFront};
+ghost use Rattle.dap_capture.specs.Lines.{digits_line, is_hex_text as is_spelled, line_of};
+ghost use Rattle.dap_capture.specs.Listing.{IsCapturedText, IsListing, IsMessageText, arrow_text, fault_of_line, limit_of, line_faults};
 
 use crate::input::INPUT_LIMIT;
-use crate::lines::{Direction, Head, Line, next_line, parse_head, parse_line};
+use crate::lines::{Direction, Head, is_hex_text, next_line, parse_head};
 use crate::message::push_messages;
 use crate::packet::push_packet;
+use crate::text::push_decimal;
 use crate::{CaptureFault, Outcome};
 use std::alloc::{AllocError, Global};
 
@@ -35,8 +36,35 @@ impl Listed {
     }
 }
 
+/// What is wrong with hex digits of bytes of which there may be so many, in the line of a number.
+fn digits_fault(number: usize, digits: &[u8], limit: usize) -> Option<CaptureFault>
+    requires { limit < 2 ^ 32 }
+    ensures { (direction : Direction)
+        → result ≡ fault_of_line number (digits_line limit direction digits.now) }
+{
+    if !is_hex_text(digits) {
+        return Some(CaptureFault::BadLine(number));
+    }
+    if digits.len() > 2 * limit {
+        return Some(CaptureFault::TooLarge);
+    }
+    None
+}
+
+/// What is wrong with the line of a number.
+fn line_fault(number: usize, line: &[u8], limit: usize) -> Option<CaptureFault>
+    requires { limit < 2 ^ 32 }
+    ensures { result ≡ fault_of_line number (line_of limit line.now) }
+{
+    match parse_head(line) {
+        Head::Skipped => None,
+        Head::Digits(_, digits) => digits_fault(number, digits, limit),
+        Head::Malformed => Some(CaptureFault::BadLine(number)),
+    }
+}
+
 /// Whether each line has a meaning within the limits, or else the first fault.
-pub(crate) fn check_lines(listed: Listed, input: &[u8]) -> Result<(), CaptureFault>
+fn check_lines(listed: Listed, input: &[u8]) -> Result<(), CaptureFault>
     requires { length input.now ≤ INPUT_LIMIT }
     ensures faults { TellsFirst result (line_faults (limit_of listed) input.now) }
     ensures of_line { IfErr result IsOfLine }
@@ -44,15 +72,57 @@ pub(crate) fn check_lines(listed: Listed, input: &[u8]) -> Result<(), CaptureFau
     let mut number = 1;
     let mut rest = input;
     while let Some((line, after)) = next_line(rest) {
-        match parse_line(line, listed.limit()) {
-            Line::Skipped | Line::Captured(_, _) => {}
-            Line::Malformed => return Err(CaptureFault::BadLine(number)),
-            Line::TooLong => return Err(CaptureFault::TooLarge),
+        if let Some(fault) = line_fault(number, line, listed.limit()) {
+            return Err(fault);
         }
         number += 1;
         rest = after;
     }
     Ok(())
+}
+
+/// Writes the bytes of hex digits to the front of the room, and answers how many they are.
+fn decode_digits(digits: &[u8], room: &mut [u8]) -> Option<usize>
+    requires { length digits.now / 2 ≤ length room.old }
+    ensures { MatchOption result (is_spelled digits.now ≡ false)
+        (λ count. (is_spelled digits.now ≡ true) × StandInFront digits.now room.new count) }
+{
+    let count = digits.len() / 2;
+    if count == 0 {
+        return None;
+    }
+    match hex::decode_to_slice(digits, &mut room[..count]) {
+        Ok(()) => Some(count),
+        Err(_) => None,
+    }
+}
+
+/// What the line of a number captured: the direction, and how many bytes, which it writes to the front of
+/// the room.
+fn read_line(
+    number: usize,
+    line: &[u8],
+    room: &mut [u8],
+) -> Result<Option<(Direction, usize)>, CaptureFault>
+    ensures { MatchResult result (IsRead (line_of (length room.old) line.now) room.new)
+        (λ fault. fault_of_line number (line_of (length room.old) line.now) ≡ Some fault) }
+{
+    let bad = Err(CaptureFault::BadLine(number));
+    match parse_head(line) {
+        Head::Skipped => Ok(None),
+        Head::Digits(_, digits) if digits.len() / 2 > room.len() => {
+            if is_hex_text(digits) {
+                Err(CaptureFault::TooLarge)
+            } else {
+                bad
+            }
+        }
+        Head::Digits(direction, digits) => match decode_digits(digits, room) {
+            Some(count) => Ok(Some((direction, count))),
+            None => bad,
+        },
+        Head::Malformed => bad,
+    }
 }
 
 /// The sign of a direction.
@@ -63,16 +133,6 @@ fn arrow(direction: Direction) -> &'static str
         Direction::Right => ">",
         Direction::Left => "<",
     }
-}
-
-/// Writes the bytes of hex digits.
-fn decode_digits(digits: &[u8], bytes: &mut [u8])
-    requires hex { is_hex_text digits.now ≡ true }
-    requires room { length digits.now ≡ 2 * length bytes.old }
-    ensures { decode_of digits.now ≡ Ok bytes.new }
-{
-    let decoded = hex::decode_to_slice(digits, bytes);
-    prove!(decoded.is_ok());
 }
 
 /// Appends what the lines of an NSP message say after its number and direction.
@@ -94,63 +154,78 @@ fn push_captured(listed: Listed, text: &mut String, bytes: &[u8]) -> Result<(), 
     }
 }
 
-/// Appends the lines of what has the hex digits. The room is for its bytes.
-#[tactic(auto, using(crate::proofs::HexTextLemmas::even_hex))]
+/// Appends the lines of captured bytes.
 fn push_capture(
     listed: Listed,
     text: &mut String,
     number: usize,
     direction: Direction,
-    digits: &[u8],
-    room: &mut [u8],
+    bytes: &[u8],
 ) -> Result<(), AllocError>
-    requires hex { is_hex_text digits.now ≡ true }
-    requires short { length digits.now ≤ 2 * length room.old }
-    ensures { OnOk result (AddsCapture listed number direction digits.now text.old text.new) }
+    ensures { OnOk result (AddsCapture listed number direction bytes.now text.old text.new) }
 {
-    let bytes = &mut room[..digits.len() / 2];
-    decode_digits(digits, bytes);
-    let sign = arrow(direction);
-    write!(text, "{number} {sign} ")?;
+    push_decimal(text, number as u64)?;
+    text.push_str(" ")?;
+    text.push_str(arrow(direction))?;
+    text.push_str(" ")?;
     push_captured(listed, text, bytes)
 }
 
-/// The lines of all that was captured, in an input whose lines have no fault. The room is for the bytes
-/// of a line.
+/// The lines of all that was captured, up to the first line at fault. The room is for the bytes of a line.
 fn list_into(
     listed: Listed,
     alloc: Global,
     input: &[u8],
     room: &mut [u8],
-) -> Result<String, AllocError>
+) -> Result<String, CaptureFault>
     requires small { length input.now ≤ INPUT_LIMIT }
-    requires good { line_faults (limit_of listed) input.now ≡ [] }
     requires room { length room.old ≡ limit_of listed }
-    ensures { IfOk result (λ text. IsListing listed input.now Outcome.Good (string_bytes text)) }
+    ensures listing { IfOk result (λ text. IsListing listed input.now Outcome.Good (string_bytes text)) }
+    ensures faults { TellsFirstOrWants result (line_faults (limit_of listed) input.now) }
 {
     let mut text = String::new(alloc);
     let mut number = 1;
+    let mut at = 1;
     let mut rest = input;
     while let Some((line, after)) = next_line(rest) {
-        if let Head::Digits(direction, digits) = parse_head(line) {
-            push_capture(listed, &mut text, number, direction, digits, room)?;
-            number += 1;
+        match read_line(at, line, room)? {
+            None => {}
+            Some((direction, count)) => {
+                push_capture(listed, &mut text, number, direction, &room[..count])?;
+                number += 1;
+            }
         }
+        at += 1;
         rest = after;
     }
     Ok(text)
 }
 
-/// The lines of all that was captured, in an input whose lines have no fault.
+/// The lines of all that was captured, up to the first line at fault.
+fn list_lines(listed: Listed, alloc: Global, input: &[u8]) -> Result<String, CaptureFault>
+    requires small { length input.now ≤ INPUT_LIMIT }
+    ensures listing { IfOk result (λ text. IsListing listed input.now Outcome.Good (string_bytes text)) }
+    ensures faults { TellsFirstOrWants result (line_faults (limit_of listed) input.now) }
+{
+    let mut room = vec![in alloc; 0; listed.limit()]?;
+    list_into(listed, alloc, input, &mut room)
+}
+
+/// The lines of all that was captured. A line at fault is told also where memory was wanting before it.
 pub(crate) fn list_captures(
     listed: Listed,
     alloc: Global,
     input: &[u8],
-) -> Result<String, AllocError>
+) -> Result<String, CaptureFault>
     requires small { length input.now ≤ INPUT_LIMIT }
-    requires good { line_faults (limit_of listed) input.now ≡ [] }
-    ensures { IfOk result (λ text. IsListing listed input.now Outcome.Good (string_bytes text)) }
+    ensures listing { IfOk result (λ text. IsListing listed input.now Outcome.Good (string_bytes text)) }
+    ensures faults { TellsFirstThenWants result (line_faults (limit_of listed) input.now) }
 {
-    let mut room = vec![in alloc; 0; listed.limit()]?;
-    list_into(listed, alloc, input, &mut room)
+    match list_lines(listed, alloc, input) {
+        Err(CaptureFault::NoMemory) => {
+            check_lines(listed, input)?;
+            Err(CaptureFault::NoMemory)
+        }
+        listing => listing,
+    }
 }

@@ -2,14 +2,14 @@
 
 ghost use Rattle.std.specs.Prelude.{◌≡◌, ◌≤◌, ◌+◌, [], IfErr, IfOk, IsSome, MatchResult, length, slice_get, string_bytes};
 ghost use Rattle.std.specs.List.{filter_map};
-ghost use Rattle.dap_capture.specs.Inner.Checking.{IsOfLine, TellsFirst};
-ghost use Rattle.dap_capture.specs.Inner.Playing.{PlaysLine, PlaysOne};
-ghost use Rattle.dap_capture.specs.Orders.{event_of};
+ghost use Rattle.dap_capture.specs.Inner.Checking.{IsOfLine, TellsFirst, TellsFirstOrWants, TellsFirstThenWants};
+ghost use Rattle.dap_capture.specs.Inner.Orders.{event_of_order};
+ghost use Rattle.dap_capture.specs.Inner.Playing.{PlaysOne};
 ghost use Rattle.dap_capture.specs.Played.{Played, Plays};
 ghost use Rattle.dap_capture.specs.Schedules.{event_fault, events_of, said, schedule_faults};
 
 use crate::input::INPUT_LIMIT;
-use crate::orders::{read_order, read_setup};
+use crate::orders::{Order, read_order, read_setup};
 use crate::said::Said;
 use crate::steps::{push_event, push_refusal, refusal_word};
 use crate::tables::push_files;
@@ -17,9 +17,22 @@ use crate::{CaptureFault, Outcome};
 use dap_world::{Event, World, WorldFault};
 use std::alloc::Global;
 
+/// Whether the lines are events, or else the first fault.
+fn check_orders<'a>(mut lines: Said<'a>) -> Result<(), CaptureFault>
+    ensures faults { TellsFirst result (filter_map event_fault lines.entry) }
+    ensures of_line { IfErr result IsOfLine }
+{
+    while let Some((number, line)) = lines.next() {
+        if read_order(line).is_none() {
+            return Err(CaptureFault::BadLine(number));
+        }
+    }
+    Ok(())
+}
+
 /// Whether the first line that says something is a setup, and the others are events, or else the
 /// first fault.
-pub(crate) fn check_schedule(input: &[u8]) -> Result<(), CaptureFault>
+fn check_schedule(input: &[u8]) -> Result<(), CaptureFault>
     requires { length input.now ≤ INPUT_LIMIT }
     ensures faults { TellsFirst result (schedule_faults (said input.now)) }
     ensures of_line { IfErr result IsOfLine }
@@ -31,12 +44,7 @@ pub(crate) fn check_schedule(input: &[u8]) -> Result<(), CaptureFault>
     if read_setup(setup).is_none() {
         return Err(CaptureFault::BadLine(first));
     }
-    while let Some((number, line)) = lines.next() {
-        if read_order(line).is_none() {
-            return Err(CaptureFault::BadLine(number));
-        }
-    }
-    Ok(())
+    check_orders(lines)
 }
 
 /// Plays an event and appends its line. It is stopped where the event is refused.
@@ -65,22 +73,18 @@ fn play_event(
     }
 }
 
-/// Plays the event of a line.
-fn play_line(
+/// Plays the event that a line says.
+fn play_order<'a>(
     alloc: Global,
     text: &mut String,
     number: usize,
     world: &mut World,
-    line: &[u8],
+    order: &Order<'a>,
 ) -> Result<Outcome, CaptureFault>
-    requires { IsSome (event_of line.now) }
-    ensures plays { IfOk result (PlaysLine number line.now world.old world.new
+    ensures plays { IfOk result (PlaysOne number (event_of_order order.now) world.old world.new
         (string_bytes text.old) (string_bytes text.new)) }
     ensures fault { IfErr result (λ fault. fault ≡ CaptureFault.NoMemory) }
 {
-    let Some(order) = read_order(line) else {
-        unreachable!()
-    };
     let event = order.to_event(alloc)?;
     play_event(text, number, world, &event)
 }
@@ -93,17 +97,20 @@ fn play_events<'a>(
     mut lines: Said<'a>,
 ) -> Result<(Outcome, String), CaptureFault>
     requires short { length lines ≤ INPUT_LIMIT + 1 }
-    requires good { filter_map event_fault lines ≡ [] }
     ensures played { IfOk result
         (λ played. Plays world.old 1 (events_of lines.entry) played.0 (string_bytes played.1)) }
-    ensures fault { IfErr result (λ fault. fault ≡ CaptureFault.NoMemory) }
+    ensures faults { TellsFirstOrWants result (filter_map event_fault lines.entry) }
 {
     let mut text = String::new(alloc);
     let mut number = 1;
-    while let Some((_, line)) = lines.next() {
-        match play_line(alloc, &mut text, number, world, line)? {
+    while let Some((at, line)) = lines.next() {
+        let Some(order) = read_order(line) else {
+            return Err(CaptureFault::BadLine(at));
+        };
+        match play_order(alloc, &mut text, number, world, &order)? {
             Outcome::Good => number += 1,
             Outcome::Stopped => {
+                check_orders(lines)?;
                 push_files(&mut text, world.files())?;
                 return Ok((Outcome::Stopped, text));
             }
@@ -113,28 +120,44 @@ fn play_events<'a>(
     Ok((Outcome::Good, text))
 }
 
-/// Plays a schedule whose lines have no fault.
-pub(crate) fn play(alloc: Global, input: &[u8]) -> Result<(Outcome, String), CaptureFault>
+/// Plays a schedule up to its first fault.
+fn play_lines(alloc: Global, input: &[u8]) -> Result<(Outcome, String), CaptureFault>
     requires small { length input.now ≤ INPUT_LIMIT }
-    requires good { schedule_faults (said input.now) ≡ [] }
     ensures played { IfOk result
         (λ played. Played (said input.now) played.0 (string_bytes played.1)) }
-    ensures fault { IfErr result (λ fault. fault ≡ CaptureFault.NoMemory) }
+    ensures faults { TellsFirstOrWants result (schedule_faults (said input.now)) }
 {
     let mut lines = Said::of(input);
-    let Some((_, first)) = lines.next() else {
+    let Some((at, first)) = lines.next() else {
         return Ok((Outcome::Good, String::new(alloc)));
     };
     let Some(setup) = read_setup(first) else {
-        unreachable!()
+        return Err(CaptureFault::BadLine(at));
     };
     match World::new(alloc, setup) {
         Ok(mut world) => play_events(alloc, &mut world, lines),
         Err(WorldFault::BadSetup) => {
+            check_orders(lines)?;
             let mut refusal = String::new(alloc);
             push_refusal(&mut refusal, 0, "bad-setup")?;
             Ok((Outcome::Stopped, refusal))
         }
         Err(_) => Err(CaptureFault::NoMemory),
+    }
+}
+
+/// Plays a schedule. A bad line is told also where memory was wanting before it.
+pub(crate) fn play(alloc: Global, input: &[u8]) -> Result<(Outcome, String), CaptureFault>
+    requires small { length input.now ≤ INPUT_LIMIT }
+    ensures played { IfOk result
+        (λ played. Played (said input.now) played.0 (string_bytes played.1)) }
+    ensures faults { TellsFirstThenWants result (schedule_faults (said input.now)) }
+{
+    match play_lines(alloc, input) {
+        Err(CaptureFault::NoMemory) => {
+            check_schedule(input)?;
+            Err(CaptureFault::NoMemory)
+        }
+        played => played,
     }
 }

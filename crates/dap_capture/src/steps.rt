@@ -8,7 +8,7 @@ ghost use Rattle.dap_capture.specs.Inner.Playing.{AddsStep};
 ghost use Rattle.dap_capture.specs.Played.{IsPacketAt, IsPacketWritten, IsReported, IsStepText, end_text, got_text, refusal_line, refusal_text};
 
 use crate::reports::push_report;
-use crate::text::Hex;
+use crate::text::{push_decimal, push_hex, push_number};
 use dap_world::{AskFault, End, Event, Got, Step, World, WorldFault};
 use std::alloc::AllocError;
 
@@ -75,9 +75,11 @@ fn push_packet(text: &mut String, world: &World, end: End, place: usize) -> Resu
     requires { place < length (sends world.now end).wire }
     ensures { OnOk result (AddsSome text.old text.new (IsPacketWritten world.now end place)) }
 {
-    let digits = Hex(packet_at(world, end, place));
-    let word = end_word(end);
-    write!(text, "packet {word} {place} {digits}")
+    text.push_str("packet ")?;
+    text.push_str(end_word(end))?;
+    push_number(text, " ", place as u64)?;
+    text.push_str(" ")?;
+    push_hex(text, packet_at(world, end, place))
 }
 
 /// Appends the newest report.
@@ -98,19 +100,16 @@ fn push_step(text: &mut String, world: &World, event: &Event, step: Step) -> Res
     ensures { OnOk result (AddsSome text.old text.new (IsStepText world.now event.now step)) }
 {
     match step {
-        Step::Asked(count) => write!(text, "asked {count}"),
-        Step::Posted(count) => write!(text, "posted {count}"),
+        Step::Asked(count) => push_number(text, "asked ", count as u64),
+        Step::Posted(count) => push_number(text, "posted ", count as u64),
         Step::Packet(place) => {
             let Some(end) = writer(event) else {
                 unreachable!()
             };
             push_packet(text, world, end, place)
         }
-        Step::Delivered(got) => {
-            let word = got_word(got);
-            write!(text, "{word}")
-        }
-        Step::Served(count) => write!(text, "served {count}"),
+        Step::Delivered(got) => text.push_str(got_word(got)),
+        Step::Served(count) => push_number(text, "served ", count as u64),
         Step::Nothing => text.push_str("read"),
         Step::Reported => push_newest(text, world),
     }
@@ -127,7 +126,8 @@ pub(crate) fn push_event(
     requires { Answers event.now step world.now }
     ensures { OnOk result (AddsStep number world.now event.now step text.old text.new) }
 {
-    write!(text, "{number} ")?;
+    push_decimal(text, number as u64)?;
+    text.push_str(" ")?;
     push_step(text, world, event, step)?;
     text.push_str("\n")
 }

@@ -1,6 +1,5 @@
 -- What a function adds to a text.
-use Rattle.std.specs.Prelude.{◌≡◌, ℕ, List, ◌++◌, Ok, String, string_bytes}
-use Rattle.hex.specs.Hex.{decode_of}
+use Rattle.std.specs.Prelude.{◌≡◌, ℕ, List, ◌++◌, String, string_bytes}
 use Rattle.dap_capture.specs.Listing.{IsCapturedText, heading}
 use Rattle.dap_capture.specs.declared.lines.Direction.{Direction}
 use Rattle.dap_capture.specs.declared.listing.Listed.{Listed}
@@ -13,8 +12,7 @@ Adds old new bytes = string_bytes new ≡ string_bytes old ++ bytes
 abbrev pub AddsSome : {Z : Type 0} → String Z → String Z → (List ℕ → Type 0) → Type 0
 AddsSome old new IsText = (bytes : List ℕ) × IsText bytes × Adds old new bytes
 
--- the lines of what has the hex digits
+-- the lines of captured bytes
 abbrev pub AddsCapture : {Z : Type 0} → Listed → ℕ → Direction → List ℕ → String Z → String Z → Type 0
-AddsCapture listed number direction digits old new =
-    (bytes : List ℕ) × (lines : List ℕ) × (decode_of digits ≡ Ok bytes) × IsCapturedText listed bytes lines
-    × Adds old new (heading number direction ++ lines)
+AddsCapture listed number direction bytes old new =
+    (lines : List ℕ) × IsCapturedText listed bytes lines × Adds old new (heading number direction ++ lines)

@@ -1,7 +1,7 @@
 -- What a check of lines tells.
-use Rattle.std.specs.Prelude.{◌≡◌, List, [], slice_get, Some, Result, MatchResult}
+use Rattle.std.specs.Prelude.{◌≡◌, ◌⊎◌, List, [], slice_get, Some, Result, MatchResult}
 use Rattle.dap_capture.specs.declared.fault.CaptureFault.{CaptureFault}
-use Rattle.dap_capture.specs.declared.fault.CaptureFault.TheVariants.{BadLine, TooLarge}
+use Rattle.dap_capture.specs.declared.fault.CaptureFault.TheVariants.{BadLine, TooLarge, NoMemory}
 
 -- the first of the faults, where there is one
 abbrev pub TellsFirst : {X : Type 0} → Result X CaptureFault → List CaptureFault → Type 0
@@ -12,3 +12,17 @@ abbrev pub IsOfLine : CaptureFault → Type 0
 IsOfLine (BadLine number) = Unit {0}
 IsOfLine TooLarge = Unit {0}
 IsOfLine _ = ⊥
+
+-- the first of the faults, which a line can have
+abbrev pub IsFirst : List CaptureFault → CaptureFault → Type 0
+IsFirst faults fault = (slice_get faults 0 ≡ Some fault) × IsOfLine fault
+
+-- the first of the faults, where there is one and memory sufficed up to it
+abbrev pub TellsFirstOrWants : {X : Type 0} → Result X CaptureFault → List CaptureFault → Type 0
+TellsFirstOrWants result faults =
+    MatchResult result (λ _. faults ≡ []) (λ fault. (fault ≡ NoMemory) ⊎ IsFirst faults fault)
+
+-- the first of the faults, where there is one; only else want of memory
+abbrev pub TellsFirstThenWants : {X : Type 0} → Result X CaptureFault → List CaptureFault → Type 0
+TellsFirstThenWants result faults =
+    MatchResult result (λ _. faults ≡ []) (λ fault. ((fault ≡ NoMemory) × (faults ≡ [])) ⊎ IsFirst faults fault)

@@ -6,7 +6,6 @@ use Rattle.dap_world.specs.declared.event.WorldFault.{WorldFault}
 use Rattle.dap_world.specs.Machine.{State, Steps, Refuses}
 use Rattle.dap_capture.specs.declared.fault.Outcome.{Outcome}
 use Rattle.dap_capture.specs.declared.fault.Outcome.TheVariants.{Good, Stopped}
-use Rattle.dap_capture.specs.Orders.{event_of}
 use Rattle.dap_capture.specs.Inner.Adding.{Adds}
 use Rattle.dap_capture.specs.Played.{IsStepText, event_line, refusal_line, refusal_text}
 
@@ -22,8 +21,3 @@ PlaysOne number e old new before after Good =
 PlaysOne number e old new before after Stopped =
     (f : WorldFault) × (word : List ℕ) × Refuses old e f × (refusal_text f ≡ Some word) × (new ≡ old)
     × (after ≡ before ++ refusal_line number word)
-
--- the same of the event that a line says
-abbrev pub PlaysLine : ℕ → List ℕ → State → State → List ℕ → List ℕ → Outcome → Type 0
-PlaysLine number line old new before after outcome =
-    (e : Event) × (event_of line ≡ Some e) × PlaysOne number e old new before after outcome
