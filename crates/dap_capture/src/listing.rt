@@ -11,7 +11,7 @@ use crate::input::INPUT_LIMIT;
 use crate::lines::{Direction, Head, is_hex_text, next_line, parse_head};
 use crate::message::push_messages;
 use crate::packet::push_packet;
-use crate::text::push_decimal;
+use crate::text::{push_decimal, push_number};
 use crate::{CaptureFault, Outcome};
 use std::alloc::{AllocError, Global};
 
@@ -139,8 +139,8 @@ fn arrow(direction: Direction) -> &'static str
 fn push_message(text: &mut String, bytes: &[u8]) -> Result<(), AllocError>
     ensures { OnOk result (AddsSome text.old text.new (IsMessageText bytes.now)) }
 {
-    let count = bytes.len();
-    writeln!(text, "message len={count}")?;
+    push_number(text, "message len=", bytes.len())?;
+    text.push_str("\n")?;
     push_messages(text, bytes)
 }
 
@@ -164,7 +164,7 @@ fn push_capture(
 ) -> Result<(), AllocError>
     ensures { OnOk result (AddsCapture listed number direction bytes.now text.old text.new) }
 {
-    push_decimal(text, number as u64)?;
+    push_decimal(text, number)?;
     text.push_str(" ")?;
     text.push_str(arrow(direction))?;
     text.push_str(" ")?;

@@ -1,26 +1,20 @@
 //! How reports are printed.
 
-ghost use Rattle.std.specs.Prelude.{◌≡◌, ◌++◌, IfOk, OnOk, Some, string_bytes};
+ghost use Rattle.std.specs.Prelude.{◌≡◌, ◌++◌, IfOk, OnOk, string_bytes};
 ghost use Rattle.std.specs.List.{flat_map};
 ghost use Rattle.dap_capture.specs.Inner.Adding.{Adds};
 ghost use Rattle.dap_capture.specs.Reports.{ending_text, numbered_text, refused_text, report_text, stored_text};
 
-use crate::text::{Image, Word};
+use crate::text::{push_image, push_number, push_word};
 use dap_world::{Ending, Octets, Report};
 use std::alloc::AllocError;
-use std::fmt;
 
-/// The code of a Status, and its reason.
-#[derive(Clone, Copy)]
-struct Refused(u16, u8);
-
-impl fmt::Display for Refused {
-    ghost output = { λ refused. Some (refused_text refused.0 refused.1) };
-
-    fn fmt<W: fmt::Write>(&self, f: &mut fmt::Formatter<W>) -> fmt::Result {
-        let code = Word(self.0);
-        write!(f, "refused {code} {}", self.1)
-    }
+/// Appends the code of a Status, and its reason.
+fn push_refused(text: &mut String, code: u16, reason: u8) -> Result<(), AllocError>
+    ensures { OnOk result (Adds text.old text.new (refused_text code reason)) }
+{
+    push_word(text, "refused ", code)?;
+    push_number(text, " ", reason)
 }
 
 /// Appends how a batch ended.
@@ -30,10 +24,7 @@ fn push_ending(text: &mut String, ending: Ending) -> Result<(), AllocError>
     match ending {
         Ending::Complete => text.push_str("complete"),
         Ending::Stopped => text.push_str("stopped"),
-        Ending::Refused(code, reason) => {
-            let refused = Refused(code, reason);
-            write!(text, "{refused}")
-        }
+        Ending::Refused(code, reason) => push_refused(text, code, reason),
     }
 }
 
@@ -42,9 +33,8 @@ fn push_records(text: &mut String, records: &[(u64, Octets)]) -> Result<(), Allo
     ensures { OnOk result (Adds text.old text.new (flat_map numbered_text records.now)) }
 {
     for record in records {
-        let number = record.0;
-        let body = Image(&record.1.0);
-        write!(text, " {number}:{body}")?;
+        push_number(text, " ", record.0)?;
+        push_image(text, ":", &record.1.0)?;
     }
     Ok(())
 }
@@ -56,8 +46,9 @@ fn push_stored(text: &mut String, kept: Option<(u16, u8, u64)>) -> Result<(), Al
     match kept {
         None => text.push_str("stored"),
         Some((code, reason, ordinal)) => {
-            let refused = Refused(code, reason);
-            write!(text, "stored {refused} {ordinal}")
+            text.push_str("stored ")?;
+            push_refused(text, code, reason)?;
+            push_number(text, " ", ordinal)
         }
     }
 }
@@ -67,22 +58,24 @@ pub(crate) fn push_report(text: &mut String, report: &Report) -> Result<(), Allo
     ensures { OnOk result (Adds text.old text.new (report_text report.now)) }
 {
     match report {
-        Report::Ready(bufsiz) => write!(text, "ready {bufsiz}"),
-        Report::Opened { org, rfm, mrs, mrn } => write!(text, "opened {org} {rfm} {mrs} {mrn}"),
+        Report::Ready(bufsiz) => push_number(text, "ready ", *bufsiz),
+        Report::Opened { org, rfm, mrs, mrn } => {
+            push_number(text, "opened ", *org)?;
+            push_number(text, " ", *rfm)?;
+            push_number(text, " ", *mrs)?;
+            push_number(text, " ", *mrn)
+        }
         Report::Connected => text.push_str("connected"),
         Report::Found { number, body } => {
-            let body = Image(&body.0);
-            write!(text, "found {number} {body}")
+            push_number(text, "found ", *number)?;
+            push_image(text, " ", &body.0)
         }
-        Report::Done(number) => write!(text, "done {number}"),
+        Report::Done(number) => push_number(text, "done ", *number),
         Report::EndOfFile => text.push_str("end-of-file"),
-        Report::Refused(code, reason) => {
-            let refused = Refused(*code, *reason);
-            write!(text, "{refused}")
-        }
+        Report::Refused(code, reason) => push_refused(text, *code, *reason),
         Report::Batch { bodies, ending } => {
-            let count = bodies.0.len();
-            write!(text, "batch {count} ")?;
+            push_number(text, "batch ", bodies.0.len())?;
+            text.push_str(" ")?;
             push_ending(text, *ending)?;
             push_records(text, &bodies.0)
         }

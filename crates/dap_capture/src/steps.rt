@@ -77,7 +77,7 @@ fn push_packet(text: &mut String, world: &World, end: End, place: usize) -> Resu
 {
     text.push_str("packet ")?;
     text.push_str(end_word(end))?;
-    push_number(text, " ", place as u64)?;
+    push_number(text, " ", place)?;
     text.push_str(" ")?;
     push_hex(text, packet_at(world, end, place))
 }
@@ -100,8 +100,8 @@ fn push_step(text: &mut String, world: &World, event: &Event, step: Step) -> Res
     ensures { OnOk result (AddsSome text.old text.new (IsStepText world.now event.now step)) }
 {
     match step {
-        Step::Asked(count) => push_number(text, "asked ", count as u64),
-        Step::Posted(count) => push_number(text, "posted ", count as u64),
+        Step::Asked(count) => push_number(text, "asked ", count),
+        Step::Posted(count) => push_number(text, "posted ", count),
         Step::Packet(place) => {
             let Some(end) = writer(event) else {
                 unreachable!()
@@ -109,7 +109,7 @@ fn push_step(text: &mut String, world: &World, event: &Event, step: Step) -> Res
             push_packet(text, world, end, place)
         }
         Step::Delivered(got) => text.push_str(got_word(got)),
-        Step::Served(count) => push_number(text, "served ", count as u64),
+        Step::Served(count) => push_number(text, "served ", count),
         Step::Nothing => text.push_str("read"),
         Step::Reported => push_newest(text, world),
     }
@@ -126,7 +126,7 @@ pub(crate) fn push_event(
     requires { Answers event.now step world.now }
     ensures { OnOk result (AddsStep number world.now event.now step text.old text.new) }
 {
-    push_decimal(text, number as u64)?;
+    push_decimal(text, number)?;
     text.push_str(" ")?;
     push_step(text, world, event, step)?;
     text.push_str("\n")
@@ -136,5 +136,8 @@ pub(crate) fn push_event(
 pub(crate) fn push_refusal(text: &mut String, number: usize, word: &str) -> Result<(), AllocError>
     ensures { OnOk result (Adds text.old text.new (refusal_line number word.now)) }
 {
-    writeln!(text, "{number} refused {word}")
+    push_decimal(text, number)?;
+    text.push_str(" refused ")?;
+    text.push_str(word)?;
+    text.push_str("\n")
 }

@@ -1,13 +1,13 @@
 //! How files are printed.
 
-ghost use Rattle.std.specs.Prelude.{◌≡◌, ◌<◌, ◌++◌, OnOk, length, string_bytes};
+ghost use Rattle.std.specs.Prelude.{◌≡◌, ◌<◌, ◌++◌, OnOk, codes, length, string_bytes};
 ghost use Rattle.std.specs.FinMap.{entries};
 ghost use Rattle.std.specs.List.{flat_map};
 ghost use Rattle.rec_file.specs.AnyFiles.{any_value};
 ghost use Rattle.dap_capture.specs.Inner.Adding.{Adds};
 ghost use Rattle.dap_capture.specs.Tables.{file_line, file_text, files_text, format_text, org_text, record_line, records_text};
 
-use crate::text::Image;
+use crate::text::{push_image, push_number};
 use dap_world::{AnyFile, FileTable, Format, Org, RecordFile, Shape};
 use rec_file::first_record;
 use std::alloc::AllocError;
@@ -32,24 +32,33 @@ fn format_word(format: Format) -> &'static str
     }
 }
 
+/// Appends a word behind a space.
+fn push_behind(text: &mut String, word: &str) -> Result<(), AllocError>
+    ensures { OnOk result (Adds text.old text.new (codes " " ++ word.now)) }
+{
+    text.push_str(" ")?;
+    text.push_str(word)
+}
+
 /// Appends the line of a file.
 fn push_file_line(text: &mut String, name: &[u8], shape: Shape) -> Result<(), AllocError>
     ensures { OnOk result (Adds text.old text.new (file_line name.now shape)) }
 {
-    let name = Image(name);
-    let org = org_word(shape.org);
-    let format = format_word(shape.format);
-    let mrs = shape.mrs;
-    let mrn = shape.mrn;
-    writeln!(text, "file {name} {org} {format} {mrs} {mrn}")
+    push_image(text, "file ", name)?;
+    push_behind(text, org_word(shape.org))?;
+    push_behind(text, format_word(shape.format))?;
+    push_number(text, " ", shape.mrs)?;
+    push_number(text, " ", shape.mrn)?;
+    text.push_str("\n")
 }
 
 /// Appends the line of a record.
 fn push_record(text: &mut String, number: u32, body: &[u8]) -> Result<(), AllocError>
     ensures { OnOk result (Adds text.old text.new (record_line (number, body.now))) }
 {
-    let body = Image(body);
-    writeln!(text, "  {number} {body}")
+    push_number(text, "  ", number)?;
+    push_image(text, " ", body)?;
+    text.push_str("\n")
 }
 
 /// Appends the lines of a file's records, in the order of their numbers.

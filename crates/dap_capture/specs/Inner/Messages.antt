@@ -1,5 +1,5 @@
 -- Which message a function of the program lists.
-use Rattle.dap_msg.specs.Message.{Message, Config, Access, Filedata, Status, Other}
+use Rattle.dap_msg.specs.Message.{Message, Config, Access}
 
 -- a Config
 abbrev pub IsConfig : Message → Type 0
@@ -10,10 +10,3 @@ IsConfig _ = ⊥
 abbrev pub IsAccess : Message → Type 0
 IsAccess (Access a) = Unit {0}
 IsAccess _ = ⊥
-
--- a message of a number and images at most
-abbrev pub HasImages : Message → Type 0
-HasImages (Filedata recnum payload) = Unit {0}
-HasImages (Status s) = Unit {0}
-HasImages (Other number body) = Unit {0}
-HasImages _ = ⊥

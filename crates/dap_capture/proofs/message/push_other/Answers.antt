@@ -1,0 +1,18 @@
+use Rattle.std.proofs.Common.{rules, ◌≡◌, ◌++◌, List, ℕ, OnOk, string_bytes}
+use Rattle.std.specs.Prelude.{codes}
+use Rattle.std.specs.Fmt.{decimal}
+use Rattle.std.proofs.lemmas.Result.{on_ok_weaker}
+use Rattle.dap_capture.specs.Text.{image_text, line_feed}
+use Rattle.dap_capture.proofs.MessageLemmas.{appended_twice}
+use Rattle.dap_capture.proofs.message.push_other.Goals as goal
+
+pub returns : goal.returns
+returns c =
+    let t0 = string_bytes c.args.text.now in
+    let t1 = string_bytes c.push_number.new.text in
+    let p1 : List ℕ = codes "  other type=" ++ decimal c.args.number in
+    let t2 = string_bytes c.push_image.new.text in
+    let p2 : List ℕ = codes " body=" ++ image_text c.args.body.now in
+    let end = string_bytes c.push_str.new.self in
+    let ends : OnOk c.push_str.result (end ≡ t2 ++ line_feed) = search rules in
+    on_ok_weaker c.push_str.result (λ ended. appended_twice t0 t1 end p1 (p2 ++ line_feed) c.in_ok-push_number.ensures (appended_twice t1 t2 end p2 line_feed c.in_ok-push_image.ensures ended)) ends
