@@ -195,7 +195,7 @@ module _ (scene : Scene) (own : scene.own < 2 ^ 16) (files : AllFiles scene.file
     -- ---- Transfers.
 
     fetch-ends : (s : StreamVal) (given rest : List (ℕ × List ℕ)) → AreSendable scene.limit (map filedata_of given) → Sends (fetch_ends scene o s given rest)
-    fetch-ends s given [] h = sendable_more scene.limit least (map filedata_of given) (bare_status codes.end_of_file ∷ []) h (bare scene.limit least 0x5027 (lit< tt), tt)
+    fetch-ends s given [] h = sendable_more scene.limit least (map filedata_of given) (bare_status codes.stscode.end_of_file ∷ []) h (bare scene.limit least 0x5027 (lit< tt), tt)
     fetch-ends s given (large ∷ more) h = sendable_more scene.limit least (map filedata_of given) (too_large ∷ []) h (reasoned scene.limit least 0x5000 10 [] (lit< tt) (lit≤ tt), tt)
 
     fetching : (s : StreamVal) → Sends (fetch scene o s)

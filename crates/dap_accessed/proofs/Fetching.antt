@@ -91,12 +91,12 @@ fetched scene opened stream file e = ap (fetch_of scene.limit scene opened strea
 -- the end of the file
 pub ends_there : (scene : Scene) (opened : OpenFile) (stream : StreamVal) (file : FileVal) (next : ℕ) (answers : Vec (Vec ℕ)) → file ≡ the_file scene.files opened
     → (g : GoesOn scene.limit file stream.next next answers) → records_from file.records next ≡ []
-    → fetch scene opened stream ≡ enters scene (Connected opened (at_number next stream)) (map filedata_of g.given ++ bare_status codes.end_of_file ∷ [])
+    → fetch scene opened stream ≡ enters scene (Connected opened (at_number next stream)) (map filedata_of g.given ++ bare_status codes.stscode.end_of_file ∷ [])
 ends_there scene opened stream file next answers e g none =
     fetched scene opened stream file e
     ∙ ap (λ (rest : List (ℕ × List ℕ)). fetch_ends scene opened stream (leading scene.limit (records_from file.records stream.next)) rest) (g.fails ∙ ap (beyond scene.limit) none)
     ∙ ap (λ (given : List (ℕ × List ℕ)). fetch_ends scene opened stream given []) (g.leads ∙ ap (λ l. g.given ++ leading scene.limit l) none ∙ append-nil g.given)
-    ∙ ap (λ (n : ℕ). enters scene (Connected opened (at_number n stream)) (map filedata_of g.given ++ bare_status codes.end_of_file ∷ [])) (sym g.stands)
+    ∙ ap (λ (n : ℕ). enters scene (Connected opened (at_number n stream)) (map filedata_of g.given ++ bare_status codes.stscode.end_of_file ∷ [])) (sym g.stands)
 
 -- a record that is too large
 pub stops_there : (scene : Scene) (opened : OpenFile) (stream : StreamVal) (file : FileVal) (next : ℕ) (answers : Vec (Vec ℕ)) (r : ℕ × List ℕ) (rest : List (ℕ × List ℕ)) → file ≡ the_file scene.files opened

@@ -20,7 +20,7 @@ use Rattle.dap_accessed.specs.Records.{at_number, filedata_of, fits_limit}
 abbrev pub fetch_ends : Scene → OpenFile → StreamVal → (given rest : List (ℕ × List ℕ)) → Effect
 fetch_ends scene opened stream given [] =
     enters scene (Connected opened (at_number (fold (λ n r. r.0 + 1) stream.next given) stream))
-    (map filedata_of given ++ bare_status codes.end_of_file ∷ [])
+    (map filedata_of given ++ bare_status codes.stscode.end_of_file ∷ [])
 fetch_ends scene opened stream given (large ∷ more) =
     enters scene (Stopped opened (at_number large.0 stream)) (map filedata_of given ++ too_large ∷ [])
 
@@ -40,7 +40,7 @@ abbrev pub continue_fetch : (func : ℕ) → Scene → OpenFile → StreamVal �
 continue_fetch func scene opened stream =
     if func == codes.confunc.again then fetch scene opened stream
     else if func == codes.confunc.skip then fetch scene opened (at_number (stream.next + 1) stream)
-    else if func == codes.confunc.abort then enters scene (Connected opened stream) (bare_status codes.end_of_file ∷ [])
+    else if func == codes.confunc.abort then enters scene (Connected opened stream) (bare_status codes.stscode.end_of_file ∷ [])
     else enters scene (Stopped opened stream) (continue_refused func ∷ [])
 
 -- ---- To this end.

@@ -329,7 +329,7 @@ impl Accessed {
     /// The same of what was read already: the message or fault that `item_at` answered, and the place
     /// behind it. Own.
     pub fn serve_read(&mut self, item: Item<'_>, next: usize) -> Result<Served, NoMemory>
-        requires { ItemImagesFit (seen_item item) }
+        requires { ItemFits (seen_item item) }
         ensures serves { (bytes : List ℕ) (at : ℕ) → ItemAt bytes at (seen_item item.entry) next
             → IfOk result (Serves bytes at self.old self.new) }
         ensures next { IfOk result (λ served. served.next ≡ next) }

@@ -76,5 +76,5 @@ returns-clause-answers c =
     subst (λ (e : Effect). Answered c.args.self.now.limit e.answers c.append-2.new.answers)
     (sym (ends_there (scene_in c.args.self.now) c.args.opened c.args.stream (any_value c.file-file.result.now) c.loop-number.next c.loop-number.answers
     file c.loop-number.invariant c.in_default.ensures.none))
-    (subst (λ (l : ℕ). Answered l (map filedata_of given ++ bare_status codes.end_of_file ∷ []) c.append-2.new.answers) limit
+    (subst (λ (l : ℕ). Answered l (map filedata_of given ++ bare_status codes.stscode.end_of_file ∷ []) c.append-2.new.answers) limit
     (c.in_ok-append-3.ensures (map filedata_of given) (subst (λ (l : ℕ). Answered l (map filedata_of given) c.loop-number.answers) (sym limit) c.loop-number.invariant.answered)))
