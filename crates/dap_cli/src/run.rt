@@ -3,7 +3,8 @@ ghost use Rattle.std.specs.Prelude.{◌≡◌, ◌⊎◌, ◌∷◌, ℕ, List, 
 ghost use Rattle.std.specs.Io.KnownBytes.{Keeps};
 ghost use Rattle.clap.specs.Words.{FailsBy, kind_of, fault_of};
 ghost use Rattle.dap_cli.specs.declared.run.Choice.{Choice};
-ghost use Rattle.dap_cli.specs.Run.{AreMistakes, Chooses, HasOneMore, IsCommandLine, IsMistake, RunGives, dapnsp, status_of, word_of};
+ghost use Rattle.dap_cli.specs.Inner.CommandLine.{HasOneMore, IsCommandLine};
+ghost use Rattle.dap_cli.specs.Run.{AreMistakes, Chooses, IsMistake, RunGives, dapnsp, status_of, word_of};
 
 use clap::error::ErrorKind;
 use clap::{Command, Error};
