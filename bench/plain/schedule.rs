@@ -216,10 +216,10 @@ pub fn play(input: &[u8]) -> Result<(Vec<u8>, i32), Fault> {
         return Ok((text.0, 0));
     };
     let [size, window, own_a, own_b] = read_setup(setup).ok_or(Fault::BadLine(first))?;
-    for (number, line) in lines {
-        read_event(line).ok_or(Fault::BadLine(number))?;
-    }
     if !(1..=1400).contains(&size) || !(1..=2047).contains(&window) || own_a < 64 || own_b < 64 {
+        for (place, line) in lines {
+            read_event(line).ok_or(Fault::BadLine(place))?;
+        }
         text.word("0 refused bad-setup\n");
         return Ok((text.0, 1));
     }
@@ -228,19 +228,19 @@ pub fn play(input: &[u8]) -> Result<(Vec<u8>, i32), Fault> {
     let b = Serving::new(Link::new(0x0202, 0x0101, size, window), own_b as u16);
     let mut world = World { a, b, bytes: Vec::new() };
     let mut status = 0;
-    for (number, (_, line)) in (1u64..).zip(said(input).skip(1)) {
+    for (number, (place, line)) in (1u64..).zip(lines) {
+        let event = read_event(line).ok_or(Fault::BadLine(place))?;
+        if status == 1 {
+            continue;
+        }
         text.number(number);
         text.byte(b' ');
-        let event = read_event(line).unwrap();
         if let Err(word) = world.apply(&mut text, &event) {
             text.word("refused ");
             text.word(word);
             status = 1;
         }
         text.byte(b'\n');
-        if status == 1 {
-            break;
-        }
     }
     for file in &world.b.files {
         file.list(&mut text);

@@ -11,7 +11,7 @@ use Rattle.dap_msg.specs.Codes as codes
 use Rattle.dap_msg.specs.Message.{Message, Config, Attrib, Access, Control, Contran, Ack, Accomp, Filedata, Other, AccessFields, ControlFields}
 use Rattle.dap_msg.specs.Canon.{number_of as type_of}
 use Rattle.dap_msg.specs.Inner.Answers.{IsShortAnswer}
-use Rattle.dap_msg.specs.Exchange.{four_bytes, short_answer}
+use Rattle.dap_msg.specs.Exchange.{four_bytes, least_buffer}
 use Rattle.dap_msg.specs.Items.{Item, Whole, Malformed, IsRead}
 use Rattle.dap_msg.specs.Blocked.{AllFit}
 use Rattle.dap_msg.specs.Sendable.{IsSendable, AreSendable}
@@ -71,7 +71,7 @@ shape_small s h =
     let le : nat_le s.mrs longest_record ≡ true = (both _ _ two.0).1 in
     small s.mrs le
 
-module _ (limit : ℕ) (least : short_answer ≤ limit) where
+module _ (limit : ℕ) (least : least_buffer ≤ limit) where
   short : (m : Message) → IsShortAnswer m → IsSendable limit m
   short m s = (s.fits, omega (arith, s.short, least))
 
@@ -131,7 +131,7 @@ module _ (limit : ℕ) (least : short_answer ≤ limit) where
   all_recorded (r ∷ rs) h =
       subst (λ (l : List (ℕ × List ℕ)). AreSendable limit (map filedata_of l)) (sym (take_while-cons (fits_limit limit) r rs)) (leads r rs (fits_limit limit r) refl h.0 (all_recorded rs h.1))
 
-module _ (scene : Scene) (own : scene.own < 2 ^ 16) (files : AllFiles scene.files) (least : short_answer ≤ scene.limit) where
+module _ (scene : Scene) (own : scene.own < 2 ^ 16) (files : AllFiles scene.files) (least : least_buffer ≤ scene.limit) where
   abbrev Sends : Effect → Type 0
   Sends e = AreSendable scene.limit e.answers
 

@@ -6,7 +6,7 @@ use Rattle.dap_msg.specs.declared.fault.MsgFault.{MsgFault}
 use Rattle.dap_msg.specs.Message.{Message}
 use Rattle.dap_msg.specs.Canon.{canon, Fits}
 use Rattle.dap_msg.specs.Written.{Appends}
-use Rattle.dap_msg.specs.Exchange.{short_answer}
+use Rattle.dap_msg.specs.Exchange.{least_buffer}
 use Rattle.dap_msg.specs.Blocked.{bodies, one_more, AllFit}
 use Rattle.dap_msg.proofs.ForCallers.{Blocked-more}
 use Rattle.std.proofs.Common.{inl, inr}
@@ -70,7 +70,7 @@ answered_more limit messages m old new f h before e =
       fits = fit_more messages m before.fits f;
     }
 
-pub fits_short : (limit : ℕ) (a : Answer) → IsShort a → short_answer ≤ limit → FitsIn limit a
+pub fits_short : (limit : ℕ) (a : Answer) → IsShort a → least_buffer ≤ limit → FitsIn limit a
 fits_short limit (answer.Config bufsiz) s h = (tt, h)
 fits_short limit (answer.Attributes shape) s h = (tt, h)
 fits_short limit answer.Ack s h = (tt, h)
@@ -81,7 +81,7 @@ fits_short limit (answer.StoreRefusal reason ordinal) s h = (tt, h)
 fits_short limit (answer.Done number) s h = (tt, h)
 fits_short limit (answer.Record number body) s h = absurd s
 
-pub short_most : (a : Answer) → IsShort a → most_bytes a ≤ short_answer
+pub short_most : (a : Answer) → IsShort a → most_bytes a ≤ least_buffer
 short_most (answer.Config bufsiz) s = lit≤ tt
 short_most (answer.Attributes shape) s = lit≤ tt
 short_most answer.Ack s = lit≤ tt

@@ -3,7 +3,7 @@
 ghost use Rattle.std.specs.Prelude.{◌≡◌, ◌≤◌, [], ◌∷◌, IfOk, length};
 ghost use Rattle.dap_msg.specs.Message.{Ack, Filedata, seen};
 ghost use Rattle.dap_msg.specs.Canon.{Fits, file_data_size};
-ghost use Rattle.dap_msg.specs.Exchange.{config_of, four_bytes, short_answer};
+ghost use Rattle.dap_msg.specs.Exchange.{config_of, four_bytes, least_buffer};
 ghost use Rattle.rec_file.specs.Limits.{longest_record};
 ghost use Rattle.dap_accessed.specs.Replies.{attributes_for, completed, format_number, opened_with, org_number, status, too_large};
 ghost use Rattle.dap_accessed.specs.Inner.Written.{AddsAnswer, Answered, FitsIn, IsAtMost, IsShort, IsWritable, message_of, most_bytes, number_in, reason_in};
@@ -76,7 +76,7 @@ fn status<'a>(code: u16, rfa: &'a [u8], recnum: &'a [u8], stv: &'a [u8]) -> Mess
     requires stv { length stv.now ≤ 4 }
     ensures same { seen result ≡ status code rfa.now recnum.now stv.now }
     ensures fits { Fits (status code rfa.now recnum.now stv.now) }
-    ensures short { IsAtMost short_answer (status code rfa.now recnum.now stv.now) }
+    ensures short { IsAtMost least_buffer (status code rfa.now recnum.now stv.now) }
 {
     Message::Status {
         code,
@@ -109,7 +109,7 @@ fn attributes(shape: Shape, mrn: &[u8]) -> Message<'_>
     requires { mrn.now ≡ four_bytes shape.mrn }
     ensures same { seen result ≡ attributes_for shape }
     ensures fits { Fits (attributes_for shape) }
-    ensures short { IsAtMost short_answer (attributes_for shape) }
+    ensures short { IsAtMost least_buffer (attributes_for shape) }
 {
     Message::Attrib(Attributes {
         org: Some(org_code(shape.org)),
@@ -123,7 +123,7 @@ fn attributes(shape: Shape, mrn: &[u8]) -> Message<'_>
 fn config<'a>(bufsiz: u16) -> Message<'a>
     ensures same { seen result ≡ config_of bufsiz }
     ensures fits { Fits (config_of bufsiz) }
-    ensures short { IsAtMost short_answer (config_of bufsiz) }
+    ensures short { IsAtMost least_buffer (config_of bufsiz) }
 {
     Message::config_of(bufsiz)
 }
@@ -131,7 +131,7 @@ fn config<'a>(bufsiz: u16) -> Message<'a>
 fn complete<'a>() -> Message<'a>
     ensures same { seen result ≡ completed }
     ensures fits { Fits completed }
-    ensures short { IsAtMost short_answer completed }
+    ensures short { IsAtMost least_buffer completed }
 {
     Message::complete_with(CMPFUNC_RESPONSE)
 }
@@ -139,7 +139,7 @@ fn complete<'a>() -> Message<'a>
 fn acknowledge<'a>() -> Message<'a>
     ensures same { seen result ≡ Ack }
     ensures fits { Fits Ack }
-    ensures short { IsAtMost short_answer Ack }
+    ensures short { IsAtMost least_buffer Ack }
 {
     Message::Ack
 }
@@ -209,7 +209,7 @@ pub(crate) fn append(
 
 /// The answers to an Access that opens a file.
 pub(crate) fn opening(alloc: Global, limit: u16, shape: Shape) -> Result<Vec<Vec<u8>>, NoMemory>
-    requires { short_answer ≤ limit }
+    requires { least_buffer ≤ limit }
     ensures { IfOk result (Answered limit (opened_with shape)) }
 {
     let mut answers = Vec::new(alloc);
@@ -247,7 +247,7 @@ impl Room {
     /// The answer in an NSP message of its own.
     pub(crate) fn fill(self, limit: u16, answer: Answer<'_>) -> Vec<Vec<u8>>
         requires short { IsShort answer }
-        requires room { short_answer ≤ limit }
+        requires room { least_buffer ≤ limit }
         ensures { Answered limit (message_of answer.entry ∷ []) result }
     {
         let Room {

@@ -4,7 +4,7 @@ use Rattle.std.specs.Global.{Vec}
 use Rattle.dap_msg.specs.Codes as codes
 use Rattle.dap_msg.specs.Message.{Message, Attrib, Access, Control, Contran, Filedata, ControlFields}
 use Rattle.dap_msg.specs.Items.{Item, Whole}
-use Rattle.dap_msg.specs.Exchange.{short_answer}
+use Rattle.dap_msg.specs.Exchange.{least_buffer}
 use Rattle.rec_file.specs.declared.shapes.Shape.{Shape}
 use Rattle.rec_file.specs.Limits.{greatest_number}
 use Rattle.rec_file.specs.Shapes.{is_shape}
@@ -224,4 +224,4 @@ pub record IsKept (limit : ℕ) (files : Files) (kept : Option Shape) (phase : P
   pub opened : IsOpenIn files phase
   pub good : IfSome kept (λ shape. IsTrue (is_shape shape))
   -- every answer but a record goes to the peer
-  pub room : short_answer ≤ limit
+  pub room : least_buffer ≤ limit

@@ -5,7 +5,7 @@ use Rattle.std.specs.Vec.{vec_capacity}
 use Rattle.dap_msg.specs.Codes as codes
 use Rattle.dap_msg.specs.Message.{Message, Ack}
 use Rattle.dap_msg.specs.Canon.{canon, file_data_size}
-use Rattle.dap_msg.specs.Exchange.{four_bytes, config_of, record_of, short_answer}
+use Rattle.dap_msg.specs.Exchange.{four_bytes, config_of, record_of, least_buffer}
 use Rattle.dap_msg.specs.Blocked.{Blocked, all_joined, bodies, AllFit}
 use Rattle.rec_file.specs.Limits.{longest_record}
 use Rattle.dap_accessed.specs.declared.answers.Answer.{Answer}
@@ -51,7 +51,7 @@ IsWritable _ = Unit {0}
 -- its message has no more bytes than these
 abbrev pub most_bytes : Answer → ℕ
 most_bytes (answer.Record number body) = file_data_size 4 (length body.now)
-most_bytes _ = short_answer
+most_bytes _ = least_buffer
 
 -- the answer can be written, and is no longer than the limit
 abbrev pub FitsIn : ℕ → Answer → Type 0

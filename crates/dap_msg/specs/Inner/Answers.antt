@@ -2,12 +2,12 @@
 use Rattle.std.specs.Prelude.{ℕ, ◌^◌, ◌<◌, ◌≤◌, List, length}
 use Rattle.dap_msg.specs.Message.{Message, StatusFields, Ack, Status}
 use Rattle.dap_msg.specs.Canon.{canon, Fits}
-use Rattle.dap_msg.specs.Exchange.{config_of, complete_with, attributes_of, record_of, short_answer}
+use Rattle.dap_msg.specs.Exchange.{config_of, complete_with, attributes_of, record_of, least_buffer}
 
 -- the message has a spelling, and that is short
 pub record IsShortAnswer (m : Message) : Type 0 where
   pub fits : Fits m
-  pub short : length (canon m) ≤ short_answer
+  pub short : length (canon m) ≤ least_buffer
 
 -- What an end answers has a spelling.
 pub record AnswersFit : Type 0 where

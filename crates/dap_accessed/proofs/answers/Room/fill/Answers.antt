@@ -1,7 +1,7 @@
 use Rattle.std.proofs.Common.{◌∷◌, ◌++◌, [], ap, ◌∙◌, subst, List, ℕ, arith, length, ◌≤◌}
 use Rattle.std.specs.Global.{Vec}
 use Rattle.dap_msg.specs.Canon.{canon}
-use Rattle.dap_msg.specs.Exchange.{short_answer}
+use Rattle.dap_msg.specs.Exchange.{least_buffer}
 use Rattle.dap_msg.specs.Message.{Message}
 use Rattle.dap_msg.specs.Blocked.{bodies}
 use Rattle.dap_msg.specs.Written.{Appends}
@@ -13,7 +13,7 @@ pub returns : goal.returns
 returns c =
     let m = message_of c.args.answer in
     let most : length (canon m) ≤ most_bytes c.args.answer = c.message.ensures.within in
-    let short : length (canon m) ≤ short_answer = omega (arith, most, short_most c.args.answer c.requires.short) in
+    let short : length (canon m) ≤ least_buffer = omega (arith, most, short_most c.args.answer c.requires.short) in
     let appends : Appends (canon m) c.self.inside.bytes c.encode-written.new.out c.encode-written.result =
     subst (λ (m : Message). Appends (canon m) c.self.inside.bytes c.encode-written.new.out c.encode-written.result) c.message.ensures.same c.encode-written.ensures.appends in
     answered_one c.args.limit m c.push_reserved.new.self c.message.ensures.fits (omega (arith, short, c.requires.room))
