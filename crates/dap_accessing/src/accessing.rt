@@ -188,6 +188,7 @@ impl Accessing {
 /// More answers never take a report back: the reports are a function of the requests and of a front of
 /// the answers. Own.
 pub fn reports_grow()
-    ensures { (requests : List TheRequest) (answers more : List TheItem) → (reports : List TheReport)
+    ensures { (requests : List TheRequest) (answers more : List TheItem)
+        → (reports : List TheReport)
         × (Told requests (answers ++ more) ≡ Told requests answers ++ reports) }
 {}

@@ -180,7 +180,8 @@ fn list_into(
 ) -> Result<String, CaptureFault>
     requires small { length input.now ≤ INPUT_LIMIT }
     requires room { length room.old ≡ limit_of listed }
-    ensures listing { IfOk result (λ text. IsListing listed input.now Outcome.Good (string_bytes text)) }
+    ensures listing { IfOk result
+        (λ text. IsListing listed input.now Outcome.Good (string_bytes text)) }
     ensures faults { TellsFirstOrWants result (line_faults (limit_of listed) input.now) }
 {
     let mut text = String::new(alloc);
@@ -204,7 +205,8 @@ fn list_into(
 /// The lines of all that was captured, up to the first line at fault.
 fn list_lines(listed: Listed, alloc: Global, input: &[u8]) -> Result<String, CaptureFault>
     requires small { length input.now ≤ INPUT_LIMIT }
-    ensures listing { IfOk result (λ text. IsListing listed input.now Outcome.Good (string_bytes text)) }
+    ensures listing { IfOk result
+        (λ text. IsListing listed input.now Outcome.Good (string_bytes text)) }
     ensures faults { TellsFirstOrWants result (line_faults (limit_of listed) input.now) }
 {
     let mut room = vec![in alloc; 0; listed.limit()]?;
@@ -218,7 +220,8 @@ pub(crate) fn list_captures(
     input: &[u8],
 ) -> Result<String, CaptureFault>
     requires small { length input.now ≤ INPUT_LIMIT }
-    ensures listing { IfOk result (λ text. IsListing listed input.now Outcome.Good (string_bytes text)) }
+    ensures listing { IfOk result
+        (λ text. IsListing listed input.now Outcome.Good (string_bytes text)) }
     ensures faults { TellsFirstThenWants result (line_faults (limit_of listed) input.now) }
 {
     match list_lines(listed, alloc, input) {
