@@ -1,4 +1,4 @@
-//! Both ends and the network.
+//! Both ends and the network. The line `let _ = &self.read` lets a proof see what is true of every world.
 
 ghost use Rattle.std.specs.Prelude.{◌≡◌, map};
 ghost use Rattle.dap_world.specs.Inner.Answers.{packet_of, delivery_of, post_of};

@@ -9,8 +9,9 @@ use nsp_link::LinkFault;
 use nsp_seg::SegFault;
 use rec_file::Refusal;
 use std::alloc::{AllocError, AllocFailed, Global};
+use std::io;
 use std::io::Write;
-use std::{fmt, io};
+use thiserror::Error;
 
 /// Why a call gave nothing.
 #[derive(Clone, Copy, Debug, PartialEq, Eq)]
@@ -117,30 +118,23 @@ pub trait Growing {
 }
 
 /// How a run ended early.
-#[derive(Clone, Copy, Debug, PartialEq, Eq)]
+#[derive(Clone, Copy, Debug, PartialEq, Eq, Error)]
 pub enum Ending {
     /// A call wanted memory twice, and changed nothing.
+    #[error("wanted memory twice, and changed nothing")]
     Twice,
     /// What a call is given wanted memory twice.
+    #[error("could not be made: what it is given wanted memory twice")]
     UnreadyTwice,
     /// A call that wanted memory changed what the readers answer.
+    #[error("wanted memory, and CHANGED what the readers answer")]
     Changed,
     /// A call was refused for another reason.
+    #[error("was REFUSED for another reason than want of memory")]
     Wrong,
     /// There was no memory to begin with, or nothing can be written.
+    #[error("no memory to begin with, or nothing can be written")]
     Unable,
-}
-
-impl fmt::Display for Ending {
-    fn fmt<W: fmt::Write>(&self, f: &mut fmt::Formatter<W>) -> fmt::Result {
-        f.write_str(match self {
-            Ending::Twice => "wanted memory twice, and changed nothing",
-            Ending::UnreadyTwice => "could not be made: what it is given wanted memory twice",
-            Ending::Changed => "wanted memory, and CHANGED what the readers answer",
-            Ending::Wrong => "was REFUSED for another reason than want of memory",
-            Ending::Unable => "no memory to begin with, or nothing can be written",
-        })
-    }
 }
 
 impl From<io::Error> for Ending {
