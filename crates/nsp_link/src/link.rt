@@ -42,6 +42,10 @@ pub enum Got {
     AckOnly,
 }
 
+/// A number that is so far ahead of another, or farther, is behind it: half of the 4,096 numbers (NSP 4.0.0,
+/// segment numbers).
+const HALF_ROUND: u16 = 2048;
+
 /// The bytes of a segment at most (own).
 const LARGEST_SEGMENT: usize = 1400;
 
@@ -171,7 +175,7 @@ impl LinkEnd {
             return Ok(0);
         };
         let ahead = usize::from(number.ahead_of(Seq12::of(self.acked)));
-        if ahead >= 2048 {
+        if ahead >= usize::from(HALF_ROUND) {
             return Ok(0);
         }
         if ahead > unacked {
@@ -610,7 +614,7 @@ impl LinkEnd {
                 let got = if ahead == 0 {
                     self.take_next(*first, *last, payload)?;
                     Got::Accepted
-                } else if ahead < 2048 {
+                } else if ahead < HALF_ROUND {
                     self.keep(usize::from(ahead), *first, *last, payload)?;
                     Got::Early
                 } else {

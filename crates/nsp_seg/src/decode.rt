@@ -5,7 +5,8 @@ ghost use Rattle.nsp_seg.specs.Packets.{PacketValue, Spells, HasFault, view};
 ghost use Rattle.nsp_seg.specs.Inner.Reading.{Gives, word_at, ack_of, tail_of, segment_of, second_of, data_ack_of, read};
 
 use crate::packet::{
-    ACK_FIELD, AckField, FIRST, FlagKind, LAST, Packet, QUAL_UNIT, SegFault, flag_kind,
+    ACK_FIELD, ACK_FIELD_HIGH, AckField, FIRST, FlagKind, LAST, Packet, QUAL_UNIT, SegFault,
+    flag_kind,
 };
 use crate::seq12::Seq12;
 use byteorder::{ByteOrder, LittleEndian};
@@ -87,8 +88,8 @@ fn second_ack(bytes: &[u8]) -> Result<Option<AckField>, SegFault>
     match bytes {
         [] => Ok(None),
         [_] => Err(SegFault::Trailing(7)),
-        [_, high] if *high >= 0x80 => Ok(ack_field(LittleEndian::read_u16(bytes))),
-        [_, high, ..] if *high >= 0x80 => Err(SegFault::Trailing(9)),
+        [_, high] if *high >= ACK_FIELD_HIGH => Ok(ack_field(LittleEndian::read_u16(bytes))),
+        [_, high, ..] if *high >= ACK_FIELD_HIGH => Err(SegFault::Trailing(9)),
         _ => Err(SegFault::Trailing(7)),
     }
 }
