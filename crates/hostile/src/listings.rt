@@ -73,8 +73,8 @@ pub const WORDS: &[Row] = &[
         b"0 refused bad-setup\n",
     ),
     (
-        Engine::Word("msg"),
-        b"> 0600\n> 6\n",
+        Engine::Word("run"),
+        b"# one\nserve",
         End::Fault(CaptureFault::BadLine(2)),
         b"",
     ),
