@@ -1,8 +1,7 @@
 -- The type of a message that was read is one byte.
-use Rattle.std.proofs.Common.{ℕ, ◌<◌, List, [], drop, arith}
+use Rattle.std.proofs.Common.{ℕ, ◌<◌, List, arith}
 use Rattle.dap_msg.specs.Message.{Message}
 use Rattle.dap_msg.specs.Canon.{number_of}
-use Rattle.dap_msg.specs.Formats.{operand}
 use Rattle.dap_msg.specs.Items.{Whole, ItemAt}
 use Rattle.dap_msg.proofs.Canonical.{number_fits}
 use Rattle.dap_msg.proofs.Values.{spelled_fields}

@@ -1,4 +1,4 @@
-use Rattle.std.proofs.Common.{ℕ, ◌<◌, subst}
+use Rattle.std.proofs.Common.{◌<◌, subst}
 use Rattle.std.specs.Prelude.{IsTrue, ◌↔◌}
 use Rattle.dap_msg.proofs.Powers.{power_of_groups}
 use Rattle.dap_msg.proofs.fitting.number_fits.Goals as goal
