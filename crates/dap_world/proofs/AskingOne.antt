@@ -46,7 +46,7 @@ use Rattle.dap_world.proofs.Counting.{counted}
 use Rattle.dap_world.proofs.Packets.{Asked-append}
 use Rattle.dap_world.proofs.Blocks.{asked-more}
 use Rattle.dap_world.proofs.Growing.{told_to, told_more, handed_same}
-use Rattle.dap_world.proofs.Kept.{kept-step, all-answers, served-front}
+use Rattle.dap_world.proofs.Kept.{kept-step, all-answers, served-front, served_count}
 use Rattle.dap_world.proofs.Agreeing.{both-agree}
 use Rattle.dap_world.proofs.Within.{messages-within}
 use Rattle.dap_world.proofs.Blocking.{blocked-within, within-one, within-front, within-back}
@@ -118,14 +118,14 @@ unfolding Steps
 asks_one p r m = (m, refl, refl)
 
 -- what B served is the same
-served_same : (p : Parts) (r : Request) → AreParts p → map Whole (take (length p.taken) (Asked p.accessing.own (p.requests ++ r ∷ []))) ≡ served_items p
+served_same : (p : Parts) (r : Request) → AreParts p → map Whole (take p.served (Asked p.accessing.own (p.requests ++ r ∷ []))) ≡ served_items p
 served_same p r h =
     let front = served-front (state_of p) h.world in
-    let taken = ap length h.taken_is ∙ length-map (taken_of (state_of p)) canon in
+    let taken = served_count (state_of p) h.world in
     let long = length-append (taken_of (state_of p)) front.0 in
     let all = ap length front.1 in
-    ap (λ (l : List Message). map Whole (take (length p.taken) l)) (Asked-append p.accessing.own p.requests r)
-    ∙ ap (map Whole) (take-append-le (length p.taken) (Asked p.accessing.own p.requests) (messages_of p.accessing.own r) (omega (arith, taken, long, all)))
+    ap (λ (l : List Message). map Whole (take p.served l)) (Asked-append p.accessing.own p.requests r)
+    ∙ ap (map Whole) (take-append-le p.served (Asked p.accessing.own p.requests) (messages_of p.accessing.own r) (omega (arith, taken, long, all)))
 
 dropped : (xs ys : List NspMessage) (n : ℕ) → n ≤ length xs → drop n (xs ++ ys) ≡ drop n xs ++ ys
 dropped xs ys zero le = refl
@@ -139,7 +139,7 @@ module _ (p : Parts) (h : AreParts p) (r : Request) (m : IsAdmissible p.accessin
   abbrev q_of : List (List ℕ) → accessing.Present → Parts
   q_of outbox after = record p { a = record p.a { outbox = outbox }; accessing = record after { own = p.accessing.own }; requests = p.requests ++ r ∷ [] }
 
-  answers_same : answer_packets p.accessed.own [] (map Whole (take (length p.taken) (Asked p.accessing.own (p.requests ++ r ∷ [])))) ≡ answers p
+  answers_same : answer_packets p.accessed.own [] (map Whole (take p.served (Asked p.accessing.own (p.requests ++ r ∷ [])))) ≡ answers p
   answers_same = ap (answer_packets p.accessed.own []) (served_same p r h)
 
   state_asked : (outbox : List (List ℕ)) (after : accessing.Present) → state_of (q_of outbox after) ≡ asked (state_of p) r
@@ -173,11 +173,10 @@ module _ (p : Parts) (h : AreParts p) (r : Request) (m : IsAdmissible p.accessin
         limit_a = h.limit_a;
         limit_b = h.limit_b;
         most = h.most;
-        from_a = subst (λ (l : List NspMessage). IsTold (record p.a { outbox = outbox }) p.b l (length p.taken)) (sym (asked-more p.accessing.own p.accessed.own p.requests r))
-            (told_more p.a p.b (asks p) block (length p.taken) p.a.link.inbox p.a.place outbox more h.from_a refl more_is fit short);
+        from_a = subst (λ (l : List NspMessage). IsTold (record p.a { outbox = outbox }) p.b l p.served) (sym (asked-more p.accessing.own p.accessed.own p.requests r))
+            (told_more p.a p.b (asks p) block p.served p.a.link.inbox p.a.place outbox more h.from_a refl more_is fit short);
         from_b = subst (λ (l : List NspMessage). IsTold p.b (record p.a { outbox = outbox }) l p.read) (sym answers_same) (told_to p.b p.a (answers p) p.read outbox h.from_b);
         sent_is = h.sent_is ∙ ap (λ (x : State). map canon (messages_in x.from_a.handed)) (sym state);
-        taken_is = h.taken_is ∙ ap (λ (x : State). map canon (taken_of x)) (sym state);
         reports_is = h.reports_is ∙ sym (same_told p.requests (answers_read s) p.accessing r h.asking m.0) ∙ ap reported (sym state);
         asking = subst (λ (x : State). accessing.StandsAfter (p.requests ++ r ∷ []) (answers_read x) (record after { own = p.accessing.own })) (sym state) stands;
         serving = subst (λ (x : State). accessed.StandsAfter (map Whole (taken_of x)) p.accessed) (sym state) h.serving;

@@ -38,11 +38,11 @@ handled_by s new false bytes later next inbox h = h.0 refl
 pub handled_is : (s new : SideValue) (bytes : List ℕ) (later : List (List ℕ)) (next : ℕ) → s.link.inbox ≡ bytes ∷ later → Handles s new (next == length bytes) next → new ≡ handled_side s bytes later next
 handled_is s new bytes later next inbox h = handled_by s new (next == length bytes) bytes later next inbox h
 
-pub serve_done : (old new : SideValue) (before after : accessed.Present) (took taken : List (List ℕ)) (bytes : List ℕ) (later : List (List ℕ)) (found : Item) (next : ℕ) (served : Served)
+pub serve_done : (old new : SideValue) (before after : accessed.Present) (count counted : ℕ) (bytes : List ℕ) (later : List (List ℕ)) (found : Item) (next : ℕ) (served : Served)
     → old.outbox ≡ [] → old.link.inbox ≡ bytes ∷ later → ((other : Item) (n : ℕ) → ItemAt bytes old.place other n → (other ≡ found) × (n ≡ next)) → Serves bytes old.place before after served
-    → Handles (record old { outbox = bodies served.answers.items }) new (next == length bytes) next → taken ≡ took ++ take (next - old.place) (drop old.place bytes) ∷ []
-    → (n : ℕ) → n ≡ length (bodies served.answers.items) → ServedOne old new before after took taken n
-serve_done old new before after took taken bytes later found next served idle inbox only serves handles taken_is n count =
+    → Handles (record old { outbox = bodies served.answers.items }) new (next == length bytes) next → counted ≡ count + 1
+    → (n : ℕ) → n ≡ length (bodies served.answers.items) → ServedOne old new before after count counted n
+serve_done old new before after count counted bytes later found next served idle inbox only serves handles count_is n answered =
     let here = only serves.item served.next serves.reads in
     let side = handled_is (record old { outbox = bodies served.answers.items }) new bytes later next inbox handles in
     let outbox : new.outbox ≡ bodies served.answers.items = ap (λ (s : SideValue). s.outbox) side in
@@ -60,8 +60,8 @@ serve_done old new before after took taken bytes later found next served idle in
       within = subst (AllAtMost before.limit) (sym outbox) serves.within;
       own = serves.same_own;
       side = side ∙ ap (λ (l : List (List ℕ)). record (handled_side old bytes later next) { outbox = l }) (sym outbox);
-      taken_is = taken_is;
-      count = count ∙ ap length (sym outbox);
+      count_is = count_is;
+      answered = answered ∙ ap length (sym outbox);
     }
 
 pub read_next_done : (old new : SideValue) (before after : accessing.Present) (told reports : List Report) (count counted : ℕ) (bytes : List ℕ) (later : List (List ℕ)) (read : ReadStep) (is_told : Bool)

@@ -1,7 +1,7 @@
 -- What is true of every world stays so, whatever happens; and the headline follows from it.
 use Rattle.std.proofs.Common.{◌≡◌, ℕ, ◌+◌, ◌≤◌, arith, refl, sym, ◌∙◌, Bool, subst, ap, append_assoc, List, [], ◌∷◌, ◌++◌, length, take, drop, map}
 use Rattle.std.specs.Prelude.{Option, Some, None, slice_get}
-use Rattle.std.proofs.lemmas.List.{take-append-drop, append-nil, length-append, map-append}
+use Rattle.std.proofs.lemmas.List.{take-append-drop, append-nil, length-append, length-take-le, map-append}
 use Rattle.std.proofs.lemmas.Option.{slice_get_within}
 use Rattle.dap_msg.specs.Message.{Message}
 use Rattle.dap_msg.specs.Items.{Item, Whole}
@@ -91,6 +91,15 @@ served-front s h = (
       ∙ ap (λ (l : List Message). l ++ messages_in s.from_a.waiting) (take-append-drop s.served (sent_by s.from_a))
       ∙ sym (messages_in-append s.from_a.handed s.from_a.waiting) ∙ h.asked,
 )
+
+-- no more was served than was handed over
+pub served_there : (s : State) → IsWorld s → s.served ≤ length (sent_by s.from_a)
+served_there s h =
+    let front = arrived-front s.seg_size s.from_a.taken s.from_a.handed in
+    omega (arith, h.served, ap length front.1, length-append (messages_in (arrived s.seg_size s.from_a.taken s.from_a.handed)) front.0)
+
+pub served_count : (s : State) → IsWorld s → length (taken_of s) ≡ s.served
+served_count s h = length-take-le s.served (sent_by s.from_a) (served_there s h)
 
 -- what was read is a front of the answers to all that was asked
 pub read-front : (s : State) → IsWorld s → (back : List Item) × (answers_read s ++ back ≡ map Whole (answers_to s.own_a s.own_b s.requests))

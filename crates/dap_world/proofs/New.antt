@@ -50,7 +50,7 @@ told_none s end h =
 
 abbrev pub new_parts : WorldSetup → accessing.Present → accessed.Present → Parts
 new_parts s asking serving =
-    record { a = new_side (link_of s A); b = new_side (link_of s B); accessing = asking; accessed = serving; requests = []; sent = []; taken = []; reports = []; read = 0 }
+    record { a = new_side (link_of s A); b = new_side (link_of s B); accessing = asking; accessed = serving; requests = []; sent = []; served = 0; reports = []; read = 0 }
 
 -- the parts of a new world, by what its ends keep
 made : (s : WorldSetup) (asking : accessing.Present) (serving : accessed.Present) → IsWorldSetup s → asking.own ≡ s.bufsiz_a → serving.own ≡ s.bufsiz_b
@@ -72,7 +72,6 @@ new_world s asking serving h own_a own_b a b =
         from_a = told_none s A h;
         from_b = told_none s B h;
         sent_is = refl;
-        taken_is = refl;
         reports_is = refl;
         asking = a;
         serving = b;
@@ -80,9 +79,9 @@ new_world s asking serving h own_a own_b a b =
       made_is,
     )
 
-pub new_sound : (s : WorldSetup) (asking : accessing.Present) (serving : accessed.Present) (a b : SideValue) (requests : List Request) (sent taken : List (List ℕ)) (reports : List Report)
-    → a ≡ new_side (link_of s A) → b ≡ new_side (link_of s B) → requests ≡ [] → sent ≡ [] → taken ≡ [] → reports ≡ []
+pub new_sound : (s : WorldSetup) (asking : accessing.Present) (serving : accessed.Present) (a b : SideValue) (requests : List Request) (sent : List (List ℕ)) (reports : List Report)
+    → a ≡ new_side (link_of s A) → b ≡ new_side (link_of s B) → requests ≡ [] → sent ≡ [] → reports ≡ []
     → IsWorldSetup s → asking.own ≡ s.bufsiz_a → serving.own ≡ s.bufsiz_b → accessing.StandsAfter [] [] asking → accessed.StandsAfter [] serving
-    → AreParts (record { a = a; b = b; accessing = asking; accessed = serving; requests = requests; sent = sent; taken = taken; reports = reports; read = 0 })
-new_sound s asking serving a b requests sent taken reports ea eb er es et ep h own_a own_b x y =
-    rw (ea, eb, er, es, et, ep) (new_world s asking serving h own_a own_b x y).0
+    → AreParts (record { a = a; b = b; accessing = asking; accessed = serving; requests = requests; sent = sent; served = 0; reports = reports; read = 0 })
+new_sound s asking serving a b requests sent reports ea eb er es ep h own_a own_b x y =
+    rw (ea, eb, er, es, ep) (new_world s asking serving h own_a own_b x y).0

@@ -175,12 +175,12 @@ told_queued packets count from to h =
 
 -- what B served is a front of what A handed over, before and after
 served_same : (p : Parts) → AreParts p
-    → take (length p.taken) (messages_in (take (length (p.a.handed ++ p.a.outbox)) (asks p))) ≡ take (length p.taken) (messages_in (take (length p.a.handed) (asks p)))
+    → take p.served (messages_in (take (length (p.a.handed ++ p.a.outbox)) (asks p))) ≡ take p.served (messages_in (take (length p.a.handed) (asks p)))
 served_same p h =
     let n = counted p.a.handed p.a.outbox (asks p) h.from_a.bytes in
     let long = length-append p.a.handed p.a.outbox in
-    ap (λ (l : List NspMessage). take (length p.taken) (messages_in l)) (take_all (length (p.a.handed ++ p.a.outbox)) (asks p) (omega arith) ∙ sym (take-append-drop (length p.a.handed) (asks p)))
-    ∙ served-stays (length p.taken) p.a.link.seg_size p.b.link.received (take (length p.a.handed) (asks p)) (drop (length p.a.handed) (asks p)) h.world.served
+    ap (λ (l : List NspMessage). take p.served (messages_in l)) (take_all (length (p.a.handed ++ p.a.outbox)) (asks p) (omega arith) ∙ sym (take-append-drop (length p.a.handed) (asks p)))
+    ∙ served-stays p.served p.a.link.seg_size p.b.link.received (take (length p.a.handed) (asks p)) (drop (length p.a.handed) (asks p)) h.world.served
 
 sent_more : (p : Parts) (more : List (List ℕ)) → AreParts p → SplitsAll p.a.outbox [] more → p.sent ++ more ≡ map canon (messages_in (take (length (p.a.handed ++ p.a.outbox)) (asks p)))
 sent_more p more h splits =
@@ -207,10 +207,9 @@ parts_posted p A more h room splits world =
       limit_a = h.limit_a;
       limit_b = h.limit_b;
       most = h.most;
-      from_a = told_posted (asks p) (length p.taken) p.a p.b h.from_a short room;
+      from_a = told_posted (asks p) p.served p.a p.b h.from_a short room;
       from_b = told_queued (answers p) p.read p.b p.a h.from_b;
       sent_is = sent_more p more h splits;
-      taken_is = h.taken_is ∙ ap (map canon) (sym same);
       reports_is = h.reports_is ∙ ap (λ (l : List Message). Told p.requests (map Whole (take p.read (Answers p.accessed.own (map Whole l))))) (sym same);
       asking = subst (λ (l : List Message). accessing.StandsAfter p.requests (map Whole (take p.read (Answers p.accessed.own (map Whole l)))) p.accessing) (sym same) h.asking;
       serving = subst (λ (l : List Message). accessed.StandsAfter (map Whole l) p.accessed) (sym same) h.serving;
@@ -223,10 +222,9 @@ parts_posted p B more h room splits world =
       limit_a = h.limit_a;
       limit_b = h.limit_b;
       most = h.most;
-      from_a = told_queued (asks p) (length p.taken) p.a p.b h.from_a;
+      from_a = told_queued (asks p) p.served p.a p.b h.from_a;
       from_b = told_posted (answers p) p.read p.b p.a h.from_b short room;
       sent_is = h.sent_is;
-      taken_is = h.taken_is;
       reports_is = h.reports_is;
       asking = h.asking;
       serving = h.serving;

@@ -62,19 +62,19 @@ pub served_is : (p : Parts) → AreParts p → served_items p ≡ map Whole (tak
 served_is p h =
     let handed = take (length p.a.handed) (asks p) in
     let front = arrived-front p.a.link.seg_size p.b.link.received handed in
-    ap (λ (l : List Message). map Whole (take (length p.taken) l)) (sym (asked-split p))
-    ∙ ap (map Whole) (take-append-le (length p.taken) (messages_in handed) (messages_in (drop (length p.a.handed) (asks p)))
+    ap (λ (l : List Message). map Whole (take p.served l)) (sym (asked-split p))
+    ∙ ap (map Whole) (take-append-le p.served (messages_in handed) (messages_in (drop (length p.a.handed) (asks p)))
     (omega (arith, h.world.served, length-append (messages_in (arrived p.a.link.seg_size p.b.link.received handed)) front.0, ap length front.1)))
 
 -- one more
-served_more : (p : Parts) (m : Message) → next_to_serve (state_of p) ≡ Some m → take (length p.taken + 1) (Asked p.accessing.own p.requests) ≡ take (length p.taken) (Asked p.accessing.own p.requests) ++ m ∷ []
+served_more : (p : Parts) (m : Message) → next_to_serve (state_of p) ≡ Some m → take (p.served + 1) (Asked p.accessing.own p.requests) ≡ take p.served (Asked p.accessing.own p.requests) ++ m ∷ []
 served_more p m next =
     let handed = take (length p.a.handed) (asks p) in
     let front = arrived-front p.a.link.seg_size p.b.link.received handed in
-    let here : slice_get (messages_in handed) (length p.taken) ≡ Some m =
-    subst (λ (l : List Message). slice_get l (length p.taken) ≡ Some m) front.1 (get-front (messages_in (arrived p.a.link.seg_size p.b.link.received handed)) front.0 (length p.taken) m next) in
-    take-next (Asked p.accessing.own p.requests) (length p.taken) m
-    (subst (λ (l : List Message). slice_get l (length p.taken) ≡ Some m) (asked-split p) (get-front (messages_in handed) (messages_in (drop (length p.a.handed) (asks p))) (length p.taken) m here))
+    let here : slice_get (messages_in handed) p.served ≡ Some m =
+    subst (λ (l : List Message). slice_get l p.served ≡ Some m) front.1 (get-front (messages_in (arrived p.a.link.seg_size p.b.link.received handed)) front.0 p.served m next) in
+    take-next (Asked p.accessing.own p.requests) p.served m
+    (subst (λ (l : List Message). slice_get l p.served ≡ Some m) (asked-split p) (get-front (messages_in handed) (messages_in (drop (length p.a.handed) (asks p))) p.served m here))
 
 -- ---- What A read stays when B serves more.
 
@@ -99,8 +99,8 @@ read-stays p m h =
 
 -- ---- The step.
 
-abbrev pub served_parts : Parts → SideValue → accessed.Present → List (List ℕ) → Parts
-served_parts p s after taken = record p { b = s; accessed = after; taken = taken }
+abbrev pub served_parts : Parts → SideValue → accessed.Present → ℕ → Parts
+served_parts p s after served = record p { b = s; accessed = after; served = served }
 
 -- B, as its BUFSIZ stays
 abbrev kept_own : Parts → accessed.Present → accessed.Present
@@ -118,18 +118,15 @@ module _ (p : Parts) (h : AreParts p) (m : Message) (next : next_to_serve (state
       record p {
         b = record p.b { link = record p.b.link { inbox = inbox }; place = place; outbox = outbox };
         accessed = kept_own p after;
-        taken = p.taken ++ canon m ∷ [];
+        served = p.served + 1;
       }
 
-  more_items : (n : ℕ) → n ≡ length p.taken + 1 → map Whole (take n (Asked p.accessing.own p.requests)) ≡ served_items p ++ Whole m ∷ []
-  more_items n is = ap (λ k. map Whole (take k (Asked p.accessing.own p.requests))) is ∙ ap (map Whole) (served_more p m next) ∙ map-append Whole (take (length p.taken) (Asked p.accessing.own p.requests)) (m ∷ [])
+  more_items : map Whole (take (p.served + 1) (Asked p.accessing.own p.requests)) ≡ served_items p ++ Whole m ∷ []
+  more_items = ap (map Whole) (served_more p m next) ∙ map-append Whole (take p.served (Asked p.accessing.own p.requests)) (m ∷ [])
 
-  count_more : length (p.taken ++ canon m ∷ []) ≡ length p.taken + 1
-  count_more = length-append p.taken (canon m ∷ [])
-
-  answers_are : answer_packets p.accessed.own [] (map Whole (take (length (p.taken ++ canon m ∷ [])) (Asked p.accessing.own p.requests))) ≡ answers p ++ answer_block p.accessed.own (served_items p) (Whole m)
+  answers_are : answer_packets p.accessed.own [] (map Whole (take (p.served + 1) (Asked p.accessing.own p.requests))) ≡ answers p ++ answer_block p.accessed.own (served_items p) (Whole m)
   answers_are =
-      ap (answer_packets p.accessed.own []) (more_items (length (p.taken ++ canon m ∷ [])) count_more) ∙ answers-more p.accessed.own (served_items p) (Whole m)
+      ap (answer_packets p.accessed.own []) more_items ∙ answers-more p.accessed.own (served_items p) (Whole m)
 
   answering_is : answering (state_of p) m ≡ answer_block p.accessed.own (served_items p) (Whole m)
   answering_is = ap (λ (l : List Item). answer_block p.accessed.own l (Whole m)) (sym (served_is p h))
@@ -148,12 +145,11 @@ module _ (p : Parts) (h : AreParts p) (m : Message) (next : next_to_serve (state
   state_served inbox place outbox after =
       let s = state_of p in
       let b = answer_block p.accessed.own (served_items p) (Whole m) in
-      ap (λ (l : List NspMessage). record s { from_b = direction_of p.b p.a.link l; served = length (p.taken ++ canon m ∷ []) }) answers_are
-      ∙ ap (λ (l : List NspMessage). record s { from_b = record s.from_b { waiting = drop (length p.b.handed) (answers p ++ b); handed = l }; served = length (p.taken ++ canon m ∷ []) })
+      ap (λ (l : List NspMessage). record s { from_b = direction_of p.b p.a.link l; served = p.served + 1 }) answers_are
+      ∙ ap (λ (l : List NspMessage). record s { from_b = record s.from_b { waiting = drop (length p.b.handed) (answers p ++ b); handed = l }; served = p.served + 1 })
       (handed_same p.b (answers p) b h.from_b.bytes)
-      ∙ ap (λ (l : List NspMessage). record s { from_b = record s.from_b { waiting = l }; served = length (p.taken ++ canon m ∷ []) })
+      ∙ ap (λ (l : List NspMessage). record s { from_b = record s.from_b { waiting = l }; served = p.served + 1 })
       (ap (λ (n : ℕ). drop n (answers p ++ b)) all_handed ∙ behind (answers p) b ∙ sym answering_is)
-      ∙ ap (λ (n : ℕ). record s { from_b = record s.from_b { waiting = answering s m }; served = n }) count_more
 
   serves : Steps (state_of p) event.Serve (step.Served (length (answering (state_of p) m))) (served_one (state_of p) m)
   unfolding Steps
@@ -168,7 +164,7 @@ module _ (p : Parts) (h : AreParts p) (m : Message) (next : next_to_serve (state
       let is = ap (λ (x : accessed.Present). x.limit) stands in
       omega (arith, le, is)
 
-  parts_served : (bytes : List ℕ) (later outbox : List (List ℕ)) (next_place : ℕ) (after : accessed.Present) (n : Next p.a p.b (asks p) (length p.taken) bytes)
+  parts_served : (bytes : List ℕ) (later outbox : List (List ℕ)) (next_place : ℕ) (after : accessed.Present) (n : Next p.a p.b (asks p) p.served bytes)
       → n.m ≡ m → p.b.link.inbox ≡ bytes ∷ later → length (joined n.begun) + length (canon n.m) ≡ next_place
       → outbox ≡ all_joined (answer_block p.accessed.own (served_items p) (Whole m)) → AllFit (added p.accessed.own (served_items p) (Whole m)) → AllAtMost p.accessed.limit outbox
       → accessed.StandsAfter (map Whole (taken_of (state_of p)) ++ Whole m ∷ []) (kept_own p after)
@@ -192,13 +188,10 @@ module _ (p : Parts) (h : AreParts p) (m : Message) (next : next_to_serve (state
         limit_a = h.limit_a;
         limit_b = h.limit_b;
         most = h.most;
-        from_a = subst (λ (k : ℕ). IsTold p.a q.b (asks p) k) (sym count_more)
-            (told_to p.a s (asks p) (length p.taken + 1) outbox (handled_one p.a p.b (asks p) (length p.taken) bytes later next_place h.from_a n inbox goes));
+        from_a = (told_to p.a s (asks p) (p.served + 1) outbox (handled_one p.a p.b (asks p) p.served bytes later next_place h.from_a n inbox goes));
         from_b = subst (λ (l : List NspMessage). IsTold q.b p.a l p.read) (sym answers_are)
             (told_more p.b p.a (answers p) b p.read s.link.inbox s.place outbox outbox h.from_b (ap (λ (l : List (List ℕ)). l ++ outbox) (sym idle)) outbox_is fit_block short);
         sent_is = h.sent_is;
-        taken_is = ap (λ (l : List (List ℕ)). l ++ canon m ∷ []) h.taken_is ∙ sym (map-append canon (taken_of (state_of p)) (m ∷ [])) ∙ ap (map canon) (sym taken)
-            ∙ ap (λ (x : State). map canon (taken_of x)) (sym state);
         reports_is = h.reports_is ∙ ap (Told p.requests) (sym read) ∙ ap reported (sym state);
         asking = subst (λ (x : State). accessing.StandsAfter p.requests (answers_read x) p.accessing) (sym state)
             (subst (λ (l : List Item). accessing.StandsAfter p.requests l p.accessing) (sym read) h.asking);
@@ -207,9 +200,9 @@ module _ (p : Parts) (h : AreParts p) (m : Message) (next : next_to_serve (state
       }
 
 -- what is read next from A is of its message
-pub next_of : (p : Parts) (bytes : List ℕ) (later : List (List ℕ)) → AreParts p → p.b.link.inbox ≡ bytes ∷ later → Next p.a p.b (asks p) (length p.taken) bytes
+pub next_of : (p : Parts) (bytes : List ℕ) (later : List (List ℕ)) → AreParts p → p.b.link.inbox ≡ bytes ∷ later → Next p.a p.b (asks p) p.served bytes
 next_of p bytes later h inbox =
-    find_next p.a p.b (asks p) (length p.taken) h.from_a bytes later
+    find_next p.a p.b (asks p) p.served h.from_a bytes later
     (full-take (length p.a.handed) (asks p) (asked-full p.accessing.own p.accessed.own p.requests)) (fit-take (length p.a.handed) (asks p) h.from_a.fit) inbox
 
 has_first : (inbox : List (List ℕ)) (bytes : List ℕ) → slice_get inbox 0 ≡ Some bytes → (later : List (List ℕ)) × (inbox ≡ bytes ∷ later)
@@ -231,7 +224,7 @@ is_ready p h = λ bytes at.
 refused : (p : Parts) (f : WorldFault) → AreParts p → ServeFault p.b f → Went (state_of p) event.Serve (Err f) (state_of p)
 unfolding Steps Refuses
 refused p fault.NothingToDo h (inl waiting) = (inl (omega (arith, waiting, waits p.b (answers p) h.from_b.bytes)), refl)
-refused p fault.NothingToDo h (inr empty) = (inr (none_next p.a p.b (asks p) (length p.taken) h.from_a empty), refl)
+refused p fault.NothingToDo h (inr empty) = (inr (none_next p.a p.b (asks p) p.served h.from_a empty), refl)
 refused p fault.NoMemory h may = (may_serve p.b.link.inbox refl may.1, refl)
   where
     may_serve : (inbox : List (List ℕ)) → p.b.link.inbox ≡ inbox → 0 < length inbox → MayHappen (state_of p) event.Serve × (⊥ → ⊥)
@@ -243,17 +236,16 @@ refused p (fault.Ask f) h never = absurd never
 refused p fault.Exhausted h never = absurd never
 refused p fault.BadSetup h never = absurd never
 
-pub served_step : (p : Parts) (s : SideValue) (after : accessed.Present) (taken : List (List ℕ)) (r : Result ℕ WorldFault) → AreParts p
-    → IfOk r (λ n. ServedOne p.b s p.accessed after p.taken taken n)
-    → IfErr r (λ f. (s ≡ p.b) × (after ≡ p.accessed) × (taken ≡ p.taken) × ServeFault p.b f) → AreThen p event.Serve (served_parts p s after taken) (serve_of r)
+pub served_step : (p : Parts) (s : SideValue) (after : accessed.Present) (served : ℕ) (r : Result ℕ WorldFault) → AreParts p
+    → IfOk r (λ n. ServedOne p.b s p.accessed after p.served served n)
+    → IfErr r (λ f. (s ≡ p.b) × (after ≡ p.accessed) × (served ≡ p.served) × ServeFault p.b f) → AreThen p event.Serve (served_parts p s after served) (serve_of r)
 unfolding Steps
-served_step p s after taken (Err f) h ok err =
+served_step p s after served (Err f) h ok err =
     rw (err.0, err.1, err.2) (h, refused p f h err.3)
-served_step p s after taken (Ok n) h o err =
+served_step p s after served (Ok n) h o err =
     let x = next_of p o.bytes o.later h o.waited in
     let m = x.m in
     let one = one_there o.bytes p.b.place o.next o.item x.begun x.more m x.fit x.bytes_are x.behind o.one.only in
-    let body : take (o.next - p.b.place) (drop p.b.place o.bytes) ≡ canon m = body_there o.bytes p.b.place o.next x.begun x.more m x.bytes_are x.behind one.1 in
     let stood : accessed.StandsAfter (served_items p) p.accessed = subst (λ (l : List Item). accessed.StandsAfter l p.accessed) (sym (served_is p h)) h.serving in
     let limit : p.accessed.limit ≡ (stands_after p.accessed.own (served_items p)).standing.limit = ap (λ (y : accessed.Present). y.limit) stood in
     let outbox : s.outbox ≡ all_joined (answer_block p.accessed.own (served_items p) (Whole m)) =
@@ -271,11 +263,10 @@ served_step p s after taken (Ok n) h o err =
     let parts = parts_served p h m x.next o.idle o.bytes o.later s.outbox o.next after x refl o.waited one.1 outbox fit o.within stands world in
     let state = state_served p h m x.next o.idle t.link.inbox t.place s.outbox after in
     let count : length (answering (state_of p) m) ≡ n =
-    ap length (answering_is p h m x.next o.idle) ∙ sym (length-map (answer_block p.accessed.own (served_items p) (Whole m)) joined) ∙ ap length (sym outbox) ∙ sym o.count in
+    ap length (answering_is p h m x.next o.idle) ∙ sym (length-map (answer_block p.accessed.own (served_items p) (Whole m)) joined) ∙ ap length (sym outbox) ∙ sym o.answered in
     let went : Steps (state_of p) event.Serve (step.Served n) (state_of (q_of p h m x.next o.idle t.link.inbox t.place s.outbox after)) =
     subst (λ (y : State). Steps (state_of p) event.Serve (step.Served n) y) (sym state) (subst (λ (k : ℕ). Steps (state_of p) event.Serve (step.Served k) (served_one (state_of p) m)) count steps) in
     let done : AreThen p event.Serve (q_of p h m x.next o.idle t.link.inbox t.place s.outbox after) (Ok (step.Served n)) = (parts, went) in
-    let taken_is : taken ≡ p.taken ++ canon m ∷ [] = o.taken_is ∙ ap (λ (l : List ℕ). p.taken ++ l ∷ []) body in
-    subst (λ (y : SideValue). AreThen p event.Serve (served_parts p y after taken) (Ok (step.Served n))) (sym o.side)
-    (subst (λ (y : accessed.Present). AreThen p event.Serve (served_parts p (record t { outbox = s.outbox }) y taken) (Ok (step.Served n))) (sym own)
-    (subst (λ (l : List (List ℕ)). AreThen p event.Serve (served_parts p (record t { outbox = s.outbox }) (record after { own = p.accessed.own }) l) (Ok (step.Served n))) (sym taken_is) done))
+    subst (λ (y : SideValue). AreThen p event.Serve (served_parts p y after served) (Ok (step.Served n))) (sym o.side)
+    (subst (λ (y : accessed.Present). AreThen p event.Serve (served_parts p (record t { outbox = s.outbox }) y served) (Ok (step.Served n))) (sym own)
+    (subst (λ (k : ℕ). AreThen p event.Serve (served_parts p (record t { outbox = s.outbox }) (record after { own = p.accessed.own }) k) (Ok (step.Served n))) (sym o.count_is) done))

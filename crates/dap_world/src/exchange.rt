@@ -38,7 +38,7 @@ impl World {
     pub(crate) fn serve(&mut self) -> Result<Step, WorldFault>
         ensures { Went self.old Event.Serve result self.new }
     {
-        serve_step(serve_next(self.alloc, &mut self.b, &mut self.accessed, &mut self.taken))
+        serve_step(serve_next(&mut self.b, &mut self.accessed, &mut self.served))
     }
 
     // Reads the next answer.
@@ -65,17 +65,16 @@ fn serve_step(served: Result<usize, WorldFault>) -> Result<Step, WorldFault>
 
 // Serves the next DAP message of the oldest NSP message that came.
 fn serve_next(
-    alloc: Global,
     side: &mut Side,
     accessed: &mut Accessed,
-    taken: &mut Vec<Vec<u8>>,
+    count: &mut usize,
 ) -> Result<usize, WorldFault>
-    requires { IsReady side.old }
+    requires ready { IsReady side.old }
+    requires few { count.old < 2 ^ 63 }
     ensures ok { IfOk result
-        (λ n. ServedOne side.old side.new accessed.old accessed.new (bodies taken.old.items)
-        (bodies taken.new.items) n) }
+        (λ n. ServedOne side.old side.new accessed.old accessed.new count.old count.new n) }
     ensures err { IfErr result (λ f. (side.new ≡ side.old) × (accessed.new ≡ accessed.old)
-        × (bodies taken.new.items ≡ bodies taken.old.items) × ServeFault side.old f) }
+        × (count.new ≡ count.old) × ServeFault side.old f) }
 {
     if !side.outbox.is_empty() {
         return Err(WorldFault::NothingToDo);
@@ -87,16 +86,14 @@ fn serve_next(
     };
     let (item, next) = item_at(message, place);
     let at_end = next == message.len();
-    taken.reserve(1)?;
-    let body = Vec::from_slice(alloc, &message[place..next])?;
     let Ok(served) = accessed.serve_read(item, next) else {
         return Err(WorldFault::NoMemory);
     };
-    let count = served.answers.len();
+    let answered = served.answers.len();
     side.outbox = served.answers;
-    taken.push_reserved(body);
     side.handle(at_end, next);
-    Ok(count)
+    *count += 1;
+    Ok(answered)
 }
 
 fn read_step(read: Result<bool, WorldFault>) -> Result<Step, WorldFault>

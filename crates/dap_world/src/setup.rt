@@ -108,7 +108,7 @@ impl World {
             accessed: Accessed::new(alloc, setup.bufsiz_b),
             requests: Vec::new(alloc),
             sent: Vec::new(alloc),
-            taken: Vec::new(alloc),
+            served: 0,
             reports: Vec::new(alloc),
             read: 0,
         })

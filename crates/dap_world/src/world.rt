@@ -20,9 +20,9 @@ pub struct World {
     pub(crate) accessing: Accessing,
     pub(crate) accessed: Accessed,
     pub(crate) requests: Vec<Request>,
-    // The DAP messages that A handed to its link, and those that B served.
+    // The DAP messages that A handed to its link, and how many of them B served.
     pub(crate) sent: Vec<Vec<u8>>,
-    pub(crate) taken: Vec<Vec<u8>>,
+    pub(crate) served: usize,
     pub(crate) reports: Vec<Report>,
     // The answers that A read.
     pub(crate) read: u64,
@@ -192,11 +192,11 @@ impl World {
         &self.sent
     }
 
-    /// The DAP messages that B served.
+    /// The DAP messages that B served: a part from the front of those that were handed to A's link.
     pub fn taken(&self) -> &[Vec<u8>]
         ensures { map (λ v. v.items) result.now ≡ map canon (taken_of self.now) }
     {
-        &self.taken
+        &self.sent[..self.served]
     }
 
     /// How many answers A read.

@@ -25,8 +25,8 @@ handled_side s bytes later next =
 pub record IsOne (bytes : List ℕ) (at : ℕ) (item : Item) (next : ℕ) : Type 0 where
   pub only : (other : Item) (n : ℕ) → ItemAt bytes at other n → (other ≡ item) × (n ≡ next)
 
--- B served an item: its answers wait, and its bytes are taken.
-pub record ServedOne (old new : SideValue) (before after : accessed.Present) (took taken : List (List ℕ)) (n : ℕ) : Type 0 where
+-- B served an item: its answers wait.
+pub record ServedOne (old new : SideValue) (before after : accessed.Present) (count counted n : ℕ) : Type 0 where
   pub idle : old.outbox ≡ []
   pub bytes : List ℕ
   pub later : List (List ℕ)
@@ -41,8 +41,8 @@ pub record ServedOne (old new : SideValue) (before after : accessed.Present) (to
   pub within : AllAtMost before.limit new.outbox
   pub own : after.own ≡ before.own
   pub side : new ≡ record (handled_side old bytes later next) { outbox = new.outbox }
-  pub taken_is : taken ≡ took ++ take (next - old.place) (drop old.place bytes) ∷ []
-  pub count : n ≡ length new.outbox
+  pub count_is : counted ≡ count + 1
+  pub answered : n ≡ length new.outbox
 
 -- the next item begins within the oldest NSP message that came, or that has no bytes
 abbrev pub IsReady : SideValue → Type 0

@@ -28,7 +28,7 @@ pub record Parts : Type 0 where
   pub accessed : accessed.Present
   pub requests : List Request
   pub sent : List (List ℕ)  -- the DAP messages in what A handed over
-  pub taken : List (List ℕ)  -- those that B served
+  pub served : ℕ  -- how many of them B served
   pub reports : List Report
   pub read : ℕ  -- the answers that A read
 
@@ -47,7 +47,7 @@ answer_packets own before (item ∷ items) =
 
 -- the messages that B served, as its number tells
 abbrev pub served_items : Parts → List Item
-served_items p = map Whole (take (length p.taken) (Asked p.accessing.own p.requests))
+served_items p = map Whole (take p.served (Asked p.accessing.own p.requests))
 
 abbrev pub asks : Parts → List NspMessage
 asks p = asked_packets p.accessing.own p.accessed.own p.requests
@@ -80,7 +80,7 @@ state_of p =
       requests = p.requests;
       from_a = direction_of p.a p.b.link (asks p);
       from_b = direction_of p.b p.a.link (answers p);
-      served = length p.taken;
+      served = p.served;
       read = p.read;
     }
 
@@ -130,10 +130,9 @@ pub record AreParts (p : Parts) : Type 0 where
   pub limit_a : p.accessing.own ≤ p.a.link.max_message
   pub limit_b : p.accessed.own ≤ p.a.link.max_message
   pub most : p.a.link.max_message ≤ largest_limit
-  pub from_a : IsTold p.a p.b (asks p) (length p.taken)
+  pub from_a : IsTold p.a p.b (asks p) p.served
   pub from_b : IsTold p.b p.a (answers p) p.read
   pub sent_is : p.sent ≡ map canon (sent_by (state_of p).from_a)
-  pub taken_is : p.taken ≡ map canon (taken_of (state_of p))
   pub reports_is : p.reports ≡ reported (state_of p)
   -- the ends stand as after what was asked, served and read
   pub asking : accessing.StandsAfter p.requests (answers_read (state_of p)) p.accessing

@@ -13,7 +13,7 @@ parts_of w =
       accessed = w.accessed;
       requests = w.requests.items;
       sent = map (λ v. v.items) w.sent.items;
-      taken = map (λ v. v.items) w.taken.items;
+      served = w.served;
       reports = w.reports.items;
       read = w.read;
     }

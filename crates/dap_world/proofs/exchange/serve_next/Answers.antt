@@ -1,4 +1,4 @@
-use Rattle.std.proofs.Common.{◌≡◌, ◌-◌, ◌∷◌, ◌++◌, [], List, ℕ, rules, refl, sym, ap, ◌∙◌, inr, length, take, drop}
+use Rattle.std.proofs.Common.{◌≡◌, ◌+◌, ◌-◌, ◌∷◌, ◌++◌, [], List, ℕ, rules, refl, sym, ap, ◌∙◌, inr, length, take, drop}
 use Rattle.std.proofs.lemmas.List.{map-append, length-map}
 use Rattle.dap_msg.specs.Blocked.{bodies}
 use Rattle.dap_msg.specs.Items.{seen_item}
@@ -15,13 +15,10 @@ returns-clause-ok c =
     let bytes = c.in-Some.message.now in
     let waits = has_first c.side.inside.link.inbox bytes (sym c.in-Some.ensures) in
     let idle : length c.side.inside.outbox.items ≡ 0 = search rules in
-    let pushed : c.push_reserved.new.self.items ≡ c.args.taken.now.items ++ c.in_ok-body.body ∷ [] = search rules in
-    let body : c.in_ok-body.body.items ≡ take (c.item_at-next.result.1 - c.side.inside.place) (drop c.side.inside.place bytes) = search rules in
-    let count : c.len-count.result ≡ length c.in-Ok.served.answers.items = search rules in
+    let answered : c.len-answered.result ≡ length c.in-Ok.served.answers.items = search rules in
     rw (← c.side.view_is)
-    (serve_done (side_view c.side.inside) c.handle.new.self c.args.accessed.now c.serve_read.new.self (bodies c.args.taken.now.items) (bodies c.push_reserved.new.self.items)
+    (serve_done (side_view c.side.inside) c.handle.new.self c.args.accessed.now c.serve_read.new.self c.args.count.now (c.args.count.now + 1)
     bytes waits.0 (seen_item c.item_at-next.result.0) c.item_at-next.result.1 c.in-Ok.served
     (no_length (bodies c.side.inside.outbox.items) (length-map c.side.inside.outbox.items _ ∙ idle))
     waits.1 c.item_at-next.ensures.only (c.in-Ok.ensures.serves bytes c.side.inside.place c.item_at-next.ensures.exact) (c.handle.ensures.going, c.handle.ensures.ends)
-    (ap bodies pushed ∙ map-append _ c.args.taken.now.items (c.in_ok-body.body ∷ []) ∙ ap (λ (l : List ℕ). bodies c.args.taken.now.items ++ l ∷ []) body)
-    c.len-count.result (count ∙ sym (length-map c.in-Ok.served.answers.items _)))
+    refl c.len-answered.result (answered ∙ sym (length-map c.in-Ok.served.answers.items _)))
