@@ -1,6 +1,6 @@
 //! The listing of an input: of packets, or of NSP messages.
 
-ghost use Rattle.std.specs.Prelude.{◌≡◌, ◌≤◌, ◌<◌, ◌*◌, ◌/◌, ◌^◌, ◌++◌, ℕ, List, Some, true, false, IfErr, IfOk, MatchOption, MatchResult, OnOk, length, string_bytes};
+ghost use Rattle.std.specs.Prelude.{◌≡◌, ◌≤◌, ◌<◌, ◌*◌, ◌/◌, ◌^◌, ◌++◌, ℕ, List, Some, true, false, IfErr, IfOk, MatchOption, MatchResult, OnOk, length};
 ghost use Rattle.dap_capture.specs.Inner.Adding.{Adds, AddsCapture, AddsSome};
 ghost use Rattle.dap_capture.specs.Inner.Checking.{IsOfLine, TellsFirst, TellsFirstOrWants, TellsFirstThenWants};
 ghost use Rattle.dap_capture.specs.Inner.Lines.{IsRead, StandInFront};
@@ -11,7 +11,7 @@ use crate::input::INPUT_LIMIT;
 use crate::lines::{Direction, Head, is_hex_text, next_line, parse_head};
 use crate::message::push_messages;
 use crate::packet::push_packet;
-use crate::text::{push_decimal, push_number};
+use crate::text::{push_decimal, push_number, push_str};
 use crate::{CaptureFault, Outcome};
 use std::alloc::{AllocError, Global};
 
@@ -136,16 +136,16 @@ fn arrow(direction: Direction) -> &'static str
 }
 
 /// Appends what the lines of an NSP message say after its number and direction.
-fn push_message(text: &mut String, bytes: &[u8]) -> Result<(), AllocError>
+fn push_message(text: &mut Vec<u8>, bytes: &[u8]) -> Result<(), AllocError>
     ensures { OnOk result (AddsSome text.old text.new (IsMessageText bytes.now)) }
 {
     push_number(text, "message len=", bytes.len())?;
-    text.push_str("\n")?;
+    push_str(text, "\n")?;
     push_messages(text, bytes)
 }
 
 /// Appends what the lines of captured bytes say after their number and direction.
-fn push_captured(listed: Listed, text: &mut String, bytes: &[u8]) -> Result<(), AllocError>
+fn push_captured(listed: Listed, text: &mut Vec<u8>, bytes: &[u8]) -> Result<(), AllocError>
     ensures { OnOk result (AddsSome text.old text.new (IsCapturedText listed bytes.now)) }
 {
     match listed {
@@ -157,7 +157,7 @@ fn push_captured(listed: Listed, text: &mut String, bytes: &[u8]) -> Result<(), 
 /// Appends the lines of captured bytes.
 fn push_capture(
     listed: Listed,
-    text: &mut String,
+    text: &mut Vec<u8>,
     number: usize,
     direction: Direction,
     bytes: &[u8],
@@ -165,9 +165,9 @@ fn push_capture(
     ensures { OnOk result (AddsCapture listed number direction bytes.now text.old text.new) }
 {
     push_decimal(text, number)?;
-    text.push_str(" ")?;
-    text.push_str(arrow(direction))?;
-    text.push_str(" ")?;
+    push_str(text, " ")?;
+    push_str(text, arrow(direction))?;
+    push_str(text, " ")?;
     push_captured(listed, text, bytes)
 }
 
@@ -177,14 +177,14 @@ fn list_into(
     alloc: Global,
     input: &[u8],
     room: &mut [u8],
-) -> Result<String, CaptureFault>
+) -> Result<Vec<u8>, CaptureFault>
     requires small { length input.now ≤ INPUT_LIMIT }
     requires room { length room.old ≡ limit_of listed }
     ensures listing { IfOk result
-        (λ text. IsListing listed input.now Outcome.Good (string_bytes text)) }
+        (λ text. IsListing listed input.now Outcome.Good text.items) }
     ensures faults { TellsFirstOrWants result (line_faults (limit_of listed) input.now) }
 {
-    let mut text = String::new(alloc);
+    let mut text = Vec::new(alloc);
     let mut number = 1;
     let mut at = 1;
     let mut rest = input;
@@ -203,10 +203,10 @@ fn list_into(
 }
 
 /// The lines of all that was captured, up to the first line at fault.
-fn list_lines(listed: Listed, alloc: Global, input: &[u8]) -> Result<String, CaptureFault>
+fn list_lines(listed: Listed, alloc: Global, input: &[u8]) -> Result<Vec<u8>, CaptureFault>
     requires small { length input.now ≤ INPUT_LIMIT }
     ensures listing { IfOk result
-        (λ text. IsListing listed input.now Outcome.Good (string_bytes text)) }
+        (λ text. IsListing listed input.now Outcome.Good text.items) }
     ensures faults { TellsFirstOrWants result (line_faults (limit_of listed) input.now) }
 {
     let mut room = vec![in alloc; 0; listed.limit()]?;
@@ -218,10 +218,10 @@ pub(crate) fn list_captures(
     listed: Listed,
     alloc: Global,
     input: &[u8],
-) -> Result<String, CaptureFault>
+) -> Result<Vec<u8>, CaptureFault>
     requires small { length input.now ≤ INPUT_LIMIT }
     ensures listing { IfOk result
-        (λ text. IsListing listed input.now Outcome.Good (string_bytes text)) }
+        (λ text. IsListing listed input.now Outcome.Good text.items) }
     ensures faults { TellsFirstThenWants result (line_faults (limit_of listed) input.now) }
 {
     match list_lines(listed, alloc, input) {

@@ -1,6 +1,6 @@
 //! Playing a schedule.
 
-ghost use Rattle.std.specs.Prelude.{◌≡◌, ◌≤◌, ◌+◌, [], IfErr, IfOk, IsSome, MatchResult, length, slice_get, string_bytes};
+ghost use Rattle.std.specs.Prelude.{◌≡◌, ◌≤◌, ◌+◌, [], IfErr, IfOk, IsSome, MatchResult, length, slice_get};
 ghost use Rattle.std.specs.List.{filter_map};
 ghost use Rattle.dap_capture.specs.Inner.Checking.{IsOfLine, TellsFirst, TellsFirstOrWants, TellsFirstThenWants};
 ghost use Rattle.dap_capture.specs.Inner.Orders.{event_of_order};
@@ -49,13 +49,13 @@ fn check_schedule(input: &[u8]) -> Result<(), CaptureFault>
 
 /// Plays an event and appends its line. It is stopped where the event is refused.
 fn play_event(
-    text: &mut String,
+    text: &mut Vec<u8>,
     number: usize,
     world: &mut World,
     event: &Event,
 ) -> Result<Outcome, CaptureFault>
     ensures plays { IfOk result (PlaysOne number event.now world.old world.new
-        (string_bytes text.old) (string_bytes text.new)) }
+        text.old.items text.new.items) }
     ensures fault { IfErr result (λ fault. fault ≡ CaptureFault.NoMemory) }
 {
     match world.apply(event) {
@@ -76,13 +76,13 @@ fn play_event(
 /// Plays the event that a line says.
 fn play_order<'a>(
     alloc: Global,
-    text: &mut String,
+    text: &mut Vec<u8>,
     number: usize,
     world: &mut World,
     order: &Order<'a>,
 ) -> Result<Outcome, CaptureFault>
     ensures plays { IfOk result (PlaysOne number (event_of_order order.now) world.old world.new
-        (string_bytes text.old) (string_bytes text.new)) }
+        text.old.items text.new.items) }
     ensures fault { IfErr result (λ fault. fault ≡ CaptureFault.NoMemory) }
 {
     let event = order.to_event(alloc)?;
@@ -95,13 +95,13 @@ fn play_events<'a>(
     alloc: Global,
     world: &mut World,
     mut lines: Said<'a>,
-) -> Result<(Outcome, String), CaptureFault>
+) -> Result<(Outcome, Vec<u8>), CaptureFault>
     requires short { length lines ≤ INPUT_LIMIT + 1 }
     ensures played { IfOk result
-        (λ played. Plays world.old 1 (events_of lines.entry) played.0 (string_bytes played.1)) }
+        (λ played. Plays world.old 1 (events_of lines.entry) played.0 played.1.items) }
     ensures faults { TellsFirstOrWants result (filter_map event_fault lines.entry) }
 {
-    let mut text = String::new(alloc);
+    let mut text = Vec::new(alloc);
     let mut number = 1;
     while let Some((at, line)) = lines.next() {
         let Some(order) = read_order(line) else {
@@ -121,15 +121,15 @@ fn play_events<'a>(
 }
 
 /// Plays a schedule up to its first fault.
-fn play_lines(alloc: Global, input: &[u8]) -> Result<(Outcome, String), CaptureFault>
+fn play_lines(alloc: Global, input: &[u8]) -> Result<(Outcome, Vec<u8>), CaptureFault>
     requires small { length input.now ≤ INPUT_LIMIT }
     ensures played { IfOk result
-        (λ played. Played (said input.now) played.0 (string_bytes played.1)) }
+        (λ played. Played (said input.now) played.0 played.1.items) }
     ensures faults { TellsFirstOrWants result (schedule_faults (said input.now)) }
 {
     let mut lines = Said::of(input);
     let Some((at, first)) = lines.next() else {
-        return Ok((Outcome::Good, String::new(alloc)));
+        return Ok((Outcome::Good, Vec::new(alloc)));
     };
     let Some(setup) = read_setup(first) else {
         return Err(CaptureFault::BadLine(at));
@@ -138,7 +138,7 @@ fn play_lines(alloc: Global, input: &[u8]) -> Result<(Outcome, String), CaptureF
         Ok(mut world) => play_events(alloc, &mut world, lines),
         Err(WorldFault::BadSetup) => {
             check_orders(lines)?;
-            let mut refusal = String::new(alloc);
+            let mut refusal = Vec::new(alloc);
             push_refusal(&mut refusal, 0, "bad-setup")?;
             Ok((Outcome::Stopped, refusal))
         }
@@ -147,10 +147,10 @@ fn play_lines(alloc: Global, input: &[u8]) -> Result<(Outcome, String), CaptureF
 }
 
 /// Plays a schedule. A bad line is told also where memory was wanting before it.
-pub(crate) fn play(alloc: Global, input: &[u8]) -> Result<(Outcome, String), CaptureFault>
+pub(crate) fn play(alloc: Global, input: &[u8]) -> Result<(Outcome, Vec<u8>), CaptureFault>
     requires small { length input.now ≤ INPUT_LIMIT }
     ensures played { IfOk result
-        (λ played. Played (said input.now) played.0 (string_bytes played.1)) }
+        (λ played. Played (said input.now) played.0 played.1.items) }
     ensures faults { TellsFirstThenWants result (schedule_faults (said input.now)) }
 {
     match play_lines(alloc, input) {

@@ -1,16 +1,16 @@
 //! How reports are printed.
 
-ghost use Rattle.std.specs.Prelude.{◌≡◌, ◌++◌, IfOk, OnOk, string_bytes};
+ghost use Rattle.std.specs.Prelude.{◌≡◌, ◌++◌, IfOk, OnOk};
 ghost use Rattle.std.specs.List.{flat_map};
 ghost use Rattle.dap_capture.specs.Inner.Adding.{Adds};
 ghost use Rattle.dap_capture.specs.Reports.{ending_text, numbered_text, refused_text, report_text, stored_text};
 
-use crate::text::{push_image, push_number, push_word};
+use crate::text::{push_image, push_number, push_str, push_word};
 use dap_world::{Ending, Octets, Report};
 use std::alloc::AllocError;
 
 /// Appends the code of a Status, and its reason.
-fn push_refused(text: &mut String, code: u16, reason: u8) -> Result<(), AllocError>
+fn push_refused(text: &mut Vec<u8>, code: u16, reason: u8) -> Result<(), AllocError>
     ensures { OnOk result (Adds text.old text.new (refused_text code reason)) }
 {
     push_word(text, "refused ", code)?;
@@ -18,18 +18,18 @@ fn push_refused(text: &mut String, code: u16, reason: u8) -> Result<(), AllocErr
 }
 
 /// Appends how a batch ended.
-fn push_ending(text: &mut String, ending: Ending) -> Result<(), AllocError>
+fn push_ending(text: &mut Vec<u8>, ending: Ending) -> Result<(), AllocError>
     ensures { OnOk result (Adds text.old text.new (ending_text ending)) }
 {
     match ending {
-        Ending::Complete => text.push_str("complete"),
-        Ending::Stopped => text.push_str("stopped"),
+        Ending::Complete => push_str(text, "complete"),
+        Ending::Stopped => push_str(text, "stopped"),
         Ending::Refused(code, reason) => push_refused(text, code, reason),
     }
 }
 
 /// Appends the records of a batch.
-fn push_records(text: &mut String, records: &[(u64, Octets)]) -> Result<(), AllocError>
+fn push_records(text: &mut Vec<u8>, records: &[(u64, Octets)]) -> Result<(), AllocError>
     ensures { OnOk result (Adds text.old text.new (flat_map numbered_text records.now)) }
 {
     for record in records {
@@ -40,13 +40,13 @@ fn push_records(text: &mut String, records: &[(u64, Octets)]) -> Result<(), Allo
 }
 
 /// Appends what a Store came to.
-fn push_stored(text: &mut String, kept: Option<(u16, u8, u64)>) -> Result<(), AllocError>
+fn push_stored(text: &mut Vec<u8>, kept: Option<(u16, u8, u64)>) -> Result<(), AllocError>
     ensures { OnOk result (Adds text.old text.new (stored_text kept)) }
 {
     match kept {
-        None => text.push_str("stored"),
+        None => push_str(text, "stored"),
         Some((code, reason, ordinal)) => {
-            text.push_str("stored ")?;
+            push_str(text, "stored ")?;
             push_refused(text, code, reason)?;
             push_number(text, " ", ordinal)
         }
@@ -54,7 +54,7 @@ fn push_stored(text: &mut String, kept: Option<(u16, u8, u64)>) -> Result<(), Al
 }
 
 /// Appends a report.
-pub(crate) fn push_report(text: &mut String, report: &Report) -> Result<(), AllocError>
+pub(crate) fn push_report(text: &mut Vec<u8>, report: &Report) -> Result<(), AllocError>
     ensures { OnOk result (Adds text.old text.new (report_text report.now)) }
 {
     match report {
@@ -65,21 +65,21 @@ pub(crate) fn push_report(text: &mut String, report: &Report) -> Result<(), Allo
             push_number(text, " ", *mrs)?;
             push_number(text, " ", *mrn)
         }
-        Report::Connected => text.push_str("connected"),
+        Report::Connected => push_str(text, "connected"),
         Report::Found { number, body } => {
             push_number(text, "found ", *number)?;
             push_image(text, " ", &body.0)
         }
         Report::Done(number) => push_number(text, "done ", *number),
-        Report::EndOfFile => text.push_str("end-of-file"),
+        Report::EndOfFile => push_str(text, "end-of-file"),
         Report::Refused(code, reason) => push_refused(text, *code, *reason),
         Report::Batch { bodies, ending } => {
             push_number(text, "batch ", bodies.0.len())?;
-            text.push_str(" ")?;
+            push_str(text, " ")?;
             push_ending(text, *ending)?;
             push_records(text, &bodies.0)
         }
         Report::Stored(kept) => push_stored(text, *kept),
-        Report::Closed => text.push_str("closed"),
+        Report::Closed => push_str(text, "closed"),
     }
 }

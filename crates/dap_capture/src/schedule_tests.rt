@@ -220,9 +220,9 @@ fn reads_events(rt: HostRuntime) {
 
 /// Prints a report, and wants the text.
 fn reports(rt: &impl Abort, alloc: Global, report: &Report, want: &str) {
-    let mut text = String::new(alloc);
+    let mut text = Vec::new(alloc);
     assert!(rt; push_report(&mut text, report).is_ok());
-    assert_eq!(rt; text.as_str(), want);
+    assert_eq!(rt; text.as_slice(), want.as_bytes());
 }
 
 /// Two records, the second one empty.

@@ -1,6 +1,6 @@
 //! What a schedule prints of its events.
 
-ghost use Rattle.std.specs.Prelude.{◌≡◌, ◌<◌, ◌++◌, ℕ, List, OnOk, None, codes, length, option_copied, string_bytes};
+ghost use Rattle.std.specs.Prelude.{◌≡◌, ◌<◌, ◌++◌, ℕ, List, OnOk, None, codes, length, option_copied};
 ghost use Rattle.dap_world.specs.Machine.{reported, sends};
 ghost use Rattle.dap_world.specs.Runs.{Answers, writer_of};
 ghost use Rattle.dap_capture.specs.Inner.Adding.{Adds, AddsSome};
@@ -8,7 +8,7 @@ ghost use Rattle.dap_capture.specs.Inner.Playing.{AddsStep};
 ghost use Rattle.dap_capture.specs.Played.{IsPacketAt, IsPacketWritten, IsReported, IsStepText, end_text, got_text, refusal_line, refusal_text};
 
 use crate::reports::push_report;
-use crate::text::{push_decimal, push_hex, push_number};
+use crate::text::{push_decimal, push_hex, push_number, push_str};
 use dap_world::{AskFault, End, Event, Got, Step, World, WorldFault};
 use std::alloc::AllocError;
 
@@ -71,31 +71,31 @@ fn packet_at(world: &World, end: End, place: usize) -> &[u8]
 }
 
 /// Appends the packet at a place of an end's wire.
-fn push_packet(text: &mut String, world: &World, end: End, place: usize) -> Result<(), AllocError>
+fn push_packet(text: &mut Vec<u8>, world: &World, end: End, place: usize) -> Result<(), AllocError>
     requires { place < length (sends world.now end).wire }
     ensures { OnOk result (AddsSome text.old text.new (IsPacketWritten world.now end place)) }
 {
-    text.push_str("packet ")?;
-    text.push_str(end_word(end))?;
+    push_str(text, "packet ")?;
+    push_str(text, end_word(end))?;
     push_number(text, " ", place)?;
-    text.push_str(" ")?;
+    push_str(text, " ")?;
     push_hex(text, packet_at(world, end, place))
 }
 
 /// Appends the newest report.
-fn push_newest(text: &mut String, world: &World) -> Result<(), AllocError>
+fn push_newest(text: &mut Vec<u8>, world: &World) -> Result<(), AllocError>
     requires { 0 < length (reported world.now) }
     ensures { OnOk result (AddsSome text.old text.new (IsReported world.now)) }
 {
     let Some(newest) = world.reports().last() else {
         unreachable!()
     };
-    text.push_str("report ")?;
+    push_str(text, "report ")?;
     push_report(text, newest)
 }
 
 /// Appends what a step says.
-fn push_step(text: &mut String, world: &World, event: &Event, step: Step) -> Result<(), AllocError>
+fn push_step(text: &mut Vec<u8>, world: &World, event: &Event, step: Step) -> Result<(), AllocError>
     requires { Answers event.now step world.now }
     ensures { OnOk result (AddsSome text.old text.new (IsStepText world.now event.now step)) }
 {
@@ -108,16 +108,16 @@ fn push_step(text: &mut String, world: &World, event: &Event, step: Step) -> Res
             };
             push_packet(text, world, end, place)
         }
-        Step::Delivered(got) => text.push_str(got_word(got)),
+        Step::Delivered(got) => push_str(text, got_word(got)),
         Step::Served(count) => push_number(text, "served ", count),
-        Step::Nothing => text.push_str("read"),
+        Step::Nothing => push_str(text, "read"),
         Step::Reported => push_newest(text, world),
     }
 }
 
 /// Appends the line of an event that came to a step.
 pub(crate) fn push_event(
-    text: &mut String,
+    text: &mut Vec<u8>,
     number: usize,
     world: &World,
     event: &Event,
@@ -127,17 +127,17 @@ pub(crate) fn push_event(
     ensures { OnOk result (AddsStep number world.now event.now step text.old text.new) }
 {
     push_decimal(text, number)?;
-    text.push_str(" ")?;
+    push_str(text, " ")?;
     push_step(text, world, event, step)?;
-    text.push_str("\n")
+    push_str(text, "\n")
 }
 
 /// Appends the line of an event that was refused.
-pub(crate) fn push_refusal(text: &mut String, number: usize, word: &str) -> Result<(), AllocError>
+pub(crate) fn push_refusal(text: &mut Vec<u8>, number: usize, word: &str) -> Result<(), AllocError>
     ensures { OnOk result (Adds text.old text.new (refusal_line number word.now)) }
 {
     push_decimal(text, number)?;
-    text.push_str(" refused ")?;
-    text.push_str(word)?;
-    text.push_str("\n")
+    push_str(text, " refused ")?;
+    push_str(text, word)?;
+    push_str(text, "\n")
 }

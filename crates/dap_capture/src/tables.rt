@@ -1,13 +1,13 @@
 //! How files are printed.
 
-ghost use Rattle.std.specs.Prelude.{◌≡◌, ◌<◌, ◌++◌, OnOk, codes, length, string_bytes};
+ghost use Rattle.std.specs.Prelude.{◌≡◌, ◌<◌, ◌++◌, OnOk, codes, length};
 ghost use Rattle.std.specs.FinMap.{entries};
 ghost use Rattle.std.specs.List.{flat_map};
 ghost use Rattle.rec_file.specs.AnyFiles.{any_value};
 ghost use Rattle.dap_capture.specs.Inner.Adding.{Adds};
 ghost use Rattle.dap_capture.specs.Tables.{file_line, file_text, files_text, format_text, org_text, record_line, records_text};
 
-use crate::text::{push_image, push_number};
+use crate::text::{push_image, push_number, push_str};
 use dap_world::{AnyFile, FileTable, Format, Org, RecordFile, Shape};
 use rec_file::first_record;
 use std::alloc::AllocError;
@@ -33,15 +33,15 @@ fn format_word(format: Format) -> &'static str
 }
 
 /// Appends a word behind a space.
-fn push_behind(text: &mut String, word: &str) -> Result<(), AllocError>
+fn push_behind(text: &mut Vec<u8>, word: &str) -> Result<(), AllocError>
     ensures { OnOk result (Adds text.old text.new (codes " " ++ word.now)) }
 {
-    text.push_str(" ")?;
-    text.push_str(word)
+    push_str(text, " ")?;
+    push_str(text, word)
 }
 
 /// Appends the line of a file.
-fn push_file_line(text: &mut String, name: &[u8], shape: Shape) -> Result<(), AllocError>
+fn push_file_line(text: &mut Vec<u8>, name: &[u8], shape: Shape) -> Result<(), AllocError>
     ensures { OnOk result (Adds text.old text.new (file_line name.now shape)) }
 {
     push_image(text, "file ", name)?;
@@ -49,20 +49,20 @@ fn push_file_line(text: &mut String, name: &[u8], shape: Shape) -> Result<(), Al
     push_behind(text, format_word(shape.format))?;
     push_number(text, " ", shape.mrs)?;
     push_number(text, " ", shape.mrn)?;
-    text.push_str("\n")
+    push_str(text, "\n")
 }
 
 /// Appends the line of a record.
-fn push_record(text: &mut String, number: u32, body: &[u8]) -> Result<(), AllocError>
+fn push_record(text: &mut Vec<u8>, number: u32, body: &[u8]) -> Result<(), AllocError>
     ensures { OnOk result (Adds text.old text.new (record_line (number, body.now))) }
 {
     push_number(text, "  ", number)?;
     push_image(text, " ", body)?;
-    text.push_str("\n")
+    push_str(text, "\n")
 }
 
 /// Appends the lines of a file's records, in the order of their numbers.
-fn push_records(text: &mut String, file: &AnyFile) -> Result<(), AllocError>
+fn push_records(text: &mut Vec<u8>, file: &AnyFile) -> Result<(), AllocError>
     ensures { OnOk result (Adds text.old text.new (records_text (any_value file.now))) }
 {
     let mut next = 0;
@@ -74,7 +74,7 @@ fn push_records(text: &mut String, file: &AnyFile) -> Result<(), AllocError>
 }
 
 /// Appends the lines of a file.
-fn push_file(text: &mut String, name: &[u8], file: &AnyFile) -> Result<(), AllocError>
+fn push_file(text: &mut Vec<u8>, name: &[u8], file: &AnyFile) -> Result<(), AllocError>
     ensures { OnOk result (Adds text.old text.new (file_text (name.now, any_value file.now))) }
 {
     push_file_line(text, name, file.shape())?;
@@ -82,7 +82,7 @@ fn push_file(text: &mut String, name: &[u8], file: &AnyFile) -> Result<(), Alloc
 }
 
 /// Appends the lines of all files, in the order in which they were made.
-pub(crate) fn push_files(text: &mut String, files: &FileTable) -> Result<(), AllocError>
+pub(crate) fn push_files(text: &mut Vec<u8>, files: &FileTable) -> Result<(), AllocError>
     ensures { OnOk result (Adds text.old text.new (files_text files.now)) }
 {
     for at in 0..files.count() {

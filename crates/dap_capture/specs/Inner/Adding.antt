@@ -1,18 +1,19 @@
 -- What a function adds to a text.
-use Rattle.std.specs.Prelude.{◌≡◌, ℕ, List, ◌++◌, String, string_bytes}
+use Rattle.std.specs.Prelude.{◌≡◌, ℕ, List, ◌++◌}
+use Rattle.std.specs.Global.{Vec}
 use Rattle.dap_capture.specs.Listing.{IsCapturedText, heading}
 use Rattle.dap_capture.specs.declared.lines.Direction.{Direction}
 use Rattle.dap_capture.specs.declared.listing.Listed.{Listed}
 
 -- these bytes stand at its end now
-abbrev pub Adds : {Z : Type 0} → String Z → String Z → List ℕ → Type 0
-Adds old new bytes = string_bytes new ≡ string_bytes old ++ bytes
+abbrev pub Adds : Vec ℕ → Vec ℕ → List ℕ → Type 0
+Adds old new bytes = new.items ≡ old.items ++ bytes
 
 -- some bytes stand at its end now, and they are such
-abbrev pub AddsSome : {Z : Type 0} → String Z → String Z → (List ℕ → Type 0) → Type 0
+abbrev pub AddsSome : Vec ℕ → Vec ℕ → (List ℕ → Type 0) → Type 0
 AddsSome old new IsText = (bytes : List ℕ) × IsText bytes × Adds old new bytes
 
 -- the lines of captured bytes
-abbrev pub AddsCapture : {Z : Type 0} → Listed → ℕ → Direction → List ℕ → String Z → String Z → Type 0
+abbrev pub AddsCapture : Listed → ℕ → Direction → List ℕ → Vec ℕ → Vec ℕ → Type 0
 AddsCapture listed number direction bytes old new =
     (lines : List ℕ) × IsCapturedText listed bytes lines × Adds old new (heading number direction ++ lines)

@@ -1,5 +1,6 @@
 -- What the program does of one event.
-use Rattle.std.specs.Prelude.{◌≡◌, ℕ, List, ◌++◌, Some, String}
+use Rattle.std.specs.Prelude.{◌≡◌, ℕ, List, ◌++◌, Some}
+use Rattle.std.specs.Global.{Vec}
 use Rattle.dap_world.specs.declared.event.Event.{Event}
 use Rattle.dap_world.specs.declared.event.Step.{Step}
 use Rattle.dap_world.specs.declared.event.WorldFault.{WorldFault}
@@ -10,7 +11,7 @@ use Rattle.dap_capture.specs.Inner.Adding.{Adds}
 use Rattle.dap_capture.specs.Played.{IsStepText, event_line, refusal_line, refusal_text}
 
 -- The line of an event that came to this step is added.
-abbrev pub AddsStep : {Z : Type 0} → ℕ → State → Event → Step → String Z → String Z → Type 0
+abbrev pub AddsStep : ℕ → State → Event → Step → Vec ℕ → Vec ℕ → Type 0
 AddsStep number s e step old new = (text : List ℕ) × IsStepText s e step text × Adds old new (event_line number text)
 
 -- The line of an event is appended, and the event came to a step, or to a refusal.
