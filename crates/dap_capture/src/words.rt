@@ -9,6 +9,7 @@ ghost use Rattle.dap_capture.specs.Inner.Words.{words_left};
 
 use crate::lines::is_hex_text;
 use dap_world::{End, Octets, OctetsList};
+use memchr::memchr;
 use std::alloc::{AllocError, Global};
 use std::marker::Model;
 
@@ -28,10 +29,11 @@ impl<'a> Model for Words<'a> {
 }
 
 /// Where the first space stands.
+#[tactic(auto, using(crate::proofs::LineLemmas::first_place))]
 fn find_space(line: &[u8]) -> Option<usize>
     ensures { result ≡ position (λ byte. byte == 32) line.now }
 {
-    line.iter().position(|byte| *byte == b' ')
+    memchr(b' ', line)
 }
 
 /// The first word of a line, and what stands behind the space after it.
