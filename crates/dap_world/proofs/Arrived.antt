@@ -101,18 +101,21 @@ here {X} xs n y ys e = slice_get-get_or (xs ++ y ∷ ys) n y (omega (arith, leng
 -- ---- The next message that the link hands out is the machine's next.
 
 pub record Next (from to : SideValue) (packets : List NspMessage) (count : ℕ) (bytes : List ℕ) : Type 0 where
+  pub handed : List (List ℕ)
+  pub posted : from.posted ≡ length handed
+  pub handed_are : handed ++ from.outbox ≡ all_joined packets
   pub gone : List NspMessage
   pub begun : List Message
   pub m : Message
   pub more : List Message
   pub rest : List NspMessage
-  pub split : take (length from.handed) packets ≡ gone ++ (begun ++ m ∷ more) ∷ rest
+  pub split : take from.posted packets ≡ gone ++ (begun ++ m ∷ more) ∷ rest
   pub bytes_are : bytes ≡ joined (begun ++ m ∷ more)
   pub handled : count ≡ length (messages_in gone) + length begun
   pub behind : to.place ≡ length (joined begun)
-  pub way : IsWay from to.link from.handed (all_joined gone)
+  pub way : IsWay from to.link handed (all_joined gone)
   pub fit : AllFit (begun ++ m ∷ more)
-  pub next : slice_get (messages_in (arrived from.link.seg_size to.link.received (take (length from.handed) packets))) count ≡ Some m
+  pub next : slice_get (messages_in (arrived from.link.seg_size to.link.received (take from.posted packets))) count ≡ Some m
 
 -- what an NSP message has, where the first messages were handled
 record Opened (begun : List Message) (p : NspMessage) : Type 0 where
@@ -160,37 +163,40 @@ next_is gone after begun more m k count is =
 
 module _ (from to : SideValue) (packets : List NspMessage) (count : ℕ) (h : IsTold from to packets count) where
   handed : List NspMessage
-  handed = take (length from.handed) packets
+  handed = take from.posted packets
 
-  handed_are : from.handed ≡ all_joined (take (length from.handed) packets)
-  handed_are = handed-bytes from.handed from.outbox packets h.bytes
+  handed_are : h.handed ≡ all_joined (take from.posted packets)
+  handed_are = handed-bytes from.posted h.handed from.outbox packets h.posted h.bytes
 
   -- what was given away and waits is a front of what was handed over
   given_and : all_joined h.gone ++ to.link.inbox ≡ take h.way.stands.taken.count (all_joined h.gone ++ all_joined h.among.rest)
   given_and =
       h.way.stands.taken.inbox ∙ ap (take h.way.stands.taken.count) (handed_are ∙ ap all_joined h.among.split ∙ map-append joined h.gone h.among.rest)
 
-  came_whole : arrived from.link.seg_size to.link.received (take (length from.handed) packets) ≡ take h.way.stands.taken.count (take (length from.handed) packets)
+  came_whole : arrived from.link.seg_size to.link.received (take from.posted packets) ≡ take h.way.stands.taken.count (take from.posted packets)
   came_whole =
-      arrived_is from.link.seg_size to.link.received h.way.stands.taken.count (take (length from.handed) packets)
+      arrived_is from.link.seg_size to.link.received h.way.stands.taken.count (take from.posted packets)
       (subst (λ (l : List (List ℕ)). IsWhole from.link.seg_size l to.link.received h.way.stands.taken.count) handed_are h.way.stands.taken.whole)
 
   -- the oldest that waits has the next message
-  pub find_next : (bytes : List ℕ) (later : List (List ℕ)) → AreFull (take (length from.handed) packets) → AllFit (messages_in (take (length from.handed) packets)) → to.link.inbox ≡ bytes ∷ later → Next from to packets count bytes
+  pub find_next : (bytes : List ℕ) (later : List (List ℕ)) → AreFull (take from.posted packets) → AllFit (messages_in (take from.posted packets)) → to.link.inbox ≡ bytes ∷ later → Next from to packets count bytes
   find_next bytes later full fit inbox =
       let c = h.way.stands.taken.count in
       let front = front_of (all_joined h.gone) later (all_joined h.among.rest) bytes c (subst (λ (l : List (List ℕ)). all_joined h.gone ++ l ≡ take c (all_joined h.gone ++ all_joined h.among.rest)) inbox given_and) in
       let w = waits h.gone h.among.rest bytes later c front in
-      let split : take (length from.handed) packets ≡ h.gone ++ w.p ∷ w.after = h.among.split ∙ ap (λ (l : List NspMessage). h.gone ++ l) w.is in
+      let split : take from.posted packets ≡ h.gone ++ w.p ∷ w.after = h.among.split ∙ ap (λ (l : List NspMessage). h.gone ++ l) w.is in
       let nonempty : w.p ≢ [] = (full-back h.gone (w.p ∷ w.after) (subst AreFull split full)).0 in
       let o = opened h.among.begun w.p w.after nonempty
       (subst (λ (l : List NspMessage). (h.among.begun ≡ []) ⊎ ((m : Message) × (more : List Message) × (later : List NspMessage) × (l ≡ (h.among.begun ++ m ∷ more) ∷ later))) w.is h.among.stays) in
       let fits : AllFit (w.p ++ messages_in w.after) = fit-of h.gone (w.p ∷ w.after) (subst (λ (l : List NspMessage). AllFit (messages_in l)) split fit) in
-      let split' : take (length from.handed) packets ≡ h.gone ++ (h.among.begun ++ o.m ∷ o.more) ∷ w.after = split ∙ ap (λ (l : NspMessage). h.gone ++ l ∷ w.after) o.split in
-      let all : take c (take (length from.handed) packets) ≡ h.gone ++ (h.among.begun ++ o.m ∷ o.more) ∷ take w.k w.after =
-      ap (λ (n : ℕ). take n (take (length from.handed) packets)) w.count ∙ ap (take (length h.gone + suc w.k)) split'
+      let split' : take from.posted packets ≡ h.gone ++ (h.among.begun ++ o.m ∷ o.more) ∷ w.after = split ∙ ap (λ (l : NspMessage). h.gone ++ l ∷ w.after) o.split in
+      let all : take c (take from.posted packets) ≡ h.gone ++ (h.among.begun ++ o.m ∷ o.more) ∷ take w.k w.after =
+      ap (λ (n : ℕ). take n (take from.posted packets)) w.count ∙ ap (take (length h.gone + suc w.k)) split'
       ∙ past_front h.gone w.after (h.among.begun ++ o.m ∷ o.more) w.k in
       record {
+        handed = h.handed;
+        posted = h.posted;
+        handed_are = h.bytes;
         gone = h.gone;
         begun = h.among.begun;
         m = o.m;
@@ -207,14 +213,14 @@ module _ (from to : SideValue) (packets : List NspMessage) (count : ℕ) (h : Is
       }
 
   -- nothing waits: there is no next message
-  pub none_next : to.link.inbox ≡ [] → slice_get (messages_in (arrived from.link.seg_size to.link.received (take (length from.handed) packets))) count ≡ None
+  pub none_next : to.link.inbox ≡ [] → slice_get (messages_in (arrived from.link.seg_size to.link.received (take from.posted packets))) count ≡ None
   none_next empty =
       let c = h.way.stands.taken.count in
       let some = h.way.stands.taken.whole.some in
       let front : all_joined h.gone ++ [] ≡ take c (all_joined h.gone ++ all_joined h.among.rest) = subst (λ (l : List (List ℕ)). all_joined h.gone ++ l ≡ take c (all_joined h.gone ++ all_joined h.among.rest)) empty given_and in
-      let long : length from.handed ≡ length (all_joined h.gone ++ all_joined h.among.rest) = ap length (handed_are ∙ ap all_joined h.among.split ∙ map-append joined h.gone h.among.rest) in
+      let long : length h.handed ≡ length (all_joined h.gone ++ all_joined h.among.rest) = ap length (handed_are ∙ ap all_joined h.among.split ∙ map-append joined h.gone h.among.rest) in
       let is : c ≡ length h.gone = front_none (all_joined h.gone) (all_joined h.among.rest) c (omega (arith, some, long)) front ∙ length-map h.gone joined in
-      let all : take c (take (length from.handed) packets) ≡ h.gone = ap (λ (n : ℕ). take n (take (length from.handed) packets)) is ∙ ap (take (length h.gone)) h.among.split ∙ first h.gone h.among.rest in
+      let all : take c (take from.posted packets) ≡ h.gone = ap (λ (n : ℕ). take n (take from.posted packets)) is ∙ ap (take (length h.gone)) h.among.split ∙ first h.gone h.among.rest in
       ap (λ (l : List NspMessage). slice_get (messages_in l) count) (came_whole ∙ all)
       ∙ slice_get_past (messages_in h.gone) count (omega (arith, h.among.handled))
     where
@@ -250,13 +256,15 @@ gave from v given messages bytes later inbox way =
     }
 
 told_by_more : (from to : SideValue) (packets : List NspMessage) (count : ℕ) (bytes : List ℕ) (later : List (List ℕ)) (next : ℕ) (told : IsTold from to packets count)
-    (gone rest : List NspMessage) (begun more : List Message) (m : Message) → take (length from.handed) packets ≡ gone ++ (begun ++ m ∷ more) ∷ rest → bytes ≡ joined (begun ++ m ∷ more)
-    → count ≡ length (messages_in gone) + length begun → IsWay from to.link from.handed (all_joined gone) → AllFit (begun ++ m ∷ more)
+    (handed : List (List ℕ)) → from.posted ≡ length handed → handed ++ from.outbox ≡ all_joined packets → (gone rest : List NspMessage) (begun more : List Message) (m : Message) → take from.posted packets ≡ gone ++ (begun ++ m ∷ more) ∷ rest → bytes ≡ joined (begun ++ m ∷ more)
+    → count ≡ length (messages_in gone) + length begun → IsWay from to.link handed (all_joined gone) → AllFit (begun ++ m ∷ more)
     → to.link.inbox ≡ bytes ∷ later → length (joined begun) + length (canon m) ≡ next → IsTold from (handled_side to bytes later next) packets (count + 1)
-told_by_more from to packets count bytes later next told gone rest begun [] m split bytes_are handled way fit inbox goes =
+told_by_more from to packets count bytes later next told handed posted handed_are gone rest begun [] m split bytes_are handled way fit inbox goes =
     let p = begun ++ m ∷ [] in
     let end : next ≡ length bytes = sym (ap length bytes_are ∙ ends_at begun [] m ∙ (omega (arith, goes))) in
     rw (eq-eqb next (length bytes) end) (record {
+      handed = handed;
+      posted = posted;
       gone = gone ++ p ∷ [];
       among = record {
         begun = [];
@@ -267,18 +275,20 @@ told_by_more from to packets count bytes later next told gone rest begun [] m sp
         behind = refl;
         stays = inl refl;
       };
-      way = subst (λ (l : List (List ℕ)). IsWay from (record to.link { inbox = later }) from.handed l) (ap (λ (b : List ℕ). all_joined gone ++ b ∷ []) bytes_are ∙ sym (map-append joined gone (p ∷ [])))
-          (gave from to.link (all_joined gone) from.handed bytes later inbox way);
-      bytes = told.bytes;
+      way = subst (λ (l : List (List ℕ)). IsWay from (record to.link { inbox = later }) handed l) (ap (λ (b : List ℕ). all_joined gone ++ b ∷ []) bytes_are ∙ sym (map-append joined gone (p ∷ [])))
+          (gave from to.link (all_joined gone) handed bytes later inbox way);
+      bytes = handed_are;
       fit = told.fit;
       short = told.short;
     })
-told_by_more from to packets count bytes later next told gone rest begun (m' ∷ more) m split bytes_are handled way fit inbox goes =
+told_by_more from to packets count bytes later next told handed posted handed_are gone rest begun (m' ∷ more) m split bytes_are handled way fit inbox goes =
     let long = ap length bytes_are ∙ ends_at begun (m' ∷ more) m in
     let some = some_bytes m' (fit_at (begun ++ m ∷ []) more m' (subst AllFit (sym (append_assoc begun (m ∷ []) (m' ∷ more))) fit)) in
     let inside : next ≢ length bytes = λ e. omega (arith, e, goes, long, some, length-append (canon m') (joined more)) in
     rw (ne_eqb next (length bytes) inside)
     (record {
+      handed = handed;
+      posted = posted;
       gone = gone;
       among = record {
         begun = begun ++ m ∷ [];
@@ -289,7 +299,7 @@ told_by_more from to packets count bytes later next told gone rest begun (m' ∷
         stays = inr (m', more, rest, ap (λ (l : NspMessage). l ∷ rest) (sym (append_assoc begun (m ∷ []) (m' ∷ more))));
       };
       way = way;
-      bytes = told.bytes;
+      bytes = handed_are;
       fit = told.fit;
       short = told.short;
     })
@@ -297,4 +307,4 @@ told_by_more from to packets count bytes later next told gone rest begun (m' ∷
 pub handled_one : (from to : SideValue) (packets : List NspMessage) (count : ℕ) (bytes : List ℕ) (later : List (List ℕ)) (next : ℕ) → IsTold from to packets count → (n : Next from to packets count bytes)
     → to.link.inbox ≡ bytes ∷ later → length (joined n.begun) + length (canon n.m) ≡ next → IsTold from (handled_side to bytes later next) packets (count + 1)
 handled_one from to packets count bytes later next told n inbox goes =
-    told_by_more from to packets count bytes later next told n.gone n.rest n.begun n.more n.m n.split n.bytes_are n.handled n.way n.fit inbox goes
+    told_by_more from to packets count bytes later next told n.handed n.posted n.handed_are n.gone n.rest n.begun n.more n.m n.split n.bytes_are n.handled n.way n.fit inbox goes

@@ -145,12 +145,12 @@ module _ (p : Parts) (h : AreParts p) (r : Request) (m : IsAdmissible p.accessin
   state_asked : (outbox : List (List ℕ)) (after : accessing.Present) → state_of (q_of outbox after) ≡ asked (state_of p) r
   state_asked outbox after =
       let s = state_of p in
-      let n = counted p.a.handed p.a.outbox (asks p) h.from_a.bytes in
+      let n = counted p.a.posted h.from_a.handed p.a.outbox (asks p) h.from_a.posted h.from_a.bytes in
       ap (λ (l : List NspMessage). record s { requests = p.requests ++ r ∷ []; from_a = direction_of p.a p.b.link (asked_packets p.accessing.own p.accessed.own (p.requests ++ r ∷ [])); from_b = direction_of p.b p.a.link l }) answers_same
       ∙ ap (λ (l : List NspMessage). record s { requests = p.requests ++ r ∷ []; from_a = direction_of p.a p.b.link l }) (asked-more p.accessing.own p.accessed.own p.requests r)
-      ∙ ap (λ (l : List NspMessage). record s { requests = p.requests ++ r ∷ []; from_a = record s.from_a { waiting = drop (length p.a.handed) (asks p ++ block); handed = l } }) (handed_same p.a (asks p) block h.from_a.bytes)
+      ∙ ap (λ (l : List NspMessage). record s { requests = p.requests ++ r ∷ []; from_a = record s.from_a { waiting = drop p.a.posted (asks p ++ block); handed = l } }) (handed_same p.a p.b (asks p) block p.served h.from_a)
       ∙ ap (λ (l : List NspMessage). record s { requests = p.requests ++ r ∷ []; from_a = record s.from_a { waiting = l } })
-      (dropped (asks p) block (length p.a.handed) (omega arith) ∙ ap (λ (l : List NspMessage). s.from_a.waiting ++ l) (sym (asking_is s r h.world m)))
+      (dropped (asks p) block p.a.posted (omega arith) ∙ ap (λ (l : List NspMessage). s.from_a.waiting ++ l) (sym (asking_is s r h.world m)))
 
   parts_asked : (more : List (List ℕ)) (after : accessing.Present) → more ≡ all_joined (Blocked p.accessed.own (messages_of p.accessing.own r))
       → accessing.StandsAfter (p.requests ++ r ∷ []) (answers_read (state_of p)) (record after { own = p.accessing.own }) → IsWorld (asked (state_of p) r) → AreParts (q_of (p.a.outbox ++ more) after)

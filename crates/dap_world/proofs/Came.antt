@@ -58,14 +58,14 @@ near_all v sent acked (w ∷ wire) h near few le low early =
 
 pub all_near : (p : Parts) (end : End) → AreParts p → AllNear (side p end).link (side p (other end)).wire
 all_near p A h =
-    let there = segments-handed p.a.link.seg_size p.b.handed p.b.outbox (answers p) h.from_b.bytes in
-    let few : length _ ≤ most_segments = subst (λ (n : ℕ). length (cut n p.b.handed) ≤ most_segments) h.alike.size h.from_b.way.few in
+    let there = segments-handed p.a.link.seg_size p.b.posted h.from_b.handed p.b.outbox (answers p) h.from_b.posted h.from_b.bytes in
+    let few : length _ ≤ most_segments = subst (λ (n : ℕ). length (cut n h.from_b.handed) ≤ most_segments) h.alike.size h.from_b.way.few in
     let counts = h.world.from_b.counts in
     let back = h.world.from_a.counts in
     near_all p.a.link p.b.link.sent p.b.link.received p.b.wire h.world.from_b.wire
     (omega (arith, counts.within_window, counts.acked_taken, h.world.window)) (omega (arith, counts.sent_there, there, few)) (omega (arith, back.taken_sent)) counts.taken_sent h.world.from_b.early
 all_near p B h =
-    let there = segments-handed p.a.link.seg_size p.a.handed p.a.outbox (asks p) h.from_a.bytes in
+    let there = segments-handed p.a.link.seg_size p.a.posted h.from_a.handed p.a.outbox (asks p) h.from_a.posted h.from_a.bytes in
     let few = h.from_a.way.few in
     let counts = h.world.from_a.counts in
     let back = h.world.from_b.counts in
@@ -168,7 +168,7 @@ parts_came p A w v h d on sends world =
       limit_a = omega (arith, h.limit_a, d.max_message);
       limit_b = omega (arith, h.limit_b, d.max_message);
       most = omega (arith, h.most, d.max_message);
-      from_a = told_gives (asks p) p.served p.a p.b h.from_a v w.segment w.acks d (sends p.a.handed h.from_a.way.sends);
+      from_a = told_gives (asks p) p.served p.a p.b h.from_a v w.segment w.acks d (sends h.from_a.handed h.from_a.way.sends);
       from_b = told_takes (answers p) p.read p.b p.a h.from_b v on;
       sent_is = h.sent_is;
       reports_is = h.reports_is;
@@ -183,7 +183,7 @@ parts_came p B w v h d on sends world =
       limit_b = h.limit_b;
       most = h.most;
       from_a = told_takes (asks p) p.served p.a p.b h.from_a v on;
-      from_b = told_gives (answers p) p.read p.b p.a h.from_b v w.segment w.acks d (sends p.b.handed h.from_b.way.sends);
+      from_b = told_gives (answers p) p.read p.b p.a h.from_b v w.segment w.acks d (sends h.from_b.handed h.from_b.way.sends);
       sent_is = h.sent_is;
       reports_is = h.reports_is;
       asking = h.asking;

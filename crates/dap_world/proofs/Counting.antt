@@ -32,13 +32,14 @@ segments-cut size [] = sym (cut-none size)
 segments-cut size (x ∷ xs) = omega (arith, segments-first size (joined x) (all_joined xs), segments-cut size xs)
 
 -- what was handed over is the front of the NSP messages
-pub handed-bytes : (handed waiting : List (List ℕ)) (packets : List NspMessage) → handed ++ waiting ≡ all_joined packets → handed ≡ all_joined (take (length handed) packets)
-handed-bytes handed waiting packets e = sym (take-append_seam handed waiting) ∙ ap (take (length handed)) e ∙ take-map joined (length handed) packets
+pub handed-bytes : (n : ℕ) (handed waiting : List (List ℕ)) (packets : List NspMessage) → n ≡ length handed → handed ++ waiting ≡ all_joined packets → handed ≡ all_joined (take n packets)
+handed-bytes n handed waiting packets is e =
+    sym (take-append_seam handed waiting) ∙ ap (take (length handed)) e ∙ take-map joined (length handed) packets ∙ ap (λ (k : ℕ). all_joined (take k packets)) (sym is)
 
-pub segments-handed : (size : ℕ) (handed waiting : List (List ℕ)) (packets : List NspMessage) → handed ++ waiting ≡ all_joined packets
-    → segments_of size (take (length handed) packets) ≡ length (cut size handed)
-segments-handed size handed waiting packets e =
-    segments-cut size (take (length handed) packets) ∙ ap (λ (l : List (List ℕ)). length (cut size l)) (sym (handed-bytes handed waiting packets e))
+pub segments-handed : (size n : ℕ) (handed waiting : List (List ℕ)) (packets : List NspMessage) → n ≡ length handed → handed ++ waiting ≡ all_joined packets
+    → segments_of size (take n packets) ≡ length (cut size handed)
+segments-handed size n handed waiting packets is e =
+    segments-cut size (take n packets) ∙ ap (λ (l : List (List ℕ)). length (cut size l)) (sym (handed-bytes n handed waiting packets is e))
 
 -- the segments of a link that are acknowledged or queued are all
 pub queued : (v : LinkValue) (messages : List (List ℕ)) → Sends v messages → v.acked + length v.queue ≡ length (cut v.seg_size messages)
@@ -47,11 +48,12 @@ queued v messages sends =
     omega (arith, length-drop v.acked (cut v.seg_size messages), sends.acked)
 
 -- all segments, those that wait too
-pub all_segments : (s : SideValue) → Sends s.link s.handed → length (cut s.link.seg_size (s.handed ++ s.outbox)) ≡ segments_queued s
-all_segments s sends =
-    let cuts = ap length (cut-append s.link.seg_size s.handed s.outbox) in
-    omega (arith, cuts, length-append (cut s.link.seg_size s.handed) (cut s.link.seg_size s.outbox), queued s.link s.handed sends)
+pub all_segments : (s : SideValue) (handed : List (List ℕ)) → Sends s.link handed → length (cut s.link.seg_size (handed ++ s.outbox)) ≡ segments_queued s
+all_segments s handed sends =
+    let cuts = ap length (cut-append s.link.seg_size handed s.outbox) in
+    omega (arith, cuts, length-append (cut s.link.seg_size handed) (cut s.link.seg_size s.outbox), queued s.link handed sends)
 
 -- as many NSP messages were handed over, and wait
-pub counted : (handed waiting : List (List ℕ)) (packets : List NspMessage) → handed ++ waiting ≡ all_joined packets → length handed + length waiting ≡ length packets
-counted handed waiting packets e = sym (length-append handed waiting) ∙ ap length e ∙ length-map packets joined
+pub counted : (n : ℕ) (handed waiting : List (List ℕ)) (packets : List NspMessage) → n ≡ length handed → handed ++ waiting ≡ all_joined packets → n + length waiting ≡ length packets
+counted n handed waiting packets is e =
+    ap (λ (k : ℕ). k + length waiting) is ∙ sym (length-append handed waiting) ∙ ap length e ∙ length-map packets joined

@@ -20,11 +20,11 @@ use Rattle.dap_world.proofs.Ways.{same_writes}
 -- what waits at the taking end is another list
 pub told_to : (from to : SideValue) (packets : List NspMessage) (count : ℕ) (outbox : List (List ℕ)) → IsTold from to packets count → IsTold from (record to { outbox = outbox }) packets count
 told_to from to packets count outbox h =
-    record { gone = h.gone; among = h.among; way = h.way; bytes = h.bytes; fit = h.fit; short = h.short }
+    record { handed = h.handed; posted = h.posted; gone = h.gone; among = h.among; way = h.way; bytes = h.bytes; fit = h.fit; short = h.short }
 
 -- the first NSP messages are the same with more behind them
-pub handed_same : (from : SideValue) (packets block : List NspMessage) → from.handed ++ from.outbox ≡ all_joined packets → take (length from.handed) (packets ++ block) ≡ take (length from.handed) packets
-handed_same from packets block e = let n = counted from.handed from.outbox packets e in take-append-le (length from.handed) packets block (omega arith)
+pub handed_same : (from to : SideValue) (packets block : List NspMessage) (count : ℕ) → IsTold from to packets count → take from.posted (packets ++ block) ≡ take from.posted packets
+handed_same from to packets block count h = let n = counted from.posted h.handed from.outbox packets h.posted h.bytes in take-append-le from.posted packets block (omega arith)
 
 -- the sending end has more to send, and moved its place
 pub told_more : (from to : SideValue) (packets block : List NspMessage) (count : ℕ) (inbox : List (List ℕ)) (place : ℕ) (outbox more : List (List ℕ)) → IsTold from to packets count
@@ -32,8 +32,10 @@ pub told_more : (from to : SideValue) (packets block : List NspMessage) (count :
     → IsTold (record from { link = record from.link { inbox = inbox }; place = place; outbox = outbox }) to (packets ++ block) count
 told_more from to packets block count inbox place outbox more h outbox_is more_is fit short =
     record {
+      handed = h.handed;
+      posted = h.posted;
       gone = h.gone;
-      among = subst (λ (l : List NspMessage). IsAmong l count to.place h.gone) (sym (handed_same from packets block h.bytes)) h.among;
+      among = subst (λ (l : List NspMessage). IsAmong l count to.place h.gone) (sym (handed_same from to packets block count h)) h.among;
       way = record {
         size = h.way.size;
         running = h.way.running;
@@ -44,9 +46,9 @@ told_more from to packets block count inbox place outbox more h outbox_is more_i
         stands = h.way.stands;
         short = h.way.short;
         few = h.way.few;
-        wire = same_writes from.link (record from.link { inbox = inbox }) from.handed refl refl refl from.wire h.way.wire;
+        wire = same_writes from.link (record from.link { inbox = inbox }) h.handed refl refl refl from.wire h.way.wire;
       };
-      bytes = ap (λ (l : List (List ℕ)). from.handed ++ l) outbox_is ∙ sym (append_assoc from.handed from.outbox more) ∙ ap (λ (l : List (List ℕ)). l ++ more) h.bytes
+      bytes = ap (λ (l : List (List ℕ)). h.handed ++ l) outbox_is ∙ sym (append_assoc h.handed from.outbox more) ∙ ap (λ (l : List (List ℕ)). l ++ more) h.bytes
           ∙ ap (λ (l : List (List ℕ)). all_joined packets ++ l) more_is ∙ sym (map-append joined packets block);
       fit = subst AllFit (sym (messages_in-append packets block)) (AllFit-append (messages_in packets) (messages_in block) h.fit fit);
       short = subst (AreShort from.link.max_message) (sym outbox_is) (All-append (λ m. length m ≤ from.link.max_message) from.outbox more h.short short);
@@ -62,6 +64,8 @@ pub told_moved : (from to : SideValue) (packets : List NspMessage) (count : ℕ)
     → IsTold (record from { link = record from.link { inbox = inbox }; place = place }) to packets count
 told_moved from to packets count inbox place h =
     record {
+      handed = h.handed;
+      posted = h.posted;
       gone = h.gone;
       among = h.among;
       way = record {
@@ -74,22 +78,31 @@ told_moved from to packets count inbox place h =
         stands = h.way.stands;
         short = h.way.short;
         few = h.way.few;
-        wire = same_writes from.link (record from.link { inbox = inbox }) from.handed refl refl refl from.wire h.way.wire;
+        wire = same_writes from.link (record from.link { inbox = inbox }) h.handed refl refl refl from.wire h.way.wire;
       };
       bytes = h.bytes;
       fit = h.fit;
       short = h.short;
     }
 
--- ---- No more messages than bytes.
-
-as_many_bytes : (messages : List Message) → AllFit messages → length messages ≤ length (joined messages)
-as_many_bytes [] fit = omega arith
-as_many_bytes (m ∷ messages) fit = omega (arith, some_bytes m fit.0, as_many_bytes messages fit.1, length-append (canon m) (joined messages))
+-- ---- No more messages than segments, and than bytes.
 
 count_one : (size len : ℕ) → 1 ≤ count_of size len
 unfolding count_of
 count_one size len = omega arith
+
+-- as many segments at least as messages
+as_many_segments : (size : ℕ) (messages : List (List ℕ)) → length messages ≤ length (cut size messages)
+as_many_segments size [] = omega arith
+as_many_segments size (m ∷ messages) = omega (arith, as_many_segments size messages, segments-first size m messages, count_one size (length m))
+
+-- few were handed over
+pub few_posted : (from to : SideValue) (packets : List NspMessage) (count : ℕ) → IsTold from to packets count → from.posted ≤ most_segments
+few_posted from to packets count h = omega (arith, h.posted, as_many_segments from.link.seg_size h.handed, h.way.few)
+
+as_many_bytes : (messages : List Message) → AllFit messages → length messages ≤ length (joined messages)
+as_many_bytes [] fit = omega arith
+as_many_bytes (m ∷ messages) fit = omega (arith, some_bytes m fit.0, as_many_bytes messages fit.1, length-append (canon m) (joined messages))
 
 all_few : (size : ℕ) (packets : List NspMessage) (most : ℕ) → AllFit (messages_in packets) → AreShort most (all_joined packets) → most ≤ largest_limit
     → length (messages_in packets) ≤ largest_limit * length (cut size (all_joined packets))

@@ -1,5 +1,5 @@
 -- What the code's calls come to where a message is handled.
-use Rattle.std.proofs.Common.{◌≡◌, ℕ, ◌+◌, ◌-◌, ◌<◌, arith, refl, sym, ◌∙◌, subst, ap, Bool, true, false, List, [], ◌∷◌, ◌++◌, length, take, drop}
+use Rattle.std.proofs.Common.{◌≡◌, ℕ, ◌+◌, ◌<◌, arith, refl, sym, ◌∙◌, subst, ap, Bool, true, false, List, [], ◌∷◌, ◌++◌, length}
 use Rattle.std.specs.Prelude.{◌==◌, if◌then◌else◌, Some, None, slice_get, is_some, option_to_list}
 use Rattle.dap_msg.specs.Items.{Item, ItemAt}
 use Rattle.dap_msg.specs.Blocked.{bodies}

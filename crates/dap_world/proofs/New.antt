@@ -29,6 +29,8 @@ twice B = refl
 told_none : (s : WorldSetup) (end : End) → IsWorldSetup s → IsTold (new_side (link_of s end)) (new_side (link_of s (other end))) [] 0
 told_none s end h =
     record {
+      handed = [];
+      posted = refl;
       gone = [];
       among = record { begun = []; rest = []; split = refl; handled = refl; behind = refl; stays = inl refl };
       way = record {

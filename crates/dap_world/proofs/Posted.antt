@@ -1,5 +1,5 @@
 -- Handing over all that waits is a step of the machine.
-use Rattle.std.proofs.Common.{◌≡◌, ℕ, ◌≤◌, ◌<◌, arith, refl, sym, ◌∙◌, subst, ap, List, [], ◌∷◌, ◌++◌, length, take, drop, map, inl, inr}
+use Rattle.std.proofs.Common.{◌≡◌, ℕ, ◌+◌, ◌≤◌, ◌<◌, arith, refl, sym, ◌∙◌, subst, ap, List, [], ◌∷◌, ◌++◌, length, take, drop, map, inl, inr}
 use Rattle.std.specs.Prelude.{Result, Ok, Err, IfOk, IfErr, OnOk}
 use Rattle.std.specs.List.{AllByRecursion}
 use Rattle.std.proofs.lemmas.List.{length-append, map-append, take-append-drop, take_all, drop_all, take-take, length-drop, drop-map, append-nil, append_assoc}
@@ -50,57 +50,56 @@ more_writes v pieces messages more (w ∷ wire) h =
 abbrev pub new_side : SideValue → SideValue
 new_side s = posted_side s (queued_link s.link (cut s.link.seg_size s.outbox))
 
-way_posted : (s : SideValue) (to : LinkValue) (given : List (List ℕ)) → IsWay s to s.handed given → AreShort to.max_message s.outbox → segments_queued s ≤ most_segments
-    → IsWay (new_side s) to (s.handed ++ s.outbox) given
-way_posted s to given way short room =
+way_posted : (s : SideValue) (to : LinkValue) (handed given : List (List ℕ)) → IsWay s to handed given → AreShort to.max_message s.outbox → segments_queued s ≤ most_segments
+    → IsWay (new_side s) to (handed ++ s.outbox) given
+way_posted s to handed given way short room =
     record {
       size = way.size;
       running = way.running;
       listening = way.listening;
       there = way.there;
       back = way.back;
-      sends = sends_all s.link s.handed s.outbox way.sends;
-      stands = stands_more to s.link.seg_size s.handed s.outbox given way.stands;
-      short = All-append (λ m. length m ≤ to.max_message) s.handed s.outbox way.short short;
-      few = omega (arith, all_segments s way.sends, room);
-      wire = more_writes s.link (cut s.link.seg_size s.outbox) s.handed s.outbox s.wire way.wire;
+      sends = sends_all s.link handed s.outbox way.sends;
+      stands = stands_more to s.link.seg_size handed s.outbox given way.stands;
+      short = All-append (λ m. length m ≤ to.max_message) handed s.outbox way.short short;
+      few = omega (arith, all_segments s handed way.sends, room);
+      wire = more_writes s.link (cut s.link.seg_size s.outbox) handed s.outbox s.wire way.wire;
     }
 
 -- ---- The state.
 
-posted_is : (s : SideValue) (to : LinkValue) (packets : List NspMessage) → s.handed ++ s.outbox ≡ all_joined packets → posted (direction_of s to packets) ≡ direction_of (new_side s) to packets
-posted_is s to packets e =
-    let n = counted s.handed s.outbox packets e in
-    let long = length-append s.handed s.outbox in
+posted_is : (s : SideValue) (to : LinkValue) (packets : List NspMessage) → s.posted + length s.outbox ≡ length packets → posted (direction_of s to packets) ≡ direction_of (new_side s) to packets
+posted_is s to packets n =
     let d = direction_of s to packets in
-    ap (λ (l : List NspMessage). record d { waiting = []; handed = l }) (take-append-drop (length s.handed) packets ∙ sym (take_all (length (s.handed ++ s.outbox)) packets (omega arith)))
-    ∙ ap (λ (l : List NspMessage). record d { waiting = l; handed = take (length (s.handed ++ s.outbox)) packets }) (sym (drop_all (length (s.handed ++ s.outbox)) packets (omega arith)))
+    ap (λ (l : List NspMessage). record d { waiting = []; handed = l }) (take-append-drop s.posted packets ∙ sym (take_all (s.posted + length s.outbox) packets (omega arith)))
+    ∙ ap (λ (l : List NspMessage). record d { waiting = l; handed = take (s.posted + length s.outbox) packets }) (sym (drop_all (s.posted + length s.outbox) packets (omega arith)))
 
-pub waits : (s : SideValue) (packets : List NspMessage) → s.handed ++ s.outbox ≡ all_joined packets → length (drop (length s.handed) packets) ≡ length s.outbox
-waits s packets e =
-    let n = counted s.handed s.outbox packets e in omega (arith, length-drop (length s.handed) packets)
+pub waits : (from to : SideValue) (packets : List NspMessage) (count : ℕ) → IsTold from to packets count → length (drop from.posted packets) ≡ length from.outbox
+waits from to packets count h =
+    let n = counted from.posted h.handed from.outbox packets h.posted h.bytes in omega (arith, length-drop from.posted packets)
 
 -- the bytes of what waits
-pub waits-bytes : (s : SideValue) (packets : List NspMessage) → s.handed ++ s.outbox ≡ all_joined packets → s.outbox ≡ all_joined (drop (length s.handed) packets)
-waits-bytes s packets e = sym (behind s.handed s.outbox) ∙ ap (drop (length s.handed)) e ∙ drop-map joined (length s.handed) packets
+pub waits-bytes : (from to : SideValue) (packets : List NspMessage) (count : ℕ) → IsTold from to packets count → from.outbox ≡ all_joined (drop from.posted packets)
+waits-bytes from to packets count h =
+    sym (behind h.handed from.outbox) ∙ ap (drop (length h.handed)) h.bytes ∙ drop-map joined (length h.handed) packets ∙ ap (λ (n : ℕ). all_joined (drop n packets)) (sym h.posted)
   where
     behind : (xs ys : List (List ℕ)) → drop (length xs) (xs ++ ys) ≡ ys
     behind [] ys = refl
     behind (x ∷ xs) ys = behind xs ys
 
-segments_all : (size : ℕ) (s : SideValue) (packets : List NspMessage) → size ≡ s.link.seg_size → s.handed ++ s.outbox ≡ all_joined packets → Sends s.link s.handed
-    → segments_of size (take (length s.handed) packets ++ drop (length s.handed) packets) ≡ segments_queued s
-segments_all size s packets same e sends =
-    ap (segments_of size) (take-append-drop (length s.handed) packets) ∙ segments-cut size packets ∙ ap (λ (l : List (List ℕ)). length (cut size l)) (sym e)
-    ∙ ap (λ n. length (cut n (s.handed ++ s.outbox))) same ∙ all_segments s sends
+segments_all : (size : ℕ) (s : SideValue) (handed : List (List ℕ)) (packets : List NspMessage) → size ≡ s.link.seg_size → handed ++ s.outbox ≡ all_joined packets → Sends s.link handed
+    → segments_of size (take s.posted packets ++ drop s.posted packets) ≡ segments_queued s
+segments_all size s handed packets same e sends =
+    ap (segments_of size) (take-append-drop s.posted packets) ∙ segments-cut size packets ∙ ap (λ (l : List (List ℕ)). length (cut size l)) (sym e)
+    ∙ ap (λ n. length (cut n (handed ++ s.outbox))) same ∙ all_segments s handed sends
 
 segments_are : (p : Parts) (end : End) → AreParts p → segments_then (state_of p) end ≡ segments_queued (side p end)
-segments_are p A h = segments_all p.a.link.seg_size p.a (asks p) refl h.from_a.bytes h.from_a.way.sends
-segments_are p B h = segments_all p.a.link.seg_size p.b (answers p) (sym h.alike.size) h.from_b.bytes h.from_b.way.sends
+segments_are p A h = segments_all p.a.link.seg_size p.a h.from_a.handed (asks p) refl h.from_a.bytes h.from_a.way.sends
+segments_are p B h = segments_all p.a.link.seg_size p.b h.from_b.handed (answers p) (sym h.alike.size) h.from_b.bytes h.from_b.way.sends
 
 waiting_is : (p : Parts) (end : End) → AreParts p → length (sends (state_of p) end).waiting ≡ length (side p end).outbox
-waiting_is p A h = waits p.a (asks p) h.from_a.bytes
-waiting_is p B h = waits p.b (answers p) h.from_b.bytes
+waiting_is p A h = waits p.a p.b (asks p) p.served h.from_a
+waiting_is p B h = waits p.b p.a (answers p) p.read h.from_b
 
 pub no_length : {X : Type 0} (xs : List X) → length xs ≡ 0 → xs ≡ []
 no_length [] e = refl
@@ -118,8 +117,8 @@ SentMore p A more = SplitsAll p.a.outbox [] more
 SentMore p B more = Unit {0}
 
 state_posted : (p : Parts) (end : End) (more : List (List ℕ)) → AreParts p → with_sends (state_of p) end (posted (sends (state_of p) end)) ≡ state_of (posted_parts p end more)
-state_posted p A more h = ap (λ (d : Direction). with_sends (state_of p) A d) (posted_is p.a p.b.link (asks p) h.from_a.bytes)
-state_posted p B more h = ap (λ (d : Direction). with_sends (state_of p) B d) (posted_is p.b p.a.link (answers p) h.from_b.bytes)
+state_posted p A more h = ap (λ (d : Direction). with_sends (state_of p) A d) (posted_is p.a p.b.link (asks p) (counted p.a.posted h.from_a.handed p.a.outbox (asks p) h.from_a.posted h.from_a.bytes))
+state_posted p B more h = ap (λ (d : Direction). with_sends (state_of p) B d) (posted_is p.b p.a.link (answers p) (counted p.b.posted h.from_b.handed p.b.outbox (answers p) h.from_b.posted h.from_b.bytes))
 
 posts : (p : Parts) (end : End) (more : List (List ℕ)) → AreParts p → 0 < length (side p end).outbox → segments_queued (side p end) ≤ most_segments
     → Steps (state_of p) (event.Post end) (step.Posted (length (side p end).outbox)) (state_of (posted_parts p end more))
@@ -152,12 +151,13 @@ among_more n m packets count place gone le h =
 told_posted : (packets : List NspMessage) (count : ℕ) (from to : SideValue) → IsTold from to packets count → AreShort to.link.max_message from.outbox → segments_queued from ≤ most_segments
     → IsTold (new_side from) to packets count
 told_posted packets count from to h short room =
-    let long = length-append from.handed from.outbox in
     record {
+      handed = h.handed ++ from.outbox;
+      posted = omega (arith, h.posted, length-append h.handed from.outbox);
       gone = h.gone;
-      among = among_more (length from.handed) (length (from.handed ++ from.outbox)) packets count to.place h.gone (omega arith) h.among;
-      way = way_posted from to.link (all_joined h.gone) h.way short room;
-      bytes = append-nil (from.handed ++ from.outbox) ∙ h.bytes;
+      among = among_more from.posted (from.posted + length from.outbox) packets count to.place h.gone (omega arith) h.among;
+      way = way_posted from to.link h.handed (all_joined h.gone) h.way short room;
+      bytes = append-nil (h.handed ++ from.outbox) ∙ h.bytes;
       fit = h.fit;
       short = λ k d lt. absurd (omega arith);
     }
@@ -165,9 +165,11 @@ told_posted packets count from to h short room =
 told_queued : (packets : List NspMessage) (count : ℕ) (from to : SideValue) → IsTold from to packets count → IsTold from (new_side to) packets count
 told_queued packets count from to h =
     record {
+      handed = h.handed;
+      posted = h.posted;
       gone = h.gone;
       among = h.among;
-      way = still_way from to.link (queued_link to.link (cut to.link.seg_size to.outbox)) from.handed _ refl h.way;
+      way = still_way from to.link (queued_link to.link (cut to.link.seg_size to.outbox)) h.handed _ refl h.way;
       bytes = h.bytes;
       fit = h.fit;
       short = h.short;
@@ -175,26 +177,24 @@ told_queued packets count from to h =
 
 -- what B served is a front of what A handed over, before and after
 served_same : (p : Parts) → AreParts p
-    → take p.served (messages_in (take (length (p.a.handed ++ p.a.outbox)) (asks p))) ≡ take p.served (messages_in (take (length p.a.handed) (asks p)))
+    → take p.served (messages_in (take (p.a.posted + length p.a.outbox) (asks p))) ≡ take p.served (messages_in (take p.a.posted (asks p)))
 served_same p h =
-    let n = counted p.a.handed p.a.outbox (asks p) h.from_a.bytes in
-    let long = length-append p.a.handed p.a.outbox in
-    ap (λ (l : List NspMessage). take p.served (messages_in l)) (take_all (length (p.a.handed ++ p.a.outbox)) (asks p) (omega arith) ∙ sym (take-append-drop (length p.a.handed) (asks p)))
-    ∙ served-stays p.served p.a.link.seg_size p.b.link.received (take (length p.a.handed) (asks p)) (drop (length p.a.handed) (asks p)) h.world.served
+    let n = counted p.a.posted h.from_a.handed p.a.outbox (asks p) h.from_a.posted h.from_a.bytes in
+    ap (λ (l : List NspMessage). take p.served (messages_in l)) (take_all (p.a.posted + length p.a.outbox) (asks p) (omega arith) ∙ sym (take-append-drop p.a.posted (asks p)))
+    ∙ served-stays p.served p.a.link.seg_size p.b.link.received (take p.a.posted (asks p)) (drop p.a.posted (asks p)) h.world.served
 
-sent_more : (p : Parts) (more : List (List ℕ)) → AreParts p → SplitsAll p.a.outbox [] more → p.sent ++ more ≡ map canon (messages_in (take (length (p.a.handed ++ p.a.outbox)) (asks p)))
+sent_more : (p : Parts) (more : List (List ℕ)) → AreParts p → SplitsAll p.a.outbox [] more → p.sent ++ more ≡ map canon (messages_in (take (p.a.posted + length p.a.outbox) (asks p)))
 sent_more p more h splits =
-    let n = counted p.a.handed p.a.outbox (asks p) h.from_a.bytes in
-    let long = length-append p.a.handed p.a.outbox in
-    let front = take (length p.a.handed) (asks p) in
-    let back = drop (length p.a.handed) (asks p) in
-    let all : messages_in (asks p) ≡ messages_in front ++ messages_in back = ap messages_in (sym (take-append-drop (length p.a.handed) (asks p))) ∙ messages_in-append front back in
-    let full = full-drop (length p.a.handed) (asks p) (asked-full p.accessing.own p.accessed.own p.requests) in
+    let n = counted p.a.posted h.from_a.handed p.a.outbox (asks p) h.from_a.posted h.from_a.bytes in
+    let front = take p.a.posted (asks p) in
+    let back = drop p.a.posted (asks p) in
+    let all : messages_in (asks p) ≡ messages_in front ++ messages_in back = ap messages_in (sym (take-append-drop p.a.posted (asks p))) ∙ messages_in-append front back in
+    let full = full-drop p.a.posted (asks p) (asked-full p.accessing.own p.accessed.own p.requests) in
     let fit = fit-back (messages_in front) (messages_in back) (subst AllFit all h.from_a.fit) in
-    let is : more ≡ map canon (messages_in back) = splits back full fit (waits-bytes p.a (asks p) h.from_a.bytes) in
+    let is : more ≡ map canon (messages_in back) = splits back full fit (waits-bytes p.a p.b (asks p) p.served h.from_a) in
     ap (λ (l : List (List ℕ)). l ++ more) h.sent_is ∙ ap (λ (l : List (List ℕ)). map canon (messages_in front) ++ l) is
     ∙ sym (map-append canon (messages_in front) (messages_in back)) ∙ ap (map canon) (sym all)
-    ∙ ap (λ (l : List NspMessage). map canon (messages_in l)) (sym (take_all (length (p.a.handed ++ p.a.outbox)) (asks p) (omega arith)))
+    ∙ ap (λ (l : List NspMessage). map canon (messages_in l)) (sym (take_all (p.a.posted + length p.a.outbox) (asks p) (omega arith)))
 
 parts_posted : (p : Parts) (end : End) (more : List (List ℕ)) → AreParts p → segments_queued (side p end) ≤ most_segments → SentMore p end more → IsWorld (state_of (posted_parts p end more)) → AreParts (posted_parts p end more)
 unfolding reported

@@ -42,15 +42,15 @@ abbrev pub read_parts : Parts → SideValue → accessing.Present → List Repor
 read_parts p s after reports count = record p { a = s; accessing = after; reports = reports; read = count }
 
 -- the answers to what B served
-all-answered : (p : Parts) → AreParts p → messages_in (take (length p.b.handed) (answers p)) ++ messages_in (drop (length p.b.handed) (answers p)) ≡ Answers p.accessed.own (map Whole (taken_of (state_of p)))
+all-answered : (p : Parts) → AreParts p → messages_in (take p.b.posted (answers p)) ++ messages_in (drop p.b.posted (answers p)) ≡ Answers p.accessed.own (map Whole (taken_of (state_of p)))
 all-answered p h =
-    sym (messages_in-append (take (length p.b.handed) (answers p)) (drop (length p.b.handed) (answers p))) ∙ h.world.answered
+    sym (messages_in-append (take p.b.posted (answers p)) (drop p.b.posted (answers p))) ∙ h.world.answered
 
 -- what is read next from B is of its message
 pub next_answer : (p : Parts) (bytes : List ℕ) (later : List (List ℕ)) → AreParts p → p.a.link.inbox ≡ bytes ∷ later → Next p.b p.a (answers p) p.read bytes
 next_answer p bytes later h inbox =
     find_next p.b p.a (answers p) p.read h.from_b bytes later
-    (full-take (length p.b.handed) (answers p) (answers-full p.accessed.own (served_items p))) (fit-take (length p.b.handed) (answers p) h.from_b.fit) inbox
+    (full-take p.b.posted (answers p) (answers-full p.accessed.own (served_items p))) (fit-take p.b.posted (answers p) h.from_b.fit) inbox
 
 pub is_ready : (p : Parts) → AreParts p → IsReady p.a
 is_ready p h = λ bytes at.
@@ -60,7 +60,7 @@ is_ready p h = λ bytes at.
 
 next_read : (p : Parts) (bytes : List ℕ) → AreParts p → (n : Next p.b p.a (answers p) p.read bytes) → next_to_read (state_of p) ≡ Some n.m
 next_read p bytes h n =
-    subst (λ (size : ℕ). slice_get (messages_in (arrived size p.a.link.received (take (length p.b.handed) (answers p)))) p.read ≡ Some n.m) h.alike.size n.next
+    subst (λ (size : ℕ). slice_get (messages_in (arrived size p.a.link.received (take p.b.posted (answers p)))) p.read ≡ Some n.m) h.alike.size n.next
 
 -- the answers read, once one more is
 read-more : (p : Parts) (m : Message) → AreParts p → next_to_read (state_of p) ≡ Some m → answers_read (read_one (state_of p)) ≡ answers_read (state_of p) ++ Whole m ∷ []
@@ -100,17 +100,17 @@ expects p h = λ bytes at.
 pub few_read : (p : Parts) → AreParts p → p.read < 2 ^ 56
 few_read p h =
     let s = state_of p in
-    let packets = take (length p.b.handed) (answers p) in
+    let packets = take p.b.posted (answers p) in
     let front = arrived-front s.seg_size s.from_b.taken s.from_b.handed in
     few_messages p.b.link.seg_size packets p.read (omega (arith, h.world.read, ap length front.1, length-append (messages_in (arrived s.seg_size s.from_b.taken s.from_b.handed)) front.0))
-    (fit-take (length p.b.handed) (answers p) h.from_b.fit) p.a.link.max_message
-    (subst (AreShort p.a.link.max_message) (handed-bytes p.b.handed p.b.outbox (answers p) h.from_b.bytes) h.from_b.way.short) h.most
-    (subst (λ (l : List (List ℕ)). length (cut p.b.link.seg_size l) ≤ most_segments) (handed-bytes p.b.handed p.b.outbox (answers p) h.from_b.bytes) h.from_b.way.few)
+    (fit-take p.b.posted (answers p) h.from_b.fit) p.a.link.max_message
+    (subst (AreShort p.a.link.max_message) (handed-bytes p.b.posted h.from_b.handed p.b.outbox (answers p) h.from_b.posted h.from_b.bytes) h.from_b.way.short) h.most
+    (subst (λ (l : List (List ℕ)). length (cut p.b.link.seg_size l) ≤ most_segments) (handed-bytes p.b.posted h.from_b.handed p.b.outbox (answers p) h.from_b.posted h.from_b.bytes) h.from_b.way.few)
 
 refused : (p : Parts) (f : WorldFault) → AreParts p → ReadFault p.a f → Went (state_of p) event.Read (Err f) (state_of p)
 unfolding Steps Refuses
 refused p fault.NothingToDo h empty =
-    (subst (λ (size : ℕ). slice_get (messages_in (arrived size p.a.link.received (take (length p.b.handed) (answers p)))) p.read ≡ None) h.alike.size (none_next p.b p.a (answers p) p.read h.from_b empty), refl)
+    (subst (λ (size : ℕ). slice_get (messages_in (arrived size p.a.link.received (take p.b.posted (answers p)))) p.read ≡ None) h.alike.size (none_next p.b p.a (answers p) p.read h.from_b empty), refl)
 refused p fault.NoMemory h some = (may_read p.a.link.inbox refl some, refl)
   where
     may_read : (inbox : List (List ℕ)) → p.a.link.inbox ≡ inbox → 0 < length inbox → MayHappen (state_of p) event.Read × (⊥ → ⊥)

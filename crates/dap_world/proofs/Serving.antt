@@ -1,5 +1,5 @@
 -- Serving a message is a step of the machine.
-use Rattle.std.proofs.Common.{◌≡◌, ℕ, ◌+◌, ◌-◌, ◌≤◌, ◌<◌, arith, refl, sym, ◌∙◌, subst, ap, List, [], ◌∷◌, ◌++◌, length, take, drop, map, inl, inr}
+use Rattle.std.proofs.Common.{◌≡◌, ℕ, ◌+◌, ◌≤◌, ◌<◌, arith, refl, sym, ◌∙◌, subst, ap, List, [], ◌∷◌, ◌++◌, length, take, drop, map, inl, inr}
 use Rattle.std.specs.Prelude.{Some, Result, Ok, Err, IfOk, IfErr, slice_get}
 use Rattle.std.proofs.lemmas.List.{length-append, length-map, map-append, take-append-le, take-append-drop, drop_all}
 use Rattle.dap_msg.specs.Message.{Message}
@@ -30,7 +30,7 @@ use Rattle.dap_world.specs.Inner.Handling.{handled_side, ServedOne, ServeFault, 
 use Rattle.dap_world.proofs.Counting.{counted}
 use Rattle.dap_world.proofs.Packets.{arrived-front, get-front, take-next, messages_in-append}
 use Rattle.dap_world.proofs.Blocks.{asked-all, asked-full, answers-more, answer_block, fit-front}
-use Rattle.dap_world.proofs.Splits.{one_there, body_there, some_bytes}
+use Rattle.dap_world.proofs.Splits.{one_there, some_bytes}
 use Rattle.dap_world.proofs.Reading.{fit_at, ends_at}
 use Rattle.dap_world.proofs.Arrived.{Next, find_next, none_next, handled_one}
 use Rattle.dap_world.proofs.Growing.{told_to, told_more, handed_same, all_short}
@@ -53,28 +53,28 @@ fit-take n xs h =
     (subst AllFit (ap messages_in (sym (take-append-drop n xs)) ∙ messages_in-append (take n xs) (drop n xs)) h)
 
 -- all that was asked is what was handed over, and what waits
-asked-split : (p : Parts) → messages_in (take (length p.a.handed) (asks p)) ++ messages_in (drop (length p.a.handed) (asks p)) ≡ Asked p.accessing.own p.requests
+asked-split : (p : Parts) → messages_in (take p.a.posted (asks p)) ++ messages_in (drop p.a.posted (asks p)) ≡ Asked p.accessing.own p.requests
 asked-split p =
-    sym (messages_in-append (take (length p.a.handed) (asks p)) (drop (length p.a.handed) (asks p))) ∙ ap messages_in (take-append-drop (length p.a.handed) (asks p))
+    sym (messages_in-append (take p.a.posted (asks p)) (drop p.a.posted (asks p))) ∙ ap messages_in (take-append-drop p.a.posted (asks p))
     ∙ asked-all p.accessing.own p.accessed.own p.requests
 
 pub served_is : (p : Parts) → AreParts p → served_items p ≡ map Whole (taken_of (state_of p))
 served_is p h =
-    let handed = take (length p.a.handed) (asks p) in
+    let handed = take p.a.posted (asks p) in
     let front = arrived-front p.a.link.seg_size p.b.link.received handed in
     ap (λ (l : List Message). map Whole (take p.served l)) (sym (asked-split p))
-    ∙ ap (map Whole) (take-append-le p.served (messages_in handed) (messages_in (drop (length p.a.handed) (asks p)))
+    ∙ ap (map Whole) (take-append-le p.served (messages_in handed) (messages_in (drop p.a.posted (asks p)))
     (omega (arith, h.world.served, length-append (messages_in (arrived p.a.link.seg_size p.b.link.received handed)) front.0, ap length front.1)))
 
 -- one more
 served_more : (p : Parts) (m : Message) → next_to_serve (state_of p) ≡ Some m → take (p.served + 1) (Asked p.accessing.own p.requests) ≡ take p.served (Asked p.accessing.own p.requests) ++ m ∷ []
 served_more p m next =
-    let handed = take (length p.a.handed) (asks p) in
+    let handed = take p.a.posted (asks p) in
     let front = arrived-front p.a.link.seg_size p.b.link.received handed in
     let here : slice_get (messages_in handed) p.served ≡ Some m =
     subst (λ (l : List Message). slice_get l p.served ≡ Some m) front.1 (get-front (messages_in (arrived p.a.link.seg_size p.b.link.received handed)) front.0 p.served m next) in
     take-next (Asked p.accessing.own p.requests) p.served m
-    (subst (λ (l : List Message). slice_get l p.served ≡ Some m) (asked-split p) (get-front (messages_in handed) (messages_in (drop (length p.a.handed) (asks p))) p.served m here))
+    (subst (λ (l : List Message). slice_get l p.served ≡ Some m) (asked-split p) (get-front (messages_in handed) (messages_in (drop p.a.posted (asks p))) p.served m here))
 
 -- ---- What A read stays when B serves more.
 
@@ -131,11 +131,11 @@ module _ (p : Parts) (h : AreParts p) (m : Message) (next : next_to_serve (state
   answering_is : answering (state_of p) m ≡ answer_block p.accessed.own (served_items p) (Whole m)
   answering_is = ap (λ (l : List Item). answer_block p.accessed.own l (Whole m)) (sym (served_is p h))
 
-  all_handed : length p.b.handed ≡ length (answers p)
-  all_handed = let n = counted p.b.handed p.b.outbox (answers p) h.from_b.bytes in let none = ap length idle in omega arith
+  all_handed : p.b.posted ≡ length (answers p)
+  all_handed = let n = counted p.b.posted h.from_b.handed p.b.outbox (answers p) h.from_b.posted h.from_b.bytes in let none = ap length idle in omega arith
 
-  none_waits : drop (length p.b.handed) (answers p) ≡ []
-  none_waits = drop_all (length p.b.handed) (answers p) (omega (arith, all_handed))
+  none_waits : drop p.b.posted (answers p) ≡ []
+  none_waits = drop_all p.b.posted (answers p) (omega (arith, all_handed))
 
   behind : (xs ys : List NspMessage) → drop (length xs) (xs ++ ys) ≡ ys
   behind [] ys = refl
@@ -146,8 +146,8 @@ module _ (p : Parts) (h : AreParts p) (m : Message) (next : next_to_serve (state
       let s = state_of p in
       let b = answer_block p.accessed.own (served_items p) (Whole m) in
       ap (λ (l : List NspMessage). record s { from_b = direction_of p.b p.a.link l; served = p.served + 1 }) answers_are
-      ∙ ap (λ (l : List NspMessage). record s { from_b = record s.from_b { waiting = drop (length p.b.handed) (answers p ++ b); handed = l }; served = p.served + 1 })
-      (handed_same p.b (answers p) b h.from_b.bytes)
+      ∙ ap (λ (l : List NspMessage). record s { from_b = record s.from_b { waiting = drop p.b.posted (answers p ++ b); handed = l }; served = p.served + 1 })
+      (handed_same p.b p.a (answers p) b p.read h.from_b)
       ∙ ap (λ (l : List NspMessage). record s { from_b = record s.from_b { waiting = l }; served = p.served + 1 })
       (ap (λ (n : ℕ). drop n (answers p ++ b)) all_handed ∙ behind (answers p) b ∙ sym answering_is)
 
@@ -203,7 +203,7 @@ module _ (p : Parts) (h : AreParts p) (m : Message) (next : next_to_serve (state
 pub next_of : (p : Parts) (bytes : List ℕ) (later : List (List ℕ)) → AreParts p → p.b.link.inbox ≡ bytes ∷ later → Next p.a p.b (asks p) p.served bytes
 next_of p bytes later h inbox =
     find_next p.a p.b (asks p) p.served h.from_a bytes later
-    (full-take (length p.a.handed) (asks p) (asked-full p.accessing.own p.accessed.own p.requests)) (fit-take (length p.a.handed) (asks p) h.from_a.fit) inbox
+    (full-take p.a.posted (asks p) (asked-full p.accessing.own p.accessed.own p.requests)) (fit-take p.a.posted (asks p) h.from_a.fit) inbox
 
 has_first : (inbox : List (List ℕ)) (bytes : List ℕ) → slice_get inbox 0 ≡ Some bytes → (later : List (List ℕ)) × (inbox ≡ bytes ∷ later)
 has_first [] bytes e = let none : ⊥ = cc in absurd none
@@ -223,7 +223,7 @@ is_ready p h = λ bytes at.
 
 refused : (p : Parts) (f : WorldFault) → AreParts p → ServeFault p.b f → Went (state_of p) event.Serve (Err f) (state_of p)
 unfolding Steps Refuses
-refused p fault.NothingToDo h (inl waiting) = (inl (omega (arith, waiting, waits p.b (answers p) h.from_b.bytes)), refl)
+refused p fault.NothingToDo h (inl waiting) = (inl (omega (arith, waiting, waits p.b p.a (answers p) p.read h.from_b)), refl)
 refused p fault.NothingToDo h (inr empty) = (inr (none_next p.a p.b (asks p) p.served h.from_a empty), refl)
 refused p fault.NoMemory h may = (may_serve p.b.link.inbox refl may.1, refl)
   where

@@ -102,12 +102,14 @@ still_way from v w messages given same way =
 -- ---- What is told of a direction.
 
 module _ (packets : List NspMessage) (count : ℕ) (from to : SideValue) (h : IsTold from to packets count) where
-  pub told_writes : (sent : ℕ) (w : WiredValue) → Writes from.link from.handed w.segment w.acks w.packet → IsTold (wrote_side from sent w) to packets count
+  pub told_writes : (sent : ℕ) (w : WiredValue) → Writes from.link h.handed w.segment w.acks w.packet → IsTold (wrote_side from sent w) to packets count
   told_writes sent w written =
       record {
+        handed = h.handed;
+        posted = h.posted;
         gone = h.gone;
         among = h.among;
-        way = writes_more from to.link from.handed _ sent w h.way written;
+        way = writes_more from to.link h.handed _ sent w h.way written;
         bytes = h.bytes;
         fit = h.fit;
         short = h.short;
@@ -116,20 +118,24 @@ module _ (packets : List NspMessage) (count : ℕ) (from to : SideValue) (h : Is
   pub told_sent : (sent : ℕ) (w : WiredValue) → IsTold from (wrote_side to sent w) packets count
   told_sent sent w =
       record {
+        handed = h.handed;
+        posted = h.posted;
         gone = h.gone;
         among = h.among;
-        way = still_way from to.link (record to.link { sent = sent }) from.handed _ refl h.way;
+        way = still_way from to.link (record to.link { sent = sent }) h.handed _ refl h.way;
         bytes = h.bytes;
         fit = h.fit;
         short = h.short;
       }
 
-  pub told_gives : (v : LinkValue) (k : Option ℕ) (a : ℕ) → Delivered from.link v k a → Sends v from.handed → IsTold (record from { link = v }) to packets count
+  pub told_gives : (v : LinkValue) (k : Option ℕ) (a : ℕ) → Delivered from.link v k a → Sends v h.handed → IsTold (record from { link = v }) to packets count
   told_gives v k a d sends =
       record {
+        handed = h.handed;
+        posted = h.posted;
         gone = h.gone;
         among = h.among;
-        way = gives from v to.link from.handed _ k a h.way d sends;
+        way = gives from v to.link h.handed _ k a h.way d sends;
         bytes = h.bytes;
         fit = h.fit;
         short = subst (λ (n : ℕ). AreShort n from.outbox) (sym d.max_message) h.short;
@@ -138,9 +144,11 @@ module _ (packets : List NspMessage) (count : ℕ) (from to : SideValue) (h : Is
   pub told_takes : (v : LinkValue) → ((messages given : List (List ℕ)) → IsWay from to.link messages given → IsWay from v messages given) → IsTold from (record to { link = v }) packets count
   told_takes v on =
       record {
+        handed = h.handed;
+        posted = h.posted;
         gone = h.gone;
         among = h.among;
-        way = on from.handed _ h.way;
+        way = on h.handed _ h.way;
         bytes = h.bytes;
         fit = h.fit;
         short = h.short;

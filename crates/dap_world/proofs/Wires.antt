@@ -44,14 +44,14 @@ pub wire_of : (p : Parts) (end : End) (wire : List Wired) → AreParts p → map
 wire_of p A wire h is =
     record {
       sendings = sendings_are wire ∙ ap (λ (l : List WiredValue). map sending_of l) is;
-      packets = packets_of (state_of p) A p.a.link p.a.handed wire
-          (record { local = h.alike.here; remote = h.alike.there; size = refl; messages_are = handed-bytes p.a.handed p.a.outbox (asks p) h.from_a.bytes })
-          (subst (λ (l : List WiredValue). AllByRecursion (λ w. Writes p.a.link p.a.handed w.segment w.acks w.packet) l) (sym is) h.from_a.way.wire);
+      packets = packets_of (state_of p) A p.a.link h.from_a.handed wire
+          (record { local = h.alike.here; remote = h.alike.there; size = refl; messages_are = handed-bytes p.a.posted h.from_a.handed p.a.outbox (asks p) h.from_a.posted h.from_a.bytes })
+          (subst (λ (l : List WiredValue). AllByRecursion (λ w. Writes p.a.link h.from_a.handed w.segment w.acks w.packet) l) (sym is) h.from_a.way.wire);
     }
 wire_of p B wire h is =
     record {
       sendings = sendings_are wire ∙ ap (λ (l : List WiredValue). map sending_of l) is;
-      packets = packets_of (state_of p) B p.b.link p.b.handed wire
-          (record { local = sym h.from_a.way.back ∙ h.alike.there; remote = sym h.from_a.way.there ∙ h.alike.here; size = h.alike.size; messages_are = handed-bytes p.b.handed p.b.outbox (answers p) h.from_b.bytes })
-          (subst (λ (l : List WiredValue). AllByRecursion (λ w. Writes p.b.link p.b.handed w.segment w.acks w.packet) l) (sym is) h.from_b.way.wire);
+      packets = packets_of (state_of p) B p.b.link h.from_b.handed wire
+          (record { local = sym h.from_a.way.back ∙ h.alike.there; remote = sym h.from_a.way.there ∙ h.alike.here; size = h.alike.size; messages_are = handed-bytes p.b.posted h.from_b.handed p.b.outbox (answers p) h.from_b.posted h.from_b.bytes })
+          (subst (λ (l : List WiredValue). AllByRecursion (λ w. Writes p.b.link h.from_b.handed w.segment w.acks w.packet) l) (sym is) h.from_b.way.wire);
     }

@@ -50,7 +50,7 @@ parts_wrote p A sent w h carries world =
       limit_a = h.limit_a;
       limit_b = h.limit_b;
       most = h.most;
-      from_a = told_writes (asks p) p.served p.a p.b h.from_a sent w (carries p.a.handed h.from_a.way.sends);
+      from_a = told_writes (asks p) p.served p.a p.b h.from_a sent w (carries h.from_a.handed h.from_a.way.sends);
       from_b = told_sent (answers p) p.read p.b p.a h.from_b sent w;
       sent_is = h.sent_is;
       reports_is = h.reports_is;
@@ -65,7 +65,7 @@ parts_wrote p B sent w h carries world =
       limit_b = h.limit_b;
       most = h.most;
       from_a = told_sent (asks p) p.served p.a p.b h.from_a sent w;
-      from_b = told_writes (answers p) p.read p.b p.a h.from_b sent w (carries p.b.handed h.from_b.way.sends);
+      from_b = told_writes (answers p) p.read p.b p.a h.from_b sent w (carries h.from_b.handed h.from_b.way.sends);
       sent_is = h.sent_is;
       reports_is = h.reports_is;
       asking = h.asking;
@@ -103,11 +103,11 @@ one_more p end e sent k s j h w steps =
 
 -- the segments that the machine counts for an end
 segments_there : (p : Parts) (end : End) → AreParts p → segments_of (state_of p).seg_size (sends (state_of p) end).handed ≡ (side p end).link.acked + length (side p end).link.queue
-segments_there p A h = segments-handed p.a.link.seg_size p.a.handed p.a.outbox (asks p) h.from_a.bytes ∙ sym (queued p.a.link p.a.handed h.from_a.way.sends)
+segments_there p A h = segments-handed p.a.link.seg_size p.a.posted h.from_a.handed p.a.outbox (asks p) h.from_a.posted h.from_a.bytes ∙ sym (queued p.a.link h.from_a.handed h.from_a.way.sends)
 segments_there p B h =
-    segments-handed p.a.link.seg_size p.b.handed p.b.outbox (answers p) h.from_b.bytes
-    ∙ ap (λ n. length (cut n p.b.handed)) (sym h.alike.size)
-    ∙ sym (queued p.b.link p.b.handed h.from_b.way.sends)
+    segments-handed p.a.link.seg_size p.b.posted h.from_b.handed p.b.outbox (answers p) h.from_b.posted h.from_b.bytes
+    ∙ ap (λ n. length (cut n h.from_b.handed)) (sym h.alike.size)
+    ∙ sym (queued p.b.link h.from_b.handed h.from_b.way.sends)
 
 pub can : (p : Parts) (end : End) → AreParts p → link.MayEmit (side p end).link → MayEmit (state_of p) end
 can p A h m =

@@ -57,7 +57,7 @@ fn new_end(alloc: Global, setup: LinkSetup) -> Result<Side, WorldFault>
         Ok(link) => Ok(Side {
             link,
             outbox: Vec::new(alloc),
-            handed: Vec::new(alloc),
+            posted: 0,
             wire: Vec::new(alloc),
             place: 0,
         }),

@@ -37,8 +37,8 @@ pub(crate) struct Side {
     pub(crate) link: LinkEnd,
     // The NSP messages that wait.
     pub(crate) outbox: Vec<Vec<u8>>,
-    // Those that were handed to the link.
-    pub(crate) handed: Vec<Vec<u8>>,
+    // How many were handed to the link.
+    pub(crate) posted: usize,
     pub(crate) wire: Vec<Wired>,
     // Where the next DAP message begins in the oldest NSP message that came.
     pub(crate) place: usize,
@@ -176,14 +176,15 @@ impl Side {
         requires short { AreShort self.old.link.max_message self.old.outbox }
         requires some { 0 < length self.old.outbox }
         requires few { segments_queued self.old ≤ most_segments }
+        requires posted { self.old.posted ≤ most_segments }
         ensures ok { IfOk result (λ n. PostedAll self.old self.new n) }
         ensures err { IfErr result (λ f. (self.new ≡ self.old) × (f ≡ NoMemory)) }
     {
         let count = self.outbox.len();
-        self.handed.reserve(count)?;
         match self.link.send_all(&self.outbox) {
             Ok(()) => {
-                self.handed.append(&mut self.outbox).unwrap();
+                self.outbox.clear();
+                self.posted += count;
                 Ok(count)
             }
             Err(_) => Err(WorldFault::NoMemory),
@@ -194,6 +195,7 @@ impl Side {
 // Hands over all that waits.
 pub(crate) fn post(side: &mut Side) -> Result<usize, WorldFault>
     requires running { side.old.link.failed ≡ false }
+    requires posted { side.old.posted ≤ most_segments }
     requires short { AreShort side.old.link.max_message side.old.outbox }
     ensures ok { IfOk result (λ n. PostedAll side.old side.new n) }
     ensures err { IfErr result (λ f. (side.new ≡ side.old) × PostFault side.old f) }
@@ -212,6 +214,7 @@ pub(crate) fn post_sent(
 ) -> Result<usize, WorldFault>
     requires running { side.old.link.failed ≡ false }
     requires short { AreShort side.old.link.max_message side.old.outbox }
+    requires posted { side.old.posted ≤ most_segments }
     ensures ok { IfOk result (λ n. PostedAll side.old side.new n) }
     ensures sent { OnOk result (SentAll side.old.outbox (bodies sent.old.items) (bodies
         sent.new.items)) }
@@ -233,6 +236,7 @@ fn hand_over_sent(
     requires short { AreShort side.old.link.max_message side.old.outbox }
     requires some { 0 < length side.old.outbox }
     requires few { segments_queued side.old ≤ most_segments }
+    requires posted { side.old.posted ≤ most_segments }
     ensures ok { IfOk result (λ n. PostedAll side.old side.new n) }
     ensures sent { OnOk result (SentAll side.old.outbox (bodies sent.old.items) (bodies
         sent.new.items)) }

@@ -61,8 +61,8 @@ answers p = answer_packets p.accessed.own [] (served_items p)
 abbrev pub direction_of : SideValue → LinkValue → List NspMessage → Direction
 direction_of from to packets =
     record {
-      waiting = drop (length from.handed) packets;
-      handed = take (length from.handed) packets;
+      waiting = drop from.posted packets;
+      handed = take from.posted packets;
       sent = from.link.sent;
       taken = to.received;
       acked = from.link.acked;
@@ -115,10 +115,12 @@ pub record IsAmong (packets : List NspMessage) (count place : ℕ) (gone : List 
 -- One direction: the bytes are those of the NSP messages, the messages have a spelling, and the link of the other end
 -- gave away those NSP messages of which every message was handled.
 pub record IsTold (from : SideValue) (to : SideValue) (packets : List NspMessage) (count : ℕ) : Type 0 where
+  pub handed : List (List ℕ)
+  pub posted : from.posted ≡ length handed
   pub gone : List NspMessage
-  pub among : IsAmong (take (length from.handed) packets) count to.place gone
-  pub way : IsWay from to.link from.handed (all_joined gone)
-  pub bytes : from.handed ++ from.outbox ≡ all_joined packets
+  pub among : IsAmong (take from.posted packets) count to.place gone
+  pub way : IsWay from to.link handed (all_joined gone)
+  pub bytes : handed ++ from.outbox ≡ all_joined packets
   pub fit : AllFit (messages_in packets)
   -- what waits isn't too long
   pub short : AreShort from.link.max_message from.outbox

@@ -20,4 +20,4 @@ link_of s end =
     }
 
 abbrev pub new_side : LinkSetup → SideValue
-new_side s = record { link = new_link s; outbox = []; handed = []; wire = []; place = 0 }
+new_side s = record { link = new_link s; outbox = []; posted = 0; wire = []; place = 0 }

@@ -9,4 +9,4 @@ wired_value w = record { packet = w.packet.items; segment = w.segment; acks = w.
 
 abbrev pub side_view : Inside → SideValue
 side_view s =
-    record { link = s.link; outbox = map (λ v. v.items) s.outbox.items; handed = map (λ v. v.items) s.handed.items; wire = map wired_value s.wire.items; place = s.place }
+    record { link = s.link; outbox = map (λ v. v.items) s.outbox.items; posted = s.posted; wire = map wired_value s.wire.items; place = s.place }

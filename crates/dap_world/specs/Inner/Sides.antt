@@ -17,7 +17,7 @@ pub record WiredValue : Type 0 where
 pub record SideValue : Type 0 where
   pub link : LinkValue
   pub outbox : List (List ℕ)
-  pub handed : List (List ℕ)  -- the NSP messages that were handed to the link
+  pub posted : ℕ  -- how many NSP messages were handed to the link
   pub wire : List WiredValue
   pub place : ℕ  -- where the next DAP message begins in the oldest NSP message that came
 
@@ -49,7 +49,7 @@ ResendFault v i _ = ⊥
 
 -- the end handed over all that waits
 abbrev pub posted_side : SideValue → LinkValue → SideValue
-posted_side s link = record s { link = link; outbox = []; handed = s.handed ++ s.outbox }
+posted_side s link = record s { link = link; outbox = []; posted = s.posted + length s.outbox }
 
 -- how many segments there are once all that waits is handed over
 abbrev pub segments_queued : SideValue → ℕ

@@ -1,5 +1,5 @@
-use Rattle.std.proofs.Common.{◌≡◌, ◌+◌, ◌-◌, ◌∷◌, ◌++◌, [], List, ℕ, rules, refl, sym, ap, ◌∙◌, inr, length, take, drop}
-use Rattle.std.proofs.lemmas.List.{map-append, length-map}
+use Rattle.std.proofs.Common.{◌≡◌, ◌+◌, rules, refl, sym, ◌∙◌, inr, length}
+use Rattle.std.proofs.lemmas.List.{length-map}
 use Rattle.dap_msg.specs.Blocked.{bodies}
 use Rattle.dap_msg.specs.Items.{seen_item}
 use Rattle.dap_world.specs.Inner.SideView.{side_view}

@@ -1,4 +1,4 @@
-use Rattle.std.proofs.Common.{◌≡◌, ◌≤◌, ◌∙◌, arith, sym, ap, length, map, take}
+use Rattle.std.proofs.Common.{◌∙◌, arith, sym, ap, length, take}
 use Rattle.std.proofs.lemmas.List.{length-map, length-take-le, take-map}
 use Rattle.dap_msg.specs.Canon.{canon}
 use Rattle.dap_world.specs.Machine.{sent_by}
