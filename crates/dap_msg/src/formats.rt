@@ -16,6 +16,7 @@ use crate::reading::{
 use crate::{menu, width};
 
 #[tactic(auto, unfolding(crate::specs::Formats::acknowledge))]
+#[inline(always)]
 pub(crate) fn read_acknowledge(operand: &[u8]) -> Result<Message<'_>, Fault>
     ensures { Gives (λ m. (seen m, [])) result (read acknowledge operand.now) }
 {
@@ -24,6 +25,7 @@ pub(crate) fn read_acknowledge(operand: &[u8]) -> Result<Message<'_>, Fault>
 }
 
 #[tactic(auto, unfolding(crate::specs::Formats::status))]
+#[inline(always)]
 pub(crate) fn read_status(operand: &[u8]) -> Result<Message<'_>, Fault>
     ensures { Gives (λ m. (seen m, [])) result (read status operand.now) }
 {
@@ -40,6 +42,7 @@ pub(crate) fn read_status(operand: &[u8]) -> Result<Message<'_>, Fault>
 }
 
 #[tactic(auto, unfolding(crate::specs::Formats::control))]
+#[inline(always)]
 pub(crate) fn read_control(operand: &[u8]) -> Result<Message<'_>, Fault>
     ensures { Gives (λ m. (seen m, [])) result (read control operand.now) }
 {
@@ -63,6 +66,7 @@ pub(crate) fn read_control(operand: &[u8]) -> Result<Message<'_>, Fault>
 }
 
 #[tactic(auto, unfolding(crate::specs::Formats::attributes, crate::specs::Inner::Attributes::later_attributes))]
+#[inline(always)]
 pub(crate) fn read_attributes(operand: &[u8]) -> Result<Message<'_>, Fault>
     ensures { Gives (λ m. (seen m, [])) result (read attributes operand.now) }
 {
@@ -95,6 +99,7 @@ pub(crate) fn read_attributes(operand: &[u8]) -> Result<Message<'_>, Fault>
 
 /// The later attributes, from the runtime system on, behind these.
 #[tactic(auto, unfolding(crate::specs::Inner::Attributes::later_attributes))]
+#[inline(always)]
 fn read_later_attributes<'a>(
     bits: u64,
     first: Attributes<'a>,
@@ -131,6 +136,7 @@ fn read_later_attributes<'a>(
 }
 
 #[tactic(auto, unfolding(crate::specs::Formats::configuration))]
+#[inline(always)]
 pub(crate) fn read_configuration(operand: &[u8]) -> Result<Message<'_>, Fault>
     ensures { Gives (λ m. (seen m, [])) result (read configuration operand.now) }
 {
@@ -157,6 +163,7 @@ pub(crate) fn read_configuration(operand: &[u8]) -> Result<Message<'_>, Fault>
 }
 
 #[tactic(auto, unfolding(crate::specs::Formats::access))]
+#[inline(always)]
 pub(crate) fn read_access(operand: &[u8]) -> Result<Message<'_>, Fault>
     ensures { Gives (λ m. (seen m, [])) result (read access operand.now) }
 {
@@ -179,6 +186,7 @@ pub(crate) fn read_access(operand: &[u8]) -> Result<Message<'_>, Fault>
 }
 
 #[tactic(auto, unfolding(crate::specs::Formats::continuation))]
+#[inline(always)]
 pub(crate) fn read_continuation(operand: &[u8]) -> Result<Message<'_>, Fault>
     ensures { Gives (λ m. (seen m, [])) result (read continuation operand.now) }
 {
@@ -187,6 +195,7 @@ pub(crate) fn read_continuation(operand: &[u8]) -> Result<Message<'_>, Fault>
 }
 
 #[tactic(auto, unfolding(crate::specs::Formats::completion))]
+#[inline(always)]
 pub(crate) fn read_completion(operand: &[u8]) -> Result<Message<'_>, Fault>
     ensures { Gives (λ m. (seen m, [])) result (read completion operand.now) }
 {
@@ -197,6 +206,7 @@ pub(crate) fn read_completion(operand: &[u8]) -> Result<Message<'_>, Fault>
 }
 
 #[tactic(auto, unfolding(crate::specs::Formats::file_data))]
+#[inline(always)]
 pub(crate) fn read_file_data(operand: &[u8]) -> Result<Message<'_>, Fault>
     ensures { Gives (λ m. (seen m, [])) result (read file_data operand.now) }
 {
@@ -205,6 +215,7 @@ pub(crate) fn read_file_data(operand: &[u8]) -> Result<Message<'_>, Fault>
 }
 
 #[tactic(auto, unfolding(crate::specs::Formats::other))]
+#[inline(always)]
 pub(crate) fn read_other(number: u8, operand: &[u8]) -> Result<Message<'_>, Fault>
     ensures { Gives (λ m. (seen m, [])) result (read (other number) operand.now) }
 {

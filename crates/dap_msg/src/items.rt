@@ -21,6 +21,7 @@ pub enum Item<'a> {
 /// The item that begins at a place of an NSP message, and the place in bytes where the next one begins, which is the
 /// NSP message's length where none follows (own). Takes no memory. The place is at most the length; before the end
 /// the next place is always further on.
+#[inline(always)]
 pub fn item_at(nsp_message: &[u8], at: usize) -> (Item<'_>, usize)
     requires { at ≤ length nsp_message.now }
     ensures exact { ItemAt nsp_message.now at (seen_item result.0) result.1 }
