@@ -1,6 +1,8 @@
 -- What only the contracts of private functions cite, and proofs: nobody has to believe it.
 pub mod Adding
 pub mod Checking
+pub mod Course
+pub mod Cutting
 pub mod Playing
 pub mod Input
 pub mod Lines

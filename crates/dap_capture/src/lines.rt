@@ -1,11 +1,12 @@
 //! The lines of a capture.
 
-ghost use Rattle.std.specs.Prelude.{ℕ, ◌≡◌, ◌<◌, ◌==◌, length, MatchOption, [], ◌∷◌};
+ghost use Rattle.std.specs.Prelude.{ℕ, ◌≡◌, ◌<◌, ◌==◌, length, MatchOption, IfSome, IfNone, [], ◌∷◌, true, false};
 ghost use Rattle.std.specs.List.{position, list_all};
 ghost use Rattle.std.specs.Char.{is_ascii_hexdigit};
 ghost use Rattle.std.specs.Str.Lines.{lines, strip_carriage_return};
 ghost use Rattle.dap_capture.specs.Lines.{is_hex_text as spelled, line_of};
 ghost use Rattle.dap_capture.specs.Inner.Lines.{line_of_head};
+ghost use Rattle.dap_capture.specs.Inner.Cutting.{IsCut, IsEnd};
 
 use memchr::memchr;
 
@@ -50,9 +51,10 @@ fn without_carriage_return(line: &[u8]) -> &[u8]
 /// The first line, without its end, and what stands after it.
 #[tactic(auto, using(crate::proofs::LineLemmas::first_line, crate::proofs::LineLemmas::last_line))]
 pub(crate) fn next_line(bytes: &[u8]) -> Option<(&[u8], &[u8])>
-    ensures { MatchOption result (bytes.now ≡ [])
+    ensures first { MatchOption result (bytes.now ≡ [])
         (λ cut. (lines bytes.now ≡ cut.0.now ∷ lines cut.1.now)
         × (length cut.1.now < length bytes.now)) }
+    ensures end { IfSome result (λ cut. IsEnd bytes.now cut.1.now) }
 {
     if bytes.is_empty() {
         return None;
@@ -60,6 +62,31 @@ pub(crate) fn next_line(bytes: &[u8]) -> Option<(&[u8], &[u8])>
     match find_line_feed(bytes) {
         None => Some((bytes, &[])),
         Some(end) => Some((without_carriage_return(&bytes[..end]), &bytes[end + 1..])),
+    }
+}
+
+/// The first line that has its end, without that, and what stands after it.
+#[tactic(auto, using(crate::proofs::LineLemmas::first_line, crate::proofs::LineLemmas::ended_first))]
+fn ended_line(bytes: &[u8]) -> Option<(&[u8], &[u8])>
+    ensures first { IfSome result (λ cut. IsCut false bytes.now cut.0.now cut.1.now
+        × (length cut.1.now < length bytes.now)) }
+    ensures end { IfSome result (λ cut. IsEnd bytes.now cut.1.now) }
+{
+    let end = find_line_feed(bytes)?;
+    Some((without_carriage_return(&bytes[..end]), &bytes[end + 1..]))
+}
+
+/// The first line and what stands after it, where the line has its end or the bytes are the last.
+pub(crate) fn cut_line(bytes: &[u8], is_last: bool) -> Option<(&[u8], &[u8])>
+    ensures first { IfSome result (λ cut. IsCut is_last bytes.now cut.0.now cut.1.now
+        × (length cut.1.now < length bytes.now)) }
+    ensures end { IfSome result (λ cut. IsEnd bytes.now cut.1.now) }
+    ensures none { IfNone result (is_last ≡ true → bytes.now ≡ []) }
+{
+    if is_last {
+        next_line(bytes)
+    } else {
+        ended_line(bytes)
     }
 }
 

@@ -1,19 +1,23 @@
 //! The listing of an input: of packets, or of NSP messages.
 
-ghost use Rattle.std.specs.Prelude.{◌≡◌, ◌≤◌, ◌<◌, ◌*◌, ◌/◌, ◌^◌, ◌++◌, ℕ, List, Some, true, false, IfErr, IfOk, MatchOption, MatchResult, OnOk, length};
-ghost use Rattle.dap_capture.specs.Inner.Adding.{Adds, AddsCapture, AddsSome};
-ghost use Rattle.dap_capture.specs.Inner.Checking.{IsOfLine, TellsFirst, TellsFirstOrWants, TellsFirstThenWants};
+ghost use Rattle.std.specs.Prelude.{◌≡◌, ◌≢◌, ◌≤◌, ◌<◌, ◌+◌, ◌-◌, ◌⊎◌, [], drop, OnErr, IfSome, ◌*◌, ◌/◌, ◌^◌, Some, true, false, IfErr, IfOk, MatchOption, MatchResult, OnOk, length};
+ghost use Rattle.dap_capture.specs.Inner.Adding.{AddsCapture, AddsSome};
+ghost use Rattle.dap_capture.specs.Inner.Cutting.{FaultsGoOn, IsEnd, IsFirstFault, ListingGoesOn};
 ghost use Rattle.dap_capture.specs.Inner.Lines.{IsRead, StandInFront};
+ghost use Rattle.dap_capture.specs.Inner.Course.{TextGives};
+ghost use Rattle.dap_capture.specs.declared.fault.CaptureFault.TheVariants.{NoMemory, WriteFailed};
 ghost use Rattle.dap_capture.specs.Lines.{digits_line, is_hex_text as is_spelled, line_of};
-ghost use Rattle.dap_capture.specs.Listing.{IsCapturedText, IsListing, IsMessageText, arrow_text, fault_of_line, limit_of, line_faults};
+ghost use Rattle.dap_capture.specs.Listing.{IsCapturedText, IsMessageText, arrow_text, fault_of_line, limit_of};
 
-use crate::input::INPUT_LIMIT;
-use crate::lines::{Direction, Head, is_hex_text, next_line, parse_head};
+use crate::CaptureFault;
+use crate::input::{CHUNK, read_some, skip_rest};
+use crate::lines::{Direction, Head, cut_line, is_hex_text, parse_head};
 use crate::message::push_messages;
 use crate::packet::push_packet;
 use crate::text::{push_decimal, push_number, push_str};
-use crate::{CaptureFault, Outcome};
+use memchr::memchr;
 use std::alloc::{AllocError, Global};
+use std::io::Read;
 
 /// What the lines of an input hold.
 #[derive(Clone, Copy, Debug, PartialEq, Eq)]
@@ -61,24 +65,6 @@ fn line_fault(number: usize, line: &[u8], limit: usize) -> Option<CaptureFault>
         Head::Digits(_, digits) => digits_fault(number, digits, limit),
         Head::Malformed => Some(CaptureFault::BadLine(number)),
     }
-}
-
-/// Whether each line has a meaning within the limits, or else the first fault.
-fn check_lines(listed: Listed, input: &[u8]) -> Result<(), CaptureFault>
-    requires { length input.now ≤ INPUT_LIMIT }
-    ensures faults { TellsFirst result (line_faults (limit_of listed) input.now) }
-    ensures of_line { IfErr result IsOfLine }
-{
-    let mut number = 1;
-    let mut rest = input;
-    while let Some((line, after)) = next_line(rest) {
-        if let Some(fault) = line_fault(number, line, listed.limit()) {
-            return Err(fault);
-        }
-        number += 1;
-        rest = after;
-    }
-    Ok(())
 }
 
 /// Writes the bytes of hex digits to the front of the room, and answers how many they are.
@@ -171,64 +157,185 @@ fn push_capture(
     push_captured(listed, text, bytes)
 }
 
-/// The lines of all that was captured, up to the first line at fault. The room is for the bytes of a line.
-fn list_into(
+/// A listing as far as it came.
+#[derive(Drop)]
+struct Course {
+    text: Vec<u8>,
+    /// The number of the next capture.
+    number: usize,
+    /// The number of the next line.
+    at: usize,
+    /// Memory was wanting for the text, so lines are only checked.
+    wants: bool,
+}
+
+/// Lists the lines in front of the bytes, up to the first line at fault, and answers what is left: a line
+/// without its end, unless the bytes are the last. The room is for the bytes of a line.
+fn list_cut<'a>(
     listed: Listed,
-    alloc: Global,
-    input: &[u8],
+    course: &mut Course,
+    bytes: &'a [u8],
+    is_last: bool,
     room: &mut [u8],
-) -> Result<Vec<u8>, CaptureFault>
-    requires small { length input.now ≤ INPUT_LIMIT }
+) -> Result<&'a [u8], CaptureFault>
+    requires lines { course.old.at + length bytes.now < 2 ^ 32 }
+    requires captures { course.old.number + length bytes.now < 2 ^ 32 }
     requires room { length room.old ≡ limit_of listed }
-    ensures listing { IfOk result
-        (λ text. IsListing listed input.now Outcome.Good text.items) }
-    ensures faults { TellsFirstOrWants result (line_faults (limit_of listed) input.now) }
+    ensures room { length room.new ≡ length room.old }
+    ensures left { IfOk result (λ left. IsEnd bytes.now left.now) }
+    ensures short { IfOk result (λ left. length left.now ≤ length bytes.now) }
+    ensures last { IfOk result (λ left. is_last ≡ true → left.now ≡ []) }
+    ensures lines { IfOk result
+        (λ left. course.new.at + length left.now ≤ course.old.at + length bytes.now) }
+    ensures captures { IfOk result
+        (λ left. course.new.number + length left.now ≤ course.old.number + length bytes.now) }
+    ensures clean { IfOk result (λ left. FaultsGoOn (limit_of listed) is_last
+        course.old.at bytes.now course.new.at left.now) }
+    ensures listed { IfOk result (λ left. ListingGoesOn listed is_last
+        course.old.number bytes.now course.old.text.items
+        course.new.number left.now course.new.text.items) }
+    ensures fault { IfErr result (λ fault. (fault ≡ NoMemory)
+        ⊎ IsFirstFault (limit_of listed) is_last course.old.at bytes.now fault) }
+    ensures at { OnErr result (course.new.at ≡ course.old.at) }
+    ensures number { OnErr result (course.new.number ≡ course.old.number) }
+    ensures wants { course.new.wants ≡ course.old.wants }
 {
-    let mut text = Vec::new(alloc);
-    let mut number = 1;
-    let mut at = 1;
-    let mut rest = input;
-    while let Some((line, after)) = next_line(rest) {
+    let mut number = course.number;
+    let mut at = course.at;
+    let mut rest = bytes;
+    while let Some((line, after)) = cut_line(rest, is_last) {
         match read_line(at, line, room)? {
             None => {}
             Some((direction, count)) => {
-                push_capture(listed, &mut text, number, direction, &room[..count])?;
+                push_capture(listed, &mut course.text, number, direction, &room[..count])?;
                 number += 1;
             }
         }
         at += 1;
         rest = after;
     }
-    Ok(text)
+    course.number = number;
+    course.at = at;
+    Ok(rest)
 }
 
-/// The lines of all that was captured, up to the first line at fault.
-fn list_lines(listed: Listed, alloc: Global, input: &[u8]) -> Result<Vec<u8>, CaptureFault>
-    requires small { length input.now ≤ INPUT_LIMIT }
-    ensures listing { IfOk result
-        (λ text. IsListing listed input.now Outcome.Good text.items) }
-    ensures faults { TellsFirstOrWants result (line_faults (limit_of listed) input.now) }
+/// Checks the lines in front of the bytes, of which the first has the number, up to the first line at fault, and
+/// answers what is left, as [`list_cut`] does.
+fn check_cut<'a>(
+    listed: Listed,
+    at: &mut usize,
+    bytes: &'a [u8],
+    is_last: bool,
+) -> Result<&'a [u8], CaptureFault>
+    requires lines { at.old + length bytes.now < 2 ^ 32 }
+    ensures left { IfOk result (λ left. IsEnd bytes.now left.now) }
+    ensures short { IfOk result (λ left. length left.now ≤ length bytes.now) }
+    ensures last { IfOk result (λ left. is_last ≡ true → left.now ≡ []) }
+    ensures lines { IfOk result (λ left. at.new + length left.now ≤ at.old + length bytes.now) }
+    ensures clean { IfOk result (λ left. FaultsGoOn (limit_of listed) is_last
+        at.old bytes.now at.new left.now) }
+    ensures fault { IfErr result (IsFirstFault (limit_of listed) is_last at.old bytes.now) }
 {
-    let mut room = vec![in alloc; 0; listed.limit()]?;
-    list_into(listed, alloc, input, &mut room)
+    let mut rest = bytes;
+    while let Some((line, after)) = cut_line(rest, is_last) {
+        if let Some(fault) = line_fault(*at, line, listed.limit()) {
+            return Err(fault);
+        }
+        *at += 1;
+        rest = after;
+    }
+    Ok(rest)
 }
 
-/// The lines of all that was captured. A line at fault is told also where memory was wanting before it.
-pub(crate) fn list_captures(
+/// Lists the lines in front of the bytes, or only checks them where memory is wanting for the text, and answers
+/// how many bytes are left.
+fn take_lines(
+    listed: Listed,
+    course: &mut Course,
+    bytes: &[u8],
+    is_last: bool,
+    room: &mut [u8],
+) -> Result<usize, CaptureFault>
+    requires lines { course.old.at + length bytes.now < 2 ^ 32 }
+    requires captures { course.old.number + length bytes.now < 2 ^ 32 }
+    requires room { course.old.wants ≡ false → length room.old ≡ limit_of listed }
+    ensures room { length room.new ≡ length room.old }
+    ensures short { IfOk result (λ left. left ≤ length bytes.now) }
+    ensures last { IfOk result (λ left. is_last ≡ true → left ≡ 0) }
+    ensures lines { IfOk result (λ left. course.new.at + left ≤ course.old.at + length bytes.now) }
+    ensures captures { IfOk result
+        (λ left. course.new.number + left ≤ course.old.number + length bytes.now) }
+    ensures clean { IfOk result (λ left. FaultsGoOn (limit_of listed) is_last
+        course.old.at bytes.now course.new.at (drop (length bytes.now - left) bytes.now)) }
+    ensures wanted { OnOk result (course.new.wants ≡ false → course.old.wants ≡ false) }
+    ensures listed { IfOk result (λ left. course.new.wants ≡ false → ListingGoesOn listed is_last
+        course.old.number bytes.now course.old.text.items
+        course.new.number (drop (length bytes.now - left) bytes.now) course.new.text.items) }
+    ensures fault { IfErr result
+        (IsFirstFault (limit_of listed) is_last course.old.at bytes.now) }
+{
+    if !course.wants {
+        match list_cut(listed, course, bytes, is_last, room) {
+            Ok(left) => return Ok(left.len()),
+            Err(fault @ (CaptureFault::BadLine(_) | CaptureFault::TooLarge)) => return Err(fault),
+            Err(_) => course.wants = true,
+        }
+    }
+    let left = check_cut(listed, &mut course.at, bytes, is_last)?;
+    Ok(left.len())
+}
+
+/// Drops all bytes but so many at the end.
+fn keep_end(bytes: &mut Vec<u8>, left: usize)
+    requires { left ≤ length bytes.old.items }
+    ensures { bytes.new.items ≡ drop (length bytes.old.items - left) bytes.old.items }
+{
+    let done = bytes.len() - left;
+    bytes.copy_within(done.., 0);
+    bytes.truncate(left);
+}
+
+/// Reads an input to its end and lists what was captured. Lines are listed as they come, so that no more of the
+/// input is kept than a line that has no end yet. A line at fault is told also where memory was wanting before
+/// it for the text.
+pub(crate) fn list_input<R: Read>(
     listed: Listed,
     alloc: Global,
-    input: &[u8],
+    reader: &mut R,
 ) -> Result<Vec<u8>, CaptureFault>
-    requires small { length input.now ≤ INPUT_LIMIT }
-    ensures listing { IfOk result
-        (λ text. IsListing listed input.now Outcome.Good text.items) }
-    ensures faults { TellsFirstThenWants result (line_faults (limit_of listed) input.now) }
+    ensures gives { IfSome (R.remaining reader.old) (λ input. TextGives listed input result) }
+    ensures unwritten { IfErr result (λ fault. fault ≢ WriteFailed) }
 {
-    match list_lines(listed, alloc, input) {
-        Err(CaptureFault::NoMemory) => {
-            check_lines(listed, input)?;
-            Err(CaptureFault::NoMemory)
+    let mut chunk = [0; CHUNK];
+    let mut bytes = Vec::new(alloc);
+    let mut room = vec![in alloc; 0; listed.limit()]?;
+    let mut course = Course {
+        text: Vec::new(alloc),
+        number: 1,
+        at: 1,
+        wants: false,
+    };
+    let mut count = 0;
+    'chunks: loop {
+        let came = read_some(reader, &mut chunk, &mut count)?;
+        let is_last = came == 0;
+        bytes.extend_from_slice(&chunk[..came])?;
+        if !is_last && memchr(b'\n', &chunk[..came]).is_none() {
+            continue;
         }
-        listing => listing,
+        match take_lines(listed, &mut course, &bytes, is_last, &mut room) {
+            Ok(left) => keep_end(&mut bytes, left),
+            Err(fault) => {
+                skip_rest(reader, &mut chunk, &mut count)?;
+                return Err(fault);
+            }
+        }
+        if is_last {
+            break;
+        }
     }
+    if course.wants {
+        return Err(CaptureFault::NoMemory);
+    }
+    Ok(course.text)
 }

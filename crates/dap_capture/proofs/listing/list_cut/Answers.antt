@@ -1,0 +1,49 @@
+use Rattle.std.proofs.Common.{rules, arith, ◌≡◌, ◌++◌, ap, sym, ◌∙◌, Some, take}
+use Rattle.dap_capture.specs.Inner.Lines.{IsRead}
+use Rattle.dap_capture.specs.Lines.{line_of, skipped}
+use Rattle.dap_capture.specs.Listing.{fault_of_line, limit_of}
+use Rattle.dap_capture.proofs.LineLemmas.{end_of_end}
+use Rattle.dap_capture.proofs.ListingLemmas.{captured_more, faults_after, skipped_more}
+use Rattle.dap_capture.proofs.listing.list_cut.Goals as goal
+use Rattle.dap_capture.proofs.listing.list_cut.Goals.{in-None, in-Some-2+in_ok-push_capture-in-Some-2}
+
+pub loop-line-preserved : goal.loop-line-preserved
+loop-line-preserved c =
+    let before = c.loop-line in
+    let limit = limit_of c.args.listed in
+    let line = c.in-Some.line.now in
+    let after = c.in-Some.after.now in
+    let shorter = c.in-Some.ensures.first.1 in
+    let cut = c.in-Some.ensures.first.0 in
+    let read : IsRead (line_of limit line) c.read_line.new.room c.in_ok-read_line.field-0 = rw before.invariant.room at c.in_ok-read_line.ensures in
+    elim c.match-branch-2.branch [
+      | in-None w ↦
+          let says : line_of limit line ≡ skipped = rw w.in-None.is at read in
+          record {
+            counted = omega (arith, w.number-is, shorter, before.invariant.counted);
+            at_counted = omega (arith, shorter, before.invariant.at_counted);
+            at_same = search rules;
+            number_same = search rules;
+            wants_same = search rules;
+            room = search rules;
+            left = end_of_end c.args.bytes.now before.rest.now after before.invariant.left c.in-Some.ensures.end (omega (arith, shorter)) before.invariant.short;
+            short = omega (arith, shorter, before.invariant.short);
+            clean = λ follow may. before.invariant.clean follow may ∙ faults_after limit before.at (before.rest.now ++ follow) line (after ++ follow) (cut follow may) (ap (fault_of_line before.at) says);
+            listing = λ start all follow may given. rw (w.course-is, w.number-is) (skipped_more c.args.listed limit start all (before.rest.now ++ follow) line (after ++ follow) before.course.text.items before.number (cut follow may) says (before.invariant.listing start all follow may given));
+          }
+      | in-Some-2+in_ok-push_capture-in-Some-2 w ↦
+          let has : IsRead (line_of limit line) c.read_line.new.room (Some (w.in-Some-2.direction, w.in-Some-2.count)) = rw w.in-Some-2.is at read in
+          let pushed = w.in_ok-push_capture-in-Some-2.ensures in
+          record {
+            counted = omega (arith, w.number-is, shorter, before.invariant.counted);
+            at_counted = omega (arith, shorter, before.invariant.at_counted);
+            at_same = search rules;
+            number_same = search rules;
+            wants_same = search rules;
+            room = search rules;
+            left = end_of_end c.args.bytes.now before.rest.now after before.invariant.left c.in-Some.ensures.end (omega (arith, shorter)) before.invariant.short;
+            short = omega (arith, shorter, before.invariant.short);
+            clean = λ follow may. before.invariant.clean follow may ∙ faults_after limit before.at (before.rest.now ++ follow) line (after ++ follow) (cut follow may) (ap (fault_of_line before.at) has.1);
+            listing = λ start all follow may given. rw (w.course-is, w.number-is) (captured_more c.args.listed limit start all (before.rest.now ++ follow) line (after ++ follow) before.course.text.items w.push_capture.new.text.items w.in-Some-2.direction has.0 (take w.in-Some-2.count c.read_line.new.room) pushed.0 before.number (cut follow may) (sym has.1) has.2.1 pushed.1 pushed.2 (before.invariant.listing start all follow may given));
+          }
+    ]
