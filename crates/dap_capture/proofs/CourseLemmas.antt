@@ -1,5 +1,5 @@
 -- A listing goes on as its input is read.
-use Rattle.std.proofs.Common.{◌≡◌, ◌==◌, ◌≤◌, ◌+◌, ◌-◌, ◌++◌, ℕ, drop, Bool, true, false, List, [], length, Option, Some, None, Ok, Err, sym, ap, ◌∙◌, refl, arith, inl, inr, append_assoc, length-append, subst}
+use Rattle.std.proofs.Common.{◌≡◌, ◌==◌, ◌≤◌, ◌+◌, ◌-◌, ◌++◌, ℕ, drop, Bool, true, false, List, [], length, Option, Some, None, Ok, Err, sym, ap, ◌∙◌, refl, arith, inr, append_assoc, length-append, subst}
 use Rattle.std.specs.Prelude.{IfSome}
 use Rattle.std.specs.Io.KnownBytes.{Consumes, IsAtEnd}
 use Rattle.std.proofs.lemmas.Bool.{eqb-true}
@@ -9,23 +9,10 @@ use Rattle.dap_capture.specs.Listing.{captures, limit_of, no_more}
 use Rattle.dap_capture.specs.Inner.Checking.{IsOfLine}
 use Rattle.dap_capture.specs.Inner.Course.{IsUnderWay, StandsAt, TextGives}
 use Rattle.dap_capture.specs.Inner.Cutting.{FaultsGoOn, IsFirstFault, ListingGoesOn}
-use Rattle.dap_capture.specs.Inner.Input.{IsFaultAfter}
 use Rattle.dap_capture.specs.declared.fault.CaptureFault.{CaptureFault}
 use Rattle.dap_capture.specs.declared.fault.CaptureFault.TheVariants.{BadLine, TooLarge, ReadFailed, WriteFailed, NoMemory}
 use Rattle.dap_capture.specs.declared.listing.Course.{Course}
 use Rattle.dap_capture.specs.declared.listing.Listed.{Listed}
-
--- before anything was read
-pub stands_first : (listed : Listed) (known : Option (List ℕ)) (course : Course) → course.text.items ≡ [] → course.number ≡ 1 → course.at ≡ 1
-    → StandsAt listed 0 known known [] course
-stands_first listed None course none one first = tt
-stands_first listed (Some input) course none one first = (
-  omega arith,
-  record {
-    faults = rw first refl;
-    listing = λ wants more lines. rw none (rw one at lines);
-  },
-)
 
 -- more was read
 pub stands_read : (listed : Listed) (count : ℕ) (known unread later : Option (List ℕ)) (bytes came : List ℕ) (course : Course)
@@ -69,17 +56,6 @@ first_fault listed count (Some input) (Some rest) is_last bytes course TooLarge 
 first_fault listed count (Some input) (Some rest) is_last bytes course ReadFailed stands end first small = tt
 first_fault listed count (Some input) (Some rest) is_last bytes course NoMemory stands end first small = tt
 first_fault listed count (Some input) (Some rest) is_last bytes course WriteFailed stands end first small = (first rest end).1
-
--- a fault of the reading
-pub read_fault : (listed : Listed) (count : ℕ) (known unread : Option (List ℕ)) (bytes : List ℕ) (course : Course) (fault : CaptureFault)
-    → StandsAt listed count known unread bytes course → IsFaultAfter count unread fault → IfSome known (λ input. TextGives listed input (Err fault))
-read_fault listed count None unread bytes course fault stands after = tt
-read_fault listed count (Some input) None bytes course fault stands after = absurd stands
-read_fault listed count (Some input) (Some rest) bytes course TooLarge stands after = inl (omega (arith, stands.0, after))
-read_fault listed count (Some input) (Some rest) bytes course ReadFailed stands after = tt
-read_fault listed count (Some input) (Some rest) bytes course NoMemory stands after = tt
-read_fault listed count (Some input) (Some rest) bytes course (BadLine number) stands after = absurd after
-read_fault listed count (Some input) (Some rest) bytes course WriteFailed stands after = after
 
 -- all was listed
 pub stands_whole : (listed : Listed) (count : ℕ) (known unread : Option (List ℕ)) (bytes : List ℕ) (course : Course)
