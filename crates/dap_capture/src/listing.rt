@@ -297,7 +297,7 @@ fn keep_end(bytes: &mut Vec<u8>, left: usize)
 
 /// Reads an input to its end and lists what was captured. Lines are listed as they come, so that no more of the
 /// input is kept than a line that has no end yet. A line at fault is told also where memory was wanting before
-/// it for the text.
+/// it for a line's bytes or for the text.
 pub(crate) fn list_input<R: Read>(
     listed: Listed,
     alloc: Global,
@@ -308,12 +308,15 @@ pub(crate) fn list_input<R: Read>(
 {
     let mut chunk = [0; CHUNK];
     let mut bytes = Vec::new(alloc);
-    let mut room = vec![in alloc; 0; listed.limit()]?;
+    let (mut room, wants) = match vec![in alloc; 0; listed.limit()] {
+        Ok(room) => (room, false),
+        Err(_) => (Vec::new(alloc), true),
+    };
     let mut course = Course {
         text: Vec::new(alloc),
         number: 1,
         at: 1,
-        wants: false,
+        wants,
     };
     let mut count = 0;
     'chunks: loop {

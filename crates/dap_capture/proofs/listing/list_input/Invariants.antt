@@ -1,4 +1,4 @@
-use Rattle.std.proofs.Common.{◌≡◌, ◌≤◌, ◌+◌, ◌-◌, length, vec_len}
+use Rattle.std.proofs.Common.{◌≡◌, ◌≤◌, ◌+◌, ◌-◌, length, vec_len, false}
 use Rattle.dap_capture.specs.Inner.Course.{StandsAt}
 use Rattle.dap_capture.specs.Listing.{limit_of}
 use Rattle.dap_capture.proofs.listing.list_input.Given as goal
@@ -7,7 +7,7 @@ abbrev pub invariant-chunks : goal.invariant-chunks
 invariant-chunks g l = record {
   chunk : length l.chunk ≡ 65536;
   small : l.count ≤ 16777216;
-  room : vec_len l.room ≡ limit_of l.listed;
+  room : l.course.wants ≡ false → vec_len l.room ≡ limit_of l.listed;
   lines : l.course.at + vec_len l.bytes ≤ l.count + 1;
   captures : l.course.number + vec_len l.bytes ≤ l.count + 1;
   stands : StandsAt l.listed l.count (g.R.Read.remaining l.initial.reader) (g.R.Read.remaining l.reader) l.bytes.items l.course;
