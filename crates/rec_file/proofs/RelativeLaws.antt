@@ -1,6 +1,6 @@
 -- What a paged file answers, by its pages in order.
 use Rattle.std.proofs.Common.{◌≡◌, ℕ, zero, suc, ◌+◌, ◌-◌, ◌*◌, ◌/◌, ◌%◌, ◌<◌, ◌≤◌, ◌≢◌, cond, eqb, max, Bool, true, false, List, [], ◌∷◌, length, set, map, Option, Some, None, IsSome, IfSome, IfNone, is_some, unwrap_or, refl, sym, ap, subst, ◌∙◌, T, length-set, arith, inl, inr}
-use Rattle.std.specs.Prelude.{replicate, Result, Ok, Err, OnErr}
+use Rattle.std.specs.Prelude.{replicate, Result, Ok, Err, OnErr, OnOk}
 use Rattle.std.specs.List.{AllByRecursion}
 use Rattle.std.specs.Ordering.{nat_cmp, is_lt}
 use Rattle.std.specs.Cmp.{nat_cmp_total}
@@ -12,7 +12,7 @@ use Rattle.std.proofs.lemmas.Bool.Decides.{nat_tests}
 use Rattle.rec_file.specs.declared.shapes.Shape.{Shape}
 use Rattle.rec_file.specs.Limits.{greatest_number}
 use Rattle.rec_file.specs.Files.{FileVal, IsFile, lowest_from, highest_of, stored, removed}
-use Rattle.rec_file.specs.Inner.Pages.{Cells, cell, paged, paged_file, page_cell, cell_of, IsPage, IsFirstIn, IsLastIn, empty_cells, last_page}
+use Rattle.rec_file.specs.Inner.Pages.{Cells, cell, paged, put_entry, paged_file, page_cell, cell_of, IsPage, IsFirstIn, IsLastIn, empty_cells, last_page}
 use Rattle.rec_file.specs.Pages.{page_of}
 use Rattle.rec_file.proofs.Rising.{at, AllAbove, IsRising, rising_from_sorted, sorted_from_rising, find_is_at, same_or_not, at_first, at_tail, at_below}
 use Rattle.rec_file.proofs.RecordsLaws.{lowest_from_some, lowest_from_none, highest_of_some, highest_of_none}
@@ -321,27 +321,69 @@ module _ (s : Shape) (ps : List (ℕ × Cells)) (f : FileVal) (h : HoldsFile s p
         all = every;
       }
 
-  -- a record in a new page
-  pub put_new_page : (n : ℕ) (body : List ℕ) → 1 ≤ n → at ps (page_of n) ≡ None
-      → HoldsFile s (insert_entry nat_cmp ps (page_of n) (set empty_cells (cell_of n) (Some body))) (stored f n body)
-  put_new_page n body least is =
-      let cells = set empty_cells (cell_of n) (Some body) in
-      let rise = rising-inserted ps (page_of n) cells r in
-      let every = all-inserted IsPage ps (page_of n) cells h.all (put_is_page empty_cells (cell_of n) body length-empty (omega arith)) in
+  -- a record in a page that is there or a new one
+  put_cells : (n : ℕ) (cells : Cells) (body : List ℕ) → 1 ≤ n → length cells ≡ 64 → ((k : ℕ) → page_cell (at ps (page_of n)) k ≡ cell cells k)
+      → HoldsFile s (insert_entry nat_cmp ps (page_of n) (set cells (cell_of n) (Some body))) (stored f n body)
+  put_cells n cells body least size is =
+      let cells' = set cells (cell_of n) (Some body) in
+      let rise = rising-inserted ps (page_of n) cells' r in
+      let every = all-inserted IsPage ps (page_of n) cells' h.all (put_is_page cells (cell_of n) body size (omega arith)) in
       record {
         same =
             ap (λ m. record { shape = s; records = m })
-            (same_records (from_entries {R = nat_cmp} (paged (insert_entry nat_cmp ps (page_of n) cells))) (put (from_entries {R = nat_cmp} (paged ps)) n body) (λ q.
-            changed ps (insert_entry nat_cmp ps (page_of n) cells) n (Some body) (Some cells) r (sized ps h.all) rise (sized _ every) least
-            (λ j. at-inserted ps (page_of n) cells j)
-            (λ k lt. cell-set empty_cells (cell_of n) (Some body) k (let l = length-empty in omega arith)
-            ∙ ap (cond (eqb k (cell_of n)) (Some body)) (cell-replicate 64 k ∙ sym (ap (λ c. page_cell c k) is)))
+            (same_records (from_entries {R = nat_cmp} (paged (insert_entry nat_cmp ps (page_of n) cells'))) (put (from_entries {R = nat_cmp} (paged ps)) n body) (λ q.
+            changed ps (insert_entry nat_cmp ps (page_of n) cells') n (Some body) (Some cells') r (sized ps h.all) rise (sized _ every) least
+            (λ j. at-inserted ps (page_of n) cells' j)
+            (λ k lt. cell-set cells (cell_of n) (Some body) k (omega arith)
+            ∙ ap (cond (eqb k (cell_of n)) (Some body)) (sym (is k)))
             q
             ∙ sym (get_stored (from_entries {R = nat_cmp} (paged ps)) n body q)))
             ∙ ap (λ g. stored g n body) h.same;
         sorted = test_pages _ rise;
         all = every;
       }
+
+  pub put_page : (n : ℕ) (body : List ℕ) → 1 ≤ n → HoldsFile s (put_entry ps (page_of n) (cell_of n) body) (stored f n body)
+  put_page n body least = by (lookup (is_at (nat_cmp (page_of n))) ps) (sym (lookup_is_at ps (page_of n)))
+    where
+      by : (o : Option Cells) → at ps (page_of n) ≡ o → HoldsFile s (insert_entry nat_cmp ps (page_of n) (set (unwrap_or o empty_cells) (cell_of n) (Some body))) (stored f n body)
+      by None is = put_cells n empty_cells body least length-empty (λ k. ap (λ c. page_cell c k) is ∙ sym (cell-replicate 64 k))
+      by (Some cells) is = put_cells n cells body least (page_is ps (page_of n) cells h.all is).size (λ k. ap (λ c. page_cell c k) is)
+
+  -- a cell is free where its number is
+  pub put_free : (n : ℕ) → 1 ≤ n → None ≡ get f.records n → IfSome (lookup (is_at (nat_cmp (page_of n))) ps) (λ cells. cell cells (cell_of n) ≡ None)
+  put_free n least free = by (lookup (is_at (nat_cmp (page_of n))) ps) (sym (lookup_is_at ps (page_of n)))
+    where
+      by : (o : Option Cells) → at ps (page_of n) ≡ o → IfSome o (λ cells. cell cells (cell_of n) ≡ None)
+      by None is = tt
+      by (Some cells) is = here n cells least is ∙ sym free
+
+  -- a record that may be refused
+  module _ {A E : Type 0} (result : Result A E) (now : List (ℕ × Cells)) (n : ℕ) (body : List ℕ) (least : 1 ≤ n) (ok : OnOk result (now ≡ put_entry ps (page_of n) (cell_of n) body))
+      (err : OnErr result (now ≡ ps)) where
+    pub put_same : OnOk result (paged_file s now ≡ stored f n body)
+    put_same = by result ok
+      where
+        by : (r : Result A E) → OnOk r (now ≡ put_entry ps (page_of n) (cell_of n) body) → OnOk r (paged_file s now ≡ stored f n body)
+        by (Ok a) is = ap (paged_file s) is ∙ (put_page n body least).same
+        by (Err e) is = tt
+
+    pub put_back : OnErr result (paged_file s now ≡ f)
+    put_back = by result err
+      where
+        by : (r : Result A E) → OnErr r (now ≡ ps) → OnErr r (paged_file s now ≡ f)
+        by (Ok a) is = tt
+        by (Err e) is = ap (paged_file s) is ∙ h.same
+
+    abbrev Stands : List (ℕ × Cells) → Type 0
+    Stands pages = IsFile (paged_file s pages) × (is_sorted nat_cmp pages ≡ true) × AllPages pages
+
+    pub put_stands : IsFile f → IsFile (stored f n body) → Stands now
+    put_stands before after = by result ok err
+      where
+        by : (r : Result A E) → OnOk r (now ≡ put_entry ps (page_of n) (cell_of n) body) → OnErr r (now ≡ ps) → Stands now
+        by (Ok a) is back = let put = put_page n body least in subst Stands (sym is) (subst IsFile (sym put.same) after, put.sorted, put.all)
+        by (Err e) is back = subst Stands (sym back) (subst IsFile (sym h.same) before, h.sorted, h.all)
 
   -- a record less in a page that stays
   pub clear_in_page : (n : ℕ) (cells : Cells) → 1 ≤ n → at ps (page_of n) ≡ Some cells → (((k : ℕ) → cell (set cells (cell_of n) None) k ≡ None) → ⊥)
@@ -390,11 +432,6 @@ module _ (s : Shape) (ps : List (ℕ × Cells)) (f : FileVal) (h : HoldsFile s p
         sorted = test_pages _ rise;
         all = every;
       }
-
--- what holds, holds at an error
-pub on_err : {T E P : Type 0} (r : Result T E) → P → OnErr r P
-on_err (Ok t) h = tt
-on_err (Err e) h = h
 
 pub not_true : (b : Bool) → b ≡ false → b ≡ true → ⊥
 not_true true f t = cc

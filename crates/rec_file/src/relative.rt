@@ -1,14 +1,18 @@
 //! Relative files in pages.
-ghost use Rattle.std.specs.Prelude.{◌≡◌, false, IsTrue};
+ghost use Rattle.std.specs.Prelude.{◌≡◌, ◌<◌, None, false, IfSome, IsTrue, OnErr, OnOk};
+ghost use Rattle.std.specs.BTreeMap.{get};
+ghost use Rattle.std.specs.Ordering.{nat_cmp};
 ghost use Rattle.std.specs.FinMap as map;
 ghost use Rattle.rec_file.specs.Shapes.{is_shape, is_seq};
 ghost use Rattle.rec_file.specs.Pages.{occupied_pages};
+ghost use Rattle.rec_file.specs.Inner.Pages.{cell, put_entry};
 
 use crate::files::RecordFile;
 use crate::pages::{Page, cell_of, first_in, last_in, page_of};
 use crate::shapes::Shape;
 use std::alloc::{AllocError, Global};
 use std::collections::BTreeMap;
+use std::collections::btree_map::Entry;
 use std::marker::Model;
 
 /// A relative file (own, in the manner of RMS): each number from 1 to the limit has a record or
@@ -65,6 +69,28 @@ impl RelFile {
     }
 }
 
+/// Stores a record in an empty cell of a page that is kept, or else of a new one. An error is want of memory:
+/// nothing has changed.
+fn put_in(
+    pages: &mut BTreeMap<u32, Page>,
+    alloc: Global,
+    at: u32,
+    place: usize,
+    body: Vec<u8>,
+) -> Result<(), AllocError>
+    requires within { place < 64 }
+    requires empty { IfSome (get nat_cmp pages.old at) (λ page. cell page place ≡ None) }
+    ensures ok { OnOk result (pages.new.entries ≡ put_entry pages.old.entries at place body.items) }
+    ensures err { OnErr result (pages.new.entries ≡ pages.old.entries) }
+{
+    let free = match pages.entry(at)? {
+        Entry::Occupied(kept) => return kept.into_mut().put(place, body),
+        Entry::Vacant(free) => free,
+    };
+    free.insert(Page::with(alloc, place, body)?);
+    Ok(())
+}
+
 impl RecordFile for RelFile {
     ghost value = { λ f. f };
 
@@ -106,13 +132,7 @@ impl RecordFile for RelFile {
     fn place(&mut self, number: u32, body: &[u8]) -> Result<(), AllocError> {
         let body = Vec::from_slice(self.alloc, body)?;
         let at = page_of(number);
-        if let Some(page) = self.pages.get_mut(&at) {
-            page.put(cell_of(number), body)?;
-            return Ok(());
-        }
-        let page = Page::with(self.alloc, cell_of(number), body)?;
-        self.pages.insert(at, page)?;
-        Ok(())
+        put_in(&mut self.pages, self.alloc, at, cell_of(number), body)
     }
 
     fn replace(&mut self, number: u32, body: &[u8]) -> Result<(), AllocError> {

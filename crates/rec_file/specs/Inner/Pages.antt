@@ -1,5 +1,9 @@
 -- Pages of 64 cells, and a list of them as the records of a relative file.
-use Rattle.std.specs.Prelude.{◌≡◌, ℕ, zero, suc, ◌+◌, ◌-◌, ◌*◌, ◌%◌, ◌≤◌, ◌<◌, List, [], ◌∷◌, ◌++◌, length, Option, None, Some, is_some, IsSome, replicate, ◌==◌, ◌^◌, take, drop, slice_get, if◌then◌else◌}
+use Rattle.std.specs.Prelude.{◌≡◌, ℕ, zero, suc, ◌+◌, ◌-◌, ◌*◌, ◌%◌, ◌≤◌, ◌<◌, List, [], ◌∷◌, ◌++◌, length, Option, None, Some, is_some, IsSome, replicate, ◌==◌, ◌^◌, take, drop, slice_get, slice_set, if◌then◌else◌}
+use Rattle.std.specs.BTreeMap.{insert_entry, is_at}
+use Rattle.std.specs.Map.{lookup}
+use Rattle.std.specs.Option.{unwrap_or}
+use Rattle.std.specs.Ordering.{nat_cmp}
 use Rattle.std.specs.List.{filter_map}
 use Rattle.std.specs.Int.{bit_at}
 use Rattle.std.specs.FinMap.{from_entries}
@@ -96,3 +100,8 @@ pub record IsLastIn (cells : Cells) (k : ℕ) : Type 0 where
 -- a page with no record
 abbrev pub empty_cells : Cells
 empty_cells = replicate 64 None
+
+-- pages with a record more, in one that is there or else in a new one
+abbrev pub put_entry : List (ℕ × Cells) → ℕ → ℕ → List ℕ → List (ℕ × Cells)
+put_entry pages at k body =
+    insert_entry nat_cmp pages at (slice_set (unwrap_or (lookup (is_at (nat_cmp at)) pages) empty_cells) k (Some body))
