@@ -7,7 +7,7 @@ use Rattle.std.proofs.lemmas.Grind.{common_steps}
 use Rattle.std.proofs.lemmas.List.{append-nil}
 use Rattle.dap_capture.specs.Listing.{captures, limit_of, no_more}
 use Rattle.dap_capture.specs.Inner.Checking.{IsOfLine}
-use Rattle.dap_capture.specs.Inner.Course.{IsUnderWay, StandsAt, TextGives}
+use Rattle.dap_capture.specs.Inner.Course.{IsInputFault, IsUnderWay, IsWhole, StandsAt}
 use Rattle.dap_capture.specs.Inner.Cutting.{FaultsGoOn, IsFirstFault, ListingGoesOn}
 use Rattle.dap_capture.specs.declared.fault.CaptureFault.{CaptureFault}
 use Rattle.dap_capture.specs.declared.fault.CaptureFault.TheVariants.{BadLine, TooLarge, ReadFailed, WriteFailed, NoMemory}
@@ -46,7 +46,7 @@ stands_taken listed count (Some input) (Some rest) is_last bytes left course now
 pub first_fault : (listed : Listed) (count : ℕ) (known unread : Option (List ℕ)) (is_last : Bool) (bytes : List ℕ) (course : Course) (fault : CaptureFault)
     → StandsAt listed count known unread bytes course → (is_last ≡ true → IsAtEnd unread)
     → IsFirstFault (limit_of listed) is_last course.at bytes fault → IfSome unread (λ rest. count + length rest ≤ 16777216)
-    → IfSome known (λ input. TextGives listed input (Err fault))
+    → IfSome known (λ input. IsInputFault listed input fault)
 first_fault listed count None unread is_last bytes course fault stands end first small = tt
 first_fault listed count (Some input) None is_last bytes course fault stands end first small = absurd stands
 first_fault listed count (Some input) (Some rest) is_last bytes course (BadLine number) stands end first small =
@@ -59,16 +59,16 @@ first_fault listed count (Some input) (Some rest) is_last bytes course WriteFail
 
 -- all was listed
 pub stands_whole : (listed : Listed) (count : ℕ) (known unread : Option (List ℕ)) (bytes : List ℕ) (course : Course)
-    → StandsAt listed count known unread bytes course → IsAtEnd unread → bytes ≡ [] → count ≤ 16777216 → course.wants ≡ false
-    → IfSome known (λ input. TextGives listed input (Ok course.text))
-stands_whole listed count None unread bytes course stands end none small wants = tt
-stands_whole listed count (Some input) None bytes course stands end none small wants = absurd stands
-stands_whole listed count (Some input) (Some rest) bytes course stands end none small wants =
+    → StandsAt listed count known unread bytes course → IsAtEnd unread → bytes ≡ [] → count ≤ 16777216
+    → IfSome known (λ input. IsWhole listed input course)
+stands_whole listed count None unread bytes course stands end none small = tt
+stands_whole listed count (Some input) None bytes course stands end none small = absurd stands
+stands_whole listed count (Some input) (Some rest) bytes course stands end none small =
     let left : bytes ++ rest ≡ [] = ap (λ l. bytes ++ l) end ∙ append-nil bytes ∙ none in
     record {
       small = omega (arith, stands.0, ap length end, small);
       no_fault = stands.1.faults ∙ rw left refl;
-      text_is = rw (append-nil course.text.items) at (stands.1.listing wants [] (rw left no_more));
+      text_is = λ wants. rw (append-nil course.text.items) at (stands.1.listing wants [] (rw left no_more));
     }
 
 pub at_end : (came : ℕ) (unread : Option (List ℕ)) → (came ≡ 0 → IsAtEnd unread) → (came == 0) ≡ true → IsAtEnd unread

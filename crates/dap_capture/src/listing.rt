@@ -4,7 +4,7 @@ ghost use Rattle.std.specs.Prelude.{◌≡◌, ◌≢◌, ◌≤◌, ◌<◌, �
 ghost use Rattle.dap_capture.specs.Inner.Adding.{AddsCapture, AddsSome};
 ghost use Rattle.dap_capture.specs.Inner.Cutting.{FaultsGoOn, IsEnd, IsFirstFault, ListingGoesOn};
 ghost use Rattle.dap_capture.specs.Inner.Lines.{IsRead, StandInFront};
-ghost use Rattle.dap_capture.specs.Inner.Course.{TextGives};
+ghost use Rattle.dap_capture.specs.Inner.Course.{IsInputFault, IsWhole, TextGives};
 ghost use Rattle.dap_capture.specs.declared.fault.CaptureFault.TheVariants.{NoMemory, WriteFailed};
 ghost use Rattle.dap_capture.specs.Lines.{digits_line, is_hex_text as is_spelled, line_of};
 ghost use Rattle.dap_capture.specs.Listing.{IsCapturedText, IsMessageText, arrow_text, fault_of_line, limit_of};
@@ -298,12 +298,15 @@ fn keep_end(bytes: &mut Vec<u8>, left: usize)
 /// Reads an input to its end and lists what was captured. Lines are listed as they come, so that no more of the
 /// input is kept than a line that has no end yet. A line at fault is told also where memory was wanting before
 /// it for a line's bytes or for the text.
-pub(crate) fn list_input<R: Read>(
+fn read_course<R: Read>(
     listed: Listed,
     alloc: Global,
     reader: &mut R,
-) -> Result<Vec<u8>, CaptureFault>
-    ensures gives { IfSome (R.remaining reader.old) (λ input. TextGives listed input result) }
+) -> Result<Course, CaptureFault>
+    ensures whole { IfOk result
+        (λ course. IfSome (R.remaining reader.old) (λ input. IsWhole listed input course)) }
+    ensures fault { IfErr result
+        (λ fault. IfSome (R.remaining reader.old) (λ input. IsInputFault listed input fault)) }
     ensures unwritten { IfErr result (λ fault. fault ≢ WriteFailed) }
 {
     let mut chunk = [0; CHUNK];
@@ -334,9 +337,22 @@ pub(crate) fn list_input<R: Read>(
             }
         }
         if is_last {
-            break;
+            return Ok(course);
         }
     }
+}
+
+/// The listing of what was captured in an input, which is read to its end. Want of memory for the text is told
+/// where no line is at fault.
+pub(crate) fn list_input<R: Read>(
+    listed: Listed,
+    alloc: Global,
+    reader: &mut R,
+) -> Result<Vec<u8>, CaptureFault>
+    ensures gives { IfSome (R.remaining reader.old) (λ input. TextGives listed input result) }
+    ensures unwritten { IfErr result (λ fault. fault ≢ WriteFailed) }
+{
+    let course = read_course(listed, alloc, reader)?;
     if course.wants {
         return Err(CaptureFault::NoMemory);
     }

@@ -23,12 +23,21 @@ StandsAt listed count (Some input) (Some unread) bytes course =
 StandsAt listed count (Some input) None bytes course = ⊥
 StandsAt listed count None unread bytes course = ⊤
 
+-- The input was read to its end. No line is at fault, and the text is the listing, unless memory was wanting for it.
+abbrev pub IsWhole : Listed → List ℕ → Course → Type 0
+IsWhole listed input course =
+    IsTextOf (line_faults (limit_of listed) input) (λ text. course.wants ≡ false → IsListing listed input Good text) input course.text.items
+
+-- a fault that is told of an input
+abbrev pub IsInputFault : Listed → List ℕ → CaptureFault → Type 0
+IsInputFault listed input (BadLine number) = HasLineFault (line_faults (limit_of listed) input) input (BadLine number)
+IsInputFault listed input TooLarge =
+    (input_limit < length input) ⊎ HasLineFault (line_faults (limit_of listed) input) input TooLarge
+IsInputFault listed input ReadFailed = Unit {0}
+IsInputFault listed input NoMemory = Unit {0}
+IsInputFault listed input WriteFailed = ⊥
+
 -- what a listing of the input answers before it is written
 abbrev pub TextGives : Listed → List ℕ → Result (Vec ℕ) CaptureFault → Type 0
 TextGives listed input (Ok text) = IsTextOf (line_faults (limit_of listed) input) (IsListing listed input Good) input text.items
-TextGives listed input (Err (BadLine number)) = HasLineFault (line_faults (limit_of listed) input) input (BadLine number)
-TextGives listed input (Err TooLarge) =
-    (input_limit < length input) ⊎ HasLineFault (line_faults (limit_of listed) input) input TooLarge
-TextGives listed input (Err ReadFailed) = Unit {0}
-TextGives listed input (Err NoMemory) = Unit {0}
-TextGives listed input (Err WriteFailed) = ⊥
+TextGives listed input (Err fault) = IsInputFault listed input fault

@@ -1,7 +1,7 @@
 use Rattle.std.proofs.Common.{◌≡◌, ◌≤◌, ◌+◌, ◌-◌, length, vec_len, false}
 use Rattle.dap_capture.specs.Inner.Course.{StandsAt}
 use Rattle.dap_capture.specs.Listing.{limit_of}
-use Rattle.dap_capture.proofs.listing.list_input.Given as goal
+use Rattle.dap_capture.proofs.listing.read_course.Given as goal
 
 abbrev pub invariant-chunks : goal.invariant-chunks
 invariant-chunks g l = record {

@@ -1,10 +1,10 @@
 use Rattle.std.proofs.Common.{rules, arith, true, ◌≡◌, ◌==◌, ◌+◌, ◌-◌, ◌++◌, drop, length, length-take-le, take}
 use Rattle.dap_capture.specs.Listing.{limit_of}
 use Rattle.dap_capture.proofs.CourseLemmas.{at_end, first_fault, line_unwritten, none_left, stands_read, stands_taken, stands_whole}
-use Rattle.dap_capture.proofs.listing.list_input.Goals as goal
+use Rattle.dap_capture.proofs.listing.read_course.Goals as goal
 
-pub returns-in-Err-take_lines-clause-gives : goal.returns-in-Err-take_lines-clause-gives
-returns-in-Err-take_lines-clause-gives g c =
+pub returns-in-Err-take_lines-clause-fault : goal.returns-in-Err-take_lines-clause-fault
+returns-in-Err-take_lines-clause-fault g c =
     let read = c.in_ok-came.ensures in
     let came = take c.in_ok-came.came c.read_some.new.chunk in
     let counted : c.chunks.count + length came ≡ c.read_some.new.count = omega (arith, read.count, length-take-le c.in_ok-came.came c.read_some.new.chunk read.came) in
@@ -15,8 +15,8 @@ returns-in-Err-take_lines-clause-gives g c =
 pub returns-in-Err-take_lines-clause-unwritten : goal.returns-in-Err-take_lines-clause-unwritten
 returns-in-Err-take_lines-clause-unwritten g c = line_unwritten (limit_of c.args.listed) c.chunks.course.at (c.in_ok-came.came == 0) c.deref.result.now c.in-Err-take_lines.fault c.in-Err-take_lines.ensures.fault
 
-pub returns-clause-gives : goal.returns-clause-gives
-returns-clause-gives g c =
+pub returns-then-is_last-clause-whole : goal.returns-then-is_last-clause-whole
+returns-then-is_last-clause-whole g c =
     let read = c.in_ok-came.ensures in
     let came = take c.in_ok-came.came c.read_some.new.chunk in
     let counted : c.chunks.count + length came ≡ c.read_some.new.count = omega (arith, read.count, length-take-le c.in_ok-came.came c.read_some.new.chunk read.came) in
@@ -28,4 +28,4 @@ returns-clause-gives g c =
     let end = at_end c.in_ok-came.came _ read.end in
     let now = stands_taken c.args.listed c.read_some.new.count _ _ _ all left c.chunks.course c.take_lines.new.course stands end took.clean took.wanted took.listed in
     let last : (c.in_ok-came.came == 0) ≡ true = search rules in
-    stands_whole c.args.listed c.read_some.new.count _ _ left c.take_lines.new.course now (end last) (none_left all c.in-Ok-take_lines.left (took.last last)) read.small c.if-course.false
+    stands_whole c.args.listed c.read_some.new.count _ _ left c.take_lines.new.course now (end last) (none_left all c.in-Ok-take_lines.left (took.last last)) read.small
