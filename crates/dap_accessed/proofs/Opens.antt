@@ -1,15 +1,8 @@
 -- The file that is open is in the table.
-use Rattle.std.proofs.Common.{◌≡◌, ℕ, ◌<◌, length, subst, ap, arith, Option, Result, Ok, Err, IfOk}
-use Rattle.rec_file.specs.declared.shapes.Shape.{Shape}
+use Rattle.std.proofs.Common.{◌≡◌, ℕ, ◌<◌, length, ap, arith, Result, Ok, Err, IfOk}
 use Rattle.rec_file.specs.Files.{FileVal}
 use Rattle.dap_accessed.specs.Standing.{Files, with_file}
-use Rattle.dap_accessed.specs.declared.phase.Phase.{Phase}
-use Rattle.dap_accessed.specs.Inner.Moves.{IsKept, IsOpenIn}
 use Rattle.dap_accessed.proofs.Tables.{length-with}
-
-pub open-there : (limit : ℕ) (was files : Files) (kept : Option Shape) (phase now : Phase) → IsKept limit was kept phase → was ≡ files → phase ≡ now → IsOpenIn files now
-open-there limit was files kept phase now k e f =
-    subst (λ (p : Phase). IsOpenIn files p) f (subst (λ (t : Files). IsOpenIn t phase) e k.opened)
 
 pub still-there : (at : ℕ) (file : FileVal) (old new now : Files) → new ≡ with_file at file old → old ≡ now → at < length now → at < length new
 still-there at file old new now e f h = omega (arith, length-with old at file, ap length e, ap length f)

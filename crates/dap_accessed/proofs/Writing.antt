@@ -20,7 +20,7 @@ use Rattle.dap_accessed.specs.Replies.{org_number, format_number}
 use Rattle.dap_accessed.specs.declared.answers.Answer.{Answer}
 use Rattle.dap_accessed.specs.declared.answers.Answer.TheVariants as answer
 use Rattle.dap_accessed.specs.Served.{AllAtMost}
-use Rattle.dap_accessed.specs.Inner.Written.{IsShort, FitsIn, Answered, most_bytes}
+use Rattle.dap_accessed.specs.Inner.Written.{IsShort, Answered, most_bytes}
 
 pub org_small : (org : Org) → org_number org < 2 ^ 8
 org_small Seq = lit< tt
@@ -69,17 +69,6 @@ answered_more limit messages m old new f h before e =
       within = subst (AllAtMost limit) (sym e) (at_most_more limit (bodies old.items) (canon m) before.within h);
       fits = fit_more messages m before.fits f;
     }
-
-pub fits_short : (limit : ℕ) (a : Answer) → IsShort a → least_buffer ≤ limit → FitsIn limit a
-fits_short limit (answer.Config bufsiz) s h = (tt, h)
-fits_short limit (answer.Attributes shape) s h = (tt, h)
-fits_short limit answer.Ack s h = (tt, h)
-fits_short limit answer.Complete s h = (tt, h)
-fits_short limit (answer.Status code) s h = (tt, h)
-fits_short limit (answer.Reason code reason) s h = (tt, h)
-fits_short limit (answer.StoreRefusal reason ordinal) s h = (tt, h)
-fits_short limit (answer.Done number) s h = (tt, h)
-fits_short limit (answer.Record number body) s h = absurd s
 
 pub short_most : (a : Answer) → IsShort a → most_bytes a ≤ least_buffer
 short_most (answer.Config bufsiz) s = lit≤ tt

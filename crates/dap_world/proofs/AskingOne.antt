@@ -13,7 +13,6 @@ use Rattle.dap_accessed.specs.Standing.{Place}
 use Rattle.dap_accessed.specs.Groups.{stands_after}
 use Rattle.dap_accessed.specs.Present as accessed
 use Rattle.dap_accessing.specs.Present as accessing
-use Rattle.dap_accessing.specs.Present.{FitsDue}
 use Rattle.dap_accessing.specs.Asked.{Asked, messages_of}
 use Rattle.dap_accessing.specs.Told.{Told}
 use Rattle.dap_msg.specs.Sendable.{AreSendable}

@@ -5,8 +5,7 @@ use Rattle.dap_msg.specs.Message.{Message}
 use Rattle.dap_msg.specs.Items.{Item}
 use Rattle.dap_msg.specs.Blocked.{NspMessage, Blocked, messages_in, AllFit, AllWithin}
 use Rattle.dap_msg.proofs.ForCallers.{messages_in-Blocked, within_limit}
-use Rattle.dap_accessed.specs.Groups.{Answers, added, stands_after}
-use Rattle.dap_accessed.proofs.ForCallers.{Answers-more}
+use Rattle.dap_accessed.specs.Groups.{added, stands_after}
 use Rattle.dap_accessing.specs.declared.request.Request.{Request}
 use Rattle.dap_accessing.specs.Asked.{messages_of, Asked}
 use Rattle.dap_world.specs.Inner.Parts.{asked_packets, answer_packets}
@@ -42,21 +41,6 @@ answers-more-after own before (x ∷ items) item =
 
 pub answers-more : (own : ℕ) (items : List Item) (item : Item) → answer_packets own [] (items ++ item ∷ []) ≡ answer_packets own [] items ++ answer_block own items item
 answers-more own items item = answers-more-after own [] items item
-
-answers-all-after : (own : ℕ) (before items : List Item) → Answers own before ++ messages_in (answer_packets own before items) ≡ Answers own (before ++ items)
-answers-all-after own before [] = append-nil (Answers own before) ∙ ap (Answers own) (sym (append-nil before))
-answers-all-after own before (x ∷ items) =
-    let here = added own before x in
-    let later = messages_in (answer_packets own (before ++ x ∷ []) items) in
-    ap (λ (l : List Message). Answers own before ++ l) (messages_in-append (answer_block own before x) (answer_packets own (before ++ x ∷ []) items)
-    ∙ ap (λ (l : List Message). l ++ later) (messages_in-Blocked _ here))
-    ∙ sym (append_assoc (Answers own before) here later)
-    ∙ ap (λ (l : List Message). l ++ later) (sym (Answers-more own before x))
-    ∙ answers-all-after own (before ++ x ∷ []) items
-    ∙ ap (Answers own) (append_assoc before (x ∷ []) items)
-
-pub answers-all : (own : ℕ) (items : List Item) → messages_in (answer_packets own [] items) ≡ Answers own items
-answers-all own items = answers-all-after own [] items
 
 -- ---- None is empty.
 

@@ -226,14 +226,6 @@ arrived_all old mid new B place one two h w none first at second =
 
 -- ---- Together.
 
-pub acked_same : (old mid new : State) (end : End) (place : ℕ) (one two : Step) → IsWorld mid → Steps old (event.Ack (other end)) one mid → Steps mid (event.Deliver end place) two new
-    → SameBut old new × ((e : End) → (sends new e).sent ≡ (sends old e).sent)
-unfolding Steps
-acked_same old mid new end place one two h first second = (
-  same_both old mid new (same_ack old mid (other end) one first) (same_deliver mid new end place two h second),
-  λ e. deliver_sent mid new end e place two second ∙ ack_sent old mid (other end) e one first,
-)
-
 pub brought_one : (old mid came new : State) (end : End) (place : ℕ) (one two : Step) → IsWorld mid → Steps old (event.Emit end) one mid → Steps mid (event.Deliver (other end) place) two came
     → RanBy came new 2 → unacked new end ≡ 0 → SameBut came new → ((e : End) → (sends new e).sent ≡ (sends came e).sent) → Brought old new end 1
 unfolding Steps
@@ -246,9 +238,6 @@ brought_one old mid came new end place one two w first second ran done same sent
       back = sent (other end) ∙ deliver_sent mid came (other end) (other end) place two second ∙ counts.1;
       done = done;
     }
-
-pub brought_none : (s : State) (end : End) → unacked s end ≡ 0 → Brought s s end 0
-brought_none s end none = record { ran = ran_none s; same = same_none s; sent = omega arith; back = refl; done = none }
 
 pub brought_more : (old mid new : State) (end : End) (n : ℕ) → Brought old mid end n → Brought mid new end 1 → Brought old new end (n + 1)
 brought_more old mid new end n a b =

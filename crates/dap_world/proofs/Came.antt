@@ -103,10 +103,6 @@ joins : (p : Parts) (end : End) → Joins (sends (state_of p) (other end)) (side
 joins p A = record { taken = refl; held = refl }
 joins p B = record { taken = refl; held = refl }
 
-window_is : (p : Parts) (end : End) → AreParts p → (side p end).link.window ≡ (state_of p).window
-window_is p A h = refl
-window_is p B h = h.alike.window
-
 below_one : (k : Option ℕ) (sent n : ℕ) → WasSent sent k → sent < n → IfSome k (λ k. k < n)
 below_one None sent n was lt = tt
 below_one (Some k) sent n was lt = omega (arith, was.1)
@@ -130,10 +126,6 @@ below p B j w h at =
 
 at_wire : (wire : List WiredValue) (j : ℕ) (o : Option WiredValue) → slice_get wire j ≡ o → slice_get (map sending_of wire) j ≡ option_map sending_of o
 at_wire wire j o at = slice_get-map sending_of wire j ∙ ap (option_map sending_of) at
-
-wire_is : (p : Parts) (end : End) → (sends (state_of p) end).wire ≡ map sending_of (side p end).wire
-wire_is p A = refl
-wire_is p B = refl
 
 there : (p : Parts) (end : End) (j : ℕ) (o : Option WiredValue) → slice_get (side p end).wire j ≡ o → slice_get (sends (state_of p) end).wire j ≡ option_map sending_of o
 there p A j o at = at_wire p.a.wire j o at

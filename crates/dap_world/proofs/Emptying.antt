@@ -10,16 +10,13 @@ use Rattle.dap_world.specs.Runs.{Went}
 use Rattle.dap_world.specs.Inner.Worlds.{IsWorld}
 use Rattle.dap_world.specs.Settling.{RanBy}
 use Rattle.dap_world.specs.Inner.Settling.{ReadEvery, ReadPart}
-use Rattle.dap_world.proofs.Settles.{ran_none, ran_more}
+use Rattle.dap_world.proofs.Settles.{ran_more}
 
 -- so many were read so far
 pub record ReadSome (old now : State) (n : ℕ) : Type 0 where
   pub ran : RanBy old now n
   pub read : now ≡ record old { read = now.read }
   pub count : now.read ≡ old.read + n
-
-pub read_none : (s : State) → ReadSome s s 0
-read_none s = record { ran = ran_none s; read = refl; count = omega arith }
 
 pub read_more : (old now new : State) (n : ℕ) (answer : Step) → ReadSome old now n → Steps now event.Read answer new → ReadSome old new (n + 1)
 unfolding Steps

@@ -1,5 +1,5 @@
 -- What the code's calls come to where a message is handled.
-use Rattle.std.proofs.Common.{◌≡◌, ℕ, ◌+◌, ◌<◌, arith, refl, sym, ◌∙◌, subst, ap, Bool, true, false, List, [], ◌∷◌, ◌++◌, length}
+use Rattle.std.proofs.Common.{◌≡◌, ℕ, ◌+◌, refl, sym, ◌∙◌, subst, ap, Bool, true, false, List, [], ◌∷◌, ◌++◌, length}
 use Rattle.std.specs.Prelude.{◌==◌, if◌then◌else◌, Some, None, slice_get, is_some, option_to_list}
 use Rattle.dap_msg.specs.Items.{Item, ItemAt}
 use Rattle.dap_msg.specs.Blocked.{bodies}
@@ -92,6 +92,3 @@ refused_only bytes at old new fault.NoMemory expects fit refused = refused.1
 refused_only bytes at old new fault.Unexpected expects fit refused =
     let why = refused.2 in
     let here = expects.place why.0 why.1 fit why.2 in absurd (here.3 (why.3 here.0 here.1 here.2))
-
-pub some_first : (inbox : List (List ℕ)) (bytes : List ℕ) → slice_get inbox 0 ≡ Some bytes → 0 < length inbox
-some_first inbox bytes e = let f = has_first inbox bytes e in let long = ap length f.1 in omega (arith, long)

@@ -2,7 +2,6 @@
 use Rattle.std.proofs.Common.{◌≡◌, ℕ, arith, refl, sym, ◌∙◌, subst, ap, List, [], inl}
 use Rattle.dap_accessed.specs.Present as accessed
 use Rattle.dap_accessing.specs.Present as accessing
-use Rattle.nsp_link.specs.Link.{IsSetup}
 use Rattle.nsp_link.proofs.ForCallers.{stands_new, sends_new}
 use Rattle.dap_world.specs.declared.setup.WorldSetup.{WorldSetup}
 use Rattle.dap_world.specs.declared.event.End.{End}
@@ -18,9 +17,6 @@ use Rattle.dap_world.specs.Inner.Sides.{SideValue}
 use Rattle.dap_world.specs.Inner.Parts.{Parts, AreParts, IsTold, state_of}
 use Rattle.dap_world.proofs.Counting.{cut-none}
 use Rattle.dap_world.proofs.Kept.{is_fresh}
-
-pub is_link : (s : WorldSetup) (end : End) → IsWorldSetup s → IsSetup (link_of s end)
-is_link s end h = (h.some, h.small, h.window, h.window_limit, omega (arith, h.own_a.least), omega (arith, h.own_a.most, h.own_b.most))
 
 twice : (end : End) → other (other end) ≡ end
 twice A = refl

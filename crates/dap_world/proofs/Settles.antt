@@ -1,7 +1,7 @@
 -- A stretch without loss.
 use Rattle.std.proofs.Common.{◌≡◌, ℕ, zero, suc, ◌+◌, ◌-◌, ◌≤◌, ◌<◌, arith, refl, sym, ◌∙◌, subst, ap, append_assoc, Bool, true, false, List, [], ◌∷◌, ◌++◌, length, inl, inr, le-ltb, eq-eqb}
 use Rattle.std.specs.Prelude.{nat_lt, ◌&&◌, if◌then◌else◌, Option, Some, None, Err, slice_get}
-use Rattle.std.proofs.lemmas.List.{length-append, append-nil, length-map}
+use Rattle.std.proofs.lemmas.List.{length-append, length-map}
 use Rattle.std.proofs.lemmas.Bool.{cases_eq, ne_eqb}
 use Rattle.std.proofs.lemmas.Option.{slice_get-get_or}
 use Rattle.std.proofs.lemmas.Grind.{common_steps}
@@ -59,10 +59,6 @@ ran_more old mid new n e answer quiet a step = ran_both old mid new n 1 a (ran_o
 
 -- ---- Resending.
 
-pub none_resent : (s : State) (end : End) → AllResent s s end 0
-none_resent s A = record { ran = ran_none s; more = []; wrote = ap (λ (l : List Sending). record s { from_a = record s.from_a { wire = l } }) (sym (append-nil s.from_a.wire)); long = refl; each = λ i lt. absurd (omega arith) }
-none_resent s B = record { ran = ran_none s; more = []; wrote = ap (λ (l : List Sending). record s { from_b = record s.from_b { wire = l } }) (sym (append-nil s.from_b.wire)); long = refl; each = λ i lt. absurd (omega arith) }
-
 abbrev again : State → End → ℕ → Sending
 again s end i = record { segment = Some ((sends s end).acked + 1 + i); acks = (sends s (other end)).taken }
 
@@ -116,11 +112,6 @@ resend_refused old now new end i fault.Exhausted h lt went = absurd went.0
 resend_refused old now new end i fault.BadSetup h lt went = absurd went.0
 
 -- ---- Delivering.
-
-pub none_came : (s : State) (end : End) → IsWorld s → AllCame s s end 0
-none_came s end h =
-    let counts = (direction s end h).counts in
-    record { ran = ran_none s; taken = omega (arith, counts.acked_taken); sent = refl; acked = refl; wire = refl; back = refl; window = refl }
 
 pub twice : (end : End) → other (other end) ≡ end
 twice A = refl

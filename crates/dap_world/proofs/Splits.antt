@@ -1,14 +1,14 @@
 -- Going through the messages of an NSP message.
 use Rattle.std.proofs.Common.{◌≡◌, ◌≢◌, ℕ, zero, suc, ◌+◌, ◌-◌, ◌≤◌, ◌<◌, arith, refl, sym, ◌∙◌, subst, ap, append_assoc, List, [], ◌∷◌, ◌++◌, length, take, drop, map}
 use Rattle.std.specs.Prelude.{Some, slice_get}
-use Rattle.std.proofs.lemmas.List.{append-nil, length-append, map-append, length-map, take_all}
+use Rattle.std.proofs.lemmas.List.{append-nil, length-append, map-append}
 use Rattle.std.proofs.Common.{add-one}
 use Rattle.dap_msg.specs.Message.{Message}
 use Rattle.dap_msg.specs.Items.{Item, Whole, ItemAt}
 use Rattle.dap_msg.specs.Canon.{canon, Fits}
 use Rattle.dap_msg.specs.Blocked.{NspMessage, joined, all_joined, messages_in, AllFit}
 use Rattle.dap_msg.proofs.ForCallers.{stands_some}
-use Rattle.dap_world.specs.Inner.Splitting.{AreFull, SplitsOne, SplitsAll}
+use Rattle.dap_world.specs.Inner.Splitting.{AreFull, SplitsOne}
 use Rattle.dap_world.proofs.Reading.{at_item, fit_at, ends_at, bytes_at, joined-one}
 use Rattle.dap_world.proofs.Blocks.{fit-front, fit-back}
 use Rattle.dap_world.proofs.Packets.{messages_in-append}
@@ -120,9 +120,6 @@ nth (p ∷ packets) (suc n) bytes full fit at =
     let later = nth packets n bytes full.1 (fit-back p (messages_in packets) fit) at in
     record { packet = later.packet; front = ap (λ (l : List NspMessage). p ∷ l) later.front; bytes_are = later.bytes_are; full = later.full; fit = later.fit }
 
-pub first_none : (list : List (List ℕ)) → SplitFirst list 0 []
-first_none list = λ packets full fit is. refl
-
 pub first_more : (list : List (List ℕ)) (n : ℕ) (bytes : List ℕ) (out new : List (List ℕ)) → SplitFirst list n out → slice_get list n ≡ Some bytes → SplitsOne bytes out new → SplitFirst list (n + 1) new
 first_more list n bytes out new first at one = λ packets full fit is.
     let it = nth packets n bytes full fit (subst (λ (l : List (List ℕ)). slice_get l n ≡ Some bytes) is at) in
@@ -133,8 +130,3 @@ first_more list n bytes out new first at one = λ packets full fit is.
     ∙ ap (λ (l : List Message). map canon (messages_in front ++ l)) (sym (append-nil it.packet))
     ∙ ap (map canon) (sym (messages_in-append front (it.packet ∷ [])))
     ∙ ap (λ (l : List NspMessage). map canon (messages_in l)) (sym it.front ∙ ap (λ (k : ℕ). take k packets) (sym (add-one n)))
-
-pub first_all : (list : List (List ℕ)) (n : ℕ) (out : List (List ℕ)) → SplitFirst list n out → length list ≤ n → SplitsAll list [] out
-first_all list n out first le = λ packets full fit is.
-    let long = ap length is in
-    first packets full fit is ∙ ap (λ (l : List NspMessage). map canon (messages_in l)) (take_all n packets (omega (arith, long, length-map packets joined)))

@@ -3,7 +3,7 @@ use Rattle.std.proofs.Common.{◌≡◌, ℕ, ◌+◌, ◌-◌, ◌≤◌, ◌<�
 use Rattle.std.specs.Prelude.{Option, Some, None, Result, Ok, Err, IfOk, IfErr}
 use Rattle.std.proofs.lemmas.List.{length-map, map-append}
 use Rattle.nsp_link.specs.Link as link
-use Rattle.nsp_link.specs.Link.{LinkValue, Sends, Writes}
+use Rattle.nsp_link.specs.Link.{Sends, Writes}
 use Rattle.nsp_link.specs.Cutting.{cut}
 use Rattle.dap_world.specs.declared.event.End.{End}
 use Rattle.dap_world.specs.declared.event.End.TheVariants.{A, B}
@@ -128,10 +128,6 @@ cannot p B h denied m =
 same_sent : (p : Parts) (end : End) → (sends (state_of p) end).sent ≡ (side p end).link.sent
 same_sent p A = refl
 same_sent p B = refl
-
-same_acked : (p : Parts) (end : End) → (sends (state_of p) end).acked ≡ (side p end).link.acked
-same_acked p A = refl
-same_acked p B = refl
 
 emits : (p : Parts) (end : End) → MayEmit (state_of p) end
     → Steps (state_of p) (event.Emit end) (step.Packet (length (sends (state_of p) end).wire)) (wrote (state_of p) end ((side p end).link.sent + 1) (Some ((side p end).link.sent + 1)))

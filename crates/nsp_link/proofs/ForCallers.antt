@@ -19,10 +19,6 @@ written_spells = written.written_spells
 pub written_one : (src dst : ℕ) (pieces : List Piece) (k : Option ℕ) (a : ℕ) (one two : List ℕ) → IsWritten src dst pieces k a one → IsWritten src dst pieces k a two → one ≡ two
 written_one = written.written_one
 
--- it stays so when segments are added behind
-pub written_more : (src dst : ℕ) (pieces more : List Piece) (k : Option ℕ) (a : ℕ) (bytes : List ℕ) → IsWritten src dst pieces k a bytes → IsWritten src dst (pieces ++ more) k a bytes
-written_more = growing.written_longer
-
 -- it stays so when messages are sent behind
 pub writes_more : (v : LinkValue) (ms more : List (List ℕ)) (k : Option ℕ) (a : ℕ) (bytes : List ℕ) → Writes v ms k a bytes → Writes v (ms ++ more) k a bytes
 writes_more = growing.writes_more

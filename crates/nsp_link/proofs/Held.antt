@@ -4,7 +4,7 @@ use Rattle.std.specs.Prelude.{slice_get, slice_set, MatchOption, is_none}
 use Rattle.std.specs.List.{AllByRecursion}
 use Rattle.std.specs.Option.{option_copied}
 use Rattle.std.proofs.lemmas.Bool.{cases_eq, cases_lt, eq-eqb, ne_eqb, lt-ltb, le-ltb}
-use Rattle.std.proofs.lemmas.List.{drop_all, length-append, length-drop, length-replicate, drop-append-le, drop-drop, replicate-append-replicate}
+use Rattle.std.proofs.lemmas.List.{length-append, length-drop, length-replicate, drop-append-le, drop-drop, replicate-append-replicate}
 use Rattle.nsp_link.specs.declared.segment.Held.{Held}
 use Rattle.nsp_link.specs.Cutting.{Piece}
 use Rattle.nsp_link.specs.Holding.{AreHeld, following, inserted, Lacks}
@@ -12,16 +12,6 @@ use Rattle.nsp_link.specs.Inner.Pieces.{held_from, held_piece, leading}
 use Rattle.nsp_link.proofs.Taking.{AreNext}
 
 -- ---- bounds
-
-held_weaker : (low more high : ℕ) (held : List (ℕ × Piece)) → low ≤ more → AreHeld more high held → AreHeld low high held
-unfolding AreHeld
-held_weaker low more high [] le all = tt
-held_weaker low more high (h ∷ held) le all = (omega (arith, all.0), all.1, all.2)
-
-held_higher : (low high more : ℕ) (held : List (ℕ × Piece)) → high ≤ more → AreHeld low high held → AreHeld low more held
-unfolding AreHeld
-held_higher low high more [] le all = tt
-held_higher low high more (h ∷ held) le all = (all.0, omega (arith, all.1), held_higher h.0 high more held le all.2)
 
 -- what the places hold has their numbers
 pub held_within : (low n high : ℕ) (places : List (Option Held)) → low < n → n + length places ≤ high → AreHeld low high (held_from n places)
@@ -91,10 +81,6 @@ leading_stops [] (suc i) at = refl
 leading_stops (None ∷ places) zero at = refl
 leading_stops (Some h ∷ places) zero at = absurd (cc)
 leading_stops (o ∷ places) (suc i) at = leading_stops places i at
-
-pub leading_past : (places : List (Option Held)) (i : ℕ) → length places ≤ i → leading (drop i places) ≡ []
-unfolding leading
-leading_past places i le = rw (drop_all i places le) refl
 
 pub leading_goes : (places : List (Option Held)) (i : ℕ) (h : Held) → slice_get places i ≡ Some (Some h) → leading (drop i places) ≡ held_piece h ∷ leading (drop (suc i) places)
 unfolding leading
