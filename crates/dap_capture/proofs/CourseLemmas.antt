@@ -1,5 +1,5 @@
 -- A listing goes on as its input is read.
-use Rattle.std.proofs.Common.{◌≡◌, ◌==◌, ◌≤◌, ◌+◌, ◌-◌, ◌++◌, ℕ, drop, Bool, true, false, List, [], length, Option, Some, None, Ok, Err, sym, ap, ◌∙◌, refl, arith, inr, append_assoc, length-append, subst}
+use Rattle.std.proofs.Common.{◌≡◌, ◌==◌, ◌≤◌, ◌+◌, ◌-◌, ◌++◌, ℕ, drop, Bool, true, false, List, [], length, Option, Some, None, sym, ap, ◌∙◌, refl, arith, inr, append_assoc, length-append, subst}
 use Rattle.std.specs.Prelude.{IfSome}
 use Rattle.std.specs.Io.KnownBytes.{Consumes, IsAtEnd}
 use Rattle.std.proofs.lemmas.Bool.{eqb-true}

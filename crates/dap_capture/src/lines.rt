@@ -6,7 +6,7 @@ ghost use Rattle.std.specs.Char.{is_ascii_hexdigit};
 ghost use Rattle.std.specs.Str.Lines.{lines, strip_carriage_return};
 ghost use Rattle.dap_capture.specs.Lines.{is_hex_text as spelled, line_of};
 ghost use Rattle.dap_capture.specs.Inner.Lines.{line_of_head};
-ghost use Rattle.dap_capture.specs.Inner.Cutting.{IsCut, IsEnd};
+ghost use Rattle.dap_capture.specs.Inner.Cutting.{HasNoEnd, IsCut, IsEnd};
 
 use memchr::memchr;
 
@@ -71,6 +71,7 @@ fn ended_line(bytes: &[u8]) -> Option<(&[u8], &[u8])>
     ensures first { IfSome result (λ cut. IsCut false bytes.now cut.0.now cut.1.now
         × (length cut.1.now < length bytes.now)) }
     ensures end { IfSome result (λ cut. IsEnd bytes.now cut.1.now) }
+    ensures none { IfNone result (HasNoEnd bytes.now) }
 {
     let end = find_line_feed(bytes)?;
     Some((without_carriage_return(&bytes[..end]), &bytes[end + 1..]))
@@ -81,7 +82,8 @@ pub(crate) fn cut_line(bytes: &[u8], is_last: bool) -> Option<(&[u8], &[u8])>
     ensures first { IfSome result (λ cut. IsCut is_last bytes.now cut.0.now cut.1.now
         × (length cut.1.now < length bytes.now)) }
     ensures end { IfSome result (λ cut. IsEnd bytes.now cut.1.now) }
-    ensures none { IfNone result (is_last ≡ true → bytes.now ≡ []) }
+    ensures none { IfNone result (HasNoEnd bytes.now) }
+    ensures last { IfNone result (is_last ≡ true → bytes.now ≡ []) }
 {
     if is_last {
         next_line(bytes)

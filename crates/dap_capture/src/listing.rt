@@ -2,7 +2,7 @@
 
 ghost use Rattle.std.specs.Prelude.{◌≡◌, ◌≢◌, ◌≤◌, ◌<◌, ◌+◌, ◌-◌, ◌⊎◌, [], drop, OnErr, IfSome, ◌*◌, ◌/◌, ◌^◌, Some, true, false, IfErr, IfOk, MatchOption, MatchResult, OnOk, length};
 ghost use Rattle.dap_capture.specs.Inner.Adding.{AddsCapture, AddsSome};
-ghost use Rattle.dap_capture.specs.Inner.Cutting.{FaultsGoOn, IsEnd, IsFirstFault, ListingGoesOn};
+ghost use Rattle.dap_capture.specs.Inner.Cutting.{FaultsGoOn, HasNoEnd, IsEnd, IsFirstFault, ListingGoesOn};
 ghost use Rattle.dap_capture.specs.Inner.Lines.{IsRead, StandInFront};
 ghost use Rattle.dap_capture.specs.Inner.Course.{IsInputFault, IsWhole, TextGives};
 ghost use Rattle.dap_capture.specs.declared.fault.CaptureFault.TheVariants.{NoMemory, WriteFailed};
@@ -185,6 +185,7 @@ fn list_cut<'a>(
     ensures left { IfOk result (λ left. IsEnd bytes.now left.now) }
     ensures short { IfOk result (λ left. length left.now ≤ length bytes.now) }
     ensures last { IfOk result (λ left. is_last ≡ true → left.now ≡ []) }
+    ensures rest { IfOk result (λ left. HasNoEnd left.now) }
     ensures lines { IfOk result
         (λ left. course.new.at + length left.now ≤ course.old.at + length bytes.now) }
     ensures captures { IfOk result
@@ -231,6 +232,7 @@ fn check_cut<'a>(
     ensures left { IfOk result (λ left. IsEnd bytes.now left.now) }
     ensures short { IfOk result (λ left. length left.now ≤ length bytes.now) }
     ensures last { IfOk result (λ left. is_last ≡ true → left.now ≡ []) }
+    ensures rest { IfOk result (λ left. HasNoEnd left.now) }
     ensures lines { IfOk result (λ left. at.new + length left.now ≤ at.old + length bytes.now) }
     ensures clean { IfOk result (λ left. FaultsGoOn (limit_of listed) is_last
         at.old bytes.now at.new left.now) }
@@ -262,6 +264,7 @@ fn take_lines(
     ensures room { length room.new ≡ length room.old }
     ensures short { IfOk result (λ left. left ≤ length bytes.now) }
     ensures last { IfOk result (λ left. is_last ≡ true → left ≡ 0) }
+    ensures rest { IfOk result (λ left. HasNoEnd (drop (length bytes.now - left) bytes.now)) }
     ensures lines { IfOk result (λ left. course.new.at + left ≤ course.old.at + length bytes.now) }
     ensures captures { IfOk result
         (λ left. course.new.number + left ≤ course.old.number + length bytes.now) }

@@ -1,6 +1,6 @@
 -- Lines that are taken off the front of bytes behind which others may follow.
-use Rattle.std.specs.Prelude.{◌≡◌, ◌+◌, ◌-◌, ◌++◌, ◌∷◌, ℕ, Bool, true, List, [], drop, length}
-use Rattle.std.specs.List.{filter_map, enumerate_from}
+use Rattle.std.specs.Prelude.{◌≡◌, ◌-◌, ◌++◌, ◌∷◌, ◌==◌, ℕ, Bool, true, List, [], drop, length, None}
+use Rattle.std.specs.List.{filter_map, enumerate_from, position}
 use Rattle.std.specs.Str.Lines.{lines}
 use Rattle.dap_capture.specs.Lines.{line_of}
 use Rattle.dap_capture.specs.Listing.{captures, fault_of_line, limit_of, Capture, CaptureLines}
@@ -43,3 +43,7 @@ ListingGoesOn listed is_last number bytes old later rest new =
 -- the end of the bytes
 abbrev pub IsEnd : List ℕ → List ℕ → Type 0
 IsEnd bytes rest = rest ≡ drop (length bytes - length rest) bytes
+
+-- no line of the bytes has its end there
+abbrev pub HasNoEnd : List ℕ → Type 0
+HasNoEnd bytes = position (λ byte. byte == 10) bytes ≡ None
