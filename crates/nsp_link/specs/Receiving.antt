@@ -2,7 +2,7 @@
 use Rattle.std.specs.Prelude.{◌≡◌, ℕ, ◌+◌, ◌-◌, ◌<◌, ◌≤◌, Bool, true, false, List, ◌∷◌, ◌⊎◌, length, drop, Result, Ok, Err, Option, Some, None, nat_lt, if◌then◌else◌}
 use Rattle.nsp_seg.specs.Numbers.{residue}
 use Rattle.nsp_link.specs.declared.fault.LinkFault.{LinkFault}
-use Rattle.nsp_link.specs.declared.fault.LinkFault.TheVariants.{BadSetup, Malformed, WrongLink, BadSequence, MessageTooLong, Failed, Exhausted, NoSuchSegment, NoMemory}
+use Rattle.nsp_link.specs.declared.fault.LinkFault.TheVariants.{WrongLink, BadSequence, MessageTooLong, NoMemory}
 use Rattle.nsp_seg.specs.Packets.{PacketValue, SegmentValue, segment, data_ack}
 use Rattle.nsp_link.specs.declared.link.Got.{Got}
 use Rattle.nsp_link.specs.declared.link.Got.TheVariants.{Accepted, Repeat, Early, AckOnly}
