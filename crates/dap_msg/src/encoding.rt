@@ -46,15 +46,15 @@ fn put(field: Field, out: &mut Vec<u8>)
 }
 
 /// Appends the fields, for which there is room.
+#[inline(always)]
 fn put_all(fields: &[Field], out: &mut Vec<u8>)
     requires fit { CanWriteAll fields.now }
     requires room { vec_len out.old + length (fields_bytes fields.now) ≤ vec_capacity out.old }
     ensures items { out.new.items ≡ out.old.items ++ fields_bytes fields.now }
     ensures capacity { vec_capacity out.old ≤ vec_capacity out.new }
 {
-    if let [field, rest @ ..] = fields {
+    for field in fields {
         put(*field, out);
-        put_all(rest, out);
     }
 }
 
@@ -144,6 +144,7 @@ fn fields_message_len(fields: &[Field]) -> usize
 }
 
 /// Appends a message of these fields. Where there is no memory nothing is changed.
+#[inline(always)]
 fn write_message(number: u8, fields: &[Field], out: &mut Vec<u8>) -> Result<(), MsgFault>
     requires fit { CanWriteAll fields.now }
     requires small { length (fields_bytes fields.now) < 2 ^ 16 }
@@ -225,15 +226,19 @@ fn extensible_u64_or_absent<'a>(value: Option<u64>) -> Field<'a>
 }
 
 /// The menu of fields of which these are there, the first at bit 0.
+#[inline(always)]
 fn menu_bits(there: &[bool]) -> u64
     requires { length there.now ≤ 63 }
     ensures exact { result ≡ bits_of there.now }
     ensures small { result < 2 ^ length there.now }
 {
-    match there {
-        [] => 0,
-        [first, rest @ ..] => u64::from(*first) + 2 * menu_bits(rest),
+    let mut bits = 0;
+    let mut at = there.len();
+    'fields: while at > 0 {
+        at -= 1;
+        bits = u64::from(there[at]) + 2 * bits;
     }
+    bits
 }
 
 fn status_fields<'a>(code: u16, rfa: &'a [u8], recnum: &'a [u8], stv: &'a [u8]) -> [Field<'a>; 4]
@@ -317,6 +322,7 @@ fn access_fields<'a>(
     ]
 }
 
+#[inline(always)]
 fn control_fields(here: Control<'_>) -> [Field<'_>; 8]
     requires { FieldsFit (ControlOf (seen_control here)) }
     ensures bytes { fields_bytes result ≡ operand_bytes (ControlOf (seen_control here.entry)) }
@@ -475,19 +481,45 @@ macro_rules! with_fields {
     };
 }
 
+/// Appends a message as [`encode`] does.
+#[tactic(auto, unfolding(crate::specs::Canon::canon))]
+#[inline(always)]
+fn encode_here(message: &Message<'_>, out: &mut Vec<u8>) -> Result<(), MsgFault>
+    requires { Fits (seen message.now) }
+    ensures appends { Appends (canon (seen message.now)) out.old out.new result }
+    ensures capacity { vec_capacity out.old ≤ vec_capacity out.new }
+{
+    with_fields!(message, fields => write_message(message.number(), fields, out))
+}
+
+/// The same. A call clears the room for the fields of all messages that it may meet: so those with the most fields are
+/// written apart.
+#[inline(never)]
+fn encode_apart(message: &Message<'_>, out: &mut Vec<u8>) -> Result<(), MsgFault>
+    requires { Fits (seen message.now) }
+    ensures appends { Appends (canon (seen message.now)) out.old out.new result }
+    ensures capacity { vec_capacity out.old ≤ vec_capacity out.new }
+{
+    encode_here(message, out)
+}
+
 /// Appends the canonical spelling of a message: LENGTH always, LEN256 exactly where the operand has 256 bytes or
 /// more, all fields, numbers in their shortest spelling, nothing after the last field (own; the formats are those
 /// of DAP 5.6.0).
 ///
 /// The message must fit, as [`fits`] tells. The only refusal is `FaultKind::NoMemory`, with type and offset 0, which
 /// comes only where `out` lacked the room and leaves it unchanged. Room is reserved once, and none is given back.
-#[tactic(auto, unfolding(crate::specs::Canon::canon))]
 pub fn encode(message: &Message<'_>, out: &mut Vec<u8>) -> Result<(), MsgFault>
     requires { Fits (seen message.now) }
     ensures appends { Appends (canon (seen message.now)) out.old out.new result }
     ensures capacity { vec_capacity out.old ≤ vec_capacity out.new }
 {
-    with_fields!(message, fields => write_message(message.number(), fields, out))
+    match message {
+        Message::Config { .. } | Message::Attrib(_) | Message::Access { .. } => {
+            encode_apart(message, out)
+        }
+        _ => encode_here(message, out),
+    }
 }
 
 /// The number of bytes that [`encode`] appends for a message that fits (own; DAP 5.6.0, message formats). Takes no
