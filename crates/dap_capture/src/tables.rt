@@ -61,14 +61,15 @@ fn push_record(text: &mut Vec<u8>, number: u32, body: &[u8]) -> Result<(), Alloc
     push_str(text, "\n")
 }
 
-/// Appends the lines of a file's records, in the order of their numbers.
+/// Appends the lines of a file's records, in the order of their numbers. The next record is found before the line of one
+/// is written, so that the processor fetches it meanwhile.
 fn push_records(text: &mut Vec<u8>, file: &AnyFile) -> Result<(), AllocError>
     ensures { OnOk result (Adds text.old text.new (records_text (any_value file.now))) }
 {
-    let mut next = 0;
-    while let Some((number, body)) = first_record(file, next) {
+    let mut next = first_record(file, 0);
+    while let Some((number, body)) = next {
+        next = first_record(file, number + 1);
         push_record(text, number, body)?;
-        next = number + 1;
     }
     Ok(())
 }
