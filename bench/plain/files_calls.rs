@@ -1,0 +1,107 @@
+//! What bench/files.program does, without proofs, over std's tree: for speed alone, and no pages.
+use std::collections::BTreeMap;
+use std::collections::btree_map::Entry;
+use std::time::Instant;
+
+type File = BTreeMap<u32, Box<[u8]>>;
+
+/// A place in a file.
+struct Stream {
+    current: Option<u32>,
+    next: u32,
+}
+
+impl Stream {
+    fn new() -> Stream {
+        Stream { current: None, next: 1 }
+    }
+
+    fn put(&mut self, file: &mut File, number: u32, body: &[u8]) -> Option<u32> {
+        if number == 0 || number > i32::MAX as u32 {
+            return None;
+        }
+        self.current = None;
+        let Entry::Vacant(place) = file.entry(number) else {
+            return None;
+        };
+        place.insert(body.into());
+        self.next = number + 1;
+        Some(number)
+    }
+
+    fn found(&mut self, number: Option<u32>) -> Option<u32> {
+        self.current = number;
+        self.next = number? + 1;
+        number
+    }
+
+    fn get_key(&mut self, file: &File, number: u32) -> Option<u32> {
+        let found = file.get(&number).map(|_| number);
+        self.found(found)
+    }
+
+    fn get_next(&mut self, file: &File) -> Option<u32> {
+        let found = file.range(self.next..).next().map(|(number, _)| *number);
+        self.found(found)
+    }
+
+    fn delete(&mut self, file: &mut File) {
+        if let Some(number) = self.current.take() {
+            file.remove(&number);
+        }
+    }
+}
+
+fn numbers(order: &str, count: u32) -> Vec<u32> {
+    let range = count.saturating_mul(8).max(1);
+    let mut seed = 1u32;
+    (0..count)
+        .map(|place| {
+            seed = seed.wrapping_mul(1664525).wrapping_add(1013904223);
+            match order {
+                "rising" => place + 1,
+                "falling" => count - place,
+                "scattered" => (seed >> 8) % range + 1,
+                _ => (seed >> 1).max(1),
+            }
+        })
+        .collect()
+}
+
+fn pages(file: &File) -> usize {
+    let mut pages: Vec<u32> = file.keys().map(|number| (number - 1) / 64).collect();
+    pages.dedup();
+    pages.len()
+}
+
+fn main() {
+    let words: Vec<String> = std::env::args().collect();
+    let (order, count) = (words[1].as_str(), words[2].parse().unwrap());
+    let numbers = numbers(order, count);
+    let each = u128::from(count.max(1));
+    let mut file = File::new();
+    let start = Instant::now();
+    let mut stream = Stream::new();
+    for number in &numbers {
+        let _ = stream.put(&mut file, *number, b"a record of some thirty bytes.");
+    }
+    let put = start.elapsed().as_nanos() / each;
+    let kept = pages(&file);
+    let start = Instant::now();
+    let mut stream = Stream::new();
+    let by_key = numbers.iter().fold(0, |answers, number| answers ^ stream.get_key(&file, *number).unwrap_or(0));
+    let get = start.elapsed().as_nanos() / each;
+    let start = Instant::now();
+    let mut stream = Stream::new();
+    let in_order = numbers.iter().fold(0, |answers, _| answers ^ stream.get_next(&file).unwrap_or(0));
+    let next = start.elapsed().as_nanos() / each;
+    let start = Instant::now();
+    let mut stream = Stream::new();
+    for number in &numbers {
+        stream.get_key(&file, *number);
+        stream.delete(&mut file);
+    }
+    let delete = start.elapsed().as_nanos() / each;
+    println!("put {put}\nget {get}\nnext {next}\ndelete {delete}");
+    println!("answers {kept} {by_key} {in_order} {}", pages(&file));
+}
