@@ -140,7 +140,10 @@ fn push_captured(listed: Listed, text: &mut Vec<u8>, bytes: &[u8]) -> Result<(),
     }
 }
 
-/// Appends the lines of captured bytes.
+/// Room for the words and numbers of a line.
+const WORDS: usize = 256;
+
+/// Appends the lines of captured bytes. Room is made once: two digits a byte, and their words.
 fn push_capture(
     listed: Listed,
     text: &mut Vec<u8>,
@@ -148,8 +151,10 @@ fn push_capture(
     direction: Direction,
     bytes: &[u8],
 ) -> Result<(), AllocError>
+    requires { length bytes.now < 2 ^ 32 }
     ensures { OnOk result (AddsCapture listed number direction bytes.now text.old text.new) }
 {
+    text.reserve(2 * bytes.len() + WORDS)?;
     push_decimal(text, number)?;
     push_str(text, " ")?;
     push_str(text, arrow(direction))?;
