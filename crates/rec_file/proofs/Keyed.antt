@@ -1,27 +1,19 @@
 -- An ordered map's entries, as numbered values whose numbers rise: what stands at a number after each edit.
 use Rattle.std.proofs.Common.{◌≡◌, ℕ, ◌<◌, ◌≤◌, ◌≢◌, ◌&&◌, cond, eqb, Bool, true, false, List, [], ◌∷◌, map, Option, Some, None, IsSome, refl, sym, ap, subst, ◌∙◌, arith, inl, inr}
-use Rattle.std.specs.Prelude.{OnErr, Result, Ok, Err}
 use Rattle.std.specs.List.{filter, AllByRecursion}
-use Rattle.std.specs.Ordering.{nat_cmp, is_eq, is_le, match_ordering}
-use Rattle.std.specs.Cmp.{nat_cmp_total}
-use Rattle.std.specs.List.Sorted.{IsStrictlySortedBy}
-use Rattle.std.specs.Option.{unwrap_or}
-use Rattle.std.specs.declared.cmp.Ordering.{Ordering}
+use Rattle.std.specs.Ordering.{nat_cmp, is_le, match_ordering}
 use Rattle.std.specs.declared.cmp.Ordering.TheVariants.{Less, Equal, Greater}
-use Rattle.std.specs.Map.{keys_of, lookup, set_value, remove_entry}
-use Rattle.std.proofs.lemmas.Map.{lookup-none}
-use Rattle.std.proofs.lemmas.Map.Entries.{none_below_head}
-use Rattle.std.proofs.lemmas.Map.Keys.{sorted_tail}
+use Rattle.std.specs.Map.{lookup, set_value, remove_entry}
 use Rattle.std.specs.BTreeMap.{is_at, insert_entry}
 use Rattle.std.proofs.lemmas.Bool.{cases_lt}
 use Rattle.std.proofs.lemmas.Bool.Decides.{nat_tests}
 use Rattle.rec_file.proofs.Rising.{at, AllAbove, IsRising, at_below, at_tail, at_first, same_or_not}
 
 -- the test of a map for a number
-is_there : (p k : ℕ) → p ≡ k → is_at (nat_cmp p) k ≡ true
+pub is_there : (p k : ℕ) → p ≡ k → is_at (nat_cmp p) k ≡ true
 is_there p k same = grind (arith, nat_tests)
 
-is_elsewhere : (p k : ℕ) → p ≢ k → is_at (nat_cmp p) k ≡ false
+pub is_elsewhere : (p k : ℕ) → p ≢ k → is_at (nat_cmp p) k ≡ false
 is_elsewhere p k other = grind (arith, nat_tests)
 
 is_less : (p k : ℕ) → p < k → nat_cmp p k ≡ Less
@@ -112,23 +104,6 @@ module _ {X : Type 0} where
     ]
   ]
 
-  -- what a look-up found, inserted again, changes nothing
-  pub inserted-same : (es : List (ℕ × X)) (p : ℕ) (v : X) → IsStrictlySortedBy nat_cmp (keys_of es) → lookup (is_at (nat_cmp p)) es ≡ Some v → insert_entry nat_cmp es p v ≡ es
-  inserted-same [] p v s h = cc
-  inserted-same (e ∷ es) p v s h = by (nat_cmp p e.0) refl h (inserted-same es p v (sorted_tail nat_cmp e.0 (keys_of es) s))
-    where
-      by : (r : Ordering) → nat_cmp p e.0 ≡ r → cond (is_eq r) (Some e.1) (lookup (is_at (nat_cmp p)) es) ≡ Some v → (lookup (is_at (nat_cmp p)) es ≡ Some v → insert_entry nat_cmp es p v ≡ es)
-          → match_ordering r ((p, v) ∷ e ∷ es) ((e.0, v) ∷ es) (e ∷ insert_entry nat_cmp es p v) ≡ e ∷ es
-      by Less q found later = cc (found, lookup-none (is_at (nat_cmp p)) es (none_below_head nat_cmp_total p e es s q).1)
-      by Equal q found later = ap (λ o. (e.0, unwrap_or o v) ∷ es) (sym found)
-      by Greater q found later = ap (λ l. e ∷ l) (later found)
-
-  -- an insertion that was refused wrote back what was there
-  pub inserted-back : {A E : Type 0} (r : Result A E) (es now : List (ℕ × X)) (p : ℕ) (old new : X) → now ≡ insert_entry nat_cmp es p new → OnErr r (new ≡ old) → IsStrictlySortedBy nat_cmp (keys_of es)
-      → lookup (is_at (nat_cmp p)) es ≡ Some old → OnErr r (now ≡ es)
-  inserted-back (Ok a) es now p old new is back s found = tt
-  inserted-back (Err e) es now p old new is back s found = is ∙ ap (insert_entry nat_cmp es p) back ∙ inserted-same es p old s found
-
   -- a number less
   pub at-removed : (es : List (ℕ × X)) (p : ℕ) → IsRising es → (q : ℕ) → at (remove_entry (is_at (nat_cmp p)) es) q ≡ cond (eqb q p) None (at es q)
   at-removed [] p r q = nothing (eqb q p)
@@ -155,15 +130,6 @@ module _ {X : Type 0} where
   pub rising-removed : (t : ℕ → Bool) (es : List (ℕ × X)) → IsRising es → IsRising (remove_entry t es)
   rising-removed t [] r = tt
   rising-removed t (e ∷ es) r = elim (t e.0) as (λ b. IsRising (cond b es (e ∷ remove_entry t es))) [ true ↦ r.1 | false ↦ (above-removed e.0 t es r.0, rising-removed t es r.1) ]
-
-  -- a value that was written and then removed
-  pub removed-written : (t : ℕ → Bool) (es : List (ℕ × X)) (v : X) → remove_entry t (set_value t es v) ≡ remove_entry t es
-  removed-written t [] v = refl
-  removed-written t (e ∷ es) v = by (t e.0) refl (removed-written t es v)
-    where
-      by : (b : Bool) → t e.0 ≡ b → remove_entry t (set_value t es v) ≡ remove_entry t es → remove_entry t (cond b ((e.0, v) ∷ es) (e ∷ set_value t es v)) ≡ cond b es (e ∷ remove_entry t es)
-      by true is rest = ap (λ b. cond b es ((e.0, v) ∷ remove_entry t es)) is
-      by false is rest = ap (λ b. cond b (set_value t es v) (e ∷ remove_entry t (set_value t es v))) is ∙ ap (λ l. e ∷ l) rest
 
   -- the values from a number on
   abbrev pub behind : ℕ → List (ℕ × X) → List (ℕ × X)

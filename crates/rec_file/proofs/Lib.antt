@@ -11,6 +11,7 @@ pub mod PackedLaws
 pub mod PagedLaws
 pub mod Keyed
 pub mod RelativeLaws
+pub mod PlacedLaws
 pub mod Bodies
 pub mod CountLaws
 pub mod ForCallers

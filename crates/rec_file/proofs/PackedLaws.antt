@@ -4,6 +4,7 @@ use Rattle.std.specs.Prelude.{replicate}
 use Rattle.std.specs.Int.{bit_at, bit_not}
 use Rattle.std.specs.Simd.Lanes.{mask_l}
 use Rattle.std.specs.Int.RustNames.{count_ones}
+use Rattle.std.specs.List.{refill}
 use Rattle.std.proofs.lemmas.Nat.{and_mask, and_le_l, or_lt, or_shifted, mod-pow-add, one_shl}
 use Rattle.std.proofs.lemmas.Nat.Bits.{bit_at_lowest, bit_at-suc, shr_and_one}
 use Rattle.std.proofs.lemmas.Simd.{ones-mask_l, ones-mask_l_cons}
@@ -62,6 +63,16 @@ map-insert f xs i x = map-append f (take i xs) (x ∷ drop i xs) ∙ sym (rw (ta
 
 pub map-remove : {X Y : Type 0} (f : X → Y) (xs : List X) (i : ℕ) → map f (remove xs i) ≡ remove (map f xs) i
 map-remove f xs i = map-append f (take i xs) (drop (suc i) xs) ∙ sym (rw (take-map f i xs, drop-map f (suc i) xs) refl)
+
+-- a list of the same length takes another's places
+refilled : {X : Type 0} (xs ws : List X) → length ws ≡ length xs → refill (length xs) xs ws ≡ ws
+refilled [] [] same = refl
+refilled [] (w ∷ ws) same = cc
+refilled (x ∷ xs) [] same = cc
+refilled (x ∷ xs) (w ∷ ws) same = ap (λ l. w ∷ l) (refilled xs ws (omega arith))
+
+pub refill-set : {X : Type 0} (xs : List X) (i : ℕ) (x : X) → refill (length xs) xs (set xs i x) ≡ set xs i x
+refill-set xs i x = refilled xs (set xs i x) (length-set xs i x)
 
 length-cells_from : (mask k many : ℕ) (bodies : List (List ℕ)) → length (cells_from mask k many bodies) ≡ many
 unfolding cells_from

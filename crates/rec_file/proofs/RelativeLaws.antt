@@ -127,14 +127,14 @@ pub held : (s : Shape) (ps : List (ℕ × Cells)) (f : FileVal) → paged_file s
 held s ps f same sorted all = record { same = same; sorted = sorted; all = all }
 
 -- above the greatest number nothing stands
-pub none_above : (ps : List (ℕ × Cells)) (p : ℕ) → ((q : ℕ) → IsSome (lookup (is_at (nat_cmp q)) ps) → is_lt (nat_cmp p q) ≡ false) → (j : ℕ) → p < j → at ps j ≡ None
-none_above ps p greatest j lt = by (at ps j) refl
+pub none_above : {X : Type 0} (ps : List (ℕ × X)) (p : ℕ) → ((q : ℕ) → IsSome (lookup (is_at (nat_cmp q)) ps) → is_lt (nat_cmp p q) ≡ false) → (j : ℕ) → p < j → at ps j ≡ None
+none_above {X} ps p greatest j lt = by (at ps j) refl
   where
-    by : (o : Option Cells) → at ps j ≡ o → o ≡ None
+    by : (o : Option X) → at ps j ≡ o → o ≡ None
     by None e = refl
     by (Some c) e = let low = greatest j (ap is_some (lookup_is_at ps j ∙ e)) in absurd (grind (arith, nat_tests))
 
-pub none_kept : (ps : List (ℕ × Cells)) → (0 < length ps → ⊥) → ps ≡ []
+pub none_kept : {X : Type 0} (ps : List X) → (0 < length ps → ⊥) → ps ≡ []
 none_kept [] h = refl
 none_kept (p ∷ ps) h = absurd (h (omega arith))
 

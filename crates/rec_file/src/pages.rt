@@ -1,9 +1,10 @@
 //! Pages of 64 cells.
-ghost use Rattle.std.specs.Prelude.{◌≡◌, ◌≤◌, ◌<◌, ◌↔◌, ℕ, None, Some, IfOk, OnOk, OnErr, IsSome, IfSome, IfNone, IsTrue, slice_set};
+ghost use Rattle.std.specs.Prelude.{◌≡◌, ◌≤◌, ◌<◌, ◌↔◌, ℕ, None, Some, OnOk, OnErr, IsSome, IfSome, IfNone, IsTrue, slice_set};
 ghost use Rattle.std.specs.Option.{option_copied};
 ghost use Rattle.rec_file.specs.Inner.Pages.{cell, cell_of, last_page, empty_cells, occupied_below, IsFirstIn, IsLastIn};
 ghost use Rattle.rec_file.specs.Pages.{page_of};
 
+use smallvec::SmallVec;
 use std::alloc::{AllocError, Global};
 use std::marker::Model;
 
@@ -32,8 +33,8 @@ pub fn cell_of(number: u32) -> usize
 pub struct Page {
     // Bit k is set exactly where cell k is occupied.
     mask: u64,
-    // The records of the occupied cells, in the order of the cells.
-    bodies: Vec<Vec<u8>>,
+    // The records of the occupied cells, in the order of the cells. A single one stands in the page itself.
+    bodies: SmallVec<Vec<u8>, 1>,
 }
 
 impl Model for Page {
@@ -48,15 +49,15 @@ impl Model for Page {
 }
 
 impl Page {
-    /// A page with one record.
-    pub fn with(alloc: Global, at: usize, body: Vec<u8>) -> Result<Page, AllocError>
+    /// A page with one record. It takes no memory.
+    pub fn with(alloc: Global, at: usize, body: Vec<u8>) -> Page
         requires { at < 64 }
-        ensures { IfOk result (λ page. page ≡ slice_set empty_cells at (Some body.items)) }
+        ensures { result ≡ slice_set empty_cells at (Some body.items) }
     {
-        Ok(Page {
+        Page {
             mask: 1u64 << at,
-            bodies: Vec::from_array(alloc, [body])?,
-        })
+            bodies: SmallVec::from_buf(alloc, [body]),
+        }
     }
 
     /// The record of a cell.
@@ -67,7 +68,7 @@ impl Page {
         if (self.mask >> at) & 1 == 0 {
             return None;
         }
-        Some(self.bodies[self.rank(at)].as_slice())
+        Some(self.bodies.as_slice()[self.rank(at)].as_slice())
     }
 
     /// Stores a record in an empty cell. An error is want of memory: nothing has changed.
@@ -90,7 +91,7 @@ impl Page {
         ensures { self.new ≡ slice_set self.old at (Some body.items) }
     {
         let rank = self.rank(at);
-        self.bodies[rank] = body;
+        self.bodies.as_mut_slice()[rank] = body;
     }
 
     /// Empties an occupied cell. It takes no memory.

@@ -1,15 +1,19 @@
 //! Relative files in pages.
-ghost use Rattle.std.specs.Prelude.{◌≡◌, ◌<◌, None, false, IfSome, IsTrue, OnErr, OnOk};
-ghost use Rattle.std.specs.BTreeMap.{get};
+ghost use Rattle.std.specs.Prelude.{◌≡◌, ◌<◌, None, false, map as each, IfSome, IsTrue, OnErr, OnOk};
+ghost use Rattle.std.specs.List.{AllByRecursion};
+ghost use Rattle.std.specs.BTreeMap.{is_at};
+ghost use Rattle.std.specs.Map.{lookup};
 ghost use Rattle.std.specs.Ordering.{nat_cmp};
 ghost use Rattle.std.specs.FinMap as map;
+ghost use Rattle.slab.specs.Slab.{get};
 ghost use Rattle.rec_file.specs.Shapes.{is_shape, is_seq};
 ghost use Rattle.rec_file.specs.Pages.{occupied_pages};
-ghost use Rattle.rec_file.specs.Inner.Pages.{cell, put_entry};
+ghost use Rattle.rec_file.specs.Inner.Pages.{cell as cell_in, pages_at, put_entry, HaveOwnPlaces, IsPage};
 
 use crate::files::RecordFile;
 use crate::pages::{Page, cell_of, first_in, last_in, page_of};
 use crate::shapes::Shape;
+use slab::Slab;
 use std::alloc::{AllocError, Global};
 use std::collections::BTreeMap;
 use std::collections::btree_map::Entry;
@@ -17,12 +21,13 @@ use std::marker::Model;
 
 /// A relative file (own, in the manner of RMS): each number from 1 to the limit has a record or
 /// none. Number n stands in cell `(n - 1) % 64` of page `(n - 1) / 64`; a page is kept while it has
-/// a record, and the pages stand in a tree in the order of their numbers.
+/// a record, and a tree has the places of the pages in the order of their numbers.
 #[derive(Drop)]
 pub struct RelFile {
     shape: Shape,
     alloc: Global,
-    pages: BTreeMap<u32, Page>,
+    places: BTreeMap<u32, usize>,
+    pages: Slab<Page>,
 }
 
 impl Model for RelFile {
@@ -30,20 +35,22 @@ impl Model for RelFile {
     ghost use Rattle.std.specs.List.{AllByRecursion};
     ghost use Rattle.std.specs.Ordering.{nat_cmp};
     ghost use Rattle.std.specs.FinMap.{is_sorted};
+    ghost use Rattle.slab.specs.Slab.{get};
     ghost use Rattle.rec_file.specs.Shapes.{is_seq};
-    ghost use Rattle.rec_file.specs.Inner.Pages.{paged_file, IsPage};
+    ghost use Rattle.rec_file.specs.Inner.Pages.{paged_file, pages_at, HaveOwnPlaces, IsPage};
     ghost use Rattle.rec_file.specs.Files.{FileVal, IsFile, file_code};
 
     ghost Value = { FileVal };
 
     ghost coded = { file_code };
 
-    ghost view = { λ a. paged_file a.shape a.pages.entries };
+    ghost view = { λ a. paged_file a.shape (pages_at (get a.pages) a.places.entries) };
 
-    ghost invariant = { λ a. IsFile (paged_file a.shape a.pages.entries)
+    ghost invariant = { λ a. IsFile (paged_file a.shape (pages_at (get a.pages) a.places.entries))
         × (is_seq a.shape.org ≡ false)
-        × (is_sorted nat_cmp a.pages.entries ≡ true)
-        × AllByRecursion IsPage (map (λ p. p.1) a.pages.entries) };
+        × (is_sorted nat_cmp (pages_at (get a.pages) a.places.entries) ≡ true)
+        × AllByRecursion IsPage (map (λ p. p.1) (pages_at (get a.pages) a.places.entries))
+        × HaveOwnPlaces a.places.entries };
 }
 
 impl RelFile {
@@ -56,7 +63,8 @@ impl RelFile {
         RelFile {
             shape,
             alloc,
-            pages: BTreeMap::new(alloc),
+            places: BTreeMap::new(alloc),
+            pages: Slab::new(alloc),
         }
     }
 
@@ -65,30 +73,44 @@ impl RelFile {
     pub fn page_count(&self) -> usize
         ensures { result ≡ occupied_pages self.now.records }
     {
-        self.pages.len()
+        self.places.len()
     }
 }
 
 /// Stores a record in an empty cell of a page that is kept, or else of a new one. An error is want of memory:
 /// nothing has changed.
 fn put_in(
-    pages: &mut BTreeMap<u32, Page>,
+    places: &mut BTreeMap<u32, usize>,
+    pages: &mut Slab<Page>,
     alloc: Global,
     at: u32,
-    place: usize,
+    cell: usize,
     body: Vec<u8>,
 ) -> Result<(), AllocError>
-    requires within { place < 64 }
-    requires empty { IfSome (get nat_cmp pages.old at) (λ page. cell page place ≡ None) }
-    ensures ok { OnOk result (pages.new.entries ≡ put_entry pages.old.entries at place body.items) }
-    ensures err { OnErr result (pages.new.entries ≡ pages.old.entries) }
+    requires within { cell < 64 }
+    requires kept { AllByRecursion IsPage (each (λ p. p.1) (pages_at (get pages.old)
+        places.old.entries)) }
+    requires own { HaveOwnPlaces places.old.entries }
+    requires empty { IfSome (lookup (is_at (nat_cmp at)) (pages_at (get pages.old)
+        places.old.entries)) (λ page. cell_in page cell ≡ None) }
+    ensures ok { OnOk result (pages_at (get pages.new) places.new.entries
+        ≡ put_entry (pages_at (get pages.old) places.old.entries) at cell body.items) }
+    ensures err { OnErr result (pages_at (get pages.new) places.new.entries
+        ≡ pages_at (get pages.old) places.old.entries) }
+    ensures own { HaveOwnPlaces places.new.entries }
 {
-    let free = match pages.entry(at)? {
-        Entry::Occupied(kept) => return kept.into_mut().put(place, body),
-        Entry::Vacant(free) => free,
-    };
-    free.insert(Page::with(alloc, place, body)?);
-    Ok(())
+    match places.entry(at)? {
+        Entry::Occupied(kept) => match pages.get_mut(*kept.get()) {
+            Some(page) => page.put(cell, body),
+            None => Ok(()),
+        },
+        Entry::Vacant(free) => {
+            pages.reserve(1)?;
+            let place = pages.insert_reserved(Page::with(alloc, cell, body));
+            free.insert(place);
+            Ok(())
+        }
+    }
 }
 
 impl RecordFile for RelFile {
@@ -99,32 +121,38 @@ impl RecordFile for RelFile {
     }
 
     fn lookup(&self, number: u32) -> Option<&[u8]> {
-        let pages = &self.pages;
+        let places = &self.places;
         if number == 0 {
             return None;
         }
-        let page = pages.get(&page_of(number))?;
+        let place = places.get(&page_of(number))?;
+        let page = self.pages.get(*place)?;
         page.get(cell_of(number))
     }
 
     fn first_from(&self, number: u32) -> Option<u32> {
         let least = number.max(1);
         let own = page_of(least);
-        let mut rest = self.pages.range(own..);
-        let (at, page) = rest.next()?;
+        let mut rest = self.places.range(own..);
+        let (at, place) = rest.next()?;
+        let page = self.pages.get(*place)?;
         let from = if *at == own { cell_of(least) } else { 0 };
         match first_in(*at, page, from) {
             Some(first) => Some(first),
             None => {
-                let (at, page) = rest.next()?;
+                let (at, place) = rest.next()?;
+                let page = self.pages.get(*place)?;
                 first_in(*at, page, 0)
             }
         }
     }
 
     fn highest(&self) -> u32 {
-        match self.pages.last_key_value() {
-            Some((at, page)) => last_in(*at, page).unwrap_or(0),
+        let Some((at, place)) = self.places.last_key_value() else {
+            return 0;
+        };
+        match self.pages.get(*place) {
+            Some(page) => last_in(*at, page).unwrap_or(0),
             None => 0,
         }
     }
@@ -132,12 +160,16 @@ impl RecordFile for RelFile {
     fn place(&mut self, number: u32, body: &[u8]) -> Result<(), AllocError> {
         let body = Vec::from_slice(self.alloc, body)?;
         let at = page_of(number);
-        put_in(&mut self.pages, self.alloc, at, cell_of(number), body)
+        let cell = cell_of(number);
+        put_in(&mut self.places, &mut self.pages, self.alloc, at, cell, body)
     }
 
     fn replace(&mut self, number: u32, body: &[u8]) -> Result<(), AllocError> {
         let body = Vec::from_slice(self.alloc, body)?;
-        let Some(page) = self.pages.get_mut(&page_of(number)) else {
+        let Some(place) = self.places.get(&page_of(number)) else {
+            return Ok(());
+        };
+        let Some(page) = self.pages.get_mut(*place) else {
             return Ok(());
         };
         page.replace(cell_of(number), body);
@@ -145,14 +177,19 @@ impl RecordFile for RelFile {
     }
 
     fn remove(&mut self, number: u32) {
-        let pages = &mut self.pages;
+        let places = &self.places;
         let at = page_of(number);
-        let Some(page) = pages.get_mut(&at) else {
+        let Some(place) = places.get(&at) else {
+            return;
+        };
+        let place = *place;
+        let Some(page) = self.pages.get_mut(place) else {
             return;
         };
         page.clear(cell_of(number));
         if page.is_empty() {
-            let _ = pages.remove(&at);
+            let _ = self.pages.try_remove(place);
+            let _ = self.places.remove(&at);
         }
     }
 }

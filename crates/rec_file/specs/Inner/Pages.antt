@@ -1,5 +1,5 @@
 -- Pages of 64 cells, and a list of them as the records of a relative file.
-use Rattle.std.specs.Prelude.{◌≡◌, ℕ, zero, suc, ◌+◌, ◌-◌, ◌*◌, ◌%◌, ◌≤◌, ◌<◌, List, [], ◌∷◌, ◌++◌, length, Option, None, Some, is_some, IsSome, replicate, ◌==◌, ◌^◌, take, drop, slice_get, slice_set, if◌then◌else◌}
+use Rattle.std.specs.Prelude.{◌≡◌, ◌≢◌, ℕ, zero, suc, ◌+◌, ◌-◌, ◌*◌, ◌%◌, ◌≤◌, ◌<◌, List, [], ◌∷◌, ◌++◌, length, Option, None, Some, is_some, IsSome, replicate, ◌==◌, ◌^◌, take, drop, slice_get, slice_set, if◌then◌else◌}
 use Rattle.std.specs.BTreeMap.{insert_entry, is_at}
 use Rattle.std.specs.Map.{lookup}
 use Rattle.std.specs.Option.{unwrap_or}
@@ -73,6 +73,21 @@ paged (p ∷ ps) = numbered_cells (64 * p.0 + 1) p.1 ++ paged ps
 
 abbrev pub paged_file : Shape → List (ℕ × Cells) → FileVal
 paged_file shape pages = record { shape = shape; records = from_entries (paged pages) }
+
+-- numbered places, and the pages that stand there
+abbrev pub pages_at : (ℕ → Option Cells) → List (ℕ × ℕ) → List (ℕ × Cells)
+pages_at kept [] = []
+pages_at kept (e ∷ es) = (e.0, unwrap_or (kept e.1) []) ∷ pages_at kept es
+
+-- none of them is this place
+abbrev pub NoneAt : ℕ → List (ℕ × ℕ) → Type 0
+NoneAt place [] = Unit {0}
+NoneAt place (e ∷ es) = (e.1 ≢ place) × NoneAt place es
+
+-- no two are the same place
+abbrev pub HaveOwnPlaces : List (ℕ × ℕ) → Type 0
+HaveOwnPlaces [] = Unit {0}
+HaveOwnPlaces (e ∷ es) = NoneAt e.1 es × HaveOwnPlaces es
 
 -- the record of a number, through its page and cell: what a reader may take for the meaning of pages
 abbrev pub page_cell : Option Cells → ℕ → Option (List ℕ)

@@ -1,14 +1,23 @@
-use Rattle.std.proofs.Common.{arith}
-use Rattle.rec_file.proofs.PackedLaws.{opened, closed, made, place_inside, packs-replaced}
+use Rattle.std.proofs.Common.{ap, length, arith}
+use Rattle.rec_file.proofs.PackedLaws.{opened, closed, made, place_inside, packs-replaced, refill-set}
 use Rattle.rec_file.proofs.pages.Page.replace.Goals as goal
 
-pub index_mut-requires : goal.index_mut-requires
-index_mut-requires c = let place = place_inside (λ v. v.items) _ _ _ (opened c.self.invariant c.self.view_is) c.args.at c.requires.occupied in omega (arith, c.rank-rank.ensures)
+pub offset_bounds-as_mut_slice-rank : goal.offset_bounds-as_mut_slice-rank
+offset_bounds-as_mut_slice-rank c =
+    let place = place_inside (λ v. v.items) _ _ _ (opened c.self.invariant c.self.view_is) c.args.at c.requires.occupied in
+    let same = ap length c.as_mut_slice.ensures.value in
+    omega (arith, c.rank-rank.ensures, c.as_mut_slice.type_inv)
+
+pub bounds-as_mut_slice-rank : goal.bounds-as_mut_slice-rank
+bounds-as_mut_slice-rank c =
+    let place = place_inside (λ v. v.items) _ _ _ (opened c.self.invariant c.self.view_is) c.args.at c.requires.occupied in
+    let same = ap length c.as_mut_slice.ensures.value in
+    omega (arith, c.rank-rank.ensures)
 
 pub invariant_of-self : goal.invariant_of-self
 invariant_of-self c =
-    rw c.rank-rank.ensures (closed (packs-replaced (λ v. v.items) _ _ _ (opened c.self.invariant c.self.view_is) c.args.at c.args.body c.requires.within c.requires.occupied))
+    rw (c.as_mut_slice.ensures.value, refill-set, c.rank-rank.ensures) (closed (packs-replaced (λ v. v.items) _ _ _ (opened c.self.invariant c.self.view_is) c.args.at c.args.body c.requires.within c.requires.occupied))
 
 pub returns : goal.returns
 returns c =
-    rw c.rank-rank.ensures (made (packs-replaced (λ v. v.items) _ _ _ (opened c.self.invariant c.self.view_is) c.args.at c.args.body c.requires.within c.requires.occupied))
+    rw (c.as_mut_slice.ensures.value, refill-set, c.rank-rank.ensures) (made (packs-replaced (λ v. v.items) _ _ _ (opened c.self.invariant c.self.view_is) c.args.at c.args.body c.requires.within c.requires.occupied))

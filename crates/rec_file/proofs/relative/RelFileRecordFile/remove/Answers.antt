@@ -1,65 +1,71 @@
 use Rattle.std.proofs.Common.{IsSome, sym, ap, subst, ◌∙◌}
-use Rattle.std.specs.Ordering.{nat_cmp}
-use Rattle.std.specs.Map.{remove_entry}
-use Rattle.std.specs.BTreeMap.{is_at}
-use Rattle.rec_file.specs.Files.{IsFile, removed}
-use Rattle.rec_file.specs.Inner.Pages.{cell}
+use Rattle.slab.specs.Slab.{get}
+use Rattle.rec_file.specs.Files.{IsFile}
+use Rattle.rec_file.specs.Inner.Pages.{cell, pages_at}
 use Rattle.rec_file.proofs.FileLaws.{IsFile-removed, not_both}
-use Rattle.rec_file.proofs.Keyed.{lookup_is_at, removed-written}
-use Rattle.rec_file.proofs.RelativeLaws.{HoldsFile, held, here, absent, clear_in_page, drop_page, not_true}
+use Rattle.rec_file.proofs.Keyed.{lookup_is_at}
+use Rattle.rec_file.proofs.RelativeLaws.{held, here, absent, clear_in_page, drop_page, not_true}
+use Rattle.rec_file.proofs.PlacedLaws.{no-page, its-page, stands, page-written, page-removed, own-less}
 use Rattle.rec_file.proofs.relative.RelFileRecordFile.remove.Goals as goal
-use Rattle.rec_file.proofs.relative.RelFileRecordFile.remove.Goals.{then-is_empty+in-Some-1, then-is_empty+in-None-1, else-is_empty}
 
-pub clear-requires-clause-occupied : goal.clear-requires-clause-occupied
-clear-requires-clause-occupied c =
-    subst IsSome (sym (rw c.cell_of.ensures.same (here _ _ c.args.self.now (held c.self.inside.shape c.self.inside.pages.entries c.args.self.now c.self.view_is c.self.invariant.2 c.self.invariant.3) c.args.number c.in-Some.page.now ((subst IsFile c.self.view_is c.self.invariant.0).above c.args.number c.requires.occupied)
-    (sym (lookup_is_at c.self.inside.pages.entries _) ∙ sym (rw c.page_of-at.ensures at c.in-Some.ensures.value))))) c.requires.occupied
+pub page_of-at-requires : goal.page_of-at-requires
+page_of-at-requires c = ((subst IsFile c.self.view_is c.self.invariant.0).above c.args.number c.requires.occupied)
 
 pub returns-in_default : goal.returns-in_default
 returns-in_default c =
-    absurd (not_both _ (absent _ _ c.args.self.now (held c.self.inside.shape c.self.inside.pages.entries c.args.self.now c.self.view_is c.self.invariant.2 c.self.invariant.3) c.args.number ((subst IsFile c.self.view_is c.self.invariant.0).above c.args.number c.requires.occupied)
-    (sym (lookup_is_at c.self.inside.pages.entries _) ∙ sym (rw c.page_of-at.ensures at c.in_default.ensures.value))) c.requires.occupied)
+    absurd (not_both _ (absent _ _ c.args.self.now (held c.self.inside.shape (pages_at (get c.self.inside.pages) c.self.inside.places.entries) c.args.self.now c.self.view_is c.self.invariant.2 c.self.invariant.3) c.args.number ((subst IsFile c.self.view_is c.self.invariant.0).above c.args.number c.requires.occupied)
+    (no-page (get c.self.inside.pages) c.self.inside.places.entries _ (sym (lookup_is_at c.self.inside.places.entries _) ∙ sym (rw c.page_of-at.ensures at c.in_default.ensures.value)))) c.requires.occupied)
 
-pub invariant_of-self-2 : goal.invariant_of-self-2
-invariant_of-self-2 c =
-    elim c.if-is_empty.branch [
-      | then-is_empty+in-Some-1 w ↦
-          let whole = subst (λ p. HoldsFile c.self.inside.shape (remove_entry (is_at (nat_cmp p)) c.self.inside.pages.entries) (removed c.args.self.now c.args.number)) (sym c.page_of-at.ensures)
-          (drop_page _ _ c.args.self.now (held c.self.inside.shape c.self.inside.pages.entries c.args.self.now c.self.view_is c.self.invariant.2 c.self.invariant.3) c.args.number c.in-Some.page.now ((subst IsFile c.self.view_is c.self.invariant.0).above c.args.number c.requires.occupied)
-          (sym (lookup_is_at c.self.inside.pages.entries _) ∙ sym (rw c.page_of-at.ensures at c.in-Some.ensures.value))
-          (λ k. ap (λ cs. cell cs k) (sym (rw c.cell_of.ensures.same at c.clear.ensures)) ∙ c.is_empty.ensures.0 w.if-is_empty.true k)) in
-          rw (w.self-inside-is, w.remove.ensures.entries, (c.get_mut.follows.holds c.clear.new.self).0, removed-written) (subst IsFile (sym whole.same) (IsFile-removed c.args.self.now c.args.number (subst IsFile c.self.view_is c.self.invariant.0) c.requires.relative), c.self.invariant.1, whole.sorted, whole.all)
-      | then-is_empty+in-None-1 w ↦
-          let whole = subst (λ p. HoldsFile c.self.inside.shape (remove_entry (is_at (nat_cmp p)) c.self.inside.pages.entries) (removed c.args.self.now c.args.number)) (sym c.page_of-at.ensures)
-          (drop_page _ _ c.args.self.now (held c.self.inside.shape c.self.inside.pages.entries c.args.self.now c.self.view_is c.self.invariant.2 c.self.invariant.3) c.args.number c.in-Some.page.now ((subst IsFile c.self.view_is c.self.invariant.0).above c.args.number c.requires.occupied)
-          (sym (lookup_is_at c.self.inside.pages.entries _) ∙ sym (rw c.page_of-at.ensures at c.in-Some.ensures.value))
-          (λ k. ap (λ cs. cell cs k) (sym (rw c.cell_of.ensures.same at c.clear.ensures)) ∙ c.is_empty.ensures.0 w.if-is_empty.true k)) in
-          rw (w.self-inside-is, w.remove.ensures.entries, (c.get_mut.follows.holds c.clear.new.self).0, removed-written) (subst IsFile (sym whole.same) (IsFile-removed c.args.self.now c.args.number (subst IsFile c.self.view_is c.self.invariant.0) c.requires.relative), c.self.invariant.1, whole.sorted, whole.all)
-      | else-is_empty w ↦
-          let whole = clear_in_page _ _ c.args.self.now (held c.self.inside.shape c.self.inside.pages.entries c.args.self.now c.self.view_is c.self.invariant.2 c.self.invariant.3) c.args.number c.in-Some.page.now ((subst IsFile c.self.view_is c.self.invariant.0).above c.args.number c.requires.occupied)
-          (sym (lookup_is_at c.self.inside.pages.entries _) ∙ sym (rw c.page_of-at.ensures at c.in-Some.ensures.value))
-          (λ h. not_true c.is_empty.result w.if-is_empty.false (c.is_empty.ensures.1 (λ k. ap (λ cs. cell cs k) (rw c.cell_of.ensures.same at c.clear.ensures) ∙ h k))) in
-          rw (w.self-inside-is, (c.get_mut.follows.holds c.clear.new.self).0, c.clear.ensures, c.cell_of.ensures.same, c.page_of-at.ensures) (subst IsFile (sym whole.same) (IsFile-removed c.args.self.now c.args.number (subst IsFile c.self.view_is c.self.invariant.0) c.requires.relative), c.self.invariant.1, whole.sorted, whole.all)
-    ]
+pub returns-in_default-get_mut : goal.returns-in_default-get_mut
+returns-in_default-get_mut c =
+    absurd (stands (get c.self.inside.pages) c.self.inside.places.entries _ c.in-Some.place.now c.self.invariant.3 (sym (lookup_is_at c.self.inside.places.entries _) ∙ sym c.in-Some.ensures.value) (sym c.in_default-get_mut.ensures.value))
 
-pub returns : goal.returns
-returns c =
-    elim c.if-is_empty.branch [
-      | then-is_empty+in-Some-1 w ↦
-          let whole = subst (λ p. HoldsFile c.self.inside.shape (remove_entry (is_at (nat_cmp p)) c.self.inside.pages.entries) (removed c.args.self.now c.args.number)) (sym c.page_of-at.ensures)
-          (drop_page _ _ c.args.self.now (held c.self.inside.shape c.self.inside.pages.entries c.args.self.now c.self.view_is c.self.invariant.2 c.self.invariant.3) c.args.number c.in-Some.page.now ((subst IsFile c.self.view_is c.self.invariant.0).above c.args.number c.requires.occupied)
-          (sym (lookup_is_at c.self.inside.pages.entries _) ∙ sym (rw c.page_of-at.ensures at c.in-Some.ensures.value))
-          (λ k. ap (λ cs. cell cs k) (sym (rw c.cell_of.ensures.same at c.clear.ensures)) ∙ c.is_empty.ensures.0 w.if-is_empty.true k)) in
-          rw (w.self-inside-is, w.remove.ensures.entries, (c.get_mut.follows.holds c.clear.new.self).0, removed-written) whole.same
-      | then-is_empty+in-None-1 w ↦
-          let whole = subst (λ p. HoldsFile c.self.inside.shape (remove_entry (is_at (nat_cmp p)) c.self.inside.pages.entries) (removed c.args.self.now c.args.number)) (sym c.page_of-at.ensures)
-          (drop_page _ _ c.args.self.now (held c.self.inside.shape c.self.inside.pages.entries c.args.self.now c.self.view_is c.self.invariant.2 c.self.invariant.3) c.args.number c.in-Some.page.now ((subst IsFile c.self.view_is c.self.invariant.0).above c.args.number c.requires.occupied)
-          (sym (lookup_is_at c.self.inside.pages.entries _) ∙ sym (rw c.page_of-at.ensures at c.in-Some.ensures.value))
-          (λ k. ap (λ cs. cell cs k) (sym (rw c.cell_of.ensures.same at c.clear.ensures)) ∙ c.is_empty.ensures.0 w.if-is_empty.true k)) in
-          rw (w.self-inside-is, w.remove.ensures.entries, (c.get_mut.follows.holds c.clear.new.self).0, removed-written) whole.same
-      | else-is_empty w ↦
-          let whole = clear_in_page _ _ c.args.self.now (held c.self.inside.shape c.self.inside.pages.entries c.args.self.now c.self.view_is c.self.invariant.2 c.self.invariant.3) c.args.number c.in-Some.page.now ((subst IsFile c.self.view_is c.self.invariant.0).above c.args.number c.requires.occupied)
-          (sym (lookup_is_at c.self.inside.pages.entries _) ∙ sym (rw c.page_of-at.ensures at c.in-Some.ensures.value))
-          (λ h. not_true c.is_empty.result w.if-is_empty.false (c.is_empty.ensures.1 (λ k. ap (λ cs. cell cs k) (rw c.cell_of.ensures.same at c.clear.ensures) ∙ h k))) in
-          rw (w.self-inside-is, (c.get_mut.follows.holds c.clear.new.self).0, c.clear.ensures, c.cell_of.ensures.same, c.page_of-at.ensures) whole.same
-    ]
+pub clear-requires-clause-occupied : goal.clear-requires-clause-occupied
+clear-requires-clause-occupied c =
+    let is = sym (rw c.page_of-at.ensures at c.in-Some.ensures.value) in
+    let there = sym c.in-Some-get_mut.ensures.value in
+    let page = its-page (get c.self.inside.pages) c.self.inside.places.entries _ c.in-Some.place.now c.in-Some-get_mut.page.now (sym (lookup_is_at c.self.inside.places.entries _) ∙ is) there in
+    subst IsSome (sym (rw c.cell_of.ensures.same (here _ _ c.args.self.now (held c.self.inside.shape (pages_at (get c.self.inside.pages) c.self.inside.places.entries) c.args.self.now c.self.view_is c.self.invariant.2 c.self.invariant.3) c.args.number c.in-Some-get_mut.page.now ((subst IsFile c.self.view_is c.self.invariant.0).above c.args.number c.requires.occupied) page))) c.requires.occupied
+
+pub invariant_of-self-then-is_empty : goal.invariant_of-self-then-is_empty
+invariant_of-self-then-is_empty c =
+    let is = sym (rw c.page_of-at.ensures at c.in-Some.ensures.value) in
+    let there = sym c.in-Some-get_mut.ensures.value in
+    let page = its-page (get c.self.inside.pages) c.self.inside.places.entries _ c.in-Some.place.now c.in-Some-get_mut.page.now (sym (lookup_is_at c.self.inside.places.entries _) ∙ is) there in
+    let empty = drop_page _ _ c.args.self.now (held c.self.inside.shape (pages_at (get c.self.inside.pages) c.self.inside.places.entries) c.args.self.now c.self.view_is c.self.invariant.2 c.self.invariant.3) c.args.number c.in-Some-get_mut.page.now ((subst IsFile c.self.view_is c.self.invariant.0).above c.args.number c.requires.occupied) page
+    (λ k. ap (λ cs. cell cs k) (sym (rw c.cell_of.ensures.same at c.clear.ensures)) ∙ c.is_empty.ensures.0 c.if-is_empty.true k) in
+    let same = page-removed c.self.inside.pages c.try_remove.new.self c.self.inside.places.entries c.remove.new.self.entries _ c.in-Some.place.now c.in-Some-get_mut.page.now c.clear.new.self c.self.invariant.4 is there c.try_remove.ensures.updates (rw c.page_of-at.ensures at c.remove.ensures.entries) in
+    rw same
+    (subst IsFile (sym empty.same) (IsFile-removed c.args.self.now c.args.number (subst IsFile c.self.view_is c.self.invariant.0) c.requires.relative), c.self.invariant.1, empty.sorted, empty.all,
+    own-less c.self.inside.places.entries c.remove.new.self.entries _ c.remove.ensures.entries c.self.invariant.4)
+
+pub invariant_of-self-else-is_empty : goal.invariant_of-self-else-is_empty
+invariant_of-self-else-is_empty c =
+    let is = sym (rw c.page_of-at.ensures at c.in-Some.ensures.value) in
+    let there = sym c.in-Some-get_mut.ensures.value in
+    let page = its-page (get c.self.inside.pages) c.self.inside.places.entries _ c.in-Some.place.now c.in-Some-get_mut.page.now (sym (lookup_is_at c.self.inside.places.entries _) ∙ is) there in
+    let whole = clear_in_page _ _ c.args.self.now (held c.self.inside.shape (pages_at (get c.self.inside.pages) c.self.inside.places.entries) c.args.self.now c.self.view_is c.self.invariant.2 c.self.invariant.3) c.args.number c.in-Some-get_mut.page.now ((subst IsFile c.self.view_is c.self.invariant.0).above c.args.number c.requires.occupied) page
+    (λ h. not_true c.is_empty.result c.if-is_empty.false (c.is_empty.ensures.1 (λ k. ap (λ cs. cell cs k) (rw c.cell_of.ensures.same at c.clear.ensures) ∙ h k))) in
+    let same = page-written c.self.inside.pages c.self.inside.places.entries _ c.in-Some.place.now c.in-Some-get_mut.page.now c.clear.new.self _ c.self.invariant.4 is there (rw c.cell_of.ensures.same at c.clear.ensures) in
+    rw same
+    (subst IsFile (sym whole.same) (IsFile-removed c.args.self.now c.args.number (subst IsFile c.self.view_is c.self.invariant.0) c.requires.relative), c.self.invariant.1, whole.sorted, whole.all, c.self.invariant.4)
+
+pub returns-then-is_empty : goal.returns-then-is_empty
+returns-then-is_empty c =
+    let is = sym (rw c.page_of-at.ensures at c.in-Some.ensures.value) in
+    let there = sym c.in-Some-get_mut.ensures.value in
+    let page = its-page (get c.self.inside.pages) c.self.inside.places.entries _ c.in-Some.place.now c.in-Some-get_mut.page.now (sym (lookup_is_at c.self.inside.places.entries _) ∙ is) there in
+    let empty = drop_page _ _ c.args.self.now (held c.self.inside.shape (pages_at (get c.self.inside.pages) c.self.inside.places.entries) c.args.self.now c.self.view_is c.self.invariant.2 c.self.invariant.3) c.args.number c.in-Some-get_mut.page.now ((subst IsFile c.self.view_is c.self.invariant.0).above c.args.number c.requires.occupied) page
+    (λ k. ap (λ cs. cell cs k) (sym (rw c.cell_of.ensures.same at c.clear.ensures)) ∙ c.is_empty.ensures.0 c.if-is_empty.true k) in
+    let same = page-removed c.self.inside.pages c.try_remove.new.self c.self.inside.places.entries c.remove.new.self.entries _ c.in-Some.place.now c.in-Some-get_mut.page.now c.clear.new.self c.self.invariant.4 is there c.try_remove.ensures.updates (rw c.page_of-at.ensures at c.remove.ensures.entries) in
+    rw same empty.same
+
+pub returns-else-is_empty : goal.returns-else-is_empty
+returns-else-is_empty c =
+    let is = sym (rw c.page_of-at.ensures at c.in-Some.ensures.value) in
+    let there = sym c.in-Some-get_mut.ensures.value in
+    let page = its-page (get c.self.inside.pages) c.self.inside.places.entries _ c.in-Some.place.now c.in-Some-get_mut.page.now (sym (lookup_is_at c.self.inside.places.entries _) ∙ is) there in
+    let whole = clear_in_page _ _ c.args.self.now (held c.self.inside.shape (pages_at (get c.self.inside.pages) c.self.inside.places.entries) c.args.self.now c.self.view_is c.self.invariant.2 c.self.invariant.3) c.args.number c.in-Some-get_mut.page.now ((subst IsFile c.self.view_is c.self.invariant.0).above c.args.number c.requires.occupied) page
+    (λ h. not_true c.is_empty.result c.if-is_empty.false (c.is_empty.ensures.1 (λ k. ap (λ cs. cell cs k) (rw c.cell_of.ensures.same at c.clear.ensures) ∙ h k))) in
+    let same = page-written c.self.inside.pages c.self.inside.places.entries _ c.in-Some.place.now c.in-Some-get_mut.page.now c.clear.new.self _ c.self.invariant.4 is there (rw c.cell_of.ensures.same at c.clear.ensures) in
+    rw same whole.same
