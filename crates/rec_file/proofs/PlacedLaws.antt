@@ -52,9 +52,10 @@ behind-pages kept p (e ∷ es) = ap (λ l. cond (is_le (nat_cmp p e.0) && true) 
 -- a place that holds no page is none of theirs
 pub fresh : (kept : ℕ → Option Cells) (es : List (ℕ × ℕ)) (i : ℕ) → AllPages (pages_at kept es) → kept i ≡ None → NoneAt i es
 fresh kept [] i all none = tt
-fresh kept (e ∷ es) i all none =
-    ((λ same. let empty : unwrap_or (kept e.1) [] ≡ [] = ap (λ o. unwrap_or o []) (ap kept same ∙ none) in let size = ap length empty in let whole = all.0.size in absurd (omega arith)),
-    fresh kept es i all.1 none)
+fresh kept (e ∷ es) i all none = (
+  (λ same. let empty : unwrap_or (kept e.1) [] ≡ [] = ap (λ o. unwrap_or o []) (ap kept same ∙ none) in let size = ap length empty in let whole = all.0.size in absurd (omega arith)),
+  fresh kept es i all.1 none,
+)
 
 none_there : (es : List (ℕ × ℕ)) (p i : ℕ) → NoneAt i es → at es p ≡ Some i → ⊥
 none_there [] p i none is = cc

@@ -161,7 +161,14 @@ impl RecordFile for RelFile {
         let body = Vec::from_slice(self.alloc, body)?;
         let at = page_of(number);
         let cell = cell_of(number);
-        put_in(&mut self.places, &mut self.pages, self.alloc, at, cell, body)
+        put_in(
+            &mut self.places,
+            &mut self.pages,
+            self.alloc,
+            at,
+            cell,
+            body,
+        )
     }
 
     fn replace(&mut self, number: u32, body: &[u8]) -> Result<(), AllocError> {

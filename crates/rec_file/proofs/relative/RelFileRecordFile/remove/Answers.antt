@@ -35,9 +35,13 @@ invariant_of-self-then-is_empty c =
     let empty = drop_page _ _ c.args.self.now (held c.self.inside.shape (pages_at (get c.self.inside.pages) c.self.inside.places.entries) c.args.self.now c.self.view_is c.self.invariant.2 c.self.invariant.3) c.args.number c.in-Some-get_mut.page.now ((subst IsFile c.self.view_is c.self.invariant.0).above c.args.number c.requires.occupied) page
     (λ k. ap (λ cs. cell cs k) (sym (rw c.cell_of.ensures.same at c.clear.ensures)) ∙ c.is_empty.ensures.0 c.if-is_empty.true k) in
     let same = page-removed c.self.inside.pages c.try_remove.new.self c.self.inside.places.entries c.remove.new.self.entries _ c.in-Some.place.now c.in-Some-get_mut.page.now c.clear.new.self c.self.invariant.4 is there c.try_remove.ensures.updates (rw c.page_of-at.ensures at c.remove.ensures.entries) in
-    rw same
-    (subst IsFile (sym empty.same) (IsFile-removed c.args.self.now c.args.number (subst IsFile c.self.view_is c.self.invariant.0) c.requires.relative), c.self.invariant.1, empty.sorted, empty.all,
-    own-less c.self.inside.places.entries c.remove.new.self.entries _ c.remove.ensures.entries c.self.invariant.4)
+    rw same (
+      subst IsFile (sym empty.same) (IsFile-removed c.args.self.now c.args.number (subst IsFile c.self.view_is c.self.invariant.0) c.requires.relative),
+      c.self.invariant.1,
+      empty.sorted,
+      empty.all,
+      own-less c.self.inside.places.entries c.remove.new.self.entries _ c.remove.ensures.entries c.self.invariant.4,
+    )
 
 pub invariant_of-self-else-is_empty : goal.invariant_of-self-else-is_empty
 invariant_of-self-else-is_empty c =
