@@ -53,7 +53,9 @@ def measure(program, words):
 
 
 def compare(name, uses, cases):
-    """Runs both programs in turn with the words of each case, and prints the least numbers and their ratio."""
+    """Runs both programs in turn with the words of each case, and prints the least numbers and their ratio. Answers
+    the least numbers of both by the words and the label."""
+    least = {}
     with tempfile.TemporaryDirectory() as work:
         programs = [prove(work, name, uses), build_plain(work, name)]
         for words in cases:
@@ -64,3 +66,5 @@ def compare(name, uses, cases):
                 proved, plain = (min(both[k][0][label] for both in rounds) for k in (0, 1))
                 ratio = f"{proved / plain:.2f}" if plain else "none"
                 print(f"{' '.join(words)}: {label}: proved {proved}, plain {plain}, ratio {ratio}", flush=True)
+                least[(*words, label)] = (proved, plain)
+    return least

@@ -157,7 +157,7 @@ pub(crate) fn malformed<'a>(fault: MsgFault) -> Answer<'a>
 
 impl Accessed {
     /// An end with no files that waits for the peer's Config, with a buffer of so many bytes, at least
-    /// 64. It takes no memory.
+    /// 64 (own). It takes no memory.
     pub fn new(alloc: Global, bufsiz: u16) -> Accessed
         requires low { least_buffer ≤ bufsiz }
         requires high { bufsiz ≤ greatest_message }

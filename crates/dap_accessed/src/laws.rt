@@ -17,19 +17,19 @@ pub fn answers_grow()
 
 /// After any messages each file obeys its shape, which is one that `Shape::check` gives, no two files
 /// have the same name, the file that is open is in the table, and what the peer takes is 64 to 65,535
-/// bytes.
+/// bytes. Own.
 pub fn stays_sound()
     ensures { (own : ℕ) (items : List TheItem) → IsSound (stands_after own items) }
 {}
 
-/// Each answer to one message more that was read has a spelling, and none is longer than the peer takes.
+/// Each answer to one message more that was read has a spelling, and none is longer than the peer takes. Own.
 pub fn answers_are_sendable()
     ensures { (own : ℕ) → own < 2 ^ 16 → (items : List TheItem) (item : TheItem)
         → IsRead item
         → AreSendable (limit_for own items) (added own items item) }
 {}
 
-/// All answers to messages that were read have spellings.
+/// All answers to messages that were read have spellings. Own.
 pub fn answers_fit()
     ensures { (own : ℕ) → own < 2 ^ 16 → (items : List TheItem)
         → AllByRecursion IsRead items → AllFit (Answers own items) }

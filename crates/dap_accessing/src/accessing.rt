@@ -51,7 +51,7 @@ impl Model for Accessing {
 }
 
 impl Accessing {
-    /// An end that nothing was asked of, with a buffer of so many bytes, at least 64. It takes no
+    /// An end that nothing was asked of, with a buffer of so many bytes, at least 64 (own). It takes no
     /// memory.
     pub fn new(alloc: Global, bufsiz: u16) -> Accessing
         requires low { least_buffer ≤ bufsiz }
@@ -69,7 +69,8 @@ impl Accessing {
         }
     }
 
-    /// The messages of a request, joined to NSP messages as far as the peer's limit goes.
+    /// The messages of a request, joined to NSP messages as far as the peer's limit goes (DAP 5.6.0, message
+    /// sequences and blocking).
     ///
     /// Refusals in order: Failed, Busy, WrongPhase, TooLarge, NoMemory; each leaves the end
     /// unchanged.
@@ -159,7 +160,8 @@ impl Accessing {
         }
     }
 
-    /// Reads the one DAP message that begins at `at`, in bytes, as the next answer.
+    /// Reads the one DAP message that begins at `at`, in bytes, as the next answer (DAP 5.6.0, message
+    /// sequences).
     ///
     /// Refusals: Failed; Unexpected, after which the end has failed; NoMemory, which changes nothing.
     pub fn read(&mut self, nsp_message: &[u8], at: usize) -> Result<ReadStep, ReadFault>

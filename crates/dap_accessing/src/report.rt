@@ -36,7 +36,8 @@ pub enum Report {
     Done(u64),
     /// To Get: there is no further record.
     EndOfFile,
-    /// To any request: a Status that is no success, with its code and reason (0: none).
+    /// To any request but Fetch, Continue and Store, which end otherwise: a Status that is no success, with its
+    /// code and reason (0: none). A Get at the end of the file has EndOfFile instead.
     Refused(u16, u8),
     /// To Fetch and Continue.
     Batch {

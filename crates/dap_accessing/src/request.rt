@@ -48,7 +48,8 @@ pub enum Request {
     Connect,
     /// One record.
     Get(By),
-    /// A new record, under a number or behind the others.
+    /// A new record: under a number; without one at the end of a sequential file, and in a relative one under
+    /// the stream's next number.
     Put {
         key: Option<u32>,
         body: Octets,
@@ -63,7 +64,7 @@ pub enum Request {
     Rewind,
     /// All records from the next one on.
     Fetch,
-    /// New records, one after another; the stream ends with them.
+    /// New records, each as by a Put without a number; the stream ends with them.
     Store(OctetsList),
     /// After a Fetch that stopped.
     Continue(How),

@@ -12,7 +12,7 @@ use dap_capture::{CaptureFault, Outcome, messages, schedule, show, write_text};
 use std::alloc::Global;
 use std::io::{Read, Write};
 
-/// A command of the program.
+/// A command of the program (own).
 #[derive(Clone, Copy, Debug, PartialEq, Eq)]
 pub enum Choice {
     Show,

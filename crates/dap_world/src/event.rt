@@ -4,7 +4,7 @@ use dap_accessing::{AskFault, Request};
 use nsp_link::Got;
 use std::alloc::{AllocError, AllocFailed};
 
-/// The two ends.
+/// The two ends (own).
 #[derive(Clone, Copy, Drop, Debug, PartialEq, Eq)]
 pub enum End {
     /// The one that asks.
@@ -28,7 +28,7 @@ impl End {
     }
 }
 
-/// What happens in a world.
+/// What happens in a world (own).
 #[derive(Drop)]
 pub enum Event {
     /// A request is asked of A; its messages wait.
@@ -37,11 +37,11 @@ pub enum Event {
     Post(End),
     /// An end writes its next segment.
     Emit(End),
-    /// An end writes a segment again: the one at this place of those that aren't acknowledged.
+    /// An end writes a segment again: the one at this place, from 0, of those that aren't acknowledged.
     Resend(End, usize),
     /// An end writes an acknowledgement.
     Ack(End),
-    /// An end gets the packet at this place of those that the other end wrote.
+    /// An end gets the packet at this place, from 0, of those that the other end wrote.
     Deliver(End, usize),
     /// B serves its next DAP message; the answers wait.
     Serve,
@@ -49,14 +49,14 @@ pub enum Event {
     Read,
 }
 
-/// What came of an event.
+/// What came of an event (own).
 #[derive(Clone, Copy, Drop, Debug, PartialEq, Eq)]
 pub enum Step {
     /// So many NSP messages wait more.
     Asked(usize),
     /// So many NSP messages were handed over.
     Posted(usize),
-    /// The packet stands at this place of the wire.
+    /// The packet stands at this place of the wire, from 0.
     Packet(usize),
     /// What became of the packet.
     Delivered(Got),
@@ -68,7 +68,7 @@ pub enum Step {
     Reported,
 }
 
-/// Why an event has no step, or a call none. A refused event leaves the world unchanged.
+/// Why an event has no step, or a call none (own). A refused event leaves the world unchanged.
 #[derive(Clone, Copy, Drop, Debug, PartialEq, Eq)]
 pub enum WorldFault {
     /// The other end wrote no packet of this place.

@@ -18,7 +18,7 @@ use dap_accessing::Accessing;
 use nsp_link::{LinkEnd, LinkSetup};
 use std::alloc::Global;
 
-/// The numbers of a world.
+/// The numbers of a world (own).
 #[derive(Clone, Copy, Debug)]
 pub struct WorldSetup {
     /// The bytes of a segment, 1 to 1,400.
@@ -27,7 +27,7 @@ pub struct WorldSetup {
     pub window: usize,
     /// The buffer of A in bytes, 64 to 65,535.
     pub bufsiz_a: u16,
-    /// The buffer of B.
+    /// The buffer of B in bytes, likewise.
     pub bufsiz_b: u16,
 }
 
@@ -88,8 +88,8 @@ fn link_setup(setup: &WorldSetup, end: End) -> LinkSetup
 }
 
 impl World {
-    /// A world in which nothing happened. `BadSetup` where a number of the setup isn't in its range; else
-    /// `NoMemory` alone.
+    /// A world in which nothing happened (own). `BadSetup` where a number of the setup isn't in its range;
+    /// else `NoMemory` alone.
     pub fn new(alloc: Global, setup: WorldSetup) -> Result<World, WorldFault>
         ensures ok { IfOk result (λ w. IsWorldSetup setup × (w ≡ fresh setup)) }
         ensures headline { IfOk result HeadlineOf }
@@ -114,7 +114,7 @@ impl World {
         })
     }
 
-    /// Nothing was asked, and no packet was written.
+    /// Nothing was asked, and no packet was written (own). It takes no memory.
     pub fn is_fresh(&self) -> bool
         ensures yes { result ≡ true → IsFresh self.now }
         ensures no { result ≡ false → IsFresh self.now → ⊥ }

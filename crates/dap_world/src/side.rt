@@ -20,7 +20,7 @@ use std::marker::Model;
 /// How many numbers behind a packet may be that is delivered.
 const GREATEST_AGE: u64 = 2047;
 
-/// A packet that an end wrote.
+/// A packet that an end wrote (own).
 #[derive(Drop)]
 pub struct Wired {
     /// Its bytes.

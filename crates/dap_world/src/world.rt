@@ -11,7 +11,7 @@ use nsp_link::{Got, LinkEnd};
 use std::alloc::Global;
 use std::marker::Model;
 
-/// Both ends and the network.
+/// Both ends and the network (own).
 #[derive(Drop)]
 pub struct World {
     pub(crate) alloc: Global,
@@ -114,7 +114,7 @@ impl World {
         }
     }
 
-    /// One event: a step of the machine, or refused as there, or for want of memory. A refusal changes
+    /// One event: a step of the machine, or refused as there, or for want of memory (own). A refusal changes
     /// nothing.
     pub fn apply(&mut self, event: &Event) -> Result<Step, WorldFault>
         ensures went { Went self.old event.now result self.new }
@@ -167,7 +167,7 @@ impl World {
         Ok(())
     }
 
-    /// The events, up to the first that is refused: its place, from 0, and why.
+    /// The events, up to the first that is refused: its place, from 0, and why (own).
     pub fn run(&mut self, events: &[Event]) -> Result<(), (usize, WorldFault)>
         ensures all { OnOk result (Runs self.old events.now self.new) }
         ensures stopped { IfErr result (λ stop. StopsAt events.now self.old self.new stop) }
@@ -178,49 +178,50 @@ impl World {
         result
     }
 
-    /// The requests that were asked.
+    /// The requests that were asked (own). It takes no memory.
     pub fn requests(&self) -> &[Request]
         ensures { result.now ≡ self.now.requests }
     {
         &self.requests
     }
 
-    /// The DAP messages that were handed to A's link.
+    /// The DAP messages that were handed to A's link (own). It takes no memory.
     pub fn sent(&self) -> &[Vec<u8>]
         ensures { map (λ v. v.items) result.now ≡ map canon (sent_by self.now.from_a) }
     {
         &self.sent
     }
 
-    /// The DAP messages that B served: a part from the front of those that were handed to A's link.
+    /// The DAP messages that B served: a part from the front of those that were handed to A's link (own). It
+    /// takes no memory.
     pub fn taken(&self) -> &[Vec<u8>]
         ensures { map (λ v. v.items) result.now ≡ map canon (taken_of self.now) }
     {
         &self.sent[..self.served]
     }
 
-    /// How many answers A read.
+    /// How many answers A read (own). It takes no memory.
     pub fn read_count(&self) -> u64
         ensures { result ≡ self.now.read }
     {
         self.read
     }
 
-    /// What A was told.
+    /// What A was told (own). It takes no memory.
     pub fn reports(&self) -> &[Report]
         ensures { result.now ≡ reported self.now }
     {
         &self.reports
     }
 
-    /// The files that B holds.
+    /// The files that B holds (own). It takes no memory.
     pub fn files(&self) -> &FileTable
         ensures { result.now ≡ files_of self.now }
     {
         self.accessed.files()
     }
 
-    /// The packets that an end wrote.
+    /// The packets that an end wrote (own). It takes no memory.
     pub fn wire(&self, end: End) -> &[Wired]
         ensures { AreWired self.now end result.now }
     {
@@ -230,7 +231,7 @@ impl World {
         }
     }
 
-    /// The link of an end.
+    /// The link of an end (own). It takes no memory.
     pub fn link(&self, end: End) -> &LinkEnd
         ensures { CountsOf self.now end result.now }
     {

@@ -11,7 +11,7 @@ ghost use Rattle.nsp_link.specs.Link.{LinkValue, IsLink, Carries, Sends, Stands,
 ghost use Rattle.nsp_link.specs.Sending.{queued_link};
 ghost use Rattle.nsp_link.specs.Separation.{IsSegmentNear, IsAckNear};
 
-/// What is said of the messages sent stays true when more are sent, and holds of a new end.
+/// What is said of the messages sent stays true when more are sent, and holds of a new end (own).
 pub fn messages_only_grow()
     ensures carries { (p : PacketValue) (size : ℕ) (messages more : List (List ℕ))
         (k : Option ℕ) (a : ℕ)
@@ -29,7 +29,7 @@ pub fn messages_only_grow()
 
 /// What isn't stale is told by its 12-bit number. With the counts of a link in order, a segment that was
 /// sent is near the one that the other end wants next, and an acknowledgement is near the count that it
-/// is compared with; and no two that are near have the same number modulo 4,096.
+/// is compared with; and no two that are near have the same number modulo 4,096 (NSP 4.0.0, segment numbers).
 pub fn distances_separate()
     ensures segment { (from to : LinkValue) (k : ℕ)
         → IsLink from → from.acked ≤ to.received → k ≤ from.sent
@@ -43,7 +43,7 @@ pub fn distances_separate()
         → IsAckNear acked a → IsAckNear acked b → residue a ≡ residue b → a ≡ b }
 {}
 
-/// What is held, by its numbers alone.
+/// What is held, by its numbers alone (own).
 pub fn held_by_number()
     ensures closes { (k : ℕ) (held : List (ℕ × Piece)) → closed_up k (numbers held)
         ≡ (k + length (following k held), numbers (drop (length (following k held)) held)) }

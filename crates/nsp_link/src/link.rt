@@ -23,7 +23,7 @@ pub struct LinkSetup {
     pub remote: u16,
     /// The bytes of a segment, 1 to 1,400: a message is cut into pieces of this size.
     pub seg_size: usize,
-    /// The segments sent and not acknowledged at most, and the places for early ones: 1 to 2,047.
+    /// The segments sent and not acknowledged at most, 1 to 2,047; at most one early segment fewer is held.
     pub window: usize,
     /// The bytes of a message at most, 64 to 65,535, both of one that is sent and of one that is taken.
     pub max_message: usize,
@@ -57,8 +57,9 @@ const LEAST_LIMIT: usize = 64;
 
 const LARGEST_LIMIT: usize = 65535;
 
-/// One end of an open link. What it hands out is a part from the front of the messages that the other
-/// end sent, each once and in order, and it believes no acknowledgement of what it didn't send.
+/// One end of an open link (NSP 4.0.0, data segments and their acknowledgement). What it hands out is a part from
+/// the front of the messages that the other end sent, each once and in order, and it believes no acknowledgement of
+/// what it didn't send.
 #[derive(Drop)]
 pub struct LinkEnd {
     alloc: Global,
@@ -458,10 +459,10 @@ impl LinkEnd {
     }
 
     /// Takes a packet from the other end (NSP 4.0.0, data segment message and data acknowledgement message).
-    /// Its first acknowledgement field with qualifier 0 counts and no other (own); one that is 2,048 or more
-    /// behind is old, and acknowledges nothing. An early segment is held where its distance from the next one
-    /// is below the window, the first copy of it; the segment that closes the gap is taken with all that
-    /// follow it without a hole, or none of them is (own).
+    /// Its first acknowledgement field with qualifier 0 counts and no other (own); a number that is 2,048 or
+    /// more ahead of the last one acknowledged, modulo 4,096, is behind it, and acknowledges nothing. An early
+    /// segment is held where its distance from the next one is below the window, the first copy of it; the
+    /// segment that closes the gap is taken with all that follow it without a hole, or none of them is (own).
     ///
     /// Refused, in this order: `Failed`; `Malformed`; `WrongLink`, where it isn't from the other end to this
     /// one; `BadSequence`, where it acknowledges what wasn't sent; of the next segment, or of the first at

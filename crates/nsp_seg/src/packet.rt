@@ -30,8 +30,8 @@ pub struct AckField {
     pub number: Seq12,
 }
 
-/// A packet; its payload lies in the bytes that were read. A second acknowledgement field stands only
-/// beside a first.
+/// A packet (NSP 4.0.0, data segments and their acknowledgement); its payload lies in the bytes that were read. A
+/// second acknowledgement field stands only beside a first.
 #[derive(Clone, Copy, Debug)]
 pub enum Packet<'a> {
     /// NSP 4.0.0, data segment message: whether it is the first and the last segment of its message, to

@@ -66,7 +66,7 @@ pub trait RecordFile {
 }
 
 /// The record of the lowest occupied number from this one on, behind its number: one step through
-/// the records of a file in order. None where there is no such record. It takes no memory.
+/// the records of a file in order (own). None where there is no such record. It takes no memory.
 pub fn first_record<F: RecordFile>(file: &F, number: u32) -> Option<(u32, &[u8])>
     ensures none { IfNone result (records_from (F.value file.now).records number ≡ []) }
     ensures some { IfSome result (λ r. records_from (F.value file.now).records number

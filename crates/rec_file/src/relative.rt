@@ -54,7 +54,7 @@ impl Model for RelFile {
 }
 
 impl RelFile {
-    /// An empty file of a relative shape that [`Shape::check`] gives. It takes no memory.
+    /// An empty file of a relative shape that [`Shape::check`] gives (own). It takes no memory.
     pub fn new(alloc: Global, shape: Shape) -> RelFile
         requires valid { IsTrue (is_shape shape) }
         requires relative { is_seq shape.org ≡ false }
@@ -69,7 +69,7 @@ impl RelFile {
     }
 
     /// How many pages are kept: as many as the occupied numbers n have different values of
-    /// `(n - 1) / 64`. It takes no memory.
+    /// `(n - 1) / 64` (own). It takes no memory.
     pub fn page_count(&self) -> usize
         ensures { result ≡ occupied_pages self.now.records }
     {

@@ -44,7 +44,8 @@ pub const MAX_RECORD: u16 = 32767;
 pub const MAX_NUMBER: u32 = 2147483647;
 
 impl Shape {
-    /// The shape that four attributes name, or None where they name none. It takes no memory.
+    /// The shape that four attributes name, or None where they name none (DAP 5.6.0, Attributes message; the
+    /// bounds are own). It takes no memory.
     ///
     /// `org` is 0 (sequential) or 16 (relative), `rfm` 1 (fixed) or 2 (variable), `mrs` at most
     /// [`MAX_RECORD`] bytes and at least 1 where the format is fixed, and `mrn` at most
@@ -84,7 +85,7 @@ impl Shape {
         })
     }
 
-    /// Whether the organization is the sequential one.
+    /// Whether the organization is the sequential one (own). It takes no memory.
     pub fn is_sequential(&self) -> bool
         ensures { result ≡ is_seq self.now.org }
     {
@@ -92,14 +93,14 @@ impl Shape {
     }
 
     /// The greatest number that a record of the file can have: `mrn`, or [`MAX_NUMBER`] where that
-    /// is 0.
+    /// is 0 (own). It takes no memory.
     pub fn limit(&self) -> u32
         ensures { result ≡ limit_of self.now }
     {
         if self.mrn == 0 { MAX_NUMBER } else { self.mrn }
     }
 
-    /// Whether a record of the file can have this many bytes.
+    /// Whether a record of the file can have this many bytes (own). It takes no memory.
     pub fn allows(&self, length: usize) -> bool
         ensures { result ≡ allows_length self.now length }
     {

@@ -39,7 +39,7 @@ impl Model for Stream {
 }
 
 impl Stream {
-    /// A stream at number 1, with no current record.
+    /// A stream at number 1, with no current record (own). It takes no memory.
     pub fn new(rights: Rights) -> Stream
         ensures { result ≡ record { rights = rights; next = 1; current = None } }
     {
@@ -50,14 +50,14 @@ impl Stream {
         }
     }
 
-    /// What its user may do.
+    /// What its user may do (own). It takes no memory.
     pub fn rights(&self) -> Rights
         ensures { result ≡ self.now.rights }
     {
         self.rights
     }
 
-    /// The number from which the next get searches: 1 to one above [`MAX_NUMBER`].
+    /// The number from which the next get searches: 1 to one above [`MAX_NUMBER`] (own). It takes no memory.
     pub fn next(&self) -> u32
         ensures same { result ≡ self.now.next }
         ensures above { 1 ≤ result }
@@ -66,7 +66,7 @@ impl Stream {
         self.next
     }
 
-    /// The next get searches from n on. No record is current then.
+    /// The next get searches from n on, and no record is current (own). It takes no memory.
     pub fn seek(&mut self, n: u32)
         requires above { 1 ≤ n }
         requires within { n ≤ greatest_number + 1 }
@@ -79,14 +79,14 @@ impl Stream {
         };
     }
 
-    /// The next get searches from 1 on. No record is current then.
+    /// The next get searches from 1 on, and no record is current (own). It takes no memory.
     pub fn rewind(&mut self)
         ensures { self.new ≡ record self.old { next = 1; current = None } }
     {
         self.seek(1);
     }
 
-    /// No record is current then; nothing else changes.
+    /// No record is current then, and nothing else changes (own). It takes no memory.
     pub fn forget(&mut self)
         ensures { self.new ≡ record self.old { current = None } }
     {
@@ -94,7 +94,7 @@ impl Stream {
         *self = Stream { current, ..*self };
     }
 
-    /// Finds a record. It becomes the current one, and the next get searches behind it; a refused
+    /// Finds a record (own). It becomes the current one, and the next get searches behind it; a refused
     /// get leaves where the next one searches. It takes no memory.
     ///
     /// Refusals in order: NotPermitted; by `Next` EndOfFile; by `Key` BadAccessMode in a sequential
@@ -141,7 +141,7 @@ impl Stream {
         }
     }
 
-    /// Stores a new record: under the key; without one at the end of a sequential file, and in a
+    /// Stores a new record (own): under the key; without one at the end of a sequential file, and in a
     /// relative file at the stream's next, which moves behind it.
     ///
     /// Refusals in order: NotPermitted, BadAccessMode (a key in a sequential file), BadLength,
@@ -209,7 +209,7 @@ impl Stream {
         }
     }
 
-    /// Replaces the current record, in a sequential file by one of the same length.
+    /// Replaces the current record, in a sequential file by one of the same length (own).
     ///
     /// Refusals in order: NotPermitted, NoCurrent, BadLength, NoMemory.
     pub fn update<F: RecordFile>(&mut self, file: &mut F, body: &[u8]) -> Result<u32, Refusal>
@@ -253,7 +253,7 @@ impl Stream {
         Ok(number)
     }
 
-    /// Removes the current record of a relative file. It takes no memory.
+    /// Removes the current record of a relative file (own). It takes no memory.
     ///
     /// Refusals in order: NotPermitted, DeleteNotAllowed (a sequential file), NoCurrent.
     pub fn delete<F: RecordFile>(&mut self, file: &mut F) -> Result<u32, Refusal>
