@@ -35,7 +35,7 @@ pub data Turn : Type 0 where
 abbrev pub sync : Scene → Place → Message → Effect
 sync scene place message = enters scene place (sync_status message ∷ [])
 
--- a Control that has no place; one that this end doesn't know has none anywhere
+-- a Control that may not come where a file is open; one that this end doesn't know has no place there at all
 abbrev pub control_status : Verb → Message
 control_status verbs.Unknown = bare_status (codes.unsupported codes.types.control)
 control_status verb = bare_status (codes.out_of_place codes.types.control)

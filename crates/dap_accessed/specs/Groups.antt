@@ -1,5 +1,5 @@
--- The list of items that were served is cut from its front into groups: one item, save that a PUT or an UPDATE in
--- Connected has the item after it in its group.
+-- The list of items that were served is cut from its front into groups: one item, save that a PUT for a record or an
+-- UPDATE in Connected has the item after it in its group.
 use Rattle.std.specs.Prelude.{ℕ, List, [], ◌∷◌, ◌++◌, length, drop, Option, Some, None}
 use Rattle.dap_msg.specs.Message.{Message}
 use Rattle.dap_msg.specs.Items.{Item}

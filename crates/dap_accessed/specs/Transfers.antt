@@ -15,8 +15,8 @@ use Rattle.dap_accessed.specs.Records.{at_number, filedata_of, fits_limit}
 
 -- ---- To the peer.
 
--- The records that are given, and how it ends: with the end of the file, at the number behind the last one given, or
--- at a record that is too large.
+-- The records that are given, and how it ends: with the end of the file, at the number behind the last one given, if
+-- one was, or at a record that is too large.
 abbrev pub fetch_ends : Scene → OpenFile → StreamVal → (given rest : List (ℕ × List ℕ)) → Effect
 fetch_ends scene opened stream given [] =
     enters scene (Connected opened (at_number (fold (λ n r. r.0 + 1) stream.next given) stream))

@@ -38,7 +38,7 @@ how_to_go_on Again = codes.confunc.again
 how_to_go_on Skip = codes.confunc.skip
 how_to_go_on Abort = codes.confunc.abort
 
--- the messages of a request, to an end of this BUFSIZ
+-- the messages of a request, of an end with this BUFSIZ
 abbrev pub messages_of : ℕ → Request → List Message
 messages_of own Hello = config_of own ∷ []
 messages_of own (Create name org rfm mrs mrn fac) =

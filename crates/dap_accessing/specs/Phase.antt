@@ -72,7 +72,7 @@ IsAdmissible own requests answers request =
     IsNoneDue requests answers × IsInPhase requests answers request
     × AreSendable (limit_after (Told requests answers)) (messages_of own request)
 
--- why it isn't: the first of these that holds
+-- why it isn't: the first of these that holds; memory is wanting only for one that is admissible
 abbrev pub IsRefused : ℕ → List Request → List Item → Request → AskFault → Type 0
 IsRefused own requests answers request Busy = IsNoneDue requests answers → ⊥
 IsRefused own requests answers request WrongPhase = IsNoneDue requests answers × (IsInPhase requests answers request → ⊥)

@@ -59,7 +59,7 @@ abbrev pub IsCapturedText : Listed → List ℕ → List ℕ → Type 0
 IsCapturedText Packets bytes text = IsPacketText bytes text
 IsCapturedText Messages bytes text = IsMessageText bytes text
 
--- the most bytes of a line
+-- the most bytes that the digits of a line spell
 abbrev pub limit_of : Listed → ℕ
 limit_of Packets = 4096
 limit_of Messages = 65535

@@ -96,7 +96,7 @@ arrived seg_size r (message ∷ messages) =
     let n = count_of seg_size (length (joined message)) in
     if nat_le n r then message ∷ arrived seg_size (r - n) messages else []
 
--- the messages that were handed to the link, and those among them that the peer has
+-- the messages that were handed to the link, and those among them whose NSP message the peer has whole
 abbrev pub sent_by : Direction → List Message
 sent_by d = messages_in d.handed
 

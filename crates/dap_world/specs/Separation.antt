@@ -6,7 +6,7 @@ use Rattle.nsp_link.specs.Separation.{IsSegmentNear, IsAckNear}
 use Rattle.dap_world.specs.declared.event.End.{End}
 use Rattle.dap_world.specs.Machine.{State, Direction, Sending, sends, other, is_stale}
 
--- the counts of a direction stand in order, and what isn't acknowledged is within the window
+-- the counts of a direction stand in order, and what was sent and isn't acknowledged is within the window
 pub record InOrder (window : ℕ) (d : Direction) : Type 0 where
   pub acked_taken : d.acked ≤ d.taken
   pub taken_sent : d.taken ≤ d.sent

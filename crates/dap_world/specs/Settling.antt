@@ -34,7 +34,7 @@ pub record RanBy (old new : State) (n : ℕ) : Type 0 where
 abbrev pub RanTo : State → State → Type 0
 RanTo old new = (n : ℕ) × RanBy old new n
 
--- how many segments of an end aren't acknowledged
+-- how many of the segments that an end sent aren't acknowledged
 abbrev pub unacked : State → End → ℕ
 unacked s end = (sends s end).sent - (sends s end).acked
 
@@ -50,8 +50,8 @@ pub record SendsNothing (old new : State) : Type 0 where
 
 -- ---- One end is settled.
 
--- After so many events all segments of the end are acknowledged: none where there was nothing to do, and at most two for
--- each place of the window and two more.
+-- After so many events all segments that the end sent are acknowledged: none where there was nothing to do, and at most
+-- two for each place of the window and two more.
 pub record Settled (old new : State) (end : End) (n : ℕ) : Type 0 where
   pub ran : RanBy old new n
   pub done : unacked new end ≡ 0

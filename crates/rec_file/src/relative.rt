@@ -26,7 +26,7 @@ use std::marker::Model;
 pub struct RelFile {
     shape: Shape,
     alloc: Global,
-    places: BTreeMap<u32, usize>,
+    places: BTreeMap<u32, u32>,
     pages: Slab<Page>,
 }
 
@@ -80,7 +80,7 @@ impl RelFile {
 /// Stores a record in an empty cell of a page that is kept, or else of a new one. An error is want of memory:
 /// nothing has changed.
 fn put_in(
-    places: &mut BTreeMap<u32, usize>,
+    places: &mut BTreeMap<u32, u32>,
     pages: &mut Slab<Page>,
     alloc: Global,
     at: u32,
@@ -100,13 +100,15 @@ fn put_in(
     ensures own { HaveOwnPlaces places.new.entries }
 {
     match places.entry(at)? {
-        Entry::Occupied(kept) => match pages.get_mut(*kept.get()) {
+        Entry::Occupied(kept) => match pages.get_mut(*kept.get() as usize) {
             Some(page) => page.put(cell, body),
             None => Ok(()),
         },
         Entry::Vacant(free) => {
+            // There are at most 2^25 pages, so the next place always has 32 bits.
+            let place = u32::try_from(pages.vacant_key()).map_err(|_| AllocError)?;
             pages.reserve(1)?;
-            let place = pages.insert_reserved(Page::with(alloc, cell, body));
+            let _ = pages.insert_reserved(Page::with(alloc, cell, body));
             free.insert(place);
             Ok(())
         }
@@ -126,7 +128,7 @@ impl RecordFile for RelFile {
             return None;
         }
         let place = places.get(&page_of(number))?;
-        let page = self.pages.get(*place)?;
+        let page = self.pages.get(*place as usize)?;
         page.get(cell_of(number))
     }
 
@@ -135,13 +137,13 @@ impl RecordFile for RelFile {
         let own = page_of(least);
         let mut rest = self.places.range(own..);
         let (at, place) = rest.next()?;
-        let page = self.pages.get(*place)?;
+        let page = self.pages.get(*place as usize)?;
         let from = if *at == own { cell_of(least) } else { 0 };
         match first_in(*at, page, from) {
             Some(first) => Some(first),
             None => {
                 let (at, place) = rest.next()?;
-                let page = self.pages.get(*place)?;
+                let page = self.pages.get(*place as usize)?;
                 first_in(*at, page, 0)
             }
         }
@@ -151,7 +153,7 @@ impl RecordFile for RelFile {
         let Some((at, place)) = self.places.last_key_value() else {
             return 0;
         };
-        match self.pages.get(*place) {
+        match self.pages.get(*place as usize) {
             Some(page) => last_in(*at, page).unwrap_or(0),
             None => 0,
         }
@@ -176,7 +178,7 @@ impl RecordFile for RelFile {
         let Some(place) = self.places.get(&page_of(number)) else {
             return Ok(());
         };
-        let Some(page) = self.pages.get_mut(*place) else {
+        let Some(page) = self.pages.get_mut(*place as usize) else {
             return Ok(());
         };
         page.replace(cell_of(number), body);
@@ -189,7 +191,7 @@ impl RecordFile for RelFile {
         let Some(place) = places.get(&at) else {
             return;
         };
-        let place = *place;
+        let place = *place as usize;
         let Some(page) = self.pages.get_mut(place) else {
             return;
         };

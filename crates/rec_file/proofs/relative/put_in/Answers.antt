@@ -27,12 +27,12 @@ returns-in-None-clause-ok c =
 
 pub returns-in_ok-reserve-in-Vacant-clause-ok : goal.returns-in_ok-reserve-in-Vacant-clause-ok
 returns-in_ok-reserve-in-Vacant-clause-ok c =
-    let free = rw c.in_ok-reserve-in-Vacant.ensures.rest_kept at c.insert_reserved-place.ensures.was_vacant in
-    let more = rw c.in_ok-reserve-in-Vacant.ensures.rest_kept at c.insert_reserved-place.ensures.updates in
-    put-new c.args.pages.now c.insert_reserved-place.new.self c.args.places.now.entries _ c.args.at c.insert_reserved-place.result c.args.cell c.with.result c.args.body.items (search rules) c.requires.kept (search rules) free
+    let free = rw c.in_ok-reserve-in-Vacant.ensures.rest_kept at c.insert_reserved.ensures.was_vacant in
+    let more = rw c.in_ok-reserve-in-Vacant.ensures.rest_kept at c.insert_reserved.ensures.updates in
+    put-new c.args.pages.now c.insert_reserved.new.self c.args.places.now.entries _ c.args.at c.insert_reserved.result c.args.cell c.with.result c.args.body.items (search rules) c.requires.kept (search rules) free
     (record { changed = more.changed; others = more.others }) c.with.ensures
 
 pub returns-in_ok-reserve-in-Vacant-clause-own : goal.returns-in_ok-reserve-in-Vacant-clause-own
 returns-in_ok-reserve-in-Vacant-clause-own c =
-    let free = rw c.in_ok-reserve-in-Vacant.ensures.rest_kept at c.insert_reserved-place.ensures.was_vacant in
-    own-new c.args.pages.now c.args.places.now.entries _ c.args.at c.insert_reserved-place.result (search rules) c.requires.kept free c.requires.own
+    let free = rw c.in_ok-reserve-in-Vacant.ensures.rest_kept at c.insert_reserved.ensures.was_vacant in
+    own-new c.args.pages.now c.args.places.now.entries _ c.args.at c.insert_reserved.result (search rules) c.requires.kept free c.requires.own
