@@ -94,7 +94,7 @@ header_size len = if nat_lt len 256 then 3 else 4
 abbrev pub file_data_size : ℕ → ℕ → ℕ
 file_data_size recnum payload = header_size (1 + recnum + payload) + (1 + recnum + payload)
 
--- ---- What has a spelling.
+-- ---- What has a closed spelling.
 
 abbrev pub FitsField : (k : Kind) → ValueOf k → Type 0
 FitsField Byte v = v < 256

@@ -4,7 +4,7 @@ use Rattle.std.specs.List.{AllByRecursion}
 use Rattle.dap_msg.specs.Message.{Message}
 use Rattle.dap_msg.specs.Canon.{canon, Fits}
 
--- a message has a spelling, and it is within the limit
+-- a message has a closed spelling, and its canonical one is within the limit
 abbrev pub IsSendable : ℕ → Message → Type 0
 IsSendable limit m = Fits m × (length (canon m) ≤ limit)
 

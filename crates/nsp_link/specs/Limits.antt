@@ -5,7 +5,8 @@ use Rattle.std.specs.Prelude.{ℕ, ◌^◌}
 abbrev pub largest_segment : ℕ
 largest_segment = 1400
 
--- The segments sent and not acknowledged at most. With more, two numbers on the way could be equal modulo 4,096.
+-- The segments sent and not acknowledged at most. With more, an acknowledgement could be 2,048 ahead, and would be
+-- taken for an old one.
 abbrev pub largest_window : ℕ
 largest_window = 2047
 

@@ -224,7 +224,7 @@ abbrev pub Keeps : LinkValue → ℕ → Type 0
 Keeps v k = (v.received + 1 < k) × (k < v.received + 1 + v.window) × Lacks k v.held
 
 -- What is held once the k-th came, which says this: what follows it without a hole leaves, and an
--- early one below the window is held, the first copy of it.
+-- early one within the window is held, the first copy of it.
 abbrev pub held_after : LinkValue → Option ℕ → Piece → List (ℕ × Piece)
 held_after v None p = v.held
 held_after v (Some k) p =

@@ -11,7 +11,8 @@ use Rattle.nsp_link.specs.Coming.{Coming, taken_all, AllFit, RefusesAll}
 use Rattle.nsp_link.specs.Holding.{following, inserted}
 use Rattle.nsp_link.specs.Link.{LinkValue, coming, failed_link, first_ack, piece_of, IsBetween, Keeps}
 
--- how many segments a field acknowledges anew; none where it speaks of a segment never sent
+-- How many segments a field acknowledges anew: 0 where its number is 2,048 or more ahead, which is old, and nothing where
+-- it is less far ahead, and of a segment never sent.
 abbrev pub newly_acked : LinkValue → Option ℕ → Option ℕ
 newly_acked v None = Some 0
 newly_acked v (Some n) =
@@ -29,7 +30,7 @@ coming_link v c held = record v { received = c.received; partial = c.partial; in
 abbrev pub closed : LinkValue → Piece → LinkValue
 closed v p = coming_link v (taken_all (coming v) (run v p)) (drop (length (following (v.received + 1) v.held)) v.held)
 
--- an end that keeps the k-th segment, which is early, where that is below the window
+-- an end that keeps the k-th segment, which is early, where that is within the window
 abbrev pub kept : LinkValue → ℕ → Piece → LinkValue
 kept v k p = if nat_lt k (v.received + 1 + v.window) then record v { held = inserted k p v.held } else v
 
@@ -72,7 +73,7 @@ TakesSegment old s AckOnly new = ⊥
 abbrev pub Acknowledges : LinkValue → Option ℕ → LinkValue → LinkValue → Type 0
 Acknowledges old number mid new = (count : ℕ) × (newly_acked old number ≡ Some count) × (new ≡ forgotten mid count)
 
--- an acknowledgement that an end believes: it speaks of no segment that wasn't sent
+-- an acknowledgement that an end believes: it is old, or speaks of no segment that wasn't sent
 abbrev pub Believes : LinkValue → Option ℕ → Type 0
 Believes v number = (count : ℕ) × (newly_acked v number ≡ Some count)
 

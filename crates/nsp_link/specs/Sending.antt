@@ -14,7 +14,7 @@ segment_packet v piece number = written_segment v.local v.remote piece number v.
 abbrev pub ack_packet_of : LinkValue → PacketValue
 ack_packet_of v = written_ack v.local v.remote v.received
 
--- the bytes are the segment at this place of the queue, under this number
+-- the bytes are the segment at this place of the queue, if one stands there, under this number
 abbrev pub WritesQueued : LinkValue → ℕ → ℕ → List ℕ → Type 0
 WritesQueued v place number bytes =
     (piece : Piece) → slice_get v.queue place ≡ Some piece → IsSpelling (segment_packet v piece number) bytes

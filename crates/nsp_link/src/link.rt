@@ -58,8 +58,8 @@ const LEAST_LIMIT: usize = 64;
 const LARGEST_LIMIT: usize = 65535;
 
 /// One end of an open link (NSP 4.0.0, data segments and their acknowledgement). What it hands out is a part from
-/// the front of the messages that the other end sent, each once and in order, and it believes no acknowledgement of
-/// what it didn't send.
+/// the front of the messages that the other end sent, each once and in order, and no acknowledgement moves it beyond
+/// what it sent.
 #[derive(Drop)]
 pub struct LinkEnd {
     alloc: Global,

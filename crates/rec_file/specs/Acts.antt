@@ -10,7 +10,7 @@ use Rattle.rec_file.specs.declared.picks.Pick.TheVariants.{Next, Key, Rfa}
 use Rattle.rec_file.specs.Shapes.{is_seq, limit_of, allows_length}
 use Rattle.rec_file.specs.Files.{FileVal, lowest_from, highest_of, stored, removed}
 
--- a stream: what its user may do, where it reads next, and the number that it found last
+-- a stream: what its user may do, where it reads next, and the number of its current record, or none
 pub record StreamVal : Type 0 where
   pub rights : Rights
   pub next : ℕ

@@ -4,7 +4,7 @@ use Rattle.std.specs.FinMap.{keys}
 use Rattle.std.specs.Set.{distinct_count}
 use Rattle.rec_file.specs.Files.{Records}
 
--- the page of a number, from 1 on
+-- the page, from 0 on, of a number from 1 on
 abbrev pub page_of : ℕ → ℕ
 page_of n = (n - 1) / 64
 
