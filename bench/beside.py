@@ -44,6 +44,11 @@ def build_plain(work, name):
     return program
 
 
+def stay_on_one_processor():
+    """Binds this process, and those that it starts, to one processor."""
+    os.sched_setaffinity(0, {max(os.sched_getaffinity(0))})
+
+
 def measure(program, words):
     """The numbers of a run by their labels, and what it answered."""
     said = subprocess.run([program, *words], stdout=subprocess.PIPE, text=True, check=True).stdout
@@ -58,6 +63,7 @@ def compare(name, uses, cases):
     least = {}
     with tempfile.TemporaryDirectory() as work:
         programs = [prove(work, name, uses), build_plain(work, name)]
+        stay_on_one_processor()
         for words in cases:
             rounds = [[measure(program, words) for program in programs] for _ in range(ROUNDS)]
             if any(proved[1] != plain[1] for proved, plain in rounds):
