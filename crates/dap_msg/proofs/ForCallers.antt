@@ -20,3 +20,5 @@ pub use Rattle.dap_msg.proofs.BlockedLaws.{messages_in-Blocked}
 pub use Rattle.dap_msg.proofs.BlockedLaws.{within_limit}
 -- the type of a message that was read is one byte
 pub use Rattle.dap_msg.proofs.Types.{type_short}
+-- a record's bytes may be any others
+pub use Rattle.dap_msg.proofs.Records.{other_record}

@@ -1,0 +1,105 @@
+-- A record's bytes may be any others: what stands before them says nothing of them but how many they are.
+use Rattle.std.proofs.Common.{◌≡◌, ℕ, ◌+◌, Bool, true, false, List, [], ◌++◌, length, take, drop, Option, Some, None, refl, sym, ap, subst, ◌∙◌, append_assoc, arith}
+use Rattle.std.proofs.lemmas.List.{append-nil, length-append, length-take-le, length-drop, take_at, take-append-drop, take-take}
+use Rattle.dap_msg.specs.Decoding.{HasLength, SpellsMessage, StandsInFront}
+use Rattle.dap_msg.specs.Formats.{header, operand, configuration, attributes, access, control, continuation, acknowledge, completion, file_data, status, other}
+use Rattle.dap_msg.specs.Grammar.{Grammar, Done, Next, PartValue, Spells}
+use Rattle.dap_msg.specs.Message.{Message, Filedata, length_of}
+use Rattle.dap_msg.proofs.Messages.{header_any}
+
+abbrev IsOther : Message → Type 0
+IsOther (Filedata recnum payload) = ⊥
+IsOther _ = Unit {0}
+
+-- no value of the format is a Filedata
+abbrev IsOfOthers : Grammar Message → Type 0
+IsOfOthers (Done m) = IsOther m
+IsOfOthers (Next p next) = (v : PartValue p) → IsOfOthers (next v)
+
+no_record : (g : Grammar Message) (recnum payload bytes rest : List ℕ) → IsOfOthers g → Spells g (Filedata recnum payload) bytes rest → ⊥
+no_record (Done m) recnum payload bytes rest others s = subst IsOther (sym s.0) others
+no_record (Next p next) recnum payload bytes rest others (v, front, back, joined, part, more) = no_record (next v) recnum payload back rest (others v) more
+
+-- where a Filedata is spelled, its record stands at the end, and may be any other
+abbrev IsOpen : Grammar Message → Type 0
+IsOpen g =
+    (recnum payload bytes : List ℕ) → Spells g (Filedata recnum payload) bytes []
+    → (front : List ℕ) × (bytes ≡ front ++ payload) × ((body : List ℕ) → Spells g (Filedata recnum body) (front ++ body) [])
+
+open_others : (g : Grammar Message) → IsOfOthers g → IsOpen g
+open_others g others recnum payload bytes s = absurd (no_record g recnum payload bytes [] others s)
+
+recnum_of : Message → List ℕ
+recnum_of (Filedata recnum payload) = recnum
+recnum_of _ = []
+
+payload_of : Message → List ℕ
+payload_of (Filedata recnum payload) = payload
+payload_of _ = []
+
+open_file_data : IsOpen file_data
+unfolding file_data recnum_of payload_of
+open_file_data recnum payload bytes (recnum', front, back, joined, image, (payload', rest, none, split, remainder, (done, end))) =
+    let recnums : recnum ≡ recnum' = ap recnum_of done in
+    let payloads : payload ≡ payload' = ap payload_of done in
+    let all : back ≡ payload = split ∙ ap (λ (n : List ℕ). rest ++ n) end ∙ append-nil rest ∙ remainder.0 ∙ sym payloads in (
+      front,
+      joined ∙ ap (λ (b : List ℕ). front ++ b) all,
+      λ body. (recnum', front, body, refl, image, (body, body, [], sym (append-nil body), (refl, refl), (ap (λ (r : List ℕ). Filedata r body) recnums, refl))),
+    )
+
+either : (b : Bool) (g h : Grammar Message) → IsOpen g → IsOpen h → IsOpen (if b then g else h)
+either true g h y z = y
+either false g h y z = z
+
+open_operand : (number : ℕ) → IsOpen (operand number)
+unfolding configuration attributes access control continuation acknowledge completion status other
+open_operand n =
+    either (n == 1) _ _ (open_others configuration (λ _ _ _ _ _ _ _ _ _ _. tt))
+    (either (n == 2) _ _ (open_others attributes (λ _ _ _ _ _ _ _ _ _ _ _ _ _ _ _ _ _ _ _ _ _ _ _. tt))
+    (either (n == 3) _ _ (open_others access (λ _ _ _ _ _ _ _ _. tt))
+    (either (n == 4) _ _ (open_others control (λ _ _ _ _ _ _ _ _ _. tt))
+    (either (n == 5) _ _ (open_others continuation (λ _ _. tt))
+    (either (n == 6) _ _ (open_others acknowledge (λ _. tt))
+    (either (n == 7) _ _ (open_others completion (λ _ _ _ _. tt))
+    (either (n == 8) _ _ open_file_data
+    (either (n == 9) _ _ (open_others status (λ _ _ _ _ _. tt)) (open_others (other n) (λ _. tt))))))))))
+
+same_extent : (o : Option ℕ) (body changed : List ℕ) (closed : Bool) → length changed ≡ length body → HasLength o body closed → HasLength o changed closed
+same_extent None body changed closed same extent = extent
+same_extent (Some n) body changed closed same extent = (same ∙ extent.0, extent.1)
+
+-- Bytes that begin with a record's message up to the record, and go on for so long, begin with such a message of
+-- the record that stands there.
+pub other_record : (recnum payload one two : List ℕ) (n start : ℕ) → StandsInFront (Filedata recnum payload) n one → start + length payload ≡ n
+    → length two ≡ length one → take start two ≡ take start one
+    → StandsInFront (Filedata recnum (drop start (take n two))) n two
+other_record recnum payload one two n start h size long same =
+    let s = h.spelled in
+    let o = open_operand s.head.number recnum payload s.body s.operand in
+    let head : List ℕ = s.front ++ o.0 in
+    let body : List ℕ = drop start (take n two) in
+    let whole : take n one ≡ head ++ payload = s.joined ∙ ap (λ (b : List ℕ). s.front ++ b) o.1 ∙ sym (append_assoc s.front o.0 payload) in
+    let sized : length (take n one) ≡ n = length-take-le n one h.there in
+    let resized : length (take n two) ≡ n = length-take-le n two (omega (arith, h.there, long)) in
+    let starts : start ≡ length head = omega (arith, sized, ap length whole, length-append head payload, size) in
+    let front : take start (take n two) ≡ head =
+    take-take start n two (omega (arith, size)) ∙ same ∙ sym (take-take start n one (omega (arith, size)))
+    ∙ ap (take start) whole ∙ take_at head payload start starts in
+    let joined : take n two ≡ s.front ++ (o.0 ++ body) =
+    sym (take-append-drop start (take n two)) ∙ ap (λ (f : List ℕ). f ++ body) front ∙ append_assoc s.front o.0 body in
+    let equal : length body ≡ length payload = omega (arith, length-drop start (take n two), resized, size) in
+    let lengths : length (o.0 ++ body) ≡ length s.body = omega (arith, length-append o.0 body, length-append o.0 payload, ap length o.1, equal) in record {
+      closed = h.closed;
+      there = omega (arith, h.there, long);
+      spelled = record {
+        head = s.head;
+        front = s.front;
+        body = o.0 ++ body;
+        joined = joined;
+        header = header_any s.head s.front s.body (o.0 ++ body) s.header;
+        operand = o.2 body;
+        extent = same_extent (length_of s.head.low s.head.high) s.body (o.0 ++ body) h.closed lengths s.extent;
+      };
+      open_is_all = λ open. h.open_is_all open ∙ sym long;
+    }
