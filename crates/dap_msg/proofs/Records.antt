@@ -1,5 +1,5 @@
 -- A record's bytes may be any others: what stands before them says nothing of them but how many they are.
-use Rattle.std.proofs.Common.{◌≡◌, ℕ, ◌+◌, Bool, true, false, List, [], ◌++◌, length, take, drop, Option, Some, None, refl, sym, ap, subst, ◌∙◌, append_assoc, arith}
+use Rattle.std.proofs.Common.{◌≡◌, ◌==◌, if◌then◌else◌, ℕ, ◌+◌, Bool, true, false, List, [], ◌++◌, length, take, drop, Option, Some, None, refl, sym, ap, subst, ◌∙◌, append_assoc, arith}
 use Rattle.std.proofs.lemmas.List.{append-nil, length-append, length-take-le, length-drop, take_at, take-append-drop, take-take}
 use Rattle.dap_msg.specs.Decoding.{HasLength, SpellsMessage, StandsInFront}
 use Rattle.dap_msg.specs.Formats.{header, operand, configuration, attributes, access, control, continuation, acknowledge, completion, file_data, status, other}
@@ -85,7 +85,7 @@ other_record recnum payload one two n start h size long same =
     let starts : start ≡ length head = omega (arith, sized, ap length whole, length-append head payload, size) in
     let front : take start (take n two) ≡ head =
     take-take start n two (omega (arith, size)) ∙ same ∙ sym (take-take start n one (omega (arith, size)))
-    ∙ ap (take start) whole ∙ take_at head payload start starts in
+    ∙ ap (take start) whole ∙ take_at head payload start (sym starts) in
     let joined : take n two ≡ s.front ++ (o.0 ++ body) =
     sym (take-append-drop start (take n two)) ∙ ap (λ (f : List ℕ). f ++ body) front ∙ append_assoc s.front o.0 body in
     let equal : length body ≡ length payload = omega (arith, length-drop start (take n two), resized, size) in
@@ -101,5 +101,5 @@ other_record recnum payload one two n start h size long same =
         operand = o.2 body;
         extent = same_extent (length_of s.head.low s.head.high) s.body (o.0 ++ body) h.closed lengths s.extent;
       };
-      open_is_all = λ open. h.open_is_all open ∙ sym long;
+      open_is_all = λ not_closed. h.open_is_all not_closed ∙ sym long;
     }
