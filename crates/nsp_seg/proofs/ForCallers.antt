@@ -3,6 +3,8 @@ use Rattle.std.proofs.Common.{◌≡◌, ℕ, ◌<◌, List, get_or}
 use Rattle.nsp_seg.specs.declared.packet.SegFault.{SegFault}
 use Rattle.nsp_seg.specs.Packets.{PacketValue, Spells, Fits, HasFault, spelling}
 use Rattle.nsp_seg.proofs.Exactness as exactness
+-- a segment's payload may be any other
+pub use Rattle.nsp_seg.proofs.Payloads.{carrying, other_payload}
 
 -- bytes spell one packet at most
 pub spells-one : (p q : PacketValue) (bytes : List ℕ) → Spells p bytes → Spells q bytes → p ≡ q

@@ -5,4 +5,5 @@ pub mod Faults
 pub mod Found
 pub mod Faulty
 pub mod Exactness
+pub mod Payloads
 pub mod ForCallers
