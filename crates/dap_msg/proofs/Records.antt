@@ -69,37 +69,41 @@ same_extent : (o : Option ℕ) (body changed : List ℕ) (closed : Bool) → len
 same_extent None body changed closed same extent = extent
 same_extent (Some n) body changed closed same extent = (same ∙ extent.0, extent.1)
 
--- Bytes that begin with a record's message up to the record, and go on for so long, begin with such a message of
--- the record that stands there.
-pub other_record : (recnum payload one two : List ℕ) (n start : ℕ) → StandsInFront (Filedata recnum payload) n one → start + length payload ≡ n
-    → length two ≡ length one → take start two ≡ take start one
-    → StandsInFront (Filedata recnum (drop start (take n two))) n two
-other_record recnum payload one two n start h size long same =
+-- A record is the last of its message. Bytes that begin as the message does up to the record, and go on for as long,
+-- begin with such a message of the record that stands there.
+pub other_record : (recnum payload one : List ℕ) (n : ℕ) → StandsInFront (Filedata recnum payload) n one
+    → (start : ℕ) × (start + length payload ≡ n)
+    × ((two : List ℕ) → length two ≡ length one → take start two ≡ take start one → StandsInFront (Filedata recnum (drop start (take n two))) n two)
+other_record recnum payload one n h =
     let s = h.spelled in
     let o = open_operand s.head.number recnum payload s.body s.operand in
     let head : List ℕ = s.front ++ o.0 in
-    let body : List ℕ = drop start (take n two) in
+    let start : ℕ = length head in
     let whole : take n one ≡ head ++ payload = s.joined ∙ ap (λ (b : List ℕ). s.front ++ b) o.1 ∙ sym (append_assoc s.front o.0 payload) in
-    let sized : length (take n one) ≡ n = length-take-le n one h.there in
-    let resized : length (take n two) ≡ n = length-take-le n two (omega (arith, h.there, long)) in
-    let starts : start ≡ length head = omega (arith, sized, ap length whole, length-append head payload, size) in
-    let front : take start (take n two) ≡ head =
-    take-take start n two (omega (arith, size)) ∙ same ∙ sym (take-take start n one (omega (arith, size)))
-    ∙ ap (take start) whole ∙ take_at head payload start (sym starts) in
-    let joined : take n two ≡ s.front ++ (o.0 ++ body) =
-    sym (take-append-drop start (take n two)) ∙ ap (λ (f : List ℕ). f ++ body) front ∙ append_assoc s.front o.0 body in
-    let equal : length body ≡ length payload = omega (arith, length-drop start (take n two), resized, size) in
-    let lengths : length (o.0 ++ body) ≡ length s.body = omega (arith, length-append o.0 body, length-append o.0 payload, ap length o.1, equal) in record {
-      closed = h.closed;
-      there = omega (arith, h.there, long);
-      spelled = record {
-        head = s.head;
-        front = s.front;
-        body = o.0 ++ body;
-        joined = joined;
-        header = header_any s.head s.front s.body (o.0 ++ body) s.header;
-        operand = o.2 body;
-        extent = same_extent (length_of s.head.low s.head.high) s.body (o.0 ++ body) h.closed lengths s.extent;
-      };
-      open_is_all = λ not_closed. h.open_is_all not_closed ∙ sym long;
-    }
+    let size : start + length payload ≡ n = omega (arith, length-take-le n one h.there, ap length whole, length-append head payload) in (
+      start,
+      size,
+      λ two long same.
+          let body : List ℕ = drop start (take n two) in
+          let resized : length (take n two) ≡ n = length-take-le n two (omega (arith, h.there, long)) in
+          let front : take start (take n two) ≡ head =
+          take-take start n two (omega (arith, size)) ∙ same ∙ sym (take-take start n one (omega (arith, size)))
+          ∙ ap (take start) whole ∙ take_at head payload start refl in
+          let joined : take n two ≡ s.front ++ (o.0 ++ body) =
+          sym (take-append-drop start (take n two)) ∙ ap (λ (f : List ℕ). f ++ body) front ∙ append_assoc s.front o.0 body in
+          let equal : length body ≡ length payload = omega (arith, length-drop start (take n two), resized, size) in
+          let lengths : length (o.0 ++ body) ≡ length s.body = omega (arith, length-append o.0 body, length-append o.0 payload, ap length o.1, equal) in record {
+            closed = h.closed;
+            there = omega (arith, h.there, long);
+            spelled = record {
+              head = s.head;
+              front = s.front;
+              body = o.0 ++ body;
+              joined = joined;
+              header = header_any s.head s.front s.body (o.0 ++ body) s.header;
+              operand = o.2 body;
+              extent = same_extent (length_of s.head.low s.head.high) s.body (o.0 ++ body) h.closed lengths s.extent;
+            };
+            open_is_all = λ not_closed. h.open_is_all not_closed ∙ sym long;
+          },
+    )

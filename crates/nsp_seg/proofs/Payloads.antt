@@ -1,5 +1,5 @@
 -- A segment's payload may be any other: what stands before it says nothing of it.
-use Rattle.std.proofs.Common.{◌≡◌, ℕ, ◌+◌, ◌*◌, List, [], ◌∷◌, ◌++◌, length, take, drop, sym, ap, ◌∙◌, arith}
+use Rattle.std.proofs.Common.{◌≡◌, ℕ, ◌+◌, ◌*◌, List, [], ◌∷◌, ◌++◌, length, take, drop, refl, sym, ap, ◌∙◌, arith}
 use Rattle.std.proofs.lemmas.List.{length-append, take_at, take-append-drop}
 use Rattle.std.specs.Int.{w16, to_le_bytes}
 use Rattle.nsp_seg.specs.Packets.{SegmentValue, segment, marks, optional_ack, Spells}
@@ -23,17 +23,22 @@ head_with free s =
     marks s.first s.last ∷ [] ++ to_le_bytes w16 s.dst ++ to_le_bytes w16 s.src ++ optional_ack s.ack1 ++ optional_ack s.ack2
     ++ to_le_bytes w16 (0x1000 * free + s.number)
 
--- Bytes that begin with a segment up to its payload are that segment, with the payload that stands there.
-pub other_payload : (s : SegmentValue) (one two : List ℕ) (start : ℕ) → Spells (segment s) one → start + length s.payload ≡ length one
-    → take start two ≡ take start one → Spells (segment (carrying s (drop start two))) two
-other_payload s one two start h size same =
+-- A payload is the last of its segment. Bytes that begin as the segment does up to the payload are that segment, with
+-- the payload that stands there.
+pub other_payload : (s : SegmentValue) (one : List ℕ) → Spells (segment s) one
+    → (start : ℕ) × (start + length s.payload ≡ length one)
+    × ((two : List ℕ) → take start two ≡ take start one → Spells (segment (carrying s (drop start two))) two)
+other_payload s one h =
     let head : List ℕ = head_with h.free s in
-    let whole : one ≡ head ++ s.payload = h.spelled in
-    let starts : length head ≡ start = omega (arith, ap length whole, length-append head s.payload, size) in
-    let front : take start two ≡ head = same ∙ ap (take start) whole ∙ take_at head s.payload start starts in
-    record {
-      fits = h.fits;
-      free = h.free;
-      few = h.few;
-      spelled = sym (take-append-drop start two) ∙ ap (λ (f : List ℕ). f ++ drop start two) front;
-    }
+    let start : ℕ = length head in
+    let whole : one ≡ head ++ s.payload = h.spelled in (
+      start,
+      omega (arith, ap length whole, length-append head s.payload),
+      λ two same.
+          let front : take start two ≡ head = same ∙ ap (take start) whole ∙ take_at head s.payload start refl in record {
+            fits = h.fits;
+            free = h.free;
+            few = h.few;
+            spelled = sym (take-append-drop start two) ∙ ap (λ (f : List ℕ). f ++ drop start two) front;
+          },
+    )
