@@ -6,6 +6,7 @@ pub mod Cutting
 pub mod Playing
 pub mod Input
 pub mod Lines
+pub mod Decoding
 pub mod Words
 pub mod Orders
 pub mod Messages

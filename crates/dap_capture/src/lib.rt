@@ -3,6 +3,7 @@
 #![tactic(auto)]
 
 mod commands;
+mod decode;
 mod fault;
 mod field;
 mod input;

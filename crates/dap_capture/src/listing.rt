@@ -1,12 +1,12 @@
 //! The listing of an input: of packets, or of NSP messages.
 
-ghost use Rattle.std.specs.Prelude.{◌≡◌, ◌≢◌, ◌≤◌, ◌<◌, ◌+◌, ◌-◌, ◌⊎◌, [], drop, OnErr, IfSome, ◌*◌, ◌/◌, ◌^◌, Some, true, false, IfErr, IfOk, MatchOption, MatchResult, OnOk, length};
+ghost use Rattle.std.specs.Prelude.{◌≡◌, ◌≢◌, ◌≤◌, ◌<◌, ◌+◌, ◌-◌, ◌⊎◌, [], drop, OnErr, IfSome, ◌*◌, ◌^◌, Some, true, false, IfErr, IfOk, MatchOption, None, OnOk, length};
 ghost use Rattle.dap_capture.specs.Inner.Adding.{AddsCapture, AddsSome};
 ghost use Rattle.dap_capture.specs.Inner.Cutting.{FaultsGoOn, HasNoEnd, IsEnd, IsFirstFault, ListingGoesOn};
-ghost use Rattle.dap_capture.specs.Inner.Lines.{IsRead, StandInFront};
+ghost use Rattle.dap_capture.specs.Inner.Decoding.{Spell, bytes_of};
 ghost use Rattle.dap_capture.specs.Inner.Course.{IsInputFault, IsWhole, TextGives};
 ghost use Rattle.dap_capture.specs.declared.fault.CaptureFault.TheVariants.{NoMemory, WriteFailed};
-ghost use Rattle.dap_capture.specs.Lines.{digits_line, is_hex_text as is_spelled, line_of};
+ghost use Rattle.dap_capture.specs.Lines.{captured, digits_line, is_hex_text as is_spelled, line_of, skipped};
 ghost use Rattle.dap_capture.specs.Listing.{IsCapturedText, IsMessageText, arrow_text, fault_of_line, limit_of};
 
 use crate::CaptureFault;
@@ -40,74 +40,48 @@ impl Listed {
     }
 }
 
-/// What is wrong with hex digits of bytes of which there may be so many, in the line of a number.
-fn digits_fault(number: usize, digits: &[u8], limit: usize) -> Option<CaptureFault>
+/// Refuses what are no hex digits of bytes, of which there may be so many, in the line of a number.
+fn check_digits(number: usize, digits: &[u8], limit: usize) -> Result<(), CaptureFault>
     requires { limit < 2 ^ 32 }
-    ensures { (direction : Direction)
-        → result ≡ fault_of_line number (digits_line limit direction digits.now) }
+    ensures good { OnOk result ((direction : Direction)
+        → digits_line limit direction digits.now ≡ captured direction digits.now) }
+    ensures hex { OnOk result (is_spelled digits.now ≡ true) }
+    ensures short { OnOk result (length digits.now ≤ 2 * limit) }
+    ensures fault { IfErr result (λ fault. (direction : Direction)
+        → fault_of_line number (digits_line limit direction digits.now) ≡ Some fault) }
 {
     if !is_hex_text(digits) {
-        return Some(CaptureFault::BadLine(number));
+        return Err(CaptureFault::BadLine(number));
     }
     if digits.len() > 2 * limit {
-        return Some(CaptureFault::TooLarge);
+        return Err(CaptureFault::TooLarge);
     }
-    None
+    Ok(())
 }
 
-/// What is wrong with the line of a number.
-fn line_fault(number: usize, line: &[u8], limit: usize) -> Option<CaptureFault>
-    requires { limit < 2 ^ 32 }
-    ensures { result ≡ fault_of_line number (line_of limit line.now) }
-{
-    match parse_head(line) {
-        Head::Skipped => None,
-        Head::Digits(_, digits) => digits_fault(number, digits, limit),
-        Head::Malformed => Some(CaptureFault::BadLine(number)),
-    }
-}
-
-/// Writes the bytes of hex digits to the front of the room, and answers how many they are.
-fn decode_digits(digits: &[u8], room: &mut [u8]) -> Option<usize>
-    requires { length digits.now / 2 ≤ length room.old }
-    ensures { MatchOption result (is_spelled digits.now ≡ false)
-        (λ count. (is_spelled digits.now ≡ true) × StandInFront digits.now room.new count) }
-{
-    let count = digits.len() / 2;
-    if count == 0 {
-        return None;
-    }
-    match hex::decode_to_slice(digits, &mut room[..count]) {
-        Ok(()) => Some(count),
-        Err(_) => None,
-    }
-}
-
-/// What the line of a number captured: the direction, and how many bytes, which it writes to the front of
-/// the room.
+/// What the line of a number captured: the direction, and the hex digits of at most so many bytes.
 fn read_line(
     number: usize,
     line: &[u8],
-    room: &mut [u8],
-) -> Result<Option<(Direction, usize)>, CaptureFault>
-    ensures { MatchResult result (IsRead (line_of (length room.old) line.now) room.new)
-        (λ fault. fault_of_line number (line_of (length room.old) line.now) ≡ Some fault) }
+    limit: usize,
+) -> Result<Option<(Direction, &[u8])>, CaptureFault>
+    requires { limit < 2 ^ 32 }
+    ensures says { IfOk result (λ read. MatchOption read (line_of limit line.now ≡ skipped)
+        (λ has. line_of limit line.now ≡ captured has.0 has.1.now)) }
+    ensures hex { IfOk result
+        (λ read. IfSome read (λ has. is_spelled has.1.now ≡ true)) }
+    ensures short { IfOk result (λ read. IfSome read (λ has. length has.1.now ≤ 2 * limit)) }
+    ensures good { OnOk result (fault_of_line number (line_of limit line.now) ≡ None) }
+    ensures fault { IfErr result
+        (λ fault. fault_of_line number (line_of limit line.now) ≡ Some fault) }
 {
-    let bad = Err(CaptureFault::BadLine(number));
     match parse_head(line) {
         Head::Skipped => Ok(None),
-        Head::Digits(_, digits) if digits.len() / 2 > room.len() => {
-            if is_hex_text(digits) {
-                Err(CaptureFault::TooLarge)
-            } else {
-                bad
-            }
+        Head::Digits(direction, digits) => {
+            check_digits(number, digits, limit)?;
+            Ok(Some((direction, digits)))
         }
-        Head::Digits(direction, digits) => match decode_digits(digits, room) {
-            Some(count) => Ok(Some((direction, count))),
-            None => bad,
-        },
-        Head::Malformed => bad,
+        Head::Malformed => Err(CaptureFault::BadLine(number)),
     }
 }
 
@@ -121,45 +95,58 @@ fn arrow(direction: Direction) -> &'static str
     }
 }
 
-/// Appends what the lines of an NSP message say after its number and direction.
-fn push_message(text: &mut Vec<u8>, bytes: &[u8]) -> Result<(), AllocError>
-    ensures { OnOk result (AddsSome text.old text.new (IsMessageText bytes.now)) }
+/// Appends what the lines of the NSP message that the digits spell say after its number and direction.
+fn push_message(text: &mut Vec<u8>, digits: &[u8], bytes: &mut [u8]) -> Result<(), AllocError>
+    requires { Spell digits.now (length bytes.old) }
+    ensures { OnOk result (AddsSome text.old text.new (IsMessageText (bytes_of digits.now))) }
 {
     push_number(text, "message len=", bytes.len())?;
     push_str(text, "\n")?;
-    push_messages(text, bytes)
+    push_messages(text, digits, bytes, 0)
 }
 
-/// Appends what the lines of captured bytes say after their number and direction.
-fn push_captured(listed: Listed, text: &mut Vec<u8>, bytes: &[u8]) -> Result<(), AllocError>
-    ensures { OnOk result (AddsSome text.old text.new (IsCapturedText listed bytes.now)) }
+/// Appends what the lines of the bytes that the digits spell say after their number and direction.
+fn push_captured(
+    listed: Listed,
+    text: &mut Vec<u8>,
+    digits: &[u8],
+    bytes: &mut [u8],
+) -> Result<(), AllocError>
+    requires { Spell digits.now (length bytes.old) }
+    ensures { OnOk result
+        (AddsSome text.old text.new (IsCapturedText listed (bytes_of digits.now))) }
 {
     match listed {
-        Listed::Packets => push_packet(text, bytes),
-        Listed::Messages => push_message(text, bytes),
+        Listed::Packets => push_packet(text, digits, bytes),
+        Listed::Messages => push_message(text, digits, bytes),
     }
 }
 
 /// Room for the words and numbers of a line.
 const WORDS: usize = 256;
 
-/// Appends the lines of captured bytes. Room is made once: two digits a byte, and their words.
+/// Appends the lines of the bytes that the digits spell. Room is made once: for the digits, and the words.
 fn push_capture(
     listed: Listed,
     text: &mut Vec<u8>,
     number: usize,
     direction: Direction,
-    bytes: &[u8],
+    digits: &[u8],
+    room: &mut [u8],
 ) -> Result<(), AllocError>
-    requires { length bytes.now < 2 ^ 32 }
-    ensures { OnOk result (AddsCapture listed number direction bytes.now text.old text.new) }
+    requires digits { is_spelled digits.now ≡ true }
+    requires room { length digits.now ≤ 2 * length room.old }
+    requires size { length digits.now < 2 ^ 32 }
+    ensures room { length room.new ≡ length room.old }
+    ensures added { OnOk result
+        (AddsCapture listed number direction (bytes_of digits.now) text.old text.new) }
 {
-    text.reserve(2 * bytes.len() + WORDS)?;
+    text.reserve(digits.len() + WORDS)?;
     push_decimal(text, number)?;
     push_str(text, " ")?;
     push_str(text, arrow(direction))?;
     push_str(text, " ")?;
-    push_captured(listed, text, bytes)
+    push_captured(listed, text, digits, &mut room[..digits.len() / 2])
 }
 
 /// A listing as far as it came.
@@ -210,10 +197,10 @@ fn list_cut<'a>(
     let mut at = course.at;
     let mut rest = bytes;
     while let Some((line, after)) = cut_line(rest, is_last) {
-        match read_line(at, line, room)? {
+        match read_line(at, line, listed.limit())? {
             None => {}
-            Some((direction, count)) => {
-                push_capture(listed, &mut course.text, number, direction, &room[..count])?;
+            Some((direction, digits)) => {
+                push_capture(listed, &mut course.text, number, direction, digits, room)?;
                 number += 1;
             }
         }
@@ -245,9 +232,7 @@ fn check_cut<'a>(
 {
     let mut rest = bytes;
     while let Some((line, after)) = cut_line(rest, is_last) {
-        if let Some(fault) = line_fault(*at, line, listed.limit()) {
-            return Err(fault);
-        }
+        read_line(*at, line, listed.limit())?;
         *at += 1;
         rest = after;
     }

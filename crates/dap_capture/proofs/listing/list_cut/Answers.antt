@@ -1,7 +1,9 @@
-use Rattle.std.proofs.Common.{rules, arith, ◌≡◌, ◌++◌, ap, sym, ◌∙◌, Some, take}
-use Rattle.dap_capture.specs.Inner.Lines.{IsRead}
-use Rattle.dap_capture.specs.Lines.{line_of, skipped}
+use Rattle.std.proofs.Common.{rules, arith, true, ◌≡◌, ◌++◌, ap, sym, ◌∙◌}
+use Rattle.dap_capture.specs.Lines.{captured, is_hex_text, line_of, skipped}
 use Rattle.dap_capture.specs.Listing.{fault_of_line, limit_of}
+use Rattle.dap_capture.specs.Inner.Decoding.{bytes_of}
+use Rattle.dap_capture.proofs.HexTextLemmas.{spells}
+use Rattle.dap_capture.proofs.DigitLemmas.{decoded}
 use Rattle.dap_capture.proofs.LineLemmas.{end_of_end}
 use Rattle.dap_capture.proofs.ListingLemmas.{captured_more, faults_after, skipped_more}
 use Rattle.dap_capture.proofs.listing.list_cut.Goals as goal
@@ -15,10 +17,9 @@ loop-line-preserved c =
     let after = c.in-Some.after.now in
     let shorter = c.in-Some.ensures.first.1 in
     let cut = c.in-Some.ensures.first.0 in
-    let read : IsRead (line_of limit line) c.read_line.new.room c.in_ok-read_line.field-0 = rw before.invariant.room at c.in_ok-read_line.ensures in
     elim c.match-branch-2.branch [
       | in-None w ↦
-          let says : line_of limit line ≡ skipped = rw w.in-None.is at read in
+          let says : line_of limit line ≡ skipped = rw (w.in-None.is, c.limit.ensures) at c.in_ok-read_line.ensures.says in
           record {
             counted = omega (arith, w.number-is, shorter, before.invariant.counted);
             at_counted = omega (arith, shorter, before.invariant.at_counted);
@@ -32,8 +33,11 @@ loop-line-preserved c =
             listing = λ start all follow may given. rw (w.course-is, w.number-is) (skipped_more c.args.listed limit start all (before.rest.now ++ follow) line (after ++ follow) before.course.text.items before.number (cut follow may) says (before.invariant.listing start all follow may given));
           }
       | in-Some-2+in_ok-push_capture-in-Some-2 w ↦
-          let has : IsRead (line_of limit line) c.read_line.new.room (Some (w.in-Some-2.direction, w.in-Some-2.count)) = rw w.in-Some-2.is at read in
-          let pushed = w.in_ok-push_capture-in-Some-2.ensures in
+          let digits = w.in-Some-2.digits.now in
+          let direction = w.in-Some-2.direction in
+          let says : line_of limit line ≡ captured direction digits = rw (w.in-Some-2.is, c.limit.ensures) at c.in_ok-read_line.ensures.says in
+          let hex : is_hex_text digits ≡ true = rw w.in-Some-2.is at c.in_ok-read_line.ensures.hex in
+          let pushed = w.in_ok-push_capture-in-Some-2.ensures.added in
           record {
             counted = omega (arith, w.number-is, shorter, before.invariant.counted);
             at_counted = omega (arith, shorter, before.invariant.at_counted);
@@ -43,7 +47,7 @@ loop-line-preserved c =
             room = search rules;
             left = end_of_end c.args.bytes.now before.rest.now after before.invariant.left c.in-Some.ensures.end (omega (arith, shorter)) before.invariant.short;
             short = omega (arith, shorter, before.invariant.short);
-            clean = λ follow may. before.invariant.clean follow may ∙ faults_after limit before.at (before.rest.now ++ follow) line (after ++ follow) (cut follow may) (ap (fault_of_line before.at) has.1);
-            listing = λ start all follow may given. rw (w.course-is, w.number-is) (captured_more c.args.listed limit start all (before.rest.now ++ follow) line (after ++ follow) before.course.text.items w.push_capture.new.text.items w.in-Some-2.direction has.0 (take w.in-Some-2.count c.read_line.new.room) pushed.0 before.number (cut follow may) (sym has.1) has.2.1 pushed.1 pushed.2 (before.invariant.listing start all follow may given));
+            clean = λ follow may. before.invariant.clean follow may ∙ faults_after limit before.at (before.rest.now ++ follow) line (after ++ follow) (cut follow may) (ap (fault_of_line before.at) says);
+            listing = λ start all follow may given. rw (w.course-is, w.number-is) (captured_more c.args.listed limit start all (before.rest.now ++ follow) line (after ++ follow) before.course.text.items w.push_capture.new.text.items direction digits (bytes_of digits) pushed.0 before.number (cut follow may) (sym says) (decoded digits _ (spells digits hex)) pushed.1 pushed.2 (before.invariant.listing start all follow may given));
           }
     ]
