@@ -7,8 +7,8 @@ ghost use Rattle.dap_capture.specs.Inner.Decoding.{AreDecoded, Spell};
 /// take. Own.
 pub(crate) const FRONT: usize = 32;
 
-/// Decodes digits up to the end of so many bytes, or of all, where so many in front need no more decoding. Answers
-/// how many in front need none then.
+/// Decodes the bytes of digits up to an end, or to their own where that is sooner. So many in front need no decoding;
+/// it answers how many need none afterwards.
 pub(crate) fn decode_to(digits: &[u8], bytes: &mut [u8], known: usize, end: usize) -> usize
     requires spelled { Spell digits.now (length bytes.old) }
     requires within { known ≤ length bytes.old }

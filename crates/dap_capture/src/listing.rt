@@ -125,7 +125,8 @@ fn push_captured(
 /// Room for the words and numbers of a line.
 const WORDS: usize = 256;
 
-/// Appends the lines of the bytes that the digits spell. Room is made once: for the digits, and the words.
+/// Appends the lines of the bytes that the digits spell. Room in the text is made once: for the digits and the words.
+/// The other room is for the bytes.
 fn push_capture(
     listed: Listed,
     text: &mut Vec<u8>,
