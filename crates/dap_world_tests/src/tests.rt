@@ -140,6 +140,15 @@ fn request(alloc: Global, call: Call) -> Result<Request, WorldFault> {
     })
 }
 
+/// The requests of a list.
+fn all(alloc: Global, calls: &[Call]) -> Result<Vec<Request>, WorldFault> {
+    let mut requests = Vec::new(alloc);
+    for call in calls {
+        requests.push(request(alloc, *call)?)?;
+    }
+    Ok(requests)
+}
+
 /// The requests that hold no bytes.
 fn plain(call: Call) -> Request {
     match call {

@@ -2,7 +2,7 @@
 //! window and at the largest.
 
 use super::Line::*;
-use super::calls::{directed, finish, taken};
+use super::calls::{after, finish, taken};
 use super::*;
 
 /// Segments of one byte over a window of 127.
@@ -60,27 +60,12 @@ const AGED: &[Line] = &[
     Counts(3, 5, 8),
 ];
 
-/// Each request has its report, and then the script is played.
-fn play_after(
-    rt: &(impl AllocGlobal + Abort),
-    setup: WorldSetup,
-    calls: &[Call],
-    script: &[Line],
-) -> Result<World, Fail> {
-    let mut requests = Vec::new(rt.alloc());
-    for call in calls {
-        requests.push(request(rt.alloc(), *call)?)?;
-    }
-    let (mut world, came) = directed(rt.alloc(), setup, &requests)?;
-    assert_eq!(rt; came, Ok(()));
-    go_on(rt, &mut world, script)?;
-    Ok(world)
-}
-
 #[test]
 fn edge_of_age(rt: HostRuntime) -> Result<(), Fail> {
+    let requests = all(rt.alloc(), PUTS)?;
     for setup in [SMALL, WIDE] {
-        let world = play_after(&rt, setup, PUTS, AGED)?;
+        let mut world = after(rt.alloc(), setup, &requests)?;
+        go_on(&rt, &mut world, AGED)?;
         assert_eq!(rt; taken(&world, End::B), 2050);
     }
     Ok(())
@@ -101,39 +86,44 @@ fn bring(world: &mut World, segments: usize) -> Result<(), WorldFault> {
     Ok(())
 }
 
-/// A part of a long request was taken: 2,047 segments in all, and then one more. What follows is lost, and all
+const BEGUN: &[Line] = &[
+    Does(Do::Ask(Call::Store(EMPTY)), Ok(Step::Asked(1))),
+    Does(Do::Post(End::A), Ok(Step::Posted(1))),
+];
+
+const REPEATED: &[Line] = &[Does(Do::Deliver(End::B, 0), Ok(Step::Delivered(Got::Repeat)))];
+
+const LOST: &[Line] = &[
+    Does(Do::Deliver(End::B, 0), Err(WorldFault::Stale)),
+    Does(Do::Emit(End::A), Ok(Step::Packet(2081))),
+    Does(Do::Emit(End::A), Ok(Step::Packet(2082))),
+];
+
+/// A part of a long request is taken: 2,047 segments in all, and then one more. What follows is lost, and all
 /// is finished.
+fn age_within(rt: &(impl AllocGlobal + Abort), world: &mut World) -> Result<(), Fail> {
+    go_on(rt, world, BEGUN)?;
+    assert_eq!(rt; taken(world, End::B), 43);
+    bring(world, 2004)?;
+    assert_eq!(rt; taken(world, End::B), 2047);
+    go_on(rt, world, REPEATED)?;
+    bring(world, 1)?;
+    assert_eq!(rt; taken(world, End::B), 2048);
+    go_on(rt, world, LOST)?;
+    assert_eq!(rt; taken(world, End::B), 2048);
+    finish(world)?;
+    assert!(rt; matches!(world.reports().last(), Some(Report::Stored(None))));
+    assert!(rt; is_held(world, 500, Some(NONE)) && is_held(world, 501, None));
+    Ok(())
+}
+
 #[test]
 fn age_within_a_request(rt: HostRuntime) -> Result<(), Fail> {
-    let mut world = play_after(
-        &rt,
-        WorldSetup {
-            bufsiz_b: 4096,
-            ..SMALL
-        },
-        &[Call::Hello, CREATE, Call::Connect],
-        &[
-            Does(Do::Ask(Call::Store(EMPTY)), Ok(Step::Asked(1))),
-            Does(Do::Post(End::A), Ok(Step::Posted(1))),
-        ],
-    )?;
-    let before = taken(&world, End::B) as usize;
-    assert_eq!(rt; before, 43);
-    bring(&mut world, 2004)?;
-    assert_eq!(rt; taken(&world, End::B), 2047);
-    let repeated = [Does(Do::Deliver(End::B, 0), Ok(Step::Delivered(Got::Repeat)))];
-    go_on(&rt, &mut world, &repeated)?;
-    bring(&mut world, 1)?;
-    assert_eq!(rt; taken(&world, End::B), 2048);
-    let lost = [
-        Does(Do::Deliver(End::B, 0), Err(WorldFault::Stale)),
-        Does(Do::Emit(End::A), Ok(Step::Packet(2081))),
-        Does(Do::Emit(End::A), Ok(Step::Packet(2082))),
-    ];
-    go_on(&rt, &mut world, &lost)?;
-    assert_eq!(rt; taken(&world, End::B), 2048);
-    finish(&mut world)?;
-    assert!(rt; matches!(world.reports().last(), Some(Report::Stored(None))));
-    assert!(rt; is_held(&world, 500, Some(NONE)) && is_held(&world, 501, None));
-    Ok(())
+    let setup = WorldSetup {
+        bufsiz_b: 4096,
+        ..SMALL
+    };
+    let requests = all(rt.alloc(), &[Call::Hello, CREATE, Call::Connect])?;
+    let mut world = after(rt.alloc(), setup, &requests)?;
+    age_within(&rt, &mut world)
 }

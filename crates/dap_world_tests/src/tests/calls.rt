@@ -23,6 +23,18 @@ pub(crate) fn directed(
     Ok((world, came))
 }
 
+/// The world after requests over a clean network, each with its report.
+pub(crate) fn after(
+    alloc: Global,
+    setup: WorldSetup,
+    requests: &[Request],
+) -> Result<World, WorldFault> {
+    match directed(alloc, setup, requests)? {
+        (world, Ok(())) => Ok(world),
+        (_world, Err((_place, fault))) => Err(fault),
+    }
+}
+
 pub(crate) fn settle(world: &mut World, end: End) -> Result<usize, WorldFault> {
     world.settle(end)
 }

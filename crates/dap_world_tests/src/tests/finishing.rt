@@ -1,7 +1,7 @@
 //! Stretches without loss: what is settled and finished after all on the wires was lost, and requests over
 //! a clean network.
 
-use super::calls::{directed, finish, settle, taken};
+use super::calls::{after, directed, finish, settle, taken};
 use super::*;
 use dap_world::AskFault;
 
@@ -137,14 +137,6 @@ const ROWS: &[Row] = &[
     },
 ];
 
-fn all(alloc: Global, asks: &[Call]) -> Result<Vec<Request>, WorldFault> {
-    let mut requests = Vec::new(alloc);
-    for each in asks {
-        requests.push(request(alloc, *each)?)?;
-    }
-    Ok(requests)
-}
-
 fn are_told(reports: &[Report], told: &[Want]) -> bool {
     reports.len() == told.len()
         && reports
@@ -165,63 +157,85 @@ fn are_held(world: &World, row: Row) -> bool {
             .all(|(number, body)| is_held(world, *number, *body))
 }
 
+/// Whether what was lost is finished as the row says.
+fn is_finished(alloc: Global, world: &mut World, row: Row) -> Result<bool, WorldFault> {
+    for what in row.lost {
+        let _step = happen(alloc, world, *what)?;
+    }
+    let (events, more) = (finish(world)?, finish(world)?);
+    Ok(
+        events == row.events
+            && more == 0
+            && are_told(world.reports(), row.told)
+            && are_held(world, row),
+    )
+}
+
+/// Whether all comes to what the row says.
+fn comes_so(alloc: Global, row: Row) -> Result<bool, WorldFault> {
+    let (seg_size, window, bufsiz_a, bufsiz_b) = row.setup;
+    let setup = WorldSetup {
+        seg_size,
+        window,
+        bufsiz_a,
+        bufsiz_b,
+    };
+    let requests = all(alloc, row.direct)?;
+    let mut world = after(alloc, setup, &requests)?;
+    is_finished(alloc, &mut world, row)
+}
+
 #[test]
 fn all_come_to_their_reports(rt: HostRuntime) -> Result<(), Fail> {
-    for row in ROWS {
-        let (seg_size, window, bufsiz_a, bufsiz_b) = row.setup;
-        let setup = WorldSetup {
-            seg_size,
-            window,
-            bufsiz_a,
-            bufsiz_b,
-        };
-        let requests = all(rt.alloc(), row.direct)?;
-        let (mut world, came) = directed(rt.alloc(), setup, &requests)?;
-        assert_eq!(rt; came, Ok(()));
-        for what in row.lost {
-            let _step = happen(rt.alloc(), &mut world, *what)?;
-        }
-        assert_eq!(rt; finish(&mut world), Ok(row.events));
-        assert_eq!(rt; finish(&mut world), Ok(0));
-        assert!(rt; are_told(world.reports(), row.told));
-        assert!(rt; are_held(&world, *row));
+    for (at, row) in ROWS.iter().enumerate() {
+        let so = comes_so(rt.alloc(), *row)?;
+        assert!(rt; so, "row {at}");
     }
     Ok(())
 }
 
-/// Requests of which the one at this place isn't asked.
-const REFUSED: &[(&[Call], usize, AskFault)] = &[
-    (&[Call::Connect], 0, AskFault::WrongPhase),
+/// Requests, what they come to, and how many are asked.
+const STOPS: &[(&[Call], Result<(), (usize, WorldFault)>, usize)] = &[
+    (&[], Ok(()), 0),
+    (
+        &[Call::Connect],
+        Err((0, WorldFault::Ask(AskFault::WrongPhase))),
+        0,
+    ),
     (
         &[Call::Hello, CREATE_F, Call::Get, Call::Purge],
+        Err((2, WorldFault::Ask(AskFault::WrongPhase))),
         2,
-        AskFault::WrongPhase,
     ),
     (
         &[Call::Hello, CREATE_LOG, Call::Connect, Call::Put(LONG)],
+        Err((3, WorldFault::Ask(AskFault::TooLarge))),
         3,
-        AskFault::TooLarge,
     ),
 ];
 
-#[test]
-fn requests_stop_at_one_that_is_refused(rt: HostRuntime) -> Result<(), Fail> {
+/// What requests come to in a new world, and how many are asked and reported.
+fn stop(
+    alloc: Global,
+    calls: &[Call],
+) -> Result<(Result<(), (usize, WorldFault)>, usize, usize), WorldFault> {
     let setup = WorldSetup {
         seg_size: 512,
         window: 8,
         bufsiz_a: 1024,
         bufsiz_b: 64,
     };
-    for (asks, place, fault) in REFUSED {
-        let mut world = World::new(rt.alloc(), setup)?;
-        assert_eq!(rt; world.direct(&[]), Ok(()));
-        let requests = all(rt.alloc(), asks)?;
-        assert_eq!(rt;
-            world.direct(&requests),
-            Err((*place, WorldFault::Ask(*fault)))
-        );
-        assert_eq!(rt; world.requests().len(), *place);
-        assert_eq!(rt; world.reports().len(), *place);
+    let requests = all(alloc, calls)?;
+    let (world, came) = directed(alloc, setup, &requests)?;
+    Ok((came, world.requests().len(), world.reports().len()))
+}
+
+#[test]
+fn requests_stop_at_one_that_is_refused(rt: HostRuntime) -> Result<(), Fail> {
+    for (calls, wanted, count) in STOPS {
+        let (came, asked, told) = stop(rt.alloc(), calls)?;
+        assert_eq!(rt; came, *wanted);
+        assert_eq!(rt; (asked, told), (*count, *count));
     }
     Ok(())
 }
@@ -307,25 +321,38 @@ fn counts(world: &World) -> (usize, usize, u64) {
     )
 }
 
+/// Whether the end of A is settled as the row says, once the event has come.
+fn is_settled(world: &mut World, event: &Event, row: Settled) -> Result<bool, WorldFault> {
+    apply(world, event)?;
+    write(world, row)?;
+    let (events, more) = (settle(world, End::A)?, settle(world, End::A)?);
+    Ok(
+        events == row.events
+            && more == 0
+            && count_unacked(world, End::A) == 0
+            && counts(world) == row.counts,
+    )
+}
+
+/// Whether the row is so.
+fn settles_so(alloc: Global, row: Settled) -> Result<bool, WorldFault> {
+    let setup = WorldSetup {
+        seg_size: 1,
+        window: row.window,
+        bufsiz_a: 4096,
+        bufsiz_b: 4096,
+    };
+    let requests = all(alloc, row.direct)?;
+    let event = Event::Ask(asked(alloc, row.bytes)?);
+    let mut world = after(alloc, setup, &requests)?;
+    is_settled(&mut world, &event, row)
+}
+
 #[test]
 fn settled_ends(rt: HostRuntime) -> Result<(), Fail> {
-    for row in SETTLED {
-        let setup = WorldSetup {
-            seg_size: 1,
-            window: row.window,
-            bufsiz_a: 4096,
-            bufsiz_b: 4096,
-        };
-        let requests = all(rt.alloc(), row.direct)?;
-        let (mut world, came) = directed(rt.alloc(), setup, &requests)?;
-        assert_eq!(rt; came, Ok(()));
-        let request = asked(rt.alloc(), row.bytes)?;
-        apply(&mut world, &Event::Ask(request))?;
-        write(&mut world, *row)?;
-        assert_eq!(rt; settle(&mut world, End::A), Ok(row.events));
-        assert_eq!(rt; settle(&mut world, End::A), Ok(0));
-        assert_eq!(rt; count_unacked(&world, End::A), 0);
-        assert_eq!(rt; counts(&world), row.counts);
+    for (at, row) in SETTLED.iter().enumerate() {
+        let so = settles_so(rt.alloc(), *row)?;
+        assert!(rt; so, "row {at}");
     }
     Ok(())
 }

@@ -2,7 +2,7 @@
 
 ghost use Rattle.std.specs.Prelude.{◌<◌};
 
-use super::calls::{directed, finish};
+use super::calls::{after, finish};
 use super::*;
 use dap_world::{AnyFile, FileTable};
 
@@ -134,30 +134,37 @@ fn clean(alloc: Global, asked: usize) -> Result<World, WorldFault> {
     for (call, _report) in TURNS.iter().take(asked) {
         requests.push(request(alloc, *call)?)?;
     }
-    match directed(alloc, SETUP, &requests)? {
-        (world, Ok(())) => Ok(world),
-        (_world, Err((_place, fault))) => Err(fault),
-    }
+    after(alloc, SETUP, &requests)
+}
+
+/// Whether a world, once it is finished, is what so many requests over a clean network come to.
+fn comes_clean(alloc: Global, world: &mut World, asked: usize) -> Result<bool, WorldFault> {
+    finish(world)?;
+    let more = finish(world)?;
+    let other = clean(alloc, asked)?;
+    Ok(
+        more == 0
+            && are_wanted(world, asked)
+            && are_wanted(&other, asked)
+            && are_same(world.files(), other.files()),
+    )
+}
+
+/// Plays a schedule that is drawn by lot: how many requests were asked, and whether it comes to what it should.
+fn play_schedule(alloc: Global, schedule: u32) -> Result<(usize, bool), WorldFault> {
+    let mut seed = schedule.wrapping_mul(7919).wrapping_add(1);
+    let mut world = begin(alloc, SETUP)?;
+    let asked = play_drawn(alloc, &mut world, &mut seed);
+    let so = comes_clean(alloc, &mut world, asked)?;
+    Ok((asked, so))
 }
 
 #[test]
 fn whatever_was_lost(rt: HostRuntime) -> Result<(), Fail> {
     let mut most = 0;
     for schedule in 0..SCHEDULES {
-        let mut seed = schedule.wrapping_mul(7919).wrapping_add(1);
-        let mut world = begin(rt.alloc(), SETUP)?;
-        let asked = play_drawn(rt.alloc(), &mut world, &mut seed);
-        finish(&mut world)?;
-        let other = clean(rt.alloc(), asked)?;
-        assert!(rt;
-            are_wanted(&world, asked) && are_wanted(&other, asked),
-            "schedule {schedule}"
-        );
-        assert!(rt;
-            are_same(world.files(), other.files()),
-            "schedule {schedule}"
-        );
-        assert_eq!(rt; finish(&mut world), Ok(0));
+        let (asked, so) = play_schedule(rt.alloc(), schedule)?;
+        assert!(rt; so, "schedule {schedule}");
         most = asked.max(most);
     }
     assert_eq!(rt; most, TURNS.len());
