@@ -1,4 +1,4 @@
-//! Links over outside examples.
+//! Links over outside examples: what each end answers, call by call.
 
 use crate::{Got, LinkEnd, LinkFault, LinkSetup};
 use std::alloc::Global;
@@ -15,310 +15,505 @@ const A: LinkSetup = LinkSetup {
 const B: LinkSetup = LinkSetup {
     local: 0x0202,
     remote: 0x0101,
-    seg_size: 512,
-    window: 8,
-    max_message: 1024,
+    ..A
 };
 
-#[test]
-fn message_delivered_once(rt: HostRuntime) -> Result<(), Fail> {
-    let mut a = LinkEnd::new(rt.alloc(), A)?;
-    let mut b = LinkEnd::new(rt.alloc(), B)?;
-    assert!(rt; !a.may_send());
-    a.send(&[6, 2, 0])?;
-    assert!(rt; a.may_send());
-    let packet = a.next_packet()?.ok_or("a packet")?;
-    assert_eq!(rt;
-        packet.as_slice(),
-        [0x60, 2, 2, 1, 1, 0, 0x80, 1, 0, 6, 2, 0].as_slice()
-    );
-    assert!(rt; !a.may_send());
-    assert!(rt; a.next_packet()?.is_none());
-    assert_eq!(rt; a.sent_count(), 1);
-    assert_eq!(rt; b.receive(&packet)?, Got::Accepted);
-    assert_eq!(rt; b.receive(&packet)?, Got::Repeat);
-    let oldest = b.peek_message().ok_or("a message that stays")?;
-    assert_eq!(rt; oldest, [6, 2, 0].as_slice());
-    let message = b.take_message().ok_or("a message")?;
-    assert_eq!(rt; message.as_slice(), [6, 2, 0].as_slice());
-    assert!(rt; b.take_message().is_none());
-    Ok(())
+/// What an end that is to send two bytes in a segment does over a window of two.
+const NARROW: LinkSetup = LinkSetup {
+    seg_size: 2,
+    window: 2,
+    max_message: 64,
+    ..A
+};
+
+/// Messages of at most 64 bytes.
+const SHORT_A: LinkSetup = LinkSetup {
+    max_message: 64,
+    ..A
+};
+
+const SHORT_B: LinkSetup = LinkSetup {
+    max_message: 64,
+    ..B
+};
+
+type Bytes = &'static [u8];
+
+/// A call of an end, and what it answers.
+#[derive(Clone, Copy)]
+enum Line {
+    Send(Bytes, Result<(), LinkFault>),
+    SendAll(&'static [Bytes], Result<(), LinkFault>),
+    Check(&'static [Bytes], Result<(), LinkFault>),
+    MaySend(bool),
+    Next(Result<Option<Bytes>, LinkFault>),
+    Resend(usize, Result<Bytes, LinkFault>),
+    Ack(Result<Bytes, LinkFault>),
+    Receive(Bytes, Result<Got, LinkFault>),
+    Peek(Option<Bytes>),
+    Take(Option<Bytes>),
+    /// So many messages of a byte are sent, and so many packets written.
+    Fill(usize, usize),
+    /// To B messages of one segment come, with the numbers from one up to another. Each is answered so.
+    Come(u16, u16, Got),
+    /// Segments that aren't acknowledged, that were sent, and that were taken; bytes of a message that isn't
+    /// whole yet; segments that are held.
+    Counts(usize, u64, u64, usize, usize),
 }
 
-#[test]
-fn window_holds_back(rt: HostRuntime) -> Result<(), Fail> {
-    let setup = LinkSetup {
-        seg_size: 2,
-        window: 2,
-        max_message: 64,
-        ..A
-    };
-    let mut a = LinkEnd::new(rt.alloc(), setup)?;
-    a.send(b"ABCDE")?;
-    let one = a.next_packet()?.ok_or("one")?;
-    assert_eq!(rt;
-        one.as_slice(),
-        [0x20, 2, 2, 1, 1, 0, 0x80, 1, 0, 0x41, 0x42].as_slice()
-    );
-    let two = a.next_packet()?.ok_or("two")?;
-    assert_eq!(rt;
-        two.as_slice(),
-        [0, 2, 2, 1, 1, 0, 0x80, 2, 0, 0x43, 0x44].as_slice()
-    );
-    assert!(rt; a.next_packet()?.is_none());
-    assert_eq!(rt; a.resend(0)?.as_slice(), one.as_slice());
-    assert_eq!(rt; a.receive(&[0x04, 1, 1, 2, 2, 1, 0x80])?, Got::AckOnly);
-    assert_eq!(rt; a.unacked(), 1);
-    let three = a.next_packet()?.ok_or("three")?;
-    assert_eq!(rt;
-        three.as_slice(),
-        [0x40, 2, 2, 1, 1, 0, 0x80, 3, 0, 0x45].as_slice()
-    );
-    assert_eq!(rt; a.receive(&[0x04, 1, 1, 2, 2, 0, 0x80])?, Got::AckOnly);
-    assert_eq!(rt; a.unacked(), 2);
-    assert_eq!(rt; a.resend(2), Err(LinkFault::NoSuchSegment));
-    assert_eq!(rt; a.sent_count(), 3);
-    Ok(())
+use Line::*;
+
+const FAILED: Result<Bytes, LinkFault> = Err(LinkFault::Failed);
+
+const ACCEPTED: Result<Got, LinkFault> = Ok(Got::Accepted);
+
+const REPEAT: Result<Got, LinkFault> = Ok(Got::Repeat);
+
+const EARLY: Result<Got, LinkFault> = Ok(Got::Early);
+
+const ACK_ONLY: Result<Got, LinkFault> = Ok(Got::AckOnly);
+
+const BAD_SEQUENCE: Result<Got, LinkFault> = Err(LinkFault::BadSequence);
+
+const TOO_LONG: Result<(), LinkFault> = Err(LinkFault::MessageTooLong);
+
+const ONLY: Bytes = &[0x60, 2, 2, 1, 1, 0, 0x80, 1, 0, 6, 2, 0];
+
+const ONE: Bytes = b"\x20\x02\x02\x01\x01\x00\x80\x01\x00he";
+
+const TWO: Bytes = b"\x00\x02\x02\x01\x01\x00\x80\x02\x00ll";
+
+const THREE: Bytes = b"\x40\x02\x02\x01\x01\x00\x80\x03\x00o";
+
+const TO_A: Bytes = &[0, 1, 1, 2, 2, 0, 0x80, 1, 0, 0x41];
+
+/// The front of a message for A, with 65 bytes of it, and the same with 64.
+const LONGER: Bytes =
+    b"\x20\x01\x01\x02\x02\x00\x80\x01\x00AAAAAAAAAAAAAAAAAAAAAAAAAAAAAAAAAAAAAAAAAAAAAAAAAAAAAAAAAAAAAAAAA";
+
+const LONGEST: Bytes =
+    b"\x20\x01\x01\x02\x02\x00\x80\x01\x00AAAAAAAAAAAAAAAAAAAAAAAAAAAAAAAAAAAAAAAAAAAAAAAAAAAAAAAAAAAAAAAA";
+
+/// The first segment of a message for B, with one byte, and the second.
+const FIRST: Bytes = &[0x20, 2, 2, 1, 1, 0, 0x80, 1, 0, 7];
+
+const SECOND: Bytes = &[0, 2, 2, 1, 1, 0, 0x80, 2, 0, 8];
+
+const SCRIPTS: &[(LinkSetup, &[Line])] = &[
+    // A message is sent in one packet.
+    (
+        A,
+        &[
+            MaySend(false),
+            Send(&[6, 2, 0], Ok(())),
+            MaySend(true),
+            Next(Ok(Some(ONLY))),
+            MaySend(false),
+            Next(Ok(None)),
+            Counts(1, 1, 0, 0, 0),
+        ],
+    ),
+    // It comes twice, and is delivered once.
+    (
+        B,
+        &[
+            Receive(ONLY, ACCEPTED),
+            Receive(ONLY, REPEAT),
+            Peek(Some(&[6, 2, 0])),
+            Take(Some(&[6, 2, 0])),
+            Take(None),
+        ],
+    ),
+    // The window holds back.
+    (
+        NARROW,
+        &[
+            Send(b"ABCDE", Ok(())),
+            Next(Ok(Some(&[0x20, 2, 2, 1, 1, 0, 0x80, 1, 0, 0x41, 0x42]))),
+            Next(Ok(Some(&[0, 2, 2, 1, 1, 0, 0x80, 2, 0, 0x43, 0x44]))),
+            Next(Ok(None)),
+            Resend(0, Ok(&[0x20, 2, 2, 1, 1, 0, 0x80, 1, 0, 0x41, 0x42])),
+            Receive(&[0x04, 1, 1, 2, 2, 1, 0x80], ACK_ONLY),
+            Counts(1, 2, 0, 0, 0),
+            Next(Ok(Some(&[0x40, 2, 2, 1, 1, 0, 0x80, 3, 0, 0x45]))),
+            Receive(&[0x04, 1, 1, 2, 2, 0, 0x80], ACK_ONLY),
+            Resend(2, Err(LinkFault::NoSuchSegment)),
+            Counts(2, 3, 0, 0, 0),
+        ],
+    ),
+    // A message in three segments, and what acknowledges them.
+    (
+        LinkSetup { seg_size: 2, ..A },
+        &[
+            Send(b"hello", Ok(())),
+            Next(Ok(Some(ONE))),
+            Next(Ok(Some(TWO))),
+            Next(Ok(Some(THREE))),
+            Counts(3, 3, 0, 0, 0),
+            Receive(&[0x04, 1, 1, 2, 2, 3, 0x80], ACK_ONLY),
+            Counts(0, 3, 0, 0, 0),
+        ],
+    ),
+    // They come in another order, and again.
+    (
+        B,
+        &[
+            Receive(THREE, EARLY),
+            Counts(0, 0, 0, 0, 1),
+            Receive(ONE, ACCEPTED),
+            Receive(ONE, REPEAT),
+            Counts(0, 0, 1, 2, 1),
+            Receive(TWO, ACCEPTED),
+            Counts(0, 0, 3, 0, 0),
+            Receive(THREE, REPEAT),
+            Take(Some(b"hello")),
+            Take(None),
+            Ack(Ok(&[0x04, 1, 1, 2, 2, 3, 0x80])),
+        ],
+    ),
+    // What wasn't sent is acknowledged.
+    (
+        A,
+        &[
+            Receive(&[0x04, 1, 1, 2, 2, 1, 0x80], BAD_SEQUENCE),
+            Receive(&[0x04, 1, 1, 2, 2, 0, 0x80], Err(LinkFault::Failed)),
+            Send(b"x", Err(LinkFault::Failed)),
+            Resend(0, FAILED),
+            Ack(FAILED),
+            Next(Err(LinkFault::Failed)),
+            Take(None),
+        ],
+    ),
+    // The first segment has no first mark.
+    (
+        A,
+        &[
+            Receive(TO_A, BAD_SEQUENCE),
+            Receive(TO_A, Err(LinkFault::Failed)),
+            Counts(0, 0, 0, 0, 0),
+        ],
+    ),
+    // A message that is too long comes, and one that just isn't.
+    (
+        SHORT_A,
+        &[
+            Receive(LONGER, Err(LinkFault::MessageTooLong)),
+            Receive(LONGER, Err(LinkFault::Failed)),
+            Counts(0, 0, 0, 0, 0),
+        ],
+    ),
+    (
+        SHORT_A,
+        &[Receive(LONGEST, ACCEPTED), Counts(0, 0, 1, 64, 0)],
+    ),
+    // Packets to another link, and from another.
+    (
+        A,
+        &[
+            Receive(
+                &[0x60, 2, 2, 2, 2, 0, 0x80, 1, 0],
+                Err(LinkFault::WrongLink),
+            ),
+            Counts(0, 0, 0, 0, 0),
+            Receive(
+                &[0x60, 1, 1, 3, 2, 0, 0x80, 1, 0],
+                Err(LinkFault::WrongLink),
+            ),
+            Receive(&[0x60, 1, 1, 2, 2, 0, 0x80, 1, 0], ACCEPTED),
+        ],
+    ),
+    // Once round all numbers.
+    (
+        B,
+        &[
+            Come(1, 4095, Got::Accepted),
+            Counts(0, 0, 4095, 0, 0),
+            Come(0, 0, Got::Accepted),
+            Counts(0, 0, 4096, 0, 0),
+            Come(4095, 4095, Got::Repeat),
+            Counts(0, 0, 4096, 0, 0),
+        ],
+    ),
+    // What comes early is held.
+    (
+        LinkSetup { window: 4, ..B },
+        &[
+            Come(3, 3, Got::Early),
+            Counts(0, 0, 0, 0, 1),
+            Come(5, 5, Got::Early),
+            Counts(0, 0, 0, 0, 1),
+            Come(2, 2, Got::Early),
+            Counts(0, 0, 0, 0, 2),
+            Come(1, 1, Got::Accepted),
+            Counts(0, 0, 3, 0, 0),
+            Come(4, 5, Got::Accepted),
+            Counts(0, 0, 5, 0, 0),
+        ],
+    ),
+    (
+        LinkSetup { window: 1, ..B },
+        &[Come(2, 2, Got::Early), Counts(0, 0, 0, 0, 0)],
+    ),
+    // The widest window. At last segment 1 is too old to be told from segment 4,097.
+    (
+        LinkSetup { window: 2047, ..B },
+        &[
+            Come(2, 2047, Got::Early),
+            Counts(0, 0, 0, 0, 2046),
+            Come(1, 1, Got::Accepted),
+            Counts(0, 0, 2047, 0, 0),
+            Come(1, 1, Got::Repeat),
+            Counts(0, 0, 2047, 0, 0),
+            Come(2048, 2050, Got::Accepted),
+            Counts(0, 0, 2050, 0, 0),
+            Come(1, 1, Got::Early),
+            Counts(0, 0, 2050, 0, 1),
+        ],
+    ),
+    (
+        LinkSetup { window: 2047, ..A },
+        &[
+            Fill(2048, 2047),
+            Next(Ok(None)),
+            Receive(&[0x04, 1, 1, 2, 2, 0xFF, 0x87], ACK_ONLY),
+            Counts(0, 2047, 0, 0, 0),
+            Receive(&[0x04, 1, 1, 2, 2, 0, 0x80], ACK_ONLY),
+            Counts(0, 2047, 0, 0, 0),
+        ],
+    ),
+    // The second segment of a message ends it, though its third is held.
+    (
+        B,
+        &[
+            Receive(FIRST, ACCEPTED),
+            Receive(&[0x40, 2, 2, 1, 1, 0, 0x80, 3, 0, 9], EARLY),
+            Receive(&[0x40, 2, 2, 1, 1, 0, 0x80, 2, 0, 8], BAD_SEQUENCE),
+            Counts(0, 0, 1, 1, 1),
+            Peek(None),
+        ],
+    ),
+    // The third, which is held, has another first mark, or makes the message longer than 64 bytes.
+    (
+        SHORT_B,
+        &[
+            Receive(FIRST, ACCEPTED),
+            Receive(&[0x20, 2, 2, 1, 1, 0, 0x80, 3, 0, 0x41], EARLY),
+            Receive(SECOND, BAD_SEQUENCE),
+            Counts(0, 0, 1, 1, 1),
+        ],
+    ),
+    (
+        SHORT_B,
+        &[
+            Receive(FIRST, ACCEPTED),
+            Receive(
+                b"\x60\x02\x02\x01\x01\x00\x80\x03\x00AAAAAAAAAAAAAAAAAAAAAAAAAAAAAAAAAAAAAAAAAAAAAAAAAAAAAAAAAAAAAAAA",
+                EARLY,
+            ),
+            Receive(SECOND, BAD_SEQUENCE),
+            Counts(0, 0, 1, 1, 1),
+        ],
+    ),
+    (
+        SHORT_B,
+        &[
+            Receive(FIRST, ACCEPTED),
+            Receive(
+                b"\x00\x02\x02\x01\x01\x00\x80\x03\x00AAAAAAAAAAAAAAAAAAAAAAAAAAAAAAAAAAAAAAAAAAAAAAAAAAAAAAAAAAAAAAA",
+                EARLY,
+            ),
+            Receive(SECOND, Err(LinkFault::MessageTooLong)),
+            Counts(0, 0, 1, 1, 1),
+        ],
+    ),
+    (
+        SHORT_B,
+        &[
+            Receive(FIRST, ACCEPTED),
+            Receive(
+                b"\x40\x02\x02\x01\x01\x00\x80\x03\x00AAAAAAAAAAAAAAAAAAAAAAAAAAAAAAAAAAAAAAAAAAAAAAAAAAAAAAAAAAAAAAAA",
+                EARLY,
+            ),
+            Receive(SECOND, Err(LinkFault::MessageTooLong)),
+            Counts(0, 0, 1, 1, 1),
+        ],
+    ),
+    // All messages are sent, or none.
+    (
+        SHORT_A,
+        &[
+            SendAll(&[], Ok(())),
+            Next(Ok(None)),
+            Send(&[2; 65], TOO_LONG),
+            Check(&[&[1; 64]], Ok(())),
+            Check(&[&[1; 64], &[2; 65]], TOO_LONG),
+            SendAll(&[&[1; 64], &[2; 65]], TOO_LONG),
+            Next(Ok(None)),
+            SendAll(&[&[], &[]], Ok(())),
+            Next(Ok(Some(&[0x60, 2, 2, 1, 1, 0, 0x80, 1, 0]))),
+            Next(Ok(Some(&[0x60, 2, 2, 1, 1, 0, 0x80, 2, 0]))),
+            Next(Ok(None)),
+        ],
+    ),
+];
+
+fn messages(alloc: Global, list: &[Bytes]) -> Result<Vec<Vec<u8>>, LinkFault> {
+    let mut all = Vec::new(alloc);
+    for bytes in list {
+        all.push(Vec::from_slice(alloc, bytes)?)?;
+    }
+    Ok(all)
 }
 
-#[test]
-fn reordered_and_repeated(rt: HostRuntime) -> Result<(), Fail> {
-    let mut a = LinkEnd::new(rt.alloc(), LinkSetup { seg_size: 2, ..A })?;
-    let mut b = LinkEnd::new(rt.alloc(), B)?;
-    a.send(b"hello")?;
-    let one = a.next_packet()?.ok_or("one")?;
-    let two = a.next_packet()?.ok_or("two")?;
-    let three = a.next_packet()?.ok_or("three")?;
-    assert_eq!(rt; b.receive(&three)?, Got::Early);
-    assert_eq!(rt; b.held_count(), 1);
-    assert_eq!(rt; b.receive(&one)?, Got::Accepted);
-    assert_eq!(rt; b.receive(&one)?, Got::Repeat);
-    assert_eq!(rt; b.partial_len(), 2);
-    assert_eq!(rt; b.receive(&two)?, Got::Accepted);
-    assert_eq!(rt; b.held_count(), 0);
-    assert_eq!(rt; b.partial_len(), 0);
-    assert_eq!(rt; b.receive(&three)?, Got::Repeat);
-    let message = b.take_message().ok_or("message")?;
-    assert_eq!(rt; message.as_slice(), b"hello".as_slice());
-    assert!(rt; b.take_message().is_none());
-    let ack = b.ack_packet()?;
-    assert_eq!(rt; ack.as_slice(), [0x04, 1, 1, 2, 2, 3, 0x80].as_slice());
-    assert_eq!(rt; a.unacked(), 3);
-    assert_eq!(rt; a.receive(&ack)?, Got::AckOnly);
-    assert_eq!(rt; a.unacked(), 0);
-    Ok(())
+fn fill(end: &mut LinkEnd, sent: usize, written: usize) -> Result<bool, LinkFault> {
+    for _ in 0..sent {
+        end.send(b"x")?;
+    }
+    for _ in 0..written {
+        if end.next_packet()?.is_none() {
+            return Ok(false);
+        }
+    }
+    Ok(true)
 }
 
-#[test]
-fn unsent_acknowledged(rt: HostRuntime) -> Result<(), Fail> {
-    let mut a = LinkEnd::new(rt.alloc(), A)?;
-    assert_eq!(rt;
-        a.receive(&[0x04, 1, 1, 2, 2, 1, 0x80]),
-        Err(LinkFault::BadSequence)
-    );
-    assert_eq!(rt;
-        a.receive(&[0x04, 1, 1, 2, 2, 0, 0x80]),
-        Err(LinkFault::Failed)
-    );
-    assert_eq!(rt; a.send(b"x"), Err(LinkFault::Failed));
-    assert_eq!(rt; a.resend(0), Err(LinkFault::Failed));
-    assert_eq!(rt; a.ack_packet(), Err(LinkFault::Failed));
-    assert_eq!(rt; a.next_packet(), Err(LinkFault::Failed));
-    assert!(rt; a.take_message().is_none());
-    Ok(())
-}
-
-#[test]
-fn first_mark_missing(rt: HostRuntime) -> Result<(), Fail> {
-    let mut a = LinkEnd::new(rt.alloc(), A)?;
-    let middle = [0, 1, 1, 2, 2, 0, 0x80, 1, 0, 0x41];
-    assert_eq!(rt; a.receive(&middle), Err(LinkFault::BadSequence));
-    assert_eq!(rt; a.receive(&middle), Err(LinkFault::Failed));
-    assert_eq!(rt; a.received_count(), 0);
-    Ok(())
-}
-
-#[test]
-fn long_message_comes(rt: HostRuntime) -> Result<(), Fail> {
-    let setup = LinkSetup {
-        max_message: 64,
-        ..A
-    };
-    let mut a = LinkEnd::new(rt.alloc(), setup)?;
-    let mut longer = [0x41; 9 + 65];
-    longer[0] = 0x20;
-    longer[1] = 1;
-    longer[2] = 1;
-    longer[3] = 2;
-    longer[4] = 2;
-    longer[5] = 0;
-    longer[6] = 0x80;
-    longer[7] = 1;
-    longer[8] = 0;
-    assert_eq!(rt; a.receive(&longer), Err(LinkFault::MessageTooLong));
-    assert_eq!(rt; a.receive(&longer), Err(LinkFault::Failed));
-    assert_eq!(rt; a.partial_len(), 0);
-    let mut other = LinkEnd::new(rt.alloc(), setup)?;
-    let (longest, _) = longer.split_at(9 + 64);
-    assert_eq!(rt; other.receive(longest)?, Got::Accepted);
-    assert_eq!(rt; other.partial_len(), 64);
-    Ok(())
-}
-
-#[test]
-fn foreign_packet(rt: HostRuntime) -> Result<(), Fail> {
-    let mut a = LinkEnd::new(rt.alloc(), A)?;
-    let to_other = [0x60, 2, 2, 2, 2, 0, 0x80, 1, 0];
-    assert_eq!(rt; a.receive(&to_other), Err(LinkFault::WrongLink));
-    assert_eq!(rt; a.received_count(), 0);
-    let from_other = [0x60, 1, 1, 3, 2, 0, 0x80, 1, 0];
-    assert_eq!(rt; a.receive(&from_other), Err(LinkFault::WrongLink));
-    assert_eq!(rt;
-        a.receive(&[0x60, 1, 1, 2, 2, 0, 0x80, 1, 0])?,
-        Got::Accepted
-    );
-    Ok(())
-}
-
-// A message of one segment with this number comes: what the end answers, and its counts.
-fn comes(b: &mut LinkEnd, number: u16) -> Result<(Got, u64, usize), LinkFault> {
+fn comes(end: &mut LinkEnd, number: u16) -> Result<Got, LinkFault> {
     let number = number.to_le_bytes();
-    let packet = [0x60, 2, 2, 1, 1, 0, 0x80, number[0], number[1]];
-    let got = b.receive(&packet)?;
-    Ok((got, b.received_count(), b.held_count()))
+    end.receive(&[0x60, 2, 2, 1, 1, 0, 0x80, number[0], number[1]])
+}
+
+fn come(end: &mut LinkEnd, first: u16, last: u16, got: Got) -> bool {
+    for number in first..=last {
+        if comes(end, number) != Ok(got) {
+            return false;
+        }
+    }
+    true
+}
+
+fn is_packet(packet: Result<Vec<u8>, LinkFault>, wanted: Result<Bytes, LinkFault>) -> bool {
+    match (packet, wanted) {
+        (Ok(packet), Ok(bytes)) => packet.as_slice() == bytes,
+        (Err(fault), Err(other)) => fault == other,
+        _ => false,
+    }
+}
+
+fn is_next(end: &mut LinkEnd, wanted: Result<Option<Bytes>, LinkFault>) -> bool {
+    match (end.next_packet(), wanted) {
+        (Ok(Some(packet)), Ok(Some(bytes))) => packet.as_slice() == bytes,
+        (Ok(None), Ok(None)) => true,
+        (Err(fault), Err(other)) => fault == other,
+        _ => false,
+    }
+}
+
+fn is_taken(end: &mut LinkEnd, wanted: Option<Bytes>) -> bool {
+    match (end.take_message(), wanted) {
+        (Some(message), Some(bytes)) => message.as_slice() == bytes,
+        (None, None) => true,
+        _ => false,
+    }
+}
+
+fn counts(end: &LinkEnd) -> (usize, u64, u64, usize, usize) {
+    (
+        end.unacked(),
+        end.sent_count(),
+        end.received_count(),
+        end.partial_len(),
+        end.held_count(),
+    )
+}
+
+/// Whether what the line says is so.
+fn is_so(alloc: Global, end: &mut LinkEnd, line: Line) -> Result<bool, LinkFault> {
+    Ok(match line {
+        Send(message, answer) => end.send(message) == answer,
+        SendAll(list, answer) => end.send_all(&messages(alloc, list)?) == answer,
+        Check(list, answer) => end.check_messages(&messages(alloc, list)?) == answer,
+        MaySend(may) => end.may_send() == may,
+        Next(wanted) => is_next(end, wanted),
+        Resend(place, wanted) => is_packet(end.resend(place), wanted),
+        Ack(wanted) => is_packet(end.ack_packet(), wanted),
+        Receive(packet, answer) => end.receive(packet) == answer,
+        Peek(message) => end.peek_message() == message,
+        Take(message) => is_taken(end, message),
+        Fill(sent, written) => fill(end, sent, written)?,
+        Come(first, last, got) => come(end, first, last, got),
+        Counts(unacked, sent, received, partial, held) => {
+            counts(end) == (unacked, sent, received, partial, held)
+        }
+    })
+}
+
+/// The first line of a script that isn't so.
+fn first_wrong(
+    alloc: Global,
+    setup: LinkSetup,
+    script: &[Line],
+) -> Result<Option<usize>, LinkFault> {
+    let mut end = LinkEnd::new(alloc, setup)?;
+    for (at, line) in script.iter().enumerate() {
+        if !is_so(alloc, &mut end, *line)? {
+            return Ok(Some(at));
+        }
+    }
+    Ok(None)
 }
 
 #[test]
-fn round_the_numbers(rt: HostRuntime) -> Result<(), Fail> {
-    let mut b = LinkEnd::new(rt.alloc(), B)?;
-    for n in 1..4095u16 {
-        assert_eq!(rt; comes(&mut b, n)?, (Got::Accepted, u64::from(n), 0));
+fn scripts(rt: HostRuntime) -> Result<(), Fail> {
+    for (at, (setup, script)) in SCRIPTS.iter().enumerate() {
+        let wrong = first_wrong(rt.alloc(), *setup, script)?;
+        assert!(rt; wrong.is_none(), "script {at}, line {wrong:?}");
     }
-    assert_eq!(rt; comes(&mut b, 4095)?, (Got::Accepted, 4095, 0));
-    assert_eq!(rt; comes(&mut b, 0)?, (Got::Accepted, 4096, 0));
-    assert_eq!(rt; comes(&mut b, 4095)?, (Got::Repeat, 4096, 0));
     Ok(())
 }
 
-#[test]
-fn early_held(rt: HostRuntime) -> Result<(), Fail> {
-    let mut b = LinkEnd::new(rt.alloc(), LinkSetup { window: 4, ..B })?;
-    assert_eq!(rt; comes(&mut b, 3)?, (Got::Early, 0, 1));
-    assert_eq!(rt; comes(&mut b, 5)?, (Got::Early, 0, 1));
-    assert_eq!(rt; comes(&mut b, 2)?, (Got::Early, 0, 2));
-    assert_eq!(rt; comes(&mut b, 1)?, (Got::Accepted, 3, 0));
-    assert_eq!(rt; comes(&mut b, 4)?, (Got::Accepted, 4, 0));
-    assert_eq!(rt; comes(&mut b, 5)?, (Got::Accepted, 5, 0));
-    let mut narrow = LinkEnd::new(rt.alloc(), LinkSetup { window: 1, ..B })?;
-    assert_eq!(rt; comes(&mut narrow, 2)?, (Got::Early, 0, 0));
-    Ok(())
-}
+/// Segment size, window and the longest message, and whether there is such an end.
+const LIMITS: &[(usize, usize, usize, bool)] = &[
+    (1, 1, 64, true),
+    (1400, 2047, 65535, true),
+    (0, 8, 64, false),
+    (1401, 8, 64, false),
+    (512, 0, 64, false),
+    (512, 2048, 64, false),
+    (512, 8, 63, false),
+    (512, 8, 65536, false),
+];
 
-#[test]
-fn widest_window(rt: HostRuntime) -> Result<(), Fail> {
-    let mut b = LinkEnd::new(rt.alloc(), LinkSetup { window: 2047, ..B })?;
-    for n in 2..2048u16 {
-        assert_eq!(rt; comes(&mut b, n)?, (Got::Early, 0, usize::from(n) - 1));
-    }
-    assert_eq!(rt; comes(&mut b, 1)?, (Got::Accepted, 2047, 0));
-    assert_eq!(rt; comes(&mut b, 1)?, (Got::Repeat, 2047, 0));
-    for n in 2048..2051u16 {
-        assert_eq!(rt; comes(&mut b, n)?, (Got::Accepted, u64::from(n), 0));
-    }
-    // Segment 1 is now too old to be told from segment 4,097.
-    assert_eq!(rt; comes(&mut b, 1)?, (Got::Early, 2050, 1));
-    Ok(())
-}
-
-#[test]
-fn full_window(rt: HostRuntime) -> Result<(), Fail> {
-    let mut a = LinkEnd::new(rt.alloc(), LinkSetup { window: 2047, ..A })?;
-    for _ in 0..2048 {
-        a.send(b"x")?;
-    }
-    for _ in 0..2047 {
-        assert!(rt; a.next_packet()?.is_some());
-    }
-    assert!(rt; a.next_packet()?.is_none());
-    assert_eq!(rt; a.receive(&[0x04, 1, 1, 2, 2, 0xFF, 0x87])?, Got::AckOnly);
-    assert_eq!(rt; a.unacked(), 0);
-    assert_eq!(rt; a.receive(&[0x04, 1, 1, 2, 2, 0, 0x80])?, Got::AckOnly);
-    assert_eq!(rt; a.unacked(), 0);
-    Ok(())
-}
-
-// Whether an end with these limits is refused for its setup.
-fn is_bad(alloc: Global, seg_size: usize, window: usize, max_message: usize) -> bool {
+/// Whether there is an end with these limits, and else why not.
+fn made(
+    alloc: Global,
+    seg_size: usize,
+    window: usize,
+    max_message: usize,
+) -> Result<(), LinkFault> {
     let setup = LinkSetup {
         seg_size,
         window,
         max_message,
         ..A
     };
-    match LinkEnd::new(alloc, setup) {
-        Ok(_) => false,
-        Err(fault) => fault == LinkFault::BadSetup,
-    }
+    let _end = LinkEnd::new(alloc, setup)?;
+    Ok(())
 }
 
 #[test]
 fn limits_of_a_setup(rt: HostRuntime) {
-    assert!(rt; !is_bad(rt.alloc(), 1, 1, 64));
-    assert!(rt; !is_bad(rt.alloc(), 1400, 2047, 65535));
-    assert!(rt; is_bad(rt.alloc(), 0, 8, 64));
-    assert!(rt; is_bad(rt.alloc(), 1401, 8, 64));
-    assert!(rt; is_bad(rt.alloc(), 512, 0, 64));
-    assert!(rt; is_bad(rt.alloc(), 512, 2048, 64));
-    assert!(rt; is_bad(rt.alloc(), 512, 8, 63));
-    assert!(rt; is_bad(rt.alloc(), 512, 8, 65536));
+    for (seg_size, window, max_message, good) in LIMITS {
+        let answer = made(rt.alloc(), *seg_size, *window, *max_message);
+        let wanted = if *good {
+            Ok(())
+        } else {
+            Err(LinkFault::BadSetup)
+        };
+        assert_eq!(rt; answer, wanted);
+    }
 }
 
-#[test]
-fn gap_with_a_fault(rt: HostRuntime) -> Result<(), Fail> {
-    let mut b = LinkEnd::new(rt.alloc(), B)?;
-    assert_eq!(rt;
-        b.receive(&[0x20, 2, 2, 1, 1, 0, 0x80, 1, 0, 7])?,
-        Got::Accepted
-    );
-    assert_eq!(rt;
-        b.receive(&[0x40, 2, 2, 1, 1, 0, 0x80, 3, 0, 9])?,
-        Got::Early
-    );
-    assert_eq!(rt;
-        b.receive(&[0x40, 2, 2, 1, 1, 0, 0x80, 2, 0, 8]),
-        Err(LinkFault::BadSequence)
-    );
-    assert_eq!(rt; b.partial_len(), 1);
-    assert_eq!(rt; b.received_count(), 1);
-    assert_eq!(rt; b.held_count(), 1);
-    assert!(rt; b.peek_message().is_none());
-    Ok(())
-}
-
-#[test]
-fn all_messages_or_none(rt: HostRuntime) -> Result<(), Fail> {
-    let setup = LinkSetup {
-        max_message: 64,
-        ..A
-    };
-    let mut a = LinkEnd::new(rt.alloc(), setup)?;
-    a.send_all(&[])?;
-    assert!(rt; a.next_packet()?.is_none());
-    let short = Vec::from_slice(rt.alloc(), &[1; 64])?;
-    let long = Vec::from_slice(rt.alloc(), &[2; 65])?;
-    assert_eq!(rt; a.send(&long), Err(LinkFault::MessageTooLong));
-    let both = [short, long];
-    a.check_messages(&both[..1])?;
-    assert_eq!(rt; a.check_messages(&both), Err(LinkFault::MessageTooLong));
-    assert_eq!(rt; a.send_all(&both), Err(LinkFault::MessageTooLong));
-    assert!(rt; a.next_packet()?.is_none());
-    a.send_all(&both[..1])?;
-    assert!(rt; a.next_packet()?.is_some());
-    assert!(rt; a.next_packet()?.is_none());
-    Ok(())
-}
-
-// Whether a new end answers these bytes, and not by want of memory; it fails only where it says so.
+/// Whether a new end answers these bytes, and not by want of memory; it fails only where it says so.
 fn is_answered(alloc: Global, bytes: &[u8]) -> Result<bool, LinkFault> {
     let setup = LinkSetup {
         local: 0x0102,
@@ -336,78 +531,32 @@ fn is_answered(alloc: Global, bytes: &[u8]) -> Result<bool, LinkFault> {
     })
 }
 
+/// Whether the bytes are answered with each part of them cut off, and with each of them changed to any other.
+fn are_answered(alloc: Global, bytes: &[u8]) -> Result<bool, LinkFault> {
+    let mut changed = Vec::from_slice(alloc, bytes)?;
+    for at in 0..bytes.len() {
+        let mut good = is_answered(alloc, &bytes[..at])?;
+        for change in 1..=255 {
+            changed[at] = bytes[at] ^ change;
+            good &= is_answered(alloc, &changed)?;
+        }
+        changed[at] = bytes[at];
+        if !good {
+            return Ok(false);
+        }
+    }
+    Ok(true)
+}
+
+const SEGMENT: Bytes = &[0x60, 2, 1, 4, 3, 5, 0x80, 1, 0, 6, 2, 0];
+
+const ACKNOWLEDGEMENT: Bytes = &[0x04, 2, 1, 4, 3, 0xFF, 0x8F];
+
 #[test]
 fn cut_and_changed_packets(rt: HostRuntime) -> Result<(), Fail> {
-    let segment = [0x60, 2, 1, 4, 3, 5, 0x80, 1, 0, 6, 2, 0];
-    let acknowledgement = [0x04, 2, 1, 4, 3, 0xFF, 0x8F];
-    for len in 0..segment.len() {
-        assert!(rt; is_answered(rt.alloc(), &segment[..len])?);
-    }
-    for len in 0..acknowledgement.len() {
-        assert!(rt; is_answered(rt.alloc(), &acknowledgement[..len])?);
-    }
-    for at in 0..segment.len() {
-        for change in 1..=255 {
-            let mut bytes = segment;
-            bytes[at] ^= change;
-            assert!(rt; is_answered(rt.alloc(), &bytes)?);
-        }
-    }
-    for at in 0..acknowledgement.len() {
-        for change in 1..=255 {
-            let mut bytes = acknowledgement;
-            bytes[at] ^= change;
-            assert!(rt; is_answered(rt.alloc(), &bytes)?);
-        }
-    }
-    Ok(())
-}
-
-// What can be seen of an end without memory.
-fn counts(end: &LinkEnd) -> (usize, u64, u64, usize, usize) {
-    (
-        end.unacked(),
-        end.sent_count(),
-        end.received_count(),
-        end.partial_len(),
-        end.held_count(),
-    )
-}
-
-// A message is begun by its first segment; its third is held, and then the second comes. What the second
-// is answered: the third has another first mark, or makes the message longer than 64 bytes.
-const GAPS: &[(u8, usize, LinkFault)] = &[
-    (0x20, 1, LinkFault::BadSequence),
-    (0x60, 64, LinkFault::BadSequence),
-    (0x00, 63, LinkFault::MessageTooLong),
-    (0x40, 64, LinkFault::MessageTooLong),
-];
-
-// The third segment, with these marks and so many bytes.
-fn third(marks: u8) -> [u8; 9 + 64] {
-    let mut bytes = [0x41; 9 + 64];
-    let front = [marks, 2, 2, 1, 1, 0, 0x80, 3, 0];
-    for at in 0..front.len() {
-        bytes[at] = front[at];
-    }
-    bytes
-}
-
-#[test]
-fn faults_of_a_run(rt: HostRuntime) -> Result<(), Fail> {
-    for (marks, len, fault) in GAPS {
-        let setup = LinkSetup {
-            max_message: 64,
-            ..B
-        };
-        let mut b = LinkEnd::new(rt.alloc(), setup)?;
-        let first = [0x20, 2, 2, 1, 1, 0, 0x80, 1, 0, 7];
-        assert_eq!(rt; b.receive(&first)?, Got::Accepted);
-        let third = third(*marks);
-        assert_eq!(rt; b.receive(&third[..9 + *len])?, Got::Early);
-        let second = [0, 2, 2, 1, 1, 0, 0x80, 2, 0, 8];
-        assert_eq!(rt; b.receive(&second), Err(*fault));
-        assert_eq!(rt; counts(&b), (0, 0, 1, 1, 1));
+    for packet in [SEGMENT, ACKNOWLEDGEMENT] {
+        let so = are_answered(rt.alloc(), packet)?;
+        assert!(rt; so);
     }
     Ok(())
 }
