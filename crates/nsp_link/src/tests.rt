@@ -18,7 +18,7 @@ const B: LinkSetup = LinkSetup {
     ..A
 };
 
-/// What an end that is to send two bytes in a segment does over a window of two.
+/// Segments of two bytes over a window of two.
 const NARROW: LinkSetup = LinkSetup {
     seg_size: 2,
     window: 2,
@@ -87,7 +87,7 @@ const THREE: Bytes = b"\x40\x02\x02\x01\x01\x00\x80\x03\x00o";
 
 const TO_A: Bytes = &[0, 1, 1, 2, 2, 0, 0x80, 1, 0, 0x41];
 
-/// The front of a message for A, with 65 bytes of it, and the same with 64.
+/// The first segment of a message for A, with 65 bytes, and with 64.
 const LONGER: Bytes =
     b"\x20\x01\x01\x02\x02\x00\x80\x01\x00AAAAAAAAAAAAAAAAAAAAAAAAAAAAAAAAAAAAAAAAAAAAAAAAAAAAAAAAAAAAAAAAA";
 
