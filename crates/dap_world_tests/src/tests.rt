@@ -8,7 +8,7 @@ mod refused;
 mod rows;
 mod scripts;
 
-use calls::{apply, begin, count_unacked, written};
+use calls::{apply, begin, count_unacked, direct, finish, run, taken, written};
 use dap_world::{
     By, End, Ending, Event, Got, How, Numbered, Octets, OctetsList, RecordFile, Report, Request,
     Step, World, WorldFault, WorldSetup,
@@ -91,6 +91,17 @@ enum Line {
     Counts(usize, usize, usize),
     /// The record of the first file under this number.
     Holds(u32, Option<&'static [u8]>),
+    /// Requests over a clean network, each with its report.
+    Direct(&'static [Call]),
+    /// So many packets of A are written and come to B, with an acknowledgement after each 127.
+    Brings(usize),
+    /// The segments that B took.
+    Took(u64),
+    /// All is finished.
+    Finishes,
+    /// Events one after the other, what they come to, whether the world is fresh then, and how many requests were
+    /// asked, messages sent, and messages read.
+    Runs(&'static [Do], Result<(), (usize, WorldFault)>, (bool, usize, usize, u64)),
     /// A request over a clean network: its packet, how many messages of it are served, the packet that
     /// answers, how many messages of it are read, and the report.
     Turn(Call, &'static str, usize, &'static str, usize, Want),
@@ -227,24 +238,24 @@ fn is_hex(bytes: &[u8], text: &str) -> bool {
         })
 }
 
-/// A request is asked.
-fn ask(alloc: Global, world: &mut World, call: Call) -> Result<Step, WorldFault> {
-    let event = Event::Ask(request(alloc, call)?);
-    apply(world, &event)
+/// An event, as the world has it.
+fn event(alloc: Global, what: Do) -> Result<Event, WorldFault> {
+    Ok(match what {
+        Do::Ask(call) => Event::Ask(request(alloc, call)?),
+        Do::Post(end) => Event::Post(end),
+        Do::Emit(end) => Event::Emit(end),
+        Do::Resend(end, place) => Event::Resend(end, place),
+        Do::Ack(end) => Event::Ack(end),
+        Do::Deliver(end, j) => Event::Deliver(end, j),
+        Do::Serve => Event::Serve,
+        Do::Read => Event::Read,
+    })
 }
 
 /// One event.
 fn happen(alloc: Global, world: &mut World, what: Do) -> Result<Step, WorldFault> {
-    match what {
-        Do::Ask(call) => ask(alloc, world, call),
-        Do::Post(end) => apply(world, &Event::Post(end)),
-        Do::Emit(end) => apply(world, &Event::Emit(end)),
-        Do::Resend(end, place) => apply(world, &Event::Resend(end, place)),
-        Do::Ack(end) => apply(world, &Event::Ack(end)),
-        Do::Deliver(end, j) => apply(world, &Event::Deliver(end, j)),
-        Do::Serve => apply(world, &Event::Serve),
-        Do::Read => apply(world, &Event::Read),
-    }
+    let event = event(alloc, what)?;
+    apply(world, &event)
 }
 
 /// Whether a packet with these bytes stands at the place of the end's wire, and is the last one.
@@ -295,6 +306,68 @@ fn turn(
     Ok(())
 }
 
+/// Emits and delivers the next segments of A, with an acknowledgement after each window.
+fn bring(world: &mut World, segments: usize) -> Result<(), WorldFault> {
+    for sent in 0..segments {
+        let place = written(world, End::A);
+        apply(world, &Event::Emit(End::A))?;
+        apply(world, &Event::Deliver(End::B, place))?;
+        if sent % 127 == 126 {
+            let back = written(world, End::B);
+            apply(world, &Event::Ack(End::B))?;
+            apply(world, &Event::Deliver(End::A, back))?;
+        }
+    }
+    Ok(())
+}
+
+fn events(alloc: Global, list: &[Do]) -> Result<Vec<Event>, WorldFault> {
+    let mut events = Vec::new(alloc);
+    for what in list {
+        events.push(event(alloc, *what)?)?;
+    }
+    Ok(events)
+}
+
+fn counts(world: &World) -> (bool, usize, usize, u64) {
+    (
+        world.is_fresh(),
+        world.requests().len(),
+        world.sent().len(),
+        world.read_count(),
+    )
+}
+
+/// Whether a request over a clean network comes to what the line says.
+fn turns_so(alloc: Global, world: &mut World, line: Line) -> Result<bool, WorldFault> {
+    let Line::Turn(call, sent, serves, answered, reads, want) = line else {
+        return Ok(false);
+    };
+    let (asks, answers) = (written(world, End::A), written(world, End::B));
+    let told = world.reports().len();
+    turn(alloc, world, call, serves, reads)?;
+    Ok(
+        is_written(world, End::A, asks, sent)
+            && is_written(world, End::B, answers, answered)
+            && world.reports().len() == told + 1
+            && is_newest(world, want),
+    )
+}
+
+/// Whether what the line says of many events is so.
+fn go_so(alloc: Global, world: &mut World, line: Line) -> Result<bool, WorldFault> {
+    match line {
+        Line::Direct(calls) => Ok(direct(world, &all(alloc, calls)?) == Ok(())),
+        Line::Brings(segments) => bring(world, segments).map(|()| true),
+        Line::Finishes => finish(world).map(|_events| true),
+        Line::Runs(list, wanted, seen) => {
+            let events = events(alloc, list)?;
+            Ok(run(world, &events) == wanted && counts(world) == seen)
+        }
+        line => turns_so(alloc, world, line),
+    }
+}
+
 /// Whether what the line says is so.
 fn is_so(alloc: Global, world: &mut World, line: Line) -> Result<bool, WorldFault> {
     Ok(match line {
@@ -309,28 +382,21 @@ fn is_so(alloc: Global, world: &mut World, line: Line) -> Result<bool, WorldFaul
                 && world.reports().len() == reports
                 && world.taken().len() == taken
         }
+        Line::Took(segments) => taken(world, End::B) == segments,
         Line::Holds(number, body) => is_held(world, number, body),
-        Line::Turn(call, sent, serves, answered, reads, want) => {
-            let (asks, answers) = (written(world, End::A), written(world, End::B));
-            let told = world.reports().len();
-            turn(alloc, world, call, serves, reads)?;
-            is_written(world, End::A, asks, sent)
-                && is_written(world, End::B, answers, answered)
-                && world.reports().len() == told + 1
-                && is_newest(world, want)
-        }
+        line => go_so(alloc, world, line)?,
     })
 }
 
-/// Plays a script in a new world.
+/// Plays a script in a new world: how many messages are sent then, and how many taken.
 fn play(
     rt: &(impl AllocGlobal + Abort),
     setup: WorldSetup,
     script: &[Line],
-) -> Result<World, Fail> {
+) -> Result<(usize, usize), WorldFault> {
     let mut world = begin(rt.alloc(), setup)?;
     go_on(rt, &mut world, script)?;
-    Ok(world)
+    Ok((world.sent().len(), world.taken().len()))
 }
 
 /// Plays a script in a world.

@@ -67,9 +67,14 @@ enum Call {
     Update(&'static [u8]),
     Delete,
     Rewind,
+    Forget,
+    Tell,
 }
 
-// Each call of the script has its answer; a rewind has number 1 here.
+// Calls, each with its answer. Those that need no file have the number here from which the stream then reads.
+type Script = &'static [(Call, Result<u32, Refusal>)];
+
+// Each call of the script has its answer.
 fn play<F: RecordFile>(
     rt: &impl Abort,
     file: &mut F,
@@ -82,13 +87,20 @@ fn play<F: RecordFile>(
             Call::Put(key, body) => stream.put(file, key, body),
             Call::Update(body) => stream.update(file, body),
             Call::Delete => stream.delete(file),
-            Call::Rewind => {
-                stream.rewind();
-                Ok(stream.next())
-            }
+            call => Ok(moved(stream, call)),
         };
         assert_eq!(rt; reply, *answer, "at {call:?}");
     }
+}
+
+// The number from which the stream reads, after a call that needs no file.
+fn moved(stream: &mut Stream, call: Call) -> u32 {
+    match call {
+        Call::Rewind => stream.rewind(),
+        Call::Forget => stream.forget(),
+        _ => {}
+    }
+    stream.next()
 }
 
 fn get_and_delete<F: RecordFile>(rt: &impl Abort, file: &mut F, stream: &mut Stream, number: u32) {
@@ -103,27 +115,24 @@ fn holds<F: RecordFile>(file: &F, number: u32, body: &[u8]) -> bool {
     file.lookup(number) == Some(body)
 }
 
+const THREE_NUMBERS: Script = &[
+    (Call::Put(Some(3), b"a"), Ok(3)),
+    (Call::Put(Some(3), b"a"), Err(Refusal::RecordExists)),
+    (Call::Put(Some(4), b"a"), Err(Refusal::NumberOutOfRange)),
+    (Call::Get(Pick::Next), Ok(3)),
+    (Call::Put(None, b"a"), Err(Refusal::NumberOutOfRange)),
+    (Call::Get(Pick::Rfa(3)), Ok(3)),
+    (Call::Delete, Ok(3)),
+    (Call::Delete, Err(Refusal::NoCurrent)),
+    (Call::Get(Pick::Next), Err(Refusal::EndOfFile)),
+    (Call::Rewind, Ok(1)),
+    (Call::Put(None, b"a"), Ok(1)),
+    (Call::Get(Pick::Next), Err(Refusal::EndOfFile)),
+];
+
 fn three_numbers<F: RecordFile>(rt: &impl Abort, file: &mut F) {
     let mut stream = Stream::new(Rights { upd: false, ..ALL });
-    play(
-        rt,
-        file,
-        &mut stream,
-        &[
-            (Call::Put(Some(3), b"a"), Ok(3)),
-            (Call::Put(Some(3), b"a"), Err(Refusal::RecordExists)),
-            (Call::Put(Some(4), b"a"), Err(Refusal::NumberOutOfRange)),
-            (Call::Get(Pick::Next), Ok(3)),
-            (Call::Put(None, b"a"), Err(Refusal::NumberOutOfRange)),
-            (Call::Get(Pick::Rfa(3)), Ok(3)),
-            (Call::Delete, Ok(3)),
-            (Call::Delete, Err(Refusal::NoCurrent)),
-            (Call::Get(Pick::Next), Err(Refusal::EndOfFile)),
-            (Call::Rewind, Ok(1)),
-            (Call::Put(None, b"a"), Ok(1)),
-            (Call::Get(Pick::Next), Err(Refusal::EndOfFile)),
-        ],
-    );
+    play(rt, file, &mut stream, THREE_NUMBERS);
 }
 
 #[test]
@@ -134,19 +143,16 @@ fn a_relative_file_of_three_numbers(rt: HostRuntime) {
     three_numbers(&rt, &mut AnyFile::new(rt.alloc(), shape));
 }
 
+const TWO_BYTES: Script = &[
+    (Call::Put(None, b"A"), Err(Refusal::BadLength)),
+    (Call::Put(None, b"AB"), Ok(1)),
+    (Call::Delete, Err(Refusal::DeleteNotAllowed)),
+    (Call::Get(Pick::Key(1)), Err(Refusal::BadAccessMode)),
+    (Call::Get(Pick::Rfa(1)), Ok(1)),
+];
+
 fn two_bytes<F: RecordFile>(rt: &impl Abort, file: &mut F) {
-    play(
-        rt,
-        file,
-        &mut Stream::new(ALL),
-        &[
-            (Call::Put(None, b"A"), Err(Refusal::BadLength)),
-            (Call::Put(None, b"AB"), Ok(1)),
-            (Call::Delete, Err(Refusal::DeleteNotAllowed)),
-            (Call::Get(Pick::Key(1)), Err(Refusal::BadAccessMode)),
-            (Call::Get(Pick::Rfa(1)), Ok(1)),
-        ],
-    );
+    play(rt, file, &mut Stream::new(ALL), TWO_BYTES);
 }
 
 #[test]
@@ -155,39 +161,30 @@ fn a_sequential_file_of_two_bytes(rt: HostRuntime) {
     two_bytes(&rt, &mut AnyFile::new(rt.alloc(), PAIRS));
 }
 
+const ONE_PUT: Script = &[(Call::Put(None, b"A"), Ok(1))];
+
+const UPDATED: Script = &[
+    (Call::Get(Pick::Next), Ok(1)),
+    (Call::Update(b"B"), Ok(1)),
+    (Call::Update(b"C"), Err(Refusal::NoCurrent)),
+];
+
+const TOO_LONG: Script = &[
+    (Call::Rewind, Ok(1)),
+    (Call::Get(Pick::Next), Ok(1)),
+    (Call::Update(b"BC"), Err(Refusal::BadLength)),
+];
+
 fn updated_once<F: RecordFile>(rt: &impl Abort, file: &mut F) {
-    play(
-        rt,
-        file,
-        &mut Stream::new(ALL),
-        &[(Call::Put(None, b"A"), Ok(1))],
-    );
+    play(rt, file, &mut Stream::new(ALL), ONE_PUT);
     let mut stream = Stream::new(Rights {
         get: true,
         upd: true,
         ..NONE
     });
-    play(
-        rt,
-        file,
-        &mut stream,
-        &[
-            (Call::Get(Pick::Next), Ok(1)),
-            (Call::Update(b"B"), Ok(1)),
-            (Call::Update(b"C"), Err(Refusal::NoCurrent)),
-        ],
-    );
+    play(rt, file, &mut stream, UPDATED);
     assert!(rt; holds(file, 1, b"B"));
-    play(
-        rt,
-        file,
-        &mut stream,
-        &[
-            (Call::Rewind, Ok(1)),
-            (Call::Get(Pick::Next), Ok(1)),
-            (Call::Update(b"BC"), Err(Refusal::BadLength)),
-        ],
-    );
+    play(rt, file, &mut stream, TOO_LONG);
     assert!(rt; holds(file, 1, b"B"));
 }
 
@@ -197,33 +194,33 @@ fn a_record_is_updated_once(rt: HostRuntime) {
     updated_once(&rt, &mut AnyFile::new(rt.alloc(), SEQUENTIAL));
 }
 
+const FOUR_PUTS: Script = &[
+    (Call::Put(Some(2147483647), b"last"), Ok(2147483647)),
+    (Call::Put(Some(65), b"b"), Ok(65)),
+    (Call::Put(Some(64), b"a"), Ok(64)),
+    (Call::Put(Some(1), b""), Ok(1)),
+];
+
+// Numbers, and the first record from each on.
+const FIRSTS: &[(u32, Option<u32>)] = &[
+    (0, Some(1)),
+    (1, Some(1)),
+    (2, Some(64)),
+    (65, Some(65)),
+    (66, Some(2147483647)),
+    (2147483648, None),
+    (4294967295, None),
+];
+
 #[test]
 fn pages_of_four_records(rt: HostRuntime) {
     let mut file = RelFile::new(rt.alloc(), RELATIVE);
     let mut stream = Stream::new(ALL);
     assert_eq!(rt; file.page_count(), 0);
-    play(
-        &rt,
-        &mut file,
-        &mut stream,
-        &[
-            (Call::Put(Some(2147483647), b"last"), Ok(2147483647)),
-            (Call::Put(Some(65), b"b"), Ok(65)),
-            (Call::Put(Some(64), b"a"), Ok(64)),
-            (Call::Put(Some(1), b""), Ok(1)),
-        ],
-    );
+    play(&rt, &mut file, &mut stream, FOUR_PUTS);
     assert_eq!(rt; file.page_count(), 3);
-    for (from, first) in [
-        (0, Some(1)),
-        (1, Some(1)),
-        (2, Some(64)),
-        (65, Some(65)),
-        (66, Some(2147483647)),
-        (2147483648, None),
-        (4294967295, None),
-    ] {
-        assert_eq!(rt; file.first_from(from), first, "from {from}");
+    for (from, first) in FIRSTS {
+        assert_eq!(rt; file.first_from(*from), *first, "from {from}");
     }
     assert!(rt; holds(&file, 1, b""));
     assert_eq!(rt; file.lookup(2), None);
@@ -235,61 +232,55 @@ fn pages_of_four_records(rt: HostRuntime) {
     assert_eq!(rt; file.page_count(), 2);
 }
 
+const SEQUENTIAL_REFUSALS: Script = &[
+    (Call::Get(Pick::Next), Err(Refusal::EndOfFile)),
+    (Call::Put(None, b"abc"), Err(Refusal::BadLength)),
+    (Call::Put(None, b"ab"), Ok(1)),
+    (Call::Put(None, b"c"), Ok(2)),
+    (Call::Put(Some(3), b"d"), Err(Refusal::BadAccessMode)),
+    (Call::Put(Some(0), b"abc"), Err(Refusal::BadAccessMode)),
+    (Call::Get(Pick::Next), Ok(1)),
+    (Call::Get(Pick::Key(0)), Err(Refusal::BadAccessMode)),
+    (Call::Get(Pick::Rfa(0)), Err(Refusal::NumberOutOfRange)),
+    (
+        Call::Get(Pick::Rfa(2147483648)),
+        Err(Refusal::NumberOutOfRange),
+    ),
+    (Call::Get(Pick::Rfa(3)), Err(Refusal::RecordNotFound)),
+    (Call::Get(Pick::Next), Ok(2)),
+    (Call::Get(Pick::Next), Err(Refusal::EndOfFile)),
+    (Call::Update(b"abc"), Err(Refusal::NoCurrent)),
+    (Call::Get(Pick::Rfa(1)), Ok(1)),
+    (Call::Update(b"abc"), Err(Refusal::BadLength)),
+    (Call::Get(Pick::Rfa(1)), Ok(1)),
+    (Call::Update(b"a"), Err(Refusal::BadLength)),
+    (Call::Update(b"xy"), Err(Refusal::NoCurrent)),
+    (Call::Get(Pick::Rfa(1)), Ok(1)),
+    (Call::Update(b"xy"), Ok(1)),
+    (Call::Delete, Err(Refusal::DeleteNotAllowed)),
+    (Call::Get(Pick::Next), Ok(2)),
+];
+
 // Of a sequential file no put can be out of range: 2,147,483,647 records would come first.
 fn sequential_refusals<F: RecordFile>(rt: &impl Abort, file: &mut F) {
-    play(
-        rt,
-        file,
-        &mut Stream::new(ALL),
-        &[
-            (Call::Get(Pick::Next), Err(Refusal::EndOfFile)),
-            (Call::Put(None, b"abc"), Err(Refusal::BadLength)),
-            (Call::Put(None, b"ab"), Ok(1)),
-            (Call::Put(None, b"c"), Ok(2)),
-            (Call::Put(Some(3), b"d"), Err(Refusal::BadAccessMode)),
-            (Call::Put(Some(0), b"abc"), Err(Refusal::BadAccessMode)),
-            (Call::Get(Pick::Next), Ok(1)),
-            (Call::Get(Pick::Key(0)), Err(Refusal::BadAccessMode)),
-            (Call::Get(Pick::Rfa(0)), Err(Refusal::NumberOutOfRange)),
-            (
-                Call::Get(Pick::Rfa(2147483648)),
-                Err(Refusal::NumberOutOfRange),
-            ),
-            (Call::Get(Pick::Rfa(3)), Err(Refusal::RecordNotFound)),
-            (Call::Get(Pick::Next), Ok(2)),
-            (Call::Get(Pick::Next), Err(Refusal::EndOfFile)),
-            (Call::Update(b"abc"), Err(Refusal::NoCurrent)),
-            (Call::Get(Pick::Rfa(1)), Ok(1)),
-            (Call::Update(b"abc"), Err(Refusal::BadLength)),
-            (Call::Get(Pick::Rfa(1)), Ok(1)),
-            (Call::Update(b"a"), Err(Refusal::BadLength)),
-            (Call::Update(b"xy"), Err(Refusal::NoCurrent)),
-            (Call::Get(Pick::Rfa(1)), Ok(1)),
-            (Call::Update(b"xy"), Ok(1)),
-            (Call::Delete, Err(Refusal::DeleteNotAllowed)),
-            (Call::Get(Pick::Next), Ok(2)),
-        ],
-    );
+    play(rt, file, &mut Stream::new(ALL), SEQUENTIAL_REFUSALS);
     assert!(rt; holds(file, 1, b"xy"));
     not_permitted(rt, file);
 }
 
+const NOT_PERMITTED: Script = &[
+    (Call::Get(Pick::Next), Err(Refusal::NotPermitted)),
+    (Call::Get(Pick::Key(0)), Err(Refusal::NotPermitted)),
+    (Call::Get(Pick::Rfa(0)), Err(Refusal::NotPermitted)),
+    (Call::Put(None, b"abc"), Err(Refusal::NotPermitted)),
+    (Call::Put(Some(0), b"abc"), Err(Refusal::NotPermitted)),
+    (Call::Update(b"abc"), Err(Refusal::NotPermitted)),
+    (Call::Delete, Err(Refusal::NotPermitted)),
+];
+
 // Each call lacks its right, though other conditions of a refusal hold too.
 fn not_permitted<F: RecordFile>(rt: &impl Abort, file: &mut F) {
-    play(
-        rt,
-        file,
-        &mut Stream::new(NONE),
-        &[
-            (Call::Get(Pick::Next), Err(Refusal::NotPermitted)),
-            (Call::Get(Pick::Key(0)), Err(Refusal::NotPermitted)),
-            (Call::Get(Pick::Rfa(0)), Err(Refusal::NotPermitted)),
-            (Call::Put(None, b"abc"), Err(Refusal::NotPermitted)),
-            (Call::Put(Some(0), b"abc"), Err(Refusal::NotPermitted)),
-            (Call::Update(b"abc"), Err(Refusal::NotPermitted)),
-            (Call::Delete, Err(Refusal::NotPermitted)),
-        ],
-    );
+    play(rt, file, &mut Stream::new(NONE), NOT_PERMITTED);
 }
 
 #[test]
@@ -345,29 +336,23 @@ fn relative_refusals<F: RecordFile>(rt: &impl Abort, file: &mut F) {
     two_streams(rt, file);
 }
 
+const REMOVED: Script = &[
+    (Call::Update(b"abc"), Err(Refusal::NoCurrent)),
+    (Call::Put(Some(1), b"a"), Ok(1)),
+    (Call::Get(Pick::Key(1)), Ok(1)),
+];
+
+const REMOVED_AGAIN: Script = &[(Call::Delete, Err(Refusal::NoCurrent))];
+
 // What another stream removes is current no more.
 fn two_streams<F: RecordFile>(rt: &impl Abort, file: &mut F) {
     let mut first = Stream::new(ALL);
     let mut second = Stream::new(ALL);
     play(rt, file, &mut first, &[(Call::Get(Pick::Key(1)), Ok(1))]);
     get_and_delete(rt, file, &mut second, 1);
-    play(
-        rt,
-        file,
-        &mut first,
-        &[
-            (Call::Update(b"abc"), Err(Refusal::NoCurrent)),
-            (Call::Put(Some(1), b"a"), Ok(1)),
-            (Call::Get(Pick::Key(1)), Ok(1)),
-        ],
-    );
+    play(rt, file, &mut first, REMOVED);
     get_and_delete(rt, file, &mut second, 1);
-    play(
-        rt,
-        file,
-        &mut first,
-        &[(Call::Delete, Err(Refusal::NoCurrent))],
-    );
+    play(rt, file, &mut first, REMOVED_AGAIN);
 }
 
 #[test]
@@ -377,84 +362,104 @@ fn each_refusal_of_a_relative_file(rt: HostRuntime) {
     relative_refusals(&rt, &mut AnyFile::new(rt.alloc(), THREE));
 }
 
+fn first_len<F: RecordFile>(file: &F, from: u32) -> Option<(u32, usize)> {
+    first_record(file, from).map(|(number, body)| (number, body.len()))
+}
+
+fn longest<F: RecordFile>(rt: &impl Abort, file: &mut F) {
+    play(
+        rt,
+        file,
+        &mut Stream::new(ALL),
+        &[
+            (Call::Put(None, &LONG), Err(Refusal::BadLength)),
+            (Call::Put(None, &LONG[1..]), Ok(1)),
+        ],
+    );
+    assert_eq!(rt; first_len(file, 0), Some((1, 32767)));
+    assert_eq!(rt; first_len(file, 2), None);
+}
+
 #[test]
 fn the_longest_record(rt: HostRuntime) {
-    let mut file = AnyFile::new(rt.alloc(), RELATIVE);
-    let mut stream = Stream::new(ALL);
-    assert_eq!(rt; stream.put(&mut file, None, &LONG), Err(Refusal::BadLength));
-    assert_eq!(rt; stream.put(&mut file, None, &LONG[1..]), Ok(1));
-    assert_eq!(rt;
-        first_record(&file, 0).map(|(n, body)| (n, body.len())),
-        Some((1, 32767))
-    );
-    assert_eq!(rt;
-        first_record(&file, 2).map(|(n, body)| (n, body.len())),
-        None
-    );
+    longest(&rt, &mut AnyFile::new(rt.alloc(), RELATIVE));
 }
+
+const AT_THE_END: Script = &[
+    (Call::Put(None, b"z"), Ok(2147483647)),
+    (Call::Tell, Ok(2147483648)),
+    (Call::Get(Pick::Next), Err(Refusal::EndOfFile)),
+    (Call::Put(None, b"z"), Err(Refusal::NumberOutOfRange)),
+    (Call::Get(Pick::Key(MAX_NUMBER)), Ok(2147483647)),
+    (Call::Forget, Ok(2147483648)),
+    (Call::Delete, Err(Refusal::NoCurrent)),
+];
 
 #[test]
 fn a_stream_at_its_end(rt: HostRuntime) {
-    let mut file = RelFile::new(rt.alloc(), RELATIVE);
     let mut stream = Stream::new(ALL);
     assert_eq!(rt; stream.rights(), ALL);
     stream.seek(MAX_NUMBER);
-    assert_eq!(rt; stream.put(&mut file, None, b"z"), Ok(MAX_NUMBER));
-    assert_eq!(rt; stream.next(), 2147483648);
-    assert_eq!(rt; stream.get(&file, Pick::Next), Err(Refusal::EndOfFile));
-    assert_eq!(rt;
-        stream.put(&mut file, None, b"z"),
-        Err(Refusal::NumberOutOfRange)
+    play(
+        &rt,
+        &mut RelFile::new(rt.alloc(), RELATIVE),
+        &mut stream,
+        AT_THE_END,
     );
-    assert_eq!(rt; stream.get(&file, Pick::Key(MAX_NUMBER)), Ok(MAX_NUMBER));
-    stream.forget();
-    assert_eq!(rt; stream.delete(&mut file), Err(Refusal::NoCurrent));
 }
+
+fn full(rt: &impl Abort, file: &mut BlankFile) {
+    play(
+        rt,
+        file,
+        &mut Stream::new(ALL),
+        &[
+            (Call::Put(None, b""), Err(Refusal::NumberOutOfRange)),
+            (Call::Put(None, &LONG), Err(Refusal::BadLength)),
+            (Call::Put(Some(1), b""), Err(Refusal::BadAccessMode)),
+            (Call::Get(Pick::Rfa(MAX_NUMBER)), Ok(2147483647)),
+            (Call::Get(Pick::Next), Err(Refusal::EndOfFile)),
+        ],
+    );
+    assert_eq!(rt;
+        (file.highest(), file.lookup(2147483648)),
+        (2147483647, None)
+    );
+}
+
+// With one number left it is want of memory that refuses.
+const LAST: Script = &[(Call::Put(None, b""), Err(Refusal::NoMemory))];
 
 #[test]
 fn a_sequential_file_with_no_number_left(rt: HostRuntime) {
-    let mut full = BlankFile::new(MAX_NUMBER);
-    let mut stream = Stream::new(ALL);
-    assert_eq!(rt;
-        stream.put(&mut full, None, b""),
-        Err(Refusal::NumberOutOfRange)
-    );
-    assert_eq!(rt; stream.put(&mut full, None, &LONG), Err(Refusal::BadLength));
-    assert_eq!(rt;
-        stream.put(&mut full, Some(1), b""),
-        Err(Refusal::BadAccessMode)
-    );
-    assert_eq!(rt; stream.get(&full, Pick::Rfa(MAX_NUMBER)), Ok(MAX_NUMBER));
-    assert_eq!(rt; stream.get(&full, Pick::Next), Err(Refusal::EndOfFile));
-    assert_eq!(rt;
-        (full.highest(), full.lookup(2147483648)),
-        (2147483647, None)
-    );
-    // With one number left it is want of memory that refuses.
+    full(&rt, &mut BlankFile::new(MAX_NUMBER));
     let mut last = BlankFile::new(MAX_NUMBER - 1);
-    assert_eq!(rt; stream.put(&mut last, None, b""), Err(Refusal::NoMemory));
+    play(&rt, &mut last, &mut Stream::new(ALL), LAST);
 }
+
+// ORG, RFM, MRS and MRN, and the shape that they name: whether it is sequential, and its limits.
+const SHAPES: &[(u8, u8, u16, u64, Option<(bool, u16, u32)>)] = &[
+    (0, 1, 1, 0, Some((true, 1, 0))),
+    (0, 2, 0, 2147483647, Some((true, 0, 0))),
+    (16, 2, 32767, 2147483647, Some((false, 32767, 2147483647))),
+    (16, 1, 32767, 3, Some((false, 32767, 3))),
+    (1, 1, 1, 0, None),
+    (32, 1, 1, 0, None),
+    (0, 0, 1, 0, None),
+    (0, 3, 1, 0, None),
+    (16, 1, 0, 0, None),
+    (16, 2, 32768, 0, None),
+    (16, 2, 0, 2147483648, None),
+    (0, 2, 0, 2147483648, None),
+    (16, 2, 0, 18446744073709551615, None),
+];
 
 #[test]
 fn shapes_that_attributes_name(rt: HostRuntime) {
-    for (org, rfm, mrs, mrn, kept) in [
-        (0, 1, 1, 0, Some((true, 1, 0))),
-        (0, 2, 0, 2147483647, Some((true, 0, 0))),
-        (16, 2, 32767, 2147483647, Some((false, 32767, 2147483647))),
-        (16, 1, 32767, 3, Some((false, 32767, 3))),
-        (1, 1, 1, 0, None),
-        (32, 1, 1, 0, None),
-        (0, 0, 1, 0, None),
-        (0, 3, 1, 0, None),
-        (16, 1, 0, 0, None),
-        (16, 2, 32768, 0, None),
-        (16, 2, 0, 2147483648, None),
-        (0, 2, 0, 2147483648, None),
-        (16, 2, 0, 18446744073709551615, None),
-    ] {
-        let shape = Shape::check(org, rfm, mrs, mrn);
+    for (org, rfm, mrs, mrn, kept) in SHAPES {
+        let shape = Shape::check(*org, *rfm, *mrs, *mrn);
         let shown = shape.map(|s| (s.is_sequential(), s.mrs, s.mrn));
-        assert_eq!(rt; shown, kept, "at {org} {rfm} {mrs} {mrn}");
+        assert_eq!(rt; shown, *kept, "at {org} {rfm} {mrs} {mrn}");
     }
     assert_eq!(rt; (RELATIVE.limit(), THREE.limit()), (2147483647, 3));
     assert_eq!(rt; (PAIRS.allows(1), PAIRS.allows(2)), (false, true));
@@ -464,15 +469,21 @@ fn shapes_that_attributes_name(rt: HostRuntime) {
     );
 }
 
+const KEYS: &[(&[u8], Result<u32, Refusal>)] = &[
+    (&[], Err(Refusal::BadKey)),
+    (&[1], Ok(1)),
+    (&[1, 2], Ok(513)),
+    (&[1, 2, 3], Ok(197121)),
+    (&[1, 2, 3, 4], Ok(67305985)),
+    (&[255, 255, 255, 255], Ok(4294967295)),
+    (&[1, 0, 0, 0, 0], Err(Refusal::BadKey)),
+];
+
 #[test]
 fn keys_of_one_to_four_bytes(rt: HostRuntime) {
-    assert_eq!(rt; key_number(&[]), Err(Refusal::BadKey));
-    assert_eq!(rt; key_number(&[1]), Ok(1));
-    assert_eq!(rt; key_number(&[1, 2]), Ok(513));
-    assert_eq!(rt; key_number(&[1, 2, 3]), Ok(197121));
-    assert_eq!(rt; key_number(&[1, 2, 3, 4]), Ok(67305985));
-    assert_eq!(rt; key_number(&[255, 255, 255, 255]), Ok(4294967295));
-    assert_eq!(rt; key_number(&[1, 0, 0, 0, 0]), Err(Refusal::BadKey));
+    for (key, number) in KEYS {
+        assert_eq!(rt; key_number(key), *number);
+    }
 }
 
 // The pages and the plain list answer the same to a long script of scattered numbers.
@@ -513,17 +524,28 @@ fn pages_answer_as_the_plain_list(rt: HostRuntime) {
     }
 }
 
-fn same_records(rt: &impl Abort, pages: &RelFile, plain: &PlainFile) {
-    assert_eq!(rt; pages.highest(), plain.highest());
+fn is_same(pages: &RelFile, plain: &PlainFile, number: u32) -> bool {
+    pages.first_from(number) == plain.first_from(number)
+        && pages.lookup(number) == plain.lookup(number)
+}
+
+// How many pages the records of a plain list take.
+fn count_pages(plain: &PlainFile) -> usize {
     let mut count = 0usize;
     let mut page = None;
-    for number in 0..400 {
-        assert_eq!(rt; pages.first_from(number), plain.first_from(number));
-        assert_eq!(rt; pages.lookup(number), plain.lookup(number));
-        if number > 0 && plain.lookup(number).is_some() && page != Some((number - 1) / 64) {
+    for number in 1..400 {
+        if plain.lookup(number).is_some() && page != Some((number - 1) / 64) {
             page = Some((number - 1) / 64);
             count = count.saturating_add(1);
         }
     }
-    assert_eq!(rt; pages.page_count(), count);
+    count
+}
+
+fn same_records(rt: &impl Abort, pages: &RelFile, plain: &PlainFile) {
+    assert_eq!(rt; pages.highest(), plain.highest());
+    for number in 0..400 {
+        assert!(rt; is_same(pages, plain, number), "at {number}");
+    }
+    assert_eq!(rt; pages.page_count(), count_pages(plain));
 }

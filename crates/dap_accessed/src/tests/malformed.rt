@@ -44,7 +44,7 @@ fn in_each_phase(rt: HostRuntime) {
         };
         assert_eq!(rt; served.next, 0);
         assert!(rt; is_answer(&served, &[9, 2, 5, 0, 0x80, 0, 0, 0]));
-        assert_eq!(rt; stage_of(&end), *to);
+        assert!(rt; stage_of(&end) == *to);
     }
 }
 

@@ -7,36 +7,53 @@ const OTHER_SYSTEM: Exchange = &[(
     Seen::At(Stage::Ready),
 )];
 
-/// The buffers of peers that are large enough.
+/// A peer whose buffer is too small is refused, and may then tell another.
+fn refuses(rt: &impl Abort, end: &mut Accessed, bufsiz: u16) {
+    says(rt, end, &config_of(bufsiz), &[9, 2, 5, 0x40, 0x90, 0, 0, 0]);
+    assert!(rt; stage_of(end) == Stage::Fresh, "at {bufsiz}");
+    says(rt, end, SMALL_CONFIG, CONFIG);
+    assert!(rt; stage_of(end) == Stage::Ready, "at {bufsiz}");
+}
+
+/// One whose buffer is large enough tells it once.
+fn takes(rt: &impl Abort, end: &mut Accessed, bufsiz: u16) {
+    says(rt, end, &config_of(bufsiz), CONFIG);
+    assert!(rt; stage_of(end) == Stage::Ready, "at {bufsiz}");
+    says(rt, end, CONFIG, MISPLACED_CONFIG);
+}
+
+/// An end without files tells its own.
+fn tells(rt: &impl Abort, end: &mut Accessed, bufsiz: u16) {
+    assert_eq!(rt; held(end), (0, 0));
+    assert_eq!(rt; end.files().find(b""), None);
+    says(rt, end, CONFIG, &config_of(bufsiz));
+}
+
+/// The buffers of peers that are large enough, and those of ends.
 const LARGE_ENOUGH: &[u16] = &[0, 64, 65, 4096, 4097, 65535];
 
+const OWN: &[u16] = &[64, 65, 1024, 4096, 65535];
+
 #[test]
-fn the_buffers_of_the_peer_and_of_the_end(rt: HostRuntime) {
+fn the_buffers_of_the_peer(rt: HostRuntime) {
     for bufsiz in 1..64 {
-        let mut end = Accessed::new(rt.alloc(), 1024);
-        says(
-            &rt,
-            &mut end,
-            &config_of(bufsiz),
-            &[9, 2, 5, 0x40, 0x90, 0, 0, 0],
-        );
-        assert_eq!(rt; stage_of(&end), Stage::Fresh, "at {bufsiz}");
-        says(&rt, &mut end, SMALL_CONFIG, CONFIG);
-        assert_eq!(rt; stage_of(&end), Stage::Ready, "at {bufsiz}");
+        refuses(&rt, &mut Accessed::new(rt.alloc(), 1024), bufsiz);
     }
     for bufsiz in LARGE_ENOUGH {
-        let mut end = Accessed::new(rt.alloc(), 1024);
-        says(&rt, &mut end, &config_of(*bufsiz), CONFIG);
-        assert_eq!(rt; stage_of(&end), Stage::Ready, "at {bufsiz}");
-        says(&rt, &mut end, CONFIG, MISPLACED_CONFIG);
+        takes(&rt, &mut Accessed::new(rt.alloc(), 1024), *bufsiz);
     }
+}
+
+#[test]
+fn the_buffer_of_the_end(rt: HostRuntime) {
+    for bufsiz in OWN {
+        tells(&rt, &mut Accessed::new(rt.alloc(), *bufsiz), *bufsiz);
+    }
+}
+
+#[test]
+fn a_peer_of_another_system(rt: HostRuntime) {
     exchange(&rt, OTHER_SYSTEM);
-    for bufsiz in [64, 65, 1024, 4096, 65535] {
-        let mut end = Accessed::new(rt.alloc(), bufsiz);
-        assert_eq!(rt; held(&end), (0, 0));
-        assert_eq!(rt; end.files().find(b""), None);
-        says(&rt, &mut end, CONFIG, &config_of(bufsiz));
-    }
 }
 
 /// Accesses to `F` with an unknown function; to open what isn't there; to make what is there.

@@ -32,67 +32,75 @@ const TO_STOPPED: Script = &[
     ),
 ];
 
-/// What brings an end to this phase that is connected.
-fn way_to(to: Stage) -> Script {
+/// What brings an end that is connected to a phase.
+const WAYS: &[(Stage, Script)] = &[
+    (Stage::Opened, TO_OPENED),
+    (Stage::PutDue, TO_PUT_DUE),
+    (Stage::UpdateDue, TO_UPDATE_DUE),
+    (Stage::Storing, TO_STORING),
+    (Stage::Dropping, TO_DROPPING),
+    (Stage::Stopped, TO_STOPPED),
+];
+
+/// Brings a new end to this phase.
+fn bring(rt: &impl Abort, end: &mut Accessed, to: Stage) {
     match to {
-        Stage::Opened => TO_OPENED,
-        Stage::PutDue => TO_PUT_DUE,
-        Stage::UpdateDue => TO_UPDATE_DUE,
-        Stage::Storing => TO_STORING,
-        Stage::Dropping => TO_DROPPING,
-        Stage::Stopped => TO_STOPPED,
-        Stage::Fresh | Stage::Ready | Stage::Connected => &[],
+        Stage::Fresh => {}
+        Stage::Ready => says(rt, end, SMALL_CONFIG, CONFIG),
+        _ => {
+            play(rt, end, SMALL_ON_SEQUENTIAL_3);
+            play(rt, end, ONE_RECORD);
+            for (stage, way) in WAYS {
+                if *stage == to {
+                    play(rt, end, way);
+                }
+            }
+        }
     }
+    assert!(rt; stage_of(end) == to);
 }
 
 /// An end in this phase, whose only file is sequential and has the record `A`, save in the first two.
 pub(crate) fn brought(rt: &(impl AllocGlobal + Abort), to: Stage) -> Accessed {
     let mut end = Accessed::new(rt.alloc(), 1024);
-    match to {
-        Stage::Fresh => {}
-        Stage::Ready => says(rt, &mut end, SMALL_CONFIG, CONFIG),
-        _ => {
-            play(rt, &mut end, SMALL_ON_SEQUENTIAL_3);
-            play(rt, &mut end, ONE_RECORD);
-            play(rt, &mut end, way_to(to));
-        }
-    }
-    assert_eq!(rt; stage_of(&end), to);
+    bring(rt, &mut end, to);
     end
 }
 
 /// Messages that an end in the first phase answers so, each alone, and that leave the second.
 pub(crate) type Cases = &'static [(Stage, Stage, Script)];
 
+/// Serves a message, which leaves this phase: the stream and the files stay.
+fn alone(rt: &impl Abort, end: &mut Accessed, message: &[u8], answer: &[u8], to: Stage) {
+    let before = (numbers(end), held(end));
+    says(rt, end, message, answer);
+    assert!(rt; stage_of(end) == to, "at {message:?}");
+    assert_eq!(rt; (numbers(end), held(end)), before, "at {message:?}");
+}
+
 /// Serves each of these messages by a new end: its stream and its files stay.
 pub(crate) fn each_alone(rt: &(impl AllocGlobal + Abort), cases: Cases) {
     for (from, to, script) in cases {
         for (message, answer) in *script {
-            let mut end = brought(rt, *from);
-            let before = (numbers(&end), held(&end));
-            says(rt, &mut end, message, answer);
-            assert_eq!(rt; stage_of(&end), *to, "at {message:?}");
-            assert_eq!(rt; (numbers(&end), held(&end)), before, "at {message:?}");
+            alone(rt, &mut brought(rt, *from), message, answer, *to);
         }
     }
 }
 
-/// A message of each type, and its answer where it has no place.
-fn of_type(number: u8) -> (&'static [u8], &'static [u8]) {
-    match number {
-        1 => (CONFIG, MISPLACED_CONFIG),
-        2 => (RELATIVE, MISPLACED_ATTRIBUTES),
-        3 => (OPEN_7, MISPLACED_ACCESS),
-        4 => (GET, MISPLACED_CONTROL),
-        5 => (SKIP, MISPLACED_CONTINUE),
-        6 => (ACKNOWLEDGE, MISPLACED_ACKNOWLEDGE),
-        7 => (END_STREAM, MISPLACED_COMPLETE),
-        8 => (DATA_B, MISPLACED_DATA),
-        9 => (REWOUND, MISPLACED_STATUS),
-        10 => (OF_TYPE_10, &[9, 2, 5, 10, 0xA0, 0, 0, 0]),
-        _ => (OF_TYPE_16, &[9, 2, 5, 16, 0xA0, 0, 0, 0]),
-    }
-}
+/// A message of each type, by it, and its answer where it has no place.
+const BY_TYPE: &[(u8, &[u8], &[u8])] = &[
+    (1, CONFIG, MISPLACED_CONFIG),
+    (2, RELATIVE, MISPLACED_ATTRIBUTES),
+    (3, OPEN_7, MISPLACED_ACCESS),
+    (4, GET, MISPLACED_CONTROL),
+    (5, SKIP, MISPLACED_CONTINUE),
+    (6, ACKNOWLEDGE, MISPLACED_ACKNOWLEDGE),
+    (7, END_STREAM, MISPLACED_COMPLETE),
+    (8, DATA_B, MISPLACED_DATA),
+    (9, REWOUND, MISPLACED_STATUS),
+    (10, OF_TYPE_10, &[9, 2, 5, 10, 0xA0, 0, 0, 0]),
+    (16, OF_TYPE_16, &[9, 2, 5, 16, 0xA0, 0, 0, 0]),
+];
 
 const OF_TYPE_10: &[u8] = &[10, 2, 0];
 
@@ -156,13 +164,10 @@ const PASSED_OVER: Cases = &[
 #[test]
 fn messages_that_have_no_place(rt: HostRuntime) {
     for (from, to, types) in OUT_OF_PLACE {
-        for number in *types {
-            let mut end = brought(&rt, *from);
-            let before = (numbers(&end), held(&end));
-            let (message, answer) = of_type(*number);
-            says(&rt, &mut end, message, answer);
-            assert_eq!(rt; (numbers(&end), held(&end)), before, "at {number}");
-            assert_eq!(rt; stage_of(&end), *to, "at {number}");
+        for (number, message, answer) in BY_TYPE {
+            if types.contains(number) {
+                alone(&rt, &mut brought(&rt, *from), message, answer, *to);
+            }
         }
     }
     each_alone(&rt, PASSED_OVER);

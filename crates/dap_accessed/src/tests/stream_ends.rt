@@ -3,16 +3,20 @@
 use super::places::{Cases, brought, each_alone};
 use super::*;
 
-/// Plays these parts from each of these phases; the files may have to stay.
+/// Plays these parts; the files may have to stay.
+fn plays_on(rt: &impl Abort, end: &mut Accessed, parts: Exchange, stay: bool) {
+    let before = held(end);
+    for (script, seen) in parts {
+        play(rt, end, script);
+        look(rt, end, *seen);
+        assert!(rt; !stay || held(end) == before);
+    }
+}
+
+/// Plays these parts from each of these phases.
 fn from_each(rt: &(impl AllocGlobal + Abort), stages: &[Stage], parts: Exchange, stay: bool) {
     for from in stages {
-        let mut end = brought(rt, *from);
-        let before = held(&end);
-        for (script, seen) in parts {
-            play(rt, &mut end, script);
-            look(rt, &end, *seen);
-            assert!(rt; !stay || held(&end) == before, "at {from:?}");
-        }
+        plays_on(rt, &mut brought(rt, *from), parts, stay);
     }
 }
 

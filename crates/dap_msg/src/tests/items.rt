@@ -1,40 +1,61 @@
 //! What stands at the places of an NSP message.
 
-use crate::{FaultKind, Item, Message, MsgFault, item_at};
+use crate::{Control, FaultKind, Item, Message, MsgFault, item_at};
+
+const GET: Message<'static> = Message::Control(Control {
+    func: 1,
+    rac: Some(0),
+    key: None,
+    krf: None,
+    rop: None,
+    hsh: None,
+    display: None,
+});
+
+const DATA_CUT_SHORT: MsgFault = MsgFault {
+    kind: FaultKind::Truncated,
+    message_type: 8,
+    offset: 5,
+};
+
+const NO_TYPE: MsgFault = MsgFault {
+    kind: FaultKind::Truncated,
+    message_type: 0,
+    offset: 0,
+};
+
+/// Bytes, a place in them, what stands there, and where it ends.
+const ITEMS: &[(&[u8], usize, Item<'static>, usize)] = &[
+    // A message after another.
+    (&[4, 2, 3, 1, 1, 0, 6, 2, 0], 0, Item::Whole(GET), 6),
+    (
+        &[4, 2, 3, 1, 1, 0, 6, 2, 0],
+        6,
+        Item::Whole(Message::Ack),
+        9,
+    ),
+    // A message without LENGTH is the last.
+    (&[6, 2, 0, 6, 0, 6, 2, 0], 3, Item::Whole(Message::Ack), 8),
+    // A fault is counted from the start.
+    (
+        &[6, 2, 0, 8, 2, 5, 0, 0x41],
+        0,
+        Item::Whole(Message::Ack),
+        3,
+    ),
+    (
+        &[6, 2, 0, 8, 2, 5, 0, 0x41],
+        3,
+        Item::Malformed(DATA_CUT_SHORT),
+        8,
+    ),
+    // No bytes are one fault.
+    (&[], 0, Item::Malformed(NO_TYPE), 0),
+];
 
 #[test]
-fn a_message_after_another(rt: HostRuntime) {
-    let bytes = [4, 2, 3, 1, 1, 0, 6, 2, 0];
-    assert!(rt; matches!(item_at(&bytes, 0), (Item::Whole(Message::Control(_)), 6)));
-    assert_eq!(rt; item_at(&bytes, 6), (Item::Whole(Message::Ack), 9));
-}
-
-#[test]
-fn a_message_without_length_is_the_last(rt: HostRuntime) {
-    assert_eq!(rt;
-        item_at(&[6, 2, 0, 6, 0, 6, 2, 0], 3),
-        (Item::Whole(Message::Ack), 8)
-    );
-}
-
-#[test]
-fn a_fault_is_counted_from_the_start(rt: HostRuntime) {
-    let bytes = [6, 2, 0, 8, 2, 5, 0, 0x41];
-    assert_eq!(rt; item_at(&bytes, 0), (Item::Whole(Message::Ack), 3));
-    let fault = MsgFault {
-        kind: FaultKind::Truncated,
-        message_type: 8,
-        offset: 5,
-    };
-    assert_eq!(rt; item_at(&bytes, 3), (Item::Malformed(fault), 8));
-}
-
-#[test]
-fn no_bytes_are_one_fault(rt: HostRuntime) {
-    let fault = MsgFault {
-        kind: FaultKind::Truncated,
-        message_type: 0,
-        offset: 0,
-    };
-    assert_eq!(rt; item_at(&[], 0), (Item::Malformed(fault), 0));
+fn items(rt: HostRuntime) {
+    for (bytes, at, item, end) in ITEMS {
+        assert_eq!(rt; item_at(bytes, *at), (*item, *end));
+    }
 }

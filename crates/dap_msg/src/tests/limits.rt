@@ -37,35 +37,52 @@ fn data<'a>(recnum: &'a [u8], payload: &'a [u8]) -> Message<'a> {
     Message::Filedata { recnum, payload }
 }
 
+/// A record number, the length of a record, and whether the message fits.
+const RECORDS: &[(&[u8], usize, bool)] = &[
+    (&[], 65534, true),
+    (&[], 65535, false),
+    (&[1; 8], 65526, true),
+    (&[1; 8], 65527, false),
+    (&[1; 9], 0, false),
+];
+
+/// Whether a message with so much of a record fits.
+fn fits_record(recnum: &[u8], record: &[u8], length: usize) -> Option<bool> {
+    let payload = record.get(..length)?;
+    Some(fits(&data(recnum, payload)))
+}
+
 #[test]
 fn of_a_record(rt: HostRuntime) -> Result<(), Fail> {
     let record = Vec::from_elem(rt.alloc(), 0, 65535)?;
-    assert!(rt; fits(&data(&[], &record[..65534])));
-    assert!(rt; !fits(&data(&[], &record)));
-    assert!(rt; fits(&data(&[1; 8], &record[..65526])));
-    assert!(rt; !fits(&data(&[1; 8], &record[..65527])));
-    assert!(rt; !fits(&data(&[1; 9], &[])));
+    for (recnum, length, good) in RECORDS {
+        assert_eq!(rt; fits_record(recnum, &record, *length), Some(*good));
+    }
     Ok(())
+}
+
+/// A message's type, the length of its operand, and whether it fits.
+const OTHERS: &[(u8, usize, bool)] = &[
+    (9, 0, false),
+    (10, 0, true),
+    (16, 0, true),
+    (17, 0, false),
+    (10, 65535, true),
+    (10, 65536, false),
+];
+
+/// Whether a message of no known layout with so much of an operand fits.
+fn fits_other(number: u8, operand: &[u8], length: usize) -> Option<bool> {
+    let body = operand.get(..length)?;
+    Some(fits(&Message::Other { number, body }))
 }
 
 #[test]
 fn of_other_messages(rt: HostRuntime) -> Result<(), Fail> {
-    let body = Vec::from_elem(rt.alloc(), 0, 65536)?;
-    for (number, good) in [(9, false), (10, true), (16, true), (17, false)] {
-        assert_eq!(rt; fits(&Message::Other { number, body: &[] }), good);
+    let operand = Vec::from_elem(rt.alloc(), 0, 65536)?;
+    for (number, length, good) in OTHERS {
+        assert_eq!(rt; fits_other(*number, &operand, *length), Some(*good));
     }
-    assert!(rt;
-        fits(&Message::Other {
-            number: 10,
-            body: &body[..65535]
-        })
-    );
-    assert!(rt;
-        !fits(&Message::Other {
-            number: 10,
-            body: &body
-        })
-    );
     Ok(())
 }
 

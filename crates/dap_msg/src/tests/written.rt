@@ -1,6 +1,9 @@
 //! Each message, written and read.
 
-use crate::{Attributes, Control, Message, StatusCode, decode, encode, encoded_len, fits};
+use crate::{
+    Attributes, Control, Message, MsgFault, StatusCode, decode, encode, encoded_len, fits,
+};
+use std::alloc::Global;
 use std::process::Abort;
 use std::test::Fail;
 
@@ -195,28 +198,27 @@ fn file_data(rt: HostRuntime) -> Result<(), Fail> {
     check(&rt, message, &[8, 2, 2, 0, 0x41])
 }
 
+/// How many bytes a record of so many is written in, whether they begin so, and whether they are read back.
+fn written(alloc: Global, record: &[u8], begin: &[u8]) -> Result<(usize, bool, bool), MsgFault> {
+    let message = Message::Filedata {
+        recnum: &[],
+        payload: record,
+    };
+    if !fits(&message) {
+        return Ok((0, false, false));
+    }
+    let mut out = Vec::new(alloc);
+    encode(&message, &mut out)?;
+    let is_read = decode(&out) == Ok((message, out.len()));
+    Ok((out.len(), out.starts_with(begin), is_read))
+}
+
 #[test]
 fn a_long_operand_has_two_bytes_of_length(rt: HostRuntime) -> Result<(), Fail> {
-    let record = [0x41; 255];
-    let short = Message::Filedata {
-        recnum: &[],
-        payload: &record[..254],
-    };
-    assert!(rt; fits(&short));
-    let mut out = Vec::new(rt.alloc());
-    encode(&short, &mut out)?;
-    assert_eq!(rt; out.len(), 258);
-    assert!(rt; out.starts_with(&[8, 2, 0xff]));
-    let long = Message::Filedata {
-        recnum: &[],
-        payload: &record,
-    };
-    assert!(rt; fits(&long));
-    out.clear();
-    encode(&long, &mut out)?;
-    assert_eq!(rt; out.len(), 260);
-    assert!(rt; out.starts_with(&[8, 6, 0, 1]));
-    assert_eq!(rt; decode(&out), Ok((long, 260)));
+    let short = written(rt.alloc(), &[0x41; 254], &[8, 2, 0xff])?;
+    assert_eq!(rt; short, (258, true, true));
+    let long = written(rt.alloc(), &[0x41; 255], &[8, 6, 0, 1])?;
+    assert_eq!(rt; long, (260, true, true));
     Ok(())
 }
 

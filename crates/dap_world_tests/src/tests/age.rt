@@ -2,7 +2,6 @@
 //! window and at the largest.
 
 use super::Line::*;
-use super::calls::{after, finish, taken};
 use super::*;
 
 /// Segments of one byte over a window of 127.
@@ -39,6 +38,7 @@ const PUTS: &[Call] = &[
 ];
 
 const AGED: &[Line] = &[
+    Direct(PUTS),
     Does(Do::Deliver(End::B, 0), Ok(Step::Delivered(Got::Repeat))),
     Does(Do::Ask(Call::Get), Ok(Step::Asked(1))),
     Does(Do::Post(End::A), Ok(Step::Posted(1))),
@@ -58,64 +58,40 @@ const AGED: &[Line] = &[
     ),
     Does(Do::Deliver(End::B, 0), Err(WorldFault::Stale)),
     Counts(3, 5, 8),
+    Took(2050),
 ];
+
+const SETUPS: &[WorldSetup] = &[SMALL, WIDE];
 
 #[test]
 fn edge_of_age(rt: HostRuntime) -> Result<(), Fail> {
-    let requests = all(rt.alloc(), PUTS)?;
-    for setup in [SMALL, WIDE] {
-        let mut world = after(rt.alloc(), setup, &requests)?;
-        go_on(&rt, &mut world, AGED)?;
-        assert_eq!(rt; taken(&world, End::B), 2050);
+    for setup in SETUPS {
+        let _counts = play(&rt, *setup, AGED)?;
     }
     Ok(())
 }
-
-/// Emits and delivers the next segments of A, with an acknowledgement after each window.
-fn bring(world: &mut World, segments: usize) -> Result<(), WorldFault> {
-    for sent in 0..segments {
-        let place = written(world, End::A);
-        apply(world, &Event::Emit(End::A))?;
-        apply(world, &Event::Deliver(End::B, place))?;
-        if sent % 127 == 126 {
-            let back = written(world, End::B);
-            apply(world, &Event::Ack(End::B))?;
-            apply(world, &Event::Deliver(End::A, back))?;
-        }
-    }
-    Ok(())
-}
-
-const BEGUN: &[Line] = &[
-    Does(Do::Ask(Call::Store(EMPTY)), Ok(Step::Asked(1))),
-    Does(Do::Post(End::A), Ok(Step::Posted(1))),
-];
-
-const REPEATED: &[Line] = &[Does(Do::Deliver(End::B, 0), Ok(Step::Delivered(Got::Repeat)))];
-
-const LOST: &[Line] = &[
-    Does(Do::Deliver(End::B, 0), Err(WorldFault::Stale)),
-    Does(Do::Emit(End::A), Ok(Step::Packet(2081))),
-    Does(Do::Emit(End::A), Ok(Step::Packet(2082))),
-];
 
 /// A part of a long request is taken: 2,047 segments in all, and then one more. What follows is lost, and all
 /// is finished.
-fn age_within(rt: &(impl AllocGlobal + Abort), world: &mut World) -> Result<(), Fail> {
-    go_on(rt, world, BEGUN)?;
-    assert_eq!(rt; taken(world, End::B), 43);
-    bring(world, 2004)?;
-    assert_eq!(rt; taken(world, End::B), 2047);
-    go_on(rt, world, REPEATED)?;
-    bring(world, 1)?;
-    assert_eq!(rt; taken(world, End::B), 2048);
-    go_on(rt, world, LOST)?;
-    assert_eq!(rt; taken(world, End::B), 2048);
-    finish(world)?;
-    assert!(rt; matches!(world.reports().last(), Some(Report::Stored(None))));
-    assert!(rt; is_held(world, 500, Some(NONE)) && is_held(world, 501, None));
-    Ok(())
-}
+const WITHIN: &[Line] = &[
+    Direct(&[Call::Hello, CREATE, Call::Connect]),
+    Does(Do::Ask(Call::Store(EMPTY)), Ok(Step::Asked(1))),
+    Does(Do::Post(End::A), Ok(Step::Posted(1))),
+    Took(43),
+    Brings(2004),
+    Took(2047),
+    Does(Do::Deliver(End::B, 0), Ok(Step::Delivered(Got::Repeat))),
+    Brings(1),
+    Took(2048),
+    Does(Do::Deliver(End::B, 0), Err(WorldFault::Stale)),
+    Does(Do::Emit(End::A), Ok(Step::Packet(2081))),
+    Does(Do::Emit(End::A), Ok(Step::Packet(2082))),
+    Took(2048),
+    Finishes,
+    Reports(Want::Stored),
+    Holds(500, Some(NONE)),
+    Holds(501, None),
+];
 
 #[test]
 fn age_within_a_request(rt: HostRuntime) -> Result<(), Fail> {
@@ -123,7 +99,6 @@ fn age_within_a_request(rt: HostRuntime) -> Result<(), Fail> {
         bufsiz_b: 4096,
         ..SMALL
     };
-    let requests = all(rt.alloc(), &[Call::Hello, CREATE, Call::Connect])?;
-    let mut world = after(rt.alloc(), setup, &requests)?;
-    age_within(&rt, &mut world)
+    let _counts = play(&rt, setup, WITHIN)?;
+    Ok(())
 }

@@ -12,6 +12,14 @@ pub(crate) fn apply(world: &mut World, event: &Event) -> Result<Step, WorldFault
     world.apply(event)
 }
 
+/// What requests over a clean network come to. They need a world where nothing has happened.
+pub(crate) fn direct(world: &mut World, requests: &[Request]) -> Result<(), (usize, WorldFault)> {
+    if !world.is_fresh() {
+        return Err((0, WorldFault::NothingToDo));
+    }
+    world.direct(requests)
+}
+
 /// What requests over a clean network came to in a new world.
 pub(crate) fn directed(
     alloc: Global,

@@ -85,7 +85,7 @@ fn play_drawn(alloc: Global, world: &mut World, seed: &mut u32) -> usize {
     let mut asked: usize = 0;
     for _ in 0..draw(seed, MOST_EVENTS) {
         if let Some((call, _report)) = TURNS.get(asked) {
-            if ask(alloc, world, *call).is_ok() {
+            if happen(alloc, world, Do::Ask(*call)).is_ok() {
                 asked = asked.saturating_add(1);
             }
         }

@@ -1,7 +1,6 @@
 //! What has no step, and what no world can be made of.
 
 use super::Line::*;
-use super::calls::run;
 use super::*;
 use dap_world::AskFault;
 
@@ -69,6 +68,26 @@ const WAITING: &[Line] = &[
     Does(Do::Read, NOTHING),
 ];
 
+/// A run stops at an event that is refused: in the last it is the third.
+const RUNS: &[Line] = &[
+    Runs(&[], Ok(()), (true, 0, 0, 0)),
+    Runs(
+        &[Do::Serve],
+        Err((0, WorldFault::NothingToDo)),
+        (true, 0, 0, 0),
+    ),
+    Runs(
+        &[
+            Do::Ask(Call::Hello),
+            Do::Post(End::A),
+            Do::Emit(End::B),
+            Do::Serve,
+        ],
+        Err((2, WorldFault::NothingToDo)),
+        (false, 1, 1, 0),
+    ),
+];
+
 const SETUP: WorldSetup = WorldSetup {
     seg_size: 512,
     window: 8,
@@ -76,10 +95,12 @@ const SETUP: WorldSetup = WorldSetup {
     bufsiz_b: 1024,
 };
 
+const SCRIPTS: &[&[Line]] = &[FRESH, WAITING, RUNS];
+
 #[test]
 fn events_without_a_step(rt: HostRuntime) -> Result<(), Fail> {
-    for script in [FRESH, WAITING] {
-        let _world = play(&rt, SETUP, script)?;
+    for script in SCRIPTS {
+        let _counts = play(&rt, SETUP, script)?;
     }
     Ok(())
 }
@@ -110,27 +131,5 @@ fn sizes_of_worlds(rt: HostRuntime) -> Result<(), Fail> {
             Err(fault) => assert!(rt; !*good && fault == WorldFault::BadSetup),
         }
     }
-    Ok(())
-}
-
-#[test]
-fn runs_stop_at_a_refused_event(rt: HostRuntime) -> Result<(), Fail> {
-    let mut world = begin(rt.alloc(), SETUP)?;
-    assert_eq!(rt; run(&mut world, &[]), Ok(()));
-    assert!(rt; world.is_fresh());
-    assert_eq!(rt;
-        run(&mut world, &[Event::Serve]),
-        Err((0, WorldFault::NothingToDo))
-    );
-    let events = [
-        Event::Ask(Request::Hello),
-        Event::Post(End::A),
-        Event::Emit(End::B),
-        Event::Serve,
-    ];
-    assert_eq!(rt; run(&mut world, &events), Err((2, WorldFault::NothingToDo)));
-    assert_eq!(rt; world.requests().len(), 1);
-    assert_eq!(rt; world.sent().len(), 1);
-    assert_eq!(rt; world.read_count(), 0);
     Ok(())
 }

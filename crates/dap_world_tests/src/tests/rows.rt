@@ -523,8 +523,8 @@ const ROWS: &[(WorldSetup, &[Line])] = &[
 #[test]
 fn worked_exchanges(rt: HostRuntime) -> Result<(), Fail> {
     for (setup, script) in ROWS {
-        let world = play(&rt, *setup, script)?;
-        assert!(rt; world.sent().len() == world.taken().len());
+        let (sent, taken) = play(&rt, *setup, script)?;
+        assert_eq!(rt; sent, taken);
     }
     Ok(())
 }

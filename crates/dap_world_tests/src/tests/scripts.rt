@@ -1,6 +1,6 @@
 //! Requests over a clean network, each with its report, and the files that they leave.
 
-use super::calls::directed;
+use super::calls::after;
 use super::*;
 use dap_world::{AnyFile, FileTable};
 use rec_file::first_record;
@@ -222,20 +222,25 @@ fn holds(table: &FileTable, files: Files) -> bool {
         })
 }
 
+/// Whether the requests of a script have their reports, and leave these files.
+fn comes_so(alloc: Global, script: Script) -> Result<bool, WorldFault> {
+    let (bufsiz_a, bufsiz_b, turns, files) = script;
+    let setup = WorldSetup {
+        seg_size: 1024,
+        window: 127,
+        bufsiz_a,
+        bufsiz_b,
+    };
+    let requests = all(alloc, turns)?;
+    let world = after(alloc, setup, &requests)?;
+    Ok(are_told(world.reports(), turns) && holds(world.files(), files))
+}
+
 #[test]
 fn requests_and_their_reports(rt: HostRuntime) -> Result<(), Fail> {
-    for (bufsiz_a, bufsiz_b, script, files) in SCRIPTS {
-        let setup = WorldSetup {
-            seg_size: 1024,
-            window: 127,
-            bufsiz_a: *bufsiz_a,
-            bufsiz_b: *bufsiz_b,
-        };
-        let requests = all(rt.alloc(), script)?;
-        let (world, came) = directed(rt.alloc(), setup, &requests)?;
-        assert_eq!(rt; came, Ok(()));
-        assert!(rt; are_told(world.reports(), script));
-        assert!(rt; holds(world.files(), files));
+    for (at, script) in SCRIPTS.iter().enumerate() {
+        let so = comes_so(rt.alloc(), *script)?;
+        assert!(rt; so, "script {at}");
     }
     Ok(())
 }
