@@ -90,7 +90,7 @@ fn numbers(order: &str, count: u32) -> Vec<u32> {
             match order {
                 "rising" => place + 1,
                 "falling" => count - place,
-                "scattered" => (seed >> 8) % range + 1,
+                "dense" => (seed >> 8) % range + 1,
                 _ => (seed >> 1).max(1),
             }
         })

@@ -12,6 +12,9 @@ pub mod PagedLaws
 pub mod Keyed
 pub mod RelativeLaws
 pub mod PlacedLaws
+pub mod PlacesLaws
+pub mod SoughtLaws
+pub mod HeldLaws
 pub mod Bodies
 pub mod CountLaws
 pub mod ForCallers

@@ -1,22 +1,21 @@
 -- Pages at places of their own: what stands at a number after each edit of the places and the pages.
-use Rattle.std.proofs.Common.{◌≡◌, ℕ, ◌≢◌, ◌&&◌, cond, eqb, Bool, true, false, List, [], ◌∷◌, length, option_map, Option, Some, None, is_some, set, unwrap_or, refl, sym, ap, subst, ◌∙◌, arith, inl, inr}
+use Rattle.std.proofs.Common.{◌≡◌, ℕ, zero, suc, ◌+◌, ◌≢◌, ◌&&◌, get_or, IsSome, cond, eqb, Bool, true, false, List, [], ◌∷◌, length, option_map, Option, Some, None, is_some, set, unwrap_or, refl, sym, ap, subst, ◌∙◌, arith, inl, inr}
 use Rattle.std.specs.Ordering.{nat_cmp, is_le, match_ordering}
 use Rattle.std.specs.declared.cmp.Ordering.TheVariants.{Less, Equal, Greater}
-use Rattle.std.specs.Prelude.{Result, Ok, Err, OnOk}
+use Rattle.std.specs.Prelude.{Result, Ok, Err, OnOk, OnSome}
 use Rattle.std.specs.declared.cmp.Ordering.{Ordering}
-use Rattle.std.specs.Ordering.{is_eq}
-use Rattle.std.specs.Cmp.{nat_cmp_total}
-use Rattle.std.specs.List.Sorted.{IsStrictlySortedBy}
-use Rattle.std.specs.Map.{keys_of, lookup, set_value, remove_entry}
-use Rattle.std.proofs.lemmas.Map.{lookup-none}
-use Rattle.std.proofs.lemmas.Map.Entries.{none_below_head}
-use Rattle.std.proofs.lemmas.Map.Keys.{sorted_tail}
+use Rattle.std.specs.List.{count_by}
+use Rattle.std.specs.FinMap.{is_sorted}
+use Rattle.std.proofs.lemmas.Bool.Decides.{nat_tests}
+use Rattle.std.proofs.lemmas.List.Sums.{sum_by-cons}
+use Rattle.std.specs.Map.{lookup, set_value, remove_entry}
 use Rattle.std.specs.BTreeMap.{is_at, insert_entry}
-use Rattle.slab.specs.Slab.{Slab, get, with_value, Updates}
+use Rattle.slab.specs.Slab.{Slab, get, slab_len, with_value, Updates}
 use Rattle.slab.proofs.SlabLemmas.{Updates-with_value}
 use Rattle.rec_file.specs.Inner.Pages.{Cells, pages_at, NoneAt, HaveOwnPlaces, empty_cells, put_entry}
-use Rattle.rec_file.proofs.Rising.{at, at_tail, at_first, same_or_not}
-use Rattle.rec_file.proofs.Keyed.{behind, is_there, is_elsewhere, lookup_is_at}
+use Rattle.rec_file.proofs.Rising.{at, AllAbove, IsRising, at_tail, at_first, same_or_not}
+use Rattle.rec_file.proofs.PlacesLaws.{rising-of, same-entries}
+use Rattle.rec_file.proofs.Keyed.{at-written, at-inserted, rising-written, rising-inserted, behind, is_there, is_elsewhere, lookup_is_at}
 use Rattle.rec_file.proofs.RelativeLaws.{AllPages}
 
 value_of : (a b : ℕ) → Some a ≡ Some b → a ≡ b
@@ -68,6 +67,14 @@ none_there (e ∷ es) p i none is = elim (same_or_not p e.0) [
 pub stands : (kept : ℕ → Option Cells) (es : List (ℕ × ℕ)) (p i : ℕ) → AllPages (pages_at kept es) → at es p ≡ Some i → kept i ≡ None → ⊥
 stands kept es p i all is none = none_there es p i (fresh kept es i all none) is
 
+above-pages : (kept : ℕ → Option Cells) (x : ℕ) (es : List (ℕ × ℕ)) → AllAbove x es → AllAbove x (pages_at kept es)
+above-pages kept x [] h = tt
+above-pages kept x (e ∷ es) h = (h.0, above-pages kept x es h.1)
+
+rising-pages : (kept : ℕ → Option Cells) (es : List (ℕ × ℕ)) → IsRising es → IsRising (pages_at kept es)
+rising-pages kept [] r = tt
+rising-pages kept (e ∷ es) r = (above-pages kept e.0 es r.0, rising-pages kept es r.1)
+
 module _ (kept now : ℕ → Option Cells) (i : ℕ) (others : (j : ℕ) → j ≢ i → now j ≡ kept j) where
   same_pages : (es : List (ℕ × ℕ)) → NoneAt i es → pages_at now es ≡ pages_at kept es
   same_pages [] none = refl
@@ -91,21 +98,13 @@ module _ (kept now : ℕ → Option Cells) (i : ℕ) (others : (j : ℕ) → j �
   ]
 
   -- the same, as an insertion
-  pub written-in : (cells : Cells) (es : List (ℕ × ℕ)) (p : ℕ) → now i ≡ Some cells → HaveOwnPlaces es → IsStrictlySortedBy nat_cmp (keys_of es) → lookup (is_at (nat_cmp p)) es ≡ Some i
-      → pages_at now es ≡ insert_entry nat_cmp (pages_at kept es) p cells
-  written-in cells [] p new own s is = cc
-  written-in cells (e ∷ es) p new own s is = by (nat_cmp p e.0) refl is (written-in cells es p new own.1 (sorted_tail nat_cmp e.0 (keys_of es) s))
-    where
-      by : (r : Ordering) → nat_cmp p e.0 ≡ r → cond (is_eq r) (Some e.1) (lookup (is_at (nat_cmp p)) es) ≡ Some i
-          → (lookup (is_at (nat_cmp p)) es ≡ Some i → pages_at now es ≡ insert_entry nat_cmp (pages_at kept es) p cells)
-          → pages_at now (e ∷ es) ≡ match_ordering r ((p, cells) ∷ pages_at kept (e ∷ es)) ((e.0, cells) ∷ pages_at kept es) ((e.0, unwrap_or (kept e.1) []) ∷ insert_entry nat_cmp (pages_at kept es) p cells)
-      by Less q found later = cc (found, lookup-none (is_at (nat_cmp p)) es (none_below_head nat_cmp_total p e es s q).1)
-      by Equal q found later =
-          let here : e.1 ≡ i = value_of e.1 i found in
-          ap (λ o. (e.0, unwrap_or o []) ∷ pages_at now es) (ap now here ∙ new) ∙ ap (λ l. (e.0, cells) ∷ l) (same_pages es (subst (λ j. NoneAt j es) here own.0))
-      by Greater q found later =
-          ap (λ o. (e.0, unwrap_or o []) ∷ pages_at now es) (others e.1 (λ here. none_there es p e.1 own.0 (sym (lookup_is_at es p) ∙ found ∙ ap (λ j. Some j) (sym here))))
-          ∙ ap (λ l. (e.0, unwrap_or (kept e.1) []) ∷ l) (later found)
+  pub written-in : (cells : Cells) (es : List (ℕ × ℕ)) (p : ℕ) → now i ≡ Some cells → HaveOwnPlaces es → IsRising es → at es p ≡ Some i → pages_at now es ≡ insert_entry nat_cmp (pages_at kept es) p cells
+  written-in cells es p new own r is =
+      let rp = rising-pages kept es r in
+      let some : IsSome (at (pages_at kept es) p) = subst IsSome (sym (at-pages kept es p ∙ ap (option_map (λ i. unwrap_or (kept i) [])) is)) refl in
+      written cells es p new own is
+      ∙ same-entries (set_value (is_at (nat_cmp p)) (pages_at kept es) cells) (insert_entry nat_cmp (pages_at kept es) p cells) (rising-written (is_at (nat_cmp p)) (pages_at kept es) cells rp)
+      (rising-inserted (pages_at kept es) p cells rp) (λ q. at-written (pages_at kept es) p cells some q ∙ sym (at-inserted (pages_at kept es) p cells q))
 
   -- a page at a place of its own, under a number more
   pub inserted : (cells : Cells) (es : List (ℕ × ℕ)) (p : ℕ) → now i ≡ Some cells → NoneAt i es → pages_at now (insert_entry nat_cmp es p i) ≡ insert_entry nat_cmp (pages_at kept es) p cells
@@ -168,13 +167,13 @@ on-ok (Err e) f h = tt
 
 -- a record more in a page that is kept
 pub put-kept :
-    (s : Slab Cells) (es now : List (ℕ × ℕ)) (p i k : ℕ) (old new : Cells) (body : List ℕ) → now ≡ es → IsStrictlySortedBy nat_cmp (keys_of es) → HaveOwnPlaces es
+    (s : Slab Cells) (es now : List (ℕ × ℕ)) (p i k : ℕ) (old new : Cells) (body : List ℕ) → now ≡ es → is_sorted nat_cmp es ≡ true → HaveOwnPlaces es
     → lookup (is_at (nat_cmp p)) es ≡ Some i → get s i ≡ Some old → new ≡ set old k (Some body) → pages_at (get (with_value s i new)) now ≡ put_entry (pages_at (get s) es) p k body
 put-kept s es now p i k old new body same sorted own is there made =
     let u = Updates-with_value s i new (ap is_some there) in
     let page = lookup_is_at (pages_at (get s) es) p ∙ its-page (get s) es p i old (sym (lookup_is_at es p) ∙ is) there in
     ap (pages_at (get (with_value s i new))) same
-    ∙ written-in (get s) (get (with_value s i new)) i u.others new es p u.changed own sorted is
+    ∙ written-in (get s) (get (with_value s i new)) i u.others new es p u.changed own (rising-of es sorted) (sym (lookup_is_at es p) ∙ is)
     ∙ ap (insert_entry nat_cmp (pages_at (get s) es) p) (made ∙ ap (λ o. set (unwrap_or o empty_cells) k (Some body)) (sym page))
 
 -- a record in a page of its own
@@ -233,3 +232,38 @@ module _ (kept : ℕ → Option Cells) (es : List (ℕ × ℕ)) (p : ℕ) where
 
       pub next-stands : AllPages (pages_at kept es) → kept e'.1 ≡ None → ⊥
       next-stands all none = (subst (NoneAt e'.1) next (subst (NoneAt e'.1) is (none-behind e'.1 p es (fresh kept es e'.1 all none))).1).0 refl
+
+-- how many pages there are
+-- the promise of a call that gives a value
+pub on-some : {A P : Type 0} (r : Option A) (a : A) → r ≡ Some a → OnSome r P → P
+on-some None a is p = cc
+on-some (Some b) a is p = p
+
+count-rewritten : {T : Type 0} (xs : List (Option T)) (i : ℕ) (v w : T) → get_or xs i None ≡ Some v → count_by is_some (set xs i (Some w)) ≡ count_by is_some xs
+count-rewritten [] i v w is = cc
+count-rewritten (x ∷ xs) zero v w is =
+    sum_by-cons (λ o. cond (is_some o) 1 0) (Some w) xs ∙ ap (λ o. cond (is_some o) 1 0 + count_by is_some xs) (sym is) ∙ sym (sum_by-cons (λ o. cond (is_some o) 1 0) x xs)
+count-rewritten (x ∷ xs) (suc i) v w is =
+    sum_by-cons (λ o. cond (is_some o) 1 0) x (set xs i (Some w)) ∙ ap (λ n. cond (is_some x) 1 0 + n) (count-rewritten xs i v w is) ∙ sym (sum_by-cons (λ o. cond (is_some o) 1 0) x xs)
+
+pub len-written : {T : Type 0} (s : Slab T) (i : ℕ) (v w : T) → get s i ≡ Some v → slab_len (with_value s i w) ≡ slab_len s
+len-written s i v w is = count-rewritten s.slots i v w is
+
+pub length-inserted : (es : List (ℕ × ℕ)) (p i : ℕ) → at es p ≡ None → length (insert_entry nat_cmp es p i) ≡ length es + 1
+length-inserted [] p i none = refl
+length-inserted (e ∷ es) p i none = by (nat_cmp p e.0) refl (λ tail. length-inserted es p i tail)
+  where
+    by : (o : Ordering) → nat_cmp p e.0 ≡ o → (at es p ≡ None → length (insert_entry nat_cmp es p i) ≡ length es + 1)
+        → length (match_ordering o ((p, i) ∷ e ∷ es) ((e.0, i) ∷ es) (e ∷ insert_entry nat_cmp es p i)) ≡ length (e ∷ es) + 1
+    by Less q rest = omega arith
+    by Equal q rest = cc (none, at_first e es p (let same : p ≡ e.0 = grind (arith, nat_tests) in same))
+    by Greater q rest = let other : p ≢ e.0 = λ same. grind (arith, nat_tests) in let more = rest (sym (at_tail e es p other) ∙ none) in omega arith
+
+pub length-removed : (es : List (ℕ × ℕ)) (p i : ℕ) → at es p ≡ Some i → length (remove_entry (is_at (nat_cmp p)) es) + 1 ≡ length es
+length-removed [] p i is = cc
+length-removed (e ∷ es) p i is = elim (same_or_not p e.0) [
+  | inl same ↦ ap (λ b. length (cond b es (e ∷ remove_entry (is_at (nat_cmp p)) es)) + 1) (is_there p e.0 same) ∙ (omega arith)
+  | inr other ↦
+      let rest = length-removed es p i (sym (at_tail e es p other) ∙ is) in
+      ap (λ b. length (cond b es (e ∷ remove_entry (is_at (nat_cmp p)) es)) + 1) (is_elsewhere p e.0 other) ∙ (omega arith)
+]

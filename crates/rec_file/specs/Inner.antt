@@ -4,3 +4,4 @@ pub mod Numbered
 pub mod Blank
 pub mod Plain
 pub mod Pages
+pub mod Places

@@ -11,10 +11,12 @@ mod any;
 mod files;
 mod pages;
 mod picks;
+mod places;
 mod refusals;
 mod relative;
 mod sequential;
 mod shapes;
+mod sorted;
 mod streams;
 
 pub use any::AnyFile;

@@ -1,41 +1,40 @@
 //! Relative files in pages.
-ghost use Rattle.std.specs.Prelude.{◌≡◌, ◌<◌, None, false, map as each, IfSome, IsTrue, OnErr, OnOk};
+ghost use Rattle.std.specs.Prelude.{◌≡◌, ◌<◌, None, false, length, map as each, IfSome, IsTrue, OnErr, OnOk};
 ghost use Rattle.std.specs.List.{AllByRecursion};
 ghost use Rattle.std.specs.BTreeMap.{is_at};
 ghost use Rattle.std.specs.Map.{lookup};
 ghost use Rattle.std.specs.Ordering.{nat_cmp};
 ghost use Rattle.std.specs.FinMap as map;
-ghost use Rattle.slab.specs.Slab.{get};
+ghost use Rattle.slab.specs.Slab.{get, slab_len};
 ghost use Rattle.rec_file.specs.Shapes.{is_shape, is_seq};
 ghost use Rattle.rec_file.specs.Pages.{occupied_pages};
 ghost use Rattle.rec_file.specs.Inner.Pages.{cell as cell_in, pages_at, put_entry, HaveOwnPlaces, IsPage};
 
 use crate::files::RecordFile;
 use crate::pages::{Page, cell_of, first_in, last_in, page_of};
+use crate::places::Places;
 use crate::shapes::Shape;
 use slab::Slab;
 use std::alloc::{AllocError, Global};
-use std::collections::BTreeMap;
-use std::collections::btree_map::Entry;
 use std::marker::Model;
 
 /// A relative file (own, in the manner of RMS): each number from 1 to the limit has a record or
 /// none. Number n stands in cell `(n - 1) % 64` of page `(n - 1) / 64`; a page is kept while it has
-/// a record, and a tree has the places of the pages in the order of their numbers.
+/// a record, and the places of the pages are kept in the order of their numbers.
 #[derive(Drop)]
 pub struct RelFile {
     shape: Shape,
     alloc: Global,
-    places: BTreeMap<u32, u32>,
+    places: Places,
     pages: Slab<Page>,
 }
 
 impl Model for RelFile {
-    ghost use Rattle.std.specs.Prelude.{◌≡◌, List, ℕ, map, false, true};
+    ghost use Rattle.std.specs.Prelude.{◌≡◌, List, ℕ, map, length, false, true};
     ghost use Rattle.std.specs.List.{AllByRecursion};
     ghost use Rattle.std.specs.Ordering.{nat_cmp};
     ghost use Rattle.std.specs.FinMap.{is_sorted};
-    ghost use Rattle.slab.specs.Slab.{get};
+    ghost use Rattle.slab.specs.Slab.{get, slab_len};
     ghost use Rattle.rec_file.specs.Shapes.{is_seq};
     ghost use Rattle.rec_file.specs.Inner.Pages.{paged_file, pages_at, HaveOwnPlaces, IsPage};
     ghost use Rattle.rec_file.specs.Files.{FileVal, IsFile, file_code};
@@ -44,13 +43,14 @@ impl Model for RelFile {
 
     ghost coded = { file_code };
 
-    ghost view = { λ a. paged_file a.shape (pages_at (get a.pages) a.places.entries) };
+    ghost view = { λ a. paged_file a.shape (pages_at (get a.pages) a.places) };
 
-    ghost invariant = { λ a. IsFile (paged_file a.shape (pages_at (get a.pages) a.places.entries))
+    ghost invariant = { λ a. IsFile (paged_file a.shape (pages_at (get a.pages) a.places))
         × (is_seq a.shape.org ≡ false)
-        × (is_sorted nat_cmp (pages_at (get a.pages) a.places.entries) ≡ true)
-        × AllByRecursion IsPage (map (λ p. p.1) (pages_at (get a.pages) a.places.entries))
-        × HaveOwnPlaces a.places.entries };
+        × (is_sorted nat_cmp (pages_at (get a.pages) a.places) ≡ true)
+        × AllByRecursion IsPage (map (λ p. p.1) (pages_at (get a.pages) a.places))
+        × HaveOwnPlaces a.places
+        × (slab_len a.pages ≡ length a.places) };
 }
 
 impl RelFile {
@@ -63,7 +63,7 @@ impl RelFile {
         RelFile {
             shape,
             alloc,
-            places: BTreeMap::new(alloc),
+            places: Places::new(alloc),
             pages: Slab::new(alloc),
         }
     }
@@ -73,14 +73,14 @@ impl RelFile {
     pub fn page_count(&self) -> usize
         ensures { result ≡ occupied_pages self.now.records }
     {
-        self.places.len()
+        self.pages.len()
     }
 }
 
 /// Stores a record in an empty cell of a page that is kept, or else of a new one. An error is want of memory:
 /// nothing has changed.
 fn put_in(
-    places: &mut BTreeMap<u32, u32>,
+    places: &mut Places,
     pages: &mut Slab<Page>,
     alloc: Global,
     at: u32,
@@ -89,27 +89,28 @@ fn put_in(
 ) -> Result<(), AllocError>
     requires within { cell < 64 }
     requires kept { AllByRecursion IsPage (each (λ p. p.1) (pages_at (get pages.old)
-        places.old.entries)) }
-    requires own { HaveOwnPlaces places.old.entries }
+        places.old)) }
+    requires own { HaveOwnPlaces places.old }
+    requires as_many { slab_len pages.old ≡ length places.old }
     requires empty { IfSome (lookup (is_at (nat_cmp at)) (pages_at (get pages.old)
-        places.old.entries)) (λ page. cell_in page cell ≡ None) }
-    ensures ok { OnOk result (pages_at (get pages.new) places.new.entries
-        ≡ put_entry (pages_at (get pages.old) places.old.entries) at cell body.items) }
-    ensures err { OnErr result (pages_at (get pages.new) places.new.entries
-        ≡ pages_at (get pages.old) places.old.entries) }
-    ensures own { HaveOwnPlaces places.new.entries }
+        places.old)) (λ page. cell_in page cell ≡ None) }
+    ensures ok { OnOk result (pages_at (get pages.new) places.new
+        ≡ put_entry (pages_at (get pages.old) places.old) at cell body.items) }
+    ensures err { OnErr result (pages_at (get pages.new) places.new
+        ≡ pages_at (get pages.old) places.old) }
+    ensures own { HaveOwnPlaces places.new }
+    ensures as_many { slab_len pages.new ≡ length places.new }
 {
-    match places.entry(at)? {
-        Entry::Occupied(kept) => match pages.get_mut(*kept.get() as usize) {
+    // There are at most 2^25 pages, so the next place always has 32 bits.
+    let free = u32::try_from(pages.vacant_key()).map_err(|_| AllocError)?;
+    pages.reserve(1)?;
+    match places.put(alloc, at, free)? {
+        Some(place) => match pages.get_mut(place as usize) {
             Some(page) => page.put(cell, body),
             None => Ok(()),
         },
-        Entry::Vacant(free) => {
-            // There are at most 2^25 pages, so the next place always has 32 bits.
-            let place = u32::try_from(pages.vacant_key()).map_err(|_| AllocError)?;
-            pages.reserve(1)?;
+        None => {
             let _ = pages.insert_reserved(Page::with(alloc, cell, body));
-            free.insert(place);
             Ok(())
         }
     }
@@ -127,34 +128,34 @@ impl RecordFile for RelFile {
         if number == 0 {
             return None;
         }
-        let place = places.get(&page_of(number))?;
-        let page = self.pages.get(*place as usize)?;
+        let place = places.get(page_of(number))?;
+        let page = self.pages.get(place as usize)?;
         page.get(cell_of(number))
     }
 
     fn first_from(&self, number: u32) -> Option<u32> {
         let least = number.max(1);
         let own = page_of(least);
-        let mut rest = self.places.range(own..);
-        let (at, place) = rest.next()?;
-        let page = self.pages.get(*place as usize)?;
-        let from = if *at == own { cell_of(least) } else { 0 };
-        match first_in(*at, page, from) {
+        let mut rest = self.places.from(own);
+        let (at, place) = rest.pop_first()?;
+        let page = self.pages.get(place as usize)?;
+        let from = if at == own { cell_of(least) } else { 0 };
+        match first_in(at, page, from) {
             Some(first) => Some(first),
             None => {
-                let (at, place) = rest.next()?;
-                let page = self.pages.get(*place as usize)?;
-                first_in(*at, page, 0)
+                let (at, place) = rest.pop_first()?;
+                let page = self.pages.get(place as usize)?;
+                first_in(at, page, 0)
             }
         }
     }
 
     fn highest(&self) -> u32 {
-        let Some((at, place)) = self.places.last_key_value() else {
+        let Some((at, place)) = self.places.last() else {
             return 0;
         };
-        match self.pages.get(*place as usize) {
-            Some(page) => last_in(*at, page).unwrap_or(0),
+        match self.pages.get(place as usize) {
+            Some(page) => last_in(at, page).unwrap_or(0),
             None => 0,
         }
     }
@@ -175,10 +176,10 @@ impl RecordFile for RelFile {
 
     fn replace(&mut self, number: u32, body: &[u8]) -> Result<(), AllocError> {
         let body = Vec::from_slice(self.alloc, body)?;
-        let Some(place) = self.places.get(&page_of(number)) else {
+        let Some(place) = self.places.get(page_of(number)) else {
             return Ok(());
         };
-        let Some(page) = self.pages.get_mut(*place as usize) else {
+        let Some(page) = self.pages.get_mut(place as usize) else {
             return Ok(());
         };
         page.replace(cell_of(number), body);
@@ -188,17 +189,17 @@ impl RecordFile for RelFile {
     fn remove(&mut self, number: u32) {
         let places = &self.places;
         let at = page_of(number);
-        let Some(place) = places.get(&at) else {
+        let Some(place) = places.get(at) else {
             return;
         };
-        let place = *place as usize;
+        let place = place as usize;
         let Some(page) = self.pages.get_mut(place) else {
             return;
         };
         page.clear(cell_of(number));
         if page.is_empty() {
             let _ = self.pages.try_remove(place);
-            let _ = self.places.remove(&at);
+            self.places.remove(at);
         }
     }
 }

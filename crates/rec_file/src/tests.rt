@@ -2,7 +2,6 @@
 
 mod blank;
 mod plain;
-mod sorted;
 
 use crate::any::AnyFile;
 use crate::files::{RecordFile, first_record};

@@ -6,7 +6,7 @@ ghost use Rattle.rec_file.specs.Shapes.{is_shape, is_seq};
 
 use crate::files::RecordFile;
 use crate::shapes::Shape;
-use crate::tests::sorted::search;
+use crate::sorted::search;
 use std::alloc::{AllocError, Global};
 use std::marker::Model;
 

@@ -9,23 +9,23 @@ use Rattle.rec_file.proofs.relative.RelFileRecordFile.place.Goals as goal
 pub put_in-requires-clause-empty : goal.put_in-requires-clause-empty
 put_in-requires-clause-empty c =
     rw (c.page_of-at.ensures, c.cell_of-cell.ensures.same)
-    (put_free _ _ c.args.self.now (held c.self.inside.shape (pages_at (get c.self.inside.pages) c.self.inside.places.entries) c.args.self.now c.self.view_is c.self.invariant.2 c.self.invariant.3) c.args.number c.requires.above (sym c.requires.free))
+    (put_free _ _ c.args.self.now (held c.self.inside.shape (pages_at (get c.self.inside.pages) c.self.inside.places) c.args.self.now c.self.view_is c.self.invariant.2 c.self.invariant.3) c.args.number c.requires.above (sym c.requires.free))
 
 pub invariant_of-self : goal.invariant_of-self
 invariant_of-self c =
     let put = rw (c.page_of-at.ensures, c.cell_of-cell.ensures.same, c.in_ok-body.ensures.items) at c.put_in.ensures.ok in
     let file = subst IsFile c.self.view_is c.self.invariant.0 in
     let stands =
-    put_stands _ _ c.args.self.now (held c.self.inside.shape (pages_at (get c.self.inside.pages) c.self.inside.places.entries) c.args.self.now c.self.view_is c.self.invariant.2 c.self.invariant.3) c.put_in.result (pages_at (get c.put_in.new.pages) c.put_in.new.places.entries) c.args.number c.args.body.now c.requires.above put c.put_in.ensures.err
+    put_stands _ _ c.args.self.now (held c.self.inside.shape (pages_at (get c.self.inside.pages) c.self.inside.places) c.args.self.now c.self.view_is c.self.invariant.2 c.self.invariant.3) c.put_in.result (pages_at (get c.put_in.new.pages) c.put_in.new.places) c.args.number c.args.body.now c.requires.above put c.put_in.ensures.err
     file (IsFile-placed c.args.self.now c.args.number c.args.body.now file c.requires.above c.requires.within c.requires.next c.requires.length) in
-    (stands.0, c.self.invariant.1, stands.1, stands.2, c.put_in.ensures.own)
+    (stands.0, c.self.invariant.1, stands.1, stands.2, c.put_in.ensures.own, c.put_in.ensures.as_many)
 
 pub returns-clause-ok : goal.returns-clause-ok
 returns-clause-ok c =
     let put = rw (c.page_of-at.ensures, c.cell_of-cell.ensures.same, c.in_ok-body.ensures.items) at c.put_in.ensures.ok in
-    put_same _ _ c.args.self.now (held c.self.inside.shape (pages_at (get c.self.inside.pages) c.self.inside.places.entries) c.args.self.now c.self.view_is c.self.invariant.2 c.self.invariant.3) c.put_in.result (pages_at (get c.put_in.new.pages) c.put_in.new.places.entries) c.args.number c.args.body.now c.requires.above put c.put_in.ensures.err
+    put_same _ _ c.args.self.now (held c.self.inside.shape (pages_at (get c.self.inside.pages) c.self.inside.places) c.args.self.now c.self.view_is c.self.invariant.2 c.self.invariant.3) c.put_in.result (pages_at (get c.put_in.new.pages) c.put_in.new.places) c.args.number c.args.body.now c.requires.above put c.put_in.ensures.err
 
 pub returns-clause-err : goal.returns-clause-err
 returns-clause-err c =
     let put = rw (c.page_of-at.ensures, c.cell_of-cell.ensures.same, c.in_ok-body.ensures.items) at c.put_in.ensures.ok in
-    put_back _ _ c.args.self.now (held c.self.inside.shape (pages_at (get c.self.inside.pages) c.self.inside.places.entries) c.args.self.now c.self.view_is c.self.invariant.2 c.self.invariant.3) c.put_in.result (pages_at (get c.put_in.new.pages) c.put_in.new.places.entries) c.args.number c.args.body.now c.requires.above put c.put_in.ensures.err
+    put_back _ _ c.args.self.now (held c.self.inside.shape (pages_at (get c.self.inside.pages) c.self.inside.places) c.args.self.now c.self.view_is c.self.invariant.2 c.self.invariant.3) c.put_in.result (pages_at (get c.put_in.new.pages) c.put_in.new.places) c.args.number c.args.body.now c.requires.above put c.put_in.ensures.err

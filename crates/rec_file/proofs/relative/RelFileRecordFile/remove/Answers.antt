@@ -1,11 +1,12 @@
-use Rattle.std.proofs.Common.{IsSome, sym, ap, subst, ◌∙◌}
-use Rattle.slab.specs.Slab.{get}
+use Rattle.std.proofs.Common.{◌≡◌, Some, IsSome, is_some, length, sym, ap, subst, ◌∙◌, arith}
+use Rattle.slab.specs.Slab.{get, slab_len, with_value}
+use Rattle.slab.proofs.SlabLemmas.{Updates-with_value}
 use Rattle.rec_file.specs.Files.{IsFile}
 use Rattle.rec_file.specs.Inner.Pages.{cell, pages_at}
 use Rattle.rec_file.proofs.FileLaws.{IsFile-removed, not_both}
 use Rattle.rec_file.proofs.Keyed.{lookup_is_at}
 use Rattle.rec_file.proofs.RelativeLaws.{held, here, absent, clear_in_page, drop_page, not_true}
-use Rattle.rec_file.proofs.PlacedLaws.{no-page, its-page, stands, page-written, page-removed, own-less}
+use Rattle.rec_file.proofs.PlacedLaws.{no-page, its-page, stands, page-written, page-removed, own-less, on-some, len-written, length-removed}
 use Rattle.rec_file.proofs.relative.RelFileRecordFile.remove.Goals as goal
 
 pub page_of-at-requires : goal.page_of-at-requires
@@ -13,63 +14,70 @@ page_of-at-requires c = ((subst IsFile c.self.view_is c.self.invariant.0).above 
 
 pub returns-in_default : goal.returns-in_default
 returns-in_default c =
-    absurd (not_both _ (absent _ _ c.args.self.now (held c.self.inside.shape (pages_at (get c.self.inside.pages) c.self.inside.places.entries) c.args.self.now c.self.view_is c.self.invariant.2 c.self.invariant.3) c.args.number ((subst IsFile c.self.view_is c.self.invariant.0).above c.args.number c.requires.occupied)
-    (no-page (get c.self.inside.pages) c.self.inside.places.entries _ (sym (lookup_is_at c.self.inside.places.entries _) ∙ sym (rw c.page_of-at.ensures at c.in_default.ensures.value)))) c.requires.occupied)
+    absurd (not_both _ (absent _ _ c.args.self.now (held c.self.inside.shape (pages_at (get c.self.inside.pages) c.self.inside.places) c.args.self.now c.self.view_is c.self.invariant.2 c.self.invariant.3) c.args.number ((subst IsFile c.self.view_is c.self.invariant.0).above c.args.number c.requires.occupied)
+    (no-page (get c.self.inside.pages) c.self.inside.places _ (sym (lookup_is_at c.self.inside.places _) ∙ sym (rw c.page_of-at.ensures at c.in_default.ensures)))) c.requires.occupied)
 
 pub returns-in_default-get_mut : goal.returns-in_default-get_mut
 returns-in_default-get_mut c =
-    absurd (stands (get c.self.inside.pages) c.self.inside.places.entries _ c.in-Some.place.now c.self.invariant.3 (sym (lookup_is_at c.self.inside.places.entries _) ∙ sym c.in-Some.ensures.value) (sym c.in_default-get_mut.ensures.value))
+    absurd (stands (get c.self.inside.pages) c.self.inside.places _ c.in-Some.place c.self.invariant.3 (sym (lookup_is_at c.self.inside.places _) ∙ sym c.in-Some.ensures) (sym c.in_default-get_mut.ensures.value))
 
 pub clear-requires-clause-occupied : goal.clear-requires-clause-occupied
 clear-requires-clause-occupied c =
-    let is = sym (rw c.page_of-at.ensures at c.in-Some.ensures.value) in
+    let is = sym (rw c.page_of-at.ensures at c.in-Some.ensures) in
     let there = sym c.in-Some-get_mut.ensures.value in
-    let page = its-page (get c.self.inside.pages) c.self.inside.places.entries _ c.in-Some.place.now c.in-Some-get_mut.page.now (sym (lookup_is_at c.self.inside.places.entries _) ∙ is) there in
-    subst IsSome (sym (rw c.cell_of.ensures.same (here _ _ c.args.self.now (held c.self.inside.shape (pages_at (get c.self.inside.pages) c.self.inside.places.entries) c.args.self.now c.self.view_is c.self.invariant.2 c.self.invariant.3) c.args.number c.in-Some-get_mut.page.now ((subst IsFile c.self.view_is c.self.invariant.0).above c.args.number c.requires.occupied) page))) c.requires.occupied
+    let page = its-page (get c.self.inside.pages) c.self.inside.places _ c.in-Some.place c.in-Some-get_mut.page.now (sym (lookup_is_at c.self.inside.places _) ∙ is) there in
+    subst IsSome (sym (rw c.cell_of.ensures.same (here _ _ c.args.self.now (held c.self.inside.shape (pages_at (get c.self.inside.pages) c.self.inside.places) c.args.self.now c.self.view_is c.self.invariant.2 c.self.invariant.3) c.args.number c.in-Some-get_mut.page.now ((subst IsFile c.self.view_is c.self.invariant.0).above c.args.number c.requires.occupied) page))) c.requires.occupied
 
 pub invariant_of-self-then-is_empty : goal.invariant_of-self-then-is_empty
 invariant_of-self-then-is_empty c =
-    let is = sym (rw c.page_of-at.ensures at c.in-Some.ensures.value) in
+    let is = sym (rw c.page_of-at.ensures at c.in-Some.ensures) in
     let there = sym c.in-Some-get_mut.ensures.value in
-    let page = its-page (get c.self.inside.pages) c.self.inside.places.entries _ c.in-Some.place.now c.in-Some-get_mut.page.now (sym (lookup_is_at c.self.inside.places.entries _) ∙ is) there in
-    let empty = drop_page _ _ c.args.self.now (held c.self.inside.shape (pages_at (get c.self.inside.pages) c.self.inside.places.entries) c.args.self.now c.self.view_is c.self.invariant.2 c.self.invariant.3) c.args.number c.in-Some-get_mut.page.now ((subst IsFile c.self.view_is c.self.invariant.0).above c.args.number c.requires.occupied) page
+    let page = its-page (get c.self.inside.pages) c.self.inside.places _ c.in-Some.place c.in-Some-get_mut.page.now (sym (lookup_is_at c.self.inside.places _) ∙ is) there in
+    let empty = drop_page _ _ c.args.self.now (held c.self.inside.shape (pages_at (get c.self.inside.pages) c.self.inside.places) c.args.self.now c.self.view_is c.self.invariant.2 c.self.invariant.3) c.args.number c.in-Some-get_mut.page.now ((subst IsFile c.self.view_is c.self.invariant.0).above c.args.number c.requires.occupied) page
     (λ k. ap (λ cs. cell cs k) (sym (rw c.cell_of.ensures.same at c.clear.ensures)) ∙ c.is_empty.ensures.0 c.if-is_empty.true k) in
-    let same = page-removed c.self.inside.pages c.try_remove.new.self c.self.inside.places.entries c.remove.new.self.entries _ c.in-Some.place.now c.in-Some-get_mut.page.now c.clear.new.self c.self.invariant.4 is there c.try_remove.ensures.updates (rw c.page_of-at.ensures at c.remove.ensures.entries) in
+    let same = page-removed c.self.inside.pages c.try_remove.new.self c.self.inside.places c.remove.new.self _ c.in-Some.place c.in-Some-get_mut.page.now c.clear.new.self c.self.invariant.4 is there c.try_remove.ensures.updates (rw c.page_of-at.ensures at c.remove.ensures) in
+    let removed : get (with_value c.self.inside.pages c.in-Some.place c.clear.new.self) c.in-Some.place ≡ Some c.clear.new.self = (Updates-with_value c.self.inside.pages c.in-Some.place c.clear.new.self (ap is_some there)).changed in
+    let fewer = on-some c.try_remove.result c.clear.new.self (c.try_remove.ensures.value ∙ removed) c.try_remove.ensures.len in
+    let pages = len-written c.self.inside.pages c.in-Some.place c.in-Some-get_mut.page.now c.clear.new.self there ∙ c.self.invariant.5 in
+    let places = ap length c.remove.ensures in
+    let gone = length-removed c.self.inside.places c.page_of-at.result c.in-Some.place (sym (lookup_is_at c.self.inside.places c.page_of-at.result) ∙ sym c.in-Some.ensures) in
+    let less : slab_len c.try_remove.new.self ≡ length c.remove.new.self = omega (arith, fewer, pages, places, gone) in
     rw same (
       subst IsFile (sym empty.same) (IsFile-removed c.args.self.now c.args.number (subst IsFile c.self.view_is c.self.invariant.0) c.requires.relative),
       c.self.invariant.1,
       empty.sorted,
       empty.all,
-      own-less c.self.inside.places.entries c.remove.new.self.entries _ c.remove.ensures.entries c.self.invariant.4,
+      own-less c.self.inside.places c.remove.new.self _ c.remove.ensures c.self.invariant.4,
+      less,
     )
 
 pub invariant_of-self-else-is_empty : goal.invariant_of-self-else-is_empty
 invariant_of-self-else-is_empty c =
-    let is = sym (rw c.page_of-at.ensures at c.in-Some.ensures.value) in
+    let is = sym (rw c.page_of-at.ensures at c.in-Some.ensures) in
     let there = sym c.in-Some-get_mut.ensures.value in
-    let page = its-page (get c.self.inside.pages) c.self.inside.places.entries _ c.in-Some.place.now c.in-Some-get_mut.page.now (sym (lookup_is_at c.self.inside.places.entries _) ∙ is) there in
-    let whole = clear_in_page _ _ c.args.self.now (held c.self.inside.shape (pages_at (get c.self.inside.pages) c.self.inside.places.entries) c.args.self.now c.self.view_is c.self.invariant.2 c.self.invariant.3) c.args.number c.in-Some-get_mut.page.now ((subst IsFile c.self.view_is c.self.invariant.0).above c.args.number c.requires.occupied) page
+    let page = its-page (get c.self.inside.pages) c.self.inside.places _ c.in-Some.place c.in-Some-get_mut.page.now (sym (lookup_is_at c.self.inside.places _) ∙ is) there in
+    let whole = clear_in_page _ _ c.args.self.now (held c.self.inside.shape (pages_at (get c.self.inside.pages) c.self.inside.places) c.args.self.now c.self.view_is c.self.invariant.2 c.self.invariant.3) c.args.number c.in-Some-get_mut.page.now ((subst IsFile c.self.view_is c.self.invariant.0).above c.args.number c.requires.occupied) page
     (λ h. not_true c.is_empty.result c.if-is_empty.false (c.is_empty.ensures.1 (λ k. ap (λ cs. cell cs k) (rw c.cell_of.ensures.same at c.clear.ensures) ∙ h k))) in
-    let same = page-written c.self.inside.pages c.self.inside.places.entries _ c.in-Some.place.now c.in-Some-get_mut.page.now c.clear.new.self _ c.self.invariant.4 is there (rw c.cell_of.ensures.same at c.clear.ensures) in
+    let same = page-written c.self.inside.pages c.self.inside.places _ c.in-Some.place c.in-Some-get_mut.page.now c.clear.new.self _ c.self.invariant.4 is there (rw c.cell_of.ensures.same at c.clear.ensures) in
     rw same
-    (subst IsFile (sym whole.same) (IsFile-removed c.args.self.now c.args.number (subst IsFile c.self.view_is c.self.invariant.0) c.requires.relative), c.self.invariant.1, whole.sorted, whole.all, c.self.invariant.4)
+    (subst IsFile (sym whole.same) (IsFile-removed c.args.self.now c.args.number (subst IsFile c.self.view_is c.self.invariant.0) c.requires.relative), c.self.invariant.1, whole.sorted, whole.all, c.self.invariant.4, len-written c.self.inside.pages c.in-Some.place c.in-Some-get_mut.page.now c.clear.new.self there ∙ c.self.invariant.5)
 
 pub returns-then-is_empty : goal.returns-then-is_empty
 returns-then-is_empty c =
-    let is = sym (rw c.page_of-at.ensures at c.in-Some.ensures.value) in
+    let is = sym (rw c.page_of-at.ensures at c.in-Some.ensures) in
     let there = sym c.in-Some-get_mut.ensures.value in
-    let page = its-page (get c.self.inside.pages) c.self.inside.places.entries _ c.in-Some.place.now c.in-Some-get_mut.page.now (sym (lookup_is_at c.self.inside.places.entries _) ∙ is) there in
-    let empty = drop_page _ _ c.args.self.now (held c.self.inside.shape (pages_at (get c.self.inside.pages) c.self.inside.places.entries) c.args.self.now c.self.view_is c.self.invariant.2 c.self.invariant.3) c.args.number c.in-Some-get_mut.page.now ((subst IsFile c.self.view_is c.self.invariant.0).above c.args.number c.requires.occupied) page
+    let page = its-page (get c.self.inside.pages) c.self.inside.places _ c.in-Some.place c.in-Some-get_mut.page.now (sym (lookup_is_at c.self.inside.places _) ∙ is) there in
+    let empty = drop_page _ _ c.args.self.now (held c.self.inside.shape (pages_at (get c.self.inside.pages) c.self.inside.places) c.args.self.now c.self.view_is c.self.invariant.2 c.self.invariant.3) c.args.number c.in-Some-get_mut.page.now ((subst IsFile c.self.view_is c.self.invariant.0).above c.args.number c.requires.occupied) page
     (λ k. ap (λ cs. cell cs k) (sym (rw c.cell_of.ensures.same at c.clear.ensures)) ∙ c.is_empty.ensures.0 c.if-is_empty.true k) in
-    let same = page-removed c.self.inside.pages c.try_remove.new.self c.self.inside.places.entries c.remove.new.self.entries _ c.in-Some.place.now c.in-Some-get_mut.page.now c.clear.new.self c.self.invariant.4 is there c.try_remove.ensures.updates (rw c.page_of-at.ensures at c.remove.ensures.entries) in
+    let same = page-removed c.self.inside.pages c.try_remove.new.self c.self.inside.places c.remove.new.self _ c.in-Some.place c.in-Some-get_mut.page.now c.clear.new.self c.self.invariant.4 is there c.try_remove.ensures.updates (rw c.page_of-at.ensures at c.remove.ensures) in
     rw same empty.same
 
 pub returns-else-is_empty : goal.returns-else-is_empty
 returns-else-is_empty c =
-    let is = sym (rw c.page_of-at.ensures at c.in-Some.ensures.value) in
+    let is = sym (rw c.page_of-at.ensures at c.in-Some.ensures) in
     let there = sym c.in-Some-get_mut.ensures.value in
-    let page = its-page (get c.self.inside.pages) c.self.inside.places.entries _ c.in-Some.place.now c.in-Some-get_mut.page.now (sym (lookup_is_at c.self.inside.places.entries _) ∙ is) there in
-    let whole = clear_in_page _ _ c.args.self.now (held c.self.inside.shape (pages_at (get c.self.inside.pages) c.self.inside.places.entries) c.args.self.now c.self.view_is c.self.invariant.2 c.self.invariant.3) c.args.number c.in-Some-get_mut.page.now ((subst IsFile c.self.view_is c.self.invariant.0).above c.args.number c.requires.occupied) page
+    let page = its-page (get c.self.inside.pages) c.self.inside.places _ c.in-Some.place c.in-Some-get_mut.page.now (sym (lookup_is_at c.self.inside.places _) ∙ is) there in
+    let whole = clear_in_page _ _ c.args.self.now (held c.self.inside.shape (pages_at (get c.self.inside.pages) c.self.inside.places) c.args.self.now c.self.view_is c.self.invariant.2 c.self.invariant.3) c.args.number c.in-Some-get_mut.page.now ((subst IsFile c.self.view_is c.self.invariant.0).above c.args.number c.requires.occupied) page
     (λ h. not_true c.is_empty.result c.if-is_empty.false (c.is_empty.ensures.1 (λ k. ap (λ cs. cell cs k) (rw c.cell_of.ensures.same at c.clear.ensures) ∙ h k))) in
-    let same = page-written c.self.inside.pages c.self.inside.places.entries _ c.in-Some.place.now c.in-Some-get_mut.page.now c.clear.new.self _ c.self.invariant.4 is there (rw c.cell_of.ensures.same at c.clear.ensures) in
+    let same = page-written c.self.inside.pages c.self.inside.places _ c.in-Some.place c.in-Some-get_mut.page.now c.clear.new.self _ c.self.invariant.4 is there (rw c.cell_of.ensures.same at c.clear.ensures) in
     rw same whole.same

@@ -1,0 +1,20 @@
+use Rattle.std.proofs.Common.{◌∙◌}
+use Rattle.rec_file.proofs.SoughtLaws.{searchable, read-place, with-found, gap-place, with-gap}
+use Rattle.rec_file.proofs.places.put_in.Goals as goal
+
+pub seek-requires : goal.seek-requires
+seek-requires c = rw c.deref.ensures.value (searchable c.args.group.now.items c.requires 0 0)
+
+pub returns-in-Ok-clause-had : goal.returns-in-Ok-clause-had
+returns-in-Ok-clause-had c =
+    read-place c.args.group.now.items c.requires c.args.page c.in-Ok.at (rw c.deref.ensures.value at c.in-Ok.ensures.found) c.index.result.now c.index.ensures
+
+pub returns-in-Ok-clause-ok : goal.returns-in-Ok-clause-ok
+returns-in-Ok-clause-ok c = with-found c.args.group.now.items c.requires c.args.page c.in-Ok.at (rw c.deref.ensures.value at c.in-Ok.ensures.found) c.args.place
+
+pub returns-in_ok-insert-in-Err-clause-had : goal.returns-in_ok-insert-in-Err-clause-had
+returns-in_ok-insert-in-Err-clause-had c = gap-place c.args.group.now.items c.requires c.args.page c.in-Err.at (rw c.deref.ensures.value at c.in-Err.ensures.gap)
+
+pub returns-in_ok-insert-in-Err-clause-ok : goal.returns-in_ok-insert-in-Err-clause-ok
+returns-in_ok-insert-in-Err-clause-ok c =
+    c.in_ok-insert-in-Err.ensures.items ∙ with-gap c.args.group.now.items c.requires c.args.page c.in-Err.at (rw c.deref.ensures.value at c.in-Err.ensures.gap) c.args.place

@@ -1,0 +1,56 @@
+-- The places of pages in groups by the pages' numbers.
+use Rattle.std.specs.Prelude.{◌≡◌, ◌≢◌, ◌<◌, ℕ, ◌/◌, ◌++◌, List, [], ◌∷◌, true, Option, Some, None, is_some, map, if◌then◌else◌}
+use Rattle.std.specs.List.{filter, AllByRecursion}
+use Rattle.std.specs.Global.{Vec}
+use Rattle.std.specs.Map.{lookup}
+use Rattle.std.specs.BTreeMap.{is_at, insert_entry}
+use Rattle.std.specs.Ordering.{nat_cmp, is_le}
+use Rattle.std.specs.FinMap.{is_sorted}
+
+-- the group of a page
+abbrev pub group_of : ℕ → ℕ
+group_of page = page / 4096
+
+-- the places of groups, one group after the other
+abbrev pub listed : List (ℕ × List (ℕ × ℕ)) → List (ℕ × ℕ)
+listed [] = []
+listed (g ∷ gs) = g.1 ++ listed gs
+
+-- the numbers of groups, and what they have
+abbrev pub bare : List (ℕ × Vec (ℕ × ℕ)) → List (ℕ × List (ℕ × ℕ))
+bare gs = map (λ g. (g.0, g.1.items)) gs
+
+-- no group is empty
+abbrev pub HavePages : List (ℕ × List (ℕ × ℕ)) → Type 0
+HavePages gs = AllByRecursion (λ es. es ≢ []) (map (λ g. g.1) gs)
+
+-- each page is of this group
+abbrev pub AreOf : ℕ → List (ℕ × ℕ) → Type 0
+AreOf g [] = Unit {0}
+AreOf g (e ∷ es) = (group_of e.0 ≡ g) × AreOf g es
+
+-- a group has its own pages alone, in order
+pub record IsGroup (g : ℕ) (es : List (ℕ × ℕ)) : Type 0 where
+  pub own : AreOf g es
+  pub sorted : is_sorted nat_cmp es ≡ true
+
+abbrev pub AreGroups : List (ℕ × List (ℕ × ℕ)) → Type 0
+AreGroups [] = Unit {0}
+AreGroups (g ∷ gs) = IsGroup g.0 g.1 × AreGroups gs
+
+-- the place of a page
+abbrev pub place_of : List (ℕ × ℕ) → ℕ → Option ℕ
+place_of es page = lookup (is_at (nat_cmp page)) es
+
+-- with this place for a page that has none
+abbrev pub with_place : List (ℕ × ℕ) → ℕ → ℕ → List (ℕ × ℕ)
+with_place es page place = if is_some (place_of es page) then es else insert_entry nat_cmp es page place
+
+-- the places of the pages from one on
+abbrev pub places_from : ℕ → List (ℕ × ℕ) → List (ℕ × ℕ)
+places_from page es = filter (λ e. is_le (nat_cmp page e.0)) es
+
+-- no page above this one has a place
+pub record IsLastPlace (es : List (ℕ × ℕ)) (e : ℕ × ℕ) : Type 0 where
+  pub here : place_of es e.0 ≡ Some e.1
+  pub none_above : (page : ℕ) → e.0 < page → place_of es page ≡ None

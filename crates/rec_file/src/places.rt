@@ -1,0 +1,240 @@
+//! Where the pages of a relative file stand.
+ghost use Rattle.std.specs.Prelude.{◌≡◌, ◌≤◌, ◌<◌, ℕ, [], ◌∷◌, length, map, slice_index, true, IfOk, IfErr, IfSome, IfNone, OnErr, OnOk};
+ghost use Rattle.std.specs.Map.{remove_entry};
+ghost use Rattle.std.specs.BTreeMap.{is_at};
+ghost use Rattle.std.specs.Ordering.{nat_cmp};
+ghost use Rattle.std.specs.FinMap.{is_sorted};
+ghost use Rattle.rec_file.specs.Inner.Sorted.{IsGapFor, IsInOrder, IsPlaceOf};
+ghost use Rattle.rec_file.specs.Inner.Places.{place_of, places_from, with_place, IsLastPlace};
+
+use crate::sorted::search;
+use std::alloc::{AllocError, Global};
+use std::collections::BTreeMap;
+use std::collections::btree_map::Range;
+use std::marker::Model;
+
+/// How many pages have numbers of one group.
+const GROUP: u32 = 4096;
+
+/// The places of pages, by the pages' numbers, in order. Pages whose numbers have the same quotient are a group.
+#[derive(Drop)]
+pub struct Places {
+    groups: BTreeMap<u32, Vec<(u32, u32)>>,
+}
+
+impl Model for Places {
+    ghost use Rattle.std.specs.Prelude.{◌≡◌, List, ℕ, true};
+    ghost use Rattle.std.specs.Ordering.{nat_cmp};
+    ghost use Rattle.std.specs.FinMap.{is_sorted};
+    ghost use Rattle.rec_file.specs.Inner.Places.{bare, listed, AreGroups, HavePages};
+
+    ghost Value = { List (ℕ × ℕ) };
+
+    ghost view = { λ a. listed (bare a.groups.entries) };
+
+    ghost invariant = { λ a. (is_sorted nat_cmp (bare a.groups.entries) ≡ true)
+        × AreGroups (bare a.groups.entries)
+        × HavePages (bare a.groups.entries) };
+}
+
+/// How many places to each side of the likely one are looked at first.
+const NEAR: usize = 4;
+
+/// A part of a group outside of which a page doesn't stand: near the place where it would stand if the pages were
+/// spread evenly over the group, or else all up to there, or behind it.
+fn part(group: &[(u32, u32)], page: u32) -> (usize, usize)
+    requires { IsInOrder (map (λ e. e.0) group.now) }
+    ensures within { (result.0 ≤ result.1) × (result.1 ≤ length group.now) }
+    ensures before { (j : ℕ) → j < result.0 → slice_index (map (λ e. e.0) group.now) j < page }
+    ensures after { (j : ℕ) → result.1 ≤ j → j < length group.now
+        → page < slice_index (map (λ e. e.0) group.now) j }
+{
+    let likely = ((page % GROUP) as usize).saturating_mul(group.len()) / GROUP as usize;
+    let below = likely.saturating_sub(NEAR);
+    let low = match group.get(below) {
+        Some(entry) if entry.0 < page => below + 1,
+        _ => 0,
+    };
+    let above = likely.saturating_add(NEAR);
+    let high = match group.get(above) {
+        Some(entry) if page < entry.0 => above,
+        _ => group.len(),
+    };
+    (low, high)
+}
+
+/// Where a page stands in its group, or where it would.
+fn seek(group: &[(u32, u32)], page: u32) -> Result<usize, usize>
+    requires { IsInOrder (map (λ e. e.0) group.now) }
+    ensures found { IfOk result (IsPlaceOf (map (λ e. e.0) group.now) page) }
+    ensures gap { IfErr result (IsGapFor (map (λ e. e.0) group.now) page) }
+{
+    let (low, high) = part(group, page);
+    match search(&group[low..high], page) {
+        Ok(at) => Ok(low + at),
+        Err(at) => Err(low + at),
+    }
+}
+
+/// The place of a page in its group.
+fn place_in(group: &[(u32, u32)], page: u32) -> Option<u32>
+    requires { is_sorted nat_cmp group.now ≡ true }
+    ensures { result ≡ place_of group.now page }
+{
+    match seek(group, page) {
+        Ok(at) => Some(group[at].1),
+        Err(_) => None,
+    }
+}
+
+/// Puts a page into its group, where it has no place: the place that it had. An error is want of memory: nothing has
+/// changed.
+fn put_in(group: &mut Vec<(u32, u32)>, page: u32, place: u32) -> Result<Option<u32>, AllocError>
+    requires { is_sorted nat_cmp group.old.items ≡ true }
+    ensures had { IfOk result (λ had. had ≡ place_of group.old.items page) }
+    ensures ok { OnOk result (group.new.items ≡ with_place group.old.items page place) }
+    ensures err { OnErr result (group.new.items ≡ group.old.items) }
+{
+    match seek(group, page) {
+        Ok(at) => Ok(Some(group[at].1)),
+        Err(at) => {
+            group.insert(at, (page, place))?;
+            Ok(None)
+        }
+    }
+}
+
+/// Takes a page out of its group.
+fn take_from(group: &mut Vec<(u32, u32)>, page: u32)
+    requires { is_sorted nat_cmp group.old.items ≡ true }
+    ensures { group.new.items ≡ remove_entry (is_at (nat_cmp page)) group.old.items }
+{
+    if let Ok(at) = seek(group, page) {
+        let _ = group.remove(at);
+    }
+}
+
+/// The pages of a group from one on.
+fn rest_from(group: &[(u32, u32)], page: u32) -> &[(u32, u32)]
+    requires { is_sorted nat_cmp group.now ≡ true }
+    ensures { result.now ≡ places_from page group.now }
+{
+    match seek(group, page) {
+        Ok(at) => &group[at..],
+        Err(at) => &group[at..],
+    }
+}
+
+impl Places {
+    /// No places. It takes no memory.
+    pub fn new(alloc: Global) -> Places
+        ensures { result ≡ [] }
+    {
+        Places {
+            groups: BTreeMap::new(alloc),
+        }
+    }
+
+    /// The place of a page.
+    pub fn get(&self, page: u32) -> Option<u32>
+        ensures { result ≡ place_of self.now page }
+    {
+        let group = self.groups.get(&(page / GROUP))?;
+        place_in(group, page)
+    }
+
+    /// Puts a page, where it has no place: the place that it had. An error is want of memory: nothing has changed.
+    pub fn put(&mut self, alloc: Global, page: u32, place: u32) -> Result<Option<u32>, AllocError>
+        ensures had { IfOk result (λ had. had ≡ place_of self.old page) }
+        ensures ok { OnOk result (self.new ≡ with_place self.old page place) }
+        ensures err { OnErr result (self.new ≡ self.old) }
+        ensures sorted { is_sorted nat_cmp self.old ≡ true }
+    {
+        let own = page / GROUP;
+        if let Some(group) = self.groups.get_mut(&own) {
+            return put_in(group, page, place);
+        }
+        let mut group = Vec::new(alloc);
+        group.push((page, place))?;
+        let _ = self.groups.insert(own, group)?;
+        Ok(None)
+    }
+
+    /// Takes a page out, where it has a place. It takes no memory.
+    pub fn remove(&mut self, page: u32)
+        ensures { self.new ≡ remove_entry (is_at (nat_cmp page)) self.old }
+    {
+        let own = page / GROUP;
+        let Some(group) = self.groups.get_mut(&own) else {
+            return;
+        };
+        take_from(group, page);
+        if group.as_slice().is_empty() {
+            self.groups.remove(&own);
+        }
+    }
+
+    /// The last page, and its place.
+    pub fn last(&self) -> Option<(u32, u32)>
+        ensures none { IfNone result (self.now ≡ []) }
+        ensures some { IfSome result (IsLastPlace self.now) }
+    {
+        let (_own, group) = self.groups.last_key_value()?;
+        let last = group.last()?;
+        Some(*last)
+    }
+
+    /// The pages from one on, and their places.
+    pub fn from(&self, page: u32) -> PlacesFrom<'_>
+        ensures { result ≡ places_from page self.now }
+    {
+        let own = page / GROUP;
+        let mut groups = self.groups.range(own..);
+        let Some((group, places)) = groups.next() else {
+            return PlacesFrom { rest: &[], groups };
+        };
+        let rest = if *group == own {
+            rest_from(places, page)
+        } else {
+            places.as_slice()
+        };
+        PlacesFrom { rest, groups }
+    }
+}
+
+/// Pages and their places, in order: those of a group, and those of the groups behind it.
+#[derive(Drop)]
+pub struct PlacesFrom<'a> {
+    rest: &'a [(u32, u32)],
+    groups: Range<'a, u32, Vec<(u32, u32)>>,
+}
+
+impl<'a> Model for PlacesFrom<'a> {
+    ghost use Rattle.std.specs.Prelude.{List, ℕ, ◌++◌};
+    ghost use Rattle.rec_file.specs.Inner.Places.{bare, listed, HavePages};
+
+    ghost Value = { List (ℕ × ℕ) };
+
+    ghost view = { λ a. a.rest.now ++ listed (bare a.groups) };
+
+    ghost invariant = { λ a. HavePages (bare a.groups) };
+}
+
+impl<'a> PlacesFrom<'a> {
+    /// Takes the first page that is left, and its place.
+    pub fn pop_first(&mut self) -> Option<(u32, u32)>
+        ensures none { IfNone result (self.old ≡ []) }
+        ensures some { IfSome result (λ first. self.old ≡ first ∷ self.new) }
+    {
+        if self.rest.is_empty() {
+            let (_own, group) = self.groups.next()?;
+            self.rest = group.as_slice();
+        }
+        let rest = self.rest;
+        if rest.is_empty() {
+            return None;
+        }
+        self.rest = &rest[1..];
+        Some(rest[0])
+    }
+}
