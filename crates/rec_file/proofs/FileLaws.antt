@@ -163,3 +163,10 @@ body_fits f n body h is =
 pub copied_fits : (f : FileVal) (n : ℕ) (o : Option (Bor (List ℕ))) → IsFile f → option_copied o ≡ get f.records n → IfSome o (λ body. length body.now ≤ longest_record)
 copied_fits f n None h is = tt
 copied_fits f n (Some body) h is = body_fits f n body.now h is
+
+pub record_fits : (f : FileVal) (n : ℕ) → IsFile f → IfSome (get f.records n) (λ body. length body ≤ longest_record)
+record_fits f n h = by (get f.records n) refl
+  where
+    by : (o : Option (List ℕ)) → get f.records n ≡ o → IfSome o (λ body. length body ≤ longest_record)
+    by None e = tt
+    by (Some body) e = body_fits f n body h (sym e)

@@ -138,6 +138,13 @@ pub none_kept : {X : Type 0} (ps : List X) → (0 < length ps → ⊥) → ps �
 none_kept [] h = refl
 none_kept (p ∷ ps) h = absurd (h (omega arith))
 
+-- the lowest number from one on, and the page where it stands
+pub record IsSpot (f : FileVal) (n m : ℕ) (cells : Cells) : Type 0 where
+  pub above : 1 ≤ m
+  pub lowest : lowest_from f.records n ≡ Some m
+  pub same : cell cells (cell_of m) ≡ get f.records m
+  pub within : m ≤ greatest_number
+
 module _ (s : Shape) (ps : List (ℕ × Cells)) (f : FileVal) (h : HoldsFile s ps f) where
   r : IsRising ps
   r = rising_pages ps h.sorted
@@ -170,20 +177,23 @@ module _ (s : Shape) (ps : List (ℕ × Cells)) (f : FileVal) (h : HoldsFile s p
 
     -- the lowest number from n on is the first in the page behind those that are passed
     pub lowest_in_page : (p : ℕ) (cells : Cells) (from m : ℕ) → at ps p ≡ Some cells → page_of q ≤ p → ((j : ℕ) → q ≤ j → page_of j ≡ p → from ≤ cell_of j) → (page_of q ≡ p → cell_of q ≤ from)
-        → IsPassed p → IsFile f → 1 ≤ m → page_of m ≡ p → IsFirstIn cells from (cell_of m) → (Some m ≡ lowest_from f.records n) × (m ≤ greatest_number)
+        → IsPassed p → IsFile f → 1 ≤ m → page_of m ≡ p → IsFirstIn cells from (cell_of m) → IsSpot f n m cells
     lowest_in_page p cells from m is high cells_from own passed file pos same first =
         let occupied : IsSome (get f.records m) = subst IsSome (here m cells pos (ap (at ps) same ∙ is)) first.occupied in
         let start = first.from_on in
-        let ahead : q ≤ m = elim (same_or_not (page_of q) p) [ inl here_too ↦ let le = own here_too in omega arith | inr other ↦ omega arith ] in (
-          sym (lowest_from_some f.records n m (omega arith) occupied (λ j ge lt. elim (cases_lt j 1) [
+        let ahead : q ≤ m = elim (same_or_not (page_of q) p) [ inl here_too ↦ let le = own here_too in omega arith | inr other ↦ omega arith ] in
+        record {
+          above = pos;
+          lowest = lowest_from_some f.records n m (omega arith) occupied (λ j ge lt. elim (cases_lt j 1) [
             | inl low ↦ ap (get f.records) (let e : j ≡ 0 = omega arith in e) ∙ sym zero_is_none
             | inr pos_j ↦ elim (same_or_not (page_of j) p) [
               | inl here_too ↦ sym (here j cells pos_j (ap (at ps) here_too ∙ is)) ∙ first.none_before (cell_of j) (cells_from j (omega arith) here_too) (omega arith)
               | inr other ↦ passed j (omega arith) (omega arith)
             ]
-          ])),
-          number_fits f m file occupied,
-        )
+          ]);
+          same = here m cells pos (ap (at ps) same ∙ is);
+          within = number_fits f m file occupied;
+        }
 
     pub no_lowest : ((j : ℕ) → q ≤ j → get f.records j ≡ None) → None ≡ lowest_from f.records n
     no_lowest none = sym (lowest_from_none f.records n (λ j ge. elim (cases_lt j 1) [
@@ -222,7 +232,7 @@ module _ (s : Shape) (ps : List (ℕ × Cells)) (f : FileVal) (h : HoldsFile s p
       starts from b j le same = elim (same_or_not (page_of q) p) [ inl own ↦ let at_q = b.0 own in omega arith | inr other ↦ let at_0 = b.1 other in omega arith ]
 
       -- the first in it
-      pub found_first : (from m : ℕ) → BeginsAt from → IsFile f → (1 ≤ m) × (page_of m ≡ p) × IsFirstIn cells from (cell_of m) → (Some m ≡ lowest_from f.records n) × (m ≤ greatest_number)
+      pub found_first : (from m : ℕ) → BeginsAt from → IsFile f → (1 ≤ m) × (page_of m ≡ p) × IsFirstIn cells from (cell_of m) → IsSpot f n m cells
       found_first from m b file first =
           lowest_in_page p cells from m there (first-behind (page_of q) ps (p, cells) t is) (starts from b) (λ own. let at_q = b.0 own in omega arith) before file first.0 first.1 first.2
 
@@ -263,12 +273,13 @@ module _ (s : Shape) (ps : List (ℕ × Cells)) (f : FileVal) (h : HoldsFile s p
           pub second_fits : IsFile f → p' ≤ last_page
           second_fits file = page_fits p' cells' there' file
 
-          pub found_second : (m : Option ℕ) → IsFile f → IfNone m ((k : ℕ) → 0 ≤ k → cell cells' k ≡ None)
-              → IfSome m (λ m. (1 ≤ m) × (page_of m ≡ p') × IsFirstIn cells' 0 (cell_of m)) → (m ≡ lowest_from f.records n) × IfSome m (λ m. m ≤ greatest_number)
-          found_second None file empty first =
+          pub second_has : ((k : ℕ) → 0 ≤ k → cell cells' k ≡ None) → ⊥
+          second_has empty =
               let page = page_is ps p' cells' h.all there' in
-              absurd (not_both _ (sym (empty page.occupied.0 (omega arith))) page.occupied.1)
-          found_second (Some m) file empty first =
+              not_both _ (sym (empty page.occupied.0 (omega arith))) page.occupied.1
+
+          pub found_second : (m : ℕ) → IsFile f → (1 ≤ m) × (page_of m ≡ p') × IsFirstIn cells' 0 (cell_of m) → IsSpot f n m cells'
+          found_second m file first =
               let low = first-behind (page_of q) ps (p, cells) t is in
               let above = higher in
               lowest_in_page p' cells' 0 m there' (omega arith) (λ j le same. omega arith) (λ own. absurd (omega arith)) before' file first.0 first.1 first.2

@@ -57,6 +57,13 @@ impl RecordFile for AnyFile {
         }
     }
 
+    fn record_from(&self, number: u32) -> Option<(u32, &[u8])> {
+        match self {
+            AnyFile::Seq(file) => file.record_from(number),
+            AnyFile::Rel(file) => file.record_from(number),
+        }
+    }
+
     fn highest(&self) -> u32 {
         match self {
             AnyFile::Seq(file) => file.highest(),

@@ -1,5 +1,5 @@
 //! What a record file is: a shape and a finite map from numbers to records.
-ghost use Rattle.std.specs.Prelude.{◌≡◌, ◌≤◌, ◌+◌, [], ◌∷◌, length, None, false, IsTrue, IsSome, IfSome, IfNone, OnOk, OnErr};
+ghost use Rattle.std.specs.Prelude.{◌≡◌, ◌≤◌, ◌+◌, [], ◌∷◌, length, Some, None, false, IsTrue, IsSome, IfSome, IfNone, OnOk, OnErr};
 ghost use Rattle.std.specs.Option.{option_copied};
 ghost use Rattle.std.specs.FinMap as map;
 ghost use Rattle.rec_file.specs.Shapes.{limit_of, allows_length, is_seq};
@@ -32,6 +32,22 @@ pub trait RecordFile {
     fn first_from(&self, number: u32) -> Option<u32>
         ensures lowest { result ≡ lowest_from (value self.now).records number }
         ensures within { IfSome result (λ n. n ≤ greatest_number) };
+
+    /// The record of the lowest occupied number from this one on, behind its number, or None where
+    /// there is none.
+    fn record_from(&self, number: u32) -> Option<(u32, &[u8])>
+        ensures none { IfNone result (lowest_from (value self.now).records number ≡ None) }
+        ensures lowest { IfSome result
+            (λ r. lowest_from (value self.now).records number ≡ Some r.0) }
+        ensures same { IfSome result
+            (λ r. map.get (value self.now).records r.0 ≡ Some r.1.now) }
+        ensures within { IfSome result (λ r. r.0 ≤ greatest_number) }
+        ensures short { IfSome result (λ r. length r.1.now ≤ longest_record) }
+    {
+        let first = self.first_from(number)?;
+        let body = self.lookup(first)?;
+        Some((first, body))
+    }
 
     /// The highest occupied number, or 0 where the file is empty.
     fn highest(&self) -> u32
@@ -74,7 +90,6 @@ pub fn first_record<F: RecordFile>(file: &F, number: u32) -> Option<(u32, &[u8])
     ensures within { IfSome result (λ r. r.0 ≤ greatest_number) }
     ensures short { IfSome result (λ r. length r.1.now ≤ longest_record) }
 {
-    let first = file.first_from(number)?;
-    let body = file.lookup(first)?;
+    let (first, body) = file.record_from(number)?;
     Some((first, body))
 }

@@ -1,5 +1,5 @@
 //! Relative files in pages.
-ghost use Rattle.std.specs.Prelude.{◌≡◌, ◌<◌, None, false, length, map as each, IfSome, IsTrue, OnErr, OnOk};
+ghost use Rattle.std.specs.Prelude.{◌≡◌, ◌≤◌, ◌<◌, None, Some, false, length, map as each, IfNone, IfSome, IsTrue, OnErr, OnOk};
 ghost use Rattle.std.specs.List.{AllByRecursion};
 ghost use Rattle.std.specs.BTreeMap.{is_at};
 ghost use Rattle.std.specs.Map.{lookup};
@@ -8,7 +8,9 @@ ghost use Rattle.std.specs.FinMap as map;
 ghost use Rattle.slab.specs.Slab.{get, slab_len};
 ghost use Rattle.rec_file.specs.Shapes.{is_shape, is_seq};
 ghost use Rattle.rec_file.specs.Pages.{occupied_pages};
-ghost use Rattle.rec_file.specs.Inner.Pages.{cell as cell_in, pages_at, put_entry, HaveOwnPlaces, IsPage};
+ghost use Rattle.rec_file.specs.Files.{lowest_from};
+ghost use Rattle.rec_file.specs.Limits.{greatest_number, longest_record};
+ghost use Rattle.rec_file.specs.Inner.Pages.{cell as cell_in, cell_of as cell_at, pages_at, put_entry, HaveOwnPlaces, IsPage};
 
 use crate::files::RecordFile;
 use crate::pages::{Page, cell_of, first_in, last_in, page_of};
@@ -75,6 +77,34 @@ impl RelFile {
     {
         self.pages.len()
     }
+
+    // The lowest occupied number from this one on, and its page.
+    fn spot_from(&self, number: u32) -> Option<(u32, &Page)>
+        ensures none { IfNone result (lowest_from self.now.records number ≡ None) }
+        ensures lowest { IfSome result (λ s. lowest_from self.now.records number ≡ Some s.0) }
+        ensures same { IfSome result
+            (λ s. cell_in s.1.now (cell_at s.0) ≡ map.get self.now.records s.0) }
+        ensures above { IfSome result (λ s. 1 ≤ s.0) }
+        ensures within { IfSome result (λ s. s.0 ≤ greatest_number) }
+        ensures short { IfSome result (λ s. IfSome (map.get self.now.records s.0)
+            (λ body. length body ≤ longest_record)) }
+    {
+        let least = number.max(1);
+        let own = page_of(least);
+        let mut rest = self.places.from(own);
+        let (at, place) = rest.pop_first()?;
+        let page = self.pages.get(place as usize)?;
+        let from = if at == own { cell_of(least) } else { 0 };
+        match first_in(at, page, from) {
+            Some(first) => Some((first, page)),
+            None => {
+                let (at, place) = rest.pop_first()?;
+                let page = self.pages.get(place as usize)?;
+                let first = first_in(at, page, 0)?;
+                Some((first, page))
+            }
+        }
+    }
 }
 
 /// Stores a record in an empty cell of a page that is kept, or else of a new one. An error is want of memory:
@@ -134,20 +164,14 @@ impl RecordFile for RelFile {
     }
 
     fn first_from(&self, number: u32) -> Option<u32> {
-        let least = number.max(1);
-        let own = page_of(least);
-        let mut rest = self.places.from(own);
-        let (at, place) = rest.pop_first()?;
-        let page = self.pages.get(place as usize)?;
-        let from = if at == own { cell_of(least) } else { 0 };
-        match first_in(at, page, from) {
-            Some(first) => Some(first),
-            None => {
-                let (at, place) = rest.pop_first()?;
-                let page = self.pages.get(place as usize)?;
-                first_in(at, page, 0)
-            }
-        }
+        let (first, _page) = self.spot_from(number)?;
+        Some(first)
+    }
+
+    fn record_from(&self, number: u32) -> Option<(u32, &[u8])> {
+        let (first, page) = self.spot_from(number)?;
+        let body = page.get(cell_of(first))?;
+        Some((first, body))
     }
 
     fn highest(&self) -> u32 {

@@ -1,0 +1,136 @@
+use Rattle.std.proofs.Common.{sym, subst, ◌∙◌}
+use Rattle.slab.specs.Slab.{get}
+use Rattle.rec_file.specs.Files.{IsFile}
+use Rattle.rec_file.specs.Pages.{page_of}
+use Rattle.rec_file.specs.Inner.Pages.{pages_at}
+use Rattle.rec_file.proofs.RelativeLaws.{held, no_page, first_fits, found_first, no_second, second_fits, second_has, found_second}
+use Rattle.rec_file.proofs.FileLaws.{record_fits}
+use Rattle.rec_file.proofs.PlacesLaws.{from-behind}
+use Rattle.rec_file.proofs.PlacedLaws.{rest-none, rest-is, rest-stands, next-none, next-is, next-stands}
+use Rattle.rec_file.proofs.relative.RelFile.spot_from.Goals as goal
+use Rattle.rec_file.proofs.relative.RelFile.spot_from.Goals.{then-at-own, else-at-own}
+
+pub returns-in_err-at-clause-none : goal.returns-in_err-at-clause-none
+returns-in_err-at-clause-none c =
+    rw c.from_residual.ensures (sym (no_page _ _ c.args.self.now (held c.self.inside.shape (pages_at (get c.self.inside.pages) c.self.inside.places) c.args.self.now c.self.view_is c.self.invariant.2 c.self.invariant.3) c.args.number c.max-least.result c.max-least.ensures (rest-none (get c.self.inside.pages) c.self.inside.places (page_of c.max-least.result) (from-behind (page_of c.max-least.result) c.self.inside.places ∙ sym (rw c.page_of-own.ensures at c.from-rest.ensures) ∙ c.in_err-at.ensures.none))))
+
+pub returns-in_err-page-clause-none : goal.returns-in_err-page-clause-none
+returns-in_err-page-clause-none c =
+    absurd (rest-stands (get c.self.inside.pages) c.self.inside.places (page_of c.max-least.result) (c.in_ok-at.at, c.in_ok-at.place) _ (from-behind (page_of c.max-least.result) c.self.inside.places ∙ sym (rw c.page_of-own.ensures at c.from-rest.ensures) ∙ c.in_ok-at.ensures.some) c.self.invariant.3 (sym c.in_err-page.ensures))
+
+pub first_in-requires-clause-page : goal.first_in-requires-clause-page
+first_in-requires-clause-page c =
+    first_fits _ _ c.args.self.now (held c.self.inside.shape (pages_at (get c.self.inside.pages) c.self.inside.places) c.args.self.now c.self.view_is c.self.invariant.2 c.self.invariant.3) c.args.number c.max-least.result c.max-least.ensures c.in_ok-at.at c.in_ok-page.page.now _ (rest-is (get c.self.inside.pages) c.self.inside.places (page_of c.max-least.result) (c.in_ok-at.at, c.in_ok-at.place) _ (from-behind (page_of c.max-least.result) c.self.inside.places ∙ sym (rw c.page_of-own.ensures at c.from-rest.ensures) ∙ c.in_ok-at.ensures.some) _ (sym c.in_ok-page.ensures)) (subst IsFile c.self.view_is c.self.invariant.0)
+
+pub returns-in-Some-clause-lowest : goal.returns-in-Some-clause-lowest
+returns-in-Some-clause-lowest c =
+    (found_first _ _ c.args.self.now (held c.self.inside.shape (pages_at (get c.self.inside.pages) c.self.inside.places) c.args.self.now c.self.view_is c.self.invariant.2 c.self.invariant.3) c.args.number c.max-least.result c.max-least.ensures c.in_ok-at.at c.in_ok-page.page.now _ (rest-is (get c.self.inside.pages) c.self.inside.places (page_of c.max-least.result) (c.in_ok-at.at, c.in_ok-at.place) _ (from-behind (page_of c.max-least.result) c.self.inside.places ∙ sym (rw c.page_of-own.ensures at c.from-rest.ensures) ∙ c.in_ok-at.ensures.some) _ (sym c.in_ok-page.ensures)) c.if-at-own.from c.in-Some.first
+    (elim c.if-at-own.branch [
+      | then-at-own w ↦ (λ own. w.from-is ∙ w.cell_of-from.ensures.same, λ other. absurd (other (sym (w.if-at-own.true ∙ c.page_of-own.ensures))))
+      | else-at-own w ↦ (λ own. absurd (w.if-at-own.false (sym (c.page_of-own.ensures ∙ own))), λ other. w.from-is)
+    ])
+    (subst IsFile c.self.view_is c.self.invariant.0) c.in-Some.ensures.some).lowest
+
+pub returns-in-Some-clause-same : goal.returns-in-Some-clause-same
+returns-in-Some-clause-same c =
+    (found_first _ _ c.args.self.now (held c.self.inside.shape (pages_at (get c.self.inside.pages) c.self.inside.places) c.args.self.now c.self.view_is c.self.invariant.2 c.self.invariant.3) c.args.number c.max-least.result c.max-least.ensures c.in_ok-at.at c.in_ok-page.page.now _ (rest-is (get c.self.inside.pages) c.self.inside.places (page_of c.max-least.result) (c.in_ok-at.at, c.in_ok-at.place) _ (from-behind (page_of c.max-least.result) c.self.inside.places ∙ sym (rw c.page_of-own.ensures at c.from-rest.ensures) ∙ c.in_ok-at.ensures.some) _ (sym c.in_ok-page.ensures)) c.if-at-own.from c.in-Some.first
+    (elim c.if-at-own.branch [
+      | then-at-own w ↦ (λ own. w.from-is ∙ w.cell_of-from.ensures.same, λ other. absurd (other (sym (w.if-at-own.true ∙ c.page_of-own.ensures))))
+      | else-at-own w ↦ (λ own. absurd (w.if-at-own.false (sym (c.page_of-own.ensures ∙ own))), λ other. w.from-is)
+    ])
+    (subst IsFile c.self.view_is c.self.invariant.0) c.in-Some.ensures.some).same
+
+pub returns-in-Some-clause-above : goal.returns-in-Some-clause-above
+returns-in-Some-clause-above c =
+    (found_first _ _ c.args.self.now (held c.self.inside.shape (pages_at (get c.self.inside.pages) c.self.inside.places) c.args.self.now c.self.view_is c.self.invariant.2 c.self.invariant.3) c.args.number c.max-least.result c.max-least.ensures c.in_ok-at.at c.in_ok-page.page.now _ (rest-is (get c.self.inside.pages) c.self.inside.places (page_of c.max-least.result) (c.in_ok-at.at, c.in_ok-at.place) _ (from-behind (page_of c.max-least.result) c.self.inside.places ∙ sym (rw c.page_of-own.ensures at c.from-rest.ensures) ∙ c.in_ok-at.ensures.some) _ (sym c.in_ok-page.ensures)) c.if-at-own.from c.in-Some.first
+    (elim c.if-at-own.branch [
+      | then-at-own w ↦ (λ own. w.from-is ∙ w.cell_of-from.ensures.same, λ other. absurd (other (sym (w.if-at-own.true ∙ c.page_of-own.ensures))))
+      | else-at-own w ↦ (λ own. absurd (w.if-at-own.false (sym (c.page_of-own.ensures ∙ own))), λ other. w.from-is)
+    ])
+    (subst IsFile c.self.view_is c.self.invariant.0) c.in-Some.ensures.some).above
+
+pub returns-in-Some-clause-within : goal.returns-in-Some-clause-within
+returns-in-Some-clause-within c =
+    (found_first _ _ c.args.self.now (held c.self.inside.shape (pages_at (get c.self.inside.pages) c.self.inside.places) c.args.self.now c.self.view_is c.self.invariant.2 c.self.invariant.3) c.args.number c.max-least.result c.max-least.ensures c.in_ok-at.at c.in_ok-page.page.now _ (rest-is (get c.self.inside.pages) c.self.inside.places (page_of c.max-least.result) (c.in_ok-at.at, c.in_ok-at.place) _ (from-behind (page_of c.max-least.result) c.self.inside.places ∙ sym (rw c.page_of-own.ensures at c.from-rest.ensures) ∙ c.in_ok-at.ensures.some) _ (sym c.in_ok-page.ensures)) c.if-at-own.from c.in-Some.first
+    (elim c.if-at-own.branch [
+      | then-at-own w ↦ (λ own. w.from-is ∙ w.cell_of-from.ensures.same, λ other. absurd (other (sym (w.if-at-own.true ∙ c.page_of-own.ensures))))
+      | else-at-own w ↦ (λ own. absurd (w.if-at-own.false (sym (c.page_of-own.ensures ∙ own))), λ other. w.from-is)
+    ])
+    (subst IsFile c.self.view_is c.self.invariant.0) c.in-Some.ensures.some).within
+
+pub returns-in_err-at-in-None-clause-none : goal.returns-in_err-at-in-None-clause-none
+returns-in_err-at-in-None-clause-none c =
+    rw c.from_residual-in_err-at-in-None.ensures (sym (no_second _ _ c.args.self.now (held c.self.inside.shape (pages_at (get c.self.inside.pages) c.self.inside.places) c.args.self.now c.self.view_is c.self.invariant.2 c.self.invariant.3) c.args.number c.max-least.result c.max-least.ensures c.in_ok-at.at c.in_ok-page.page.now _ (rest-is (get c.self.inside.pages) c.self.inside.places (page_of c.max-least.result) (c.in_ok-at.at, c.in_ok-at.place) _ (from-behind (page_of c.max-least.result) c.self.inside.places ∙ sym (rw c.page_of-own.ensures at c.from-rest.ensures) ∙ c.in_ok-at.ensures.some) _ (sym c.in_ok-page.ensures)) c.if-at-own.from
+    (elim c.if-at-own.branch [
+      | then-at-own w ↦ (λ own. w.from-is ∙ w.cell_of-from.ensures.same, λ other. absurd (other (sym (w.if-at-own.true ∙ c.page_of-own.ensures))))
+      | else-at-own w ↦ (λ own. absurd (w.if-at-own.false (sym (c.page_of-own.ensures ∙ own))), λ other. w.from-is)
+    ])
+    c.in-None.ensures.none (next-none (get c.self.inside.pages) c.self.inside.places (page_of c.max-least.result) (c.in_ok-at.at, c.in_ok-at.place) _ (from-behind (page_of c.max-least.result) c.self.inside.places ∙ sym (rw c.page_of-own.ensures at c.from-rest.ensures) ∙ c.in_ok-at.ensures.some) c.in_err-at-in-None.ensures.none)))
+
+pub returns-in_err-page-in-None-clause-none : goal.returns-in_err-page-in-None-clause-none
+returns-in_err-page-in-None-clause-none c =
+    absurd (next-stands (get c.self.inside.pages) c.self.inside.places (page_of c.max-least.result) (c.in_ok-at.at, c.in_ok-at.place) _ (from-behind (page_of c.max-least.result) c.self.inside.places ∙ sym (rw c.page_of-own.ensures at c.from-rest.ensures) ∙ c.in_ok-at.ensures.some) (c.in_ok-at-in-None.at, c.in_ok-at-in-None.place) _ c.in_ok-at-in-None.ensures.some c.self.invariant.3 (sym c.in_err-page-in-None.ensures))
+
+pub first_in-requires-in-None-clause-page : goal.first_in-requires-in-None-clause-page
+first_in-requires-in-None-clause-page c =
+    second_fits _ _ c.args.self.now (held c.self.inside.shape (pages_at (get c.self.inside.pages) c.self.inside.places) c.args.self.now c.self.view_is c.self.invariant.2 c.self.invariant.3) c.args.number c.max-least.result c.max-least.ensures c.in_ok-at.at c.in_ok-page.page.now _ (rest-is (get c.self.inside.pages) c.self.inside.places (page_of c.max-least.result) (c.in_ok-at.at, c.in_ok-at.place) _ (from-behind (page_of c.max-least.result) c.self.inside.places ∙ sym (rw c.page_of-own.ensures at c.from-rest.ensures) ∙ c.in_ok-at.ensures.some) _ (sym c.in_ok-page.ensures)) c.if-at-own.from
+    (elim c.if-at-own.branch [
+      | then-at-own w ↦ (λ own. w.from-is ∙ w.cell_of-from.ensures.same, λ other. absurd (other (sym (w.if-at-own.true ∙ c.page_of-own.ensures))))
+      | else-at-own w ↦ (λ own. absurd (w.if-at-own.false (sym (c.page_of-own.ensures ∙ own))), λ other. w.from-is)
+    ])
+    c.in-None.ensures.none c.in_ok-at-in-None.at c.in_ok-page-in-None.page.now _ (next-is (get c.self.inside.pages) c.self.inside.places (page_of c.max-least.result) (c.in_ok-at.at, c.in_ok-at.place) _ (from-behind (page_of c.max-least.result) c.self.inside.places ∙ sym (rw c.page_of-own.ensures at c.from-rest.ensures) ∙ c.in_ok-at.ensures.some) (c.in_ok-at-in-None.at, c.in_ok-at-in-None.place) _ c.in_ok-at-in-None.ensures.some _ (sym c.in_ok-page-in-None.ensures)) (subst IsFile c.self.view_is c.self.invariant.0)
+
+pub returns-in_err-first-in-None-clause-none : goal.returns-in_err-first-in-None-clause-none
+returns-in_err-first-in-None-clause-none c =
+    absurd (second_has _ _ c.args.self.now (held c.self.inside.shape (pages_at (get c.self.inside.pages) c.self.inside.places) c.args.self.now c.self.view_is c.self.invariant.2 c.self.invariant.3) c.args.number c.max-least.result c.max-least.ensures c.in_ok-at.at c.in_ok-page.page.now _ (rest-is (get c.self.inside.pages) c.self.inside.places (page_of c.max-least.result) (c.in_ok-at.at, c.in_ok-at.place) _ (from-behind (page_of c.max-least.result) c.self.inside.places ∙ sym (rw c.page_of-own.ensures at c.from-rest.ensures) ∙ c.in_ok-at.ensures.some) _ (sym c.in_ok-page.ensures)) c.if-at-own.from
+    (elim c.if-at-own.branch [
+      | then-at-own w ↦ (λ own. w.from-is ∙ w.cell_of-from.ensures.same, λ other. absurd (other (sym (w.if-at-own.true ∙ c.page_of-own.ensures))))
+      | else-at-own w ↦ (λ own. absurd (w.if-at-own.false (sym (c.page_of-own.ensures ∙ own))), λ other. w.from-is)
+    ])
+    c.in-None.ensures.none c.in_ok-at-in-None.at c.in_ok-page-in-None.page.now _ (next-is (get c.self.inside.pages) c.self.inside.places (page_of c.max-least.result) (c.in_ok-at.at, c.in_ok-at.place) _ (from-behind (page_of c.max-least.result) c.self.inside.places ∙ sym (rw c.page_of-own.ensures at c.from-rest.ensures) ∙ c.in_ok-at.ensures.some) (c.in_ok-at-in-None.at, c.in_ok-at-in-None.place) _ c.in_ok-at-in-None.ensures.some _ (sym c.in_ok-page-in-None.ensures)) c.in_err-first-in-None.ensures.none)
+
+pub returns-in_ok-first-in-None-clause-lowest : goal.returns-in_ok-first-in-None-clause-lowest
+returns-in_ok-first-in-None-clause-lowest c =
+    (found_second _ _ c.args.self.now (held c.self.inside.shape (pages_at (get c.self.inside.pages) c.self.inside.places) c.args.self.now c.self.view_is c.self.invariant.2 c.self.invariant.3) c.args.number c.max-least.result c.max-least.ensures c.in_ok-at.at c.in_ok-page.page.now _ (rest-is (get c.self.inside.pages) c.self.inside.places (page_of c.max-least.result) (c.in_ok-at.at, c.in_ok-at.place) _ (from-behind (page_of c.max-least.result) c.self.inside.places ∙ sym (rw c.page_of-own.ensures at c.from-rest.ensures) ∙ c.in_ok-at.ensures.some) _ (sym c.in_ok-page.ensures)) c.if-at-own.from
+    (elim c.if-at-own.branch [
+      | then-at-own w ↦ (λ own. w.from-is ∙ w.cell_of-from.ensures.same, λ other. absurd (other (sym (w.if-at-own.true ∙ c.page_of-own.ensures))))
+      | else-at-own w ↦ (λ own. absurd (w.if-at-own.false (sym (c.page_of-own.ensures ∙ own))), λ other. w.from-is)
+    ])
+    c.in-None.ensures.none c.in_ok-at-in-None.at c.in_ok-page-in-None.page.now _ (next-is (get c.self.inside.pages) c.self.inside.places (page_of c.max-least.result) (c.in_ok-at.at, c.in_ok-at.place) _ (from-behind (page_of c.max-least.result) c.self.inside.places ∙ sym (rw c.page_of-own.ensures at c.from-rest.ensures) ∙ c.in_ok-at.ensures.some) (c.in_ok-at-in-None.at, c.in_ok-at-in-None.place) _ c.in_ok-at-in-None.ensures.some _ (sym c.in_ok-page-in-None.ensures))
+    c.in_ok-first-in-None.first (subst IsFile c.self.view_is c.self.invariant.0) c.in_ok-first-in-None.ensures.some).lowest
+
+pub returns-in_ok-first-in-None-clause-same : goal.returns-in_ok-first-in-None-clause-same
+returns-in_ok-first-in-None-clause-same c =
+    (found_second _ _ c.args.self.now (held c.self.inside.shape (pages_at (get c.self.inside.pages) c.self.inside.places) c.args.self.now c.self.view_is c.self.invariant.2 c.self.invariant.3) c.args.number c.max-least.result c.max-least.ensures c.in_ok-at.at c.in_ok-page.page.now _ (rest-is (get c.self.inside.pages) c.self.inside.places (page_of c.max-least.result) (c.in_ok-at.at, c.in_ok-at.place) _ (from-behind (page_of c.max-least.result) c.self.inside.places ∙ sym (rw c.page_of-own.ensures at c.from-rest.ensures) ∙ c.in_ok-at.ensures.some) _ (sym c.in_ok-page.ensures)) c.if-at-own.from
+    (elim c.if-at-own.branch [
+      | then-at-own w ↦ (λ own. w.from-is ∙ w.cell_of-from.ensures.same, λ other. absurd (other (sym (w.if-at-own.true ∙ c.page_of-own.ensures))))
+      | else-at-own w ↦ (λ own. absurd (w.if-at-own.false (sym (c.page_of-own.ensures ∙ own))), λ other. w.from-is)
+    ])
+    c.in-None.ensures.none c.in_ok-at-in-None.at c.in_ok-page-in-None.page.now _ (next-is (get c.self.inside.pages) c.self.inside.places (page_of c.max-least.result) (c.in_ok-at.at, c.in_ok-at.place) _ (from-behind (page_of c.max-least.result) c.self.inside.places ∙ sym (rw c.page_of-own.ensures at c.from-rest.ensures) ∙ c.in_ok-at.ensures.some) (c.in_ok-at-in-None.at, c.in_ok-at-in-None.place) _ c.in_ok-at-in-None.ensures.some _ (sym c.in_ok-page-in-None.ensures))
+    c.in_ok-first-in-None.first (subst IsFile c.self.view_is c.self.invariant.0) c.in_ok-first-in-None.ensures.some).same
+
+pub returns-in_ok-first-in-None-clause-above : goal.returns-in_ok-first-in-None-clause-above
+returns-in_ok-first-in-None-clause-above c =
+    (found_second _ _ c.args.self.now (held c.self.inside.shape (pages_at (get c.self.inside.pages) c.self.inside.places) c.args.self.now c.self.view_is c.self.invariant.2 c.self.invariant.3) c.args.number c.max-least.result c.max-least.ensures c.in_ok-at.at c.in_ok-page.page.now _ (rest-is (get c.self.inside.pages) c.self.inside.places (page_of c.max-least.result) (c.in_ok-at.at, c.in_ok-at.place) _ (from-behind (page_of c.max-least.result) c.self.inside.places ∙ sym (rw c.page_of-own.ensures at c.from-rest.ensures) ∙ c.in_ok-at.ensures.some) _ (sym c.in_ok-page.ensures)) c.if-at-own.from
+    (elim c.if-at-own.branch [
+      | then-at-own w ↦ (λ own. w.from-is ∙ w.cell_of-from.ensures.same, λ other. absurd (other (sym (w.if-at-own.true ∙ c.page_of-own.ensures))))
+      | else-at-own w ↦ (λ own. absurd (w.if-at-own.false (sym (c.page_of-own.ensures ∙ own))), λ other. w.from-is)
+    ])
+    c.in-None.ensures.none c.in_ok-at-in-None.at c.in_ok-page-in-None.page.now _ (next-is (get c.self.inside.pages) c.self.inside.places (page_of c.max-least.result) (c.in_ok-at.at, c.in_ok-at.place) _ (from-behind (page_of c.max-least.result) c.self.inside.places ∙ sym (rw c.page_of-own.ensures at c.from-rest.ensures) ∙ c.in_ok-at.ensures.some) (c.in_ok-at-in-None.at, c.in_ok-at-in-None.place) _ c.in_ok-at-in-None.ensures.some _ (sym c.in_ok-page-in-None.ensures))
+    c.in_ok-first-in-None.first (subst IsFile c.self.view_is c.self.invariant.0) c.in_ok-first-in-None.ensures.some).above
+
+pub returns-in_ok-first-in-None-clause-within : goal.returns-in_ok-first-in-None-clause-within
+returns-in_ok-first-in-None-clause-within c =
+    (found_second _ _ c.args.self.now (held c.self.inside.shape (pages_at (get c.self.inside.pages) c.self.inside.places) c.args.self.now c.self.view_is c.self.invariant.2 c.self.invariant.3) c.args.number c.max-least.result c.max-least.ensures c.in_ok-at.at c.in_ok-page.page.now _ (rest-is (get c.self.inside.pages) c.self.inside.places (page_of c.max-least.result) (c.in_ok-at.at, c.in_ok-at.place) _ (from-behind (page_of c.max-least.result) c.self.inside.places ∙ sym (rw c.page_of-own.ensures at c.from-rest.ensures) ∙ c.in_ok-at.ensures.some) _ (sym c.in_ok-page.ensures)) c.if-at-own.from
+    (elim c.if-at-own.branch [
+      | then-at-own w ↦ (λ own. w.from-is ∙ w.cell_of-from.ensures.same, λ other. absurd (other (sym (w.if-at-own.true ∙ c.page_of-own.ensures))))
+      | else-at-own w ↦ (λ own. absurd (w.if-at-own.false (sym (c.page_of-own.ensures ∙ own))), λ other. w.from-is)
+    ])
+    c.in-None.ensures.none c.in_ok-at-in-None.at c.in_ok-page-in-None.page.now _ (next-is (get c.self.inside.pages) c.self.inside.places (page_of c.max-least.result) (c.in_ok-at.at, c.in_ok-at.place) _ (from-behind (page_of c.max-least.result) c.self.inside.places ∙ sym (rw c.page_of-own.ensures at c.from-rest.ensures) ∙ c.in_ok-at.ensures.some) (c.in_ok-at-in-None.at, c.in_ok-at-in-None.place) _ c.in_ok-at-in-None.ensures.some _ (sym c.in_ok-page-in-None.ensures))
+    c.in_ok-first-in-None.first (subst IsFile c.self.view_is c.self.invariant.0) c.in_ok-first-in-None.ensures.some).within
+
+pub returns-in-Some-clause-short : goal.returns-in-Some-clause-short
+returns-in-Some-clause-short c = record_fits c.args.self.now c.in-Some.first (subst IsFile c.self.view_is c.self.invariant.0)
+
+pub returns-in_ok-first-in-None-clause-short : goal.returns-in_ok-first-in-None-clause-short
+returns-in_ok-first-in-None-clause-short c = record_fits c.args.self.now c.in_ok-first-in-None.first (subst IsFile c.self.view_is c.self.invariant.0)
