@@ -7,23 +7,23 @@ use Rattle.dap_msg.specs.Message.{Message}
 use Rattle.dap_msg.specs.Items.{Item}
 use Rattle.dap_accessed.specs.Standing.{Standing, start}
 use Rattle.dap_accessed.specs.Exchange.{Begun, Turn, Does, Begins}
-use Rattle.dap_accessed.specs.Groups.{Cut, turn_at, over, after_two, cut, stands_after, added, answers_in, Answers}
+use Rattle.dap_accessed.specs.Groups.{Grouped, turn_at, over, after_two, grouped, stands_after, added, answers_in, Answers}
 use Rattle.dap_accessed.specs.Present.{present_of}
 use Rattle.dap_accessed.proofs.OneMore.{one_more, next_group, more_after, next_answers, answers_after, answers_of}
 
-pub cut-more : (own : ℕ) (s : Standing) (items : List Item) (item : Item) → cut own s (items ++ item ∷ []) ≡ one_more own (cut own s items) item
+pub cut-more : (own : ℕ) (s : Standing) (items : List Item) (item : Item) → grouped own s (items ++ item ∷ []) ≡ one_more own (grouped own s items) item
 cut-more own s [] item = refl
 cut-more own s (first ∷ []) item =
     elim (turn_at own s first) as (λ (t : Turn).
-    ◌≡◌ {A = Cut} (elim t [ Does effect ↦ cut own (over s s.place first effect) (item ∷ []) | Begins begun ↦ cut own (after_two own s begun item) [] ])
+    ◌≡◌ {A = Grouped} (elim t [ Does effect ↦ grouped own (over s s.place first effect) (item ∷ []) | Begins begun ↦ grouped own (after_two own s begun item) [] ])
     (one_more own (elim t [ Does effect ↦ record { standing = over s s.place first effect; begun = None } | Begins begun ↦ record { standing = s; begun = Some begun } ]) item)) [
       | Does effect ↦ refl
       | Begins begun ↦ refl
     ]
 cut-more own s (first ∷ second ∷ items) item =
     elim (turn_at own s first) as (λ (t : Turn).
-    ◌≡◌ {A = Cut} (elim t [ Does effect ↦ cut own (over s s.place first effect) (second ∷ (items ++ item ∷ [])) | Begins begun ↦ cut own (after_two own s begun second) (items ++ item ∷ []) ])
-    (one_more own (elim t [ Does effect ↦ cut own (over s s.place first effect) (second ∷ items) | Begins begun ↦ cut own (after_two own s begun second) items ]) item)) [
+    ◌≡◌ {A = Grouped} (elim t [ Does effect ↦ grouped own (over s s.place first effect) (second ∷ (items ++ item ∷ [])) | Begins begun ↦ grouped own (after_two own s begun second) (items ++ item ∷ []) ])
+    (one_more own (elim t [ Does effect ↦ grouped own (over s s.place first effect) (second ∷ items) | Begins begun ↦ grouped own (after_two own s begun second) items ]) item)) [
       | Does effect ↦ cut-more own (over s s.place first effect) (second ∷ items) item
       | Begins begun ↦ cut-more own (after_two own s begun second) items item
     ]
@@ -39,7 +39,7 @@ answers_after-more own s (Some begun) item = refl
 Answers-then : (own : ℕ) (items : List Item) (item : Item) → Answers own (items ++ item ∷ []) ≡ Answers own items ++ answers_of own (stands_after own items) item
 Answers-then own items item =
     let c = stands_after own items in
-    ap (λ (c : Cut). answers_in c.standing.past) (cut-more own start items item) ∙ answers_after-more own c.standing c.begun item
+    ap (λ (c : Grouped). answers_in c.standing.past) (cut-more own start items item) ∙ answers_after-more own c.standing c.begun item
 
 -- what an item adds is what the end answers from where it stands
 pub added-is : (own : ℕ) (items : List Item) (item : Item) → added own items item ≡ answers_of own (stands_after own items) item

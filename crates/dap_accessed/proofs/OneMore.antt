@@ -4,19 +4,19 @@ use Rattle.dap_msg.specs.Message.{Message}
 use Rattle.dap_msg.specs.Items.{Item}
 use Rattle.dap_accessed.specs.Standing.{Standing}
 use Rattle.dap_accessed.specs.Exchange.{Begun, Turn, Does, Begins, effect_with}
-use Rattle.dap_accessed.specs.Groups.{Cut, scene_of, turn_at, over, after_two}
+use Rattle.dap_accessed.specs.Groups.{Grouped, scene_of, turn_at, over, after_two}
 
 -- ---- Where an end stands then.
 
-abbrev pub next_group : Standing → Item → Turn → Cut
+abbrev pub next_group : Standing → Item → Turn → Grouped
 next_group s item (Does effect) = record { standing = over s s.place item effect; begun = None }
 next_group s item (Begins begun) = record { standing = s; begun = Some begun }
 
-abbrev pub more_after : ℕ → Standing → Option Begun → Item → Cut
+abbrev pub more_after : ℕ → Standing → Option Begun → Item → Grouped
 more_after own s None item = next_group s item (turn_at own s item)
 more_after own s (Some begun) item = record { standing = after_two own s begun item; begun = None }
 
-abbrev pub one_more : ℕ → Cut → Item → Cut
+abbrev pub one_more : ℕ → Grouped → Item → Grouped
 one_more own c item = more_after own c.standing c.begun item
 
 -- ---- Its answers.
@@ -31,5 +31,5 @@ answers_after own s (Some begun) item =
     (effect_with begun.change (scene_of own s) begun.opened begun.stream item).answers
 
 -- what `added` is, computed of where the end stands
-abbrev pub answers_of : ℕ → Cut → Item → List Message
+abbrev pub answers_of : ℕ → Grouped → Item → List Message
 answers_of own c item = answers_after own c.standing c.begun item

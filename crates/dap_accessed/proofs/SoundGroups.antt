@@ -32,7 +32,7 @@ use Rattle.dap_msg.specs.Codes as codes
 use Rattle.dap_msg.specs.Exchange.{config_of}
 use Rattle.dap_accessed.specs.Replies.{bare_status}
 use Rattle.dap_accessed.specs.Standing.{Files, place_of, with_file, without_file, the_file, Place, Fresh, Ready, Opened, Connected, Store, Stopped, Group, Standing, Scene, Effect, start, enters}
-use Rattle.dap_accessed.specs.Past.{Memory, looked_back, shape_of, kept_attributes}
+use Rattle.dap_accessed.specs.Past.{Memory, looked_back, asked_shape, kept_attributes}
 use Rattle.dap_accessed.specs.Accesses.{open_file, create_file, access_file, complete}
 use Rattle.dap_accessed.specs.Records.{at_number, verb_of, get_pick, got, record_got, settled, Change, Putting, Updating, changed, fits_limit}
 use Rattle.dap_accessed.specs.Transfers.{fetch, fetch_ends, continue_fetch, store_one}
@@ -62,7 +62,7 @@ good-of None format mrs mrn = tt
 good-of (Some org) None mrs mrn = tt
 good-of (Some org) (Some format) mrs mrn = allowed org format mrs mrn _ refl
 
-pub good-shape : (a : Attributes) → Good (shape_of a)
+pub good-shape : (a : Attributes) → Good (asked_shape a)
 good-shape a = good-of (org_of_code (unwrap_or a.org 0)) (format_of_code (unwrap_or a.rfm 2)) (unwrap_or a.mrs 0) (number_of (unwrap_or a.mrn []))
 
 pub good-memory : (place : Place) (past : List Group) → Good (looked_back place past).shape

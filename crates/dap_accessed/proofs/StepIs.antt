@@ -12,10 +12,10 @@ use Rattle.dap_accessed.specs.declared.phase.OpenFile.{OpenFile}
 use Rattle.dap_accessed.specs.declared.phase.Phase.{Phase}
 use Rattle.dap_accessed.specs.declared.phase.Phase.TheVariants as phases
 use Rattle.dap_accessed.specs.Standing.{Files, Place, Group, Standing, Effect, Fresh, Ready, Opened, Connected, Store, Stopped}
-use Rattle.dap_accessed.specs.Past.{Memory, looked_back, shape_of, kept_attributes, is_dropping, ordinal_so_far, this_store, is_skip, is_ready, is_store, is_access, is_filedata, attributes_in, since_access, was_refused, greatest_ordinal, next_ordinal}
+use Rattle.dap_accessed.specs.Past.{Memory, looked_back, asked_shape, kept_attributes, is_dropping, ordinal_so_far, this_store, is_skip, is_ready, is_store, is_access, is_filedata, attributes_in, since_access, was_refused, greatest_ordinal, next_ordinal}
 use Rattle.dap_accessed.specs.Records.{Change, Putting, Updating}
 use Rattle.dap_accessed.specs.Exchange.{Begun, Turn, Does, Begins, turn_of, effect_with}
-use Rattle.dap_accessed.specs.Groups.{Cut, over, scene_of, turn_at, added, stands_after}
+use Rattle.dap_accessed.specs.Groups.{Grouped, over, scene_of, turn_at, added, stands_after}
 use Rattle.dap_accessed.specs.Present.{Present, present_of, phase_at, StandsAfter}
 use Rattle.dap_accessed.specs.Inner.Moves.{Move, move, move_in, between, turns, settles, remembers, plain_memory, store_memory, scene_in, drops_next, ordinal_next}
 use Rattle.dap_accessed.proofs.OneMore.{next_group, next_answers, one_more, answers_of}
@@ -32,13 +32,13 @@ module _ (past : List Group) where
 
   -- the groups in Ready since an Access, with one more
   shape-more : (item : Item) (answers : List Message) →
-      shape_of (kept_attributes (group_of Ready item answers ∷ past))
-      ≡ shape_of (unwrap_or (slice_get (filter_map (λ (g : Group). attributes_in g.first) (if not (is_access item) then group_of Ready item answers ∷ since_access past else [])) 0) no_attributes)
+      asked_shape (kept_attributes (group_of Ready item answers ∷ past))
+      ≡ asked_shape (unwrap_or (slice_get (filter_map (λ (g : Group). attributes_in g.first) (if not (is_access item) then group_of Ready item answers ∷ since_access past else [])) 0) no_attributes)
   shape-more item answers =
-      ap (λ (l : List Group). shape_of (unwrap_or (slice_get (filter_map (λ (g : Group). attributes_in g.first) l) 0) no_attributes))
+      ap (λ (l : List Group). asked_shape (unwrap_or (slice_get (filter_map (λ (g : Group). attributes_in g.first) l) 0) no_attributes))
       (take_while-cons (λ (g : Group). not (is_access g.first)) (group_of Ready item answers) (filter (λ (g : Group). is_ready g.place) past))
 
-  shape-kept : (place : Place) (item : Item) (answers : List Message) → shape_of (kept_attributes (group_of place item answers ∷ past)) ≡ (remembers (looked_back place past) place item answers).shape
+  shape-kept : (place : Place) (item : Item) (answers : List Message) → asked_shape (kept_attributes (group_of place item answers ∷ past)) ≡ (remembers (looked_back place past) place item answers).shape
   shape-kept Fresh item answers = refl
   shape-kept (Opened o) item answers = refl
   shape-kept (Connected o s) item answers = refl
@@ -179,21 +179,21 @@ module _ (own : ℕ) (files : Files) (limit : ℕ) (past : List Group) where
 
   pub two-follows : (place : Place) (o : OpenFile) (s : StreamVal) (change : Change) (first item : Item) →
       let begun : Begun = record { first = first; opened = o; stream = s; change = change } in
-      let c : Cut = record { standing = at place; begun = Some begun } in
+      let c : Grouped = record { standing = at place; begun = Some begun } in
       Agrees (move (present_of own c) item) (present_of own (one_more own c item)) (answers_of own c item)
   two-follows place o s (Putting key) first item =
       record {
-        same_present = after-group (record { own = own; limit = limit; files = files; kept = shape_of (kept_attributes past); phase = phases.PutDue o s key }) (at place) (Connected o s) first (effect_with (Putting key) (scene_of own (at place)) o s item) refl refl;
+        same_present = after-group (record { own = own; limit = limit; files = files; kept = asked_shape (kept_attributes past); phase = phases.PutDue o s key }) (at place) (Connected o s) first (effect_with (Putting key) (scene_of own (at place)) o s item) refl refl;
         same_answers = refl;
       }
   two-follows place o s Updating first item =
       record {
-        same_present = after-group (record { own = own; limit = limit; files = files; kept = shape_of (kept_attributes past); phase = phases.UpdateDue o s }) (at place) (Connected o s) first (effect_with Updating (scene_of own (at place)) o s item) refl refl;
+        same_present = after-group (record { own = own; limit = limit; files = files; kept = asked_shape (kept_attributes past); phase = phases.UpdateDue o s }) (at place) (Connected o s) first (effect_with Updating (scene_of own (at place)) o s item) refl refl;
         same_answers = refl;
       }
 
 pub step-is : (own : ℕ) (s : Standing) (begun : Option Begun) (item : Item) →
-    let c : Cut = record { standing = s; begun = begun } in
+    let c : Grouped = record { standing = s; begun = begun } in
     Agrees own s.files s.limit s.past (move (present_of own c) item) (present_of own (one_more own c item)) (answers_of own c item)
 step-is own s None item = one-follows own s.files s.limit s.past s.place item
 step-is own s (Some b) item = two-follows own s.files s.limit s.past s.place b.opened b.stream b.change b.first item

@@ -31,21 +31,21 @@ after_two own s begun second =
     (effect_with begun.change (scene_of own s) begun.opened begun.stream second)
 
 -- Where items leave an end: the standing after the whole groups, and the beginning of one that is not whole.
-pub record Cut : Type 0 where
+pub record Grouped : Type 0 where
   pub standing : Standing
   pub begun : Option Begun
 
-abbrev pub cut : ℕ → Standing → List Item → Cut
-cut own s [] = record { standing = s; begun = None }
-cut own s (item ∷ []) =
+abbrev pub grouped : ℕ → Standing → List Item → Grouped
+grouped own s [] = record { standing = s; begun = None }
+grouped own s (item ∷ []) =
     elim (turn_at own s item) [
       | Does effect ↦ record { standing = over s s.place item effect; begun = None }
       | Begins begun ↦ record { standing = s; begun = Some begun }
     ]
-cut own s (item ∷ second ∷ items) =
+grouped own s (item ∷ second ∷ items) =
     elim (turn_at own s item) [
-      | Does effect ↦ cut own (over s s.place item effect) (second ∷ items)
-      | Begins begun ↦ cut own (after_two own s begun second) items
+      | Does effect ↦ grouped own (over s s.place item effect) (second ∷ items)
+      | Begins begun ↦ grouped own (after_two own s begun second) items
     ]
 
 -- the answers of the groups, the oldest first
@@ -54,8 +54,8 @@ answers_in [] = []
 answers_in (group ∷ past) = answers_in past ++ group.answers
 
 -- where an end with this BUFSIZ stands after these items
-abbrev pub stands_after : ℕ → List Item → Cut
-stands_after own items = cut own start items
+abbrev pub stands_after : ℕ → List Item → Grouped
+stands_after own items = grouped own start items
 
 -- how long a message the peer takes then
 abbrev pub limit_for : ℕ → List Item → ℕ

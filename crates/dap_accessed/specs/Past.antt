@@ -46,8 +46,8 @@ kept_attributes past =
     unwrap_or (slice_get (filter_map (λ group. attributes_in group.first) (since_access past)) 0) no_attributes
 
 -- the shape that attributes ask for, if a file may have it; a field that is missing has the value given here
-abbrev pub shape_of : Attributes → Option Shape
-shape_of a =
+abbrev pub asked_shape : Attributes → Option Shape
+asked_shape a =
     checked_shape (unwrap_or a.org codes.org.sequential) (unwrap_or a.rfm codes.rfm.variable) (unwrap_or a.mrs 0)
     (number_of (unwrap_or a.mrn []))
 
@@ -88,7 +88,7 @@ pub record Memory : Type 0 where
 abbrev pub looked_back : Place → List Group → Memory
 looked_back place past =
     record {
-      shape = shape_of (kept_attributes past);
+      shape = asked_shape (kept_attributes past);
       dropping = is_store place && is_dropping past;
       ordinal = if is_store place then ordinal_so_far past else 0;
     }

@@ -7,10 +7,10 @@ use Rattle.dap_accessed.specs.declared.phase.OpenFile.{OpenFile}
 use Rattle.dap_accessed.specs.declared.phase.Phase.{Phase}
 use Rattle.dap_accessed.specs.declared.phase.Phase.TheVariants as phases
 use Rattle.dap_accessed.specs.Standing.{Files, Place, Standing, Fresh, Ready, Opened, Connected, Store, Stopped}
-use Rattle.dap_accessed.specs.Past.{Memory, looked_back, kept_attributes, shape_of}
+use Rattle.dap_accessed.specs.Past.{Memory, looked_back, kept_attributes, asked_shape}
 use Rattle.dap_accessed.specs.Records.{Change, Putting, Updating}
 use Rattle.dap_accessed.specs.Exchange.{Begun}
-use Rattle.dap_accessed.specs.Groups.{Cut, stands_after}
+use Rattle.dap_accessed.specs.Groups.{Grouped, stands_after}
 
 pub record Present : Type 0 where
   -- the end's own BUFSIZ
@@ -41,13 +41,13 @@ abbrev pub phase_of : Standing → Option Begun → Phase
 phase_of s None = phase_at s.place (looked_back s.place s.past)
 phase_of s (Some begun) = phase_within begun.change begun.opened begun.stream
 
-abbrev pub present_of : ℕ → Cut → Present
+abbrev pub present_of : ℕ → Grouped → Present
 present_of own c =
     record {
       own = own;
       limit = c.standing.limit;
       files = c.standing.files;
-      kept = shape_of (kept_attributes c.standing.past);
+      kept = asked_shape (kept_attributes c.standing.past);
       phase = phase_of c.standing c.begun;
     }
 

@@ -4,7 +4,7 @@ use Rattle.std.specs.List.{AllByRecursion}
 use Rattle.dap_msg.specs.Exchange.{greatest_message, least_buffer}
 use Rattle.rec_file.specs.Files.{IsFile}
 use Rattle.dap_accessed.specs.Standing.{Files, Place, Fresh, Ready, Opened, Connected, Store, Stopped}
-use Rattle.dap_accessed.specs.Groups.{Cut}
+use Rattle.dap_accessed.specs.Groups.{Grouped}
 
 -- no two files have the same name
 abbrev pub AreDistinct : Files → Type 0
@@ -30,6 +30,6 @@ pub record IsSoundAt (table : Files) (limit : ℕ) (place : Place) : Type 0 wher
   pub most : limit ≤ greatest_message
 
 -- also inside a group of two
-pub record IsSound (c : Cut) : Type 0 where
+pub record IsSound (c : Grouped) : Type 0 where
   pub standing : IsSoundAt c.standing.files c.standing.limit c.standing.place
   pub begun : IfSome c.begun (λ b. b.opened.at < length c.standing.files)

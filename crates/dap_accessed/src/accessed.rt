@@ -12,7 +12,7 @@ ghost use Rattle.dap_accessed.specs.Groups.{After};
 ghost use Rattle.dap_accessed.specs.Records.{verb_of};
 ghost use Rattle.dap_accessed.specs.Accesses.{fac_or, rights_of};
 ghost use Rattle.dap_accessed.specs.Replies.{bare_status, refused_access, sync_status};
-ghost use Rattle.dap_accessed.specs.Past.{shape_of};
+ghost use Rattle.dap_accessed.specs.Past.{asked_shape};
 ghost use Rattle.dap_accessed.specs.Present.{StandsAfter};
 ghost use Rattle.dap_accessed.specs.Served.{Serves, is_silent};
 ghost use Rattle.dap_accessed.specs.Standing.{Fresh, Ready};
@@ -85,7 +85,7 @@ const PLAIN: Shape = Shape {
 /// The shape that the attributes of a message that was read ask for.
 fn shape_for(attributes: &Attributes<'_>) -> Option<Shape>
     requires { FieldsFit (Attrib (seen_attributes attributes.now)) }
-    ensures same { result ≡ shape_of (seen_attributes attributes.now) }
+    ensures same { result ≡ asked_shape (seen_attributes attributes.now) }
     ensures good { IfSome result (λ shape. IsTrue (is_shape shape)) }
 {
     let mrn = match attributes.mrn {

@@ -30,8 +30,8 @@ abbrev pub put_at : Option ℕ → Message
 put_at None = control codes.ctlfunc.put (Some codes.rac.sequential) None
 put_at (Some n) = control codes.ctlfunc.put (Some codes.rac.keyed) (Some (four_bytes n))
 
-abbrev pub record_of : List ℕ → Message
-record_of body = Filedata [] body
+abbrev pub unnumbered_record : List ℕ → Message
+unnumbered_record body = Filedata [] body
 
 abbrev pub how_to_go_on : How → ℕ
 how_to_go_on Again = codes.confunc.again
@@ -46,13 +46,13 @@ messages_of own (Create name org rfm mrs mrn fac) =
 messages_of own (OpenFile name fac) = attributes None None None None ∷ access codes.accfunc.opening name fac ∷ []
 messages_of own Connect = control codes.ctlfunc.connect None None ∷ []
 messages_of own (Get by) = get_by by ∷ []
-messages_of own (Put key body) = put_at key ∷ record_of body ∷ []
-messages_of own (Update body) = control codes.ctlfunc.update (Some codes.rac.sequential) None ∷ record_of body ∷ []
+messages_of own (Put key body) = put_at key ∷ unnumbered_record body ∷ []
+messages_of own (Update body) = control codes.ctlfunc.update (Some codes.rac.sequential) None ∷ unnumbered_record body ∷ []
 messages_of own Delete = control codes.ctlfunc.delete (Some codes.rac.sequential) None ∷ []
 messages_of own Rewind = control codes.ctlfunc.rewind (Some codes.rac.sequential) None ∷ []
 messages_of own Fetch = control codes.ctlfunc.get (Some codes.rac.whole_file) None ∷ []
 messages_of own (Store bodies) =
-    (control codes.ctlfunc.put (Some codes.rac.whole_file) None ∷ map record_of bodies) ++ complete_with codes.cmpfunc.end_of_stream ∷ []
+    (control codes.ctlfunc.put (Some codes.rac.whole_file) None ∷ map unnumbered_record bodies) ++ complete_with codes.cmpfunc.end_of_stream ∷ []
 messages_of own (Continue how) = Contran (how_to_go_on how) ∷ []
 messages_of own Close = complete_with codes.cmpfunc.close ∷ []
 messages_of own Purge = complete_with codes.cmpfunc.purge ∷ []

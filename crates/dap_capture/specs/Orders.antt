@@ -8,7 +8,7 @@ use Rattle.dap_accessing.specs.declared.request.How.TheVariants.{Again, Skip, Ab
 use Rattle.dap_world.specs.declared.event.Event.{Event}
 use Rattle.dap_world.specs.declared.event.Event.TheVariants as event
 use Rattle.dap_world.specs.declared.setup.WorldSetup.{WorldSetup}
-use Rattle.dap_capture.specs.Words.{words_of, end_of, number_of, text_of, texts_of}
+use Rattle.dap_capture.specs.Words.{words_of, end_of, decimal_of, text_of, texts_of}
 use Rattle.dap_world.specs.declared.event.End.{End}
 use Rattle.dap_capture.specs.declared.orders.Wanted.{Wanted}
 use Rattle.dap_capture.specs.declared.orders.Wanted.TheVariants as wanted
@@ -41,16 +41,16 @@ first read (word ∷ words) next = goes_on next (read word) words
 -- ---- numbers by the widest value of their fields
 
 abbrev pub byte : List ℕ → Option ℕ
-byte word = number_of 255 word
+byte word = decimal_of 255 word
 
 abbrev pub short : List ℕ → Option ℕ
-short word = number_of 65535 word
+short word = decimal_of 65535 word
 
 abbrev pub long : List ℕ → Option ℕ
-long word = number_of 4294967295 word
+long word = decimal_of 4294967295 word
 
 abbrev pub access : List ℕ → Option ℕ
-access word = number_of 15 word
+access word = decimal_of 15 word
 
 -- ---- requests
 

@@ -17,7 +17,7 @@ use Rattle.dap_world.specs.declared.event.WorldFault.TheVariants as fault
 use Rattle.dap_world.specs.declared.setup.WorldSetup.{WorldSetup}
 use Rattle.dap_world.specs.Machine.{State, Sending, Steps, Refuses, fresh, sends, reported, files_of}
 use Rattle.dap_world.specs.Setups.{IsWorldSetup}
-use Rattle.dap_world.specs.Wires.{IsPacketOf}
+use Rattle.dap_world.specs.Wires.{IsOnWire}
 use Rattle.dap_world.specs.Runs.{writer_of}
 use Rattle.dap_capture.specs.Text.{line_feed}
 use Rattle.dap_capture.specs.Reports.{report_text}
@@ -51,7 +51,7 @@ got_text AckOnly = codes "ack-only"
 pub record IsPacketAt (s : State) (end : End) (place : ℕ) (bytes : List ℕ) : Type 0 where
   pub sending : Sending
   pub written : slice_get (sends s end).wire place ≡ Some sending
-  pub packet : IsPacketOf s end sending bytes
+  pub packet : IsOnWire s end sending bytes
 
 -- the packet at a place of an end's wire, in hex
 pub record IsPacketWritten (s : State) (end : End) (place : ℕ) (text : List ℕ) : Type 0 where

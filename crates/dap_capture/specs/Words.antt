@@ -24,8 +24,8 @@ abbrev pub at_most : ℕ → ℕ → Option ℕ
 at_most most number = if nat_le number most then Some number else None
 
 -- a number of 1 to 10 decimal digits, at most so much
-abbrev pub number_of : ℕ → List ℕ → Option ℕ
-number_of most word =
+abbrev pub decimal_of : ℕ → List ℕ → Option ℕ
+decimal_of most word =
     if nat_le 1 (length word) && nat_le (length word) 10 && list_all is_ascii_digit word
     then at_most most (decimal_value word)
     else None

@@ -2,7 +2,7 @@
 
 ghost use Rattle.std.specs.Prelude.{◌≡◌, ◌<◌, ◌++◌, ℕ, List, OnOk, None, codes, length, option_copied};
 ghost use Rattle.dap_world.specs.Machine.{reported, sends};
-ghost use Rattle.dap_world.specs.Runs.{Answers, writer_of};
+ghost use Rattle.dap_world.specs.Runs.{NamedIsThere, writer_of};
 ghost use Rattle.dap_capture.specs.Inner.Adding.{Adds, AddsSome};
 ghost use Rattle.dap_capture.specs.Inner.Playing.{AddsStep};
 ghost use Rattle.dap_capture.specs.Played.{IsPacketAt, IsPacketWritten, IsReported, IsStepText, end_text, got_text, refusal_line, refusal_text};
@@ -96,7 +96,7 @@ fn push_newest(text: &mut Vec<u8>, world: &World) -> Result<(), AllocError>
 
 /// Appends what a step says.
 fn push_step(text: &mut Vec<u8>, world: &World, event: &Event, step: Step) -> Result<(), AllocError>
-    requires { Answers event.now step world.now }
+    requires { NamedIsThere event.now step world.now }
     ensures { OnOk result (AddsSome text.old text.new (IsStepText world.now event.now step)) }
 {
     match step {
@@ -123,7 +123,7 @@ pub(crate) fn push_event(
     event: &Event,
     step: Step,
 ) -> Result<(), AllocError>
-    requires { Answers event.now step world.now }
+    requires { NamedIsThere event.now step world.now }
     ensures { OnOk result (AddsStep number world.now event.now step text.old text.new) }
 {
     push_decimal(text, number)?;

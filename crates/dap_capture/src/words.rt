@@ -4,7 +4,7 @@ ghost use Rattle.std.specs.Prelude.{◌≡◌, ◌≢◌, ◌≤◌, ◌<◌, �
 ghost use Rattle.std.specs.Prelude.{◌==◌, bytes_eq, true};
 ghost use Rattle.std.specs.List.{list_all, position};
 ghost use Rattle.std.specs.Char.{is_ascii_digit};
-ghost use Rattle.dap_capture.specs.Words.{end_of, number_of, text_of, texts_of, words_of};
+ghost use Rattle.dap_capture.specs.Words.{end_of, decimal_of, text_of, texts_of, words_of};
 ghost use Rattle.dap_capture.specs.Inner.Words.{words_left};
 
 use crate::lines::is_hex_text;
@@ -113,7 +113,7 @@ fn are_digits(word: &[u8]) -> bool
 
 /// A number of 1 to 10 decimal digits, at most so much.
 pub(crate) fn read_number(word: &[u8], most: u32) -> Option<u32>
-    ensures value { result ≡ number_of most word.now }
+    ensures value { result ≡ decimal_of most word.now }
     ensures within { IfSome result (λ number. number ≤ most) }
 {
     if word.is_empty() || word.len() > 10 || !are_digits(word) {

@@ -16,7 +16,7 @@ use Rattle.dap_msg.specs.declared.fault.Fault.{Fault}
 use Rattle.dap_msg.specs.Laws.{IsReadBack}
 use Rattle.dap_msg.specs.Inner.Whole.{message_at}
 use Rattle.dap_msg.proofs.Messages.{ok_only}
-use Rattle.dap_msg.specs.Canon.{field_bytes, option_bytes, bits_of, attribute_bits, control_bits, number_of, header_bytes, operand_bytes, canon, FitsField, FitsOption, FieldsFit, Fits}
+use Rattle.dap_msg.specs.Canon.{field_bytes, option_bytes, bits_of, attribute_bits, control_bits, type_number, header_bytes, operand_bytes, canon, FitsField, FitsOption, FieldsFit, Fits}
 
 -- ---- Fields.
 
@@ -511,7 +511,7 @@ apart n k lt = grind arith
 other_operand : (n : ℕ) → 10 ≤ n → operand n ≡ other n
 other_operand n le = rw (apart n 1 (omega arith), apart n 2 (omega arith), apart n 3 (omega arith), apart n 4 (omega arith), apart n 5 (omega arith), apart n 6 (omega arith), apart n 7 (omega arith), apart n 8 (omega arith), apart n 9 (omega arith)) refl
 
-operand_spelled : (m : Message) → FieldsFit m → Spells (operand (number_of m)) m (operand_bytes m) []
+operand_spelled : (m : Message) → FieldsFit m → Spells (operand (type_number m)) m (operand_bytes m) []
 operand_spelled (Config c) h = spelled_configuration c h
 operand_spelled (Attrib a) h = spelled_attributes a h
 operand_spelled (Access a) h = spelled_access a h
@@ -603,7 +603,7 @@ header_long n low high some lt small below rest = (
   ),
 )
 
-pub number_fits : (m : Message) → FieldsFit m → (0 < number_of m) × (number_of m < 17)
+pub number_fits : (m : Message) → FieldsFit m → (0 < type_number m) × (type_number m < 17)
 number_fits (Config c) h = (omega arith, omega arith)
 number_fits (Attrib a) h = (omega arith, omega arith)
 number_fits (Access a) h = (omega arith, omega arith)
@@ -642,7 +642,7 @@ pub canon_spells : (m : Message) → Fits m → SpellsMessage m (canon m) true
 unfolding canon
 canon_spells m h =
     let n = number_fits m h.fields in
-    with_header m (number_of m) (operand_bytes m) n.0 n.1 h.length (operand_spelled m h.fields)
+    with_header m (type_number m) (operand_bytes m) n.0 n.1 h.length (operand_spelled m h.fields)
 
 abbrev done : Message × ℕ → Result (Message × ℕ) Fault
 done x = Ok x

@@ -1,11 +1,11 @@
 -- How long the spellings are that are written.
 use Rattle.std.proofs.Common.{◌≡◌, ℕ, ◌+◌, ◌^◌, ◌<◌, ◌≤◌, List, [], ◌∷◌, ◌++◌, length, refl, arith, lit≤, lit<, inl, inr}
-use Rattle.std.specs.Int.{bytes_low_first}
+use Rattle.dap_fields.specs.Spelling.{little_bytes}
 use Rattle.std.proofs.lemmas.Bool.{cases_lt, lt-ltb, le-ltb}
 use Rattle.std.proofs.lemmas.List.{length-append}
 use Rattle.dap_fields.specs.Writing.{groups}
 use Rattle.dap_msg.specs.Message.{Message, StatusFields, Ack, Filedata, Status}
-use Rattle.dap_msg.specs.Canon.{canon, number_of, header_bytes, operand_bytes, header_size, file_data_size, FieldsFit, Fits}
+use Rattle.dap_msg.specs.Canon.{canon, type_number, header_bytes, operand_bytes, header_size, file_data_size, FieldsFit, Fits}
 use Rattle.dap_msg.specs.Exchange.{config_of, complete_with, attributes_of, record_of}
 use Rattle.dap_msg.specs.Inner.Answers.{IsShortAnswer, AnswersFit}
 use Rattle.dap_msg.proofs.Sizes.{IsPlainMessage, plain_short}
@@ -20,7 +20,7 @@ header_length number len =
 pub canon_length : (m : Message) → length (canon m) ≡ header_size (length (operand_bytes m)) + length (operand_bytes m)
 unfolding canon
 canon_length m =
-    omega (arith, length-append (header_bytes (number_of m) (length (operand_bytes m))) (operand_bytes m), header_length (number_of m) (length (operand_bytes m)))
+    omega (arith, length-append (header_bytes (type_number m) (length (operand_bytes m))) (operand_bytes m), header_length (type_number m) (length (operand_bytes m)))
 
 pub file_data_operand : (recnum payload : List ℕ) → length (operand_bytes (Filedata recnum payload)) ≡ 1 + length recnum + length payload
 file_data_operand recnum payload = omega (arith, length-append recnum (payload ++ []), length-append payload [])
@@ -64,7 +64,7 @@ status_short s c r n v =
 record_fits : (number : ℕ) (body : List ℕ) → length body ≤ 32767 → Fits (record_of number body)
 record_fits number body short = record {
   fields = lit≤ tt;
-  length = omega (arith, file_data_operand (bytes_low_first 0 4 number) body);
+  length = omega (arith, file_data_operand (little_bytes 4 number) body);
 }
 
 pub answers_fit : AnswersFit

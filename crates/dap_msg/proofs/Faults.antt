@@ -8,7 +8,7 @@ use Rattle.dap_msg.specs.declared.message.Message.{Message as LentMessage}
 use Rattle.dap_msg.specs.Grammar.{Kind, ValueOf, FaultyField, Part, Must, When, OrElse, UnlessEnd, Remainder, PartValue, FaultyPart, Grammar, Done, Next, Faulty}
 use Rattle.dap_msg.specs.Message.{Message}
 use Rattle.dap_msg.specs.Formats.{any, refuses_bits, flags_are_known, header, configuration, attributes, access, control, continuation, acknowledge, completion, file_data, status, other, operand}
-use Rattle.dap_msg.specs.Decoding.{IsFault, IsAnswer}
+use Rattle.dap_msg.specs.Decoding.{IsFault, IsDecoded}
 use Rattle.dap_msg.specs.Answer.{seen_answer}
 
 abbrev IsCalmRefusal : {V : Type 0} → (V → Option FaultKind) → Type 0
@@ -130,6 +130,6 @@ fault_calm bytes kind offset (inl h) = grammar_calm header bytes kind offset cal
 fault_calm bytes kind offset (inr (inl h)) = λ e. truncated (sym h.kind_is ∙ e)
 fault_calm bytes kind offset (inr (inr h)) = grammar_calm (operand h.head.number) h.body kind h.within (calm_operand h.head.number) h.fault
 
-pub never_no_memory : (bytes : List ℕ) (result : Result (LentMessage × ℕ) MsgFault) → IsAnswer bytes (seen_answer result) → IfErr result (λ f. f.kind ≢ NoMemory)
+pub never_no_memory : (bytes : List ℕ) (result : Result (LentMessage × ℕ) MsgFault) → IsDecoded bytes (seen_answer result) → IfErr result (λ f. f.kind ≢ NoMemory)
 never_no_memory bytes (Ok x) a = tt
 never_no_memory bytes (Err f) a = fault_calm bytes f.kind f.offset a.0

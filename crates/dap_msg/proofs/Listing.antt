@@ -8,7 +8,7 @@ use Rattle.std.specs.Prelude.{IfOk, IfErr}
 use Rattle.dap_msg.specs.declared.message.Message.{Message as LentMessage}
 use Rattle.dap_msg.specs.Message.{Message, seen}
 use Rattle.dap_msg.specs.Answer.{seen_answer}
-use Rattle.dap_msg.specs.Decoding.{StandsInFront, IsAnswer}
+use Rattle.dap_msg.specs.Decoding.{StandsInFront, IsDecoded}
 use Rattle.dap_msg.specs.Items.{Item, Whole, Malformed, ItemAt}
 use Rattle.dap_msg.proofs.Fields.{AreBytes-back}
 use Rattle.dap_msg.proofs.Messages.{header_room, only, fault_only}
@@ -22,18 +22,18 @@ stands_some m n bytes h =
     let s = h.spelled in
     omega (arith, ap length s.joined, length-append s.front s.body, length-take n bytes, h.there, (header_room s.head s.front s.body s.header).fixed)
 
-pub fault_within : (bytes : List ℕ) (f : MsgFault) → AreBytes bytes → IsAnswer bytes (Err f) → f.offset ≤ length bytes
+pub fault_within : (bytes : List ℕ) (f : MsgFault) → AreBytes bytes → IsDecoded bytes (Err f) → f.offset ≤ length bytes
 fault_within bytes f fits h = (fault_only bytes f.kind f.offset fits h.0).0
 
-pub some_read : (bytes : List ℕ) (result : Result (LentMessage × ℕ) MsgFault) → IsAnswer bytes (seen_answer result) → IfOk result (λ x. 2 ≤ x.1)
+pub some_read : (bytes : List ℕ) (result : Result (LentMessage × ℕ) MsgFault) → IsDecoded bytes (seen_answer result) → IfOk result (λ x. 2 ≤ x.1)
 some_read bytes (Ok x) h = stands_some (seen x.0) x.1 bytes h
 some_read bytes (Err f) h = tt
 
-pub fault_told : (bytes : List ℕ) (result : Result (LentMessage × ℕ) MsgFault) → AreBytes bytes → IsAnswer bytes (seen_answer result) → IfErr result (λ f. f.offset ≤ length bytes)
+pub fault_told : (bytes : List ℕ) (result : Result (LentMessage × ℕ) MsgFault) → AreBytes bytes → IsDecoded bytes (seen_answer result) → IfErr result (λ f. f.offset ≤ length bytes)
 fault_told bytes (Ok x) fits h = tt
 fault_told bytes (Err f) fits h = fault_within bytes f fits h
 
-same_answer : (bytes : List ℕ) (a b : Result (Message × ℕ) MsgFault) → AreBytes bytes → IsAnswer bytes a → IsAnswer bytes b → a ≡ b
+same_answer : (bytes : List ℕ) (a b : Result (Message × ℕ) MsgFault) → AreBytes bytes → IsDecoded bytes a → IsDecoded bytes b → a ≡ b
 same_answer bytes a b fits h k = only bytes fits a h ∙ sym (only bytes fits b k)
 
 abbrev told_fault : FaultKind → ℕ → ℕ → Result (Message × ℕ) MsgFault

@@ -6,7 +6,7 @@ use Rattle.std.proofs.lemmas.List.{take_at, drop_at, length-append, length-drop}
 use Rattle.dap_fields.specs.Spelling.{AreBytes}
 use Rattle.dap_msg.specs.declared.fault.MsgFault.{MsgFault}
 use Rattle.dap_msg.specs.Message.{Message}
-use Rattle.dap_msg.specs.Decoding.{SpellsMessage, StandsInFront, IsAnswer}
+use Rattle.dap_msg.specs.Decoding.{SpellsMessage, StandsInFront, IsDecoded}
 use Rattle.dap_msg.specs.Inner.Whole.{message_at, told}
 use Rattle.dap_msg.specs.Canon.{canon, Fits}
 use Rattle.dap_msg.specs.Blocked.{joined, AllFit}
@@ -62,7 +62,7 @@ record Next (bytes : List ℕ) (at : ℕ) : Type 0 where
   after : at ≤ next
   further : at < length bytes → at < next
 
-answered : (bytes : List ℕ) (at : ℕ) (q : Result (Message × ℕ) MsgFault) → at ≤ length bytes → IsAnswer (drop at bytes) q → Next bytes at
+answered : (bytes : List ℕ) (at : ℕ) (q : Result (Message × ℕ) MsgFault) → at ≤ length bytes → IsDecoded (drop at bytes) q → Next bytes at
 answered bytes at (Ok x) le h = record {
   item = Whole x.0;
   next = at + x.1;

@@ -11,7 +11,7 @@ use Rattle.dap_msg.specs.Codes.{greatest_type}
 use Rattle.dap_msg.specs.Grammar.{Kind, Byte, Word, Extensible, Image, ValueOf, SpellsField, Part, Must, When, OrElse, UnlessEnd, Remainder, PartValue, SpellsPart, Grammar, Done, Next, Spells}
 use Rattle.dap_msg.specs.Message.{Header, Message, Config, Attrib, Access, Control, Contran, Ack, Accomp, Filedata, Status, Other, seen, length_of}
 use Rattle.dap_msg.specs.Formats.{refuses_type, header, configuration, attributes, access, control, continuation, acknowledge, completion, file_data, status, other, operand}
-use Rattle.dap_msg.specs.Decoding.{HasLength, SpellsMessage, IsAnswer}
+use Rattle.dap_msg.specs.Decoding.{HasLength, SpellsMessage, IsDecoded}
 use Rattle.dap_msg.specs.Answer.{seen_answer}
 use Rattle.dap_msg.specs.Canon.{FitsField, FitsOption, FieldsFit, Fits, operand_bytes}
 use Rattle.dap_msg.proofs.Sizes.{plain_short}
@@ -176,6 +176,6 @@ closed_fits m bytes s =
     record { fields = v.0; length = operand_short m (0 + length s.body) v.0 v.1 (omega (arith, short)) }
 
 -- the fields of a message that was read fit
-pub read_fits : (bytes : List ℕ) (result : Result (LentMessage × ℕ) MsgFault) → IsAnswer bytes (seen_answer result) → IfOk result (λ x. FieldsFit (seen x.0))
+pub read_fits : (bytes : List ℕ) (result : Result (LentMessage × ℕ) MsgFault) → IsDecoded bytes (seen_answer result) → IfOk result (λ x. FieldsFit (seen x.0))
 read_fits bytes (Ok x) a = spelled_fields (seen x.0) (take x.1 bytes) a.closed a.spelled
 read_fits bytes (Err f) a = tt

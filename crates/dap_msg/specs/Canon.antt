@@ -1,7 +1,7 @@
 -- The one spelling that is written of each message.
 use Rattle.std.specs.Prelude.{ℕ, ◌+◌, ◌*◌, ◌/◌, ◌%◌, ◌^◌, ◌<◌, ◌≤◌, Bool, nat_lt, if◌then◌else◌, List, [], ◌∷◌, ◌++◌, length, Option, IfSome, is_some}
 use Rattle.std.specs.Option.{option_map_or}
-use Rattle.std.specs.Int.{bytes_low_first}
+use Rattle.dap_fields.specs.Spelling.{little_bytes}
 use Rattle.std.specs.List.{concat}
 use Rattle.dap_fields.specs.Writing.{shortest}
 use Rattle.dap_msg.specs.Codes.{types, greatest_type}
@@ -10,7 +10,7 @@ use Rattle.dap_msg.specs.Message.{Attributes, ControlFields, Message, Config, At
 
 abbrev pub field_bytes : (k : Kind) → ValueOf k → List ℕ
 field_bytes Byte v = v ∷ []
-field_bytes Word v = bytes_low_first 0 2 v
+field_bytes Word v = little_bytes 2 v
 field_bytes (Extensible max) v = shortest v
 field_bytes (Image max) image = length image ∷ image
 
@@ -64,17 +64,17 @@ operand_fields (Filedata recnum payload) = field_bytes (Image 8) recnum ∷ payl
 operand_fields (Status s) = field_bytes Word s.code ∷ field_bytes (Image 8) s.rfa ∷ field_bytes (Image 8) s.recnum ∷ field_bytes (Image 8) s.stv ∷ []
 operand_fields (Other number body) = body ∷ []
 
-abbrev pub number_of : Message → ℕ
-number_of (Config c) = types.config
-number_of (Attrib a) = types.attrib
-number_of (Access a) = types.access
-number_of (Control c) = types.control
-number_of (Contran func) = types.contran
-number_of Ack = types.ack
-number_of (Accomp c) = types.accomp
-number_of (Filedata recnum payload) = types.filedata
-number_of (Status s) = types.status
-number_of (Other number body) = number
+abbrev pub type_number : Message → ℕ
+type_number (Config c) = types.config
+type_number (Attrib a) = types.attrib
+type_number (Access a) = types.access
+type_number (Control c) = types.control
+type_number (Contran func) = types.contran
+type_number Ack = types.ack
+type_number (Accomp c) = types.accomp
+type_number (Filedata recnum payload) = types.filedata
+type_number (Status s) = types.status
+type_number (Other number body) = number
 
 -- LENGTH always, LEN256 exactly where the operand has 256 bytes or more
 abbrev pub header_bytes : ℕ → ℕ → List ℕ
@@ -84,7 +84,7 @@ abbrev pub operand_bytes : Message → List ℕ
 operand_bytes m = concat (operand_fields m)
 
 unfoldable pub canon : Message → List ℕ
-canon m = header_bytes (number_of m) (length (operand_bytes m)) ++ operand_bytes m
+canon m = header_bytes (type_number m) (length (operand_bytes m)) ++ operand_bytes m
 
 -- the bytes of a header
 abbrev pub header_size : ℕ → ℕ

@@ -5,7 +5,7 @@ ghost use Rattle.dap_fields.specs.Writing.{shortest};
 ghost use Rattle.dap_msg.specs.Message.{Attrib, configuration_of, Control as ControlOf, seen, seen_attributes, seen_control};
 ghost use Rattle.dap_msg.specs.Grammar as kinds;
 ghost use Rattle.dap_msg.specs.Canon.{canon, Fits, FieldsFit, FitsOption, operand_bytes, header_bytes, option_bytes, bits_of, attribute_bits};
-ghost use Rattle.dap_msg.specs.Written.{Appends};
+ghost use Rattle.dap_msg.specs.Written.{AppendsMessage};
 ghost use Rattle.dap_msg.specs.Inner.Fields.{bytes_of, fields_bytes, message_bytes, CanWrite, CanWriteAll, status_of, completion_of, access_of};
 
 use crate::fault::{FaultKind, MsgFault};
@@ -148,7 +148,7 @@ fn fields_message_len(fields: &[Field]) -> usize
 fn write_message(number: u8, fields: &[Field], out: &mut Vec<u8>) -> Result<(), MsgFault>
     requires fit { CanWriteAll fields.now }
     requires small { length (fields_bytes fields.now) < 2 ^ 16 }
-    ensures appends { Appends (message_bytes number fields.now) out.old out.new result }
+    ensures appends { AppendsMessage (message_bytes number fields.now) out.old out.new result }
     ensures capacity { vec_capacity out.old ≤ vec_capacity out.new }
 {
     let len = fields_len(fields);
@@ -486,7 +486,7 @@ macro_rules! with_fields {
 #[inline(always)]
 fn encode_here(message: &Message<'_>, out: &mut Vec<u8>) -> Result<(), MsgFault>
     requires { Fits (seen message.now) }
-    ensures appends { Appends (canon (seen message.now)) out.old out.new result }
+    ensures appends { AppendsMessage (canon (seen message.now)) out.old out.new result }
     ensures capacity { vec_capacity out.old ≤ vec_capacity out.new }
 {
     with_fields!(message, fields => write_message(message.number(), fields, out))
@@ -497,7 +497,7 @@ fn encode_here(message: &Message<'_>, out: &mut Vec<u8>) -> Result<(), MsgFault>
 #[inline(never)]
 fn encode_apart(message: &Message<'_>, out: &mut Vec<u8>) -> Result<(), MsgFault>
     requires { Fits (seen message.now) }
-    ensures appends { Appends (canon (seen message.now)) out.old out.new result }
+    ensures appends { AppendsMessage (canon (seen message.now)) out.old out.new result }
     ensures capacity { vec_capacity out.old ≤ vec_capacity out.new }
 {
     encode_here(message, out)
@@ -511,7 +511,7 @@ fn encode_apart(message: &Message<'_>, out: &mut Vec<u8>) -> Result<(), MsgFault
 /// comes only where `out` lacked the room and leaves it unchanged. Room is reserved once, and none is given back.
 pub fn encode(message: &Message<'_>, out: &mut Vec<u8>) -> Result<(), MsgFault>
     requires { Fits (seen message.now) }
-    ensures appends { Appends (canon (seen message.now)) out.old out.new result }
+    ensures appends { AppendsMessage (canon (seen message.now)) out.old out.new result }
     ensures capacity { vec_capacity out.old ≤ vec_capacity out.new }
 {
     match message {

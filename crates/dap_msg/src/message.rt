@@ -2,7 +2,7 @@
 
 ghost use Rattle.std.specs.Prelude.{◌≡◌};
 ghost use Rattle.dap_msg.specs.Message.{seen};
-ghost use Rattle.dap_msg.specs.Canon.{number_of};
+ghost use Rattle.dap_msg.specs.Canon.{type_number};
 
 use crate::codes::{
     TYPE_ACCESS, TYPE_ACKNOWLEDGE, TYPE_ATTRIBUTES, TYPE_COMPLETE, TYPE_CONFIGURATION,
@@ -151,7 +151,7 @@ pub enum Message<'a> {
 impl Message<'_> {
     /// The type of the message as its header tells it, 1 to 16 where the message fits (DAP 5.6.0, message format).
     pub fn number(&self) -> u8
-        ensures { result ≡ number_of (seen self.now) }
+        ensures { result ≡ type_number (seen self.now) }
     {
         match *self {
             Message::Config { .. } => TYPE_CONFIGURATION,

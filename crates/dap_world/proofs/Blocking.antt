@@ -15,7 +15,7 @@ use Rattle.dap_accessed.proofs.ForCallers.{HasShortType, added-sends}
 use Rattle.dap_accessing.specs.declared.request.Request.{Request}
 use Rattle.dap_accessing.specs.declared.request.Request.TheVariants as request
 use Rattle.dap_accessing.specs.declared.request.By.TheVariants as by
-use Rattle.dap_accessing.specs.Asked.{Asked, messages_of, record_of}
+use Rattle.dap_accessing.specs.Asked.{Asked, messages_of, unnumbered_record}
 use Rattle.dap_world.specs.Inner.Within.{AreWithin}
 use Rattle.dap_world.specs.Agreement.{AnswersWithin, IsBufsiz, items_of}
 use Rattle.dap_world.proofs.Within.{answers-within}
@@ -61,7 +61,7 @@ short-append : (xs ys : List Message) → AllShort (map Whole xs) → AllShort (
 short-append [] ys h k = k
 short-append (x ∷ xs) ys h k = (h.0, short-append xs ys h.1 k)
 
-short-records : (bodies : List (List ℕ)) → AllShort (map Whole (map record_of bodies))
+short-records : (bodies : List (List ℕ)) → AllShort (map Whole (map unnumbered_record bodies))
 short-records [] = tt
 short-records (body ∷ bodies) = (lit< tt, short-records bodies)
 
@@ -79,7 +79,7 @@ short-messages n (request.Update body) = (lit< tt, (lit< tt, tt))
 short-messages n request.Delete = (lit< tt, tt)
 short-messages n request.Rewind = (lit< tt, tt)
 short-messages n request.Fetch = (lit< tt, tt)
-short-messages n (request.Store bodies) = (lit< tt, short-append (map record_of bodies) (complete_with cmpfunc.end_of_stream ∷ []) (short-records bodies) (lit< tt, tt))
+short-messages n (request.Store bodies) = (lit< tt, short-append (map unnumbered_record bodies) (complete_with cmpfunc.end_of_stream ∷ []) (short-records bodies) (lit< tt, tt))
 short-messages n (request.Continue how) = (lit< tt, tt)
 short-messages n request.Close = (lit< tt, tt)
 short-messages n request.Purge = (lit< tt, tt)

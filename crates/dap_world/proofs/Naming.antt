@@ -14,22 +14,22 @@ use Rattle.dap_world.specs.declared.event.Step.{Step}
 use Rattle.dap_world.specs.declared.event.Step.TheVariants as step
 use Rattle.dap_world.specs.declared.event.WorldFault.{WorldFault}
 use Rattle.dap_world.specs.Machine.{State, sends, wrote, taken_of, answers_read, reported, read_one, told_by, Steps}
-use Rattle.dap_world.specs.Runs.{Answers, Went, writer_of}
+use Rattle.dap_world.specs.Runs.{NamedIsThere, Went, writer_of}
 
 -- one packet more was written
 wire_grew : (s new : State) (end : End) (sent : ℕ) (k : Option ℕ) → new ≡ wrote s end sent k → length (sends s end).wire < length (sends new end).wire
 wire_grew s new A sent k e = omega (arith, ap (λ (t : State). length t.from_a.wire) e, length-append s.from_a.wire (record { segment = k; acks = s.from_b.taken } ∷ []))
 wire_grew s new B sent k e = omega (arith, ap (λ (t : State). length t.from_b.wire) e, length-append s.from_b.wire (record { segment = k; acks = s.from_a.taken } ∷ []))
 
-packet_there : (e : Event) (s new : State) (end : End) (sent : ℕ) (k : Option ℕ) (answer : Step) → writer_of e ≡ Some end → answer ≡ step.Packet (length (sends s end).wire) → new ≡ wrote s end sent k → Answers e answer new
-packet_there e s new end sent k answer by is went = subst (λ (a : Step). Answers e a new) (sym is) (end, by, wire_grew s new end sent k went)
+packet_there : (e : Event) (s new : State) (end : End) (sent : ℕ) (k : Option ℕ) (answer : Step) → writer_of e ≡ Some end → answer ≡ step.Packet (length (sends s end).wire) → new ≡ wrote s end sent k → NamedIsThere e answer new
+packet_there e s new end sent k answer by is went = subst (λ (a : Step). NamedIsThere e a new) (sym is) (end, by, wire_grew s new end sent k went)
 
 -- a report came of it only where there is one more
-report_there : (s new : State) (answer : Step) → answer ≡ told_by s (read_one s) → new ≡ read_one s → length (reported s) ≤ length (reported (read_one s)) → Answers event.Read answer new
+report_there : (s new : State) (answer : Step) → answer ≡ told_by s (read_one s) → new ≡ read_one s → length (reported s) ≤ length (reported (read_one s)) → NamedIsThere event.Read answer new
 report_there s new answer is went grew =
-    subst (λ (a : Step). Answers event.Read a new) (sym is)
-    (subst (λ (t : State). Answers event.Read (told_by s (read_one s)) t) (sym went)
-    (elim (length (reported (read_one s)) == length (reported s)) as (λ b. (length (reported (read_one s)) == length (reported s)) ≡ b → Answers event.Read (if b then step.Nothing else step.Reported) (read_one s)) [
+    subst (λ (a : Step). NamedIsThere event.Read a new) (sym is)
+    (subst (λ (t : State). NamedIsThere event.Read (told_by s (read_one s)) t) (sym went)
+    (elim (length (reported (read_one s)) == length (reported s)) as (λ b. (length (reported (read_one s)) == length (reported s)) ≡ b → NamedIsThere event.Read (if b then step.Nothing else step.Reported) (read_one s)) [
       | true ↦ λ e. tt
       | false ↦ λ e. grind (arith, e, grew)
     ] refl))
@@ -54,17 +54,17 @@ grows s =
     let told = reports_grow s.requests (answers_read s) (map Whole more.0) in
     omega (arith, ap length told.1, length-append (Told s.requests (answers_read s)) told.0, ap (λ l. length (Told s.requests l)) read)
 
-answers_there : (s new : State) (e : Event) (answer : Step) → Steps s e answer new → Answers e answer new
+answers_there : (s new : State) (e : Event) (answer : Step) → Steps s e answer new → NamedIsThere e answer new
 unfolding Steps
-answers_there s new (event.Ask request) answer step = subst (λ (a : Step). Answers (event.Ask request) a new) (sym step.1) tt
-answers_there s new (event.Post end) answer step = subst (λ (a : Step). Answers (event.Post end) a new) (sym step.2) tt
+answers_there s new (event.Ask request) answer step = subst (λ (a : Step). NamedIsThere (event.Ask request) a new) (sym step.1) tt
+answers_there s new (event.Post end) answer step = subst (λ (a : Step). NamedIsThere (event.Post end) a new) (sym step.2) tt
 answers_there s new (event.Emit end) answer step = packet_there (event.Emit end) s new end ((sends s end).sent + 1) (Some ((sends s end).sent + 1)) answer refl step.1 step.2
 answers_there s new (event.Resend end i) answer step = packet_there (event.Resend end i) s new end (sends s end).sent (Some ((sends s end).acked + 1 + i)) answer refl step.1 step.2
 answers_there s new (event.Ack end) answer step = packet_there (event.Ack end) s new end (sends s end).sent None answer refl step.0 step.1
-answers_there s new (event.Deliver end j) answer step = subst (λ (a : Step). Answers (event.Deliver end j) a new) (sym step.4) tt
-answers_there s new event.Serve answer step = subst (λ (a : Step). Answers event.Serve a new) (sym step.3) tt
+answers_there s new (event.Deliver end j) answer step = subst (λ (a : Step). NamedIsThere (event.Deliver end j) a new) (sym step.4) tt
+answers_there s new event.Serve answer step = subst (λ (a : Step). NamedIsThere event.Serve a new) (sym step.3) tt
 answers_there s new event.Read answer step = report_there s new answer step.2 step.3 (grows s)
 
-pub named : (s new : State) (e : Event) (r : Result Step WorldFault) → Went s e r new → IfOk r (λ answer. Answers e answer new)
+pub named : (s new : State) (e : Event) (r : Result Step WorldFault) → Went s e r new → IfOk r (λ answer. NamedIsThere e answer new)
 named s new e (Ok answer) went = answers_there s new e answer went
 named s new e (Err f) went = tt

@@ -9,7 +9,7 @@ use Rattle.dap_world.specs.declared.event.End.TheVariants.{A, B}
 use Rattle.dap_world.specs.declared.side.Wired.{Wired}
 use Rattle.dap_world.specs.Machine.{State, sends, other}
 use Rattle.dap_world.specs.Wires as wires
-use Rattle.dap_world.specs.Wires.{address_of, IsPacketOf, AreWired}
+use Rattle.dap_world.specs.Wires.{address_of, IsOnWire, AreWired}
 use Rattle.dap_world.specs.Inner.Sides.{WiredValue, sending_of}
 use Rattle.dap_world.specs.Inner.SideView.{wired_value}
 use Rattle.dap_world.specs.Inner.Parts.{Parts, AreParts, asks, answers, state_of, side}
@@ -23,8 +23,8 @@ pub record IsLinkOf (s : State) (end : End) (v : LinkValue) (messages : List (Li
   pub messages_are : messages ≡ all_joined (sends s end).handed
 
 packet_of : (s : State) (end : End) (v : LinkValue) (messages : List (List ℕ)) (w : WiredValue) → IsLinkOf s end v messages
-    → Writes v messages w.segment w.acks w.packet → IsPacketOf s end (sending_of w) w.packet
-unfolding IsPacketOf
+    → Writes v messages w.segment w.acks w.packet → IsOnWire s end (sending_of w) w.packet
+unfolding IsOnWire
 packet_of s end v messages w is h =
     subst (λ (l : List (List ℕ)). IsWritten (address_of end) (address_of (other end)) (cut s.seg_size l) w.segment w.acks w.packet) is.messages_are
     (subst (λ (n : ℕ). IsWritten (address_of end) (address_of (other end)) (cut n messages) w.segment w.acks w.packet) is.size
@@ -32,7 +32,7 @@ packet_of s end v messages w is h =
     (subst (λ (n : ℕ). IsWritten n v.remote (cut v.seg_size messages) w.segment w.acks w.packet) is.local h)))
 
 packets_of : (s : State) (end : End) (v : LinkValue) (messages : List (List ℕ)) (wire : List Wired) → IsLinkOf s end v messages
-    → AllByRecursion (λ w. Writes v messages w.segment w.acks w.packet) (map wired_value wire) → AllByRecursion (λ w. IsPacketOf s end (wires.sending_of w) w.packet.items) wire
+    → AllByRecursion (λ w. Writes v messages w.segment w.acks w.packet) (map wired_value wire) → AllByRecursion (λ w. IsOnWire s end (wires.sending_of w) w.packet.items) wire
 packets_of s end v messages [] is h = tt
 packets_of s end v messages (w ∷ wire) is h = (packet_of s end v messages (wired_value w) is h.0, packets_of s end v messages wire is h.1)
 

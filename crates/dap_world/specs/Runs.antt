@@ -41,10 +41,10 @@ writer_of (event.Ack end) = Some end
 writer_of _ = None
 
 -- What an answer names is there: the packet stands at its place of the writer's wire, and there is a newest report.
-abbrev pub Answers : Event → Step → State → Type 0
-Answers e (step.Packet place) s = (end : End) × (writer_of e ≡ Some end) × (place < length (sends s end).wire)
-Answers e step.Reported s = 0 < length (reported s)
-Answers e _ s = Unit {0}
+abbrev pub NamedIsThere : Event → Step → State → Type 0
+NamedIsThere e (step.Packet place) s = (end : End) × (writer_of e ≡ Some end) × (place < length (sends s end).wire)
+NamedIsThere e step.Reported s = 0 < length (reported s)
+NamedIsThere e _ s = Unit {0}
 
 -- the events may lead from old to new, none refused
 abbrev pub Runs : State → List Event → State → Type 0

@@ -16,8 +16,8 @@ address_of B = 0x0202
 
 -- These are the bytes that the end writes, from its address to the other's: the packet of the segment of this number, of
 -- those into which the NSP messages are cut that were handed over, or of none, with its acknowledgement.
-unfoldable pub IsPacketOf : State → End → Sending → List ℕ → Type 0
-IsPacketOf s end sending bytes =
+unfoldable pub IsOnWire : State → End → Sending → List ℕ → Type 0
+IsOnWire s end sending bytes =
     IsWritten (address_of end) (address_of (other end)) (cut s.seg_size (all_joined (sends s end).handed)) sending.segment sending.acks bytes
 
 abbrev pub sending_of : Wired → Sending
@@ -26,4 +26,4 @@ sending_of w = record { segment = w.segment; acks = w.acks }
 -- these are the packets that the end wrote, each with its number and its acknowledgement
 pub record AreWired (s : State) (end : End) (wired : List Wired) : Type 0 where
   pub sendings : map sending_of wired ≡ (sends s end).wire
-  pub packets : AllByRecursion (λ w. IsPacketOf s end (sending_of w) w.packet.items) wired
+  pub packets : AllByRecursion (λ w. IsOnWire s end (sending_of w) w.packet.items) wired

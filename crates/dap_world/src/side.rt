@@ -59,7 +59,7 @@ impl Side {
     ghost use Rattle.nsp_link.specs.Cutting.{cut};
     ghost use Rattle.dap_world.specs.Inner.SideView.{wired_value};
     ghost use Rattle.nsp_link.specs.Limits.{most_segments};
-    ghost use Rattle.nsp_link.specs.Link.{MayEmit};
+    ghost use Rattle.nsp_link.specs.Link.{MaySend};
     ghost use Rattle.nsp_link.specs.Sending.{queued_link};
     ghost use Rattle.dap_world.specs.Inner.Sides.{WroteOne, EmitFault, ResendFault, PostedAll, PostFault, posted_side, segments_queued};
     ghost use Rattle.dap_world.specs.Inner.Ways.{AreShort};
@@ -73,8 +73,8 @@ impl Side {
 
     // Whether there is a segment to write that was never sent.
     pub(crate) fn may_send(&self) -> bool
-        ensures yes { result ≡ true → MayEmit self.now.link }
-        ensures no { result ≡ false → MayEmit self.now.link → ⊥ }
+        ensures yes { result ≡ true → MaySend self.now.link }
+        ensures no { result ≡ false → MaySend self.now.link → ⊥ }
     {
         self.link.may_send()
     }
@@ -82,7 +82,7 @@ impl Side {
     // Writes the next segment.
     pub(crate) fn emit(&mut self) -> Result<usize, WorldFault>
         requires { self.old.link.failed ≡ false }
-        ensures ok { IfOk result (λ j. MayEmit self.old.link
+        ensures ok { IfOk result (λ j. MaySend self.old.link
             × WroteOne self.old self.new (self.old.link.sent + 1) (Some (self.old.link.sent + 1))
             j) }
         ensures err { IfErr result (λ f. (self.new ≡ self.old) × EmitFault self.old.link f) }

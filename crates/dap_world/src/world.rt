@@ -44,7 +44,7 @@ impl World {
     ghost use Rattle.std.specs.Prelude.{◌≡◌, IfOk, OnOk, IfErr, map, true, false};
     ghost use Rattle.dap_msg.specs.Canon.{canon};
     ghost use Rattle.dap_world.specs.Machine.{MayEmit, files_of, reported, sends, sent_by, taken_of};
-    ghost use Rattle.dap_world.specs.Runs.{Answers, CountsOf, Runs, StopsAt, Went};
+    ghost use Rattle.dap_world.specs.Runs.{NamedIsThere, CountsOf, Runs, StopsAt, Went};
     ghost use Rattle.dap_world.specs.Inner.Worlds.{IsWorld};
     ghost use Rattle.dap_world.specs.Wires.{AreWired};
     ghost use Rattle.dap_world.specs.Headline.{HeadlineOf};
@@ -118,7 +118,7 @@ impl World {
     /// nothing.
     pub fn apply(&mut self, event: &Event) -> Result<Step, WorldFault>
         ensures went { Went self.old event.now result self.new }
-        ensures answers { IfOk result (λ step. Answers event.now step self.new) }
+        ensures answers { IfOk result (λ step. NamedIsThere event.now step self.new) }
         ensures headline { HeadlineOf self.new }
     {
         let result = self.happen(event);

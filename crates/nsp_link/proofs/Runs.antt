@@ -4,7 +4,7 @@ use Rattle.std.specs.Prelude.{unwrap_or, Option, true, false, Bool}
 use Rattle.nsp_link.specs.declared.fault.LinkFault.{LinkFault}
 use Rattle.nsp_link.specs.declared.fault.LinkFault.TheVariants.{BadSetup, Malformed, WrongLink, BadSequence, MessageTooLong, Failed, Exhausted, NoSuchSegment, NoMemory}
 use Rattle.nsp_link.specs.Cutting.{Piece}
-use Rattle.nsp_link.specs.Coming.{Coming, taken, taken_all, Fits, AllFit, Misfits, MisfitsOne, RefusesAll}
+use Rattle.nsp_link.specs.Coming.{Coming, taken, taken_all, FitsBehind, AllFit, Misfits, MisfitsOne, RefusesAll}
 use Rattle.nsp_link.specs.Inner.Pieces.{IsBegun}
 
 -- What was looked at of several segments, and what is left: an end as it would be there.
@@ -15,13 +15,13 @@ pub record Looked (limit : ℕ) (start : Coming) (all : List Piece) (len : Optio
   pub misfit : (e : LinkFault) → MisfitsOne limit now left e → MisfitsOne limit start all e
 
 -- the first was looked at
-pub looked_first : (limit : ℕ) (start : Coming) (p : Piece) (begun : Option ℕ) (left : List Piece) → Fits limit start p → IsBegun begun (taken start p) → Looked limit start (p ∷ left) begun left
+pub looked_first : (limit : ℕ) (start : Coming) (p : Piece) (begun : Option ℕ) (left : List Piece) → FitsBehind limit start p → IsBegun begun (taken start p) → Looked limit start (p ∷ left) begun left
 unfolding AllFit MisfitsOne
 looked_first limit start p begun left fits is = record { now = taken start p; begun = is; fit = λ rest. (fits, rest); misfit = λ e out. inr (fits, out) }
 
 -- and one more
 pub looked_more : (limit : ℕ) (start : Coming) (all : List Piece) (begun after : Option ℕ) (left rest : List Piece) (p : Piece) → left ≡ p ∷ rest
-    → ((c : Coming) → IsBegun begun c → Fits limit c p × IsBegun after (taken c p)) → Looked limit start all begun left → Looked limit start all after rest
+    → ((c : Coming) → IsBegun begun c → FitsBehind limit c p × IsBegun after (taken c p)) → Looked limit start all begun left → Looked limit start all after rest
 unfolding AllFit MisfitsOne
 looked_more limit start all begun after left rest p is check looked =
     let here = check looked.now looked.begun in
@@ -69,7 +69,7 @@ unfolding AllFit taken_all
 fit_short limit c [] fit short = short
 fit_short limit c (p ∷ ps) fit short = fit_short limit (taken c p) ps fit.1 (one_short c p.first p.last p.payload fit.0)
   where
-    one_short : (c : Coming) (first last : Bool) (payload : List ℕ) → let p : Piece = record { first = first; last = last; payload = payload } in Fits limit c p → length (unwrap_or (taken c p).partial []) ≤ limit
+    one_short : (c : Coming) (first last : Bool) (payload : List ℕ) → let p : Piece = record { first = first; last = last; payload = payload } in FitsBehind limit c p → length (unwrap_or (taken c p).partial []) ≤ limit
     one_short c first true payload fits = omega arith
     one_short c first false payload fits = fits.1
 

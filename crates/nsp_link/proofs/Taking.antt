@@ -12,7 +12,7 @@ use Rattle.std.proofs.lemmas.List.FromFn.{get_or-map-range_with_len}
 use Rattle.std.proofs.lemmas.Option.{slice_get_within, get_or_from_slice_get}
 use Rattle.nsp_link.specs.Cutting.{Piece, count_of, piece_at, cut_message, cut}
 use Rattle.nsp_link.specs.Link.{IsWhole, HasTaken, begun}
-use Rattle.nsp_link.specs.Coming.{Coming, body_with, taken, taken_all, AllFit, Misfits, MisfitsOne, RefusesAll, Fits}
+use Rattle.nsp_link.specs.Coming.{Coming, body_with, taken, taken_all, AllFit, Misfits, MisfitsOne, RefusesAll, FitsBehind}
 use Rattle.nsp_link.specs.declared.fault.LinkFault.{LinkFault}
 use Rattle.nsp_link.specs.declared.fault.LinkFault.TheVariants.{BadSetup, Malformed, WrongLink, BadSequence, MessageTooLong, Failed, Exhausted, NoSuchSegment, NoMemory}
 use Rattle.nsp_link.specs.Limits.{most_segments}
@@ -205,7 +205,7 @@ unfolding taken_all
 received-all c [] = omega arith
 received-all c (p ∷ ps) = received-all (taken c p) ps ∙ omega arith
 
-fits-not : (limit : ℕ) (c : Coming) (p : Piece) (e : LinkFault) → Fits limit c p → Misfits limit c p e → ⊥
+fits-not : (limit : ℕ) (c : Coming) (p : Piece) (e : LinkFault) → FitsBehind limit c p → Misfits limit c p e → ⊥
 fits-not limit c p BadSequence fits out = out fits.0
 fits-not limit c p MessageTooLong fits out = absurd (omega (arith, fits.1, out.1))
 fits-not limit c p Exhausted fits out = out

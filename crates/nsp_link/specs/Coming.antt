@@ -25,8 +25,8 @@ taken c p = record {
 }
 
 -- a first mark stands exactly where no message is begun, and the message is no longer than the limit
-abbrev pub Fits : ℕ → Coming → Piece → Type 0
-Fits limit c p = (p.first ≡ is_none c.partial) × (length (body_with c p.payload) ≤ limit)
+abbrev pub FitsBehind : ℕ → Coming → Piece → Type 0
+FitsBehind limit c p = (p.first ≡ is_none c.partial) × (length (body_with c p.payload) ≤ limit)
 
 -- why a segment doesn't fit: its mark comes before its length
 abbrev pub Misfits : ℕ → Coming → Piece → LinkFault → Type 0
@@ -42,12 +42,12 @@ taken_all c (p ∷ ps) = taken_all (taken c p) ps
 
 unfoldable pub AllFit : ℕ → Coming → List Piece → Type 0
 AllFit limit c [] = Unit {0}
-AllFit limit c (p ∷ ps) = Fits limit c p × AllFit limit (taken c p) ps
+AllFit limit c (p ∷ ps) = FitsBehind limit c p × AllFit limit (taken c p) ps
 
 -- the first that doesn't fit decides
 unfoldable pub MisfitsOne : ℕ → Coming → List Piece → LinkFault → Type 0
 MisfitsOne limit c [] e = ⊥
-MisfitsOne limit c (p ∷ ps) e = Misfits limit c p e ⊎ (Fits limit c p × MisfitsOne limit (taken c p) ps e)
+MisfitsOne limit c (p ∷ ps) e = Misfits limit c p e ⊎ (FitsBehind limit c p × MisfitsOne limit (taken c p) ps e)
 
 -- Why none of several segments is taken: the marks and lengths of all of them come before their number, and this
 -- before memory.

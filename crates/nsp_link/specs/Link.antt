@@ -4,7 +4,7 @@ use Rattle.std.specs.Option.{option_or}
 use Rattle.std.specs.List.{AllByRecursion}
 use Rattle.nsp_seg.specs.Numbers.{residue}
 use Rattle.nsp_seg.specs.declared.packet.AckField.{AckField}
-use Rattle.nsp_seg.specs.Packets.{PacketValue, SegmentValue, segment, data_ack, Fits, spelling}
+use Rattle.nsp_seg.specs.Packets.{PacketValue, SegmentValue, segment, data_ack, FitsFields, spelling}
 use Rattle.nsp_link.specs.declared.link.LinkSetup.{LinkSetup}
 use Rattle.nsp_link.specs.declared.link.Got.{Got}
 use Rattle.nsp_link.specs.declared.link.Got.TheVariants.{Accepted, Repeat, Early, AckOnly}
@@ -100,8 +100,8 @@ abbrev pub SendsMore : LinkValue → LinkValue → List (List ℕ) → Type 0
 SendsMore old new more = (messages : List (List ℕ)) → Sends old messages → Sends new (messages ++ more)
 
 -- a segment waits, and the window has room
-abbrev pub MayEmit : LinkValue → Type 0
-MayEmit v = (v.sent < v.acked + length v.queue) × (v.sent < v.acked + v.window)
+abbrev pub MaySend : LinkValue → Type 0
+MaySend v = (v.sent < v.acked + length v.queue) × (v.sent < v.acked + v.window)
 
 -- ---- packets on the way
 
@@ -160,12 +160,12 @@ IsPacketOf src dst pieces None a p = p ≡ written_ack src dst a
 
 -- the bytes are a packet's as it is written, bit by bit
 abbrev pub IsSpelling : PacketValue → List ℕ → Type 0
-IsSpelling p bytes = Fits p × (bytes ≡ spelling p)
+IsSpelling p bytes = FitsFields p × (bytes ≡ spelling p)
 
 -- the bytes are that packet's: these values leave no other
 abbrev pub IsWritten : ℕ → ℕ → List Piece → Option ℕ → ℕ → List ℕ → Type 0
 IsWritten src dst pieces k a bytes =
-    (p : PacketValue) × IsPacketOf src dst pieces k a p × Fits p × (bytes ≡ spelling p)
+    (p : PacketValue) × IsPacketOf src dst pieces k a p × FitsFields p × (bytes ≡ spelling p)
 
 -- what this end writes of the k-th segment of the messages sent, or of none, and of the first a
 abbrev pub Writes : LinkValue → List (List ℕ) → Option ℕ → ℕ → List ℕ → Type 0
@@ -207,8 +207,8 @@ abbrev pub HandsOut : LinkValue → LinkValue → List ℕ → Type 0
 HandsOut old new message = (old.inbox ≡ message ∷ new.inbox) × (new ≡ record old { inbox = new.inbox })
 
 -- neither the segment nor the acknowledgement is more than 2,047 old
-abbrev pub IsFresh : LinkValue → Option ℕ → ℕ → Type 0
-IsFresh v k a = IfSome k (λ n. v.received + 1 ≤ n + greatest_age) × (v.acked ≤ a + greatest_age)
+abbrev pub IsTimely : LinkValue → Option ℕ → ℕ → Type 0
+IsTimely v k a = IfSome k (λ n. v.received + 1 ≤ n + greatest_age) × (v.acked ≤ a + greatest_age)
 
 abbrev pub got_of : ℕ → Option ℕ → Got
 got_of received None = AckOnly
@@ -255,7 +255,7 @@ pub record IsDue (v : LinkValue) (size : ℕ) (messages given : List (List ℕ))
   pub short : All (λ m. length m ≤ v.max_message) messages
   pub way : IsBetween v.remote v.local p
   pub carries : Carries p (cut size messages) k a
-  pub fresh : IsFresh v k a
+  pub fresh : IsTimely v k a
   pub near : IfSome k (λ n. n ≤ v.received + largest_window)
   pub believable : a ≤ v.sent
 

@@ -5,7 +5,7 @@ use Rattle.nsp_link.specs.declared.fault.LinkFault.{LinkFault}
 use Rattle.nsp_link.specs.declared.fault.LinkFault.TheVariants.{MessageTooLong, Failed, Exhausted, NoMemory}
 use Rattle.nsp_link.specs.Cutting.{Piece, count_of, cut}
 use Rattle.nsp_link.specs.Limits.{most_segments}
-use Rattle.nsp_link.specs.Link.{LinkValue, MayEmit, Sends, Writes, IsSpelling, written_segment, written_ack}
+use Rattle.nsp_link.specs.Link.{LinkValue, MaySend, Sends, Writes, IsSpelling, written_segment, written_ack}
 
 -- a segment under its number
 abbrev pub segment_packet : LinkValue → Piece → ℕ → PacketValue
@@ -22,11 +22,11 @@ WritesQueued v place number bytes =
 -- The next segment was written: it counts as sent, and nothing else changed.
 abbrev pub WritesNext : LinkValue → LinkValue → List ℕ → Type 0
 WritesNext old new bytes =
-    MayEmit old × (new ≡ record old { sent = old.sent + 1 }) × WritesQueued old (old.sent - old.acked) (old.sent + 1) bytes
+    MaySend old × (new ≡ record old { sent = old.sent + 1 }) × WritesQueued old (old.sent - old.acked) (old.sent + 1) bytes
 
 -- why the next segment isn't written
 abbrev pub NextFault : LinkValue → LinkFault → Type 0
-NextFault v e = ((e ≡ NoMemory) × MayEmit v) ⊎ ((e ≡ Failed) × IsTrue v.failed)
+NextFault v e = ((e ≡ NoMemory) × MaySend v) ⊎ ((e ≡ Failed) × IsTrue v.failed)
 
 -- of whatever messages were sent, the bytes are what this end writes of their k-th segment, or of none
 abbrev pub WritesSent : LinkValue → Option ℕ → List ℕ → Type 0

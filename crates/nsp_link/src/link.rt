@@ -188,13 +188,12 @@ impl LinkEnd {
 }
 
 impl LinkEnd {
-    ghost use Rattle.std.specs.Prelude.{◌≡◌, ◌≢◌, ◌⊎◌, ◌+◌, ◌-◌, ◌^◌, ◌<◌, ◌≤◌, ◌++◌, [], ◌∷◌, length, drop, Ok, Err, Some, None, Option, IfOk, IfErr, IfSome, OnOk, OnErr, IsOk, IsTrue, IsErrOf, MatchOption, MatchResult, ℕ, List, false, true, is_none, slice_get};
+    ghost use Rattle.std.specs.Prelude.{◌≡◌, ◌≢◌, ◌⊎◌, ◌+◌, ◌-◌, ◌^◌, ◌<◌, ◌≤◌, ◌++◌, [], ◌∷◌, length, drop, map, Ok, Err, Some, None, Option, IfOk, IfErr, IfSome, OnOk, OnErr, IsOk, IsTrue, IsErrOf, MatchOption, MatchResult, ℕ, List, false, true, is_none, slice_get};
     ghost use Rattle.nsp_seg.specs.Packets.{IsWritable, view};
     ghost use Rattle.nsp_link.specs.declared.fault.LinkFault.TheVariants.{BadSetup, BadSequence, Failed, Exhausted, MessageTooLong, NoMemory, NoSuchSegment};
     ghost use Rattle.nsp_link.specs.Cutting.{Piece, cut, cut_message};
     ghost use Rattle.nsp_link.specs.Limits.{most_segments};
-    ghost use Rattle.nsp_link.specs.Cutting.{bodies};
-    ghost use Rattle.nsp_link.specs.Link.{IsLink, LinkValue, Sends, Stands, SendsStill, SendsMore, StandsStill, MayEmit, Writes, IsSpelling, acknowledging};
+    ghost use Rattle.nsp_link.specs.Link.{IsLink, LinkValue, Sends, Stands, SendsStill, SendsMore, StandsStill, MaySend, Writes, IsSpelling, acknowledging};
     ghost use Rattle.nsp_link.specs.Sending.{WritesQueued, WritesSent, WritesNext, NextFault, segment_packet, ack_packet_of, queued_link, SendFault, SendAllFault, MayQueue, MayQueueAll};
 
     /// Queues the segments of a message: one for each `seg_size` bytes or part of that, and one of no bytes
@@ -235,12 +234,12 @@ impl LinkEnd {
     /// list is queued without memory.
     pub fn send_all(&mut self, messages: &[Vec<u8>]) -> Result<(), LinkFault>
         ensures ok { OnOk result
-            (self.new ≡ queued_link self.old (cut self.old.seg_size (bodies messages.now))) }
-        ensures fits { OnOk result (MayQueueAll self.old (bodies messages.now)) }
+            (self.new ≡ queued_link self.old (cut self.old.seg_size (map (λ v. v.items) messages.now))) }
+        ensures fits { OnOk result (MayQueueAll self.old (map (λ v. v.items) messages.now)) }
         ensures stands { StandsStill self.old self.new }
-        ensures sends { OnOk result (SendsMore self.old self.new (bodies messages.now)) }
+        ensures sends { OnOk result (SendsMore self.old self.new (map (λ v. v.items) messages.now)) }
         ensures err { IfErr result
-            (λ e. SendAllFault self.old (bodies messages.now) e × (self.new ≡ self.old)) }
+            (λ e. SendAllFault self.old (map (λ v. v.items) messages.now) e × (self.new ≡ self.old)) }
         ensures empty { self.old.failed ≡ false → messages.now ≡ []
             → IsOk result × (self.new ≡ self.old) }
     {
@@ -257,10 +256,10 @@ impl LinkEnd {
 
     /// Whether `send_all` would take the messages, memory aside; refused as there (own). It takes no memory.
     pub fn check_messages(&self, messages: &[Vec<u8>]) -> Result<(), LinkFault>
-        ensures ok { OnOk result (MayQueueAll self.now (bodies messages.now)) }
+        ensures ok { OnOk result (MayQueueAll self.now (map (λ v. v.items) messages.now)) }
         ensures empty { self.now.failed ≡ false → messages.now ≡ [] → IsOk result }
         ensures err { IfErr result
-            (λ e. (e ≢ NoMemory) × SendAllFault self.now (bodies messages.now) e) }
+            (λ e. (e ≢ NoMemory) × SendAllFault self.now (map (λ v. v.items) messages.now) e) }
     {
         if self.failed {
             return Err(LinkFault::Failed);
@@ -283,8 +282,8 @@ impl LinkEnd {
     /// Whether a segment that was never sent waits and the window has room, so that `next_packet` writes one,
     /// unless the end has failed (own). It takes no memory.
     pub fn may_send(&self) -> bool
-        ensures yes { result ≡ true → MayEmit self.now }
-        ensures no { result ≡ false → MayEmit self.now → ⊥ }
+        ensures yes { result ≡ true → MaySend self.now }
+        ensures no { result ≡ false → MaySend self.now → ⊥ }
     {
         let place = self.unacked();
         place < self.queue.len() && place < self.setup.window
@@ -339,7 +338,7 @@ impl LinkEnd {
     /// (NSP 4.0.0, data segment message). It acknowledges all segments that were taken. Refused, with nothing
     /// changed: `Failed`; `NoMemory`, where there is one to send.
     pub fn next_packet(&mut self) -> Result<Option<Vec<u8>>, LinkFault>
-        ensures nothing { result ≡ Ok None → (self.new ≡ self.old) × (MayEmit self.old → ⊥) }
+        ensures nothing { result ≡ Ok None → (self.new ≡ self.old) × (MaySend self.old → ⊥) }
         ensures segment { IfOk result (λ o. IfSome o
             (λ v. WritesNext self.old self.new v.items)) }
         ensures carries { IfOk result (λ o. IfSome o

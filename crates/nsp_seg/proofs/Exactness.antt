@@ -1,7 +1,7 @@
 -- Bytes spell one packet at most, and have a fault where they spell none.
 use Rattle.std.proofs.Common.{◌≡◌, ◌⊎◌, ℕ, ◌<◌, List, Result, Ok, Err, get_or, refl, arith, inl, inr}
 use Rattle.nsp_seg.specs.declared.packet.SegFault.{SegFault}
-use Rattle.nsp_seg.specs.Packets.{PacketValue, Spells, Fits, HasFault, spelling}
+use Rattle.nsp_seg.specs.Packets.{PacketValue, Spells, FitsFields, HasFault, spelling}
 use Rattle.nsp_seg.specs.Inner.Reading.{read}
 use Rattle.nsp_seg.proofs.Spelled.{read-spelled}
 use Rattle.nsp_seg.proofs.Found.{read_found}
@@ -21,7 +21,7 @@ either bytes (Err f) fits e = inr (f, read_fault bytes f fits e)
 pub spells_or_fault : (bytes : List ℕ) → ((i : ℕ) → get_or bytes i 0 < 256) → ((p : PacketValue) × Spells p bytes) ⊎ ((f : SegFault) × HasFault f bytes)
 spells_or_fault bytes fits = either bytes (read bytes) fits refl
 
-pub spells-written : (p : PacketValue) → Fits p → Spells p (spelling p)
+pub spells-written : (p : PacketValue) → FitsFields p → Spells p (spelling p)
 spells-written p fits = record { fits = fits; free = 0; few = omega arith; spelled = refl }
 
 pub fault-one : (f g : SegFault) (bytes : List ℕ) → ((i : ℕ) → get_or bytes i 0 < 256) → HasFault f bytes → HasFault g bytes → f ≡ g
@@ -36,5 +36,5 @@ spells-apart p f bytes fits a b =
     let y = read-fault f bytes fits b in
     absurd cc
 
-pub spelling-one : (p q : PacketValue) → Fits p → Spells q (spelling p) → q ≡ p
+pub spelling-one : (p q : PacketValue) → FitsFields p → Spells q (spelling p) → q ≡ p
 spelling-one p q fits s = spells-one q p (spelling p) s (spells-written p fits)

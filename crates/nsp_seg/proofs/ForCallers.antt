@@ -1,7 +1,7 @@
 -- What the crates above may cite of this one's proofs. No other file here is for them.
 use Rattle.std.proofs.Common.{◌≡◌, ℕ, ◌<◌, List, get_or}
 use Rattle.nsp_seg.specs.declared.packet.SegFault.{SegFault}
-use Rattle.nsp_seg.specs.Packets.{PacketValue, Spells, Fits, HasFault, spelling}
+use Rattle.nsp_seg.specs.Packets.{PacketValue, Spells, FitsFields, HasFault, spelling}
 use Rattle.nsp_seg.proofs.Exactness as exactness
 -- a segment's payload may be any other
 pub use Rattle.nsp_seg.proofs.Payloads.{carrying, other_payload}
@@ -19,5 +19,5 @@ pub fault-one : (f g : SegFault) (bytes : List ℕ) → ((i : ℕ) → get_or by
 fault-one = exactness.fault-one
 
 -- what is written spells the packet
-pub spells-written : (p : PacketValue) → Fits p → Spells p (spelling p)
+pub spells-written : (p : PacketValue) → FitsFields p → Spells p (spelling p)
 spells-written = exactness.spells-written

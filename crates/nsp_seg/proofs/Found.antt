@@ -1,7 +1,7 @@
 -- What is read is spelled so.
 use Rattle.std.proofs.Common.{◌≡◌, ℕ, suc, ◌+◌, ◌*◌, ◌/◌, ◌%◌, ◌<◌, ◌≤◌, List, [], ◌∷◌, ◌++◌, Option, Some, None, Result, Ok, Err, refl, ap, arith, inl, inr, ◌==◌, ◌||◌}
 use Rattle.std.specs.Prelude.{IfSome, IfOk}
-use Rattle.std.specs.Int.{w16, to_le_bytes}
+use Rattle.byteorder.specs.Endian.{little_bytes}
 use Rattle.std.proofs.lemmas.Bool.{cases_lt, cases_eq, cases_Bool, lt-ltb, le-ltb, eq-eqb, ne_eqb}
 use Rattle.nsp_seg.specs.declared.packet.AckField.{AckField}
 use Rattle.nsp_seg.specs.declared.packet.SegFault.{SegFault}
@@ -32,7 +32,7 @@ abbrev Tail : Type 0
 Tail = Option AckField × Option AckField × ℕ × List ℕ
 
 pub record TailIs (bytes : List ℕ) (t : Tail) : Type 0 where
-  pub bytes_are : bytes ≡ optional_ack t.0 ++ optional_ack t.1 ++ to_le_bytes w16 t.2 ++ t.3
+  pub bytes_are : bytes ≡ optional_ack t.0 ++ optional_ack t.1 ++ little_bytes 2 t.2 ++ t.3
   pub first : IfSome t.0 AckFits
   pub second : IfSome t.1 AckFits
   pub beside : Beside t.0 t.1

@@ -1,7 +1,7 @@
 -- A segment's payload may be any other: what stands before it says nothing of it.
 use Rattle.std.proofs.Common.{◌≡◌, ℕ, ◌+◌, ◌*◌, List, [], ◌∷◌, ◌++◌, length, take, drop, refl, sym, ap, ◌∙◌, arith}
 use Rattle.std.proofs.lemmas.List.{length-append, take_at, take-append-drop}
-use Rattle.std.specs.Int.{w16, to_le_bytes}
+use Rattle.byteorder.specs.Endian.{little_bytes}
 use Rattle.nsp_seg.specs.Packets.{SegmentValue, segment, marks, optional_ack, Spells}
 
 -- the segment with another payload
@@ -20,8 +20,8 @@ carrying s payload = record {
 -- what stands in front of the payload
 abbrev head_with : ℕ → SegmentValue → List ℕ
 head_with free s =
-    marks s.first s.last ∷ [] ++ to_le_bytes w16 s.dst ++ to_le_bytes w16 s.src ++ optional_ack s.ack1 ++ optional_ack s.ack2
-    ++ to_le_bytes w16 (0x1000 * free + s.number)
+    marks s.first s.last ∷ [] ++ little_bytes 2 s.dst ++ little_bytes 2 s.src ++ optional_ack s.ack1 ++ optional_ack s.ack2
+    ++ little_bytes 2 (0x1000 * free + s.number)
 
 -- A payload is the last of its segment. Bytes that begin as the segment does up to the payload are that segment, with
 -- the payload that stands there.

@@ -1,7 +1,7 @@
 -- What is spelled is read.
 use Rattle.std.proofs.Common.{◌≡◌, ℕ, ◌+◌, ◌*◌, ◌<◌, ◌^◌, Bool, true, false, List, [], ◌∷◌, ◌++◌, Option, Some, None, Result, Ok, Err, refl, arith}
 use Rattle.std.specs.Prelude.{IfSome, IsOkAnd}
-use Rattle.std.specs.Int.{w16, to_le_bytes}
+use Rattle.byteorder.specs.Endian.{little_bytes}
 use Rattle.std.proofs.lemmas.Bool.{lt-ltb}
 use Rattle.nsp_seg.specs.declared.packet.AckField.{AckField}
 use Rattle.nsp_seg.specs.declared.packet.SegFault.{SegFault}
@@ -9,7 +9,7 @@ use Rattle.nsp_seg.specs.Packets.{PacketValue, segment, data_ack, AckFits, Besid
 use Rattle.nsp_seg.specs.Inner.Reading.{Gives, tail_of, segment_of, second_of, data_ack_of, read}
 use Rattle.nsp_seg.proofs.Words.{word_back, ack_word-above, ack_word-qual, ack_word-number, ack_word-high, free-number}
 
-pub tail_of-spelled : (a b : Option AckField) (word : ℕ) (payload : List ℕ) → IfSome a AckFits → IfSome b AckFits → Beside a b → word < 0x8000 → tail_of (optional_ack a ++ optional_ack b ++ to_le_bytes w16 word ++ payload) ≡ Ok (a, b, word, payload)
+pub tail_of-spelled : (a b : Option AckField) (word : ℕ) (payload : List ℕ) → IfSome a AckFits → IfSome b AckFits → Beside a b → word < 0x8000 → tail_of (optional_ack a ++ optional_ack b ++ little_bytes 2 word ++ payload) ≡ Ok (a, b, word, payload)
 unfolding tail_of
 tail_of-spelled None None word payload fa fb beside lt =
     rw (word_back word (omega arith), lt-ltb word 0x8000 lt) refl
@@ -26,7 +26,7 @@ second_of-spelled (Some b) fb =
     rw (ack_word-high b fb, word_back (0x8000 + 0x1000 * b.qual + b.number) (omega arith), ack_word-above b fb, ack_word-qual b fb, ack_word-number b fb) refl
 
 segment_of-spelled : (first last : Bool) (dst src free number : ℕ) (a b : Option AckField) (payload : List ℕ) → dst < 2 ^ 16 → src < 2 ^ 16 → IfSome a AckFits → IfSome b AckFits → Beside a b → number < 4096 → free < 8
-    → read (marks first last ∷ [] ++ to_le_bytes w16 dst ++ to_le_bytes w16 src ++ optional_ack a ++ optional_ack b ++ to_le_bytes w16 (0x1000 * free + number) ++ payload)
+    → read (marks first last ∷ [] ++ little_bytes 2 dst ++ little_bytes 2 src ++ optional_ack a ++ optional_ack b ++ little_bytes 2 (0x1000 * free + number) ++ payload)
     ≡ Ok (segment (record { first = first; last = last; dst = dst; src = src; ack1 = a; ack2 = b; number = number; payload = payload }))
 unfolding read segment_of
 segment_of-spelled true true dst src free number a b payload fd fs fa fb beside lt fits =
@@ -39,7 +39,7 @@ segment_of-spelled false false dst src free number a b payload fd fs fa fb besid
     rw (word_back dst fd, word_back src fs, tail_of-spelled a b (0x1000 * free + number) payload fa fb beside (omega arith), free-number free number lt) refl
 
 data_ack_of-spelled : (dst src : ℕ) (a : AckField) (b : Option AckField) → dst < 2 ^ 16 → src < 2 ^ 16 → AckFits a → IfSome b AckFits
-    → read (0x04 ∷ [] ++ to_le_bytes w16 dst ++ to_le_bytes w16 src ++ ack_bytes a ++ optional_ack b)
+    → read (0x04 ∷ [] ++ little_bytes 2 dst ++ little_bytes 2 src ++ ack_bytes a ++ optional_ack b)
     ≡ Ok (data_ack (record { dst = dst; src = src; ack1 = a; ack2 = b }))
 unfolding read data_ack_of
 data_ack_of-spelled dst src a b fd fs fa fb =

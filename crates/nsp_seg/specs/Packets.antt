@@ -1,7 +1,7 @@
 -- The packets that are used here, byte by byte: data segments and data acknowledgements.
 use Rattle.std.specs.Prelude.{◌≡◌, ℕ, ◌+◌, ◌*◌, ◌<◌, ◌≤◌, ◌^◌, Bool, ◌⊎◌, List, [], ◌∷◌, ◌++◌, length, slice_index, Option, Some, None, IfSome, if◌then◌else◌}
 use Rattle.std.specs.Option.{option_map_or}
-use Rattle.std.specs.Int.{w16, to_le_bytes}
+use Rattle.byteorder.specs.Endian.{little_bytes}
 use Rattle.nsp_seg.specs.declared.packet.AckField.{AckField}
 use Rattle.nsp_seg.specs.declared.packet.Packet.{Packet}
 use Rattle.nsp_seg.specs.declared.packet.Packet.TheVariants as packet
@@ -38,16 +38,13 @@ view (packet.DataAck dst src ack1 ack2) = data_ack (record { dst = dst; src = sr
 
 -- ---- spelling
 
-abbrev pub AreBytes : List ℕ → Type 0
-AreBytes bytes = (i : ℕ) → slice_index bytes i < 256
-
 -- the first byte of a segment: 0x20 marks the first of a message, 0x40 the last
 abbrev pub marks : Bool → Bool → ℕ
 marks first last = (if first then 0x20 else 0) + (if last then 0x40 else 0)
 
 -- a number with bit 15 set: the qualifier in bits 12 to 14, the number below
 abbrev pub ack_bytes : AckField → List ℕ
-ack_bytes a = to_le_bytes w16 (0x8000 + 0x1000 * a.qual + a.number)
+ack_bytes a = little_bytes 2 (0x8000 + 0x1000 * a.qual + a.number)
 
 abbrev pub optional_ack : Option AckField → List ℕ
 optional_ack a = option_map_or ack_bytes a []
@@ -55,10 +52,10 @@ optional_ack a = option_map_or ack_bytes a []
 -- The bytes of a packet. Bits 12 to 14 of a segment's number are free, and bit 15 is clear.
 abbrev pub spelling_with : ℕ → PacketValue → List ℕ
 spelling_with free (segment p) =
-    marks p.first p.last ∷ [] ++ to_le_bytes w16 p.dst ++ to_le_bytes w16 p.src ++ optional_ack p.ack1 ++ optional_ack p.ack2
-    ++ to_le_bytes w16 (0x1000 * free + p.number) ++ p.payload
+    marks p.first p.last ∷ [] ++ little_bytes 2 p.dst ++ little_bytes 2 p.src ++ optional_ack p.ack1 ++ optional_ack p.ack2
+    ++ little_bytes 2 (0x1000 * free + p.number) ++ p.payload
 spelling_with free (data_ack p) =
-    0x04 ∷ [] ++ to_le_bytes w16 p.dst ++ to_le_bytes w16 p.src ++ ack_bytes p.ack1 ++ optional_ack p.ack2
+    0x04 ∷ [] ++ little_bytes 2 p.dst ++ little_bytes 2 p.src ++ ack_bytes p.ack1 ++ optional_ack p.ack2
 
 -- what is written
 abbrev pub spelling : PacketValue → List ℕ
@@ -74,10 +71,10 @@ Beside None (Some b) = ⊥
 Beside (Some a) second = Unit {0}
 
 -- each value fits its field
-abbrev pub Fits : PacketValue → Type 0
-Fits (segment p) =
+abbrev pub FitsFields : PacketValue → Type 0
+FitsFields (segment p) =
     (p.dst < 2 ^ 16) × (p.src < 2 ^ 16) × IfSome p.ack1 AckFits × IfSome p.ack2 AckFits × Beside p.ack1 p.ack2 × (p.number < 4096)
-Fits (data_ack p) = (p.dst < 2 ^ 16) × (p.src < 2 ^ 16) × AckFits p.ack1 × IfSome p.ack2 AckFits
+FitsFields (data_ack p) = (p.dst < 2 ^ 16) × (p.src < 2 ^ 16) × AckFits p.ack1 × IfSome p.ack2 AckFits
 
 -- What a caller has to see to before a packet is written: the other values fit by their types.
 abbrev pub QualFits : AckField → Type 0
@@ -89,7 +86,7 @@ IsWritable (data_ack p) = QualFits p.ack1 × IfSome p.ack2 QualFits
 
 -- The bytes, all of them, are this packet's: its fields, joined.
 pub record Spells (p : PacketValue) (bytes : List ℕ) : Type 0 where
-  pub fits : Fits p
+  pub fits : FitsFields p
   pub free : ℕ
   pub few : free < 8
   pub spelled : bytes ≡ spelling_with free p

@@ -1,8 +1,8 @@
 //! Packets to bytes.
 
 ghost use Rattle.std.specs.Prelude.{◌≡◌, ◌+◌, ◌<◌, ◌≤◌, ◌++◌, ◌*◌, length, vec_len, vec_capacity, OnOk, OnErr, IsErrOf, IsOk, IfSome, ◌∷◌, [], IsOkUnless};
-ghost use Rattle.std.specs.Int.{w16, to_le_bytes};
-ghost use Rattle.nsp_seg.specs.Packets.{view, spelling, Fits, AckFits, IsWritable, optional_ack, ack_bytes, QualFits};
+ghost use Rattle.byteorder.specs.Endian.{little_bytes};
+ghost use Rattle.nsp_seg.specs.Packets.{view, spelling, FitsFields, AckFits, IsWritable, optional_ack, ack_bytes, QualFits};
 ghost use Rattle.nsp_seg.specs.declared.packet.SegFault.TheVariants.{NoMemory};
 
 use crate::packet::{ACK_FIELD, AckField, DATA_ACK, FIRST, LAST, Packet, QUAL_UNIT, SegFault};
@@ -11,7 +11,7 @@ use byteorder::{ByteOrder, LittleEndian};
 // Appends a two-byte number, for which there is room.
 fn put_word(out: &mut Vec<u8>, word: u16)
     requires { vec_len out.old + 2 ≤ vec_capacity out.old }
-    ensures items { out.new.items ≡ out.old.items ++ to_le_bytes w16 word }
+    ensures items { out.new.items ≡ out.old.items ++ little_bytes 2 word }
     ensures len { vec_len out.new ≡ vec_len out.old + 2 }
     ensures capacity { vec_capacity out.new ≡ vec_capacity out.old }
 {
@@ -77,7 +77,7 @@ fn put_packet(out: &mut Vec<u8>, packet: &Packet<'_>)
     requires room { vec_len out.old + length (spelling (view packet.now)) ≤ vec_capacity out.old }
     ensures items { out.new.items ≡ out.old.items ++ spelling (view packet.now) }
     ensures capacity { vec_capacity out.old ≤ vec_capacity out.new }
-    ensures fits { Fits (view packet.now) }
+    ensures fits { FitsFields (view packet.now) }
 {
     match packet {
         Packet::Segment {
@@ -121,7 +121,7 @@ fn put_packet(out: &mut Vec<u8>, packet: &Packet<'_>)
 pub fn encode_packet(packet: &Packet<'_>, out: &mut Vec<u8>) -> Result<(), SegFault>
     requires { IsWritable (view packet.now) }
     ensures ok { OnOk result (out.new.items ≡ out.old.items ++ spelling (view packet.now)) }
-    ensures fits { OnOk result (Fits (view packet.now)) }
+    ensures fits { OnOk result (FitsFields (view packet.now)) }
     ensures err { OnErr result (out.new.items ≡ out.old.items) }
     ensures fault { IsOkUnless result NoMemory }
     ensures room { vec_len out.old + length (spelling (view packet.now)) ≤ vec_capacity out.old

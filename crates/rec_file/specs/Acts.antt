@@ -53,14 +53,14 @@ abbrev pub free_place : FileVal → StreamVal → ℕ
 free_place file stream = if is_seq file.shape.org then highest_of file.records + 1 else stream.next
 
 -- the number that an operation is about
-abbrev pub number_of : Operation → FileVal → StreamVal → ℕ
-number_of (get_record Next) file stream = unwrap_or (lowest_from file.records stream.next) 0
-number_of (get_record (Key n)) file stream = n
-number_of (get_record (Rfa n)) file stream = n
-number_of (put_record None body) file stream = free_place file stream
-number_of (put_record (Some n) body) file stream = n
-number_of (update_record body) file stream = unwrap_or (current_of file stream) 0
-number_of delete_record file stream = unwrap_or (current_of file stream) 0
+abbrev pub target_number : Operation → FileVal → StreamVal → ℕ
+target_number (get_record Next) file stream = unwrap_or (lowest_from file.records stream.next) 0
+target_number (get_record (Key n)) file stream = n
+target_number (get_record (Rfa n)) file stream = n
+target_number (put_record None body) file stream = free_place file stream
+target_number (put_record (Some n) body) file stream = n
+target_number (update_record body) file stream = unwrap_or (current_of file stream) 0
+target_number delete_record file stream = unwrap_or (current_of file stream) 0
 
 -- why an operation is refused: each reason beside its condition, and the first that holds counts
 abbrev pub refusals_of : Operation → FileVal → StreamVal → List (Bool × Refusal)
@@ -111,19 +111,19 @@ first_refusal (row ∷ rows) = if row.0 then Some row.1 else first_refusal rows
 -- the file after an operation that isn't refused
 abbrev pub file_after : Operation → FileVal → StreamVal → FileVal
 file_after (get_record pick) file stream = file
-file_after (put_record key body) file stream = stored file (number_of (put_record key body) file stream) body
-file_after (update_record body) file stream = stored file (number_of (update_record body) file stream) body
-file_after delete_record file stream = removed file (number_of delete_record file stream)
+file_after (put_record key body) file stream = stored file (target_number (put_record key body) file stream) body
+file_after (update_record body) file stream = stored file (target_number (update_record body) file stream) body
+file_after delete_record file stream = removed file (target_number delete_record file stream)
 
 -- where the stream reads next after such an operation
 abbrev pub next_after : Operation → FileVal → StreamVal → ℕ
-next_after (get_record pick) file stream = number_of (get_record pick) file stream + 1
+next_after (get_record pick) file stream = target_number (get_record pick) file stream + 1
 next_after (put_record None body) file stream = if is_seq file.shape.org then stream.next else stream.next + 1
 next_after _ file stream = stream.next
 
 -- the current record after such an operation: a get alone makes one
 abbrev pub current_after : Operation → FileVal → StreamVal → Option ℕ
-current_after (get_record pick) file stream = Some (number_of (get_record pick) file stream)
+current_after (get_record pick) file stream = Some (target_number (get_record pick) file stream)
 current_after _ file stream = None
 
 -- what an operation leaves, and its answer
@@ -138,7 +138,7 @@ outcome_of None operation file stream =
     record {
       file = file_after operation file stream;
       stream = record stream { next = next_after operation file stream; current = current_after operation file stream };
-      reply = Ok (number_of operation file stream);
+      reply = Ok (target_number operation file stream);
     }
 outcome_of (Some refusal) operation file stream = record { file = file; stream = record stream { current = None }; reply = Err refusal }
 

@@ -17,7 +17,7 @@ use Rattle.dap_accessed.specs.declared.phase.Phase.TheVariants as phases
 use Rattle.dap_accessed.specs.declared.verbs.Verb.{Verb}
 use Rattle.dap_accessed.specs.Standing.{Files, place_of, the_file, enters, Place, Scene, Effect, Fresh, Ready, Opened, Connected, Store, Stopped}
 use Rattle.dap_msg.specs.Exchange.{no_attributes}
-use Rattle.dap_accessed.specs.Past.{Memory, shape_of, next_ordinal}
+use Rattle.dap_accessed.specs.Past.{Memory, asked_shape, next_ordinal}
 use Rattle.dap_accessed.specs.Accesses.{refuse_access, open_file, create_file, complete, end_stream}
 use Rattle.dap_accessed.specs.Records.{Change, Putting, Updating, changed, get_pick, record_got, refused, settled}
 use Rattle.dap_accessed.specs.Transfers.{fetch, store_one}
@@ -44,8 +44,8 @@ store_memory shape dropping ordinal = record { shape = shape; dropping = droppin
 
 -- in Ready an Attributes message is kept, and an Access uses it up
 abbrev pub shape_next : Option Shape → Item → Option Shape
-shape_next shape (Whole (Attrib a)) = shape_of a
-shape_next shape (Whole (Access _)) = shape_of no_attributes
+shape_next shape (Whole (Attrib a)) = asked_shape a
+shape_next shape (Whole (Access _)) = asked_shape no_attributes
 shape_next shape _ = shape
 
 -- in a Store a Filedata that is answered was refused, and a Continue Transfer with skip takes the Store up again
@@ -137,7 +137,7 @@ does p effect = settles p (plain_memory p.kept) effect
 
 -- an Access, which uses up the attributes that were kept
 abbrev pub accesses : Present → Effect → Move
-accesses p effect = settles p (plain_memory (shape_of no_attributes)) effect
+accesses p effect = settles p (plain_memory (asked_shape no_attributes)) effect
 
 abbrev pub opens_nothing : Present → Message → Move
 opens_nothing p status = accesses p (refuse_access (scene_in p) status)

@@ -1,6 +1,6 @@
 -- One end of the world: its link, what waits for it, and the packets that it wrote.
 use Rattle.std.specs.Prelude.{◌≡◌, ℕ, ◌+◌, ◌-◌, ◌<◌, ◌≤◌, List, [], ◌∷◌, ◌++◌, length, Option}
-use Rattle.nsp_link.specs.Link.{LinkValue, Sends, Writes, MayEmit}
+use Rattle.nsp_link.specs.Link.{LinkValue, Sends, Writes, MaySend}
 use Rattle.nsp_link.specs.Cutting.{cut}
 use Rattle.nsp_link.specs.Limits.{most_segments}
 use Rattle.nsp_link.specs.Sending.{queued_link}
@@ -37,8 +37,8 @@ pub record WroteOne (old new : SideValue) (sent : ℕ) (k : Option ℕ) (j : ℕ
 
 -- why no new segment is written
 abbrev pub EmitFault : LinkValue → WorldFault → Type 0
-EmitFault v fault.NothingToDo = MayEmit v → ⊥
-EmitFault v fault.NoMemory = MayEmit v
+EmitFault v fault.NothingToDo = MaySend v → ⊥
+EmitFault v fault.NoMemory = MaySend v
 EmitFault v _ = ⊥
 
 -- why no segment is written again

@@ -2,8 +2,7 @@
 use Rattle.std.specs.Prelude.{Some, None, ◌≡◌, ◌+◌, length, slice_get}
 use Rattle.nsp_link.specs.declared.link.LinkEnd.TheInside.{Inside}
 use Rattle.nsp_link.specs.Link.{LinkValue, IsLink}
-use Rattle.nsp_link.specs.Cutting.{bodies}
-use Rattle.nsp_link.specs.Inner.Pieces.{pieces, body_of, held_from}
+use Rattle.nsp_link.specs.Inner.Pieces.{bodies, pieces, body_of, held_from}
 
 abbrev pub link_view : Inside → LinkValue
 link_view a = record {

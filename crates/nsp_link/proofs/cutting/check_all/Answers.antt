@@ -2,7 +2,7 @@ use Rattle.std.proofs.Common.{◌≡◌, length, take, refl, inr, ap, ◌∙◌,
 use Rattle.std.proofs.lemmas.List.{length-append}
 use Rattle.nsp_link.proofs.Counts.{length-cut_message}
 use Rattle.nsp_link.specs.Cutting.{cut, cut_message}
-use Rattle.nsp_link.specs.Cutting.{bodies}
+use Rattle.nsp_link.specs.Inner.Pieces.{bodies}
 use Rattle.nsp_link.proofs.Several.{cut_step, cut_within, cut-none}
 use Rattle.nsp_link.proofs.cutting.check_all.Goals as goal
 

@@ -1,6 +1,6 @@
 use Rattle.std.proofs.Common.{◌≡◌, ◌+◌, length, take}
 use Rattle.nsp_link.specs.Cutting.{cut}
-use Rattle.nsp_link.specs.Cutting.{bodies}
+use Rattle.nsp_link.specs.Inner.Pieces.{bodies}
 use Rattle.nsp_link.proofs.cutting.check_all.Given as goal
 
 abbrev pub invariant-loop-message : goal.invariant-loop-message

@@ -2,7 +2,7 @@ use Rattle.std.proofs.Common.{◌≤◌, List, ℕ, length, arith, [], subst}
 use Rattle.std.specs.Prelude.{All}
 use Rattle.std.proofs.lemmas.List.{take_all}
 use Rattle.std.proofs.lemmas.List.Elements.{All-more}
-use Rattle.nsp_link.specs.Cutting.{bodies}
+use Rattle.nsp_link.specs.Inner.Pieces.{bodies}
 use Rattle.nsp_link.proofs.Several.{body_at, length-bodies}
 use Rattle.nsp_link.proofs.cutting.check_lengths.Goals as goal
 

@@ -1,7 +1,7 @@
 use Rattle.std.proofs.Common.{length, take, sym, append_assoc, arith}
 use Rattle.std.proofs.lemmas.List.{append-nil, take_all}
 use Rattle.nsp_link.specs.Cutting.{cut, cut_message}
-use Rattle.nsp_link.specs.Cutting.{bodies}
+use Rattle.nsp_link.specs.Inner.Pieces.{bodies}
 use Rattle.nsp_link.specs.Inner.Pieces.{pieces}
 use Rattle.nsp_link.proofs.Several.{cut_step, cut-none, take_kept}
 use Rattle.nsp_link.proofs.cutting.queue_all.Goals as goal
