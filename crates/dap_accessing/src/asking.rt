@@ -76,7 +76,7 @@ fn control(func: u8, rac: Option<u8>, key: Option<&[u8]>) -> Message<'_>
 }
 
 fn record(body: &Octets) -> Message<'_>
-    ensures { seen result ≡ asked.record_of body.now }
+    ensures { seen result ≡ asked.unnumbered_record body.now }
 {
     Message::Filedata {
         recnum: &[],

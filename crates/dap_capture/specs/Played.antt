@@ -1,4 +1,4 @@
--- The text of a schedule: that of some run of the machine.
+-- The text of a schedule: that of the run of the machine.
 use Rattle.std.specs.Prelude.{◌≡◌, ℕ, ◌+◌, ◌-◌, List, [], ◌∷◌, ◌++◌, length, slice_get, codes, Option, Some, None, Result}
 use Rattle.std.specs.List.{concat}
 use Rattle.std.specs.Fmt.{decimal}
@@ -117,3 +117,9 @@ pub data Played : List Numbered → Outcome → List ℕ → Type 0 where
 -- what a run over a schedule answers
 abbrev pub ScheduleGives : List ℕ → Option (List ℕ) → Option (List ℕ) → Result Outcome CaptureFault → Type 0
 ScheduleGives input = Gives (schedule_faults (said input)) (Played (said input)) input
+
+-- An input has one outcome and one text at the most.
+abbrev pub HasOneText : Type 0
+HasOneText =
+    (input a b : List ℕ) (one two : Outcome)
+    → Played (said input) one a → Played (said input) two b → (one ≡ two) × (a ≡ b)

@@ -24,7 +24,7 @@ mod words;
 
 pub use commands::{messages, schedule, show};
 pub use fault::{CaptureFault, Outcome};
-pub use laws::listings_are_one;
+pub use laws::{listings_are_one, schedules_have_one_text};
 pub use output::write_text;
 
 #[cfg(test)]

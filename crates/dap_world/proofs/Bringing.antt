@@ -127,7 +127,7 @@ same_ack old new end answer step = same_is old (wrote old end (sends old end).se
 
 pub same_deliver : (old new : State) (end : End) (j : ℕ) (answer : Step) → IsWorld old → Steps old (event.Deliver end j) answer new → SameBut old new
 unfolding Steps
-same_deliver old new end j answer h step = same_is old (delivered step.1 old end step.0) new step.5 (same_delivered old end step.1 j step.0 h step.2)
+same_deliver old new end j answer h step = same_is old (delivered true old end step.0) new step.4 (same_delivered old end true j step.0 h step.1)
 
 -- how many were sent
 pub emit_sent : (old new : State) (end : End) (answer : Step) → Steps old (event.Emit end) answer new → ((sends new end).sent ≡ (sends old end).sent + 1) × ((sends new (other end)).sent ≡ (sends old (other end)).sent)
@@ -144,10 +144,26 @@ ack_sent old new B B answer step = ap (λ (s : State). s.from_b.sent) step.1
 
 pub deliver_sent : (old new : State) (end e : End) (j : ℕ) (answer : Step) → Steps old (event.Deliver end j) answer new → (sends new e).sent ≡ (sends old e).sent
 unfolding Steps
-deliver_sent old new A A j answer step = ap (λ (s : State). s.from_a.sent) step.5
-deliver_sent old new A B j answer step = ap (λ (s : State). s.from_b.sent) step.5 ∙ came_sent step.1 old.from_b step.0.segment
-deliver_sent old new B A j answer step = ap (λ (s : State). s.from_a.sent) step.5 ∙ came_sent step.1 old.from_a step.0.segment
-deliver_sent old new B B j answer step = ap (λ (s : State). s.from_b.sent) step.5
+deliver_sent old new A A j answer step = ap (λ (s : State). s.from_a.sent) step.4
+deliver_sent old new A B j answer step = ap (λ (s : State). s.from_b.sent) step.4 ∙ came_sent true old.from_b step.0.segment
+deliver_sent old new B A j answer step = ap (λ (s : State). s.from_a.sent) step.4 ∙ came_sent true old.from_a step.0.segment
+deliver_sent old new B B j answer step = ap (λ (s : State). s.from_b.sent) step.4
+
+-- it isn't acknowledged
+pub emit_unacked : (old mid : State) (end : End) (answer : Step) → IsWorld old → unacked old end ≡ 0 → Steps old (event.Emit end) answer mid → unacked mid end ≡ 1
+unfolding Steps
+emit_unacked old mid A answer h none step =
+    let c = h.from_a.counts in ap (λ (s : State). unacked s A) step.2 ∙ omega (arith, none, c.acked_taken, c.taken_sent)
+emit_unacked old mid B answer h none step =
+    let c = h.from_b.counts in ap (λ (s : State). unacked s B) step.2 ∙ omega (arith, none, c.acked_taken, c.taken_sent)
+
+-- nor is it when it came
+pub deliver_unacked : (mid new : State) (end : End) (j : ℕ) (answer : Step) → Steps mid (event.Deliver (other end) j) answer new → unacked new end ≡ unacked mid end
+unfolding Steps
+deliver_unacked mid new A j answer step =
+    ap (λ (s : State). unacked s A) step.4 ∙ omega (arith, came_sent true mid.from_a step.0.segment, came_acked true mid.from_a step.0.segment)
+deliver_unacked mid new B j answer step =
+    ap (λ (s : State). unacked s B) step.4 ∙ omega (arith, came_sent true mid.from_b step.0.segment, came_acked true mid.from_b step.0.segment)
 
 -- ---- The segment arrives.
 
@@ -208,21 +224,21 @@ pub arrived_all : (old mid new : State) (end : End) (place : ℕ) (one two : Ste
     → Steps mid (event.Deliver (other end) place) two new → (sends new end).sent ≤ (sends new end).taken
 unfolding Steps
 arrived_all old mid new A place one two h w none first at second =
-    let same : second.0 ≡ first_sent old A = is_same second.0 (first_sent old A) _ second.2 (emitted_wire old mid A place one first at) in
-    let is = second.5 ∙ ap (λ (p : Sending). delivered second.1 mid B p) same in
+    let same : second.0 ≡ first_sent old A = is_same second.0 (first_sent old A) _ second.1 (emitted_wire old mid A place one first at) in
+    let is = second.4 ∙ ap (λ (p : Sending). delivered true mid B p) same in
     let sent = ap (λ (s : State). s.from_a.sent) first.2 in
     let taken = ap (λ (s : State). s.from_a.taken) first.2 in
     let c = h.from_a.counts in
-    let grew = took mid.seg_size mid.window mid.from_a mid.from_b second.1 (old.from_a.sent + 1) old.from_a.sent w.from_a refl (omega (arith, c.acked_taken, none, taken)) (omega (arith, sent)) in
-    subst (λ (s : State). s.from_a.sent ≤ s.from_a.taken) (sym is) (omega (arith, grew, sent, came_sent second.1 mid.from_a (Some (old.from_a.sent + 1))))
+    let grew = took mid.seg_size mid.window mid.from_a mid.from_b true (old.from_a.sent + 1) old.from_a.sent w.from_a refl (omega (arith, c.acked_taken, none, taken)) (omega (arith, sent)) in
+    subst (λ (s : State). s.from_a.sent ≤ s.from_a.taken) (sym is) (omega (arith, grew, sent, came_sent true mid.from_a (Some (old.from_a.sent + 1))))
 arrived_all old mid new B place one two h w none first at second =
-    let same : second.0 ≡ first_sent old B = is_same second.0 (first_sent old B) _ second.2 (emitted_wire old mid B place one first at) in
-    let is = second.5 ∙ ap (λ (p : Sending). delivered second.1 mid A p) same in
+    let same : second.0 ≡ first_sent old B = is_same second.0 (first_sent old B) _ second.1 (emitted_wire old mid B place one first at) in
+    let is = second.4 ∙ ap (λ (p : Sending). delivered true mid A p) same in
     let sent = ap (λ (s : State). s.from_b.sent) first.2 in
     let taken = ap (λ (s : State). s.from_b.taken) first.2 in
     let c = h.from_b.counts in
-    let grew = took mid.seg_size mid.window mid.from_b mid.from_a second.1 (old.from_b.sent + 1) old.from_b.sent w.from_b refl (omega (arith, c.acked_taken, none, taken)) (omega (arith, sent)) in
-    subst (λ (s : State). s.from_b.sent ≤ s.from_b.taken) (sym is) (omega (arith, grew, sent, came_sent second.1 mid.from_b (Some (old.from_b.sent + 1))))
+    let grew = took mid.seg_size mid.window mid.from_b mid.from_a true (old.from_b.sent + 1) old.from_b.sent w.from_b refl (omega (arith, c.acked_taken, none, taken)) (omega (arith, sent)) in
+    subst (λ (s : State). s.from_b.sent ≤ s.from_b.taken) (sym is) (omega (arith, grew, sent, came_sent true mid.from_b (Some (old.from_b.sent + 1))))
 
 -- ---- Together.
 

@@ -191,7 +191,7 @@ steps : (p : Parts) (end : End) (j : ℕ) (w : WiredValue) → slice_get (side p
     → Steps (state_of p) (event.Deliver end j) (step.Delivered (got_of (side p end).link.received w.segment)) (delivered true (state_of p) end (sending_of w))
 unfolding Steps
 steps p end j w at young =
-    (sending_of w, true, there p (other end) j (Some w) at, stale_is p end w ∙ young, ap (λ (n : ℕ). step.Delivered (got_of n w.segment)) (sym (taken_is p end)), refl)
+    (sending_of w, there p (other end) j (Some w) at, stale_is p end w ∙ young, ap (λ (n : ℕ). step.Delivered (got_of n w.segment)) (sym (taken_is p end)), refl)
 
 -- a packet that the link takes in may take memory
 takes_some : (v : LinkValue) (k : Option ℕ) → TakesIn v k → IfSome k (λ n. n ≤ v.received) → ⊥

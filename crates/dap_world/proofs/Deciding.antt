@@ -1,5 +1,5 @@
 -- An event has a step, or one reason why it has none.
-use Rattle.std.proofs.Common.{◌≡◌, arith, refl, subst, ap, true, inl, inr, length}
+use Rattle.std.proofs.Common.{◌≡◌, ◌∙◌, arith, refl, sym, subst, ap, true, inl, inr, length}
 use Rattle.std.specs.Prelude.{Some}
 use Rattle.dap_accessing.specs.declared.fault.AskFault.{AskFault}
 use Rattle.dap_accessing.specs.declared.fault.AskFault.TheVariants as ask_fault
@@ -8,11 +8,18 @@ use Rattle.dap_world.specs.declared.event.Event.{Event}
 use Rattle.dap_world.specs.declared.event.Event.TheVariants as event
 use Rattle.dap_world.specs.declared.event.WorldFault.{WorldFault}
 use Rattle.dap_world.specs.declared.event.WorldFault.TheVariants as fault
-use Rattle.dap_world.specs.Machine.{State, Sending, sends, is_stale, Steps, Refuses}
+use Rattle.dap_msg.specs.Message.{Message}
+use Rattle.nsp_link.specs.Link.{got_of}
+use Rattle.dap_world.specs.declared.event.Step.{Step}
+use Rattle.dap_world.specs.declared.event.Step.TheVariants as step
+use Rattle.dap_world.specs.Machine.{State, Sending, answering, delivered, other, sends, served_one, is_stale, Steps, Refuses}
 use Rattle.dap_world.specs.Runs.{MayHappen}
 
 same_sending : (s : State) (p q : Sending) (x : _) → x ≡ Some p → x ≡ Some q → p ≡ q
 same_sending s p q x e f = cc
+
+same_message : (p q : Message) (x : _) → x ≡ Some p → x ≡ Some q → p ≡ q
+same_message p q x e f = cc
 
 refused_ask : (s : State) (r : Request) (f : AskFault) → Refuses s (event.Ask r) (fault.Ask f) → MayHappen s (event.Ask r) → ⊥
 unfolding Steps Refuses
@@ -30,16 +37,34 @@ no_step s (event.Post end) fault.NothingToDo why may = let some = may.2.0 in let
 no_step s (event.Post end) fault.Exhausted why may = omega (arith, why.1, may.2.1)
 no_step s (event.Emit end) fault.NothingToDo why may = why may.2.0
 no_step s (event.Resend end i) fault.NothingToDo why may = omega (arith, why, may.2.0)
-no_step s (event.Deliver end j) fault.NoSuchPacket why may = let there = may.2.2 in let missing : ⊥ = cc in missing
+no_step s (event.Deliver end j) fault.NoSuchPacket why may = let there = may.2.1 in let missing : ⊥ = cc in missing
 no_step s (event.Deliver end j) fault.Stale why may =
-    let same : why.0 ≡ may.2.0 = same_sending s why.0 may.2.0 _ why.1 may.2.2 in
+    let same : why.0 ≡ may.2.0 = same_sending s why.0 may.2.0 _ why.1 may.2.1 in
     let stale : is_stale s end may.2.0 ≡ true = subst (λ (p : Sending). is_stale s end p ≡ true) same why.2 in
-    let young = may.2.3 in let missing : ⊥ = cc in missing
+    let young = may.2.2 in let missing : ⊥ = cc in missing
 no_step s event.Serve fault.NothingToDo why may =
     let empty = may.2.1 in let there = may.2.2 in
     elim why [ inl some ↦ omega (arith, some, ap length empty) | inr none ↦ let missing : ⊥ = cc in missing ]
 no_step s event.Read fault.NothingToDo why may = let there = may.2.1 in let missing : ⊥ = cc in missing
 no_step s e f why may = why
+
+-- there is one step
+pub one_step : (s : State) (e : Event) (a b : Step) (m n : State) → Steps s e a m → Steps s e b n → (a ≡ b) × (m ≡ n)
+unfolding Steps
+one_step s (event.Ask r) a b m n one two = (one.1 ∙ sym two.1, one.2 ∙ sym two.2)
+one_step s (event.Post end) a b m n one two = (one.2 ∙ sym two.2, one.3 ∙ sym two.3)
+one_step s (event.Emit end) a b m n one two = (one.1 ∙ sym two.1, one.2 ∙ sym two.2)
+one_step s (event.Resend end i) a b m n one two = (one.1 ∙ sym two.1, one.2 ∙ sym two.2)
+one_step s (event.Ack end) a b m n one two = (one.0 ∙ sym two.0, one.1 ∙ sym two.1)
+one_step s (event.Deliver end j) a b m n one two =
+    let same : one.0 ≡ two.0 = same_sending s one.0 two.0 _ one.1 two.1 in (
+      one.3 ∙ ap (λ (p : Sending). step.Delivered (got_of (sends s (other end)).taken p.segment)) same ∙ sym two.3,
+      one.4 ∙ ap (λ (p : Sending). delivered true s end p) same ∙ sym two.4,
+    )
+one_step s event.Serve a b m n one two =
+    let same : one.0 ≡ two.0 = same_message one.0 two.0 _ one.2 two.2 in
+    (one.3 ∙ ap (λ (x : Message). step.Served (length (answering s x))) same ∙ sym two.3, one.4 ∙ ap (λ (x : Message). served_one s x) same ∙ sym two.4)
+one_step s event.Read a b m n one two = (one.2 ∙ sym two.2, one.3 ∙ sym two.3)
 
 refused_once : (s : State) (r : Request) (f g : AskFault) → Refuses s (event.Ask r) (fault.Ask f) → Refuses s (event.Ask r) (fault.Ask g) → f ≡ g
 unfolding Refuses

@@ -21,7 +21,8 @@ use Rattle.dap_world.specs.Machine.{State, answers_read, asked, files_of, report
 use Rattle.dap_world.specs.Runs.{Went}
 use Rattle.dap_world.specs.Inner.Worlds.{IsWorld}
 use Rattle.dap_world.specs.Settling.{AllDone, AllTold, Finished, FinishFault, IsFresh, RanOut, RanTo, StopsAtRequest}
-use Rattle.dap_world.specs.Inner.Settling.{RunsTo}
+use Rattle.dap_world.specs.Inner.Settling.{IsQuiet, RunsTo}
+use Rattle.dap_world.proofs.Exhausting.{quiet_enough}
 use Rattle.dap_world.proofs.Kept.{headline_of}
 use Rattle.dap_world.proofs.Onward.{ran_on, ran_world}
 use Rattle.dap_world.proofs.Others.{refused_same}
@@ -71,24 +72,33 @@ asked_is s new r answer step = step.2
 
 -- ---- The reasons to stop.
 
-pub ask_stops : (s new : State) (requests : List Request) (i : ℕ) (r : Request) (f : WorldFault) → due_after s.requests (answers_read s) ≢ Wrong → AllDone (take i requests) s → slice_get requests i ≡ Some r → Went s (event.Ask r) (Err f) new
+pub ask_stops : (s new : State) (requests : List Request) (i : ℕ) (r : Request) (f : WorldFault) → IsQuiet s → due_after s.requests (answers_read s) ≢ Wrong → AllDone (take i requests) s → slice_get requests i ≡ Some r → Went s (event.Ask r) (Err f) new
     → StopsAtRequest requests new (i, f)
 unfolding Steps Refuses
-ask_stops s new requests i r fault.NoMemory right done there went =
+ask_stops s new requests i r fault.NoMemory quiet right done there went =
     subst (λ (t : State). StopsAtRequest requests t (i, fault.NoMemory)) (sym went.1)
-    (record { there = slice_get_within requests i r there; asked = inl done.asked; reports = done.told.reports ∙ ap (reports_of s.own_a s.own_b) done.asked })
-ask_stops s new requests i r (fault.Ask ask_fault.Busy) right done there went = absurd (went.0 (told_due s done.told right))
-ask_stops s new requests i r (fault.Ask ask_fault.WrongPhase) right done there went =
+    (record { there = slice_get_within requests i r there; asked = inl done.asked; reports = done.told.reports ∙ ap (reports_of s.own_a s.own_b) done.asked; why = quiet_enough s quiet })
+ask_stops s new requests i r (fault.Ask ask_fault.Busy) quiet right done there went = absurd (went.0 (told_due s done.told right))
+ask_stops s new requests i r (fault.Ask ask_fault.WrongPhase) quiet right done there went =
     subst (λ (t : State). StopsAtRequest requests t (i, fault.Ask ask_fault.WrongPhase)) (sym went.1) (record { done = done; request = r; there = there; refused = went.0; why = inl refl })
-ask_stops s new requests i r (fault.Ask ask_fault.TooLarge) right done there went =
+ask_stops s new requests i r (fault.Ask ask_fault.TooLarge) quiet right done there went =
     subst (λ (t : State). StopsAtRequest requests t (i, fault.Ask ask_fault.TooLarge)) (sym went.1) (record { done = done; request = r; there = there; refused = went.0; why = inr refl })
-ask_stops s new requests i r (fault.Ask ask_fault.NoMemory) right done there went = absurd went.0
-ask_stops s new requests i r (fault.Ask ask_fault.Failed) right done there went = absurd went.0
-ask_stops s new requests i r fault.NothingToDo right done there went = absurd went.0
-ask_stops s new requests i r fault.NoSuchPacket right done there went = absurd went.0
-ask_stops s new requests i r fault.Stale right done there went = absurd went.0
-ask_stops s new requests i r fault.Exhausted right done there went = absurd went.0
-ask_stops s new requests i r fault.BadSetup right done there went = absurd went.0
+ask_stops s new requests i r (fault.Ask ask_fault.NoMemory) quiet right done there went = absurd went.0
+ask_stops s new requests i r (fault.Ask ask_fault.Failed) quiet right done there went = absurd went.0
+ask_stops s new requests i r fault.NothingToDo quiet right done there went = absurd went.0
+ask_stops s new requests i r fault.NoSuchPacket quiet right done there went = absurd went.0
+ask_stops s new requests i r fault.Stale quiet right done there went = absurd went.0
+ask_stops s new requests i r fault.Exhausted quiet right done there went = absurd went.0
+ask_stops s new requests i r fault.BadSetup quiet right done there went = absurd went.0
+
+ran_out : (requests : List Request) (new : State) (i : ℕ) (f : WorldFault) → FinishFault new f → RanOut requests new i f → StopsAtRequest requests new (i, f)
+ran_out requests new i fault.NoMemory why out = out
+ran_out requests new i fault.Exhausted why out = out
+ran_out requests new i fault.NoSuchPacket why out = absurd why
+ran_out requests new i fault.Stale why out = absurd why
+ran_out requests new i fault.NothingToDo why out = absurd why
+ran_out requests new i (fault.Ask f) why out = absurd why
+ran_out requests new i fault.BadSetup why out = absurd why
 
 -- the state after the request, and the events that came then
 module _ (s mid new : State) (requests : List Request) (i : ℕ) (r : Request) (answer : Step) (w : IsWorld mid) (done : AllDone (take i requests) s) (there : slice_get requests i ≡ Some r) (step : Steps s (event.Ask r) answer mid) where
@@ -100,7 +110,7 @@ module _ (s mid new : State) (requests : List Request) (i : ℕ) (r : Request) (
       let asked : new.requests ≡ take (i + 1) requests = (ran_on mid new n w f.ran).requests ∙ requests_then in
       record { asked = asked; admissible = subst (AreAdmissible new.own_a new.own_b []) asked (ran_world mid new n w f.ran).admissible; told = f.told }
 
-  pub finish_stops : (f : WorldFault) → due_after s.requests (answers_read s) ≢ Wrong → FinishFault f → RanTo mid new → reported new ≡ reported mid → StopsAtRequest requests new (i, f)
+  pub finish_stops : (f : WorldFault) → due_after s.requests (answers_read s) ≢ Wrong → FinishFault new f → RanTo mid new → reported new ≡ reported mid → StopsAtRequest requests new (i, f)
   finish_stops f right why ran same =
       let on = ran_on mid new ran.0 w ran.1 in
       let is = asked_is s mid r answer step in
@@ -109,11 +119,7 @@ module _ (s mid new : State) (requests : List Request) (i : ℕ) (r : Request) (
       let reports : reported new ≡ reports_of new.own_a new.own_b (take i requests) =
       same ∙ ap reported is ∙ asked_told s r done.told right ∙ done.told.reports ∙ ap (reports_of s.own_a s.own_b) done.asked
       ∙ sym (ap (λ (n : ℕ). reports_of n new.own_b (take i requests)) own_a ∙ ap (λ (n : ℕ). reports_of s.own_a n (take i requests)) own_b) in
-      let out : RanOut requests new i = record { there = slice_get_within requests i r there; asked = inr (on.requests ∙ requests_then); reports = reports } in
-      elim why [
-        | inl memory ↦ subst (λ (g : WorldFault). StopsAtRequest requests new (i, g)) (sym memory) out
-        | inr numbers ↦ subst (λ (g : WorldFault). StopsAtRequest requests new (i, g)) (sym numbers) out
-      ]
+      ran_out requests new i f why (record { there = slice_get_within requests i r there; asked = inr (on.requests ∙ requests_then); reports = reports; why = why })
 
 -- ---- Runs.
 

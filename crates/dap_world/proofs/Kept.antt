@@ -1,5 +1,5 @@
 -- What is true of every world stays so, whatever happens; and the headline follows from it.
-use Rattle.std.proofs.Common.{◌≡◌, ℕ, ◌+◌, ◌≤◌, arith, refl, sym, ◌∙◌, Bool, subst, ap, append_assoc, List, [], ◌∷◌, ◌++◌, length, take, drop, map}
+use Rattle.std.proofs.Common.{◌≡◌, ℕ, ◌+◌, ◌≤◌, arith, refl, sym, ◌∙◌, Bool, true, subst, ap, append_assoc, List, [], ◌∷◌, ◌++◌, length, take, drop, map}
 use Rattle.std.specs.Prelude.{Option, Some, None, slice_get}
 use Rattle.std.proofs.lemmas.List.{take-append-drop, append-nil, length-append, length-take-le, map-append}
 use Rattle.std.proofs.lemmas.Option.{slice_get_within}
@@ -21,8 +21,8 @@ use Rattle.dap_world.specs.declared.event.Event.TheVariants as event
 use Rattle.dap_world.specs.declared.event.Step.{Step}
 use Rattle.dap_world.specs.declared.setup.WorldSetup.{WorldSetup}
 use Rattle.dap_world.specs.Setups.{IsWorldSetup}
-use Rattle.dap_world.specs.Machine.{files_of, reported, State, Direction, Sending, fresh, idle, other, sends, with_sends, arrived, arrived_of, sent_by, taken_of, answers_read, asking, asked, posted, wrote, came, delivered, answering, served_one, read_one, segments_of, segments_then, Steps}
-use Rattle.dap_world.specs.Runs.{Runs}
+use Rattle.dap_world.specs.Machine.{files_of, reported, State, Direction, Sending, fresh, idle, other, sends, with_sends, arrived, arrived_of, sent_by, taken_of, answers_read, asking, asked, posted, wrote, came, delivered, answering, served_one, read_one, segments_of, segments_then, Steps, StepsFreely}
+use Rattle.dap_world.specs.Runs.{RunsBy}
 use Rattle.dap_accessed.specs.Present as accessed
 use Rattle.dap_world.specs.Inner.Parts.{Parts, state_of}
 use Rattle.dap_world.specs.Inner.Worlds.{WasSent, IsDirection, IsWorld}
@@ -309,33 +309,48 @@ kept-read s m h e =
 
 -- ---- Whatever happens.
 
-pub kept-step : (old new : State) (e : Event) (answer : Step) → Steps old e answer new → IsWorld old → IsWorld new
+-- a step is one of those that ends are free to take
+freely : (old new : State) (e : Event) (answer : Step) → Steps old e answer new → StepsFreely old e answer new
 unfolding Steps
-kept-step old new (event.Ask request) answer step h = subst IsWorld (sym step.2) (kept-asked old request h step.0)
-kept-step old new (event.Post end) answer step h = subst IsWorld (sym step.3) (kept-posted old end h step.1)
-kept-step old new (event.Emit end) answer step h =
+freely old new (event.Ask request) answer step = step
+freely old new (event.Post end) answer step = step
+freely old new (event.Emit end) answer step = step
+freely old new (event.Resend end i) answer step = step
+freely old new (event.Ack end) answer step = step
+freely old new (event.Deliver end j) answer step = (true, step)
+freely old new event.Serve answer step = step
+freely old new event.Read answer step = step
+
+kept-freely : (old new : State) (e : Event) (answer : Step) → StepsFreely old e answer new → IsWorld old → IsWorld new
+unfolding Steps
+kept-freely old new (event.Ask request) answer step h = subst IsWorld (sym step.2) (kept-asked old request h step.0)
+kept-freely old new (event.Post end) answer step h = subst IsWorld (sym step.3) (kept-posted old end h step.1)
+kept-freely old new (event.Emit end) answer step h =
     let d = sends old end in
     let counts = (direction old end h).counts in
     subst IsWorld (sym step.2) (kept-wrote old end (d.sent + 1) (Some (d.sent + 1)) h (omega arith) (omega (arith, step.0.1, counts.acked_taken, counts.taken_sent)) (omega (arith, step.0.0)) (omega arith, omega arith))
-kept-step old new (event.Resend end i) answer step h =
+kept-freely old new (event.Resend end i) answer step h =
     let d = sends old end in
     let counts = (direction old end h).counts in
     subst IsWorld (sym step.2) (kept-wrote old end d.sent (Some (d.acked + 1 + i)) h (omega arith) counts.within_window counts.sent_there (omega arith, omega (arith, step.0)))
-kept-step old new (event.Ack end) answer step h =
+kept-freely old new (event.Ack end) answer step h =
     let counts = (direction old end h).counts in
     subst IsWorld (sym step.1) (kept-wrote old end (sends old end).sent None h (omega arith) counts.within_window counts.sent_there tt)
-kept-step old new (event.Deliver end j) answer step h = subst IsWorld (sym step.5) (kept-comes step.1 old end j step.0 h step.2)
-kept-step old new event.Serve answer step h = subst IsWorld (sym step.4) (kept-served old step.0 h step.1 step.2)
-kept-step old new event.Read answer step h = subst IsWorld (sym step.3) (kept-read old step.0 h step.1)
+kept-freely old new (event.Deliver end j) answer (keep, step) h = subst IsWorld (sym step.4) (kept-comes keep old end j step.0 h step.1)
+kept-freely old new event.Serve answer step h = subst IsWorld (sym step.4) (kept-served old step.0 h step.1 step.2)
+kept-freely old new event.Read answer step h = subst IsWorld (sym step.3) (kept-read old step.0 h step.1)
 
-pub kept-run : (events : List Event) (old new : State) → Runs old events new → IsWorld old → IsWorld new
+pub kept-step : (old new : State) (e : Event) (answer : Step) → Steps old e answer new → IsWorld old → IsWorld new
+kept-step old new e answer step h = kept-freely old new e answer (freely old new e answer step) h
+
+kept-run : (events : List Event) (old new : State) → RunsBy StepsFreely old events new → IsWorld old → IsWorld new
 kept-run [] old new run h = subst IsWorld (sym run) h
-kept-run (e ∷ events) old new run h = kept-run events run.0 new run.3 (kept-step old run.0 e run.1 run.2 h)
+kept-run (e ∷ events) old new run h = kept-run events run.0 new run.3 (kept-freely old run.0 e run.1 run.2 h)
 
 -- what is true of every world is true after every run from a new one
-pub runs_sound : (setup : WorldSetup) (events : List Event) (new : State) → IsWorldSetup setup → Runs (fresh setup) events new → IsWorld new
+pub runs_sound : (setup : WorldSetup) (events : List Event) (new : State) → IsWorldSetup setup → RunsBy StepsFreely (fresh setup) events new → IsWorld new
 runs_sound setup events new h run = kept-run events (fresh setup) new run (is_fresh setup h)
 
 -- the headline of every run from a new world
-pub headline : (setup : WorldSetup) (events : List Event) (new : State) → IsWorldSetup setup → Runs (fresh setup) events new → HeadlineOf new
+pub headline : (setup : WorldSetup) (events : List Event) (new : State) → IsWorldSetup setup → RunsBy StepsFreely (fresh setup) events new → HeadlineOf new
 headline setup events new h run = headline_of new (runs_sound setup events new h run)

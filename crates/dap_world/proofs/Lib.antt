@@ -32,6 +32,8 @@ pub mod Emptying
 pub mod Naming
 pub mod Deciding
 pub mod Apart
+pub mod Exhausting
+pub mod ForCallers
 pub mod Resting
 pub mod Few
 pub mod Onward

@@ -13,8 +13,9 @@ use Rattle.dap_world.specs.declared.event.WorldFault.TheVariants as fault
 use Rattle.dap_world.specs.Machine.{State, Direction, sends, with_sends, other, posted, segments_of, MayEmit, Steps, Refuses}
 use Rattle.dap_world.specs.Runs.{Went}
 use Rattle.dap_world.specs.Inner.Worlds.{IsWorld}
-use Rattle.dap_world.specs.Settling.{RanBy, IsEmpty, FinishFault, unacked}
-use Rattle.dap_world.specs.Inner.Settling.{BroughtAll, Emptied, PostedAll}
+use Rattle.dap_world.specs.Settling.{RanBy, IsEmpty, IsExhausted, IsPostDue, unacked}
+use Rattle.dap_world.specs.Inner.Settling.{BroughtAll, Emptied, PostedAll, SameBut}
+use Rattle.dap_world.proofs.Exhausting.{IsHandedOver, left_over}
 use Rattle.dap_world.proofs.Kept.{direction}
 use Rattle.dap_world.proofs.Settles.{ran_none, ran_one, ran_both}
 
@@ -39,14 +40,14 @@ posted_none old new end went =
     subst (λ (s : State). PostedAll old s end 0) (sym went.1)
     (record { ran = ran_none old; is = posted_still old end went.0; few = omega arith; nothing = λ none. refl })
 
-pub post_refused : (old new : State) (end : End) (f : WorldFault) → (f ≡ fault.NothingToDo → ⊥) → Went old (event.Post end) (Err f) new → FinishFault f × (new ≡ old) × (0 < length (sends old end).waiting)
+pub post_refused : (old new : State) (end : End) (f : WorldFault) → (f ≡ fault.NothingToDo → ⊥) → Went old (event.Post end) (Err f) new → 0 < length (sends old end).waiting
 unfolding Steps Refuses
-post_refused old new end fault.NoMemory other went = (inl refl, went.1, went.0.0.2.0)
+post_refused old new end fault.NoMemory other went = went.0.0.2.0
+post_refused old new end fault.Exhausted other went = went.0.0
 post_refused old new end fault.NothingToDo other went = absurd (other refl)
 post_refused old new end fault.NoSuchPacket other went = absurd went.0
 post_refused old new end fault.Stale other went = absurd went.0
 post_refused old new end (fault.Ask g) other went = absurd went.0
-post_refused old new end fault.Exhausted other went = (inr refl, went.1, went.0.0)
 post_refused old new end fault.BadSetup other went = absurd went.0
 
 -- ---- And its segments.
@@ -65,6 +66,20 @@ record Moved (old mid : State) (end : End) : Type 0 where
 moved : (old mid : State) (end : End) → mid ≡ with_sends old end (posted (sends old end)) → Moved old mid end
 moved old mid A is = subst (λ (s : State). Moved old s A) (sym is) (record { waiting = refl; handed = refl; sent = refl; acked = refl; served = refl; read = refl; back = refl; seg_size = refl })
 moved old mid B is = subst (λ (s : State). Moved old s B) (sym is) (record { waiting = refl; handed = refl; sent = refl; acked = refl; served = refl; read = refl; back = refl; seg_size = refl })
+
+-- all that waits is handed over, and stays so
+handed_over : (old mid : State) (end : End) (n : ℕ) → IsPostDue old end → PostedAll old mid end n → IsHandedOver mid end
+handed_over old mid A n due p = (moved old mid A p.is).waiting
+handed_over old mid B n due p =
+    let m = moved old mid B p.is in
+    λ e. elim e [ A ↦ ap (λ (d : Direction). d.waiting) m.back ∙ due.0.waiting | B ↦ m.waiting ]
+
+over_still : (mid new : State) (end : End) → SameBut mid new → IsHandedOver mid end → IsHandedOver new end
+over_still mid new A same over = same.waiting A ∙ over
+over_still mid new B same over = λ e. same.waiting e ∙ over e
+
+pub sent_left : (old mid new : State) (end : End) (n : ℕ) → IsPostDue old end → PostedAll old mid end n → SameBut mid new → (IsEmpty new end → ⊥) → IsExhausted new → ⊥
+sent_left old mid new end n due p same left = left_over new end left (over_still mid new end same (handed_over old mid end n due p))
 
 pub posted_read : (old mid : State) (end : End) (n : ℕ) → PostedAll old mid end n → mid.read ≡ old.read
 posted_read old mid end n p = (moved old mid end p.is).read

@@ -15,8 +15,9 @@ use Rattle.dap_world.specs.declared.event.WorldFault.TheVariants as fault
 use Rattle.dap_world.specs.Machine.{State, Direction, arrived, arrived_of, segments_of, sent_by, taken_of, Steps, Refuses}
 use Rattle.dap_world.specs.Runs.{Went}
 use Rattle.dap_world.specs.Inner.Worlds.{IsWorld}
-use Rattle.dap_world.specs.Settling.{RanBy, RanTo, IsEmpty, FinishFault, unacked}
+use Rattle.dap_world.specs.Settling.{RanBy, RanTo, IsEmpty, IsExhausted, IsPostDue, FinishFault, unacked}
 use Rattle.dap_world.specs.Inner.Settling.{AreEmpty, Emptied, Served, ServedEvery}
+use Rattle.dap_world.proofs.Exhausting.{quiet_empty, quiet_enough}
 use Rattle.dap_world.proofs.Kept.{headline_of}
 use Rattle.dap_world.proofs.Settles.{ran_none, ran_one, ran_both}
 
@@ -43,9 +44,9 @@ none_past [] n lt e = omega (arith, lt)
 none_past (x ∷ xs) zero lt e = cc
 none_past (x ∷ xs) (suc n) lt e = none_past xs n (omega (arith, lt)) e
 
-pub serve_refused : (old now new : State) (n k : ℕ) (f : WorldFault) → IsWorld now → Served old now n k → now.served < length (sent_by now.from_a) → Went now event.Serve (Err f) new → FinishFault f × RanTo old new
+pub serve_refused : (old now new : State) (n k : ℕ) (f : WorldFault) → IsWorld now → Served old now n k → now.served < length (sent_by now.from_a) → Went now event.Serve (Err f) new → FinishFault new f × RanTo old new
 unfolding Steps Refuses
-serve_refused old now new n k fault.NoMemory w h lt went = (inl refl, (n, subst (λ (s : State). RanBy old s n) (sym went.1) h.ran))
+serve_refused old now new n k fault.NoMemory w h lt went = (subst (λ (s : State). IsExhausted s → ⊥) (sym went.1) (quiet_enough now (quiet_empty now h.empty)), (n, subst (λ (s : State). RanBy old s n) (sym went.1) h.ran))
 serve_refused old now new n k fault.NothingToDo w h lt went =
     elim went.0 [
       | inl some ↦ absurd (omega (arith, some, ap length h.empty.1.waiting))
@@ -83,8 +84,14 @@ served_one old new answer step =
     }
 
 -- B has nothing unacknowledged
-pub served_settled : (old new : State) → ServedOne old new → IsEmpty old B → unacked new B ≡ 0
-served_settled old new h e = omega (arith, h.sent, h.acked, e.acked)
+pub served_due : (old new : State) → ServedOne old new → AreEmpty old → IsPostDue new B
+served_due old new h e = (
+  record { waiting = ap (λ (d : Direction). d.waiting) h.from_a ∙ e.0.waiting; sent = ap (λ (d : Direction). d.sent) h.from_a ∙ e.0.sent ∙ sent_all; acked = ap (λ (d : Direction). d.sent - d.acked) h.from_a ∙ e.0.acked },
+  omega (arith, h.sent, h.acked, e.1.acked),
+)
+  where
+    sent_all : segments_of old.seg_size old.from_a.handed ≡ segments_of new.seg_size new.from_a.handed
+    sent_all = ap (λ (n : ℕ). segments_of n old.from_a.handed) (sym h.seg_size) ∙ ap (λ (d : Direction). segments_of new.seg_size d.handed) (sym h.from_a)
 
 pub served_none : (s : State) → AreEmpty s → Served s s 0 0
 served_none s e = record { ran = ran_none s; empty = e; handed = refl; sent_a = refl; served = omega arith; read = refl; more = 0; sent_b = omega arith; count = omega arith; nothing = λ none. refl }

@@ -181,10 +181,10 @@ unfolding Steps
 came_at old now new end first count n j m answer world h there lt few is one step =
     let at : slice_get (sends now (other (other end))).wire j ≡ Some (again old end n) =
     subst (λ (e : End). slice_get (sends now e).wire j ≡ Some (again old end n)) (sym (twice end)) (ap (slice_get (sends now end).wire) is ∙ next_there old now end first count n h there lt) in
-    let same : step.0 ≡ again old end n = is_same step.0 (again old end n) _ step.2 at in
+    let same : step.0 ≡ again old end n = is_same step.0 (again old end n) _ step.1 at in
     subst (λ (x : ℕ). AllCame old new end x) (sym one)
-    (came_one old now new end n step.1 world h (omega arith) (ran_more old now new n (event.Deliver (other end) j) answer tt h.ran step)
-    (step.5 ∙ ap (λ (p : Sending). delivered step.1 now (other end) p) same))
+    (came_one old now new end n true world h (omega arith) (ran_more old now new n (event.Deliver (other end) j) answer tt h.ran step)
+    (step.4 ∙ ap (λ (p : Sending). delivered true now (other end) p) same))
 
 -- a segment that isn't acknowledged isn't stale, nor is an acknowledgement of all that was taken
 fresh_again : (old now : State) (end : End) (n : ℕ) → IsWorld now → AllCame old now end n → is_stale now (other end) (again old end n) ≡ false
@@ -259,14 +259,18 @@ ack_wrote : (old mid : State) (end : End) (answer : Step) → AckStep old end an
 unfolding Steps
 ack_wrote old mid end answer step = step.1
 
+pub ack_unacked : (old mid : State) (end : End) (answer : Step) → AckStep old end answer mid → unacked mid end ≡ unacked old end
+ack_unacked old mid A answer step = ap (λ (s : State). unacked s A) (ack_wrote old mid A answer step)
+ack_unacked old mid B answer step = ap (λ (s : State). unacked s B) (ack_wrote old mid B answer step)
+
 pub acknowledged_all : (old mid new : State) (end : End) (place : ℕ) (one two : Step) → IsWorld old → (sends old end).sent ≤ (sends old end).taken → place ≡ length (sends old (other end)).wire
     → Steps old (event.Ack (other end)) one mid → Steps mid (event.Deliver end place) two new → RanBy old new 2 × (unacked new end ≡ 0)
 unfolding Steps
 acknowledged_all old mid new end place one two world all at first second =
     let is = ack_wrote old mid end one first in
-    let same : second.0 ≡ alone old end = is_same second.0 (alone old end) _ second.2 (acked_wire old mid end place is at) in (
+    let same : second.0 ≡ alone old end = is_same second.0 (alone old end) _ second.1 (acked_wire old mid end place is at) in (
       ran_both old mid new 1 1 (ran_one old mid (event.Ack (other end)) one tt first) (ran_one mid new (event.Deliver end place) two tt second),
-      acked_all old mid new end second.1 world all is (second.5 ∙ ap (λ (p : Sending). delivered second.1 mid end p) same),
+      acked_all old mid new end true world all is (second.4 ∙ ap (λ (p : Sending). delivered true mid end p) same),
     )
 
 fresh_alone : (old mid : State) (end : End) → IsWorld old → mid ≡ wrote old (other end) (sends old (other end)).sent None → is_stale mid end (alone old end) ≡ false
@@ -324,6 +328,9 @@ wire_grew old mid B count h = ap (λ (s : State). length s.from_b.wire) h.wrote 
 pub same_unacked : (old mid : State) (end : End) (count : ℕ) → AllResent old mid end count → unacked mid end ≡ unacked old end
 same_unacked old mid A count h = ap (λ (s : State). unacked s A) h.wrote
 same_unacked old mid B count h = ap (λ (s : State). unacked s B) h.wrote
+
+pub came_unacked : (old new : State) (end : End) (n : ℕ) → AllCame old new end n → unacked new end ≡ unacked old end
+came_unacked old new end n h = omega (arith, h.sent, h.acked)
 
 -- all that was sent was taken
 pub all_taken : (mid now : State) (end : End) (count : ℕ) → IsWorld mid → AllCame mid now end count → count ≡ unacked mid end → (sends now end).sent ≤ (sends now end).taken

@@ -3,11 +3,12 @@ use Rattle.std.proofs.Common.{◌≡◌, ℕ, refl, sym, subst, ap, ◌∙◌, L
 use Rattle.std.specs.List.{AllByRecursion}
 use Rattle.dap_msg.specs.Blocked.{all_joined}
 use Rattle.nsp_link.specs.Cutting.{cut}
-use Rattle.nsp_link.specs.Link.{LinkValue, Writes, IsWritten}
+use Rattle.nsp_link.specs.Link.{LinkValue, Sends, Writes, IsWritten}
 use Rattle.dap_world.specs.declared.event.End.{End}
 use Rattle.dap_world.specs.declared.event.End.TheVariants.{A, B}
 use Rattle.dap_world.specs.declared.side.Wired.{Wired}
 use Rattle.dap_world.specs.Machine.{State, sends, other}
+use Rattle.dap_world.specs.Runs.{IsLinkOf}
 use Rattle.dap_world.specs.Wires as wires
 use Rattle.dap_world.specs.Wires.{address_of, IsOnWire, AreWired}
 use Rattle.dap_world.specs.Inner.Sides.{WiredValue, sending_of}
@@ -15,14 +16,14 @@ use Rattle.dap_world.specs.Inner.SideView.{wired_value}
 use Rattle.dap_world.specs.Inner.Parts.{Parts, AreParts, asks, answers, state_of, side}
 use Rattle.dap_world.proofs.Counting.{handed-bytes}
 
--- the link of an end is that of the machine
-pub record IsLinkOf (s : State) (end : End) (v : LinkValue) (messages : List (List ℕ)) : Type 0 where
-  pub local : v.local ≡ address_of end
-  pub remote : v.remote ≡ address_of (other end)
-  pub size : v.seg_size ≡ s.seg_size
-  pub messages_are : messages ≡ all_joined (sends s end).handed
+-- what a link writes is what the end writes
+record IsSideOf (s : State) (end : End) (v : LinkValue) (messages : List (List ℕ)) : Type 0 where
+  local : v.local ≡ address_of end
+  remote : v.remote ≡ address_of (other end)
+  size : v.seg_size ≡ s.seg_size
+  messages_are : messages ≡ all_joined (sends s end).handed
 
-packet_of : (s : State) (end : End) (v : LinkValue) (messages : List (List ℕ)) (w : WiredValue) → IsLinkOf s end v messages
+packet_of : (s : State) (end : End) (v : LinkValue) (messages : List (List ℕ)) (w : WiredValue) → IsSideOf s end v messages
     → Writes v messages w.segment w.acks w.packet → IsOnWire s end (sending_of w) w.packet
 unfolding IsOnWire
 packet_of s end v messages w is h =
@@ -31,7 +32,7 @@ packet_of s end v messages w is h =
     (subst (λ (n : ℕ). IsWritten (address_of end) n (cut v.seg_size messages) w.segment w.acks w.packet) is.remote
     (subst (λ (n : ℕ). IsWritten n v.remote (cut v.seg_size messages) w.segment w.acks w.packet) is.local h)))
 
-packets_of : (s : State) (end : End) (v : LinkValue) (messages : List (List ℕ)) (wire : List Wired) → IsLinkOf s end v messages
+packets_of : (s : State) (end : End) (v : LinkValue) (messages : List (List ℕ)) (wire : List Wired) → IsSideOf s end v messages
     → AllByRecursion (λ w. Writes v messages w.segment w.acks w.packet) (map wired_value wire) → AllByRecursion (λ w. IsOnWire s end (wires.sending_of w) w.packet.items) wire
 packets_of s end v messages [] is h = tt
 packets_of s end v messages (w ∷ wire) is h = (packet_of s end v messages (wired_value w) is h.0, packets_of s end v messages wire is h.1)
@@ -40,18 +41,46 @@ sendings_are : (wire : List Wired) → map wires.sending_of wire ≡ map sending
 sendings_are [] = refl
 sendings_are (w ∷ wire) = ap (λ l. wires.sending_of w ∷ l) (sendings_are wire)
 
+is_side_a : (p : Parts) (h : AreParts p) → IsSideOf (state_of p) A p.a.link h.from_a.handed
+is_side_a p h =
+    record { local = h.alike.here; remote = h.alike.there; size = refl; messages_are = handed-bytes p.a.posted h.from_a.handed p.a.outbox (asks p) h.from_a.posted h.from_a.bytes }
+
+is_side_b : (p : Parts) (h : AreParts p) → IsSideOf (state_of p) B p.b.link h.from_b.handed
+is_side_b p h =
+    record {
+      local = sym h.from_a.way.back ∙ h.alike.there;
+      remote = sym h.from_a.way.there ∙ h.alike.here;
+      size = h.alike.size;
+      messages_are = handed-bytes p.b.posted h.from_b.handed p.b.outbox (answers p) h.from_b.posted h.from_b.bytes;
+    }
+
 pub wire_of : (p : Parts) (end : End) (wire : List Wired) → AreParts p → map wired_value wire ≡ (side p end).wire → AreWired (state_of p) end wire
 wire_of p A wire h is =
     record {
       sendings = sendings_are wire ∙ ap (λ (l : List WiredValue). map sending_of l) is;
-      packets = packets_of (state_of p) A p.a.link h.from_a.handed wire
-          (record { local = h.alike.here; remote = h.alike.there; size = refl; messages_are = handed-bytes p.a.posted h.from_a.handed p.a.outbox (asks p) h.from_a.posted h.from_a.bytes })
+      packets = packets_of (state_of p) A p.a.link h.from_a.handed wire (is_side_a p h)
           (subst (λ (l : List WiredValue). AllByRecursion (λ w. Writes p.a.link h.from_a.handed w.segment w.acks w.packet) l) (sym is) h.from_a.way.wire);
     }
 wire_of p B wire h is =
     record {
       sendings = sendings_are wire ∙ ap (λ (l : List WiredValue). map sending_of l) is;
-      packets = packets_of (state_of p) B p.b.link h.from_b.handed wire
-          (record { local = sym h.from_a.way.back ∙ h.alike.there; remote = sym h.from_a.way.there ∙ h.alike.here; size = h.alike.size; messages_are = handed-bytes p.b.posted h.from_b.handed p.b.outbox (answers p) h.from_b.posted h.from_b.bytes })
+      packets = packets_of (state_of p) B p.b.link h.from_b.handed wire (is_side_b p h)
           (subst (λ (l : List WiredValue). AllByRecursion (λ w. Writes p.b.link h.from_b.handed w.segment w.acks w.packet) l) (sym is) h.from_b.way.wire);
+    }
+
+-- the link of an end is that of the machine
+pub link_of : (p : Parts) (end : End) → AreParts p → IsLinkOf (state_of p) end (side p end).link
+link_of p A h =
+    let is = is_side_a p h in
+    record {
+      local = is.local; remote = is.remote; size = is.size; window = refl; sent = refl; acked = refl;
+      queued = subst (Sends p.a.link) is.messages_are h.from_a.way.sends;
+      received = refl; held = refl; running = h.from_a.way.running;
+    }
+link_of p B h =
+    let is = is_side_b p h in
+    record {
+      local = is.local; remote = is.remote; size = is.size; window = h.alike.window; sent = refl; acked = refl;
+      queued = subst (Sends p.b.link) is.messages_are h.from_b.way.sends;
+      received = refl; held = refl; running = h.from_b.way.running;
     }

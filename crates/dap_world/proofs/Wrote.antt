@@ -109,7 +109,7 @@ segments_there p B h =
     ∙ ap (λ n. length (cut n h.from_b.handed)) (sym h.alike.size)
     ∙ sym (queued p.b.link h.from_b.handed h.from_b.way.sends)
 
-pub can : (p : Parts) (end : End) → AreParts p → link.MayEmit (side p end).link → MayEmit (state_of p) end
+pub can : (p : Parts) (end : End) → AreParts p → link.MaySend (side p end).link → MayEmit (state_of p) end
 can p A h m =
     let there = segments_there p A h in
     (omega (arith, there, m.0), omega (arith, m.1, h.world.from_a.counts.acked_taken, h.world.from_a.counts.taken_sent))
@@ -117,7 +117,7 @@ can p B h m =
     let there = segments_there p B h in
     (omega (arith, there, m.0), omega (arith, m.1, h.alike.window, h.world.from_b.counts.acked_taken, h.world.from_b.counts.taken_sent))
 
-pub cannot : (p : Parts) (end : End) → AreParts p → (link.MayEmit (side p end).link → ⊥) → MayEmit (state_of p) end → ⊥
+pub cannot : (p : Parts) (end : End) → AreParts p → (link.MaySend (side p end).link → ⊥) → MayEmit (state_of p) end → ⊥
 cannot p A h denied m =
     let there = segments_there p A h in
     denied (omega (arith, there, m.0), omega (arith, m.1, h.world.from_a.counts.acked_taken, h.world.from_a.counts.taken_sent))
@@ -136,7 +136,7 @@ emits p A m = (m, refl, refl)
 emits p B m = (m, refl, refl)
 
 pub emitted : (p : Parts) (end : End) (s : SideValue) (r : Result ℕ WorldFault) → AreParts p
-    → IfOk r (λ j. link.MayEmit (side p end).link × WroteOne (side p end) s ((side p end).link.sent + 1) (Some ((side p end).link.sent + 1)) j)
+    → IfOk r (λ j. link.MaySend (side p end).link × WroteOne (side p end) s ((side p end).link.sent + 1) (Some ((side p end).link.sent + 1)) j)
     → IfErr r (λ f. (s ≡ side p end) × EmitFault (side p end).link f) → AreAfter p end (event.Emit end) s (packet_of r)
 unfolding Steps Refuses
 emitted p end s (Ok j) h ok err = one_more p end (event.Emit end) _ _ s j h ok.1 (emits p end (can p end h ok.0))

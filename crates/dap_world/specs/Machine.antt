@@ -203,7 +203,13 @@ next_to_read s = slice_get (arrived_of s.seg_size s.from_b) s.read
 
 -- ---- Events.
 
--- The event happens: it is answered so, and leads from the old state to the new.
+-- A packet that the other end wrote comes to an end, and isn't stale.
+abbrev pub Delivers : (keep : Bool) → State → End → ℕ → Step → State → Type 0
+Delivers keep s end j answer new =
+    (p : Sending) × (slice_get (sends s (other end)).wire j ≡ Some p) × (is_stale s end p ≡ false)
+    × (answer ≡ step.Delivered (got_of (sends s (other end)).taken p.segment)) × (new ≡ delivered keep s end p)
+
+-- The event happens: it is answered so, and leads from the old state to the new. Each early segment is kept.
 unfoldable pub Steps : State → Event → Step → State → Type 0
 Steps s (event.Ask request) answer new =
     IsAdmissible s.own_a s.requests (answers_read s) request × (answer ≡ step.Asked (length (asking s request))) × (new ≡ asked s request)
@@ -218,13 +224,16 @@ Steps s (event.Resend end i) answer new =
     (i < d.sent - d.acked) × (answer ≡ step.Packet (length d.wire)) × (new ≡ wrote s end d.sent (Some (d.acked + 1 + i)))
 Steps s (event.Ack end) answer new =
     let d = sends s end in (answer ≡ step.Packet (length d.wire)) × (new ≡ wrote s end d.sent None)
-Steps s (event.Deliver end j) answer new =
-    (p : Sending) × (keep : Bool) × (slice_get (sends s (other end)).wire j ≡ Some p) × (is_stale s end p ≡ false)
-    × (answer ≡ step.Delivered (got_of (sends s (other end)).taken p.segment)) × (new ≡ delivered keep s end p)
+Steps s (event.Deliver end j) answer new = Delivers true s end j answer new
 Steps s event.Serve answer new =
     (m : Message) × (s.from_b.waiting ≡ []) × (next_to_serve s ≡ Some m) × (answer ≡ step.Served (length (answering s m))) × (new ≡ served_one s m)
 Steps s event.Read answer new =
     (m : Message) × (next_to_read s ≡ Some m) × (answer ≡ told_by s (read_one s)) × (new ≡ read_one s)
+
+-- The same of ends that are free to let an early segment go.
+abbrev pub StepsFreely : State → Event → Step → State → Type 0
+StepsFreely s (event.Deliver end j) answer new = (keep : Bool) × Delivers keep s end j answer new
+StepsFreely s e answer new = Steps s e answer new
 
 -- The event has no step, and this is why: the first reason that holds. Want of memory is no reason of the machine's.
 unfoldable pub Refuses : State → Event → WorldFault → Type 0

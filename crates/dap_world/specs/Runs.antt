@@ -1,6 +1,8 @@
 -- What one event comes to, and several.
-use Rattle.std.specs.Prelude.{◌≡◌, ◌≤◌, ◌<◌, ℕ, ◌-◌, List, [], ◌∷◌, length, take, slice_get, Option, Some, None, IfSome, Result, Ok, Err, false}
-use Rattle.nsp_link.specs.Link.{LinkValue}
+use Rattle.std.specs.Prelude.{◌≡◌, ◌≤◌, ◌<◌, ℕ, List, [], ◌∷◌, length, take, slice_get, Option, Some, None, IfSome, Result, Ok, Err, false}
+use Rattle.dap_msg.specs.Blocked.{all_joined}
+use Rattle.nsp_link.specs.Link.{LinkValue, Sends}
+use Rattle.nsp_link.specs.Holding.{numbers}
 use Rattle.dap_world.specs.declared.event.End.{End}
 use Rattle.dap_world.specs.declared.event.Event.{Event}
 use Rattle.dap_world.specs.declared.event.Event.TheVariants as event
@@ -8,8 +10,9 @@ use Rattle.dap_world.specs.declared.event.Step.{Step}
 use Rattle.dap_world.specs.declared.event.Step.TheVariants as step
 use Rattle.dap_world.specs.declared.event.WorldFault.{WorldFault}
 use Rattle.dap_world.specs.declared.event.WorldFault.TheVariants as fault
-use Rattle.dap_world.specs.Machine.{State, Sending, Steps, Refuses, fresh, sends, other, is_stale, reported}
+use Rattle.dap_world.specs.Machine.{State, Sending, Steps, StepsFreely, Refuses, fresh, sends, other, is_stale, reported}
 use Rattle.dap_world.specs.Setups.{IsWorldSetup}
+use Rattle.dap_world.specs.Wires.{address_of}
 use Rattle.dap_world.specs.declared.setup.WorldSetup.{WorldSetup}
 
 -- the event has a step
@@ -46,14 +49,17 @@ NamedIsThere e (step.Packet place) s = (end : End) × (writer_of e ≡ Some end)
 NamedIsThere e step.Reported s = 0 < length (reported s)
 NamedIsThere e _ s = Unit {0}
 
--- the events may lead from old to new, none refused
-abbrev pub Runs : State → List Event → State → Type 0
-Runs old [] new = new ≡ old
-Runs old (e ∷ events) new = (mid : State) × (answer : Step) × Steps old e answer mid × Runs mid events new
+-- the events may lead from old to new by such steps, none refused
+abbrev pub RunsBy : (State → Event → Step → State → Type 0) → State → List Event → State → Type 0
+RunsBy Goes old [] new = new ≡ old
+RunsBy Goes old (e ∷ events) new = (mid : State) × (answer : Step) × Goes old e answer mid × RunsBy Goes mid events new
 
--- events lead to this state from a new world
+abbrev pub Runs : State → List Event → State → Type 0
+Runs old events new = RunsBy Steps old events new
+
+-- events lead to this state from a new world, whatever early segments are kept
 abbrev pub IsReached : State → Type 0
-IsReached s = (setup : WorldSetup) × (events : List Event) × IsWorldSetup setup × Runs (fresh setup) events s
+IsReached s = (setup : WorldSetup) × (events : List Event) × IsWorldSetup setup × RunsBy StepsFreely (fresh setup) events s
 
 -- the event at this place was refused, and those before it were run
 pub record StopsAt (events : List Event) (old new : State) (stop : ℕ × WorldFault) : Type 0 where
@@ -62,8 +68,15 @@ pub record StopsAt (events : List Event) (old new : State) (stop : ℕ × WorldF
   pub there : slice_get events stop.0 ≡ Some event
   pub refused : Went new event (Err stop.1) new
 
--- the counts of an end's link are those of the machine
-pub record CountsOf (s : State) (end : End) (v : LinkValue) : Type 0 where
+-- The link is this end's: its counts, its segments and the early ones that it holds are those of the machine.
+pub record IsLinkOf (s : State) (end : End) (v : LinkValue) : Type 0 where
+  pub local : v.local ≡ address_of end
+  pub remote : v.remote ≡ address_of (other end)
+  pub size : v.seg_size ≡ s.seg_size
+  pub window : v.window ≡ s.window
   pub sent : v.sent ≡ (sends s end).sent
-  pub unacked : v.sent - v.acked ≡ (sends s end).sent - (sends s end).acked
+  pub acked : v.acked ≡ (sends s end).acked
+  pub queued : Sends v (all_joined (sends s end).handed)
   pub received : v.received ≡ (sends s (other end)).taken
+  pub held : numbers v.held ≡ (sends s (other end)).held
+  pub running : v.failed ≡ false

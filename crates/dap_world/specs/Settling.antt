@@ -1,5 +1,5 @@
 -- A stretch without loss.
-use Rattle.std.specs.Prelude.{◌≡◌, ◌⊎◌, ℕ, ◌+◌, ◌*◌, ◌-◌, ◌≤◌, ◌<◌, List, [], ◌∷◌, length, map, take, Some, slice_get}
+use Rattle.std.specs.Prelude.{◌≡◌, ◌==◌, ◌⊎◌, ℕ, ◌+◌, ◌*◌, ◌-◌, ◌≤◌, ◌<◌, if◌then◌else◌, List, [], ◌∷◌, length, map, take, Some, slice_get}
 use Rattle.dap_msg.specs.Items.{Whole}
 use Rattle.dap_accessed.specs.Groups.{Answers, After}
 use Rattle.dap_accessing.specs.Asked.{Asked}
@@ -14,7 +14,7 @@ use Rattle.dap_world.specs.declared.event.Event.{Event}
 use Rattle.dap_world.specs.declared.event.Event.TheVariants as event
 use Rattle.dap_world.specs.declared.event.WorldFault.{WorldFault}
 use Rattle.dap_world.specs.declared.event.WorldFault.TheVariants as fault
-use Rattle.dap_world.specs.Machine.{State, Direction, sends, segments_of, sent_by, taken_of, answers_read, reported, files_of}
+use Rattle.dap_world.specs.Machine.{State, Direction, Refuses, sends, segments_of, sent_by, taken_of, answers_read, reported, files_of}
 use Rattle.dap_world.specs.Runs.{Runs}
 
 -- no event asks
@@ -50,14 +50,12 @@ pub record SendsNothing (old new : State) : Type 0 where
 
 -- ---- One end is settled.
 
--- After so many events all segments that the end sent are acknowledged: none where there was nothing to do, and at most
--- two for each place of the window and two more.
+-- After so many events all segments that the end sent are acknowledged: none where all were before, else two for each
+-- that wasn't and two more.
 pub record Settled (old new : State) (end : End) (n : ℕ) : Type 0 where
   pub ran : RanBy old new n
   pub done : unacked new end ≡ 0
-  pub bound : n ≤ 2 * old.window + 2
-  pub nothing : n ≡ 0 → new ≡ old
-  pub only : unacked old end ≡ 0 → n ≡ 0
+  pub count : n ≡ (if unacked old end == 0 then 0 else 2 * unacked old end + 2)
 
 -- ---- Both ends are finished.
 
@@ -99,9 +97,20 @@ pub record Finished (old new : State) (n : ℕ) : Type 0 where
   pub nothing : n ≡ 0 → new ≡ old
   pub only : IsFinished old → n ≡ 0
 
--- why not all is finished
-abbrev pub FinishFault : WorldFault → Type 0
-FinishFault f = (f ≡ fault.NoMemory) ⊎ (f ≡ fault.Exhausted)
+-- What waits at an end is due to be handed over: all that was sent is acknowledged, and at B's turn A has nothing left.
+abbrev pub IsPostDue : State → End → Type 0
+IsPostDue s A = (unacked s A ≡ 0) × (unacked s B ≡ 0)
+IsPostDue s B = IsEmpty s A × (unacked s B ≡ 0)
+
+-- the Post that is due would make too many segments
+abbrev pub IsExhausted : State → Type 0
+IsExhausted s = (end : End) × IsPostDue s end × Refuses s (event.Post end) fault.Exhausted
+
+-- why not all is finished: one of these two, and the state tells which
+abbrev pub FinishFault : State → WorldFault → Type 0
+FinishFault s fault.Exhausted = IsExhausted s
+FinishFault s fault.NoMemory = IsExhausted s → ⊥
+FinishFault s _ = ⊥
 
 -- ---- Requests over perfect delivery.
 
@@ -124,13 +133,12 @@ pub record StopsWith (requests : List Request) (new : State) (i : ℕ) (f : AskF
 
 -- Memory or the numbers ran out at the request of this place, which may have been asked: the reports are those of the
 -- requests before it.
-pub record RanOut (requests : List Request) (new : State) (i : ℕ) : Type 0 where
+pub record RanOut (requests : List Request) (new : State) (i : ℕ) (f : WorldFault) : Type 0 where
   pub there : i < length requests
   pub asked : (new.requests ≡ take i requests) ⊎ (new.requests ≡ take (i + 1) requests)
   pub reports : reported new ≡ reports_of new.own_a new.own_b (take i requests)
+  pub why : FinishFault new f
 
 abbrev pub StopsAtRequest : List Request → State → ℕ × WorldFault → Type 0
 StopsAtRequest requests new (i, fault.Ask f) = StopsWith requests new i f
-StopsAtRequest requests new (i, fault.NoMemory) = RanOut requests new i
-StopsAtRequest requests new (i, fault.Exhausted) = RanOut requests new i
-StopsAtRequest requests new (i, f) = ⊥
+StopsAtRequest requests new (i, f) = RanOut requests new i f

@@ -25,8 +25,8 @@ impl World {
     ghost use Rattle.dap_world.specs.Runs.{Runs};
     ghost use Rattle.dap_world.specs.declared.event.Event.{Event as TheEvent};
     ghost use Rattle.dap_world.specs.Inner.Worlds.{IsWorld};
-    ghost use Rattle.dap_world.specs.Settling.{AllDone, Finished, FinishFault, IsEmpty, IsFinished, IsFresh, RanTo, StopsAtRequest, unacked};
-    ghost use Rattle.dap_world.specs.Inner.Settling.{AreEmpty, AreSettled, Brought, BroughtAll, Emptied, Halts, IsOneDue, IsServed, NothingSent, PostedAll, ReadEvery, ReadPart, RunsTo, SameBut, SentBoth, ServedEvery, SettledBoth};
+    ghost use Rattle.dap_world.specs.Settling.{AllDone, Finished, FinishFault, IsEmpty, IsFinished, IsFresh, IsPostDue, RanTo, StopsAtRequest, unacked};
+    ghost use Rattle.dap_world.specs.Inner.Settling.{AreEmpty, AreSettled, Brought, BroughtAll, Emptied, Halts, IsOneDue, IsQuiet, IsServed, NothingSent, PostedAll, ReadEvery, ReadPart, RunsTo, SameBut, SentBoth, ServedEvery, SettledBoth};
     ghost use Rattle.dap_world.specs.declared.event.End.TheVariants.{A, B};
     ghost use Rattle.dap_world.specs.declared.event.WorldFault.TheVariants.{NoMemory};
 
@@ -36,6 +36,7 @@ impl World {
         ensures read { self.now.read < 2 ^ 56 }
         ensures due { IsOneDue self.now }
         ensures place { due_after self.now.requests (answers_read self.now) ≢ Wrong }
+        ensures quiet { self.now.requests ≡ [] → IsQuiet self.now }
     {
         let _ = &self.read;
     }
@@ -48,6 +49,7 @@ impl World {
         ensures ok { OnOk result (Brought self.old self.new end 1 × IsWorld self.new) }
         ensures same { SameBut self.old self.new }
         ensures err { IfErr result (λ f. (f ≡ NoMemory) × RanTo self.old self.new) }
+        ensures left { OnErr result (IsEmpty self.new end → ⊥) }
     {
         let place = self.wire(end).len();
         match self.step(&Event::Emit(end)) {
@@ -72,6 +74,7 @@ impl World {
         ensures same { SameBut self.old self.new }
         ensures err { IfErr result (λ f. (f ≡ NoMemory) × RanTo self.old self.new) }
         ensures more { OnErr result (MayEmit self.old end) }
+        ensures left { OnErr result (IsEmpty self.new end → ⊥) }
     {
         let mut count = 0;
         'segments: loop {
@@ -87,9 +90,10 @@ impl World {
 
     // Hands over what waits at an end, if anything does; how many events that was.
     fn post_waiting(&mut self, end: End) -> Result<usize, WorldFault>
-        requires { IsWorld self.old }
+        requires world { IsWorld self.old }
+        requires due { IsPostDue self.old end }
         ensures ok { IfOk result (λ n. PostedAll self.old self.new end n × IsWorld self.new) }
-        ensures err { IfErr result (λ f. FinishFault f × (self.new ≡ self.old)) }
+        ensures err { IfErr result (λ f. FinishFault self.new f × (self.new ≡ self.old)) }
         ensures waits { OnErr result (0 < length (sends self.old end).waiting) }
     {
         match self.step(&Event::Post(end)) {
@@ -106,7 +110,7 @@ impl World {
     // Hands over what waits at an end, and brings all to the other.
     fn send_waiting(&mut self, end: End) -> Result<usize, WorldFault>
         requires world { IsWorld self.old }
-        requires settled { unacked self.old end ≡ 0 }
+        requires due { IsPostDue self.old end }
         ensures ok { IfOk result (λ n. Emptied self.old self.new end n × IsWorld self.new) }
         ensures read { self.new.read ≡ self.old.read }
         ensures err { IfErr result (Halts (IsEmpty self.old end) self.old self.new) }
@@ -246,7 +250,7 @@ impl World {
     /// report more was told.
     pub fn finish(&mut self) -> Result<usize, WorldFault>
         ensures ok { IfOk result (λ n. Finished self.old self.new n) }
-        ensures err { IfErr result (λ f. FinishFault f × RanTo self.old self.new) }
+        ensures err { IfErr result (λ f. FinishFault self.new f × RanTo self.old self.new) }
         ensures untold { OnErr result (reported self.new ≡ reported self.old) }
         ensures nothing { IsFinished self.old → IsOk result }
         ensures headline { HeadlineOf self.new }
@@ -262,6 +266,7 @@ impl World {
     fn direct_all(&mut self, requests: &[Request]) -> Result<(), (usize, WorldFault)>
         requires world { IsWorld self.old }
         requires fresh { IsFresh self.old }
+        requires quiet { IsQuiet self.old }
         ensures ok { OnOk result (AllDone requests.now self.new) }
         ensures err { IfErr result (λ stop. StopsAtRequest requests.now self.new stop) }
         ensures ran { RunsTo self.old self.new }
@@ -294,6 +299,7 @@ impl World {
         ensures headline { HeadlineOf self.new }
     {
         self.sound();
+        self.few();
         let result = self.direct_all(requests);
         self.sound();
         result

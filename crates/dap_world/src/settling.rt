@@ -4,7 +4,7 @@ use crate::event::{End, Event, WorldFault};
 use crate::world::World;
 
 impl World {
-    ghost use Rattle.std.specs.Prelude.{◌≡◌, ◌<◌, ◌≤◌, ◌+◌, ◌-◌, IfOk, IfErr, IsOk, OnOk, length, ℕ};
+    ghost use Rattle.std.specs.Prelude.{◌≡◌, ◌<◌, ◌≤◌, ◌+◌, ◌-◌, IfOk, IfErr, IsOk, OnOk, OnErr, length, ℕ};
     ghost use Rattle.dap_world.specs.Machine.{sends, other};
     ghost use Rattle.dap_world.specs.Inner.Worlds.{IsWorld};
     ghost use Rattle.dap_world.specs.Settling.{RanBy, RanTo, SendsNothing, Settled, unacked};
@@ -20,6 +20,7 @@ impl World {
         ensures ok { OnOk result (AllResent self.old self.new end count × IsWorld self.new) }
         ensures rest { NothingSent self.old self.new }
         ensures err { IfErr result (λ f. (f ≡ NoMemory) × RanTo self.old self.new) }
+        ensures left { OnErr result (unacked self.new end ≡ unacked self.old end) }
     {
         for place in 0..count {
             match self.step(&Event::Resend(end, place)) {
@@ -39,6 +40,7 @@ impl World {
         ensures ok { OnOk result (AllCame self.old self.new end (last - first) × IsWorld self.new) }
         ensures rest { NothingSent self.old self.new }
         ensures err { IfErr result (λ f. (f ≡ NoMemory) × RanTo self.old self.new) }
+        ensures left { OnErr result (unacked self.new end ≡ unacked self.old end) }
     {
         for j in first..last {
             match self.step(&Event::Deliver(end.other(), j)) {
@@ -57,6 +59,7 @@ impl World {
         ensures rest { NothingSent self.old self.new }
         ensures world { OnOk result (IsWorld self.new) }
         ensures err { IfErr result (λ f. (f ≡ NoMemory) × RanTo self.old self.new) }
+        ensures left { OnErr result (unacked self.new end ≡ unacked self.old end) }
     {
         let place = self.wire(end.other()).len();
         match self.step(&Event::Ack(end.other())) {
@@ -77,6 +80,7 @@ impl World {
             × (n ≡ (count + count) + 2)) }
         ensures rest { NothingSent self.old self.new }
         ensures err { IfErr result (λ f. (f ≡ NoMemory) × RanTo self.old self.new) }
+        ensures left { OnErr result (unacked self.new end ≡ unacked self.old end) }
     {
         let first = self.wire(end).len();
         match self.resend_all(end, count) {
@@ -95,8 +99,8 @@ impl World {
     }
 
     /// Writes all segments of an end that aren't acknowledged again, delivers them, and then one
-    /// acknowledgement (own): afterwards none is left. How many events that were, 0 where there was nothing to
-    /// do, which takes no memory. Refused for want of memory alone, as the last event that wasn't refused left
+    /// acknowledgement (own): afterwards none is left. How many events that were: twice the segments and 2, or
+    /// 0 where there was nothing to do, which takes no memory. Refused for want of memory alone, as the last event that wasn't refused left
     /// the world.
     pub fn settle(&mut self, end: End) -> Result<usize, WorldFault>
         ensures ok { IfOk result (λ n. Settled self.old self.new end n) }
@@ -117,6 +121,7 @@ impl World {
         ensures rest { NothingSent self.old self.new }
         ensures err { IfErr result (λ f. (f ≡ NoMemory) × RanTo self.old self.new) }
         ensures nothing { unacked self.old end ≡ 0 → IsOk result }
+        ensures left { OnErr result (0 < unacked self.new end) }
     {
         let count = self.link(end).unacked();
         if count == 0 {

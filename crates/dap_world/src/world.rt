@@ -44,7 +44,7 @@ impl World {
     ghost use Rattle.std.specs.Prelude.{◌≡◌, IfOk, OnOk, IfErr, map, true, false};
     ghost use Rattle.dap_msg.specs.Canon.{canon};
     ghost use Rattle.dap_world.specs.Machine.{MayEmit, files_of, reported, sends, sent_by, taken_of};
-    ghost use Rattle.dap_world.specs.Runs.{NamedIsThere, CountsOf, Runs, StopsAt, Went};
+    ghost use Rattle.dap_world.specs.Runs.{NamedIsThere, IsLinkOf, Runs, StopsAt, Went};
     ghost use Rattle.dap_world.specs.Inner.Worlds.{IsWorld};
     ghost use Rattle.dap_world.specs.Wires.{AreWired};
     ghost use Rattle.dap_world.specs.Headline.{HeadlineOf};
@@ -209,14 +209,16 @@ impl World {
 
     /// What A was told (own). It takes no memory.
     pub fn reports(&self) -> &[Report]
-        ensures { result.now ≡ reported self.now }
+        ensures told { result.now ≡ reported self.now }
+        ensures headline { HeadlineOf self.now }
     {
         &self.reports
     }
 
     /// The files that B holds (own). It takes no memory.
     pub fn files(&self) -> &FileTable
-        ensures { result.now ≡ files_of self.now }
+        ensures files { result.now ≡ files_of self.now }
+        ensures headline { HeadlineOf self.now }
     {
         self.accessed.files()
     }
@@ -233,7 +235,7 @@ impl World {
 
     /// The link of an end (own). It takes no memory.
     pub fn link(&self, end: End) -> &LinkEnd
-        ensures { CountsOf self.now end result.now }
+        ensures { IsLinkOf self.now end result.now }
     {
         match end {
             End::A => &self.a.link,

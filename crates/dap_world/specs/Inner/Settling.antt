@@ -72,6 +72,10 @@ pub record BroughtAll (old new : State) (end : End) (n : ℕ) : Type 0 where
 
 -- ---- What waits.
 
+-- nothing waits at either end
+abbrev pub IsQuiet : State → Type 0
+IsQuiet s = (end : End) → (sends s end).waiting ≡ []
+
 -- All that waits was handed over, by one event or none.
 pub record PostedAll (old new : State) (end : End) (n : ℕ) : Type 0 where
   pub ran : RanBy old new n
@@ -100,7 +104,7 @@ pub record Emptied (old new : State) (end : End) (n : ℕ) : Type 0 where
 
 -- Refused after some events: then not all of it was done before.
 abbrev pub Halts : (done : Type 0) → State → State → WorldFault → Type 0
-Halts done old new f = FinishFault f × RanTo old new × (done → ⊥)
+Halts done old new f = FinishFault new f × RanTo old new × (done → ⊥)
 
 abbrev pub AreSettled : State → Type 0
 AreSettled s = (unacked s A ≡ 0) × (unacked s B ≡ 0)

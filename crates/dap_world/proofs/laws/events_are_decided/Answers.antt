@@ -1,4 +1,4 @@
-use Rattle.dap_world.proofs.Deciding.{no_step, one_reason}
+use Rattle.dap_world.proofs.Deciding.{no_step, one_reason, one_step}
 use Rattle.dap_world.proofs.laws.events_are_decided.Goals as goal
 
 pub returns-clause-apart : goal.returns-clause-apart
@@ -6,3 +6,6 @@ returns-clause-apart c = no_step
 
 pub returns-clause-one : goal.returns-clause-one
 returns-clause-one c = one_reason
+
+pub returns-clause-step : goal.returns-clause-step
+returns-clause-step c = one_step

@@ -1,10 +1,12 @@
-use Rattle.std.proofs.Common.{◌≡◌, ◌-◌, ℕ, Err, arith, subst}
+use Rattle.std.proofs.Common.{◌≡◌, ◌-◌, ◌∙◌, ℕ, Err, ap, arith, subst}
 use Rattle.dap_world.specs.declared.event.End.{End}
 use Rattle.dap_world.specs.declared.event.Event.TheVariants as event
-use Rattle.dap_world.specs.Machine.{Steps}
+use Rattle.dap_world.specs.Machine.{State, Steps}
+use Rattle.dap_world.specs.Settling.{unacked}
+use Rattle.dap_world.proofs.Others.{refused_same}
 use Rattle.dap_world.specs.Runs.{Went}
 use Rattle.dap_world.specs.Inner.Settling.{AllCame}
-use Rattle.dap_world.proofs.Settles.{came_more, came_refused}
+use Rattle.dap_world.proofs.Settles.{came_more, came_refused, came_unacked}
 use Rattle.dap_world.proofs.Resting.{rest_both, rest_deliver}
 use Rattle.dap_world.proofs.world.World.deliver_all.Goals as goal
 
@@ -32,3 +34,8 @@ returns-clause-ok c =
 pub returns-in-Err-clause-rest : goal.returns-in-Err-clause-rest
 returns-in-Err-clause-rest c =
     rest_both c.args.self.now c.loop-j.self c.step.new.self c.loop-j.invariant.rest (rest_deliver c.loop-j.self c.step.new.self _ _ _ c.loop-j.invariant.world c.step.ensures.went)
+
+pub returns-in-Err-clause-left : goal.returns-in-Err-clause-left
+returns-in-Err-clause-left c =
+    ap (λ (s : State). unacked s c.args.end) (refused_same c.loop-j.self c.step.new.self _ c.in-Err.fault c.in-Err.ensures.went)
+    ∙ came_unacked c.args.self.now c.loop-j.self c.args.end (c.loop-j.j - c.args.first) c.loop-j.invariant.came

@@ -1,17 +1,18 @@
 use Rattle.std.proofs.Common.{◌≡◌, sym, ap, ◌∙◌, Some, refl, arith, slice_get}
 use Rattle.std.proofs.lemmas.Option.{slice_get-get_or}
 use Rattle.dap_accessing.specs.declared.request.Request.{Request}
+use Rattle.dap_world.proofs.Exhausting.{quiet_empty}
 use Rattle.dap_world.proofs.Directing.{fresh_done, ask_stops, finish_stops, done_more, runs_none, runs_asked, runs_refused, runs_to, none_there}
 use Rattle.dap_world.proofs.world.World.direct_all.Goals as goal
 
 pub loop-place-init : goal.loop-place-init
-loop-place-init c = record { done = fresh_done c.args.self.now c.args.requests.now c.requires.world c.requires.fresh; ran = runs_none c.args.self.now; world = c.requires.world; still = λ e. refl }
+loop-place-init c = record { done = fresh_done c.args.self.now c.args.requests.now c.requires.world c.requires.fresh; ran = runs_none c.args.self.now; quiet = c.requires.quiet; world = c.requires.world; still = λ e. refl }
 
 pub returns-in-Err-clause-err : goal.returns-in-Err-clause-err
 returns-in-Err-clause-err c =
     let there : slice_get c.args.requests.now c.loop-place.place ≡ Some c.index-requests-place.result =
     slice_get-get_or c.args.requests.now c.loop-place.place c.index-requests-place.result c.loop-place-test.true ∙ ap (λ (e : Request). Some e) (sym c.index-requests-place.is) in
-    ask_stops c.loop-place.self c.ask.new.self c.args.requests.now c.loop-place.place c.index-requests-place.result c.in-Err.fault c.few.ensures.place c.loop-place.invariant.done there c.in-Err.ensures
+    ask_stops c.loop-place.self c.ask.new.self c.args.requests.now c.loop-place.place c.index-requests-place.result c.in-Err.fault c.loop-place.invariant.quiet c.few.ensures.place c.loop-place.invariant.done there c.in-Err.ensures
 
 pub returns-in-Err-clause-ran : goal.returns-in-Err-clause-ran
 returns-in-Err-clause-ran c = runs_refused c.args.self.now c.loop-place.self c.ask.new.self c.index-requests-place.result c.in-Err.fault c.loop-place.invariant.ran c.in-Err.ensures
@@ -45,6 +46,7 @@ loop-place-preserved c =
           c.in-Ok-finish._count done;
       ran = runs_to c.args.self.now c.ask.new.self c.finish.new.self
           (runs_asked c.args.self.now c.loop-place.self c.ask.new.self c.index-requests-place.result c.in-Ok._step c.loop-place.invariant.ran c.in-Ok.ensures) (c.in-Ok-finish._count, done.ran);
+      quiet = quiet_empty c.finish.new.self (done.finished.from_a, done.finished.from_b);
       world = c.sound-in-Ok-finish.ensures;
       still = λ none. absurd (omega (arith, none));
     }

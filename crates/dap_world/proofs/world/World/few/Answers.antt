@@ -1,9 +1,10 @@
-use Rattle.std.proofs.Common.{◌<◌, ◌^◌, subst}
+use Rattle.std.proofs.Common.{◌≡◌, ◌<◌, ◌^◌, [], subst}
 use Rattle.std.specs.Prelude.{◌≢◌}
 use Rattle.dap_accessing.specs.Told.{due_after, Wrong}
 use Rattle.dap_world.specs.Machine.{State, answers_read}
 use Rattle.dap_world.specs.Inner.WorldView.{parts_of}
-use Rattle.dap_world.specs.Inner.Settling.{IsOneDue}
+use Rattle.dap_world.specs.Inner.Settling.{IsOneDue, IsQuiet}
+use Rattle.dap_world.proofs.Exhausting.{quiet_parts}
 use Rattle.dap_world.proofs.Few.{few_served, one_due, in_place}
 use Rattle.dap_world.proofs.ReadingOne.{few_read}
 use Rattle.dap_world.proofs.world.World.few.Goals as goal
@@ -19,3 +20,6 @@ returns-clause-due c = subst (λ (s : State). IsOneDue s) c.self.view_is (one_du
 
 pub returns-clause-place : goal.returns-clause-place
 returns-clause-place c = subst (λ (s : State). due_after s.requests (answers_read s) ≢ Wrong) c.self.view_is (in_place (parts_of c.self.inside) c.self.invariant)
+
+pub returns-clause-quiet : goal.returns-clause-quiet
+returns-clause-quiet c = subst (λ (s : State). s.requests ≡ [] → IsQuiet s) c.self.view_is (quiet_parts (parts_of c.self.inside))

@@ -1,5 +1,6 @@
-use Rattle.std.proofs.Common.{◌+◌, ◌∙◌, inl, subst, sym}
+use Rattle.std.proofs.Common.{◌+◌, ◌∙◌, subst, sym}
 use Rattle.dap_world.specs.Settling.{IsFinished}
+use Rattle.dap_world.proofs.Exhausting.{memory, quiet_enough, quiet_read}
 use Rattle.dap_world.proofs.Finishes.{finished, ran_three, still_settled, still_sent_from, still_four, all_served, are_empty, unread}
 use Rattle.dap_world.proofs.Onward.{told_same}
 use Rattle.dap_world.proofs.Settles.{ran_both}
@@ -66,7 +67,7 @@ returns-in-Err-read_every-clause-err c =
     let b = c.in-Ok-send_both.ensures.ok.0 in
     let n = (c.in-Ok.count + c.in-Ok-send_both.count) + c.in-Ok-serve_every.count in
     let three = ran_three c.args.self.now c.settle_both.new.self c.send_both.new.self c.serve_every.new.self c.in-Ok.count c.in-Ok-send_both.count c.in-Ok-serve_every.count c.requires a b s.0 in (
-      inl c.in-Err-read_every.ensures.err,
+      memory c.read_every.new.self c.in-Err-read_every.fault c.in-Err-read_every.ensures.err (quiet_enough c.read_every.new.self (quiet_read c.serve_every.new.self c.read_every.new.self part.0 s.0.done.empty)),
       (n + part.0.ran.0, ran_both c.args.self.now c.serve_every.new.self c.read_every.new.self n part.0.ran.0 three part.0.ran.1),
       λ f. unread c.serve_every.new.self c.read_every.new.self s.1 part.0
           (subst IsFinished (sym (still_four c.args.self.now c.settle_both.new.self c.send_both.new.self c.serve_every.new.self c.in-Ok.count c.in-Ok-send_both.count c.in-Ok-serve_every.count c.requires a b s.0 f)) f),

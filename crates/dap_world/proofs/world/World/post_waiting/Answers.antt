@@ -4,6 +4,8 @@ use Rattle.dap_world.specs.declared.event.Event.TheVariants as event
 use Rattle.dap_world.specs.declared.event.Step.{Step}
 use Rattle.dap_world.specs.declared.event.WorldFault.{WorldFault}
 use Rattle.dap_world.specs.Runs.{Went}
+use Rattle.dap_world.proofs.Exhausting.{post_fault}
+use Rattle.dap_world.proofs.Others.{refused_same}
 use Rattle.dap_world.proofs.Posting.{posted_one, posted_none, post_refused}
 use Rattle.dap_world.proofs.world.World.post_waiting.Goals as goal
 
@@ -18,9 +20,10 @@ returns-then-is_nothing-clause-ok c = (
 )
 
 pub returns-clause-err : goal.returns-clause-err
-returns-clause-err c =
-    let why = post_refused c.args.self.now c.step.new.self c.args.end c.in-Err.fault (c.is_nothing.ensures.no c.if-is_nothing.false) c.in-Err.ensures.went in
-    (why.0, why.1)
+returns-clause-err c = (
+  post_fault c.args.self.now c.step.new.self c.args.end c.in-Err.fault (c.is_nothing.ensures.no c.if-is_nothing.false) c.requires.due c.in-Err.ensures.went,
+  refused_same c.args.self.now c.step.new.self (event.Post c.args.end) c.in-Err.fault c.in-Err.ensures.went,
+)
 
 pub returns-clause-waits : goal.returns-clause-waits
-returns-clause-waits c = (post_refused c.args.self.now c.step.new.self c.args.end c.in-Err.fault (c.is_nothing.ensures.no c.if-is_nothing.false) c.in-Err.ensures.went).2
+returns-clause-waits c = post_refused c.args.self.now c.step.new.self c.args.end c.in-Err.fault (c.is_nothing.ensures.no c.if-is_nothing.false) c.in-Err.ensures.went

@@ -1,5 +1,9 @@
-use Rattle.std.proofs.Common.{arith}
-use Rattle.dap_world.proofs.Settles.{resent_more, resend_refused}
+use Rattle.std.proofs.Common.{◌∙◌, ap, arith}
+use Rattle.dap_world.specs.declared.event.Event.TheVariants as event
+use Rattle.dap_world.specs.Machine.{State}
+use Rattle.dap_world.specs.Settling.{unacked}
+use Rattle.dap_world.proofs.Others.{refused_same}
+use Rattle.dap_world.proofs.Settles.{resent_more, resend_refused, same_unacked}
 use Rattle.dap_world.proofs.Resting.{rest_both, rest_resend}
 use Rattle.dap_world.proofs.world.World.resend_all.Goals as goal
 
@@ -17,3 +21,8 @@ returns-in-Err-clause-err c =
 pub returns-in-Err-clause-rest : goal.returns-in-Err-clause-rest
 returns-in-Err-clause-rest c =
     rest_both c.args.self.now c.loop-place.self c.step.new.self c.loop-place.invariant.rest (rest_resend c.loop-place.self c.step.new.self _ _ _ c.step.ensures.went)
+
+pub returns-in-Err-clause-left : goal.returns-in-Err-clause-left
+returns-in-Err-clause-left c =
+    ap (λ (s : State). unacked s c.args.end) (refused_same c.loop-place.self c.step.new.self (event.Resend c.args.end c.loop-place.place) c.in-Err.fault c.in-Err.ensures.went)
+    ∙ same_unacked c.args.self.now c.loop-place.self c.args.end c.loop-place.place c.loop-place.invariant.resent

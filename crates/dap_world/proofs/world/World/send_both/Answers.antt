@@ -3,8 +3,11 @@ use Rattle.dap_world.proofs.Settles.{ran_both}
 use Rattle.dap_world.proofs.SentBoth.{sent_both, settled_b, still_b}
 use Rattle.dap_world.proofs.world.World.send_both.Goals as goal
 
-pub send_waiting-requires-2-clause-settled : goal.send_waiting-requires-2-clause-settled
-send_waiting-requires-2-clause-settled c = settled_b c.args.self.now c.send_waiting.new.self c.in-Ok.count c.requires.b c.in-Ok.ensures.ok.0
+pub send_waiting-requires-clause-due : goal.send_waiting-requires-clause-due
+send_waiting-requires-clause-due c = (c.requires.a, c.requires.b)
+
+pub send_waiting-requires-2-clause-due : goal.send_waiting-requires-2-clause-due
+send_waiting-requires-2-clause-due c = (c.in-Ok.ensures.ok.0.empty, settled_b c.args.self.now c.send_waiting.new.self c.in-Ok.count c.requires.b c.in-Ok.ensures.ok.0)
 
 pub returns-in-Ok-send_waiting-clause-ok : goal.returns-in-Ok-send_waiting-clause-ok
 returns-in-Ok-send_waiting-clause-ok c =

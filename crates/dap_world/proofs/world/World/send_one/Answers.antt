@@ -1,10 +1,14 @@
-use Rattle.std.proofs.Common.{◌+◌, Err, subst, length}
+use Rattle.std.proofs.Common.{◌+◌, Err, sym, ap, arith, subst, length}
 use Rattle.dap_world.specs.declared.event.End.{End}
 use Rattle.dap_world.specs.declared.event.Event.TheVariants as event
 use Rattle.dap_world.specs.Machine.{Steps, other}
 use Rattle.dap_world.specs.Runs.{Went}
 use Rattle.dap_world.proofs.Settles.{wire_length, ran_one, ran_both}
-use Rattle.dap_world.proofs.Bringing.{emit_refused, first_refused, arrived_all, brought_one}
+use Rattle.dap_world.proofs.Exhausting.{may_left}
+use Rattle.dap_world.proofs.Others.{refused_same}
+use Rattle.dap_world.specs.Machine.{State}
+use Rattle.dap_world.specs.Settling.{IsEmpty, unacked}
+use Rattle.dap_world.proofs.Bringing.{deliver_unacked, emit_unacked, emit_refused, first_refused, arrived_all, brought_one}
 use Rattle.dap_world.proofs.Bringing.{same_both}
 use Rattle.dap_world.proofs.Resting.{same_emitted, rest_deliver}
 use Rattle.dap_world.proofs.world.World.send_one.Goals as goal
@@ -66,3 +70,23 @@ returns-in-Err-acknowledge-clause-same c =
     same_both c.args.self.now c.step-2.new.self c.acknowledge.new.self
     (same_both c.args.self.now c.step.new.self c.step-2.new.self (same_emitted c.args.self.now c.step.new.self _ _ c.step.ensures.went)
     (rest_deliver c.step.new.self c.step-2.new.self _ _ _ c.in-Ok.ensures.world c.step-2.ensures.went).same) c.acknowledge.ensures.rest.same
+
+pub returns-in-Err-clause-left : goal.returns-in-Err-clause-left
+returns-in-Err-clause-left c =
+    subst (λ (s : State). IsEmpty s c.args.end → ⊥) (sym (refused_same c.args.self.now c.step.new.self (event.Emit c.args.end) c.in-Err.fault c.in-Err.ensures.went))
+    (may_left c.args.self.now c.args.end c.requires.may)
+
+pub returns-in-Err-step-clause-left : goal.returns-in-Err-step-clause-left
+returns-in-Err-step-clause-left c =
+    let same = ap (λ (s : State). unacked s c.args.end) (refused_same c.step.new.self c.step-2.new.self _ c.in-Err-step.fault c.in-Err-step.ensures.went) in
+    λ empty. omega (arith, empty.acked, same, emit_unacked c.args.self.now c.step.new.self c.args.end c.in-Ok._step c.requires.world c.requires.settled c.in-Ok.ensures.went)
+
+pub returns-in-Err-acknowledge-clause-left : goal.returns-in-Err-acknowledge-clause-left
+returns-in-Err-acknowledge-clause-left c =
+    let at = length c.wire-place.result.now in
+    let second = subst (λ (e : End). Steps c.step.new.self (event.Deliver e at) c.in-Ok-step._step c.step-2.new.self) c.other.ensures c.in-Ok-step.ensures.went in
+    let same = deliver_unacked c.step.new.self c.step-2.new.self c.args.end at c.in-Ok-step._step second in
+    λ empty. omega (
+      arith, empty.acked, same, c.in-Err-acknowledge.ensures.left,
+      emit_unacked c.args.self.now c.step.new.self c.args.end c.in-Ok._step c.requires.world c.requires.settled c.in-Ok.ensures.went,
+    )

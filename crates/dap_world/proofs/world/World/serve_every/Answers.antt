@@ -1,7 +1,7 @@
 use Rattle.std.proofs.Common.{◌≡◌, ◌+◌, ◌-◌, ◌∙◌, ℕ, arith, subst, sym, length}
 use Rattle.dap_world.specs.Inner.Settling.{Served}
 use Rattle.dap_world.proofs.Settles.{ran_both}
-use Rattle.dap_world.proofs.ServingAll.{count_taken, count_sent, same_sent, served_none, served_more, served_one, served_settled, served_every, serve_refused}
+use Rattle.dap_world.proofs.ServingAll.{count_taken, count_sent, same_sent, served_none, served_more, served_one, served_due, served_every, serve_refused}
 use Rattle.dap_world.proofs.world.World.serve_every.Goals as goal
 
 pub loop-served-init : goal.loop-served-init
@@ -19,9 +19,9 @@ returns-in-Err-clause-err c =
     let err = serve_refused c.args.self.now c.loop-served.self c.step.new.self c.loop-served.count (c.loop-served.served - c.args.self.now.served) c.in-Err.fault inv.world inv.done (omega (arith, end, same, inv.at, lt)) c.in-Err.ensures.went in
     (err.0, err.1, λ all. omega (arith, all, end, inv.at, lt, inv.done.served))
 
-pub send_waiting-requires-clause-settled : goal.send_waiting-requires-clause-settled
-send_waiting-requires-clause-settled c =
-    served_settled c.loop-served.self c.step.new.self (served_one c.loop-served.self c.step.new.self c.in-Ok._step c.in-Ok.ensures.went) c.loop-served.invariant.done.empty.1
+pub send_waiting-requires-clause-due : goal.send_waiting-requires-clause-due
+send_waiting-requires-clause-due c =
+    served_due c.loop-served.self c.step.new.self (served_one c.loop-served.self c.step.new.self c.in-Ok._step c.in-Ok.ensures.went) c.loop-served.invariant.done.empty
 
 pub returns-in-Err-send_waiting-clause-read : goal.returns-in-Err-send_waiting-clause-read
 returns-in-Err-send_waiting-clause-read c =

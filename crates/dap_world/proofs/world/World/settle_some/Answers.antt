@@ -1,6 +1,6 @@
-use Rattle.std.proofs.Common.{◌≡◌, ◌+◌, ◌-◌, ℕ, arith, subst, length, refl}
+use Rattle.std.proofs.Common.{◌≡◌, ◌+◌, ◌-◌, ◌∙◌, ℕ, arith, subst, length, refl}
 use Rattle.dap_world.specs.Settling.{RanBy}
-use Rattle.dap_world.proofs.Settles.{there_again, wire_grew, same_unacked, all_taken, wire_length, ran_both}
+use Rattle.dap_world.proofs.Settles.{there_again, wire_grew, came_unacked, same_unacked, all_taken, wire_length, ran_both}
 use Rattle.dap_world.proofs.Resting.{rest_both}
 use Rattle.dap_world.proofs.world.World.settle_some.Goals as goal
 
@@ -79,3 +79,12 @@ pub returns-in-Err-acknowledge-clause-rest : goal.returns-in-Err-acknowledge-cla
 returns-in-Err-acknowledge-clause-rest c =
     rest_both c.args.self.now c.deliver_all.new.self c.acknowledge.new.self
     (rest_both c.args.self.now c.resend_all.new.self c.deliver_all.new.self c.resend_all.ensures.rest c.deliver_all.ensures.rest) c.acknowledge.ensures.rest
+
+pub returns-in-Err-deliver_all-clause-left : goal.returns-in-Err-deliver_all-clause-left
+returns-in-Err-deliver_all-clause-left c =
+    c.in-Err-deliver_all.ensures.left ∙ same_unacked c.args.self.now c.resend_all.new.self c.args.end c.args.count c.in-Ok.ensures.ok.0
+
+pub returns-in-Err-acknowledge-clause-left : goal.returns-in-Err-acknowledge-clause-left
+returns-in-Err-acknowledge-clause-left c =
+    c.in-Err-acknowledge.ensures.left ∙ came_unacked c.resend_all.new.self c.deliver_all.new.self c.args.end (length c.wire-last.result.now - length c.wire-first.result.now) c.in-Ok-deliver_all.ensures.ok.0
+    ∙ same_unacked c.args.self.now c.resend_all.new.self c.args.end c.args.count c.in-Ok.ensures.ok.0

@@ -1,0 +1,87 @@
+-- What a schedule comes to is determined by its lines.
+use Rattle.std.proofs.Common.{◌≡◌, ℕ, ◌+◌, List, [], ◌∷◌, ◌++◌, codes, Some, sym, ap, ◌∙◌, subst, refl}
+use Rattle.std.specs.List.{concat}
+use Rattle.std.specs.Fmt.{decimal}
+use Rattle.hex.specs.Hex.{encode_lower}
+use Rattle.dap_accessing.specs.declared.report.Report.{Report}
+use Rattle.dap_world.specs.declared.event.End.{End}
+use Rattle.dap_world.specs.declared.event.Event.{Event}
+use Rattle.dap_world.specs.declared.event.Step.{Step}
+use Rattle.dap_world.specs.declared.event.Step.TheVariants as step
+use Rattle.dap_world.specs.declared.event.WorldFault.{WorldFault}
+use Rattle.dap_world.specs.declared.setup.WorldSetup.{WorldSetup}
+use Rattle.dap_world.specs.Machine.{State, Sending, files_of, fresh}
+use Rattle.dap_world.specs.Setups.{IsWorldSetup}
+use Rattle.dap_world.specs.Wires.{IsOnWire}
+use Rattle.dap_world.proofs.ForCallers.{no_step, one_on_wire, one_reason, one_step}
+use Rattle.dap_capture.specs.Orders.{setup_of}
+use Rattle.dap_capture.specs.Reports.{report_text}
+use Rattle.dap_capture.specs.Schedules.{Numbered, events_of, said}
+use Rattle.dap_capture.specs.Tables.{files_text}
+use Rattle.dap_capture.specs.Played.{HasOneText, IsPacketWritten, IsReported, IsStepText, Played, Plays, empty, end_text, event_line, goes, over, played, refusal_line, refusal_text, setup_refused, stops}
+use Rattle.dap_capture.specs.declared.fault.Outcome.{Outcome}
+
+same_end : (a b : End) (x : _) → x ≡ Some a → x ≡ Some b → b ≡ a
+same_end a b x e f = cc
+
+same_sending : (a b : Sending) (x : _) → x ≡ Some a → x ≡ Some b → b ≡ a
+same_sending a b x e f = cc
+
+same_report : (a b : Report) (x : _) → x ≡ Some a → x ≡ Some b → a ≡ b
+same_report a b x e f = cc
+
+same_word : (a b : List ℕ) (x : _) → x ≡ Some a → x ≡ Some b → a ≡ b
+same_word a b x e f = cc
+
+same_setup : (a b : WorldSetup) (x : _) → x ≡ Some a → x ≡ Some b → b ≡ a
+same_setup a b x e f = cc
+
+one_packet : (s : State) (end : End) (place : ℕ) (a b : List ℕ) → IsPacketWritten s end place a → IsPacketWritten s end place b → a ≡ b
+one_packet s end place a b one two =
+    let sending = same_sending one.packet.sending two.packet.sending _ one.packet.written two.packet.written in
+    let bytes = one_on_wire s end one.packet.sending one.bytes two.bytes one.packet.packet (subst (λ (p : Sending). IsOnWire s end p two.bytes) sending two.packet.packet) in
+    one.printed ∙ ap (λ (x : List ℕ). concat (codes "packet " ∷ end_text end ∷ codes " " ∷ decimal place ∷ codes " " ∷ encode_lower x ∷ [])) bytes ∙ sym two.printed
+
+one_report : (s : State) (a b : List ℕ) → IsReported s a → IsReported s b → a ≡ b
+one_report s a b one two =
+    one.printed ∙ ap (λ (r : Report). codes "report " ++ report_text r) (same_report one.report two.report _ one.newest two.newest) ∙ sym two.printed
+
+one_answer : (s : State) (e : Event) (answer : Step) (a b : List ℕ) → IsStepText s e answer a → IsStepText s e answer b → a ≡ b
+one_answer s e (step.Asked count) a b one two = one ∙ sym two
+one_answer s e (step.Posted count) a b one two = one ∙ sym two
+one_answer s e (step.Packet place) a b one two =
+    let end = same_end one.0 two.0 _ one.1 two.1 in
+    one_packet s one.0 place a b one.2 (subst (λ (x : End). IsPacketWritten s x place b) end two.2)
+one_answer s e (step.Delivered got) a b one two = one ∙ sym two
+one_answer s e (step.Served count) a b one two = one ∙ sym two
+one_answer s e step.Nothing a b one two = one ∙ sym two
+one_answer s e step.Reported a b one two = one_report s a b one two
+
+one_run : (s : State) (number : ℕ) (events : List Event) (one two : Outcome) (a b : List ℕ) → Plays s number events one a → Plays s number events two b → (one ≡ two) × (a ≡ b)
+one_run s number [] one two a b over over = (refl, refl)
+one_run s number (e ∷ events) one two a b (goes answer new text rest went says on) (goes answer' new' text' rest' went' says' on') =
+    let same = one_step s e answer answer' new new' went went' in
+    let texts = one_answer new e answer text text' says
+        (subst (λ (x : State). IsStepText x e answer text') (sym same.1) (subst (λ (x : Step). IsStepText new' e x text') (sym same.0) says')) in
+    let rests = one_run new (number + 1) events one two rest rest' on (subst (λ (x : State). Plays x (number + 1) events two rest') (sym same.1) on') in
+    (rests.0, ap (λ (t : List ℕ). event_line number t ++ rest) texts ∙ ap (λ (t : List ℕ). event_line number text' ++ t) rests.1)
+one_run s number (e ∷ events) one two a b (goes answer new text rest went says on) (stops f word why says') = absurd (no_step s e f why (answer, new, went))
+one_run s number (e ∷ events) one two a b (stops f word why says) (goes answer new text rest went says' on) = absurd (no_step s e f why (answer, new, went))
+one_run s number (e ∷ events) one two a b (stops f word why says) (stops g word' why' says') =
+    let same = one_reason s e f g why why' in
+    let words = same_word word word' _ says (ap refusal_text same ∙ says') in
+    (refl, ap (λ (w : List ℕ). refusal_line number w ++ files_text (files_of s)) words)
+
+one_schedule : (lines : List Numbered) (one two : Outcome) (a b : List ℕ) → Played lines one a → Played lines two b → (one ≡ two) × (a ≡ b)
+one_schedule [] one two a b empty empty = (refl, refl)
+one_schedule (first ∷ others) one two a b (setup_refused setup says bad) (setup_refused setup' says' bad') = (refl, refl)
+one_schedule (first ∷ others) one two a b (setup_refused setup says bad) (played setup' says' good plays) =
+    absurd (bad (subst IsWorldSetup (same_setup setup setup' _ says says') good))
+one_schedule (first ∷ others) one two a b (played setup says good plays) (setup_refused setup' says' bad) =
+    absurd (bad (subst IsWorldSetup (same_setup setup' setup _ says' says) good))
+one_schedule (first ∷ others) one two a b (played setup says good plays) (played setup' says' good' plays') =
+    one_run (fresh setup) 1 (events_of others) one two a b plays
+    (subst (λ (x : WorldSetup). Plays (fresh x) 1 (events_of others) two b) (same_setup setup setup' _ says says') plays')
+
+pub one_text : HasOneText
+one_text input a b one two = one_schedule (said input) one two a b
