@@ -1,18 +1,24 @@
 #!/usr/bin/env python3
 """Writes the lines of a capture from a pcap or pcapng file of Ethernet frames.
 
-usage: pcap_to_capture.py FILE >CAPTURE
+usage: pcap_to_capture.py FILE [FIRST OTHER] >CAPTURE
 
-Takes the DECnet Phase IV data packets (frames of type 60 03), strips the length, the padding and the
-routing header (long or short), and writes the NSP packet that is left as a line of `dapnsp show`: `>`
-where it comes from the first address seen, `<` where it comes from the other. Routing messages are
-passed over. What is cut short, or runs between other addresses, is counted on standard error.
+FILE is a file, or - for standard input. FIRST and OTHER are two DECnet addresses, as 1.10 1.20, where the file
+has packets between several; otherwise they are those of the first data packet.
+
+Takes the DECnet Phase IV data packets (frames of type 60 03, behind any VLAN tags), strips the length, the
+padding and the routing header (long or short), and writes the NSP packet that is left as a line of `dapnsp
+show`, behind a comment with the number of its frame: `>` where it comes from FIRST, `<` where it comes from
+OTHER. Routing messages are passed over. Standard error tells how many packets were taken, and what was passed
+over.
 """
+import collections
+import os
 import struct
 import sys
 
-DECNET = 0x6003
-VLAN = 0x8100
+DECNET = b"\x60\x03"
+TAGS = (b"\x81\x00", b"\x88\xa8", b"\x91\x00")  # 802.1Q, 802.1ad, and the tag that came before it
 ETHERNET = 1  # the link type of a capture file
 
 
@@ -21,36 +27,45 @@ class BadFile(Exception):
 
 
 def pcap_frames(data, order):
-    """The frames of a pcap file."""
+    """The frames of a pcap file; None where the file is cut short in one."""
     if struct.unpack_from(order + "I", data, 20)[0] & 0xFFFF != ETHERNET:
         raise BadFile("its frames are not those of Ethernet")
-    at = 24
-    while at + 16 <= len(data):
-        length = struct.unpack_from(order + "I", data, at + 8)[0]
-        yield data[at + 16 : at + 16 + length]
+    length_at = struct.Struct(order + "I").unpack_from
+    at, end = 24, len(data)
+    while at + 16 <= end:
+        (length,) = length_at(data, at + 8)
         at += 16 + length
+        if at > end:
+            break
+        yield data[at - length : at]
+    if at != end:
+        yield None
 
 
 def pcapng_frames(data):
-    """The frames of a pcapng file."""
-    order, links, at = "<", [], 0
-    while at + 12 <= len(data):
+    """The frames of a pcapng file; None where the file is cut short in a block, b"" for one of another link type."""
+    order, links, at, end = "<", [], 0, len(data)
+    while at + 12 <= end:
         if data[at : at + 4] == b"\x0a\x0d\x0d\x0a":
             order = "<" if data[at + 8 : at + 12] == b"\x4d\x3c\x2b\x1a" else ">"
             links = []
         kind, total = struct.unpack_from(order + "II", data, at)
-        if total < 12 or at + total > len(data):
-            raise BadFile("a block of it is cut short")
+        if total < 12:
+            raise BadFile("a block of it has no such length")
+        if at + total > end:
+            break
         body = data[at + 8 : at + total - 4]
+        at += total
         if kind == 1:  # an interface
             links.append(struct.unpack_from(order + "H", body)[0])
         elif kind == 6:  # a packet with its interface
             interface, _, _, length = struct.unpack_from(order + "IIII", body)
-            if interface < len(links) and links[interface] == ETHERNET:
-                yield body[20 : 20 + length]
-        elif kind == 3 and links[:1] == [ETHERNET]:  # a packet of the first interface
-            yield body[4 : 4 + struct.unpack_from(order + "I", body)[0]]
-        at += total
+            known = interface < len(links) and links[interface] == ETHERNET
+            yield body[20 : 20 + length] if known else b""
+        elif kind == 3:  # a packet of the first interface
+            yield body[4 : 4 + struct.unpack_from(order + "I", body)[0]] if links[:1] == [ETHERNET] else b""
+    if at != end:
+        yield None
 
 
 def frames(data):
@@ -65,68 +80,103 @@ def frames(data):
     raise BadFile("it is neither pcap nor pcapng")
 
 
-def routed(frame):
-    """What a DECnet frame carries for its routing layer; None for other frames."""
+def read_frame(frame):
+    """What a frame is: its kind, and of a data packet the source, the destination and the NSP packet."""
     at = 12
-    if frame[at : at + 2] == VLAN.to_bytes(2, "big"):
+    while frame[at : at + 2] in TAGS:
         at += 4
-    if frame[at : at + 2] != DECNET.to_bytes(2, "big"):
-        return None
+    if frame[at : at + 2] != DECNET:
+        return ("frames of another kind", None, None, None)
     length = int.from_bytes(frame[at + 2 : at + 4], "little")
-    message = frame[at + 4 : at + 4 + length]
-    if len(frame) < at + 4 or len(message) < length:
-        raise ValueError("cut short")
-    if message and message[0] & 0x80:  # padding, this byte with it
-        message = message[message[0] & 0x7F :]
-    return message
-
-
-def data_packet(message):
-    """Source, destination and NSP packet of a data packet; None for a routing message."""
-    if not message or message[0] & 0x01:
-        return None
-    form = message[0] & 0x07
+    at += 4
+    end = at + length
+    if len(frame) < end or length == 0:
+        return ("packets cut short", None, None, None)
+    if frame[at] & 0x80:  # padding, this byte with it
+        at += frame[at] & 0x7F
+        if at >= end:
+            return ("packets cut short", None, None, None)
+    if frame[at] & 0x01:
+        return ("routing messages", None, None, None)
+    form = frame[at] & 0x07
     if form == 0x06:  # long: area, subarea and six bytes of each end, and four bytes more
-        size, destination, source = 21, message[7:9], message[15:17]
+        destination, source, at = frame[at + 7 : at + 9], frame[at + 15 : at + 17], at + 21
     elif form == 0x02:  # short: two bytes of each end, and one more
-        size, destination, source = 6, message[1:3], message[3:5]
+        destination, source, at = frame[at + 1 : at + 3], frame[at + 3 : at + 5], at + 6
     else:
-        return None
-    if len(message) < size:
-        raise ValueError("cut short")
-    return source, destination, message[size:]
+        return ("routing messages", None, None, None)
+    if at >= end:
+        return ("packets cut short", None, None, None)
+    return (None, source, destination, frame[at:end])
+
+
+def address(text):
+    """The two bytes of an address as 1.10: the area in the upper six bits, the lower byte first."""
+    area, _, node = text.partition(".")
+    if not (area.isdigit() and node.isdigit() and 1 <= int(area) <= 63 and 1 <= int(node) <= 1023):
+        sys.exit(f"pcap_to_capture.py: {text} is no DECnet address, as 1.10")
+    return (int(area) << 10 | int(node)).to_bytes(2, "little")
+
+
+def spelled(source):
+    """An address as 1.10."""
+    number = int.from_bytes(source, "little")
+    return f"{number >> 10}.{number & 1023}"
+
+
+def lines(data, pair, passed, pairs):
+    """The lines of the capture; what is passed over is counted, by its kind and by its pair of addresses."""
+    for number, frame in enumerate(frames(data), 1):
+        if frame is None:
+            passed["frame at the end, which the file cuts short"] += 1
+            continue
+        kind, source, destination, packet = read_frame(frame)
+        if kind:
+            passed[kind] += 1
+            continue
+        if not pair:
+            pair += (source, destination)
+        if source == pair[0] and destination == pair[1]:
+            way = ">"
+        elif source == pair[1] and destination == pair[0]:
+            way = "<"
+        else:
+            pairs[frozenset((source, destination))] += 1
+            continue
+        yield f"# frame {number}\n{way} {packet.hex()}\n"
 
 
 def main():
-    if len(sys.argv) != 2:
+    words = sys.argv[1:]
+    if words in (["--help"], ["-h"]):
+        print(__doc__, end="")
+        return
+    if len(words) not in (1, 3):
         sys.exit(__doc__)
-    first, cut, others = None, 0, 0
+    pair = [address(word) for word in words[1:]]
+    passed, pairs, taken = collections.Counter(), collections.Counter(), 0
     try:
-        with open(sys.argv[1], "rb") as file:
+        with (sys.stdin.buffer if words[0] == "-" else open(words[0], "rb")) as file:
             data = file.read()
-        for frame in frames(data):
-            try:
-                packet = data_packet(routed(frame))
-            except ValueError:
-                cut += 1
-                continue
-            if packet is None:
-                continue
-            source, destination, nsp = packet
-            if first is None:
-                first = (source, destination)
-            if (source, destination) not in (first, first[::-1]):
-                others += 1
-            elif not nsp:
-                cut += 1
-            else:
-                print(">" if source == first[0] else "<", nsp.hex())
+        for line in lines(data, pair, passed, pairs):
+            sys.stdout.write(line)
+            taken += 1
+        sys.stdout.flush()
     except (BadFile, struct.error) as fault:
-        sys.exit(f"{sys.argv[1]}: no capture of Ethernet frames: {fault}")
+        sys.exit(f"{words[0]}: no capture of Ethernet frames: {fault}")
+    except BrokenPipeError:
+        os.dup2(os.open(os.devnull, os.O_WRONLY), 1)
+        sys.exit(1)
     except OSError as fault:
         sys.exit(str(fault))
-    if cut or others:
-        print(f"{cut} packets cut short, {others} between other addresses", file=sys.stderr)
+    between = f" between {spelled(pair[0])} and {spelled(pair[1])}" if pair else ""
+    told = [f"{taken} packets taken{between}"]
+    told += [f"{count} {kind}" for kind, count in sorted(passed.items())]
+    told += [
+        f"{count} packets between {' and '.join(spelled(end) for end in sorted(ends))}"
+        for ends, count in sorted(pairs.items(), key=lambda one: -one[1])
+    ]
+    print("; ".join(told), file=sys.stderr)
 
 
 if __name__ == "__main__":

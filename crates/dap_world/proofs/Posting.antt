@@ -68,11 +68,13 @@ moved old mid A is = subst (λ (s : State). Moved old s A) (sym is) (record { wa
 moved old mid B is = subst (λ (s : State). Moved old s B) (sym is) (record { waiting = refl; handed = refl; sent = refl; acked = refl; served = refl; read = refl; back = refl; seg_size = refl })
 
 -- all that waits is handed over, and stays so
+both_over : (old mid : State) (e : End) → IsPostDue old B → Moved old mid B → (sends mid e).waiting ≡ []
+both_over old mid A due m = ap (λ (d : Direction). d.waiting) m.back ∙ due.0.waiting
+both_over old mid B due m = m.waiting
+
 handed_over : (old mid : State) (end : End) (n : ℕ) → IsPostDue old end → PostedAll old mid end n → IsHandedOver mid end
 handed_over old mid A n due p = (moved old mid A p.is).waiting
-handed_over old mid B n due p =
-    let m = moved old mid B p.is in
-    λ e. elim e [ A ↦ ap (λ (d : Direction). d.waiting) m.back ∙ due.0.waiting | B ↦ m.waiting ]
+handed_over old mid B n due p = λ e. both_over old mid e due (moved old mid B p.is)
 
 over_still : (mid new : State) (end : End) → SameBut mid new → IsHandedOver mid end → IsHandedOver new end
 over_still mid new A same over = same.waiting A ∙ over

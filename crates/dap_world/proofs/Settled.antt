@@ -1,6 +1,7 @@
 -- Both ends are settled.
-use Rattle.std.proofs.Common.{◌≡◌, ℕ, zero, suc, ◌+◌, ◌*◌, ◌≤◌, arith, Ok, Err}
+use Rattle.std.proofs.Common.{◌≡◌, ℕ, zero, suc, ◌+◌, ◌*◌, ◌≤◌, ◌∙◌, Bool, false, ap, arith, Ok, Err}
 use Rattle.std.specs.Prelude.{◌==◌, if◌then◌else◌, Result, IsOk}
+use Rattle.std.proofs.lemmas.Bool.{ne_eqb}
 use Rattle.dap_world.specs.declared.event.End.TheVariants.{A, B}
 use Rattle.dap_world.specs.declared.event.WorldFault.{WorldFault}
 use Rattle.dap_world.specs.Machine.{State}
@@ -13,7 +14,10 @@ use Rattle.dap_world.proofs.Settles.{ran_both}
 -- how many events that were
 count_most : (u w n : ℕ) → n ≡ (if u == 0 then 0 else 2 * u + 2) → u ≤ w → n ≤ 2 * w + 2
 count_most zero w n is le = omega (arith, is)
-count_most (suc u) w n is le = omega (arith, is, le)
+count_most (suc u) w n is le =
+    let some : (suc u == 0) ≡ false = ne_eqb (suc u) 0 (λ e. omega (arith, e)) in
+    let many : n ≡ 2 * suc u + 2 = is ∙ ap (λ (b : Bool). if b then 0 else 2 * suc u + 2) some in
+    omega (arith, many, le)
 
 count_none : (u n : ℕ) → n ≡ (if u == 0 then 0 else 2 * u + 2) → u ≡ 0 → n ≡ 0
 count_none zero n is none = is

@@ -64,6 +64,13 @@ impl Side {
     ghost use Rattle.dap_world.specs.Inner.Sides.{WroteOne, EmitFault, ResendFault, PostedAll, PostFault, posted_side, segments_queued};
     ghost use Rattle.dap_world.specs.Inner.Ways.{AreShort};
 
+    // The link.
+    pub(crate) fn link(&self) -> &LinkEnd
+        ensures { result.now ≡ self.now.link }
+    {
+        &self.link
+    }
+
     // The packets that were written.
     pub(crate) fn wire(&self) -> &[Wired]
         ensures { map wired_value result.now ≡ self.now.wire }

@@ -238,8 +238,8 @@ impl World {
         ensures { IsLinkOf self.now end result.now }
     {
         match end {
-            End::A => &self.a.link,
-            End::B => &self.b.link,
+            End::A => self.a.link(),
+            End::B => self.b.link(),
         }
     }
 }
