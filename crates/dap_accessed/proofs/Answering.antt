@@ -32,7 +32,7 @@ use Rattle.std.specs.Prelude.{◌==◌, take_while, drop}
 use Rattle.std.specs.List.{prefix_len, AllByRecursion}
 use Rattle.std.proofs.lemmas.List.Sums.{take_while-cons}
 use Rattle.dap_msg.specs.Exchange.{config_of, limit_of}
-use Rattle.dap_accessed.specs.Standing.{enters}
+use Rattle.dap_accessed.specs.Standing.{Files, enters}
 use Rattle.dap_accessed.specs.Standing.{place_of, file_at, the_file, Place, Fresh, Ready, Opened, Connected, Store, Stopped, Standing, Scene, Effect}
 use Rattle.dap_accessed.specs.Past.{Memory, looked_back, next_ordinal}
 use Rattle.dap_accessed.specs.Replies.{bare_status, reason_status, sync_status, reason_of, refusal_status, done_status, record_status, too_large, completed, org_number, format_number, opened_with}
@@ -42,7 +42,7 @@ use Rattle.dap_accessed.specs.Transfers.{fetch, fetch_ends, continue_refused, co
 use Rattle.dap_msg.specs.Exchange.{is_too_small}
 use Rattle.dap_accessed.specs.Exchange.{Begun, Turn, control_status, control_opened, control_connected, turn_in, turn_of, effect_with}
 use Rattle.dap_accessed.specs.Groups.{Answers, scene_of, stands_after, added}
-use Rattle.dap_accessed.specs.Sound.{IsOpenAt, IsSound}
+use Rattle.dap_accessed.specs.Sound.{AreFiles, IsOpenAt, IsSound}
 use Rattle.dap_accessed.proofs.Kept.{both}
 use Rattle.dap_accessed.proofs.SoundTables.{AllFiles, file-there}
 use Rattle.dap_accessed.proofs.SoundGroups.{Good, good-memory, place-within}
@@ -282,7 +282,7 @@ module _ (scene : Scene) (own : scene.own < 2 ^ 16) (files : AllFiles scene.file
 
 -- ---- One item more, and every list of items.
 
-module _ (own : ℕ) (small : own < 2 ^ 16) where
+module _ (own : ℕ) (small : own < 2 ^ 16) (first : Files) (good : AreFiles first) where
   one-sends : (s : Standing) (b : Option Begun) (item : Item) → IsSound (record { standing = s; begun = b }) → HasShortType item → AreSendable s.limit (answers_after own s b item)
   one-sends s None item h t =
       let h = h.standing in
@@ -290,10 +290,10 @@ module _ (own : ℕ) (small : own < 2 ^ 16) where
   one-sends s (Some b) item h t = with-second (scene_of own s) small h.standing.files h.standing.least b.opened h.begun b.change b.stream item t
 
   -- what one item more adds may be sent
-  pub added-sends : (items : List Item) (item : Item) → HasShortType item → AreSendable (stands_after own items).standing.limit (added own items item)
+  pub added-sends : (items : List Item) (item : Item) → HasShortType item → AreSendable (stands_after own first items).standing.limit (added own first items item)
   added-sends items item t =
-      let c = stands_after own items in
-      subst (AreSendable c.standing.limit) (sym (added-is own items item)) (one-sends c.standing c.begun item (all-sound own items) t)
+      let c = stands_after own first items in
+      subst (AreSendable c.standing.limit) (sym (added-is own first items item)) (one-sends c.standing c.begun item (all-sound own first items good) t)
 
 -- ---- All answers to items that were read have spellings.
 
@@ -305,13 +305,13 @@ fit-both : (one two : List Message) → AllFit one → AllFit two → AllFit (on
 fit-both [] two h k = k
 fit-both (m ∷ one) two h k = (h.0, fit-both one two h.1 k)
 
-fit-on : (own : ℕ) → own < 2 ^ 16 → (before more : List Item) → AllFit (Answers own before) → AllByRecursion IsRead more → AllFit (Answers own (before ++ more))
-fit-on own small before [] h r = subst (λ (l : List Item). AllFit (Answers own l)) (sym (append-nil before)) h
-fit-on own small before (item ∷ more) h r =
-    let here = added own before item in
-    let fit : AllFit here = sendable-fit (stands_after own before).standing.limit here (added-sends own small before item (read-short item r.0)) in
-    let one : AllFit (Answers own (before ++ item ∷ [])) = subst AllFit (sym (Answers-more own before item)) (fit-both (Answers own before) here h fit) in
-    subst (λ (l : List Item). AllFit (Answers own l)) (append_assoc before (item ∷ []) more) (fit-on own small (before ++ item ∷ []) more one r.1)
+fit-on : (own : ℕ) → own < 2 ^ 16 → (first : Files) → AreFiles first → (before more : List Item) → AllFit (Answers own first before) → AllByRecursion IsRead more → AllFit (Answers own first (before ++ more))
+fit-on own small first good before [] h r = subst (λ (l : List Item). AllFit (Answers own first l)) (sym (append-nil before)) h
+fit-on own small first good before (item ∷ more) h r =
+    let here = added own first before item in
+    let fit : AllFit here = sendable-fit (stands_after own first before).standing.limit here (added-sends own small first good before item (read-short item r.0)) in
+    let one : AllFit (Answers own first (before ++ item ∷ [])) = subst AllFit (sym (Answers-more own first before item)) (fit-both (Answers own first before) here h fit) in
+    subst (λ (l : List Item). AllFit (Answers own first l)) (append_assoc before (item ∷ []) more) (fit-on own small first good (before ++ item ∷ []) more one r.1)
 
-pub all-fit : (own : ℕ) → own < 2 ^ 16 → (items : List Item) → AllByRecursion IsRead items → AllFit (Answers own items)
-all-fit own small items r = fit-on own small [] items tt r
+pub all-fit : (own : ℕ) → own < 2 ^ 16 → (first : Files) → AreFiles first → (items : List Item) → AllByRecursion IsRead items → AllFit (Answers own first items)
+all-fit own small first good items r = fit-on own small first good [] items tt r

@@ -5,7 +5,7 @@ use Rattle.std.specs.Prelude.{Option, Some, None}
 use Rattle.std.proofs.lemmas.List.{append-nil}
 use Rattle.dap_msg.specs.Message.{Message}
 use Rattle.dap_msg.specs.Items.{Item}
-use Rattle.dap_accessed.specs.Standing.{Standing, start}
+use Rattle.dap_accessed.specs.Standing.{Files, Standing, start}
 use Rattle.dap_accessed.specs.Exchange.{Begun, Turn, Does, Begins}
 use Rattle.dap_accessed.specs.Groups.{Grouped, turn_at, over, after_two, grouped, stands_after, added, answers_in, Answers}
 use Rattle.dap_accessed.specs.Present.{present_of}
@@ -36,19 +36,19 @@ answers_after-more : (own : ℕ) (s : Standing) (b : Option Begun) (item : Item)
 answers_after-more own s None item = next_answers-more s item (turn_at own s item)
 answers_after-more own s (Some begun) item = refl
 
-Answers-then : (own : ℕ) (items : List Item) (item : Item) → Answers own (items ++ item ∷ []) ≡ Answers own items ++ answers_of own (stands_after own items) item
-Answers-then own items item =
-    let c = stands_after own items in
-    ap (λ (c : Grouped). answers_in c.standing.past) (cut-more own start items item) ∙ answers_after-more own c.standing c.begun item
+Answers-then : (own : ℕ) (first : Files) (items : List Item) (item : Item) → Answers own first (items ++ item ∷ []) ≡ Answers own first items ++ answers_of own (stands_after own first items) item
+Answers-then own first items item =
+    let c = stands_after own first items in
+    ap (λ (c : Grouped). answers_in c.standing.past) (cut-more own (start first) items item) ∙ answers_after-more own c.standing c.begun item
 
 -- what an item adds is what the end answers from where it stands
-pub added-is : (own : ℕ) (items : List Item) (item : Item) → added own items item ≡ answers_of own (stands_after own items) item
-added-is own items item =
-    ap (drop (length (Answers own items))) (Answers-then own items item) ∙ drop-append_seam (Answers own items) (answers_of own (stands_after own items) item)
+pub added-is : (own : ℕ) (first : Files) (items : List Item) (item : Item) → added own first items item ≡ answers_of own (stands_after own first items) item
+added-is own first items item =
+    ap (drop (length (Answers own first items))) (Answers-then own first items item) ∙ drop-append_seam (Answers own first items) (answers_of own (stands_after own first items) item)
 
 -- The answers to a list and one item more are those to the list, and those that the item adds.
-pub Answers-more : (own : ℕ) (items : List Item) (item : Item) → Answers own (items ++ item ∷ []) ≡ Answers own items ++ added own items item
-Answers-more own items item = Answers-then own items item ∙ ap (λ (l : List Message). Answers own items ++ l) (sym (added-is own items item))
+pub Answers-more : (own : ℕ) (first : Files) (items : List Item) (item : Item) → Answers own first (items ++ item ∷ []) ≡ Answers own first items ++ added own first items item
+Answers-more own first items item = Answers-then own first items item ∙ ap (λ (l : List Message). Answers own first items ++ l) (sym (added-is own first items item))
 
-pub present-more : (own : ℕ) (items : List Item) (item : Item) → present_of own (stands_after own (items ++ item ∷ [])) ≡ present_of own (one_more own (stands_after own items) item)
-present-more own items item = ap (present_of own) (cut-more own start items item)
+pub present-more : (own : ℕ) (first : Files) (items : List Item) (item : Item) → present_of own (stands_after own first (items ++ item ∷ [])) ≡ present_of own (one_more own (stands_after own first items) item)
+present-more own first items item = ap (present_of own) (cut-more own (start first) items item)

@@ -9,7 +9,7 @@ use Rattle.rec_file.specs.Files.{FileVal, IsFile, highest_of}
 use Rattle.rec_file.specs.Acts.{Operation, get_record, put_record, update_record, delete_record, StreamVal, out_of_range, is_free, if_occupied, current_of, keeps_length, free_place, refusals_of, first_refusal, file_after, outcome_of, act}
 use Rattle.rec_file.proofs.ForCallers.{IsFile-placed, IsFile-replaced, IsFile-removed}
 
-passed : (b : Bool) (r : Refusal) (rest : Option Refusal) → (if b then Some r else rest) ≡ None → (b ≡ false) × (rest ≡ None)
+pub passed : (b : Bool) (r : Refusal) (rest : Option Refusal) → (if b then Some r else rest) ≡ None → (b ≡ false) × (rest ≡ None)
 passed true r rest e = cc
 passed false r rest e = (refl, e)
 
@@ -17,15 +17,15 @@ pub both : (a b : Bool) → (a && b) ≡ true → (a ≡ true) × (b ≡ true)
 both true b e = (refl, e)
 both false b e = cc
 
-neither : (a b : Bool) → (a || b) ≡ false → (a ≡ false) × (b ≡ false)
+pub neither : (a b : Bool) → (a || b) ≡ false → (a ≡ false) × (b ≡ false)
 neither true b e = cc
 neither false b e = (refl, e)
 
-un_not : (b : Bool) → not b ≡ false → b ≡ true
+pub un_not : (b : Bool) → not b ≡ false → b ≡ true
 un_not true e = refl
 un_not false e = cc
 
-in_range : (file : FileVal) (n : ℕ) → out_of_range file.shape n ≡ false → (1 ≤ n) × (n ≤ limit_of file.shape)
+pub in_range : (file : FileVal) (n : ℕ) → out_of_range file.shape n ≡ false → (1 ≤ n) × (n ≤ limit_of file.shape)
 in_range file n e =
     let parts = neither (nat_eq n 0) (not (nat_le n (limit_of file.shape))) e in
     let zero = parts.0 in

@@ -10,5 +10,6 @@ pub mod Kept
 pub mod SoundTables
 pub mod SoundGroups
 pub mod SoundLists
+pub mod Given
 pub mod Answering
 pub mod ForCallers

@@ -39,7 +39,7 @@ use Rattle.dap_accessed.specs.Transfers.{fetch, fetch_ends, continue_fetch, stor
 use Rattle.dap_msg.specs.Exchange.{is_too_small}
 use Rattle.dap_accessed.specs.Exchange.{Begun, Turn, Does, Begins, control_opened, control_connected, turn_in, turn_of, effect_with}
 use Rattle.dap_accessed.specs.Groups.{scene_of, turn_at, after_two}
-use Rattle.dap_accessed.specs.Sound.{AreDistinct, IsOpenAt, IsSoundAt, IsSound}
+use Rattle.dap_accessed.specs.Sound.{AreFiles, AreDistinct, IsOpenAt, IsSoundAt, IsSound}
 use Rattle.dap_accessed.proofs.OneMore.{next_group, more_after}
 use Rattle.dap_accessed.proofs.Tables.{length-with}
 use Rattle.dap_accessed.proofs.Kept.{act-keeps, both}
@@ -258,8 +258,8 @@ module _ (scene : Scene) (files : AllFiles scene.files) (distinct : AreDistinct 
 
 -- ---- Every list of items.
 
-pub start-sound : IsSound (record { standing = start; begun = None })
-start-sound = record { standing = record { files = tt; distinct = tt; opened = tt; least = lit≤ tt; most = lit≤ tt }; begun = tt }
+pub start-sound : (first : Files) → AreFiles first → IsSound (record { standing = start first; begun = None })
+start-sound first good = record { standing = record { files = good.files; distinct = good.distinct; opened = tt; least = lit≤ tt; most = lit≤ tt }; begun = tt }
 
 one-sound : (own : ℕ) (s : Standing) (item : Item) → IsSoundAt s.files s.limit s.place → IsSoundTurn (scene_of own s) (turn_at own s item)
 one-sound own s item h =

@@ -199,11 +199,11 @@ step-is own s None item = one-follows own s.files s.limit s.past s.place item
 step-is own s (Some b) item = two-follows own s.files s.limit s.past s.place b.opened b.stream b.change b.first item
 
 -- the move of an end that stands as after some items
-pub present-moves : (own : ℕ) (items : List Item) (item : Item) → present_of own (stands_after own (items ++ item ∷ [])) ≡ (move (present_of own (stands_after own items)) item).present
-present-moves own items item = let c = stands_after own items in present-more own items item ∙ (step-is own c.standing c.begun item).same_present
+pub present-moves : (own : ℕ) (first : Files) (items : List Item) (item : Item) → present_of own (stands_after own first (items ++ item ∷ [])) ≡ (move (present_of own (stands_after own first items)) item).present
+present-moves own first items item = let c = stands_after own first items in present-more own first items item ∙ (step-is own c.standing c.begun item).same_present
 
-pub answers-move : (own : ℕ) (items : List Item) (item : Item) → added own items item ≡ (move (present_of own (stands_after own items)) item).answers
-answers-move own items item = let c = stands_after own items in added-is own items item ∙ (step-is own c.standing c.begun item).same_answers
+pub answers-move : (own : ℕ) (first : Files) (items : List Item) (item : Item) → added own first items item ≡ (move (present_of own (stands_after own first items)) item).answers
+answers-move own first items item = let c = stands_after own first items in added-is own first items item ∙ (step-is own c.standing c.begun item).same_answers
 
 -- an end's own BUFSIZ stays
 turns-own : (t : Turn) (p : Present) (memory : Memory) (place : Place) (item : Item) → (turns t p memory place item).present.own ≡ p.own
@@ -228,10 +228,10 @@ pub same-own : (p : Present) (item : Item) → (move p item).present.own ≡ p.o
 same-own p item = moves-own p.phase p item
 
 -- an end that stood as after some items stands as after these and one more
-pub stands-more : (old new : Present) (item : Item) → new ≡ (move old item).present → (items : List Item) → StandsAfter items old → StandsAfter (items ++ item ∷ []) new
-stands-more old new item e items h =
+pub stands-more : (old new : Present) (item : Item) → new ≡ (move old item).present → (first : Files) (items : List Item) → StandsAfter first items old → StandsAfter first (items ++ item ∷ []) new
+stands-more old new item e first items h =
     let own : new.own ≡ old.own = ap (λ (p : Present). p.own) e ∙ same-own old item in
-    e ∙ ap (λ (p : Present). (move p item).present) h ∙ sym (present-moves old.own items item) ∙ ap (λ (n : ℕ). present_of n (stands_after n (items ++ item ∷ []))) (sym own)
+    e ∙ ap (λ (p : Present). (move p item).present) h ∙ sym (present-moves old.own first items item) ∙ ap (λ (n : ℕ). present_of n (stands_after n first (items ++ item ∷ []))) (sym own)
 
-pub answers-are : (old : Present) (item : Item) (items : List Item) → StandsAfter items old → (move old item).answers ≡ added old.own items item
-answers-are old item items h = ap (λ (p : Present). (move p item).answers) h ∙ sym (answers-move old.own items item)
+pub answers-are : (old : Present) (item : Item) (first : Files) (items : List Item) → StandsAfter first items old → (move old item).answers ≡ added old.own first items item
+answers-are old item first items h = ap (λ (p : Present). (move p item).answers) h ∙ sym (answers-move old.own first items item)

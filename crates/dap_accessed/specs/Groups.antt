@@ -53,22 +53,22 @@ abbrev pub answers_in : List Group → List Message
 answers_in [] = []
 answers_in (group ∷ past) = answers_in past ++ group.answers
 
--- where an end with this BUFSIZ stands after these items
-abbrev pub stands_after : ℕ → List Item → Grouped
-stands_after own items = grouped own start items
+-- where an end with this BUFSIZ, which had these files at first, stands after these items
+abbrev pub stands_after : ℕ → Files → List Item → Grouped
+stands_after own first items = grouped own (start first) items
 
 -- how long a message the peer takes then
-abbrev pub limit_for : ℕ → List Item → ℕ
-limit_for own items = (stands_after own items).standing.limit
+abbrev pub limit_for : ℕ → Files → List Item → ℕ
+limit_for own first items = (stands_after own first items).standing.limit
 
 -- the file table after the operations of all groups
-abbrev pub After : ℕ → List Item → Files
-After own items = (stands_after own items).standing.files
+abbrev pub After : ℕ → Files → List Item → Files
+After own first items = (stands_after own first items).standing.files
 
 -- the answers of all groups, in order
-abbrev pub Answers : ℕ → List Item → List Message
-Answers own items = answers_in (stands_after own items).standing.past
+abbrev pub Answers : ℕ → Files → List Item → List Message
+Answers own first items = answers_in (stands_after own first items).standing.past
 
 -- what one item more adds: the answers to the list and it, behind those to the list
-abbrev pub added : ℕ → List Item → Item → List Message
-added own items item = drop (length (Answers own items)) (Answers own (items ++ item ∷ []))
+abbrev pub added : ℕ → Files → List Item → Item → List Message
+added own first items item = drop (length (Answers own first items)) (Answers own first (items ++ item ∷ []))

@@ -3,3 +3,4 @@ pub mod Stored
 pub mod Tables
 pub mod Written
 pub mod Moves
+pub mod Storing

@@ -9,4 +9,5 @@ pub mod Groups
 pub mod Present
 pub mod Served
 pub mod Sound
+pub mod Adding
 pub mod Inner

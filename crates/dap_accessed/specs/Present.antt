@@ -51,6 +51,6 @@ present_of own c =
       phase = phase_of c.standing c.begun;
     }
 
--- the end stands as one with its BUFSIZ after these items
-abbrev pub StandsAfter : List Item → Present → Type 0
-StandsAfter items present = present ≡ present_of present.own (stands_after present.own items)
+-- the end stands as one with its BUFSIZ that had these files at first, after these items
+abbrev pub StandsAfter : Files → List Item → Present → Type 0
+StandsAfter first items present = present ≡ present_of present.own (stands_after present.own first items)

@@ -5,12 +5,14 @@ use Rattle.dap_msg.specs.Codes as codes
 use Rattle.dap_msg.specs.Message.{Attrib, Control, Contran, Filedata, Other}
 use Rattle.dap_msg.specs.Items.{Item, Whole, ItemAt}
 use Rattle.dap_msg.specs.Blocked.{Blocked, all_joined, bodies, AllFit}
+use Rattle.dap_msg.specs.Exchange.{greatest_message}
 use Rattle.dap_accessed.specs.declared.phase.Phase.{Phase}
 use Rattle.dap_accessed.specs.declared.phase.Phase.TheVariants as phases
 use Rattle.dap_accessed.specs.declared.served.Served.{Served}
 use Rattle.dap_accessed.specs.declared.verbs.Verb.{Verb}
 use Rattle.dap_accessed.specs.declared.verbs.Verb.TheVariants as verbs
 use Rattle.dap_accessed.specs.Records.{verb_of}
+use Rattle.dap_accessed.specs.Standing.{Files}
 use Rattle.dap_accessed.specs.Groups.{added}
 use Rattle.dap_accessed.specs.Present.{Present, StandsAfter}
 
@@ -20,15 +22,16 @@ AllAtMost limit list = AllByRecursion (λ bytes. length bytes ≤ limit) list
 
 -- The item at a place was served: after any items, an end that stood as after these stands as after these and it, and
 -- gives just the answers that it adds, joined as far as the peer's limit goes. Each has a spelling, and none is longer
--- than that limit, which is that of the least buffer before the peer's Config.
+-- than that limit, which is that of the least buffer before the peer's Config, and never above what any end takes.
 pub record Serves (bytes : List ℕ) (at : ℕ) (old new : Present) (served : Served) : Type 0 where
   pub item : Item
   pub reads : ItemAt bytes at item served.next
-  pub stands : (items : List Item) → StandsAfter items old → StandsAfter (items ++ item ∷ []) new
-  pub answers : (items : List Item) → StandsAfter items old →
-      bodies served.answers.items ≡ all_joined (Blocked old.limit (added old.own items item))
-  pub fits : (items : List Item) → StandsAfter items old → AllFit (added old.own items item)
+  pub stands : (first : Files) (items : List Item) → StandsAfter first items old → StandsAfter first (items ++ item ∷ []) new
+  pub answers : (first : Files) (items : List Item) → StandsAfter first items old →
+      bodies served.answers.items ≡ all_joined (Blocked old.limit (added old.own first items item))
+  pub fits : (first : Files) (items : List Item) → StandsAfter first items old → AllFit (added old.own first items item)
   pub within : AllAtMost old.limit (bodies served.answers.items)
+  pub limit : old.limit ≤ greatest_message
   pub same_own : new.own ≡ old.own
 
 -- ---- What takes no memory.

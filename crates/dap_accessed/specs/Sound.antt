@@ -29,6 +29,12 @@ pub record IsSoundAt (table : Files) (limit : ℕ) (place : Place) : Type 0 wher
   pub least : least_buffer ≤ limit
   pub most : limit ≤ greatest_message
 
+-- files that an end may have at first
+pub record AreFiles (table : Files) : Type 0 where
+  -- each obeys its shape, which is one that the check gives
+  pub files : AllByRecursion (λ f. IsFile f.1) table
+  pub distinct : AreDistinct table
+
 -- also inside a group of two
 pub record IsSound (c : Grouped) : Type 0 where
   pub standing : IsSoundAt c.standing.files c.standing.limit c.standing.place

@@ -90,6 +90,6 @@ enters scene place answers = record { files = scene.files; limit = scene.limit; 
 abbrev pub leaves : Scene → Files → Place → List Message → Effect
 leaves scene files place answers = record { files = files; limit = scene.limit; place = place; answers = answers }
 
--- No files, and no Config of the peer yet, which may have the least buffer.
-abbrev pub start : Standing
-start = record { files = []; limit = least_buffer; place = Fresh; past = [] }
+-- These files, and no Config of the peer yet, which may have the least buffer.
+abbrev pub start : Files → Standing
+start files = record { files = files; limit = least_buffer; place = Fresh; past = [] }

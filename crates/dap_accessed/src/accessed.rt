@@ -15,7 +15,7 @@ ghost use Rattle.dap_accessed.specs.Replies.{bare_status, refused_access, sync_s
 ghost use Rattle.dap_accessed.specs.Past.{asked_shape};
 ghost use Rattle.dap_accessed.specs.Present.{StandsAfter};
 ghost use Rattle.dap_accessed.specs.Served.{Serves, is_silent};
-ghost use Rattle.dap_accessed.specs.Standing.{Fresh, Ready};
+ghost use Rattle.dap_accessed.specs.Standing.{Files, Fresh, Ready};
 ghost use Rattle.dap_accessed.specs.Inner.Moves.{Makes, creates, move, opens, opens_nothing, plainly};
 ghost use Rattle.dap_accessed.specs.Inner.Written.{Answered, IsShort, message_of};
 ghost use Rattle.dap_accessed.specs.declared.phase.Phase.TheVariants as phases;
@@ -50,7 +50,7 @@ pub struct Accessed {
     pub(crate) limit: u16,
     pub(crate) files: FileTable,
     // The shape that an Access would give a new file.
-    kept: Option<Shape>,
+    pub(crate) kept: Option<Shape>,
     pub(crate) phase: Phase,
 }
 
@@ -75,7 +75,7 @@ impl Model for Accessed {
 }
 
 /// The shape of a file of which no Attributes message says anything.
-const PLAIN: Shape = Shape {
+pub(crate) const PLAIN: Shape = Shape {
     org: Org::Seq,
     format: Format::Variable,
     mrs: 0,
@@ -162,7 +162,7 @@ impl Accessed {
         requires low { least_buffer ≤ bufsiz }
         requires high { bufsiz ≤ greatest_message }
         ensures own { result.own ≡ bufsiz }
-        ensures stands { StandsAfter [] result }
+        ensures stands { StandsAfter [] [] result }
     {
         Accessed {
             alloc,
@@ -178,8 +178,8 @@ impl Accessed {
     /// them. It takes no memory. Own.
     pub fn files(&self) -> &FileTable
         ensures held { result.now ≡ self.now.files }
-        ensures after { (items : List TheItem) → StandsAfter items self.now
-            → result.now ≡ After self.now.own items }
+        ensures after { (first : Files) (items : List TheItem) → StandsAfter first items self.now
+            → result.now ≡ After self.now.own first items }
     {
         &self.files
     }
@@ -336,6 +336,7 @@ impl Accessed {
         ensures no_memory { OnErr result (self.new ≡ self.old) }
         ensures unrefused { is_silent self.old.phase (seen_item item.entry) ≡ true → IsOk result }
     {
+        let _ = &self.limit;
         let answers = self.serve_item(item)?;
         Ok(Served { answers, next })
     }

@@ -1,6 +1,10 @@
-//! Want of memory.
+//! Why a call is refused.
+
+ghost use Rattle.std.specs.Prelude.{◌≡◌};
+ghost use Rattle.dap_accessed.specs.declared.fault.AddFault.TheVariants as fault;
 
 use dap_msg::MsgFault;
+use rec_file::Refusal;
 use std::alloc::{AllocError, AllocFailed};
 
 /// Memory was refused (own). Nothing has changed, and the same call may be made again.
@@ -23,5 +27,36 @@ impl<T: Drop> From<AllocFailed<T>> for NoMemory {
 impl From<MsgFault> for NoMemory {
     fn from(_e: MsgFault) -> NoMemory {
         NoMemory
+    }
+}
+
+/// Why a file or a record isn't added, in the order in which it is looked at (own). Nothing has changed.
+#[derive(Clone, Copy, Debug, PartialEq, Eq)]
+pub enum AddFault {
+    /// The peer's Config was served.
+    Busy,
+    /// A file has the name.
+    FileExists,
+    /// There is no file that could take a record.
+    NoFile,
+    /// The newest file doesn't take the record.
+    Record(Refusal),
+    /// Memory was refused. The same call may be made again.
+    NoMemory,
+}
+
+impl From<AllocError> for AddFault {
+    ghost from_gives = { λ _ e. e ≡ fault.NoMemory };
+
+    fn from(_e: AllocError) -> AddFault {
+        AddFault::NoMemory
+    }
+}
+
+impl From<NoMemory> for AddFault {
+    ghost from_gives = { λ _ e. e ≡ fault.NoMemory };
+
+    fn from(_e: NoMemory) -> AddFault {
+        AddFault::NoMemory
     }
 }

@@ -1,36 +1,51 @@
 //! Laws over the definitions alone, for the crates above. Each function does nothing: its contract is
 //! the law.
 
-ghost use Rattle.std.specs.Prelude.{◌≡◌, ◌<◌, ◌^◌, ℕ, List, [], ◌∷◌, ◌++◌};
+ghost use Rattle.std.specs.Prelude.{◌≡◌, ◌<◌, ◌^◌, ℕ, List, [], ◌∷◌, ◌++◌, length, None, IsTrue};
 ghost use Rattle.dap_msg.specs.Items.{IsRead, Item as TheItem};
 ghost use Rattle.dap_msg.specs.Blocked.{AllFit};
 ghost use Rattle.dap_msg.specs.Sendable.{AreSendable};
 ghost use Rattle.std.specs.List.{AllByRecursion};
-ghost use Rattle.dap_accessed.specs.Sound.{IsSound};
+ghost use Rattle.dap_accessed.specs.Sound.{AreFiles, IsSound};
+ghost use Rattle.dap_accessed.specs.Standing.{Files, place_of, file_at};
+ghost use Rattle.dap_accessed.specs.Adding.{MayStore, newest, with_new_file, with_record};
+ghost use Rattle.rec_file.specs.Shapes.{is_shape};
+ghost use Rattle.rec_file.specs.declared.shapes.Shape.{Shape};
 ghost use Rattle.dap_accessed.specs.Groups.{Answers, added, limit_for, stands_after};
 
 /// One message more adds its own answers to those of the messages before it, and no others.
 pub fn answers_grow()
-    ensures { (own : ℕ) (items : List TheItem) (item : TheItem)
-        → Answers own (items ++ item ∷ []) ≡ Answers own items ++ added own items item }
+    ensures { (own : ℕ) (first : Files) (items : List TheItem) (item : TheItem)
+        → Answers own first (items ++ item ∷ [])
+        ≡ Answers own first items ++ added own first items item }
 {}
 
-/// After any messages each file obeys its shape, which is one that `Shape::check` gives, no two files
-/// have the same name, the file that is open is in the table, and what the peer takes is 64 to 65,535
-/// bytes. Own.
+/// Where each file at first obeyed its shape, and no two had the same name, it is so after any messages; each
+/// shape is one that `Shape::check` gives, the file that is open is in the table, and what the peer takes is 64
+/// to 65,535 bytes. Own.
 pub fn stays_sound()
-    ensures { (own : ℕ) (items : List TheItem) → IsSound (stands_after own items) }
+    ensures { (own : ℕ) (first : Files) (items : List TheItem)
+        → AreFiles first → IsSound (stands_after own first items) }
 {}
 
 /// Each answer to one message more that was read has a spelling, and none is longer than the peer takes. Own.
 pub fn answers_are_sendable()
-    ensures { (own : ℕ) → own < 2 ^ 16 → (items : List TheItem) (item : TheItem)
-        → IsRead item
-        → AreSendable (limit_for own items) (added own items item) }
+    ensures { (own : ℕ) → own < 2 ^ 16 → (first : Files) (items : List TheItem)
+        (item : TheItem) → AreFiles first → IsRead item
+        → AreSendable (limit_for own first items) (added own first items item) }
 {}
 
 /// All answers to messages that were read have spellings. Own.
 pub fn answers_fit()
-    ensures { (own : ℕ) → own < 2 ^ 16 → (items : List TheItem)
-        → AllByRecursion IsRead items → AllFit (Answers own items) }
+    ensures { (own : ℕ) → own < 2 ^ 16 → (first : Files) (items : List TheItem)
+        → AreFiles first → AllByRecursion IsRead items → AllFit (Answers own first items) }
+{}
+
+/// A file and a record that an end is given leave files that obey their shapes and have different names. Own.
+pub fn given_files_are_sound()
+    ensures file { (files : Files) (name : List ℕ) (shape : Shape) → AreFiles files
+        → IsTrue (is_shape shape) → place_of name files ≡ None
+        → AreFiles (with_new_file name shape files) }
+    ensures record { (files : Files) (n : ℕ) (body : List ℕ) → AreFiles files → 0 < length files
+        → MayStore (file_at (newest files) files) n body → AreFiles (with_record n body files) }
 {}

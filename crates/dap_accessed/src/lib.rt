@@ -3,6 +3,7 @@
 #![tactic(auto)]
 
 mod accessed;
+mod adding;
 mod answers;
 mod fault;
 mod laws;
@@ -16,8 +17,10 @@ mod transfer;
 mod verbs;
 
 pub use accessed::Accessed;
-pub use fault::NoMemory;
-pub use laws::{answers_are_sendable, answers_fit, answers_grow, stays_sound};
+pub use fault::{AddFault, NoMemory};
+pub use laws::{
+    answers_are_sendable, answers_fit, answers_grow, given_files_are_sound, stays_sound,
+};
 pub use served::Served;
 pub use table::FileTable;
 

@@ -28,3 +28,5 @@ pub use Rattle.dap_accessing.proofs.Laws.{asked_one}
 pub use Rattle.dap_accessing.proofs.Laws.{each_told}
 -- where each has, and each answer had its place, none is due
 pub use Rattle.dap_accessing.proofs.Laws.{none_due}
+-- what an end keeps follows from the requests and answers
+pub use Rattle.dap_accessing.proofs.One.{one_present}

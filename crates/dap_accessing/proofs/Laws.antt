@@ -315,8 +315,8 @@ admit request old may = λ requests answers s. (
   subst (λ n. AreSendable n (messages_of old.own request)) s.limit may.sendable,
 )
 
-pub may_ask : (request : Request) (old : Present) → old.failed ≡ false → is_some old.pending ≡ false → phase_fits old.phase request ≡ true → AreSendable old.limit (messages_of old.own request) → MayAsk old request
-may_ask request old works none right sendable = record { works = works; none_due = none_of old.pending none; in_phase = right; sendable = sendable }
+pub may_ask : (request : Request) (old : Present) → old.failed ≡ false → is_some old.pending ≡ false → phase_fits old.phase request ≡ true → AreSendable old.limit (messages_of old.own request) → old.limit ≤ greatest_message → MayAsk old request
+may_ask request old works none right sendable most = record { works = works; none_due = none_of old.pending none; in_phase = right; sendable = sendable; most = most }
 
 -- ---- What `read` answers.
 

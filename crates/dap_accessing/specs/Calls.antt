@@ -1,8 +1,9 @@
 -- What `ask` and `read` come to.
-use Rattle.std.specs.Prelude.{ℕ, ◌≡◌, Bool, true, false, List, [], ◌∷◌, ◌++◌, None, option_to_list}
+use Rattle.std.specs.Prelude.{ℕ, ◌≡◌, ◌≤◌, Bool, true, false, List, [], ◌∷◌, ◌++◌, None, option_to_list}
 use Rattle.dap_msg.specs.Items.{Item, ItemAt}
 use Rattle.dap_msg.specs.Blocked.{Blocked, all_joined}
 use Rattle.dap_msg.specs.Sendable.{AreSendable}
+use Rattle.dap_msg.specs.Exchange.{greatest_message}
 use Rattle.dap_accessing.specs.declared.request.Request.{Request}
 use Rattle.dap_accessing.specs.declared.fault.AskFault.{AskFault}
 use Rattle.dap_accessing.specs.declared.fault.AskFault.TheVariants as ask_fault
@@ -25,6 +26,7 @@ pub record MayAsk (old : Present) (request : Request) : Type 0 where
   pub none_due : old.pending ≡ None
   pub in_phase : phase_fits old.phase request ≡ true
   pub sendable : AreSendable old.limit (messages_of old.own request)
+  pub most : old.limit ≤ greatest_message
 
 -- The request is asked: it was admissible, these NSP messages are its messages, blocked, and the end stands as after it too.
 pub record Asks (request : Request) (old new : Present) (messages : List (List ℕ)) : Type 0 where

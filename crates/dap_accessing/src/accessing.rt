@@ -7,7 +7,7 @@ ghost use Rattle.dap_msg.specs.Message.{seen};
 ghost use Rattle.dap_msg.specs.Items.{Item as TheItem, Whole};
 ghost use Rattle.dap_msg.specs.Blocked.{bodies};
 ghost use Rattle.dap_accessing.specs.Inner.Hears.{HasShortNumbers, Takes};
-ghost use Rattle.dap_accessing.specs.Present.{StandsAfter};
+ghost use Rattle.dap_accessing.specs.Present.{Present, StandsAfter};
 ghost use Rattle.dap_msg.specs.Items.{IsPlace};
 ghost use Rattle.dap_accessing.specs.Calls.{Asks, AskRefused, IsAdmittedBy, MayAsk, Reads, ReadRefused};
 ghost use Rattle.dap_accessing.specs.Told.{Told};
@@ -67,6 +67,17 @@ impl Accessing {
             limit: GREATEST_MESSAGE,
             pending: None,
         }
+    }
+
+    /// The same end for another link: nothing was asked of it. It takes no memory. Own.
+    pub fn renew(&mut self)
+        ensures own { self.new.own ≡ self.old.own }
+        ensures stands { StandsAfter [] [] self.new }
+    {
+        self.failed = false;
+        self.phase = Phase::Fresh;
+        self.limit = GREATEST_MESSAGE;
+        self.pending = None;
     }
 
     /// The messages of a request, joined to NSP messages as far as the peer's limit goes (DAP 5.6.0, message
@@ -193,4 +204,11 @@ pub fn reports_grow()
     ensures { (requests : List TheRequest) (answers more : List TheItem)
         → (reports : List TheReport)
         × (Told requests (answers ++ more) ≡ Told requests answers ++ reports) }
+{}
+
+/// What an end keeps follows from the requests and answers that it stands after, and from its own buffer. Own.
+pub fn standing_is_one()
+    ensures { (requests : List TheRequest) (answers : List TheItem) (one two : Present)
+        → StandsAfter requests answers one → StandsAfter requests answers two
+        → one.own ≡ two.own → one ≡ two }
 {}

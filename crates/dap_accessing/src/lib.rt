@@ -12,7 +12,7 @@ mod phase;
 mod report;
 mod request;
 
-pub use accessing::{Accessing, reports_grow};
+pub use accessing::{Accessing, reports_grow, standing_is_one};
 pub use bytes::{Numbered, Octets, OctetsList};
 pub use fault::{AskFault, ReadFault, ReadStep};
 pub use report::{Ending, Report};

@@ -56,13 +56,13 @@ pub all_read : (own_a own_b : ℕ) (rs : List Request) (front back : List Item) 
 all_read own_a own_b rs front back expected e none = all_told own_a own_b rs front back expected e (each_told rs front none)
 
 -- the answers to a front of items are a front of the answers
-pub answers-front : (own : ℕ) (items more : List Item) → (rest : List Message) × (Answers own items ++ rest ≡ Answers own (items ++ more))
-answers-front own items [] = ([], append-nil (Answers own items) ∙ ap (Answers own) (sym (append-nil items)))
+pub answers-front : (own : ℕ) (items more : List Item) → (rest : List Message) × (Answers own [] items ++ rest ≡ Answers own [] (items ++ more))
+answers-front own items [] = ([], append-nil (Answers own [] items) ∙ ap (Answers own []) (sym (append-nil items)))
 answers-front own items (x ∷ more) =
     let next = answers-front own (items ++ x ∷ []) more in
-    let here = added own items x in (
+    let here = added own [] items x in (
       here ++ next.0,
-      sym (append_assoc (Answers own items) here next.0) ∙ ap (λ (l : List Message). l ++ next.0) (sym (Answers-more own items x)) ∙ next.1 ∙ ap (Answers own) (append_assoc items (x ∷ []) more),
+      sym (append_assoc (Answers own [] items) here next.0) ∙ ap (λ (l : List Message). l ++ next.0) (sym (Answers-more own [] items x)) ∙ next.1 ∙ ap (Answers own []) (append_assoc items (x ∷ []) more),
     )
 
 -- one request more that was admissible

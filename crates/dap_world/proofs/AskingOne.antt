@@ -75,7 +75,7 @@ unfolding reported
 asking_is s r h m =
     let all = all-answers s r h m in
     let agree = both-agree s.own_a s.own_b h.own_a h.own_b s.requests h.admissible in
-    let standing = (stands_after s.own_b (items_of s.own_a s.requests)).standing in
+    let standing = (stands_after s.own_b [] (items_of s.own_a s.requests)).standing in
     let reports = reports_of s.own_a s.own_b s.requests in
     let same : reported s ≡ reports = ap (Told s.requests) all in
     ap (λ (l : List Report). Blocked (limit_after l) (messages_of s.own_a r)) same
@@ -93,7 +93,7 @@ short-packets limit most (p ∷ packets) le h all =
 pub request-blocked : (own_a own_b : ℕ) → IsBufsiz own_a → IsBufsiz own_b → (rs : List Request) → AreAdmissible own_a own_b [] rs → NextWithin own_a own_b rs
 request-blocked own_a own_b a b rs all = λ r m.
     let agree = both-agree own_a own_b a b rs all in
-    let standing = (stands_after own_b (items_of own_a rs)).standing in
+    let standing = (stands_after own_b [] (items_of own_a rs)).standing in
     let reports = reports_of own_a own_b rs in
     subst (λ (l : List NspMessage). AllAtMost own_b (all_joined l)) (sym (same-blocked own_a own_b (phase_after reports) standing.place standing.limit (limit_after reports) r agree.places m.1))
     (blocked-within own_b own_b (messages_of own_a r) (omega arith) (messages-within own_a own_b a b rs all r m))
@@ -178,7 +178,7 @@ module _ (p : Parts) (h : AreParts p) (r : Request) (m : IsAdmissible p.accessin
         sent_is = h.sent_is ∙ ap (λ (x : State). map canon (messages_in x.from_a.handed)) (sym state);
         reports_is = h.reports_is ∙ sym (same_told p.requests (answers_read s) p.accessing r h.asking m.0) ∙ ap reported (sym state);
         asking = subst (λ (x : State). accessing.StandsAfter (p.requests ++ r ∷ []) (answers_read x) (record after { own = p.accessing.own })) (sym state) stands;
-        serving = subst (λ (x : State). accessed.StandsAfter (map Whole (taken_of x)) p.accessed) (sym state) h.serving;
+        serving = subst (λ (x : State). accessed.StandsAfter [] (map Whole (taken_of x)) p.accessed) (sym state) h.serving;
       }
 
 refused_by : (p : Parts) (r : Request) (f : AskFault) → AreParts p → f ≢ ask_fault.NoMemory → AskRefused r p.accessing f → Refuses (state_of p) (event.Ask r) (fault.Ask f)

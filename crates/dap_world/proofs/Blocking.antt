@@ -97,6 +97,6 @@ short-there (first ∷ front) back item h = short-there front back item h.1
 pub answers-blocked : (own_a own_b : ℕ) → IsBufsiz own_a → IsBufsiz own_b → (rs : List Request) → AnswersWithin own_a own_b rs
 answers-blocked own_a own_b a b rs = λ front back item e.
     let short = short-there front back item (subst AllShort (sym e) (short-asked own_a rs)) in
-    let sends = added-sends own_b (omega (arith, b.most)) front item short in
-    blocked-within (limit_for own_b front) own_a (added own_b front item) (answers-within own_a a own_b rs front (item ∷ back) e)
-    (sendable-within (limit_for own_b front) (added own_b front item) sends)
+    let sends = added-sends own_b (omega (arith, b.most)) [] (record { files = tt; distinct = tt }) front item short in
+    blocked-within (limit_for own_b [] front) own_a (added own_b [] front item) (answers-within own_a a own_b rs front (item ∷ back) e)
+    (sendable-within (limit_for own_b [] front) (added own_b [] front item) sends)

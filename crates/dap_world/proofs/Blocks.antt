@@ -28,7 +28,7 @@ asked-more own_a own_b (q ∷ rs) r =
     ∙ sym (append_assoc (Blocked own_b (messages_of own_a q)) (asked_packets own_a own_b rs) (Blocked own_b (messages_of own_a r)))
 
 abbrev pub answer_block : ℕ → List Item → Item → List NspMessage
-answer_block own items item = Blocked (stands_after own items).standing.limit (added own items item)
+answer_block own items item = Blocked (stands_after own [] items).standing.limit (added own [] items item)
 
 answers-more-after : (own : ℕ) (before items : List Item) (item : Item) → answer_packets own before (items ++ item ∷ []) ≡ answer_packets own before items ++ answer_block own (before ++ items) item
 answers-more-after own before [] item =
@@ -68,7 +68,7 @@ asked-full own_a own_b (r ∷ rs) = full-append (Blocked own_b (messages_of own_
 
 full-answers-after : (own : ℕ) (before items : List Item) → AreFull (answer_packets own before items)
 full-answers-after own before [] = tt
-full-answers-after own before (x ∷ items) = full-append (answer_block own before x) (answer_packets own (before ++ x ∷ []) items) (full-blocked _ (added own before x)) (full-answers-after own (before ++ x ∷ []) items)
+full-answers-after own before (x ∷ items) = full-append (answer_block own before x) (answer_packets own (before ++ x ∷ []) items) (full-blocked _ (added own [] before x)) (full-answers-after own (before ++ x ∷ []) items)
 
 pub answers-full : (own : ℕ) (items : List Item) → AreFull (answer_packets own [] items)
 answers-full own items = full-answers-after own [] items

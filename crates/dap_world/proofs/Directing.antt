@@ -44,7 +44,7 @@ fresh_told s h none =
     record {
       sent = sent;
       taken = taken;
-      files = ap (λ (l : List Message). After s.own_b (map Whole l)) taken;
+      files = ap (λ (l : List Message). After s.own_b [] (map Whole l)) taken;
       reports = ap (λ (r : List Request). Told r (answers_read s)) none ∙ sym (ap (λ (r : List Request). Told r (map Whole (answers_to s.own_a s.own_b s.requests))) none);
       each = ap length (ap (λ (r : List Request). Told r (answers_read s)) none) ∙ sym (ap length none);
     }

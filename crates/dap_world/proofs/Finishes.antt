@@ -35,11 +35,11 @@ unfolding reported files_of
 all_told s h f =
     let sent : sent_by s.from_a ≡ Asked s.own_a s.requests = handed_all s.from_a.handed s.from_a.waiting (Asked s.own_a s.requests) f.from_a.waiting h.asked in
     let taken : taken_of s ≡ Asked s.own_a s.requests = f.served ∙ sent in
-    let reports : Told s.requests (answers_read s) ≡ reports_of s.own_a s.own_b s.requests = ap (Told s.requests) (f.read ∙ ap (λ (l : List Message). map Whole (Answers s.own_b (map Whole l))) taken) in
+    let reports : Told s.requests (answers_read s) ≡ reports_of s.own_a s.own_b s.requests = ap (Told s.requests) (f.read ∙ ap (λ (l : List Message). map Whole (Answers s.own_b [] (map Whole l))) taken) in
     record {
       sent = sent;
       taken = taken;
-      files = ap (λ (l : List Message). After s.own_b (map Whole l)) taken;
+      files = ap (λ (l : List Message). After s.own_b [] (map Whole l)) taken;
       reports = reports;
       each = ap length reports ∙ one-report-each s.own_a s.own_b h.own_a h.own_b s.requests h.admissible;
     }
@@ -61,11 +61,11 @@ empty_read s new B is e =
     }
 
 -- where all were read, no answer is left
-read_all : (s : State) → IsWorld s → IsEmpty s B → next_to_read s ≡ None → length (Answers s.own_b (map Whole (taken_of s))) ≤ s.read
+read_all : (s : State) → IsWorld s → IsEmpty s B → next_to_read s ≡ None → length (Answers s.own_b [] (map Whole (taken_of s))) ≤ s.read
 read_all s h e none =
-    let all : sent_by s.from_b ≡ Answers s.own_b (map Whole (taken_of s)) = handed_all s.from_b.handed s.from_b.waiting (Answers s.own_b (map Whole (taken_of s))) e.waiting h.answered in
+    let all : sent_by s.from_b ≡ Answers s.own_b [] (map Whole (taken_of s)) = handed_all s.from_b.handed s.from_b.waiting (Answers s.own_b [] (map Whole (taken_of s))) e.waiting h.answered in
     let came = arrived_empty_b s h e in
-    most (length (Answers s.own_b (map Whole (taken_of s)))) s.read (λ lt. none_past (arrived_of s.seg_size s.from_b) s.read (omega (arith, lt, ap length all, ap length came)) none)
+    most (length (Answers s.own_b [] (map Whole (taken_of s)))) s.read (λ lt. none_past (arrived_of s.seg_size s.from_b) s.read (omega (arith, lt, ap length all, ap length came)) none)
   where
     most : (a b : ℕ) → (b < a → ⊥) → a ≤ b
     most a b stop = omega (arith, stop)
@@ -73,7 +73,7 @@ read_all s h e none =
 is_finished : (s new : State) (n : ℕ) → IsWorld new → AreEmpty s → length (sent_by s.from_a) ≤ s.served → ReadEvery s new n → IsFinished new
 is_finished s new n w e all r =
     let b = empty_read s new B r.read e.1 in
-    let answers = Answers new.own_b (map Whole (taken_of new)) in
+    let answers = Answers new.own_b [] (map Whole (taken_of new)) in
     record {
       from_a = empty_read s new A r.read e.0;
       from_b = b;
@@ -88,7 +88,7 @@ all_served s h f = omega (arith, ap length f.served, length-take-le s.served (se
 
 none_to_read : (s : State) → IsWorld s → IsFinished s → length (arrived_of s.seg_size s.from_b) ≤ s.read
 none_to_read s h f =
-    let answers = Answers s.own_b (map Whole (taken_of s)) in
+    let answers = Answers s.own_b [] (map Whole (taken_of s)) in
     omega (
       arith,
       ap length f.read,

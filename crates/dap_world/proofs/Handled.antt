@@ -54,9 +54,9 @@ serve_done old new before after count counted bytes later found next served idle
       item = serves.item;
       next = next;
       one = record { only = λ other n at. (let o = only other n at in (o.0 ∙ sym here.0, o.1)) };
-      stands = serves.stands;
-      answers = λ items stands. outbox ∙ serves.answers items stands;
-      fit = serves.fits;
+      stands = serves.stands [];
+      answers = λ items stands. outbox ∙ serves.answers [] items stands;
+      fit = serves.fits [];
       within = subst (AllAtMost before.limit) (sym outbox) serves.within;
       own = serves.same_own;
       side = side ∙ ap (λ (l : List (List ℕ)). record (handled_side old bytes later next) { outbox = l }) (sym outbox);

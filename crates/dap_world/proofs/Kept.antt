@@ -55,7 +55,7 @@ headline_of s h =
     }
 
 -- the files that the accessed end keeps
-pub files_are : (p : Parts) → accessed.StandsAfter (map Whole (taken_of (state_of p))) p.accessed → p.accessed.files ≡ files_of (state_of p)
+pub files_are : (p : Parts) → accessed.StandsAfter [] (map Whole (taken_of (state_of p))) p.accessed → p.accessed.files ≡ files_of (state_of p)
 unfolding files_of
 files_are p stands = ap (λ (v : accessed.Present). v.files) stands
 
@@ -105,12 +105,12 @@ served_count s h = length-take-le s.served (sent_by s.from_a) (served_there s h)
 pub read-front : (s : State) → IsWorld s → (back : List Item) × (answers_read s ++ back ≡ map Whole (answers_to s.own_a s.own_b s.requests))
 read-front s h =
     let asked = served-front s h in
-    let answers = Answers s.own_b (map Whole (taken_of s)) in
+    let answers = Answers s.own_b [] (map Whole (taken_of s)) in
     let more = answers-front s.own_b (map Whole (taken_of s)) (map Whole asked.0) in (
       map Whole (drop s.read answers ++ more.0),
       sym (map-append Whole (take s.read answers) (drop s.read answers ++ more.0))
           ∙ ap (map Whole) (sym (append_assoc (take s.read answers) (drop s.read answers) more.0) ∙ ap (λ (l : List Message). l ++ more.0) (take-append-drop s.read answers)
-          ∙ more.1 ∙ ap (Answers s.own_b) (sym (map-append Whole (taken_of s) asked.0) ∙ ap (map Whole) asked.1)),
+          ∙ more.1 ∙ ap (Answers s.own_b []) (sym (map-append Whole (taken_of s) asked.0) ∙ ap (map Whole) asked.1)),
     )
 
 -- where a request is admissible all answers were read
@@ -151,7 +151,7 @@ kept-posted s A h few =
       from_b = kept-back s.seg_size s.window s.from_b s.from_a h.from_b _ (omega arith);
       admissible = h.admissible;
       asked = ap messages_in (append-nil (s.from_a.handed ++ s.from_a.waiting)) ∙ h.asked;
-      answered = h.answered ∙ ap (λ l. Answers s.own_b (map Whole l)) (sym (served-stays s.served s.seg_size s.from_a.taken s.from_a.handed s.from_a.waiting h.served));
+      answered = h.answered ∙ ap (λ l. Answers s.own_b [] (map Whole l)) (sym (served-stays s.served s.seg_size s.from_a.taken s.from_a.handed s.from_a.waiting h.served));
       served = omega (arith, h.served, arrived-more s.seg_size s.from_a.taken s.from_a.taken s.from_a.handed s.from_a.waiting (omega arith));
       read = h.read;
     }
@@ -248,7 +248,7 @@ kept-delivered keep s B p h was acks =
       from_b = kept-back s.seg_size s.window _ s.from_a (kept-acked s.seg_size s.window s.from_b s.from_a h.from_b p.acks acks) _ got.1;
       admissible = h.admissible;
       asked = came_all keep s.from_a p.segment ∙ h.asked;
-      answered = h.answered ∙ ap (λ l. Answers s.own_b (map Whole (take s.served (messages_in l)))) (sym (came_handed keep s.from_a p.segment));
+      answered = h.answered ∙ ap (λ l. Answers s.own_b [] (map Whole (take s.served (messages_in l)))) (sym (came_handed keep s.from_a p.segment));
       served = came_more s.seg_size s.served keep s.from_a p.segment got.1 h.served;
       read = h.read;
     }
@@ -271,7 +271,7 @@ taken-more s m e =
 
 kept-served : (s : State) (m : Message) → IsWorld s → s.from_b.waiting ≡ [] → slice_get (arrived_of s.seg_size s.from_a) s.served ≡ Some m → IsWorld (served_one s m)
 kept-served s m h empty e =
-    let answers = added s.own_b (map Whole (taken_of s)) (Whole m) in
+    let answers = added s.own_b [] (map Whole (taken_of s)) (Whole m) in
     record {
       window = h.window;
       some = h.some;
@@ -284,9 +284,9 @@ kept-served s m h empty e =
       answered = messages_in-append s.from_b.handed (answering s m)
           ∙ ap (λ l. messages_in s.from_b.handed ++ l) (messages_in-Blocked _ answers)
           ∙ ap (λ l. l ++ answers) (ap messages_in (sym (append-nil s.from_b.handed) ∙ ap (λ (w : List NspMessage). s.from_b.handed ++ w) (sym empty)) ∙ h.answered)
-          ∙ sym (Answers-more s.own_b (map Whole (taken_of s)) (Whole m))
-          ∙ ap (Answers s.own_b) (sym (map-append Whole (taken_of s) (m ∷ [])))
-          ∙ ap (λ l. Answers s.own_b (map Whole l)) (sym (taken-more s m e));
+          ∙ sym (Answers-more s.own_b [] (map Whole (taken_of s)) (Whole m))
+          ∙ ap (Answers s.own_b []) (sym (map-append Whole (taken_of s) (m ∷ [])))
+          ∙ ap (λ l. Answers s.own_b [] (map Whole l)) (sym (taken-more s m e));
       served = omega (arith, slice_get_within _ s.served m e);
       read = h.read;
     }

@@ -47,7 +47,7 @@ front_more (x ∷ xs) (suc n) = let more = front_more xs n in (more.0, ap (λ l.
 grows : (s : State) → length (reported s) ≤ length (reported (read_one s))
 unfolding reported
 grows s =
-    let answers = Answered s.own_b (map Whole (taken_of s)) in
+    let answers = Answered s.own_b [] (map Whole (taken_of s)) in
     let more = front_more answers s.read in
     let next : suc s.read ≡ s.read + 1 = omega arith in
     let read = sym (map-append Whole (take s.read answers) more.0) ∙ ap (map Whole) (more.1 ∙ ap (λ (k : ℕ). take k answers) next) in

@@ -52,11 +52,11 @@ new_parts s asking serving =
 
 -- the parts of a new world, by what its ends keep
 made : (s : WorldSetup) (asking : accessing.Present) (serving : accessed.Present) → IsWorldSetup s → asking.own ≡ s.bufsiz_a → serving.own ≡ s.bufsiz_b
-    → accessing.StandsAfter [] [] asking → accessed.StandsAfter [] serving → state_of (new_parts s asking serving) ≡ fresh s
+    → accessing.StandsAfter [] [] asking → accessed.StandsAfter [] [] serving → state_of (new_parts s asking serving) ≡ fresh s
 made s asking serving h own_a own_b a b = ap (λ (n : ℕ). record (fresh s) { own_a = n; own_b = serving.own }) own_a ∙ ap (λ (n : ℕ). record (fresh s) { own_b = n }) own_b
 
 pub new_world : (s : WorldSetup) (asking : accessing.Present) (serving : accessed.Present) → IsWorldSetup s → asking.own ≡ s.bufsiz_a → serving.own ≡ s.bufsiz_b
-    → accessing.StandsAfter [] [] asking → accessed.StandsAfter [] serving
+    → accessing.StandsAfter [] [] asking → accessed.StandsAfter [] [] serving
     → AreParts (new_parts s asking serving) × (state_of (new_parts s asking serving) ≡ fresh s)
 unfolding reported
 new_world s asking serving h own_a own_b a b =
@@ -79,7 +79,7 @@ new_world s asking serving h own_a own_b a b =
 
 pub new_sound : (s : WorldSetup) (asking : accessing.Present) (serving : accessed.Present) (a b : SideValue) (requests : List Request) (sent : List (List ℕ)) (reports : List Report)
     → a ≡ new_side (link_of s A) → b ≡ new_side (link_of s B) → requests ≡ [] → sent ≡ [] → reports ≡ []
-    → IsWorldSetup s → asking.own ≡ s.bufsiz_a → serving.own ≡ s.bufsiz_b → accessing.StandsAfter [] [] asking → accessed.StandsAfter [] serving
+    → IsWorldSetup s → asking.own ≡ s.bufsiz_a → serving.own ≡ s.bufsiz_b → accessing.StandsAfter [] [] asking → accessed.StandsAfter [] [] serving
     → AreParts (record { a = a; b = b; accessing = asking; accessed = serving; requests = requests; sent = sent; served = 0; reports = reports; read = 0 })
 new_sound s asking serving a b requests sent reports ea eb er es ep h own_a own_b x y =
     rw (ea, eb, er, es, ep) (new_world s asking serving h own_a own_b x y).0

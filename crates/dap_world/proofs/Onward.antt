@@ -133,15 +133,15 @@ ran_still old new n r none = nothing r.events r.ran (r.count ∙ none)
 -- ---- What is reported.
 
 -- the answers that were read stay the first
-pub answers_stay : (old new : State) → IsWorld old → Onward old new → (k : ℕ) → k ≤ old.read → take k (Answers new.own_b (map Whole (taken_of new))) ≡ take k (Answers old.own_b (map Whole (taken_of old)))
+pub answers_stay : (old new : State) → IsWorld old → Onward old new → (k : ℕ) → k ≤ old.read → take k (Answers new.own_b [] (map Whole (taken_of new))) ≡ take k (Answers old.own_b [] (map Whole (taken_of old)))
 answers_stay old new h on k le =
     let items = map Whole (taken_of old) in
     let front = answers-front old.own_b items (map Whole on.more) in
-    let all : Answers new.own_b (map Whole (taken_of new)) ≡ Answers old.own_b items ++ front.0 =
-    ap (λ (n : ℕ). Answers n (map Whole (taken_of new))) on.own_b
-    ∙ ap (Answers old.own_b) (ap (map Whole) on.taken ∙ map-append Whole (taken_of old) on.more) ∙ sym front.1 in
+    let all : Answers new.own_b [] (map Whole (taken_of new)) ≡ Answers old.own_b [] items ++ front.0 =
+    ap (λ (n : ℕ). Answers n [] (map Whole (taken_of new))) on.own_b
+    ∙ ap (Answers old.own_b []) (ap (map Whole) on.taken ∙ map-append Whole (taken_of old) on.more) ∙ sym front.1 in
     let there = (headline_of old h).answers_there in
-    ap (take k) all ∙ take-append-le k (Answers old.own_b items) front.0 (omega (arith, there, le))
+    ap (take k) all ∙ take-append-le k (Answers old.own_b [] items) front.0 (omega (arith, there, le))
 
 -- where no answer was read, nothing is reported
 pub told_same : (old new : State) (n : ℕ) → IsWorld old → RanBy old new n → new.read ≡ old.read → reported new ≡ reported old
@@ -150,7 +150,7 @@ told_same old new n h ran read =
     let on = ran_on old new n h ran in
     ap (λ (r : List Request). Told r (answers_read new)) on.requests
     ∙ ap (λ (l : List Message). Told old.requests (map Whole l))
-    (ap (λ (k : ℕ). take k (Answers new.own_b (map Whole (taken_of new)))) read ∙ answers_stay old new h on old.read (omega arith))
+    (ap (λ (k : ℕ). take k (Answers new.own_b [] (map Whole (taken_of new)))) read ∙ answers_stay old new h on old.read (omega arith))
 
 pub ran_none_is : (old new : State) → new ≡ old → RanTo old new
 ran_none_is old new is = (0, subst (λ (s : State). RanBy old s 0) (sym is) (ran_none old))

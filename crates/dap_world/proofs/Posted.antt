@@ -210,9 +210,9 @@ parts_posted p A more h room splits world =
       from_a = told_posted (asks p) p.served p.a p.b h.from_a short room;
       from_b = told_queued (answers p) p.read p.b p.a h.from_b;
       sent_is = sent_more p more h splits;
-      reports_is = h.reports_is ∙ ap (λ (l : List Message). Told p.requests (map Whole (take p.read (Answers p.accessed.own (map Whole l))))) (sym same);
-      asking = subst (λ (l : List Message). accessing.StandsAfter p.requests (map Whole (take p.read (Answers p.accessed.own (map Whole l)))) p.accessing) (sym same) h.asking;
-      serving = subst (λ (l : List Message). accessed.StandsAfter (map Whole l) p.accessed) (sym same) h.serving;
+      reports_is = h.reports_is ∙ ap (λ (l : List Message). Told p.requests (map Whole (take p.read (Answers p.accessed.own [] (map Whole l))))) (sym same);
+      asking = subst (λ (l : List Message). accessing.StandsAfter p.requests (map Whole (take p.read (Answers p.accessed.own [] (map Whole l)))) p.accessing) (sym same) h.asking;
+      serving = subst (λ (l : List Message). accessed.StandsAfter [] (map Whole l) p.accessed) (sym same) h.serving;
     }
 parts_posted p B more h room splits world =
     let short = subst (λ (n : ℕ). AreShort n p.b.outbox) h.alike.limit h.from_b.short in

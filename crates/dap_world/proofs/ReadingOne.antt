@@ -42,7 +42,7 @@ abbrev pub read_parts : Parts → SideValue → accessing.Present → List Repor
 read_parts p s after reports count = record p { a = s; accessing = after; reports = reports; read = count }
 
 -- the answers to what B served
-all-answered : (p : Parts) → AreParts p → messages_in (take p.b.posted (answers p)) ++ messages_in (drop p.b.posted (answers p)) ≡ Answers p.accessed.own (map Whole (taken_of (state_of p)))
+all-answered : (p : Parts) → AreParts p → messages_in (take p.b.posted (answers p)) ++ messages_in (drop p.b.posted (answers p)) ≡ Answers p.accessed.own [] (map Whole (taken_of (state_of p)))
 all-answered p h =
     sym (messages_in-append (take p.b.posted (answers p)) (drop p.b.posted (answers p))) ∙ h.world.answered
 
@@ -69,7 +69,7 @@ read-more p m h next =
     let front = arrived-front s.seg_size s.from_b.taken s.from_b.handed in
     let here = subst (λ (l : List Message). slice_get l p.read ≡ Some m) front.1 (get-front (arrived_of s.seg_size s.from_b) front.0 p.read m next) in
     let there = subst (λ (l : List Message). slice_get l p.read ≡ Some m) (all-answered p h) (get-front (messages_in s.from_b.handed) (messages_in s.from_b.waiting) p.read m here) in
-    ap (map Whole) (take-next (Answers p.accessed.own (map Whole (taken_of s))) p.read m there) ∙ map-append Whole (take p.read (Answers p.accessed.own (map Whole (taken_of s)))) (m ∷ [])
+    ap (map Whole) (take-next (Answers p.accessed.own [] (map Whole (taken_of s))) p.read m there) ∙ map-append Whole (take p.read (Answers p.accessed.own [] (map Whole (taken_of s)))) (m ∷ [])
 
 reads : (p : Parts) (m : Message) → next_to_read (state_of p) ≡ Some m → Steps (state_of p) event.Read (told_by (state_of p) (read_one (state_of p))) (read_one (state_of p))
 unfolding Steps

@@ -79,15 +79,15 @@ served_more p m next =
 -- ---- What A read stays when B serves more.
 
 read-stays : (p : Parts) (m : Message) → AreParts p
-    → take p.read (Answers p.accessed.own (map Whole (taken_of (state_of p) ++ m ∷ []))) ≡ take p.read (Answers p.accessed.own (map Whole (taken_of (state_of p))))
+    → take p.read (Answers p.accessed.own [] (map Whole (taken_of (state_of p) ++ m ∷ []))) ≡ take p.read (Answers p.accessed.own [] (map Whole (taken_of (state_of p))))
 read-stays p m h =
     let s = state_of p in
     let items = map Whole (taken_of s) in
     let front = arrived-front s.seg_size s.from_b.taken s.from_b.handed in
     let all = ap length (sym (messages_in-append s.from_b.handed s.from_b.waiting) ∙ h.world.answered) in
-    ap (λ l. take p.read (Answers p.accessed.own l)) (map-append Whole (taken_of s) (m ∷ []))
-    ∙ ap (take p.read) (Answers-more p.accessed.own items (Whole m))
-    ∙ take-append-le p.read (Answers p.accessed.own items) (added p.accessed.own items (Whole m))
+    ap (λ l. take p.read (Answers p.accessed.own [] l)) (map-append Whole (taken_of s) (m ∷ []))
+    ∙ ap (take p.read) (Answers-more p.accessed.own [] items (Whole m))
+    ∙ take-append-le p.read (Answers p.accessed.own [] items) (added p.accessed.own [] items (Whole m))
     (omega (
       arith,
       h.world.read,
@@ -156,7 +156,7 @@ module _ (p : Parts) (h : AreParts p) (m : Message) (next : next_to_serve (state
   serves = (m, none_waits, next, refl, refl)
 
   -- what B takes for A's limit is within A's buffer
-  limit_within : accessed.StandsAfter (map Whole (taken_of (state_of p))) p.accessed → p.accessed.limit ≤ p.accessing.own
+  limit_within : accessed.StandsAfter [] (map Whole (taken_of (state_of p))) p.accessed → p.accessed.limit ≤ p.accessing.own
   limit_within stands =
       let front = served-front (state_of p) h.world in
       let le = answers-within p.accessing.own h.world.own_a p.accessed.own p.requests (map Whole (taken_of (state_of p))) (map Whole front.0)
@@ -166,8 +166,8 @@ module _ (p : Parts) (h : AreParts p) (m : Message) (next : next_to_serve (state
 
   parts_served : (bytes : List ℕ) (later outbox : List (List ℕ)) (next_place : ℕ) (after : accessed.Present) (n : Next p.a p.b (asks p) p.served bytes)
       → n.m ≡ m → p.b.link.inbox ≡ bytes ∷ later → length (joined n.begun) + length (canon n.m) ≡ next_place
-      → outbox ≡ all_joined (answer_block p.accessed.own (served_items p) (Whole m)) → AllFit (added p.accessed.own (served_items p) (Whole m)) → AllAtMost p.accessed.limit outbox
-      → accessed.StandsAfter (map Whole (taken_of (state_of p)) ++ Whole m ∷ []) (kept_own p after)
+      → outbox ≡ all_joined (answer_block p.accessed.own (served_items p) (Whole m)) → AllFit (added p.accessed.own [] (served_items p) (Whole m)) → AllAtMost p.accessed.limit outbox
+      → accessed.StandsAfter [] (map Whole (taken_of (state_of p)) ++ Whole m ∷ []) (kept_own p after)
       → IsWorld (served_one (state_of p) m)
       → (let s = handled_side p.b bytes later next_place in AreParts (q_of s.link.inbox s.place outbox after))
   unfolding reported
@@ -177,11 +177,11 @@ module _ (p : Parts) (h : AreParts p) (m : Message) (next : next_to_serve (state
       let state = state_served s.link.inbox s.place outbox after in
       let taken : taken_of (served_one (state_of p) m) ≡ taken_of (state_of p) ++ m ∷ [] = taken-more (state_of p) m next in
       let b = answer_block p.accessed.own (served_items p) (Whole m) in
-      let all = messages_in-Blocked (stands_after p.accessed.own (served_items p)).standing.limit (added p.accessed.own (served_items p) (Whole m)) in
+      let all = messages_in-Blocked (stands_after p.accessed.own [] (served_items p)).standing.limit (added p.accessed.own [] (served_items p) (Whole m)) in
       let fit_block : AllFit (messages_in b) = subst AllFit (sym all) fit in
       let short : AreShort p.b.link.max_message outbox = all_short p.accessed.limit p.b.link.max_message outbox (omega (arith, limit_within h.serving, h.limit_a, h.alike.limit)) within in
       let read : answers_read (served_one (state_of p) m) ≡ answers_read (state_of p) =
-      ap (λ (l : List Message). map Whole (take p.read (Answers p.accessed.own (map Whole l)))) taken ∙ ap (map Whole) (read-stays p m h) in
+      ap (λ (l : List Message). map Whole (take p.read (Answers p.accessed.own [] (map Whole l)))) taken ∙ ap (map Whole) (read-stays p m h) in
       record {
         world = subst IsWorld (sym state) world;
         alike = record { here = h.alike.here; there = h.alike.there; size = h.alike.size; window = h.alike.window; limit = h.alike.limit };
@@ -195,8 +195,8 @@ module _ (p : Parts) (h : AreParts p) (m : Message) (next : next_to_serve (state
         reports_is = h.reports_is ∙ ap (Told p.requests) (sym read) ∙ ap reported (sym state);
         asking = subst (λ (x : State). accessing.StandsAfter p.requests (answers_read x) p.accessing) (sym state)
             (subst (λ (l : List Item). accessing.StandsAfter p.requests l p.accessing) (sym read) h.asking);
-        serving = subst (λ (x : State). accessed.StandsAfter (map Whole (taken_of x)) (kept_own p after)) (sym state)
-            (subst (λ (l : List Item). accessed.StandsAfter l (kept_own p after)) (sym (ap (map Whole) taken ∙ map-append Whole (taken_of (state_of p)) (m ∷ []))) stands);
+        serving = subst (λ (x : State). accessed.StandsAfter [] (map Whole (taken_of x)) (kept_own p after)) (sym state)
+            (subst (λ (l : List Item). accessed.StandsAfter [] l (kept_own p after)) (sym (ap (map Whole) taken ∙ map-append Whole (taken_of (state_of p)) (m ∷ []))) stands);
       }
 
 -- what is read next from A is of its message
@@ -246,17 +246,17 @@ served_step p s after served (Ok n) h o err =
     let x = next_of p o.bytes o.later h o.waited in
     let m = x.m in
     let one = one_there o.bytes p.b.place o.next o.item x.begun x.more m x.fit x.bytes_are x.behind o.one.only in
-    let stood : accessed.StandsAfter (served_items p) p.accessed = subst (λ (l : List Item). accessed.StandsAfter l p.accessed) (sym (served_is p h)) h.serving in
-    let limit : p.accessed.limit ≡ (stands_after p.accessed.own (served_items p)).standing.limit = ap (λ (y : accessed.Present). y.limit) stood in
+    let stood : accessed.StandsAfter [] (served_items p) p.accessed = subst (λ (l : List Item). accessed.StandsAfter [] l p.accessed) (sym (served_is p h)) h.serving in
+    let limit : p.accessed.limit ≡ (stands_after p.accessed.own [] (served_items p)).standing.limit = ap (λ (y : accessed.Present). y.limit) stood in
     let outbox : s.outbox ≡ all_joined (answer_block p.accessed.own (served_items p) (Whole m)) =
-    o.answers (served_items p) stood ∙ ap (λ (l : ℕ). all_joined (Blocked l (added p.accessed.own (served_items p) o.item))) limit
+    o.answers (served_items p) stood ∙ ap (λ (l : ℕ). all_joined (Blocked l (added p.accessed.own [] (served_items p) o.item))) limit
     ∙ ap (λ (i : Item). all_joined (answer_block p.accessed.own (served_items p) i)) (sym one.0) in
-    let fit : AllFit (added p.accessed.own (served_items p) (Whole m)) =
-    subst (λ (i : Item). AllFit (added p.accessed.own (served_items p) i)) (sym one.0) (o.fit (served_items p) stood) in
+    let fit : AllFit (added p.accessed.own [] (served_items p) (Whole m)) =
+    subst (λ (i : Item). AllFit (added p.accessed.own [] (served_items p) i)) (sym one.0) (o.fit (served_items p) stood) in
     let own : after ≡ record after { own = p.accessed.own } = ap (λ (k : ℕ). record after { own = k }) o.own in
-    let stands : accessed.StandsAfter (map Whole (taken_of (state_of p)) ++ Whole m ∷ []) (record after { own = p.accessed.own }) =
-    subst (λ (y : accessed.Present). accessed.StandsAfter (map Whole (taken_of (state_of p)) ++ Whole m ∷ []) y) own
-    (subst (λ (i : Item). accessed.StandsAfter (map Whole (taken_of (state_of p)) ++ i ∷ []) after) (sym one.0) (o.stands (map Whole (taken_of (state_of p))) h.serving)) in
+    let stands : accessed.StandsAfter [] (map Whole (taken_of (state_of p)) ++ Whole m ∷ []) (record after { own = p.accessed.own }) =
+    subst (λ (y : accessed.Present). accessed.StandsAfter [] (map Whole (taken_of (state_of p)) ++ Whole m ∷ []) y) own
+    (subst (λ (i : Item). accessed.StandsAfter [] (map Whole (taken_of (state_of p)) ++ i ∷ []) after) (sym one.0) (o.stands (map Whole (taken_of (state_of p))) h.serving)) in
     let steps = serves p h m x.next o.idle in
     let world : IsWorld (served_one (state_of p) m) = kept-step (state_of p) (served_one (state_of p) m) event.Serve (step.Served (length (answering (state_of p) m))) steps h.world in
     let t = handled_side p.b o.bytes o.later o.next in

@@ -34,21 +34,21 @@ no_more [] answers = omega arith
 no_more (r ∷ rs) answers = omega (arith, ap length (Told-told_by r rs answers), no_more_by rs (hear r answers) (λ rest. no_more rs rest))
 
 -- how many answers there are
-pub answered_length : (s : State) → IsWorld s → length (arrived_of s.seg_size s.from_b) ≤ length (Answers s.own_b (map Whole (taken_of s)))
+pub answered_length : (s : State) → IsWorld s → length (arrived_of s.seg_size s.from_b) ≤ length (Answers s.own_b [] (map Whole (taken_of s)))
 answered_length s h =
     let all = ap length (sym (messages_in-append s.from_b.handed s.from_b.waiting) ∙ h.answered) in
     omega (arith, came-handed s.seg_size s.from_b, length-append (sent_by s.from_b) (messages_in s.from_b.waiting), all)
 
 -- with an answer left, some request has no report
-pub some_due : (s : State) → IsWorld s → s.read < length (Answers s.own_b (map Whole (taken_of s))) → length (Told s.requests (answers_read s)) ≡ length s.requests → ⊥
+pub some_due : (s : State) → IsWorld s → s.read < length (Answers s.own_b [] (map Whole (taken_of s))) → length (Told s.requests (answers_read s)) ≡ length s.requests → ⊥
 some_due s h lt none =
     let front = read-front s h in
     let all = all_told s.own_a s.own_b s.requests (answers_read s) front.0 (none-unexpected s.own_a s.own_b h.own_a h.own_b s.requests h.admissible) front.1 none in
     let asked = served-front s h in
     let more = answers-front s.own_b (map Whole (taken_of s)) (map Whole asked.0) in
-    let same : Answers s.own_b (map Whole (taken_of s)) ++ more.0 ≡ answers_to s.own_a s.own_b s.requests =
-    more.1 ∙ ap (Answers s.own_b) (sym (map-append Whole (taken_of s) asked.0) ∙ ap (map Whole) asked.1) in
-    let answers = Answers s.own_b (map Whole (taken_of s)) in
+    let same : Answers s.own_b [] (map Whole (taken_of s)) ++ more.0 ≡ answers_to s.own_a s.own_b s.requests =
+    more.1 ∙ ap (Answers s.own_b []) (sym (map-append Whole (taken_of s) asked.0) ∙ ap (map Whole) asked.1) in
+    let answers = Answers s.own_b [] (map Whole (taken_of s)) in
     omega (
       arith,
       lt,
@@ -68,9 +68,9 @@ nothing_more xs (x ∷ more) le = absurd (omega (arith, le, length-append xs (x 
 told_read : (s new : State) → ReadPart s new → IsWorld new → length s.requests ≤ length (Told s.requests (answers_read s)) + 1 → Told new.requests (answers_read new) ≡ Told s.requests (answers_read s)
 told_read s new part h due =
     let is = part.read in
-    let answers = Answers s.own_b (map Whole (taken_of s)) in
+    let answers = Answers s.own_b [] (map Whole (taken_of s)) in
     let same_requests : new.requests ≡ s.requests = ap (λ (t : State). t.requests) is in
-    let same_answers : answers_read new ≡ map Whole (take new.read answers) = ap (λ (t : State). map Whole (take new.read (Answers t.own_b (map Whole (taken_of t))))) is in
+    let same_answers : answers_read new ≡ map Whole (take new.read answers) = ap (λ (t : State). map Whole (take new.read (Answers t.own_b [] (map Whole (taken_of t))))) is in
     let split : take s.read answers ++ drop s.read (take new.read answers) ≡ take new.read answers = front_of answers s.read new.read part.more in
     let grows = reports_grow s.requests (answers_read s) (map Whole (drop s.read (take new.read answers))) in
     let told : Told new.requests (answers_read new) ≡ Told s.requests (answers_read s) ++ grows.0 =

@@ -1,5 +1,5 @@
 -- The headline: what was sent, taken, filed and reported, whatever the network did.
-use Rattle.std.specs.Prelude.{ℕ, ◌≡◌, ◌≤◌, List, ◌++◌, length, map, take}
+use Rattle.std.specs.Prelude.{ℕ, ◌≡◌, ◌≤◌, List, [], ◌++◌, length, map, take}
 use Rattle.dap_msg.specs.Message.{Message}
 use Rattle.dap_msg.specs.Items.{Whole}
 use Rattle.dap_accessed.specs.Standing.{Files}
@@ -17,9 +17,9 @@ pub record Headline (own_a own_b : ℕ) (requests : List Request) (sent taken : 
   pub sent_in_order : (rest : List Message) × (sent ++ rest ≡ Asked own_a requests)
   pub taken_in_order : taken ≡ take taken_count sent
   pub taken_there : taken_count ≤ length sent
-  pub files_after : files ≡ After own_b (map Whole taken)
-  pub reports_told : reports ≡ Told requests (map Whole (take read_count (Answers own_b (map Whole taken))))
-  pub answers_there : read_count ≤ length (Answers own_b (map Whole taken))
+  pub files_after : files ≡ After own_b [] (map Whole taken)
+  pub reports_told : reports ≡ Told requests (map Whole (take read_count (Answers own_b [] (map Whole taken))))
+  pub answers_there : read_count ≤ length (Answers own_b [] (map Whole taken))
 
 -- the same of what the readers of a world in this state answer
 abbrev pub HeadlineOf : State → Type 0

@@ -111,7 +111,7 @@ taken_of s = take s.served (sent_by s.from_a)
 
 -- the answers that A read
 abbrev pub answers_read : State → List Item
-answers_read s = map Whole (take s.read (Answers s.own_b (map Whole (taken_of s))))
+answers_read s = map Whole (take s.read (Answers s.own_b [] (map Whole (taken_of s))))
 
 -- what A reported
 unfoldable pub reported : State → List Report
@@ -119,7 +119,7 @@ reported s = Told s.requests (answers_read s)
 
 -- the files that B holds
 unfoldable pub files_of : State → Files
-files_of s = After s.own_b (map Whole (taken_of s))
+files_of s = After s.own_b [] (map Whole (taken_of s))
 
 -- ---- What an event makes of a state.
 
@@ -171,7 +171,7 @@ is_stale s end p = is_old_segment (sends s (other end)).taken p.segment || is_ol
 
 -- the answers to one message more, joined as far as the limit of A goes that B knows
 abbrev pub answering : State → Message → List NspMessage
-answering s m = let taken = map Whole (taken_of s) in Blocked (limit_for s.own_b taken) (added s.own_b taken (Whole m))
+answering s m = let taken = map Whole (taken_of s) in Blocked (limit_for s.own_b [] taken) (added s.own_b [] taken (Whole m))
 
 abbrev pub served_one : State → Message → State
 served_one s m = record s { from_b = record s.from_b { waiting = answering s m }; served = s.served + 1 }

@@ -70,13 +70,13 @@ pub record IsFinished (s : State) : Type 0 where
   pub from_a : IsEmpty s A
   pub from_b : IsEmpty s B
   pub served : taken_of s ≡ sent_by s.from_a
-  pub read : answers_read s ≡ map Whole (Answers s.own_b (map Whole (taken_of s)))
+  pub read : answers_read s ≡ map Whole (Answers s.own_b [] (map Whole (taken_of s)))
 
 -- All that the requests ask was sent and served, the files are those after it, and every request has its report.
 pub record AllTold (s : State) : Type 0 where
   pub sent : sent_by s.from_a ≡ Asked s.own_a s.requests
   pub taken : taken_of s ≡ Asked s.own_a s.requests
-  pub files : files_of s ≡ After s.own_b (items_of s.own_a s.requests)
+  pub files : files_of s ≡ After s.own_b [] (items_of s.own_a s.requests)
   pub reports : reported s ≡ reports_of s.own_a s.own_b s.requests
   pub each : length (reported s) ≡ length s.requests
 

@@ -355,7 +355,7 @@ pub(crate) fn deliver(to: &mut Side, from: &Side, j: usize) -> Result<Got, World
         × DeliverFault to.old.link from.now.wire j f) }
 {
     let taken = to.link.received_count();
-    let acked = to.link.sent_count() - to.link.unacked() as u64;
+    let acked = to.link.acked_count();
     match from.wire.get(j) {
         None => Err(WorldFault::NoSuchPacket),
         Some(wired) => {

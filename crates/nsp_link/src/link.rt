@@ -126,6 +126,21 @@ impl LinkEnd {
         self.sent
     }
 
+    /// The segments that were sent and are acknowledged (own). It takes no memory.
+    pub fn acked_count(&self) -> u64
+        ensures value { result ≡ self.now.acked }
+        ensures valid { IsLink self.now }
+    {
+        self.acked
+    }
+
+    /// Whether a packet showed that the two ends have lost each other (own). It takes no memory.
+    pub fn has_failed(&self) -> bool
+        ensures { result ≡ self.now.failed }
+    {
+        self.failed
+    }
+
     /// The segments that were taken in order (own). It takes no memory.
     pub fn received_count(&self) -> u64
         ensures value { result ≡ self.now.received }
@@ -354,9 +369,24 @@ impl LinkEnd {
         if !self.may_send() {
             return Ok(None);
         }
+        let packet = self.write_next()?;
+        Ok(Some(packet))
+    }
+
+    /// The same of an end that hasn't failed, and of a segment of which `may_send` tells: neither is looked
+    /// at again. Refused for want of memory alone, with nothing changed (own).
+    pub fn write_next(&mut self) -> Result<Vec<u8>, LinkFault>
+        requires works { self.old.failed ≡ false }
+        requires may { MaySend self.old }
+        ensures segment { IfOk result (λ v. WritesNext self.old self.new v.items) }
+        ensures carries { IfOk result (λ v. WritesSent self.old (Some (self.old.sent + 1)) v.items) }
+        ensures sends { SendsStill self.old self.new }
+        ensures stands { StandsStill self.old self.new }
+        ensures err { IfErr result (λ e. (self.new ≡ self.old) × (e ≡ NoMemory)) }
+    {
         let packet = self.segment_at(self.unacked())?;
         self.sent += 1;
-        Ok(Some(packet))
+        Ok(packet)
     }
 
     /// The packet of a segment that was sent and isn't acknowledged, again: the oldest is at place 0

@@ -34,10 +34,10 @@ pub record ServedOne (old new : SideValue) (before after : accessed.Present) (co
   pub item : Item
   pub next : ℕ
   pub one : IsOne bytes old.place item next
-  pub stands : (items : List Item) → accessed.StandsAfter items before → accessed.StandsAfter (items ++ item ∷ []) after
-  pub answers : (items : List Item) → accessed.StandsAfter items before
-      → new.outbox ≡ all_joined (Blocked before.limit (added before.own items item))
-  pub fit : (items : List Item) → accessed.StandsAfter items before → AllFit (added before.own items item)
+  pub stands : (items : List Item) → accessed.StandsAfter [] items before → accessed.StandsAfter [] (items ++ item ∷ []) after
+  pub answers : (items : List Item) → accessed.StandsAfter [] items before
+      → new.outbox ≡ all_joined (Blocked before.limit (added before.own [] items item))
+  pub fit : (items : List Item) → accessed.StandsAfter [] items before → AllFit (added before.own [] items item)
   pub within : AllAtMost before.limit new.outbox
   pub own : after.own ≡ before.own
   pub side : new ≡ record (handled_side old bytes later next) { outbox = new.outbox }

@@ -43,7 +43,7 @@ asked_packets own_a own_b (request ∷ requests) = Blocked own_b (messages_of ow
 abbrev pub answer_packets : (own : ℕ) → (before items : List Item) → List NspMessage
 answer_packets own before [] = []
 answer_packets own before (item ∷ items) =
-    Blocked (stands_after own before).standing.limit (added own before item) ++ answer_packets own (before ++ item ∷ []) items
+    Blocked (stands_after own [] before).standing.limit (added own [] before item) ++ answer_packets own (before ++ item ∷ []) items
 
 -- the messages that B served, as its number tells
 abbrev pub served_items : Parts → List Item
@@ -138,4 +138,4 @@ pub record AreParts (p : Parts) : Type 0 where
   pub reports_is : p.reports ≡ reported (state_of p)
   -- the ends stand as after what was asked, served and read
   pub asking : accessing.StandsAfter p.requests (answers_read (state_of p)) p.accessing
-  pub serving : accessed.StandsAfter (map Whole (taken_of (state_of p))) p.accessed
+  pub serving : accessed.StandsAfter [] (map Whole (taken_of (state_of p))) p.accessed

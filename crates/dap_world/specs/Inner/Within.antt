@@ -15,4 +15,4 @@ AreWithin limit (m ∷ messages) = (length (canon m) ≤ limit) × AreWithin lim
 -- after any front of what the accessed end is sent, it takes for its peer's limit no more than the peer has
 abbrev pub LimitWithin : (own_a own_b : ℕ) → List Request → Type 0
 LimitWithin own_a own_b requests =
-    (front back : List Item) → front ++ back ≡ items_of own_a requests → limit_for own_b front ≤ own_a
+    (front back : List Item) → front ++ back ≡ items_of own_a requests → limit_for own_b [] front ≤ own_a

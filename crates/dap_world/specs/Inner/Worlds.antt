@@ -51,6 +51,6 @@ pub record IsWorld (s : State) : Type 0 where
   -- what A asked is what was handed over, and what waits
   pub asked : messages_in (s.from_a.handed ++ s.from_a.waiting) ≡ Asked s.own_a s.requests
   -- what B answered likewise
-  pub answered : messages_in (s.from_b.handed ++ s.from_b.waiting) ≡ Answers s.own_b (map Whole (taken_of s))
+  pub answered : messages_in (s.from_b.handed ++ s.from_b.waiting) ≡ Answers s.own_b [] (map Whole (taken_of s))
   pub served : s.served ≤ length (arrived_of s.seg_size s.from_a)
   pub read : s.read ≤ length (arrived_of s.seg_size s.from_b)

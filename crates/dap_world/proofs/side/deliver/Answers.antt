@@ -26,10 +26,8 @@ missing xs ys j same le =
     subst (λ (l : List Wired). slice_get (map wired_value l) j ≡ None) same (slice_get-map wired_value xs j ∙ ap (option_map wired_value) (slice_get_past xs j le))
 
 -- the test by the counts that the link shows
-told : (v : LinkValue) (k : Option ℕ) (a taken sent unacked : ℕ) (b : Bool) → v.acked ≤ v.sent → taken ≡ v.received → sent ≡ v.sent → unacked ≡ v.sent - v.acked
-    → b ≡ (is_old_segment taken k || is_old a (sent - unacked)) → b ≡ (is_old_segment v.received k || is_old a v.acked)
-told v k a taken sent unacked b le t s u e =
-    let acked : sent - unacked ≡ v.acked = omega arith in e ∙ rw (t, acked) refl
+told : (v : LinkValue) (k : Option ℕ) (a taken acked : ℕ) (b : Bool) → taken ≡ v.received → acked ≡ v.acked → b ≡ (is_old_segment taken k || is_old a acked) → b ≡ (is_old_segment v.received k || is_old a v.acked)
+told v k a taken acked b t s e = e ∙ rw (t, s) refl
 
 delivered : (to link : LinkValue) (wire : List WiredValue) (j : ℕ) (w : WiredValue) (r : Result Got WorldFault) → slice_get wire j ≡ Some w → is_old_wired to w ≡ false
     → IfOk r (λ got. (got ≡ got_of to.received w.segment) × Delivered to link w.segment w.acks)
@@ -51,8 +49,8 @@ returns-then-is_stale_wired-clause-err c =
       (
         wired_value c.in-Some.wired.now,
         found c.deref.result.now c.from.inside.wire.items c.args.j c.in-Some.wired.now c.deref.ensures.value c.in-Some.ensures.lookup.0 c.in-Some.ensures.lookup.1,
-        sym (told c.to.inside.link c.in-Some.wired.now.segment c.in-Some.wired.now.acks c.received_count-taken.result c.sent_count.result c.unacked.result c.is_stale_wired.result
-            c.received_count-taken.ensures.valid.acked c.received_count-taken.ensures.value c.sent_count.ensures.value c.unacked.ensures.value c.is_stale_wired.ensures) ∙ c.if-is_stale_wired.true,
+        sym (told c.to.inside.link c.in-Some.wired.now.segment c.in-Some.wired.now.acks c.received_count-taken.result c.acked_count-acked.result c.is_stale_wired.result
+            c.received_count-taken.ensures.value c.acked_count-acked.ensures.value c.is_stale_wired.ensures) ∙ c.if-is_stale_wired.true,
       ),
     )
 
@@ -67,16 +65,16 @@ take_in-requires c =
     let near : AllNear c.to.inside.link (side_view c.from.inside).wire = rw (← c.to.view_is, ← c.from.view_is) at c.requires.near in
     coming (side_view c.from.inside) c.to.inside.link _ _ c.args.j (wired_value c.in-Some.wired.now) way near
     (found c.deref.result.now c.from.inside.wire.items c.args.j c.in-Some.wired.now c.deref.ensures.value c.in-Some.ensures.lookup.0 c.in-Some.ensures.lookup.1)
-    (sym (told c.to.inside.link c.in-Some.wired.now.segment c.in-Some.wired.now.acks c.received_count-taken.result c.sent_count.result c.unacked.result c.is_stale_wired.result
-    c.received_count-taken.ensures.valid.acked c.received_count-taken.ensures.value c.sent_count.ensures.value c.unacked.ensures.value c.is_stale_wired.ensures) ∙ c.if-is_stale_wired.false)
+    (sym (told c.to.inside.link c.in-Some.wired.now.segment c.in-Some.wired.now.acks c.received_count-taken.result c.acked_count-acked.result c.is_stale_wired.result
+    c.received_count-taken.ensures.value c.acked_count-acked.ensures.value c.is_stale_wired.ensures) ∙ c.if-is_stale_wired.false)
 
 pub returns-else-is_stale_wired-clause-ok : goal.returns-else-is_stale_wired-clause-ok
 returns-else-is_stale_wired-clause-ok c =
     rw (← c.to.view_is, ← c.from.view_is)
     (delivered c.to.inside.link c.take_in.new.link _ c.args.j (wired_value c.in-Some.wired.now) c.take_in.result
     (found c.deref.result.now c.from.inside.wire.items c.args.j c.in-Some.wired.now c.deref.ensures.value c.in-Some.ensures.lookup.0 c.in-Some.ensures.lookup.1)
-    (sym (told c.to.inside.link c.in-Some.wired.now.segment c.in-Some.wired.now.acks c.received_count-taken.result c.sent_count.result c.unacked.result c.is_stale_wired.result
-    c.received_count-taken.ensures.valid.acked c.received_count-taken.ensures.value c.sent_count.ensures.value c.unacked.ensures.value c.is_stale_wired.ensures) ∙ c.if-is_stale_wired.false)
+    (sym (told c.to.inside.link c.in-Some.wired.now.segment c.in-Some.wired.now.acks c.received_count-taken.result c.acked_count-acked.result c.is_stale_wired.result
+    c.received_count-taken.ensures.value c.acked_count-acked.ensures.value c.is_stale_wired.ensures) ∙ c.if-is_stale_wired.false)
     c.take_in.ensures.ok)
 
 pub returns-else-is_stale_wired-clause-err : goal.returns-else-is_stale_wired-clause-err
@@ -84,8 +82,8 @@ returns-else-is_stale_wired-clause-err c =
     rw (← c.to.view_is, ← c.from.view_is)
     (refused (side_view c.to.inside) c.take_in.new.link _ c.args.j (wired_value c.in-Some.wired.now) c.take_in.result
     (found c.deref.result.now c.from.inside.wire.items c.args.j c.in-Some.wired.now c.deref.ensures.value c.in-Some.ensures.lookup.0 c.in-Some.ensures.lookup.1)
-    (sym (told c.to.inside.link c.in-Some.wired.now.segment c.in-Some.wired.now.acks c.received_count-taken.result c.sent_count.result c.unacked.result c.is_stale_wired.result
-    c.received_count-taken.ensures.valid.acked c.received_count-taken.ensures.value c.sent_count.ensures.value c.unacked.ensures.value c.is_stale_wired.ensures) ∙ c.if-is_stale_wired.false)
+    (sym (told c.to.inside.link c.in-Some.wired.now.segment c.in-Some.wired.now.acks c.received_count-taken.result c.acked_count-acked.result c.is_stale_wired.result
+    c.received_count-taken.ensures.value c.acked_count-acked.ensures.value c.is_stale_wired.ensures) ∙ c.if-is_stale_wired.false)
     c.take_in.ensures.err)
 
 keeps : (from : SideValue) (v link : LinkValue) (j : ℕ) (w : WiredValue) (r : Result Got WorldFault) → AllNear v from.wire → slice_get from.wire j ≡ Some w → is_old_wired v w ≡ false
@@ -103,6 +101,6 @@ returns-else-is_stale_wired-clause-stands c =
     rw (← c.to.view_is, ← c.from.view_is)
     (keeps (side_view c.from.inside) c.to.inside.link c.take_in.new.link c.args.j (wired_value c.in-Some.wired.now) c.take_in.result near
     (found c.deref.result.now c.from.inside.wire.items c.args.j c.in-Some.wired.now c.deref.ensures.value c.in-Some.ensures.lookup.0 c.in-Some.ensures.lookup.1)
-    (sym (told c.to.inside.link c.in-Some.wired.now.segment c.in-Some.wired.now.acks c.received_count-taken.result c.sent_count.result c.unacked.result c.is_stale_wired.result
-    c.received_count-taken.ensures.valid.acked c.received_count-taken.ensures.value c.sent_count.ensures.value c.unacked.ensures.value c.is_stale_wired.ensures) ∙ c.if-is_stale_wired.false)
+    (sym (told c.to.inside.link c.in-Some.wired.now.segment c.in-Some.wired.now.acks c.received_count-taken.result c.acked_count-acked.result c.is_stale_wired.result
+    c.received_count-taken.ensures.value c.acked_count-acked.ensures.value c.is_stale_wired.ensures) ∙ c.if-is_stale_wired.false)
     c.take_in.ensures.ok c.take_in.ensures.stands)

@@ -1,4 +1,4 @@
-use Rattle.std.proofs.Common.{ap, ◌∙◌, subst}
+use Rattle.std.proofs.Common.{ap, ◌∙◌, subst, arith}
 use Rattle.dap_msg.specs.Items.{seen_item}
 use Rattle.dap_msg.specs.Blocked.{Blocked, all_joined, AllFit}
 use Rattle.dap_accessed.proofs.StepIs.{stands-more, answers-are, same-own}
@@ -14,8 +14,9 @@ returns-clause-serves c bytes at there =
       item = item;
       reads = there;
       stands = stands-more old c.serve_item.new.self item moves.present;
-      answers = λ items h. moves.answered.bytes ∙ ap (λ l. all_joined (Blocked old.limit l)) (answers-are old item items h);
-      fits = λ items h. subst AllFit (answers-are old item items h) moves.answered.fits;
+      answers = λ first items h. moves.answered.bytes ∙ ap (λ l. all_joined (Blocked old.limit l)) (answers-are old item first items h);
+      fits = λ first items h. subst AllFit (answers-are old item first items h) moves.answered.fits;
       within = moves.answered.within;
+      limit = (let same = ap (λ (p : Present). p.limit) c.self.view_is in omega (arith, same));
       same_own = ap (λ (p : Present). p.own) moves.present ∙ same-own old item;
     }

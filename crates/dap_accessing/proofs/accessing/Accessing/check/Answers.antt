@@ -1,4 +1,4 @@
-use Rattle.std.proofs.Common.{◌≢◌, ◌∙◌, sym, subst, rules, IsTrue, true, false}
+use Rattle.std.proofs.Common.{◌≢◌, ◌∙◌, sym, subst, rules, IsTrue, true, false, arith}
 use Rattle.dap_accessing.specs.declared.fault.AskFault.TheVariants as fault
 use Rattle.dap_msg.specs.Sendable.{AreSendable}
 use Rattle.dap_accessing.specs.Present.{Present}
@@ -38,7 +38,7 @@ pub returns-clause-may : goal.returns-clause-may
 returns-clause-may c =
     subst (λ (v : Present). MayAsk v c.args.request.now) c.self.view_is
     (may_ask c.args.request.now (the_view c.self.inside) c.if-self.false (sym c.is_some.ensures ∙ c.if-is_some.false) (sym c.fits.ensures ∙ c.if-not-fits.false)
-    (subst (λ l. AreSendable c.self.inside.limit l) c.of.ensures (c.if-not-is_sendable.ensures.0 yes)))
+    (subst (λ l. AreSendable c.self.inside.limit l) c.of.ensures (c.if-not-is_sendable.ensures.0 yes)) (omega arith))
 
 pub returns-clause-admissible : goal.returns-clause-admissible
 returns-clause-admissible c = admit c.args.request.now c.args.self.now (returns-clause-may c)

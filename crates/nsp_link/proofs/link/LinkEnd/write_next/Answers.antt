@@ -1,7 +1,7 @@
 use Rattle.std.proofs.Common.{◌≡◌, ◌+◌, ◌-◌, ℕ, ap, arith, subst}
 use Rattle.nsp_link.specs.Link.{LinkValue, IsSpelling}
 use Rattle.nsp_link.specs.Sending.{segment_packet}
-use Rattle.nsp_link.proofs.link.LinkEnd.next_packet.Goals as goal
+use Rattle.nsp_link.proofs.link.LinkEnd.write_next.Goals as goal
 
 pub returns-clause-segment : goal.returns-clause-segment
 returns-clause-segment c =
@@ -10,7 +10,7 @@ returns-clause-segment c =
     let place = c.unacked.result in
     let value : place ≡ now.sent - now.acked = c.unacked.ensures.value in
     let number : now.acked + 1 + place ≡ now.sent + 1 = omega (arith, valid.acked, value) in (
-      c.may_send.ensures.yes c.if-not-may_send.false,
+      c.requires.may,
       ap (λ (v : LinkValue). record v { sent = v.sent + 1 }) c.self.view_is,
       (λ piece at. subst (λ (n : ℕ). IsSpelling (segment_packet now piece n) c.in_ok-packet.packet.items) number (c.in_ok-packet.ensures.ok piece (rw value at))),
     )

@@ -1,0 +1,67 @@
+-- Files and records that an end is given before the peer's Config was served.
+use Rattle.std.specs.Prelude.{ℕ, ◌≡◌, ◌+◌, ◌-◌, ◌<◌, Bool, true, not, ◌&&◌, ◌||◌, nat_lt, List, [], ◌∷◌, ◌++◌, length, Option, Some, None, Result, Ok, Err}
+use Rattle.rec_file.specs.declared.shapes.Shape.{Shape}
+use Rattle.rec_file.specs.declared.refusals.Refusal.{Refusal}
+use Rattle.rec_file.specs.declared.refusals.Refusal.TheVariants.{BadLength, NumberOutOfRange, RecordExists, NoMemory}
+use Rattle.rec_file.specs.Shapes.{is_seq, allows_length}
+use Rattle.rec_file.specs.Files.{FileVal, highest_of, stored}
+use Rattle.rec_file.specs.Acts.{out_of_range, is_free, first_refusal}
+use Rattle.dap_accessed.specs.declared.fault.AddFault.{AddFault}
+use Rattle.dap_accessed.specs.declared.fault.AddFault.TheVariants as fault
+use Rattle.dap_accessed.specs.declared.phase.Phase.TheVariants as phases
+use Rattle.dap_accessed.specs.Standing.{Files, place_of, new_file, file_at, with_file}
+use Rattle.dap_accessed.specs.Present.{Present}
+
+-- ---- A file.
+
+-- behind the others, without records
+abbrev pub with_new_file : List ℕ → Shape → Files → Files
+with_new_file name shape files = files ++ (name, new_file shape) ∷ []
+
+-- no Config was served, and no file has this name
+abbrev pub MayAdd : Present → List ℕ → Type 0
+MayAdd p name = (p.phase ≡ phases.Fresh) × (place_of name p.files ≡ None)
+
+-- why it isn't added, in the order of the tests
+abbrev pub AddRefused : Present → List ℕ → AddFault → Type 0
+AddRefused p name fault.Busy = p.phase ≡ phases.Fresh → ⊥
+AddRefused p name fault.FileExists = (p.phase ≡ phases.Fresh) × (place_of name p.files ≡ None → ⊥)
+AddRefused p name fault.NoMemory = MayAdd p name
+AddRefused p name _ = ⊥
+
+-- ---- A record of the newest file.
+
+abbrev pub newest : Files → ℕ
+newest files = length files - 1
+
+-- in a sequential file the number is above the next one
+abbrev pub leaves_gap : FileVal → ℕ → Bool
+leaves_gap file n = is_seq file.shape.org && nat_lt (highest_of file.records + 1) n
+
+-- why a record isn't stored under a number: those refusals of a PUT with its number that the file gives, in their order
+abbrev pub record_refusals : FileVal → ℕ → List ℕ → List (Bool × Refusal)
+record_refusals file n body =
+    (not (allows_length file.shape (length body)), BadLength)
+    ∷ (out_of_range file.shape n || leaves_gap file n, NumberOutOfRange)
+    ∷ (not (is_free file n), RecordExists)
+    ∷ []
+
+abbrev pub MayStore : FileVal → ℕ → List ℕ → Type 0
+MayStore file n body = first_refusal (record_refusals file n body) ≡ None
+
+abbrev pub with_record : ℕ → List ℕ → Files → Files
+with_record n body files = with_file (newest files) (stored (file_at (newest files) files) n body) files
+
+-- no Config was served, there is a file, and it takes the record
+abbrev pub MayAddRecord : Present → ℕ → List ℕ → Type 0
+MayAddRecord p n body =
+    (p.phase ≡ phases.Fresh) × (0 < length p.files) × MayStore (file_at (newest p.files) p.files) n body
+
+abbrev pub RecordRefused : Present → ℕ → List ℕ → AddFault → Type 0
+RecordRefused p n body fault.Busy = p.phase ≡ phases.Fresh → ⊥
+RecordRefused p n body fault.NoFile = (p.phase ≡ phases.Fresh) × (p.files ≡ [])
+RecordRefused p n body (fault.Record why) =
+    (p.phase ≡ phases.Fresh) × (0 < length p.files)
+    × (first_refusal (record_refusals (file_at (newest p.files) p.files) n body) ≡ Some why)
+RecordRefused p n body fault.NoMemory = MayAddRecord p n body
+RecordRefused p n body _ = ⊥

@@ -1,0 +1,128 @@
+//! Files that the end is given, for one link after another.
+
+ghost use Rattle.std.specs.Prelude.{◌≡◌, ◌∷◌, ◌++◌, [], ℕ, length, IsTrue, IfErr, OnOk, OnErr, MatchResult, None, Some, true, false};
+ghost use Rattle.rec_file.specs.Shapes.{is_shape};
+ghost use Rattle.rec_file.specs.AnyFiles.{any_value};
+ghost use Rattle.rec_file.specs.Files.{IsFile};
+ghost use Rattle.rec_file.specs.Acts.{first_refusal};
+ghost use Rattle.dap_accessed.specs.Standing.{Files};
+ghost use Rattle.dap_accessed.specs.Present.{StandsAfter};
+ghost use Rattle.dap_accessed.specs.Adding.{MayAdd, AddRefused, with_new_file, MayAddRecord, RecordRefused, with_record, record_refusals, leaves_gap};
+ghost use Rattle.dap_accessed.specs.Inner.Storing.{Stores};
+ghost use Rattle.dap_accessed.specs.declared.phase.Phase.TheVariants as phases;
+
+use crate::accessed::{Accessed, PLAIN};
+use crate::fault::AddFault;
+use crate::phase::Phase;
+use dap_msg::LEAST_BUFFER;
+use rec_file::{AnyFile, RecordFile, Refusal, Shape};
+
+impl Accessed {
+    /// The same files for another link: the end waits for a peer's Config again, an open file is closed, and a
+    /// PUT or an UPDATE that waits for its record is dropped. It takes no memory. Own.
+    pub fn renew(&mut self)
+        ensures own { self.new.own ≡ self.old.own }
+        ensures stands { StandsAfter self.old.files [] self.new }
+    {
+        self.limit = LEAST_BUFFER;
+        self.kept = Some(PLAIN);
+        self.phase = Phase::Fresh;
+    }
+
+    /// A file without records behind the others, before the peer's Config was served (own). Its shape is one
+    /// that [`Shape::check`] gives.
+    ///
+    /// Refusals in order: Busy, FileExists, NoMemory; each leaves the end unchanged.
+    pub fn add(&mut self, name: &[u8], shape: Shape) -> Result<(), AddFault>
+        requires { IsTrue (is_shape shape) }
+        ensures may { OnOk result (MayAdd self.old name.now) }
+        ensures files { OnOk result
+            (self.new.files ≡ with_new_file name.now shape self.old.files) }
+        ensures stands { OnOk result ((first : Files) → StandsAfter first [] self.old
+            → StandsAfter self.new.files [] self.new) }
+        ensures own { self.new.own ≡ self.old.own }
+        ensures refused { IfErr result (λ f. AddRefused self.old name.now f) }
+        ensures unchanged { OnErr result (self.new ≡ self.old) }
+    {
+        if !self.is_fresh() {
+            return Err(AddFault::Busy);
+        }
+        if self.files.find(name).is_some() {
+            return Err(AddFault::FileExists);
+        }
+        self.files.make(self.alloc, name, shape)?;
+        Ok(())
+    }
+
+    /// A record more in the newest file, under its number, before the peer's Config was served (own). In a
+    /// sequential file the number is the next one.
+    ///
+    /// Refusals in order: Busy, NoFile; as of a PUT with this number BadLength, NumberOutOfRange,
+    /// RecordExists; NoMemory. Each leaves the end unchanged.
+    pub fn add_record(&mut self, number: u32, body: &[u8]) -> Result<(), AddFault>
+        ensures may { OnOk result (MayAddRecord self.old number body.now) }
+        ensures files { OnOk result (self.new.files ≡ with_record number body.now self.old.files) }
+        ensures stands { OnOk result ((first : Files) → StandsAfter first [] self.old
+            → StandsAfter self.new.files [] self.new) }
+        ensures own { self.new.own ≡ self.old.own }
+        ensures refused { IfErr result (λ f. RecordRefused self.old number body.now f) }
+        ensures unchanged { OnErr result (self.new ≡ self.old) }
+    {
+        if !self.is_fresh() {
+            return Err(AddFault::Busy);
+        }
+        let count = self.files.count();
+        if count == 0 {
+            return Err(AddFault::NoFile);
+        }
+        self.files.add_record(count - 1, number, body)
+    }
+
+    // Whether the end waits for the peer's Config.
+    fn is_fresh(&self) -> bool
+        ensures yes { result ≡ true → self.now.phase ≡ phases.Fresh }
+        ensures no { result ≡ false → self.now.phase ≡ phases.Fresh → ⊥ }
+    {
+        match self.phase {
+            Phase::Fresh => true,
+            _ => false,
+        }
+    }
+}
+
+// Stores a record under its number.
+pub(crate) fn add_record(file: &mut AnyFile, number: u32, body: &[u8]) -> Result<(), AddFault>
+    ensures { Stores number body.now (any_value file.old) (any_value file.new) result }
+{
+    match check_record(file, number, body) {
+        Ok(()) => Ok(file.place(number, body)?),
+        Err(refusal) => Err(AddFault::Record(refusal)),
+    }
+}
+
+// Whether a record may be stored under its number.
+fn check_record(file: &AnyFile, number: u32, body: &[u8]) -> Result<(), Refusal>
+    ensures why { MatchResult result
+        (λ _. first_refusal (record_refusals (any_value file.now) number body.now) ≡ None)
+        (λ r. first_refusal (record_refusals (any_value file.now) number body.now) ≡ Some r) }
+    ensures file { IsFile (any_value file.now) }
+{
+    let shape = file.shape();
+    if !shape.allows(body.len()) {
+        return Err(Refusal::BadLength);
+    }
+    if number == 0 || number > shape.limit() || leaves_gap(file, number) {
+        return Err(Refusal::NumberOutOfRange);
+    }
+    match file.lookup(number) {
+        None => Ok(()),
+        Some(_) => Err(Refusal::RecordExists),
+    }
+}
+
+// In a sequential file a record would leave a gap before it.
+fn leaves_gap(file: &AnyFile, number: u32) -> bool
+    ensures { result ≡ leaves_gap (any_value file.now) number }
+{
+    file.shape().is_sequential() && number > file.highest() + 1
+}
