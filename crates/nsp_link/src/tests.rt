@@ -226,7 +226,9 @@ const SCRIPTS: &[(LinkSetup, &[Line])] = &[
     (
         B,
         &[
-            Come(1, 4095, Got::Accepted),
+            Come(1, 4094, Got::Accepted),
+            Counts(0, 0, 4094, 0, 0),
+            Come(4095, 4095, Got::Accepted),
             Counts(0, 0, 4095, 0, 0),
             Come(0, 0, Got::Accepted),
             Counts(0, 0, 4096, 0, 0),
@@ -246,7 +248,9 @@ const SCRIPTS: &[(LinkSetup, &[Line])] = &[
             Counts(0, 0, 0, 0, 2),
             Come(1, 1, Got::Accepted),
             Counts(0, 0, 3, 0, 0),
-            Come(4, 5, Got::Accepted),
+            Come(4, 4, Got::Accepted),
+            Counts(0, 0, 4, 0, 0),
+            Come(5, 5, Got::Accepted),
             Counts(0, 0, 5, 0, 0),
         ],
     ),
@@ -254,7 +258,8 @@ const SCRIPTS: &[(LinkSetup, &[Line])] = &[
         LinkSetup { window: 1, ..B },
         &[Come(2, 2, Got::Early), Counts(0, 0, 0, 0, 0)],
     ),
-    // The widest window. At last segment 1 is too old to be told from segment 4,097.
+    // The widest window. At last segment 1 is too old to be told from segment 4,097: it is held as that one, and
+    // taken behind segment 4,096.
     (
         LinkSetup { window: 2047, ..B },
         &[
@@ -268,6 +273,10 @@ const SCRIPTS: &[(LinkSetup, &[Line])] = &[
             Counts(0, 0, 2050, 0, 0),
             Come(1, 1, Got::Early),
             Counts(0, 0, 2050, 0, 1),
+            Come(2051, 4095, Got::Accepted),
+            Counts(0, 0, 4095, 0, 1),
+            Come(0, 0, Got::Accepted),
+            Counts(0, 0, 4097, 0, 0),
         ],
     ),
     (
