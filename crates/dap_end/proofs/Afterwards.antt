@@ -1,0 +1,47 @@
+-- What the calls of a serving end leave of what it did.
+use Rattle.std.proofs.Common.{◌≡◌, ℕ, refl, sym, ◌∙◌, subst, ap, List, [], ◌∷◌, ◌++◌, length}
+use Rattle.std.proofs.Common.{◌+◌}
+use Rattle.std.specs.Prelude.{Option, Some, None, Result, Ok, Err, IfOk, OnOk, IfSome}
+use Rattle.std.proofs.lemmas.List.{append-nil}
+use Rattle.nsp_link.specs.declared.fault.LinkFault.{LinkFault}
+use Rattle.nsp_link.specs.Link.{LinkValue, SendsStill}
+use Rattle.nsp_link.specs.Sending.{MayQueueAll}
+use Rattle.nsp_link.proofs.ForCallers.{sends_all}
+use Rattle.dap_end.specs.Ports.{PortValue, with_link, posted}
+use Rattle.dap_end.specs.Inner.ServingView.{serving_of}
+use Rattle.dap_end.specs.Going.{GoneThrough}
+use Rattle.dap_end.specs.Serving.{ServingValue, Past, IsAfter, PostedAll}
+use Rattle.dap_end.proofs.Taking.{Grown}
+use Rattle.dap_end.proofs.Going.{gone_stays}
+
+-- a packet came
+pub after_received : (past : Past) (v : ServingValue) (link : LinkValue) → Grown v.port.link link → SendsStill v.port.link link → IsAfter past v → IsAfter past (record v { port = with_link v.port link })
+after_received past v link g sends h =
+    record {
+      serving = h.serving;
+      gone = subst (λ (l : List (List ℕ)). GoneThrough past.given l v.port.place past.items) (sym g.inbox) (gone_stays past.given v.port.link.inbox g.more v.port.place past.items h.gone);
+      sends = sends past.handed h.sends;
+      answers = h.answers;
+      fit = h.fit;
+    }
+
+-- what waited was handed over
+pub after_posted : (past : Past) (v : ServingValue) → IsAfter past v → IsAfter (record past { handed = past.handed ++ v.port.outbox }) (record v { port = posted v.port })
+after_posted past v h =
+    record {
+      serving = h.serving;
+      gone = h.gone;
+      sends = sends_all v.port.link past.handed v.port.outbox h.sends;
+      answers = append-nil (past.handed ++ v.port.outbox) ∙ h.answers;
+      fit = h.fit;
+    }
+
+pub posted_all : (v : ServingValue) (port : PortValue) (r : Result ℕ LinkFault) → OnOk r (MayQueueAll v.port.link v.port.outbox) → IfOk r (λ n. (port ≡ posted v.port) × (n ≡ length v.port.outbox)) → IfOk r (λ n. PostedAll v (serving_of port v.accessed) n)
+posted_all v port (Ok n) may h =
+    record {
+      may = may;
+      posted = ap (λ (p : PortValue). serving_of p v.accessed) h.0;
+      count = h.1;
+      past = λ past a. subst (λ (p : PortValue). IsAfter (record past { handed = past.handed ++ v.port.outbox }) (serving_of p v.accessed)) (sym h.0) (after_posted past v a);
+    }
+posted_all v port (Err f) may h = h

@@ -1,0 +1,357 @@
+-- What the calls of an asking end leave of what it did.
+use Rattle.std.proofs.Common.{◌≡◌, inl, inr, eq-eqb, ◌-◌, ℕ, ◌+◌, ◌<◌, ◌≤◌, arith, refl, sym, ◌∙◌, subst, ap, append_assoc, Bool, true, false, List, [], ◌∷◌, ◌++◌, length}
+use Rattle.std.specs.Prelude.{◌==◌, Some, None, Option, Result, Ok, Err, IfOk, OnOk, IfErr, nat_le, if◌then◌else◌, slice_get, option_to_list}
+use Rattle.std.proofs.lemmas.Bool.{cases_eq, ne_eqb}
+use Rattle.std.proofs.lemmas.List.{append-nil, map-append, length-append}
+use Rattle.std.proofs.lemmas.List.Elements.{All-append}
+use Rattle.dap_fields.specs.Spelling.{AreBytes}
+use Rattle.dap_msg.specs.Message.{Message}
+use Rattle.dap_msg.specs.Canon.{canon}
+use Rattle.dap_msg.specs.Items.{Item, IsPlace}
+use Rattle.dap_msg.specs.Sendable.{AreSendable}
+use Rattle.dap_msg.specs.Blocked.{NspMessage, joined, Blocked, blocked_after, all_joined, messages_in, AllFit, AllWithin, IsWithin}
+use Rattle.dap_msg.proofs.ForCallers.{messages_in-Blocked, within_limit}
+use Rattle.nsp_link.specs.declared.link.Got.{Got}
+use Rattle.nsp_link.specs.declared.fault.LinkFault.{LinkFault}
+use Rattle.nsp_link.specs.declared.fault.LinkFault.TheVariants as fault
+use Rattle.nsp_link.specs.Link.{LinkValue, SendsStill, Stands, MaySend}
+use Rattle.nsp_link.specs.Sending.{MayQueueAll, SendAllFault}
+use Rattle.nsp_link.proofs.ForCallers.{sends_all}
+use Rattle.dap_accessed.specs.Served.{AllAtMost}
+use Rattle.dap_accessing.specs.declared.request.Request.{Request}
+use Rattle.dap_accessing.specs.declared.report.Report.{Report}
+use Rattle.dap_accessing.specs.declared.fault.ReadStep.{ReadStep}
+use Rattle.dap_accessing.specs.Asked.{Asked, messages_of}
+use Rattle.dap_accessing.specs.Told.{Told}
+use Rattle.dap_accessing.specs.Present.{Present}
+use Rattle.dap_accessing.specs.Calls.{Asks, Reads}
+use Rattle.dap_end.specs.declared.fault.EndFault.{EndFault}
+use Rattle.dap_end.specs.declared.fault.EndFault.TheVariants as end_fault
+use Rattle.dap_end.specs.Ports.{PortValue, with_link, posted, gone_on}
+use Rattle.dap_end.specs.Receiving.{Receives}
+use Rattle.dap_end.specs.Writing.{sent_more, WroteAll, AnsweredAll, AnsweredPart}
+use Rattle.dap_end.specs.Going.{GoneThrough, given_then}
+use Rattle.dap_end.specs.Asking.{AskingValue, AskingPast, AreFull, HasAsked, HasStill, AskedOne, HandedAll, ReadOne, ReadAll, ReadMore, HasRead, HeardAll, HeardOnly, WentOn, GoOnFault, HeardIn, HeardAndWrote, WrotePart, AnswerFault, TookAll, TookPart, received, asked_one, read_one}
+use Rattle.dap_end.specs.Inner.Answered.{Ended}
+use Rattle.dap_end.specs.Inner.Kept.{IsPort, AreShort}
+use Rattle.dap_end.specs.Inner.AskingView.{asking_of}
+use Rattle.dap_end.proofs.Taking.{Grown}
+use Rattle.dap_end.proofs.Going.{gone_stays}
+use Rattle.dap_end.proofs.ServingOne.{port_given, port_gone, all_short, fit-both}
+use Rattle.dap_end.proofs.Proceeding.{work, less_left}
+
+-- a packet came
+pub still_received : (v : AskingValue) (link : LinkValue) → Grown v.port.link link → SendsStill v.port.link link → HasStill v (record v { port = with_link v.port link })
+still_received v link g sends = λ past h.
+    record {
+      asking = h.asking;
+      gone = subst (λ (l : List (List ℕ)). GoneThrough past.given l v.port.place past.answers) (sym g.inbox) (gone_stays past.given v.port.link.inbox g.more v.port.place past.answers h.gone);
+      sends = sends past.handed h.sends;
+      messages = h.messages;
+      waiting = h.waiting;
+      fit = h.fit;
+      full = h.full;
+    }
+
+-- what waited was handed over
+after_handed : (past : AskingPast) (v : AskingValue) → HasAsked past v → HasAsked (record past { handed = past.handed ++ v.port.outbox }) (record v { port = posted v.port })
+after_handed past v h =
+    record {
+      asking = h.asking;
+      gone = h.gone;
+      sends = sends_all v.port.link past.handed v.port.outbox h.sends;
+      messages = h.messages;
+      waiting = append-nil (past.handed ++ v.port.outbox) ∙ h.waiting;
+      fit = h.fit;
+      full = h.full;
+    }
+
+pub handed_all : (v : AskingValue) (port : PortValue) (r : Result ℕ LinkFault) → OnOk r (MayQueueAll v.port.link v.port.outbox) → IfOk r (λ n. (port ≡ posted v.port) × (n ≡ length v.port.outbox)) → IfOk r (λ n. HandedAll v (asking_of port v.accessing) n)
+handed_all v port (Ok n) may h =
+    record {
+      may = may;
+      posted = ap (λ (p : PortValue). asking_of p v.accessing) h.0;
+      count = h.1;
+      past = λ past a. subst (λ (p : PortValue). HasAsked (record past { handed = past.handed ++ v.port.outbox }) (asking_of p v.accessing)) (sym h.0) (after_handed past v a);
+    }
+handed_all v port (Err f) may h = tt
+
+-- ---- A request.
+
+in_append : (xs ys : List NspMessage) → messages_in (xs ++ ys) ≡ messages_in xs ++ messages_in ys
+in_append [] ys = refl
+in_append (x ∷ xs) ys = ap (λ (l : List Message). x ++ l) (in_append xs ys) ∙ sym (append_assoc x (messages_in xs) (messages_in ys))
+
+Asked-more : (own : ℕ) (requests : List Request) (request : Request) → Asked own (requests ++ request ∷ []) ≡ Asked own requests ++ messages_of own request
+Asked-more own [] request = append-nil (messages_of own request)
+Asked-more own (r ∷ requests) request =
+    ap (λ (l : List Message). messages_of own r ++ l) (Asked-more own requests request) ∙ sym (append_assoc (messages_of own r) (Asked own requests) (messages_of own request))
+
+sendable-fit : (limit : ℕ) (messages : List Message) → AreSendable limit messages → AllFit messages
+sendable-fit limit [] h = tt
+sendable-fit limit (m ∷ messages) h = (h.0.0, sendable-fit limit messages h.1)
+
+pub full-both : (one two : List NspMessage) → AreFull one → AreFull two → AreFull (one ++ two)
+full-both [] two h k = k
+full-both (p ∷ one) two h k = (h.0, full-both one two h.1 k)
+
+full-within : (limit : ℕ) (packets : List NspMessage) → AllWithin limit packets → AreFull packets
+full-within limit [] h = tt
+full-within limit ([] ∷ packets) h = absurd h.0
+full-within limit ((m ∷ more) ∷ packets) h = ((λ e. (let none : ⊥ = cc in none)), full-within limit packets h.1)
+
+pub full-blocked : (limit : ℕ) (messages : List Message) → AreFull (Blocked limit messages)
+full-blocked limit messages = full-within limit (Blocked limit messages) (within_limit limit messages)
+
+pub asks_one : (request : Request) (old : AskingValue) (after : Present) (messages outbox : List (List ℕ)) (n : ℕ) → Asks request old.accessing after messages → after.own ≡ old.accessing.own
+    → outbox ≡ old.port.outbox ++ messages → n ≡ length messages → AskedOne request old (asking_of (record old.port { outbox = outbox }) after) n
+asks_one request old after messages outbox n asks own is count =
+    record {
+      messages = messages;
+      asks = asks;
+      own = own;
+      port = ap (λ (l : List (List ℕ)). record old.port { outbox = l }) is;
+      count = count;
+      past = λ past h. (let block = Blocked old.accessing.limit (messages_of old.accessing.own request) in record {
+        asking = asks.stands past.requests past.answers h.asking;
+        gone = h.gone;
+        sends = h.sends;
+        messages = in_append past.asked block ∙ ap (λ (l : List Message). messages_in past.asked ++ l) (messages_in-Blocked old.accessing.limit (messages_of old.accessing.own request))
+            ∙ ap (λ (l : List Message). l ++ messages_of old.accessing.own request) h.messages
+            ∙ sym (Asked-more old.accessing.own past.requests request) ∙ ap (λ (k : ℕ). Asked k (past.requests ++ request ∷ [])) (sym own);
+        waiting = ap (λ (l : List (List ℕ)). past.handed ++ l) is ∙ sym (append_assoc past.handed old.port.outbox messages)
+            ∙ ap (λ (l : List (List ℕ)). l ++ messages) h.waiting ∙ ap (λ (l : List (List ℕ)). all_joined past.asked ++ l) asks.spelled ∙ sym (map-append joined past.asked block);
+        fit =
+            subst AllFit (sym (in_append past.asked block ∙ ap (λ (l : List Message). messages_in past.asked ++ l) (messages_in-Blocked old.accessing.limit (messages_of old.accessing.own request))))
+            (fit-both (messages_in past.asked) (messages_of old.accessing.own request) h.fit (sendable-fit _ (messages_of old.accessing.own request) (asks.admissible past.requests past.answers h.asking).2));
+        full = full-both past.asked block h.full (full-blocked old.accessing.limit (messages_of old.accessing.own request));
+      });
+    }
+
+-- none of its NSP messages is longer than an end takes
+AreWithin : ℕ → List Message → Type 0
+AreWithin limit [] = Unit {0}
+AreWithin limit (m ∷ messages) = (length (canon m) ≤ limit) × AreWithin limit messages
+
+within-front : (limit : ℕ) (xs ys : List Message) → AreWithin limit (xs ++ ys) → AreWithin limit xs
+unfolding AreWithin
+within-front limit [] ys h = tt
+within-front limit (x ∷ xs) ys h = (h.0, within-front limit xs ys h.1)
+
+within-back : (limit : ℕ) (xs ys : List Message) → AreWithin limit (xs ++ ys) → AreWithin limit ys
+unfolding AreWithin
+within-back limit [] ys h = h
+within-back limit (x ∷ xs) ys h = within-back limit xs ys h.1
+
+within-one : (limit : ℕ) (p : NspMessage) → IsWithin limit p → AreWithin limit p → length (joined p) ≤ limit
+unfolding AreWithin
+within-one limit [] h all = absurd h
+within-one limit (m ∷ []) h all = let one = ap length (append-nil (canon m)) in omega (arith, one, all.0)
+within-one limit (m ∷ n ∷ more) h all = h
+
+packets-within : (limit : ℕ) (packets : List NspMessage) → AllWithin limit packets → AreWithin limit (messages_in packets) → AllAtMost limit (all_joined packets)
+packets-within limit [] h all = tt
+packets-within limit (p ∷ packets) h all =
+    (within-one limit p h.0 (within-front limit p (messages_in packets) all), packets-within limit packets h.1 (within-back limit p (messages_in packets) all))
+
+sendable-within : (limit : ℕ) (messages : List Message) → AreSendable limit messages → AreWithin limit messages
+unfolding AreWithin
+sendable-within limit [] h = tt
+sendable-within limit (m ∷ messages) h = (h.0.1, sendable-within limit messages h.1)
+
+pub asks_short : (request : Request) (old after : Present) (messages : List (List ℕ)) → Asks request old after messages → AreSendable old.limit (messages_of old.own request) → old.limit ≤ 65535 → AreShort messages
+asks_short request old after messages asks sendable most =
+    subst AreShort (sym asks.spelled)
+    (all_short old.limit (all_joined (Blocked old.limit (messages_of old.own request))) most
+    (packets-within old.limit (Blocked old.limit (messages_of old.own request)) (within_limit old.limit (messages_of old.own request))
+    (subst (AreWithin old.limit) (sym (messages_in-Blocked old.limit (messages_of old.own request))) (sendable-within old.limit (messages_of old.own request) sendable))))
+
+pub port_asks : (p : PortValue) (messages outbox : List (List ℕ)) → IsPort p → AreShort messages → outbox ≡ p.outbox ++ messages → IsPort (record p { outbox = outbox })
+port_asks p messages outbox h short is =
+    record { place = h.place; short = subst AreShort (sym is) (All-append (λ m. length m ≤ 65535) p.outbox messages h.short short) }
+
+-- there are no more NSP messages than messages
+blocked-few : (limit : ℕ) (last : NspMessage) (messages : List Message) → length (blocked_after limit last messages) ≤ length messages + 1
+blocked-few limit last [] = omega arith
+blocked-few limit last (m ∷ messages) =
+    elim (nat_le (length (joined (last ++ m ∷ []))) limit) as (λ b. length (if b then blocked_after limit (last ++ m ∷ []) messages else last ∷ blocked_after limit (m ∷ []) messages) ≤ length (m ∷ messages) + 1) [
+      | true ↦ omega (arith, blocked-few limit (last ++ m ∷ []) messages)
+      | false ↦ omega (arith, blocked-few limit (m ∷ []) messages)
+    ]
+
+pub few_blocked : (limit : ℕ) (messages : List Message) → length (Blocked limit messages) ≤ length messages
+few_blocked limit [] = omega arith
+few_blocked limit (m ∷ messages) = omega (arith, blocked-few limit (m ∷ []) messages)
+
+-- ---- An answer.
+
+pub reads_one : (old : AskingValue) (bytes : List ℕ) (later : List (List ℕ)) → AreBytes bytes → (after : Present) (port : PortValue) (step : ReadStep) → old.port.link.inbox ≡ bytes ∷ later → IsPlace old.port.place bytes
+    → (r : Reads bytes old.port.place old.accessing after step) → step.next ≤ length bytes → (old.port.place < length bytes → old.port.place < step.next) → after.own ≡ old.accessing.own
+    → port ≡ gone_on old.port bytes later step.next → ReadOne old (asking_of port after) step.report
+reads_one old bytes later fits after port step inbox place r within goes own is =
+    record {
+      bytes = bytes;
+      later = later;
+      came = inbox;
+      fits = fits;
+      item = r.answer;
+      next = step.next;
+      reads = r.reads;
+      place = place;
+      goes = goes;
+      within = within;
+      port = is;
+      own = own;
+      past = λ past h. subst (λ (p : PortValue). HasAsked (read_one past bytes r.answer step.next) (asking_of p after)) (sym is) (record {
+        asking = r.stands past.requests past.answers h.asking;
+        gone = port_gone old.port bytes later step.next past.given past.answers r.answer fits inbox h.gone r.reads within;
+        sends = record { queue = h.sends.queue; acked = h.sends.acked };
+        messages = h.messages ∙ ap (λ (k : ℕ). Asked k past.requests) (sym own);
+        waiting = h.waiting;
+        fit = h.fit;
+        full = h.full;
+      });
+      told = λ past h. r.told past.requests past.answers h.asking;
+      given = λ size messages past h. subst (λ (p : PortValue). Stands p.link size messages (read_one past bytes r.answer step.next).given) (sym is)
+          (port_given old.port bytes later step.next size messages past.given inbox h);
+    }
+
+pub some_first : (inbox : List (List ℕ)) → 0 < length inbox → (bytes : List ℕ) × (later : List (List ℕ)) × (inbox ≡ bytes ∷ later)
+some_first [] h = absurd (omega arith)
+some_first (m ∷ inbox) h = (m, inbox, refl)
+
+-- ---- Several answers.
+
+pub read_nothing : (v : AskingValue) → ReadMore v v []
+read_nothing v =
+    record {
+      link = refl;
+      outbox = refl;
+      own = refl;
+      past = λ past h. (
+        past,
+        record {
+          is = h;
+          requests = refl;
+          asked = refl;
+          handed = refl;
+          answers = ([], sym (append-nil past.answers));
+          told = sym (append-nil (Told past.requests past.answers));
+          given = refl;
+          stands = λ size messages s. s;
+        },
+      );
+    }
+
+pub read_none : (v : AskingValue) (reports : List Report) → ReadAll v v reports reports
+read_none v reports = ([], sym (append-nil reports), read_nothing v)
+
+-- what left, and what is left
+split_given : (given inbox later : List (List ℕ)) (bytes : List ℕ) (next : ℕ) → inbox ≡ bytes ∷ later →
+    let ends = next == length bytes in given_then given bytes next ++ (if ends then later else inbox) ≡ given ++ inbox
+split_given given inbox later bytes next came =
+    elim (cases_eq next (length bytes)) [
+      | inl end ↦ rw (eq-eqb next (length bytes) end) (append_assoc given (bytes ∷ []) later ∙ ap (λ (l : List (List ℕ)). given ++ l) (sym came))
+      | inr inside ↦ rw (ne_eqb next (length bytes) inside) refl
+    ]
+
+read_grew : (a b c : AskingValue) (report : Option Report) (told : List Report) (past : AskingPast) (now : AskingPast) → HasRead past now a b told → (r : ReadOne b c report) → HasRead past (read_one now r.bytes r.item r.next) a c (told ++ option_to_list report)
+read_grew a b c report told past now g r =
+    let link : c.port.link ≡ record b.port.link { inbox = if r.next == length r.bytes then r.later else b.port.link.inbox } = ap (λ (p : PortValue). p.link) r.port in
+    record {
+      is = r.past now g.is;
+      requests = g.requests;
+      asked = g.asked;
+      handed = g.handed;
+      answers = (g.answers.0 ++ r.item ∷ [], ap (λ (l : List Item). l ++ r.item ∷ []) g.answers.1 ∙ append_assoc past.answers g.answers.0 (r.item ∷ []));
+      told = ap (λ (l : List Request). Told l (now.answers ++ r.item ∷ [])) (sym g.requests) ∙ r.told now g.is
+          ∙ ap (λ (l : List Request). Told l now.answers ++ option_to_list report) g.requests
+          ∙ ap (λ (l : List Report). l ++ option_to_list report) g.told ∙ append_assoc (Told past.requests past.answers) told (option_to_list report);
+      given = subst (λ (l : LinkValue). given_then now.given r.bytes r.next ++ l.inbox ≡ now.given ++ b.port.link.inbox) (sym link)
+          (split_given now.given b.port.link.inbox r.later r.bytes r.next r.came) ∙ g.given;
+      stands = λ size messages s. r.given size messages now (g.stands size messages s);
+    }
+
+pub read_more : (a b c : AskingValue) (report : Option Report) (before all new : List Report) → ReadAll a b before all → ReadOne b c report → new ≡ all ++ option_to_list report → ReadAll a c before new
+read_more a b c report before all new m r is =
+    let link : c.port.link ≡ record b.port.link { inbox = if r.next == length r.bytes then r.later else b.port.link.inbox } = ap (λ (p : PortValue). p.link) r.port in
+    let here : c.port.link ≡ record b.port.link { inbox = c.port.link.inbox } = subst (λ (l : LinkValue). l ≡ record b.port.link { inbox = l.inbox }) (sym link) refl in (
+      m.0 ++ option_to_list report,
+      is ∙ ap (λ (l : List Report). l ++ option_to_list report) m.1 ∙ append_assoc before m.0 (option_to_list report),
+      record {
+        link = here ∙ ap (λ (l : LinkValue). record l { inbox = c.port.link.inbox }) m.2.link;
+        outbox = ap (λ (p : PortValue). p.outbox) r.port ∙ m.2.outbox;
+        own = r.own ∙ m.2.own;
+        past = λ past h. (let g = m.2.past past h in (read_one g.0 r.bytes r.item r.next, read_grew a b c report m.0 past g.0 g.1 r));
+      },
+    )
+
+pub read_falls : (old new : AskingValue) (report : Option Report) → ReadOne old new report → work new.port.link.inbox - new.port.place < work old.port.link.inbox - old.port.place
+read_falls old new report r =
+    subst (λ (p : PortValue). work p.link.inbox - p.place < work old.port.link.inbox - old.port.place) (sym r.port)
+    (less_left old.port.link.inbox r.later r.bytes old.port.place r.next r.came r.place r.goes r.within)
+
+pub still_sent : (v : AskingValue) (port : PortValue) (n : ℕ) → port ≡ sent_more v.port n → HasStill v (record v { port = port })
+still_sent v port n e =
+    subst (λ (p : PortValue). HasStill v (asking_of p v.accessing)) (sym e)
+    (λ past h. record { asking = h.asking; gone = h.gone; sends = record { queue = h.sends.queue; acked = h.sends.acked }; messages = h.messages; waiting = h.waiting; fit = h.fit; full = h.full })
+
+-- ---- Going on.
+
+-- a link to which something was handed runs
+pub works_after : (old new : AskingValue) (n : ℕ) → HandedAll old new n → new.port.link.failed ≡ false
+works_after old new n h = ap (λ (v : AskingValue). v.port.link.failed) h.posted ∙ h.may.0
+
+pub heard_only : (old heard new : AskingValue) (before reports : List Report) (f : LinkFault) → ReadAll old heard before reports → heard.port.link.inbox ≡ [] → (new ≡ heard) × SendAllFault heard.port.link heard.port.outbox f → HeardOnly old new before reports f
+heard_only old heard new before reports f read done h =
+    subst (λ (v : AskingValue). HeardOnly old v before reports f) (sym h.0) (record { read = read; done = done; refused = h.1 })
+
+module _ (old heard : AskingValue) (port : PortValue) (out all : List (List ℕ)) (before reports : List Report) (hears : HeardAll old heard before reports) where
+  pub went_on : WroteAll heard.port port out all → WentOn old (asking_of port heard.accessing) out all before reports
+  went_on w = record { heard = heard; hears = hears; rest = refl; still = still_sent heard port _ w.2.sent; wrote = w }
+
+pub went_part : (old heard : AskingValue) (port : PortValue) (out all : List (List ℕ)) (before reports : List Report) (f : LinkFault) → HeardAll old heard before reports → WroteAll heard.port port out all → (f ≡ fault.NoMemory) × MaySend port.link
+    → GoOnFault old (asking_of port heard.accessing) out all before reports (end_fault.Link f)
+went_part old heard port out all before reports f hears w h = inr (ap (λ (g : LinkFault). end_fault.Link g) h.0, went_on old heard port out all before reports hears w, h.1)
+
+pub answered : (old heard : AskingValue) (port : PortValue) (got : Got) (out all : List (List ℕ)) (before reports : List Report) → HeardAll old heard before reports → AnsweredAll heard.port port got out all
+    → HeardAndWrote old (asking_of port heard.accessing) got out all before reports
+answered old heard port got out all before reports hears a = record { heard = heard; hears = hears; rest = refl; still = still_sent heard port _ a.2.wrote.sent; answered = a }
+
+pub answered_part : (old heard : AskingValue) (port : PortValue) (got : Got) (out all : List (List ℕ)) (before reports : List Report) (f : LinkFault) → HeardAll old heard before reports → AnsweredPart heard.port port got out all f
+    → AnswerFault old (asking_of port heard.accessing) got out all before reports (end_fault.Link f)
+answered_part old heard port got out all before reports f hears a =
+    inr (f, refl, record { heard = heard; hears = hears; rest = refl; still = still_sent heard port _ a.wrote.sent; part = a })
+
+-- a call that ends as its link does
+pub ended_ok : (P : Type 0) (r : Result (Unit {0}) LinkFault) (s : Result (Unit {0}) EndFault) → Ended r s → OnOk r P → OnOk s P
+ended_ok P (Ok u) s e h = subst (λ (x : Result (Unit {0}) EndFault). OnOk x P) (sym e) h
+ended_ok P (Err f) s e h = subst (λ (x : Result (Unit {0}) EndFault). OnOk x P) (sym e) tt
+
+pub ended_err : (Q : EndFault → Type 0) (r : Result (Unit {0}) LinkFault) (s : Result (Unit {0}) EndFault) → Ended r s → IfErr r (λ f. Q (end_fault.Link f)) → IfErr s Q
+ended_err Q (Ok u) s e h = subst (λ (x : Result (Unit {0}) EndFault). IfErr x Q) (sym e) tt
+ended_err Q (Err f) s e h = subst (λ (x : Result (Unit {0}) EndFault). IfErr x Q) (sym e) h
+
+pub on_ok : (P Q : Type 0) (r : Result (Unit {0}) LinkFault) → (P → Q) → OnOk r P → OnOk r Q
+on_ok P Q (Ok u) to h = to h
+on_ok P Q (Err f) to h = tt
+
+pub if_ok : (P : Type 0) (r : Result (Unit {0}) LinkFault) → P → OnOk r P
+if_ok P (Ok u) h = h
+if_ok P (Err f) h = tt
+
+pub if_err : (P Q : LinkFault → Type 0) (r : Result (Unit {0}) LinkFault) → ((f : LinkFault) → P f → Q f) → IfErr r P → IfErr r Q
+if_err P Q (Ok u) to h = tt
+if_err P Q (Err f) to h = to f h
+
+-- ---- Taking.
+
+pub took_all : (old mid new : AskingValue) (bytes : List ℕ) (got : Got) (out all : List (List ℕ)) (before reports : List Report) → mid ≡ received old mid.port.link → HeardIn old bytes got mid.port.link
+    → HeardAndWrote mid new got out all before reports → TookAll old new bytes got out all before reports
+took_all old mid new bytes got out all before reports rest took h =
+    record { link = mid.port.link; took = took; all_done = subst (λ (v : AskingValue). HeardAndWrote v new got out all before reports) rest h }
+
+pub took_part : (old mid new : AskingValue) (bytes : List ℕ) (got : Got) (out all : List (List ℕ)) (before reports : List Report) (f : EndFault) → mid ≡ received old mid.port.link → HeardIn old bytes got mid.port.link
+    → AnswerFault mid new got out all before reports f → TookPart old new bytes got out all before reports f
+took_part old mid new bytes got out all before reports f rest took h =
+    record { link = mid.port.link; took = took; why = subst (λ (v : AskingValue). AnswerFault v new got out all before reports f) rest h }

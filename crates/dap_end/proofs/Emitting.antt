@@ -1,0 +1,106 @@
+-- Writing segments, one after another.
+use Rattle.std.proofs.Common.{◌≡◌, ℕ, ◌+◌, ◌-◌, ◌<◌, ◌≤◌, arith, refl, sym, ◌∙◌, subst, ap, append_assoc, List, [], ◌∷◌, ◌++◌, length, inl, inr, add-zero, true, false}
+use Rattle.std.specs.Prelude.{Some, None, Option, Result, Ok, Err, IfOk, IfErr, OnOk, OnErr, IfSome, Bool}
+use Rattle.std.specs.Global.{Vec}
+use Rattle.std.proofs.lemmas.List.{append-nil, length-append}
+use Rattle.nsp_link.specs.declared.link.Got.{Got}
+use Rattle.nsp_link.specs.declared.fault.LinkFault.{LinkFault}
+use Rattle.nsp_link.specs.Link.{LinkValue, Sends, Writes, MaySend, IsSpelling}
+use Rattle.nsp_link.specs.Sending.{NextFault, WritesNext, WritesSent, ack_packet_of}
+use Rattle.dap_end.specs.Ports.{PortValue, with_link}
+use Rattle.nsp_link.specs.declared.fault.LinkFault.TheVariants as fault
+use Rattle.dap_end.specs.Writing.{AreWritten, IsWithin, IsFull, sent_more, WroteNext, WroteMore, WroteAll, wants_ack, AnsweredAll, AnsweredPart}
+use Rattle.dap_end.specs.Inner.Answered.{Acknowledged}
+
+-- ---- One.
+
+pub wrote_next : (p : PortValue) (link : LinkValue) (r : Result (Option (Vec ℕ)) LinkFault) → IfOk r (λ o. IfSome o (λ b. WritesNext p.link link b.items))
+    → IfOk r (λ o. IfSome o (λ b. WritesSent p.link (Some (p.link.sent + 1)) b.items)) → IfOk r (λ o. IfSome o (λ b. WroteNext p (with_link p link) b.items))
+wrote_next p link (Ok None) next sent = tt
+wrote_next p link (Ok (Some b)) next sent = record { may = next.0; sent = ap (with_link p) next.1; writes = sent }
+wrote_next p link (Err f) next sent = tt
+
+pub wrote_known : (p : PortValue) (link : LinkValue) (r : Result (Vec ℕ) LinkFault) → IfOk r (λ b. WritesNext p.link link b.items) → IfOk r (λ b. WritesSent p.link (Some (p.link.sent + 1)) b.items)
+    → IfOk r (λ b. WroteNext p (with_link p link) b.items)
+wrote_known p link (Ok b) next sent = record { may = next.0; sent = ap (with_link p) next.1; writes = sent }
+wrote_known p link (Err f) next sent = tt
+
+-- ---- Several.
+
+written-more : (v : LinkValue) (handed : List (List ℕ)) (k : ℕ) (packets : List (List ℕ)) (bytes : List ℕ) → AreWritten v handed k packets → Writes v handed (Some (k + length packets)) v.received bytes
+    → AreWritten v handed k (packets ++ bytes ∷ [])
+written-more v handed k [] bytes h w = (subst (λ (n : ℕ). Writes v handed (Some n) v.received bytes) (add-zero k) w, tt)
+written-more v handed k (p ∷ packets) bytes h w =
+    (h.0, written-more v handed (k + 1) packets bytes h.1 (subst (λ (n : ℕ). Writes v handed (Some n) v.received bytes) (omega arith) w))
+
+pub wrote_nothing : (p : PortValue) → WroteMore p p []
+wrote_nothing p = record { sent = ap (λ (n : ℕ). with_link p (record p.link { sent = n })) (sym (add-zero p.link.sent)); writes = λ handed h. tt; within = λ some. absurd (omega arith) }
+
+pub wrote_none : (p : PortValue) (out : List (List ℕ)) → WroteAll p p out out
+wrote_none p out = ([], sym (append-nil out), wrote_nothing p)
+
+still_sends : (a : PortValue) (n : ℕ) (handed : List (List ℕ)) → Sends a.link handed → Sends (sent_more a n).link handed
+still_sends a n handed h = record { queue = h.queue; acked = h.acked }
+
+wrote_then : (a b c : PortValue) (packets : List (List ℕ)) (bytes : List ℕ) → WroteMore a b packets → WroteNext b c bytes → WroteMore a c (packets ++ bytes ∷ [])
+wrote_then a b c packets bytes m w =
+    record {
+      sent = w.sent ∙ ap (λ (p : PortValue). sent_more p 1) m.sent
+          ∙ ap (λ (n : ℕ). with_link a (record a.link { sent = n })) (let long = length-append packets (bytes ∷ []) in omega arith);
+      within = λ some. subst (λ (p : PortValue). IsWithin p.link) (sym w.sent) (let may = w.may in (omega arith, omega arith));
+      writes = λ handed h.
+          written-more a.link handed (a.link.sent + 1) packets bytes (m.writes handed h)
+          (subst (λ (n : ℕ). Writes a.link handed (Some n) a.link.received bytes) (omega arith)
+          (subst (λ (p : PortValue). Writes p.link handed (Some (p.link.sent + 1)) p.link.received bytes) m.sent
+          (w.writes handed (subst (λ (p : PortValue). Sends p.link handed) (sym m.sent) (still_sends a (length packets) handed h)))));
+    }
+
+pub wrote_more : (a b c : PortValue) (out all new : List (List ℕ)) (bytes : List ℕ) → WroteAll a b out all → WroteNext b c bytes → new ≡ all ++ bytes ∷ [] → WroteAll a c out new
+wrote_more a b c out all new bytes m w is =
+    (m.0 ++ bytes ∷ [], is ∙ ap (λ (l : List (List ℕ)). l ++ bytes ∷ []) m.1 ∙ append_assoc out m.0 (bytes ∷ []), wrote_then a b c m.0 bytes m.2 w)
+
+-- ---- An answer.
+
+-- how many were written
+pub written_count : (old new : PortValue) (out all : List (List ℕ)) → (w : WroteAll old new out all) → length all ≡ length out + length w.0
+written_count old new out all w = ap length w.1 ∙ length-append out w.0
+
+-- one acknowledgement more is written, or none
+answered_by : (old new : PortValue) (got : Got) (out all after : List (List ℕ)) (wants : Bool) → (w : WroteAll old new out all) → IsFull new.link → wants_ack got (length w.0) ≡ wants → Acknowledged new wants all after → AnsweredAll old new got out after
+answered_by old new got out all after false w full e a = (
+  w.0,
+  a ∙ w.1,
+  record {
+    written = w.0;
+    wrote = w.2;
+    full = full;
+    quiet = λ _. refl;
+    acks = λ other. (let wrong : ⊥ = cc in absurd wrong);
+  },
+)
+answered_by old new got out all after true w full e a = (
+  w.0 ++ a.0 ∷ [],
+  a.1 ∙ ap (λ (l : List (List ℕ)). l ++ a.0 ∷ []) w.1 ∙ append_assoc out w.0 (a.0 ∷ []),
+  record {
+    written = w.0;
+    wrote = w.2;
+    full = full;
+    quiet = λ other. (let wrong : ⊥ = cc in absurd wrong);
+    acks = λ _. (a.0, refl, a.2);
+  },
+)
+
+pub answered : (old new : PortValue) (got : Got) (out all after : List (List ℕ)) (count : ℕ) (r : Result (Unit {0}) LinkFault) → (w : WroteAll old new out all) → IsFull new.link → length w.0 ≡ count
+    → OnOk r (Acknowledged new (wants_ack got count) all after) → OnOk r (AnsweredAll old new got out after)
+answered old new got out all after count (Ok u) w full long a = answered_by old new got out all after (wants_ack got count) w full (ap (wants_ack got) long) a
+answered old new got out all after count (Err f) w full long a = tt
+
+-- memory was wanting for a segment, or for it
+pub part_emit : (old new : PortValue) (got : Got) (out all : List (List ℕ)) (f : LinkFault) → WroteAll old new out all → (f ≡ fault.NoMemory) × MaySend new.link → AnsweredPart old new got out all f
+part_emit old new got out all f w h = record { packets = w.0; behind = w.1; wrote = w.2; memory = h.0; why = inl h.1 }
+
+pub part_ack : (old new : PortValue) (got : Got) (out all after : List (List ℕ)) (count : ℕ) (r : Result (Unit {0}) LinkFault) → (w : WroteAll old new out all) → length w.0 ≡ count → OnErr r (wants_ack got count ≡ true)
+    → IfErr r (λ f. f ≡ fault.NoMemory) → OnErr r (after ≡ all) → IfErr r (λ f. AnsweredPart old new got out after f)
+part_ack old new got out all after count (Ok u) w long wants h same = tt
+part_ack old new got out all after count (Err f) w long wants h same =
+    record { packets = w.0; behind = same ∙ w.1; wrote = w.2; memory = h; why = inr (ap (wants_ack got) long ∙ wants) }

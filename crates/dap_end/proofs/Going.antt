@@ -1,0 +1,93 @@
+-- Going through the items of the NSP messages that came.
+use Rattle.std.proofs.Common.{◌≡◌, ℕ, ◌<◌, ◌≤◌, arith, refl, sym, ◌∙◌, subst, ap, append_assoc, List, [], ◌∷◌, ◌++◌, length, inl, inr, eq-eqb}
+use Rattle.std.specs.Prelude.{◌==◌, if◌then◌else◌}
+use Rattle.std.proofs.lemmas.Bool.{cases_eq, ne_eqb}
+use Rattle.std.proofs.lemmas.List.{append-nil}
+use Rattle.std.specs.List.{AllByRecursion}
+use Rattle.dap_fields.specs.Spelling.{AreBytes}
+use Rattle.dap_msg.specs.Items.{Item, ItemAt, Items, ItemsFrom}
+use Rattle.dap_end.specs.Ports.{oldest}
+use Rattle.dap_end.specs.Going.{AllBytes, StandFrom, AreItemsOf, GoneThrough}
+
+-- ---- More comes.
+
+-- in no bytes stands none, so these may be any
+pub stand_none : (items : List Item) (bytes : List ℕ) (at to : ℕ) → StandFrom [] at items to → StandFrom bytes at items to
+stand_none [] bytes at to h = h
+stand_none (item ∷ items) bytes at to h = absurd (omega (arith, h.1))
+
+front_stays : (inbox more : List (List ℕ)) (begun : List Item) (place : ℕ) → StandFrom (oldest inbox) 0 begun place → StandFrom (oldest (inbox ++ more)) 0 begun place
+front_stays [] more begun place h = stand_none begun (oldest more) 0 place h
+front_stays (m ∷ inbox) more begun place h = h
+
+front_bytes : (inbox more : List (List ℕ)) (begun : List Item) (place : ℕ) → StandFrom (oldest inbox) 0 begun place → (0 < length begun → AreBytes (oldest inbox)) → 0 < length begun → AreBytes (oldest (inbox ++ more))
+front_bytes [] more [] place h fits some = absurd (omega arith)
+front_bytes [] more (item ∷ begun) place h fits some = absurd (omega (arith, h.1))
+front_bytes (m ∷ inbox) more begun place h fits some = fits some
+
+pub gone_stays : (given inbox more : List (List ℕ)) (place : ℕ) (items : List Item) → GoneThrough given inbox place items → GoneThrough given (inbox ++ more) place items
+gone_stays given inbox more place items g =
+    record { done = g.done; begun = g.begun; all = g.all; whole = g.whole; front = front_stays inbox more g.begun place g.front; bytes = g.bytes; front_bytes = front_bytes inbox more g.begun place g.front g.front_bytes }
+
+pub gone_nothing : (inbox : List (List ℕ)) → GoneThrough [] inbox 0 []
+gone_nothing inbox = record { done = []; begun = []; all = refl; whole = refl; front = refl; bytes = tt; front_bytes = λ some. absurd (omega arith) }
+
+-- ---- One item more.
+
+stand_more : (bytes : List ℕ) (begun : List Item) (item : Item) (at place next : ℕ) → StandFrom bytes at begun place → next < length bytes → ItemAt bytes place item next
+    → StandFrom bytes at (begun ++ item ∷ []) next
+stand_more bytes [] item at place next h lt there = (next, lt, subst (λ (n : ℕ). ItemAt bytes n item next) (sym h) there, refl)
+stand_more bytes (first ∷ begun) item at place next h lt there = (h.0, h.1, h.2, stand_more bytes begun item h.0 place next h.3 lt there)
+
+stand_ends : (bytes : List ℕ) (begun : List Item) (item : Item) (at place : ℕ) → StandFrom bytes at begun place → ItemAt bytes place item (length bytes)
+    → ItemsFrom bytes at (begun ++ item ∷ [])
+stand_ends bytes [] item at place h there = subst (λ (n : ℕ). ItemAt bytes n item (length bytes)) (sym h) there
+stand_ends bytes (first ∷ []) item at place h there = (h.0, h.1, h.2, stand_ends bytes [] item h.0 place h.3 there)
+stand_ends bytes (first ∷ second ∷ begun) item at place h there = (h.0, h.1, h.2, stand_ends bytes (second ∷ begun) item h.0 place h.3 there)
+
+items_more : (given : List (List ℕ)) (bytes : List ℕ) (done front : List Item) → AreItemsOf given done → Items bytes front → AreItemsOf (given ++ bytes ∷ []) (done ++ front)
+items_more [] bytes done front h i = (front, [], ap (λ (l : List Item). l ++ front) h ∙ sym (append-nil front), i, refl)
+items_more (m ∷ given) bytes done front h i =
+    (h.0, h.1 ++ front, ap (λ (l : List Item). l ++ front) h.2 ∙ append_assoc h.0 h.1 front, h.3, items_more given bytes h.1 front h.4 i)
+
+bytes-more : (given : List (List ℕ)) (bytes : List ℕ) → AllBytes given → AreBytes bytes → AllBytes (given ++ bytes ∷ [])
+bytes-more [] bytes h fits = (fits, tt)
+bytes-more (m ∷ given) bytes h fits = (h.0, bytes-more given bytes h.1 fits)
+
+-- the item doesn't end the NSP message
+pub gone_within : (given later : List (List ℕ)) (bytes : List ℕ) (place next : ℕ) (items : List Item) (item : Item)
+    → AreBytes bytes → GoneThrough given (bytes ∷ later) place items → next < length bytes → ItemAt bytes place item next → GoneThrough given (bytes ∷ later) next (items ++ item ∷ [])
+gone_within given later bytes place next items item fits g lt there =
+    record {
+      done = g.done;
+      begun = g.begun ++ item ∷ [];
+      all = ap (λ (l : List Item). l ++ item ∷ []) g.all ∙ append_assoc g.done g.begun (item ∷ []);
+      whole = g.whole;
+      front = stand_more bytes g.begun item 0 place next g.front lt there;
+      bytes = g.bytes;
+      front_bytes = λ some. fits;
+    }
+
+-- it ends it
+pub gone_whole : (given later : List (List ℕ)) (bytes : List ℕ) (place : ℕ) (items : List Item) (item : Item)
+    → AreBytes bytes → GoneThrough given (bytes ∷ later) place items → ItemAt bytes place item (length bytes) → GoneThrough (given ++ bytes ∷ []) later 0 (items ++ item ∷ [])
+gone_whole given later bytes place items item fits g there =
+    record {
+      done = g.done ++ (g.begun ++ item ∷ []);
+      begun = [];
+      all = ap (λ (l : List Item). l ++ item ∷ []) g.all ∙ append_assoc g.done g.begun (item ∷ []) ∙ sym (append-nil (g.done ++ (g.begun ++ item ∷ [])));
+      whole = items_more given bytes g.done (g.begun ++ item ∷ []) g.whole (stand_ends bytes g.begun item 0 place g.front there);
+      front = refl;
+      bytes = bytes-more given bytes g.bytes fits;
+      front_bytes = λ some. absurd (omega arith);
+    }
+
+-- either
+pub gone_one : (given later : List (List ℕ)) (bytes : List ℕ) (place next : ℕ) (items : List Item) (item : Item)
+    → AreBytes bytes → GoneThrough given (bytes ∷ later) place items → ItemAt bytes place item next → next ≤ length bytes
+    → (let ends = next == length bytes in GoneThrough (if ends then given ++ bytes ∷ [] else given) (if ends then later else bytes ∷ later) (if ends then 0 else next) (items ++ item ∷ []))
+gone_one given later bytes place next items item fits g there within =
+    elim (cases_eq next (length bytes)) [
+      | inl end ↦ rw (eq-eqb next (length bytes) end) (gone_whole given later bytes place items item fits g (subst (λ (n : ℕ). ItemAt bytes place item n) end there))
+      | inr inside ↦ rw (ne_eqb next (length bytes) inside) (gone_within given later bytes place next items item fits g (omega (arith, within, inside)) there)
+    ]

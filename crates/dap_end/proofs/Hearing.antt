@@ -1,0 +1,198 @@
+-- What a list of an asking end's calls leaves.
+use Rattle.std.proofs.Common.{◌≡◌, ℕ, ◌+◌, ◌-◌, ◌<◌, refl, sym, ◌∙◌, subst, ap, append_assoc, true, false, List, [], ◌∷◌, ◌++◌, length, inl, inr}
+use Rattle.std.specs.Prelude.{◌⊎◌, Bool, Option, Some, None, Result, Ok, Err, option_to_list}
+use Rattle.std.proofs.lemmas.List.{append-nil, map-append}
+use Rattle.nsp_link.specs.declared.link.Got.{Got}
+use Rattle.nsp_link.specs.declared.fault.LinkFault.{LinkFault}
+use Rattle.nsp_link.specs.Link.{LinkValue, Stands, IsSpelling}
+use Rattle.nsp_link.specs.Sending.{WritesSent, ack_packet_of}
+use Rattle.dap_accessing.specs.declared.request.Request.{Request}
+use Rattle.dap_accessing.specs.declared.report.Report.{Report}
+use Rattle.dap_accessing.specs.declared.fault.ReadFault.{ReadFault}
+use Rattle.dap_accessing.specs.Told.{Told}
+use Rattle.dap_end.specs.declared.fault.EndFault.{EndFault}
+use Rattle.dap_end.specs.Ports.{PortValue, with_link}
+use Rattle.dap_end.specs.Receiving.{Receives}
+use Rattle.dap_end.specs.Going.{AreFrontOf}
+use Rattle.dap_end.specs.Writing.{sent_more, wants_ack, WroteNext, WroteMore}
+use Rattle.dap_end.specs.Asking.{AskingValue, AskingPast, HasAsked, HasStill, AskedOne, HandedAll, ReadOne, HasRead, ReadMore, ReadAll, nothing_asked, asked_one}
+use Rattle.dap_end.specs.Headline.{Written, numbered, WroteOne, AreWrittenOf, IsFromPeer}
+use Rattle.dap_end.specs.Hearing.{AskingEvent, Came, Asks, GoesOn, Again, Acks, HandedOver, AskingStepped, AskingRuns, requests_in, AskingPromises, IsAskingEventOf, AskingRunsFrom}
+use Rattle.dap_end.proofs.Taking.{grown}
+use Rattle.dap_end.proofs.Asked.{still_received, still_sent, read_none, read_more}
+use Rattle.dap_end.proofs.Packets.{all_written, still_written, written_on, numbered_written, one_written, ack_written}
+use Rattle.dap_end.proofs.Running.{StandsThen, then_stands, went_written, sent_link}
+use Rattle.dap_end.proofs.Fronts.{served_front}
+
+-- what the end did: these requests were asked, these reports told, and these packets written
+pub record Asked_So (requests : List Request) (reports : List Report) (wrote : List Written) (v : AskingValue) : Type 0 where
+  pub past : AskingPast
+  pub is : HasAsked past v
+  pub asked : past.requests ≡ requests
+  pub told : reports ≡ Told past.requests past.answers
+  pub packets : AreWrittenOf v.port.link past.handed wrote
+
+-- the requests of one event
+abbrev pub new_requests : AskingEvent → List Request
+new_requests event = requests_in (event ∷ [])
+
+-- nothing was asked, told or written
+same_so : (requests : List Request) (reports more : List Report) (wrote ws : List Written) (v : AskingValue) → more ≡ [] → ws ≡ [] → Asked_So requests reports wrote v → Asked_So (requests ++ []) (reports ++ more) (wrote ++ ws) v
+same_so requests reports more wrote ws v none quiet t =
+    subst (λ (l : List Request). Asked_So l (reports ++ more) (wrote ++ ws) v) (sym (append-nil requests))
+    (subst (λ (l : List Report). Asked_So requests l (wrote ++ ws) v) (sym (ap (λ (l : List Report). reports ++ l) none ∙ append-nil reports))
+    (subst (λ (l : List Written). Asked_So requests reports l v) (sym (ap (λ (l : List Written). wrote ++ l) quiet ∙ append-nil wrote)) t))
+
+one_so : (requests : List Request) (reports more : List Report) (wrote ws : List Written) (v new : AskingValue) (k : Option ℕ) (w : Written) → WroteOne v.port.link k w → new ≡ v → more ≡ [] → ws ≡ w ∷ [] → Asked_So requests reports wrote v
+    → Asked_So (requests ++ []) (reports ++ more) (wrote ++ ws) new
+one_so requests reports more wrote ws v new k w one same none is t =
+    let here : Asked_So requests reports (wrote ++ ws) v =
+    subst (λ (l : List Written). Asked_So requests reports (wrote ++ l) v) (sym is)
+    (record {
+      past = t.past;
+      is = t.is;
+      asked = t.asked;
+      told = t.told;
+      packets = all_written v.port.link t.past.handed wrote (w ∷ []) t.packets (one_written v.port.link t.past.handed k w t.is.sends one, tt);
+    }) in
+    subst (λ (x : AskingValue). Asked_So (requests ++ []) (reports ++ more) (wrote ++ ws) x) (sym same)
+    (subst (λ (l : List Written). Asked_So (requests ++ []) (reports ++ more) l v) (append-nil (wrote ++ ws)) (same_so requests reports more (wrote ++ ws) [] v none refl here))
+
+heard_so : (requests : List Request) (reports more : List Report) (wrote : List Written) (old new : AskingValue) → ReadMore old new more → Asked_So requests reports wrote old → Asked_So requests (reports ++ more) wrote new
+heard_so requests reports more wrote old new m t =
+    let g = m.past t.past t.is in
+    record {
+      past = g.0;
+      is = g.1.is;
+      asked = g.1.requests ∙ t.asked;
+      told = ap (λ (l : List Report). l ++ more) t.told ∙ sym g.1.told ∙ ap (λ (l : List Request). Told l g.0.answers) (sym g.1.requests);
+      packets = subst (λ (l : LinkValue). AreWrittenOf l g.0.handed wrote) (sym m.link) (subst (λ (h : List (List ℕ)). AreWrittenOf old.port.link h wrote) (sym g.1.handed) t.packets);
+    }
+
+handed_so : (requests : List Request) (reports : List Report) (wrote : List Written) (old new : AskingValue) → HandedOver old new → Asked_So requests reports wrote old → Asked_So requests reports wrote new
+handed_so requests reports wrote old new (inl same) t = subst (Asked_So requests reports wrote) (sym same) t
+handed_so requests reports wrote old new (inr h) t =
+    record {
+      past = record t.past { handed = t.past.handed ++ old.port.outbox };
+      is = h.1.past t.past t.is;
+      asked = t.asked;
+      told = t.told;
+      packets =
+          subst (λ (v : AskingValue). AreWrittenOf v.port.link (t.past.handed ++ old.port.outbox) wrote) (sym h.1.posted)
+          (still_written old.port.link t.past.handed old.port.outbox wrote t.packets);
+    }
+
+sent_so : (requests : List Request) (reports : List Report) (wrote ws : List Written) (old new : AskingValue) (packets : List (List ℕ)) → WroteMore old.port new.port packets → new ≡ record old { port = new.port }
+    → ws ≡ numbered (old.port.link.sent + 1) old.port.link.received packets → Asked_So requests reports wrote old → Asked_So requests reports (wrote ++ ws) new
+sent_so requests reports wrote ws old new packets w e is t =
+    let after : AreWrittenOf old.port.link t.past.handed ws =
+    subst (AreWrittenOf old.port.link t.past.handed) (sym is) (numbered_written old.port.link t.past.handed (old.port.link.sent + 1) packets (w.writes t.past.handed t.is.sends)) in
+    record {
+      past = t.past;
+      is = subst (HasAsked t.past) (sym e) (still_sent old new.port (length packets) w.sent t.past t.is);
+      asked = t.asked;
+      told = t.told;
+      packets = subst (λ (l : LinkValue). AreWrittenOf l t.past.handed (wrote ++ ws)) (sym (sent_link old.port new.port (length packets) w.sent)) (all_written old.port.link t.past.handed wrote ws t.packets after);
+    }
+
+pub step_so : (requests : List Request) (reports more : List Report) (wrote ws : List Written) (old new : AskingValue) (event : AskingEvent) → AskingStepped old event new more ws → Asked_So requests reports wrote old
+    → Asked_So (requests ++ new_requests event) (reports ++ more) (wrote ++ ws) new
+step_so requests reports more wrote ws old new (Came bytes) s t =
+    let g = grown old.port.link s.1 bytes s.0 s.2 in
+    same_so requests reports more wrote ws new s.4 s.5
+    (subst (Asked_So requests reports wrote) (sym s.3)
+    (record { past = t.past; is = still_received old s.1 g s.2.sends t.past t.is; asked = t.asked; told = t.told; packets = written_on old.port.link s.1 g t.past.handed wrote t.packets }))
+step_so requests reports more wrote ws old new (Asks request) s t =
+    let a = s.1 in
+    record {
+      past = asked_one t.past old.accessing.own old.accessing.limit request;
+      is = a.past t.past t.is;
+      asked = ap (λ (l : List Request). l ++ request ∷ []) t.asked;
+      told = ap (λ (l : List Report). reports ++ l) s.2 ∙ append-nil reports ∙ t.told ∙ sym (a.asks.told t.past.requests t.past.answers t.is.asking);
+      packets =
+          subst (λ (p : PortValue). AreWrittenOf p.link t.past.handed (wrote ++ ws)) (sym a.port)
+          (subst (λ (l : List Written). AreWrittenOf old.port.link t.past.handed l) (sym (ap (λ (l : List Written). wrote ++ l) s.3 ∙ append-nil wrote)) t.packets);
+    }
+step_so requests reports more wrote ws old new GoesOn s t =
+    let heard = heard_so requests reports more wrote old s.0 s.3 t in
+    let handed = handed_so requests (reports ++ more) wrote s.0 s.1 s.4 heard in
+    subst (λ (l : List Request). Asked_So l (reports ++ more) (wrote ++ ws) new) (sym (append-nil requests))
+    (sent_so requests (reports ++ more) wrote ws s.1 new s.2 s.5 s.6 s.7 handed)
+step_so requests reports more wrote ws old new (Again i) s t = one_so requests reports more wrote ws old new _ s.0 s.2 s.3 s.4 s.5 t
+step_so requests reports more wrote ws old new Acks s t = one_so requests reports more wrote ws old new _ s.0 s.1 s.2 s.3 s.4 t
+
+pub requests_of : (event : AskingEvent) (events : List AskingEvent) → new_requests event ++ requests_in events ≡ requests_in (event ∷ events)
+requests_of (Came bytes) events = refl
+requests_of (Asks request) events = refl
+requests_of GoesOn events = refl
+requests_of (Again i) events = refl
+requests_of Acks events = refl
+
+run_so : (events : List AskingEvent) (requests : List Request) (reports more : List Report) (wrote ws : List Written) (old new : AskingValue) → AskingRuns old events new more ws → Asked_So requests reports wrote old
+    → Asked_So (requests ++ requests_in events) (reports ++ more) (wrote ++ ws) new
+run_so [] requests reports more wrote ws old new r t = same_so requests reports more wrote ws new r.1 r.2 (subst (Asked_So requests reports wrote) (sym r.0) t)
+run_so (event ∷ events) requests reports more wrote ws old new r t =
+    let rest = run_so events (requests ++ new_requests event) (reports ++ r.1) r.2 (wrote ++ r.4) r.5 r.0 new r.8 (step_so requests reports r.1 wrote r.4 old r.0 event r.7 t) in
+    subst (λ (l : List Written). Asked_So (requests ++ requests_in (event ∷ events)) (reports ++ more) l new) (append_assoc wrote r.4 r.5 ∙ ap (λ (l : List Written). wrote ++ l) (sym r.6))
+    (subst (λ (l : List Report). Asked_So (requests ++ requests_in (event ∷ events)) l ((wrote ++ r.4) ++ r.5) new) (append_assoc reports r.1 r.2 ∙ ap (λ (l : List Report). reports ++ l) (sym r.3))
+    (subst (λ (l : List Request). Asked_So l ((reports ++ r.1) ++ r.2) ((wrote ++ r.4) ++ r.5) new) (append_assoc requests (new_requests event) (requests_in events) ∙ ap (λ (l : List Request). requests ++ l) (requests_of event events)) rest))
+
+pub asked_nothing : (v : AskingValue) → HasAsked nothing_asked v → Asked_So [] [] [] v
+asked_nothing v h = record { past = nothing_asked; is = h; asked = refl; told = refl; packets = tt }
+
+pub run_promises : (events : List AskingEvent) (old new : AskingValue) (reports : List Report) (wrote : List Written) → HasAsked nothing_asked old → AskingRuns old events new reports wrote
+    → (past : AskingPast) × HasAsked past new × AskingPromises (requests_in events) reports past new wrote
+run_promises events old new reports wrote h r =
+    let t = run_so events [] [] reports [] wrote old new r (asked_nothing old h) in
+    (t.past, t.is, record { asked = t.asked; told = t.told; handed = (new.port.outbox, t.is.waiting); messages = t.is.messages; packets = t.packets })
+
+-- ---- From a peer.
+
+record Listens (size : ℕ) (messages : List (List ℕ)) (v : AskingValue) : Type 0 where
+  past : AskingPast
+  is : HasAsked past v
+  stands : StandsThen v.port.link size messages past.given
+
+handed_stands : (v : AskingValue) (size : ℕ) (messages given : List (List ℕ)) (new : AskingValue) (n : ℕ) → HandedAll v new n → StandsThen v.port.link size messages given → StandsThen new.port.link size messages given
+handed_stands v size messages given new n h s =
+    subst (λ (w : AskingValue). StandsThen w.port.link size messages given) (sym h.posted) (record { taken = s.0.taken; held = s.0.held }, s.1)
+
+asked_stands : (v : AskingValue) (size : ℕ) (messages given : List (List ℕ)) (new : AskingValue) (request : Request) (n : ℕ) → AskedOne request v new n → StandsThen v.port.link size messages given → StandsThen new.port.link size messages given
+asked_stands v size messages given new request n a s = subst (λ p. StandsThen p.link size messages given) (sym a.port) s
+
+handed_listens : (size : ℕ) (messages : List (List ℕ)) (old new : AskingValue) → HandedOver old new → Listens size messages old → Listens size messages new
+handed_listens size messages old new (inl same) t = subst (Listens size messages) (sym same) t
+handed_listens size messages old new (inr h) t =
+    record { past = record t.past { handed = t.past.handed ++ old.port.outbox }; is = h.1.past t.past t.is; stands = handed_stands old size messages t.past.given new h.0 h.1 t.stands }
+
+sent_listens : (size : ℕ) (messages : List (List ℕ)) (old new : AskingValue) (packets : List (List ℕ)) → WroteMore old.port new.port packets → new ≡ record old { port = new.port } → Listens size messages old → Listens size messages new
+sent_listens size messages old new packets w e t =
+    let here : Listens size messages (record old { port = sent_more old.port (length packets) }) =
+    record { past = t.past; is = still_sent old (sent_more old.port (length packets)) (length packets) refl t.past t.is; stands = (record { taken = t.stands.0.taken; held = t.stands.0.held }, t.stands.1) } in
+    subst (Listens size messages) (sym (e ∙ ap (λ (p : PortValue). record old { port = p }) w.sent)) here
+
+step_listens : (size : ℕ) (messages : List (List ℕ)) (more : List Report) (ws : List Written) (old new : AskingValue) (event : AskingEvent) → IsAskingEventOf old.port.link size messages event → AskingStepped old event new more ws
+    → Listens size messages old → Listens size messages new
+step_listens size messages more ws old new (Came bytes) f s t =
+    let g = grown old.port.link s.1 bytes s.0 s.2 in
+    subst (Listens size messages) (sym s.3)
+    (record { past = t.past; is = still_received old s.1 g s.2.sends t.past t.is; stands = then_stands old.port.link s.1 size messages t.past.given bytes s.0 f t.stands s.2 })
+step_listens size messages more ws old new (Asks request) f s t =
+    record { past = asked_one t.past old.accessing.own old.accessing.limit request; is = s.1.past t.past t.is; stands = asked_stands old size messages t.past.given new request s.0 s.1 t.stands }
+step_listens size messages more ws old new GoesOn f s t =
+    let g = s.3.past t.past t.is in
+    let works : s.0.port.link.failed ≡ false = ap (λ (l : LinkValue). l.failed) s.3.link ∙ t.stands.1 in
+    let heard : Listens size messages s.0 = record { past = g.0; is = g.1.is; stands = (g.1.stands size messages t.stands.0, works) } in
+    sent_listens size messages s.1 new s.2 s.5 s.6 (handed_listens size messages s.0 s.1 s.4 heard)
+step_listens size messages more ws old new (Again i) f s t = subst (Listens size messages) (sym s.3) t
+step_listens size messages more ws old new Acks f s t = subst (Listens size messages) (sym s.2) t
+
+run_listens : (size : ℕ) (messages : List (List ℕ)) (events : List AskingEvent) (old new : AskingValue) → AskingRunsFrom size messages old events new → Listens size messages old → Listens size messages new
+run_listens size messages [] old new r t = subst (Listens size messages) (sym r) t
+run_listens size messages (event ∷ events) old new r t = run_listens size messages events r.0 new r.5 (step_listens size messages r.1 r.2 old r.0 event r.3 r.4 t)
+
+pub run_hears : (size : ℕ) (messages : List (List ℕ)) (events : List AskingEvent) (old new : AskingValue) → HasAsked nothing_asked old → Stands old.port.link size messages [] → old.port.link.failed ≡ false
+    → AskingRunsFrom size messages old events new → (past : AskingPast) × HasAsked past new × AreFrontOf messages past.answers
+run_hears size messages events old new h stands works r =
+    let t = run_listens size messages events old new r (record { past = nothing_asked; is = h; stands = (stands, works) }) in
+    (t.past, t.is, served_front new.port.link size messages t.past.given new.port.place t.past.answers t.stands.0 t.is.gone)

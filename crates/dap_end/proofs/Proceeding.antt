@@ -1,0 +1,221 @@
+-- Serving, handing over and writing, one after another.
+use Rattle.std.proofs.Common.{◌≡◌, ℕ, zero, suc, ◌+◌, ◌-◌, ◌<◌, ◌≤◌, arith, refl, sym, ◌∙◌, subst, ap, append_assoc, List, [], ◌∷◌, ◌++◌, length, inl, inr, eq-eqb, add-zero, true, false}
+use Rattle.std.specs.Prelude.{All, ◌==◌, if◌then◌else◌, Some, None, Option, Result, Ok, Err, OnOk, OnErr, IfErr}
+use Rattle.std.proofs.lemmas.Bool.{cases_eq, ne_eqb}
+use Rattle.std.proofs.lemmas.List.{append-nil, length-append}
+use Rattle.std.proofs.lemmas.List.Elements.{All-append}
+use Rattle.dap_msg.specs.Items.{Item, IsPlace}
+use Rattle.nsp_link.specs.declared.link.Got.{Got}
+use Rattle.nsp_link.specs.declared.fault.LinkFault.{LinkFault}
+use Rattle.nsp_link.specs.declared.fault.LinkFault.TheVariants as fault
+use Rattle.nsp_link.specs.Link.{LinkValue, Stands, MaySend}
+use Rattle.nsp_link.specs.Sending.{AreShort, SendAllFault}
+use Rattle.dap_end.specs.Ports.{PortValue, posted}
+use Rattle.dap_end.specs.Serving.{ServingValue, Past, IsAfter, ServedOne, PostedAll, MayServe, IsStill, served}
+use Rattle.dap_end.specs.Writing.{sent_more, IsFull, WroteAll, AnsweredAll, AnsweredPart}
+use Rattle.dap_end.specs.Taking.{SameCounts, Grew, ServedMore, IsServed, ServeFault, GoOnFault, WentOn, IsDone, with_port, received, TookIn, TookAll, TookPart, WrotePart}
+use Rattle.dap_end.specs.Inner.Answered.{ServedAndAnswered, ServedPart}
+use Rattle.dap_end.proofs.Emitting.{wrote_none}
+
+-- ---- Serving and handing over.
+
+pub none_short : (v : LinkValue) → AreShort v []
+none_short v = λ k d lt. absurd (omega arith)
+
+pub more_none : (v : ServingValue) → ServedMore v v
+more_none v =
+    record {
+      link = refl;
+      own = refl;
+      past = λ past h. (past, record { is = h; first = refl; items = ([], sym (append-nil past.items)); handed = ([], sym (append-nil past.handed), none_short v.port.link); given = refl; stands = λ size messages s. s });
+    }
+
+counts_trans : (a b c : LinkValue) → SameCounts a b → SameCounts b c → SameCounts a c
+counts_trans a b c ab bc = bc ∙ ap (λ (l : LinkValue). record l { inbox = c.inbox; queue = c.queue }) ab
+
+grew_trans : (p q r : Past) (a b c : ServingValue) → SameCounts a.port.link b.port.link → Grew p q a b → Grew q r b c → Grew p r a c
+grew_trans p q r a b c counts g h =
+    let limit : b.port.link.max_message ≡ a.port.link.max_message = ap (λ (l : LinkValue). l.max_message) counts in
+    record {
+      is = h.is;
+      first = h.first ∙ g.first;
+      items = (g.items.0 ++ h.items.0, h.items.1 ∙ ap (λ (l : List Item). l ++ h.items.0) g.items.1 ∙ append_assoc p.items g.items.0 h.items.0);
+      handed = (
+        g.handed.0 ++ h.handed.0,
+        h.handed.1 ∙ ap (λ (l : List (List ℕ)). l ++ h.handed.0) g.handed.1 ∙ append_assoc p.handed g.handed.0 h.handed.0,
+        All-append (λ m. length m ≤ a.port.link.max_message) g.handed.0 h.handed.0 g.handed.2 (subst (λ (n : ℕ). All (λ m. length m ≤ n) h.handed.0) limit h.handed.2),
+      );
+      given = h.given ∙ g.given;
+      stands = λ size messages s. h.stands size messages (g.stands size messages s);
+    }
+
+pub more_trans : (a b c : ServingValue) → ServedMore a b → ServedMore b c → ServedMore a c
+more_trans a b c ab bc =
+    record {
+      link = counts_trans a.port.link b.port.link c.port.link ab.link bc.link;
+      own = bc.own ∙ ab.own;
+      past = λ past h. (let one = ab.past past h in let two = bc.past one.0 one.1.is in (two.0, grew_trans past one.0 two.0 a b c ab.link one.1 two.1));
+    }
+
+posted_grew : (past : Past) (v : ServingValue) → AreShort v.port.link v.port.outbox → IsAfter (record past { handed = past.handed ++ v.port.outbox }) (record v { port = posted v.port })
+    → Grew past (record past { handed = past.handed ++ v.port.outbox }) v (record v { port = posted v.port })
+posted_grew past v short h =
+    record { is = h; first = refl; items = ([], sym (append-nil past.items)); handed = (v.port.outbox, refl, short); given = refl; stands = λ size messages s. record { taken = s.taken; held = s.held } }
+
+pub more_posted : (v new : ServingValue) (n : ℕ) → PostedAll v new n → ServedMore v new
+more_posted v new n p =
+    subst (ServedMore v) (sym p.posted)
+    (record {
+      link = refl;
+      own = refl;
+      past = λ past h. (record past { handed = past.handed ++ v.port.outbox }, posted_grew past v p.may.1 (subst (IsAfter (record past { handed = past.handed ++ v.port.outbox })) p.posted (p.past past h)));
+    })
+
+-- what left, and what is left
+split_given : (given inbox later : List (List ℕ)) (bytes : List ℕ) (next : ℕ) → inbox ≡ bytes ∷ later →
+    let ends = next == length bytes in (if ends then given ++ bytes ∷ [] else given) ++ (if ends then later else inbox) ≡ given ++ inbox
+split_given given inbox later bytes next came =
+    elim (cases_eq next (length bytes)) [
+      | inl end ↦ rw (eq-eqb next (length bytes) end) (append_assoc given (bytes ∷ []) later ∙ ap (λ (l : List (List ℕ)). given ++ l) (sym came))
+      | inr inside ↦ rw (ne_eqb next (length bytes) inside) refl
+    ]
+
+pub more_served : (old new : ServingValue) (n : ℕ) → ServedOne old new n → ServedMore old new
+more_served old new n s =
+    let link : new.port.link ≡ record old.port.link { inbox = if s.next == length s.bytes then s.later else old.port.link.inbox } = ap (λ (p : PortValue). p.link) s.port in
+    record {
+      link = subst (SameCounts old.port.link) (sym link) refl;
+      own = s.own;
+      past = λ past h. (
+        served past s.bytes s.item s.next,
+        record {
+          is = s.past past h;
+          first = refl;
+          items = (s.item ∷ [], refl);
+          handed = ([], sym (append-nil past.handed), none_short old.port.link);
+          given = subst (λ (l : LinkValue). (served past s.bytes s.item s.next).given ++ l.inbox ≡ past.given ++ old.port.link.inbox) (sym link)
+              (split_given past.given old.port.link.inbox s.later s.bytes s.next s.came);
+          stands = λ size messages t. s.given size messages past t;
+        },
+      );
+    }
+
+no_more : (v : ServingValue) (inbox : List (List ℕ)) → v.port.link.inbox ≡ inbox → v.port.outbox ≡ [] → (MayServe v → ⊥) → inbox ≡ []
+no_more v [] is idle none = refl
+no_more v (m ∷ inbox) is idle none = absurd (none (idle, (let long = ap length is in omega arith)))
+
+pub all_served : (v : ServingValue) → v.port.outbox ≡ [] → (MayServe v → ⊥) → IsServed v
+all_served v idle none = (no_more v v.port.link.inbox refl idle none, idle)
+
+pub none_waits : (v new : ServingValue) (n : ℕ) → PostedAll v new n → new.port.outbox ≡ []
+none_waits v new n p = ap (λ (x : ServingValue). x.port.outbox) p.posted
+
+pub post_refused : (v : ServingValue) (f : LinkFault) → SendAllFault v.port.link v.port.outbox f → ServeFault v f
+post_refused v fault.NoMemory h = inl h
+post_refused v fault.Failed h = h
+post_refused v fault.Exhausted h = h
+post_refused v fault.MessageTooLong h = h
+post_refused v fault.BadSetup h = h
+post_refused v (fault.Malformed s) h = h
+post_refused v fault.WrongLink h = h
+post_refused v fault.BadSequence h = h
+post_refused v fault.NoSuchSegment h = h
+
+pub refused_here : (old new : ServingValue) (f : LinkFault) → (new ≡ old) × SendAllFault old.port.link old.port.outbox f → ServeFault new f
+refused_here old new f h = post_refused new f (subst (λ (v : ServingValue). SendAllFault v.port.link v.port.outbox f) (sym h.0) h.1)
+
+-- memory was wanting to serve the next item
+pub wants_here : (old new : ServingValue) → (new ≡ old) × MayServe old → ServeFault new fault.NoMemory
+wants_here old new h = inr (subst MayServe (sym h.0) h.1)
+
+-- a link to which something was handed runs
+pub works_here : (old new : ServingValue) (n : ℕ) → PostedAll old new n → new.port.link.failed ≡ false
+works_here old new n p = ap (λ (v : ServingValue). v.port.link.failed) p.posted ∙ p.may.0
+
+-- ---- How much is left to serve.
+
+abbrev pub work : List (List ℕ) → ℕ
+work [] = 0
+work (m ∷ inbox) = length m + 1 + work inbox
+
+abbrev pub left : ServingValue → ℕ
+left v = work v.port.link.inbox - v.port.place
+
+less_ends : (later : List (List ℕ)) (bytes : List ℕ) (place : ℕ) → IsPlace place bytes → work later - 0 < work (bytes ∷ later) - place
+less_ends later bytes place (inl lt) = omega arith
+less_ends later bytes place (inr none) = omega (arith, none.0, none.1)
+
+less_inside : (later : List (List ℕ)) (bytes : List ℕ) (place next : ℕ) → IsPlace place bytes → (place < length bytes → place < next) → next < length bytes → work (bytes ∷ later) - next < work (bytes ∷ later) - place
+less_inside later bytes place next (inl lt) goes inside = let h = goes lt in omega arith
+less_inside later bytes place next (inr none) goes inside = absurd (omega (arith, none.1))
+
+pub less_left : (inbox later : List (List ℕ)) (bytes : List ℕ) (place next : ℕ) → inbox ≡ bytes ∷ later → IsPlace place bytes → (place < length bytes → place < next) → next ≤ length bytes →
+    let ends = next == length bytes in work (if ends then later else inbox) - (if ends then 0 else next) < work inbox - place
+less_left inbox later bytes place next came at goes within =
+    elim (cases_eq next (length bytes)) [
+      | inl end ↦ rw (eq-eqb next (length bytes) end, came) (less_ends later bytes place at)
+      | inr inside ↦ rw (ne_eqb next (length bytes) inside, came) (less_inside later bytes place next at goes (omega (arith, within, inside)))
+    ]
+
+pub falls : (old new : ServingValue) (n : ℕ) → ServedOne old new n → left new < left old
+falls old new n s =
+    subst (λ (p : PortValue). work p.link.inbox - p.place < left old) (sym s.port)
+    (less_left old.port.link.inbox s.later s.bytes old.port.place s.next s.came s.place s.goes s.within)
+
+-- ---- Writing.
+
+pub still_sent : (v : ServingValue) (n : ℕ) → IsStill v (with_port v (sent_more v.port n))
+still_sent v n = λ past h. record { serving = h.serving; gone = h.gone; sends = record { queue = h.sends.queue; acked = h.sends.acked }; answers = h.answers; fit = h.fit }
+
+pub still_by : (v : ServingValue) (port : PortValue) (n : ℕ) → port ≡ sent_more v.port n → IsStill v (with_port v port)
+still_by v port n e = subst (λ (p : PortValue). IsStill v (with_port v p)) (sym e) (still_sent v n)
+
+-- all was served, and then segments were written
+pub went_on : (old served : ServingValue) (port : PortValue) (out all : List (List ℕ)) → ServedMore old served → WroteAll served.port port out all → WentOn old (with_port served port) out all
+went_on old served port out all m w =
+    record { served = served; more = m; rest = refl; still = still_by served port _ w.2.sent; wrote = w }
+
+pub went_part : (old new : ServingValue) (out : List (List ℕ)) → ServedMore old new → WentOn old new out out
+went_part old new out m = went_on old new new.port out out m (wrote_none new.port out)
+
+pub served_still : (v : ServingValue) (port : PortValue) (n : ℕ) → port ≡ sent_more v.port n → IsServed v → IsServed (with_port v port)
+served_still v port n e h = (ap (λ (p : PortValue). p.link.inbox) e ∙ h.0, ap (λ (p : PortValue). p.outbox) e ∙ h.1)
+
+pub done_by : (served : ServingValue) (port : PortValue) (out all : List (List ℕ)) (r : Result (Unit {0}) LinkFault) → IsServed served → WroteAll served.port port out all → OnOk r (IsFull port.link) → OnOk r (IsDone (with_port served port))
+done_by served port out all (Ok u) d w h = (served_still served port _ w.2.sent d, h)
+done_by served port out all (Err f) d w h = tt
+
+pub went_by : (served : ServingValue) (port : PortValue) (out all : List (List ℕ)) (r : Result (Unit {0}) LinkFault) → IsServed served → WroteAll served.port port out all → IfErr r (λ f. (f ≡ fault.NoMemory) × MaySend port.link)
+    → IfErr r (λ f. GoOnFault (with_port served port) f)
+went_by served port out all (Ok u) d w h = tt
+went_by served port out all (Err f) d w h = inr (h.0, served_still served port _ w.2.sent d, h.1)
+
+pub answered_by : (old served : ServingValue) (port : PortValue) (got : Got) (out all : List (List ℕ)) (r : Result (Unit {0}) LinkFault) → ServedMore old served → IsServed served → OnOk r (AnsweredAll served.port port got out all)
+    → OnOk r (ServedAndAnswered old (with_port served port) got out all)
+answered_by old served port got out all (Ok u) m d h =
+    record { served = served; more = m; done = d; rest = refl; still = still_by served port _ h.2.wrote.sent; answered = h }
+answered_by old served port got out all (Err f) m d h = tt
+
+pub part_by : (old served : ServingValue) (port : PortValue) (got : Got) (out all : List (List ℕ)) (r : Result (Unit {0}) LinkFault) → ServedMore old served → IsServed served → IfErr r (λ f. AnsweredPart served.port port got out all f)
+    → IfErr r (λ f. ServedPart old (with_port served port) got out all f)
+part_by old served port got out all (Ok u) m d h = tt
+part_by old served port got out all (Err f) m d h = inr (record { served = served; more = m; done = d; rest = refl; still = still_by served port _ h.wrote.sent; part = h })
+
+-- ---- Taking.
+
+pub took_all : (old mid new : ServingValue) (bytes : List ℕ) (got : Got) (out all : List (List ℕ)) → mid ≡ received old mid.port.link → TookIn old bytes got mid.port.link → ServedAndAnswered mid new got out all → TookAll old new bytes got out all
+took_all old mid new bytes got out all rest took h =
+    record {
+      link = mid.port.link;
+      took = took;
+      served = h.served;
+      more = subst (λ (v : ServingValue). ServedMore v h.served) rest h.more;
+      done = h.done;
+      rest = h.rest;
+      still = h.still;
+      answered = h.answered;
+    }
+
+pub took_part : (old mid new : ServingValue) (bytes : List ℕ) (got : Got) (out all : List (List ℕ)) (f : LinkFault) → mid ≡ received old mid.port.link → TookIn old bytes got mid.port.link → ServedPart mid new got out all f → TookPart old new bytes got out all f
+took_part old mid new bytes got out all f rest took h =
+    record { link = mid.port.link; took = took; part = subst (λ (v : ServingValue). ServedPart v new got out all f) rest h }

@@ -1,0 +1,291 @@
+-- What a list of a serving end's calls leaves.
+use Rattle.std.proofs.Common.{◌≡◌, add-zero, ℕ, ◌+◌, ◌<◌, ◌≤◌, refl, sym, ◌∙◌, subst, ap, append_assoc, true, false, List, [], ◌∷◌, ◌++◌, length, map, inl, inr, arith}
+use Rattle.std.specs.Prelude.{◌⊎◌, Bool, ◌-◌, Option, Some, None, Result, Ok, Err, MatchResult}
+use Rattle.std.proofs.lemmas.List.{append-nil, map-append}
+use Rattle.dap_msg.specs.Items.{Item}
+use Rattle.dap_msg.specs.Message.{Message}
+use Rattle.dap_msg.specs.Blocked.{NspMessage, Blocked, all_joined, messages_in}
+use Rattle.dap_msg.proofs.ForCallers.{messages_in-Blocked}
+use Rattle.nsp_link.specs.declared.link.Got.{Got}
+use Rattle.nsp_link.specs.declared.fault.LinkFault.{LinkFault}
+use Rattle.nsp_link.specs.Link.{LinkValue, Stands, IsDue, IsSpelling, Writes}
+use Rattle.nsp_link.specs.Sending.{WritesSent, ack_packet_of}
+use Rattle.dap_accessed.specs.Standing.{Files}
+use Rattle.dap_accessed.specs.Present.{Present}
+use Rattle.dap_accessed.specs.Groups.{Answers, added, limit_for}
+use Rattle.dap_accessed.proofs.ForCallers.{Answers-more}
+use Rattle.dap_end.specs.Ports.{PortValue, with_link}
+use Rattle.dap_end.specs.Receiving.{Receives}
+use Rattle.dap_end.specs.Going.{AreFrontOf}
+use Rattle.dap_end.specs.Writing.{IsWithin, sent_more, wants_ack, WroteNext, WroteMore}
+use Rattle.dap_end.specs.Serving.{ServingValue, Past, IsAfter, answers_to, nothing_yet, ServedOne, PostedAll}
+use Rattle.dap_end.specs.Taking.{ServedMore, with_port, received, WentOn, TookAll, TookPart, WrotePart, ServeFault, Refused}
+use Rattle.dap_end.specs.Headline.{Written, numbered, bytes_of, WroteOne, ServingEvent, Came, GoesOn, Again, Acks, Stepped, Runs, AreWrittenOf, Promises, IsFromPeer, IsEventOf, RunsFrom, AreCalls}
+use Rattle.dap_end.proofs.Taking.{Grown, grown}
+use Rattle.dap_end.proofs.Afterwards.{after_received}
+use Rattle.dap_end.proofs.Fronts.{served_front}
+use Rattle.dap_end.proofs.Packets.{all_written, still_written, written_on, numbered_written, one_written, ack_written}
+use Rattle.dap_end.proofs.Emitting.{wrote_nothing}
+use Rattle.dap_end.proofs.Proceeding.{still_sent, more_none, more_served, more_posted}
+
+-- ---- The answers.
+
+pub in_append : (xs ys : List NspMessage) → messages_in (xs ++ ys) ≡ messages_in xs ++ messages_in ys
+in_append [] ys = refl
+in_append (x ∷ xs) ys = ap (λ (l : List Message). x ++ l) (in_append xs ys) ∙ sym (append_assoc x (messages_in xs) (messages_in ys))
+
+pub answers_from : (own : ℕ) (first : Files) (before items : List Item) → Answers own first before ++ messages_in (answers_to own first before items) ≡ Answers own first (before ++ items)
+answers_from own first before [] = append-nil (Answers own first before) ∙ ap (Answers own first) (sym (append-nil before))
+answers_from own first before (item ∷ items) =
+    let block = Blocked (limit_for own first before) (added own first before item) in
+    let rest = answers_to own first (before ++ item ∷ []) items in
+    ap (λ (l : List Message). Answers own first before ++ l) (in_append block rest ∙ ap (λ (l : List Message). l ++ messages_in rest) (messages_in-Blocked (limit_for own first before) (added own first before item)))
+    ∙ sym (append_assoc (Answers own first before) (added own first before item) (messages_in rest))
+    ∙ ap (λ (l : List Message). l ++ messages_in rest) (sym (Answers-more own first before item))
+    ∙ answers_from own first (before ++ item ∷ []) items
+    ∙ ap (Answers own first) (append_assoc before (item ∷ []) items)
+
+-- ---- Whatever comes.
+
+-- what the end did, with the files that it had at first, and the packets that it wrote
+pub record Did (first : Files) (v : ServingValue) (wrote : List Written) : Type 0 where
+  pub past : Past
+  pub is : IsAfter past v
+  pub had : past.first ≡ first
+  pub packets : AreWrittenOf v.port.link past.handed wrote
+
+pub promises : (first : Files) (v : ServingValue) (wrote : List Written) → (d : Did first v wrote) → Promises d.past v wrote
+promises first v wrote d =
+    record {
+      files = ap (λ (p : Present). p.files) d.is.serving;
+      answers = (v.port.outbox, d.is.answers);
+      messages = answers_from v.accessed.own d.past.first [] d.past.items;
+      packets = d.packets;
+    }
+
+no_more : (first : Files) (v : ServingValue) (wrote ws : List Written) → ws ≡ [] → Did first v wrote → Did first v (wrote ++ ws)
+no_more first v wrote ws none d = subst (Did first v) (sym (ap (λ (l : List Written). wrote ++ l) none ∙ append-nil wrote)) d
+
+one_more : (first : Files) (v new : ServingValue) (wrote ws : List Written) (k : Option ℕ) (w : Written) → WroteOne v.port.link k w → new ≡ v → ws ≡ w ∷ [] → Did first v wrote → Did first new (wrote ++ ws)
+one_more first v new wrote ws k w one same is d =
+    subst (λ (x : ServingValue). Did first x (wrote ++ ws)) (sym same)
+    (subst (λ (l : List Written). Did first v (wrote ++ l)) (sym is)
+    (record {
+      past = d.past;
+      is = d.is;
+      had = d.had;
+      packets = all_written v.port.link d.past.handed wrote (w ∷ []) d.packets (one_written v.port.link d.past.handed k w d.is.sends one, tt);
+    }))
+
+-- written by the port, and the end did more before
+pub went_written : (old served new : LinkValue) (handed more now : List (List ℕ)) (wrote ws : List Written) → served ≡ record old { inbox = served.inbox; queue = served.queue } → now ≡ handed ++ more
+    → new ≡ record served { sent = new.sent } → AreWrittenOf old handed wrote → AreWrittenOf served now ws → AreWrittenOf new now (wrote ++ ws)
+went_written old served new handed more now wrote ws counts is sent before after =
+    let one : AreWrittenOf served handed wrote = subst (λ (l : LinkValue). AreWrittenOf l handed wrote) (sym counts) before in
+    let two : AreWrittenOf served now wrote = subst (λ (h : List (List ℕ)). AreWrittenOf served h wrote) (sym is) (still_written served handed more wrote one) in
+    subst (λ (l : LinkValue). AreWrittenOf l now (wrote ++ ws)) (sym sent) (all_written served now wrote ws two after)
+
+pub sent_link : (p new : PortValue) (n : ℕ) → new ≡ sent_more p n → new.link ≡ record p.link { sent = new.link.sent }
+sent_link p new n e = subst (λ (q : PortValue). q.link ≡ record p.link { sent = q.link.sent }) (sym e) refl
+
+went : (old served new : ServingValue) (packets : List (List ℕ)) (first : Files) (wrote ws : List Written) → ServedMore old served → WroteMore served.port new.port packets → new ≡ with_port served new.port
+    → ws ≡ numbered (served.port.link.sent + 1) served.port.link.received packets → Did first old wrote → Did first new (wrote ++ ws)
+went old served new packets first wrote ws m w e is d =
+    let more = m.past d.past d.is in
+    let now = more.0 in
+    let here : IsAfter now new = subst (IsAfter now) (sym (e ∙ ap (with_port served) w.sent)) (still_sent served (length packets) now more.1.is) in
+    let after : AreWrittenOf served.port.link now.handed ws = subst (AreWrittenOf served.port.link now.handed) (sym is) (numbered_written served.port.link now.handed (served.port.link.sent + 1) packets (w.writes now.handed more.1.is.sends)) in
+    record {
+      past = now;
+      is = here;
+      had = more.1.first ∙ d.had;
+      packets = went_written old.port.link served.port.link new.port.link d.past.handed more.1.handed.0 now.handed wrote ws m.link more.1.handed.1 (sent_link served.port new.port (length packets) w.sent) d.packets after;
+    }
+
+pub step : (old new : ServingValue) (event : ServingEvent) (first : Files) (wrote ws : List Written) → Stepped old event new ws → Did first old wrote → Did first new (wrote ++ ws)
+step old new (Came bytes) first wrote ws t d =
+    let g = grown old.port.link t.1 bytes t.0 t.2 in
+    no_more first new wrote ws t.4
+    (subst (λ (v : ServingValue). Did first v wrote) (sym t.3)
+    (record { past = d.past; is = after_received d.past old t.1 g t.2.sends d.is; had = d.had; packets = written_on old.port.link t.1 g d.past.handed wrote d.packets }))
+step old new GoesOn first wrote ws t d = went old t.0 new t.1 first wrote ws t.2 t.3 t.4 t.5 d
+step old new (Again i) first wrote ws t d = one_more first old new wrote ws _ t.0 t.2 t.3 t.4 d
+step old new Acks first wrote ws t d = one_more first old new wrote ws _ t.0 t.1 t.2 t.3 d
+
+pub run : (events : List ServingEvent) (old new : ServingValue) (first : Files) (wrote ws : List Written) → Runs old events new ws → Did first old wrote → Did first new (wrote ++ ws)
+run [] old new first wrote ws r d = no_more first new wrote ws r.1 (subst (λ (v : ServingValue). Did first v wrote) (sym r.0) d)
+run (event ∷ events) old new first wrote ws r d =
+    subst (Did first new) (append_assoc wrote r.1 r.2 ∙ ap (λ (l : List Written). wrote ++ l) (sym r.3))
+    (run events r.0 new first (wrote ++ r.1) r.2 r.5 (step old r.0 event first wrote r.1 r.4 d))
+
+pub did_nothing : (first : Files) (v : ServingValue) → IsAfter (nothing_yet first) v → Did first v []
+did_nothing first v h = record { past = nothing_yet first; is = h; had = refl; packets = tt }
+
+-- ---- From a peer.
+
+-- and its link runs, and has the front of what the peer sends
+record Hears (size : ℕ) (messages : List (List ℕ)) (first : Files) (v : ServingValue) : Type 0 where
+  past : Past
+  is : IsAfter past v
+  had : past.first ≡ first
+  stands : Stands v.port.link size messages past.given
+  works : v.port.link.failed ≡ false
+
+abbrev pub due : (v : LinkValue) (size : ℕ) (messages given : List (List ℕ)) (bytes : List ℕ) → (f : IsFromPeer v size messages bytes) → v.failed ≡ false → Stands v size messages given → IsDue v size messages given f.packet f.segment f.acks
+due v size messages given bytes f works stands =
+    record {
+      running = works;
+      positive = f.positive;
+      stands = stands;
+      short = f.short;
+      way = f.way;
+      carries = f.carries;
+      fresh = f.fresh;
+      near = f.near;
+      believable = f.believable;
+    }
+
+-- the link after a packet of the peer
+abbrev pub StandsThen : LinkValue → ℕ → List (List ℕ) → List (List ℕ) → Type 0
+StandsThen link size messages given = Stands link size messages given × (link.failed ≡ false)
+
+pub then_stands : (old link : LinkValue) (size : ℕ) (messages given : List (List ℕ)) (bytes : List ℕ) (r : Result Got LinkFault) → IsFromPeer old size messages bytes → StandsThen old size messages given → Receives old link bytes r
+    → StandsThen link size messages given
+then_stands old link size messages given bytes (Ok got) f s h =
+    let told = h.due size messages given f.packet f.segment f.acks f.spelled (due old size messages given bytes f s.1 s.0) in (told.2, told.1.failed)
+then_stands old link size messages given bytes (Err e) f s h =
+    let told = h.due size messages given f.packet f.segment f.acks f.spelled (due old size messages given bytes f s.1 s.0) in
+    subst (λ (l : LinkValue). StandsThen l size messages given) (sym told.1) s
+
+went_hears : (old served new : ServingValue) (sent size : ℕ) (messages : List (List ℕ)) (first : Files) → ServedMore old served → new ≡ with_port served (sent_more served.port sent) → Hears size messages first old
+    → Hears size messages first new
+went_hears old served new sent size messages first m e h =
+    let more = m.past h.past h.is in
+    let stands = more.1.stands size messages h.stands in
+    let works : served.port.link.failed ≡ false = ap (λ (l : LinkValue). l.failed) m.link ∙ h.works in
+    subst (Hears size messages first) (sym e)
+    (record {
+      past = more.0;
+      is = still_sent served sent more.0 more.1.is;
+      had = more.1.first ∙ h.had;
+      stands = record { taken = stands.taken; held = stands.held };
+      works = works;
+    })
+
+step_hears : (old new : ServingValue) (event : ServingEvent) (ws : List Written) (size : ℕ) (messages : List (List ℕ)) (first : Files) → IsEventOf old.port.link size messages event → Stepped old event new ws → Hears size messages first old
+    → Hears size messages first new
+step_hears old new (Came bytes) ws size messages first f t h =
+    let g = grown old.port.link t.1 bytes t.0 t.2 in
+    let s = then_stands old.port.link t.1 size messages h.past.given bytes t.0 f (h.stands, h.works) t.2 in
+    subst (Hears size messages first) (sym t.3)
+    (record { past = h.past; is = after_received h.past old t.1 g t.2.sends h.is; had = h.had; stands = s.0; works = s.1 })
+step_hears old new GoesOn ws size messages first f t h = went_hears old t.0 new (length t.1) size messages first t.2 (t.4 ∙ ap (with_port t.0) t.3.sent) h
+step_hears old new (Again i) ws size messages first f t h = subst (Hears size messages first) (sym t.3) h
+step_hears old new Acks ws size messages first f t h = subst (Hears size messages first) (sym t.2) h
+
+run_hears : (events : List ServingEvent) (old new : ServingValue) (size : ℕ) (messages : List (List ℕ)) (first : Files) → RunsFrom size messages old events new → Hears size messages first old → Hears size messages first new
+run_hears [] old new size messages first r h = subst (Hears size messages first) (sym r) h
+run_hears (event ∷ events) old new size messages first r h = run_hears events r.0 new size messages first r.4 (step_hears old r.0 event r.1 size messages first r.2 r.3 h)
+
+pub run_from : (events : List ServingEvent) (old new : ServingValue) (size : ℕ) (messages : List (List ℕ)) (past : Past) → IsAfter past old → Stands old.port.link size messages past.given → old.port.link.failed ≡ false
+    → RunsFrom size messages old events new → (now : Past) × IsAfter now new × (now.first ≡ past.first) × AreFrontOf messages now.items
+run_from events old new size messages past is stands works r =
+    let h = run_hears events old new size messages past.first r (record { past = past; is = is; had = refl; stands = stands; works = works }) in
+    (h.past, h.is, h.had, served_front new.port.link size messages h.past.given new.port.place h.past.items h.stands h.is.gone)
+
+-- ---- Calls are runs.
+
+one_event : (old new : ServingValue) (event : ServingEvent) (ws : List Written) → Stepped old event new ws → Runs old (event ∷ []) new ws
+one_event old new event ws s = (new, ws, [], sym (append-nil ws), s, (refl, refl))
+
+-- served and handed over, and nothing written
+served_only : (old new : ServingValue) → ServedMore old new → Stepped old GoesOn new []
+served_only old new m = (new, [], m, wrote_nothing new.port, refl, refl)
+
+pub serving_is : (old new : ServingValue) (n : ℕ) → ServedOne old new n → Runs old (GoesOn ∷ []) new []
+serving_is old new n s = one_event old new GoesOn [] (served_only old new (more_served old new n s))
+
+pub posting_is : (old new : ServingValue) (n : ℕ) → PostedAll old new n → Runs old (GoesOn ∷ []) new []
+posting_is old new n p = one_event old new GoesOn [] (served_only old new (more_posted old new n p))
+
+pub one_segment : (p new : PortValue) (bytes : List ℕ) → WroteNext p new bytes → WroteMore p new (bytes ∷ [])
+one_segment p new bytes w =
+    record {
+      sent = w.sent;
+      writes = λ handed sends. (w.writes handed sends, tt);
+      within = λ some. subst (λ (q : PortValue). IsWithin q.link) (sym w.sent) (let may = w.may in (omega arith, omega arith));
+    }
+
+pub writing_is : (old new : ServingValue) (bytes : List ℕ) → new ≡ with_port old new.port → WroteNext old.port new.port bytes → Runs old (GoesOn ∷ []) new (numbered (old.port.link.sent + 1) old.port.link.received (bytes ∷ []))
+writing_is old new bytes rest w = one_event old new GoesOn _ (old, bytes ∷ [], more_none old, one_segment old.port new.port bytes w, rest, refl)
+
+pub again_is : (v : ServingValue) (i : ℕ) (bytes : List ℕ) → i < v.port.link.sent - v.port.link.acked → WritesSent v.port.link (Some (v.port.link.acked + 1 + i)) bytes
+    → Runs v (Again i ∷ []) v (record { bytes = bytes; segment = Some (v.port.link.acked + 1 + i); acks = v.port.link.received } ∷ [])
+again_is v i bytes lt w = one_event v v (Again i) _ (record { bytes = bytes; segment = Some (v.port.link.acked + 1 + i); acks = v.port.link.received }, lt, (refl, refl, w), refl, refl)
+
+pub ack_is : (v : ServingValue) (bytes : List ℕ) → IsSpelling (ack_packet_of v.port.link) bytes → Runs v (Acks ∷ []) v (record { bytes = bytes; segment = None; acks = v.port.link.received } ∷ [])
+ack_is v bytes s = one_event v v Acks _ (record { bytes = bytes; segment = None; acks = v.port.link.received }, (refl, refl, ack_written v.port.link bytes s), refl, refl)
+
+pub numbered_bytes : (k a : ℕ) (packets : List (List ℕ)) → bytes_of (numbered k a packets) ≡ packets
+numbered_bytes k a [] = refl
+numbered_bytes k a (p ∷ packets) = ap (λ (l : List (List ℕ)). p ∷ l) (numbered_bytes (k + 1) a packets)
+
+-- several packets behind those that were there
+behind : (out all packets : List (List ℕ)) (k a : ℕ) → all ≡ out ++ packets → all ≡ out ++ bytes_of (numbered k a packets)
+behind out all packets k a e = e ∙ ap (λ (l : List (List ℕ)). out ++ l) (sym (numbered_bytes k a packets))
+
+pub going_is : (old new : ServingValue) (out all : List (List ℕ)) → WentOn old new out all → AreCalls old (GoesOn ∷ []) new out all
+going_is old new out all w =
+    (_, one_event old new GoesOn _ (w.served, w.wrote.0, w.more, w.wrote.2, w.rest, refl), behind out all w.wrote.0 _ _ w.wrote.1)
+
+came : (old : ServingValue) (link : LinkValue) (bytes : List ℕ) (r : Result Got LinkFault) → Receives old.port.link link bytes r → Stepped old (Came bytes) (received old link) []
+came old link bytes r h = (r, link, h, refl, refl)
+
+took_by : (old mid new : ServingValue) (bytes : List ℕ) (events : List ServingEvent) (out all : List (List ℕ)) → Stepped old (Came bytes) mid [] → AreCalls mid events new out all → AreCalls old (Came bytes ∷ events) new out all
+took_by old mid new bytes events out all s c = (c.0, (mid, [], c.0, refl, s, c.1), c.2)
+
+bytes_append : (xs ys : List Written) → bytes_of (xs ++ ys) ≡ bytes_of xs ++ bytes_of ys
+bytes_append xs ys = map-append (λ (w : Written). w.bytes) xs ys
+
+-- with an acknowledgement or without
+answered_is : (old served new : ServingValue) (got : Got) (out all packets written : List (List ℕ)) (wants : Bool) → ServedMore old served → new ≡ with_port served new.port → WroteMore served.port new.port written → all ≡ out ++ packets
+    → wants_ack got (length written) ≡ wants → (wants_ack got (length written) ≡ false → packets ≡ written)
+    → (wants_ack got (length written) ≡ true → (bytes : List ℕ) × (packets ≡ written ++ bytes ∷ []) × IsSpelling (ack_packet_of new.port.link) bytes)
+    → (events : List ServingEvent) × AreCalls old events new out all
+answered_is old served new got out all packets written false m rest w is e quiet acks = (
+  GoesOn ∷ [],
+  (_, one_event old new GoesOn _ (served, written, m, w, rest, refl), behind out all written _ _ (is ∙ ap (λ (l : List (List ℕ)). out ++ l) (quiet e))),
+)
+answered_is old served new got out all packets written true m rest w is e quiet acks =
+    let a = acks e in
+    let first = numbered (served.port.link.sent + 1) served.port.link.received written in
+    let last : Written = record { bytes = a.0; segment = None; acks = new.port.link.received } in (
+      GoesOn ∷ Acks ∷ [],
+      (
+        first ++ last ∷ [],
+        (new, first, last ∷ [], refl, (served, written, m, w, rest, refl), ack_is new a.0 a.2),
+        is ∙ ap (λ (l : List (List ℕ)). out ++ l) (a.1 ∙ ap (λ (l : List (List ℕ)). l ++ a.0 ∷ []) (sym (numbered_bytes _ _ written)) ∙ sym (bytes_append first (last ∷ []))),
+      ),
+    )
+
+pub taking_is : (old new : ServingValue) (bytes : List ℕ) (got : Got) (out all : List (List ℕ)) → TookAll old new bytes got out all → (events : List ServingEvent) × AreCalls old (Came bytes ∷ events) new out all
+taking_is old new bytes got out all t =
+    let a = t.answered in
+    let r = answered_is (received old t.link) t.served new got out all a.0 a.2.written (wants_ack got (length a.2.written)) t.more t.rest a.2.wrote a.1 refl a.2.quiet a.2.acks in
+    (r.0, took_by old (received old t.link) new bytes r.0 out all (came old t.link bytes (Ok got) t.took.receives) r.1)
+
+part_of : (old new : ServingValue) (got : Got) (out all : List (List ℕ)) (f : LinkFault) → WrotePart old new got out all f → AreCalls old (GoesOn ∷ []) new out all
+part_of old new got out all f p =
+    (_, one_event old new GoesOn _ (p.served, p.part.packets, p.more, p.part.wrote, p.rest, refl), behind out all p.part.packets _ _ p.part.behind)
+
+part_by : (old new : ServingValue) (got : Got) (out all : List (List ℕ)) (f : LinkFault) → (ServedMore old new × (all ≡ out) × ServeFault new f) ⊎ WrotePart old new got out all f → AreCalls old (GoesOn ∷ []) new out all
+part_by old new got out all f (inl h) = ([], one_event old new GoesOn [] (served_only old new h.0), h.1 ∙ sym (append-nil out))
+part_by old new got out all f (inr h) = part_of old new got out all f h
+
+pub part_is : (old new : ServingValue) (bytes : List ℕ) (got : Got) (out all : List (List ℕ)) (f : LinkFault) → TookPart old new bytes got out all f → AreCalls old (Came bytes ∷ GoesOn ∷ []) new out all
+part_is old new bytes got out all f t =
+    took_by old (received old t.link) new bytes (GoesOn ∷ []) out all (came old t.link bytes (Ok got) t.took.receives) (part_by (received old t.link) new got out all f t.part)
+
+pub refusing_is : (old new : ServingValue) (bytes : List ℕ) (out all : List (List ℕ)) (f : LinkFault) → Refused old new bytes out all f → AreCalls old (Came bytes ∷ []) new out all
+refusing_is old new bytes out all f r =
+    ([], one_event old new (Came bytes) [] (Err f, r.link, r.receives, r.new_is, refl), r.none ∙ sym (append-nil out))

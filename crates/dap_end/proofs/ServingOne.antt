@@ -1,0 +1,153 @@
+-- One item was served.
+use Rattle.std.proofs.Common.{◌≡◌, ℕ, ◌<◌, ◌≤◌, arith, refl, sym, ◌∙◌, subst, ap, append_assoc, Bool, true, false, List, [], ◌∷◌, ◌++◌, length, inl, inr, eq-eqb}
+use Rattle.std.specs.Prelude.{◌==◌, if◌then◌else◌, Some, None, slice_get}
+use Rattle.std.proofs.lemmas.Bool.{cases_eq, ne_eqb}
+use Rattle.std.proofs.lemmas.List.{append-nil, map-append}
+use Rattle.std.proofs.lemmas.List.Elements.{All-cons}
+use Rattle.dap_fields.specs.Spelling.{AreBytes}
+use Rattle.dap_msg.specs.Items.{Item, ItemAt, IsPlace}
+use Rattle.dap_msg.specs.Blocked.{NspMessage, Blocked, all_joined, bodies, joined, AllFit}
+use Rattle.dap_msg.specs.Message.{Message}
+use Rattle.nsp_link.specs.Link.{Sends, Stands, HasTaken, IsWhole}
+use Rattle.dap_accessed.specs.Groups.{Answers, added, limit_for}
+use Rattle.dap_accessed.proofs.ForCallers.{Answers-more}
+use Rattle.dap_accessed.specs.Present.{Present, StandsAfter}
+use Rattle.dap_accessed.specs.Served.{Serves, AllAtMost}
+use Rattle.dap_accessed.specs.declared.served.Served.{Served}
+use Rattle.dap_end.specs.Ports.{PortValue, oldest, gone_on}
+use Rattle.dap_end.specs.Going.{GoneThrough, given_then}
+use Rattle.dap_end.specs.Serving.{ServingValue, Past, IsAfter, served, ServedOne, answers_to}
+use Rattle.dap_end.specs.Inner.Kept.{IsPort, AreShort}
+use Rattle.dap_end.specs.Inner.ServingView.{serving_of}
+use Rattle.dap_end.proofs.Going.{gone_one}
+use Rattle.dap_end.proofs.Answering.{answer_to, answers-more}
+use Rattle.dap_end.proofs.Taking.{first_place}
+
+pub no_first : (inbox : List (List ℕ)) → slice_get inbox 0 ≡ None → inbox ≡ []
+no_first [] e = refl
+no_first (x ∷ inbox) e = let none : ⊥ = cc in absurd none
+
+pub has_first : (inbox : List (List ℕ)) (bytes : List ℕ) → slice_get inbox 0 ≡ Some bytes → (later : List (List ℕ)) × (inbox ≡ bytes ∷ later)
+has_first [] bytes e = let none : ⊥ = cc in absurd none
+has_first (x ∷ inbox) bytes e = (inbox, let same : x ≡ bytes = cc in ap (λ (y : List ℕ). y ∷ inbox) same)
+
+pub no_length : (l : List (List ℕ)) → length l ≡ 0 → l ≡ []
+no_length [] e = refl
+no_length (x ∷ l) e = absurd (omega arith)
+
+-- what `go_on` does, by whether the message was the last one
+abbrev pub GoesOn : PortValue → PortValue → Bool → ℕ → Type 0
+GoesOn p new last next =
+    (last ≡ false → new ≡ record p { place = next })
+    × (last ≡ true → (bytes : List ℕ) (later : List (List ℕ)) → p.link.inbox ≡ bytes ∷ later → new ≡ record p { link = record p.link { inbox = later }; place = 0 })
+
+gone_by : (p new : PortValue) (last : Bool) (bytes : List ℕ) (later : List (List ℕ)) (next : ℕ) → p.link.inbox ≡ bytes ∷ later → GoesOn p new last next
+    → new ≡ record p { link = record p.link { inbox = if last then later else p.link.inbox }; place = if last then 0 else next }
+gone_by p new true bytes later next inbox h = h.1 refl bytes later inbox
+gone_by p new false bytes later next inbox h = h.0 refl
+
+pub gone_is : (p new : PortValue) (bytes : List ℕ) (later : List (List ℕ)) (next : ℕ) (last : Bool) → last ≡ (next == length bytes) → p.link.inbox ≡ bytes ∷ later → GoesOn p new last next → new ≡ gone_on p bytes later next
+gone_is p new bytes later next last is inbox h = gone_by p new (next == length bytes) bytes later next inbox (subst (λ (b : Bool). GoesOn p new b next) is h)
+
+-- ---- The link gives the message away at its end.
+
+stands_given : (p : PortValue) (bytes : List ℕ) (later : List (List ℕ)) (size : ℕ) (messages given : List (List ℕ)) → p.link.inbox ≡ bytes ∷ later
+    → Stands p.link size messages given → Stands (record p.link { inbox = later }) size messages (given ++ bytes ∷ [])
+stands_given p bytes later size messages given inbox h =
+    record {
+      taken = record { count = h.taken.count; whole = h.taken.whole; inbox = append_assoc given (bytes ∷ []) later ∙ ap (λ (l : List (List ℕ)). given ++ l) (sym inbox) ∙ h.taken.inbox; partial = h.taken.partial };
+      held = h.held;
+    }
+
+-- ---- The step.
+
+pub port_given : (p : PortValue) (bytes : List ℕ) (later : List (List ℕ)) (next size : ℕ) (messages given : List (List ℕ)) → p.link.inbox ≡ bytes ∷ later → Stands p.link size messages given
+    → Stands (gone_on p bytes later next).link size messages (given_then given bytes next)
+port_given p bytes later next size messages given inbox h =
+    elim (cases_eq next (length bytes)) [
+      | inl end ↦ rw (eq-eqb next (length bytes) end) (stands_given p bytes later size messages given inbox h)
+      | inr inside ↦ rw (ne_eqb next (length bytes) inside) h
+    ]
+
+-- and what was gone through
+pub port_gone : (p : PortValue) (bytes : List ℕ) (later : List (List ℕ)) (next : ℕ) (given : List (List ℕ)) (items : List Item) (item : Item) → AreBytes bytes → p.link.inbox ≡ bytes ∷ later → GoneThrough given p.link.inbox p.place items
+    → ItemAt bytes p.place item next → next ≤ length bytes → GoneThrough (given_then given bytes next) (gone_on p bytes later next).link.inbox (gone_on p bytes later next).place (items ++ item ∷ [])
+port_gone p bytes later next given items item fits inbox h reads within =
+    let gone = gone_one given later bytes p.place next items item fits (subst (λ (l : List (List ℕ)). GoneThrough given l p.place items) inbox h) reads within in
+    subst (λ (l : List (List ℕ)). let ends = next == length bytes in GoneThrough (given_then given bytes next) (if ends then later else l) (if ends then 0 else next) (items ++ item ∷ [])) (sym inbox) gone
+
+pub fit-both : (one two : List Message) → AllFit one → AllFit two → AllFit (one ++ two)
+fit-both [] two h k = k
+fit-both (m ∷ one) two h k = (h.0, fit-both one two h.1 k)
+
+module _ (old : ServingValue) (bytes : List ℕ) (later : List (List ℕ)) (inbox : old.port.link.inbox ≡ bytes ∷ later) (fits : AreBytes bytes) where
+  past_one : (after : Present) (s : Served) (serves : Serves bytes old.port.place old.accessed after s) → old.port.outbox ≡ [] → s.next ≤ length bytes
+      → (past : Past) → IsAfter past old
+      → IsAfter (served past bytes serves.item s.next) (serving_of (record (gone_on old.port bytes later s.next) { outbox = bodies s.answers.items }) after)
+  past_one after s serves idle within past h =
+      let limit : old.accessed.limit ≡ limit_for old.accessed.own past.first past.items = ap (λ (p : Present). p.limit) h.serving in
+      let block : List NspMessage = answer_to old.accessed.own past.first past.items serves.item in
+      record {
+        serving = serves.stands past.first past.items h.serving;
+        gone = port_gone old.port bytes later s.next past.given past.items serves.item fits inbox h.gone serves.reads within;
+        sends = record { queue = h.sends.queue; acked = h.sends.acked };
+        answers =
+            ap (λ (l : List (List ℕ)). past.handed ++ l)
+            (serves.answers past.first past.items h.serving ∙ ap (λ (n : ℕ). all_joined (Blocked n (added old.accessed.own past.first past.items serves.item))) limit)
+            ∙ ap (λ (l : List (List ℕ)). l ++ all_joined block) (sym (append-nil past.handed) ∙ ap (λ (l : List (List ℕ)). past.handed ++ l) (sym idle) ∙ h.answers)
+            ∙ sym (map-append joined (answers_to old.accessed.own past.first [] past.items) block)
+            ∙ ap all_joined (sym (answers-more old.accessed.own past.first past.items serves.item))
+            ∙ ap (λ (n : ℕ). all_joined (answers_to n past.first [] (past.items ++ serves.item ∷ []))) (sym serves.same_own);
+        fit =
+            subst (λ (n : ℕ). AllFit (Answers n past.first (past.items ++ serves.item ∷ []))) (sym serves.same_own)
+            (subst AllFit (sym (Answers-more old.accessed.own past.first past.items serves.item))
+            (fit-both (Answers old.accessed.own past.first past.items) (added old.accessed.own past.first past.items serves.item) h.fit (serves.fits past.first past.items h.serving)));
+      }
+
+  pub served_one : (after : Present) (s : Served) (port : PortValue) (next n : ℕ)
+      → old.port.outbox ≡ [] → IsPlace old.port.place bytes → (serves : Serves bytes old.port.place old.accessed after s)
+      → s.next ≡ next → next ≤ length bytes → (old.port.place < length bytes → old.port.place < next)
+      → port ≡ record (gone_on old.port bytes later next) { outbox = bodies s.answers.items } → n ≡ length (bodies s.answers.items)
+      → ServedOne old (serving_of port after) n
+  served_one after s port next n idle place serves same within goes port_is count =
+      let to : port ≡ record (gone_on old.port bytes later s.next) { outbox = bodies s.answers.items } = port_is ∙ ap (λ (k : ℕ). record (gone_on old.port bytes later k) { outbox = bodies s.answers.items }) (sym same) in
+      let le : s.next ≤ length bytes = omega arith in
+      record {
+        idle = idle;
+        bytes = bytes;
+        later = later;
+        came = inbox;
+        fits = fits;
+        item = serves.item;
+        next = s.next;
+        reads = serves.reads;
+        place = place;
+        goes = λ lt. (let h = goes lt in omega arith);
+        within = le;
+        port = to ∙ ap (λ (l : List (List ℕ)). record (gone_on old.port bytes later s.next) { outbox = l }) (sym (ap (λ (p : PortValue). p.outbox) to));
+        own = serves.same_own;
+        count = count ∙ ap length (sym (ap (λ (p : PortValue). p.outbox) to));
+        past = λ past h. subst (λ (p : PortValue). IsAfter (served past bytes serves.item s.next) (serving_of p after)) (sym to) (past_one after s serves idle le past h);
+        given = λ size messages past h. subst (λ (p : PortValue). Stands p.link size messages (served past bytes serves.item s.next).given) (sym to) (port_given old.port bytes later s.next size messages past.given inbox h);
+      }
+
+pub place_there : (p : PortValue) (bytes : List ℕ) (later : List (List ℕ)) → p.link.inbox ≡ bytes ∷ later → IsPort p → IsPlace p.place bytes
+place_there p bytes later inbox h = subst (λ (l : List (List ℕ)). IsPlace p.place (oldest l)) inbox h.place
+
+-- ---- The port stays one.
+
+pub all_short : (limit : ℕ) (list : List (List ℕ)) → limit ≤ 65535 → AllAtMost limit list → AreShort list
+all_short limit [] le h = λ k d lt. absurd (omega arith)
+all_short limit (x ∷ list) le h = All-cons (λ m. length m ≤ 65535) x list (omega (arith, le, h.0)) (all_short limit list le h.1)
+
+pub port_goes : (p : PortValue) (bytes : List ℕ) (later outbox : List (List ℕ)) (next limit : ℕ) → p.link.inbox ≡ bytes ∷ later → IsPort p → next ≤ length bytes
+    → limit ≤ 65535 → AllAtMost limit outbox → IsPort (record (gone_on p bytes later next) { outbox = outbox })
+port_goes p bytes later outbox next limit inbox h within le short =
+    record {
+      place =
+          elim (cases_eq next (length bytes)) [
+            | inl end ↦ rw (eq-eqb next (length bytes) end) (first_place (oldest later))
+            | inr inside ↦ rw (ne_eqb next (length bytes) inside, inbox) (inl (omega (arith, within, inside)))
+          ];
+      short = all_short limit outbox le short;
+    }

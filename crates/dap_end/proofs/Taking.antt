@@ -1,0 +1,104 @@
+-- What taking a packet in leaves as it was.
+use Rattle.std.proofs.Common.{◌≡◌, ℕ, ◌<◌, arith, refl, sym, ◌∙◌, subst, ap, append_assoc, true, false, List, [], ◌∷◌, ◌++◌, length, inl, inr}
+use Rattle.std.specs.Prelude.{◌⊎◌, Bool, Option, Some, None, Result, Ok, Err, nat_lt, if◌then◌else◌}
+use Rattle.std.proofs.lemmas.List.{append-nil}
+use Rattle.nsp_seg.specs.Packets.{PacketValue, SegmentValue, segment, data_ack}
+use Rattle.nsp_link.specs.declared.link.Got.{Got}
+use Rattle.nsp_link.specs.declared.link.Got.TheVariants.{Accepted, Repeat, Early, AckOnly}
+use Rattle.nsp_link.specs.declared.fault.LinkFault.{LinkFault}
+use Rattle.nsp_link.specs.Cutting.{Piece}
+use Rattle.nsp_link.specs.Coming.{Coming, taken, taken_all, body_with}
+use Rattle.nsp_link.specs.Holding.{inserted}
+use Rattle.nsp_link.specs.Link.{LinkValue, coming, piece_of, failed_link}
+use Rattle.nsp_link.specs.Receiving.{Received, TakesSegment, run, closed, kept, stopped, is_end, forgotten}
+use Rattle.dap_msg.specs.Items.{IsPlace}
+use Rattle.dap_end.specs.Ports.{PortValue, oldest, with_link}
+use Rattle.dap_end.specs.Receiving.{ReceivedBytes, Receives}
+use Rattle.dap_end.specs.Inner.Kept.{IsPort}
+
+-- more messages may wait, and the link is the same
+pub record Grown (old new : LinkValue) : Type 0 where
+  pub more : List (List ℕ)
+  pub inbox : new.inbox ≡ old.inbox ++ more
+  pub local : new.local ≡ old.local
+  pub remote : new.remote ≡ old.remote
+  pub size : new.seg_size ≡ old.seg_size
+
+same : (v : LinkValue) → Grown v v
+same v = record { more = []; inbox = sym (append-nil v.inbox); local = refl; remote = refl; size = refl }
+
+along : (old new other : LinkValue) → new ≡ other → Grown old other → Grown old new
+along old new other e g = subst (Grown old) (sym e) g
+
+taken_one : (c : Coming) (p : Piece) (last : Bool) → p.last ≡ last → (more : List (List ℕ)) × ((taken c p).inbox ≡ c.inbox ++ more)
+taken_one c p true e = (body_with c p.payload ∷ [], ap (λ (b : Bool). if b then c.inbox ++ body_with c p.payload ∷ [] else c.inbox) e)
+taken_one c p false e = ([], ap (λ (b : Bool). if b then c.inbox ++ body_with c p.payload ∷ [] else c.inbox) e ∙ sym (append-nil c.inbox))
+
+taken_more : (c : Coming) (ps : List Piece) → (more : List (List ℕ)) × ((taken_all c ps).inbox ≡ c.inbox ++ more)
+unfolding taken_all
+taken_more c [] = ([], sym (append-nil c.inbox))
+taken_more c (p ∷ ps) =
+    let one = taken_one c p p.last refl in
+    let rest = taken_more (taken c p) ps in
+    (one.0 ++ rest.0, rest.1 ∙ ap (λ (l : List (List ℕ)). l ++ rest.0) one.1 ∙ append_assoc c.inbox one.0 rest.0)
+
+closed_grown : (v : LinkValue) (p : Piece) → Grown v (closed v p)
+closed_grown v p = let m = taken_more (coming v) (run v p) in record { more = m.0; inbox = m.1; local = refl; remote = refl; size = refl }
+
+kept_by : (v : LinkValue) (k : ℕ) (p : Piece) (near : Bool) → Grown v (if near then record v { held = inserted k p v.held } else v)
+kept_by v k p true = record { more = []; inbox = sym (append-nil v.inbox); local = refl; remote = refl; size = refl }
+kept_by v k p false = same v
+
+stopped_by : (v : LinkValue) (ends : Bool) → Grown v (if ends then failed_link v else v)
+stopped_by v true = record { more = []; inbox = sym (append-nil v.inbox); local = refl; remote = refl; size = refl }
+stopped_by v false = same v
+
+forgotten_grown : (old mid : LinkValue) (count : ℕ) → Grown old mid → Grown old (forgotten mid count)
+forgotten_grown old mid count g = record { more = g.more; inbox = g.inbox; local = g.local; remote = g.remote; size = g.size }
+
+takes : (old mid : LinkValue) (s : SegmentValue) (got : Got) → TakesSegment old s got mid → Grown old mid
+takes old mid s Accepted h = along old mid _ h.2 (closed_grown old (piece_of s))
+takes old mid s Early h = along old mid _ h.2 (kept_by old _ (piece_of s) _)
+takes old mid s Repeat h = along old mid old h.1 (same old)
+takes old mid s AckOnly h = absurd h
+
+received : (old new : LinkValue) (p : PacketValue) (r : Result Got LinkFault) → Received old p r new → Grown old new
+received old new (segment s) (Ok got) h =
+    let mid = h.1 in
+    along old new _ mid.2.2 (forgotten_grown old mid.0 mid.2.0 (takes old mid.0 s got mid.1))
+received old new (data_ack s) (Ok got) h = along old new _ h.2.2 (forgotten_grown old old h.2.0 (same old))
+received old new (segment s) (Err e) (inl h) = along old new old h.2 (same old)
+received old new (segment s) (Err e) (inr (_, inl h)) = along old new _ h.2 (stopped_by old true)
+received old new (segment s) (Err e) (inr (_, inr (inl h))) = along old new _ h.2.1 (stopped_by old (is_end e))
+received old new (segment s) (Err e) (inr (_, inr (inr h))) = along old new old h.4 (same old)
+received old new (data_ack s) (Err e) (inl h) = along old new old h.2 (same old)
+received old new (data_ack s) (Err e) (inr h) = along old new _ h.3 (stopped_by old true)
+
+from_bytes : (old new : LinkValue) (bytes : List ℕ) (r : Result Got LinkFault) → ReceivedBytes old new bytes r → Grown old new
+from_bytes old new bytes r (inl h) = along old new old h.3 (same old)
+from_bytes old new bytes r (inr h) = received old new h.0 r h.2
+
+grown_by : (old new : LinkValue) (bytes : List ℕ) (r : Result Got LinkFault) (failed : Bool) → old.failed ≡ failed → Receives old new bytes r → Grown old new
+grown_by old new bytes r true e h = along old new old (h.failed e).1 (same old)
+grown_by old new bytes r false e h = from_bytes old new bytes r (h.any e)
+
+pub grown : (old new : LinkValue) (bytes : List ℕ) (r : Result Got LinkFault) → Receives old new bytes r → Grown old new
+grown old new bytes r h = grown_by old new bytes r old.failed refl h
+
+-- ---- The place stays one in the oldest NSP message.
+
+pub first_place : (bytes : List ℕ) → IsPlace 0 bytes
+first_place [] = inr (refl, refl)
+first_place (b ∷ bytes) = inl (omega arith)
+
+pub place_stays : (place : ℕ) (inbox more : List (List ℕ)) → IsPlace place (oldest inbox) → IsPlace place (oldest (inbox ++ more))
+place_stays place [] more (inl h) = absurd (omega arith)
+place_stays place [] more (inr h) = subst (λ (n : ℕ). IsPlace n (oldest more)) (sym h.0) (first_place (oldest more))
+place_stays place (m ∷ inbox) more h = h
+
+pub port_stays : (p : PortValue) (link : LinkValue) → Grown p.link link → IsPort p → IsPort (with_link p link)
+port_stays p link g h =
+    record {
+      place = subst (λ (l : List (List ℕ)). IsPlace p.place (oldest l)) (sym g.inbox) (place_stays p.place p.link.inbox g.more h.place);
+      short = h.short;
+    }

@@ -1,0 +1,12 @@
+use Rattle.std.proofs.Common.{◌≡◌, ◌++◌, ap, ◌∙◌}
+use Rattle.std.specs.Prelude.{option_to_list}
+use Rattle.dap_end.proofs.Asked.{read_none, read_more}
+use Rattle.dap_end.proofs.asking.AskingEnd.read_all.Goals as goal
+
+pub answers-init : goal.answers-init
+answers-init c = read_none c.args.self.now c.args.reports.now.items
+
+pub answers-preserved : goal.answers-preserved
+answers-preserved c =
+    read_more c.args.self.now c.answers.self c.read_there.new.self c.in-Ok-read_there.report c.args.reports.now.items c.answers.reports.items c.keep.new.reports.items c.answers.invariant c.in-Ok-read_there.ensures.ok
+    (c.keep.ensures ∙ ap (λ l. l ++ option_to_list c.in-Ok-read_there.report) c.in-Ok.ensures.items)

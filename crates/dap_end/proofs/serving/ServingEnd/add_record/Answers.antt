@@ -1,0 +1,10 @@
+use Rattle.dap_end.specs.Inner.ServingInside.{serving_view}
+use Rattle.dap_end.proofs.Adding.{given, by_add_record}
+use Rattle.dap_end.proofs.serving.ServingEnd.add_record.Goals as goal
+
+pub returns-clause-given : goal.returns-clause-given
+returns-clause-given c = rw (← c.self.view_is) (given (serving_view c.self.inside) c.add_record.new.self c.add_record.result c.add_record.ensures.own c.add_record.ensures.stands)
+
+pub returns-clause-refused : goal.returns-clause-refused
+returns-clause-refused c =
+    rw (← c.self.view_is) (by_add_record (serving_view c.self.inside) c.args.number c.args.body.now c.add_record.result (c.has_come.ensures.no c.if-has_come.false) c.add_record.ensures.refused)

@@ -1,0 +1,248 @@
+-- The end that asks, before any peer.
+use Rattle.std.specs.Prelude.{◌≡◌, ◌≢◌, ◌⊎◌, ℕ, ◌<◌, ◌≤◌, Ok, Err, List, [], ◌∷◌, ◌++◌, length, Option, Some, None, option_to_list}
+use Rattle.std.specs.List.{AllByRecursion}
+use Rattle.dap_fields.specs.Spelling.{AreBytes}
+use Rattle.dap_msg.specs.Items.{Item, ItemAt, IsPlace}
+use Rattle.dap_msg.specs.Blocked.{NspMessage, Blocked, all_joined, messages_in, AllFit}
+use Rattle.nsp_link.specs.Link.{LinkValue, Sends, Stands, MaySend}
+use Rattle.nsp_link.specs.Sending.{MayQueueAll, SendAllFault}
+use Rattle.nsp_link.specs.declared.link.Got.{Got}
+use Rattle.nsp_link.specs.declared.fault.LinkFault.{LinkFault}
+use Rattle.nsp_link.specs.declared.fault.LinkFault.TheVariants as fault
+use Rattle.dap_accessing.specs.declared.request.Request.{Request}
+use Rattle.dap_accessing.specs.declared.report.Report.{Report}
+use Rattle.dap_accessing.specs.declared.fault.ReadFault.{ReadFault}
+use Rattle.dap_accessing.specs.declared.fault.ReadFault.TheVariants as read_fault
+use Rattle.dap_accessing.specs.Asked.{Asked, messages_of}
+use Rattle.dap_accessing.specs.Told.{Told}
+use Rattle.dap_accessing.specs.Present.{Present, StandsAfter}
+use Rattle.dap_accessing.specs.Calls.{Asks, ReadRefused}
+use Rattle.dap_end.specs.declared.asking.Heard.{Heard}
+use Rattle.dap_end.specs.declared.asking.Heard.TheVariants as heard
+use Rattle.dap_end.specs.declared.fault.EndFault.{EndFault}
+use Rattle.dap_end.specs.declared.fault.EndFault.TheVariants as end_fault
+use Rattle.dap_end.specs.declared.fault.TakeFault.{TakeFault}
+use Rattle.dap_end.specs.declared.fault.TakeFault.TheVariants as take_fault
+use Rattle.dap_end.specs.Ports.{PortValue, with_link, gone_on, posted}
+use Rattle.dap_end.specs.Going.{GoneThrough, given_then}
+use Rattle.dap_end.specs.Receiving.{Receives}
+use Rattle.dap_end.specs.Writing.{WroteAll, AnsweredAll, AnsweredPart}
+
+pub record AskingValue : Type 0 where
+  pub port : PortValue
+  pub accessing : Present
+
+-- each NSP message has a message
+abbrev pub AreFull : List NspMessage → Type 0
+AreFull packets = AllByRecursion (λ packet. packet ≢ []) packets
+
+-- What the end did on this link. It keeps none of it.
+pub record AskingPast : Type 0 where
+  pub requests : List Request  -- what was asked
+  pub asked : List NspMessage  -- the NSP messages of the requests
+  pub handed : List (List ℕ)  -- those that were handed to its link
+  pub given : List (List ℕ)  -- the NSP messages that it read whole
+  pub answers : List Item  -- what it read
+
+abbrev pub nothing_asked : AskingPast
+nothing_asked = record { requests = []; asked = []; handed = []; given = []; answers = [] }
+
+-- The end is as after this: it waits for what is due after these requests and answers; the answers are those of the NSP
+-- messages that it read and of the front of the next one; and what it handed to its link, and what waits, are the messages
+-- of the requests.
+pub record HasAsked (past : AskingPast) (v : AskingValue) : Type 0 where
+  pub asking : StandsAfter past.requests past.answers v.accessing
+  pub gone : GoneThrough past.given v.port.link.inbox v.port.place past.answers
+  pub sends : Sends v.port.link past.handed
+  pub messages : messages_in past.asked ≡ Asked v.accessing.own past.requests
+  pub waiting : past.handed ++ v.port.outbox ≡ all_joined past.asked
+  -- each message has a spelling, and no NSP message is without one
+  pub fit : AllFit (messages_in past.asked)
+  pub full : AreFull past.asked
+
+abbrev pub HasStill : AskingValue → AskingValue → Type 0
+HasStill old new = (past : AskingPast) → HasAsked past old → HasAsked past new
+
+-- ---- Asking.
+
+-- one request more, with its messages joined as far as the peer's limit goes
+abbrev pub asked_one : AskingPast → (own limit : ℕ) → Request → AskingPast
+asked_one past own limit request =
+    record past { requests = past.requests ++ request ∷ []; asked = past.asked ++ Blocked limit (messages_of own request) }
+
+-- The request was asked: its messages wait, so many NSP messages.
+pub record AskedOne (request : Request) (old new : AskingValue) (n : ℕ) : Type 0 where
+  pub messages : List (List ℕ)
+  pub asks : Asks request old.accessing new.accessing messages
+  pub own : new.accessing.own ≡ old.accessing.own
+  pub port : new.port ≡ record old.port { outbox = old.port.outbox ++ messages }
+  pub count : n ≡ length messages
+  pub past : (past : AskingPast) → HasAsked past old → HasAsked (asked_one past old.accessing.own old.accessing.limit request) new
+
+-- all that waited was handed to the link
+pub record HandedAll (old new : AskingValue) (n : ℕ) : Type 0 where
+  pub may : MayQueueAll old.port.link old.port.outbox
+  pub posted : new ≡ record old { port = posted old.port }
+  pub count : n ≡ length old.port.outbox
+  pub past : (past : AskingPast) → HasAsked past old → HasAsked (record past { handed = past.handed ++ old.port.outbox }) new
+
+-- ---- Reading.
+
+abbrev pub read_one : AskingPast → (bytes : List ℕ) → Item → (next : ℕ) → AskingPast
+read_one past bytes item next = record past { given = given_then past.given bytes next; answers = past.answers ++ item ∷ [] }
+
+-- The next item of the oldest NSP message was read; it had its place, and the report is the one that it adds.
+pub record ReadOne (old new : AskingValue) (report : Option Report) : Type 0 where
+  pub bytes : List ℕ
+  pub later : List (List ℕ)
+  pub came : old.port.link.inbox ≡ bytes ∷ later
+  pub fits : AreBytes bytes
+  pub item : Item
+  pub next : ℕ
+  pub reads : ItemAt bytes old.port.place item next
+  pub place : IsPlace old.port.place bytes
+  pub goes : old.port.place < length bytes → old.port.place < next
+  pub within : next ≤ length bytes
+  pub port : new.port ≡ gone_on old.port bytes later next
+  pub own : new.accessing.own ≡ old.accessing.own
+  pub past : (past : AskingPast) → HasAsked past old → HasAsked (read_one past bytes item next) new
+  pub told : (past : AskingPast) → HasAsked past old → Told past.requests (past.answers ++ item ∷ []) ≡ Told past.requests past.answers ++ option_to_list report
+  -- an NSP message that was read leaves the link
+  pub given : (size : ℕ) (messages : List (List ℕ)) (past : AskingPast)
+      → Stands old.port.link size messages past.given → Stands new.port.link size messages (read_one past bytes item next).given
+
+-- why nothing was read, and what that leaves: after an answer that has no place the end has failed
+pub record ReadNone (old new : AskingValue) (f : ReadFault) : Type 0 where
+  pub bytes : List ℕ
+  pub later : List (List ℕ)
+  pub came : old.port.link.inbox ≡ bytes ∷ later
+  pub port : new.port ≡ old.port
+  pub own : new.accessing.own ≡ old.accessing.own
+  pub refused : ReadRefused bytes old.port.place old.accessing new.accessing f
+
+-- what reading the next answer comes to
+abbrev pub ReadNext : (old new : AskingValue) → Heard → Type 0
+ReadNext old new heard.Nothing = (old.port.link.inbox ≡ []) × (new ≡ old)
+ReadNext old new heard.Part = ReadOne old new None
+ReadNext old new (heard.Report report) = ReadOne old new (Some report)
+
+-- What the end did grew into this, and these are the reports that were told.
+pub record HasRead (past now : AskingPast) (old new : AskingValue) (reports : List Report) : Type 0 where
+  pub is : HasAsked now new
+  pub requests : now.requests ≡ past.requests
+  pub asked : now.asked ≡ past.asked
+  pub handed : now.handed ≡ past.handed
+  pub answers : (more : List Item) × (now.answers ≡ past.answers ++ more)
+  pub told : Told past.requests now.answers ≡ Told past.requests past.answers ++ reports
+  -- what left the link was read
+  pub given : now.given ++ new.port.link.inbox ≡ past.given ++ old.port.link.inbox
+  pub stands : (size : ℕ) (messages : List (List ℕ)) → Stands old.port.link size messages past.given
+      → Stands new.port.link size messages now.given
+
+-- Answers that came were read, and these are the reports that they added.
+pub record ReadMore (old new : AskingValue) (reports : List Report) : Type 0 where
+  pub link : new.port.link ≡ record old.port.link { inbox = new.port.link.inbox }
+  pub outbox : new.port.outbox ≡ old.port.outbox
+  pub own : new.accessing.own ≡ old.accessing.own
+  pub past : (past : AskingPast) → HasAsked past old → (now : AskingPast) × HasRead past now old new reports
+
+-- they stand behind those that were there
+abbrev pub ReadAll : (old new : AskingValue) → (before all : List Report) → Type 0
+ReadAll old new before all = (reports : List Report) × (all ≡ before ++ reports) × ReadMore old new reports
+
+-- Some were read, and then memory was wanting for one that came, or it was refused.
+abbrev pub ReadPart : (old new : AskingValue) → (before all : List Report) → ReadFault → Type 0
+ReadPart old new before all f =
+    ((f ≡ read_fault.NoMemory) × ReadAll old new before all × (0 < length new.port.link.inbox))
+    ⊎ ((mid : AskingValue) × ReadAll old mid before all × ReadNone mid new f)
+
+-- ---- Going on.
+
+-- All that came was read, and what waited was handed over.
+pub record HeardAll (old new : AskingValue) (before reports : List Report) : Type 0 where
+  pub heard : AskingValue
+  pub read : ReadAll old heard before reports
+  pub done : heard.port.link.inbox ≡ []
+  pub count : ℕ
+  pub handed : HandedAll heard new count
+
+-- All was read, and then what waits wasn't handed over.
+pub record HeardOnly (old new : AskingValue) (before reports : List Report) (f : LinkFault) : Type 0 where
+  pub read : ReadAll old new before reports
+  pub done : new.port.link.inbox ≡ []
+  pub refused : SendAllFault new.port.link new.port.outbox f
+
+-- why not all is read and handed over, and what is done then
+abbrev pub HearFault : (old new : AskingValue) → (before reports : List Report) → EndFault → Type 0
+HearFault old new before reports (end_fault.Link f) = HeardOnly old new before reports f
+HearFault old new before reports (end_fault.Read f) = ReadPart old new before reports f
+
+-- All was read and handed over, and then segments were written.
+pub record WentOn (old new : AskingValue) (out all : List (List ℕ)) (before reports : List Report) : Type 0 where
+  pub heard : AskingValue
+  pub hears : HeardAll old heard before reports
+  pub rest : new ≡ record heard { port = new.port }
+  pub still : HasStill heard new
+  pub wrote : WroteAll heard.port new.port out all
+
+-- why not all is done, and what is done then
+abbrev pub GoOnFault : (old new : AskingValue) → (out all : List (List ℕ)) → (before reports : List Report) → EndFault → Type 0
+GoOnFault old new out all before reports f =
+    (HearFault old new before reports f × (all ≡ out))
+    ⊎ ((f ≡ end_fault.Link fault.NoMemory) × WentOn old new out all before reports × MaySend new.port.link)
+
+-- ---- Taking.
+
+abbrev pub received : AskingValue → LinkValue → AskingValue
+received v link = record v { port = with_link v.port link }
+
+-- the packet was taken in so
+pub record HeardIn (old : AskingValue) (bytes : List ℕ) (got : Got) (link : LinkValue) : Type 0 where
+  pub receives : Receives old.port.link link bytes (Ok got)
+  pub still : HasStill old (received old link)
+
+-- All that came was read, and what waited was handed over; the segments that the window allows were written, or where none
+-- was and one came, one acknowledgement.
+pub record HeardAndWrote (old new : AskingValue) (got : Got) (out all : List (List ℕ)) (before reports : List Report) : Type 0 where
+  pub heard : AskingValue
+  pub hears : HeardAll old heard before reports
+  pub rest : new ≡ record heard { port = new.port }
+  pub still : HasStill heard new
+  pub answered : AnsweredAll heard.port new.port got out all
+
+-- the same, and then memory was wanting for a packet
+pub record WrotePart (old new : AskingValue) (got : Got) (out all : List (List ℕ)) (before reports : List Report) (f : LinkFault) : Type 0 where
+  pub heard : AskingValue
+  pub hears : HeardAll old heard before reports
+  pub rest : new ≡ record heard { port = new.port }
+  pub still : HasStill heard new
+  pub part : AnsweredPart heard.port new.port got out all f
+
+-- why not all is read, handed over and written, and what is done then
+abbrev pub AnswerFault : (old new : AskingValue) → Got → (out all : List (List ℕ)) → (before reports : List Report) → EndFault → Type 0
+AnswerFault old new got out all before reports f =
+    (HearFault old new before reports f × (all ≡ out))
+    ⊎ ((g : LinkFault) × (f ≡ end_fault.Link g) × WrotePart old new got out all before reports g)
+
+-- the packet was taken in, and answered
+pub record TookAll (old new : AskingValue) (bytes : List ℕ) (got : Got) (out all : List (List ℕ)) (before reports : List Report) : Type 0 where
+  pub link : LinkValue
+  pub took : HeardIn old bytes got link
+  pub all_done : HeardAndWrote (received old link) new got out all before reports
+
+-- it was taken in, and not all was done
+pub record TookPart (old new : AskingValue) (bytes : List ℕ) (got : Got) (out all : List (List ℕ)) (before reports : List Report) (f : EndFault) : Type 0 where
+  pub link : LinkValue
+  pub took : HeardIn old bytes got link
+  pub why : AnswerFault (received old link) new got out all before reports f
+
+-- It was refused, and nothing of it was taken.
+pub record Refused (old new : AskingValue) (bytes : List ℕ) (f : LinkFault) : Type 0 where
+  pub link : LinkValue
+  pub receives : Receives old.port.link link bytes (Err f)
+  pub still : HasStill old new
+  pub new_is : new ≡ received old link
+
+abbrev pub NotTaken : (old new : AskingValue) → (bytes : List ℕ) → (out all : List (List ℕ)) → (before reports : List Report) → TakeFault → Type 0
+NotTaken old new bytes out all before reports (take_fault.Refused f) = Refused old new bytes f × (all ≡ out) × (reports ≡ before)
+NotTaken old new bytes out all before reports (take_fault.Unfinished got f) = TookPart old new bytes got out all before reports f

@@ -1,0 +1,116 @@
+-- What an end that serves promises over every list of its calls, whatever bytes come, and what it promises where the packets
+-- are those of a peer.
+use Rattle.std.specs.Prelude.{◌≡◌, ℕ, ◌+◌, ◌-◌, ◌<◌, ◌≤◌, List, [], ◌∷◌, ◌++◌, length, map, Option, Some, None, IfSome, Result, All}
+use Rattle.std.specs.List.{AllByRecursion}
+use Rattle.dap_msg.specs.Blocked.{all_joined, messages_in}
+use Rattle.nsp_seg.specs.Packets.{PacketValue, Spells}
+use Rattle.nsp_link.specs.declared.link.Got.{Got}
+use Rattle.nsp_link.specs.declared.fault.LinkFault.{LinkFault}
+use Rattle.nsp_link.specs.Limits.{largest_window}
+use Rattle.nsp_link.specs.Cutting.{cut}
+use Rattle.nsp_link.specs.Link.{LinkValue, IsBetween, Carries, IsTimely, Writes}
+use Rattle.nsp_link.specs.Sending.{WritesSent}
+use Rattle.dap_accessed.specs.Standing.{Files}
+use Rattle.dap_accessed.specs.Groups.{After, Answers}
+use Rattle.dap_end.specs.Ports.{PortValue, with_link}
+use Rattle.dap_end.specs.Receiving.{Receives}
+use Rattle.dap_end.specs.Serving.{ServingValue, Past, IsAfter, answers_to}
+use Rattle.dap_end.specs.Taking.{ServedMore, with_port}
+use Rattle.dap_end.specs.Writing.{WroteMore}
+
+-- ---- Packets.
+
+-- a packet that an end wrote, with the number of its segment, if it has one, and how many segments it acknowledges
+pub record Written : Type 0 where
+  pub bytes : List ℕ
+  pub segment : Option ℕ
+  pub acks : ℕ
+
+-- these packets, of the segments in order from this number on
+abbrev pub numbered : (k acks : ℕ) → List (List ℕ) → List Written
+numbered k acks [] = []
+numbered k acks (bytes ∷ packets) = record { bytes = bytes; segment = Some k; acks = acks } ∷ numbered (k + 1) acks packets
+
+-- their bytes
+abbrev pub bytes_of : List Written → List (List ℕ)
+bytes_of wrote = map (λ w. w.bytes) wrote
+
+-- it carries that segment of whatever was handed to the link, or none, and all that the link has taken
+abbrev pub WroteOne : LinkValue → Option ℕ → Written → Type 0
+WroteOne v k w = (w.segment ≡ k) × (w.acks ≡ v.received) × WritesSent v k w.bytes
+
+-- ---- Calls.
+
+-- A packet came; the end did what it does by itself, or some of it; it wrote a segment again that isn't acknowledged, or
+-- an acknowledgement.
+pub data ServingEvent : Type 0 where
+  Came : List ℕ → ServingEvent
+  GoesOn : ServingEvent
+  Again : ℕ → ServingEvent
+  Acks : ServingEvent
+
+-- what each leaves, and the packets that it writes
+abbrev pub Stepped : ServingValue → ServingEvent → ServingValue → List Written → Type 0
+Stepped old (Came bytes) new wrote =
+    (result : Result Got LinkFault) × (link : LinkValue) × Receives old.port.link link bytes result
+    × (new ≡ with_port old (with_link old.port link)) × (wrote ≡ [])
+Stepped old GoesOn new wrote =
+    (served : ServingValue) × (packets : List (List ℕ)) × ServedMore old served × WroteMore served.port new.port packets
+    × (new ≡ with_port served new.port) × (wrote ≡ numbered (served.port.link.sent + 1) served.port.link.received packets)
+Stepped old (Again i) new wrote =
+    (w : Written) × (i < old.port.link.sent - old.port.link.acked) × WroteOne old.port.link (Some (old.port.link.acked + 1 + i)) w
+    × (new ≡ old) × (wrote ≡ w ∷ [])
+Stepped old Acks new wrote =
+    (w : Written) × WroteOne old.port.link None w × (new ≡ old) × (wrote ≡ w ∷ [])
+
+-- one after another
+abbrev pub Runs : ServingValue → List ServingEvent → ServingValue → List Written → Type 0
+Runs old [] new wrote = (new ≡ old) × (wrote ≡ [])
+Runs old (event ∷ events) new wrote =
+    (mid : ServingValue) × (front : List Written) × (back : List Written) × (wrote ≡ front ++ back)
+    × Stepped old event mid front × Runs mid events new back
+
+-- a call is these events: its packets stand behind those that were there
+abbrev pub AreCalls : ServingValue → List ServingEvent → ServingValue → (out all : List (List ℕ)) → Type 0
+AreCalls old events new out all = (wrote : List Written) × Runs old events new wrote × (all ≡ out ++ bytes_of wrote)
+
+-- each packet carries its segment of what was handed to the link, and its count of segments taken
+abbrev pub AreWrittenOf : LinkValue → (handed : List (List ℕ)) → List Written → Type 0
+AreWrittenOf v handed wrote = AllByRecursion (λ w. Writes v handed w.segment w.acks w.bytes) wrote
+
+-- The files are those after what was served; what was handed over is a front of the answers to it, joined to NSP messages;
+-- and the packets carry it.
+pub record Promises (past : Past) (v : ServingValue) (wrote : List Written) : Type 0 where
+  pub files : v.accessed.files ≡ After v.accessed.own past.first past.items
+  pub answers : (rest : List (List ℕ)) × (past.handed ++ rest ≡ all_joined (answers_to v.accessed.own past.first [] past.items))
+  pub messages : messages_in (answers_to v.accessed.own past.first [] past.items) ≡ Answers v.accessed.own past.first past.items
+  pub packets : AreWrittenOf v.port.link past.handed wrote
+
+-- ---- A peer.
+
+-- The bytes are a packet of a peer that cuts these NSP messages, none longer than this end takes, by this size: of one of
+-- their segments, or of none, and of an acknowledgement of segments that this end sent. Neither is more than 2,047 numbers
+-- old, nor further ahead than the numbers tell.
+pub record IsFromPeer (v : LinkValue) (size : ℕ) (messages : List (List ℕ)) (bytes : List ℕ) : Type 0 where
+  pub positive : 0 < size
+  pub short : All (λ m. length m ≤ v.max_message) messages
+  pub packet : PacketValue
+  pub segment : Option ℕ
+  pub acks : ℕ
+  pub spelled : Spells packet bytes
+  pub way : IsBetween v.remote v.local packet
+  pub carries : Carries packet (cut size messages) segment acks
+  pub fresh : IsTimely v segment acks
+  pub near : IfSome segment (λ n. n ≤ v.received + largest_window)
+  pub believable : acks ≤ v.sent
+
+abbrev pub IsEventOf : LinkValue → (size : ℕ) (messages : List (List ℕ)) → ServingEvent → Type 0
+IsEventOf v size messages (Came bytes) = IsFromPeer v size messages bytes
+IsEventOf v size messages _ = Unit {0}
+
+-- one after another, and each packet that came is from that peer
+abbrev pub RunsFrom : (size : ℕ) (messages : List (List ℕ)) → ServingValue → List ServingEvent → ServingValue → Type 0
+RunsFrom size messages old [] new = new ≡ old
+RunsFrom size messages old (event ∷ events) new =
+    (mid : ServingValue) × (wrote : List Written) × IsEventOf old.port.link size messages event × Stepped old event mid wrote
+    × RunsFrom size messages mid events new

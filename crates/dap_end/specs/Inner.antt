@@ -1,0 +1,9 @@
+-- What only the contracts of private functions cite, and how types keep their values: nobody has to believe it.
+pub mod Kept
+pub mod PortView
+pub mod ServingView
+pub mod ServingInside
+pub mod AskingView
+pub mod AskingInside
+pub mod Stored
+pub mod Answered

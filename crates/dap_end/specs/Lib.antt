@@ -1,0 +1,11 @@
+pub mod Ports
+pub mod Going
+pub mod Receiving
+pub mod Writing
+pub mod Serving
+pub mod Taking
+pub mod Asking
+pub mod Hearing
+pub mod Headline
+pub mod Joined
+pub mod Inner

@@ -1,0 +1,103 @@
+-- The end that serves, before any peer.
+use Rattle.std.specs.Prelude.{◌≡◌, ◌⊎◌, ℕ, ◌<◌, ◌≤◌, List, [], ◌∷◌, ◌++◌, length}
+use Rattle.dap_fields.specs.Spelling.{AreBytes}
+use Rattle.dap_msg.specs.Items.{Item, ItemAt, IsPlace}
+use Rattle.dap_msg.specs.Blocked.{NspMessage, Blocked, all_joined, AllFit}
+use Rattle.nsp_link.specs.Link.{Sends, Stands}
+use Rattle.nsp_link.specs.Sending.{MayQueueAll}
+use Rattle.dap_accessed.specs.Standing.{Files}
+use Rattle.dap_accessed.specs.Groups.{Answers, added, limit_for}
+use Rattle.dap_accessed.specs.Present.{Present, StandsAfter}
+use Rattle.dap_accessed.specs.Adding.{AddRefused, RecordRefused}
+use Rattle.dap_accessed.specs.declared.fault.AddFault.{AddFault}
+use Rattle.dap_accessed.specs.declared.fault.AddFault.TheVariants as fault
+use Rattle.dap_end.specs.Ports.{PortValue, gone_on, posted, HasCome}
+use Rattle.dap_end.specs.Going.{GoneThrough, given_then}
+
+pub record ServingValue : Type 0 where
+  pub port : PortValue
+  pub accessed : Present
+
+-- What the end did on this link. It keeps none of it.
+pub record Past : Type 0 where
+  pub first : Files  -- the files that it had at first
+  pub given : List (List ℕ)  -- the NSP messages that it served whole
+  pub items : List Item  -- what it served: messages, or the rest of an NSP message of which none can be read
+  pub handed : List (List ℕ)  -- the NSP messages with its answers that were handed to its link
+
+abbrev pub nothing_yet : Files → Past
+nothing_yet first = record { first = first; given = []; items = []; handed = [] }
+
+-- the answers to each item, joined to NSP messages as far as the peer's limit goes
+abbrev pub answers_to : (own : ℕ) → Files → (before items : List Item) → List NspMessage
+answers_to own first before [] = []
+answers_to own first before (item ∷ items) =
+    Blocked (limit_for own first before) (added own first before item) ++ answers_to own first (before ++ item ∷ []) items
+
+-- The end is as after this: its files and its phase are those after the items, which are those of the NSP messages that
+-- it served and of the front of the next one; and what it handed to its link, and what waits, are the answers to them.
+pub record IsAfter (past : Past) (v : ServingValue) : Type 0 where
+  pub serving : StandsAfter past.first past.items v.accessed
+  pub gone : GoneThrough past.given v.port.link.inbox v.port.place past.items
+  pub sends : Sends v.port.link past.handed
+  pub answers : past.handed ++ v.port.outbox ≡ all_joined (answers_to v.accessed.own past.first [] past.items)
+  -- each answer has a spelling
+  pub fit : AllFit (Answers v.accessed.own past.first past.items)
+
+abbrev pub IsStill : ServingValue → ServingValue → Type 0
+IsStill old new = (past : Past) → IsAfter past old → IsAfter past new
+
+-- ---- Files that the end is given.
+
+-- before a segment came as well as before the peer's Config was served
+abbrev pub NotAdded : ServingValue → List ℕ → AddFault → Type 0
+NotAdded v name fault.Busy = HasCome v.port ⊎ AddRefused v.accessed name fault.Busy
+NotAdded v name f = (HasCome v.port → ⊥) × AddRefused v.accessed name f
+
+abbrev pub NotStored : ServingValue → ℕ → List ℕ → AddFault → Type 0
+NotStored v n body fault.Busy = HasCome v.port ⊎ RecordRefused v.accessed n body fault.Busy
+NotStored v n body f = (HasCome v.port → ⊥) × RecordRefused v.accessed n body f
+
+-- the end that did nothing on this link had these files at first
+abbrev pub IsGiven : ServingValue → ServingValue → Type 0
+IsGiven old new = (first : Files) → IsAfter (nothing_yet first) old → IsAfter (nothing_yet new.accessed.files) new
+
+-- ---- Serving.
+
+abbrev pub served : Past → (bytes : List ℕ) → Item → (next : ℕ) → Past
+served past bytes item next =
+    record past { given = given_then past.given bytes next; items = past.items ++ item ∷ [] }
+
+-- no answer waits, and something came that wasn't served
+abbrev pub MayServe : ServingValue → Type 0
+MayServe v = (v.port.outbox ≡ []) × (0 < length v.port.link.inbox)
+
+-- The next item of the oldest NSP message was served, and its answers wait.
+pub record ServedOne (old new : ServingValue) (n : ℕ) : Type 0 where
+  pub idle : old.port.outbox ≡ []
+  pub bytes : List ℕ
+  pub later : List (List ℕ)
+  pub came : old.port.link.inbox ≡ bytes ∷ later
+  pub fits : AreBytes bytes
+  pub item : Item
+  pub next : ℕ
+  pub reads : ItemAt bytes old.port.place item next
+  pub place : IsPlace old.port.place bytes
+  pub goes : old.port.place < length bytes → old.port.place < next
+  pub within : next ≤ length bytes
+  pub port : new.port ≡ record (gone_on old.port bytes later next) { outbox = new.port.outbox }
+  pub own : new.accessed.own ≡ old.accessed.own
+  pub count : n ≡ length new.port.outbox
+  pub past : (past : Past) → IsAfter past old → IsAfter (served past bytes item next) new
+  -- an NSP message that was served leaves the link
+  pub given : (size : ℕ) (messages : List (List ℕ)) (past : Past)
+      → Stands old.port.link size messages past.given → Stands new.port.link size messages (served past bytes item next).given
+
+-- ---- Handing over.
+
+-- all that waited was handed to the link
+pub record PostedAll (old new : ServingValue) (n : ℕ) : Type 0 where
+  pub may : MayQueueAll old.port.link old.port.outbox
+  pub posted : new ≡ record old { port = posted old.port }
+  pub count : n ≡ length old.port.outbox
+  pub past : (past : Past) → IsAfter past old → IsAfter (record past { handed = past.handed ++ old.port.outbox }) new

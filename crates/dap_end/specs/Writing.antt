@@ -1,0 +1,71 @@
+-- The packets that an end writes.
+use Rattle.std.specs.Prelude.{◌≡◌, ◌⊎◌, ℕ, ◌+◌, ◌<◌, ◌≤◌, ◌==◌, Bool, true, false, List, [], ◌∷◌, ◌++◌, length, Some}
+use Rattle.nsp_link.specs.declared.link.Got.{Got}
+use Rattle.nsp_link.specs.declared.link.Got.TheVariants.{AckOnly}
+use Rattle.nsp_link.specs.declared.fault.LinkFault.{LinkFault}
+use Rattle.nsp_link.specs.declared.fault.LinkFault.TheVariants as fault
+use Rattle.nsp_link.specs.Link.{LinkValue, Sends, Writes, MaySend, IsSpelling}
+use Rattle.nsp_link.specs.Sending.{WritesSent, ack_packet_of}
+use Rattle.dap_end.specs.Ports.{PortValue, with_link}
+
+-- these are the packets of the segments of what was handed over, in order from this number on
+abbrev pub AreWritten : LinkValue → (handed : List (List ℕ)) → (from : ℕ) → List (List ℕ) → Type 0
+AreWritten v handed k [] = Unit {0}
+AreWritten v handed k (bytes ∷ packets) = Writes v handed (Some k) v.received bytes × AreWritten v handed (k + 1) packets
+
+-- so many segments more count as sent
+abbrev pub sent_more : PortValue → ℕ → PortValue
+sent_more p n = with_link p (record p.link { sent = p.link.sent + n })
+
+-- what counts as sent is there, and within the window
+abbrev pub IsWithin : LinkValue → Type 0
+IsWithin v = (v.sent ≤ v.acked + length v.queue) × (v.sent ≤ v.acked + v.window)
+
+-- the next segment was written
+pub record WroteNext (old new : PortValue) (bytes : List ℕ) : Type 0 where
+  pub may : MaySend old.link
+  pub sent : new ≡ sent_more old 1
+  pub writes : WritesSent old.link (Some (old.link.sent + 1)) bytes
+
+-- The next segments were written, no more than there are and the window allows: of whatever was handed over, these are
+-- their packets.
+pub record WroteMore (old new : PortValue) (packets : List (List ℕ)) : Type 0 where
+  pub sent : new ≡ sent_more old (length packets)
+  pub writes : (handed : List (List ℕ)) → Sends old.link handed → AreWritten old.link handed (old.link.sent + 1) packets
+  pub within : 0 < length packets → IsWithin new.link
+
+-- no segment that was never sent may be written
+abbrev pub IsFull : LinkValue → Type 0
+IsFull v = MaySend v → ⊥
+
+-- they stand behind those that were there
+abbrev pub WroteAll : (old new : PortValue) → (out all : List (List ℕ)) → Type 0
+WroteAll old new out all = (packets : List (List ℕ)) × (all ≡ out ++ packets) × WroteMore old new packets
+
+-- ---- What answers a packet.
+
+-- a segment came, and none is written that acknowledges it
+abbrev pub wants_ack : Got → (written : ℕ) → Bool
+wants_ack AckOnly written = false
+wants_ack got written = written == 0
+
+-- All segments were written that the window allows, and where none was and one came, an acknowledgement of all that were
+-- taken.
+pub record WroteAnswer (old new : PortValue) (got : Got) (packets : List (List ℕ)) : Type 0 where
+  pub written : List (List ℕ)
+  pub wrote : WroteMore old new written
+  pub full : IsFull new.link
+  pub quiet : wants_ack got (length written) ≡ false → packets ≡ written
+  pub acks : wants_ack got (length written) ≡ true
+      → (bytes : List ℕ) × (packets ≡ written ++ bytes ∷ []) × IsSpelling (ack_packet_of new.link) bytes
+
+abbrev pub AnsweredAll : (old new : PortValue) → Got → (out all : List (List ℕ)) → Type 0
+AnsweredAll old new got out all = (packets : List (List ℕ)) × (all ≡ out ++ packets) × WroteAnswer old new got packets
+
+-- Memory was refused to a segment that the window allows, or to the acknowledgement.
+pub record AnsweredPart (old new : PortValue) (got : Got) (out all : List (List ℕ)) (f : LinkFault) : Type 0 where
+  pub packets : List (List ℕ)
+  pub behind : all ≡ out ++ packets
+  pub wrote : WroteMore old new packets
+  pub memory : f ≡ fault.NoMemory
+  pub why : MaySend new.link ⊎ (wants_ack got (length packets) ≡ true)

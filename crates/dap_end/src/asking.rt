@@ -1,0 +1,380 @@
+//! The end that asks.
+
+ghost use Rattle.std.specs.Prelude.{◌≡◌, ◌≢◌, ◌≤◌, ◌<◌, ◌+◌, ◌-◌, ℕ, [], Ok, Some, None, true, false, length, IfOk, IfErr, IfSome, OnOk, OnErr, IsErrOf, IsTrue, ◌++◌, option_to_list, vec_len, vec_capacity};
+ghost use Rattle.dap_msg.specs.Exchange.{least_buffer};
+ghost use Rattle.dap_msg.specs.Blocked.{bodies};
+ghost use Rattle.nsp_link.specs.Limits.{largest_limit};
+ghost use Rattle.nsp_link.specs.Link.{SetupFault, MaySend, IsSpelling};
+ghost use Rattle.nsp_link.specs.Sending.{NextFault, SendAllFault, WritesSent, ack_packet_of};
+ghost use Rattle.nsp_link.specs.declared.fault.LinkFault.TheVariants.{Failed, NoSuchSegment, MessageTooLong};
+ghost use Rattle.nsp_link.specs.declared.fault.LinkFault.TheVariants as fault;
+ghost use Rattle.dap_accessing.specs.Asked.{messages_of};
+ghost use Rattle.dap_accessing.specs.Calls.{AskRefused};
+ghost use Rattle.dap_end.specs.Ports.{new_port};
+ghost use Rattle.dap_end.specs.Receiving.{Receives};
+ghost use Rattle.dap_end.specs.Writing.{WroteNext, IsFull};
+ghost use Rattle.dap_end.specs.Asking.{HasAsked, HasStill, AskedOne, HandedAll, ReadOne, ReadNone, ReadNext, ReadAll, ReadPart, HeardAll, HearFault, WentOn, GoOnFault, HeardAndWrote, AnswerFault, TookAll, NotTaken, nothing_asked, received};
+ghost use Rattle.dap_end.specs.Inner.Answered.{Ended};
+ghost use Rattle.dap_end.specs.Inner.Kept.{IsPort};
+ghost use Rattle.dap_end.specs.Inner.AskingView.{asking_of};
+
+use crate::fault::{EndFault, TakeFault};
+use crate::port::{Port, is_end};
+use dap_accessing::{Accessing, AskFault, ReadFault, Report, Request};
+use nsp_link::{Got, LinkEnd, LinkFault, LinkSetup};
+use std::alloc::Global;
+use std::marker::Model;
+
+/// What reading the next answer comes to (own).
+#[derive(Drop)]
+pub enum Heard {
+    /// Nothing came that wasn't read.
+    Nothing,
+    /// An answer that completes no report.
+    Part,
+    /// The answer that completes this report.
+    Report(Report),
+}
+
+/// The end that asks, with its link.
+#[derive(Drop)]
+pub struct AskingEnd {
+    port: Port,
+    accessing: Accessing,
+}
+
+impl Model for AskingEnd {
+    ghost use Rattle.dap_end.specs.Asking.{AskingValue};
+
+    ghost Value = { AskingValue };
+
+    ghost use Rattle.dap_end.specs.Inner.AskingInside.{asking_view, IsSound};
+
+    ghost view = { asking_view };
+
+    ghost invariant = { IsSound };
+}
+
+impl AskingEnd {
+    /// An end of which nothing was asked, with a buffer of so many bytes, at least 64 (own). A setup with `max_message`
+    /// 65,535 takes all that an end may send. Refused: `BadSetup` where a limit of the setup isn't in its range;
+    /// `NoMemory`.
+    pub fn new(alloc: Global, bufsiz: u16, setup: LinkSetup) -> Result<AskingEnd, LinkFault>
+        requires { least_buffer ≤ bufsiz }
+        ensures ok { IfOk result (λ end. HasAsked nothing_asked end
+            × (end.port ≡ new_port setup) × (end.accessing.own ≡ bufsiz)) }
+        ensures err { IfErr result (SetupFault setup) }
+    {
+        let port = Port::new(alloc, setup)?;
+        Ok(AskingEnd {
+            port,
+            accessing: Accessing::new(alloc, bufsiz),
+        })
+    }
+
+    /// The same end for another link: nothing was asked of it, and all that waits is dropped (own). Refused, with nothing
+    /// changed: `BadSetup` where a limit of the setup isn't in its range; `NoMemory`.
+    pub fn renew(&mut self, alloc: Global, setup: LinkSetup) -> Result<(), LinkFault>
+        ensures ok { OnOk result (HasAsked nothing_asked self.new
+            × (self.new.port ≡ new_port setup)
+            × (self.new.accessing.own ≡ self.old.accessing.own)) }
+        ensures err { IfErr result (λ f. (self.new ≡ self.old) × SetupFault setup f) }
+    {
+        let port = Port::new(alloc, setup)?;
+        self.port = port;
+        self.accessing.renew();
+        Ok(())
+    }
+
+    /// Asks a request: its NSP messages wait then, and so many they are (DAP 5.6.0, message sequences). Refused as
+    /// [`dap_accessing::Accessing::ask`] is, and nothing has changed then.
+    pub fn ask(&mut self, request: &Request) -> Result<usize, AskFault>
+        ensures ok { IfOk result (λ n. AskedOne request.now self.old self.new n) }
+        ensures err { IfErr result (λ f. (self.new ≡ self.old)
+            × AskRefused request.now self.old.accessing f) }
+    {
+        ask_next(&mut self.port, &mut self.accessing, request)
+    }
+
+    /// Takes a packet in, as [`nsp_link::LinkEnd::receive`] does; nothing is read by that.
+    pub fn receive(&mut self, packet: &[u8]) -> Result<Got, LinkFault>
+        ensures rest { self.new ≡ received self.old self.new.port.link }
+        ensures receives { Receives self.old.port.link self.new.port.link packet.now result }
+        ensures still { HasStill self.old self.new }
+    {
+        self.port.receive(packet)
+    }
+
+    /// Whether something came that wasn't read. It takes no memory. Own.
+    pub fn may_read(&self) -> bool
+        ensures yes { result ≡ true → 0 < length self.now.port.link.inbox }
+        ensures no { result ≡ false → self.now.port.link.inbox ≡ [] }
+    {
+        self.port.link.peek_message().is_some()
+    }
+
+    /// Reads the next answer of the oldest NSP message that came, and gives the report that it completes; nothing, where
+    /// nothing is left to read (DAP 5.6.0, message sequences). Refused: `Failed`; `Unexpected`, after which the end has
+    /// failed; `NoMemory`, which changes nothing.
+    pub fn read(&mut self) -> Result<Heard, ReadFault>
+        ensures ok { IfOk result (λ heard. ReadNext self.old self.new heard) }
+        ensures err { IfErr result (λ f. ReadNone self.old self.new f) }
+    {
+        if !self.may_read() {
+            return Ok(Heard::Nothing);
+        }
+        match self.read_there() {
+            Ok(None) => Ok(Heard::Part),
+            Ok(Some(report)) => Ok(Heard::Report(report)),
+            Err(fault) => Err(fault),
+        }
+    }
+
+    // Reads the next answer, which came.
+    fn read_there(&mut self) -> Result<Option<Report>, ReadFault>
+        requires { 0 < length self.old.port.link.inbox }
+        ensures ok { IfOk result (λ report. ReadOne self.old self.new report) }
+        ensures err { IfErr result (λ f. ReadNone self.old self.new f) }
+    {
+        read_next(&mut self.port, &mut self.accessing)
+    }
+
+    /// Reads all that came, and adds the reports behind those in `reports` (own). Refused as `read` is; what was read before
+    /// that stays so.
+    pub fn read_all(&mut self, reports: &mut Vec<Report>) -> Result<(), ReadFault>
+        ensures ok { OnOk result (ReadAll self.old self.new reports.old.items reports.new.items) }
+        ensures all { OnOk result (self.new.port.link.inbox ≡ []) }
+        ensures err { IfErr result (ReadPart self.old self.new reports.old.items
+            reports.new.items) }
+    {
+        'answers: loop {
+            if !self.may_read() {
+                return Ok(());
+            }
+            let Ok(()) = reports.reserve(1) else {
+                return Err(ReadFault::NoMemory);
+            };
+            match self.read_there() {
+                Ok(report) => keep(reports, report),
+                Err(fault) => return Err(fault),
+            }
+        }
+    }
+
+    // Reads all that came, and hands over what waits.
+    fn hear_all(&mut self, reports: &mut Vec<Report>) -> Result<(), EndFault>
+        ensures ok { OnOk result (HeardAll self.old self.new reports.old.items
+            reports.new.items) }
+        ensures works { OnOk result (self.new.port.link.failed ≡ false) }
+        ensures err { IfErr result (HearFault self.old self.new reports.old.items
+            reports.new.items) }
+    {
+        match self.read_all(reports) {
+            Ok(()) => match self.post() {
+                Ok(_) => Ok(()),
+                Err(fault) => Err(EndFault::Link(fault)),
+            },
+            Err(fault) => Err(EndFault::Read(fault)),
+        }
+    }
+
+    /// Reads all that came, hands over what waits, and writes all segments that were never sent, as far as the window
+    /// allows. The packets stand behind those in `out`, the reports behind those in `reports` (own). Refused as `read`
+    /// and `post` are, or for want of memory. What was done before that stays done, and the same call goes on.
+    pub fn go_on(
+        &mut self,
+        out: &mut Vec<Vec<u8>>,
+        reports: &mut Vec<Report>,
+    ) -> Result<(), EndFault>
+        ensures ok { OnOk result (WentOn self.old self.new (bodies out.old.items)
+            (bodies out.new.items) reports.old.items reports.new.items) }
+        ensures all { OnOk result (IsFull self.new.port.link) }
+        ensures err { IfErr result (GoOnFault self.old self.new (bodies out.old.items)
+            (bodies out.new.items) reports.old.items reports.new.items) }
+    {
+        match self.hear_all(reports) {
+            Ok(()) => ended(self.port.emit_all(out)),
+            Err(fault) => Err(fault),
+        }
+    }
+
+    /// Takes a packet in, and tells what became of it; reads all that came, hands over what waits, and writes all segments
+    /// that were never sent, as far as the window allows; or where a segment came and none is written, one acknowledgement.
+    /// The packets stand behind those in `out`, the reports behind those in `reports` (own).
+    ///
+    /// Refusals: `Refused` as `receive` is, and nothing of the packet was taken; `Unfinished`, once it was taken in: `go_on`
+    /// does what is left, and the same packet is answered again.
+    pub fn take(
+        &mut self,
+        packet: &[u8],
+        out: &mut Vec<Vec<u8>>,
+        reports: &mut Vec<Report>,
+    ) -> Result<Got, TakeFault>
+        ensures ok { IfOk result (λ got. TookAll self.old self.new packet.now got
+            (bodies out.old.items) (bodies out.new.items) reports.old.items reports.new.items) }
+        ensures err { IfErr result (NotTaken self.old self.new packet.now (bodies out.old.items)
+            (bodies out.new.items) reports.old.items reports.new.items) }
+    {
+        match self.receive(packet) {
+            Ok(got) => match self.answer(got, out, reports) {
+                Ok(()) => Ok(got),
+                Err(fault) => Err(TakeFault::Unfinished(got, fault)),
+            },
+            Err(fault) => Err(TakeFault::Refused(fault)),
+        }
+    }
+
+    // Reads all that came, and writes what answers it.
+    fn answer(
+        &mut self,
+        got: Got,
+        out: &mut Vec<Vec<u8>>,
+        reports: &mut Vec<Report>,
+    ) -> Result<(), EndFault>
+        ensures ok { OnOk result (HeardAndWrote self.old self.new got (bodies out.old.items)
+            (bodies out.new.items) reports.old.items reports.new.items) }
+        ensures err { IfErr result (AnswerFault self.old self.new got (bodies out.old.items)
+            (bodies out.new.items) reports.old.items reports.new.items) }
+    {
+        match self.hear_all(reports) {
+            Ok(()) => ended(self.port.answer(got, out)),
+            Err(fault) => Err(fault),
+        }
+    }
+
+    /// Hands all that waits to the link, and tells how many NSP messages these are (own). Refused, with nothing changed:
+    /// `Failed`; `MessageTooLong`, above the setup's `max_message`, which never comes where that is 65,535; `Exhausted`,
+    /// where this end would have had more than 2^40 segments; `NoMemory`.
+    pub fn post(&mut self) -> Result<usize, LinkFault>
+        ensures ok { IfOk result (λ n. HandedAll self.old self.new n) }
+        ensures err { IfErr result (λ f. (self.new ≡ self.old)
+            × SendAllFault self.old.port.link self.old.port.outbox f) }
+        ensures short { self.old.port.link.max_message ≡ largest_limit
+            → IfErr result (λ f. f ≢ MessageTooLong) }
+    {
+        self.port.post()
+    }
+
+    /// The packet of the next segment that was never sent, or none where none waits or the window is full, as
+    /// [`nsp_link::LinkEnd::next_packet`] writes it (NSP 4.0.0, data segment message).
+    pub fn emit(&mut self) -> Result<Option<Vec<u8>>, LinkFault>
+        ensures rest { self.new ≡ record self.old { port = self.new.port } }
+        ensures nothing { result ≡ Ok None
+            → (self.new ≡ self.old) × (MaySend self.old.port.link → ⊥) }
+        ensures wrote { IfOk result
+            (λ o. IfSome o (λ v. WroteNext self.old.port self.new.port v.items)) }
+        ensures err { IfErr result (λ f. (self.new ≡ self.old) × NextFault self.old.port.link f) }
+        ensures still { HasStill self.old self.new }
+    {
+        self.port.emit()
+    }
+
+    /// The packet of a segment that was sent and isn't acknowledged, again: the oldest is at place 0, as
+    /// [`nsp_link::LinkEnd::resend`] writes it (NSP 4.0.0, data segment message).
+    pub fn resend(&self, place: usize) -> Result<Vec<u8>, LinkFault>
+        ensures wrote { IfOk result (λ v. WritesSent self.now.port.link
+            (Some (self.now.port.link.acked + 1 + place)) v.items) }
+        ensures failed { IsTrue self.now.port.link.failed → IsErrOf result Failed }
+        ensures missing { self.now.port.link.failed ≡ false
+            → self.now.port.link.sent - self.now.port.link.acked ≤ place
+            → IsErrOf result NoSuchSegment }
+        ensures memory { self.now.port.link.failed ≡ false
+            → place < self.now.port.link.sent - self.now.port.link.acked
+            → IfErr result (λ f. f ≡ fault.NoMemory) }
+    {
+        self.port.link.resend(place)
+    }
+
+    /// A packet that only acknowledges all segments that were taken, as [`nsp_link::LinkEnd::ack_packet`] writes it
+    /// (NSP 4.0.0, data acknowledgement message).
+    pub fn ack(&self) -> Result<Vec<u8>, LinkFault>
+        ensures wrote { IfOk result (λ v. IsSpelling (ack_packet_of self.now.port.link) v.items) }
+        ensures failed { IsTrue self.now.port.link.failed → IsErrOf result Failed }
+        ensures memory { self.now.port.link.failed ≡ false
+            → IfErr result (λ f. f ≡ fault.NoMemory) }
+    {
+        self.port.link.ack_packet()
+    }
+
+    /// The link, with its counts. It takes no memory. Own.
+    pub fn link(&self) -> &LinkEnd
+        ensures { result.now ≡ self.now.port.link }
+    {
+        &self.port.link
+    }
+}
+
+// How a call ends that ends as its link does.
+fn ended(done: Result<(), LinkFault>) -> Result<(), EndFault>
+    ensures { Ended done result }
+{
+    match done {
+        Ok(()) => Ok(()),
+        Err(fault) => Err(EndFault::Link(fault)),
+    }
+}
+
+// Adds the report, for which there is room.
+fn keep(reports: &mut Vec<Report>, report: Option<Report>)
+    requires { vec_len reports.old < vec_capacity reports.old }
+    ensures { reports.new.items ≡ reports.old.items ++ option_to_list report }
+{
+    if let Some(report) = report {
+        reports.push_reserved(report);
+    }
+}
+
+// How many messages a request has at most.
+fn most_messages(request: &Request) -> usize
+    ensures { (own : ℕ) → length (messages_of own request.now) ≤ result }
+{
+    match request {
+        Request::Store(bodies) => bodies.0.len().saturating_add(2),
+        _ => 2,
+    }
+}
+
+// Asks a request: its messages wait.
+fn ask_next(
+    port: &mut Port,
+    accessing: &mut Accessing,
+    request: &Request,
+) -> Result<usize, AskFault>
+    requires { IsPort port.old }
+    ensures ok { IfOk result (λ n. AskedOne request.now (asking_of port.old accessing.old)
+        (asking_of port.new accessing.new) n) }
+    ensures kept { IsPort port.new }
+    ensures err { IfErr result (λ f. (port.new ≡ port.old) × (accessing.new ≡ accessing.old)
+        × AskRefused request.now accessing.old f) }
+{
+    accessing.check(request)?;
+    let Ok(()) = port.outbox.reserve(most_messages(request)) else {
+        return Err(AskFault::NoMemory);
+    };
+    let mut messages = accessing.ask_checked(request)?;
+    let count = messages.len();
+    port.outbox.append(&mut messages).unwrap();
+    Ok(count)
+}
+
+// Reads the next answer of the oldest NSP message that came.
+fn read_next(port: &mut Port, accessing: &mut Accessing) -> Result<Option<Report>, ReadFault>
+    requires kept { IsPort port.old }
+    requires some { 0 < length port.old.link.inbox }
+    ensures ok { IfOk result (λ report. ReadOne (asking_of port.old accessing.old)
+        (asking_of port.new accessing.new) report) }
+    ensures kept { IsPort port.new }
+    ensures err { IfErr result (λ f. ReadNone (asking_of port.old accessing.old)
+        (asking_of port.new accessing.new) f) }
+{
+    let place = port.place;
+    let message = port.link.peek_message().unwrap();
+    match accessing.read(message, place) {
+        Ok(step) => {
+            let at_end = is_end(message, step.next);
+            port.go_on(at_end, step.next);
+            Ok(step.report)
+        }
+        Err(fault) => Err(fault),
+    }
+}

@@ -1,0 +1,187 @@
+//! Laws over the definitions alone. Each function does nothing: its contract is the law.
+
+ghost use Rattle.std.specs.Prelude.{◌≡◌, ◌≢◌, ◌+◌, ◌-◌, ◌<◌, ℕ, List, [], ◌∷◌, ◌++◌, Option, Some, None, option_to_list};
+ghost use Rattle.nsp_link.specs.declared.link.LinkSetup.{LinkSetup as TheSetup};
+ghost use Rattle.nsp_link.specs.declared.link.Got.{Got as TheGot};
+ghost use Rattle.nsp_link.specs.declared.fault.LinkFault.{LinkFault as TheFault};
+ghost use Rattle.nsp_link.specs.Link.{IsSpelling};
+ghost use Rattle.nsp_link.specs.Sending.{WritesSent, ack_packet_of};
+ghost use Rattle.dap_accessed.specs.Standing.{Files};
+ghost use Rattle.dap_accessing.specs.declared.request.Request.{Request as TheRequest};
+ghost use Rattle.dap_accessing.specs.declared.report.Report.{Report as TheReport};
+ghost use Rattle.dap_accessing.specs.declared.fault.ReadFault.TheVariants as read_fault;
+ghost use Rattle.dap_end.specs.declared.fault.EndFault.{EndFault as TheEndFault};
+ghost use Rattle.dap_end.specs.declared.fault.EndFault.TheVariants as end_fault;
+ghost use Rattle.dap_end.specs.Ports.{new_port};
+ghost use Rattle.dap_end.specs.Going.{AreFrontOf};
+ghost use Rattle.dap_end.specs.Serving.{ServingValue, Past, IsAfter, ServedOne, PostedAll, nothing_yet};
+ghost use Rattle.dap_end.specs.Writing.{WroteNext};
+ghost use Rattle.dap_end.specs.Taking as serving;
+ghost use Rattle.dap_end.specs.Taking.{with_port};
+ghost use Rattle.dap_end.specs.Asking as asking;
+ghost use Rattle.dap_end.specs.Asking.{AskingValue, AskingPast, HasAsked, AskedOne, HandedAll, ReadOne, nothing_asked};
+ghost use Rattle.dap_end.specs.Headline.{Written, ServingEvent, Came, GoesOn, Again, Acks, Runs, RunsFrom, AreCalls, Promises, numbered};
+ghost use Rattle.dap_end.specs.Hearing as hearing;
+ghost use Rattle.dap_end.specs.Hearing.{AskingEvent, AskingRuns, AskingRunsFrom, AreAskingCalls, AskingPromises, requests_in};
+ghost use Rattle.dap_end.specs.Joined.{Pair, PairEvent, PairRuns, AreOpposite, AreNew, PairHeadline};
+
+/// Whatever bytes come to an end that served nothing yet, and whatever it was called to do, there is a list of items that it
+/// served: its files are those after them, what it handed to its link is a front of the answers to them, and each packet
+/// that it wrote carries its segment of that. Own.
+pub fn every_run_is_served()
+    ensures { (first : Files) (events : List ServingEvent) (old new : ServingValue)
+        (wrote : List Written) → IsAfter (nothing_yet first) old → Runs old events new wrote
+        → (past : Past) × IsAfter past new × (past.first ≡ first) × Promises past new wrote }
+{}
+
+/// Where the packets are those of a peer that sends some NSP messages, lost, repeated and reordered as they may be, what the
+/// end served is a front of the items in them, each once and in order. Own.
+pub fn a_peer_is_served_in_order()
+    ensures { (setup : TheSetup) (first : Files) (size : ℕ) (messages : List (List ℕ))
+        (events : List ServingEvent) (old new : ServingValue)
+        → old.port ≡ new_port setup → IsAfter (nothing_yet first) old
+        → RunsFrom size messages old events new
+        → (past : Past) × IsAfter past new × (past.first ≡ first)
+        × AreFrontOf messages past.items }
+{}
+
+/// Each call of an end that serves is a run, refused or not. Own.
+pub fn calls_are_runs()
+    ensures serve { (old new : ServingValue) (n : ℕ) → ServedOne old new n
+        → Runs old (GoesOn ∷ []) new [] }
+    ensures post { (old new : ServingValue) (n : ℕ) → PostedAll old new n
+        → Runs old (GoesOn ∷ []) new [] }
+    ensures emit { (old new : ServingValue) (bytes : List ℕ) → new ≡ with_port old new.port
+        → WroteNext old.port new.port bytes → Runs old (GoesOn ∷ []) new
+        (numbered (old.port.link.sent + 1) old.port.link.received (bytes ∷ [])) }
+    ensures resend { (v : ServingValue) (i : ℕ) (bytes : List ℕ)
+        → i < v.port.link.sent - v.port.link.acked
+        → WritesSent v.port.link (Some (v.port.link.acked + 1 + i)) bytes
+        → Runs v (Again i ∷ []) v (record {
+          bytes = bytes;
+          segment = Some (v.port.link.acked + 1 + i);
+          acks = v.port.link.received;
+        } ∷ []) }
+    ensures ack { (v : ServingValue) (bytes : List ℕ) → IsSpelling (ack_packet_of v.port.link) bytes
+        → Runs v (Acks ∷ []) v (record {
+          bytes = bytes;
+          segment = None;
+          acks = v.port.link.received;
+        } ∷ []) }
+    ensures go_on { (old new : ServingValue) (out all : List (List ℕ))
+        → serving.WentOn old new out all → AreCalls old (GoesOn ∷ []) new out all }
+    ensures take { (old new : ServingValue) (bytes : List ℕ) (got : TheGot) (out all : List (List ℕ))
+        → serving.TookAll old new bytes got out all
+        → (events : List ServingEvent) × AreCalls old (Came bytes ∷ events) new out all }
+    ensures part { (old new : ServingValue) (bytes : List ℕ) (got : TheGot) (out all : List (List ℕ))
+        (f : TheFault) → serving.TookPart old new bytes got out all f
+        → AreCalls old (Came bytes ∷ GoesOn ∷ []) new out all }
+    ensures refused { (old new : ServingValue) (bytes : List ℕ) (out all : List (List ℕ))
+        (f : TheFault) → serving.Refused old new bytes out all f
+        → AreCalls old (Came bytes ∷ []) new out all }
+{}
+
+/// Each call of an end that asks is a run, but one in which an answer has no place. Own.
+pub fn asking_calls_are_runs()
+    ensures ask { (old new : AskingValue) (request : TheRequest) (n : ℕ)
+        → AskedOne request old new n → AskingRuns old (hearing.Asks request ∷ []) new [] [] }
+    ensures read { (old new : AskingValue) (report : Option TheReport) → ReadOne old new report
+        → AskingRuns old (hearing.GoesOn ∷ []) new (option_to_list report) [] }
+    ensures post { (old new : AskingValue) (n : ℕ) → HandedAll old new n
+        → AskingRuns old (hearing.GoesOn ∷ []) new [] [] }
+    ensures emit { (old new : AskingValue) (bytes : List ℕ) → new ≡ record old { port = new.port }
+        → WroteNext old.port new.port bytes → AskingRuns old (hearing.GoesOn ∷ []) new []
+        (numbered (old.port.link.sent + 1) old.port.link.received (bytes ∷ [])) }
+    ensures resend { (v : AskingValue) (i : ℕ) (bytes : List ℕ)
+        → i < v.port.link.sent - v.port.link.acked
+        → WritesSent v.port.link (Some (v.port.link.acked + 1 + i)) bytes
+        → AskingRuns v (hearing.Again i ∷ []) v [] (record {
+          bytes = bytes;
+          segment = Some (v.port.link.acked + 1 + i);
+          acks = v.port.link.received;
+        } ∷ []) }
+    ensures ack { (v : AskingValue) (bytes : List ℕ) → IsSpelling (ack_packet_of v.port.link) bytes
+        → AskingRuns v (hearing.Acks ∷ []) v [] (record {
+          bytes = bytes;
+          segment = None;
+          acks = v.port.link.received;
+        } ∷ []) }
+    ensures go_on { (old new : AskingValue) (out all : List (List ℕ)) (before after : List TheReport)
+        → asking.WentOn old new out all before after
+        → AreAskingCalls old (hearing.GoesOn ∷ []) new out all before after }
+    ensures take { (old new : AskingValue) (bytes : List ℕ) (got : TheGot) (out all : List (List ℕ))
+        (before after : List TheReport) → asking.TookAll old new bytes got out all before after
+        → (events : List AskingEvent)
+        × AreAskingCalls old (hearing.Came bytes ∷ events) new out all before after }
+    ensures halted { (old new : AskingValue) (out all : List (List ℕ)) (before after : List TheReport)
+        (f : TheEndFault) → asking.GoOnFault old new out all before after f
+        → f ≢ end_fault.Read read_fault.Unexpected
+        → AreAskingCalls old (hearing.GoesOn ∷ []) new out all before after }
+    ensures part { (old new : AskingValue) (bytes : List ℕ) (got : TheGot) (out all : List (List ℕ))
+        (before after : List TheReport) (f : TheEndFault)
+        → asking.TookPart old new bytes got out all before after f
+        → f ≢ end_fault.Read read_fault.Unexpected
+        → AreAskingCalls old (hearing.Came bytes ∷ hearing.GoesOn ∷ []) new out all before after }
+    ensures refused { (old new : AskingValue) (bytes : List ℕ) (f : TheFault)
+        → asking.Refused old new bytes f → AskingRuns old (hearing.Came bytes ∷ []) new [] [] }
+{}
+
+/// Serving one more message leaves one end, by what the end did before. Own.
+pub fn serving_is_determined()
+    ensures { (past : Past) (old one two : ServingValue) (n m : ℕ) → IsAfter past old
+        → ServedOne old one n → ServedOne old two m → (one ≡ two) × (n ≡ m) }
+{}
+
+/// A request that is asked, and an answer that is read, leave one end and one report, by what the end did before. Own.
+pub fn asking_is_determined()
+    ensures ask { (past : AskingPast) (request : TheRequest) (old one two : AskingValue) (n m : ℕ)
+        → HasAsked past old → AskedOne request old one n → AskedOne request old two m
+        → (one ≡ two) × (n ≡ m) }
+    ensures read { (past : AskingPast) (old one two : AskingValue) (r s : Option TheReport)
+        → HasAsked past old → ReadOne old one r → ReadOne old two s → (one ≡ two) × (r ≡ s) }
+{}
+
+/// A packet that is taken whole leaves one end, and is answered by one list of packets, and of reports, by what the end did
+/// before. Own.
+pub fn taking_is_determined()
+    ensures serving { (past : Past) (old one two : ServingValue) (bytes : List ℕ) (got other : TheGot)
+        (out xs ys : List (List ℕ)) → IsAfter past old
+        → serving.TookAll old one bytes got out xs → serving.TookAll old two bytes other out ys
+        → (one ≡ two) × (got ≡ other) × (xs ≡ ys) }
+    ensures asking { (past : AskingPast) (old one two : AskingValue) (bytes : List ℕ)
+        (got other : TheGot) (out xs ys : List (List ℕ)) (before rs ss : List TheReport)
+        → HasAsked past old → asking.TookAll old one bytes got out xs before rs
+        → asking.TookAll old two bytes other out ys before ss
+        → (one ≡ two) × (got ≡ other) × (xs ≡ ys) × (rs ≡ ss) }
+{}
+
+/// Whatever bytes come to an end of which nothing was asked, and whatever is asked of it, up to the first answer that has no
+/// place: its reports are those that the definition tells of the requests and of the answers that it read, what it handed to
+/// its link is a front of the requests' messages, and each packet that it wrote carries its segment of that. Own.
+pub fn every_run_is_told()
+    ensures { (events : List AskingEvent) (old new : AskingValue) (reports : List TheReport)
+        (wrote : List Written) → HasAsked nothing_asked old
+        → AskingRuns old events new reports wrote
+        → (past : AskingPast) × HasAsked past new
+        × AskingPromises (requests_in events) reports past new wrote }
+{}
+
+/// Where the packets are those of a peer that sends some NSP messages, lost, repeated and reordered as they may be, the
+/// answers read are a front of the items in them, each once and in order. Own.
+pub fn a_peer_is_heard_in_order()
+    ensures { (setup : TheSetup) (size : ℕ) (messages : List (List ℕ)) (events : List AskingEvent)
+        (old new : AskingValue)
+        → old.port ≡ new_port setup → HasAsked nothing_asked old
+        → AskingRunsFrom size messages old events new
+        → (past : AskingPast) × HasAsked past new × AreFrontOf messages past.answers }
+{}
+
+/// Two new ends of one link keep the headline, over every list of their calls and every packet that one wrote and the other
+/// gets, unaltered and not more than 2,047 numbers old: what was served is a front of what the requests ask, each once and
+/// in order, the files are those after it, and the reports are those that the definition tells of a front of the answers to
+/// it. Own.
+pub fn two_ends_keep_the_headline()
+    ensures { (s t : TheSetup) (first : Files) (events : List PairEvent) (old new : Pair)
+        → AreOpposite s t → AreNew s t first old → PairRuns old events new
+        → PairHeadline first new }
+{}

@@ -1,0 +1,18 @@
+//! One end of a DAP file access over one link, by itself: it takes packets and gives packets, whoever the peer is (own;
+//! the exchange is that of DAP 5.6.0, message sequences, over the data segments of NSP 4.0.0).
+#![tactic(auto)]
+
+mod asking;
+mod fault;
+mod laws;
+mod port;
+mod serving;
+
+pub use asking::{AskingEnd, Heard};
+pub use fault::{EndFault, TakeFault};
+pub use laws::{
+    a_peer_is_heard_in_order, a_peer_is_served_in_order, asking_calls_are_runs,
+    asking_is_determined, calls_are_runs, every_run_is_served, every_run_is_told,
+    serving_is_determined, taking_is_determined, two_ends_keep_the_headline,
+};
+pub use serving::ServingEnd;

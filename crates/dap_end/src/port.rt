@@ -1,0 +1,223 @@
+//! One end of a link, with the NSP messages that wait to be handed to it, and the place in the oldest one that came.
+
+ghost use Rattle.std.specs.Prelude.{◌≡◌, ◌≢◌, ◌+◌, ◌-◌, ◌<◌, ◌≤◌, ◌∷◌, [], ℕ, List, Ok, Some, None, length, false, true, IfOk, IfErr, IfSome, OnOk, OnErr, slice_get};
+ghost use Rattle.nsp_link.specs.Limits.{largest_limit};
+ghost use Rattle.nsp_link.specs.Link.{IsSetup, SetupFault, IsLink, MaySend};
+ghost use Rattle.nsp_link.specs.Sending.{NextFault, MayQueueAll, SendAllFault};
+ghost use Rattle.nsp_link.specs.declared.fault.LinkFault.TheVariants.{MessageTooLong, NoMemory};
+ghost use Rattle.std.specs.Prelude.{◌==◌};
+ghost use Rattle.dap_fields.specs.Spelling.{AreBytes};
+ghost use Rattle.dap_msg.specs.Blocked.{bodies};
+ghost use Rattle.dap_end.specs.Writing.{WroteNext, WroteAll, AnsweredAll, AnsweredPart, IsFull, sent_more, wants_ack};
+ghost use Rattle.dap_end.specs.Receiving.{Receives};
+ghost use Rattle.dap_end.specs.Ports.{new_port, with_link, posted, gone_on, HasCome};
+ghost use Rattle.dap_end.specs.Inner.Kept.{IsPort};
+ghost use Rattle.dap_end.specs.Inner.Answered.{Acknowledged};
+
+use nsp_link::{Got, LinkEnd, LinkFault, LinkSetup};
+use std::alloc::Global;
+use std::marker::Model;
+
+#[derive(Drop)]
+pub(crate) struct Port {
+    pub(crate) link: LinkEnd,
+    // The NSP messages that wait.
+    pub(crate) outbox: Vec<Vec<u8>>,
+    // Where the next DAP message begins in the oldest NSP message that came.
+    pub(crate) place: usize,
+}
+
+impl Model for Port {
+    ghost use Rattle.dap_end.specs.Ports.{PortValue};
+
+    ghost Value = { PortValue };
+
+    ghost use Rattle.dap_end.specs.Inner.PortView.{port_view};
+
+    ghost view = { port_view };
+}
+
+impl Port {
+    pub(crate) fn new(alloc: Global, setup: LinkSetup) -> Result<Port, LinkFault>
+        ensures ok { IfOk result (λ p. IsSetup setup × (p ≡ new_port setup)) }
+        ensures err { IfErr result (SetupFault setup) }
+    {
+        let link = LinkEnd::new(alloc, setup)?;
+        Ok(Port {
+            link,
+            outbox: Vec::new(alloc),
+            place: 0,
+        })
+    }
+
+    // Takes a packet in.
+    pub(crate) fn receive(&mut self, packet: &[u8]) -> Result<Got, LinkFault>
+        ensures rest { self.new ≡ with_link self.old self.new.link }
+        ensures receives { Receives self.old.link self.new.link packet.now result }
+        ensures kept { IsPort self.old → IsPort self.new }
+    {
+        self.link.receive(packet)
+    }
+
+    // Whether a segment came, and was taken or is held.
+    pub(crate) fn has_come(&self) -> bool
+        ensures yes { result ≡ true → HasCome self.now }
+        ensures no { result ≡ false → HasCome self.now → ⊥ }
+    {
+        self.link.received_count() > 0 || self.link.held_count() > 0
+    }
+
+    // The next DAP message of the oldest NSP message was handled; it was the last one where so said.
+    pub(crate) fn go_on(&mut self, last: bool, next: usize)
+        ensures going { last ≡ false → self.new ≡ record self.old { place = next } }
+        ensures ends { last ≡ true → (bytes : List ℕ) (later : List (List ℕ))
+            → self.old.link.inbox ≡ bytes ∷ later
+            → self.new ≡ record self.old {
+              link = record self.old.link { inbox = later };
+              place = 0;
+            } }
+    {
+        if last {
+            let _message = self.link.take_message();
+            self.place = 0;
+        } else {
+            self.place = next;
+        }
+    }
+
+    // The packet of the next segment that was never sent.
+    pub(crate) fn emit(&mut self) -> Result<Option<Vec<u8>>, LinkFault>
+        ensures nothing { result ≡ Ok None → (self.new ≡ self.old) × (MaySend self.old.link → ⊥) }
+        ensures wrote { IfOk result (λ o. IfSome o (λ v. WroteNext self.old self.new v.items)) }
+        ensures sent { (n : ℕ) × (self.new ≡ sent_more self.old n) }
+        ensures err { IfErr result (λ f. (self.new ≡ self.old) × NextFault self.old.link f) }
+        ensures kept { IsPort self.old → IsPort self.new }
+    {
+        self.link.next_packet()
+    }
+
+    // The packet of the next segment, of a link that runs and lets it be sent.
+    fn write_next(&mut self) -> Result<Vec<u8>, LinkFault>
+        requires works { self.old.link.failed ≡ false }
+        requires may { MaySend self.old.link }
+        ensures wrote { IfOk result (λ v. WroteNext self.old self.new v.items) }
+        ensures err { IfErr result (λ f. (self.new ≡ self.old) × (f ≡ NoMemory)) }
+        ensures kept { IsPort self.old → IsPort self.new }
+    {
+        self.link.write_next()
+    }
+
+    // Whether no segment that was never sent may be written.
+    fn is_full(&self) -> bool
+        ensures link { IsLink self.now.link }
+        ensures yes { result ≡ true → IsFull self.now.link }
+        ensures no { result ≡ false → MaySend self.now.link }
+    {
+        let _ = self.link.unacked();
+        !self.link.may_send()
+    }
+
+    // Writes all segments that were never sent, as far as the window allows.
+    pub(crate) fn emit_all(&mut self, out: &mut Vec<Vec<u8>>) -> Result<(), LinkFault>
+        requires kept { IsPort self.old }
+        requires works { self.old.link.failed ≡ false }
+        ensures wrote { WroteAll self.old self.new (bodies out.old.items) (bodies out.new.items) }
+        ensures all { OnOk result (IsFull self.new.link) }
+        ensures err { IfErr result (λ f. (f ≡ NoMemory) × MaySend self.new.link) }
+        ensures kept { IsPort self.new }
+    {
+        'segments: loop {
+            if self.is_full() {
+                return Ok(());
+            }
+            let Ok(()) = out.reserve(1) else {
+                return Err(LinkFault::NoMemory);
+            };
+            match self.write_next() {
+                Ok(packet) => out.push_reserved(packet),
+                Err(_) => return Err(LinkFault::NoMemory),
+            }
+        }
+    }
+
+    // Writes all segments, or where none is and one came, one acknowledgement.
+    pub(crate) fn answer(&mut self, got: Got, out: &mut Vec<Vec<u8>>) -> Result<(), LinkFault>
+        requires kept { IsPort self.old }
+        requires works { self.old.link.failed ≡ false }
+        ensures ok { OnOk result (AnsweredAll self.old self.new got (bodies out.old.items)
+            (bodies out.new.items)) }
+        ensures err { IfErr result (λ f. AnsweredPart self.old self.new got
+            (bodies out.old.items) (bodies out.new.items) f) }
+        ensures kept { IsPort self.new }
+    {
+        let before = out.len();
+        match self.emit_all(out) {
+            Ok(()) => self.acknowledge(got, out.len() - before, out),
+            Err(fault) => Err(fault),
+        }
+    }
+
+    // Writes one acknowledgement, where a segment came and none was written.
+    fn acknowledge(&self, got: Got, written: usize, out: &mut Vec<Vec<u8>>) -> Result<(), LinkFault>
+        requires { self.now.link.failed ≡ false }
+        ensures ok { OnOk result (Acknowledged self.now (wants_ack got written)
+            (bodies out.old.items) (bodies out.new.items)) }
+        ensures wants { OnErr result (wants_ack got written ≡ true) }
+        ensures memory { IfErr result (λ f. f ≡ NoMemory) }
+        ensures unchanged { OnErr result (bodies out.new.items ≡ bodies out.old.items) }
+    {
+        if !wants_ack(got, written) {
+            return Ok(());
+        }
+        let Ok(()) = out.reserve(1) else {
+            return Err(LinkFault::NoMemory);
+        };
+        match self.link.ack_packet() {
+            Ok(packet) => {
+                out.push_reserved(packet);
+                Ok(())
+            }
+            Err(_) => Err(LinkFault::NoMemory),
+        }
+    }
+
+    // Hands over all that waits.
+    pub(crate) fn post(&mut self) -> Result<usize, LinkFault>
+        requires { IsPort self.old }
+        ensures ok { IfOk result (λ n. (self.new ≡ posted self.old)
+            × (n ≡ length self.old.outbox)) }
+        ensures may { OnOk result (MayQueueAll self.old.link self.old.outbox) }
+        ensures kept { IsPort self.new }
+        ensures err { IfErr result (λ f. (self.new ≡ self.old)
+            × SendAllFault self.old.link self.old.outbox f) }
+        ensures short { self.old.link.max_message ≡ largest_limit
+            → IfErr result (λ f. f ≢ MessageTooLong) }
+    {
+        let count = self.outbox.len();
+        match self.link.send_all(&self.outbox) {
+            Ok(()) => {
+                self.outbox.clear();
+                Ok(count)
+            }
+            Err(fault) => Err(fault),
+        }
+    }
+}
+
+// Whether a place in an NSP message is its end.
+pub(crate) fn is_end(message: &[u8], place: usize) -> bool
+    ensures end { result ≡ (place == length message.now) }
+    ensures bytes { AreBytes message.now }
+{
+    place == message.len()
+}
+
+// Whether one acknowledgement is written.
+fn wants_ack(got: Got, written: usize) -> bool
+    ensures { result ≡ wants_ack got written }
+{
+    match got {
+        Got::AckOnly => false,
+        _ => written == 0,
+    }
+}

@@ -1,0 +1,315 @@
+//! The end that serves.
+
+ghost use Rattle.std.specs.Prelude.{◌≡◌, ◌≢◌, ◌≤◌, ◌<◌, ◌+◌, ◌-◌, ◌++◌, ◌∷◌, ℕ, [], Ok, Some, None, false, IfOk, IfErr, IfSome, OnOk, OnErr, IsErrOf, IsTrue, MatchOption};
+ghost use Rattle.dap_msg.specs.Exchange.{least_buffer};
+ghost use Rattle.dap_msg.specs.Blocked.{bodies};
+ghost use Rattle.rec_file.specs.Shapes.{is_shape};
+ghost use Rattle.nsp_link.specs.Limits.{largest_limit};
+ghost use Rattle.nsp_link.specs.Link.{SetupFault, MaySend, IsSpelling};
+ghost use Rattle.nsp_link.specs.Sending.{NextFault, SendAllFault, WritesSent, ack_packet_of};
+ghost use Rattle.nsp_link.specs.declared.fault.LinkFault.TheVariants.{Failed, NoSuchSegment, MessageTooLong};
+ghost use Rattle.nsp_link.specs.declared.fault.LinkFault.TheVariants as fault;
+ghost use Rattle.dap_accessed.specs.Groups.{After};
+ghost use Rattle.dap_accessed.specs.Adding.{with_new_file, with_record};
+ghost use Rattle.dap_end.specs.Ports.{new_port};
+ghost use Rattle.dap_end.specs.Receiving.{Receives};
+ghost use Rattle.dap_end.specs.Writing.{WroteNext};
+ghost use Rattle.dap_end.specs.Serving.{Past, IsAfter, IsStill, NotAdded, NotStored, IsGiven, MayServe, ServedOne, PostedAll, nothing_yet};
+ghost use Rattle.dap_end.specs.Taking.{ServedMore, IsServed, ServeFault, GoOnFault, WentOn, IsDone, TookAll, NotTaken, with_port, received};
+ghost use Rattle.dap_end.specs.Inner.Answered.{ServedAndAnswered, ServedPart};
+ghost use Rattle.dap_end.specs.Inner.Kept.{IsPort};
+ghost use Rattle.dap_end.specs.Inner.ServingView.{serving_of};
+
+use crate::fault::{EndFault, TakeFault};
+use crate::port::{Port, is_end};
+use dap_accessed::{Accessed, AddFault, FileTable, NoMemory};
+use dap_msg::item_at;
+use nsp_link::{Got, LinkEnd, LinkFault, LinkSetup};
+use rec_file::Shape;
+use std::alloc::Global;
+use std::marker::Model;
+
+/// The end that is accessed, with its link.
+#[derive(Drop)]
+pub struct ServingEnd {
+    port: Port,
+    accessed: Accessed,
+}
+
+impl Model for ServingEnd {
+    ghost use Rattle.dap_end.specs.Serving.{ServingValue};
+
+    ghost Value = { ServingValue };
+
+    ghost use Rattle.dap_end.specs.Inner.Stored.{serving_code};
+
+    ghost coded = { serving_code };
+
+    ghost use Rattle.dap_end.specs.Inner.ServingInside.{serving_view, IsSound};
+
+    ghost view = { serving_view };
+
+    ghost invariant = { IsSound };
+}
+
+impl ServingEnd {
+    /// An end with no files that waits for a packet of its peer, with a buffer of so many bytes, at least 64 (own). A
+    /// setup with `max_message` 65,535 takes all that an end may send; with less, a peer that names a larger buffer
+    /// can be answered by a message that `post` refuses from then on. Refused: `BadSetup` where a limit of the setup
+    /// isn't in its range; `NoMemory`.
+    pub fn new(alloc: Global, bufsiz: u16, setup: LinkSetup) -> Result<ServingEnd, LinkFault>
+        requires { least_buffer ≤ bufsiz }
+        ensures ok { IfOk result (λ end. IsAfter (nothing_yet []) end
+            × (end.port ≡ new_port setup) × (end.accessed.own ≡ bufsiz)) }
+        ensures err { IfErr result (SetupFault setup) }
+    {
+        let port = Port::new(alloc, setup)?;
+        Ok(ServingEnd {
+            port,
+            accessed: Accessed::new(alloc, bufsiz),
+        })
+    }
+
+    /// The files, in the order in which they were made: what all groups of messages so far have made of them. It takes
+    /// no memory. Own.
+    pub fn files(&self) -> &FileTable
+        ensures held { result.now ≡ self.now.accessed.files }
+        ensures after { (past : Past) → IsAfter past self.now
+            → result.now ≡ After self.now.accessed.own past.first past.items }
+    {
+        self.accessed.files()
+    }
+
+    /// The same files for another link: an open file is closed, a PUT or an UPDATE that waits for its record is
+    /// dropped, and so is all that waits (own). Refused, with nothing changed: `BadSetup` where a limit of the setup
+    /// isn't in its range; `NoMemory`.
+    pub fn renew(&mut self, alloc: Global, setup: LinkSetup) -> Result<(), LinkFault>
+        ensures ok { OnOk result (IsAfter (nothing_yet self.old.accessed.files) self.new
+            × (self.new.port ≡ new_port setup)
+            × (self.new.accessed.own ≡ self.old.accessed.own)) }
+        ensures err { IfErr result (λ f. (self.new ≡ self.old) × SetupFault setup f) }
+    {
+        let port = Port::new(alloc, setup)?;
+        self.port = port;
+        self.accessed.renew();
+        Ok(())
+    }
+
+    /// A file without records behind the others, before a segment came on this link (own). Its shape is one that
+    /// [`Shape::check`] gives.
+    ///
+    /// Refusals in order: Busy, FileExists, NoMemory; each leaves the end unchanged.
+    pub fn add(&mut self, name: &[u8], shape: Shape) -> Result<(), AddFault>
+        requires { IsTrue (is_shape shape) }
+        ensures files { OnOk result (self.new.accessed.files
+            ≡ with_new_file name.now shape self.old.accessed.files) }
+        ensures given { OnOk result (IsGiven self.old self.new) }
+        ensures port { self.new.port ≡ self.old.port }
+        ensures refused { IfErr result (λ f. NotAdded self.old name.now f) }
+        ensures unchanged { OnErr result (self.new ≡ self.old) }
+    {
+        if self.port.has_come() {
+            return Err(AddFault::Busy);
+        }
+        self.accessed.add(name, shape)
+    }
+
+    /// A record more in the newest file, under its number, before a segment came on this link (own). In a sequential
+    /// file the number is the next one.
+    ///
+    /// Refusals in order: Busy, NoFile; as of a PUT with this number BadLength, NumberOutOfRange, RecordExists;
+    /// NoMemory. Each leaves the end unchanged.
+    pub fn add_record(&mut self, number: u32, body: &[u8]) -> Result<(), AddFault>
+        ensures files { OnOk result (self.new.accessed.files
+            ≡ with_record number body.now self.old.accessed.files) }
+        ensures given { OnOk result (IsGiven self.old self.new) }
+        ensures port { self.new.port ≡ self.old.port }
+        ensures refused { IfErr result (λ f. NotStored self.old number body.now f) }
+        ensures unchanged { OnErr result (self.new ≡ self.old) }
+    {
+        if self.port.has_come() {
+            return Err(AddFault::Busy);
+        }
+        self.accessed.add_record(number, body)
+    }
+
+    /// Takes a packet in, as [`nsp_link::LinkEnd::receive`] does; nothing is served by that.
+    pub fn receive(&mut self, packet: &[u8]) -> Result<Got, LinkFault>
+        ensures rest { self.new ≡ received self.old self.new.port.link }
+        ensures receives { Receives self.old.port.link self.new.port.link packet.now result }
+        ensures still { IsStill self.old self.new }
+    {
+        self.port.receive(packet)
+    }
+
+    /// Serves the next DAP message of the oldest NSP message that came, and tells how many NSP messages with answers
+    /// wait after it; none where an answer waits already, or nothing that came is left (DAP 5.6.0, message sequences).
+    /// Where memory is refused, nothing has changed, and the same call may be made again.
+    pub fn serve(&mut self) -> Result<Option<usize>, NoMemory>
+        ensures ok { IfOk result (λ o. MatchOption o
+            ((self.new ≡ self.old) × (MayServe self.old → ⊥))
+            (λ n. ServedOne self.old self.new n)) }
+        ensures no_memory { OnErr result ((self.new ≡ self.old) × MayServe self.old) }
+    {
+        serve_next(&mut self.port, &mut self.accessed)
+    }
+
+    /// Hands all answers that wait to the link, and tells how many NSP messages these are (own). Refused, with nothing
+    /// changed: `Failed`; `MessageTooLong`, above the setup's `max_message`, which never comes where that is 65,535;
+    /// `Exhausted`, where this end would have had more than 2^40 segments; `NoMemory`.
+    pub fn post(&mut self) -> Result<usize, LinkFault>
+        ensures ok { IfOk result (λ n. PostedAll self.old self.new n) }
+        ensures err { IfErr result (λ f. (self.new ≡ self.old)
+            × SendAllFault self.old.port.link self.old.port.outbox f) }
+        ensures short { self.old.port.link.max_message ≡ largest_limit
+            → IfErr result (λ f. f ≢ MessageTooLong) }
+    {
+        self.port.post()
+    }
+
+    /// The packet of the next segment that was never sent, or none where none waits or the window is full, as
+    /// [`nsp_link::LinkEnd::next_packet`] writes it (NSP 4.0.0, data segment message).
+    pub fn emit(&mut self) -> Result<Option<Vec<u8>>, LinkFault>
+        ensures rest { self.new ≡ with_port self.old self.new.port }
+        ensures nothing { result ≡ Ok None
+            → (self.new ≡ self.old) × (MaySend self.old.port.link → ⊥) }
+        ensures wrote { IfOk result
+            (λ o. IfSome o (λ v. WroteNext self.old.port self.new.port v.items)) }
+        ensures err { IfErr result (λ f. (self.new ≡ self.old) × NextFault self.old.port.link f) }
+        ensures still { IsStill self.old self.new }
+    {
+        self.port.emit()
+    }
+
+    /// Serves all that came, and hands each group of answers to the link (own). Refused as `post` and `serve` are. What
+    /// was served and handed over before that stays so, and the same call goes on.
+    pub fn serve_all(&mut self) -> Result<(), LinkFault>
+        ensures more { ServedMore self.old self.new }
+        ensures all { OnOk result (IsServed self.new) }
+        ensures works { OnOk result (self.new.port.link.failed ≡ false) }
+        ensures err { IfErr result (ServeFault self.new) }
+    {
+        'messages: loop {
+            match self.post() {
+                Ok(_) => match self.serve() {
+                    Ok(None) => return Ok(()),
+                    Ok(Some(_)) => {}
+                    Err(_) => return Err(LinkFault::NoMemory),
+                },
+                Err(fault) => return Err(fault),
+            }
+        }
+    }
+
+    /// Serves all that came, hands each group of answers to the link, and writes all segments that were never sent, as far
+    /// as the window allows, behind the packets in `out` (own). Refused as `post` is, or for want of memory. What was done
+    /// before that stays done, and the same call goes on.
+    pub fn go_on(&mut self, out: &mut Vec<Vec<u8>>) -> Result<(), LinkFault>
+        ensures went { WentOn self.old self.new (bodies out.old.items) (bodies out.new.items) }
+        ensures all { OnOk result (IsDone self.new) }
+        ensures err { IfErr result (GoOnFault self.new) }
+    {
+        match self.serve_all() {
+            Ok(()) => self.port.emit_all(out),
+            Err(fault) => Err(fault),
+        }
+    }
+
+    /// Takes a packet in, and tells what became of it; serves all that came, hands each group of answers to the link, and
+    /// writes all segments that were never sent, as far as the window allows; or where a segment came and none is written,
+    /// one acknowledgement. The packets stand behind those in `out` (own).
+    ///
+    /// Refusals: `Refused` as `receive` is, and nothing of the packet was taken; `Unfinished`, once it was taken in: `go_on`
+    /// does what is left, and the same packet is answered again.
+    pub fn take(&mut self, packet: &[u8], out: &mut Vec<Vec<u8>>) -> Result<Got, TakeFault>
+        ensures ok { IfOk result (λ got. TookAll self.old self.new packet.now got
+            (bodies out.old.items) (bodies out.new.items)) }
+        ensures err { IfErr result (NotTaken self.old self.new packet.now (bodies out.old.items)
+            (bodies out.new.items)) }
+    {
+        match self.receive(packet) {
+            Ok(got) => match self.answer(got, out) {
+                Ok(()) => Ok(got),
+                Err(fault) => Err(TakeFault::Unfinished(got, EndFault::Link(fault))),
+            },
+            Err(fault) => Err(TakeFault::Refused(fault)),
+        }
+    }
+
+    // Serves all that came, and writes what answers it.
+    fn answer(&mut self, got: Got, out: &mut Vec<Vec<u8>>) -> Result<(), LinkFault>
+        ensures ok { OnOk result (ServedAndAnswered self.old self.new got (bodies out.old.items)
+            (bodies out.new.items)) }
+        ensures err { IfErr result (ServedPart self.old self.new got (bodies out.old.items)
+            (bodies out.new.items)) }
+    {
+        match self.serve_all() {
+            Ok(()) => self.port.answer(got, out),
+            Err(fault) => Err(fault),
+        }
+    }
+
+    /// The packet of a segment that was sent and isn't acknowledged, again: the oldest is at place 0, as
+    /// [`nsp_link::LinkEnd::resend`] writes it (NSP 4.0.0, data segment message).
+    pub fn resend(&self, place: usize) -> Result<Vec<u8>, LinkFault>
+        ensures wrote { IfOk result
+            (λ v. WritesSent self.now.port.link (Some (self.now.port.link.acked + 1 + place)) v.items) }
+        ensures failed { IsTrue self.now.port.link.failed → IsErrOf result Failed }
+        ensures missing { self.now.port.link.failed ≡ false
+            → self.now.port.link.sent - self.now.port.link.acked ≤ place
+            → IsErrOf result NoSuchSegment }
+        ensures memory { self.now.port.link.failed ≡ false
+            → place < self.now.port.link.sent - self.now.port.link.acked
+            → IfErr result (λ f. f ≡ fault.NoMemory) }
+    {
+        self.port.link.resend(place)
+    }
+
+    /// A packet that only acknowledges all segments that were taken, as [`nsp_link::LinkEnd::ack_packet`] writes it
+    /// (NSP 4.0.0, data acknowledgement message).
+    pub fn ack(&self) -> Result<Vec<u8>, LinkFault>
+        ensures wrote { IfOk result (λ v. IsSpelling (ack_packet_of self.now.port.link) v.items) }
+        ensures failed { IsTrue self.now.port.link.failed → IsErrOf result Failed }
+        ensures memory { self.now.port.link.failed ≡ false
+            → IfErr result (λ f. f ≡ fault.NoMemory) }
+    {
+        self.port.link.ack_packet()
+    }
+
+    /// The link, with its counts. It takes no memory. Own.
+    pub fn link(&self) -> &LinkEnd
+        ensures { result.now ≡ self.now.port.link }
+    {
+        &self.port.link
+    }
+}
+
+// Serves the next DAP message of the oldest NSP message that came.
+fn serve_next(port: &mut Port, accessed: &mut Accessed) -> Result<Option<usize>, NoMemory>
+    requires { IsPort port.old }
+    ensures ok { IfOk result (λ o. MatchOption o
+        ((port.new ≡ port.old) × (accessed.new ≡ accessed.old)
+        × (MayServe (serving_of port.old accessed.old) → ⊥))
+        (λ n. ServedOne (serving_of port.old accessed.old) (serving_of port.new accessed.new) n)) }
+    ensures kept { IsPort port.new }
+    ensures err { OnErr result ((port.new ≡ port.old) × (accessed.new ≡ accessed.old)
+        × MayServe (serving_of port.old accessed.old)) }
+{
+    if !port.outbox.is_empty() {
+        return Ok(None);
+    }
+    let place = port.place;
+    let message = match port.link.peek_message() {
+        None => return Ok(None),
+        Some(message) => message,
+    };
+    let (item, next) = item_at(message, place);
+    let at_end = is_end(message, next);
+    let Ok(served) = accessed.serve_read(item, next) else {
+        return Err(NoMemory);
+    };
+    let answered = served.answers.len();
+    port.outbox = served.answers;
+    port.go_on(at_end, next);
+    Ok(Some(answered))
+}
