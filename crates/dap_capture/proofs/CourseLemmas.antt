@@ -1,5 +1,5 @@
 -- A listing goes on as its input is read.
-use Rattle.std.proofs.Common.{◌≡◌, ◌==◌, ◌≤◌, ◌+◌, ◌-◌, ◌++◌, ℕ, drop, Bool, true, false, List, [], length, Option, Some, None, sym, ap, ◌∙◌, refl, arith, inr, append_assoc, length-append, subst}
+use Rattle.std.proofs.Common.{◌≡◌, ◌==◌, ◌≤◌, ◌+◌, ◌-◌, ◌++◌, ℕ, drop, Bool, true, false, List, [], length, Option, Some, None, sym, ap, ◌∙◌, refl, arith, inr, append_assoc, length-append, length-drop, subst}
 use Rattle.std.specs.Prelude.{IfSome}
 use Rattle.std.specs.Io.KnownBytes.{Consumes, IsAtEnd}
 use Rattle.std.proofs.lemmas.Bool.{eqb-true}
@@ -73,6 +73,10 @@ stands_whole listed count (Some input) (Some rest) bytes course stands end none 
 
 pub at_end : (came : ℕ) (unread : Option (List ℕ)) → (came ≡ 0 → IsAtEnd unread) → (came == 0) ≡ true → IsAtEnd unread
 at_end came unread end none = end (eqb-true came 0 none)
+
+-- so many bytes stand at the end
+pub length_end : (bytes : List ℕ) (left : ℕ) → left ≤ length bytes → length (drop (length bytes - left) bytes) ≡ left
+length_end bytes left within = omega (arith, within, length-drop (length bytes - left) bytes)
 
 -- nothing is left of the last bytes
 pub none_left : (bytes : List ℕ) (left : ℕ) → left ≡ 0 → drop (length bytes - left) bytes ≡ []

@@ -1,6 +1,6 @@
 -- What a run over a whole input answers.
-use Rattle.std.specs.Prelude.{◌≡◌, ◌≢◌, OnErr, ℕ, ◌<◌, ◌≤◌, List, [], length, slice_get, Option, Some, Result, Ok, Err, ◌⊎◌}
-use Rattle.std.specs.Io.KnownBytes.{Appends, Keeps}
+use Rattle.std.specs.Prelude.{◌≡◌, ◌≢◌, OnErr, ℕ, ◌+◌, ◌<◌, ◌≤◌, List, [], length, slice_get, Option, Some, Result, Ok, Err, ◌⊎◌}
+use Rattle.std.specs.Io.KnownBytes.{Appends, Consumes, Keeps}
 use Rattle.dap_capture.specs.Output.{WritesFront}
 use Rattle.dap_capture.specs.declared.fault.Outcome.{Outcome}
 use Rattle.dap_capture.specs.declared.fault.CaptureFault.{CaptureFault}
@@ -9,6 +9,10 @@ use Rattle.dap_capture.specs.declared.fault.CaptureFault.TheVariants.{BadLine, T
 -- the most bytes of an input
 abbrev pub input_limit : ℕ
 input_limit = 16777216
+
+-- A front of a reader's known bytes is taken, no longer than an input may be and one byte more.
+abbrev pub TakesWithinLimit : Option (List ℕ) → Option (List ℕ) → Type 0
+TakesWithinLimit old new = (taken : List ℕ) × Consumes old new taken × (length taken ≤ input_limit + 1)
 
 -- a text of an input whose lines have no fault
 pub record IsTextOf (faults : List CaptureFault) (IsText : List ℕ → Type 0) (input text : List ℕ) : Type 0 where

@@ -28,6 +28,8 @@ pub use laws::{listings_are_one, schedules_have_one_text};
 pub use output::write_text;
 
 #[cfg(test)]
+mod device_tests;
+#[cfg(test)]
 mod engines;
 #[cfg(test)]
 mod schedule_tests;

@@ -1,6 +1,7 @@
 //! The listing of an input: of packets, or of NSP messages.
 
 ghost use Rattle.std.specs.Prelude.{◌≡◌, ◌≢◌, ◌≤◌, ◌<◌, ◌+◌, ◌-◌, ◌⊎◌, [], drop, OnErr, IfSome, ◌*◌, ◌^◌, Some, true, false, IfErr, IfOk, MatchOption, None, OnOk, length};
+ghost use Rattle.dap_capture.specs.Gives.{TakesWithinLimit};
 ghost use Rattle.dap_capture.specs.Inner.Adding.{AddsCapture, AddsSome};
 ghost use Rattle.dap_capture.specs.Inner.Cutting.{FaultsGoOn, HasNoEnd, IsEnd, IsFirstFault, ListingGoesOn};
 ghost use Rattle.dap_capture.specs.Inner.Decoding.{Spell, bytes_of};
@@ -301,6 +302,7 @@ fn read_course<R: Read>(
         (λ course. IfSome (R.remaining reader.old) (λ input. IsWhole listed input course)) }
     ensures fault { IfErr result
         (λ fault. IfSome (R.remaining reader.old) (λ input. IsInputFault listed input fault)) }
+    ensures taken { TakesWithinLimit (R.remaining reader.old) (R.remaining reader.new) }
     ensures unwritten { IfErr result (λ fault. fault ≢ WriteFailed) }
 {
     let mut chunk = [0; CHUNK];
@@ -344,6 +346,7 @@ pub(crate) fn list_input<R: Read>(
     reader: &mut R,
 ) -> Result<Vec<u8>, CaptureFault>
     ensures gives { IfSome (R.remaining reader.old) (λ input. TextGives listed input result) }
+    ensures taken { TakesWithinLimit (R.remaining reader.old) (R.remaining reader.new) }
     ensures unwritten { IfErr result (λ fault. fault ≢ WriteFailed) }
 {
     let course = read_course(listed, alloc, reader)?;

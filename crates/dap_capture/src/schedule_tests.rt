@@ -25,6 +25,11 @@ const PLAYED: &[(&[u8], Outcome, &[u8])] = &[
         b"0 refused bad-setup\n",
     ),
     (
+        b"setup 512 2048 1024 1024",
+        Outcome::Stopped,
+        b"0 refused bad-setup\n",
+    ),
+    (
         b"setup 512 2048 1024 1024\nserve",
         Outcome::Stopped,
         b"0 refused bad-setup\n",
@@ -38,6 +43,11 @@ const PLAYED: &[(&[u8], Outcome, &[u8])] = &[
         b"setup 512 8 1024 63",
         Outcome::Stopped,
         b"0 refused bad-setup\n",
+    ),
+    (
+        b"setup 512 8 1024 1024\ndeliver b 0",
+        Outcome::Stopped,
+        b"1 refused no-such-packet\n",
     ),
     (
         b"setup 512 8 1024 1024\ndeliver b 0\nserve",

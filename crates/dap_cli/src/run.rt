@@ -1,5 +1,5 @@
 //! The commands of the program.
-ghost use Rattle.std.specs.Prelude.{◌≡◌, ◌⊎◌, ◌∷◌, ℕ, List, [], IfErr, IfOk, IfSome, codes, map, string_bytes};
+ghost use Rattle.std.specs.Prelude.{◌≡◌, ◌≢◌, ◌⊎◌, ◌∷◌, ℕ, List, [], IfErr, IfOk, IfSome, codes, map, string_bytes};
 ghost use Rattle.std.specs.Io.KnownBytes.{Keeps};
 ghost use Rattle.clap.specs.Words.{FailsBy, kind_of, fault_of};
 ghost use Rattle.dap_cli.specs.declared.run.Choice.{Choice};
@@ -104,8 +104,8 @@ fn refuse<W: Write, E: Write>(
     ensures memory { kind_of error ≡ ErrorKind.OutOfMemory
         → (result ≡ 3) × Keeps (W.contents writer.old) (W.contents writer.new) }
     ensures help { kind_of error ≡ ErrorKind.DisplayHelp → (result ≡ 0) ⊎ (result ≡ 3) }
-    ensures mistake { IsMistake (kind_of error)
-        → ((result ≡ 2) ⊎ (result ≡ 3)) × Keeps (W.contents writer.old) (W.contents writer.new) }
+    ensures mistake { IsMistake (kind_of error) → (kind_of error ≡ ErrorKind.OutOfMemory)
+        ⊎ ((result ≡ 2) × Keeps (W.contents writer.old) (W.contents writer.new)) }
 {
     if error.kind() == ErrorKind::OutOfMemory {
         return finish(Err(CaptureFault::NoMemory), error_writer);
@@ -146,9 +146,9 @@ fn run_choice<R: Read, W: Write, E: Write>(
 ///
 /// 0: all was done, or help was asked for and written. 1: a bad line, an input or a line over its
 /// limit, or a schedule that met an event without a step. 2: the words name no command; the writer
-/// gets nothing. 3: the reader or the writer failed, or memory ran out. A fault is told in one line to
-/// the error writer, and so is what is wrong with the words; a failure of the error writer changes
-/// nothing.
+/// gets nothing. 3: the reader or the writer failed, or memory ran out. Nothing is read where the words
+/// name no command or ask for help. A fault is told in one line to the error writer, and so is what is
+/// wrong with the words; a failure of the error writer changes nothing.
 pub fn run_words<R: Read, W: Write, E: Write>(
     alloc: Global,
     words: &[String],
@@ -169,7 +169,7 @@ pub fn run_words<R: Read, W: Write, E: Write>(
         (λ input. RunGives choice input (W.contents writer.old) (W.contents writer.new) result) }
     ensures mistake { AreMistakes (fault_of dapnsp (map string_bytes words.now))
         → ((result ≡ 2) ⊎ (result ≡ 3)) × Keeps (W.contents writer.old) (W.contents writer.new) }
-    ensures unread { AreMistakes (fault_of dapnsp (map string_bytes words.now))
+    ensures unread { fault_of dapnsp (map string_bytes words.now) ≢ []
         → R.remaining reader.new ≡ R.remaining reader.old }
     ensures help { fault_of dapnsp (map string_bytes words.now) ≡ ErrorKind.DisplayHelp ∷ []
         → (result ≡ 0) ⊎ (result ≡ 3) }

@@ -2,17 +2,19 @@
 
 mod age;
 mod calls;
+mod files;
 mod finishing;
 mod random;
 mod refused;
 mod rows;
 mod scripts;
 
-use calls::{apply, begin, count_unacked, direct, finish, run, taken, written};
+use calls::{acknowledgement, apply, begin, count_unacked, direct, finish, run, taken, written};
 use dap_world::{
     By, End, Ending, Event, Got, How, Numbered, Octets, OctetsList, RecordFile, Report, Request,
     Step, World, WorldFault, WorldSetup,
 };
+use files::{Files, holds};
 use std::alloc::Global;
 use std::process::Abort;
 use std::test::Fail;
@@ -91,6 +93,10 @@ enum Line {
     Counts(usize, usize, usize),
     /// The record of the first file under this number.
     Holds(u32, Option<&'static [u8]>),
+    /// The files, and all their records.
+    Has(Files),
+    /// The acknowledgement that the end's link would write.
+    Acknowledges(End, &'static str),
     /// Requests over a clean network, each with its report.
     Direct(&'static [Call]),
     /// So many packets of A are written and come to B, with an acknowledgement after each 127.
@@ -280,6 +286,14 @@ fn is_held(world: &World, number: u32, body: Option<&[u8]>) -> bool {
     world.files().count() > 0 && world.files().file(0).lookup(number) == body
 }
 
+/// Whether the end's link would write this acknowledgement.
+fn acknowledges(world: &World, end: End, hex: &str) -> bool {
+    match acknowledgement(world, end) {
+        Ok(packet) => is_hex(&packet, hex),
+        Err(_) => false,
+    }
+}
+
 /// A request over a clean network.
 fn turn(
     alloc: Global,
@@ -384,6 +398,8 @@ fn is_so(alloc: Global, world: &mut World, line: Line) -> Result<bool, WorldFaul
         }
         Line::Took(segments) => taken(world, End::B) == segments,
         Line::Holds(number, body) => is_held(world, number, body),
+        Line::Has(files) => holds(world.files(), files),
+        Line::Acknowledges(end, hex) => acknowledges(world, end, hex),
         line => go_so(alloc, world, line)?,
     })
 }

@@ -32,6 +32,38 @@ const PUT_THEN_DATA: Steps = &[
     (11, DONE_1, Seen::Has(&[(1, b"A")])),
 ];
 
+/// Messages, each with its answer and with what is seen of the end before it, and again where memory was refused.
+const ONE_PUT: &[(&[u8], &[u8], Seen)] = &[
+    (CONFIG, CONFIG, Seen::Holds(Stage::Fresh, 0, 0)),
+    (SEQUENTIAL, NOTHING, Seen::Holds(Stage::Ready, 0, 0)),
+    (MAKE_1, OPENED_SEQUENTIAL, Seen::Holds(Stage::Ready, 0, 0)),
+    (CONNECT, ACKNOWLEDGE, Seen::Holds(Stage::Opened, 1, 0)),
+    (PUT, NOTHING, Seen::Holds(Stage::Connected, 1, 0)),
+    (DATA_A, DONE_1, Seen::Holds(Stage::PutDue, 1, 0)),
+];
+
+/// Serves a message, and once more where memory was refused.
+fn serves_at_last(rt: &impl Abort, end: &mut Accessed, message: &[u8], answer: &[u8], seen: Seen) {
+    assert!(rt; 0 < message.len());
+    if let Ok(served) = end.serve(message, 0) {
+        assert!(rt; is_answer(&served, answer), "{:?}", served.answers);
+    } else {
+        look(rt, end, seen);
+        says(rt, end, message, answer);
+    }
+}
+
+// All that grows here grows in `serve`, so any one growth may be refused.
+#[test]
+fn one_record_and_one_status_where_memory_is_refused(rt: HostRuntime) {
+    let mut end = Accessed::new(rt.alloc(), 1024);
+    for (message, answer, seen) in ONE_PUT {
+        look(&rt, &end, *seen);
+        serves_at_last(&rt, &mut end, message, answer, *seen);
+    }
+    look(&rt, &end, Seen::Has(&[(1, b"A")]));
+}
+
 const GET_AND_ACKNOWLEDGE: &[u8] = &[4, 2, 3, 1, 1, 0, 6, 2, 0];
 
 const GET_THEN_ACKNOWLEDGE: Steps = &[

@@ -74,13 +74,15 @@ const PUT: Script = &[
     Line::Asks(Ask::Rewind),
 ];
 
-/// The same with FAC 10.
-const CREATE_TO_UPDATE: Script = &[
+/// The record is put, and the file opened again with FAC 10.
+const PUT_AND_OPEN: Script = &[
+    Line::Sends(Ask::Put(None, b"A"), &[4, 2, 3, 4, 1, 0, 8, 2, 2, 0, 0x41]),
+    Line::Hears(&FIRST, Heard::Done(1)),
+    Line::Sends(Ask::Close, &[7, 2, 2, 1, 0]),
+    Line::Hears(&COMPLETED, Heard::Closed),
     Line::Sends(
-        Ask::Create(b"F", 0, 2, 0, 0, 10),
-        &[
-            2, 2, 0x0b, 0xa6, 4, 0, 2, 0, 0, 4, 0, 0, 0, 0, 3, 2, 8, 2, 0, 1, 0x46, 10, 0, 0, 0,
-        ],
+        Ask::Open(b"F", 10),
+        &[2, 2, 1, 0, 3, 2, 8, 1, 0, 1, 0x46, 10, 0, 0, 0],
     ),
     Line::Hears(
         &[2, 2, 0x0b, 0xa6, 4, 0, 2, 0, 0, 4, 0, 0, 0, 0],
@@ -90,7 +92,7 @@ const CREATE_TO_UPDATE: Script = &[
 ];
 
 const UPDATE: Script = &[
-    Line::Asks(Ask::Get(By::Next)),
+    Line::Sends(Ask::Get(By::Next), &[4, 2, 3, 1, 1, 0]),
     Line::Hears(&[8, 2, 6, 4, 1, 0, 0, 0, 0x41], Heard::Found(1, b"A")),
     Line::Sends(Ask::Update(b"B"), &[4, 2, 3, 3, 1, 0, 8, 2, 2, 0, 0x42]),
     Line::Hears(&FIRST, Heard::Done(1)),
@@ -276,7 +278,7 @@ const ALL_FILES: &'static [&'static [Script]] = &[
     &[HELLO, CREATE, CONNECT, THREE_NUMBERS],
     &[HELLO, FILES],
     &[HELLO, CREATE_TO_PUT, CONNECT, PUT],
-    &[HELLO, CREATE_TO_UPDATE, CONNECT, UPDATE],
+    &[HELLO, CREATE_TO_PUT, CONNECT, PUT_AND_OPEN, CONNECT, UPDATE],
     &[HELLO, CREATE_SHORT, CONNECT, STORE],
     &[HELLO, CREATE, MALFORMED],
     &[HELLO, CREATE, TO_THE_END],

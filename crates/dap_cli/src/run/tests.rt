@@ -135,70 +135,126 @@ fn runs_each_command(rt: HostRuntime) -> Result<(), Fail> {
     assert_eq!(rt; left.status, 0);
     let want = b"1 > message len=2\n  ack\n";
     assert_eq!(rt; left.written.as_slice(), want.as_slice());
-    let left = run(rt.alloc(), &["run"], b"setup 0 8 1024 1024\n")?;
-    assert_eq!(rt; left.status, 1);
-    let want = b"0 refused bad-setup\n";
-    assert_eq!(rt; left.written.as_slice(), want.as_slice());
-    assert!(rt; left.told.is_empty());
     let left = run(rt.alloc(), &["run"], b"serve\n")?;
-    assert_eq!(rt; left.status, 1);
-    assert_eq!(rt; left.told.as_slice(), b"bad line 1\n".as_slice());
+    fails(&rt, &left, 1, "bad line 1\n");
     Ok(())
 }
 
-/// A device whose calls fail; one that takes all fails at its flush alone.
+/// Schedules that stop, and what is written of them.
+const STOPPED: &[(&[u8], &[u8])] = &[
+    (b"setup 0 8 1024 1024", b"0 refused bad-setup\n"),
+    (b"setup 512 2048 1024 1024", b"0 refused bad-setup\n"),
+    (
+        b"setup 512 8 1024 1024\ndeliver b 0",
+        b"1 refused no-such-packet\n",
+    ),
+];
+
+#[test]
+fn ends_with_1_where_a_schedule_stops(rt: HostRuntime) -> Result<(), Fail> {
+    for (lines, text) in STOPPED {
+        let left = run(rt.alloc(), &["run"], lines)?;
+        assert_eq!(&rt; left.status, 1);
+        assert_eq!(&rt; left.written.as_slice(), *text);
+        assert!(&rt; left.told.is_empty());
+    }
+    Ok(())
+}
+
+/// A device of which a read fails, a write behind so many that took at most 5 bytes each, and a flush, with an error
+/// of this kind.
 #[derive(Drop)]
 struct Broken {
-    takes_all: bool,
+    kind: ErrorKind,
+    writes: usize,
+    held: Vec<u8>,
+}
+
+fn breaking(alloc: Global, kind: ErrorKind, writes: usize) -> Broken {
+    Broken {
+        kind,
+        writes,
+        held: Vec::new(alloc),
+    }
 }
 
 impl Read for Broken {
     fn read(&mut self, _buffer: &mut [u8]) -> io::Result<usize> {
-        Err(io::Error::from(ErrorKind::Other))
+        Err(io::Error::from(self.kind))
     }
 }
 
 impl Write for Broken {
     fn write(&mut self, bytes: &[u8]) -> io::Result<usize> {
-        if self.takes_all {
-            return Ok(bytes.len());
+        if self.writes == 0 {
+            return Err(io::Error::from(self.kind));
         }
-        Err(io::Error::from(ErrorKind::Other))
+        self.writes -= 1;
+        let count = bytes.len().min(5);
+        self.held.extend_from_slice(&bytes[..count])?;
+        Ok(count)
     }
 
     fn flush(&mut self) -> io::Result<()> {
-        Err(io::Error::from(ErrorKind::Other))
+        Err(io::Error::from(self.kind))
     }
 }
 
+/// Some kinds of errors. Each is told as the others are, at once.
+const KINDS: &[ErrorKind] = &[
+    ErrorKind::Other,
+    ErrorKind::BrokenPipe,
+    ErrorKind::Interrupted,
+    ErrorKind::OutOfMemory,
+];
+
 #[test]
-fn tells_a_reader_that_fails(rt: HostRuntime) -> Result<(), Fail> {
-    let mut reader = Broken { takes_all: false };
-    let mut written = Vec::new(rt.alloc());
-    let (status, told) = run_over(rt.alloc(), &["show"], &mut reader, &mut written)?;
-    assert_eq!(rt; status, 3);
-    assert!(rt; written.is_empty());
-    assert_eq!(rt; told.as_slice(), b"read failed\n".as_slice());
+fn tells_readers_that_fail(rt: HostRuntime) -> Result<(), Fail> {
+    for kind in KINDS {
+        let mut reader = breaking(rt.alloc(), *kind, 0);
+        let mut written = Vec::new(rt.alloc());
+        let (status, told) = run_over(rt.alloc(), &["show"], &mut reader, &mut written)?;
+        assert_eq!(&rt; status, 3);
+        assert!(&rt; written.is_empty());
+        assert_eq!(&rt; told.as_slice(), b"read failed\n".as_slice());
+    }
     Ok(())
 }
 
-/// Words, and an input over which something is written.
-const WRITING: &[(&str, &[u8])] = &[
-    ("show", b"> 6002\n"),
-    ("msg", b"> 0600\n"),
-    ("run", b"setup 0 8 1024 1024\n"),
-    ("--help", b""),
+/// A packet of each kind.
+const CAPTURE: &[u8] = b"> 600201040305800100060200\n< 0402010403ff8f\n> 1002010403\n";
+
+/// Words, an input, the writes before one that fails, and what is written by then. Behind 200 writes all is written, and
+/// the flush fails.
+const WRITING: &[(&str, &[u8], usize, &[u8])] = &[
+    ("show", CAPTURE, 0, b""),
+    ("show", CAPTURE, 2, b"1 > segmen"),
+    ("show", b"> 6002\n", 200, b"1 > bad truncated at=1\n"),
+    ("show", b"", 0, b""),
+    ("msg", b"> 0600\n", 0, b""),
+    ("msg", b"> 0600\n", 200, b"1 > message len=2\n  ack\n"),
+    ("run", b"setup 0 8 1024 1024\n", 0, b""),
+    (
+        "run",
+        b"setup 0 8 1024 1024\n",
+        200,
+        b"0 refused bad-setup\n",
+    ),
+    ("run", b"", 0, b""),
+    ("--help", b"", 0, b""),
+    ("--help", b"", 2, b"Lists DECn"),
 ];
 
 #[test]
 fn tells_writers_that_fail(rt: HostRuntime) -> Result<(), Fail> {
-    for takes_all in [false, true] {
-        for (word, input) in WRITING {
+    for kind in KINDS {
+        for (word, input, writes, front) in WRITING {
             let mut reader = *input;
-            let mut writer = Broken { takes_all };
+            let mut writer = breaking(rt.alloc(), *kind, *writes);
             let (status, told) = run_over(rt.alloc(), &[*word], &mut reader, &mut writer)?;
             assert_eq!(&rt; status, 3);
             assert_eq!(&rt; told.as_slice(), b"write failed\n".as_slice());
+            assert_eq!(&rt; writer.held.as_slice(), *front);
         }
     }
     Ok(())
@@ -209,8 +265,8 @@ fn goes_on_where_nothing_can_be_told(rt: HostRuntime) -> Result<(), Fail> {
     let words = words_of(rt.alloc(), &["show"])?;
     let mut reader = b"> 6\n".as_slice();
     let mut written = Vec::new(rt.alloc());
-    let mut broken = Broken { takes_all: false };
-    let status = run_words(rt.alloc(), &words, &mut reader, &mut written, &mut broken);
+    let mut deaf = breaking(rt.alloc(), ErrorKind::BrokenPipe, 0);
+    let status = run_words(rt.alloc(), &words, &mut reader, &mut written, &mut deaf);
     assert_eq!(rt; status, 1);
     assert!(rt; written.is_empty());
     Ok(())

@@ -1,7 +1,7 @@
 //! The calls that tests make of a world. A test looks at what they answer, so they promise no more of it here, and
 //! proofs of tests stay short.
 
-use dap_world::{End, Event, Request, Step, World, WorldFault, WorldSetup};
+use dap_world::{End, Event, LinkFault, Request, Step, World, WorldFault, WorldSetup};
 use std::alloc::Global;
 
 pub(crate) fn begin(alloc: Global, setup: WorldSetup) -> Result<World, WorldFault> {
@@ -53,6 +53,11 @@ pub(crate) fn finish(world: &mut World) -> Result<usize, WorldFault> {
 
 pub(crate) fn run(world: &mut World, events: &[Event]) -> Result<(), (usize, WorldFault)> {
     world.run(events)
+}
+
+/// The acknowledgement that an end's link would write.
+pub(crate) fn acknowledgement(world: &World, end: End) -> Result<Vec<u8>, LinkFault> {
+    world.link(end).ack_packet()
 }
 
 /// How many packets an end wrote.

@@ -15,18 +15,18 @@ struct Row {
     /// How many events finish it.
     events: usize,
     told: &'static [Want],
-    names: &'static [&'static [u8]],
-    /// Records of the first file, and numbers without one.
-    records: &'static [(u32, Option<&'static [u8]>)],
+    files: Files,
 }
 
 const CREATE_F: Call = Call::Create(b"F", 16, 2, 0, 3, 7);
+
+const CREATE_TO_PUT: Call = Call::Create(b"F", 0, 2, 0, 0, 1);
 
 const CREATE_LOG: Call = Call::Create(b"L", 0, 2, 0, 0, 3);
 
 const OPENED_F: Want = Want::Opened(16, 2, 0, 3);
 
-const OPENED_LOG: Want = Want::Opened(0, 2, 0, 0);
+const OPENED_SEQUENTIAL: Want = Want::Opened(0, 2, 0, 0);
 
 const READY: Want = Want::Ready(1024);
 
@@ -43,12 +43,11 @@ const ROWS: &[Row] = &[
     // reads it.
     Row {
         setup: (512, 8, 1024, 1024),
-        direct: &[Call::Hello, CREATE_LOG, Call::Connect],
+        direct: &[Call::Hello, CREATE_TO_PUT, Call::Connect],
         lost: &[Do::Ask(Call::Put(b"A")), Do::Post(End::A), Do::Emit(End::A)],
         events: 12,
-        told: &[READY, OPENED_LOG, CONNECTED, Want::Done(1)],
-        names: &[b"L"],
-        records: &[(1, Some(b"A")), (2, None)],
+        told: &[READY, OPENED_SEQUENTIAL, CONNECTED, Want::Done(1)],
+        files: &[(b"F", &[(1, b"A")])],
     },
     // The put was served, and its answer is lost, as is every acknowledgement.
     Row {
@@ -65,9 +64,8 @@ const ROWS: &[Row] = &[
             Do::Emit(End::B),
         ],
         events: 9,
-        told: &[READY, OPENED_LOG, CONNECTED, Want::Done(1)],
-        names: &[b"L"],
-        records: &[(1, Some(b"A")), (2, None)],
+        told: &[READY, OPENED_SEQUENTIAL, CONNECTED, Want::Done(1)],
+        files: &[(b"L", &[(1, b"A")])],
     },
     // A transfer stopped at a record that is too long, and its answer is lost: four events settle each end, and
     // two messages are read.
@@ -93,15 +91,14 @@ const ROWS: &[Row] = &[
         events: 10,
         told: &[
             READY,
-            OPENED_LOG,
+            OPENED_SEQUENTIAL,
             CONNECTED,
             Want::Done(1),
             Want::Done(2),
             Want::Done(0),
             Want::Stopped(&[(1, TEN)]),
         ],
-        names: &[b"L"],
-        records: &[(1, Some(TEN)), (2, Some(LONG))],
+        files: &[(b"L", &[(1, TEN), (2, LONG)])],
     },
     // A request in two pieces, of which the second came and the first is lost: six events settle them.
     Row {
@@ -116,8 +113,7 @@ const ROWS: &[Row] = &[
         ],
         events: 17,
         told: &[READY],
-        names: &[],
-        records: &[],
+        files: &[],
     },
     // Two of three pieces of a store are lost: six events settle them, four bring the third, four serve the
     // messages, five bring the answer, and one reads it.
@@ -131,9 +127,8 @@ const ROWS: &[Row] = &[
             Do::Emit(End::A),
         ],
         events: 20,
-        told: &[READY, OPENED_LOG, CONNECTED, Want::Stored],
-        names: &[b"L"],
-        records: &[(1, Some(b"A")), (2, Some(b"BB")), (3, None)],
+        told: &[READY, OPENED_SEQUENTIAL, CONNECTED, Want::Stored],
+        files: &[(b"L", &[(1, b"A"), (2, b"BB")])],
     },
 ];
 
@@ -143,18 +138,6 @@ fn are_told(reports: &[Report], told: &[Want]) -> bool {
             .iter()
             .zip(told)
             .all(|(report, want)| is_wanted(report, *want))
-}
-
-fn are_held(world: &World, row: Row) -> bool {
-    world.files().count() == row.names.len()
-        && row
-            .names
-            .iter()
-            .all(|name| world.files().find(name).is_some())
-        && row
-            .records
-            .iter()
-            .all(|(number, body)| is_held(world, *number, *body))
 }
 
 /// Whether what was lost is finished as the row says.
@@ -167,7 +150,7 @@ fn is_finished(alloc: Global, world: &mut World, row: Row) -> Result<bool, World
         events == row.events
             && more == 0
             && are_told(world.reports(), row.told)
-            && are_held(world, row),
+            && holds(world.files(), row.files),
     )
 }
 
@@ -194,20 +177,23 @@ fn all_come_to_their_reports(rt: HostRuntime) -> Result<(), Fail> {
     Ok(())
 }
 
-/// Requests, what they come to, and how many are asked.
-const STOPS: &[(&[Call], Result<(), (usize, WorldFault)>, usize)] = &[
-    (&[], Ok(()), 0),
+/// B's buffer, requests, what they come to, and how many are asked.
+const STOPS: &[(u16, &[Call], Result<(), (usize, WorldFault)>, usize)] = &[
+    (1024, &[], Ok(()), 0),
     (
+        1024,
         &[Call::Connect],
         Err((0, WorldFault::Ask(AskFault::WrongPhase))),
         0,
     ),
     (
+        1024,
         &[Call::Hello, CREATE_F, Call::Get, Call::Purge],
         Err((2, WorldFault::Ask(AskFault::WrongPhase))),
         2,
     ),
     (
+        64,
         &[Call::Hello, CREATE_LOG, Call::Connect, Call::Put(LONG)],
         Err((3, WorldFault::Ask(AskFault::TooLarge))),
         3,
@@ -217,13 +203,14 @@ const STOPS: &[(&[Call], Result<(), (usize, WorldFault)>, usize)] = &[
 /// What requests come to in a new world, and how many are asked and reported.
 fn stop(
     alloc: Global,
+    bufsiz_b: u16,
     calls: &[Call],
 ) -> Result<(Result<(), (usize, WorldFault)>, usize, usize), WorldFault> {
     let setup = WorldSetup {
         seg_size: 512,
         window: 8,
         bufsiz_a: 1024,
-        bufsiz_b: 64,
+        bufsiz_b,
     };
     let requests = all(alloc, calls)?;
     let (world, came) = directed(alloc, setup, &requests)?;
@@ -232,8 +219,8 @@ fn stop(
 
 #[test]
 fn requests_stop_at_one_that_is_refused(rt: HostRuntime) -> Result<(), Fail> {
-    for (calls, wanted, count) in STOPS {
-        let (came, asked, told) = stop(rt.alloc(), calls)?;
+    for (bufsiz_b, calls, wanted, count) in STOPS {
+        let (came, asked, told) = stop(rt.alloc(), *bufsiz_b, calls)?;
         assert_eq!(rt; came, *wanted);
         assert_eq!(rt; (asked, told), (*count, *count));
     }

@@ -8,6 +8,8 @@ const NOTHING: Result<Step, WorldFault> = Err(WorldFault::NothingToDo);
 
 /// Nothing happened yet, and then one request was asked.
 const FRESH: &[Line] = &[
+    Acknowledges(End::A, "04020201010080"),
+    Acknowledges(End::B, "04010102020080"),
     Does(Do::Deliver(End::B, 0), Err(WorldFault::NoSuchPacket)),
     Does(Do::Deliver(End::A, 0), Err(WorldFault::NoSuchPacket)),
     Does(Do::Serve, NOTHING),

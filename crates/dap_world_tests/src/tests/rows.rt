@@ -125,7 +125,7 @@ const LOST: &[Line] = &[
     Writes(Do::Ack(End::B), End::B, 3, "04010102020480"),
     Does(Do::Deliver(End::A, 3), Ok(Step::Delivered(Got::AckOnly))),
     Counts(0, 3, 4),
-    Holds(1, None),
+    Has(&[(b"F", &[])]),
     Does(Do::Serve, Ok(Step::Served(0))),
     Does(Do::Serve, Ok(Step::Served(1))),
     Does(Do::Post(End::B), Ok(Step::Posted(1))),
@@ -146,7 +146,7 @@ const LOST: &[Line] = &[
     Does(Do::Read, Ok(Step::Reported)),
     Reports(Want::Done(1)),
     Counts(0, 4, 6),
-    Holds(1, Some(b"A")),
+    Has(&[(b"F", &[(1, b"A")])]),
 ];
 
 /// A record is replaced once it was read, and not with another length.
@@ -255,7 +255,7 @@ const UPDATES: &[Line] = &[
         1,
         Want::Refused(0x5000, 7),
     ),
-    Holds(1, Some(b"B")),
+    Has(&[(b"F", &[(1, b"B")])]),
 ];
 
 /// A record is longer than A takes: the transfer stops there, stays there, and goes on behind it.
@@ -491,8 +491,7 @@ const STORE: &[Line] = &[
     Does(Do::Deliver(End::A, 4), Ok(Step::Delivered(Got::Accepted))),
     Does(Do::Read, Ok(Step::Reported)),
     Reports(Want::StoredSave(0x5000, 7, 2)),
-    Holds(1, Some(b"A")),
-    Holds(2, None),
+    Has(&[(b"F", &[(1, b"A")])]),
 ];
 
 /// Both buffers of 1,024 bytes.

@@ -2,11 +2,6 @@
 
 use super::calls::after;
 use super::*;
-use dap_world::{AnyFile, FileTable};
-use rec_file::first_record;
-
-/// The names of the files in order, and all their records behind their numbers.
-type Files = &'static [(&'static [u8], &'static [(u32, &'static [u8])])];
 
 /// Both buffers, the requests with their reports, and the files at the end.
 type Script = (u16, u16, &'static [(Call, Want)], Files);
@@ -16,6 +11,10 @@ const TEN: &[u8] = &[1; 10];
 const LARGE: &[u8] = &[2; 200];
 
 const HUNDRED: &[u8] = &[3; 100];
+
+const LONGEST: &[u8] = &[4; 32_767];
+
+const LONGER: &[u8] = &[4; 32_768];
 
 const READY: (Call, Want) = (Call::Hello, Want::Ready(1024));
 
@@ -44,12 +43,21 @@ const SCRIPTS: &[Script] = &[
                 Want::Opened(16, 2, 0, 3),
             ),
             (Call::Purge, Want::Closed),
+        ],
+        &[(b"F", &[])],
+    ),
+    // An organization that files here don't have.
+    (
+        1024,
+        1024,
+        &[
+            READY,
             (
                 Call::Create(b"H", 32, 2, 0, 0, 0),
                 Want::Refused(0x4000, 11),
             ),
         ],
-        &[(b"F", &[])],
+        &[],
     ),
     // Records by their numbers, in a relative file and in a sequential one.
     (
@@ -182,6 +190,19 @@ const SCRIPTS: &[Script] = &[
         ],
         &[(b"F", &[(1, HUNDRED)])],
     ),
+    // The longest record is put, and one that is a byte longer isn't.
+    (
+        1024,
+        65535,
+        &[
+            (Call::Hello, Want::Ready(65535)),
+            (Call::Create(b"F", 0, 2, 0, 0, 1), Want::Opened(0, 2, 0, 0)),
+            CONNECTED,
+            (Call::Put(LONGEST), Want::Done(1)),
+            (Call::Put(LONGER), Want::Refused(0x5000, 7)),
+        ],
+        &[(b"F", &[(1, LONGEST)])],
+    ),
 ];
 
 fn all(alloc: Global, script: &[(Call, Want)]) -> Result<Vec<Request>, WorldFault> {
@@ -200,34 +221,12 @@ fn are_told(reports: &[Report], script: &[(Call, Want)]) -> bool {
             .all(|(report, line)| is_wanted(report, line.1))
 }
 
-/// Whether the file has just these records.
-fn is_file(file: &AnyFile, records: &[(u32, &[u8])]) -> bool {
-    let mut from = 1;
-    for (number, body) in records {
-        match first_record(file, from) {
-            Some((found, bytes)) if found == *number && bytes == *body => {
-                from = found.saturating_add(1);
-            }
-            _ => return false,
-        }
-    }
-    first_record(file, from).is_none()
-}
-
-/// Whether the table has just these files, in order.
-fn holds(table: &FileTable, files: Files) -> bool {
-    table.count() == files.len()
-        && files.iter().enumerate().all(|(at, (name, records))| {
-            table.name(at) == *name && is_file(table.file(at), records)
-        })
-}
-
 /// Whether the requests of a script have their reports, and leave these files.
 fn comes_so(alloc: Global, script: Script) -> Result<bool, WorldFault> {
     let (bufsiz_a, bufsiz_b, turns, files) = script;
     let setup = WorldSetup {
-        seg_size: 1024,
-        window: 127,
+        seg_size: 512,
+        window: 8,
         bufsiz_a,
         bufsiz_b,
     };

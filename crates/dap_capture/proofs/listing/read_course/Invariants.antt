@@ -1,6 +1,7 @@
 use Rattle.std.proofs.Common.{◌≡◌, ◌≤◌, ◌+◌, ◌-◌, length, vec_len, false}
 use Rattle.dap_capture.specs.Inner.Course.{StandsAt}
 use Rattle.dap_capture.specs.Listing.{limit_of}
+use Rattle.dap_capture.proofs.InputLemmas.{HasTaken}
 use Rattle.dap_capture.proofs.listing.read_course.Given as goal
 
 abbrev pub invariant-chunks : goal.invariant-chunks
@@ -10,6 +11,7 @@ invariant-chunks g l = record {
   room : l.course.wants ≡ false → vec_len l.room ≡ limit_of l.listed;
   lines : l.course.at + vec_len l.bytes ≤ l.count + 1;
   captures : l.course.number + vec_len l.bytes ≤ l.count + 1;
+  taken : HasTaken l.count (g.R.Read.remaining l.initial.reader) (g.R.Read.remaining l.reader);
   stands : StandsAt l.listed l.count (g.R.Read.remaining l.initial.reader) (g.R.Read.remaining l.reader) l.bytes.items l.course;
 }
 
