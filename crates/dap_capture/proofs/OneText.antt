@@ -62,7 +62,7 @@ one_run s number [] one two a b over over = (refl, refl)
 one_run s number (e ∷ events) one two a b (goes answer new text rest went says on) (goes answer' new' text' rest' went' says' on') =
     let same = one_step s e answer answer' new new' went went' in
     let texts = one_answer new e answer text text' says
-        (subst (λ (x : State). IsStepText x e answer text') (sym same.1) (subst (λ (x : Step). IsStepText new' e x text') (sym same.0) says')) in
+    (subst (λ (x : State). IsStepText x e answer text') (sym same.1) (subst (λ (x : Step). IsStepText new' e x text') (sym same.0) says')) in
     let rests = one_run new (number + 1) events one two rest rest' on (subst (λ (x : State). Plays x (number + 1) events two rest') (sym same.1) on') in
     (rests.0, ap (λ (t : List ℕ). event_line number t ++ rest) texts ∙ ap (λ (t : List ℕ). event_line number text' ++ t) rests.1)
 one_run s number (e ∷ events) one two a b (goes answer new text rest went says on) (stops f word why says') = absurd (no_step s e f why (answer, new, went))

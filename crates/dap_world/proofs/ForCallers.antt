@@ -6,7 +6,6 @@ use Rattle.nsp_link.proofs.ForCallers.{written_one}
 use Rattle.dap_world.specs.declared.event.End.{End}
 use Rattle.dap_world.specs.Machine.{State, Sending, other, sends}
 use Rattle.dap_world.specs.Wires.{IsOnWire, address_of}
-
 -- an event has one step at the most, or one reason why it has none
 pub use Rattle.dap_world.proofs.Deciding.{no_step, one_reason, one_step}
 

@@ -73,14 +73,28 @@ pub link_of : (p : Parts) (end : End) → AreParts p → IsLinkOf (state_of p) e
 link_of p A h =
     let is = is_side_a p h in
     record {
-      local = is.local; remote = is.remote; size = is.size; window = refl; sent = refl; acked = refl;
+      local = is.local;
+      remote = is.remote;
+      size = is.size;
+      window = refl;
+      sent = refl;
+      acked = refl;
       queued = subst (Sends p.a.link) is.messages_are h.from_a.way.sends;
-      received = refl; held = refl; running = h.from_a.way.running;
+      received = refl;
+      held = refl;
+      running = h.from_a.way.running;
     }
 link_of p B h =
     let is = is_side_b p h in
     record {
-      local = is.local; remote = is.remote; size = is.size; window = h.alike.window; sent = refl; acked = refl;
+      local = is.local;
+      remote = is.remote;
+      size = is.size;
+      window = h.alike.window;
+      sent = refl;
+      acked = refl;
       queued = subst (Sends p.b.link) is.messages_are h.from_b.way.sends;
-      received = refl; held = refl; running = h.from_b.way.running;
+      received = refl;
+      held = refl;
+      running = h.from_b.way.running;
     }

@@ -87,6 +87,9 @@ returns-in-Err-acknowledge-clause-left c =
     let second = subst (λ (e : End). Steps c.step.new.self (event.Deliver e at) c.in-Ok-step._step c.step-2.new.self) c.other.ensures c.in-Ok-step.ensures.went in
     let same = deliver_unacked c.step.new.self c.step-2.new.self c.args.end at c.in-Ok-step._step second in
     λ empty. omega (
-      arith, empty.acked, same, c.in-Err-acknowledge.ensures.left,
+      arith,
+      empty.acked,
+      same,
+      c.in-Err-acknowledge.ensures.left,
       emit_unacked c.args.self.now c.step.new.self c.args.end c.in-Ok._step c.requires.world c.requires.settled c.in-Ok.ensures.went,
     )
