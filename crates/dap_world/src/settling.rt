@@ -100,8 +100,8 @@ impl World {
 
     /// Writes all segments of an end that aren't acknowledged again, delivers them, and then one
     /// acknowledgement (own): afterwards none is left. How many events that were: twice the segments and 2, or
-    /// 0 where there was nothing to do, which takes no memory. Refused for want of memory alone, as the last event that wasn't refused left
-    /// the world.
+    /// 0 where there was nothing to do, which takes no memory. Refused for want of memory alone, as the last
+    /// event that wasn't refused left the world.
     pub fn settle(&mut self, end: End) -> Result<usize, WorldFault>
         ensures ok { IfOk result (λ n. Settled self.old self.new end n) }
         ensures rest { SendsNothing self.old self.new }
