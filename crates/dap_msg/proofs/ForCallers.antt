@@ -6,6 +6,8 @@ pub use Rattle.dap_msg.proofs.Listing.{one_item}
 pub use Rattle.dap_msg.proofs.Listing.{stands_some}
 -- all bytes have items
 pub use Rattle.dap_msg.proofs.Places.{have_items}
+-- joined messages that fit are the items that stand there
+pub use Rattle.dap_msg.proofs.Places.{are_items}
 -- what is written is read back in place, whatever stands before and behind it
 pub use Rattle.dap_msg.proofs.Places.{read_in_place}
 -- the answers of both ends have spellings, and all but records have short ones
