@@ -11,7 +11,7 @@ ghost use Rattle.dap_capture.specs.Lines.{captured, digits_line, is_hex_text as 
 ghost use Rattle.dap_capture.specs.Listing.{IsCapturedText, IsMessageText, arrow_text, fault_of_line, limit_of};
 
 use crate::CaptureFault;
-use crate::input::{CHUNK, read_some, skip_rest};
+use crate::input::{CHUNK, read_some, skip_unread};
 use crate::lines::{Direction, Head, cut_line, is_hex_text, parse_head};
 use crate::message::push_messages;
 use crate::packet::push_packet;
@@ -328,7 +328,7 @@ fn read_course<R: Read>(
         match take_lines(listed, &mut course, &bytes, is_last, &mut room) {
             Ok(left) => keep_end(&mut bytes, left),
             Err(fault) => {
-                skip_rest(reader, &mut chunk, &mut count)?;
+                skip_unread(reader, &mut chunk, &mut count, is_last)?;
                 return Err(fault);
             }
         }

@@ -23,25 +23,62 @@ pub enum Choice {
 const ABOUT: &str =
     "Lists DECnet packets and messages, and plays file accesses. Each command reads standard input.";
 
-const SHOW: &str = "Lists captured NSP packets, and the DAP messages in them";
-
-const MSG: &str = "Lists DAP messages that come without packets";
-
-const RUN: &str = "Plays requests, losses, repeats and reorderings over both ends of a file access";
-
 const EXAMPLE: &str = "Example: echo '> 600201040305800100060200' | ./dapnsp show";
+
+/// What help says of a command.
+#[derive(Clone, Copy)]
+struct Help {
+    about: &'static str,
+    more: &'static str,
+}
+
+const SHOW: Help = Help {
+    about: "Lists captured NSP packets, and the DAP messages in them",
+    more: "\
+Reads lines of > or <, for the way that a packet went, a space, and its bytes in hex, at most 4,096.
+Empty lines, and lines that begin with #, are skipped.
+
+Example: echo '> 600201040305800100060200' | ./dapnsp show
+
+README.md explains each word of a listing.",
+};
+
+const MSG: Help = Help {
+    about: "Lists DAP messages that come without packets",
+    more: "\
+Reads lines of > or <, for the way that an NSP message went, a space, and its bytes in hex, at most 65,535.
+Empty lines, and lines that begin with #, are skipped.
+
+Example: echo '< 060200' | ./dapnsp msg
+
+README.md explains each word of a listing.",
+};
+
+const RUN: Help = Help {
+    about: "Plays requests, losses, repeats and reorderings over both ends of a file access",
+    more: "\
+Reads a line with the setup, as setup 512 8 1024 1024: the bytes of a segment, the window, both buffers.
+Each other line is a request (ask ..) or an event (post, emit, resend, ack, deliver, serve, read).
+Empty lines, and lines that begin with #, are skipped.
+
+Example: printf 'setup 512 8 1024 1024\\nask hello\\npost a\\nemit a\\n' | ./dapnsp run
+
+docs/SCHEDULES.md explains each line and each answer.",
+};
 
 /// The command line with one subcommand more, and what help says of it.
 fn with_command<'a>(
     alloc: Global,
     command: Command<'a>,
     name: &'static str,
-    about: &'static str,
+    help: Help,
 ) -> Result<Command<'a>, Error>
     ensures added { IfOk result (HasOneMore command.entry name.now) }
     ensures memory { IfErr result (λ error. kind_of error ≡ ErrorKind.OutOfMemory) }
 {
-    let subcommand = Command::new(alloc, name).about(about);
+    let subcommand = Command::new(alloc, name)
+        .about(help.about)
+        .after_help(help.more);
     let command = command.subcommand(subcommand)?;
     Ok(command)
 }

@@ -119,7 +119,13 @@ fn refuses_other_words(rt: HostRuntime) -> Result<(), Fail> {
 
 #[test]
 fn helps(rt: HostRuntime) -> Result<(), Fail> {
-    let rows: [&[&str]; 3] = [&["--help"], &["-h"], &["show", "--help"]];
+    let rows: [&[&str]; 5] = [
+        &["--help"],
+        &["-h"],
+        &["show", "--help"],
+        &["msg", "-h"],
+        &["run", "--help"],
+    ];
     for words in rows {
         let left = run(rt.alloc(), words, b"> 6\n")?;
         assert_eq!(rt; left.status, 0);

@@ -11,7 +11,7 @@ returns-in-Err-take_lines-clause-fault g c =
     let counted : c.chunks.count + length came ≡ c.read_some.new.count = omega (arith, read.count, length-take-le c.in_ok-came.came c.read_some.new.chunk read.came) in
     let bytes : c.deref.result.now ≡ c.chunks.bytes.items ++ came = search rules in
     let stands = rw (counted, ← bytes) at (stands_read c.args.listed c.chunks.count _ _ _ c.chunks.bytes.items came c.chunks.course c.chunks.invariant.stands read.bytes) in
-    first_fault c.args.listed c.read_some.new.count _ _ _ c.deref.result.now c.chunks.course c.in-Err-take_lines.fault stands (at_end c.in_ok-came.came _ read.end) c.in-Err-take_lines.ensures.fault c.in_ok-skip_rest-in-Err-take_lines.ensures.small
+    first_fault c.args.listed c.read_some.new.count _ _ _ c.deref.result.now c.chunks.course c.in-Err-take_lines.fault stands (at_end c.in_ok-came.came _ read.end) c.in-Err-take_lines.ensures.fault c.in_ok-skip_unread-in-Err-take_lines.ensures.small
 
 pub returns-in-Err-take_lines-clause-unwritten : goal.returns-in-Err-take_lines-clause-unwritten
 returns-in-Err-take_lines-clause-unwritten g c = line_unwritten (limit_of c.args.listed) c.chunks.course.at (c.in_ok-came.came == 0) c.deref.result.now c.in-Err-take_lines.fault c.in-Err-take_lines.ensures.fault
@@ -38,19 +38,19 @@ pub returns-in_err-extend_from_slice-clause-taken :
     goal.returns-in_err-extend_from_slice-clause-taken
 returns-in_err-extend_from_slice-clause-taken g c = taken_behind c.chunks.count _ _ _ c.chunks.invariant.taken c.read_some.ensures.taken
 
-pub returns-in_err-skip_rest-in-Err-take_lines-clause-taken : goal.returns-in_err-skip_rest-in-Err-take_lines-clause-taken
-returns-in_err-skip_rest-in-Err-take_lines-clause-taken g c =
+pub returns-in_err-skip_unread-in-Err-take_lines-clause-taken : goal.returns-in_err-skip_unread-in-Err-take_lines-clause-taken
+returns-in_err-skip_unread-in-Err-take_lines-clause-taken g c =
     let read = c.in_ok-came.ensures in
     let came = take c.in_ok-came.came c.read_some.new.chunk in
     let counted : c.chunks.count + length came ≡ c.read_some.new.count = omega (arith, read.count, length-take-le c.in_ok-came.came c.read_some.new.chunk read.came) in
-    taken_behind c.read_some.new.count _ _ _ (taken_more c.chunks.count c.read_some.new.count _ _ _ came c.chunks.invariant.taken read.bytes counted) c.skip_rest.ensures.taken
+    taken_behind c.read_some.new.count _ _ _ (taken_more c.chunks.count c.read_some.new.count _ _ _ came c.chunks.invariant.taken read.bytes counted) c.skip_unread.ensures.taken
 
 pub returns-in-Err-take_lines-clause-taken : goal.returns-in-Err-take_lines-clause-taken
 returns-in-Err-take_lines-clause-taken g c =
     let read = c.in_ok-came.ensures in
     let came = take c.in_ok-came.came c.read_some.new.chunk in
     let counted : c.chunks.count + length came ≡ c.read_some.new.count = omega (arith, read.count, length-take-le c.in_ok-came.came c.read_some.new.chunk read.came) in
-    taken_behind c.read_some.new.count _ _ _ (taken_more c.chunks.count c.read_some.new.count _ _ _ came c.chunks.invariant.taken read.bytes counted) c.skip_rest.ensures.taken
+    taken_behind c.read_some.new.count _ _ _ (taken_more c.chunks.count c.read_some.new.count _ _ _ came c.chunks.invariant.taken read.bytes counted) c.skip_unread.ensures.taken
 
 pub returns-then-is_last-clause-taken : goal.returns-then-is_last-clause-taken
 returns-then-is_last-clause-taken g c = taken_behind c.chunks.count _ _ _ c.chunks.invariant.taken c.read_some.ensures.taken
