@@ -17,14 +17,14 @@ use std::io::Write;
 const BUFFER: u16 = 1024;
 
 /// What takes bytes, whatever they are.
-trait Taking {
+pub trait Taking {
     /// Takes the bytes, and tells what became of them.
     fn take(&mut self, bytes: &[u8]) -> Result<Outcome, Trouble>;
 }
 
 /// What became of the bytes.
 #[derive(Clone, Copy, Debug, PartialEq, Eq)]
-enum Outcome {
+pub enum Outcome {
     /// They were taken.
     Taken,
     /// They were refused, and nothing has changed.
@@ -42,7 +42,7 @@ pub struct Counts {
 }
 
 impl Counts {
-    fn new() -> Counts {
+    pub fn new() -> Counts {
         Counts {
             taken: 0,
             refused: 0,
@@ -74,7 +74,7 @@ impl Counts {
 }
 
 /// Gives each proper prefix of the bytes, and each change of one of them.
-fn alter<T: Taking>(
+pub fn alter<T: Taking>(
     alloc: Global,
     bytes: &[u8],
     taking: &mut T,

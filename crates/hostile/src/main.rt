@@ -14,8 +14,10 @@ mod files;
 mod growing;
 mod links;
 mod listings;
+mod peers;
 mod reading;
 mod requests;
+mod taken;
 mod worlds;
 mod writers;
 
@@ -27,9 +29,11 @@ use files::{Act, BY_NUMBER, Filing, IN_ORDER, RELATIVE, SEQUENTIAL};
 use growing::{Ending, Seen, make_all};
 use links::Links;
 use listings::{ENGINES, Listing, Row, WORDS};
+use peers::Peers;
 use std::alloc::Global;
 use std::io::{Read, Write};
 use std::process::ExitCode;
+use taken::{Altered, alter_at_asking, alter_at_serving};
 use worlds::{Directing, LOST, Playing, SETTLING, STOPPING, Script};
 use writers::Writers;
 
@@ -128,6 +132,16 @@ fn link<W: Write, E: Write>(
     make_all("a link", &mut links, seen, out, told)
 }
 
+/// Both ends with their links.
+fn peer<W: Write, E: Write>(
+    alloc: Global,
+    seen: &mut Seen,
+    out: &mut W,
+    told: &mut E,
+) -> Result<(), Ending> {
+    make_all("both ends", &mut Peers::new(alloc), seen, out, told)
+}
+
 /// An end that is sent messages.
 fn serve<W: Write, E: Write>(
     alloc: Global,
@@ -213,6 +227,7 @@ fn grow<W: Write, E: Write>(alloc: Global, out: &mut W, told: &mut E) -> Result<
         file(alloc, *row, &mut seen, out, told)?;
     }
     link(alloc, &mut seen, out, told)?;
+    peer(alloc, &mut seen, out, told)?;
     grow_ends(alloc, &mut seen, out, told)?;
     direct(alloc, &mut seen, out, told)?;
     for row in LISTED {
@@ -227,6 +242,26 @@ fn alter<W: Write>(alloc: Global, out: &mut W) -> Result<(), Ending> {
     alter_served(alloc)?.write("altered messages served", out)?;
     alter_heard(alloc)?.write("altered answers read", out)?;
     alter_received(alloc, out)?.write("altered packets received", out)?;
+    alter_ends(alloc, out)
+}
+
+/// What is altered on its way to an end with its link.
+const ALTERED: &[(&str, Altered)] = &[
+    ("packets", Altered::Packets),
+    ("messages", Altered::Messages),
+    ("messages of a session", Altered::Served),
+    ("answers", Altered::Heard),
+];
+
+fn alter_ends<W: Write>(alloc: Global, out: &mut W) -> Result<(), Ending> {
+    writeln!(out, "altered at an end that serves:")?;
+    for (name, altered) in ALTERED {
+        alter_at_serving(alloc, *altered)?.write(name, out)?;
+    }
+    writeln!(out, "altered at an end that asks:")?;
+    for (name, altered) in ALTERED {
+        alter_at_asking(alloc, *altered)?.write(name, out)?;
+    }
     Ok(())
 }
 

@@ -11,7 +11,9 @@ mod segment;
 
 pub use fault::LinkFault;
 pub use laws::{distances_separate, held_by_number, messages_only_grow};
-pub use link::{Got, LinkEnd, LinkSetup};
+pub use link::{
+    GREATEST_AGE, Got, LARGEST_LIMIT, LARGEST_SEGMENT, LARGEST_WINDOW, LinkEnd, LinkSetup,
+};
 
 #[cfg(test)]
 mod tests;

@@ -42,20 +42,25 @@ pub enum Got {
     AckOnly,
 }
 
+/// How old a segment or an acknowledgement is at most that is told from its 12-bit number (NSP 4.0.0, segment
+/// numbers).
+pub const GREATEST_AGE: u64 = 2047;
+
 /// A number that is so far ahead of another, or farther, is behind it: half of the 4,096 numbers (NSP 4.0.0,
 /// segment numbers).
 const HALF_ROUND: u16 = 2048;
 
 /// The bytes of a segment at most (own).
-const LARGEST_SEGMENT: usize = 1400;
+pub const LARGEST_SEGMENT: usize = 1400;
 
 /// The segments sent and not acknowledged at most (own): fewer than half of the 4,096 numbers.
-const LARGEST_WINDOW: usize = 2047;
+pub const LARGEST_WINDOW: usize = 2047;
 
-/// The limit on a message lies between these (own).
+/// The limit on a message lies between this and [`LARGEST_LIMIT`] (own).
 const LEAST_LIMIT: usize = 64;
 
-const LARGEST_LIMIT: usize = 65535;
+/// The bytes of a message at most (own).
+pub const LARGEST_LIMIT: usize = 65535;
 
 /// One end of an open link (NSP 4.0.0, data segments and their acknowledgement). What it hands out is a part from
 /// the front of the messages that the other end sent, each once and in order, and no acknowledgement moves it beyond
