@@ -14,6 +14,7 @@ mod files;
 mod growing;
 mod links;
 mod listings;
+mod lossy;
 mod peers;
 mod reading;
 mod requests;
@@ -29,6 +30,7 @@ use files::{Act, BY_NUMBER, Filing, IN_ORDER, RELATIVE, SEQUENTIAL};
 use growing::{Ending, Seen, make_all};
 use links::Links;
 use listings::{ENGINES, Listing, Row, WORDS};
+use lossy::ask_all;
 use peers::Peers;
 use std::alloc::Global;
 use std::io::{Read, Write};
@@ -265,6 +267,15 @@ fn alter_ends<W: Write>(alloc: Global, out: &mut W) -> Result<(), Ending> {
     Ok(())
 }
 
+fn lose<W: Write>(alloc: Global, out: &mut W) -> Result<(), Ending> {
+    let lists = ask_all(alloc)?;
+    writeln!(
+        out,
+        "lists over a line that loses, as over one that doesn't: {lists}"
+    )?;
+    Ok(())
+}
+
 fn fail_devices<W: Write>(alloc: Global, out: &mut W) -> Result<(), Ending> {
     for (name, rows) in LISTED {
         writeln!(out, "{name}, devices at fault:")?;
@@ -292,6 +303,7 @@ fn run<R: Read, W: Write, E: Write>(
     let is_growth_alone = reader.read(&mut word)? > 0;
     grow(alloc, out, told)?;
     if !is_growth_alone {
+        lose(alloc, out)?;
         alter(alloc, out)?;
         fail_devices(alloc, out)?;
     }

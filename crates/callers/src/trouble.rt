@@ -1,0 +1,92 @@
+//! What ends a caller.
+
+use dap_accessed::NoMemory;
+use dap_accessing::{AskFault, ReadFault};
+use dap_end::{EndFault, TakeFault};
+use dap_msg::MsgFault;
+use dap_world::WorldFault;
+use nsp_link::LinkFault;
+use rec_file::Refusal;
+use std::alloc::{AllocError, AllocFailed};
+use std::io;
+
+/// What refused, in a word.
+pub struct Trouble(pub &'static str);
+
+impl<T: Drop> From<AllocFailed<T>> for Trouble {
+    fn from(_e: AllocFailed<T>) -> Trouble {
+        Trouble("no memory")
+    }
+}
+
+impl From<AllocError> for Trouble {
+    fn from(_e: AllocError) -> Trouble {
+        Trouble("no memory")
+    }
+}
+
+impl From<io::Error> for Trouble {
+    fn from(_e: io::Error) -> Trouble {
+        Trouble("standard output")
+    }
+}
+
+impl From<MsgFault> for Trouble {
+    fn from(_e: MsgFault) -> Trouble {
+        Trouble("a message")
+    }
+}
+
+impl From<LinkFault> for Trouble {
+    fn from(_e: LinkFault) -> Trouble {
+        Trouble("a link")
+    }
+}
+
+impl From<Refusal> for Trouble {
+    fn from(_e: Refusal) -> Trouble {
+        Trouble("a file")
+    }
+}
+
+impl From<NoMemory> for Trouble {
+    fn from(_e: NoMemory) -> Trouble {
+        Trouble("no memory")
+    }
+}
+
+impl From<AskFault> for Trouble {
+    fn from(_e: AskFault) -> Trouble {
+        Trouble("a request")
+    }
+}
+
+impl From<ReadFault> for Trouble {
+    fn from(_e: ReadFault) -> Trouble {
+        Trouble("an answer")
+    }
+}
+
+impl From<EndFault> for Trouble {
+    fn from(_e: EndFault) -> Trouble {
+        Trouble("an end")
+    }
+}
+
+impl From<TakeFault> for Trouble {
+    fn from(_e: TakeFault) -> Trouble {
+        Trouble("a packet")
+    }
+}
+
+impl From<(usize, WorldFault)> for Trouble {
+    fn from(_e: (usize, WorldFault)) -> Trouble {
+        Trouble("a list of requests")
+    }
+}
+
+impl From<WorldFault> for Trouble {
+    fn from(_e: WorldFault) -> Trouble {
+        Trouble("a world")
+    }
+}
