@@ -82,12 +82,12 @@ in_append : (xs ys : List NspMessage) → messages_in (xs ++ ys) ≡ messages_in
 in_append [] ys = refl
 in_append (x ∷ xs) ys = ap (λ (l : List Message). x ++ l) (in_append xs ys) ∙ sym (append_assoc x (messages_in xs) (messages_in ys))
 
-Asked-more : (own : ℕ) (requests : List Request) (request : Request) → Asked own (requests ++ request ∷ []) ≡ Asked own requests ++ messages_of own request
+pub Asked-more : (own : ℕ) (requests : List Request) (request : Request) → Asked own (requests ++ request ∷ []) ≡ Asked own requests ++ messages_of own request
 Asked-more own [] request = append-nil (messages_of own request)
 Asked-more own (r ∷ requests) request =
     ap (λ (l : List Message). messages_of own r ++ l) (Asked-more own requests request) ∙ sym (append_assoc (messages_of own r) (Asked own requests) (messages_of own request))
 
-sendable-fit : (limit : ℕ) (messages : List Message) → AreSendable limit messages → AllFit messages
+pub sendable-fit : (limit : ℕ) (messages : List Message) → AreSendable limit messages → AllFit messages
 sendable-fit limit [] h = tt
 sendable-fit limit (m ∷ messages) h = (h.0.0, sendable-fit limit messages h.1)
 

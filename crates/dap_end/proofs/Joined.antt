@@ -42,11 +42,11 @@ use Rattle.dap_end.proofs.Ways.{AreTrue, IsWay, AreJoined, swapped, comes, moved
 
 -- ---- The items of NSP messages that are messages joined.
 
-front_fit : (xs ys : List Message) → AllFit (xs ++ ys) → AllFit xs
+pub front_fit : (xs ys : List Message) → AllFit (xs ++ ys) → AllFit xs
 front_fit [] ys h = tt
 front_fit (x ∷ xs) ys h = (h.0, front_fit xs ys h.1)
 
-back_fit : (xs ys : List Message) → AllFit (xs ++ ys) → AllFit ys
+pub back_fit : (xs ys : List Message) → AllFit (xs ++ ys) → AllFit ys
 back_fit [] ys h = h
 back_fit (x ∷ xs) ys h = back_fit xs ys h.1
 
@@ -75,7 +75,7 @@ front_of (m ∷ handed) waiting (p ∷ packets) e =
       is = ap (λ (b : List ℕ). b ∷ handed) first ∙ ap (λ (l : List (List ℕ)). joined p ∷ l) later.is;
     }
 
-front_full : (xs ys : List NspMessage) → AreFull (xs ++ ys) → AreFull xs
+pub front_full : (xs ys : List NspMessage) → AreFull (xs ++ ys) → AreFull xs
 front_full [] ys h = tt
 front_full (x ∷ xs) ys h = (h.0, front_full xs ys h.1)
 
@@ -114,7 +114,7 @@ first_ones packets handed waiting items full fit bytes front =
       split = sym (append_assoc t.taken t.rest (messages_in f.rest)) ∙ ap (λ (l : List Message). l ++ messages_in f.rest) t.split ∙ sym all;
     }
 
-answers_full : (own : ℕ) (first : Files) (before items : List Item) → AreFull (answers_to own first before items)
+pub answers_full : (own : ℕ) (first : Files) (before items : List Item) → AreFull (answers_to own first before items)
 answers_full own first before [] = tt
 answers_full own first before (item ∷ items) =
     full-both (Blocked (limit_for own first before) (added own first before item)) (answers_to own first (before ++ item ∷ []) items) (full-blocked (limit_for own first before) (added own first before item))

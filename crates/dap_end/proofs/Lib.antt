@@ -17,3 +17,4 @@ pub mod Alike
 pub mod Ways
 pub mod Joined
 pub mod Calling
+pub mod ForCallers

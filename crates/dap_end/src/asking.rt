@@ -4,13 +4,15 @@ ghost use Rattle.std.specs.Prelude.{◌≡◌, ◌≢◌, ◌≤◌, ◌<◌, �
 ghost use Rattle.dap_msg.specs.Exchange.{least_buffer};
 ghost use Rattle.dap_msg.specs.Blocked.{bodies};
 ghost use Rattle.nsp_link.specs.Limits.{largest_limit};
-ghost use Rattle.nsp_link.specs.Link.{SetupFault, MaySend, IsSpelling};
+ghost use Rattle.nsp_link.specs.Link.{IsSetup, SetupFault, MaySend, IsSpelling};
 ghost use Rattle.nsp_link.specs.Sending.{NextFault, SendAllFault, WritesSent, ack_packet_of};
 ghost use Rattle.nsp_link.specs.declared.fault.LinkFault.TheVariants.{Failed, NoSuchSegment, MessageTooLong};
 ghost use Rattle.nsp_link.specs.declared.fault.LinkFault.TheVariants as fault;
 ghost use Rattle.dap_accessing.specs.Asked.{messages_of};
-ghost use Rattle.dap_accessing.specs.Calls.{AskRefused};
-ghost use Rattle.dap_end.specs.Ports.{new_port};
+ghost use Rattle.dap_accessing.specs.Calls.{AskRefused, IsAdmittedBy, MayAsk};
+ghost use Rattle.dap_accessing.specs.declared.fault.AskFault.TheVariants as ask_fault;
+ghost use Rattle.dap_fields.specs.Spelling.{AreBytes};
+ghost use Rattle.dap_end.specs.Ports.{new_port, oldest};
 ghost use Rattle.dap_end.specs.Receiving.{Receives};
 ghost use Rattle.dap_end.specs.Writing.{WroteNext, IsFull};
 ghost use Rattle.dap_end.specs.Asking.{HasAsked, HasStill, AskedOne, HandedAll, ReadOne, ReadNone, ReadNext, ReadAll, ReadPart, HeardAll, HearFault, WentOn, GoOnFault, HeardAndWrote, AnswerFault, TookAll, NotTaken, nothing_asked, received};
@@ -63,6 +65,7 @@ impl AskingEnd {
         requires { least_buffer ≤ bufsiz }
         ensures ok { IfOk result (λ end. HasAsked nothing_asked end
             × (end.port ≡ new_port setup) × (end.accessing.own ≡ bufsiz)) }
+        ensures setup { OnOk result (IsSetup setup) }
         ensures err { IfErr result (SetupFault setup) }
     {
         let port = Port::new(alloc, setup)?;
@@ -93,6 +96,30 @@ impl AskingEnd {
         ensures err { IfErr result (λ f. (self.new ≡ self.old)
             × AskRefused request.now self.old.accessing f) }
     {
+        match self.check(request) {
+            Ok(()) => self.ask_checked(request),
+            Err(fault) => Err(fault),
+        }
+    }
+
+    /// Whether `ask` would take the request, memory aside; refused as there. It takes no memory. Own.
+    pub fn check(&self, request: &Request) -> Result<(), AskFault>
+        ensures works { OnOk result (self.now.accessing.failed ≡ false) }
+        ensures admissible { OnOk result (IsAdmittedBy self.now.accessing request.now) }
+        ensures may { OnOk result (MayAsk self.now.accessing request.now) }
+        ensures refused { IfErr result (λ f. (f ≢ ask_fault.NoMemory)
+            × AskRefused request.now self.now.accessing f) }
+    {
+        self.accessing.check(request)
+    }
+
+    /// Asks a request that `check` lets through, as `ask` does. It isn't looked at again, and refused for want of memory
+    /// alone, with nothing changed. Own.
+    pub fn ask_checked(&mut self, request: &Request) -> Result<usize, AskFault>
+        requires { MayAsk self.old.accessing request.now }
+        ensures ok { IfOk result (λ n. AskedOne request.now self.old self.new n) }
+        ensures err { IfErr result (λ f. (self.new ≡ self.old) × (f ≡ ask_fault.NoMemory)) }
+    {
         ask_next(&mut self.port, &mut self.accessing, request)
     }
 
@@ -109,8 +136,12 @@ impl AskingEnd {
     pub fn may_read(&self) -> bool
         ensures yes { result ≡ true → 0 < length self.now.port.link.inbox }
         ensures no { result ≡ false → self.now.port.link.inbox ≡ [] }
+        ensures bytes { AreBytes (oldest self.now.port.link.inbox) }
     {
-        self.port.link.peek_message().is_some()
+        match self.port.link.peek_message() {
+            Some(message) => is_left(message),
+            None => false,
+        }
     }
 
     /// Reads the next answer of the oldest NSP message that came, and gives the report that it completes; nothing, where
@@ -302,6 +333,13 @@ impl AskingEnd {
     {
         &self.port.link
     }
+
+    /// The NSP messages that wait to be handed to the link, the oldest first. It takes no memory. Own.
+    pub fn waiting(&self) -> &[Vec<u8>]
+        ensures { bodies result.now ≡ self.now.port.outbox }
+    {
+        &self.port.outbox
+    }
 }
 
 // How a call ends that ends as its link does.
@@ -312,6 +350,15 @@ fn ended(done: Result<(), LinkFault>) -> Result<(), EndFault>
         Ok(()) => Ok(()),
         Err(fault) => Err(EndFault::Link(fault)),
     }
+}
+
+// An NSP message that came is left; it is of bytes.
+fn is_left(message: &[u8]) -> bool
+    ensures yes { result ≡ true }
+    ensures bytes { AreBytes message.now }
+{
+    let _bytes = message;
+    true
 }
 
 // Adds the report, for which there is room.
@@ -334,20 +381,20 @@ fn most_messages(request: &Request) -> usize
     }
 }
 
-// Asks a request: its messages wait.
+// Asks a request that was checked: its messages wait.
 fn ask_next(
     port: &mut Port,
     accessing: &mut Accessing,
     request: &Request,
 ) -> Result<usize, AskFault>
-    requires { IsPort port.old }
+    requires kept { IsPort port.old }
+    requires may { MayAsk accessing.old request.now }
     ensures ok { IfOk result (λ n. AskedOne request.now (asking_of port.old accessing.old)
         (asking_of port.new accessing.new) n) }
     ensures kept { IsPort port.new }
     ensures err { IfErr result (λ f. (port.new ≡ port.old) × (accessing.new ≡ accessing.old)
-        × AskRefused request.now accessing.old f) }
+        × (f ≡ ask_fault.NoMemory)) }
 {
-    accessing.check(request)?;
     let Ok(()) = port.outbox.reserve(most_messages(request)) else {
         return Err(AskFault::NoMemory);
     };

@@ -5,7 +5,7 @@ ghost use Rattle.dap_msg.specs.Exchange.{least_buffer};
 ghost use Rattle.dap_msg.specs.Blocked.{bodies};
 ghost use Rattle.rec_file.specs.Shapes.{is_shape};
 ghost use Rattle.nsp_link.specs.Limits.{largest_limit};
-ghost use Rattle.nsp_link.specs.Link.{SetupFault, MaySend, IsSpelling};
+ghost use Rattle.nsp_link.specs.Link.{IsSetup, SetupFault, MaySend, IsSpelling};
 ghost use Rattle.nsp_link.specs.Sending.{NextFault, SendAllFault, WritesSent, ack_packet_of};
 ghost use Rattle.nsp_link.specs.declared.fault.LinkFault.TheVariants.{Failed, NoSuchSegment, MessageTooLong};
 ghost use Rattle.nsp_link.specs.declared.fault.LinkFault.TheVariants as fault;
@@ -61,6 +61,7 @@ impl ServingEnd {
         requires { least_buffer ≤ bufsiz }
         ensures ok { IfOk result (λ end. IsAfter (nothing_yet []) end
             × (end.port ≡ new_port setup) × (end.accessed.own ≡ bufsiz)) }
+        ensures setup { OnOk result (IsSetup setup) }
         ensures err { IfErr result (SetupFault setup) }
     {
         let port = Port::new(alloc, setup)?;
@@ -281,6 +282,13 @@ impl ServingEnd {
         ensures { result.now ≡ self.now.port.link }
     {
         &self.port.link
+    }
+
+    /// The NSP messages that wait to be handed to the link, the oldest first. It takes no memory. Own.
+    pub fn waiting(&self) -> &[Vec<u8>]
+        ensures { bodies result.now ≡ self.now.port.outbox }
+    {
+        &self.port.outbox
     }
 }
 

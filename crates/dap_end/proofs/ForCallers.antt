@@ -1,0 +1,18 @@
+-- What the crates above may cite of this one's proofs. No other file here is for them.
+
+-- the answers to one item more, as NSP messages
+pub use Rattle.dap_end.proofs.Answering.{answer_to, answers-more}
+-- the messages of two lists of NSP messages
+pub use Rattle.dap_end.proofs.Running.{in_append}
+-- the messages of one request more
+pub use Rattle.dap_end.proofs.Asked.{Asked-more}
+-- what may be sent has a spelling
+pub use Rattle.dap_end.proofs.Asked.{sendable-fit}
+-- no NSP message is empty: of two lists, of those that are blocked, of answers, of a front
+pub use Rattle.dap_end.proofs.Asked.{full-both, full-blocked}
+pub use Rattle.dap_end.proofs.Joined.{answers_full, front_full}
+-- there are no more NSP messages than messages
+pub use Rattle.dap_end.proofs.Asked.{few_blocked}
+-- messages have spellings: those of two lists, of a front, of the rest
+pub use Rattle.dap_end.proofs.ServingOne.{fit-both}
+pub use Rattle.dap_end.proofs.Joined.{front_fit, back_fit}

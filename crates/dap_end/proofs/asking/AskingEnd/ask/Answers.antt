@@ -1,0 +1,16 @@
+use Rattle.std.proofs.Common.{◌≡◌, ℕ, false, sym, subst}
+use Rattle.std.specs.Prelude.{Result, Ok, Err, IfErr}
+use Rattle.dap_accessing.specs.declared.request.Request.{Request}
+use Rattle.dap_accessing.specs.declared.fault.AskFault.{AskFault}
+use Rattle.dap_accessing.specs.declared.fault.AskFault.TheVariants.{NoMemory}
+use Rattle.dap_accessing.specs.Calls.{AskRefused, IsAdmittedBy}
+use Rattle.dap_end.specs.Asking.{AskingValue}
+use Rattle.dap_end.proofs.asking.AskingEnd.ask.Goals as goal
+
+refused : (request : Request) (old new : AskingValue) (r : Result ℕ AskFault) → old.accessing.failed ≡ false → IsAdmittedBy old.accessing request
+    → IfErr r (λ f. (new ≡ old) × (f ≡ NoMemory)) → IfErr r (λ f. (new ≡ old) × AskRefused request old.accessing f)
+refused request old new (Ok n) works may wanting = wanting
+refused request old new (Err f) works may wanting = (wanting.0, subst (λ (g : AskFault). AskRefused request old.accessing g) (sym wanting.1) (works, may))
+
+pub returns-in-Ok-clause-err : goal.returns-in-Ok-clause-err
+returns-in-Ok-clause-err c = refused c.args.request.now c.args.self.now c.ask_checked.new.self c.ask_checked.result c.in-Ok.ensures.works c.in-Ok.ensures.admissible c.ask_checked.ensures.err
