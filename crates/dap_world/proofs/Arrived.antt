@@ -11,16 +11,15 @@ use Rattle.dap_msg.specs.Blocked.{NspMessage, joined, all_joined, messages_in, A
 use Rattle.nsp_link.specs.Cutting.{cut, count_of}
 use Rattle.nsp_link.specs.Link.{LinkValue, IsWhole}
 use Rattle.dap_world.specs.Machine.{arrived}
-use Rattle.dap_world.specs.Inner.Sides.{SideValue}
+use Rattle.dap_world.specs.Inner.Sides.{SideValue, port_of, side_of}
 use Rattle.dap_world.specs.Inner.Ways.{IsWay}
 use Rattle.dap_world.specs.Inner.Parts.{IsTold}
-use Rattle.dap_world.specs.Inner.Splitting.{AreFull}
-use Rattle.dap_world.specs.Inner.Handling.{handled_side}
+use Rattle.dap_end.specs.Asking.{AreFull}
+use Rattle.dap_end.specs.Ports.{gone_on}
+use Rattle.dap_end.proofs.ForCallers.{back_fit, front_fit, in_append}
 use Rattle.dap_world.proofs.Counting.{segments-first, cut-none, handed-bytes}
-use Rattle.dap_world.proofs.Packets.{messages_in-append}
 use Rattle.dap_world.proofs.Reading.{ends_at, fit_at, joined-one}
 use Rattle.dap_world.proofs.Splits.{some_bytes}
-use Rattle.dap_world.proofs.Blocks.{fit-front, fit-back}
 
 -- ---- The NSP messages whose segments were all taken.
 
@@ -134,7 +133,7 @@ full-back [] ys h = h
 full-back (x ∷ xs) ys h = full-back xs ys h.1
 
 fit-of : (xs ys : List NspMessage) → AllFit (messages_in (xs ++ ys)) → AllFit (messages_in ys)
-fit-of xs ys h = fit-back (messages_in xs) (messages_in ys) (subst AllFit (messages_in-append xs ys) h)
+fit-of xs ys h = back_fit (messages_in xs) (messages_in ys) (subst AllFit (in_append xs ys) h)
 
 -- the first NSP message that the link didn't hand out is the one that waits
 record Waits (gone rest : List NspMessage) (bytes : List ℕ) (c : ℕ) : Type 0 where
@@ -156,7 +155,7 @@ next_is : (gone after : List NspMessage) (begun more : List Message) (m : Messag
 next_is gone after begun more m k count is =
     let last = messages_in (take k after) in
     let all : messages_in (gone ++ (begun ++ m ∷ more) ∷ take k after) ≡ (messages_in gone ++ begun) ++ m ∷ (more ++ last) =
-    messages_in-append gone ((begun ++ m ∷ more) ∷ take k after)
+    in_append gone ((begun ++ m ∷ more) ∷ take k after)
     ∙ ap (λ (l : List Message). messages_in gone ++ l) (append_assoc begun (m ∷ more) last)
     ∙ sym (append_assoc (messages_in gone) begun (m ∷ (more ++ last))) in
     ap (λ (l : List Message). slice_get l count) all ∙ here (messages_in gone ++ begun) count m (more ++ last) (length-append (messages_in gone) begun ∙ sym is)
@@ -207,7 +206,7 @@ module _ (from to : SideValue) (packets : List NspMessage) (count : ℕ) (h : Is
         handled = h.among.handled;
         behind = h.among.behind;
         way = h.way;
-        fit = subst AllFit o.split (fit-front w.p (messages_in w.after) fits);
+        fit = subst AllFit o.split (front_fit w.p (messages_in w.after) fits);
         next = ap (λ (l : List NspMessage). slice_get (messages_in l) count) (came_whole ∙ all)
             ∙ next_is h.gone w.after h.among.begun o.more o.m w.k count h.among.handled;
       }
@@ -229,6 +228,10 @@ module _ (from to : SideValue) (packets : List NspMessage) (count : ℕ) (h : Is
       first (x ∷ a) b = ap (λ (l : List NspMessage). x ∷ l) (first a b)
 
 -- ---- A message was handled.
+
+-- the place moves on, or, at its end, the NSP message leaves the link
+abbrev pub handled_side : SideValue → (bytes : List ℕ) (later : List (List ℕ)) → (next : ℕ) → SideValue
+handled_side s bytes later next = side_of (gone_on (port_of s) bytes later next) s.posted s.wire
 
 -- the oldest left the inbox: it is given away
 gave : (from : SideValue) (v : LinkValue) (given messages : List (List ℕ)) (bytes : List ℕ) (later : List (List ℕ)) → v.inbox ≡ bytes ∷ later → IsWay from v messages given
@@ -270,7 +273,7 @@ told_by_more from to packets count bytes later next told handed posted handed_ar
         begun = [];
         rest = rest;
         split = split ∙ sym (append_assoc gone (p ∷ []) rest);
-        handled = let one = ap length (messages_in-append gone (p ∷ []) ∙ ap (λ (l : List Message). messages_in gone ++ l) (append-nil p)) in
+        handled = let one = ap length (in_append gone (p ∷ []) ∙ ap (λ (l : List Message). messages_in gone ++ l) (append-nil p)) in
             omega (arith, one, handled, length-append (messages_in gone) p, length-append begun (m ∷ []));
         behind = refl;
         stays = inl refl;

@@ -2,13 +2,32 @@
 use Rattle.std.proofs.Common.{◌≡◌, ℕ, zero, suc, ◌+◌, ◌≤◌, Bool, true, false, arith, refl, ◌∙◌, subst, List, [], ◌∷◌}
 use Rattle.std.specs.Prelude.{◌||◌, Option, Some, None, IfSome, slice_get}
 use Rattle.std.specs.List.{AllByRecursion}
-use Rattle.nsp_seg.specs.Packets.{PacketValue, segment, data_ack}
-use Rattle.nsp_link.specs.Link.{LinkValue, IsBetween}
+use Rattle.nsp_seg.specs.Packets.{PacketValue, Spells, segment, data_ack}
+use Rattle.nsp_link.specs.Limits.{largest_window, most_segments}
+use Rattle.nsp_link.specs.Link.{LinkValue, IsBetween, IsDue, taken_after}
 use Rattle.nsp_link.specs.Cutting.{cut}
 use Rattle.nsp_link.proofs.ForCallers.{written_spells}
 use Rattle.dap_world.specs.Machine.{is_old, is_old_segment}
-use Rattle.dap_world.specs.Inner.Sides.{SideValue, WiredValue}
-use Rattle.dap_world.specs.Inner.Ways.{IsWay, IsNear, AllNear, IsDueAs, IsComing, is_old_wired}
+use Rattle.dap_world.specs.declared.side.Wired.{Wired}
+use Rattle.dap_world.specs.Inner.Sides.{SideValue}
+use Rattle.dap_world.specs.Inner.Ways.{IsWay, is_old_wired}
+
+-- A packet is no further ahead than the numbers tell, makes no more than 2^40 segments taken, and acknowledges nothing
+-- that was never sent.
+pub record IsNear (v : LinkValue) (w : Wired) : Type 0 where
+  pub segment : IfSome w.segment (λ k. k ≤ v.received + largest_window)
+  pub few : taken_after v w.segment ≤ most_segments
+  pub acks : w.acks ≤ v.sent
+
+abbrev pub AllNear : LinkValue → List Wired → Type 0
+AllNear v wire = AllByRecursion (IsNear v) wire
+
+-- the packet is due at the link, as one of a peer that cuts these messages by this size
+pub record IsDueAs (v : LinkValue) (size : ℕ) (messages given : List (List ℕ)) (w : Wired) : Type 0 where
+  pub value : PacketValue
+  pub spelled : Spells value w.packet.items
+  pub due : IsDue v size messages given value w.segment w.acks
+  pub few : taken_after v w.segment ≤ most_segments
 
 pub all_at : {X : Type 0} (P : X → Type 0) → (xs : List X) (j : ℕ) (x : X) → AllByRecursion P xs → slice_get xs j ≡ Some x → P x
 all_at P [] j x all e = let no : ⊥ = cc in absurd no
@@ -32,10 +51,10 @@ neither false true e = let no : ⊥ = cc in absurd no
 neither true b e = let no : ⊥ = cc in absurd no
 
 -- the j-th packet is due unless it is stale
-pub due : (from : SideValue) (v : LinkValue) (messages given : List (List ℕ)) (j : ℕ) (w : WiredValue)
+pub due : (from : SideValue) (v : LinkValue) (messages given : List (List ℕ)) (j : ℕ) (w : Wired)
     → IsWay from v messages given → AllNear v from.wire → slice_get from.wire j ≡ Some w → is_old_wired v w ≡ false → IsDueAs v from.link.seg_size messages given w
 due from v messages given j w way near at young =
-    let written = written_spells from.link.local from.link.remote (cut from.link.seg_size messages) w.segment w.acks w.packet (all_at _ from.wire j w way.wire at) in
+    let written = written_spells from.link.local from.link.remote (cut from.link.seg_size messages) w.segment w.acks w.packet.items (all_at _ from.wire j w way.wire at) in
     let close : IsNear v w = all_at (IsNear v) from.wire j w near at in
     let both = neither (is_old_segment v.received w.segment) (is_old w.acks v.acked) young in
     record {
@@ -52,10 +71,5 @@ due from v messages given j w way near at young =
         near = close.segment;
         believable = close.acks;
       };
+      few = close.few;
     }
-
-pub coming : (from : SideValue) (v : LinkValue) (messages given : List (List ℕ)) (j : ℕ) (w : WiredValue)
-    → IsWay from v messages given → AllNear v from.wire → slice_get from.wire j ≡ Some w → is_old_wired v w ≡ false → IsComing v w
-coming from v messages given j w way near at young =
-    let close : IsNear v w = all_at (IsNear v) from.wire j w near at in
-    record { size = from.link.seg_size; messages = messages; given = given; due = due from v messages given j w way near at young; few = close.few }

@@ -1,7 +1,7 @@
 -- Asking a request is a step of the machine.
 use Rattle.std.proofs.Common.{◌≡◌, ◌≢◌, ℕ, zero, suc, ◌+◌, ◌≤◌, arith, refl, sym, ◌∙◌, subst, ap, true, false, List, [], ◌∷◌, ◌++◌, length, take, drop, map}
-use Rattle.std.specs.Prelude.{Result, Ok, Err, IfOk, IfErr, nat_le, if◌then◌else◌}
-use Rattle.std.proofs.lemmas.List.{length-append, length-map, take-append-le}
+use Rattle.std.specs.Prelude.{Result, Ok, Err, IfOk, IfErr, OnOk}
+use Rattle.std.proofs.lemmas.List.{drop-append-le, length-append, length-map, take-append-le}
 use Rattle.std.proofs.lemmas.List.Elements.{All-cons}
 use Rattle.dap_msg.specs.Message.{Message}
 use Rattle.dap_msg.specs.Items.{Item, Whole}
@@ -30,26 +30,26 @@ use Rattle.dap_world.specs.Inner.Within.{AreWithin}
 use Rattle.dap_world.specs.Agreement.{AgreeAt, AreAdmissible, IsBufsiz, NextWithin, answers_to, items_of, reports_of}
 use Rattle.dap_accessed.specs.Served.{AllAtMost}
 use Rattle.dap_world.specs.declared.event.Event.TheVariants as event
+use Rattle.dap_world.specs.declared.event.Step.{Step}
 use Rattle.dap_world.specs.declared.event.Step.TheVariants as step
 use Rattle.dap_world.specs.declared.event.WorldFault.{WorldFault}
 use Rattle.dap_world.specs.declared.event.WorldFault.TheVariants as fault
-use Rattle.dap_world.specs.Machine.{State, taken_of, answers_read, asking, asked, reported, Steps, Refuses}
+use Rattle.dap_world.specs.Machine.{State, taken_of, answers_read, asking as asking_of, asked, reported, Steps, Refuses}
 use Rattle.dap_world.specs.Runs.{Went}
-use Rattle.dap_world.specs.Inner.Answers.{ask_of}
 use Rattle.dap_world.specs.Inner.Worlds.{IsWorld}
-use Rattle.dap_world.specs.Inner.Sides.{SideValue}
-use Rattle.dap_world.specs.Inner.Ways.{AreShort}
-use Rattle.dap_world.specs.Inner.Parts.{Parts, AreParts, IsTold, asks, answers, served_items, answer_packets, asked_packets, direction_of, state_of}
-use Rattle.dap_world.specs.Inner.Asking.{AskedOne, AskFaultOf}
+use Rattle.dap_end.specs.Ports.{PortValue}
+use Rattle.dap_end.specs.Asking.{AskingValue, AskedOne, HasAsked}
+use Rattle.dap_end.proofs.ForCallers.{Asked-more, sendable-fit}
+use Rattle.dap_world.specs.Inner.Sides.{AreShort, AskFaultOf, AskedSo, side_of}
+use Rattle.dap_world.specs.Inner.Parts.{Parts, AreParts, IsAskedAll, IsServedAll, IsTold, asks, answers, asking_end, serving_end, served_items, answer_packets, asked_packets, direction_of, state_of}
 use Rattle.dap_world.proofs.Counting.{counted}
-use Rattle.dap_world.proofs.Packets.{Asked-append}
 use Rattle.dap_world.proofs.Blocks.{asked-more}
 use Rattle.dap_world.proofs.Growing.{told_to, told_more, handed_same}
 use Rattle.dap_world.proofs.Kept.{kept-step, all-answers, served-front, served_count}
 use Rattle.dap_world.proofs.Agreeing.{both-agree}
 use Rattle.dap_world.proofs.Within.{messages-within}
 use Rattle.dap_world.proofs.Blocking.{blocked-within, within-one, within-front, within-back}
-use Rattle.dap_world.proofs.Posted.{AreThen}
+use Rattle.dap_world.proofs.Wrote.{AreThen, asking_parts}
 
 -- ---- The limit that A knows is B's buffer, where more than one message could be joined.
 
@@ -70,7 +70,7 @@ same-blocked own_a own_b Connected place limit_b limit_a r h e = absurd h
 same-blocked own_a own_b Stopped place limit_b limit_a r h e = absurd h
 
 -- what is asked is blocked by B's buffer
-asking_is : (s : State) (r : Request) → IsWorld s → IsAdmissible s.own_a s.requests (answers_read s) r → asking s r ≡ Blocked s.own_b (messages_of s.own_a r)
+asking_is : (s : State) (r : Request) → IsWorld s → IsAdmissible s.own_a s.requests (answers_read s) r → asking_of s r ≡ Blocked s.own_b (messages_of s.own_a r)
 unfolding reported
 asking_is s r h m =
     let all = all-answers s r h m in
@@ -98,10 +98,6 @@ request-blocked own_a own_b a b rs all = λ r m.
     subst (λ (l : List NspMessage). AllAtMost own_b (all_joined l)) (sym (same-blocked own_a own_b (phase_after reports) standing.place standing.limit (limit_after reports) r agree.places m.1))
     (blocked-within own_b own_b (messages_of own_a r) (omega arith) (messages-within own_a own_b a b rs all r m))
 
-all-fit : (limit : ℕ) (messages : List Message) → AreSendable limit messages → AllFit messages
-all-fit limit [] h = tt
-all-fit limit (m ∷ messages) h = (h.0.0, all-fit limit messages h.1)
-
 -- ---- No report comes of a request alone.
 
 same_told : (rs : List Request) (answers : List Item) (v : accessing.Present) (r : Request) → accessing.StandsAfter rs answers v → IsNoneDue rs answers → Told (rs ++ r ∷ []) answers ≡ Told rs answers
@@ -109,10 +105,7 @@ same_told rs answers v r stands none = (asked_one rs answers r none).told
 
 -- ---- The step.
 
-abbrev pub asked_parts : Parts → SideValue → accessing.Present → List Request → Parts
-asked_parts p s after requests = record p { a = s; accessing = after; requests = requests }
-
-asks_one : (p : Parts) (r : Request) → IsAdmissible p.accessing.own p.requests (answers_read (state_of p)) r → Steps (state_of p) (event.Ask r) (step.Asked (length (asking (state_of p) r))) (asked (state_of p) r)
+asks_one : (p : Parts) (r : Request) → IsAdmissible p.accessing.own p.requests (answers_read (state_of p)) r → Steps (state_of p) (event.Ask r) (step.Asked (length (asking_of (state_of p) r))) (asked (state_of p) r)
 unfolding Steps
 asks_one p r m = (m, refl, refl)
 
@@ -123,13 +116,8 @@ served_same p r h =
     let taken = served_count (state_of p) h.world in
     let long = length-append (taken_of (state_of p)) front.0 in
     let all = ap length front.1 in
-    ap (λ (l : List Message). map Whole (take p.served l)) (Asked-append p.accessing.own p.requests r)
+    ap (λ (l : List Message). map Whole (take p.served l)) (Asked-more p.accessing.own p.requests r)
     ∙ ap (map Whole) (take-append-le p.served (Asked p.accessing.own p.requests) (messages_of p.accessing.own r) (omega (arith, taken, long, all)))
-
-dropped : (xs ys : List NspMessage) (n : ℕ) → n ≤ length xs → drop n (xs ++ ys) ≡ drop n xs ++ ys
-dropped xs ys zero le = refl
-dropped [] ys (suc n) le = let none : ⊥ = omega arith in absurd none
-dropped (x ∷ xs) ys (suc n) le = dropped xs ys n (omega arith)
 
 module _ (p : Parts) (h : AreParts p) (r : Request) (m : IsAdmissible p.accessing.own p.requests (answers_read (state_of p)) r) where
   abbrev block : List NspMessage
@@ -149,15 +137,16 @@ module _ (p : Parts) (h : AreParts p) (r : Request) (m : IsAdmissible p.accessin
       ∙ ap (λ (l : List NspMessage). record s { requests = p.requests ++ r ∷ []; from_a = direction_of p.a p.b.link l }) (asked-more p.accessing.own p.accessed.own p.requests r)
       ∙ ap (λ (l : List NspMessage). record s { requests = p.requests ++ r ∷ []; from_a = record s.from_a { waiting = drop p.a.posted (asks p ++ block); handed = l } }) (handed_same p.a p.b (asks p) block p.served h.from_a)
       ∙ ap (λ (l : List NspMessage). record s { requests = p.requests ++ r ∷ []; from_a = record s.from_a { waiting = l } })
-      (dropped (asks p) block p.a.posted (omega arith) ∙ ap (λ (l : List NspMessage). s.from_a.waiting ++ l) (sym (asking_is s r h.world m)))
+      (drop-append-le p.a.posted (asks p) block (omega arith) ∙ ap (λ (l : List NspMessage). s.from_a.waiting ++ l) (sym (asking_is s r h.world m)))
 
   parts_asked : (more : List (List ℕ)) (after : accessing.Present) → more ≡ all_joined (Blocked p.accessed.own (messages_of p.accessing.own r))
-      → accessing.StandsAfter (p.requests ++ r ∷ []) (answers_read (state_of p)) (record after { own = p.accessing.own }) → IsWorld (asked (state_of p) r) → AreParts (q_of (p.a.outbox ++ more) after)
+      → IsAskedAll (asking_end (q_of (p.a.outbox ++ more) after)) (p.requests ++ r ∷ []) (answers_read (state_of p)) → AreParts (q_of (p.a.outbox ++ more) after)
   unfolding reported
-  parts_asked more after more_is stands world =
+  parts_asked more after more_is asking =
       let s = state_of p in
       let outbox = p.a.outbox ++ more in
       let state = state_asked outbox after in
+      let world = kept-step s (asked s r) (event.Ask r) (step.Asked (length (asking_of s r))) (asks_one p r m) h.world in
       let all = messages_in-Blocked p.accessed.own (messages_of p.accessing.own r) in
       let admissible : IsAdmissible p.accessing.own p.requests (map Whole (answers_to p.accessing.own p.accessed.own p.requests)) r =
       subst (λ (l : List Item). IsAdmissible p.accessing.own p.requests l r) (all-answers s r h.world m) m in
@@ -165,7 +154,7 @@ module _ (p : Parts) (h : AreParts p) (r : Request) (m : IsAdmissible p.accessin
       let short : AreShort p.a.link.max_message more =
       subst (AreShort p.a.link.max_message) (sym more_is)
       (short-packets p.accessed.own p.a.link.max_message block h.limit_b (within_limit p.accessed.own (messages_of p.accessing.own r)) (subst (AreWithin p.accessed.own) (sym all) within)) in
-      let fit : AllFit (messages_in block) = subst AllFit (sym all) (all-fit _ (messages_of p.accessing.own r) m.2) in
+      let fit : AllFit (messages_in block) = subst AllFit (sym all) (sendable-fit _ (messages_of p.accessing.own r) m.2) in
       record {
         world = subst IsWorld (sym state) world;
         alike = record { here = h.alike.here; there = h.alike.there; size = h.alike.size; window = h.alike.window; limit = h.alike.limit };
@@ -176,65 +165,61 @@ module _ (p : Parts) (h : AreParts p) (r : Request) (m : IsAdmissible p.accessin
             (told_more p.a p.b (asks p) block p.served p.a.link.inbox p.a.place outbox more h.from_a refl more_is fit short);
         from_b = subst (λ (l : List NspMessage). IsTold p.b (record p.a { outbox = outbox }) l p.read) (sym answers_same) (told_to p.b p.a (answers p) p.read outbox h.from_b);
         sent_is = h.sent_is ∙ ap (λ (x : State). map canon (messages_in x.from_a.handed)) (sym state);
-        reports_is = h.reports_is ∙ sym (same_told p.requests (answers_read s) p.accessing r h.asking m.0) ∙ ap reported (sym state);
-        asking = subst (λ (x : State). accessing.StandsAfter (p.requests ++ r ∷ []) (answers_read x) (record after { own = p.accessing.own })) (sym state) stands;
-        serving = subst (λ (x : State). accessed.StandsAfter [] (map Whole (taken_of x)) p.accessed) (sym state) h.serving;
+        reports_is = h.reports_is ∙ sym (same_told p.requests (answers_read s) p.accessing r h.asking.1.asking m.0) ∙ ap reported (sym state);
+        asking = subst (λ (x : State). IsAskedAll (asking_end (q_of outbox after)) (p.requests ++ r ∷ []) (answers_read x)) (sym state) asking;
+        serving = subst (λ (x : State). IsServedAll (serving_end p) (map Whole (taken_of x))) (sym state) h.serving;
       }
 
 refused_by : (p : Parts) (r : Request) (f : AskFault) → AreParts p → f ≢ ask_fault.NoMemory → AskRefused r p.accessing f → Refuses (state_of p) (event.Ask r) (fault.Ask f)
 unfolding Refuses
-refused_by p r ask_fault.Failed h f refused = let works = h.asking.works in absurd cc
-refused_by p r ask_fault.Busy h f refused = refused.1 p.requests (answers_read (state_of p)) h.asking
-refused_by p r ask_fault.WrongPhase h f refused = refused.1 p.requests (answers_read (state_of p)) h.asking
-refused_by p r ask_fault.TooLarge h f refused = refused.1 p.requests (answers_read (state_of p)) h.asking
+refused_by p r ask_fault.Failed h f refused = let works = h.asking.1.asking.works in absurd cc
+refused_by p r ask_fault.Busy h f refused = refused.1 p.requests (answers_read (state_of p)) h.asking.1.asking
+refused_by p r ask_fault.WrongPhase h f refused = refused.1 p.requests (answers_read (state_of p)) h.asking.1.asking
+refused_by p r ask_fault.TooLarge h f refused = refused.1 p.requests (answers_read (state_of p)) h.asking.1.asking
 refused_by p r ask_fault.NoMemory h f refused = absurd (f refl)
 
 refused : (p : Parts) (r : Request) (f : WorldFault) → AreParts p → AskFaultOf r p.accessing f → Went (state_of p) (event.Ask r) (Err f) (state_of p)
 unfolding Steps Refuses
 refused p r (fault.Ask f) h why = (refused_by p r f h why.0 why.1, refl)
-refused p r fault.NoMemory h may = (((_, _, asks_one p r (may p.requests (answers_read (state_of p)) h.asking)), λ t. t), refl)
+refused p r fault.NoMemory h may = (((_, _, asks_one p r (may p.requests (answers_read (state_of p)) h.asking.1.asking)), λ t. t), refl)
 refused p r fault.NoSuchPacket h never = absurd never
 refused p r fault.Stale h never = absurd never
 refused p r fault.NothingToDo h never = absurd never
 refused p r fault.Exhausted h never = absurd never
 refused p r fault.BadSetup h never = absurd never
 
-pub asked_step : (p : Parts) (r : Request) (s : SideValue) (after : accessing.Present) (requests : List Request) (result : Result ℕ WorldFault) → AreParts p
-    → IfOk result (λ n. AskedOne r p.a s p.accessing after p.requests requests n)
-    → IfErr result (λ f. (s ≡ p.a) × (after ≡ p.accessing) × (requests ≡ p.requests) × AskFaultOf r p.accessing f) → AreThen p (event.Ask r) (asked_parts p s after requests) (ask_of result)
+asked_step : (p : Parts) (r : Request) (v : AskingValue) (n : ℕ) (requests : List Request) → AreParts p → AskedOne r (asking_end p) v n → requests ≡ p.requests ++ r ∷ []
+    → AreThen p (event.Ask r) (record (asking_parts p v p.a.posted p.a.wire) { requests = requests }) (Ok (step.Asked n))
 unfolding Steps Refuses reported
-asked_step p r s after requests (Err f) h ok err = rw (err.0, err.1, err.2) (h, refused p r f h err.3)
-asked_step p r s after requests (Ok n) h o err =
-    let now = answers_read (state_of p) in
-    let m = o.asks.admissible p.requests now h.asking in
-    let spelled : o.messages ≡ all_joined (asking (state_of p) r) = o.asks.spelled ∙ ap (λ (l : ℕ). all_joined (Blocked l (messages_of p.accessing.own r))) h.asking.limit in
+asked_step p r v n requests h o told =
+    let read = answers_read (state_of p) in
+    let stood = h.asking.1.asking in
+    let m = o.asks.admissible p.requests read stood in
+    let outbox = p.a.outbox ++ o.messages in
+    let spelled : o.messages ≡ all_joined (asking_of (state_of p) r) = o.asks.spelled ∙ ap (λ (l : ℕ). all_joined (Blocked l (messages_of p.accessing.own r))) stood.limit in
     let more_is : o.messages ≡ all_joined (Blocked p.accessed.own (messages_of p.accessing.own r)) = spelled ∙ ap all_joined (asking_is (state_of p) r h.world m) in
-    let own : after ≡ record after { own = p.accessing.own } = ap (λ (k : ℕ). record after { own = k }) o.own in
-    let stands : accessing.StandsAfter (p.requests ++ r ∷ []) now (record after { own = p.accessing.own }) =
-    subst (λ (y : accessing.Present). accessing.StandsAfter (p.requests ++ r ∷ []) now y) own (o.asks.stands p.requests now h.asking) in
-    let steps = asks_one p r m in
-    let world : IsWorld (asked (state_of p) r) = kept-step (state_of p) (asked (state_of p) r) (event.Ask r) (step.Asked (length (asking (state_of p) r))) steps h.world in
-    let parts = parts_asked p h r m o.messages after more_is stands world in
-    let state = state_asked p h r m (p.a.outbox ++ o.messages) after in
-    let count : length (asking (state_of p) r) ≡ n = sym (length-map (asking (state_of p) r) joined) ∙ ap length (sym spelled) ∙ sym o.count in
-    let q = record p { a = record p.a { outbox = p.a.outbox ++ o.messages }; accessing = record after { own = p.accessing.own }; requests = p.requests ++ r ∷ [] } in
+    let own : v.accessing ≡ record v.accessing { own = p.accessing.own } = ap (λ (k : ℕ). record v.accessing { own = k }) o.own in
+    let q = q_of p h r m outbox v.accessing in
+    let past = record h.asking.0 { requests = p.requests; answers = read } in
+    let now = record h.asking.0 { requests = p.requests ++ r ∷ []; asked = h.asking.0.asked ++ Blocked p.accessing.limit (messages_of p.accessing.own r); answers = read } in
+    let asking : IsAskedAll (asking_end q) (p.requests ++ r ∷ []) read = (
+      now,
+      subst (λ (port : PortValue). HasAsked now (record { port = port; accessing = record v.accessing { own = p.accessing.own } })) o.port
+          (subst (λ (y : accessing.Present). HasAsked now (record { port = v.port; accessing = y })) own (o.past past h.asking.1)),
+    ) in
+    let parts : AreParts q = parts_asked p h r m o.messages v.accessing more_is asking in
+    let count : length (asking_of (state_of p) r) ≡ n = sym (length-map (asking_of (state_of p) r) joined) ∙ ap length (sym spelled) ∙ sym o.count in
     let went : Steps (state_of p) (event.Ask r) (step.Asked n) (state_of q) =
-    subst (λ (y : State). Steps (state_of p) (event.Ask r) (step.Asked n) y) (sym state) (subst (λ (k : ℕ). Steps (state_of p) (event.Ask r) (step.Asked k) (asked (state_of p) r)) count steps) in
-    let done : AreThen p (event.Ask r) q (Ok (step.Asked n)) = (parts, went) in
-    subst (λ (y : SideValue). AreThen p (event.Ask r) (asked_parts p y after requests) (Ok (step.Asked n))) (sym o.side)
-    (subst (λ (y : accessing.Present). AreThen p (event.Ask r) (asked_parts p (record p.a { outbox = p.a.outbox ++ o.messages }) y requests) (Ok (step.Asked n))) (sym own)
-    (subst (λ (l : List Request). AreThen p (event.Ask r) (asked_parts p (record p.a { outbox = p.a.outbox ++ o.messages }) (record after { own = p.accessing.own }) l) (Ok (step.Asked n))) (sym o.added) done))
+    subst (λ (y : State). Steps (state_of p) (event.Ask r) (step.Asked n) y) (sym (state_asked p h r m outbox v.accessing)) (subst (λ (k : ℕ). Steps (state_of p) (event.Ask r) (step.Asked k) (asked (state_of p) r)) count (asks_one p r m)) in
+    subst (λ (l : List Request). AreThen p (event.Ask r) (record (asking_parts p v p.a.posted p.a.wire) { requests = l }) (Ok (step.Asked n))) (sym told)
+    (subst (λ (port : PortValue). AreThen p (event.Ask r) (record p { a = side_of port p.a.posted p.a.wire; accessing = v.accessing; requests = p.requests ++ r ∷ [] }) (Ok (step.Asked n))) (sym o.port)
+    (subst (λ (y : accessing.Present). AreThen p (event.Ask r) (record p { a = record p.a { outbox = outbox }; accessing = y; requests = p.requests ++ r ∷ [] }) (Ok (step.Asked n))) (sym own) (parts, went)))
 
--- ---- There are no more NSP messages than messages.
-
-blocked-few : (limit : ℕ) (last : NspMessage) (messages : List Message) → length (blocked_after limit last messages) ≤ length messages + 1
-blocked-few limit last [] = omega arith
-blocked-few limit last (m ∷ messages) =
-    elim (nat_le (length (joined (last ++ m ∷ []))) limit) as (λ b. length (if b then blocked_after limit (last ++ m ∷ []) messages else last ∷ blocked_after limit (m ∷ []) messages) ≤ length (m ∷ messages) + 1) [
-      | true ↦ omega (arith, blocked-few limit (last ++ m ∷ []) messages)
-      | false ↦ omega (arith, blocked-few limit (m ∷ []) messages)
-    ]
-
-pub few_blocked : (limit : ℕ) (messages : List Message) → length (Blocked limit messages) ≤ length messages
-few_blocked limit [] = omega arith
-few_blocked limit (m ∷ messages) = omega (arith, blocked-few limit (m ∷ []) messages)
+pub asked_done : (p : Parts) (r : Request) (v : AskingValue) (requests : List Request) (result : Result Step WorldFault) → AreParts p → IfOk result (λ answer. AskedSo r (asking_end p) v answer)
+    → OnOk result (requests ≡ p.requests ++ r ∷ []) → IfErr result (λ f. (v ≡ asking_end p) × (requests ≡ p.requests) × AskFaultOf r p.accessing f)
+    → AreThen p (event.Ask r) (record (asking_parts p v p.a.posted p.a.wire) { requests = requests }) result
+asked_done p r v requests (Ok answer) h ok told err =
+    subst (λ (a : Step). AreThen p (event.Ask r) (record (asking_parts p v p.a.posted p.a.wire) { requests = requests }) (Ok a)) (sym ok.1) (asked_step p r v ok.0 requests h ok.2 told)
+asked_done p r v requests (Err f) h ok told err =
+    let none : AreThen p (event.Ask r) p (Err f) = (h, refused p r f h err.2) in
+    rw (err.0, err.1) none

@@ -1,33 +1,41 @@
 -- A packet that is delivered is a step of the machine.
 use Rattle.std.proofs.Common.{◌≡◌, ℕ, zero, suc, ◌+◌, ◌≤◌, ◌<◌, arith, refl, sym, ◌∙◌, subst, ap, true, false, List, [], ◌∷◌, length, drop, map, inl, inr, lt-ltb, le-ltb, eq-eqb}
-use Rattle.std.specs.Prelude.{nat_lt, Option, Some, None, IfSome, Result, Ok, Err, IfOk, IfErr, OnOk, slice_get}
+use Rattle.std.specs.Prelude.{◌⊎◌, nat_lt, Option, Some, None, IfSome, Result, Ok, Err, slice_get}
 use Rattle.std.specs.Option.{option_map}
 use Rattle.std.proofs.lemmas.Option.{slice_get-map}
 use Rattle.std.proofs.lemmas.Bool.{cases_lt, cases_eq, ne_eqb}
 use Rattle.nsp_link.specs.Cutting.{Piece, cut}
 use Rattle.nsp_link.specs.Holding.{closed_up, with_number, numbers, following}
 use Rattle.nsp_link.specs.Limits.{most_segments, largest_window}
-use Rattle.nsp_link.specs.Link.{LinkValue, Sends, Delivered, got_of, taken_after, held_after}
+use Rattle.nsp_link.specs.Link.{LinkValue, Sends, Delivered, Keeps, MayRefuse, got_of, taken_after, held_after}
 use Rattle.nsp_link.specs.declared.link.Got.{Got}
+use Rattle.nsp_link.specs.declared.fault.LinkFault.{LinkFault}
+use Rattle.dap_end.specs.Ports.{PortValue, with_link as port_with}
+use Rattle.dap_end.specs.Receiving.{Receives}
+use Rattle.dap_end.specs.Asking.{AskingValue, HasStill}
+use Rattle.dap_end.specs.Serving.{ServingValue, IsStill}
 use Rattle.nsp_link.proofs.ForCallers.{closes, keeps}
 use Rattle.dap_world.specs.declared.event.End.{End}
 use Rattle.dap_world.specs.declared.event.End.TheVariants.{A, B}
 use Rattle.dap_world.specs.declared.event.Event.TheVariants as event
+use Rattle.dap_world.specs.declared.event.Step.{Step}
 use Rattle.dap_world.specs.declared.event.Step.TheVariants as step
 use Rattle.dap_world.specs.declared.event.WorldFault.{WorldFault}
 use Rattle.dap_world.specs.declared.event.WorldFault.TheVariants as fault
 use Rattle.dap_world.specs.Machine.{reported, State, Direction, Sending, other, sends, with_sends, is_stale, acknowledged, came, delivered, Steps, Refuses}
-use Rattle.dap_world.specs.Runs.{TakesNoMemory}
-use Rattle.dap_world.specs.Inner.Answers.{delivery_of}
+use Rattle.dap_world.specs.Runs.{TakesNoMemory, Went}
 use Rattle.dap_world.specs.Inner.Worlds.{IsWorld, AreTrue, AreEarly, WasSent}
-use Rattle.dap_world.specs.Inner.Sides.{SideValue, WiredValue, sending_of}
-use Rattle.dap_world.specs.Inner.Ways.{IsWay, AllNear, TakesIn, DeliverFault, is_old_wired}
-use Rattle.dap_world.specs.Inner.Parts.{Parts, AreParts, asks, answers, state_of, side, with_side}
+use Rattle.dap_world.specs.declared.side.Wired.{Wired}
+use Rattle.dap_world.specs.Wires.{sending_of}
+use Rattle.dap_world.specs.Inner.Sides.{SideValue, port_of, side_of}
+use Rattle.dap_world.specs.Inner.Ways.{IsWay, Delivery, NotDue, delivered_as, is_old_wired}
+use Rattle.dap_world.specs.Inner.Parts.{Parts, AreParts, asks, answers, asking_end, serving_end, state_of, side, with_side}
 use Rattle.dap_world.proofs.Counting.{segments-handed}
 use Rattle.dap_world.proofs.Directions.{closed}
 use Rattle.dap_world.proofs.Kept.{kept-step}
-use Rattle.dap_world.proofs.Ways.{told_gives, told_takes}
-use Rattle.dap_world.proofs.Wrote.{AreAfter, none_more}
+use Rattle.dap_world.proofs.Ways.{takes, told_gives, told_takes}
+use Rattle.dap_world.proofs.Arriving.{AllNear, IsDueAs, IsNear, all_at, due}
+use Rattle.dap_world.proofs.Wrote.{AreAfter, AreThen, StaysAt, asking_parts, serving_parts, at_a, at_b, none_more}
 
 -- ---- What is near.
 
@@ -47,7 +55,7 @@ near_one : (k : Option ℕ) (sent n : ℕ) → WasSent sent k → sent ≤ n →
 near_one None sent n was le = tt
 near_one (Some k) sent n was le = omega (arith, was.1)
 
-near_all : (v : LinkValue) (sent acked : ℕ) (wire : List WiredValue) → AreTrue sent acked (map sending_of wire) → sent ≤ v.received + largest_window → sent ≤ most_segments → acked ≤ v.sent
+near_all : (v : LinkValue) (sent acked : ℕ) (wire : List Wired) → AreTrue sent acked (map sending_of wire) → sent ≤ v.received + largest_window → sent ≤ most_segments → acked ≤ v.sent
     → v.received ≤ sent → AreEarly (v.received + 1) sent (numbers v.held) → AllNear v wire
 near_all v sent acked [] h near few le low early = tt
 near_all v sent acked (w ∷ wire) h near few le low early =
@@ -107,13 +115,13 @@ below_one : (k : Option ℕ) (sent n : ℕ) → WasSent sent k → sent < n → 
 below_one None sent n was lt = tt
 below_one (Some k) sent n was lt = omega (arith, was.1)
 
-true_at : (wire : List WiredValue) (j : ℕ) (w : WiredValue) (n t : ℕ) → AreTrue n t (map sending_of wire) → slice_get wire j ≡ Some w → WasSent n w.segment
+true_at : (wire : List Wired) (j : ℕ) (w : Wired) (n t : ℕ) → AreTrue n t (map sending_of wire) → slice_get wire j ≡ Some w → WasSent n w.segment
 true_at [] j w n t h e = let no : ⊥ = cc in absurd no
-true_at (x ∷ wire) zero w n t h e = let same : x ≡ w = cc in subst (λ (x : WiredValue). WasSent n x.segment) same h.0
+true_at (x ∷ wire) zero w n t h e = let same : x ≡ w = cc in subst (λ (x : Wired). WasSent n x.segment) same h.0
 true_at (x ∷ wire) (suc j) w n t h e = true_at wire j w n t h.2 e
 
 -- every segment on the wire is below the window of the link to which it goes
-below : (p : Parts) (end : End) (j : ℕ) (w : WiredValue) → AreParts p → slice_get (side p (other end)).wire j ≡ Some w → IfSome w.segment (λ n. n < (side p end).link.received + 1 + (side p end).link.window)
+below : (p : Parts) (end : End) (j : ℕ) (w : Wired) → AreParts p → slice_get (side p (other end)).wire j ≡ Some w → IfSome w.segment (λ n. n < (side p end).link.received + 1 + (side p end).link.window)
 below p A j w h at =
     let counts = h.world.from_b.counts in
     below_one w.segment p.b.link.sent (p.a.link.received + 1 + p.a.link.window) (true_at p.b.wire j w p.b.link.sent p.b.link.received h.world.from_b.wire at)
@@ -124,14 +132,14 @@ below p B j w h at =
     below_one w.segment p.a.link.sent (p.b.link.received + 1 + p.b.link.window) (true_at p.a.wire j w p.a.link.sent p.a.link.received h.world.from_a.wire at)
     (omega (arith, counts.within_window, counts.acked_taken, window))
 
-at_wire : (wire : List WiredValue) (j : ℕ) (o : Option WiredValue) → slice_get wire j ≡ o → slice_get (map sending_of wire) j ≡ option_map sending_of o
+at_wire : (wire : List Wired) (j : ℕ) (o : Option Wired) → slice_get wire j ≡ o → slice_get (map sending_of wire) j ≡ option_map sending_of o
 at_wire wire j o at = slice_get-map sending_of wire j ∙ ap (option_map sending_of) at
 
-there : (p : Parts) (end : End) (j : ℕ) (o : Option WiredValue) → slice_get (side p end).wire j ≡ o → slice_get (sends (state_of p) end).wire j ≡ option_map sending_of o
+there : (p : Parts) (end : End) (j : ℕ) (o : Option Wired) → slice_get (side p end).wire j ≡ o → slice_get (sends (state_of p) end).wire j ≡ option_map sending_of o
 there p A j o at = at_wire p.a.wire j o at
 there p B j o at = at_wire p.b.wire j o at
 
-stale_is : (p : Parts) (end : End) (w : WiredValue) → is_stale (state_of p) end (sending_of w) ≡ is_old_wired (side p end).link w
+stale_is : (p : Parts) (end : End) (w : Wired) → is_stale (state_of p) end (sending_of w) ≡ is_old_wired (side p end).link w
 stale_is p A w = refl
 stale_is p B w = refl
 
@@ -139,7 +147,7 @@ abbrev with_link : Parts → End → LinkValue → Parts
 with_link p end v = with_side p end (record (side p end) { link = v })
 
 -- the state after a delivery
-delivered_is : (p : Parts) (end : End) (w : WiredValue) (v : LinkValue) → AreParts p → IfSome w.segment (λ n. n < (side p end).link.received + 1 + (side p end).link.window)
+delivered_is : (p : Parts) (end : End) (w : Wired) (v : LinkValue) → AreParts p → IfSome w.segment (λ n. n < (side p end).link.received + 1 + (side p end).link.window)
     → Delivered (side p end).link v w.segment w.acks → delivered true (state_of p) end (sending_of w) ≡ state_of (with_link p end v)
 delivered_is p A w v h near d =
     ap (λ (x : Direction). with_sends (with_sends (state_of p) A (acknowledged (state_of p).from_a w.acks)) B x) (came_is (state_of p).from_b p.a.link w.segment d.held.0 (joins p A) near)
@@ -148,12 +156,12 @@ delivered_is p B w v h near d =
     ap (λ (x : Direction). with_sends (with_sends (state_of p) B (acknowledged (state_of p).from_b w.acks)) A x) (came_is (state_of p).from_a p.b.link w.segment d.held.0 (joins p B) near)
     ∙ rw (d.sent, d.acked, d.received, d.held.1) refl
 
-parts_came : (p : Parts) (end : End) (w : WiredValue) (v : LinkValue) → AreParts p → Delivered (side p end).link v w.segment w.acks
+parts_came : (p : Parts) (end : End) (w : Wired) (v : LinkValue) → AreParts p → Delivered (side p end).link v w.segment w.acks
     → ((messages given : List (List ℕ)) → IsWay (side p (other end)) (side p end).link messages given → IsWay (side p (other end)) v messages given)
     → ((messages : List (List ℕ)) → Sends (side p end).link messages → Sends v messages)
-    → IsWorld (state_of (with_link p end v)) → AreParts (with_link p end v)
+    → StaysAt p end (record (side p end) { link = v }) → IsWorld (state_of (with_link p end v)) → AreParts (with_link p end v)
 unfolding reported
-parts_came p A w v h d on sends world =
+parts_came p A w v h d on sends still world =
     record {
       world = world;
       alike = record { here = d.local ∙ h.alike.here; there = d.remote ∙ h.alike.there; size = h.alike.size ∙ sym d.seg_size; window = h.alike.window ∙ sym d.window; limit = h.alike.limit ∙ sym d.max_message };
@@ -164,10 +172,10 @@ parts_came p A w v h d on sends world =
       from_b = told_takes (answers p) p.read p.b p.a h.from_b v on;
       sent_is = h.sent_is;
       reports_is = h.reports_is;
-      asking = h.asking;
+      asking = (h.asking.0, still _ h.asking.1);
       serving = h.serving;
     }
-parts_came p B w v h d on sends world =
+parts_came p B w v h d on sends still world =
     record {
       world = world;
       alike = record { here = h.alike.here; there = h.alike.there; size = d.seg_size ∙ h.alike.size; window = d.window ∙ h.alike.window; limit = d.max_message ∙ h.alike.limit };
@@ -179,7 +187,7 @@ parts_came p B w v h d on sends world =
       sent_is = h.sent_is;
       reports_is = h.reports_is;
       asking = h.asking;
-      serving = h.serving;
+      serving = (h.serving.0, still _ h.serving.1);
     }
 
 taken_is : (p : Parts) (end : End) → (sends (state_of p) (other end)).taken ≡ (side p end).link.received
@@ -187,11 +195,16 @@ taken_is p A = refl
 taken_is p B = refl
 
 -- it is a step
-steps : (p : Parts) (end : End) (j : ℕ) (w : WiredValue) → slice_get (side p (other end)).wire j ≡ Some w → is_old_wired (side p end).link w ≡ false
+steps : (p : Parts) (end : End) (j : ℕ) (w : Wired) → slice_get (side p (other end)).wire j ≡ Some w → is_old_wired (side p end).link w ≡ false
     → Steps (state_of p) (event.Deliver end j) (step.Delivered (got_of (side p end).link.received w.segment)) (delivered true (state_of p) end (sending_of w))
 unfolding Steps
 steps p end j w at young =
     (sending_of w, there p (other end) j (Some w) at, stale_is p end w ∙ young, ap (λ (n : ℕ). step.Delivered (got_of n w.segment)) (sym (taken_is p end)), refl)
+
+-- the segment is the next, or an early one that the link keeps
+abbrev TakesIn : LinkValue → Option ℕ → Type 0
+TakesIn v None = ⊥
+TakesIn v (Some k) = (k ≡ v.received + 1) ⊎ Keeps v k
 
 -- a packet that the link takes in may take memory
 takes_some : (v : LinkValue) (k : Option ℕ) → TakesIn v k → IfSome k (λ n. n ≤ v.received) → ⊥
@@ -199,7 +212,7 @@ takes_some v None t le = t
 takes_some v (Some k) (inl next) le = omega arith
 takes_some v (Some k) (inr keeps) le = omega (arith, keeps.0)
 
-next_takes : (p : Parts) (end : End) (j : ℕ) (w : WiredValue) → slice_get (side p (other end)).wire j ≡ Some w → TakesIn (side p end).link w.segment → TakesNoMemory (state_of p) (event.Deliver end j) → ⊥
+next_takes : (p : Parts) (end : End) (j : ℕ) (w : Wired) → slice_get (side p (other end)).wire j ≡ Some w → TakesIn (side p end).link w.segment → TakesNoMemory (state_of p) (event.Deliver end j) → ⊥
 next_takes p end j w at takes t =
     let same : Some (sending_of w) ≡ Some t.0 = sym (there p (other end) j (Some w) at) ∙ t.1 in
     let is : sending_of w ≡ t.0 = cc in
@@ -207,29 +220,85 @@ next_takes p end j w at takes t =
     subst (λ (n : ℕ). IfSome w.segment (λ k. k ≤ n)) (taken_is p end) (subst (λ (x : Sending). IfSome x.segment (λ k. k ≤ (sends (state_of p) (other end)).taken)) (sym is) t.3) in
     takes_some (side p end).link w.segment takes le
 
-pub delivered_step : (p : Parts) (end : End) (j : ℕ) (s : SideValue) (r : Result Got WorldFault) → AreParts p
-    → IfOk r (λ got. (w : WiredValue) × (slice_get (side p (other end)).wire j ≡ Some w) × (is_old_wired (side p end).link w ≡ false)
-    × (got ≡ got_of (side p end).link.received w.segment) × Delivered (side p end).link s.link w.segment w.acks)
-    → s ≡ record (side p end) { link = s.link }
-    → OnOk r ((messages given : List (List ℕ)) → IsWay (side p (other end)) (side p end).link messages given → IsWay (side p (other end)) s.link messages given)
-    → ((messages : List (List ℕ)) → Sends (side p end).link messages → Sends s.link messages)
-    → IfErr r (λ f. (s ≡ side p end) × DeliverFault (side p end).link (side p (other end)).wire j f)
-    → AreAfter p end (event.Deliver end j) s (delivery_of r)
-unfolding Steps Refuses
-delivered_step p end j s (Ok got) h ok rest on sends err =
-    let w = ok.0 in
-    let went : Steps (state_of p) (event.Deliver end j) (step.Delivered got) (state_of (with_link p end s.link)) =
-    subst (λ (x : State). Steps (state_of p) (event.Deliver end j) (step.Delivered got) x) (delivered_is p end w s.link h (below p end j w h ok.1) ok.4)
-    (subst (λ (g : Got). Steps (state_of p) (event.Deliver end j) (step.Delivered g) (delivered true (state_of p) end (sending_of w))) (sym ok.3) (steps p end j w ok.1 ok.2)) in
-    subst (λ (x : SideValue). AreAfter p end (event.Deliver end j) x (Ok (step.Delivered got))) (sym rest)
-    (parts_came p end w s.link h ok.4 on sends (kept-step (state_of p) (state_of (with_link p end s.link)) (event.Deliver end j) (step.Delivered got) went h.world), went)
-delivered_step p end j s (Err fault.NoSuchPacket) h ok rest on sends err =
-    none_more p end (event.Deliver end j) s fault.NoSuchPacket h err.0 (there p (other end) j None err.1, refl)
-delivered_step p end j s (Err fault.Stale) h ok rest on sends err =
-    none_more p end (event.Deliver end j) s fault.Stale h err.0 ((sending_of err.1.0, there p (other end) j (Some err.1.0) err.1.1, stale_is p end err.1.0 ∙ err.1.2), refl)
-delivered_step p end j s (Err fault.NoMemory) h ok rest on sends err =
-    none_more p end (event.Deliver end j) s fault.NoMemory h err.0 (((_, _, steps p end j err.1.0 err.1.1 err.1.2), next_takes p end j err.1.0 err.1.1 err.1.3), refl)
-delivered_step p end j s (Err fault.NothingToDo) h ok rest on sends err = absurd err.1
-delivered_step p end j s (Err (fault.Ask f)) h ok rest on sends err = absurd err.1
-delivered_step p end j s (Err fault.Exhausted) h ok rest on sends err = absurd err.1
-delivered_step p end j s (Err fault.BadSetup) h ok rest on sends err = absurd err.1
+-- only memory was wanting
+not_exhausted : (v : LinkValue) (k : Option ℕ) (f : LinkFault) → taken_after v k ≤ most_segments → MayRefuse v k f → TakesIn v k
+not_exhausted v None f few refused = absurd refused
+not_exhausted v (Some k) f few (inl memory) = memory.1
+not_exhausted v (Some k) f few (inr many) = absurd (omega (arith, few, many.2))
+
+any_way : (p : Parts) (end : End) → AreParts p → (messages : List (List ℕ)) × (given : List (List ℕ)) × IsWay (side p (other end)) (side p end).link messages given
+any_way p A h = (_, _, h.from_b.way)
+any_way p B h = (_, _, h.from_a.way)
+
+not_due : (p : Parts) (end : End) (j : ℕ) (f : WorldFault) → NotDue (side p end).link (side p (other end)).wire j f → Refuses (state_of p) (event.Deliver end j) f
+unfolding Refuses
+not_due p end j fault.NoSuchPacket none = there p (other end) j None none
+not_due p end j fault.Stale old = (sending_of old.0, there p (other end) j (Some old.0) old.1, stale_is p end old.0 ∙ old.2)
+not_due p end j fault.NoMemory never = absurd never
+not_due p end j fault.NothingToDo never = absurd never
+not_due p end j (fault.Ask f) never = absurd never
+not_due p end j fault.Exhausted never = absurd never
+not_due p end j fault.BadSetup never = absurd never
+
+went_not : (p : Parts) (end : End) (j : ℕ) (f : WorldFault) → NotDue (side p end).link (side p (other end)).wire j f → Went (state_of p) (event.Deliver end j) (Err f) (state_of p)
+went_not p end j fault.NoSuchPacket none = (not_due p end j fault.NoSuchPacket none, refl)
+went_not p end j fault.Stale old = (not_due p end j fault.Stale old, refl)
+went_not p end j fault.NoMemory never = absurd never
+went_not p end j fault.NothingToDo never = absurd never
+went_not p end j (fault.Ask f) never = absurd never
+went_not p end j fault.Exhausted never = absurd never
+went_not p end j fault.BadSetup never = absurd never
+
+module _ (p : Parts) (end : End) (j : ℕ) (h : AreParts p) (w : Wired) (at : slice_get (side p (other end)).wire j ≡ Some w) (young : is_old_wired (side p end).link w ≡ false) where
+  due_so : (messages given : List (List ℕ)) → IsWay (side p (other end)) (side p end).link messages given → IsDueAs (side p end).link (side p (other end)).link.seg_size messages given w
+  due_so messages given way = due (side p (other end)) (side p end).link messages given j w way (all_near p end h) at young
+
+  took : (v : LinkValue) (r : Result Got LinkFault) → Receives (side p end).link v w.packet.items r → StaysAt p end (record (side p end) { link = v })
+      → AreAfter p end (event.Deliver end j) (record (side p end) { link = v }) (delivered_as r)
+  unfolding Steps Refuses
+  took v (Ok got) receives still =
+      let way = any_way p end h in
+      let d = due_so way.0 way.1 way.2 in
+      let came = receives.due _ way.0 way.1 d.value w.segment w.acks d.spelled d.due in
+      let on : (messages given : List (List ℕ)) → IsWay (side p (other end)) (side p end).link messages given → IsWay (side p (other end)) v messages given =
+      λ messages given way. (let d = due_so messages given way in
+      takes (side p (other end)) (side p end).link v messages given w.segment w.acks way came.1 (receives.due _ messages given d.value w.segment w.acks d.spelled d.due).2) in
+      let went : Steps (state_of p) (event.Deliver end j) (step.Delivered got) (state_of (with_link p end v)) =
+      subst (λ (x : State). Steps (state_of p) (event.Deliver end j) (step.Delivered got) x) (delivered_is p end w v h (below p end j w h at) came.1)
+      (subst (λ (g : Got). Steps (state_of p) (event.Deliver end j) (step.Delivered g) (delivered true (state_of p) end (sending_of w))) (sym came.0) (steps p end j w at young)) in
+      (parts_came p end w v h came.1 on receives.sends still (kept-step (state_of p) (state_of (with_link p end v)) (event.Deliver end j) (step.Delivered got) went h.world), went)
+  took v (Err f) receives still =
+      let way = any_way p end h in
+      let d = due_so way.0 way.1 way.2 in
+      let none = receives.due _ way.0 way.1 d.value w.segment w.acks d.spelled d.due in
+      none_more p end (event.Deliver end j) (record (side p end) { link = v }) fault.NoMemory h (ap (λ (x : LinkValue). record (side p end) { link = x }) none.1)
+      (((_, _, steps p end j w at young), next_takes p end j w at (not_exhausted (side p end).link w.segment f d.few none.0)), refl)
+
+delivered_to : (p : Parts) (end : End) (j : ℕ) (v : LinkValue) (r : Result Step WorldFault) → AreParts p → Delivery (side p end).link v (side p (other end)).wire j r
+    → StaysAt p end (record (side p end) { link = v }) → AreAfter p end (event.Deliver end j) (record (side p end) { link = v }) r
+delivered_to p end j v r h (inl none) still =
+    subst (λ (x : Result Step WorldFault). AreAfter p end (event.Deliver end j) (record (side p end) { link = v }) x) (sym none.2)
+    (none_more p end (event.Deliver end j) (record (side p end) { link = v }) none.0 h (ap (λ (x : LinkValue). record (side p end) { link = x }) none.3) (went_not p end j none.0 none.1))
+delivered_to p end j v r h (inr some) still =
+    subst (λ (x : Result Step WorldFault). AreAfter p end (event.Deliver end j) (record (side p end) { link = v }) x) (sym some.5)
+    (took p end j h some.0 some.1 some.2 v some.3 some.4 still)
+
+pub delivered_a : (p : Parts) (v : AskingValue) (j : ℕ) (r : Result Step WorldFault) → AreParts p → v ≡ record (asking_end p) { port = port_with (port_of p.a) v.port.link }
+    → Delivery p.a.link v.port.link p.b.wire j r → HasStill (asking_end p) v → AreThen p (event.Deliver A j) (asking_parts p v p.a.posted p.a.wire) r
+delivered_a p v j r h rest comes still =
+    let port : v.port ≡ port_with (port_of p.a) v.port.link = ap (λ (x : AskingValue). x.port) rest in
+    let is : side_of v.port p.a.posted p.a.wire ≡ record p.a { link = v.port.link } = ap (λ (x : PortValue). side_of x p.a.posted p.a.wire) port in
+    let moved : v ≡ record (asking_end p) { port = v.port } = rest ∙ ap (λ (x : PortValue). record (asking_end p) { port = x }) (sym port) in
+    at_a p (event.Deliver A j) v p.a.wire r moved still
+    (λ stays. subst (λ (s : SideValue). AreAfter p A (event.Deliver A j) s r) (sym is)
+    (delivered_to p A j v.port.link r h comes (subst (λ (s : SideValue). StaysAt p A s) is stays)))
+
+pub delivered_b : (p : Parts) (v : ServingValue) (j : ℕ) (r : Result Step WorldFault) → AreParts p → v ≡ record (serving_end p) { port = port_with (port_of p.b) v.port.link }
+    → Delivery p.b.link v.port.link p.a.wire j r → IsStill (serving_end p) v → AreThen p (event.Deliver B j) (serving_parts p v p.b.posted p.b.wire) r
+delivered_b p v j r h rest comes still =
+    let port : v.port ≡ port_with (port_of p.b) v.port.link = ap (λ (x : ServingValue). x.port) rest in
+    let is : side_of v.port p.b.posted p.b.wire ≡ record p.b { link = v.port.link } = ap (λ (x : PortValue). side_of x p.b.posted p.b.wire) port in
+    let moved : v ≡ record (serving_end p) { port = v.port } = rest ∙ ap (λ (x : PortValue). record (serving_end p) { port = x }) (sym port) in
+    at_b p (event.Deliver B j) v p.b.wire r moved still
+    (λ stays. subst (λ (s : SideValue). AreAfter p B (event.Deliver B j) s r) (sym is)
+    (delivered_to p B j v.port.link r h comes (subst (λ (s : SideValue). StaysAt p B s) is stays)))

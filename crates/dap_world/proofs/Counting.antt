@@ -8,7 +8,7 @@ use Rattle.dap_msg.specs.Blocked.{NspMessage, joined, all_joined}
 use Rattle.nsp_link.specs.Cutting.{cut, cut_message, piece_at, count_of}
 use Rattle.nsp_link.specs.Link.{LinkValue, Sends}
 use Rattle.dap_world.specs.Machine.{segments_of}
-use Rattle.dap_world.specs.Inner.Sides.{SideValue, segments_queued}
+use Rattle.dap_world.specs.Inner.Sides.{SideValue, segments_with}
 
 length-cut_message : (size : ℕ) (message : List ℕ) → length (cut_message size message) ≡ count_of size (length message)
 unfolding cut_message
@@ -46,6 +46,9 @@ pub queued : (v : LinkValue) (messages : List (List ℕ)) → Sends v messages �
 queued v messages sends =
     let same : length v.queue ≡ length (drop v.acked (cut v.seg_size messages)) = ap length sends.queue in
     omega (arith, length-drop v.acked (cut v.seg_size messages), sends.acked)
+
+abbrev pub segments_queued : SideValue → ℕ
+segments_queued s = segments_with s.link s.outbox
 
 -- all segments, those that wait too
 pub all_segments : (s : SideValue) (handed : List (List ℕ)) → Sends s.link handed → length (cut s.link.seg_size (handed ++ s.outbox)) ≡ segments_queued s

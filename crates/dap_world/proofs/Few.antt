@@ -11,7 +11,7 @@ use Rattle.dap_accessing.specs.Told.{Due, NothingDue, AnswersDue, Wrong, due_aft
 use Rattle.dap_world.specs.Machine.{answers_read, arrived, reported}
 use Rattle.dap_world.specs.Inner.Settling.{IsOneDue}
 use Rattle.dap_world.specs.Inner.Parts.{Parts, AreParts, asks, state_of}
-use Rattle.dap_world.specs.Inner.Ways.{AreShort}
+use Rattle.dap_world.specs.Inner.Sides.{AreShort}
 use Rattle.dap_world.proofs.Serving.{fit-take}
 use Rattle.dap_world.proofs.Counting.{handed-bytes}
 use Rattle.dap_world.proofs.Growing.{few_messages}
@@ -30,7 +30,7 @@ few_served p h =
 -- at most one request has no report yet
 pub one_due : (p : Parts) → AreParts p → IsOneDue (state_of p)
 unfolding reported
-one_due p h = h.asking.alone
+one_due p h = h.asking.1.asking.alone
 
 -- each answer had its place
 not_wrong : (d : Due) (p : Option Pending) → FitsDue d p → d ≢ Wrong
@@ -40,4 +40,4 @@ not_wrong Wrong None h = absurd h
 not_wrong Wrong (Some p) h = absurd h
 
 pub in_place : (p : Parts) → AreParts p → due_after (state_of p).requests (answers_read (state_of p)) ≢ Wrong
-in_place p h = not_wrong (due_after p.requests (answers_read (state_of p))) p.accessing.pending h.asking.pending
+in_place p h = not_wrong (due_after p.requests (answers_read (state_of p))) p.accessing.pending h.asking.1.asking.pending

@@ -8,13 +8,11 @@ use Rattle.dap_msg.specs.Canon.{canon}
 use Rattle.dap_accessed.specs.Served.{AllAtMost}
 use Rattle.nsp_link.specs.Cutting.{cut, count_of}
 use Rattle.nsp_link.specs.Limits.{largest_limit, most_segments}
-use Rattle.dap_world.specs.Inner.Sides.{SideValue}
-use Rattle.dap_world.specs.Inner.Ways.{AreShort}
+use Rattle.dap_end.proofs.ForCallers.{back_fit, fit-both, front_fit, in_append}
+use Rattle.dap_world.specs.Inner.Sides.{SideValue, AreShort}
 use Rattle.dap_world.specs.Inner.Parts.{IsTold, IsAmong}
 use Rattle.dap_world.proofs.Counting.{counted, segments-first}
 use Rattle.dap_world.proofs.Splits.{some_bytes}
-use Rattle.dap_world.proofs.Blocks.{fit-front, fit-back}
-use Rattle.dap_world.proofs.Packets.{messages_in-append, AllFit-append}
 use Rattle.dap_world.proofs.Ways.{same_writes}
 
 -- what waits at the taking end is another list
@@ -50,7 +48,7 @@ told_more from to packets block count inbox place outbox more h outbox_is more_i
       };
       bytes = ap (λ (l : List (List ℕ)). h.handed ++ l) outbox_is ∙ sym (append_assoc h.handed from.outbox more) ∙ ap (λ (l : List (List ℕ)). l ++ more) h.bytes
           ∙ ap (λ (l : List (List ℕ)). all_joined packets ++ l) more_is ∙ sym (map-append joined packets block);
-      fit = subst AllFit (sym (messages_in-append packets block)) (AllFit-append (messages_in packets) (messages_in block) h.fit fit);
+      fit = subst AllFit (sym (in_append packets block)) (fit-both (messages_in packets) (messages_in block) h.fit fit);
       short = subst (AreShort from.link.max_message) (sym outbox_is) (All-append (λ m. length m ≤ from.link.max_message) from.outbox more h.short short);
     }
 
@@ -109,13 +107,13 @@ all_few : (size : ℕ) (packets : List NspMessage) (most : ℕ) → AllFit (mess
 all_few size [] most fit short le = omega arith
 all_few size (p ∷ packets) most fit short le =
     let first = short 0 (joined p) (omega arith) in
-    let rest = all_few size packets most (fit-back p (messages_in packets) fit) (λ k d lt. short (suc k) d (omega arith)) le in
+    let rest = all_few size packets most (back_fit p (messages_in packets) fit) (λ k d lt. short (suc k) d (omega arith)) le in
     omega (
       arith,
       first,
       rest,
       le,
-      as_many_bytes p (fit-front p (messages_in packets) fit),
+      as_many_bytes p (front_fit p (messages_in packets) fit),
       length-append p (messages_in packets),
       segments-first size (joined p) (all_joined packets),
       count_one size (length (joined p)),

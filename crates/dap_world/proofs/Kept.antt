@@ -24,13 +24,14 @@ use Rattle.dap_world.specs.Setups.{IsWorldSetup}
 use Rattle.dap_world.specs.Machine.{files_of, reported, State, Direction, Sending, fresh, idle, other, sends, with_sends, arrived, arrived_of, sent_by, taken_of, answers_read, asking, asked, posted, wrote, came, delivered, answering, served_one, read_one, segments_of, segments_then, Steps, StepsFreely}
 use Rattle.dap_world.specs.Runs.{RunsBy}
 use Rattle.dap_accessed.specs.Present as accessed
+use Rattle.dap_end.proofs.ForCallers.{Asked-more, in_append}
 use Rattle.dap_world.specs.Inner.Parts.{Parts, state_of}
 use Rattle.dap_world.specs.Inner.Worlds.{WasSent, IsDirection, IsWorld}
 use Rattle.dap_world.specs.Headline.{HeadlineOf}
 use Rattle.dap_world.proofs.Agreeing.{none-unexpected}
 use Rattle.dap_world.proofs.Asking.{all_read, answers-front, admissible-more}
 use Rattle.dap_world.proofs.Directions.{kept-back, kept-handed, kept-waiting, kept-writes, kept-acked, kept-came, came-moves, AreTrue-at}
-use Rattle.dap_world.proofs.Packets.{messages_in-append, Asked-append, arrived-front, arrived-more, arrived-later, get-front, take-next, served-stays}
+use Rattle.dap_world.proofs.Packets.{arrived-front, arrived-more, arrived-later, get-front, take-next, served-stays}
 
 -- ---- The headline of a state.
 
@@ -44,13 +45,13 @@ pub headline_of : (s : State) → IsWorld s → HeadlineOf s
 unfolding files_of reported
 headline_of s h =
     record {
-      sent_in_order = (messages_in s.from_a.waiting, sym (messages_in-append s.from_a.handed s.from_a.waiting) ∙ h.asked);
+      sent_in_order = (messages_in s.from_a.waiting, sym (in_append s.from_a.handed s.from_a.waiting) ∙ h.asked);
       taken_in_order = refl;
       taken_there = omega (arith, h.served, came-handed s.seg_size s.from_a);
       files_after = refl;
       reports_told = refl;
       answers_there =
-          let all = ap length (sym (messages_in-append s.from_b.handed s.from_b.waiting) ∙ h.answered) in
+          let all = ap length (sym (in_append s.from_b.handed s.from_b.waiting) ∙ h.answered) in
           omega (arith, h.read, came-handed s.seg_size s.from_b, length-append (sent_by s.from_b) (messages_in s.from_b.waiting), all);
     }
 
@@ -89,7 +90,7 @@ served-front s h = (
   drop s.served (sent_by s.from_a) ++ messages_in s.from_a.waiting,
   sym (append_assoc (taken_of s) (drop s.served (sent_by s.from_a)) (messages_in s.from_a.waiting))
       ∙ ap (λ (l : List Message). l ++ messages_in s.from_a.waiting) (take-append-drop s.served (sent_by s.from_a))
-      ∙ sym (messages_in-append s.from_a.handed s.from_a.waiting) ∙ h.asked,
+      ∙ sym (in_append s.from_a.handed s.from_a.waiting) ∙ h.asked,
 )
 
 -- no more was served than was handed over
@@ -130,9 +131,9 @@ kept-asked s r h m =
       from_a = kept-waiting s.seg_size s.window s.from_a s.from_b h.from_a (s.from_a.waiting ++ packets);
       from_b = kept-back s.seg_size s.window s.from_b s.from_a h.from_b _ (omega arith);
       admissible = admissible-more s.own_a s.own_b [] s.requests r h.admissible (subst (λ (l : List Item). IsAdmissible s.own_a s.requests l r) (all-answers s r h m) m);
-      asked = ap messages_in (sym (append_assoc s.from_a.handed s.from_a.waiting packets)) ∙ messages_in-append (s.from_a.handed ++ s.from_a.waiting) packets
+      asked = ap messages_in (sym (append_assoc s.from_a.handed s.from_a.waiting packets)) ∙ in_append (s.from_a.handed ++ s.from_a.waiting) packets
           ∙ ap (λ l. messages_in (s.from_a.handed ++ s.from_a.waiting) ++ l) (messages_in-Blocked _ (messages_of s.own_a r))
-          ∙ ap (λ l. l ++ messages_of s.own_a r) h.asked ∙ sym (Asked-append s.own_a s.requests r);
+          ∙ ap (λ l. l ++ messages_of s.own_a r) h.asked ∙ sym (Asked-more s.own_a s.requests r);
       answered = h.answered;
       served = h.served;
       read = h.read;
@@ -281,7 +282,7 @@ kept-served s m h empty e =
       from_b = kept-waiting s.seg_size s.window s.from_b s.from_a h.from_b (answering s m);
       admissible = h.admissible;
       asked = h.asked;
-      answered = messages_in-append s.from_b.handed (answering s m)
+      answered = in_append s.from_b.handed (answering s m)
           ∙ ap (λ l. messages_in s.from_b.handed ++ l) (messages_in-Blocked _ answers)
           ∙ ap (λ l. l ++ answers) (ap messages_in (sym (append-nil s.from_b.handed) ∙ ap (λ (w : List NspMessage). s.from_b.handed ++ w) (sym empty)) ∙ h.answered)
           ∙ sym (Answers-more s.own_b [] (map Whole (taken_of s)) (Whole m))

@@ -10,6 +10,7 @@ pub mod Asking
 pub mod Kept
 pub mod Ways
 pub mod Counting
+pub mod Put
 pub mod Wrote
 pub mod Arriving
 pub mod Came
@@ -21,7 +22,6 @@ pub mod Others
 pub mod Arrived
 pub mod Growing
 pub mod Serving
-pub mod Handled
 pub mod ReadingOne
 pub mod AskingOne
 pub mod New

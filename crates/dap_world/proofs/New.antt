@@ -1,22 +1,32 @@
 -- A new world.
-use Rattle.std.proofs.Common.{◌≡◌, ℕ, arith, refl, sym, ◌∙◌, subst, ap, List, [], inl}
+use Rattle.std.proofs.Common.{◌≡◌, ℕ, ◌≤◌, arith, refl, sym, ◌∙◌, subst, ap, List, [], inl}
 use Rattle.dap_accessed.specs.Present as accessed
 use Rattle.dap_accessing.specs.Present as accessing
+use Rattle.nsp_link.specs.declared.link.LinkSetup.{LinkSetup}
 use Rattle.nsp_link.proofs.ForCallers.{stands_new, sends_new}
 use Rattle.dap_world.specs.declared.setup.WorldSetup.{WorldSetup}
+use Rattle.dap_msg.specs.Exchange.{least_buffer}
+use Rattle.nsp_link.specs.Link.{IsSetup}
+use Rattle.dap_world.specs.declared.side.Wired.{Wired}
 use Rattle.dap_world.specs.declared.event.End.{End}
 use Rattle.dap_world.specs.declared.event.End.TheVariants.{A, B}
 use Rattle.dap_world.specs.Machine.{reported, fresh, other}
 use Rattle.dap_world.specs.Setups.{IsWorldSetup}
-use Rattle.dap_world.specs.Inner.Setups.{link_of, new_side}
+use Rattle.dap_end.specs.Ports.{PortValue, new_port}
+use Rattle.dap_end.specs.Asking.{AskingValue, HasAsked, nothing_asked}
+use Rattle.dap_end.specs.Serving.{ServingValue, IsAfter, nothing_yet}
+use Rattle.dap_world.specs.Inner.Setups.{link_of}
 use Rattle.dap_accessing.specs.declared.request.Request.{Request}
 use Rattle.dap_accessing.specs.declared.report.Report.{Report}
 use Rattle.dap_world.specs.Wires.{address_of}
 use Rattle.dap_world.specs.Inner.Worlds.{IsWorld}
-use Rattle.dap_world.specs.Inner.Sides.{SideValue}
+use Rattle.dap_world.specs.Inner.Sides.{SideValue, side_of}
 use Rattle.dap_world.specs.Inner.Parts.{Parts, AreParts, IsTold, state_of}
 use Rattle.dap_world.proofs.Counting.{cut-none}
 use Rattle.dap_world.proofs.Kept.{is_fresh}
+
+abbrev new_side : LinkSetup → SideValue
+new_side s = side_of (new_port s) 0 []
 
 twice : (end : End) → other (other end) ≡ end
 twice A = refl
@@ -46,40 +56,53 @@ told_none s end h =
       short = λ k d lt. absurd (omega arith);
     }
 
-abbrev pub new_parts : WorldSetup → accessing.Present → accessed.Present → Parts
+abbrev new_parts : WorldSetup → accessing.Present → accessed.Present → Parts
 new_parts s asking serving =
     record { a = new_side (link_of s A); b = new_side (link_of s B); accessing = asking; accessed = serving; requests = []; sent = []; served = 0; reports = []; read = 0 }
 
 -- the parts of a new world, by what its ends keep
-made : (s : WorldSetup) (asking : accessing.Present) (serving : accessed.Present) → IsWorldSetup s → asking.own ≡ s.bufsiz_a → serving.own ≡ s.bufsiz_b
-    → accessing.StandsAfter [] [] asking → accessed.StandsAfter [] [] serving → state_of (new_parts s asking serving) ≡ fresh s
-made s asking serving h own_a own_b a b = ap (λ (n : ℕ). record (fresh s) { own_a = n; own_b = serving.own }) own_a ∙ ap (λ (n : ℕ). record (fresh s) { own_b = n }) own_b
+made : (s : WorldSetup) (asking : accessing.Present) (serving : accessed.Present) → asking.own ≡ s.bufsiz_a → serving.own ≡ s.bufsiz_b → state_of (new_parts s asking serving) ≡ fresh s
+made s asking serving own_a own_b = ap (λ (n : ℕ). record (fresh s) { own_a = n; own_b = serving.own }) own_a ∙ ap (λ (n : ℕ). record (fresh s) { own_b = n }) own_b
 
-pub new_world : (s : WorldSetup) (asking : accessing.Present) (serving : accessed.Present) → IsWorldSetup s → asking.own ≡ s.bufsiz_a → serving.own ≡ s.bufsiz_b
-    → accessing.StandsAfter [] [] asking → accessed.StandsAfter [] [] serving
-    → AreParts (new_parts s asking serving) × (state_of (new_parts s asking serving) ≡ fresh s)
+new_world : (s : WorldSetup) (asking : accessing.Present) (serving : accessed.Present) → IsWorldSetup s → asking.own ≡ s.bufsiz_a → serving.own ≡ s.bufsiz_b
+    → HasAsked nothing_asked (record { port = new_port (link_of s A); accessing = asking }) → IsAfter (nothing_yet []) (record { port = new_port (link_of s B); accessed = serving })
+    → AreParts (new_parts s asking serving)
 unfolding reported
 new_world s asking serving h own_a own_b a b =
-    let made_is = made s asking serving h own_a own_b a b in (
-      record {
-        world = subst IsWorld (sym made_is) (is_fresh s h);
-        alike = record { here = refl; there = refl; size = refl; window = refl; limit = refl };
-        limit_a = omega (arith, own_a);
-        limit_b = omega (arith, own_b);
-        most = omega (arith, h.own_a.most, h.own_b.most);
-        from_a = told_none s A h;
-        from_b = told_none s B h;
-        sent_is = refl;
-        reports_is = refl;
-        asking = a;
-        serving = b;
-      },
-      made_is,
-    )
+    record {
+      world = subst IsWorld (sym (made s asking serving own_a own_b)) (is_fresh s h);
+      alike = record { here = refl; there = refl; size = refl; window = refl; limit = refl };
+      limit_a = omega (arith, own_a);
+      limit_b = omega (arith, own_b);
+      most = omega (arith, h.own_a.most, h.own_b.most);
+      from_a = told_none s A h;
+      from_b = told_none s B h;
+      sent_is = refl;
+      reports_is = refl;
+      asking = (nothing_asked, a);
+      serving = (nothing_yet [], b);
+    }
 
-pub new_sound : (s : WorldSetup) (asking : accessing.Present) (serving : accessed.Present) (a b : SideValue) (requests : List Request) (sent : List (List ℕ)) (reports : List Report)
-    → a ≡ new_side (link_of s A) → b ≡ new_side (link_of s B) → requests ≡ [] → sent ≡ [] → reports ≡ []
-    → IsWorldSetup s → asking.own ≡ s.bufsiz_a → serving.own ≡ s.bufsiz_b → accessing.StandsAfter [] [] asking → accessed.StandsAfter [] [] serving
-    → AreParts (record { a = a; b = b; accessing = asking; accessed = serving; requests = requests; sent = sent; served = 0; reports = reports; read = 0 })
-new_sound s asking serving a b requests sent reports ea eb er es ep h own_a own_b x y =
-    rw (ea, eb, er, es, ep) (new_world s asking serving h own_a own_b x y).0
+pub new_sound : (s : WorldSetup) (v : AskingValue) (w : ServingValue) (wire_a wire_b : List Wired) (requests : List Request) (sent : List (List ℕ)) (reports : List Report)
+    → wire_a ≡ [] → wire_b ≡ [] → requests ≡ [] → sent ≡ [] → reports ≡ [] → IsWorldSetup s
+    → HasAsked nothing_asked v × (v.port ≡ new_port (link_of s A)) × (v.accessing.own ≡ s.bufsiz_a) → IsAfter (nothing_yet []) w × (w.port ≡ new_port (link_of s B)) × (w.accessed.own ≡ s.bufsiz_b)
+    → (let p : Parts = record { a = side_of v.port 0 wire_a; b = side_of w.port 0 wire_b; accessing = v.accessing; accessed = w.accessed; requests = requests; sent = sent; served = 0; reports = reports; read = 0 } in
+    AreParts p × (state_of p ≡ fresh s))
+new_sound s v w wire_a wire_b requests sent reports ea eb er es ep h x y =
+    let asking = subst (λ (port : PortValue). HasAsked nothing_asked (record { port = port; accessing = v.accessing })) x.1 x.0 in
+    let serving = subst (λ (port : PortValue). IsAfter (nothing_yet []) (record { port = port; accessed = w.accessed })) y.1 y.0 in
+    let both : AreParts (new_parts s v.accessing w.accessed) × (state_of (new_parts s v.accessing w.accessed) ≡ fresh s) =
+    (new_world s v.accessing w.accessed h x.2 y.2 asking serving, made s v.accessing w.accessed x.2 y.2) in
+    rw (x.1, y.1, ea, eb, er, es, ep) both
+
+-- the sizes that a world may have, by those that a link may
+pub world_setup : (s : WorldSetup) (end : End) → least_buffer ≤ s.bufsiz_a → least_buffer ≤ s.bufsiz_b → IsSetup (link_of s end) → IsWorldSetup s
+world_setup s end a b h =
+    record {
+      some = h.0;
+      small = h.1;
+      window = h.2;
+      window_limit = h.3;
+      own_a = record { least = a; most = omega (arith, h.5) };
+      own_b = record { least = b; most = omega (arith, h.5) };
+    }

@@ -8,19 +8,8 @@ use Rattle.dap_msg.specs.Blocked.{NspMessage, joined, messages_in, AllFit}
 use Rattle.nsp_link.specs.Cutting.{count_of}
 use Rattle.dap_accessing.specs.declared.request.Request.{Request}
 use Rattle.dap_accessing.specs.Asked.{messages_of, Asked}
+use Rattle.dap_end.proofs.ForCallers.{in_append}
 use Rattle.dap_world.specs.Machine.{arrived}
-
-pub messages_in-append : (xs ys : List NspMessage) → messages_in (xs ++ ys) ≡ messages_in xs ++ messages_in ys
-messages_in-append [] ys = refl
-messages_in-append (x ∷ xs) ys = ap (λ l. x ++ l) (messages_in-append xs ys) ∙ sym (append_assoc x (messages_in xs) (messages_in ys))
-
-pub Asked-append : (own : ℕ) (requests : List Request) (r : Request) → Asked own (requests ++ r ∷ []) ≡ Asked own requests ++ messages_of own r
-Asked-append own [] r = append-nil (messages_of own r)
-Asked-append own (q ∷ requests) r = ap (λ l. messages_of own q ++ l) (Asked-append own requests r) ∙ sym (append_assoc (messages_of own q) (Asked own requests) (messages_of own r))
-
-pub AllFit-append : (xs ys : List Message) → AllFit xs → AllFit ys → AllFit (xs ++ ys)
-AllFit-append [] ys h g = g
-AllFit-append (x ∷ xs) ys h g = (h.0, AllFit-append xs ys h.1 g)
 
 -- what came is a front of what was handed over
 pub arrived-front : (seg r : ℕ) (xs : List NspMessage) → (rest : List Message) × (messages_in (arrived seg r xs) ++ rest ≡ messages_in xs)
@@ -60,4 +49,4 @@ take-next xs n m e = take_more xs n m (slice_get_within xs n m e) ∙ ap (λ x. 
 pub served-stays : (n : ℕ) (seg r : ℕ) (xs ys : List NspMessage) → n ≤ length (messages_in (arrived seg r xs)) → take n (messages_in (xs ++ ys)) ≡ take n (messages_in xs)
 served-stays n seg r xs ys le =
     let f = arrived-front seg r xs in
-    ap (take n) (messages_in-append xs ys) ∙ take-append-le n (messages_in xs) (messages_in ys) (omega (arith, le, length-append (messages_in (arrived seg r xs)) f.0, ap length f.1))
+    ap (take n) (in_append xs ys) ∙ take-append-le n (messages_in xs) (messages_in ys) (omega (arith, le, length-append (messages_in (arrived seg r xs)) f.0, ap length f.1))

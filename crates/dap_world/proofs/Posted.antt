@@ -1,22 +1,25 @@
 -- Handing over all that waits is a step of the machine.
 use Rattle.std.proofs.Common.{◌≡◌, ℕ, ◌+◌, ◌≤◌, ◌<◌, arith, refl, sym, ◌∙◌, subst, ap, List, [], ◌∷◌, ◌++◌, length, take, drop, map, inl, inr}
-use Rattle.std.specs.Prelude.{Result, Ok, Err, IfOk, IfErr, OnOk}
+use Rattle.std.specs.Prelude.{Result, Ok, Err, IfOk, IfErr, OnOk, OnErr}
 use Rattle.std.specs.List.{AllByRecursion}
 use Rattle.std.proofs.lemmas.List.{length-append, map-append, take-append-drop, take_all, drop_all, take-take, length-drop, drop-map, append-nil, append_assoc}
 use Rattle.std.proofs.lemmas.List.Elements.{All-append}
+use Rattle.std.proofs.Math.Seq.{drop-append_seam}
 use Rattle.dap_msg.specs.Message.{Message}
 use Rattle.dap_msg.specs.Items.{Whole}
 use Rattle.dap_msg.specs.Canon.{canon}
 use Rattle.dap_msg.specs.Blocked.{NspMessage, joined, all_joined, messages_in, AllFit}
 use Rattle.dap_accessed.specs.Groups.{Answers}
-use Rattle.dap_accessed.specs.Present as accessed
-use Rattle.dap_accessing.specs.Present as accessing
 use Rattle.dap_accessing.specs.Told.{Told}
 use Rattle.nsp_link.specs.Cutting.{Piece, cut}
 use Rattle.nsp_link.specs.Limits.{most_segments}
 use Rattle.nsp_link.specs.Link.{LinkValue, Sends, Writes}
 use Rattle.nsp_link.specs.Sending.{queued_link}
 use Rattle.nsp_link.proofs.ForCallers.{writes_more, stands_more, sends_all}
+use Rattle.dap_end.specs.Ports.{posted as port_posted}
+use Rattle.dap_end.specs.Asking.{AskingValue, AskingPast, HasAsked, HandedAll}
+use Rattle.dap_end.specs.Serving.{ServingValue, Past, IsAfter, PostedAll}
+use Rattle.dap_end.proofs.ForCallers.{back_fit, in_append}
 use Rattle.dap_world.specs.declared.event.End.{End}
 use Rattle.dap_world.specs.declared.event.End.TheVariants.{A, B}
 use Rattle.dap_world.specs.declared.event.Event.{Event}
@@ -27,28 +30,29 @@ use Rattle.dap_world.specs.declared.event.WorldFault.{WorldFault}
 use Rattle.dap_world.specs.declared.event.WorldFault.TheVariants as fault
 use Rattle.dap_world.specs.Machine.{reported, Direction, sends, with_sends, posted, segments_of, segments_then, Steps, Refuses}
 use Rattle.dap_world.specs.Runs.{Went}
-use Rattle.dap_world.specs.Inner.Answers.{post_of}
 use Rattle.dap_world.specs.Inner.Worlds.{IsWorld}
-use Rattle.dap_world.specs.Inner.Sides.{SideValue, WiredValue, posted_side, segments_queued, PostedAll, PostFault}
-use Rattle.dap_world.specs.Inner.Ways.{IsWay, AreShort}
-use Rattle.dap_world.specs.Inner.Parts.{Parts, AreParts, IsTold, IsAmong, asks, answers, direction_of, state_of, side}
+use Rattle.dap_world.specs.declared.side.Wired.{Wired}
+use Rattle.dap_world.specs.Inner.Sides.{SideValue, AreShort, PostFault, PostedSo, port_of, side_of}
+use Rattle.dap_world.specs.Inner.Ways.{IsWay}
+use Rattle.dap_world.specs.Inner.Parts.{Parts, AreParts, IsTold, IsAmong, IsAskedAll, IsServedAll, asks, answers, asking_end, serving_end, direction_of, state_of, side}
 use Rattle.dap_world.specs.Inner.Splitting.{SplitsAll, SentAll}
-use Rattle.dap_world.proofs.Counting.{segments-cut, all_segments, counted}
-use Rattle.dap_world.proofs.Packets.{messages_in-append, served-stays}
-use Rattle.dap_world.proofs.Blocks.{asked-full, full-drop, fit-back}
+use Rattle.dap_world.proofs.Counting.{segments_queued, segments-cut, all_segments, counted}
+use Rattle.dap_world.proofs.Packets.{served-stays}
+use Rattle.dap_world.proofs.Blocks.{asked-full, full-drop}
 use Rattle.dap_world.proofs.Kept.{kept-step}
 use Rattle.dap_world.proofs.Ways.{still_way}
+use Rattle.dap_world.proofs.Wrote.{AreThen, asking_parts, serving_parts}
 
 -- ---- The ways.
 
-more_writes : (v : LinkValue) (pieces : List Piece) (messages more : List (List ℕ)) (wire : List WiredValue)
-    → AllByRecursion (λ w. Writes v messages w.segment w.acks w.packet) wire → AllByRecursion (λ w. Writes (queued_link v pieces) (messages ++ more) w.segment w.acks w.packet) wire
+more_writes : (v : LinkValue) (pieces : List Piece) (messages more : List (List ℕ)) (wire : List Wired)
+    → AllByRecursion (λ w. Writes v messages w.segment w.acks w.packet.items) wire → AllByRecursion (λ w. Writes (queued_link v pieces) (messages ++ more) w.segment w.acks w.packet.items) wire
 more_writes v pieces messages more [] h = tt
 more_writes v pieces messages more (w ∷ wire) h =
-    (writes_more v messages more w.segment w.acks w.packet h.0, more_writes v pieces messages more wire h.1)
+    (writes_more v messages more w.segment w.acks w.packet.items h.0, more_writes v pieces messages more wire h.1)
 
 abbrev pub new_side : SideValue → SideValue
-new_side s = posted_side s (queued_link s.link (cut s.link.seg_size s.outbox))
+new_side s = side_of (port_posted (port_of s)) (s.posted + length s.outbox) s.wire
 
 way_posted : (s : SideValue) (to : LinkValue) (handed given : List (List ℕ)) → IsWay s to handed given → AreShort to.max_message s.outbox → segments_queued s ≤ most_segments
     → IsWay (new_side s) to (handed ++ s.outbox) given
@@ -81,11 +85,7 @@ waits from to packets count h =
 -- the bytes of what waits
 pub waits-bytes : (from to : SideValue) (packets : List NspMessage) (count : ℕ) → IsTold from to packets count → from.outbox ≡ all_joined (drop from.posted packets)
 waits-bytes from to packets count h =
-    sym (behind h.handed from.outbox) ∙ ap (drop (length h.handed)) h.bytes ∙ drop-map joined (length h.handed) packets ∙ ap (λ (n : ℕ). all_joined (drop n packets)) (sym h.posted)
-  where
-    behind : (xs ys : List (List ℕ)) → drop (length xs) (xs ++ ys) ≡ ys
-    behind [] ys = refl
-    behind (x ∷ xs) ys = behind xs ys
+    sym (drop-append_seam h.handed from.outbox) ∙ ap (drop (length h.handed)) h.bytes ∙ drop-map joined (length h.handed) packets ∙ ap (λ (n : ℕ). all_joined (drop n packets)) (sym h.posted)
 
 segments_all : (size : ℕ) (s : SideValue) (handed : List (List ℕ)) (packets : List NspMessage) → size ≡ s.link.seg_size → handed ++ s.outbox ≡ all_joined packets → Sends s.link handed
     → segments_of size (take s.posted packets ++ drop s.posted packets) ≡ segments_queued s
@@ -188,17 +188,22 @@ sent_more p more h splits =
     let n = counted p.a.posted h.from_a.handed p.a.outbox (asks p) h.from_a.posted h.from_a.bytes in
     let front = take p.a.posted (asks p) in
     let back = drop p.a.posted (asks p) in
-    let all : messages_in (asks p) ≡ messages_in front ++ messages_in back = ap messages_in (sym (take-append-drop p.a.posted (asks p))) ∙ messages_in-append front back in
+    let all : messages_in (asks p) ≡ messages_in front ++ messages_in back = ap messages_in (sym (take-append-drop p.a.posted (asks p))) ∙ in_append front back in
     let full = full-drop p.a.posted (asks p) (asked-full p.accessing.own p.accessed.own p.requests) in
-    let fit = fit-back (messages_in front) (messages_in back) (subst AllFit all h.from_a.fit) in
+    let fit = back_fit (messages_in front) (messages_in back) (subst AllFit all h.from_a.fit) in
     let is : more ≡ map canon (messages_in back) = splits back full fit (waits-bytes p.a p.b (asks p) p.served h.from_a) in
     ap (λ (l : List (List ℕ)). l ++ more) h.sent_is ∙ ap (λ (l : List (List ℕ)). map canon (messages_in front) ++ l) is
     ∙ sym (map-append canon (messages_in front) (messages_in back)) ∙ ap (map canon) (sym all)
     ∙ ap (λ (l : List NspMessage). map canon (messages_in l)) (sym (take_all (p.a.posted + length p.a.outbox) (asks p) (omega arith)))
 
-parts_posted : (p : Parts) (end : End) (more : List (List ℕ)) → AreParts p → segments_queued (side p end) ≤ most_segments → SentMore p end more → IsWorld (state_of (posted_parts p end more)) → AreParts (posted_parts p end more)
+-- whatever the end was after, it handed over what waited too
+abbrev pub HandsOver : Parts → End → Type 0
+HandsOver p A = (past : AskingPast) → HasAsked past (asking_end p) → HasAsked (record past { handed = past.handed ++ p.a.outbox }) (record { port = port_posted (port_of p.a); accessing = p.accessing })
+HandsOver p B = (past : Past) → IsAfter past (serving_end p) → IsAfter (record past { handed = past.handed ++ p.b.outbox }) (record { port = port_posted (port_of p.b); accessed = p.accessed })
+
+parts_posted : (p : Parts) (end : End) (more : List (List ℕ)) → AreParts p → segments_queued (side p end) ≤ most_segments → SentMore p end more → HandsOver p end → IsWorld (state_of (posted_parts p end more)) → AreParts (posted_parts p end more)
 unfolding reported
-parts_posted p A more h room splits world =
+parts_posted p A more h room splits goes world =
     let short = subst (λ (n : ℕ). AreShort n p.a.outbox) (sym h.alike.limit) h.from_a.short in
     let same = served_same p h in
     record {
@@ -211,10 +216,11 @@ parts_posted p A more h room splits world =
       from_b = told_queued (answers p) p.read p.b p.a h.from_b;
       sent_is = sent_more p more h splits;
       reports_is = h.reports_is ∙ ap (λ (l : List Message). Told p.requests (map Whole (take p.read (Answers p.accessed.own [] (map Whole l))))) (sym same);
-      asking = subst (λ (l : List Message). accessing.StandsAfter p.requests (map Whole (take p.read (Answers p.accessed.own [] (map Whole l)))) p.accessing) (sym same) h.asking;
-      serving = subst (λ (l : List Message). accessed.StandsAfter [] (map Whole l) p.accessed) (sym same) h.serving;
+      asking = subst (λ (l : List Message). IsAskedAll (asking_end (posted_parts p A more)) p.requests (map Whole (take p.read (Answers p.accessed.own [] (map Whole l))))) (sym same)
+          (record h.asking.0 { handed = h.asking.0.handed ++ p.a.outbox }, goes _ h.asking.1);
+      serving = subst (λ (l : List Message). IsServedAll (serving_end p) (map Whole l)) (sym same) h.serving;
     }
-parts_posted p B more h room splits world =
+parts_posted p B more h room splits goes world =
     let short = subst (λ (n : ℕ). AreShort n p.b.outbox) h.alike.limit h.from_b.short in
     record {
       world = world;
@@ -227,24 +233,20 @@ parts_posted p B more h room splits world =
       sent_is = h.sent_is;
       reports_is = h.reports_is;
       asking = h.asking;
-      serving = h.serving;
+      serving = (record h.serving.0 { handed = h.serving.0.handed ++ p.b.outbox }, goes _ h.serving.1);
     }
 
--- what an event makes of parts
-abbrev pub AreThen : Parts → Event → Parts → Result Step WorldFault → Type 0
-AreThen p e q answer = AreParts q × Went (state_of p) e answer (state_of q)
-
-pub posted_step : (p : Parts) (end : End) (more : List (List ℕ)) (n : ℕ) → AreParts p → 0 < length (side p end).outbox → segments_queued (side p end) ≤ most_segments → SentMore p end more → n ≡ length (side p end).outbox
-    → AreThen p (event.Post end) (posted_parts p end more) (Ok (step.Posted n))
+posted_step : (p : Parts) (end : End) (more : List (List ℕ)) → AreParts p → 0 < length (side p end).outbox → segments_queued (side p end) ≤ most_segments → SentMore p end more → HandsOver p end
+    → AreThen p (event.Post end) (posted_parts p end more) (Ok (step.Posted (length (side p end).outbox)))
 unfolding Steps
-posted_step p end more n h some room splits is =
+posted_step p end more h some room splits goes =
     let steps = posts p end more h some room in (
-      parts_posted p end more h room splits (kept-step (state_of p) (state_of (posted_parts p end more)) (event.Post end) (step.Posted (length (side p end).outbox)) steps h.world),
-      subst (λ (k : ℕ). Steps (state_of p) (event.Post end) (step.Posted k) (state_of (posted_parts p end more))) (sym is) steps,
+      parts_posted p end more h room splits goes (kept-step (state_of p) (state_of (posted_parts p end more)) (event.Post end) (step.Posted (length (side p end).outbox)) steps h.world),
+      steps,
     )
 
 -- nothing was handed over
-pub post_refused : (p : Parts) (end : End) (f : WorldFault) → AreParts p → PostFault (side p end) f → Went (state_of p) (event.Post end) (Err f) (state_of p)
+pub post_refused : (p : Parts) (end : End) (f : WorldFault) → AreParts p → PostFault (side p end).link (side p end).outbox f → Went (state_of p) (event.Post end) (Err f) (state_of p)
 unfolding Steps Refuses
 post_refused p end fault.NothingToDo h none = (no_length (sends (state_of p) end).waiting (waiting_is p end h ∙ ap length none), refl)
 post_refused p end fault.Exhausted h many = let n = waiting_is p end h in let all = segments_are p end h in ((omega (arith, many.0), omega (arith, many.1)), refl)
@@ -254,23 +256,22 @@ post_refused p end fault.Stale h none = absurd none
 post_refused p end (fault.Ask f) h none = absurd none
 post_refused p end fault.BadSetup h none = absurd none
 
-abbrev pub with_a : Parts → SideValue → List (List ℕ) → Parts
-with_a p s sent = record p { a = s; sent = sent }
+pub post_a : (p : Parts) (v : AskingValue) (posted : ℕ) (sent : List (List ℕ)) (r : Result Step WorldFault) → AreParts p
+    → IfOk r (λ answer. PostedSo p.a.outbox p.a.posted posted answer) → OnOk r (HandedAll (asking_end p) v (length p.a.outbox)) → OnOk r (SentAll p.a.outbox p.sent sent)
+    → OnErr r ((v ≡ asking_end p) × (posted ≡ p.a.posted) × (sent ≡ p.sent)) → IfErr r (PostFault p.a.link p.a.outbox)
+    → AreThen p (event.Post A) (record (asking_parts p v posted p.a.wire) { sent = sent }) r
+post_a p v posted sent (Ok answer) h so handed more same err =
+    let goes : HandsOver p A = λ past has. subst (λ (x : AskingValue). HasAsked (record past { handed = past.handed ++ p.a.outbox }) x) handed.posted (handed.past past has) in
+    let done = posted_step p A more.0 h so.2 handed.may.2 more.2 goes in
+    rw (so.0, handed.posted, so.1, more.1) done
+post_a p v posted sent (Err f) h so handed more same err = rw (same.0, same.1, same.2) (h, post_refused p A f h err)
 
-pub post_a : (p : Parts) (s : SideValue) (sent : List (List ℕ)) (r : Result ℕ WorldFault) → AreParts p → IfOk r (λ n. PostedAll p.a s n) → OnOk r (SentAll p.a.outbox p.sent sent)
-    → IfErr r (λ f. (s ≡ p.a) × (sent ≡ p.sent) × PostFault p.a f) → AreThen p (event.Post A) (with_a p s sent) (post_of r)
-post_a p s sent (Ok n) h ok more err =
-    let done = posted_step p A more.0 n h ok.some ok.room more.2 ok.count in
-    subst (λ (x : SideValue). AreThen p (event.Post A) (with_a p x sent) (Ok (step.Posted n))) (sym ok.posted)
-    (subst (λ (l : List (List ℕ)). AreThen p (event.Post A) (with_a p (new_side p.a) l) (Ok (step.Posted n))) (sym more.1) done)
-post_a p s sent (Err f) h ok more err =
-    subst (λ (x : SideValue). AreThen p (event.Post A) (with_a p x sent) (Err f)) (sym err.0)
-    (subst (λ (l : List (List ℕ)). AreThen p (event.Post A) (with_a p p.a l) (Err f)) (sym err.1) (h, post_refused p A f h err.2))
-
-pub post_b : (p : Parts) (s : SideValue) (r : Result ℕ WorldFault) → AreParts p → IfOk r (λ n. PostedAll p.b s n) → IfErr r (λ f. (s ≡ p.b) × PostFault p.b f)
-    → AreThen p (event.Post B) (record p { b = s }) (post_of r)
-post_b p s (Ok n) h ok err =
-    let done = posted_step p B [] n h ok.some ok.room tt ok.count in
-    subst (λ (x : SideValue). AreThen p (event.Post B) (record p { b = x }) (Ok (step.Posted n))) (sym ok.posted) done
-post_b p s (Err f) h ok err =
-    subst (λ (x : SideValue). AreThen p (event.Post B) (record p { b = x }) (Err f)) (sym err.0) (h, post_refused p B f h err.1)
+pub post_b : (p : Parts) (v : ServingValue) (posted : ℕ) (r : Result Step WorldFault) → AreParts p
+    → IfOk r (λ answer. PostedSo p.b.outbox p.b.posted posted answer) → OnOk r (PostedAll (serving_end p) v (length p.b.outbox))
+    → OnErr r ((v ≡ serving_end p) × (posted ≡ p.b.posted)) → IfErr r (PostFault p.b.link p.b.outbox)
+    → AreThen p (event.Post B) (serving_parts p v posted p.b.wire) r
+post_b p v posted (Ok answer) h so handed same err =
+    let goes : HandsOver p B = λ past is. subst (λ (x : ServingValue). IsAfter (record past { handed = past.handed ++ p.b.outbox }) x) handed.posted (handed.past past is) in
+    let done = posted_step p B [] h so.2 handed.may.2 tt goes in
+    rw (so.0, handed.posted, so.1) done
+post_b p v posted (Err f) h so handed same err = rw (same.0, same.1) (h, post_refused p B f h err)

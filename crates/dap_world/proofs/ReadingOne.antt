@@ -1,12 +1,11 @@
 -- Reading an answer is a step of the machine.
 use Rattle.std.proofs.Common.{◌≡◌, ◌≢◌, ℕ, ◌+◌, ◌^◌, ◌≤◌, ◌<◌, arith, refl, sym, ◌∙◌, subst, ap, append_assoc, Bool, true, List, [], ◌∷◌, ◌++◌, length, take, drop, map, inl, eq-eqb}
-use Rattle.std.specs.Prelude.{◌==◌, if◌then◌else◌, is_some, option_to_list, Option, Some, None, Result, Ok, Err, IfOk, IfErr, slice_get}
+use Rattle.std.specs.Prelude.{◌==◌, if◌then◌else◌, option_to_list, Option, Some, None, Ok, Err, slice_get}
 use Rattle.std.proofs.lemmas.List.{length-append, map-append, append-nil}
 use Rattle.std.proofs.lemmas.Bool.{ne_eqb}
 use Rattle.dap_msg.specs.Message.{Message}
 use Rattle.dap_msg.specs.Items.{Item, Whole}
 use Rattle.dap_msg.specs.Blocked.{messages_in}
-use Rattle.dap_msg.proofs.ForCallers.{one_item}
 use Rattle.dap_accessed.specs.Groups.{Answers}
 use Rattle.dap_accessing.specs.Present as accessing
 use Rattle.dap_accessing.specs.Told.{Told, is_unexpected}
@@ -20,43 +19,39 @@ use Rattle.dap_world.specs.declared.event.WorldFault.{WorldFault}
 use Rattle.dap_world.specs.declared.event.WorldFault.TheVariants as fault
 use Rattle.dap_world.specs.Machine.{Refuses, arrived, arrived_of, taken_of, answers_read, read_one, next_to_read, told_by, reported, Steps}
 use Rattle.dap_world.specs.Runs.{Went, MayHappen}
-use Rattle.dap_world.specs.Inner.Answers.{read_of}
 use Rattle.dap_world.specs.Inner.Worlds.{IsWorld}
-use Rattle.dap_world.specs.Inner.Sides.{SideValue}
-use Rattle.dap_world.specs.Inner.Ways.{AreShort}
-use Rattle.dap_world.specs.Inner.Parts.{Parts, AreParts, asks, answers, served_items, state_of}
-use Rattle.dap_world.specs.Inner.Handling.{handled_side, Expects, ReadOne, ReadFault, IsReady}
+use Rattle.dap_fields.specs.Spelling.{AreBytes}
+use Rattle.dap_accessing.specs.Calls.{ReadRefused}
+use Rattle.dap_accessing.specs.declared.fault.ReadFault.{ReadFault}
+use Rattle.dap_accessing.specs.declared.fault.ReadFault.TheVariants as read_fault
+use Rattle.dap_end.specs.Ports.{PortValue, oldest}
+use Rattle.dap_end.specs.Going.{given_then}
+use Rattle.dap_end.specs.Asking.{AskingValue, HasAsked, ReadNext, ReadNone, ReadOne}
+use Rattle.dap_end.specs.declared.asking.Heard.{Heard}
+use Rattle.dap_end.specs.declared.asking.Heard.TheVariants as heard
+use Rattle.dap_end.proofs.ForCallers.{answers_full, in_append}
+use Rattle.dap_world.specs.Inner.Sides.{AreShort, KeptSo, side_of}
+use Rattle.dap_world.specs.Inner.Parts.{Parts, AreParts, IsAskedAll, asks, answers, asking_end, served_items, state_of}
 use Rattle.dap_world.proofs.Counting.{handed-bytes}
-use Rattle.dap_world.proofs.Packets.{arrived-front, get-front, take-next, messages_in-append}
-use Rattle.dap_world.proofs.Blocks.{answers-full}
-use Rattle.dap_world.proofs.Splits.{one_there}
-use Rattle.dap_world.proofs.Arrived.{Next, find_next, none_next, handled_one}
+use Rattle.dap_world.proofs.Packets.{arrived-front, get-front, take-next}
+use Rattle.dap_world.proofs.Splits.{one_there, only_item}
+use Rattle.dap_world.proofs.Arrived.{Next, find_next, none_next, handled_one, handled_side}
 use Rattle.dap_world.proofs.Growing.{told_moved, few_messages}
-use Rattle.dap_world.proofs.Handled.{has_first}
 use Rattle.dap_world.proofs.Kept.{kept-step, read-front}
 use Rattle.dap_world.proofs.Agreeing.{none-unexpected}
-use Rattle.dap_world.proofs.Posted.{AreThen}
-use Rattle.dap_world.proofs.Serving.{full-take, fit-take, place_within}
-
-abbrev pub read_parts : Parts → SideValue → accessing.Present → List Report → ℕ → Parts
-read_parts p s after reports count = record p { a = s; accessing = after; reports = reports; read = count }
+use Rattle.dap_world.proofs.Serving.{full-take, fit-take}
+use Rattle.dap_world.proofs.Wrote.{AreThen, asking_parts}
 
 -- the answers to what B served
 all-answered : (p : Parts) → AreParts p → messages_in (take p.b.posted (answers p)) ++ messages_in (drop p.b.posted (answers p)) ≡ Answers p.accessed.own [] (map Whole (taken_of (state_of p)))
 all-answered p h =
-    sym (messages_in-append (take p.b.posted (answers p)) (drop p.b.posted (answers p))) ∙ h.world.answered
+    sym (in_append (take p.b.posted (answers p)) (drop p.b.posted (answers p))) ∙ h.world.answered
 
 -- what is read next from B is of its message
 pub next_answer : (p : Parts) (bytes : List ℕ) (later : List (List ℕ)) → AreParts p → p.a.link.inbox ≡ bytes ∷ later → Next p.b p.a (answers p) p.read bytes
 next_answer p bytes later h inbox =
     find_next p.b p.a (answers p) p.read h.from_b bytes later
-    (full-take p.b.posted (answers p) (answers-full p.accessed.own (served_items p))) (fit-take p.b.posted (answers p) h.from_b.fit) inbox
-
-pub is_ready : (p : Parts) → AreParts p → IsReady p.a
-is_ready p h = λ bytes at.
-    let waits = has_first p.a.link.inbox bytes at in
-    let n = next_answer p bytes waits.0 h waits.1 in
-    inl (place_within p.a.place bytes n.begun n.more n.m n.bytes_are n.behind n.fit)
+    (full-take p.b.posted (answers p) (answers_full p.accessed.own [] [] (served_items p))) (fit-take p.b.posted (answers p) h.from_b.fit) inbox
 
 next_read : (p : Parts) (bytes : List ℕ) → AreParts p → (n : Next p.b p.a (answers p) p.read bytes) → next_to_read (state_of p) ≡ Some n.m
 next_read p bytes h n =
@@ -85,17 +80,6 @@ has_place p m h next =
     none-unexpected p.accessing.own p.accessed.own h.world.own_a h.world.own_b p.requests h.world.admissible (answers_read (state_of p)) front.0 (Whole m)
     (sym (append_assoc (answers_read (state_of p)) (Whole m ∷ []) front.0) ∙ ap (λ (l : List Item). l ++ front.0) (sym (read-more p m h next)) ∙ front.1)
 
-pub expects : (p : Parts) → AreParts p → Expects p.a p.accessing
-expects p h = λ bytes at.
-    let waits = has_first p.a.link.inbox bytes at in
-    let n = next_answer p bytes waits.0 h waits.1 in
-    record {
-      works = h.asking.works;
-      place = λ item next fit here.
-          (let one = one_there bytes p.a.place next item n.begun n.more n.m n.fit n.bytes_are n.behind (λ other k there. one_item bytes p.a.place item other next k fit here there) in
-          (p.requests, answers_read (state_of p), h.asking, subst (λ (i : Item). is_unexpected p.requests (answers_read (state_of p)) i ≢ true) one.0 (has_place p n.m h (next_read p bytes h n))));
-    }
-
 -- how many were read is far below what a count holds
 pub few_read : (p : Parts) → AreParts p → p.read < 2 ^ 56
 few_read p h =
@@ -107,46 +91,77 @@ few_read p h =
     (subst (AreShort p.a.link.max_message) (handed-bytes p.b.posted h.from_b.handed p.b.outbox (answers p) h.from_b.posted h.from_b.bytes) h.from_b.way.short) h.most
     (subst (λ (l : List (List ℕ)). length (cut p.b.link.seg_size l) ≤ most_segments) (handed-bytes p.b.posted h.from_b.handed p.b.outbox (answers p) h.from_b.posted h.from_b.bytes) h.from_b.way.few)
 
-refused : (p : Parts) (f : WorldFault) → AreParts p → ReadFault p.a f → Went (state_of p) event.Read (Err f) (state_of p)
-unfolding Steps Refuses
-refused p fault.NothingToDo h empty =
+-- ---- None is read.
+
+pub reads_nothing : (p : Parts) → AreParts p → p.a.link.inbox ≡ [] → Went (state_of p) event.Read (Err fault.NothingToDo) (state_of p)
+unfolding Refuses
+reads_nothing p h empty =
     (subst (λ (size : ℕ). slice_get (messages_in (arrived size p.a.link.received (take p.b.posted (answers p)))) p.read ≡ None) h.alike.size (none_next p.b p.a (answers p) p.read h.from_b empty), refl)
-refused p fault.NoMemory h some = (may_read p.a.link.inbox refl some, refl)
+
+pub reads_later : (p : Parts) → AreParts p → 0 < length p.a.link.inbox → Went (state_of p) event.Read (Err fault.NoMemory) (state_of p)
+unfolding Steps
+reads_later p h some = (may_read p.a.link.inbox refl some, refl)
   where
     may_read : (inbox : List (List ℕ)) → p.a.link.inbox ≡ inbox → 0 < length inbox → MayHappen (state_of p) event.Read × (⊥ → ⊥)
     may_read [] e some = let none : ⊥ = omega arith in absurd none
     may_read (bytes ∷ later) e some = let n = next_answer p bytes later h e in ((_, _, reads p n.m (next_read p bytes h n)), λ t. t)
-refused p fault.NoSuchPacket h never = absurd never
-refused p fault.Stale h never = absurd never
-refused p (fault.Ask f) h never = absurd never
-refused p fault.Exhausted h never = absurd never
-refused p fault.BadSetup h never = absurd never
 
-told_is : (old new : List Report) (report : Option Report) → new ≡ old ++ option_to_list report → read_of (Ok (is_some report)) ≡ Ok (if length new == length old then step.Nothing else step.Reported)
+-- the answer has its place, so that it was refused for memory
+same_present : (p : Parts) (new : accessing.Present) (bytes : List ℕ) (later : List (List ℕ)) (f : ReadFault) → AreParts p → p.a.link.inbox ≡ bytes ∷ later → AreBytes bytes
+    → ReadRefused bytes p.a.place p.accessing new f → new ≡ p.accessing
+same_present p new bytes later read_fault.Failed h came fits refused = refused.1
+same_present p new bytes later read_fault.NoMemory h came fits refused = refused.1
+same_present p new bytes later read_fault.Unexpected h came fits refused =
+    let there = refused.2 in
+    let n = next_answer p bytes later h came in
+    let one = one_there bytes p.a.place there.1 there.0 n.begun n.more n.m n.fit n.bytes_are n.behind (only_item bytes p.a.place there.0 there.1 fits there.2) in
+    absurd (has_place p n.m h (next_read p bytes h n)
+    (ap (λ (i : Item). is_unexpected p.requests (answers_read (state_of p)) i) one.0 ∙ there.3 p.requests (answers_read (state_of p)) h.asking.1.asking))
+
+pub not_read : (p : Parts) (v : AskingValue) (f : ReadFault) (reports : List Report) → AreParts p → AreBytes (oldest p.a.link.inbox) → ReadNone (asking_end p) v f → reports ≡ p.reports
+    → AreThen p event.Read (record (asking_parts p v p.a.posted p.a.wire) { reports = reports }) (Err fault.NoMemory)
+not_read p v f reports h fits o told =
+    let bytes : AreBytes o.bytes = subst (λ (l : List (List ℕ)). AreBytes (oldest l)) o.came fits in
+    let same : v.accessing ≡ p.accessing = same_present p v.accessing o.bytes o.later f h o.came bytes o.refused in
+    let some = ap length o.came in
+    subst (λ (l : List Report). AreThen p event.Read (record (asking_parts p v p.a.posted p.a.wire) { reports = l }) (Err fault.NoMemory)) (sym told)
+    (subst (λ (port : PortValue). AreThen p event.Read (record p { a = side_of port p.a.posted p.a.wire; accessing = v.accessing }) (Err fault.NoMemory)) (sym o.port)
+    (subst (λ (y : accessing.Present). AreThen p event.Read (record p { accessing = y }) (Err fault.NoMemory)) (sym same) (h, reads_later p h (omega (arith, some)))))
+
+-- ---- One is read.
+
+abbrev told_step : Option Report → Step
+told_step None = step.Nothing
+told_step (Some report) = step.Reported
+
+told_is : (old new : List Report) (report : Option Report) → new ≡ old ++ option_to_list report → told_step report ≡ (if length new == length old then step.Nothing else step.Reported)
 told_is old new None e = let same = ap length e ∙ ap length (append-nil old) in rw (eq-eqb (length new) (length old) same) refl
 told_is old new (Some report) e =
     let more = ap length e ∙ length-append old (report ∷ []) in
     rw (ne_eqb (length new) (length old) (λ same. omega arith)) refl
 
-pub read_done : (p : Parts) (s : SideValue) (after : accessing.Present) (reports : List Report) (count : ℕ) (r : Result Bool WorldFault) → AreParts p
-    → IfOk r (λ told. ReadOne p.a s p.accessing after p.reports reports p.read count told)
-    → IfErr r (λ f. (s ≡ p.a) × (after ≡ p.accessing) × (reports ≡ p.reports) × (count ≡ p.read) × ReadFault p.a f) → AreThen p event.Read (read_parts p s after reports count) (read_of r)
+read_so : (p : Parts) (v : AskingValue) (report : Option Report) (reports : List Report) → AreParts p → ReadOne (asking_end p) v report → reports ≡ p.reports ++ option_to_list report
+    → AreThen p event.Read (record (asking_parts p v p.a.posted p.a.wire) { reports = reports; read = p.read + 1 }) (Ok (told_step report))
 unfolding reported
-read_done p s after reports count (Err f) h ok err = rw (err.0, err.1, err.2, err.3) (h, refused p f h err.4)
-read_done p s after reports count (Ok told) h o err =
-    let x = next_answer p o.bytes o.later h o.waited in
+read_so p v report reports h o kept =
+    let x = next_answer p o.bytes o.later h o.came in
     let m = x.m in
     let next = next_read p o.bytes h x in
-    let one = one_there o.bytes p.a.place o.next o.item x.begun x.more m x.fit x.bytes_are x.behind o.one.only in
-    let more = read-more p m h next in
+    let one = one_there o.bytes p.a.place o.next o.item x.begun x.more m x.fit x.bytes_are x.behind (only_item o.bytes p.a.place o.item o.next o.fits o.reads) in
     let t = handled_side p.a o.bytes o.later o.next in
-    let own : after ≡ record after { own = p.accessing.own } = ap (λ (k : ℕ). record after { own = k }) o.own in
-    let q = read_parts p t (record after { own = p.accessing.own }) reports (p.read + 1) in
-    let same : answers_read (state_of p) ++ o.item ∷ [] ≡ answers_read (read_one (state_of p)) = ap (λ (i : Item). answers_read (state_of p) ++ i ∷ []) (sym one.0) ∙ sym more in
-    let stands : accessing.StandsAfter p.requests (answers_read (read_one (state_of p))) (record after { own = p.accessing.own }) =
-    subst (λ (y : accessing.Present). accessing.StandsAfter p.requests (answers_read (read_one (state_of p))) y) own
-    (subst (λ (l : List Item). accessing.StandsAfter p.requests l after) same (o.stands p.requests (answers_read (state_of p)) h.asking)) in
-    let adds : reported (read_one (state_of p)) ≡ reported (state_of p) ++ option_to_list o.report = ap (Told p.requests) (sym same) ∙ o.adds p.requests (answers_read (state_of p)) h.asking in
+    let own : v.accessing ≡ record v.accessing { own = p.accessing.own } = ap (λ (k : ℕ). record v.accessing { own = k }) o.own in
+    let q = record p { a = t; accessing = record v.accessing { own = p.accessing.own }; reports = reports; read = p.read + 1 } in
+    let old = answers_read (state_of p) in
+    let same : old ++ o.item ∷ [] ≡ answers_read (read_one (state_of p)) = ap (λ (i : Item). old ++ i ∷ []) (sym one.0) ∙ sym (read-more p m h next) in
+    let past = record h.asking.0 { requests = p.requests; answers = old } in
+    let now = record h.asking.0 { given = given_then h.asking.0.given o.bytes o.next } in
+    let asking : IsAskedAll (asking_end q) p.requests (answers_read (read_one (state_of p))) =
+    subst (λ (l : List Item). IsAskedAll (asking_end q) p.requests l) same (
+      now,
+      subst (λ (port : PortValue). HasAsked (record now { requests = p.requests; answers = old ++ o.item ∷ [] }) (record { port = port; accessing = record v.accessing { own = p.accessing.own } })) o.port
+          (subst (λ (y : accessing.Present). HasAsked (record now { requests = p.requests; answers = old ++ o.item ∷ [] }) (record { port = v.port; accessing = y })) own (o.past past h.asking.1)),
+    ) in
+    let adds : reported (read_one (state_of p)) ≡ reported (state_of p) ++ option_to_list report = ap (Told p.requests) (sym same) ∙ o.told past h.asking.1 in
     let parts : AreParts q =
     record {
       world = world-read p m h next;
@@ -155,14 +170,23 @@ read_done p s after reports count (Ok told) h o err =
       limit_b = h.limit_b;
       most = h.most;
       from_a = told_moved p.a p.b (asks p) p.served t.link.inbox t.place h.from_a;
-      from_b = handled_one p.b p.a (answers p) p.read o.bytes o.later o.next h.from_b x o.waited one.1;
+      from_b = handled_one p.b p.a (answers p) p.read o.bytes o.later o.next h.from_b x o.came one.1;
       sent_is = h.sent_is;
-      reports_is = o.kept ∙ ap (λ (l : List Report). l ++ option_to_list o.report) h.reports_is ∙ sym adds;
-      asking = stands;
+      reports_is = kept ∙ ap (λ (l : List Report). l ++ option_to_list report) h.reports_is ∙ sym adds;
+      asking = asking;
       serving = h.serving;
     } in
-    let answer : read_of (Ok told) ≡ Ok (told_by (state_of p) (read_one (state_of p))) = ap (λ (b : Bool). read_of (Ok b)) o.is_told_is ∙ told_is (reported (state_of p)) (reported (read_one (state_of p))) o.report adds in
-    let done : AreThen p event.Read q (read_of (Ok told)) = subst (λ (a : Result Step WorldFault). AreThen p event.Read q a) (sym answer) (parts, reads p m next) in
-    subst (λ (y : SideValue). AreThen p event.Read (read_parts p y after reports count) (read_of (Ok told))) (sym o.side)
-    (subst (λ (y : accessing.Present). AreThen p event.Read (read_parts p t y reports count) (read_of (Ok told))) (sym own)
-    (subst (λ (k : ℕ). AreThen p event.Read (read_parts p t (record after { own = p.accessing.own }) reports k) (read_of (Ok told))) (sym o.count_is) done))
+    let answer : told_step report ≡ told_by (state_of p) (read_one (state_of p)) = told_is (reported (state_of p)) (reported (read_one (state_of p))) report adds in
+    let done : AreThen p event.Read q (Ok (told_step report)) = subst (λ (a : Step). AreThen p event.Read q (Ok a)) (sym answer) (parts, reads p m next) in
+    subst (λ (port : PortValue). AreThen p event.Read (record p { a = side_of port p.a.posted p.a.wire; accessing = v.accessing; reports = reports; read = p.read + 1 }) (Ok (told_step report))) (sym o.port)
+    (subst (λ (y : accessing.Present). AreThen p event.Read (record p { a = t; accessing = y; reports = reports; read = p.read + 1 }) (Ok (told_step report))) (sym own) done)
+
+pub read_step : (p : Parts) (v : AskingValue) (heard : Heard) (reports : List Report) (answer : Step) → AreParts p → 0 < length p.a.link.inbox → ReadNext (asking_end p) v heard → KeptSo heard p.reports reports answer
+    → AreThen p event.Read (record (asking_parts p v p.a.posted p.a.wire) { reports = reports; read = p.read + 1 }) (Ok answer)
+read_step p v heard.Nothing reports answer h some o kept = absurd (let none = ap length o.0 in omega (arith, some, none))
+read_step p v heard.Part reports answer h some o kept =
+    subst (λ (a : Step). AreThen p event.Read (record (asking_parts p v p.a.posted p.a.wire) { reports = reports; read = p.read + 1 }) (Ok a)) (sym kept.0)
+    (read_so p v None reports h o (kept.1 ∙ sym (append-nil p.reports)))
+read_step p v (heard.Report report) reports answer h some o kept =
+    subst (λ (a : Step). AreThen p event.Read (record (asking_parts p v p.a.posted p.a.wire) { reports = reports; read = p.read + 1 }) (Ok a)) (sym kept.0)
+    (read_so p v (Some report) reports h o kept.1)

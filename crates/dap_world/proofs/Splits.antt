@@ -3,19 +3,23 @@ use Rattle.std.proofs.Common.{◌≡◌, ◌≢◌, ℕ, zero, suc, ◌+◌, ◌
 use Rattle.std.specs.Prelude.{Some, slice_get}
 use Rattle.std.proofs.lemmas.List.{append-nil, length-append, map-append}
 use Rattle.std.proofs.Common.{add-one}
+use Rattle.dap_fields.specs.Spelling.{AreBytes}
 use Rattle.dap_msg.specs.Message.{Message}
 use Rattle.dap_msg.specs.Items.{Item, Whole, ItemAt}
 use Rattle.dap_msg.specs.Canon.{canon, Fits}
 use Rattle.dap_msg.specs.Blocked.{NspMessage, joined, all_joined, messages_in, AllFit}
-use Rattle.dap_msg.proofs.ForCallers.{stands_some}
-use Rattle.dap_world.specs.Inner.Splitting.{AreFull, SplitsOne}
+use Rattle.dap_msg.proofs.ForCallers.{one_item, stands_some}
+use Rattle.dap_end.proofs.ForCallers.{back_fit, front_fit, in_append}
+use Rattle.dap_end.specs.Asking.{AreFull}
+use Rattle.dap_world.specs.Inner.Splitting.{SplitsOne}
 use Rattle.dap_world.proofs.Reading.{at_item, fit_at, ends_at, bytes_at, joined-one}
-use Rattle.dap_world.proofs.Blocks.{fit-front, fit-back}
-use Rattle.dap_world.proofs.Packets.{messages_in-append}
 
 -- the item that was read at the place is the only one there
 abbrev pub IsOnly : List ℕ → ℕ → Item → ℕ → Type 0
 IsOnly bytes at found next = (item : Item) (n : ℕ) → ItemAt bytes at item n → (item ≡ found) × (n ≡ next)
+
+pub only_item : (bytes : List ℕ) (at : ℕ) (item : Item) (next : ℕ) → AreBytes bytes → ItemAt bytes at item next → IsOnly bytes at item next
+only_item bytes at item next fits here = λ other n there. one_item bytes at item other next n fits here there
 
 -- where a message begins, it is what is read
 pub one_there : (bytes : List ℕ) (at next : ℕ) (found : Item) (begun more : List Message) (m : Message) → AllFit (begun ++ m ∷ more) → bytes ≡ joined (begun ++ m ∷ more) → at ≡ length (joined begun)
@@ -66,7 +70,7 @@ split_ends bytes at next found old out new body so_far only end slice gained = �
     let is' : bytes ≡ joined (begun ++ m ∷ more) = is ∙ ap joined here.3 in
     let one = one_there bytes at next found begun more m fit' is' here.4 only in
     let long = ap length is' in
-    let none : more ≡ [] = none_more more (fit-back (m ∷ []) more (fit-back begun (m ∷ more) fit')) (omega (arith, one.1, end, long, ends_at begun more m)) in
+    let none : more ≡ [] = none_more more (back_fit (m ∷ []) more (back_fit begun (m ∷ more) fit')) (omega (arith, one.1, end, long, ends_at begun more m)) in
     let body_is : body ≡ canon m = slice ∙ body_there bytes at next begun more m is' here.4 one.1 in
     gained ∙ ap (λ (b : List ℕ). out ++ b ∷ []) body_is ∙ ap (λ (l : List (List ℕ)). l ++ canon m ∷ []) here.5 ∙ added_one old begun m
     ∙ ap (λ (l : List Message). old ++ map canon (begun ++ m ∷ l)) (sym none) ∙ ap (λ (l : List Message). old ++ map canon l) (sym here.3)
@@ -96,7 +100,7 @@ split_more bytes at next found old out new body so_far only below slice gained =
     let one = one_there bytes at next found begun more m fit' is' here.4 only in
     let long = ap length is' in
     let body_is : body ≡ canon m = slice ∙ body_there bytes at next begun more m is' here.4 one.1 in
-    split_next bytes next old out new packet begun more m here.3 (fit-back (m ∷ []) more (fit-back begun (m ∷ more) fit')) one.1
+    split_next bytes next old out new packet begun more m here.3 (back_fit (m ∷ []) more (back_fit begun (m ∷ more) fit')) one.1
     (λ none. omega (arith, one.1, below, long, ends_at begun more m, none))
     (gained ∙ ap (λ (b : List ℕ). out ++ b ∷ []) body_is ∙ ap (λ (l : List (List ℕ)). l ++ canon m ∷ []) here.5 ∙ added_one old begun m)
 
@@ -115,9 +119,9 @@ record Nth (packets : List NspMessage) (n : ℕ) (bytes : List ℕ) : Type 0 whe
 
 nth : (packets : List NspMessage) (n : ℕ) (bytes : List ℕ) → AreFull packets → AllFit (messages_in packets) → slice_get (all_joined packets) n ≡ Some bytes → Nth packets n bytes
 nth [] n bytes full fit at = let none : ⊥ = cc in absurd none
-nth (p ∷ packets) zero bytes full fit at = record { packet = p; front = refl; bytes_are = (cc); full = full.0; fit = fit-front p (messages_in packets) fit }
+nth (p ∷ packets) zero bytes full fit at = record { packet = p; front = refl; bytes_are = (cc); full = full.0; fit = front_fit p (messages_in packets) fit }
 nth (p ∷ packets) (suc n) bytes full fit at =
-    let later = nth packets n bytes full.1 (fit-back p (messages_in packets) fit) at in
+    let later = nth packets n bytes full.1 (back_fit p (messages_in packets) fit) at in
     record { packet = later.packet; front = ap (λ (l : List NspMessage). p ∷ l) later.front; bytes_are = later.bytes_are; full = later.full; fit = later.fit }
 
 pub first_more : (list : List (List ℕ)) (n : ℕ) (bytes : List ℕ) (out new : List (List ℕ)) → SplitFirst list n out → slice_get list n ≡ Some bytes → SplitsOne bytes out new → SplitFirst list (n + 1) new
@@ -128,5 +132,5 @@ first_more list n bytes out new first at one = λ packets full fit is.
     ∙ ap (λ (l : List (List ℕ)). l ++ map canon it.packet) (first packets full fit is)
     ∙ sym (map-append canon (messages_in front) it.packet)
     ∙ ap (λ (l : List Message). map canon (messages_in front ++ l)) (sym (append-nil it.packet))
-    ∙ ap (map canon) (sym (messages_in-append front (it.packet ∷ [])))
+    ∙ ap (map canon) (sym (in_append front (it.packet ∷ [])))
     ∙ ap (λ (l : List NspMessage). map canon (messages_in l)) (sym it.front ∙ ap (λ (k : ℕ). take k packets) (sym (add-one n)))

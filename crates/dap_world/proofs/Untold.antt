@@ -11,6 +11,7 @@ use Rattle.dap_accessing.specs.declared.request.Request.{Request}
 use Rattle.dap_accessing.specs.declared.report.Report.{Report}
 use Rattle.dap_accessing.specs.Told.{Hearing, Reports, Waits, Unexpected, hear, Told}
 use Rattle.dap_accessing.proofs.ForCallers.{told_by, Told-told_by, reports_grow}
+use Rattle.dap_end.proofs.ForCallers.{in_append}
 use Rattle.dap_world.specs.Agreement.{answers_to}
 use Rattle.dap_world.specs.Machine.{State, arrived_of, sent_by, taken_of, answers_read, reported}
 use Rattle.dap_world.specs.Inner.Worlds.{IsWorld}
@@ -21,7 +22,6 @@ use Rattle.dap_world.proofs.Agreeing.{none-unexpected}
 use Rattle.dap_world.proofs.Asking.{all_told, answers-front}
 use Rattle.dap_world.proofs.Kept.{came-handed, read-front, served-front}
 use Rattle.dap_world.proofs.Onward.{ran_on, told_same}
-use Rattle.dap_world.proofs.Packets.{messages_in-append}
 
 -- no more reports than requests
 no_more_by : (rs : List Request) (h : Hearing) → ((rest : List Item) → length (Told rs rest) ≤ length rs) → length (told_by rs h) ≤ suc (length rs)
@@ -36,7 +36,7 @@ no_more (r ∷ rs) answers = omega (arith, ap length (Told-told_by r rs answers)
 -- how many answers there are
 pub answered_length : (s : State) → IsWorld s → length (arrived_of s.seg_size s.from_b) ≤ length (Answers s.own_b [] (map Whole (taken_of s)))
 answered_length s h =
-    let all = ap length (sym (messages_in-append s.from_b.handed s.from_b.waiting) ∙ h.answered) in
+    let all = ap length (sym (in_append s.from_b.handed s.from_b.waiting) ∙ h.answered) in
     omega (arith, came-handed s.seg_size s.from_b, length-append (sent_by s.from_b) (messages_in s.from_b.waiting), all)
 
 -- with an answer left, some request has no report

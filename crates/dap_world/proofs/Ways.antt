@@ -6,9 +6,14 @@ use Rattle.dap_msg.specs.Blocked.{NspMessage}
 use Rattle.nsp_link.specs.Limits.{most_segments}
 use Rattle.nsp_link.specs.Cutting.{cut}
 use Rattle.nsp_link.specs.Link.{LinkValue, Sends, Stands, Writes, IsWritten, Delivered}
-use Rattle.dap_world.specs.Inner.Sides.{SideValue, WiredValue, wrote_side}
-use Rattle.dap_world.specs.Inner.Ways.{IsWay, AreShort}
+use Rattle.dap_world.specs.declared.side.Wired.{Wired}
+use Rattle.dap_world.specs.Inner.Sides.{SideValue, AreShort}
+use Rattle.dap_world.specs.Inner.Ways.{IsWay}
 use Rattle.dap_world.specs.Inner.Parts.{IsTold}
+
+-- the end counts this many segments as sent, and wrote one packet more
+abbrev pub wrote_side : SideValue → ℕ → Wired → SideValue
+wrote_side s sent w = record s { link = record s.link { sent = sent }; wire = s.wire ++ w ∷ [] }
 
 -- the taking link took a packet in
 pub takes : (from : SideValue) (v v' : LinkValue) (messages given : List (List ℕ)) (k : Option ℕ) (a : ℕ)
@@ -28,12 +33,12 @@ takes from v v' messages given k a way d stands =
     }
 
 pub same_writes : (v v' : LinkValue) (messages : List (List ℕ)) → v'.local ≡ v.local → v'.remote ≡ v.remote → v'.seg_size ≡ v.seg_size
-    → (wire : List WiredValue) → AllByRecursion (λ w. Writes v messages w.segment w.acks w.packet) wire → AllByRecursion (λ w. Writes v' messages w.segment w.acks w.packet) wire
+    → (wire : List Wired) → AllByRecursion (λ w. Writes v messages w.segment w.acks w.packet.items) wire → AllByRecursion (λ w. Writes v' messages w.segment w.acks w.packet.items) wire
 same_writes v v' messages l r s [] h = tt
 same_writes v v' messages l r s (w ∷ wire) h = (
-  subst (λ (x : ℕ). IsWritten x v'.remote (cut v'.seg_size messages) w.segment w.acks w.packet) (sym l)
-      (subst (λ (x : ℕ). IsWritten v.local x (cut v'.seg_size messages) w.segment w.acks w.packet) (sym r)
-      (subst (λ (x : ℕ). IsWritten v.local v.remote (cut x messages) w.segment w.acks w.packet) (sym s) h.0)),
+  subst (λ (x : ℕ). IsWritten x v'.remote (cut v'.seg_size messages) w.segment w.acks w.packet.items) (sym l)
+      (subst (λ (x : ℕ). IsWritten v.local x (cut v'.seg_size messages) w.segment w.acks w.packet.items) (sym r)
+      (subst (λ (x : ℕ). IsWritten v.local v.remote (cut x messages) w.segment w.acks w.packet.items) (sym s) h.0)),
   same_writes v v' messages l r s wire h.1,
 )
 
@@ -59,8 +64,8 @@ all_push P [] x h p = (p, tt)
 all_push P (y ∷ xs) x h p = (h.0, all_push P xs x h.1 p)
 
 -- the sending link wrote a packet
-writes_more : (from : SideValue) (to : LinkValue) (messages given : List (List ℕ)) (sent : ℕ) (w : WiredValue)
-    → IsWay from to messages given → Writes from.link messages w.segment w.acks w.packet → IsWay (wrote_side from sent w) to messages given
+writes_more : (from : SideValue) (to : LinkValue) (messages given : List (List ℕ)) (sent : ℕ) (w : Wired)
+    → IsWay from to messages given → Writes from.link messages w.segment w.acks w.packet.items → IsWay (wrote_side from sent w) to messages given
 writes_more from to messages given sent w way written =
     record {
       size = way.size;
@@ -102,7 +107,7 @@ still_way from v w messages given same way =
 -- ---- What is told of a direction.
 
 module _ (packets : List NspMessage) (count : ℕ) (from to : SideValue) (h : IsTold from to packets count) where
-  pub told_writes : (sent : ℕ) (w : WiredValue) → Writes from.link h.handed w.segment w.acks w.packet → IsTold (wrote_side from sent w) to packets count
+  pub told_writes : (sent : ℕ) (w : Wired) → Writes from.link h.handed w.segment w.acks w.packet.items → IsTold (wrote_side from sent w) to packets count
   told_writes sent w written =
       record {
         handed = h.handed;
@@ -115,7 +120,7 @@ module _ (packets : List NspMessage) (count : ℕ) (from to : SideValue) (h : Is
         short = h.short;
       }
 
-  pub told_sent : (sent : ℕ) (w : WiredValue) → IsTold from (wrote_side to sent w) packets count
+  pub told_sent : (sent : ℕ) (w : Wired) → IsTold from (wrote_side to sent w) packets count
   told_sent sent w =
       record {
         handed = h.handed;

@@ -9,10 +9,7 @@ use Rattle.dap_world.specs.declared.event.End.TheVariants.{A, B}
 use Rattle.dap_world.specs.declared.side.Wired.{Wired}
 use Rattle.dap_world.specs.Machine.{State, sends, other}
 use Rattle.dap_world.specs.Runs.{IsLinkOf}
-use Rattle.dap_world.specs.Wires as wires
-use Rattle.dap_world.specs.Wires.{address_of, IsOnWire, AreWired}
-use Rattle.dap_world.specs.Inner.Sides.{WiredValue, sending_of}
-use Rattle.dap_world.specs.Inner.SideView.{wired_value}
+use Rattle.dap_world.specs.Wires.{address_of, sending_of, IsOnWire, AreWired}
 use Rattle.dap_world.specs.Inner.Parts.{Parts, AreParts, asks, answers, state_of, side}
 use Rattle.dap_world.proofs.Counting.{handed-bytes}
 
@@ -23,23 +20,19 @@ record IsSideOf (s : State) (end : End) (v : LinkValue) (messages : List (List �
   size : v.seg_size ≡ s.seg_size
   messages_are : messages ≡ all_joined (sends s end).handed
 
-packet_of : (s : State) (end : End) (v : LinkValue) (messages : List (List ℕ)) (w : WiredValue) → IsSideOf s end v messages
-    → Writes v messages w.segment w.acks w.packet → IsOnWire s end (sending_of w) w.packet
+packet_of : (s : State) (end : End) (v : LinkValue) (messages : List (List ℕ)) (w : Wired) → IsSideOf s end v messages
+    → Writes v messages w.segment w.acks w.packet.items → IsOnWire s end (sending_of w) w.packet.items
 unfolding IsOnWire
 packet_of s end v messages w is h =
-    subst (λ (l : List (List ℕ)). IsWritten (address_of end) (address_of (other end)) (cut s.seg_size l) w.segment w.acks w.packet) is.messages_are
-    (subst (λ (n : ℕ). IsWritten (address_of end) (address_of (other end)) (cut n messages) w.segment w.acks w.packet) is.size
-    (subst (λ (n : ℕ). IsWritten (address_of end) n (cut v.seg_size messages) w.segment w.acks w.packet) is.remote
-    (subst (λ (n : ℕ). IsWritten n v.remote (cut v.seg_size messages) w.segment w.acks w.packet) is.local h)))
+    subst (λ (l : List (List ℕ)). IsWritten (address_of end) (address_of (other end)) (cut s.seg_size l) w.segment w.acks w.packet.items) is.messages_are
+    (subst (λ (n : ℕ). IsWritten (address_of end) (address_of (other end)) (cut n messages) w.segment w.acks w.packet.items) is.size
+    (subst (λ (n : ℕ). IsWritten (address_of end) n (cut v.seg_size messages) w.segment w.acks w.packet.items) is.remote
+    (subst (λ (n : ℕ). IsWritten n v.remote (cut v.seg_size messages) w.segment w.acks w.packet.items) is.local h)))
 
 packets_of : (s : State) (end : End) (v : LinkValue) (messages : List (List ℕ)) (wire : List Wired) → IsSideOf s end v messages
-    → AllByRecursion (λ w. Writes v messages w.segment w.acks w.packet) (map wired_value wire) → AllByRecursion (λ w. IsOnWire s end (wires.sending_of w) w.packet.items) wire
+    → AllByRecursion (λ w. Writes v messages w.segment w.acks w.packet.items) wire → AllByRecursion (λ w. IsOnWire s end (sending_of w) w.packet.items) wire
 packets_of s end v messages [] is h = tt
-packets_of s end v messages (w ∷ wire) is h = (packet_of s end v messages (wired_value w) is h.0, packets_of s end v messages wire is h.1)
-
-sendings_are : (wire : List Wired) → map wires.sending_of wire ≡ map sending_of (map wired_value wire)
-sendings_are [] = refl
-sendings_are (w ∷ wire) = ap (λ l. wires.sending_of w ∷ l) (sendings_are wire)
+packets_of s end v messages (w ∷ wire) is h = (packet_of s end v messages w is h.0, packets_of s end v messages wire is h.1)
 
 is_side_a : (p : Parts) (h : AreParts p) → IsSideOf (state_of p) A p.a.link h.from_a.handed
 is_side_a p h =
@@ -54,18 +47,18 @@ is_side_b p h =
       messages_are = handed-bytes p.b.posted h.from_b.handed p.b.outbox (answers p) h.from_b.posted h.from_b.bytes;
     }
 
-pub wire_of : (p : Parts) (end : End) (wire : List Wired) → AreParts p → map wired_value wire ≡ (side p end).wire → AreWired (state_of p) end wire
+pub wire_of : (p : Parts) (end : End) (wire : List Wired) → AreParts p → wire ≡ (side p end).wire → AreWired (state_of p) end wire
 wire_of p A wire h is =
     record {
-      sendings = sendings_are wire ∙ ap (λ (l : List WiredValue). map sending_of l) is;
+      sendings = ap (map sending_of) is;
       packets = packets_of (state_of p) A p.a.link h.from_a.handed wire (is_side_a p h)
-          (subst (λ (l : List WiredValue). AllByRecursion (λ w. Writes p.a.link h.from_a.handed w.segment w.acks w.packet) l) (sym is) h.from_a.way.wire);
+          (subst (λ (l : List Wired). AllByRecursion (λ w. Writes p.a.link h.from_a.handed w.segment w.acks w.packet.items) l) (sym is) h.from_a.way.wire);
     }
 wire_of p B wire h is =
     record {
-      sendings = sendings_are wire ∙ ap (λ (l : List WiredValue). map sending_of l) is;
+      sendings = ap (map sending_of) is;
       packets = packets_of (state_of p) B p.b.link h.from_b.handed wire (is_side_b p h)
-          (subst (λ (l : List WiredValue). AllByRecursion (λ w. Writes p.b.link h.from_b.handed w.segment w.acks w.packet) l) (sym is) h.from_b.way.wire);
+          (subst (λ (l : List Wired). AllByRecursion (λ w. Writes p.b.link h.from_b.handed w.segment w.acks w.packet.items) l) (sym is) h.from_b.way.wire);
     }
 
 -- the link of an end is that of the machine

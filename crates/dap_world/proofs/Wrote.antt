@@ -1,6 +1,6 @@
--- A packet that a side writes is a step of the machine.
-use Rattle.std.proofs.Common.{◌≡◌, ℕ, ◌+◌, ◌-◌, ◌≤◌, ◌<◌, arith, refl, sym, ◌∙◌, subst, ap, List, [], ◌∷◌, length, false}
-use Rattle.std.specs.Prelude.{Option, Some, None, Result, Ok, Err, IfOk, IfErr}
+-- A packet that an end writes is a step of the machine.
+use Rattle.std.proofs.Common.{◌≡◌, ℕ, ◌+◌, ◌-◌, ◌≤◌, ◌<◌, arith, refl, sym, ◌∙◌, subst, ap, List, [], ◌∷◌, ◌++◌, length, map, false}
+use Rattle.std.specs.Prelude.{Option, Some, None, Result, Ok, Err, IfOk, IfErr, OnOk, OnErr}
 use Rattle.std.proofs.lemmas.List.{length-map, map-append}
 use Rattle.nsp_link.specs.Link as link
 use Rattle.nsp_link.specs.Link.{Sends, Writes}
@@ -15,35 +15,46 @@ use Rattle.dap_world.specs.declared.event.WorldFault.{WorldFault}
 use Rattle.dap_world.specs.declared.event.WorldFault.TheVariants as fault
 use Rattle.dap_world.specs.Machine.{reported, State, Sending, sends, with_sends, wrote, MayEmit, segments_of, Steps, Refuses}
 use Rattle.dap_world.specs.Runs.{Went}
-use Rattle.dap_world.specs.Inner.Answers.{packet_of}
 use Rattle.dap_world.specs.Inner.Worlds.{IsWorld}
-use Rattle.dap_world.specs.Inner.Sides.{SideValue, WiredValue, sending_of, wrote_side, WroteOne, EmitFault, ResendFault}
-use Rattle.dap_world.specs.Inner.Parts.{Parts, AreParts, asks, answers, state_of, side, with_side}
+use Rattle.dap_accessed.specs.Present as accessed
+use Rattle.dap_accessing.specs.Present as accessing
+use Rattle.dap_end.specs.Ports.{PortValue}
+use Rattle.dap_end.specs.Writing.{sent_more}
+use Rattle.dap_end.specs.Asking.{AskingValue, HasStill}
+use Rattle.dap_end.specs.Serving.{ServingValue, IsStill}
+use Rattle.dap_world.specs.declared.side.Wired.{Wired}
+use Rattle.dap_world.specs.Wires.{sending_of}
+use Rattle.dap_world.specs.Inner.Sides.{SideValue, port_of, side_of, WroteOne, EmitFault, ResendFault}
+use Rattle.dap_world.specs.Inner.Parts.{Parts, AreParts, asks, answers, asking_end, serving_end, state_of, side, with_side}
 use Rattle.dap_world.proofs.Counting.{segments-handed, queued}
 use Rattle.dap_world.proofs.Kept.{kept-step}
-use Rattle.dap_world.proofs.Ways.{told_writes, told_sent}
+use Rattle.dap_world.proofs.Ways.{told_writes, told_sent, wrote_side}
 
--- the packet of this side that carries these
-abbrev wired : SideValue → List ℕ → Option ℕ → WiredValue
-wired s packet k = record { packet = packet; segment = k; acks = s.link.received }
+-- whatever the end was after, it is after that still
+abbrev pub StaysAt : Parts → End → SideValue → Type 0
+StaysAt p A s = HasStill (asking_end p) (record { port = port_of s; accessing = p.accessing })
+StaysAt p B s = IsStill (serving_end p) (record { port = port_of s; accessed = p.accessed })
 
--- the machine wrote what the side wrote
-wrote_is : (p : Parts) (end : End) (sent : ℕ) (packet : List ℕ) (k : Option ℕ)
-    → wrote (state_of p) end sent k ≡ state_of (with_side p end (wrote_side (side p end) sent (wired (side p end) packet k)))
-wrote_is p A sent packet k =
-    ap (λ (l : List Sending). with_sends (state_of p) A (record (state_of p).from_a { sent = sent; wire = l })) (sym (map-append sending_of p.a.wire (wired p.a packet k ∷ [])))
-wrote_is p B sent packet k =
-    ap (λ (l : List Sending). with_sends (state_of p) B (record (state_of p).from_b { sent = sent; wire = l })) (sym (map-append sending_of p.b.wire (wired p.b packet k ∷ [])))
+-- the machine wrote what the end wrote
+wrote_is : (p : Parts) (end : End) (sent : ℕ) (w : Wired) → w.acks ≡ (side p end).link.received
+    → wrote (state_of p) end sent w.segment ≡ state_of (with_side p end (wrote_side (side p end) sent w))
+wrote_is p A sent w acks =
+    ap (λ (n : ℕ). with_sends (state_of p) A (record (state_of p).from_a { sent = sent; wire = map sending_of p.a.wire ++ record { segment = w.segment; acks = n } ∷ [] })) (sym acks)
+    ∙ ap (λ (l : List Sending). with_sends (state_of p) A (record (state_of p).from_a { sent = sent; wire = l })) (sym (map-append sending_of p.a.wire (w ∷ [])))
+wrote_is p B sent w acks =
+    ap (λ (n : ℕ). with_sends (state_of p) B (record (state_of p).from_b { sent = sent; wire = map sending_of p.b.wire ++ record { segment = w.segment; acks = n } ∷ [] })) (sym acks)
+    ∙ ap (λ (l : List Sending). with_sends (state_of p) B (record (state_of p).from_b { sent = sent; wire = l })) (sym (map-append sending_of p.b.wire (w ∷ [])))
 
 place_is : (p : Parts) (end : End) → length (sends (state_of p) end).wire ≡ length (side p end).wire
 place_is p A = length-map p.a.wire sending_of
 place_is p B = length-map p.b.wire sending_of
 
 -- the parts stay parts
-parts_wrote : (p : Parts) (end : End) (sent : ℕ) (w : WiredValue) → AreParts p → ((messages : List (List ℕ)) → Sends (side p end).link messages → Writes (side p end).link messages w.segment w.acks w.packet)
+parts_wrote : (p : Parts) (end : End) (sent : ℕ) (w : Wired) → AreParts p → ((messages : List (List ℕ)) → Sends (side p end).link messages → Writes (side p end).link messages w.segment w.acks w.packet.items)
+    → StaysAt p end (wrote_side (side p end) sent w)
     → IsWorld (state_of (with_side p end (wrote_side (side p end) sent w))) → AreParts (with_side p end (wrote_side (side p end) sent w))
 unfolding reported
-parts_wrote p A sent w h carries world =
+parts_wrote p A sent w h carries still world =
     record {
       world = world;
       alike = record { here = h.alike.here; there = h.alike.there; size = h.alike.size; window = h.alike.window; limit = h.alike.limit };
@@ -54,10 +65,10 @@ parts_wrote p A sent w h carries world =
       from_b = told_sent (answers p) p.read p.b p.a h.from_b sent w;
       sent_is = h.sent_is;
       reports_is = h.reports_is;
-      asking = h.asking;
+      asking = (h.asking.0, still _ h.asking.1);
       serving = h.serving;
     }
-parts_wrote p B sent w h carries world =
+parts_wrote p B sent w h carries still world =
     record {
       world = world;
       alike = record { here = h.alike.here; there = h.alike.there; size = h.alike.size; window = h.alike.window; limit = h.alike.limit };
@@ -69,12 +80,38 @@ parts_wrote p B sent w h carries world =
       sent_is = h.sent_is;
       reports_is = h.reports_is;
       asking = h.asking;
-      serving = h.serving;
+      serving = (h.serving.0, still _ h.serving.1);
     }
 
 -- what an event makes of parts whose one side moved
 abbrev pub AreAfter : Parts → End → Event → SideValue → Result Step WorldFault → Type 0
 AreAfter p end e s answer = AreParts (with_side p end s) × Went (state_of p) e answer (state_of (with_side p end s))
+
+-- an end is this now, and sent this
+abbrev pub asking_parts : Parts → AskingValue → (posted : ℕ) → List Wired → Parts
+asking_parts p v posted wire = record p { a = side_of v.port posted wire; accessing = v.accessing }
+
+abbrev pub serving_parts : Parts → ServingValue → (posted : ℕ) → List Wired → Parts
+serving_parts p v posted wire = record p { b = side_of v.port posted wire; accessed = v.accessed }
+
+-- what an event makes of parts
+abbrev pub AreThen : Parts → Event → Parts → Result Step WorldFault → Type 0
+AreThen p e q answer = AreParts q × Went (state_of p) e answer (state_of q)
+
+-- only the port of an end moved, and its wire
+pub at_a : (p : Parts) (e : Event) (v : AskingValue) (wire : List Wired) (r : Result Step WorldFault) → v ≡ record (asking_end p) { port = v.port } → HasStill (asking_end p) v
+    → (StaysAt p A (side_of v.port p.a.posted wire) → AreAfter p A e (side_of v.port p.a.posted wire) r) → AreThen p e (asking_parts p v p.a.posted wire) r
+unfolding Steps Refuses
+at_a p e v wire r rest still after =
+    subst (λ (x : accessing.Present). AreThen p e (record p { a = side_of v.port p.a.posted wire; accessing = x }) r) (sym (ap (λ (x : AskingValue). x.accessing) rest))
+    (after (subst (λ (x : AskingValue). HasStill (asking_end p) x) rest still))
+
+pub at_b : (p : Parts) (e : Event) (v : ServingValue) (wire : List Wired) (r : Result Step WorldFault) → v ≡ record (serving_end p) { port = v.port } → IsStill (serving_end p) v
+    → (StaysAt p B (side_of v.port p.b.posted wire) → AreAfter p B e (side_of v.port p.b.posted wire) r) → AreThen p e (serving_parts p v p.b.posted wire) r
+unfolding Steps Refuses
+at_b p e v wire r rest still after =
+    subst (λ (x : accessed.Present). AreThen p e (record p { b = side_of v.port p.b.posted wire; accessed = x }) r) (sym (ap (λ (x : ServingValue). x.accessed) rest))
+    (after (subst (λ (x : ServingValue). IsStill (serving_end p) x) rest still))
 
 same_side : (p : Parts) (end : End) → with_side p end (side p end) ≡ p
 same_side p A = refl
@@ -87,17 +124,32 @@ none_more p end e s f h same went =
     subst (λ (x : SideValue). AreAfter p end e x (Err f)) (sym same)
     (subst (λ (q : Parts). AreParts q × Went (state_of p) e (Err f) (state_of q)) (sym (same_side p end)) (h, went))
 
--- the side wrote a packet where the machine does
-one_more : (p : Parts) (end : End) (e : Event) (sent : ℕ) (k : Option ℕ) (s : SideValue) (j : ℕ) → AreParts p → WroteOne (side p end) s sent k j
-    → Steps (state_of p) e (step.Packet (length (sends (state_of p) end).wire)) (wrote (state_of p) end sent k) → AreAfter p end e s (Ok (step.Packet j))
+-- the end wrote a packet where the machine does
+one_more : (p : Parts) (end : End) (e : Event) (sent : ℕ) (k : Option ℕ) (s : SideValue) (answer : Step) → AreParts p
+    → s ≡ record (side p end) { link = record (side p end).link { sent = sent }; wire = s.wire } → WroteOne (side p end).link (side p end).wire s.wire k answer → StaysAt p end s
+    → Steps (state_of p) e (step.Packet (length (sends (state_of p) end).wire)) (wrote (state_of p) end sent k) → AreAfter p end e s (Ok answer)
 unfolding Steps Refuses
-one_more p end e sent k s j h w steps =
-    let new = wrote_side (side p end) sent (wired (side p end) w.packet k) in
-    let went : Steps (state_of p) e (step.Packet j) (state_of (with_side p end new)) =
-    subst (λ (x : State). Steps (state_of p) e (step.Packet j) x) (wrote_is p end sent w.packet k)
-    (subst (λ (n : ℕ). Steps (state_of p) e (step.Packet n) (wrote (state_of p) end sent k)) (place_is p end ∙ sym w.place) steps) in
-    subst (λ (x : SideValue). AreAfter p end e x (Ok (step.Packet j))) (sym w.wrote)
-    (parts_wrote p end sent (wired (side p end) w.packet k) h w.writes (kept-step (state_of p) (state_of (with_side p end new)) e (step.Packet j) went h.world), went)
+one_more p end e sent k s answer h is w still steps =
+    let new = wrote_side (side p end) sent w.wired in
+    let same : s ≡ new = is ∙ ap (λ (l : List Wired). record (side p end) { link = record (side p end).link { sent = sent }; wire = l }) w.wire in
+    let wrote_so : wrote (state_of p) end sent k ≡ state_of (with_side p end new) =
+    ap (λ (k : Option ℕ). wrote (state_of p) end sent k) (sym w.segment) ∙ wrote_is p end sent w.wired w.acks in
+    let went : Steps (state_of p) e answer (state_of (with_side p end new)) =
+    subst (λ (x : State). Steps (state_of p) e answer x) wrote_so
+    (subst (λ (x : Step). Steps (state_of p) e x (wrote (state_of p) end sent k)) (ap (λ (n : ℕ). step.Packet n) (place_is p end) ∙ sym w.place) steps) in
+    let carries : (messages : List (List ℕ)) → Sends (side p end).link messages → Writes (side p end).link messages w.wired.segment w.wired.acks w.wired.packet.items =
+    λ messages sends. subst (λ (k : Option ℕ). Writes (side p end).link messages k w.wired.acks w.wired.packet.items) (sym w.segment)
+    (subst (λ (n : ℕ). Writes (side p end).link messages k n w.wired.packet.items) (sym w.acks) (w.writes messages sends)) in
+    subst (λ (x : SideValue). AreAfter p end e x (Ok answer)) (sym same)
+    (parts_wrote p end sent w.wired h carries (subst (λ (x : SideValue). StaysAt p end x) same still) (kept-step (state_of p) (state_of (with_side p end new)) e answer went h.world), went)
+
+-- the wire alone moved
+still_there : (p : Parts) (end : End) (wire : List Wired) → StaysAt p end (record (side p end) { wire = wire })
+still_there p A wire = λ past has. has
+still_there p B wire = λ past is. is
+
+same_wire : (p : Parts) (end : End) (wire : List Wired) → wire ≡ (side p end).wire → record (side p end) { wire = wire } ≡ side p end
+same_wire p end wire same = ap (λ (l : List Wired). record (side p end) { wire = l }) same
 
 -- ---- Emit.
 
@@ -135,18 +187,43 @@ unfolding Steps
 emits p A m = (m, refl, refl)
 emits p B m = (m, refl, refl)
 
-pub emitted : (p : Parts) (end : End) (s : SideValue) (r : Result ℕ WorldFault) → AreParts p
-    → IfOk r (λ j. link.MaySend (side p end).link × WroteOne (side p end) s ((side p end).link.sent + 1) (Some ((side p end).link.sent + 1)) j)
-    → IfErr r (λ f. (s ≡ side p end) × EmitFault (side p end).link f) → AreAfter p end (event.Emit end) s (packet_of r)
+emitted : (p : Parts) (end : End) (s : SideValue) (r : Result Step WorldFault) → AreParts p
+    → OnOk r (s ≡ record (side p end) { link = record (side p end).link { sent = (side p end).link.sent + 1 }; wire = s.wire })
+    → IfOk r (λ answer. link.MaySend (side p end).link × WroteOne (side p end).link (side p end).wire s.wire (Some ((side p end).link.sent + 1)) answer)
+    → IfErr r (λ f. (s ≡ side p end) × EmitFault (side p end).link f) → StaysAt p end s → AreAfter p end (event.Emit end) s r
 unfolding Steps Refuses
-emitted p end s (Ok j) h ok err = one_more p end (event.Emit end) _ _ s j h ok.1 (emits p end (can p end h ok.0))
-emitted p end s (Err fault.NothingToDo) h ok err = none_more p end (event.Emit end) s fault.NothingToDo h err.0 (cannot p end h err.1, refl)
-emitted p end s (Err fault.NoMemory) h ok err = none_more p end (event.Emit end) s fault.NoMemory h err.0 (((_, _, emits p end (can p end h err.1)), λ t. t), refl)
-emitted p end s (Err fault.NoSuchPacket) h ok err = absurd err.1
-emitted p end s (Err fault.Stale) h ok err = absurd err.1
-emitted p end s (Err (fault.Ask f)) h ok err = absurd err.1
-emitted p end s (Err fault.Exhausted) h ok err = absurd err.1
-emitted p end s (Err fault.BadSetup) h ok err = absurd err.1
+emitted p end s (Ok answer) h is ok err still = one_more p end (event.Emit end) _ _ s answer h is ok.1 still (emits p end (can p end h ok.0))
+emitted p end s (Err fault.NothingToDo) h is ok err still = none_more p end (event.Emit end) s fault.NothingToDo h err.0 (cannot p end h err.1, refl)
+emitted p end s (Err fault.NoMemory) h is ok err still = none_more p end (event.Emit end) s fault.NoMemory h err.0 (((_, _, emits p end (can p end h err.1)), λ t. t), refl)
+emitted p end s (Err fault.NoSuchPacket) h is ok err still = absurd err.1
+emitted p end s (Err fault.Stale) h is ok err still = absurd err.1
+emitted p end s (Err (fault.Ask f)) h is ok err still = absurd err.1
+emitted p end s (Err fault.Exhausted) h is ok err still = absurd err.1
+emitted p end s (Err fault.BadSetup) h is ok err still = absurd err.1
+
+-- the side, by its port and its wire
+sent_side : (s : SideValue) (port : PortValue) (wire : List Wired) (r : Result Step WorldFault) → OnOk r (port ≡ sent_more (port_of s) 1)
+    → OnOk r (side_of port s.posted wire ≡ record s { link = record s.link { sent = s.link.sent + 1 }; wire = wire })
+sent_side s port wire (Ok answer) is = ap (λ (x : PortValue). side_of x s.posted wire) is
+sent_side s port wire (Err f) is = tt
+
+unsent_side : (s : SideValue) (port : PortValue) (wire : List Wired) (r : Result Step WorldFault) → IfErr r (λ f. (port ≡ port_of s) × (wire ≡ s.wire) × EmitFault s.link f)
+    → IfErr r (λ f. (side_of port s.posted wire ≡ s) × EmitFault s.link f)
+unsent_side s port wire (Ok answer) err = tt
+unsent_side s port wire (Err f) err =
+    (ap (λ (x : PortValue). side_of x s.posted wire) err.0 ∙ ap (λ (l : List Wired). record s { wire = l }) err.1, err.2)
+
+pub emitted_a : (p : Parts) (v : AskingValue) (wire : List Wired) (r : Result Step WorldFault) → AreParts p → v ≡ record (asking_end p) { port = v.port }
+    → IfOk r (λ answer. link.MaySend p.a.link × WroteOne p.a.link p.a.wire wire (Some (p.a.link.sent + 1)) answer) → OnOk r (v.port ≡ sent_more (port_of p.a) 1)
+    → IfErr r (λ f. (v.port ≡ port_of p.a) × (wire ≡ p.a.wire) × EmitFault p.a.link f) → HasStill (asking_end p) v → AreThen p (event.Emit A) (asking_parts p v p.a.posted wire) r
+emitted_a p v wire r h rest ok sent err still =
+    at_a p (event.Emit A) v wire r rest still (emitted p A (side_of v.port p.a.posted wire) r h (sent_side p.a v.port wire r sent) ok (unsent_side p.a v.port wire r err))
+
+pub emitted_b : (p : Parts) (v : ServingValue) (wire : List Wired) (r : Result Step WorldFault) → AreParts p → v ≡ record (serving_end p) { port = v.port }
+    → IfOk r (λ answer. link.MaySend p.b.link × WroteOne p.b.link p.b.wire wire (Some (p.b.link.sent + 1)) answer) → OnOk r (v.port ≡ sent_more (port_of p.b) 1)
+    → IfErr r (λ f. (v.port ≡ port_of p.b) × (wire ≡ p.b.wire) × EmitFault p.b.link f) → IsStill (serving_end p) v → AreThen p (event.Emit B) (serving_parts p v p.b.posted wire) r
+emitted_b p v wire r h rest ok sent err still =
+    at_b p (event.Emit B) v wire r rest still (emitted p B (side_of v.port p.b.posted wire) r h (sent_side p.b v.port wire r sent) ok (unsent_side p.b v.port wire r err))
 
 -- ---- Resend.
 
@@ -161,18 +238,18 @@ unfolding Refuses
 resends_not p A i le = le
 resends_not p B i le = le
 
-pub resent : (p : Parts) (end : End) (i : ℕ) (s : SideValue) (r : Result ℕ WorldFault) → AreParts p
-    → IfOk r (λ j. (i < (side p end).link.sent - (side p end).link.acked) × WroteOne (side p end) s (side p end).link.sent (Some ((side p end).link.acked + 1 + i)) j)
-    → IfErr r (λ f. (s ≡ side p end) × ResendFault (side p end).link i f) → AreAfter p end (event.Resend end i) s (packet_of r)
+pub resent : (p : Parts) (end : End) (i : ℕ) (wire : List Wired) (r : Result Step WorldFault) → AreParts p
+    → IfOk r (λ answer. (i < (side p end).link.sent - (side p end).link.acked) × WroteOne (side p end).link (side p end).wire wire (Some ((side p end).link.acked + 1 + i)) answer)
+    → IfErr r (λ f. (wire ≡ (side p end).wire) × ResendFault (side p end).link i f) → AreAfter p end (event.Resend end i) (record (side p end) { wire = wire }) r
 unfolding Steps Refuses
-resent p end i s (Ok j) h ok err = one_more p end (event.Resend end i) _ _ s j h ok.1 (resends p end i ok.0)
-resent p end i s (Err fault.NothingToDo) h ok err = none_more p end (event.Resend end i) s fault.NothingToDo h err.0 (resends_not p end i err.1, refl)
-resent p end i s (Err fault.NoMemory) h ok err = none_more p end (event.Resend end i) s fault.NoMemory h err.0 (((_, _, resends p end i err.1), λ t. t), refl)
-resent p end i s (Err fault.NoSuchPacket) h ok err = absurd err.1
-resent p end i s (Err fault.Stale) h ok err = absurd err.1
-resent p end i s (Err (fault.Ask f)) h ok err = absurd err.1
-resent p end i s (Err fault.Exhausted) h ok err = absurd err.1
-resent p end i s (Err fault.BadSetup) h ok err = absurd err.1
+resent p end i wire (Ok answer) h ok err = one_more p end (event.Resend end i) (side p end).link.sent _ _ answer h refl ok.1 (still_there p end wire) (resends p end i ok.0)
+resent p end i wire (Err fault.NothingToDo) h ok err = none_more p end (event.Resend end i) _ fault.NothingToDo h (same_wire p end wire err.0) (resends_not p end i err.1, refl)
+resent p end i wire (Err fault.NoMemory) h ok err = none_more p end (event.Resend end i) _ fault.NoMemory h (same_wire p end wire err.0) (((_, _, resends p end i err.1), λ t. t), refl)
+resent p end i wire (Err fault.NoSuchPacket) h ok err = absurd err.1
+resent p end i wire (Err fault.Stale) h ok err = absurd err.1
+resent p end i wire (Err (fault.Ask f)) h ok err = absurd err.1
+resent p end i wire (Err fault.Exhausted) h ok err = absurd err.1
+resent p end i wire (Err fault.BadSetup) h ok err = absurd err.1
 
 -- ---- Ack.
 
@@ -181,13 +258,14 @@ unfolding Steps
 acks p A = (refl, refl)
 acks p B = (refl, refl)
 
-pub acked : (p : Parts) (end : End) (s : SideValue) (r : Result ℕ WorldFault) → AreParts p
-    → IfOk r (λ j. WroteOne (side p end) s (side p end).link.sent None j) → IfErr r (λ f. (s ≡ side p end) × (f ≡ fault.NoMemory)) → AreAfter p end (event.Ack end) s (packet_of r)
+pub acked : (p : Parts) (end : End) (wire : List Wired) (r : Result Step WorldFault) → AreParts p
+    → IfOk r (λ answer. WroteOne (side p end).link (side p end).wire wire None answer) → IfErr r (λ f. (wire ≡ (side p end).wire) × (f ≡ fault.NoMemory))
+    → AreAfter p end (event.Ack end) (record (side p end) { wire = wire }) r
 unfolding Steps Refuses
-acked p end s (Ok j) h ok err = one_more p end (event.Ack end) _ None s j h ok (acks p end)
-acked p end s (Err f) h ok err =
-    subst (λ (g : WorldFault). AreAfter p end (event.Ack end) s (Err g)) (sym err.1)
-    (none_more p end (event.Ack end) s fault.NoMemory h err.0 (((_, _, acks p end), λ t. t), refl))
+acked p end wire (Ok answer) h ok err = one_more p end (event.Ack end) (side p end).link.sent None _ answer h refl ok (still_there p end wire) (acks p end)
+acked p end wire (Err f) h ok err =
+    subst (λ (g : WorldFault). AreAfter p end (event.Ack end) (record (side p end) { wire = wire }) (Err g)) (sym err.1)
+    (none_more p end (event.Ack end) _ fault.NoMemory h (same_wire p end wire err.0) (((_, _, acks p end), λ t. t), refl))
 
 pub is_running : (p : Parts) (end : End) → AreParts p → (side p end).link.failed ≡ false
 is_running p A h = h.from_a.way.running

@@ -1,11 +1,7 @@
 -- What only the contracts of private functions cite, and proofs: nobody has to believe it.
-pub mod Answers
-pub mod Asking
-pub mod Handling
 pub mod Parts
 pub mod Settling
 pub mod Setups
-pub mod SideView
 pub mod Sides
 pub mod Splitting
 pub mod Ways

@@ -1,21 +1,29 @@
-//! What both ends of the file access do in a world.
+//! What an event is to the end that it is at: one call of it.
 
-ghost use Rattle.std.specs.Prelude.{◌≡◌, ◌⊎◌, ◌<◌, [], length, IfOk, IfErr, Some, slice_get, IfSome, ◌++◌, ◌^◌, is_some, option_to_list, vec_len, vec_capacity};
+ghost use Rattle.std.specs.Prelude.{◌≡◌, ◌<◌, ◌≤◌, ◌+◌, ◌++◌, ◌∷◌, [], length, IfOk, IfErr, Some, OnOk, OnErr, vec_len, vec_capacity, false};
 ghost use Rattle.dap_msg.specs.Blocked.{bodies};
-ghost use Rattle.dap_msg.specs.Items.{IsPlace};
-ghost use Rattle.dap_world.specs.Inner.Handling.{ServedOne, ServeFault, IsReady, Expects, ExpectsAt, ReadsOne, ReadOne, ReadFault};
-ghost use Rattle.dap_world.specs.Inner.Answers.{serve_of, read_of, ask_of};
+ghost use Rattle.nsp_link.specs.Limits.{most_segments};
+ghost use Rattle.nsp_link.specs.Link.{MaySend};
+ghost use Rattle.nsp_link.specs.Sending.{MayQueueAll};
 ghost use Rattle.dap_accessing.specs.Calls.{MayAsk};
-ghost use Rattle.dap_world.specs.Inner.Asking.{AskedOne, AskFaultOf};
+ghost use Rattle.dap_end.specs.Ports.{with_link};
+ghost use Rattle.dap_end.specs.Writing.{sent_more};
+ghost use Rattle.dap_end.specs.Serving as serving;
+ghost use Rattle.dap_end.specs.Serving.{IsStill};
+ghost use Rattle.dap_end.specs.Asking as asking;
+ghost use Rattle.dap_end.specs.Asking.{HasStill};
+ghost use Rattle.dap_world.specs.Inner.Sides.{AreShort, AskFaultOf, AskedSo, EmitFault, KeptSo, PostFault, PostedSo, WroteOne};
+ghost use Rattle.dap_world.specs.Inner.Splitting.{SentAll};
+ghost use Rattle.dap_world.specs.Inner.Ways.{Delivery, delivered_as};
 ghost use Rattle.dap_world.specs.declared.event.WorldFault.TheVariants.{NoMemory};
 
-use crate::copying::most_messages;
-use crate::event::{Event, Step, WorldFault};
-use crate::side::Side;
+use crate::event::{End, Event, Step, WorldFault};
+use crate::side::{Wired, acknowledge, again, due, may_post, next_number, put};
+use crate::splitting::split_all;
 use crate::world::World;
-use dap_accessed::Accessed;
-use dap_accessing::{Accessing, ReadStep, Report, Request};
-use dap_msg::item_at;
+use dap_accessing::{Report, Request};
+use dap_end::{AskingEnd, Heard, ServingEnd};
+use nsp_link::{Got, LinkFault};
 use std::alloc::Global;
 
 impl World {
@@ -25,178 +33,124 @@ impl World {
     pub(crate) fn ask(&mut self, request: &Request) -> Result<Step, WorldFault>
         ensures { Went self.old (Event.Ask request.now) result self.new }
     {
-        ask_step(ask_next(
-            self.alloc,
-            &mut self.a,
-            &mut self.accessing,
-            &mut self.requests,
-            request,
-        ))
+        ask_next(self.alloc, &mut self.asking, &mut self.requests, request)
     }
 
     // Serves the next message.
     pub(crate) fn serve(&mut self) -> Result<Step, WorldFault>
         ensures { Went self.old Event.Serve result self.new }
     {
-        serve_step(serve_next(&mut self.b, &mut self.accessed, &mut self.served))
+        match self.serving.serve() {
+            Ok(Some(count)) => {
+                self.served += 1;
+                Ok(Step::Served(count))
+            }
+            Ok(None) => Err(WorldFault::NothingToDo),
+            Err(_) => Err(WorldFault::NoMemory),
+        }
     }
 
     // Reads the next answer.
     pub(crate) fn read(&mut self) -> Result<Step, WorldFault>
         ensures { Went self.old Event.Read result self.new }
     {
-        read_step(read_next(
-            &mut self.a,
-            &mut self.accessing,
-            &mut self.reports,
-            &mut self.read,
-        ))
-    }
-}
-
-fn serve_step(served: Result<usize, WorldFault>) -> Result<Step, WorldFault>
-    ensures { result ≡ serve_of served }
-{
-    match served {
-        Ok(count) => Ok(Step::Served(count)),
-        Err(fault) => Err(fault),
-    }
-}
-
-// Serves the next DAP message of the oldest NSP message that came.
-fn serve_next(
-    side: &mut Side,
-    accessed: &mut Accessed,
-    count: &mut usize,
-) -> Result<usize, WorldFault>
-    requires ready { IsReady side.old }
-    requires few { count.old < 2 ^ 63 }
-    ensures ok { IfOk result
-        (λ n. ServedOne side.old side.new accessed.old accessed.new count.old count.new n) }
-    ensures err { IfErr result (λ f. (side.new ≡ side.old) × (accessed.new ≡ accessed.old)
-        × (count.new ≡ count.old) × ServeFault side.old f) }
-{
-    if !side.outbox.is_empty() {
-        return Err(WorldFault::NothingToDo);
-    }
-    let place = side.place;
-    let message = match side.link.peek_message() {
-        None => return Err(WorldFault::NothingToDo),
-        Some(message) => message,
-    };
-    let (item, next) = item_at(message, place);
-    let at_end = next == message.len();
-    let Ok(served) = accessed.serve_read(item, next) else {
-        return Err(WorldFault::NoMemory);
-    };
-    let answered = served.answers.len();
-    side.outbox = served.answers;
-    side.handle(at_end, next);
-    *count += 1;
-    Ok(answered)
-}
-
-fn read_step(read: Result<bool, WorldFault>) -> Result<Step, WorldFault>
-    ensures { result ≡ read_of read }
-{
-    match read {
-        Ok(true) => Ok(Step::Reported),
-        Ok(false) => Ok(Step::Nothing),
-        Err(fault) => Err(fault),
-    }
-}
-
-// Reads the next DAP message of the oldest NSP message that came; whether a report came of it.
-fn read_next(
-    side: &mut Side,
-    accessing: &mut Accessing,
-    reports: &mut Vec<Report>,
-    count: &mut u64,
-) -> Result<bool, WorldFault>
-    requires ready { IsReady side.old }
-    requires expected { Expects side.old accessing.old }
-    requires few { count.old < 2 ^ 63 }
-    ensures ok { IfOk result
-        (λ told. ReadOne side.old side.new accessing.old accessing.new reports.old.items
-        reports.new.items count.old count.new told) }
-    ensures err { IfErr result (λ f. (side.new ≡ side.old) × (accessing.new ≡ accessing.old)
-        × (reports.new.items ≡ reports.old.items) × (count.new ≡ count.old)
-        × ReadFault side.old f) }
-{
-    let place = side.place;
-    let message = match side.link.peek_message() {
-        None => return Err(WorldFault::NothingToDo),
-        Some(message) => message,
-    };
-    reports.reserve(1)?;
-    match read_expected(accessing, message, place) {
-        Ok(step) => {
-            let at_end = step.next == message.len();
-            side.handle(at_end, step.next);
-            *count += 1;
-            Ok(keep(reports, step.report))
+        if !self.asking.may_read() {
+            return Err(WorldFault::NothingToDo);
         }
-        Err(fault) => Err(fault),
+        match self.reports.reserve(1) {
+            Ok(()) => match self.asking.read() {
+                Ok(heard) => {
+                    self.read += 1;
+                    Ok(keep(&mut self.reports, heard))
+                }
+                Err(_) => Err(WorldFault::NoMemory),
+            },
+            Err(_) => Err(WorldFault::NoMemory),
+        }
     }
-}
 
-// Reads the answer that begins at the place, and is expected: it is refused for memory alone.
-fn read_expected(
-    accessing: &mut Accessing,
-    message: &[u8],
-    place: usize,
-) -> Result<ReadStep, WorldFault>
-    requires place { IsPlace place message.now }
-    requires expected { ExpectsAt message.now place accessing.old }
-    ensures ok { IfOk result (λ read. ReadsOne message.now place accessing.old accessing.new read) }
-    ensures err { IfErr result (λ f. (f ≡ NoMemory) × (accessing.new ≡ accessing.old)) }
-{
-    match accessing.read(message, place) {
-        Ok(step) => Ok(step),
-        Err(_fault) => Err(WorldFault::NoMemory),
+    // Hands over what waits.
+    pub(crate) fn post(&mut self, end: End) -> Result<Step, WorldFault>
+        ensures { Went self.old (Event.Post end) result self.new }
+    {
+        match end {
+            End::A => post_a(
+                self.alloc,
+                &mut self.asking,
+                &mut self.posted_a,
+                &mut self.sent,
+            ),
+            End::B => post_b(&mut self.serving, &mut self.posted_b),
+        }
     }
-}
 
-// Adds the report, for which there is room; whether there is one.
-fn keep(reports: &mut Vec<Report>, report: Option<Report>) -> bool
-    requires { vec_len reports.old < vec_capacity reports.old }
-    ensures told { result ≡ is_some report }
-    ensures kept { reports.new.items ≡ reports.old.items ++ option_to_list report }
-{
-    match report {
-        None => false,
-        Some(report) => {
-            reports.push_reserved(report);
-            true
+    // Writes the next segment.
+    pub(crate) fn emit(&mut self, end: End) -> Result<Step, WorldFault>
+        ensures { Went self.old (Event.Emit end) result self.new }
+    {
+        match end {
+            End::A => emit_a(&mut self.asking, &mut self.wire_a),
+            End::B => emit_b(&mut self.serving, &mut self.wire_b),
+        }
+    }
+
+    // Writes a segment again.
+    pub(crate) fn resend(&mut self, end: End, place: usize) -> Result<Step, WorldFault>
+        ensures { Went self.old (Event.Resend end place) result self.new }
+    {
+        match end {
+            End::A => {
+                let packet = self.asking.resend(place);
+                again(self.asking.link(), &mut self.wire_a, place, packet)
+            }
+            End::B => {
+                let packet = self.serving.resend(place);
+                again(self.serving.link(), &mut self.wire_b, place, packet)
+            }
+        }
+    }
+
+    // Writes an acknowledgement.
+    pub(crate) fn ack(&mut self, end: End) -> Result<Step, WorldFault>
+        ensures { Went self.old (Event.Ack end) result self.new }
+    {
+        match end {
+            End::A => {
+                let packet = self.asking.ack();
+                acknowledge(self.asking.link(), &mut self.wire_a, packet)
+            }
+            End::B => {
+                let packet = self.serving.ack();
+                acknowledge(self.serving.link(), &mut self.wire_b, packet)
+            }
+        }
+    }
+
+    // Gives an end a packet of the other.
+    pub(crate) fn deliver(&mut self, end: End, j: usize) -> Result<Step, WorldFault>
+        ensures { Went self.old (Event.Deliver end j) result self.new }
+    {
+        match end {
+            End::A => deliver_a(&mut self.asking, &self.wire_b, j),
+            End::B => deliver_b(&mut self.serving, &self.wire_a, j),
         }
     }
 }
 
-fn ask_step(asked: Result<usize, WorldFault>) -> Result<Step, WorldFault>
-    ensures { result ≡ ask_of asked }
-{
-    match asked {
-        Ok(count) => Ok(Step::Asked(count)),
-        Err(fault) => Err(fault),
-    }
-}
-
-// Asks a request: its messages wait.
+// Asks a request of A.
 fn ask_next(
     alloc: Global,
-    side: &mut Side,
-    accessing: &mut Accessing,
+    end: &mut AskingEnd,
     requests: &mut Vec<Request>,
     request: &Request,
-) -> Result<usize, WorldFault>
-    ensures ok { IfOk result
-        (λ n. AskedOne request.now side.old side.new accessing.old accessing.new requests.old.items
-        requests.new.items n) }
-    ensures err { IfErr result (λ f. (side.new ≡ side.old) × (accessing.new ≡ accessing.old)
-        × (requests.new.items ≡ requests.old.items) × AskFaultOf request.now accessing.old f) }
+) -> Result<Step, WorldFault>
+    ensures ok { IfOk result (λ answer. AskedSo request.now end.old end.new answer) }
+    ensures told { OnOk result (requests.new.items ≡ requests.old.items ++ request.now ∷ []) }
+    ensures err { IfErr result (λ f. (end.new ≡ end.old)
+        × (requests.new.items ≡ requests.old.items) × AskFaultOf request.now end.old.accessing f) }
 {
-    match accessing.check(request) {
-        Ok(()) => ask_checked(alloc, side, accessing, requests, request),
+    match end.check(request) {
+        Ok(()) => ask_checked(alloc, end, requests, request),
         Err(fault) => Err(WorldFault::Ask(fault)),
     }
 }
@@ -204,26 +158,199 @@ fn ask_next(
 // Asks a request that is refused for want of memory alone.
 fn ask_checked(
     alloc: Global,
-    side: &mut Side,
-    accessing: &mut Accessing,
+    end: &mut AskingEnd,
     requests: &mut Vec<Request>,
     request: &Request,
-) -> Result<usize, WorldFault>
-    requires { MayAsk accessing.old request.now }
-    ensures ok { IfOk result
-        (λ n. AskedOne request.now side.old side.new accessing.old accessing.new requests.old.items
-        requests.new.items n) }
-    ensures err { IfErr result (λ f. (side.new ≡ side.old) × (accessing.new ≡ accessing.old)
+) -> Result<Step, WorldFault>
+    requires { MayAsk end.old.accessing request.now }
+    ensures ok { IfOk result (λ answer. AskedSo request.now end.old end.new answer) }
+    ensures told { OnOk result (requests.new.items ≡ requests.old.items ++ request.now ∷ []) }
+    ensures err { IfErr result (λ f. (end.new ≡ end.old)
         × (requests.new.items ≡ requests.old.items) × (f ≡ NoMemory)) }
 {
     let copy = request.copy(alloc)?;
     requests.reserve(1)?;
-    side.outbox.reserve(most_messages(request))?;
-    let Ok(mut messages) = accessing.ask_checked(request) else {
-        return Err(WorldFault::NoMemory);
-    };
-    let count = messages.len();
-    side.outbox.append(&mut messages).unwrap();
-    requests.push_reserved(copy);
-    Ok(count)
+    match end.ask_checked(request) {
+        Ok(count) => {
+            requests.push_reserved(copy);
+            Ok(Step::Asked(count))
+        }
+        Err(_) => Err(WorldFault::NoMemory),
+    }
+}
+
+// Adds the report that was read, for which there is room.
+fn keep(reports: &mut Vec<Report>, heard: Heard) -> Step
+    requires { vec_len reports.old < vec_capacity reports.old }
+    ensures { KeptSo heard reports.old.items reports.new.items result }
+{
+    match heard {
+        Heard::Report(report) => {
+            reports.push_reserved(report);
+            Step::Reported
+        }
+        _ => Step::Nothing,
+    }
+}
+
+// A writes its next segment.
+fn emit_a(end: &mut AskingEnd, wire: &mut Vec<Wired>) -> Result<Step, WorldFault>
+    ensures rest { end.new ≡ record end.old { port = end.new.port } }
+    ensures ok { IfOk result (λ answer. MaySend end.old.port.link
+        × WroteOne end.old.port.link wire.old.items wire.new.items
+        (Some (end.old.port.link.sent + 1)) answer) }
+    ensures sent { OnOk result (end.new.port ≡ sent_more end.old.port 1) }
+    ensures err { IfErr result (λ f. (end.new.port ≡ end.old.port)
+        × (wire.new.items ≡ wire.old.items) × EmitFault end.old.port.link f) }
+    ensures still { HasStill end.old end.new }
+{
+    match next_number(end.link(), wire) {
+        Ok(number) => {
+            let acks = end.link().received_count();
+            match end.emit() {
+                Ok(Some(packet)) => Ok(put(wire, packet, Some(number), acks)),
+                Ok(None) => Err(WorldFault::NothingToDo),
+                Err(_) => Err(WorldFault::NoMemory),
+            }
+        }
+        Err(fault) => Err(fault),
+    }
+}
+
+// B writes its next segment.
+fn emit_b(end: &mut ServingEnd, wire: &mut Vec<Wired>) -> Result<Step, WorldFault>
+    ensures rest { end.new ≡ record end.old { port = end.new.port } }
+    ensures ok { IfOk result (λ answer. MaySend end.old.port.link
+        × WroteOne end.old.port.link wire.old.items wire.new.items
+        (Some (end.old.port.link.sent + 1)) answer) }
+    ensures sent { OnOk result (end.new.port ≡ sent_more end.old.port 1) }
+    ensures err { IfErr result (λ f. (end.new.port ≡ end.old.port)
+        × (wire.new.items ≡ wire.old.items) × EmitFault end.old.port.link f) }
+    ensures still { IsStill end.old end.new }
+{
+    match next_number(end.link(), wire) {
+        Ok(number) => {
+            let acks = end.link().received_count();
+            match end.emit() {
+                Ok(Some(packet)) => Ok(put(wire, packet, Some(number), acks)),
+                Ok(None) => Err(WorldFault::NothingToDo),
+                Err(_) => Err(WorldFault::NoMemory),
+            }
+        }
+        Err(fault) => Err(fault),
+    }
+}
+
+// A gets the j-th packet of the wire.
+fn deliver_a(end: &mut AskingEnd, wire: &[Wired], j: usize) -> Result<Step, WorldFault>
+    ensures rest { end.new ≡ record end.old { port = with_link end.old.port end.new.port.link } }
+    ensures comes { Delivery end.old.port.link end.new.port.link wire.now j result }
+    ensures still { HasStill end.old end.new }
+{
+    match due(end.link(), wire, j) {
+        Ok(wired) => delivered(end.receive(&wired.packet)),
+        Err(fault) => Err(fault),
+    }
+}
+
+// B gets the j-th packet of the wire.
+fn deliver_b(end: &mut ServingEnd, wire: &[Wired], j: usize) -> Result<Step, WorldFault>
+    ensures rest { end.new ≡ record end.old { port = with_link end.old.port end.new.port.link } }
+    ensures comes { Delivery end.old.port.link end.new.port.link wire.now j result }
+    ensures still { IsStill end.old end.new }
+{
+    match due(end.link(), wire, j) {
+        Ok(wired) => delivered(end.receive(&wired.packet)),
+        Err(fault) => Err(fault),
+    }
+}
+
+fn delivered(got: Result<Got, LinkFault>) -> Result<Step, WorldFault>
+    ensures { result ≡ delivered_as got }
+{
+    match got {
+        Ok(got) => Ok(Step::Delivered(got)),
+        Err(_) => Err(WorldFault::NoMemory),
+    }
+}
+
+// A hands over what waits; the DAP messages in it are sent.
+fn post_a(
+    alloc: Global,
+    end: &mut AskingEnd,
+    posted: &mut usize,
+    sent: &mut Vec<Vec<u8>>,
+) -> Result<Step, WorldFault>
+    requires running { end.old.port.link.failed ≡ false }
+    requires short { AreShort end.old.port.link.max_message end.old.port.outbox }
+    requires few { posted.old ≤ most_segments }
+    ensures ok { IfOk result (λ answer. PostedSo end.old.port.outbox posted.old posted.new answer) }
+    ensures handed { OnOk result (asking.HandedAll end.old end.new
+        (length end.old.port.outbox)) }
+    ensures sent { OnOk result (SentAll end.old.port.outbox (bodies sent.old.items)
+        (bodies sent.new.items)) }
+    ensures same { OnErr result ((end.new ≡ end.old) × (posted.new ≡ posted.old)
+        × (bodies sent.new.items ≡ bodies sent.old.items)) }
+    ensures err { IfErr result (PostFault end.old.port.link end.old.port.outbox) }
+{
+    match may_post(end.link(), end.waiting()) {
+        Ok(()) => hand_over(alloc, end, posted, sent),
+        Err(fault) => Err(fault),
+    }
+}
+
+fn hand_over(
+    alloc: Global,
+    end: &mut AskingEnd,
+    posted: &mut usize,
+    sent: &mut Vec<Vec<u8>>,
+) -> Result<Step, WorldFault>
+    requires some { 0 < length end.old.port.outbox }
+    requires few { posted.old ≤ most_segments }
+    ensures ok { IfOk result (λ answer. PostedSo end.old.port.outbox posted.old posted.new answer) }
+    ensures handed { OnOk result (asking.HandedAll end.old end.new
+        (length end.old.port.outbox)) }
+    ensures sent { OnOk result (SentAll end.old.port.outbox (bodies sent.old.items)
+        (bodies sent.new.items)) }
+    ensures same { OnErr result ((end.new ≡ end.old) × (posted.new ≡ posted.old)
+        × (bodies sent.new.items ≡ bodies sent.old.items)) }
+    ensures err { IfErr result (λ f. f ≡ NoMemory) }
+{
+    let mut more = split_all(alloc, end.waiting())?;
+    sent.reserve(more.len())?;
+    let count = end.waiting().len();
+    match end.post() {
+        Ok(_) => {
+            *posted += count;
+            sent.append(&mut more).unwrap();
+            Ok(Step::Posted(count))
+        }
+        Err(_) => Err(WorldFault::NoMemory),
+    }
+}
+
+// B hands over what waits.
+fn post_b(end: &mut ServingEnd, posted: &mut usize) -> Result<Step, WorldFault>
+    requires running { end.old.port.link.failed ≡ false }
+    requires short { AreShort end.old.port.link.max_message end.old.port.outbox }
+    requires few { posted.old ≤ most_segments }
+    ensures ok { IfOk result (λ answer. PostedSo end.old.port.outbox posted.old posted.new answer) }
+    ensures handed { OnOk result (serving.PostedAll end.old end.new
+        (length end.old.port.outbox)) }
+    ensures same { OnErr result ((end.new ≡ end.old) × (posted.new ≡ posted.old)) }
+    ensures err { IfErr result (PostFault end.old.port.link end.old.port.outbox) }
+{
+    match may_post(end.link(), end.waiting()) {
+        Ok(()) => {
+            let count = end.waiting().len();
+            match end.post() {
+                Ok(_) => {
+                    *posted += count;
+                    Ok(Step::Posted(count))
+                }
+                Err(_) => Err(WorldFault::NoMemory),
+            }
+        }
+        Err(fault) => Err(fault),
+    }
 }

@@ -2,7 +2,6 @@
 //! over their definitions (own; the exchange is that of DAP 5.6.0, message sequences).
 #![tactic(auto)]
 
-mod copying;
 mod event;
 mod exchange;
 mod finishing;

@@ -1,21 +1,20 @@
 //! A new world.
 
-ghost use Rattle.std.specs.Prelude.{◌≡◌, [], IfOk, IfErr, false, true};
-ghost use Rattle.nsp_link.specs.Link.{IsSetup};
+ghost use Rattle.std.specs.Prelude.{◌≡◌, IfOk, IfErr, false, true};
 ghost use Rattle.dap_world.specs.Setups.{IsWorldSetup, NewFault};
 ghost use Rattle.dap_world.specs.Wires.{address_of};
-ghost use Rattle.dap_world.specs.Inner.Setups.{link_of, new_side};
+ghost use Rattle.dap_world.specs.Inner.Setups.{link_of};
 ghost use Rattle.dap_world.specs.Machine.{fresh};
 ghost use Rattle.dap_world.specs.Headline.{HeadlineOf};
 ghost use Rattle.dap_world.specs.Settling.{IsFresh};
-ghost use Rattle.dap_world.specs.declared.event.WorldFault.TheVariants.{NoMemory};
+ghost use Rattle.nsp_link.specs.declared.fault.LinkFault.TheVariants as link_fault;
+ghost use Rattle.dap_world.specs.declared.event.WorldFault.TheVariants.{BadSetup, NoMemory};
 
 use crate::event::{End, WorldFault};
-use crate::side::Side;
 use crate::world::World;
-use dap_accessed::Accessed;
-use dap_accessing::Accessing;
-use nsp_link::{LinkEnd, LinkSetup};
+use dap_end::{AskingEnd, ServingEnd};
+use dap_msg::LEAST_BUFFER;
+use nsp_link::{LinkFault, LinkSetup};
 use std::alloc::Global;
 
 /// The numbers of a world (own).
@@ -29,40 +28,6 @@ pub struct WorldSetup {
     pub bufsiz_a: u16,
     /// The buffer of B in bytes, likewise.
     pub bufsiz_b: u16,
-}
-
-const LARGEST_SEGMENT: usize = 1400;
-
-const LARGEST_WINDOW: usize = 2047;
-
-const LEAST_BUFFER: u16 = 64;
-
-fn is_setup(setup: &WorldSetup) -> bool
-    ensures yes { result ≡ true → IsWorldSetup setup.now }
-    ensures no { result ≡ false → IsWorldSetup setup.now → ⊥ }
-{
-    (1..=LARGEST_SEGMENT).contains(&setup.seg_size)
-        && (1..=LARGEST_WINDOW).contains(&setup.window)
-        && setup.bufsiz_a >= LEAST_BUFFER
-        && setup.bufsiz_b >= LEAST_BUFFER
-}
-
-// An end that did nothing yet.
-fn new_end(alloc: Global, setup: LinkSetup) -> Result<Side, WorldFault>
-    requires { IsSetup setup }
-    ensures ok { IfOk result (λ s. s ≡ new_side setup) }
-    ensures err { IfErr result (λ f. f ≡ NoMemory) }
-{
-    match LinkEnd::new(alloc, setup) {
-        Ok(link) => Ok(Side {
-            link,
-            outbox: Vec::new(alloc),
-            posted: 0,
-            wire: Vec::new(alloc),
-            place: 0,
-        }),
-        Err(_fault) => Err(WorldFault::NoMemory),
-    }
 }
 
 // The address of an end.
@@ -87,6 +52,17 @@ fn link_setup(setup: &WorldSetup, end: End) -> LinkSetup
     }
 }
 
+// Why there is no end of these limits.
+fn no_end(fault: LinkFault) -> WorldFault
+    ensures memory { fault ≡ link_fault.NoMemory → result ≡ NoMemory }
+    ensures setup { (fault ≡ link_fault.NoMemory → ⊥) → result ≡ BadSetup }
+{
+    match fault {
+        LinkFault::NoMemory => WorldFault::NoMemory,
+        _ => WorldFault::BadSetup,
+    }
+}
+
 impl World {
     /// A world in which nothing happened (own). `BadSetup` where a number of the setup isn't in its range;
     /// else `NoMemory` alone.
@@ -95,17 +71,25 @@ impl World {
         ensures headline { IfOk result HeadlineOf }
         ensures err { IfErr result (NewFault setup) }
     {
-        if !is_setup(&setup) {
+        if setup.bufsiz_a < LEAST_BUFFER || setup.bufsiz_b < LEAST_BUFFER {
             return Err(WorldFault::BadSetup);
         }
-        let a = new_end(alloc, link_setup(&setup, End::A))?;
-        let b = new_end(alloc, link_setup(&setup, End::B))?;
+        let asking = match AskingEnd::new(alloc, setup.bufsiz_a, link_setup(&setup, End::A)) {
+            Ok(end) => end,
+            Err(fault) => return Err(no_end(fault)),
+        };
+        let serving = match ServingEnd::new(alloc, setup.bufsiz_b, link_setup(&setup, End::B)) {
+            Ok(end) => end,
+            Err(fault) => return Err(no_end(fault)),
+        };
         Ok(World {
             alloc,
-            a,
-            b,
-            accessing: Accessing::new(alloc, setup.bufsiz_a),
-            accessed: Accessed::new(alloc, setup.bufsiz_b),
+            asking,
+            serving,
+            wire_a: Vec::new(alloc),
+            wire_b: Vec::new(alloc),
+            posted_a: 0,
+            posted_b: 0,
             requests: Vec::new(alloc),
             sent: Vec::new(alloc),
             served: 0,
@@ -119,6 +103,6 @@ impl World {
         ensures yes { result ≡ true → IsFresh self.now }
         ensures no { result ≡ false → IsFresh self.now → ⊥ }
     {
-        self.requests.is_empty() && self.a.wire.is_empty() && self.b.wire.is_empty()
+        self.requests.is_empty() && self.wire_a.is_empty() && self.wire_b.is_empty()
     }
 }

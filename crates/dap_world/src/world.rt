@@ -1,13 +1,11 @@
 //! Both ends and the network. The line `let _ = &self.read` lets a proof see what is true of every world.
 
-ghost use Rattle.std.specs.Prelude.{◌≡◌, map};
-ghost use Rattle.dap_world.specs.Inner.Answers.{packet_of, delivery_of, post_of};
-
 use crate::event::{End, Event, Step, WorldFault};
-use crate::side::{Side, Wired, deliver, post, post_sent};
-use dap_accessed::{Accessed, FileTable};
-use dap_accessing::{Accessing, Report, Request};
-use nsp_link::{Got, LinkEnd};
+use crate::side::Wired;
+use dap_accessed::FileTable;
+use dap_accessing::{Report, Request};
+use dap_end::{AskingEnd, ServingEnd};
+use nsp_link::LinkEnd;
 use std::alloc::Global;
 use std::marker::Model;
 
@@ -15,10 +13,13 @@ use std::marker::Model;
 #[derive(Drop)]
 pub struct World {
     pub(crate) alloc: Global,
-    pub(crate) a: Side,
-    pub(crate) b: Side,
-    pub(crate) accessing: Accessing,
-    pub(crate) accessed: Accessed,
+    pub(crate) asking: AskingEnd,
+    pub(crate) serving: ServingEnd,
+    // The packets that each end wrote, and how many NSP messages it handed to its link.
+    pub(crate) wire_a: Vec<Wired>,
+    pub(crate) wire_b: Vec<Wired>,
+    pub(crate) posted_a: usize,
+    pub(crate) posted_b: usize,
     pub(crate) requests: Vec<Request>,
     // The DAP messages that A handed to its link, and how many of them B served.
     pub(crate) sent: Vec<Vec<u8>>,
@@ -48,56 +49,6 @@ impl World {
     ghost use Rattle.dap_world.specs.Inner.Worlds.{IsWorld};
     ghost use Rattle.dap_world.specs.Wires.{AreWired};
     ghost use Rattle.dap_world.specs.Headline.{HeadlineOf};
-
-    // Writes the next segment.
-    fn emit(&mut self, end: End) -> Result<Step, WorldFault>
-        ensures { Went self.old (Event.Emit end) result self.new }
-    {
-        match end {
-            End::A => packet_step(self.a.emit()),
-            End::B => packet_step(self.b.emit()),
-        }
-    }
-
-    // Writes a segment again.
-    fn resend(&mut self, end: End, place: usize) -> Result<Step, WorldFault>
-        ensures { Went self.old (Event.Resend end place) result self.new }
-    {
-        match end {
-            End::A => packet_step(self.a.resend(place)),
-            End::B => packet_step(self.b.resend(place)),
-        }
-    }
-
-    // Writes an acknowledgement.
-    fn ack(&mut self, end: End) -> Result<Step, WorldFault>
-        ensures { Went self.old (Event.Ack end) result self.new }
-    {
-        match end {
-            End::A => packet_step(self.a.ack()),
-            End::B => packet_step(self.b.ack()),
-        }
-    }
-
-    // Gives an end a packet of the other.
-    fn deliver(&mut self, end: End, j: usize) -> Result<Step, WorldFault>
-        ensures { Went self.old (Event.Deliver end j) result self.new }
-    {
-        match end {
-            End::A => delivery_step(deliver(&mut self.a, &self.b, j)),
-            End::B => delivery_step(deliver(&mut self.b, &self.a, j)),
-        }
-    }
-
-    // Hands over what waits.
-    fn post(&mut self, end: End) -> Result<Step, WorldFault>
-        ensures { Went self.old (Event.Post end) result self.new }
-    {
-        match end {
-            End::A => post_step(post_sent(self.alloc, &mut self.a, &mut self.sent)),
-            End::B => post_step(post(&mut self.b)),
-        }
-    }
 
     fn happen(&mut self, event: &Event) -> Result<Step, WorldFault>
         ensures { Went self.old event.now result self.new }
@@ -132,8 +83,8 @@ impl World {
         ensures no { result ≡ false → MayEmit self.now end → ⊥ }
     {
         match end {
-            End::A => self.a.may_send(),
-            End::B => self.b.may_send(),
+            End::A => self.asking.link().may_send(),
+            End::B => self.serving.link().may_send(),
         }
     }
 
@@ -220,7 +171,7 @@ impl World {
         ensures files { result.now ≡ files_of self.now }
         ensures headline { HeadlineOf self.now }
     {
-        self.accessed.files()
+        self.serving.files()
     }
 
     /// The packets that an end wrote (own). It takes no memory.
@@ -228,8 +179,8 @@ impl World {
         ensures { AreWired self.now end result.now }
     {
         match end {
-            End::A => self.a.wire(),
-            End::B => self.b.wire(),
+            End::A => &self.wire_a,
+            End::B => &self.wire_b,
         }
     }
 
@@ -238,35 +189,8 @@ impl World {
         ensures { IsLinkOf self.now end result.now }
     {
         match end {
-            End::A => self.a.link(),
-            End::B => self.b.link(),
+            End::A => self.asking.link(),
+            End::B => self.serving.link(),
         }
-    }
-}
-
-fn packet_step(written: Result<usize, WorldFault>) -> Result<Step, WorldFault>
-    ensures { result ≡ packet_of written }
-{
-    match written {
-        Ok(place) => Ok(Step::Packet(place)),
-        Err(fault) => Err(fault),
-    }
-}
-
-fn delivery_step(delivered: Result<Got, WorldFault>) -> Result<Step, WorldFault>
-    ensures { result ≡ delivery_of delivered }
-{
-    match delivered {
-        Ok(got) => Ok(Step::Delivered(got)),
-        Err(fault) => Err(fault),
-    }
-}
-
-fn post_step(posted: Result<usize, WorldFault>) -> Result<Step, WorldFault>
-    ensures { result ≡ post_of posted }
-{
-    match posted {
-        Ok(count) => Ok(Step::Posted(count)),
-        Err(fault) => Err(fault),
     }
 }

@@ -7,7 +7,6 @@ use Rattle.dap_msg.specs.Blocked.{NspMessage, joined, Blocked, all_joined, messa
 use Rattle.nsp_link.specs.Link.{LinkValue}
 use Rattle.nsp_link.specs.Holding.{numbers}
 use Rattle.nsp_link.specs.Limits.{largest_limit}
-use Rattle.dap_accessed.specs.Groups.{added, stands_after}
 use Rattle.dap_accessed.specs.Present as accessed
 use Rattle.dap_accessing.specs.Present as accessing
 use Rattle.dap_accessing.specs.declared.request.Request.{Request}
@@ -16,10 +15,12 @@ use Rattle.dap_accessing.specs.Asked.{Asked, messages_of}
 use Rattle.dap_world.specs.declared.event.End.{End}
 use Rattle.dap_world.specs.declared.event.End.TheVariants.{A, B}
 use Rattle.dap_world.specs.Machine.{State, Direction, sent_by, taken_of, answers_read, reported}
-use Rattle.dap_world.specs.Wires.{address_of}
 use Rattle.dap_world.specs.Inner.Worlds.{IsWorld}
-use Rattle.dap_world.specs.Inner.Sides.{SideValue, sending_of}
-use Rattle.dap_world.specs.Inner.Ways.{IsWay, AreShort}
+use Rattle.dap_end.specs.Asking.{AskingValue, AskingPast, HasAsked}
+use Rattle.dap_end.specs.Serving.{ServingValue, Past, IsAfter, answers_to}
+use Rattle.dap_world.specs.Wires.{address_of, sending_of}
+use Rattle.dap_world.specs.Inner.Sides.{SideValue, port_of, AreShort}
+use Rattle.dap_world.specs.Inner.Ways.{IsWay}
 
 pub record Parts : Type 0 where
   pub a : SideValue
@@ -41,9 +42,7 @@ asked_packets own_a own_b (request ∷ requests) = Blocked own_b (messages_of ow
 
 -- those of the answers to each item, served after those before it
 abbrev pub answer_packets : (own : ℕ) → (before items : List Item) → List NspMessage
-answer_packets own before [] = []
-answer_packets own before (item ∷ items) =
-    Blocked (stands_after own [] before).standing.limit (added own [] before item) ++ answer_packets own (before ++ item ∷ []) items
+answer_packets own before items = answers_to own [] before items
 
 -- the messages that B served, as its number tells
 abbrev pub served_items : Parts → List Item
@@ -92,6 +91,21 @@ abbrev pub with_side : Parts → End → SideValue → Parts
 with_side p A s = record p { a = s }
 with_side p B s = record p { b = s }
 
+-- ---- The ends.
+
+abbrev pub asking_end : Parts → AskingValue
+asking_end p = record { port = port_of p.a; accessing = p.accessing }
+
+abbrev pub serving_end : Parts → ServingValue
+serving_end p = record { port = port_of p.b; accessed = p.accessed }
+
+-- whatever else it did on its link, it was asked these and read these, or served these
+abbrev pub IsAskedAll : AskingValue → List Request → (answers : List Item) → Type 0
+IsAskedAll v requests answers = (past : AskingPast) × HasAsked (record past { requests = requests; answers = answers }) v
+
+abbrev pub IsServedAll : ServingValue → List Item → Type 0
+IsServedAll v items = (past : Past) × IsAfter (record past { first = []; items = items }) v
+
 -- ---- What is true of them.
 
 -- the links have one size, one window and one limit, and the second one is that of A
@@ -136,6 +150,6 @@ pub record AreParts (p : Parts) : Type 0 where
   pub from_b : IsTold p.b p.a (answers p) p.read
   pub sent_is : p.sent ≡ map canon (sent_by (state_of p).from_a)
   pub reports_is : p.reports ≡ reported (state_of p)
-  -- the ends stand as after what was asked, served and read
-  pub asking : accessing.StandsAfter p.requests (answers_read (state_of p)) p.accessing
-  pub serving : accessed.StandsAfter [] (map Whole (taken_of (state_of p))) p.accessed
+  -- the ends are as after what was asked, served and read
+  pub asking : IsAskedAll (asking_end p) p.requests (answers_read (state_of p))
+  pub serving : IsServedAll (serving_end p) (map Whole (taken_of (state_of p)))

@@ -1,12 +1,10 @@
--- What each end of a new world is.
-use Rattle.std.specs.Prelude.{max, []}
+-- How the link of each end of a new world is set up.
+use Rattle.std.specs.Prelude.{max}
 use Rattle.nsp_link.specs.declared.link.LinkSetup.{LinkSetup}
-use Rattle.nsp_link.specs.Link.{new_link}
 use Rattle.dap_world.specs.declared.event.End.{End}
 use Rattle.dap_world.specs.declared.setup.WorldSetup.{WorldSetup}
 use Rattle.dap_world.specs.Machine.{other}
 use Rattle.dap_world.specs.Wires.{address_of}
-use Rattle.dap_world.specs.Inner.Sides.{SideValue}
 
 -- both links take what either end may send
 abbrev pub link_of : WorldSetup → End → LinkSetup
@@ -18,6 +16,3 @@ link_of s end =
       window = s.window;
       max_message = max s.bufsiz_a s.bufsiz_b;
     }
-
-abbrev pub new_side : LinkSetup → SideValue
-new_side s = record { link = new_link s; outbox = []; posted = 0; wire = []; place = 0 }

@@ -1,39 +1,46 @@
--- One end of the world: its link, what waits for it, and the packets that it wrote.
-use Rattle.std.specs.Prelude.{◌≡◌, ℕ, ◌+◌, ◌-◌, ◌<◌, ◌≤◌, List, [], ◌∷◌, ◌++◌, length, Option}
-use Rattle.nsp_link.specs.Link.{LinkValue, Sends, Writes, MaySend}
+-- What the world keeps of an end beside the end itself, and what one event adds to that.
+use Rattle.std.specs.Prelude.{◌≡◌, ◌≢◌, ℕ, ◌+◌, ◌-◌, ◌<◌, ◌≤◌, List, [], ◌∷◌, ◌++◌, length, Option, All}
+use Rattle.nsp_link.specs.Link.{LinkValue, MaySend}
 use Rattle.nsp_link.specs.Cutting.{cut}
 use Rattle.nsp_link.specs.Limits.{most_segments}
-use Rattle.nsp_link.specs.Sending.{queued_link}
-use Rattle.dap_world.specs.Machine.{Sending}
+use Rattle.nsp_link.specs.Sending.{WritesSent}
+use Rattle.dap_accessing.specs.Present.{Present}
+use Rattle.dap_accessing.specs.Calls.{AskRefused, IsAdmittedBy}
+use Rattle.dap_accessing.specs.declared.request.Request.{Request}
+use Rattle.dap_accessing.specs.declared.report.Report.{Report}
+use Rattle.dap_accessing.specs.declared.fault.AskFault.TheVariants as ask_fault
+use Rattle.dap_end.specs.Asking.{AskingValue, AskedOne}
+use Rattle.dap_end.specs.Ports.{PortValue}
+use Rattle.dap_end.specs.declared.asking.Heard.{Heard}
+use Rattle.dap_end.specs.declared.asking.Heard.TheVariants as heard
+use Rattle.dap_world.specs.declared.side.Wired.{Wired}
+use Rattle.dap_world.specs.declared.event.Step.{Step}
+use Rattle.dap_world.specs.declared.event.Step.TheVariants as step
 use Rattle.dap_world.specs.declared.event.WorldFault.{WorldFault}
 use Rattle.dap_world.specs.declared.event.WorldFault.TheVariants as fault
 
--- a packet, with the number of its segment and how many segments it acknowledges, as whole counts
-pub record WiredValue : Type 0 where
-  pub packet : List ℕ
-  pub segment : Option ℕ
-  pub acks : ℕ
-
+-- an end's port, how many NSP messages it handed to its link, and the packets that it wrote
 pub record SideValue : Type 0 where
   pub link : LinkValue
   pub outbox : List (List ℕ)
-  pub posted : ℕ  -- how many NSP messages were handed to the link
-  pub wire : List WiredValue
-  pub place : ℕ  -- where the next DAP message begins in the oldest NSP message that came
+  pub posted : ℕ
+  pub wire : List Wired
+  pub place : ℕ
 
-abbrev pub sending_of : WiredValue → Sending
-sending_of w = record { segment = w.segment; acks = w.acks }
+abbrev pub side_of : PortValue → (posted : ℕ) → List Wired → SideValue
+side_of port posted wire = record { link = port.link; outbox = port.outbox; posted = posted; wire = wire; place = port.place }
 
--- the end counts this many segments as sent, and wrote one packet more
-abbrev pub wrote_side : SideValue → ℕ → WiredValue → SideValue
-wrote_side s sent w = record s { link = record s.link { sent = sent }; wire = s.wire ++ w ∷ [] }
+abbrev pub port_of : SideValue → PortValue
+port_of s = record { link = s.link; outbox = s.outbox; place = s.place }
 
--- The j-th packet was written. It carries the k-th segment of the messages sent, or none, and what was taken.
-pub record WroteOne (old new : SideValue) (sent : ℕ) (k : Option ℕ) (j : ℕ) : Type 0 where
-  pub place : j ≡ length old.wire
-  pub packet : List ℕ
-  pub wrote : new ≡ wrote_side old sent (record { packet = packet; segment = k; acks = old.link.received })
-  pub writes : (messages : List (List ℕ)) → Sends old.link messages → Writes old.link messages k old.link.received packet
+-- A packet was written behind the others. It carries the k-th segment of what was handed over, or none, and what was taken.
+pub record WroteOne (v : LinkValue) (old new : List Wired) (k : Option ℕ) (answer : Step) : Type 0 where
+  pub place : answer ≡ step.Packet (length old)
+  pub wired : Wired
+  pub wire : new ≡ old ++ wired ∷ []
+  pub segment : wired.segment ≡ k
+  pub acks : wired.acks ≡ v.received
+  pub writes : WritesSent v k wired.packet.items
 
 -- why no new segment is written
 abbrev pub EmitFault : LinkValue → WorldFault → Type 0
@@ -47,24 +54,35 @@ ResendFault v i fault.NothingToDo = v.sent - v.acked ≤ i
 ResendFault v i fault.NoMemory = i < v.sent - v.acked
 ResendFault v i _ = ⊥
 
--- the end handed over all that waits
-abbrev pub posted_side : SideValue → LinkValue → SideValue
-posted_side s link = record s { link = link; outbox = []; posted = s.posted + length s.outbox }
+abbrev pub AreShort : ℕ → List (List ℕ) → Type 0
+AreShort limit messages = All (λ m. length m ≤ limit) messages
 
--- how many segments there are once all that waits is handed over
-abbrev pub segments_queued : SideValue → ℕ
-segments_queued s = s.link.acked + length s.link.queue + length (cut s.link.seg_size s.outbox)
+-- how many segments there are once these are handed over
+abbrev pub segments_with : LinkValue → List (List ℕ) → ℕ
+segments_with v waiting = v.acked + length v.queue + length (cut v.seg_size waiting)
 
--- all that waits was handed over: it is so many messages
-pub record PostedAll (old new : SideValue) (n : ℕ) : Type 0 where
-  pub some : 0 < length old.outbox
-  pub count : n ≡ length old.outbox
-  pub room : segments_queued old ≤ most_segments
-  pub posted : new ≡ posted_side old (queued_link old.link (cut old.link.seg_size old.outbox))
+-- all that waited, and something did, counts as handed over
+abbrev pub PostedSo : (waiting : List (List ℕ)) → (old new : ℕ) → Step → Type 0
+PostedSo waiting old new answer = (answer ≡ step.Posted (length waiting)) × (new ≡ old + length waiting) × (0 < length waiting)
 
 -- why nothing is handed over
-abbrev pub PostFault : SideValue → WorldFault → Type 0
-PostFault s fault.NothingToDo = s.outbox ≡ []
-PostFault s fault.Exhausted = (0 < length s.outbox) × (most_segments < segments_queued s)
-PostFault s fault.NoMemory = (0 < length s.outbox) × (segments_queued s ≤ most_segments)
-PostFault s _ = ⊥
+abbrev pub PostFault : LinkValue → (waiting : List (List ℕ)) → WorldFault → Type 0
+PostFault v waiting fault.NothingToDo = waiting ≡ []
+PostFault v waiting fault.Exhausted = (0 < length waiting) × (most_segments < segments_with v waiting)
+PostFault v waiting fault.NoMemory = (0 < length waiting) × (segments_with v waiting ≤ most_segments)
+PostFault v waiting _ = ⊥
+
+-- the request was asked: so many NSP messages wait more
+abbrev pub AskedSo : Request → (old new : AskingValue) → Step → Type 0
+AskedSo request old new answer = (n : ℕ) × (answer ≡ step.Asked n) × AskedOne request old new n
+
+-- why it isn't asked
+abbrev pub AskFaultOf : Request → Present → WorldFault → Type 0
+AskFaultOf request old (fault.Ask f) = (f ≢ ask_fault.NoMemory) × AskRefused request old f
+AskFaultOf request old fault.NoMemory = IsAdmittedBy old request
+AskFaultOf request old _ = ⊥
+
+-- the report that was read stands behind the others
+abbrev pub KeptSo : Heard → (old new : List Report) → Step → Type 0
+KeptSo (heard.Report report) old new answer = (answer ≡ step.Reported) × (new ≡ old ++ report ∷ [])
+KeptSo _ old new answer = (answer ≡ step.Nothing) × (new ≡ old)

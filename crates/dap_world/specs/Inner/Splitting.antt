@@ -1,12 +1,8 @@
 -- The DAP messages in an NSP message, as bytes.
 use Rattle.std.specs.Prelude.{◌≡◌, ◌≢◌, ℕ, List, [], ◌∷◌, ◌++◌, map}
 use Rattle.dap_msg.specs.Canon.{canon}
+use Rattle.dap_end.specs.Asking.{AreFull}
 use Rattle.dap_msg.specs.Blocked.{NspMessage, joined, all_joined, messages_in, AllFit}
-
--- each NSP message has a message
-abbrev pub AreFull : List NspMessage → Type 0
-AreFull [] = Unit {0}
-AreFull (packet ∷ packets) = (packet ≢ []) × AreFull packets
 
 -- whatever messages were joined into these bytes, they are added, each as its own bytes
 abbrev pub SplitsOne : List ℕ → List (List ℕ) → List (List ℕ) → Type 0

@@ -2,15 +2,16 @@
 use Rattle.std.specs.Prelude.{map}
 use Rattle.dap_world.specs.declared.world.World.TheInside.{Inside}
 use Rattle.dap_world.specs.Machine.{State}
+use Rattle.dap_world.specs.Inner.Sides.{side_of}
 use Rattle.dap_world.specs.Inner.Parts.{Parts, state_of, AreParts}
 
 abbrev pub parts_of : Inside → Parts
 parts_of w =
     record {
-      a = w.a;
-      b = w.b;
-      accessing = w.accessing;
-      accessed = w.accessed;
+      a = side_of w.asking.port w.posted_a w.wire_a.items;
+      b = side_of w.serving.port w.posted_b w.wire_b.items;
+      accessing = w.asking.accessing;
+      accessed = w.serving.accessed;
       requests = w.requests.items;
       sent = map (λ v. v.items) w.sent.items;
       served = w.served;

@@ -1,19 +1,24 @@
-use Rattle.std.proofs.Common.{ap, ◌∙◌, refl}
+use Rattle.std.proofs.Common.{◌∙◌, arith, ap, subst}
 use Rattle.nsp_link.specs.declared.link.LinkSetup.{LinkSetup}
+use Rattle.nsp_link.specs.Link.{IsSetup}
 use Rattle.dap_msg.specs.Blocked.{bodies}
-use Rattle.dap_world.specs.Inner.Setups.{new_side}
+use Rattle.dap_end.specs.Ports.{new_port}
+use Rattle.dap_world.specs.declared.event.End.TheVariants.{A}
 use Rattle.dap_world.proofs.Kept.{headline_of}
-use Rattle.dap_world.proofs.New.{new_sound}
+use Rattle.dap_world.proofs.New.{new_sound, world_setup}
 use Rattle.dap_world.proofs.world.World.new.Goals as goal
 
 pub invariant_of-result : goal.invariant_of-result
 invariant_of-result c =
-    new_sound c.args.setup c.new.result c.new-2.result c.in_ok-a.a c.in_ok-b.b c.new-3.result.items (bodies c.new-4.result.items) c.new-5.result.items
-    (c.in_ok-a.ensures.ok ∙ ap (λ (l : LinkSetup). new_side l) c.link_setup.ensures) (c.in_ok-b.ensures.ok ∙ ap (λ (l : LinkSetup). new_side l) c.link_setup-2.ensures)
-    c.new-3.ensures.items (ap bodies c.new-4.ensures.items) c.new-5.ensures.items (c.if-not-is_setup.ensures.yes refl) c.new.ensures.own c.new-2.ensures.own c.new.ensures.stands c.new-2.ensures.stands
+    (new_sound c.args.setup c.in-Ok.end c.in-Ok-new.end c.new-3.result.items c.new-4.result.items c.new-5.result.items (bodies c.new-6.result.items) c.new-7.result.items
+    c.new-3.ensures.items c.new-4.ensures.items c.new-5.ensures.items (ap bodies c.new-6.ensures.items) c.new-7.ensures.items
+    (world_setup c.args.setup A (omega (arith, c.if-setup-lt-LEAST_BUFFER.false)) (omega (arith, c.if-setup-lt-LEAST_BUFFER-2.false)) (subst (λ (l : LinkSetup). IsSetup l) c.link_setup.ensures c.in-Ok.ensures.setup))
+    (c.in-Ok.ensures.ok.0, c.in-Ok.ensures.ok.1 ∙ ap (λ (l : LinkSetup). new_port l) c.link_setup.ensures, c.in-Ok.ensures.ok.2) (c.in-Ok-new.ensures.ok.0, c.in-Ok-new.ensures.ok.1 ∙ ap (λ (l : LinkSetup). new_port l) c.link_setup-2.ensures, c.in-Ok-new.ensures.ok.2)).0
 
 pub returns-clause-headline : goal.returns-clause-headline
 returns-clause-headline c =
-    headline_of _ (new_sound c.args.setup c.new.result c.new-2.result c.in_ok-a.a c.in_ok-b.b c.new-3.result.items (bodies c.new-4.result.items) c.new-5.result.items
-    (c.in_ok-a.ensures.ok ∙ ap (λ (l : LinkSetup). new_side l) c.link_setup.ensures) (c.in_ok-b.ensures.ok ∙ ap (λ (l : LinkSetup). new_side l) c.link_setup-2.ensures)
-    c.new-3.ensures.items (ap bodies c.new-4.ensures.items) c.new-5.ensures.items (c.if-not-is_setup.ensures.yes refl) c.new.ensures.own c.new-2.ensures.own c.new.ensures.stands c.new-2.ensures.stands).world
+    headline_of _
+    (new_sound c.args.setup c.in-Ok.end c.in-Ok-new.end c.new-3.result.items c.new-4.result.items c.new-5.result.items (bodies c.new-6.result.items) c.new-7.result.items
+    c.new-3.ensures.items c.new-4.ensures.items c.new-5.ensures.items (ap bodies c.new-6.ensures.items) c.new-7.ensures.items
+    (world_setup c.args.setup A (omega (arith, c.if-setup-lt-LEAST_BUFFER.false)) (omega (arith, c.if-setup-lt-LEAST_BUFFER-2.false)) (subst (λ (l : LinkSetup). IsSetup l) c.link_setup.ensures c.in-Ok.ensures.setup))
+    (c.in-Ok.ensures.ok.0, c.in-Ok.ensures.ok.1 ∙ ap (λ (l : LinkSetup). new_port l) c.link_setup.ensures, c.in-Ok.ensures.ok.2) (c.in-Ok-new.ensures.ok.0, c.in-Ok-new.ensures.ok.1 ∙ ap (λ (l : LinkSetup). new_port l) c.link_setup-2.ensures, c.in-Ok-new.ensures.ok.2)).0.world

@@ -1,0 +1,21 @@
+-- A packet that was put on a wire.
+use Rattle.std.proofs.Common.{◌≡◌, ℕ, ◌∙◌, ap, List, [], ◌∷◌, ◌++◌, length}
+use Rattle.std.specs.Prelude.{Option}
+use Rattle.nsp_link.specs.Link.{LinkValue}
+use Rattle.nsp_link.specs.Sending.{WritesSent}
+use Rattle.dap_world.specs.declared.side.Wired.{Wired}
+use Rattle.dap_world.specs.declared.event.Step.{Step}
+use Rattle.dap_world.specs.declared.event.Step.TheVariants as step
+use Rattle.dap_world.specs.Inner.Sides.{WroteOne}
+
+pub wrote_put : (v : LinkValue) (old mid new : List Wired) (w : Wired) (k : Option ℕ) (answer : Step) → mid ≡ old → new ≡ mid ++ w ∷ [] → answer ≡ step.Packet (length mid)
+    → w.segment ≡ k → w.acks ≡ v.received → WritesSent v k w.packet.items → WroteOne v old new k answer
+wrote_put v old mid new w k answer same wire place segment acks writes =
+    record {
+      place = place ∙ ap (λ (l : List Wired). step.Packet (length l)) same;
+      wired = w;
+      wire = wire ∙ ap (λ (l : List Wired). l ++ w ∷ []) same;
+      segment = segment;
+      acks = acks;
+      writes = writes;
+    }
