@@ -10,7 +10,7 @@ use Rattle.std.proofs.lemmas.List.Elements.{All-head, All-tail}
 use Rattle.hex.specs.Hex.{decode_of, decode_pairs, digit_or_error, encode_lower, encode_with, hex_digit_value, is_hex_digit, lower_digits, pair_value, value_at}
 use Rattle.hex.proofs.HexLemmas.{decode_of-even, decode_of-ok}
 use Rattle.hex.proofs.Pairs.{cons_byte, decode_pairs-ok_pair}
-use Rattle.dap_capture.specs.Text.{image_text}
+use Rattle.dap_text.specs.Text.{image_text}
 use Rattle.dap_capture.specs.Inner.Decoding.{Spell, bytes_of}
 
 abbrev IsDigit : ℕ → Type 0

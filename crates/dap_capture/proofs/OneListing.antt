@@ -8,11 +8,12 @@ use Rattle.nsp_seg.specs.Packets.{SegmentValue, segment, data_ack, Spells, marks
 use Rattle.std.specs.Int.{w16, to_le_bytes}
 use Rattle.nsp_seg.proofs.ForCallers.{spells-one, spells-apart, fault-one}
 use Rattle.dap_capture.specs.Messages.{IsMessagesText, item_line}
-use Rattle.dap_capture.specs.Packets.{IsPacketText, of_segment, of_ack, of_fault, SegmentMessages, segment_line, ack_line, fault_line as packet_fault_line}
+use Rattle.dap_capture.specs.Packets.{IsPacketText, of_segment, of_ack, of_fault, SegmentMessages, segment_line, ack_line}
+use Rattle.dap_text.specs.Answers.{fault_line as packet_fault_line}
 use Rattle.dap_capture.specs.Listing.{CaptureLines, IsCapturedText, IsMessageText, no_more, one_more as one_capture_more, Capture, HasOneListing, captures, heading, limit_of}
 use Rattle.dap_capture.specs.declared.listing.Listed.{Listed}
 use Rattle.dap_capture.specs.declared.listing.Listed.TheVariants.{Packets, Messages}
-use Rattle.dap_capture.specs.Text.{line_feed}
+use Rattle.dap_text.specs.Text.{line_feed}
 
 -- each is a byte
 abbrev AreBytes : List ℕ → Type 0

@@ -14,7 +14,7 @@ use Rattle.dap_capture.specs.declared.fault.Outcome.{Outcome}
 use Rattle.dap_capture.specs.declared.fault.Outcome.TheVariants.{Good, Stopped}
 use Rattle.dap_capture.specs.Orders.{event_of, setup_of}
 use Rattle.dap_capture.specs.Schedules.{Numbered, event_fault, events_of, fault_unless}
-use Rattle.dap_capture.specs.Tables.{files_text}
+use Rattle.dap_text.specs.Tables.{files_text}
 use Rattle.dap_capture.specs.Played.{Plays, over, goes, stops, Played, empty, setup_refused, played, event_line, refusal_line, refusal_text}
 use Rattle.dap_capture.specs.Inner.Playing.{PlaysOne}
 

@@ -7,7 +7,6 @@ pub mod Playing
 pub mod Input
 pub mod Lines
 pub mod Decoding
-pub mod Words
 pub mod Orders
 pub mod Messages
 pub mod Fields

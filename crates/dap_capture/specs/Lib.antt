@@ -1,12 +1,8 @@
 pub mod Inner
 pub mod Output
 pub mod Gives
-pub mod Text
 pub mod Lines
-pub mod Words
 pub mod Orders
-pub mod Reports
-pub mod Tables
 pub mod Schedules
 pub mod Played
 pub mod Messages

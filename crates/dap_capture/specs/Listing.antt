@@ -6,7 +6,7 @@ use Rattle.std.specs.Str.Lines.{lines}
 use Rattle.hex.specs.Hex.{decode_of}
 use Rattle.dap_capture.specs.Lines.{CaptureLine, captured, malformed, too_long, line_of}
 use Rattle.dap_capture.specs.Packets.{IsPacketText}
-use Rattle.dap_capture.specs.Text.{line_feed}
+use Rattle.dap_text.specs.Text.{line_feed}
 use Rattle.dap_capture.specs.Messages.{IsMessagesText}
 use Rattle.dap_capture.specs.Gives.{Gives}
 use Rattle.dap_capture.specs.declared.listing.Listed.{Listed}

@@ -4,12 +4,9 @@ use Rattle.std.specs.List.{concat}
 use Rattle.std.specs.Fmt.{decimal}
 use Rattle.hex.specs.Hex.{encode_lower}
 use Rattle.dap_accessing.specs.declared.report.Report.{Report}
-use Rattle.dap_accessing.specs.declared.fault.AskFault.TheVariants as ask_fault
 use Rattle.dap_world.specs.declared.event.End.{End}
 use Rattle.dap_world.specs.declared.event.End.TheVariants.{A, B}
 use Rattle.dap_world.specs.declared.event.Event.{Event}
-use Rattle.nsp_link.specs.declared.link.Got.{Got}
-use Rattle.nsp_link.specs.declared.link.Got.TheVariants.{Accepted, Repeat, Early, AckOnly}
 use Rattle.dap_world.specs.declared.event.Step.{Step}
 use Rattle.dap_world.specs.declared.event.Step.TheVariants as step
 use Rattle.dap_world.specs.declared.event.WorldFault.{WorldFault}
@@ -19,9 +16,10 @@ use Rattle.dap_world.specs.Machine.{State, Sending, Steps, Refuses, fresh, sends
 use Rattle.dap_world.specs.Setups.{IsWorldSetup}
 use Rattle.dap_world.specs.Wires.{IsOnWire}
 use Rattle.dap_world.specs.Runs.{writer_of}
-use Rattle.dap_capture.specs.Text.{line_feed}
-use Rattle.dap_capture.specs.Reports.{report_text}
-use Rattle.dap_capture.specs.Tables.{files_text}
+use Rattle.dap_text.specs.Answers.{ask_text, got_text}
+use Rattle.dap_text.specs.Text.{line_feed}
+use Rattle.dap_text.specs.Reports.{report_text}
+use Rattle.dap_text.specs.Tables.{files_text}
 use Rattle.dap_capture.specs.Orders.{setup_of}
 use Rattle.dap_capture.specs.Schedules.{Numbered, events_of, said, schedule_faults}
 use Rattle.dap_capture.specs.Gives.{Gives}
@@ -40,12 +38,6 @@ refusal_line number word = event_line number (codes "refused " ++ word)
 abbrev pub end_text : End → List ℕ
 end_text A = codes "a"
 end_text B = codes "b"
-
-abbrev pub got_text : Got → List ℕ
-got_text Accepted = codes "accepted"
-got_text Repeat = codes "repeat"
-got_text Early = codes "early"
-got_text AckOnly = codes "ack-only"
 
 -- these are the bytes of the packet at a place of an end's wire
 pub record IsPacketAt (s : State) (end : End) (place : ℕ) (bytes : List ℕ) : Type 0 where
@@ -81,11 +73,7 @@ abbrev pub refusal_text : WorldFault → Option (List ℕ)
 refusal_text fault.NoSuchPacket = Some (codes "no-such-packet")
 refusal_text fault.Stale = Some (codes "stale")
 refusal_text fault.NothingToDo = Some (codes "nothing-to-do")
-refusal_text (fault.Ask ask_fault.Failed) = Some (codes "ask-failed")
-refusal_text (fault.Ask ask_fault.Busy) = Some (codes "ask-busy")
-refusal_text (fault.Ask ask_fault.WrongPhase) = Some (codes "ask-phase")
-refusal_text (fault.Ask ask_fault.TooLarge) = Some (codes "ask-too-large")
-refusal_text (fault.Ask ask_fault.NoMemory) = None
+refusal_text (fault.Ask why) = ask_text why
 refusal_text fault.NoMemory = None
 refusal_text fault.Exhausted = Some (codes "exhausted")
 refusal_text fault.BadSetup = None

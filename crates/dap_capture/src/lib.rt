@@ -15,12 +15,9 @@ mod orders;
 mod output;
 mod packet;
 mod play;
-mod reports;
 mod said;
 mod steps;
-mod tables;
 mod text;
-mod words;
 
 pub use commands::{messages, schedule, show};
 pub use fault::{CaptureFault, Outcome};

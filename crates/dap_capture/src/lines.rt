@@ -1,14 +1,12 @@
 //! The lines of a capture.
 
-ghost use Rattle.std.specs.Prelude.{ℕ, ◌≡◌, ◌<◌, ◌==◌, length, MatchOption, IfSome, IfNone, [], ◌∷◌, true, false};
-ghost use Rattle.std.specs.List.{position, list_all};
-ghost use Rattle.std.specs.Char.{is_ascii_hexdigit};
+ghost use Rattle.std.specs.Prelude.{ℕ, ◌≡◌, ◌<◌, length, MatchOption, IfSome, IfNone, [], ◌∷◌, true, false};
 ghost use Rattle.std.specs.Str.Lines.{lines, strip_carriage_return};
-ghost use Rattle.dap_capture.specs.Lines.{is_hex_text as spelled, line_of};
+ghost use Rattle.dap_capture.specs.Lines.{line_of};
 ghost use Rattle.dap_capture.specs.Inner.Lines.{line_of_head};
 ghost use Rattle.dap_capture.specs.Inner.Cutting.{HasNoEnd, IsCut, IsEnd};
 
-use memchr::memchr;
+use dap_text::find_byte;
 
 /// The way that captured bytes went.
 #[derive(Clone, Copy, Debug, PartialEq, Eq)]
@@ -28,14 +26,6 @@ pub(crate) enum Head<'a> {
     Digits(Direction, &'a [u8]),
     /// The line has no meaning.
     Malformed,
-}
-
-/// Where the first line feed stands.
-#[tactic(auto, using(crate::proofs::LineLemmas::first_place))]
-fn find_line_feed(bytes: &[u8]) -> Option<usize>
-    ensures { result ≡ position (λ byte. byte == 10) bytes.now }
-{
-    memchr(b'\n', bytes)
 }
 
 /// A line without the carriage return at its end, if it has one.
@@ -59,7 +49,7 @@ pub(crate) fn next_line(bytes: &[u8]) -> Option<(&[u8], &[u8])>
     if bytes.is_empty() {
         return None;
     }
-    match find_line_feed(bytes) {
+    match find_byte(b'\n', bytes) {
         None => Some((bytes, &[])),
         Some(end) => Some((without_carriage_return(&bytes[..end]), &bytes[end + 1..])),
     }
@@ -73,7 +63,7 @@ fn ended_line(bytes: &[u8]) -> Option<(&[u8], &[u8])>
     ensures end { IfSome result (λ cut. IsEnd bytes.now cut.1.now) }
     ensures none { IfNone result (HasNoEnd bytes.now) }
 {
-    let end = find_line_feed(bytes)?;
+    let end = find_byte(b'\n', bytes)?;
     Some((without_carriage_return(&bytes[..end]), &bytes[end + 1..]))
 }
 
@@ -102,23 +92,4 @@ pub(crate) fn parse_head(line: &[u8]) -> Head<'_>
         [b'<', b' ', digits @ ..] => Head::Digits(Direction::Left, digits),
         _ => Head::Malformed,
     }
-}
-
-/// Whether it is an even number of hex digits, and at least two.
-pub(crate) fn is_hex_text(digits: &[u8]) -> bool
-    ensures { result ≡ spelled digits.now }
-{
-    digits.len() >= 2 && digits.len() % 2 == 0 && are_hex_digits(digits)
-}
-
-/// Whether all are hex digits. It looks at each of them, whatever those before it are, so that they are
-/// looked at many at a time.
-fn are_hex_digits(digits: &[u8]) -> bool
-    ensures { result ≡ list_all is_ascii_hexdigit digits.now }
-{
-    let mut good = true;
-    for digit in digits {
-        good &= digit.is_ascii_hexdigit();
-    }
-    good
 }

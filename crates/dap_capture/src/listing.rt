@@ -7,16 +7,16 @@ ghost use Rattle.dap_capture.specs.Inner.Cutting.{FaultsGoOn, HasNoEnd, IsEnd, I
 ghost use Rattle.dap_capture.specs.Inner.Decoding.{Spell, bytes_of};
 ghost use Rattle.dap_capture.specs.Inner.Course.{IsInputFault, IsWhole, TextGives};
 ghost use Rattle.dap_capture.specs.declared.fault.CaptureFault.TheVariants.{NoMemory, WriteFailed};
-ghost use Rattle.dap_capture.specs.Lines.{captured, digits_line, is_hex_text as is_spelled, line_of, skipped};
+ghost use Rattle.dap_text.specs.Words.{is_hex_text as is_spelled};
+ghost use Rattle.dap_capture.specs.Lines.{captured, digits_line, line_of, skipped};
 ghost use Rattle.dap_capture.specs.Listing.{IsCapturedText, IsMessageText, arrow_text, fault_of_line, limit_of};
 
 use crate::CaptureFault;
 use crate::input::{CHUNK, read_some, skip_unread};
-use crate::lines::{Direction, Head, cut_line, is_hex_text, parse_head};
+use crate::lines::{Direction, Head, cut_line, parse_head};
 use crate::message::push_messages;
 use crate::packet::push_packet;
-use crate::text::{push_decimal, push_number, push_str};
-use memchr::memchr;
+use dap_text::{find_byte, is_hex_text, push_decimal, push_number, push_str};
 use std::alloc::{AllocError, Global};
 use std::io::Read;
 
@@ -322,7 +322,7 @@ fn read_course<R: Read>(
         let came = read_some(reader, &mut chunk, &mut count)?;
         let is_last = came == 0;
         bytes.extend_from_slice(&chunk[..came])?;
-        if !is_last && memchr(b'\n', &chunk[..came]).is_none() {
+        if !is_last && find_byte(b'\n', &chunk[..came]).is_none() {
             continue;
         }
         match take_lines(listed, &mut course, &bytes, is_last, &mut room) {

@@ -12,8 +12,8 @@ use crate::input::INPUT_LIMIT;
 use crate::orders::{Order, read_order, read_setup};
 use crate::said::Said;
 use crate::steps::{push_event, push_refusal, refusal_word};
-use crate::tables::push_files;
 use crate::{CaptureFault, Outcome};
+use dap_text::push_files;
 use dap_world::{Event, World, WorldFault};
 use std::alloc::Global;
 

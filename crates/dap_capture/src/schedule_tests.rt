@@ -1,8 +1,8 @@
 //! Rows of schedules.
 use crate::engines::{Engine, GREETING, GREETING_PLAYED, gives};
 use crate::orders::read_order;
-use crate::reports::push_report;
 use crate::{CaptureFault, Outcome};
+use dap_text::push_report;
 use dap_world::{Ending, Numbered, Octets, Report};
 use std::alloc::{AllocError, Global};
 use std::process::Abort;

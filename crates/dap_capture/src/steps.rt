@@ -3,13 +3,13 @@
 ghost use Rattle.std.specs.Prelude.{◌≡◌, ◌<◌, ◌++◌, ℕ, List, OnOk, None, codes, length, option_copied};
 ghost use Rattle.dap_world.specs.Machine.{reported, sends};
 ghost use Rattle.dap_world.specs.Runs.{NamedIsThere, writer_of};
-ghost use Rattle.dap_capture.specs.Inner.Adding.{Adds, AddsSome};
+ghost use Rattle.dap_text.specs.Adding.{Adds};
+ghost use Rattle.dap_capture.specs.Inner.Adding.{AddsSome};
 ghost use Rattle.dap_capture.specs.Inner.Playing.{AddsStep};
-ghost use Rattle.dap_capture.specs.Played.{IsPacketAt, IsPacketWritten, IsReported, IsStepText, end_text, got_text, refusal_line, refusal_text};
+ghost use Rattle.dap_capture.specs.Played.{IsPacketAt, IsPacketWritten, IsReported, IsStepText, end_text, refusal_line, refusal_text};
 
-use crate::reports::push_report;
-use crate::text::{push_decimal, push_hex, push_number, push_str};
-use dap_world::{AskFault, End, Event, Got, Step, World, WorldFault};
+use dap_text::{ask_word, got_word, push_decimal, push_hex, push_number, push_report, push_str};
+use dap_world::{End, Event, Step, World, WorldFault};
 use std::alloc::AllocError;
 
 /// The word for an end.
@@ -22,18 +22,6 @@ fn end_word(end: End) -> &'static str
     }
 }
 
-/// The word for a delivery.
-fn got_word(got: Got) -> &'static str
-    ensures { result.now ≡ got_text got }
-{
-    match got {
-        Got::Accepted => "accepted",
-        Got::Repeat => "repeat",
-        Got::Early => "early",
-        Got::AckOnly => "ack-only",
-    }
-}
-
 /// The word for a refusal; want of memory has none.
 pub(crate) fn refusal_word(fault: WorldFault) -> Option<&'static str>
     ensures { option_copied result ≡ refusal_text fault }
@@ -42,12 +30,9 @@ pub(crate) fn refusal_word(fault: WorldFault) -> Option<&'static str>
         WorldFault::NoSuchPacket => Some("no-such-packet"),
         WorldFault::Stale => Some("stale"),
         WorldFault::NothingToDo => Some("nothing-to-do"),
-        WorldFault::Ask(AskFault::Failed) => Some("ask-failed"),
-        WorldFault::Ask(AskFault::Busy) => Some("ask-busy"),
-        WorldFault::Ask(AskFault::WrongPhase) => Some("ask-phase"),
-        WorldFault::Ask(AskFault::TooLarge) => Some("ask-too-large"),
+        WorldFault::Ask(fault) => ask_word(fault),
         WorldFault::Exhausted => Some("exhausted"),
-        WorldFault::Ask(AskFault::NoMemory) | WorldFault::NoMemory | WorldFault::BadSetup => None,
+        WorldFault::NoMemory | WorldFault::BadSetup => None,
     }
 }
 

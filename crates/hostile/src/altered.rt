@@ -174,8 +174,8 @@ struct Heard {
 
 fn follow(alloc: Global, end: &mut Accessing, line: Line) -> Result<(), Trouble> {
     match line {
-        Line::Ask(call) => {
-            let request = request(alloc, call)?;
+        Line::Ask(words) => {
+            let request = request(alloc, words)?;
             end.ask(&request)?;
         }
         Line::Hear(answer) => {

@@ -3,7 +3,7 @@
 use crate::bytes::*;
 use crate::growing::{Came, Growing, Trouble, note_bytes};
 use crate::reading::{look_at_files, look_at_report};
-use crate::requests::{Call, request};
+use crate::requests::request;
 use dap_accessed::Accessed;
 use dap_accessing::{Accessing, By, How, Report, Request};
 use std::alloc::{AllocError, Global};
@@ -55,7 +55,7 @@ impl Growing for Serving {
 /// What is asked, and what is heard.
 #[derive(Clone, Copy)]
 pub enum Line {
-    Ask(Call),
+    Ask(&'static str),
     Hear(&'static [u8]),
 }
 
@@ -80,8 +80,8 @@ impl Asking {
         })
     }
 
-    fn ask(&mut self, call: Call) -> Result<(), Trouble> {
-        let request = request(self.alloc, call)?;
+    fn ask(&mut self, words: &str) -> Result<(), Trouble> {
+        let request = request(self.alloc, words)?;
         match self.end.ask(&request) {
             Ok(messages) => {
                 for message in messages {
@@ -116,7 +116,7 @@ impl Growing for Asking {
             return Ok(Came::Over);
         };
         match *line {
-            Line::Ask(call) => self.ask(call)?,
+            Line::Ask(words) => self.ask(words)?,
             Line::Hear(answer) => self.hear(answer)?,
         }
         Ok(Came::Done)
@@ -138,66 +138,66 @@ impl Growing for Asking {
 
 /// Records of a relative file: put, refused, found, changed and deleted.
 pub const ASKED_RECORDS: &[Line] = &[
-    Line::Ask(Call::Hello),
+    Line::Ask("hello"),
     Line::Hear(CONFIG),
-    Line::Ask(Call::Create(b"F", 16, 0, 3, 7)),
+    Line::Ask("create 46 16 2 0 3 7"),
     Line::Hear(RELATIVE),
     Line::Hear(ACKNOWLEDGE),
-    Line::Ask(Call::Connect),
+    Line::Ask("connect"),
     Line::Hear(ACKNOWLEDGE),
-    Line::Ask(Call::Put(Some(3), b"A")),
+    Line::Ask("put key 3 41"),
     Line::Hear(DONE_3),
-    Line::Ask(Call::Put(Some(3), b"A")),
+    Line::Ask("put key 3 41"),
     Line::Hear(EXISTS),
-    Line::Ask(Call::Put(Some(4), b"A")),
+    Line::Ask("put key 4 41"),
     Line::Hear(OUT_OF_RANGE),
-    Line::Ask(Call::Get(By::Next)),
+    Line::Ask("get"),
     Line::Hear(FOUND_3),
-    Line::Ask(Call::Delete),
+    Line::Ask("delete"),
     Line::Hear(DONE_3),
-    Line::Ask(Call::Delete),
+    Line::Ask("delete"),
     Line::Hear(NO_CURRENT),
-    Line::Ask(Call::Get(By::Next)),
+    Line::Ask("get"),
     Line::Hear(END_OF_FILE),
 ];
 
 /// A Store whose second record is too long.
 pub const ASKED_STORING: &[Line] = &[
-    Line::Ask(Call::Hello),
+    Line::Ask("hello"),
     Line::Hear(CONFIG),
-    Line::Ask(Call::Create(b"F", 0, 5, 0, 7)),
+    Line::Ask("create 46 0 2 5 0 7"),
     Line::Hear(FIVE),
     Line::Hear(ACKNOWLEDGE),
-    Line::Ask(Call::Connect),
+    Line::Ask("connect"),
     Line::Hear(ACKNOWLEDGE),
-    Line::Ask(Call::Store(&[b"A", b"BBBBBB", b"C"])),
+    Line::Ask("store 41 424242424242 43"),
     Line::Hear(BAD_LENGTH),
     Line::Hear(COMPLETED),
 ];
 
 /// A file that is opened again: a record is updated, and a transfer stops and goes on.
 pub const ASKED_TRANSFER: &[Line] = &[
-    Line::Ask(Call::Hello),
+    Line::Ask("hello"),
     Line::Hear(CONFIG),
-    Line::Ask(Call::Open(b"F", 10)),
+    Line::Ask("open 46 10"),
     Line::Hear(RELATIVE),
     Line::Hear(ACKNOWLEDGE),
-    Line::Ask(Call::Connect),
+    Line::Ask("connect"),
     Line::Hear(ACKNOWLEDGE),
-    Line::Ask(Call::Update(b"B")),
+    Line::Ask("update 42"),
     Line::Hear(DONE_3),
-    Line::Ask(Call::Rewind),
+    Line::Ask("rewind"),
     Line::Hear(REWOUND),
-    Line::Ask(Call::Fetch),
+    Line::Ask("fetch"),
     Line::Hear(FOUND_3),
     Line::Hear(FOUND_3),
     Line::Hear(FOUND_3),
     Line::Hear(FOUND_3),
     Line::Hear(FOUND_3),
     Line::Hear(TOO_LARGE),
-    Line::Ask(Call::Continue(How::Skip)),
+    Line::Ask("continue skip"),
     Line::Hear(FOUND_3),
     Line::Hear(END_OF_FILE),
-    Line::Ask(Call::Close),
+    Line::Ask("close"),
     Line::Hear(COMPLETED),
 ];

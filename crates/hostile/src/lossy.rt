@@ -3,8 +3,8 @@
 
 use crate::growing::Trouble;
 use crate::reading::{look_at_files, look_at_report};
-use crate::requests::{Call, request};
-use dap_accessing::{By, Report, Request};
+use crate::requests::request;
+use dap_accessing::{Report, Request};
 use dap_end::{AskingEnd, ServingEnd};
 use dap_world::{World, WorldSetup};
 use nsp_link::LinkSetup;
@@ -50,56 +50,56 @@ impl Chance {
     }
 
     /// One of these.
-    fn one_of(&mut self, calls: &[Call]) -> Call {
-        let place = self.below(calls.len() as u64) as usize;
-        match calls.get(place) {
-            Some(call) => *call,
-            None => Call::Rewind,
+    fn one_of(&mut self, words: &'static [&'static str]) -> &'static str {
+        let place = self.below(words.len() as u64) as usize;
+        match words.get(place) {
+            Some(words) => words,
+            None => "rewind",
         }
     }
 }
 
 /// What is asked of a record stream.
-const STREAM: &[Call] = &[
-    Call::Put(None, b"one"),
-    Call::Put(None, b"another and a longer one"),
-    Call::Put(Some(2), b""),
-    Call::Put(Some(3), b"three"),
-    Call::Put(Some(4), b"four"),
-    Call::Get(By::Next),
-    Call::Get(By::Key(2)),
-    Call::Get(By::Rfa(1)),
-    Call::Update(b"changed"),
-    Call::Delete,
-    Call::Rewind,
-    Call::Fetch,
+const STREAM: &[&str] = &[
+    "put 6f6e65",
+    "put 616e6f7468657220616e642061206c6f6e676572206f6e65",
+    "put key 2 -",
+    "put key 3 7468726565",
+    "put key 4 666f7572",
+    "get",
+    "get key 2",
+    "get rfa 1",
+    "update 6368616e676564",
+    "delete",
+    "rewind",
+    "fetch",
 ];
 
 /// How an open file is begun, and how it is left.
-const BEGUN: &[Call] = &[
-    Call::Create(b"F", 16, 0, 3, 15),
-    Call::Create(b"G", 0, 30, 0, 15),
-    Call::Create(b"H", 16, 4, 0, 15),
+const BEGUN: &[&str] = &[
+    "create 46 16 2 0 3 15",
+    "create 47 0 2 30 0 15",
+    "create 48 16 2 4 0 15",
 ];
 
-const LEFT: &[Call] = &[Call::Close, Call::Close, Call::Purge];
+const LEFT: &[&str] = &["close", "close", "purge"];
 
-/// The calls of a list.
-fn calls_of(alloc: Global, chance: &mut Chance) -> Result<Vec<Call>, Trouble> {
-    let mut calls = Vec::new(alloc);
-    calls.push(Call::Hello)?;
+/// The requests of a list, as words.
+fn words_of(alloc: Global, chance: &mut Chance) -> Result<Vec<&'static str>, Trouble> {
+    let mut words = Vec::new(alloc);
+    words.push("hello")?;
     for begun in BEGUN {
-        calls.push(*begun)?;
-        calls.push(Call::Connect)?;
+        words.push(*begun)?;
+        words.push("connect")?;
         for _ in 0..chance.below(12) {
-            calls.push(chance.one_of(STREAM))?;
+            words.push(chance.one_of(STREAM))?;
         }
         if chance.below(2) == 0 {
-            calls.push(Call::Store(&[b"a", b"bcd", b""]))?;
+            words.push("store 61 626364 -")?;
         }
-        calls.push(chance.one_of(LEFT))?;
+        words.push(chance.one_of(LEFT))?;
     }
-    Ok(calls)
+    Ok(words)
 }
 
 /// Both ends, and the packets on their way to each.
@@ -228,8 +228,8 @@ fn directed(alloc: Global, requests: &[Request]) -> Result<Vec<u8>, Trouble> {
 fn is_same(alloc: Global, seed: u64) -> Result<bool, Trouble> {
     let mut chance = Chance(seed);
     let mut requests = Vec::new(alloc);
-    for call in calls_of(alloc, &mut chance)? {
-        requests.push(request(alloc, call)?)?;
+    for words in words_of(alloc, &mut chance)? {
+        requests.push(request(alloc, words)?)?;
     }
     let mut line = Line::new(alloc)?;
     for request in &requests {

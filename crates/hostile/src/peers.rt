@@ -2,9 +2,9 @@
 
 use crate::growing::{Came, Growing, Trouble, note_bytes};
 use crate::reading::{look_at_files, look_at_link, look_at_report};
-use crate::requests::{Call, request};
+use crate::requests::request;
 use dap_accessed::AddFault;
-use dap_accessing::{By, ReadFault, Report};
+use dap_accessing::{ReadFault, Report};
 use dap_end::{AskingEnd, EndFault, Heard, ServingEnd, TakeFault};
 use nsp_link::{LinkFault, LinkSetup};
 use rec_file::{Refusal, Shape};
@@ -21,7 +21,7 @@ enum Act {
     Add(&'static [u8]),
     AddRecord(u32, &'static [u8]),
     /// The end that asks.
-    Ask(Call),
+    Ask(&'static str),
     AskingTakes(usize),
     AskingReceives(usize),
     Read,
@@ -50,14 +50,14 @@ const ACTS: &[Act] = &[
     Add(b"F"),
     AddRecord(3, b"three"),
     AddRecord(1, b"one"),
-    Ask(Call::Hello),
+    Ask("hello"),
     AskingGoesOn,
     ServingTakes(0),
     ServingTakes(1),
     AskingTakes(1),
     AskingTakes(2),
     ServingTakes(3),
-    Ask(Call::Open(b"F", 15)),
+    Ask("open 46 15"),
     AskingPosts,
     AskingEmits,
     AskingEmits,
@@ -77,14 +77,14 @@ const ACTS: &[Act] = &[
     Read,
     AskingAcknowledges,
     ServingReceives(6),
-    Ask(Call::Connect),
+    Ask("connect"),
     AskingGoesOn,
     AskingResends(0),
     ServingTakes(8),
     ServingTakes(7),
     ServingAcknowledges,
     AskingTakes(7),
-    Ask(Call::Get(By::Next)),
+    Ask("get"),
     AskingGoesOn,
     ServingReceives(10),
     ServingGoesOn,
@@ -92,7 +92,7 @@ const ACTS: &[Act] = &[
     AskingTakes(11),
     ServingRenews,
     AskingRenews,
-    Ask(Call::Hello),
+    Ask("hello"),
     AskingGoesOn,
     ServingTakes(13),
     ServingTakes(14),
@@ -196,8 +196,8 @@ fn add(end: &mut ServingEnd, name: &[u8]) -> Result<(), Trouble> {
     Ok(())
 }
 
-fn ask(alloc: Global, end: &mut AskingEnd, call: Call) -> Result<(), Trouble> {
-    let request = request(alloc, call)?;
+fn ask(alloc: Global, end: &mut AskingEnd, words: &str) -> Result<(), Trouble> {
+    let request = request(alloc, words)?;
     end.ask(&request)?;
     Ok(())
 }
@@ -237,7 +237,7 @@ impl Peers {
         };
         let end = &mut pair.asking;
         match act {
-            Ask(call) => ask(self.alloc, end, call)?,
+            Ask(words) => ask(self.alloc, end, words)?,
             AskingTakes(place) => {
                 end.take(packet(&self.by_serving, place)?, out, &mut self.reports)?;
             }

@@ -2,9 +2,8 @@
 
 use crate::growing::{Came, Growing, Trouble, note, note_bytes};
 use crate::reading::{look_at_files, look_at_link, look_at_report, look_at_request};
-use crate::requests::{Call, request};
+use crate::requests::request;
 use End::{A, B};
-use dap_accessing::How;
 use dap_world::{End, Event, Request, Step, World, WorldFault, WorldSetup};
 use std::alloc::{AllocError, Global};
 use std::io;
@@ -13,7 +12,7 @@ use std::io::Write;
 /// What happens.
 #[derive(Clone, Copy, Drop)]
 pub enum Act {
-    Ask(Call),
+    Ask(&'static str),
     Post(End),
     Emit(End),
     Resend(End, usize),
@@ -41,19 +40,23 @@ const READ: &[Act] = &[Act::Read];
 
 const FINISH: &[Act] = &[Act::Finish];
 
-const HELLO: &[Act] = &[Act::Ask(Call::Hello)];
+const HELLO: &[Act] = &[Act::Ask("hello")];
 
-const CREATE: &[Act] = &[Act::Ask(Call::Create(b"F", 0, 0, 0, 3))];
+const CREATE: &[Act] = &[Act::Ask("create 46 0 2 0 0 3")];
 
-const CONNECT: &[Act] = &[Act::Ask(Call::Connect)];
+const CONNECT: &[Act] = &[Act::Ask("connect")];
 
-const PUT_TEN: &[Act] = &[Act::Ask(Call::Put(None, b"aaaaaaaaaa"))];
+const PUT_TEN: &[Act] = &[Act::Ask("put 61616161616161616161")];
 
-const PUT_LONG: &[Act] = &[Act::Ask(Call::Put(None, &[0x62; 200]))];
+/// A record of 200 bytes.
+const LONG: &str =
+    "put 6262626262626262626262626262626262626262626262626262626262626262626262626262626262626262626262626262626262626262626262626262626262626262626262626262626262626262626262626262626262626262626262626262626262626262626262626262626262626262626262626262626262626262626262626262626262626262626262626262626262626262626262626262626262626262626262626262626262626262626262626262626262626262626262626262626262626262";
+
+const PUT_LONG: &[Act] = &[Act::Ask(LONG)];
 
 /// Acknowledged before it is served; its answer is lost, written again, and comes twice.
 const PUT_LOST: &[Act] = &[
-    Act::Ask(Call::Put(None, b"A")),
+    Act::Ask("put 41"),
     Act::Post(A),
     Act::Emit(A),
     Act::Take(B),
@@ -112,18 +115,18 @@ pub const STOPPING: Script = &[
     SERVE,
     ANSWER,
     READ,
-    &[Act::Ask(Call::Fetch)],
+    &[Act::Ask("fetch")],
     SEND,
     SERVE,
     ANSWER,
     READ,
     READ,
-    &[Act::Ask(Call::Continue(How::Again))],
+    &[Act::Ask("continue again")],
     SEND,
     SERVE,
     ANSWER,
     READ,
-    &[Act::Ask(Call::Continue(How::Skip))],
+    &[Act::Ask("continue skip")],
     SEND,
     SERVE,
     ANSWER,
@@ -151,7 +154,7 @@ pub const SETTLING: Script = &[
     PUT_TEN,
     &[Act::Post(A), Act::Emit(A), Act::Settle(B)],
     FINISH,
-    &[Act::Ask(Call::Close)],
+    &[Act::Ask("close")],
     FINISH,
 ];
 
@@ -207,7 +210,7 @@ fn stops(fault: WorldFault) -> Trouble {
 
 fn event(alloc: Global, world: &World, act: Act) -> Result<Event, Trouble> {
     Ok(match act {
-        Act::Ask(call) => Event::Ask(request(alloc, call)?),
+        Act::Ask(words) => Event::Ask(request(alloc, words)?),
         Act::Post(end) => Event::Post(end),
         Act::Emit(end) => Event::Emit(end),
         Act::Resend(end, place) => Event::Resend(end, place),
@@ -312,21 +315,21 @@ impl Directing {
     }
 }
 
-const DIRECTED: &[Call] = &[
-    Call::Hello,
-    Call::Create(b"F", 16, 0, 3, 7),
-    Call::Connect,
-    Call::Put(Some(3), b"three"),
-    Call::Close,
-    Call::Create(b"F", 16, 0, 3, 7),
-    Call::Open(b"F", 15),
-    Call::Purge,
+const DIRECTED: &[&str] = &[
+    "hello",
+    "create 46 16 2 0 3 7",
+    "connect",
+    "put key 3 7468726565",
+    "close",
+    "create 46 16 2 0 3 7",
+    "open 46 15",
+    "purge",
 ];
 
 fn requests(alloc: Global) -> Result<Vec<Request>, Trouble> {
     let mut all = Vec::with_capacity(alloc, DIRECTED.len())?;
-    for call in DIRECTED {
-        all.push(request(alloc, *call)?)?;
+    for words in DIRECTED {
+        all.push(request(alloc, words)?)?;
     }
     Ok(all)
 }

@@ -1,13 +1,10 @@
 -- What a function adds to a text.
-use Rattle.std.specs.Prelude.{◌≡◌, ℕ, List, ◌++◌}
+use Rattle.std.specs.Prelude.{ℕ, List, ◌++◌}
 use Rattle.std.specs.Global.{Vec}
+use Rattle.dap_text.specs.Adding.{Adds}
 use Rattle.dap_capture.specs.Listing.{IsCapturedText, heading}
 use Rattle.dap_capture.specs.declared.lines.Direction.{Direction}
 use Rattle.dap_capture.specs.declared.listing.Listed.{Listed}
-
--- these bytes stand at its end now
-abbrev pub Adds : Vec ℕ → Vec ℕ → List ℕ → Type 0
-Adds old new bytes = new.items ≡ old.items ++ bytes
 
 -- some bytes stand at its end now, and they are such
 abbrev pub AddsSome : Vec ℕ → Vec ℕ → (List ℕ → Type 0) → Type 0

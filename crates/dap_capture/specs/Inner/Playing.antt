@@ -7,7 +7,7 @@ use Rattle.dap_world.specs.declared.event.WorldFault.{WorldFault}
 use Rattle.dap_world.specs.Machine.{State, Steps, Refuses}
 use Rattle.dap_capture.specs.declared.fault.Outcome.{Outcome}
 use Rattle.dap_capture.specs.declared.fault.Outcome.TheVariants.{Good, Stopped}
-use Rattle.dap_capture.specs.Inner.Adding.{Adds}
+use Rattle.dap_text.specs.Adding.{Adds}
 use Rattle.dap_capture.specs.Played.{IsStepText, event_line, refusal_line, refusal_text}
 
 -- The line of an event that came to this step is added.

@@ -1,5 +1,6 @@
 use Rattle.std.proofs.Common.{rules, arith, true, ◌≡◌, ◌++◌, ap, sym, ◌∙◌}
-use Rattle.dap_capture.specs.Lines.{captured, is_hex_text, line_of, skipped}
+use Rattle.dap_capture.specs.Lines.{captured, line_of, skipped}
+use Rattle.dap_text.specs.Words.{is_hex_text}
 use Rattle.dap_capture.specs.Listing.{fault_of_line, limit_of}
 use Rattle.dap_capture.specs.Inner.Decoding.{bytes_of}
 use Rattle.dap_capture.proofs.HexTextLemmas.{spells}

@@ -3,7 +3,7 @@ use Rattle.std.specs.Prelude.{codes}
 use Rattle.std.specs.List.{concat}
 use Rattle.std.specs.Fmt.{decimal}
 use Rattle.std.proofs.lemmas.Result.{on_ok_weaker}
-use Rattle.dap_capture.specs.Text.{line_feed}
+use Rattle.dap_text.specs.Text.{line_feed}
 use Rattle.dap_capture.specs.Inner.Decoding.{bytes_of}
 use Rattle.dap_capture.proofs.DigitLemmas.{count_of}
 use Rattle.dap_capture.proofs.MessageLemmas.{appended_twice}

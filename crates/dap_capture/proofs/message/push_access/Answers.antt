@@ -3,7 +3,7 @@ use Rattle.std.specs.Prelude.{codes}
 use Rattle.std.specs.Fmt.{decimal}
 use Rattle.std.proofs.lemmas.Result.{on_ok_weaker}
 use Rattle.dap_capture.specs.Messages.{wanted_text}
-use Rattle.dap_capture.specs.Text.{image_text, line_feed}
+use Rattle.dap_text.specs.Text.{image_text, line_feed}
 use Rattle.dap_capture.proofs.MessageLemmas.{appended_twice}
 use Rattle.dap_capture.proofs.message.push_access.Goals as goal
 

@@ -3,7 +3,7 @@ use Rattle.std.specs.Prelude.{codes}
 use Rattle.std.proofs.lemmas.Result.{on_ok_weaker}
 use Rattle.dap_msg.specs.Message.{seen_attributes}
 use Rattle.dap_capture.specs.Messages.{attributes_text}
-use Rattle.dap_capture.specs.Text.{line_feed}
+use Rattle.dap_text.specs.Text.{line_feed}
 use Rattle.dap_capture.proofs.MessageLemmas.{appended_twice}
 use Rattle.dap_capture.proofs.message.push_attributes.Goals as goal
 

@@ -1,7 +1,7 @@
 use Rattle.std.proofs.Common.{rules, ◌≡◌, ◌++◌, List, ℕ, OnOk}
 use Rattle.std.specs.Prelude.{codes}
 use Rattle.std.proofs.lemmas.Result.{on_ok_weaker}
-use Rattle.dap_capture.specs.Text.{image_text, line_feed}
+use Rattle.dap_text.specs.Text.{image_text, line_feed}
 use Rattle.dap_capture.specs.Inner.Decoding.{bytes_of}
 use Rattle.dap_capture.proofs.MessageLemmas.{appended_twice}
 use Rattle.dap_capture.proofs.message.push_data.Goals as goal

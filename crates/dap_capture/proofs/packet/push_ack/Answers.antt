@@ -3,7 +3,7 @@ use Rattle.std.specs.Prelude.{codes}
 use Rattle.std.specs.List.{concat}
 use Rattle.std.proofs.lemmas.Result.{on_ok_weaker}
 use Rattle.dap_capture.specs.Packets.{acks_text}
-use Rattle.dap_capture.specs.Text.{line_feed, word_text}
+use Rattle.dap_text.specs.Text.{line_feed, word_text}
 use Rattle.dap_capture.proofs.MessageLemmas.{appended_twice}
 use Rattle.dap_capture.proofs.packet.push_ack.Goals as goal
 

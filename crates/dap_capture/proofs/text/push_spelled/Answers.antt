@@ -3,7 +3,7 @@ use Rattle.std.specs.Prelude.{codes}
 use Rattle.std.specs.Char.{to_ascii_lowercase}
 use Rattle.std.proofs.lemmas.Bool.Decides.{nat_tests}
 use Rattle.std.proofs.lemmas.Result.{on_ok_weaker}
-use Rattle.dap_capture.specs.Text.{image_text}
+use Rattle.dap_text.specs.Text.{image_text}
 use Rattle.dap_capture.specs.Inner.Decoding.{bytes_of}
 use Rattle.dap_capture.proofs.DigitLemmas.{image_is, none_is}
 use Rattle.dap_capture.proofs.MessageLemmas.{appended_twice}

@@ -1,0 +1,6 @@
+-- What the crates above may cite of this one's proofs. No other file here is for them.
+
+-- hex text has an even number of digits, and all of it are hex digits
+pub use Rattle.dap_text.proofs.HexTextLemmas.{all_digits, even_hex}
+-- the slice from a place to the end
+pub use Rattle.dap_text.proofs.SliceLemmas.{slice_from}

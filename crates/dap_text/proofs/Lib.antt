@@ -1,0 +1,10 @@
+pub mod ForCallers
+pub mod HexTextLemmas
+pub mod PlaceLemmas
+pub mod ReadBack
+pub mod RequestLemmas
+pub mod SliceLemmas
+pub mod TableLemmas
+pub mod TextLemmas
+pub mod TextWords
+pub mod WordLemmas

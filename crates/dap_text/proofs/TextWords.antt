@@ -1,0 +1,47 @@
+-- What a word stands for.
+use Rattle.std.proofs.Common.{◌≡◌, ◌<◌, ◌≤◌, ◌+◌, ◌*◌, ◌-◌, ℕ, Bool, true, false, List, [], ◌∷◌, ◌++◌, length, take, drop, Option, Some, None, IsSome, refl, sym, ap, ◌∙◌, subst, arith, cond}
+use Rattle.std.specs.Prelude.{unwrap_or, bytes_eq, codes, get_or}
+use Rattle.std.specs.List.{fold}
+use Rattle.dap_text.specs.Words.{is_hex_text}
+use Rattle.std.proofs.lemmas.List.{take-append-drop}
+use Rattle.std.proofs.lemmas.List.Sums.{fold_more}
+use Rattle.std.proofs.lemmas.Bool.Decides.{nat_tests}
+use Rattle.dap_text.specs.Words.{text_of, decimal_value, at_most, decimal_of}
+use Rattle.dap_text.proofs.HexTextLemmas.{hex_decodes}
+
+either : (b : Bool) (hex : List ℕ) (bytes : Option (List ℕ)) → bytes ≡ Some hex → (all : List ℕ) × (cond b (Some []) bytes ≡ Some all)
+either true hex bytes is = ([], refl)
+either false hex bytes is = (hex, is)
+
+pub hex_is_text : (word : List ℕ) → is_hex_text word ≡ true → (bytes : List ℕ) × (text_of word ≡ Some bytes)
+hex_is_text word hex =
+    let d = hex_decodes word hex in
+    either (bytes_eq word (codes "-")) d.0 _ (rw (hex, d.1) refl)
+
+pub is_some : (o : Option (List ℕ)) → ((bytes : List ℕ) × (o ≡ Some bytes)) → IsSome o
+is_some o some = subst IsSome (sym some.1) refl
+
+pub same_some : (o : Option (List ℕ)) → ((bytes : List ℕ) × (o ≡ Some bytes)) → Some (unwrap_or o []) ≡ o
+same_some None some = let no : None ≡ Some some.0 = some.1 in cc
+same_some (Some bytes) some = refl
+
+-- ---- decimal numbers
+
+grows : (digits : List ℕ) (number : ℕ) → number ≤ fold (λ n d. 10 * n + (d - 48)) number digits
+grows [] number = omega arith
+grows (digit ∷ digits) number = omega (arith, grows digits (10 * number + (digit - 48)))
+
+pub value_grows : (front back : List ℕ) (number : ℕ) → fold (λ n d. 10 * n + (d - 48)) number front ≤ fold (λ n d. 10 * n + (d - 48)) number (front ++ back)
+value_grows [] back number = grows back number
+value_grows (digit ∷ front) back number = value_grows front back (10 * number + (digit - 48))
+
+past : (b : Bool) (most value : ℕ) → most < value → cond b (at_most most value) None ≡ None
+past true most value more = grind (arith, nat_tests)
+past false most value more = refl
+
+pub too_great : (word : List ℕ) (i most number d : ℕ) → i < length word → number ≡ decimal_value (take i word) → most < 10 * number + (get_or word i d - 48)
+    → decimal_of most word ≡ None
+too_great word i most number d inside so_far more =
+    let one : decimal_value (take (i + 1) word) ≡ 10 * number + (get_or word i d - 48) = fold_more (λ n b. 10 * n + (b - 48)) 0 word i d inside ∙ ap (λ n. 10 * n + (get_or word i d - 48)) (sym so_far) in
+    let all : decimal_value (take (i + 1) word) ≤ decimal_value word = subst (λ ds. decimal_value (take (i + 1) word) ≤ decimal_value ds) (take-append-drop (i + 1) word) (value_grows (take (i + 1) word) (drop (i + 1) word) 0) in
+    past _ most (decimal_value word) (omega (arith, one, all, more))

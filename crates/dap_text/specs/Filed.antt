@@ -1,0 +1,67 @@
+-- The lines of a file and of a record, as they are printed, read back.
+use Rattle.std.specs.Prelude.{◌≡◌, ◌≤◌, ◌++◌, ℕ, List, [], true, codes, if◌then◌else◌, Option, Some, None}
+use Rattle.dap_fields.specs.Spelling.{AreBytes}
+use Rattle.dap_msg.specs.Codes.{org, rfm}
+use Rattle.rec_file.specs.Limits.{greatest_number}
+use Rattle.rec_file.specs.Shapes.{checked_shape, is_shape}
+use Rattle.rec_file.specs.declared.shapes.Shape.{Shape}
+use Rattle.dap_text.specs.Tables.{file_line, record_line}
+use Rattle.dap_text.specs.Text.{line_feed}
+use Rattle.dap_text.specs.Words.{Words, ends, first, is, long, short, text_of, words_of}
+use Rattle.dap_text.specs.declared.filed.FileLine.{FileLine}
+use Rattle.dap_text.specs.declared.filed.RecordLine.{RecordLine}
+
+-- the word is this one, and says nothing more
+abbrev pub just : List ℕ → List ℕ → Option (Unit {0})
+just name word = if is word name then Some tt else None
+
+-- ORG by its word
+abbrev pub org_of : List ℕ → Option ℕ
+org_of word =
+    if is word (codes "seq") then Some org.sequential
+    else if is word (codes "rel") then Some org.relative
+    else None
+
+-- RFM by its word
+abbrev pub rfm_of : List ℕ → Option ℕ
+rfm_of word =
+    if is word (codes "fixed") then Some rfm.fixed
+    else if is word (codes "variable") then Some rfm.variable
+    else None
+
+-- NAME ORG RFM MRS MRN
+abbrev pub attributes_of : Words → Option FileLine
+attributes_of words =
+    first text_of words (λ name words. first org_of words (λ org words. first rfm_of words (λ rfm words.
+    first short words (λ mrs words. first long words (λ mrn words.
+    ends (record { name = name; org = org; rfm = rfm; mrs = mrs; mrn = mrn }) words)))))
+
+-- `file`, and the attributes
+abbrev pub file_of : List ℕ → Option FileLine
+file_of line = first (just (codes "file")) (words_of line) (λ file words. attributes_of words)
+
+-- N BODY
+abbrev pub numbered_of : Words → Option RecordLine
+numbered_of words =
+    first long words (λ number words. first text_of words (λ body words.
+    ends (record { number = number; body = body }) words))
+
+-- two empty words, as the line begins with two spaces, and the record
+abbrev pub record_of : List ℕ → Option RecordLine
+record_of line =
+    first (just []) (words_of line) (λ first_space words. first (just []) words (λ second_space words. numbered_of words))
+
+-- ---- What is printed is read back.
+
+-- The line of a file: its name, and the attributes that name its shape.
+abbrev pub FilesAreReadBack : Type 0
+FilesAreReadBack =
+    (name line : List ℕ) (shape : Shape) → AreBytes name → is_shape shape ≡ true → file_line name shape ≡ line ++ line_feed
+    → (file : FileLine) × (file_of line ≡ Some file) × (file.name ≡ name)
+    × (checked_shape file.org file.rfm file.mrs file.mrn ≡ Some shape)
+
+-- The line of a record.
+abbrev pub RecordsAreReadBack : Type 0
+RecordsAreReadBack =
+    (number : ℕ) (body line : List ℕ) → number ≤ greatest_number → AreBytes body → record_line (number, body) ≡ line ++ line_feed
+    → record_of line ≡ Some (record { number = number; body = body })

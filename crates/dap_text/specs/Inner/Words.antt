@@ -1,0 +1,8 @@
+-- What the words of the program are.
+use Rattle.std.specs.Prelude.{ℕ, List, [], Option, Some, None}
+use Rattle.dap_text.specs.Words.{words_of}
+
+-- the words of what is left of a line, and none where nothing is
+abbrev pub words_left : Option (List ℕ) → List (List ℕ)
+words_left None = []
+words_left (Some line) = words_of line

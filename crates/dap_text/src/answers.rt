@@ -1,0 +1,79 @@
+//! How it is told what became of a packet, or of a request that is not asked.
+
+ghost use Rattle.std.specs.Prelude.{◌≡◌, ◌∷◌, [], OnOk, option_copied};
+ghost use Rattle.std.specs.Fmt.{decimal};
+ghost use Rattle.std.specs.List.{concat};
+ghost use Rattle.dap_text.specs.Adding.{Adds};
+ghost use Rattle.dap_text.specs.Answers.{ask_text, fault_line, flag_text, got_text};
+ghost use Rattle.dap_text.specs.Text.{line_feed};
+
+use crate::text::{push_number, push_str};
+use dap_accessing::AskFault;
+use nsp_link::Got;
+use nsp_seg::{FlagKind, SegFault, flag_kind};
+use std::alloc::AllocError;
+
+/// The word for a packet that a link end takes. It takes no memory. Own.
+pub fn got_word(got: Got) -> &'static str
+    ensures { result.now ≡ got_text got }
+{
+    match got {
+        Got::Accepted => "accepted",
+        Got::Repeat => "repeat",
+        Got::Early => "early",
+        Got::AckOnly => "ack-only",
+    }
+}
+
+/// The word for a request that is not asked; want of memory has none. It takes no memory. Own.
+pub fn ask_word(fault: AskFault) -> Option<&'static str>
+    ensures { option_copied result ≡ ask_text fault }
+{
+    match fault {
+        AskFault::Failed => Some("ask-failed"),
+        AskFault::Busy => Some("ask-busy"),
+        AskFault::WrongPhase => Some("ask-phase"),
+        AskFault::TooLarge => Some("ask-too-large"),
+        AskFault::NoMemory => None,
+    }
+}
+
+/// The word for a packet that no link end takes.
+fn flag_word(kind: FlagKind) -> &'static str
+    ensures { result.now ≡ flag_text kind }
+{
+    match kind {
+        FlagKind::LinkService => "link-service",
+        FlagKind::Interrupt => "interrupt",
+        FlagKind::OtherAck => "other-ack",
+        FlagKind::ConnectAck => "connect-ack",
+        FlagKind::Control => "control",
+        FlagKind::Segment | FlagKind::DataAck | FlagKind::Unknown => "unknown",
+    }
+}
+
+/// Appends a place behind a word, and ends the line.
+fn push_place(text: &mut Vec<u8>, word: &str, at: usize) -> Result<(), AllocError>
+    ensures { OnOk result (Adds text.old text.new
+        (concat (word.now ∷ decimal at ∷ line_feed ∷ []))) }
+{
+    push_number(text, word, at)?;
+    push_str(text, "\n")
+}
+
+/// Appends the line of bytes that are no packet, as a listing has it behind their number and direction. Own.
+pub fn push_packet_fault(text: &mut Vec<u8>, fault: SegFault) -> Result<(), AllocError>
+    ensures { OnOk result (Adds text.old text.new (fault_line fault)) }
+{
+    match fault {
+        SegFault::NotHere(flag) => {
+            push_str(text, "not-here ")?;
+            push_str(text, flag_word(flag_kind(flag)))?;
+            push_str(text, "\n")
+        }
+        SegFault::Truncated(at) => push_place(text, "bad truncated at=", at),
+        SegFault::Trailing(at) => push_place(text, "bad trailing at=", at),
+        SegFault::BadNumber(at) => push_place(text, "bad number at=", at),
+        SegFault::NoMemory => push_str(text, "bad memory\n"),
+    }
+}

@@ -1,0 +1,35 @@
+//! Hex digits, and where a byte stands.
+
+ghost use Rattle.std.specs.Prelude.{◌≡◌, ◌==◌};
+ghost use Rattle.std.specs.List.{list_all, position};
+ghost use Rattle.std.specs.Char.{is_ascii_hexdigit};
+ghost use Rattle.dap_text.specs.Words.{is_hex_text as spelled};
+
+use memchr::memchr;
+
+/// Where a byte stands first, or None where it stands nowhere. It takes no memory. Own.
+#[tactic(auto, using(crate::proofs::PlaceLemmas::first_place))]
+pub fn find_byte(wanted: u8, bytes: &[u8]) -> Option<usize>
+    ensures { result ≡ position (λ byte. byte == wanted) bytes.now }
+{
+    memchr(wanted, bytes)
+}
+
+/// Whether it is an even number of hex digits, of either case, and at least two. It takes no memory. Own.
+pub fn is_hex_text(digits: &[u8]) -> bool
+    ensures { result ≡ spelled digits.now }
+{
+    digits.len() >= 2 && digits.len() % 2 == 0 && are_hex_digits(digits)
+}
+
+/// Whether all are hex digits. It looks at each of them, whatever those before it are, so that they are
+/// looked at many at a time.
+fn are_hex_digits(digits: &[u8]) -> bool
+    ensures { result ≡ list_all is_ascii_hexdigit digits.now }
+{
+    let mut good = true;
+    for digit in digits {
+        good &= digit.is_ascii_hexdigit();
+    }
+    good
+}

@@ -1,0 +1,103 @@
+//! The lines of files and records, read back.
+
+ghost use Rattle.std.specs.Prelude.{◌≡◌};
+ghost use Rattle.dap_text.specs.Filed.{attributes_of, file_of, numbered_of, org_of, record_of, rfm_of};
+
+use crate::words::{Text, Words, is, read_number, read_text};
+use dap_msg::codes::{ORG_RELATIVE, ORG_SEQUENTIAL, RFM_FIXED, RFM_VARIABLE};
+
+/// What the line of a file says: its name, which is still digits, and ORG, RFM, MRS in bytes and MRN (DAP 5.6.0,
+/// Attributes message). Own.
+#[derive(Drop)]
+pub struct FileLine<'a> {
+    pub name: Text<'a>,
+    pub org: u8,
+    pub rfm: u8,
+    pub mrs: u16,
+    pub mrn: u32,
+}
+
+/// What the line of a record says: its number, and its bytes, which are still digits. Own.
+#[derive(Drop)]
+pub struct RecordLine<'a> {
+    pub number: u32,
+    pub body: Text<'a>,
+}
+
+/// ORG by its word.
+fn read_org(word: &[u8]) -> Option<u8>
+    ensures { result ≡ org_of word.now }
+{
+    if is(word, "seq") {
+        Some(ORG_SEQUENTIAL)
+    } else if is(word, "rel") {
+        Some(ORG_RELATIVE)
+    } else {
+        None
+    }
+}
+
+/// RFM by its word.
+fn read_rfm(word: &[u8]) -> Option<u8>
+    ensures { result ≡ rfm_of word.now }
+{
+    if is(word, "fixed") {
+        Some(RFM_FIXED)
+    } else if is(word, "variable") {
+        Some(RFM_VARIABLE)
+    } else {
+        None
+    }
+}
+
+/// `NAME ORG RFM MRS MRN`
+fn read_attributes<'a>(mut words: Words<'a>) -> Option<FileLine<'a>>
+    ensures { result ≡ attributes_of words.entry }
+{
+    let name = read_text(words.next()?)?;
+    let org = read_org(words.next()?)?;
+    let rfm = read_rfm(words.next()?)?;
+    let mrs = read_number(words.next()?, 65535)? as u16;
+    let mrn = read_number(words.next()?, u32::MAX)?;
+    words.end()?;
+    Some(FileLine {
+        name,
+        org,
+        rfm,
+        mrs,
+        mrn,
+    })
+}
+
+/// The file that a line says, `file NAME seq|rel fixed|variable MRS MRN`, or None where it says none. Whether files
+/// of such a shape are there is not asked. It takes no memory. Own.
+pub fn read_file_line(line: &[u8]) -> Option<FileLine<'_>>
+    ensures { result ≡ file_of line.now }
+{
+    let mut words = Words::of(line);
+    match words.next()? {
+        b"file" => read_attributes(words),
+        _ => None,
+    }
+}
+
+/// `N BODY`
+fn read_numbered<'a>(mut words: Words<'a>) -> Option<RecordLine<'a>>
+    ensures { result ≡ numbered_of words.entry }
+{
+    let number = read_number(words.next()?, u32::MAX)?;
+    let body = read_text(words.next()?)?;
+    words.end()?;
+    Some(RecordLine { number, body })
+}
+
+/// The record that a line says, `  N BODY`, or None where it says none. It takes no memory. Own.
+pub fn read_record_line(line: &[u8]) -> Option<RecordLine<'_>>
+    ensures { result ≡ record_of line.now }
+{
+    let mut words = Words::of(line);
+    if !words.next()?.is_empty() || !words.next()?.is_empty() {
+        return None;
+    }
+    read_numbered(words)
+}

@@ -1,0 +1,22 @@
+//! Numbers, bytes, reports and files as text, and what words and lines of such text say (own).
+#![tactic(auto)]
+
+mod answers;
+mod bytes;
+mod filed;
+mod laws;
+mod reports;
+mod requests;
+mod tables;
+mod text;
+mod words;
+
+pub use answers::{ask_word, got_word, push_packet_fault};
+pub use bytes::{find_byte, is_hex_text};
+pub use filed::{FileLine, RecordLine, read_file_line, read_record_line};
+pub use laws::{files_are_read_back, records_are_read_back};
+pub use reports::push_report;
+pub use requests::{Wish, read_wish};
+pub use tables::push_files;
+pub use text::{push_decimal, push_hex, push_image, push_number, push_str, push_word};
+pub use words::{Text, Words, is, read_hex, read_number};

@@ -1,0 +1,85 @@
+//! How reports are printed.
+
+ghost use Rattle.std.specs.Prelude.{◌≡◌, ◌++◌, IfOk, OnOk};
+ghost use Rattle.std.specs.List.{flat_map};
+ghost use Rattle.dap_text.specs.Adding.{Adds};
+ghost use Rattle.dap_text.specs.Reports.{ending_text, numbered_text, refused_text, report_text, stored_text};
+
+use crate::text::{push_image, push_number, push_str, push_word};
+use dap_accessing::{Ending, Octets, Report};
+use std::alloc::AllocError;
+
+/// Appends the code of a Status, and its reason.
+fn push_refused(text: &mut Vec<u8>, code: u16, reason: u8) -> Result<(), AllocError>
+    ensures { OnOk result (Adds text.old text.new (refused_text code reason)) }
+{
+    push_word(text, "refused ", code)?;
+    push_number(text, " ", reason)
+}
+
+/// Appends how a batch ended.
+fn push_ending(text: &mut Vec<u8>, ending: Ending) -> Result<(), AllocError>
+    ensures { OnOk result (Adds text.old text.new (ending_text ending)) }
+{
+    match ending {
+        Ending::Complete => push_str(text, "complete"),
+        Ending::Stopped => push_str(text, "stopped"),
+        Ending::Refused(code, reason) => push_refused(text, code, reason),
+    }
+}
+
+/// Appends the records of a batch.
+fn push_records(text: &mut Vec<u8>, records: &[(u64, Octets)]) -> Result<(), AllocError>
+    ensures { OnOk result (Adds text.old text.new (flat_map numbered_text records.now)) }
+{
+    for record in records {
+        push_number(text, " ", record.0)?;
+        push_image(text, ":", &record.1.0)?;
+    }
+    Ok(())
+}
+
+/// Appends what a Store came to.
+fn push_stored(text: &mut Vec<u8>, kept: Option<(u16, u8, u64)>) -> Result<(), AllocError>
+    ensures { OnOk result (Adds text.old text.new (stored_text kept)) }
+{
+    match kept {
+        None => push_str(text, "stored"),
+        Some((code, reason, ordinal)) => {
+            push_str(text, "stored ")?;
+            push_refused(text, code, reason)?;
+            push_number(text, " ", ordinal)
+        }
+    }
+}
+
+/// Appends a report. Own.
+pub fn push_report(text: &mut Vec<u8>, report: &Report) -> Result<(), AllocError>
+    ensures { OnOk result (Adds text.old text.new (report_text report.now)) }
+{
+    match report {
+        Report::Ready(bufsiz) => push_number(text, "ready ", *bufsiz),
+        Report::Opened { org, rfm, mrs, mrn } => {
+            push_number(text, "opened ", *org)?;
+            push_number(text, " ", *rfm)?;
+            push_number(text, " ", *mrs)?;
+            push_number(text, " ", *mrn)
+        }
+        Report::Connected => push_str(text, "connected"),
+        Report::Found { number, body } => {
+            push_number(text, "found ", *number)?;
+            push_image(text, " ", &body.0)
+        }
+        Report::Done(number) => push_number(text, "done ", *number),
+        Report::EndOfFile => push_str(text, "end-of-file"),
+        Report::Refused(code, reason) => push_refused(text, *code, *reason),
+        Report::Batch { bodies, ending } => {
+            push_number(text, "batch ", bodies.0.len())?;
+            push_str(text, " ")?;
+            push_ending(text, *ending)?;
+            push_records(text, &bodies.0)
+        }
+        Report::Stored(kept) => push_stored(text, *kept),
+        Report::Closed => push_str(text, "closed"),
+    }
+}

@@ -1,0 +1,106 @@
+//! How numbers and bytes are printed. Where memory is wanting a front of what is appended may stand there.
+
+ghost use Rattle.std.specs.Prelude.{◌≡◌, ◌≤◌, ◌/◌, ◌++◌, OnOk, length};
+ghost use Rattle.hex.specs.Hex.{encode_lower};
+ghost use Rattle.dap_text.specs.Adding.{Adds};
+ghost use Rattle.dap_text.specs.Text.{image_text, word_text};
+
+use itoa::{Buffer, Integer};
+use std::alloc::AllocError;
+
+/// Appends a word. Own.
+pub fn push_str(text: &mut Vec<u8>, word: &str) -> Result<(), AllocError>
+    ensures { OnOk result (Adds text.old text.new word.now) }
+{
+    text.extend_from_slice(word.as_bytes())
+}
+
+/// Appends a decimal number. Own.
+pub fn push_decimal<I: Integer>(text: &mut Vec<u8>, number: I) -> Result<(), AllocError>
+    ensures { OnOk result (Adds text.old text.new (I.text number)) }
+{
+    let mut buffer = Buffer::new();
+    push_str(text, buffer.format(number))
+}
+
+/// Appends a decimal number behind a word. Own.
+#[inline(always)]
+pub fn push_number<I: Integer>(text: &mut Vec<u8>, word: &str, number: I) -> Result<(), AllocError>
+    ensures { OnOk result (Adds text.old text.new (word.now ++ I.text number)) }
+{
+    push_str(text, word)?;
+    push_decimal(text, number)
+}
+
+/// The four lower hex digits of a two-byte number.
+#[tactic(auto, using(crate::proofs::TextLemmas::word_written))]
+fn word_digits(number: u16) -> [u8; 4]
+    ensures { result ≡ word_text number }
+{
+    let bytes = [(number / 256) as u8, (number % 256) as u8];
+    let mut digits = [0; 4];
+    let Ok(()) = hex::encode_to_slice(bytes, &mut digits) else {
+        unreachable!()
+    };
+    digits
+}
+
+/// Appends a two-byte number as four lower hex digits, behind a word. Own.
+#[inline(always)]
+pub fn push_word(text: &mut Vec<u8>, word: &str, number: u16) -> Result<(), AllocError>
+    ensures { OnOk result (Adds text.old text.new (word.now ++ word_text number)) }
+{
+    push_str(text, word)?;
+    text.extend_from_slice(&word_digits(number))
+}
+
+/// The most bytes of a number's image.
+const NUMBER: usize = 8;
+
+/// Appends bytes as lower hex digits. Those of a number are made beside the text, which is faster for a
+/// few than to make room in it. Own.
+pub fn push_hex(text: &mut Vec<u8>, bytes: &[u8]) -> Result<(), AllocError>
+    ensures { OnOk result (Adds text.old text.new (encode_lower bytes.now)) }
+{
+    if bytes.len() <= NUMBER {
+        push_few(text, bytes)
+    } else {
+        push_many(text, bytes)
+    }
+}
+
+fn push_few(text: &mut Vec<u8>, bytes: &[u8]) -> Result<(), AllocError>
+    requires { length bytes.now ≤ 8 }
+    ensures { OnOk result (Adds text.old text.new (encode_lower bytes.now)) }
+{
+    let mut room = [0; 2 * NUMBER];
+    let digits = &mut room[..2 * bytes.len()];
+    let Ok(()) = hex::encode_to_slice(bytes, digits) else {
+        unreachable!()
+    };
+    text.extend_from_slice(digits)
+}
+
+fn push_many(text: &mut Vec<u8>, bytes: &[u8]) -> Result<(), AllocError>
+    ensures { OnOk result (Adds text.old text.new (encode_lower bytes.now)) }
+{
+    let start = text.len();
+    text.reserve(2 * bytes.len())?;
+    text.resize(start + 2 * bytes.len(), 0)?;
+    let Ok(()) = hex::encode_to_slice(bytes, &mut text[start..]) else {
+        unreachable!()
+    };
+    Ok(())
+}
+
+/// Appends an image as lower hex digits, or `-` where it is empty, behind a word. Own.
+#[inline(always)]
+pub fn push_image(text: &mut Vec<u8>, word: &str, image: &[u8]) -> Result<(), AllocError>
+    ensures { OnOk result (Adds text.old text.new (word.now ++ image_text image.now)) }
+{
+    push_str(text, word)?;
+    if image.is_empty() {
+        return push_str(text, "-");
+    }
+    push_hex(text, image)
+}

@@ -1,0 +1,211 @@
+//! The words of a line, and what a word says.
+
+ghost use Rattle.std.specs.Prelude.{◌≡◌, ◌≢◌, ◌≤◌, ◌<◌, ◌∷◌, [], IfOk, IfSome, MatchOption, option_copied};
+ghost use Rattle.std.specs.Prelude.{◌==◌, bytes_eq, true};
+ghost use Rattle.std.specs.List.{list_all};
+ghost use Rattle.std.specs.Char.{is_ascii_digit};
+ghost use Rattle.dap_text.specs.Words.{decimal_of, hex_of, text_of, texts_of, words_of};
+ghost use Rattle.dap_text.specs.Inner.Words.{words_left};
+
+use crate::bytes::{find_byte, is_hex_text};
+use dap_accessing::{Octets, OctetsList};
+use std::alloc::{AllocError, Global};
+use std::marker::Model;
+
+/// The words of a line that are left, which contracts see as a list. Between two of them stands one space. Own.
+#[derive(Drop)]
+pub struct Words<'a> {
+    rest: Option<&'a [u8]>,
+}
+
+impl<'a> Model for Words<'a> {
+    ghost use Rattle.std.specs.Prelude.{List, ℕ, option_copied};
+    ghost use Rattle.dap_text.specs.Inner.Words.{words_left};
+
+    ghost Value = { List (List ℕ) };
+
+    ghost view = { λ w. words_left (option_copied w.rest) };
+}
+
+/// The first word of a line, and what stands behind the space after it.
+fn first_word(line: &[u8]) -> (&[u8], Option<&[u8]>)
+    ensures { words_of line.now ≡ result.0.now ∷ words_left (option_copied result.1) }
+{
+    match find_byte(b' ', line) {
+        None => (line, None),
+        Some(end) => (&line[..end], Some(&line[end + 1..])),
+    }
+}
+
+impl<'a> Words<'a> {
+    ghost use Rattle.std.specs.Prelude.{◌≡◌, ◌≢◌, ◌∷◌, [], MatchOption};
+    ghost use Rattle.dap_text.specs.Words.{words_of};
+
+    /// All words of a line. It takes no memory. Own.
+    pub fn of(line: &'a [u8]) -> Self
+        ensures { result ≡ words_of line.now }
+    {
+        Words { rest: Some(line) }
+    }
+
+    /// The same words.
+    pub(crate) fn again(&self) -> Words<'a>
+        ensures { result ≡ self.now }
+    {
+        Words { rest: self.rest }
+    }
+
+    /// The next word, or None where none is left. It takes no memory. Own.
+    pub fn next(&mut self) -> Option<&'a [u8]>
+        ensures { MatchOption result ((self.old ≡ []) × (self.new ≡ []))
+            (λ word. self.old ≡ word.now ∷ self.new) }
+    {
+        let line = self.rest?;
+        let (word, rest) = first_word(line);
+        self.rest = rest;
+        Some(word)
+    }
+
+    /// Nothing, where no word is left, and else None. It takes no memory. Own.
+    pub fn end(&self) -> Option<()>
+        ensures { MatchOption result (self.now ≢ []) (λ _. self.now ≡ []) }
+    {
+        match self.rest {
+            None => Some(()),
+            Some(_) => None,
+        }
+    }
+}
+
+/// Whether a word is this one. It takes no memory. Own.
+pub fn is(word: &[u8], name: &str) -> bool
+    ensures { result ≡ bytes_eq word.now name.now }
+{
+    word == name.as_bytes()
+}
+
+/// Whether all are decimal digits.
+fn are_digits(word: &[u8]) -> bool
+    ensures { result ≡ list_all is_ascii_digit word.now }
+{
+    word.iter().all(|digit| digit.is_ascii_digit())
+}
+
+/// A number of 1 to 10 decimal digits, at most so much; or None. It takes no memory. Own.
+pub fn read_number(word: &[u8], most: u32) -> Option<u32>
+    ensures value { result ≡ decimal_of most word.now }
+    ensures within { IfSome result (λ number. number ≤ most) }
+{
+    if word.is_empty() || word.len() > 10 || !are_digits(word) {
+        return None;
+    }
+    let mut number = 0;
+    for digit in word {
+        number = 10 * number + u64::from(digit.saturating_sub(b'0'));
+        if number > u64::from(most) {
+            return None;
+        }
+    }
+    Some(number as u32)
+}
+
+/// Bytes of a name or a record, by their hex digits, or `-` where there are none, which contracts see as bytes. Own.
+#[derive(Drop)]
+pub struct Text<'a> {
+    word: &'a [u8],
+}
+
+impl<'a> Model for Text<'a> {
+    ghost use Rattle.std.specs.Prelude.{◌≡◌, List, ℕ, IsSome, unwrap_or, []};
+    ghost use Rattle.dap_text.specs.Words.{text_of};
+
+    ghost Value = { List ℕ };
+
+    ghost view = { λ t. unwrap_or (text_of t.word.now) [] };
+
+    ghost invariant = { λ t. IsSome (text_of t.word.now) };
+}
+
+/// The bytes that a word stands for.
+pub(crate) fn read_text(word: &[u8]) -> Option<Text<'_>>
+    ensures { result ≡ text_of word.now }
+{
+    match word {
+        b"-" => Some(Text { word }),
+        _ if is_hex_text(word) => Some(Text { word }),
+        _ => None,
+    }
+}
+
+/// The bytes that hex digits spell, an even number of them and at least two; or None. It takes no memory. Own.
+pub fn read_hex(digits: &[u8]) -> Option<Text<'_>>
+    ensures { result ≡ hex_of digits.now }
+{
+    if is_hex_text(digits) {
+        read_text(digits)
+    } else {
+        None
+    }
+}
+
+impl<'a> Text<'a> {
+    ghost use Rattle.std.specs.Prelude.{◌≡◌, IfOk};
+
+    /// The bytes, in memory of their own. Own.
+    pub fn to_vec(&self, alloc: Global) -> Result<Vec<u8>, AllocError>
+        ensures { IfOk result (λ bytes. bytes.items ≡ self.now) }
+    {
+        match self.word {
+            b"-" => Ok(Vec::new(alloc)),
+            digits => hex::decode(alloc, digits).map_err(|_| AllocError),
+        }
+    }
+}
+
+/// The bytes of records, each behind the other.
+#[derive(Drop)]
+pub(crate) struct Texts<'a> {
+    words: Words<'a>,
+}
+
+impl<'a> Model for Texts<'a> {
+    ghost use Rattle.std.specs.Prelude.{List, ℕ, IsSome, unwrap_or, []};
+    ghost use Rattle.dap_text.specs.Words.{texts_of};
+
+    ghost Value = { List (List ℕ) };
+
+    ghost view = { λ t. unwrap_or (texts_of t.words) [] };
+
+    ghost invariant = { λ t. IsSome (texts_of t.words) };
+}
+
+/// The bytes that words stand for, each of them a text.
+pub(crate) fn read_texts<'a>(words: Words<'a>) -> Option<Texts<'a>>
+    ensures { result ≡ texts_of words.entry }
+{
+    let mut left = words.again();
+    while let Some(word) = left.next() {
+        let _text = read_text(word)?;
+    }
+    Some(Texts { words })
+}
+
+impl<'a> Texts<'a> {
+    ghost use Rattle.std.specs.Prelude.{◌≡◌, IfOk};
+
+    /// The bytes.
+    pub(crate) fn to_list(&self, alloc: Global) -> Result<OctetsList, AllocError>
+        ensures { IfOk result (λ list. list ≡ self.now) }
+    {
+        let mut list = Vec::new(alloc);
+        let mut left = self.words.again();
+        while let Some(word) = left.next() {
+            let Some(text) = read_text(word) else {
+                unreachable!()
+            };
+            let bytes = text.to_vec(alloc)?;
+            list.push(Octets(bytes))?;
+        }
+        Ok(OctetsList(list))
+    }
+}

@@ -1,0 +1,170 @@
+#!/usr/bin/env python3
+"""Compares both live ends over a lossy line with `dapnsp run` over a clean one.
+
+usage: lossy_tests.py [--first SEED] [--seeds N] [--requests N] [--daplive PROGRAM] [--dapnsp PROGRAM]
+
+For each seed: so many mixed requests over a line that loses, repeats and reorders, with settings by the seed. The
+reports and the files have to be those of a schedule of the same requests in which each packet arrives once and in order;
+the exit statuses 0; and the transcript a capture in which `dapnsp show` finds nothing that is bad.
+"""
+import argparse
+import pathlib
+import random
+import re
+import subprocess
+import sys
+
+from lossy import Both, Line
+
+# the programs, as `./daplive` and `./dapnsp` build them
+BUILT = pathlib.Path(__file__).resolve().parent.parent / "crates"
+DAPLIVE = BUILT / "daplive/out/daplive"
+DAPNSP = BUILT / "dapnsp/out/dapnsp"
+# more events of a kind than a request takes
+MANY = 2048
+
+
+class Clean:
+    """A schedule of requests in which each packet arrives once and in order, found by trying its events."""
+
+    def __init__(self, program, asking, serving):
+        self.program, self.events, self.wrote, self.files = program, [], {"a": 0, "b": 0}, []
+        self.setup = f"setup 1400 2047 {asking} {serving}"
+
+    def tries(self, *events):
+        """Keeps the events before the first that is refused; what they came to, and why that one is refused."""
+        text = "".join(f"{event}\n" for event in (self.setup, *self.events, *events))
+        run = subprocess.run([str(self.program), "run"], input=text, capture_output=True, text=True, check=False)
+        if run.returncode not in (0, 1):
+            raise RuntimeError(f"dapnsp run: {run.stderr}")
+        told = re.findall(r"^\d+ (.*)$", run.stdout, re.M)[len(self.events):]
+        refused = told.pop().removeprefix("refused ") if run.returncode else None
+        self.events += events[:len(told)]
+        self.files = re.findall(r"^(?:file|  ).*$", run.stdout, re.M)
+        return told, refused
+
+    def writes(self, end, *before):
+        """Hands over what waits and writes all of it; the deliveries of the packets."""
+        told, refused = self.tries(*before, f"post {end}", *[f"emit {end}"] * MANY)
+        other = "b" if end == "a" else "a"
+        places = [line.split()[2] for line in told if line.startswith("packet ")]
+        return [f"deliver {other} {place}" for place in places], refused
+
+    def ask(self, request):
+        """The report of a request, or `refused` and why it isn't asked."""
+        deliveries, refused = self.writes("a", f"ask {request}")
+        if refused.startswith("ask-"):
+            return "refused " + refused
+        reports = []
+        while True:
+            served, _ = self.tries(*deliveries, *["serve"] * MANY)
+            if not served:
+                break
+            answers, _ = self.writes("b")
+            read, _ = self.tries(*answers, *["read"] * MANY)
+            reports += [line for line in read if line.startswith("report ")]
+            deliveries = []
+        if len(reports) != 1:
+            raise RuntimeError(f"dapnsp run: {len(reports)} reports of: {request}")
+        return reports[0]
+
+
+class Requests:
+    """Requests that mostly fit, by the reports that came."""
+
+    def __init__(self, chance, largest):
+        self.chance, self.largest, self.phase = chance, largest, "fresh"
+
+    def body(self):
+        size = self.chance.choice([3, 40, 40, self.largest])
+        return self.chance.randbytes(self.chance.randrange(size + 1)).hex() or "-"
+
+    def next(self):
+        choice = self.chance.choice
+        name = choice(["46", "47", "5359532e444154", "-"])
+        number = self.chance.randrange(12)
+        if self.phase == "fresh":
+            return "hello"
+        if self.phase == "ready":
+            if choice([True, False]):
+                return f"open {name} {choice([15, 15, 15, 7, 3, 2, 0])}"
+            rfm = choice([1, 2, 2])
+            mrs = choice([5, 20] if rfm == 1 else [0, 0, 30])
+            return f"create {name} {choice([0, 16])} {rfm} {mrs} {choice([0, 0, 9])} {choice([15, 15, 15, 7, 1])}"
+        if self.phase == "opened":
+            return choice(["connect"] * 8 + ["close", "purge"])
+        if self.phase == "stopped":
+            return "continue " + choice(["again", "skip", "skip", "abort"])
+        store = " ".join(["store"] + [self.body() for _ in range(self.chance.randrange(9))])
+        return choice(
+            ["get"] * 3 + [f"get key {number}", f"get rfa {number}"] + [f"put {self.body()}"] * 6
+            + [f"put key {number} {self.body()}"] * 3 + [f"update {self.body()}", "delete", "rewind", "rewind"]
+            + ["fetch", "fetch", "close", "purge", store])
+
+    def told(self, request, answer):
+        word = request.split()[0]
+        if answer.startswith("refused "):
+            return
+        if word == "hello" or word in ("close", "purge"):
+            self.phase = "ready"
+        elif word in ("create", "open") and answer.startswith("report opened"):
+            self.phase = "opened"
+        elif word == "connect" and answer == "report connected":
+            self.phase = "connected"
+        elif word == "store":
+            self.phase = "opened"
+        elif word in ("fetch", "continue"):
+            self.phase = "stopped" if answer.split()[3:4] == ["stopped"] else "connected"
+
+
+def differs(seed, count, daplive, dapnsp):
+    """What isn't as it has to be in the run of a seed."""
+    chance = random.Random(seed)
+    choice = chance.choice
+    segment, window = choice([1, 7, 64, 230, 512, 1400]), choice([1, 2, 8, 32, 127, 2047])
+    buffers = choice([64, 100, 1024, 4096]), choice([64, 100, 1024, 4096])
+    common = ["--segment", str(segment), "--window", str(min(window, 127) if segment == 1 else window), "--buffer"]
+    line = Line(chance.random(), choice([5, 20, 40]), choice([0, 10, 40]), choice([1, 4, 40]))
+    both = Both(line, [*common, str(buffers[0])], [*common, str(buffers[1])], daplive)
+    clean = Clean(dapnsp, *buffers)
+    requests = Requests(chance, 60 if segment < 64 else choice([60, 400, 3000]))
+    for _ in range(count):
+        request = requests.next()
+        answer = both.ask(request)
+        wanted = clean.ask(request)
+        if answer != wanted:
+            return f"{request[:60]}: {answer[:60]}, and over a clean line {wanted[:60]}"
+        requests.told(request, answer)
+    files = both.files()
+    if files != clean.files:
+        return "the files"
+    statuses = both.close()
+    if statuses != [0, 0]:
+        return f"the exit statuses are {statuses}"
+    capture = "".join(f"{line}\n" for line in both.transcript() if line[:1] in ("<", ">"))
+    shown = subprocess.run([str(dapnsp), "show"], input=capture, capture_output=True, text=True, check=False)
+    if shown.returncode or re.search(r"^(\d+ [<>]| ) bad ", shown.stdout, re.M):
+        return f"dapnsp show finds something bad in the transcript, or fails: {shown.stderr}"
+    return None
+
+
+def main():
+    parser = argparse.ArgumentParser(description="Compares both live ends over a lossy line with dapnsp run.")
+    parser.add_argument("--first", type=int, default=1)
+    parser.add_argument("--seeds", type=int, default=20)
+    parser.add_argument("--requests", type=int, default=25)
+    parser.add_argument("--daplive", default=DAPLIVE)
+    parser.add_argument("--dapnsp", default=DAPNSP)
+    options = parser.parse_args()
+    wrong = 0
+    for seed in range(options.first, options.first + options.seeds):
+        what = differs(seed, options.requests, options.daplive, options.dapnsp)
+        if what:
+            wrong += 1
+            print(f"lossy_tests: seed {seed}: {what}", file=sys.stderr)
+    print(f"lossy_tests: {options.seeds} seeds, {wrong} differ")
+    return 1 if wrong else 0
+
+
+if __name__ == "__main__":
+    sys.exit(main())
