@@ -1,0 +1,3 @@
+mod AgainLemmas
+mod ReachLemmas
+mod ResultLemmas

@@ -1,0 +1,5 @@
+use Rattle.std.proofs.Common.{inl}
+use Rattle.dap_live.proofs.asking.answer_one.Goals as goal
+
+pub returns-in-Ok : goal.returns-in-Ok
+returns-in-Ok c = inl (c.act.new.asking, c.in-Ok.ensures.ok, rw c.tells_reports-has_reports.ensures at c.tell.ensures)

@@ -1,0 +1,164 @@
+-- What the end that asks does by a line, and what it says.
+use Rattle.std.specs.Prelude.{◌≡◌, ◌≢◌, ◌⊎◌, ℕ, ◌++◌, Bool, true, false, List, [], ◌∷◌, codes, Result, Ok, Err, Option, Some, None}
+use Rattle.std.specs.List.{concat}
+use Rattle.std.specs.Fmt.{decimal}
+use Rattle.nsp_link.specs.declared.link.Got.{Got}
+use Rattle.nsp_link.specs.declared.fault.LinkFault.{LinkFault}
+use Rattle.nsp_link.specs.declared.fault.LinkFault.TheVariants.{Failed}
+use Rattle.nsp_link.specs.Link.{SetupFault}
+use Rattle.dap_accessing.specs.declared.request.Request.{Request}
+use Rattle.dap_accessing.specs.declared.report.Report.{Report}
+use Rattle.dap_accessing.specs.declared.fault.AskFault.{AskFault}
+use Rattle.dap_accessing.specs.declared.fault.AskFault.TheVariants.{Busy}
+use Rattle.dap_accessing.specs.Calls.{AskRefused}
+use Rattle.dap_end.specs.declared.fault.EndFault.{EndFault}
+use Rattle.dap_end.specs.declared.fault.TakeFault.{TakeFault}
+use Rattle.dap_end.specs.Ports.{new_port}
+use Rattle.dap_end.specs.Writing.{IsFull}
+use Rattle.dap_end.specs.Asking.{AskingValue, AskedOne, GoOnFault, HasAsked, NotTaken, TookAll, WentOn, nothing_asked}
+use Rattle.linewise.specs.declared.talking.Became.{Became}
+use Rattle.linewise.specs.declared.talking.Became.TheVariants.{Done, BadLine, NoMemory}
+use Rattle.dap_live.specs.declared.asking.Asking.{Asking}
+use Rattle.dap_live.specs.declared.orders.Anew.{Anew}
+use Rattle.dap_live.specs.declared.orders.Order.{Order}
+use Rattle.dap_live.specs.declared.orders.Order.TheVariants as order
+use Rattle.dap_live.specs.Orders.{order_of, setup_anew}
+use Rattle.dap_live.specs.Sending.{SaysAck, SaysAgain, waits_of}
+use Rattle.dap_live.specs.declared.asking.Front.{Front}
+use Rattle.dap_live.specs.declared.asking.Front.TheVariants.{Asked}
+use Rattle.dap_live.specs.declared.asking.Front.TheVariants as front
+use Rattle.dap_text.specs.Text.{line_feed}
+use Rattle.dap_live.specs.Texts.{ask_became, ask_refusal, end_became, end_refusal, link_became, link_line, packets_text, refused_line, reports_text, taken_became, taken_text}
+
+-- the reports were told, and none waits
+abbrev pub IsTold : Asking → Asking → Type 0
+IsTold old new = (new ≡ record old { reports = new.reports }) × (new.reports.items ≡ [])
+
+-- only the end moved, and reports came
+abbrev pub OnEnd : Asking → Asking → Type 0
+OnEnd old new = new ≡ record old { end = new.end; reports = new.reports }
+
+-- ---- A packet.
+
+-- what taking it comes to, the packets that are written then, and the reports that wait to be told
+abbrev pub Took : AskingValue → List ℕ → AskingValue → List (List ℕ) → (before reports : List Report) → Result Got TakeFault → Type 0
+Took old bytes new packets before reports (Ok got) = TookAll old new bytes got [] packets before reports
+Took old bytes new packets before reports (Err f) = NotTaken old new bytes [] packets before reports f
+
+pub record TakesPacket (old : Asking) (bytes : List ℕ) (new : Asking) (text : List ℕ) (became : Became) : Type 0 where
+  pub rest : OnEnd old new
+  pub taken : Result Got TakeFault
+  pub packets : List (List ℕ)
+  pub took : Took old.end bytes new.end packets old.reports.items new.reports.items taken
+  pub says : text ≡ taken_text taken new.reports.items packets
+  pub ends : became ≡ taken_became taken
+
+-- ---- A request.
+
+abbrev pub front_text : Front → List ℕ
+front_text (Asked count) = concat (codes "asked " ∷ decimal count ∷ line_feed ∷ [])
+front_text front.Busy = refused_line (codes "ask-busy")
+
+abbrev pub gone_text : Result (Unit {0}) EndFault → List ℕ
+gone_text (Ok done) = []
+gone_text (Err f) = end_refusal f
+
+abbrev pub gone_became : Result (Unit {0}) EndFault → Became
+gone_became (Ok done) = Done
+gone_became (Err f) = end_became f
+
+abbrev pub Went : AskingValue → AskingValue → List (List ℕ) → (before reports : List Report) → Result (Unit {0}) EndFault → Type 0
+Went old new packets before reports (Ok done) = WentOn old new [] packets before reports × IsFull new.port.link
+Went old new packets before reports (Err f) = GoOnFault old new [] packets before reports f
+
+-- This is said first, and then what going on comes to.
+pub record GoesOn (old : AskingValue) (before : List Report) (front : List ℕ) (new : Asking) (text : List ℕ) (became : Became) : Type 0 where
+  pub gone : Result (Unit {0}) EndFault
+  pub packets : List (List ℕ)
+  pub went : Went old new.end packets before new.reports.items gone
+  pub says : text ≡ front ++ (reports_text new.reports.items ++ (packets_text packets ++ gone_text gone))
+  pub ends : became ≡ gone_became gone
+
+-- it was asked, and its messages are on their way
+abbrev pub AsksIt : Asking → Request → Asking → List ℕ → Became → Type 0
+AsksIt old request new text became =
+    (count : ℕ) × (mid : AskingValue) × AskedOne request old.end mid count × GoesOn mid old.reports.items (front_text (Asked count)) new text became
+
+-- It wasn't. Where a report is due still, what is on its way goes on.
+abbrev pub AsksNot : Asking → Request → Asking → List ℕ → Became → AskFault → Type 0
+AsksNot old request new text became Busy = GoesOn old.end old.reports.items (front_text front.Busy) new text became
+AsksNot old request new text became f = (new ≡ old) × (text ≡ ask_refusal f) × (became ≡ ask_became f)
+
+abbrev pub AsksRunning : Asking → Request → Asking → List ℕ → Became → Type 0
+AsksRunning old request new text became = OnEnd old new × (AsksIt old request new text became
+    ⊎ ((f : AskFault) × AskRefused request old.end.accessing f × AsksNot old request new text became f))
+
+-- nothing is asked on a link that has failed
+abbrev pub Asks : Bool → Asking → Request → Asking → List ℕ → Became → Type 0
+Asks true old request new text became = (new ≡ old) × (text ≡ link_line Failed) × (became ≡ Done)
+Asks false old request new text became = AsksRunning old request new text became
+
+-- ---- A new link.
+
+-- it was made, and nothing was asked on it
+pub record Renewed (old : Asking) (anew : Anew) (new : Asking) : Type 0 where
+  pub after : HasAsked nothing_asked new.end
+  pub port : new.end.port ≡ new_port (setup_anew old.setup anew)
+  pub own : new.end.accessing.own ≡ old.end.accessing.own
+  pub setup : new.setup ≡ setup_anew old.setup anew
+  pub reports : new.reports.items ≡ []
+
+abbrev pub Renews : Asking → Anew → Asking → List ℕ → Became → Type 0
+Renews old anew new text became =
+    (Renewed old anew new × (text ≡ []) × (became ≡ Done))
+    ⊎ ((f : LinkFault) × SetupFault (setup_anew old.setup anew) f × (new ≡ old) × (text ≡ link_line f) × (became ≡ link_became f))
+
+-- ---- A line.
+
+-- what is said where the end stays as it is
+abbrev pub Tells : Asking → Asking → Became → Type 0
+Tells old new became = (new ≡ old) × (became ≡ Done)
+
+abbrev pub IsNone : Asking → Asking → List ℕ → Became → Type 0
+IsNone old new text became = (new ≡ old) × (text ≡ []) × (became ≡ BadLine)
+
+-- what is done by a line that says this, and what is said
+abbrev pub Does : Asking → Order → Asking → List ℕ → Became → Type 0
+Does old (order.Packet bytes) new text became = TakesPacket old bytes new text became
+Does old order.Resend new text became = Tells old new became × SaysAgain old.end.port.link text
+Does old order.Ack new text became = Tells old new became × SaysAck old.end.port.link text
+Does old (order.New anew) new text became = Renews old anew new text became
+Does old (order.Ask request) new text became = Asks old.end.port.link.failed old request new text became
+Does old order.Files new text became = IsNone old new text became
+Does old (order.File file) new text became = IsNone old new text became
+Does old (order.Record r) new text became = IsNone old new text became
+
+-- the answers to these have the reports
+abbrev pub has_reports : Order → Bool
+has_reports (order.Packet bytes) = true
+has_reports (order.Ask request) = true
+has_reports _ = false
+
+-- and then none waits
+abbrev pub TellsIf : Bool → Asking → Asking → Type 0
+TellsIf true old new = IsTold old new
+TellsIf false old new = new ≡ old
+
+abbrev pub DoesAll : Asking → Order → Asking → List ℕ → Became → Type 0
+DoesAll old o new text became = (mid : Asking) × Does old o mid text became × TellsIf (has_reports o) mid new
+
+-- it is done or it isn't, and nothing is said: its reports still wait
+abbrev pub Reaches : Asking → Order → Asking → Type 0
+Reaches old o new = (new ≡ old) ⊎ ((said : List ℕ) × (became : Became) × Does old o new said became)
+
+-- Where memory is refused to the text, nothing is said but that.
+abbrev pub DoesOrder : Asking → Option Order → Asking → List ℕ → Became → Type 0
+DoesOrder old None new text became = (new ≡ old) × (text ≡ []) × (became ≡ BadLine)
+DoesOrder old (Some o) new text became =
+    DoesAll old o new text became ⊎ (Reaches old o new × (text ≡ []) × (became ≡ NoMemory))
+
+abbrev pub answered : Asking → List ℕ → Asking → List ℕ → Became → Type 0
+answered old line new text became = DoesOrder old (order_of line) new text became
+
+abbrev pub waiting : Asking → ℕ
+waiting asking = waits_of asking.end.port.link

@@ -1,0 +1,6 @@
+pub mod Orders
+pub mod Texts
+pub mod Sending
+pub mod Serving
+pub mod Asking
+pub mod Inner

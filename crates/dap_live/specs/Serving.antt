@@ -1,0 +1,122 @@
+-- What the end that serves does by a line, and what it says.
+use Rattle.std.specs.Prelude.{◌≡◌, ◌⊎◌, ℕ, List, [], Result, Ok, Err, Option, Some, None, MatchOption}
+use Rattle.nsp_link.specs.declared.link.Got.{Got}
+use Rattle.nsp_link.specs.declared.fault.LinkFault.{LinkFault}
+use Rattle.nsp_link.specs.Link.{SetupFault}
+use Rattle.rec_file.specs.declared.shapes.Shape.{Shape}
+use Rattle.rec_file.specs.Shapes.{checked_shape}
+use Rattle.dap_msg.specs.Codes.{stscode, reason_number}
+use Rattle.dap_msg.specs.declared.codes.Reason.TheVariants.{BadAttributes}
+use Rattle.dap_accessed.specs.Adding.{with_new_file, with_record}
+use Rattle.dap_accessed.specs.declared.fault.AddFault.{AddFault}
+use Rattle.dap_end.specs.declared.fault.TakeFault.{TakeFault}
+use Rattle.dap_end.specs.Ports.{new_port}
+use Rattle.dap_end.specs.Serving.{ServingValue, IsAfter, IsGiven, NotAdded, NotStored, nothing_yet}
+use Rattle.dap_end.specs.Taking.{TookAll, NotTaken}
+use Rattle.linewise.specs.declared.talking.Became.{Became}
+use Rattle.linewise.specs.declared.talking.Became.TheVariants.{Done, BadLine, NoMemory}
+use Rattle.dap_text.specs.declared.filed.FileLine.{FileLine}
+use Rattle.dap_text.specs.declared.filed.RecordLine.{RecordLine}
+use Rattle.dap_text.specs.Tables.{files_text}
+use Rattle.dap_live.specs.declared.serving.Serving.{Serving}
+use Rattle.dap_live.specs.declared.orders.Anew.{Anew}
+use Rattle.dap_live.specs.declared.orders.Order.{Order}
+use Rattle.dap_live.specs.declared.orders.Order.TheVariants as order
+use Rattle.dap_live.specs.Orders.{order_of, setup_anew}
+use Rattle.dap_live.specs.Sending.{SaysAck, SaysAgain, waits_of}
+use Rattle.dap_live.specs.Texts.{add_became, add_refusal, link_became, link_line, status_line, taken_became, taken_text}
+
+-- ---- A packet.
+
+-- what taking it comes to, and the packets that are written then
+abbrev pub Took : ServingValue → List ℕ → ServingValue → List (List ℕ) → Result Got TakeFault → Type 0
+Took old bytes new packets (Ok got) = TookAll old new bytes got [] packets
+Took old bytes new packets (Err f) = NotTaken old new bytes [] packets f
+
+pub record TakesPacket (old : ServingValue) (bytes : List ℕ) (new : ServingValue) (text : List ℕ) (became : Became) : Type 0 where
+  pub taken : Result Got TakeFault
+  pub packets : List (List ℕ)
+  pub took : Took old bytes new packets taken
+  pub says : text ≡ taken_text taken [] packets
+  pub ends : became ≡ taken_became taken
+
+-- ---- A new link.
+
+-- it was made, over the same files
+pub record Renewed (old : Serving) (anew : Anew) (new : Serving) : Type 0 where
+  pub after : IsAfter (nothing_yet old.end.accessed.files) new.end
+  pub port : new.end.port ≡ new_port (setup_anew old.setup anew)
+  pub own : new.end.accessed.own ≡ old.end.accessed.own
+  pub setup : new.setup ≡ setup_anew old.setup anew
+
+abbrev pub Renews : Serving → Anew → Serving → List ℕ → Became → Type 0
+Renews old anew new text became =
+    (Renewed old anew new × (text ≡ []) × (became ≡ Done))
+    ⊎ ((f : LinkFault) × SetupFault (setup_anew old.setup anew) f × (new ≡ old) × (text ≡ link_line f) × (became ≡ link_became f))
+
+-- ---- Files that it is given.
+
+-- nothing was added, and this is why
+abbrev pub SaysWhy : (AddFault → Type 0) → ServingValue → ServingValue → List ℕ → Became → Type 0
+SaysWhy Why old new text became =
+    (f : AddFault) × Why f × (new ≡ old) × (text ≡ add_refusal f) × (became ≡ add_became f)
+
+-- one was added, and no packet moved
+pub record Added (old new : ServingValue) (text : List ℕ) (became : Became) : Type 0 where
+  pub given : IsGiven old new
+  pub port : new.port ≡ old.port
+  pub silent : text ≡ []
+  pub ends : became ≡ Done
+
+abbrev pub AddsShaped : ServingValue → List ℕ → Shape → ServingValue → List ℕ → Became → Type 0
+AddsShaped old name shape new text became =
+    ((new.accessed.files ≡ with_new_file name shape old.accessed.files) × Added old new text became)
+    ⊎ SaysWhy (NotAdded old name) old new text became
+
+-- where the attributes are none of a file, they are told before all else
+abbrev pub AddsFile : ServingValue → FileLine → ServingValue → List ℕ → Became → Type 0
+AddsFile old file new text became = MatchOption (checked_shape file.org file.rfm file.mrs file.mrn)
+    ((new ≡ old) × (text ≡ status_line stscode.access_refused (reason_number BadAttributes)) × (became ≡ Done))
+    (λ shape. AddsShaped old file.name shape new text became)
+
+abbrev pub AddsRecord : ServingValue → RecordLine → ServingValue → List ℕ → Became → Type 0
+AddsRecord old r new text became =
+    ((new.accessed.files ≡ with_record r.number r.body old.accessed.files) × Added old new text became)
+    ⊎ SaysWhy (NotStored old r.number r.body) old new text became
+
+-- ---- A line.
+
+-- only the end moved
+abbrev pub OnEnd : Serving → Serving → Type 0
+OnEnd old new = new ≡ record old { end = new.end }
+
+-- what is said where the end stays as it is
+abbrev pub Tells : Serving → Serving → Became → Type 0
+Tells old new became = (new ≡ old) × (became ≡ Done)
+
+-- what is done by a line that says this, and what is said
+abbrev pub Does : Serving → Order → Serving → List ℕ → Became → Type 0
+Does old (order.Packet bytes) new text became = OnEnd old new × TakesPacket old.end bytes new.end text became
+Does old order.Resend new text became = Tells old new became × SaysAgain old.end.port.link text
+Does old order.Ack new text became = Tells old new became × SaysAck old.end.port.link text
+Does old (order.New anew) new text became = Renews old anew new text became
+Does old order.Files new text became = Tells old new became × (text ≡ files_text old.end.accessed.files)
+Does old (order.File file) new text became = OnEnd old new × AddsFile old.end file new.end text became
+Does old (order.Record r) new text became = OnEnd old new × AddsRecord old.end r new.end text became
+Does old (order.Ask request) new text became = (new ≡ old) × (text ≡ []) × (became ≡ BadLine)
+
+-- it is done or it isn't, and nothing is said
+abbrev pub Reaches : Serving → Order → Serving → Type 0
+Reaches old o new = (new ≡ old) ⊎ ((said : List ℕ) × (became : Became) × Does old o new said became)
+
+-- Where memory is refused to the text, nothing is said but that.
+abbrev pub DoesOrder : Serving → Option Order → Serving → List ℕ → Became → Type 0
+DoesOrder old None new text became = (new ≡ old) × (text ≡ []) × (became ≡ BadLine)
+DoesOrder old (Some o) new text became =
+    Does old o new text became ⊎ (Reaches old o new × (text ≡ []) × (became ≡ NoMemory))
+
+abbrev pub answered : Serving → List ℕ → Serving → List ℕ → Became → Type 0
+answered old line new text became = DoesOrder old (order_of line) new text became
+
+abbrev pub waiting : Serving → ℕ
+waiting serving = waits_of serving.end.port.link

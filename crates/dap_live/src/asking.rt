@@ -1,0 +1,287 @@
+//! The end that asks, over lines.
+
+ghost use Rattle.std.specs.Prelude.{◌≡◌, ◌≢◌, ◌≤◌, ◌++◌, ◌⊎◌, [], ℕ, List, Some, OnOk, OnErr, IfOk, IfErr};
+ghost use Rattle.dap_msg.specs.Exchange.{least_buffer};
+ghost use Rattle.dap_msg.specs.Blocked.{bodies};
+ghost use Rattle.nsp_link.specs.Link.{SetupFault};
+ghost use Rattle.dap_end.specs.Ports.{new_port};
+ghost use Rattle.dap_end.specs.Asking.{HasAsked, nothing_asked};
+ghost use Rattle.dap_text.specs.Adding.{Adds};
+ghost use Rattle.linewise.specs.declared.talking.Became.{Became as TheBecame};
+ghost use Rattle.dap_live.specs.Texts.{packets_text, reports_text};
+ghost use Rattle.dap_live.specs.Asking.{Asks, AsksRunning, Does, DoesOrder, GoesOn, OnEnd, Reaches, Renews, TakesPacket, Took, TellsIf, Went, front_text, gone_became, gone_text, has_reports};
+
+use crate::orders::{Anew, Order, read_order, set_up};
+use crate::sending::{say_ack, say_again, waits};
+use crate::texts::{
+    push_ask_refusal, push_end_refusal, push_link_refusal, push_packets, push_refused,
+    push_reports, push_taken,
+};
+use dap_accessing::{AskFault, Report, Request};
+use dap_end::{AskingEnd, EndFault, TakeFault};
+use dap_text::{Text, Wish, push_number, push_str};
+use linewise::{Answers, Became};
+use nsp_link::{Got, LinkFault, LinkSetup};
+use std::alloc::{AllocError, Global};
+
+/// The end that asks, as an answerer of lines (own).
+#[derive(Drop)]
+pub struct Asking {
+    alloc: Global,
+    end: AskingEnd,
+    setup: LinkSetup,
+    // The reports that wait to be told: more than those of one line only where memory was refused.
+    reports: Vec<Report>,
+}
+
+impl Asking {
+    /// An end of which nothing was asked, with a buffer of so many bytes, at least 64. Refused as [`AskingEnd::new`]
+    /// is. Own.
+    pub fn new(alloc: Global, bufsiz: u16, setup: LinkSetup) -> Result<Asking, LinkFault>
+        requires { least_buffer ≤ bufsiz }
+        ensures after { IfOk result (λ a. HasAsked nothing_asked a.end) }
+        ensures port { IfOk result (λ a. a.end.port ≡ new_port setup) }
+        ensures own { IfOk result (λ a. a.end.accessing.own ≡ bufsiz) }
+        ensures setup { IfOk result (λ a. a.setup ≡ setup) }
+        ensures reports { IfOk result (λ a. a.reports.items ≡ []) }
+        ensures err { IfErr result (SetupFault setup) }
+    {
+        match AskingEnd::new(alloc, bufsiz, setup) {
+            Ok(end) => {
+                Ok(Asking {
+                    alloc,
+                    end,
+                    setup,
+                    reports: Vec::new(alloc),
+                })
+            }
+            Err(fault) => Err(fault),
+        }
+    }
+}
+
+/// Takes a packet, and goes on.
+fn take(
+    end: &mut AskingEnd,
+    bytes: &[u8],
+    packets: &mut Vec<Vec<u8>>,
+    reports: &mut Vec<Report>,
+) -> Result<Got, TakeFault>
+    requires { packets.old.items ≡ [] }
+    ensures { Took end.old bytes.now end.new (bodies packets.new.items)
+        reports.old.items reports.new.items result }
+{
+    end.take(bytes, packets, reports)
+}
+
+/// The answer to a packet.
+fn take_packet(
+    asking: &mut Asking,
+    digits: &Text<'_>,
+    text: &mut Vec<u8>,
+) -> Result<Became, AllocError>
+    requires { text.old.items ≡ [] }
+    ensures ok { IfOk result (TakesPacket asking.old digits.now asking.new text.new.items) }
+    ensures err { OnErr result ((asking.new ≡ asking.old) ⊎ ((said : List ℕ) × (became : TheBecame)
+        × TakesPacket asking.old digits.now asking.new said became)) }
+{
+    let bytes = digits.to_vec(asking.alloc)?;
+    let mut packets = Vec::new(asking.alloc);
+    let taken = take(&mut asking.end, &bytes, &mut packets, &mut asking.reports);
+    push_taken(text, taken, &asking.reports, &packets)
+}
+
+/// Reads, hands over and writes what is left.
+fn go_on(
+    end: &mut AskingEnd,
+    packets: &mut Vec<Vec<u8>>,
+    reports: &mut Vec<Report>,
+) -> Result<(), EndFault>
+    requires { packets.old.items ≡ [] }
+    ensures { Went end.old end.new (bodies packets.new.items)
+        reports.old.items reports.new.items result }
+{
+    end.go_on(packets, reports)
+}
+
+/// What going on came to.
+fn push_gone(
+    text: &mut Vec<u8>,
+    gone: Result<(), EndFault>,
+    reports: &Vec<Report>,
+    packets: &Vec<Vec<u8>>,
+) -> Result<Became, AllocError>
+    ensures text { OnOk result (Adds text.old text.new (reports_text reports.now.items
+        ++ (packets_text (bodies packets.now.items) ++ gone_text gone))) }
+    ensures became { IfOk result (λ became. became ≡ gone_became gone) }
+{
+    push_reports(text, reports)?;
+    push_packets(text, packets)?;
+    match gone {
+        Ok(()) => Ok(Became::Done),
+        Err(fault) => push_end_refusal(text, fault),
+    }
+}
+
+/// What is said before what going on comes to.
+#[derive(Clone, Copy)]
+pub(crate) enum Front {
+    /// A request was asked, by so many messages.
+    Asked(usize),
+    /// None was, since a report is due.
+    Busy,
+}
+
+fn push_front(text: &mut Vec<u8>, front: Front) -> Result<(), AllocError>
+    ensures { OnOk result (Adds text.old text.new (front_text front)) }
+{
+    match front {
+        Front::Asked(count) => {
+            push_number(text, "asked ", count)?;
+            push_str(text, "\n")
+        }
+        Front::Busy => push_refused(text, "ask-busy"),
+    }
+}
+
+/// Goes on, and says what comes of it behind this.
+fn go_on_behind(asking: &mut Asking, front: Front, text: &mut Vec<u8>) -> Result<Became, AllocError>
+    requires { text.old.items ≡ [] }
+    ensures end { OnEnd asking.old asking.new }
+    ensures ok { IfOk result (GoesOn asking.old.end asking.old.reports.items (front_text front)
+        asking.new text.new.items) }
+    ensures err { OnErr result ((said : List ℕ) × (became : TheBecame)
+        × GoesOn asking.old.end asking.old.reports.items (front_text front) asking.new said became) }
+{
+    let mut packets = Vec::new(asking.alloc);
+    let gone = go_on(&mut asking.end, &mut packets, &mut asking.reports);
+    push_front(text, front)?;
+    push_gone(text, gone, &asking.reports, &packets)
+}
+
+/// Asks a request, on a link that runs.
+fn ask_request(
+    asking: &mut Asking,
+    request: &Request,
+    text: &mut Vec<u8>,
+) -> Result<Became, AllocError>
+    requires { text.old.items ≡ [] }
+    ensures ok { IfOk result (AsksRunning asking.old request.now asking.new text.new.items) }
+    ensures err { OnErr result ((asking.new ≡ asking.old) ⊎ ((said : List ℕ) × (became : TheBecame)
+        × AsksRunning asking.old request.now asking.new said became)) }
+{
+    match asking.end.ask(request) {
+        Ok(count) => go_on_behind(asking, Front::Asked(count), text),
+        Err(AskFault::Busy) => go_on_behind(asking, Front::Busy, text),
+        Err(fault) => push_ask_refusal(text, fault),
+    }
+}
+
+/// Asks what the words say.
+fn ask(asking: &mut Asking, wish: &Wish<'_>, text: &mut Vec<u8>) -> Result<Became, AllocError>
+    requires { text.old.items ≡ [] }
+    ensures ok { IfOk result (Asks asking.old.end.port.link.failed asking.old wish.now asking.new
+        text.new.items) }
+    ensures err { OnErr result ((asking.new ≡ asking.old) ⊎ ((said : List ℕ) × (became : TheBecame)
+        × Asks asking.old.end.port.link.failed asking.old wish.now asking.new said became)) }
+{
+    if asking.end.link().has_failed() {
+        return push_link_refusal(text, LinkFault::Failed);
+    }
+    let request = wish.to_request(asking.alloc)?;
+    ask_request(asking, &request, text)
+}
+
+/// Makes the link anew.
+fn renew(asking: &mut Asking, anew: Anew, text: &mut Vec<u8>) -> Result<Became, AllocError>
+    requires { text.old.items ≡ [] }
+    ensures ok { IfOk result (Renews asking.old anew asking.new text.new.items) }
+    ensures err { OnErr result (asking.new ≡ asking.old) }
+{
+    let setup = set_up(asking.setup, anew);
+    match asking.end.renew(asking.alloc, setup) {
+        Ok(()) => {
+            asking.setup = setup;
+            asking.reports.clear();
+            Ok(Became::Done)
+        }
+        Err(fault) => push_link_refusal(text, fault),
+    }
+}
+
+/// Does what a line says.
+fn act(asking: &mut Asking, order: Order<'_>, text: &mut Vec<u8>) -> Result<Became, AllocError>
+    requires { text.old.items ≡ [] }
+    ensures ok { IfOk result (Does asking.old order.entry asking.new text.new.items) }
+    ensures err { OnErr result (Reaches asking.old order.entry asking.new) }
+{
+    match order {
+        Order::Packet(digits) => take_packet(asking, &digits, text),
+        Order::Ask(wish) => ask(asking, &wish, text),
+        Order::Resend => say_again(asking.end.link(), text),
+        Order::Ack => say_ack(asking.end.link(), text),
+        Order::New(anew) => renew(asking, anew, text),
+        Order::Files | Order::File(_) | Order::Record(_) => Ok(Became::BadLine),
+    }
+}
+
+/// Whether the answer has the reports.
+fn tells_reports(order: &Order<'_>) -> bool
+    ensures { result ≡ has_reports order.now }
+{
+    matches!(order, Order::Packet(_) | Order::Ask(_))
+}
+
+/// The reports were told, where the answer has them.
+fn tell(asking: &mut Asking, has_reports: bool)
+    ensures { TellsIf has_reports asking.old asking.new }
+{
+    if has_reports {
+        asking.reports.clear();
+    }
+}
+
+/// Answers an order.
+fn answer_one(asking: &mut Asking, order: Order<'_>, text: &mut Vec<u8>) -> Became
+    requires { text.old.items ≡ [] }
+    ensures { DoesOrder asking.old (Some order.entry) asking.new text.new.items result }
+{
+    let has_reports = tells_reports(&order);
+    match act(asking, order, text) {
+        Ok(became) => {
+            tell(asking, has_reports);
+            became
+        }
+        Err(_) => {
+            text.clear();
+            Became::NoMemory
+        }
+    }
+}
+
+/// Answers what a line says.
+fn answer_order(asking: &mut Asking, order: Option<Order<'_>>, text: &mut Vec<u8>) -> Became
+    requires { text.old.items ≡ [] }
+    ensures { DoesOrder asking.old order.entry asking.new text.new.items result }
+{
+    match order {
+        Some(order) => answer_one(asking, order, text),
+        None => Became::BadLine,
+    }
+}
+
+impl Answers for Asking {
+    ghost use Rattle.dap_live.specs.Asking.{answered, waiting};
+
+    ghost answered = { answered };
+
+    ghost waiting = { waiting };
+
+    fn answer(&mut self, line: &[u8], text: &mut Vec<u8>) -> Became {
+        answer_order(self, read_order(line), text)
+    }
+
+    fn waits(&self) -> usize {
+        waits(self.end.link())
+    }
+}

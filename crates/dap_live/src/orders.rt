@@ -1,0 +1,181 @@
+//! What the lines of a live end say.
+
+ghost use Rattle.std.specs.Prelude.{◌≡◌, ◌+◌, ◌*◌};
+ghost use Rattle.dap_live.specs.Orders.{address_of, anew_of, between_of, order_of, packet_of, setup_anew, verb_of, words_order};
+ghost use Rattle.dap_text.specs.Words.{ends};
+
+use dap_text::{
+    FileLine, RecordLine, Text, Wish, Words, is, read_file_line, read_hex, read_number,
+    read_record_line, read_wish,
+};
+use nsp_link::LinkSetup;
+
+/// How a link is set up anew; what isn't said is as before.
+#[derive(Clone, Copy, Debug)]
+pub(crate) enum Anew {
+    Same,
+    /// Between these addresses, the own one first.
+    Between(u16, u16),
+    /// Between these, with so many bytes in a segment at most.
+    Cut(u16, u16, u32),
+}
+
+/// What a line says. Its bytes are still digits.
+#[derive(Drop)]
+pub(crate) enum Order<'a> {
+    Packet(Text<'a>),
+    Resend,
+    Ack,
+    New(Anew),
+    Files,
+    File(FileLine<'a>),
+    Record(RecordLine<'a>),
+    Ask(Wish<'a>),
+}
+
+/// The first word of a line.
+#[derive(Clone, Copy)]
+pub(crate) enum Verb {
+    Packet,
+    Resend,
+    Ack,
+    New,
+    Files,
+    File,
+    Record,
+    Ask,
+}
+
+/// What a first word says.
+fn read_verb(word: &[u8]) -> Option<Verb>
+    ensures { result ≡ verb_of word.now }
+{
+    let verb = if is(word, ">") {
+        Verb::Packet
+    } else if is(word, "resend") {
+        Verb::Resend
+    } else if is(word, "ack") {
+        Verb::Ack
+    } else if is(word, "new") {
+        Verb::New
+    } else if is(word, "files") {
+        Verb::Files
+    } else if is(word, "file") {
+        Verb::File
+    } else if is(word, "") {
+        Verb::Record
+    } else if is(word, "ask") {
+        Verb::Ask
+    } else {
+        return None;
+    };
+    Some(verb)
+}
+
+/// `HEX`
+fn read_packet<'a>(mut words: Words<'a>) -> Option<Order<'a>>
+    ensures { result ≡ packet_of words.entry }
+{
+    let bytes = read_hex(words.next()?)?;
+    words.end()?;
+    Some(Order::Packet(bytes))
+}
+
+/// The number of two bytes.
+fn number_of(high: u8, low: u8) -> u16
+    ensures { result ≡ 256 * high + low }
+{
+    256 * u16::from(high) + u16::from(low)
+}
+
+/// An address, by four hex digits.
+fn read_address(word: &[u8]) -> Option<u16>
+    ensures { result ≡ address_of word.now }
+{
+    let mut bytes = [0; 2];
+    match hex::decode_to_slice(word, &mut bytes) {
+        Ok(()) => Some(number_of(bytes[0], bytes[1])),
+        Err(_) => None,
+    }
+}
+
+/// Nothing, or `SEGMENT`
+fn read_between<'a>(local: u16, remote: u16, mut words: Words<'a>) -> Option<Order<'a>>
+    ensures { result ≡ between_of local remote words.entry }
+{
+    let Some(word) = words.next() else {
+        return Some(Order::New(Anew::Between(local, remote)));
+    };
+    let segment = read_number(word, u32::MAX)?;
+    words.end()?;
+    Some(Order::New(Anew::Cut(local, remote, segment)))
+}
+
+/// Nothing, or `LOCAL REMOTE`, or `LOCAL REMOTE SEGMENT`
+fn read_anew<'a>(mut words: Words<'a>) -> Option<Order<'a>>
+    ensures { result ≡ anew_of words.entry }
+{
+    let Some(word) = words.next() else {
+        return Some(Order::New(Anew::Same));
+    };
+    let local = read_address(word)?;
+    let remote = read_address(words.next()?)?;
+    read_between(local, remote, words)
+}
+
+/// A line with one word.
+fn read_plain<'a>(words: Words<'a>, order: Order<'a>) -> Option<Order<'a>>
+    ensures { result ≡ ends order.entry words.entry }
+{
+    words.end()?;
+    Some(order)
+}
+
+/// What a line says, by its first word and those after it.
+fn read_words<'a>(line: &'a [u8], verb: Verb, words: Words<'a>) -> Option<Order<'a>>
+    ensures { result ≡ words_order line.now verb words.entry }
+{
+    match verb {
+        Verb::Packet => read_packet(words),
+        Verb::Resend => read_plain(words, Order::Resend),
+        Verb::Ack => read_plain(words, Order::Ack),
+        Verb::New => read_anew(words),
+        Verb::Files => read_plain(words, Order::Files),
+        Verb::File => Some(Order::File(read_file_line(line)?)),
+        Verb::Record => Some(Order::Record(read_record_line(line)?)),
+        Verb::Ask => Some(Order::Ask(read_wish(words)?)),
+    }
+}
+
+/// What a line says. It takes no memory.
+pub(crate) fn read_order(line: &[u8]) -> Option<Order<'_>>
+    ensures { result ≡ order_of line.now }
+{
+    let mut words = Words::of(line);
+    let verb = read_verb(words.next()?)?;
+    read_words(line, verb, words)
+}
+
+/// How a link is set up that was set up so.
+pub(crate) fn set_up(setup: LinkSetup, anew: Anew) -> LinkSetup
+    ensures { result ≡ setup_anew setup anew }
+{
+    match anew {
+        Anew::Same => setup,
+        Anew::Between(local, remote) => {
+            LinkSetup {
+                local,
+                remote,
+                ..setup
+            }
+        }
+        Anew::Cut(local, remote, segment) => {
+            LinkSetup {
+                local,
+                remote,
+                seg_size: segment as usize,
+                ..setup
+            }
+        }
+    }
+}

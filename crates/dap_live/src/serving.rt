@@ -1,0 +1,219 @@
+//! The end that serves, over lines.
+
+ghost use Rattle.std.specs.Prelude.{◌≡◌, ◌≤◌, ◌⊎◌, [], ℕ, List, Some, OnOk, OnErr, IfOk, IfErr, IsTrue};
+ghost use Rattle.dap_msg.specs.Exchange.{least_buffer};
+ghost use Rattle.dap_msg.specs.Blocked.{bodies};
+ghost use Rattle.nsp_link.specs.Link.{SetupFault};
+ghost use Rattle.dap_end.specs.Ports.{new_port};
+ghost use Rattle.dap_end.specs.Serving.{IsAfter, nothing_yet};
+ghost use Rattle.dap_text.specs.Tables.{files_text};
+ghost use Rattle.rec_file.specs.Shapes.{is_shape};
+ghost use Rattle.linewise.specs.declared.talking.Became.{Became as TheBecame};
+ghost use Rattle.dap_live.specs.Serving.{AddsFile, AddsRecord, AddsShaped, Does, DoesOrder, Reaches, Renews, TakesPacket, Took};
+
+use crate::orders::{Anew, Order, read_order, set_up};
+use crate::sending::{say_ack, say_again, waits};
+use crate::texts::{push_add_refusal, push_link_refusal, push_status, push_taken};
+use dap_end::{ServingEnd, TakeFault};
+use dap_msg::codes::{ACCESS_REFUSED, Reason};
+use dap_text::{FileLine, RecordLine, Text, push_files};
+use linewise::{Answers, Became};
+use nsp_link::{Got, LinkFault, LinkSetup};
+use rec_file::Shape;
+use std::alloc::{AllocError, Global};
+
+/// The end that serves, as an answerer of lines (own).
+#[derive(Drop)]
+pub struct Serving {
+    alloc: Global,
+    end: ServingEnd,
+    setup: LinkSetup,
+}
+
+impl Serving {
+    /// An end without files, with a buffer of so many bytes, at least 64. Refused as [`ServingEnd::new`] is. Own.
+    pub fn new(alloc: Global, bufsiz: u16, setup: LinkSetup) -> Result<Serving, LinkFault>
+        requires { least_buffer ≤ bufsiz }
+        ensures after { IfOk result (λ s. IsAfter (nothing_yet []) s.end) }
+        ensures port { IfOk result (λ s. s.end.port ≡ new_port setup) }
+        ensures own { IfOk result (λ s. s.end.accessed.own ≡ bufsiz) }
+        ensures setup { IfOk result (λ s. s.setup ≡ setup) }
+        ensures err { IfErr result (SetupFault setup) }
+    {
+        match ServingEnd::new(alloc, bufsiz, setup) {
+            Ok(end) => Ok(Serving { alloc, end, setup }),
+            Err(fault) => Err(fault),
+        }
+    }
+}
+
+/// Takes a packet, and goes on.
+fn take(end: &mut ServingEnd, bytes: &[u8], packets: &mut Vec<Vec<u8>>) -> Result<Got, TakeFault>
+    requires { packets.old.items ≡ [] }
+    ensures { Took end.old bytes.now end.new (bodies packets.new.items) result }
+{
+    end.take(bytes, packets)
+}
+
+/// The answer to a packet.
+fn take_packet(
+    alloc: Global,
+    end: &mut ServingEnd,
+    digits: &Text<'_>,
+    text: &mut Vec<u8>,
+) -> Result<Became, AllocError>
+    requires { text.old.items ≡ [] }
+    ensures ok { IfOk result (TakesPacket end.old digits.now end.new text.new.items) }
+    ensures err { OnErr result ((end.new ≡ end.old) ⊎ ((said : List ℕ) × (became : TheBecame)
+        × TakesPacket end.old digits.now end.new said became)) }
+{
+    let bytes = digits.to_vec(alloc)?;
+    let mut packets = Vec::new(alloc);
+    let taken = take(end, &bytes, &mut packets);
+    let reports = Vec::new(alloc);
+    push_taken(text, taken, &reports, &packets)
+}
+
+/// Makes the link anew, over the same files.
+fn renew(serving: &mut Serving, anew: Anew, text: &mut Vec<u8>) -> Result<Became, AllocError>
+    requires { text.old.items ≡ [] }
+    ensures ok { IfOk result (Renews serving.old anew serving.new text.new.items) }
+    ensures err { OnErr result (serving.new ≡ serving.old) }
+{
+    let setup = set_up(serving.setup, anew);
+    match serving.end.renew(serving.alloc, setup) {
+        Ok(()) => {
+            serving.setup = setup;
+            Ok(Became::Done)
+        }
+        Err(fault) => push_link_refusal(text, fault),
+    }
+}
+
+/// Adds a file of a shape.
+fn add_shaped(
+    end: &mut ServingEnd,
+    name: &[u8],
+    shape: Shape,
+    text: &mut Vec<u8>,
+) -> Result<Became, AllocError>
+    requires shape { IsTrue (is_shape shape) }
+    requires text { text.old.items ≡ [] }
+    ensures ok { IfOk result (AddsShaped end.old name.now shape end.new text.new.items) }
+    ensures err { OnErr result (end.new ≡ end.old) }
+{
+    match end.add(name, shape) {
+        Ok(()) => Ok(Became::Done),
+        Err(fault) => push_add_refusal(text, fault),
+    }
+}
+
+/// Adds a file.
+fn add_file(
+    alloc: Global,
+    end: &mut ServingEnd,
+    file: &FileLine<'_>,
+    text: &mut Vec<u8>,
+) -> Result<Became, AllocError>
+    requires { text.old.items ≡ [] }
+    ensures ok { IfOk result (AddsFile end.old file.now end.new text.new.items) }
+    ensures err { OnErr result (end.new ≡ end.old) }
+{
+    let shape = match Shape::check(file.org, file.rfm, file.mrs, u64::from(file.mrn)) {
+        Some(shape) => shape,
+        None => {
+            push_status(text, ACCESS_REFUSED, Reason::BadAttributes.number())?;
+            return Ok(Became::Done);
+        }
+    };
+    let name = file.name.to_vec(alloc)?;
+    add_shaped(end, &name, shape, text)
+}
+
+/// Adds a record to the newest file.
+fn add_record(
+    alloc: Global,
+    end: &mut ServingEnd,
+    record: &RecordLine<'_>,
+    text: &mut Vec<u8>,
+) -> Result<Became, AllocError>
+    requires { text.old.items ≡ [] }
+    ensures ok { IfOk result (AddsRecord end.old «record».now end.new text.new.items) }
+    ensures err { OnErr result (end.new ≡ end.old) }
+{
+    let body = record.body.to_vec(alloc)?;
+    match end.add_record(record.number, &body) {
+        Ok(()) => Ok(Became::Done),
+        Err(fault) => push_add_refusal(text, fault),
+    }
+}
+
+/// The lines of the files.
+fn list_files(end: &ServingEnd, text: &mut Vec<u8>) -> Result<Became, AllocError>
+    requires { text.old.items ≡ [] }
+    ensures { IfOk result (λ became. (became ≡ Became.Done)
+        × (text.new.items ≡ files_text end.now.accessed.files)) }
+{
+    push_files(text, end.files())?;
+    Ok(Became::Done)
+}
+
+/// Does what a line says.
+fn act(serving: &mut Serving, order: Order<'_>, text: &mut Vec<u8>) -> Result<Became, AllocError>
+    requires { text.old.items ≡ [] }
+    ensures ok { IfOk result (Does serving.old order.entry serving.new text.new.items) }
+    ensures err { OnErr result (Reaches serving.old order.entry serving.new) }
+{
+    let alloc = serving.alloc;
+    match order {
+        Order::Packet(digits) => take_packet(alloc, &mut serving.end, &digits, text),
+        Order::Resend => say_again(serving.end.link(), text),
+        Order::Ack => say_ack(serving.end.link(), text),
+        Order::New(anew) => renew(serving, anew, text),
+        Order::Files => list_files(&serving.end, text),
+        Order::File(file) => add_file(alloc, &mut serving.end, &file, text),
+        Order::Record(record) => add_record(alloc, &mut serving.end, &record, text),
+        Order::Ask(_) => Ok(Became::BadLine),
+    }
+}
+
+/// Answers an order.
+fn answer_one(serving: &mut Serving, order: Order<'_>, text: &mut Vec<u8>) -> Became
+    requires { text.old.items ≡ [] }
+    ensures { DoesOrder serving.old (Some order.entry) serving.new text.new.items result }
+{
+    match act(serving, order, text) {
+        Ok(became) => became,
+        Err(_) => {
+            text.clear();
+            Became::NoMemory
+        }
+    }
+}
+
+/// Answers what a line says.
+fn answer_order(serving: &mut Serving, order: Option<Order<'_>>, text: &mut Vec<u8>) -> Became
+    requires { text.old.items ≡ [] }
+    ensures { DoesOrder serving.old order.entry serving.new text.new.items result }
+{
+    match order {
+        Some(order) => answer_one(serving, order, text),
+        None => Became::BadLine,
+    }
+}
+
+impl Answers for Serving {
+    ghost use Rattle.dap_live.specs.Serving.{answered, waiting};
+
+    ghost answered = { answered };
+
+    ghost waiting = { waiting };
+
+    fn answer(&mut self, line: &[u8], text: &mut Vec<u8>) -> Became {
+        answer_order(self, read_order(line), text)
+    }
+
+    fn waits(&self) -> usize {
+        waits(self.end.link())
+    }
+}

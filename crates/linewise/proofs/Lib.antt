@@ -1,0 +1,4 @@
+mod InputLemmas
+mod OutputLemmas
+mod SliceLemmas
+mod TalkLemmas

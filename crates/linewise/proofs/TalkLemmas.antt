@@ -1,0 +1,84 @@
+-- How a talk begins, goes on and ends.
+use Rattle.std.proofs.Common.{◌≡◌, ◌<◌, ◌++◌, ℕ, Bool, ◌||◌, false, List, [], length, take, sym, subst, refl, Option, Some, None, IfSome}
+use Rattle.std.specs.Io.KnownBytes.{Appends, Keeps, IsAtEnd}
+use Rattle.std.specs.Io.BufRead.{first_line, drop_through}
+use Rattle.std.proofs.KnownBytes.{Appends-nil, Appends-trans, Appends-kept, Keeps-refl}
+use Rattle.linewise.specs.Output.{WritesFront}
+use Rattle.linewise.specs.declared.talking.Became.{Became}
+use Rattle.linewise.specs.declared.talking.TalkFault.{TalkFault}
+use Rattle.linewise.specs.declared.talking.TalkFault.TheVariants.{ReadFailed, WriteFailed}
+use Rattle.linewise.specs.declared.talking.Next.{Next}
+use Rattle.linewise.specs.declared.talking.Next.TheVariants.{Over, Line}
+use Rattle.linewise.specs.Talks.{Answering, SaysTo, Fails, Talked, StopsBefore, BreaksOff, is_bad}
+use Rattle.linewise.specs.Inner.Steps.{HasTalked, Says, Breaks, Goes, Ends}
+
+module _ {E : Type 0} (answered : Answering E) (waiting : E → ℕ) where
+  pub begins : (e : E) (unread written : Option (List ℕ)) → HasTalked answered waiting e unread written e unread written false
+  begins e None written = _
+  begins e (Some input) written = (input, [], refl, Appends-nil written, Talked.begins)
+
+  -- one line more was answered
+  pub goes_on : (old now next : E) (unread written left holds later_left later_holds : Option (List ℕ)) (bad : Bool) (became : Option Became)
+      → HasTalked answered waiting old unread written now left holds bad
+      → Goes answered waiting now next left later_left holds later_holds (Line became)
+      → HasTalked answered waiting old unread written next later_left later_holds (bad || is_bad became)
+  goes_on old now next None written left holds later_left later_holds bad became before line = _
+  goes_on old now next (Some input) written left holds later_left later_holds bad became before line =
+      let (some, dropped, says) = rw before.2 at line in (
+        drop_through 10 before.0,
+        before.1 ++ says.0,
+        dropped,
+        Appends-trans written holds later_holds before.1 says.0 before.3 says.2,
+        Talked.goes now before.0 before.1 says.0 bad became before.4 some says.1,
+      )
+
+  at_end : (left : Option (List ℕ)) (rest : List ℕ) → left ≡ Some rest → IsAtEnd left → rest ≡ []
+  at_end left rest is over = rw is at over
+
+  pub ends : (old now next : E) (unread written left later holds last : Option (List ℕ)) (bad : Bool)
+      → HasTalked answered waiting old unread written now left holds bad → Goes answered waiting now next left later holds last Over
+      → IfSome unread (λ input. (text : List ℕ) × Talked answered waiting old input next [] text bad × Appends written last text)
+  ends old now next None written left later holds last bad before over = _
+  ends old now next (Some input) written left later holds last bad before over = (
+    before.1,
+    subst (λ e. Talked answered waiting old input e [] before.1 bad) (sym over.1)
+        (subst (λ rest. Talked answered waiting old input now rest before.1 bad) (at_end left before.0 before.2 over.0) before.4),
+    Appends-kept written holds last before.1 before.3 over.2,
+  )
+
+  pub fails : (old now next : E) (unread written left holds last : Option (List ℕ)) (bad : Bool) (f : TalkFault)
+      → HasTalked answered waiting old unread written now left holds bad
+      → Ends answered waiting now next left holds last f
+      → IfSome unread (λ input. Fails answered waiting old input next written last f)
+  fails old now next None written left holds last bad f before end = _
+  fails old now next (Some input) written left holds last bad WriteFailed before end =
+      let broke : Breaks answered waiting now (first_line before.0) next holds last = rw before.2 at end in
+      let front = broke.3 in
+      record {
+        now = now;
+        rest = before.0;
+        said = before.1;
+        more = broke.1;
+        bad = bad;
+        became = broke.0;
+        count = front.0;
+        talked = before.4;
+        answers = broke.2;
+        front = front.1;
+        holds_front = Appends-trans written holds last before.1 (take front.0 broke.1) before.3 front.2;
+      }
+  fails old now next (Some input) written left holds last bad ReadFailed before end =
+      record {
+        rest = before.0;
+        said = before.1;
+        bad = bad;
+        talked = subst (λ e. Talked answered waiting old input e before.0 before.1 bad) (sym end.0) before.4;
+        holds_said = Appends-kept written holds last before.1 before.3 end.1;
+      }
+
+  -- the last round ends a talk too
+  pub gives_up : (old now : E) (unread written left holds : Option (List ℕ)) (bad : Bool)
+      → HasTalked answered waiting old unread written now left holds bad
+      → IfSome unread (λ input. Fails answered waiting old input now written holds ReadFailed)
+  gives_up old now unread written left holds bad before =
+      fails old now now unread written left holds holds bad ReadFailed before (refl, Keeps-refl holds)

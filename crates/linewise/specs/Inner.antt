@@ -1,0 +1,3 @@
+-- What only the contracts of private functions cite: nobody has to believe it.
+pub mod Kept
+pub mod Steps

@@ -1,0 +1,38 @@
+-- What is kept of a line while it is read.
+use Rattle.std.specs.Prelude.{◌≡◌, ◌≢◌, ℕ, ◌+◌, ◌<◌, ◌≤◌, Bool, true, All, List, [], ◌++◌, length, Option, Result, Ok, IfSome, OnSome, vec_len}
+use Rattle.std.specs.Io.{StopsAt, IsEmptyOrEndsWith}
+use Rattle.std.specs.Io.KnownBytes.{Consumes, IsAtEnd}
+use Rattle.std.specs.Io.BufRead.{take_through, DropsThrough}
+use Rattle.std.specs.Global.{Vec}
+use Rattle.linewise.specs.Talks.{longest}
+use Rattle.linewise.specs.declared.input.Kept.{Kept}
+use Rattle.linewise.specs.declared.input.Kept.TheVariants.{All as whole, TooLong, NoMemory}
+use Rattle.linewise.specs.declared.input.Line.{Line}
+
+-- these bytes were read of it
+abbrev pub HoldsAs : Kept → List ℕ → List ℕ → Type 0
+HoldsAs whole kept read = (kept ≡ read) × (length kept ≤ longest + 2)
+HoldsAs TooLong kept read = longest + 2 < length read
+HoldsAs NoMemory kept read = 0 < length read
+
+abbrev pub Holds : Line → List ℕ → Type 0
+Holds line read = HoldsAs line.kept line.bytes.items read
+
+abbrev pub HoldsMore : Line → Line → List ℕ → Type 0
+HoldsMore old new more = (read : List ℕ) → Holds old read → Holds new (read ++ more)
+
+-- Some bytes were taken of the reader, and are kept so. They go no further than the first line feed, and to it, or to the
+-- end, where the line is done.
+pub record Passes (unread left : Option (List ℕ)) (old new : Line) (done : Bool) : Type 0 where
+  pub bytes : List ℕ
+  pub taken : Consumes unread left bytes
+  pub kept : HoldsMore old new bytes
+  pub stops : StopsAt bytes 10
+  pub ends : done ≡ true → IsEmptyOrEndsWith bytes 10
+  pub end : done ≡ true → length bytes ≡ 0 → OnSome unread (IsAtEnd left)
+  pub goes : done ≢ true → All (λ byte. byte ≢ 10) bytes
+
+-- a whole line was read, of which there are no bytes where none is left
+abbrev pub HasRead : Option (List ℕ) → Option (List ℕ) → Line → Type 0
+HasRead unread left line = (read : List ℕ) × Holds line read
+    × IfSome unread (λ rest. read ≡ take_through 10 rest) × DropsThrough unread left 10

@@ -1,0 +1,111 @@
+-- What an end and a partner say to each other, line by line.
+use Rattle.std.specs.Prelude.{◌≡◌, ◌≢◌, ◌⊎◌, ℕ, ◌<◌, ◌≤◌, ◌==◌, Bool, true, false, ◌||◌, List, [], ◌∷◌, ◌++◌, length, take, codes, if◌then◌else◌, Some, None, Option}
+use Rattle.std.specs.Fmt.{decimal}
+use Rattle.std.specs.Io.KnownBytes.{Appends}
+use Rattle.std.specs.Io.BufRead.{first_line, drop_through, ends_with_byte, strip_last}
+use Rattle.linewise.specs.declared.talking.Became.{Became}
+use Rattle.linewise.specs.declared.talking.Became.TheVariants.{Done, BadLine, NoMemory}
+use Rattle.linewise.specs.declared.talking.TalkFault.{TalkFault}
+use Rattle.linewise.specs.declared.talking.TalkFault.TheVariants.{ReadFailed, WriteFailed}
+
+-- ---- A line.
+
+-- the most bytes of a line, without its end
+abbrev pub longest : ℕ
+longest = 16777216
+
+-- an empty line, and one that begins with `#`, say nothing
+abbrev pub is_skipped : List ℕ → Bool
+is_skipped [] = true
+is_skipped (first ∷ others) = first == 35
+
+-- a line without the line feed, or carriage return and line feed, at its end
+abbrev pub without_end : List ℕ → List ℕ
+without_end line = if ends_with_byte 10 line then strip_last 13 (strip_last 10 line) else strip_last 10 line
+
+-- ---- An answer.
+
+-- the line of a refusal that every end may give
+abbrev pub refusal_of : Became → List ℕ
+refusal_of Done = []
+refusal_of BadLine = codes "refused bad-line\n"
+refusal_of NoMemory = codes "refused no-memory\n"
+
+-- the last line: so many packets would be sent again
+abbrev pub waits_text : ℕ → List ℕ
+waits_text count = codes "waits " ++ (decimal count ++ codes "\n")
+
+-- how an answer ends
+abbrev pub ending_of : Became → ℕ → List ℕ
+ending_of became count = refusal_of became ++ waits_text count
+
+-- An answer is the end's text and its ending; a line that says nothing has none.
+abbrev pub said_of : List ℕ → Option Became → ℕ → List ℕ
+said_of text None count = []
+said_of text (Some became) count = text ++ ending_of became count
+
+-- what an end does by a line: what it is then, the text that it says, and what became of the line
+abbrev pub Answering : Type 0 → Type 1
+Answering E = E → List ℕ → E → List ℕ → Became → Type 0
+
+-- a line that the end doesn't get: it is too long, or memory was refused to it
+abbrev pub IsUnread : List ℕ → Became → Type 0
+IsUnread line Done = ⊥
+IsUnread line BadLine = longest < length line
+IsUnread line NoMemory = Unit {0}
+
+-- what comes of a line
+abbrev pub AnswersLine : {E : Type 0} → Answering E → E → List ℕ → E → List ℕ → Option Became → Type 0
+AnswersLine answered old line new text None =
+    (is_skipped line ≡ true) × (length line ≤ longest) × (new ≡ old) × (text ≡ [])
+AnswersLine answered old line new text (Some became) =
+    (IsUnread line became × (new ≡ old) × (text ≡ []))
+    ⊎ ((is_skipped line ≡ false) × (length line ≤ longest) × answered old line new text became)
+
+-- and what is said to it
+pub record SaysTo {E : Type 0} (answered : Answering E) (waiting : E → ℕ) (old : E) (line : List ℕ) (new : E) (said : List ℕ) (became : Option Became) : Type 0 where
+  pub text : List ℕ
+  pub answers : AnswersLine answered old line new text became
+  pub says : said ≡ said_of text became (waiting new)
+
+-- ---- A conversation.
+
+abbrev pub is_bad : Option Became → Bool
+is_bad (Some BadLine) = true
+is_bad _ = false
+
+-- The end answered the lines of an input up to this rest, one after another, and came from old to new; the text is its
+-- answers, end to end; some line was bad, or none.
+pub data Talked {E : Type 0} (answered : Answering E) (waiting : E → ℕ) : E → List ℕ → E → List ℕ → List ℕ → Bool → Type 0 where
+  begins : {e : E} {input : List ℕ} → Talked answered waiting e input e input [] false
+  goes : {old new : E} {input : List ℕ} (now : E) (rest said more : List ℕ) (bad : Bool) (became : Option Became)
+      → Talked answered waiting old input now rest said bad → 0 < length rest
+      → SaysTo answered waiting now (first_line rest) new more became
+      → Talked answered waiting old input new (drop_through 10 rest) (said ++ more) (bad || is_bad became)
+
+-- The writer failed at an answer, of which it holds a front behind those before it.
+pub record BreaksOff {E : Type 0} (answered : Answering E) (waiting : E → ℕ) (old : E) (input : List ℕ) (new : E) (written holds : Option (List ℕ)) : Type 0 where
+  pub now : E
+  pub rest : List ℕ
+  pub said : List ℕ
+  pub more : List ℕ
+  pub bad : Bool
+  pub became : Option Became
+  pub count : ℕ
+  pub talked : Talked answered waiting old input now rest said bad
+  pub answers : SaysTo answered waiting now (first_line rest) new more became
+  pub front : count ≤ length more
+  pub holds_front : Appends written holds (said ++ take count more)
+
+-- The lines up to some rest were answered, and nothing else was written.
+pub record StopsBefore {E : Type 0} (answered : Answering E) (waiting : E → ℕ) (old : E) (input : List ℕ) (new : E) (written holds : Option (List ℕ)) : Type 0 where
+  pub rest : List ℕ
+  pub said : List ℕ
+  pub bad : Bool
+  pub talked : Talked answered waiting old input new rest said bad
+  pub holds_said : Appends written holds said
+
+-- what was said where a talk ended before its input did
+abbrev pub Fails : {E : Type 0} → Answering E → (E → ℕ) → E → List ℕ → E → Option (List ℕ) → Option (List ℕ) → TalkFault → Type 0
+Fails answered waiting old input new written holds WriteFailed = BreaksOff answered waiting old input new written holds
+Fails answered waiting old input new written holds ReadFailed = StopsBefore answered waiting old input new written holds

@@ -1,0 +1,8 @@
+//! An end that answers lines, each as soon as it has come.
+#![tactic(auto)]
+
+mod input;
+mod output;
+mod talking;
+
+pub use talking::{Answers, Became, TalkFault, talk};

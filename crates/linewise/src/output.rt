@@ -1,0 +1,129 @@
+//! Writing one answer.
+
+ghost use Rattle.std.specs.Prelude.{◌≡◌, ◌++◌, OnOk, IfErr, codes};
+ghost use Rattle.std.specs.Fmt.{decimal};
+ghost use Rattle.std.specs.Io.KnownBytes.{Appends, Keeps};
+ghost use Rattle.linewise.specs.Output.{WritesFront};
+ghost use Rattle.linewise.specs.Talks.{ending_of, refusal_of, waits_text};
+
+use crate::talking::{Became, TalkFault};
+use itoa::Buffer;
+use std::io::Write;
+
+/// Writes a text.
+fn write_text<W: Write>(text: &[u8], writer: &mut W) -> Result<(), TalkFault>
+    ensures whole { OnOk result (Appends (W.contents writer.old) (W.contents writer.new) text.now) }
+    ensures fault { IfErr result (λ fault. fault ≡ TalkFault.WriteFailed) }
+    ensures front { WritesFront (W.contents writer.old) (W.contents writer.new) text.now }
+{
+    let mut written = 0;
+    while written < text.len() {
+        match writer.write(&text[written..]) {
+            Ok(0) | Err(_) => return Err(TalkFault::WriteFailed),
+            Ok(count) => written += count,
+        }
+    }
+    Ok(())
+}
+
+/// Writes a text behind another.
+fn write_both<W: Write>(first: &[u8], second: &[u8], writer: &mut W) -> Result<(), TalkFault>
+    ensures whole { OnOk result (Appends (W.contents writer.old) (W.contents writer.new)
+        (first.now ++ second.now)) }
+    ensures fault { IfErr result (λ fault. fault ≡ TalkFault.WriteFailed) }
+    ensures front { WritesFront (W.contents writer.old) (W.contents writer.new)
+        (first.now ++ second.now) }
+{
+    match write_text(first, writer) {
+        Ok(()) => write_text(second, writer),
+        Err(fault) => Err(fault),
+    }
+}
+
+/// Writes the last line of an answer.
+fn write_waits<W: Write>(waits: usize, writer: &mut W) -> Result<(), TalkFault>
+    ensures whole { OnOk result (Appends (W.contents writer.old) (W.contents writer.new)
+        (waits_text waits)) }
+    ensures fault { IfErr result (λ fault. fault ≡ TalkFault.WriteFailed) }
+    ensures front { WritesFront (W.contents writer.old) (W.contents writer.new) (waits_text waits) }
+{
+    let mut digits = Buffer::new();
+    match write_text(b"waits ", writer) {
+        Ok(()) => write_both(digits.format(waits).as_bytes(), b"\n", writer),
+        Err(fault) => Err(fault),
+    }
+}
+
+/// The line of a refusal.
+fn refusal_line(became: Became) -> &'static [u8]
+    ensures { result.now ≡ refusal_of became }
+{
+    match became {
+        Became::Done => b"",
+        Became::BadLine => b"refused bad-line\n",
+        Became::NoMemory => b"refused no-memory\n",
+    }
+}
+
+/// Writes how an answer ends. It takes no memory.
+fn write_ending<W: Write>(became: Became, waits: usize, writer: &mut W) -> Result<(), TalkFault>
+    ensures whole { OnOk result (Appends (W.contents writer.old) (W.contents writer.new)
+        (ending_of became waits)) }
+    ensures fault { IfErr result (λ fault. fault ≡ TalkFault.WriteFailed) }
+    ensures front { WritesFront (W.contents writer.old) (W.contents writer.new)
+        (ending_of became waits) }
+{
+    match write_text(refusal_line(became), writer) {
+        Ok(()) => write_waits(waits, writer),
+        Err(fault) => Err(fault),
+    }
+}
+
+/// Writes an answer.
+fn write_parts<W: Write>(
+    text: &[u8],
+    became: Became,
+    waits: usize,
+    writer: &mut W,
+) -> Result<(), TalkFault>
+    ensures whole { OnOk result (Appends (W.contents writer.old) (W.contents writer.new)
+        (text.now ++ ending_of became waits)) }
+    ensures fault { IfErr result (λ fault. fault ≡ TalkFault.WriteFailed) }
+    ensures front { WritesFront (W.contents writer.old) (W.contents writer.new)
+        (text.now ++ ending_of became waits) }
+{
+    match write_text(text, writer) {
+        Ok(()) => write_ending(became, waits, writer),
+        Err(fault) => Err(fault),
+    }
+}
+
+/// Flushes behind what was written.
+fn flush<W: Write>(writer: &mut W) -> Result<(), TalkFault>
+    ensures keeps { Keeps (W.contents writer.old) (W.contents writer.new) }
+    ensures fault { IfErr result (λ fault. fault ≡ TalkFault.WriteFailed) }
+{
+    match writer.flush() {
+        Ok(()) => Ok(()),
+        Err(_) => Err(TalkFault::WriteFailed),
+    }
+}
+
+/// Writes an answer, and flushes.
+pub(crate) fn write_answer<W: Write>(
+    text: &[u8],
+    became: Became,
+    waits: usize,
+    writer: &mut W,
+) -> Result<(), TalkFault>
+    ensures whole { OnOk result (Appends (W.contents writer.old) (W.contents writer.new)
+        (text.now ++ ending_of became waits)) }
+    ensures fault { IfErr result (λ fault. fault ≡ TalkFault.WriteFailed) }
+    ensures front { WritesFront (W.contents writer.old) (W.contents writer.new)
+        (text.now ++ ending_of became waits) }
+{
+    match write_parts(text, became, waits, writer) {
+        Ok(()) => flush(writer),
+        Err(fault) => Err(fault),
+    }
+}

@@ -1,0 +1,231 @@
+//! The loop over the lines of an input.
+
+ghost use Rattle.std.specs.Prelude.{◌≡◌, ◌≢◌, ℕ, Bool, List, [], ◌∷◌, ◌++◌, ◌<◌, ◌≤◌, length, true, false, Some, None, IfOk, IfErr, OnOk, OnErr, IfSome};
+ghost use Rattle.std.specs.Io.KnownBytes.{Appends, Keeps, IsAtEnd};
+ghost use Rattle.std.specs.Io.BufRead.{first_line, drop_through, strip_last};
+ghost use Rattle.linewise.specs.Talks.{AnswersLine, Fails, Talked, is_bad as is_bad_line, is_skipped as says_nothing, without_end as ended};
+ghost use Rattle.linewise.specs.Inner.Kept.{Holds};
+ghost use Rattle.linewise.specs.Inner.Steps.{Breaks, Ends, Goes, Says};
+
+use crate::input::{Kept, LONGEST, Line, read_line};
+use crate::output::write_answer;
+use std::alloc::Global;
+use std::io::{BufRead, Write};
+
+/// What became of a line (own).
+#[derive(Clone, Copy, Debug, PartialEq, Eq)]
+pub enum Became {
+    /// It was answered.
+    Done,
+    /// It is none of the end's.
+    BadLine,
+    /// Memory was refused, and what was done before that stays done.
+    NoMemory,
+}
+
+/// An end that answers lines (own).
+pub trait Answers {
+    ghost use Rattle.linewise.specs.declared.talking.Became.{Became};
+
+    // What it may come to by a line, the text of its answer, and what became of the line.
+    ghost answered: { Self → List ℕ → Self → List ℕ → Became → Type 0 };
+
+    // How many packets it waits to be acknowledged.
+    ghost waiting: { Self → ℕ };
+
+    /// Answers a line, which comes without its end. The text comes empty.
+    fn answer(&mut self, line: &[u8], text: &mut Vec<u8>) -> Became
+        requires { text.old.items ≡ [] }
+        ensures { answered self.old line.now self.new text.new.items result };
+
+    /// How many packets it waits to be acknowledged. It takes no memory.
+    fn waits(&self) -> usize
+        ensures { result ≡ waiting self.now };
+}
+
+/// Why a conversation ended before its input did (own).
+#[derive(Clone, Copy, Debug, PartialEq, Eq)]
+pub enum TalkFault {
+    ReadFailed,
+    WriteFailed,
+}
+
+/// A line without that byte at its end.
+fn without_last(byte: u8, line: &[u8]) -> &[u8]
+    ensures { result.now ≡ strip_last byte line.now }
+{
+    match line {
+        [front @ .., last] if *last == byte => front,
+        _ => line,
+    }
+}
+
+/// A line without its end.
+fn without_end(line: &[u8]) -> &[u8]
+    ensures { result.now ≡ ended line.now }
+{
+    match line {
+        [front @ .., b'\n'] => without_last(b'\r', front),
+        _ => line,
+    }
+}
+
+/// Whether a line says nothing.
+fn is_skipped(line: &[u8]) -> bool
+    ensures { result ≡ says_nothing line.now }
+{
+    match line {
+        [] => true,
+        [first, ..] => *first == b'#',
+    }
+}
+
+/// Answers a line, of which nothing is left out; what became of it, or nothing where it says nothing.
+fn answer_whole<E: Answers>(end: &mut E, line: &[u8], text: &mut Vec<u8>) -> Option<Became>
+    requires { text.old.items ≡ [] }
+    ensures { AnswersLine E.answered end.old line.now end.new text.new.items result }
+{
+    if line.len() > LONGEST {
+        return Some(Became::BadLine);
+    }
+    if is_skipped(line) {
+        return None;
+    }
+    Some(end.answer(line, text))
+}
+
+/// Answers a line that was read.
+fn answer_read<E: Answers>(end: &mut E, line: &Line, text: &mut Vec<u8>) -> Option<Became>
+    requires { text.old.items ≡ [] }
+    ensures { (raw : List ℕ) → Holds line.now raw
+        → AnswersLine E.answered end.old (ended raw) end.new text.new.items result }
+{
+    match line.kept {
+        Kept::All => answer_whole(end, without_end(&line.bytes), text),
+        Kept::TooLong => Some(Became::BadLine),
+        Kept::NoMemory => Some(Became::NoMemory),
+    }
+}
+
+/// Tells a bad line at once. What the error writer does with it changes nothing.
+fn tell_bad<F: Write>(became: Became, number: u64, error_writer: &mut F) {
+    if became == Became::BadLine {
+        let _ = writeln!(error_writer, "bad line {number}");
+    }
+}
+
+/// Answers a line that was read, writes the answer and flushes.
+fn say<E: Answers, W: Write, F: Write>(
+    end: &mut E,
+    line: &Line,
+    number: u64,
+    text: &mut Vec<u8>,
+    writer: &mut W,
+    error_writer: &mut F,
+) -> Result<Option<Became>, TalkFault>
+    ensures said { IfOk result (λ became. (raw : List ℕ) → Holds line.now raw
+        → Says E.answered E.waiting end.old (ended raw) end.new (W.contents writer.old)
+        (W.contents writer.new) became) }
+    ensures broken { OnErr result ((raw : List ℕ) → Holds line.now raw
+        → Breaks E.answered E.waiting end.old (ended raw) end.new (W.contents writer.old)
+        (W.contents writer.new)) }
+    ensures fault { IfErr result (λ fault. fault ≡ TalkFault.WriteFailed) }
+{
+    text.clear();
+    let became = match answer_read(end, line, text) {
+        None => return Ok(None),
+        Some(became) => became,
+    };
+    tell_bad(became, number, error_writer);
+    match write_answer(text, became, end.waits(), writer) {
+        Ok(()) => Ok(Some(became)),
+        Err(fault) => Err(fault),
+    }
+}
+
+/// What one turn of a conversation came to.
+#[derive(Clone, Copy, Debug)]
+pub(crate) enum Next {
+    /// There is no line more.
+    Over,
+    /// A line was read, and this became of it, or nothing where it says nothing.
+    Line(Option<Became>),
+}
+
+/// Reads a line, answers it, writes the answer and flushes, before anything else is read.
+fn answer_next<E: Answers, R: BufRead, W: Write, F: Write>(
+    end: &mut E,
+    reader: &mut R,
+    writer: &mut W,
+    error_writer: &mut F,
+    number: u64,
+    line: &mut Line,
+    text: &mut Vec<u8>,
+) -> Result<Next, TalkFault>
+    ensures goes { IfOk result (λ next. Goes E.answered E.waiting end.old end.new
+        (R.remaining reader.old) (R.remaining reader.new) (W.contents writer.old)
+        (W.contents writer.new) next) }
+    ensures fault { IfErr result (λ fault. Ends E.answered E.waiting end.old end.new
+        (R.remaining reader.old) (W.contents writer.old) (W.contents writer.new) fault) }
+{
+    match read_line(reader, line) {
+        Ok(()) => {}
+        Err(_) => return Err(TalkFault::ReadFailed),
+    }
+    if line.is_over() {
+        return Ok(Next::Over);
+    }
+    match say(end, line, number, text, writer, error_writer) {
+        Ok(became) => Ok(Next::Line(became)),
+        Err(fault) => Err(fault),
+    }
+}
+
+/// Whether a line was bad.
+fn is_bad(became: Option<Became>) -> bool
+    ensures { result ≡ is_bad_line became }
+{
+    matches!(became, Some(Became::BadLine))
+}
+
+/// Answers the lines of an input until it ends, and tells whether some line was none of the end's (own).
+///
+/// Each line is answered, and its answer written and flushed, before the next one is read. A line has at most 16,777,216
+/// bytes, and ends with a line feed, or a carriage return and a line feed, or with the input; of a longer one nothing is
+/// kept. A bad line is told to the error writer by its number, from 1, before its answer is written.
+///
+/// Faults: the reader failed, and all lines before are answered; the writer failed, and a front of the answers stands.
+pub fn talk<E: Answers, R: BufRead, W: Write, F: Write>(
+    alloc: Global,
+    end: &mut E,
+    reader: &mut R,
+    writer: &mut W,
+    error_writer: &mut F,
+) -> Result<bool, TalkFault>
+    ensures whole { IfOk result (λ bad. IfSome (R.remaining reader.old) (λ input. (text : List ℕ)
+        × Talked E.answered E.waiting end.old input end.new [] text bad
+        × Appends (W.contents writer.old) (W.contents writer.new) text)) }
+    ensures fault { IfErr result (λ fault. IfSome (R.remaining reader.old) (λ input.
+        Fails E.answered E.waiting end.old input end.new (W.contents writer.old)
+        (W.contents writer.new) fault)) }
+{
+    let mut line = Line::new(alloc);
+    let mut text = Vec::new(alloc);
+    let mut bad = false;
+    for number in 1..u64::MAX {
+        match answer_next(
+            end,
+            reader,
+            writer,
+            error_writer,
+            number,
+            &mut line,
+            &mut text,
+        ) {
+            Ok(Next::Line(became)) => bad |= is_bad(became),
+            Ok(Next::Over) => return Ok(bad),
+            Err(fault) => return Err(fault),
+        }
+    }
+    Err(TalkFault::ReadFailed)
+}
