@@ -273,3 +273,93 @@ fn an_end_that_asks(rt: HostRuntime) -> Result<(), Fail> {
     assert!(rt; is_packet(end.ack(), Ok(ACK_BY_ASKING)));
     Ok(())
 }
+
+// ---- A new link in each phase.
+
+const CONFIG: Bytes = b"\x01\x02\x0a\x00\x04\x07\x03\x05\x06\x00\x00\x00\x00";
+
+/// The Configuration of a peer with a buffer of 64 bytes.
+const NARROW: Bytes = b"\x01\x02\x0a\x40\x00\x07\x03\x05\x06\x00\x00\x00\x00";
+
+/// A file is made, for get and put; a stream is connected to it.
+const CREATE: Bytes = b"\x03\x02\x08\x02\x00\x01\x47\x03\x00\x00\x00";
+
+const STREAM: Bytes = b"\x04\x02\x02\x02\x00";
+
+/// A record is to be put, or several one after another; a record of 60 bytes.
+const PUT_ONE: Bytes = b"\x04\x02\x03\x04\x01\x00";
+
+const STORE: Bytes = b"\x04\x02\x03\x04\x01\x03";
+
+const RECORD: Bytes =
+    b"\x08\x02\x3d\x00AAAAAAAAAAAAAAAAAAAAAAAAAAAAAAAAAAAAAAAAAAAAAAAAAAAAAAAAAAAA";
+
+/// The first record is next; all records are fetched.
+const REWIND: Bytes = b"\x04\x02\x03\x06\x01\x00";
+
+const FETCH: Bytes = b"\x04\x02\x03\x01\x01\x03";
+
+/// What an end has served when its link is renewed, and how many files it has then: nothing; a Configuration; an open file; a
+/// stream; a PUT that waits for its record; a Store; a fetch that stopped at a record which is too long for its peer.
+const PHASES: &[(&[Bytes], usize)] = &[
+    (&[], 0),
+    (&[CONFIG], 0),
+    (&[CONFIG, CREATE], 1),
+    (&[CONFIG, CREATE, STREAM], 1),
+    (&[CONFIG, CREATE, STREAM, PUT_ONE], 1),
+    (&[CONFIG, CREATE, STREAM, STORE, RECORD], 1),
+    (&[NARROW, CREATE, STREAM, PUT_ONE, RECORD, REWIND, FETCH], 1),
+];
+
+/// Gives the end a message as a segment of a number; whether it was taken.
+fn takes(alloc: Global, end: &mut ServingEnd, number: u8, message: Bytes) -> Result<bool, Fail> {
+    let mut packet = Vec::from_slice(alloc, b"\x60\x02\x02\x01\x01\x00\x80")?;
+    packet.extend_from_slice(&[number, 0])?;
+    packet.extend_from_slice(message)?;
+    let mut out = Vec::new(alloc);
+    Ok(end.take(&packet, &mut out) == Ok(Got::Accepted))
+}
+
+#[test]
+fn a_new_link_in_each_phase(rt: HostRuntime) -> Result<(), Fail> {
+    let alloc = rt.alloc();
+    for (messages, files) in PHASES {
+        let mut end = ServingEnd::new(alloc, 1024, SERVING)?;
+        let mut number = 1;
+        for message in *messages {
+            let is_taken = takes(alloc, &mut end, number, message)?;
+            assert!(&rt; is_taken);
+            number += 1;
+        }
+        assert!(&rt; end.renew(alloc, SERVING).is_ok());
+        assert_eq!(&rt; end.files().count(), *files);
+        assert_eq!(&rt; end.link().unacked(), 0);
+        let mut out = Vec::new(alloc);
+        assert_eq!(&rt; end.take(HELLO, &mut out), Ok(Got::Accepted));
+        assert!(&rt; are(&out, &[WELCOME]));
+    }
+    Ok(())
+}
+
+/// A message longer than the setup lets be fails the link, and what would write is refused then.
+#[test]
+fn a_message_that_is_too_long(rt: HostRuntime) -> Result<(), Fail> {
+    let alloc = rt.alloc();
+    let short = LinkSetup {
+        max_message: 64,
+        ..SERVING
+    };
+    let mut end = ServingEnd::new(alloc, 1024, short)?;
+    let mut packet = Vec::from_slice(alloc, b"\x60\x02\x02\x01\x01\x00\x80\x01\x00")?;
+    packet.extend_from_slice(RECORD)?;
+    packet.extend_from_slice(b"A")?;
+    let mut out = Vec::new(alloc);
+    let refused = TakeFault::Refused(LinkFault::MessageTooLong);
+    assert_eq!(rt; end.take(&packet, &mut out), Err(refused));
+    assert!(rt; end.link().has_failed() && out.is_empty());
+    assert!(rt; is_packet(end.ack(), Err(LinkFault::Failed)));
+    assert!(rt; is_packet(end.resend(0), Err(LinkFault::Failed)));
+    assert_eq!(rt; end.post(), Err(LinkFault::Failed));
+    assert!(rt; end.emit() == Err(LinkFault::Failed));
+    Ok(())
+}
