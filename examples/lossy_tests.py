@@ -8,11 +8,13 @@ reports and the files have to be those of a schedule of the same requests in whi
 the exit statuses 0; and the transcript a capture in which `dapnsp show` finds nothing that is bad.
 """
 import argparse
+import os
 import pathlib
 import random
 import re
 import subprocess
 import sys
+from concurrent.futures import ThreadPoolExecutor
 
 from lossy import Both, Line
 
@@ -157,11 +159,13 @@ def main():
     parser.add_argument("--dapnsp", default=DAPNSP)
     options = parser.parse_args()
     wrong = 0
-    for seed in range(options.first, options.first + options.seeds):
-        what = differs(seed, options.requests, options.daplive, options.dapnsp)
-        if what:
-            wrong += 1
-            print(f"lossy_tests: seed {seed}: {what}", file=sys.stderr)
+    seeds = range(options.first, options.first + options.seeds)
+    with ThreadPoolExecutor(os.cpu_count()) as pool:
+        run = lambda seed: differs(seed, options.requests, options.daplive, options.dapnsp)
+        for seed, what in zip(seeds, pool.map(run, seeds)):
+            if what:
+                wrong += 1
+                print(f"lossy_tests: seed {seed}: {what}", file=sys.stderr)
     print(f"lossy_tests: {options.seeds} seeds, {wrong} differ")
     return 1 if wrong else 0
 
