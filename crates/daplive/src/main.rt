@@ -1,0 +1,36 @@
+//! `daplive`: one end of a DECnet file access, over lines.
+#![tactic(auto)]
+
+use live_cli::run_words;
+use std::io::{BufReader, BufWriter, ErrorKind};
+use std::process::ExitCode;
+
+/// Tells want of memory, and answers its exit status.
+fn no_memory(rt: &HostRuntime) -> ExitCode {
+    let _ = eprintln!(rt; "no memory");
+    ExitCode::from(3)
+}
+
+fn main(rt: HostRuntime) -> ExitCode {
+    let alloc = rt.alloc();
+    let arguments = match std::env::args(&rt) {
+        Ok(arguments) => arguments,
+        Err(error) if error.kind() == ErrorKind::OutOfMemory => return no_memory(&rt),
+        Err(_) => {
+            let _ = eprintln!(rt; "the words are no text");
+            return ExitCode::from(2);
+        }
+    };
+    let words: Vec<String> = match arguments.collect(alloc) {
+        Ok(words) => words,
+        Err(_) => return no_memory(&rt),
+    };
+    let Ok(mut reader) = BufReader::new(alloc, rt.stdin()) else {
+        return no_memory(&rt);
+    };
+    let Ok(mut writer) = BufWriter::new(alloc, rt.stdout()) else {
+        return no_memory(&rt);
+    };
+    let status = run_words(alloc, &words, &mut reader, &mut writer, &mut rt.stderr());
+    ExitCode::from(status)
+}

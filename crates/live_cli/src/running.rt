@@ -1,0 +1,187 @@
+//! The program over any reader and writers.
+
+ghost use Rattle.std.specs.Prelude.{◌≡◌, ◌≤◌, ◌⊎◌, ℕ, List, IfSome};
+ghost use Rattle.std.specs.Io.KnownBytes.{Keeps};
+ghost use Rattle.dap_msg.specs.Exchange.{least_buffer};
+ghost use Rattle.live_cli.specs.declared.words.Options.{Options as TheOptions};
+ghost use Rattle.live_cli.specs.declared.words.Role.TheVariants as role;
+ghost use Rattle.live_cli.specs.Running.{AnswersAll, GivesAs, RunGives, IsSilent, setup_of, status_of};
+
+use crate::words::{Options, Role, read_words};
+use clap::Error;
+use clap::error::ErrorKind;
+use dap_live::{Asking, Serving};
+use linewise::{Answers, TalkFault, talk};
+use nsp_link::{LinkFault, LinkSetup};
+use std::alloc::Global;
+use std::io::{BufRead, Write};
+
+/// An end may send and take messages of any length that a buffer may have.
+const LONGEST_MESSAGE: usize = 65_535;
+
+/// How the link is set up.
+fn link_setup(options: Options) -> LinkSetup
+    ensures { result ≡ setup_of options }
+{
+    LinkSetup {
+        local: options.local,
+        remote: options.remote,
+        seg_size: options.segment as usize,
+        window: options.window as usize,
+        max_message: LONGEST_MESSAGE,
+    }
+}
+
+/// Tells why there is no end, or no more of it, and answers the exit status.
+fn tell<E: Write>(why: &str, error_writer: &mut E) -> u8
+    ensures { result ≡ 3 }
+{
+    let _ = writeln!(error_writer, "{why}");
+    3
+}
+
+/// The exit status of a conversation over all lines.
+fn status(bad: bool) -> u8
+    ensures { result ≡ status_of bad }
+{
+    if bad { 1 } else { 0 }
+}
+
+fn fault_text(fault: TalkFault) -> &'static str {
+    match fault {
+        TalkFault::ReadFailed => "read failed",
+        TalkFault::WriteFailed => "write failed",
+    }
+}
+
+/// Answers the lines of the input.
+fn converse<A: Answers, R: BufRead, W: Write, E: Write>(
+    alloc: Global,
+    end: &mut A,
+    reader: &mut R,
+    writer: &mut W,
+    error_writer: &mut E,
+) -> u8
+    ensures { IfSome (R.remaining reader.old) (λ input. AnswersAll A.answered A.waiting end.old input
+        (W.contents writer.old) (W.contents writer.new) result) }
+{
+    match talk(alloc, end, reader, writer, error_writer) {
+        Ok(bad) => status(bad),
+        Err(fault) => tell(fault_text(fault), error_writer),
+    }
+}
+
+/// Why an end isn't made.
+fn no_end<E: Write>(_fault: LinkFault, error_writer: &mut E) -> u8
+    ensures { result ≡ 3 }
+{
+    tell("no memory", error_writer)
+}
+
+fn serve<R: BufRead, W: Write, E: Write>(
+    alloc: Global,
+    options: Options,
+    reader: &mut R,
+    writer: &mut W,
+    error_writer: &mut E,
+) -> u8
+    requires { least_buffer ≤ options.buffer }
+    ensures { IfSome (R.remaining reader.old) (λ input. GivesAs role.Serve options input
+        (W.contents writer.old) (W.contents writer.new) result
+        ⊎ IsSilent (W.contents writer.old) (W.contents writer.new) result) }
+{
+    match Serving::new(alloc, options.buffer, link_setup(options)) {
+        Ok(mut end) => converse(alloc, &mut end, reader, writer, error_writer),
+        Err(fault) => no_end(fault, error_writer),
+    }
+}
+
+fn ask<R: BufRead, W: Write, E: Write>(
+    alloc: Global,
+    options: Options,
+    reader: &mut R,
+    writer: &mut W,
+    error_writer: &mut E,
+) -> u8
+    requires { least_buffer ≤ options.buffer }
+    ensures { IfSome (R.remaining reader.old) (λ input. GivesAs role.Ask options input
+        (W.contents writer.old) (W.contents writer.new) result
+        ⊎ IsSilent (W.contents writer.old) (W.contents writer.new) result) }
+{
+    match Asking::new(alloc, options.buffer, link_setup(options)) {
+        Ok(mut end) => converse(alloc, &mut end, reader, writer, error_writer),
+        Err(fault) => no_end(fault, error_writer),
+    }
+}
+
+/// Answers the lines of the input by an end that is set up so, and answers the exit status: 0, or 1 where some line was none
+/// of the end's; 3 where the reader or the writer failed, or memory was refused before the first line. Own.
+pub fn run_options<R: BufRead, W: Write, E: Write>(
+    alloc: Global,
+    options: Options,
+    reader: &mut R,
+    writer: &mut W,
+    error_writer: &mut E,
+) -> u8
+    requires { least_buffer ≤ options.buffer }
+    ensures { IfSome (R.remaining reader.old) (λ input. RunGives options input
+        (W.contents writer.old) (W.contents writer.new) result) }
+{
+    match options.role {
+        Role::Serve => serve(alloc, options, reader, writer, error_writer),
+        Role::Ask => ask(alloc, options, reader, writer, error_writer),
+    }
+}
+
+/// Tells why the words name no end: help goes to the writer, and what is wrong to the error writer.
+fn refuse<W: Write, E: Write>(
+    alloc: Global,
+    error: Error,
+    writer: &mut W,
+    error_writer: &mut E,
+) -> u8 {
+    if error.kind() == ErrorKind::OutOfMemory {
+        return tell("no memory", error_writer);
+    }
+    if error.use_stderr() {
+        let _ = write!(error_writer, "{error}");
+        return 2;
+    }
+    let Ok(text) = error.to_string(alloc) else {
+        return tell("no memory", error_writer);
+    };
+    match writer.write_all(text.as_bytes()) {
+        Ok(()) => {}
+        Err(_) => return tell("write failed", error_writer),
+    }
+    match writer.flush() {
+        Ok(()) => 0,
+        Err(_) => tell("write failed", error_writer),
+    }
+}
+
+/// Runs the end that the words name, the program's name first, and answers the exit status. Own.
+///
+/// 0: the input ended, or help was asked for and written. 1: the input ended, and some line was none of the end's. 2: the
+/// words name no end. 3: the reader or the writer failed, or memory was refused before the first line. Nothing is read
+/// where the words name no end or ask for help. What is wrong is told to the error writer, whose failure changes nothing.
+pub fn run_words<R: BufRead, W: Write, E: Write>(
+    alloc: Global,
+    words: &[String],
+    reader: &mut R,
+    writer: &mut W,
+    error_writer: &mut E,
+) -> u8
+    ensures { ((options : TheOptions) × IfSome (R.remaining reader.old) (λ input. RunGives options
+        input (W.contents writer.old) (W.contents writer.new) result))
+        ⊎ (R.remaining reader.new ≡ R.remaining reader.old) }
+{
+    match read_words(alloc, words) {
+        Ok(Some(options)) => run_options(alloc, options, reader, writer, error_writer),
+        Ok(None) => {
+            let _ = writeln!(error_writer, "an address is four hex digits");
+            2
+        }
+        Err(error) => refuse(alloc, error, writer, error_writer),
+    }
+}

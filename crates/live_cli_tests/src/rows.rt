@@ -1,0 +1,96 @@
+//! Inputs, and what they come to.
+
+/// The words, the input, the exit status, what is written, and what is told.
+pub(crate) type Row = (
+    &'static [&'static str],
+    &'static [u8],
+    u8,
+    &'static [u8],
+    &'static [u8],
+);
+
+pub(crate) const ROWS: &[Row] = &[
+    // A Configuration, and the same again; it is acknowledged, and an empty message comes.
+    (
+        &["serve"],
+        b"> 60020201010080010001020a00040703050600000000\n\
+> 60020201010080010001020a00040703050600000000\n> 04020201010180\n> 600202010100800200\n",
+        0,
+        b"accepted\n< 60010102020180010001020a00040703050600000000\nwaits 1\n\
+repeat\n< 04010102020180\nwaits 1\nack-only\nwaits 0\n\
+accepted\n< 6001010202028002000902050080000000\nwaits 1\n",
+        b"",
+    ),
+    // Bytes that are no packet, and packets that aren't this end's.
+    (
+        &["serve"],
+        b"> 6002\n> 1002020101\n> 60030301010080010001020a00040703050600000000\n",
+        0,
+        b"refused bad truncated at=1\nwaits 0\nrefused not-here link-service\nwaits 0\n\
+refused wrong-link\nwaits 0\n",
+        b"",
+    ),
+    // A link that fails, until it is new.
+    (
+        &["serve"],
+        b"> 00020201010080010041\nack\nresend\n> 6002\nnew\n\
+> 60020201010080010001020a00040703050600000000\n",
+        0,
+        b"refused bad-sequence\nwaits 0\nrefused failed\nwaits 0\nrefused failed\nwaits 0\n\
+refused failed\nwaits 0\nwaits 0\n\
+accepted\n< 60010102020180010001020a00040703050600000000\nwaits 1\n",
+        b"",
+    ),
+    // Files that the end is given before a packet comes; a new link keeps them.
+    (
+        &["serve"],
+        b"file 46 rel variable 0 3\n  3 41\nfiles\n  4 41\n  3 42\nfile 46 seq variable 0 0\n\
+file 47 seq fixed 0 0\n> 60020201010080010001020a00040703050600000000\n\
+file 47 seq variable 0 0\nnew\nfiles\n",
+        0,
+        b"waits 0\nwaits 0\nfile 46 rel variable 0 3\n  3 41\nwaits 0\nrefused 5000 6\nwaits 0\n\
+refused 5000 5\nwaits 0\nrefused 4000 1\nwaits 0\nrefused 4000 11\nwaits 0\n\
+accepted\n< 60010102020180010001020a00040703050600000000\nwaits 1\nrefused busy\nwaits 1\n\
+waits 0\nfile 46 rel variable 0 3\n  3 41\nwaits 0\n",
+        b"",
+    ),
+    // The end that asks: its packet again, its peer's answer, and an answer that has no place.
+    (
+        &["ask"],
+        b"ask hello\nask hello\nresend\n> 60010102020180010001020a00040703050600000000\nask get\n\
+> 600101020201800200060200\nask connect\n",
+        0,
+        b"asked 1\n< 60020201010080010001020a00040703050600000000\nwaits 1\n\
+refused ask-busy\nwaits 1\n< 60020201010080010001020a00040703050600000000\nwaits 1\n\
+accepted\nreport ready 1024\n< 04020201010180\nwaits 0\nrefused ask-phase\nwaits 0\n\
+accepted\nrefused unexpected-answer\nwaits 0\nrefused ask-failed\nwaits 0\n",
+        b"",
+    ),
+    // Lines that say nothing, lines that are none of the end's, and an input without a line feed at its end.
+    (
+        &["serve", "--local", "0303", "--remote", "0404"],
+        b"\n# hello\n\r\n#\r\nfoo\r\nask hello\n> 6\n>\n\0\n  1 41\nnew 0303\nnew 0303 04g4\n\
+new 0303 0404 0\nnew 0303 0404 1400\nack",
+        1,
+        b"refused bad-line\nwaits 0\nrefused bad-line\nwaits 0\nrefused bad-line\nwaits 0\n\
+refused bad-line\nwaits 0\nrefused bad-line\nwaits 0\nrefused 4032 0\nwaits 0\n\
+refused bad-line\nwaits 0\nrefused bad-line\nwaits 0\nrefused bad-setup\nwaits 0\nwaits 0\n\
+< 04040403030080\nwaits 0\n",
+        b"bad line 5\nbad line 6\nbad line 7\nbad line 8\nbad line 9\nbad line 11\nbad line 12\n",
+    ),
+    (
+        &["ask"],
+        b"files\nfile 46 seq variable 0 0\n  1 41\n",
+        1,
+        b"refused bad-line\nwaits 0\n\
+refused bad-line\nwaits 0\nrefused bad-line\nwaits 0\n",
+        b"bad line 1\nbad line 2\nbad line 3\n",
+    ),
+    (
+        &["serve", "--local", "12345"],
+        b"files\n",
+        2,
+        b"",
+        b"an address is four hex digits\n",
+    ),
+];
