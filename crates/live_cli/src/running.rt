@@ -12,14 +12,11 @@ use clap::Error;
 use clap::error::ErrorKind;
 use dap_live::{Asking, Serving};
 use linewise::{Answers, TalkFault, talk};
-use nsp_link::{LinkFault, LinkSetup};
+use nsp_link::{LARGEST_LIMIT, LinkFault, LinkSetup};
 use std::alloc::Global;
 use std::io::{BufRead, Write};
 
-/// An end may send and take messages of any length that a buffer may have.
-const LONGEST_MESSAGE: usize = 65_535;
-
-/// How the link is set up.
+/// How the link is set up: the limit of a message is any length that a buffer may have.
 fn link_setup(options: Options) -> LinkSetup
     ensures { result ≡ setup_of options }
 {
@@ -28,7 +25,7 @@ fn link_setup(options: Options) -> LinkSetup
         remote: options.remote,
         seg_size: options.segment as usize,
         window: options.window as usize,
-        max_message: LONGEST_MESSAGE,
+        max_message: LARGEST_LIMIT,
     }
 }
 

@@ -4,7 +4,8 @@ ghost use Rattle.std.specs.Prelude.{◌≡◌, ◌≤◌, IfOk, IfSome};
 ghost use Rattle.dap_msg.specs.Exchange.{least_buffer};
 
 use clap::{Arg, ArgAction, ArgMatches, Command, Error, value_parser};
-use dap_msg::LEAST_BUFFER;
+use dap_msg::{GREATEST_MESSAGE, LEAST_BUFFER};
+use nsp_link::{LARGEST_SEGMENT, LARGEST_WINDOW};
 use std::alloc::Global;
 
 static ROLES: [&str; 2] = ["serve", "ask"];
@@ -99,9 +100,12 @@ fn command_line<'a>(alloc: Global) -> Result<Command<'a>, Error> {
         .about(ABOUT)
         .after_help(LINES);
     let command = command.arg(role)?.arg(local)?.arg(remote)?;
-    let command = command.arg(segment.value_parser(value_parser!(u16).range(1..=1400)))?;
-    let command = command.arg(window.value_parser(value_parser!(u16).range(1..=2047)))?;
-    let command = command.arg(buffer.value_parser(value_parser!(u16).range(64..=65535)))?;
+    let segments = value_parser!(u16).range(1..=LARGEST_SEGMENT as i64);
+    let windows = value_parser!(u16).range(1..=LARGEST_WINDOW as i64);
+    let buffers = value_parser!(u16).range(LEAST_BUFFER as i64..=GREATEST_MESSAGE as i64);
+    let command = command.arg(segment.value_parser(segments))?;
+    let command = command.arg(window.value_parser(windows))?;
+    let command = command.arg(buffer.value_parser(buffers))?;
     Ok(command)
 }
 
