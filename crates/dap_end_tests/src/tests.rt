@@ -329,7 +329,7 @@ fn a_new_link_in_each_phase(rt: HostRuntime) -> Result<(), Fail> {
         for message in *messages {
             let is_taken = takes(alloc, &mut end, number, message)?;
             assert!(&rt; is_taken);
-            number += 1;
+            number = number.saturating_add(1);
         }
         assert!(&rt; end.renew(alloc, SERVING).is_ok());
         assert_eq!(&rt; end.files().count(), *files);
