@@ -23,6 +23,10 @@ pub taken_within : (count : ℕ) (old now : Option (List ℕ)) → HasTaken coun
 unfolding HasTaken
 taken_within count old now before within = (before.0, before.2, omega (arith, before.1, within))
 
+pub takes_none : (count : ℕ) (known : Option (List ℕ)) → count ≤ input_limit → TakesBehind count known known
+unfolding TakesBehind
+takes_none count known within = ([], Consumes-nil known, omega (arith, within))
+
 -- with what is taken behind it
 pub taken_behind : (count : ℕ) (old now new : Option (List ℕ)) → HasTaken count old now → TakesBehind count now new → TakesWithinLimit old new
 unfolding HasTaken TakesBehind
