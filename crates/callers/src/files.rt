@@ -13,7 +13,19 @@ const RIGHTS: Rights = Rights {
     del: false,
 };
 
-/// Puts two records by their numbers, finds the first, and is refused a number above the file's.
+/// Puts a record by its number.
+fn put<W: Write>(
+    stream: &mut Stream,
+    file: &mut AnyFile,
+    number: u32,
+    out: &mut W,
+) -> Result<(), Trouble> {
+    let put = stream.put(file, Some(number), b"a record");
+    writeln!(out, "files: number {number}: {put:?}")?;
+    Ok(())
+}
+
+/// Puts records by their numbers, of which one is above the file's, and goes through the file.
 pub fn call<W: Write>(alloc: Global, out: &mut W) -> Result<(), Trouble> {
     // Relative, variable records, no limit of their size, numbers up to 9.
     let Some(shape) = Shape::check(16, 2, 0, 9) else {
@@ -21,16 +33,18 @@ pub fn call<W: Write>(alloc: Global, out: &mut W) -> Result<(), Trouble> {
     };
     let mut file = AnyFile::new(alloc, shape);
     let mut stream = Stream::new(RIGHTS);
-    stream.put(&mut file, Some(7), b"seven")?;
-    stream.put(&mut file, Some(3), b"three")?;
-    let refused = stream.put(&mut file, Some(10), b"ten");
-    writeln!(out, "files: number 10 is {refused:?}")?;
+    for number in [7, 3, 10] {
+        put(&mut stream, &mut file, number, out)?;
+    }
     stream.rewind();
-    let number = stream.get(&file, Pick::Next)?;
-    writeln!(out, "files: the first is {number}")?;
+    let first = stream.get(&file, Pick::Next)?;
+    writeln!(
+        out,
+        "files: the first is {first}, the highest {}",
+        file.highest()
+    )?;
     if let Some((number, body)) = first_record(&file, 4) {
         writeln!(out, "files: {number} has {} bytes", body.len())?;
     }
-    writeln!(out, "files: the highest is {}", file.highest())?;
     Ok(())
 }

@@ -8,20 +8,31 @@ use std::io::Write;
 /// A Control message that connects a record stream, and an Acknowledge behind it.
 const BYTES: &[u8] = &[4, 2, 2, 2, 0, 6, 2, 0];
 
-/// Reads the message in front, and writes its answer.
-pub fn call<W: Write>(alloc: Global, out: &mut W) -> Result<(), Trouble> {
-    let (message, next) = decode(BYTES)?;
+/// Reads the message in front.
+fn read<W: Write>(bytes: &[u8], out: &mut W) -> Result<(), Trouble> {
+    let (message, next) = decode(bytes)?;
     if let Message::Control(control) = message {
         writeln!(out, "messages: CTLFUNC {}, next at {next}", control.func)?;
     }
-    let answer = Message::Filedata {
+    Ok(())
+}
+
+/// Writes a record, where it is one that a message can have.
+fn write<W: Write>(alloc: Global, body: &[u8], out: &mut W) -> Result<(), Trouble> {
+    let message = Message::Filedata {
         recnum: &[],
-        payload: b"a record",
+        payload: body,
     };
     let mut bytes = Vec::new(alloc);
-    if fits(&answer) {
-        encode(&answer, &mut bytes)?;
+    if fits(&message) {
+        encode(&message, &mut bytes)?;
     }
-    writeln!(out, "messages: an answer of {} bytes", bytes.len())?;
+    writeln!(out, "messages: a record in {} bytes", bytes.len())?;
     Ok(())
+}
+
+/// Reads a message and writes another.
+pub fn call<W: Write>(alloc: Global, out: &mut W) -> Result<(), Trouble> {
+    read(BYTES, out)?;
+    write(alloc, b"a record", out)
 }

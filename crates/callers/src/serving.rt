@@ -13,21 +13,20 @@ const MESSAGES: &[&[u8]] = &[
     &[3, 2, 8, 1, 0, 1, 0x47, 3, 0, 0, 0],
 ];
 
+/// Serves a message.
+fn serve<W: Write>(end: &mut Accessed, message: &[u8], out: &mut W) -> Result<(), Trouble> {
+    for answer in end.serve(message, 0)?.answers {
+        writeln!(out, "serving: an answer of {} bytes", answer.len())?;
+    }
+    Ok(())
+}
+
 /// Serves each.
 pub fn call<W: Write>(alloc: Global, out: &mut W) -> Result<(), Trouble> {
     let mut end = Accessed::new(alloc, 1024);
     for message in MESSAGES {
-        for answer in end.serve(message, 0)?.answers {
-            writeln!(out, "serving: an answer of {} bytes", answer.len())?;
-        }
+        serve(&mut end, message, out)?;
     }
-    let files = end.files();
-    for place in 0..files.count() {
-        writeln!(
-            out,
-            "serving: a file whose name has {} bytes",
-            files.name(place).len()
-        )?;
-    }
+    writeln!(out, "serving: {} files", end.files().count())?;
     Ok(())
 }

@@ -12,6 +12,13 @@ const SETUP: WorldSetup = WorldSetup {
     bufsiz_b: 1024,
 };
 
+/// Plays an event.
+fn play<W: Write>(world: &mut World, event: &Event, out: &mut W) -> Result<(), Trouble> {
+    let step = world.apply(event)?;
+    writeln!(out, "worlds: {step:?}")?;
+    Ok(())
+}
+
 /// A packet is written twice and comes once, and the rest is finished.
 pub fn call<W: Write>(alloc: Global, out: &mut W) -> Result<(), Trouble> {
     let mut world = World::new(alloc, SETUP)?;
@@ -23,14 +30,10 @@ pub fn call<W: Write>(alloc: Global, out: &mut W) -> Result<(), Trouble> {
         Event::Deliver(End::B, 1),
     ];
     for event in &events {
-        let step = world.apply(event)?;
-        writeln!(out, "worlds: {step:?}")?;
+        play(&mut world, event, out)?;
     }
-    let served = world.finish()?;
-    writeln!(
-        out,
-        "worlds: {served} events more, {} reports",
-        world.reports().len()
-    )?;
+    let count = world.finish()?;
+    let reports = world.reports().len();
+    writeln!(out, "worlds: {count} events more, {reports} reports")?;
     Ok(())
 }
