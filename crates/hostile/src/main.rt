@@ -14,11 +14,9 @@ mod files;
 mod growing;
 mod links;
 mod listings;
-mod lossy;
 mod peers;
 mod reading;
 mod requests;
-mod taken;
 mod worlds;
 mod writers;
 
@@ -30,12 +28,10 @@ use files::{Act, BY_NUMBER, Filing, IN_ORDER, RELATIVE, SEQUENTIAL};
 use growing::{Ending, Seen, make_all};
 use links::Links;
 use listings::{ENGINES, Listing, Row, WORDS};
-use lossy::ask_all;
 use peers::Peers;
 use std::alloc::Global;
 use std::io::{Read, Write};
 use std::process::ExitCode;
-use taken::{Altered, alter_at_asking, alter_at_serving};
 use worlds::{Directing, LOST, Playing, SETTLING, STOPPING, Script};
 use writers::Writers;
 
@@ -244,35 +240,6 @@ fn alter<W: Write>(alloc: Global, out: &mut W) -> Result<(), Ending> {
     alter_served(alloc)?.write("altered messages served", out)?;
     alter_heard(alloc)?.write("altered answers read", out)?;
     alter_received(alloc, out)?.write("altered packets received", out)?;
-    alter_ends(alloc, out)
-}
-
-/// What is altered on its way to an end with its link.
-const ALTERED: &[(&str, Altered)] = &[
-    ("packets", Altered::Packets),
-    ("messages", Altered::Messages),
-    ("messages of a session", Altered::Served),
-    ("answers", Altered::Heard),
-];
-
-fn alter_ends<W: Write>(alloc: Global, out: &mut W) -> Result<(), Ending> {
-    writeln!(out, "altered at an end that serves:")?;
-    for (name, altered) in ALTERED {
-        alter_at_serving(alloc, *altered)?.write(name, out)?;
-    }
-    writeln!(out, "altered at an end that asks:")?;
-    for (name, altered) in ALTERED {
-        alter_at_asking(alloc, *altered)?.write(name, out)?;
-    }
-    Ok(())
-}
-
-fn lose<W: Write>(alloc: Global, out: &mut W) -> Result<(), Ending> {
-    let lists = ask_all(alloc)?;
-    writeln!(
-        out,
-        "lists over a line that loses, as over one that doesn't: {lists}"
-    )?;
     Ok(())
 }
 
@@ -303,7 +270,6 @@ fn run<R: Read, W: Write, E: Write>(
     let is_growth_alone = reader.read(&mut word)? > 0;
     grow(alloc, out, told)?;
     if !is_growth_alone {
-        lose(alloc, out)?;
         alter(alloc, out)?;
         fail_devices(alloc, out)?;
     }
