@@ -14,6 +14,7 @@ mod files;
 mod growing;
 mod links;
 mod listings;
+mod peers;
 mod reading;
 mod requests;
 mod worlds;
@@ -27,6 +28,7 @@ use files::{Act, BY_NUMBER, Filing, IN_ORDER, RELATIVE, SEQUENTIAL};
 use growing::{Ending, Seen, make_all};
 use links::Links;
 use listings::{ENGINES, Listing, Row, WORDS};
+use peers::Peers;
 use std::alloc::Global;
 use std::io::{Read, Write};
 use std::process::ExitCode;
@@ -128,6 +130,16 @@ fn link<W: Write, E: Write>(
     make_all("a link", &mut links, seen, out, told)
 }
 
+/// Both ends with their links.
+fn peer<W: Write, E: Write>(
+    alloc: Global,
+    seen: &mut Seen,
+    out: &mut W,
+    told: &mut E,
+) -> Result<(), Ending> {
+    make_all("both ends", &mut Peers::new(alloc), seen, out, told)
+}
+
 /// An end that is sent messages.
 fn serve<W: Write, E: Write>(
     alloc: Global,
@@ -213,6 +225,7 @@ fn grow<W: Write, E: Write>(alloc: Global, out: &mut W, told: &mut E) -> Result<
         file(alloc, *row, &mut seen, out, told)?;
     }
     link(alloc, &mut seen, out, told)?;
+    peer(alloc, &mut seen, out, told)?;
     grow_ends(alloc, &mut seen, out, told)?;
     direct(alloc, &mut seen, out, told)?;
     for row in LISTED {
