@@ -19,7 +19,7 @@ use Rattle.dap_text.specs.Reports.{report_text}
 use Rattle.dap_capture.specs.Schedules.{Numbered, events_of, said}
 use Rattle.dap_text.specs.Tables.{files_text}
 use Rattle.dap_capture.specs.Played.{HasOneText, IsPacketWritten, IsReported, IsStepText, Played, Plays, empty, end_text, event_line, goes, over, played, refusal_line, refusal_text, setup_refused, stops}
-use Rattle.dap_capture.specs.declared.fault.Outcome.{Outcome}
+use Rattle.dap_listing.specs.declared.fault.Outcome.{Outcome}
 
 same_end : (a b : End) (x : _) → x ≡ Some a → x ≡ Some b → b ≡ a
 same_end a b x e f = cc

@@ -10,8 +10,8 @@ use Rattle.dap_world.specs.declared.event.Event.{Event}
 use Rattle.dap_world.specs.declared.event.WorldFault.{WorldFault}
 use Rattle.dap_world.specs.declared.event.WorldFault.TheVariants as fault
 use Rattle.dap_world.specs.Runs.{Went}
-use Rattle.dap_capture.specs.declared.fault.Outcome.{Outcome}
-use Rattle.dap_capture.specs.declared.fault.Outcome.TheVariants.{Good, Stopped}
+use Rattle.dap_listing.specs.declared.fault.Outcome.{Outcome}
+use Rattle.dap_listing.specs.declared.fault.Outcome.TheVariants.{Good, Stopped}
 use Rattle.dap_capture.specs.Orders.{event_of, setup_of}
 use Rattle.dap_capture.specs.Schedules.{Numbered, event_fault, events_of, fault_unless}
 use Rattle.dap_text.specs.Tables.{files_text}

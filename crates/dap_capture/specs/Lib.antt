@@ -1,10 +1,4 @@
 pub mod Inner
-pub mod Output
-pub mod Gives
-pub mod Lines
 pub mod Orders
 pub mod Schedules
 pub mod Played
-pub mod Messages
-pub mod Packets
-pub mod Listing

@@ -22,10 +22,10 @@ use Rattle.dap_text.specs.Reports.{report_text}
 use Rattle.dap_text.specs.Tables.{files_text}
 use Rattle.dap_capture.specs.Orders.{setup_of}
 use Rattle.dap_capture.specs.Schedules.{Numbered, events_of, said, schedule_faults}
-use Rattle.dap_capture.specs.Gives.{Gives}
-use Rattle.dap_capture.specs.declared.fault.CaptureFault.{CaptureFault}
-use Rattle.dap_capture.specs.declared.fault.Outcome.{Outcome}
-use Rattle.dap_capture.specs.declared.fault.Outcome.TheVariants.{Good, Stopped}
+use Rattle.dap_listing.specs.Gives.{Gives}
+use Rattle.dap_listing.specs.declared.fault.CaptureFault.{CaptureFault}
+use Rattle.dap_listing.specs.declared.fault.Outcome.{Outcome}
+use Rattle.dap_listing.specs.declared.fault.Outcome.TheVariants.{Good, Stopped}
 
 -- the line of the event of a number
 abbrev pub event_line : ℕ → List ℕ → List ℕ

@@ -1,5 +1,6 @@
 //! The three engines, with an input and a text for each.
-use crate::{CaptureFault, Outcome, messages, schedule, show};
+use crate::schedule;
+use dap_listing::{CaptureFault, Outcome, messages, show};
 use std::alloc::Global;
 use std::io::{Read, Write};
 use std::process::Abort;

@@ -2,17 +2,17 @@
 
 ghost use Rattle.std.specs.Prelude.{◌≡◌, ◌≤◌, ◌+◌, [], IfErr, IfOk, IsSome, MatchResult, length, slice_get};
 ghost use Rattle.std.specs.List.{filter_map};
-ghost use Rattle.dap_capture.specs.Inner.Checking.{IsOfLine, TellsFirst, TellsFirstOrWants, TellsFirstThenWants};
+ghost use Rattle.dap_capture.specs.Inner.Checking.{TellsFirst, TellsFirstOrWants, TellsFirstThenWants};
 ghost use Rattle.dap_capture.specs.Inner.Orders.{event_of_order};
 ghost use Rattle.dap_capture.specs.Inner.Playing.{PlaysOne};
 ghost use Rattle.dap_capture.specs.Played.{Played, Plays};
+ghost use Rattle.dap_listing.specs.Gives.{IsOfLine};
 ghost use Rattle.dap_capture.specs.Schedules.{event_fault, events_of, said, schedule_faults};
 
-use crate::input::INPUT_LIMIT;
 use crate::orders::{Order, read_order, read_setup};
 use crate::said::Said;
 use crate::steps::{push_event, push_refusal, refusal_word};
-use crate::{CaptureFault, Outcome};
+use dap_listing::{CaptureFault, INPUT_LIMIT, Outcome};
 use dap_text::push_files;
 use dap_world::{Event, World, WorldFault};
 use std::alloc::Global;

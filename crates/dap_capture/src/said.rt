@@ -3,8 +3,7 @@
 ghost use Rattle.std.specs.Prelude.{◌≡◌, ◌≤◌, ◌+◌, ◌∷◌, [], length, IfSome, MatchOption};
 ghost use Rattle.dap_capture.specs.Schedules.{is_skipped as skipped, said, said_from};
 
-use crate::input::INPUT_LIMIT;
-use crate::lines::next_line;
+use dap_listing::{INPUT_LIMIT, next_line};
 use std::marker::Model;
 
 /// Whether a line says nothing.

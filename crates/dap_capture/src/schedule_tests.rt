@@ -1,7 +1,7 @@
 //! Rows of schedules.
 use crate::engines::{Engine, GREETING, GREETING_PLAYED, gives};
 use crate::orders::read_order;
-use crate::{CaptureFault, Outcome};
+use dap_listing::{CaptureFault, Outcome};
 use dap_text::push_report;
 use dap_world::{Ending, Numbered, Octets, Report};
 use std::alloc::{AllocError, Global};

@@ -4,7 +4,7 @@ ghost use Rattle.std.specs.Prelude.{◌≡◌, ◌<◌, ◌++◌, ℕ, List, OnO
 ghost use Rattle.dap_world.specs.Machine.{reported, sends};
 ghost use Rattle.dap_world.specs.Runs.{NamedIsThere, writer_of};
 ghost use Rattle.dap_text.specs.Adding.{Adds};
-ghost use Rattle.dap_capture.specs.Inner.Adding.{AddsSome};
+ghost use Rattle.dap_text.specs.Adding.{AddsSome};
 ghost use Rattle.dap_capture.specs.Inner.Playing.{AddsStep};
 ghost use Rattle.dap_capture.specs.Played.{IsPacketAt, IsPacketWritten, IsReported, IsStepText, end_text, refusal_line, refusal_text};
 

@@ -8,7 +8,8 @@ ghost use Rattle.dap_cli.specs.Run.{AreMistakes, Chooses, IsMistake, RunGives, d
 
 use clap::error::ErrorKind;
 use clap::{Command, Error};
-use dap_capture::{CaptureFault, Outcome, messages, schedule, show, write_text};
+use dap_capture::schedule;
+use dap_listing::{CaptureFault, Outcome, messages, show, write_text};
 use std::alloc::Global;
 use std::io::{Read, Write};
 

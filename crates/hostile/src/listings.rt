@@ -1,7 +1,8 @@
 //! Listings and schedules, as calls of the library and as words of the program.
 
 use crate::growing::{Came, Growing, Trouble};
-use dap_capture::{CaptureFault, Outcome, messages, schedule, show};
+use dap_capture::schedule;
+use dap_listing::{CaptureFault, Outcome, messages, show};
 use dap_cli::run_words;
 use std::alloc::{AllocError, Global};
 use std::io;

@@ -1,21 +1,12 @@
 -- What a check of lines tells.
 use Rattle.std.specs.Prelude.{◌≡◌, ◌⊎◌, List, [], slice_get, Some, Result, MatchResult}
-use Rattle.dap_capture.specs.declared.fault.CaptureFault.{CaptureFault}
-use Rattle.dap_capture.specs.declared.fault.CaptureFault.TheVariants.{BadLine, TooLarge, NoMemory}
+use Rattle.dap_listing.specs.Gives.{IsFirst}
+use Rattle.dap_listing.specs.declared.fault.CaptureFault.{CaptureFault}
+use Rattle.dap_listing.specs.declared.fault.CaptureFault.TheVariants.{NoMemory}
 
 -- the first of the faults, where there is one
 abbrev pub TellsFirst : {X : Type 0} → Result X CaptureFault → List CaptureFault → Type 0
 TellsFirst result faults = MatchResult result (λ _. faults ≡ []) (λ fault. slice_get faults 0 ≡ Some fault)
-
--- a fault that a line can have
-abbrev pub IsOfLine : CaptureFault → Type 0
-IsOfLine (BadLine number) = Unit {0}
-IsOfLine TooLarge = Unit {0}
-IsOfLine _ = ⊥
-
--- the first of the faults, which a line can have
-abbrev pub IsFirst : List CaptureFault → CaptureFault → Type 0
-IsFirst faults fault = (slice_get faults 0 ≡ Some fault) × IsOfLine fault
 
 -- the first of the faults, where there is one and memory sufficed up to it
 abbrev pub TellsFirstOrWants : {X : Type 0} → Result X CaptureFault → List CaptureFault → Type 0

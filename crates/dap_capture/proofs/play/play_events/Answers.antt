@@ -1,5 +1,5 @@
 use Rattle.std.proofs.Common.{rules, ◌∙◌}
-use Rattle.dap_capture.specs.declared.fault.Outcome.TheVariants.{Good, Stopped}
+use Rattle.dap_listing.specs.declared.fault.Outcome.TheVariants.{Good, Stopped}
 use Rattle.dap_capture.specs.Inner.Orders.{event_of_order}
 use Rattle.dap_capture.specs.Inner.Playing.{PlaysOne}
 use Rattle.dap_capture.specs.Schedules.{events_of}

@@ -1,5 +1,0 @@
-use Rattle.dap_capture.proofs.InputLemmas.{takes_none}
-use Rattle.dap_capture.proofs.input.skip_unread.Goals as goal
-
-pub returns-then-is_met-clause-taken : goal.returns-then-is_met-clause-taken
-returns-then-is_met-clause-taken g c = takes_none c.args.count.now (g.R.Read.remaining c.args.reader.now) c.requires.count

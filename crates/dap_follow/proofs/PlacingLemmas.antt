@@ -1,0 +1,138 @@
+-- Segments in the order of their places.
+use Rattle.std.proofs.Common.{◌≡◌, ◌==◌, ◌<◌, ◌≤◌, ◌+◌, ◌%◌, ◌⊎◌, ◌++◌, ℕ, Bool, true, false, cond, List, [], ◌∷◌, map, max, Option, Some, None, refl, sym, ap, ◌∙◌, subst, arith, inl, inr, ⊎_elim, eqb}
+use Rattle.std.specs.List.{AllByRecursion}
+use Rattle.std.proofs.lemmas.Bool.{eqb-true, cases_eq}
+use Rattle.std.proofs.lemmas.Bool.Decides.{nat_tests}
+use Rattle.std.proofs.lemmas.List.{map-append}
+use Rattle.dap_follow.specs.Streams.{ArePlaced, Came, Placed, at, no_more, one_more, put_at}
+use Rattle.dap_follow.specs.Inner.Placing.{IsPutIn, Rises, counted_value}
+use Rattle.dap_follow.specs.Inner.Keeping.{top}
+use Rattle.dap_follow.specs.declared.places.Counted.{Counted}
+
+-- ---- places
+
+-- one segment more, near the highest before it
+pub placed_more : {highest : ℕ} {before : List Came} {placed : List Placed} (c : Came) (place : ℕ) → ArePlaced highest before placed
+    → top highest placed ≤ place + 2047 → place ≤ top highest placed + 2048 → place % 4096 ≡ c.segment.number
+    → ArePlaced highest (before ++ c ∷ []) (placed ++ put_at place c ∷ [])
+placed_more c place no_more low high number = one_more place low high number no_more
+placed_more c place (one_more first l h n others) low high number = one_more first l h n (placed_more c place others low high number)
+
+pub top-snoc : (highest : ℕ) (placed : List Placed) (s : Placed) → top highest (placed ++ s ∷ []) ≡ max (top highest placed) s.place
+top-snoc highest [] s = refl
+top-snoc highest (t ∷ placed) s = top-snoc (max highest t.place) placed s
+
+-- ---- what stands at a place
+
+abbrev pub or_else : Option Placed → Option Placed → Option Placed
+or_else None other = other
+or_else (Some s) other = Some s
+
+either : (b : Bool) (x : Placed) (o p : Option Placed) → cond b (Some x) (or_else o p) ≡ or_else (cond b (Some x) o) p
+either true x o p = refl
+either false x o p = refl
+
+pub at-append : (p : ℕ) (xs ys : List Placed) → at p (xs ++ ys) ≡ or_else (at p xs) (at p ys)
+at-append p [] ys = refl
+at-append p (x ∷ xs) ys = ap (cond (x.place == p) (Some x)) (at-append p xs ys) ∙ either (x.place == p) x (at p xs) (at p ys)
+
+apart_test : (a b : ℕ) → (a ≡ b → ⊥) → (a == b) ≡ false
+apart_test a b apart = grind (arith, nat_tests)
+
+same_test : (a b : ℕ) → a ≡ b → (a == b) ≡ true
+same_test a b same = grind (arith, nat_tests)
+
+pub at-apart : (p : ℕ) (cs : List Counted) → AllByRecursion (λ c. c.place ≡ p → ⊥) cs → at p (map counted_value cs) ≡ None
+at-apart p [] apart = refl
+at-apart p (c ∷ cs) apart = ap (λ b. cond b (Some (counted_value c)) (at p (map counted_value cs))) (apart_test c.place p (apart.0)) ∙ at-apart p cs (apart.1)
+
+pub at-here : (p : ℕ) (s : Placed) (others : List Placed) → s.place ≡ p → at p (s ∷ others) ≡ Some s
+at-here p s others same = ap (λ b. cond b (Some s) (at p others)) (same_test s.place p same)
+
+pub at-other : (p : ℕ) (s : Placed) (others : List Placed) → (s.place ≡ p → ⊥) → at p (s ∷ others) ≡ at p others
+at-other p s others apart = ap (λ b. cond b (Some s) (at p others)) (apart_test s.place p apart)
+
+none_else : (o : Option Placed) → or_else o None ≡ o
+none_else None = refl
+none_else (Some s) = refl
+
+-- ---- a segment that is put in
+
+each_below : (c : Counted) (p : ℕ) (cs : List Counted) → p ≡ c.place → AllByRecursion (λ other. other.place < c.place) cs → AllByRecursion (λ other. other.place ≡ p → ⊥) cs
+each_below c p [] same below = tt
+each_below c p (other ∷ cs) same below = ((λ e. omega (arith, below.0, e, same)), each_below c p cs same (below.1))
+
+each_above : (c : Counted) (p : ℕ) (cs : List Counted) → p ≡ c.place → AllByRecursion (λ other. c.place < other.place) cs → AllByRecursion (λ other. other.place ≡ p → ⊥) cs
+each_above c p [] same above = tt
+each_above c p (other ∷ cs) same above = ((λ e. omega (arith, above.0, e, same)), each_above c p cs same (above.1))
+
+kept : (o : Option Placed) (s t : Placed) → or_else (or_else o (Some s)) (Some t) ≡ or_else o (Some s)
+kept None s t = refl
+kept (Some u) s t = refl
+
+-- what stands at a place behind one that stands there already stays
+stays : (p : ℕ) (front back : List Counted) (other c : Counted) → other.place ≡ c.place → (p ≡ c.place)
+    → or_else (at p (map counted_value (front ++ other ∷ back))) (Some (counted_value c)) ≡ at p (map counted_value (front ++ other ∷ back))
+stays p front back other c same here =
+    let found : at p (map counted_value (front ++ other ∷ back)) ≡ or_else (at p (map counted_value front)) (Some (counted_value other)) =
+    ap (at p) (map-append counted_value front (other ∷ back)) ∙ at-append p (map counted_value front) (map counted_value (other ∷ back))
+    ∙ ap (or_else (at p (map counted_value front))) (at-here p (counted_value other) (map counted_value back) (same ∙ sym here)) in
+    rw found (kept (at p (map counted_value front)) (counted_value other) (counted_value c))
+
+pub at_put : (p : ℕ) (old : List Counted) (c : Counted) (new : List Counted) → IsPutIn old c new
+    → at p (map counted_value new) ≡ or_else (at p (map counted_value old)) (at p (counted_value c ∷ []))
+at_put p old c new (inl there) =
+    ⊎_elim
+    (λ (here : p ≡ c.place).
+    let one : at p (counted_value c ∷ []) ≡ Some (counted_value c) = at-here p (counted_value c) [] (sym here) in
+    rw (there.0, one, there.4) (sym (stays p there.1 there.2 there.3 c there.5 here)))
+    (λ (apart : p ≡ c.place → ⊥).
+    let none : at p (counted_value c ∷ []) ≡ None = at-other p (counted_value c) [] (λ e. apart (sym e)) in
+    rw (there.0, none) (sym (none_else (at p (map counted_value old)))))
+    (cases_eq p c.place)
+at_put p old c new (inr between) =
+    let front = between.0 in
+    let back = between.1 in
+    let split : at p (map counted_value new) ≡ or_else (at p (map counted_value front)) (at p (counted_value c ∷ map counted_value back)) =
+    ap (λ cs. at p (map counted_value cs)) between.3 ∙ ap (at p) (map-append counted_value front (c ∷ back)) ∙ at-append p (map counted_value front) (map counted_value (c ∷ back)) in
+    let before : at p (map counted_value old) ≡ or_else (at p (map counted_value front)) (at p (map counted_value back)) =
+    ap (λ cs. at p (map counted_value cs)) between.2 ∙ ap (at p) (map-append counted_value front back) ∙ at-append p (map counted_value front) (map counted_value back) in
+    ⊎_elim
+    (λ (here : p ≡ c.place).
+    let one = at-here p (counted_value c) [] (sym here) in
+    let here_too = at-here p (counted_value c) (map counted_value back) (sym here) in
+    let no_front = at-apart p front (each_below c p front here between.4) in
+    let no_back = at-apart p back (each_above c p back here between.5) in
+    rw (split, before, one, here_too, no_front, no_back) refl)
+    (λ (apart : p ≡ c.place → ⊥).
+    let none = at-other p (counted_value c) [] (λ e. apart (sym e)) in
+    let not_here = at-other p (counted_value c) (map counted_value back) (λ e. apart (sym e)) in
+    rw (split, before, none, not_here) (sym (none_else (or_else (at p (map counted_value front)) (at p (map counted_value back))))))
+    (cases_eq p c.place)
+
+-- ---- the order
+
+rises_all : (c : Counted) (front back : List Counted) → AllByRecursion (λ other. c.place < other.place) (front ++ back) → (d : Counted) → c.place < d.place
+    → AllByRecursion (λ other. c.place < other.place) (front ++ d ∷ back)
+rises_all c [] back all d below = (below, all)
+rises_all c (f ∷ front) back all d below = (all.0, rises_all c front back (all.1) d below)
+
+rises_between : (front back : List Counted) (c : Counted) → Rises (front ++ back) → AllByRecursion (λ other. other.place < c.place) front
+    → AllByRecursion (λ other. c.place < other.place) back → Rises (front ++ c ∷ back)
+rises_between [] back c rises below above = (above, rises)
+rises_between (f ∷ front) back c rises below above = (rises_all f front back (rises.0) c (below.0), rises_between front back c (rises.1) (below.1) above)
+
+pub rises_put : (old : List Counted) (c : Counted) (new : List Counted) → IsPutIn old c new → Rises old → Rises new
+rises_put old c new (inl there) rises = subst Rises (sym there.0) rises
+rises_put old c new (inr between) rises =
+    subst Rises (sym between.3) (rises_between between.0 between.1 c (subst Rises between.2 rises) between.4 between.5)
+
+-- what holds of the old ones and of the new one holds of all
+all_between : (P : Counted → Type 0) (front back : List Counted) (c : Counted) → AllByRecursion P (front ++ back) → P c → AllByRecursion P (front ++ c ∷ back)
+all_between P [] back c all one = (one, all)
+all_between P (f ∷ front) back c all one = (all.0, all_between P front back c (all.1) one)
+
+pub all_put : (P : Counted → Type 0) (old : List Counted) (c : Counted) (new : List Counted) → IsPutIn old c new → AllByRecursion P old → P c → AllByRecursion P new
+all_put P old c new (inl there) all one = subst (AllByRecursion P) (sym there.0) all
+all_put P old c new (inr between) all one =
+    subst (AllByRecursion P) (sym between.3) (all_between P between.0 between.1 c (subst (AllByRecursion P) between.2 all) one)

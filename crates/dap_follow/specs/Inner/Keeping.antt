@@ -1,0 +1,63 @@
+-- What the program keeps of the streams of a capture.
+use Rattle.std.specs.Prelude.{◌≡◌, ◌<◌, ◌≤◌, ◌+◌, ◌*◌, ◌/◌, ◌%◌, ⊤, ℕ, List, [], ◌∷◌, length, map, max}
+use Rattle.std.specs.List.{AllByRecursion}
+use Rattle.dap_listing.specs.Captured.{Spell, carried_value}
+use Rattle.dap_listing.specs.declared.packet.Carried.{Carried}
+use Rattle.dap_follow.specs.Streams.{ArePlaced, Came, Packet, Placed, at, came_in, first_place, put_at, streams}
+use Rattle.dap_follow.specs.Inner.Placing.{IsPutIn, Rises, counted_value}
+use Rattle.dap_follow.specs.declared.places.Counted.{Counted}
+use Rattle.dap_follow.specs.declared.places.Places.{Places}
+use Rattle.dap_follow.specs.declared.streams.Stream.{Stream}
+use Rattle.dap_follow.specs.declared.streams.Streams.{Streams}
+
+-- a segment of the program, and the number of its packet
+abbrev pub came : ℕ → Carried → Came
+came packet c = record { packet = packet; segment = carried_value c }
+
+-- a segment was put in its place, which is near the highest before it
+pub record IsAdded (packet : ℕ) (c : Carried) (old new : Places) : Type 0 where
+  pub counted : Counted
+  pub low : old.highest ≤ counted.place + 2047
+  pub high : counted.place ≤ old.highest + 2048
+  pub number : counted.place % 4096 ≡ c.number
+  pub value : counted_value counted ≡ put_at counted.place (came packet c)
+  pub digits : counted.payload.now ≡ c.payload.now
+  pub packet_is : counted.packet ≡ packet
+  pub put : IsPutIn old.ordered.items counted new.ordered.items
+  pub highest : new.highest ≡ max old.highest counted.place
+
+-- the highest of places, and of the one before them
+abbrev pub top : ℕ → List Placed → ℕ
+top highest [] = highest
+top highest (s ∷ others) = top (max highest s.place) others
+
+-- a segment of a packet up to one of this number, whose payload's digits are hex digits
+abbrev pub IsGood : ℕ → Counted → Type 0
+IsGood count c = (0 < c.packet) × (c.packet ≤ count) × Spell c.payload.now (length c.payload.now / 2)
+
+-- the segments of a stream, as they came behind a place
+pub record Keeps (start : ℕ) (before : List Came) (p : Places) : Type 0 where
+  pub placed : List Placed
+  pub are_placed : ArePlaced start before placed
+  pub highest : p.highest ≡ top start placed
+  pub rises : Rises p.ordered.items
+  pub same : (place : ℕ) → at place (map counted_value p.ordered.items) ≡ at place placed
+
+-- the same of a stream of so many packets
+pub record KeepsStream (packets : List Packet) (stream : Stream) (p : Places) : Type 0 where
+  pub keeps : Keeps (first_place (came_in stream packets)) (came_in stream packets) p
+  pub good : AllByRecursion (IsGood (length packets)) p.ordered.items
+  pub low : 4096 ≤ p.highest
+  pub high : p.highest ≤ 8192 + 2048 * length packets
+
+-- those of each stream
+abbrev pub KeepsEach : List Packet → List Stream → List Places → Type 0
+KeepsEach packets [] [] = ⊤
+KeepsEach packets (stream ∷ others) (p ∷ rest) = KeepsStream packets stream p × KeepsEach packets others rest
+KeepsEach packets [] (p ∷ rest) = ⊥
+KeepsEach packets (stream ∷ others) [] = ⊥
+
+-- the streams of packets, and the segments of each
+pub record KeepsAll (packets : List Packet) (s : Streams) : Type 0 where
+  pub names : s.names.keys ≡ streams packets
+  pub each : KeepsEach packets (streams packets) s.places.items

@@ -1,0 +1,22 @@
+-- How the program keeps the segments of a stream in the order of their places.
+use Rattle.std.specs.Prelude.{◌≡◌, ◌<◌, ◌⊎◌, ⊤, ℕ, List, [], ◌∷◌, ◌++◌}
+use Rattle.std.specs.List.{AllByRecursion}
+use Rattle.dap_listing.specs.Captured.{bytes_of}
+use Rattle.dap_follow.specs.Streams.{Placed}
+use Rattle.dap_follow.specs.declared.places.Counted.{Counted}
+
+-- a segment of the program, without where the digits of its payload lie
+abbrev pub counted_value : Counted → Placed
+counted_value c = record { place = c.place; packet = c.packet; first = c.first; last = c.last; payload = bytes_of c.payload.now }
+
+-- each place is below those behind it
+abbrev pub Rises : List Counted → Type 0
+Rises [] = ⊤
+Rises (c ∷ others) = AllByRecursion (λ other. c.place < other.place) others × Rises others
+
+-- A segment stands in the place already, or it is put between those below and those above.
+abbrev pub IsPutIn : List Counted → Counted → List Counted → Type 0
+IsPutIn old c new =
+    ((new ≡ old) × (front back : List Counted) × (other : Counted) × (old ≡ front ++ other ∷ back) × (other.place ≡ c.place))
+    ⊎ ((front back : List Counted) × (old ≡ front ++ back) × (new ≡ front ++ c ∷ back)
+    × AllByRecursion (λ other. other.place < c.place) front × AllByRecursion (λ other. c.place < other.place) back)

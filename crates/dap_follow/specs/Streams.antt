@@ -1,0 +1,95 @@
+-- The data segments of a capture, stream by stream and in the order of their places. Own.
+use Rattle.std.specs.Prelude.{◌≡◌, ℕ, ◌+◌, ◌%◌, ◌≤◌, ◌==◌, ◌&&◌, Bool, true, false, List, [], ◌∷◌, map, max, if◌then◌else◌, Option, Some, None, Ok, Err}
+use Rattle.std.specs.List.{filter_map, enumerate_from}
+use Rattle.std.specs.List.Sorted.{IsStrictlyIncreasing}
+use Rattle.indexmap.specs.IndexSet.{insert_all}
+use Rattle.nsp_seg.specs.Packets.{SegmentValue, segment, data_ack}
+use Rattle.dap_listing.specs.Packets.{Seen}
+use Rattle.dap_listing.specs.declared.lines.Direction.{Direction}
+use Rattle.dap_listing.specs.declared.lines.Direction.TheVariants.{Right, Left}
+use Rattle.dap_follow.specs.declared.streams.Stream.{Stream}
+
+-- what was captured, and the way that it went
+abbrev pub Packet : Type 0
+Packet = Direction × Seen
+
+-- ---- streams: the segments that go one way between two ends
+
+abbrev pub stream_of : Packet → Option Stream
+stream_of (way, Ok (segment s)) = Some (record { way = way; dst = s.dst; src = s.src })
+stream_of (way, Ok (data_ack a)) = None
+stream_of (way, Err fault) = None
+
+abbrev pub is_same_way : Direction → Direction → Bool
+is_same_way Right Right = true
+is_same_way Right Left = false
+is_same_way Left Right = false
+is_same_way Left Left = true
+
+abbrev pub is_same : Stream → Stream → Bool
+is_same a b = is_same_way a.way b.way && (a.dst == b.dst) && (a.src == b.src)
+
+-- each once, in the order in which they appear
+abbrev pub streams : List Packet → List Stream
+streams packets = insert_all is_same [] (filter_map stream_of packets)
+
+-- a segment, and the number of its packet
+pub record Came : Type 0 where
+  pub packet : ℕ
+  pub segment : SegmentValue
+
+-- the segment of a packet, where it is of the stream
+abbrev pub came_as : Stream → ℕ → Packet → Option Came
+came_as stream number (way, Ok (segment s)) =
+    if is_same stream (record { way = way; dst = s.dst; src = s.src }) then Some (record { packet = number; segment = s }) else None
+came_as stream number (way, Ok (data_ack a)) = None
+came_as stream number (way, Err fault) = None
+
+-- the segments of a stream, as they came
+abbrev pub came_in : Stream → List Packet → List Came
+came_in stream packets = filter_map (λ (number, packet). came_as stream number packet) (enumerate_from 1 packets)
+
+-- ---- places
+
+-- a segment in its place: where it is the first of its message or the last, and what it carries
+pub record Placed : Type 0 where
+  pub place : ℕ
+  pub packet : ℕ
+  pub first : Bool
+  pub last : Bool
+  pub payload : List ℕ
+
+abbrev pub put_at : ℕ → Came → Placed
+put_at place c = record { place = place; packet = c.packet; first = c.segment.first; last = c.segment.last; payload = c.segment.payload }
+
+-- Each place leaves the segment's number modulo 4,096, and lies from 2,047 below to 2,048 above the highest before it.
+pub data ArePlaced : ℕ → List Came → List Placed → Type 0 where
+  no_more : {highest : ℕ} → ArePlaced highest [] []
+  one_more : {highest : ℕ} {c : Came} {others : List Came} {rest : List Placed} (place : ℕ)
+      → highest ≤ place + 2047 → place ≤ highest + 2048 → place % 4096 ≡ c.segment.number
+      → ArePlaced (max highest place) others rest
+      → ArePlaced highest (c ∷ others) (put_at place c ∷ rest)
+
+-- The first one's place is its number and 4,096.
+abbrev pub first_place : List Came → ℕ
+first_place [] = 0
+first_place (c ∷ others) = c.segment.number + 4096
+
+-- what stands at a place: of several the first that came
+abbrev pub at : ℕ → List Placed → Option Placed
+at place [] = None
+at place (s ∷ others) = if s.place == place then Some s else at place others
+
+-- the segments that count, in the order of their places
+pub record IsOrdered (came : List Came) (ordered : List Placed) : Type 0 where
+  pub placed : List Placed
+  pub are_placed : ArePlaced (first_place came) came placed
+  pub ascending : IsStrictlyIncreasing (map (λ s. s.place) ordered)
+  pub same : (place : ℕ) → at place ordered ≡ at place placed
+
+-- those of each stream
+pub data AreOrdered (packets : List Packet) : List Stream → List (List Placed) → Type 0 where
+  no_more : AreOrdered packets [] []
+  one_more : {stream : Stream} {others : List Stream} {ordered : List Placed} {rest : List (List Placed)}
+      → IsOrdered (came_in stream packets) ordered → AreOrdered packets others rest
+      → AreOrdered packets (stream ∷ others) (ordered ∷ rest)

@@ -1,0 +1,5 @@
+//! The listing of a capture with the NSP messages of several segments joined. Own.
+#![tactic(auto)]
+
+mod places;
+mod streams;

@@ -1,0 +1,91 @@
+//! The segments of a stream that count, in the order of their places.
+
+ghost use Rattle.std.specs.Prelude.{◌≡◌, ◌≤◌, ◌<◌, ◌+◌, ◌%◌, ◌^◌, [], OnOk};
+ghost use Rattle.dap_follow.specs.Inner.Placing.{IsPutIn, Rises};
+ghost use Rattle.dap_follow.specs.Inner.Keeping.{IsAdded};
+
+use dap_listing::Carried;
+use nsp_seg::Seq12;
+use std::alloc::{AllocError, Global};
+
+/// So many numbers of segments there are (NSP 4.0.0, segment numbers).
+const ROUND: u64 = 4096;
+
+/// How far below the highest place before it a segment may lie. Own.
+const BELOW: u64 = 2047;
+
+/// A segment that counts: its place, the number of its packet, its marks, and the hex digits of its payload.
+#[derive(Clone, Copy, Debug)]
+pub(crate) struct Counted<'a> {
+    pub(crate) place: u64,
+    pub(crate) packet: usize,
+    pub(crate) first: bool,
+    pub(crate) last: bool,
+    pub(crate) payload: &'a [u8],
+}
+
+/// The place of a number, from 2,047 below to 2,048 above the highest one before it.
+fn place_near(highest: u64, number: Seq12) -> u64
+    requires low { 4096 ≤ highest }
+    requires high { highest < 2 ^ 62 }
+    ensures low { highest ≤ result + 2047 }
+    ensures high { result ≤ highest + 2048 }
+    ensures number { result % 4096 ≡ number }
+{
+    let lowest = highest - BELOW;
+    lowest + u64::from(number.ahead_of(Seq12::of(lowest)))
+}
+
+/// Puts a segment in its place, unless another stands there.
+fn put_in<'a>(ordered: &mut Vec<Counted<'a>>, counted: Counted<'a>) -> Result<(), AllocError>
+    requires { Rises ordered.old.items }
+    ensures { OnOk result (IsPutIn ordered.old.items counted ordered.new.items) }
+{
+    match ordered.binary_search_by_key(&counted.place, |other| other.place) {
+        Ok(_) => Ok(()),
+        Err(index) => {
+            ordered.insert(index, counted)?;
+            Ok(())
+        }
+    }
+}
+
+/// The segments of a stream that count.
+#[derive(Drop)]
+pub(crate) struct Places<'a> {
+    pub(crate) highest: u64,
+    pub(crate) ordered: Vec<Counted<'a>>,
+}
+
+impl<'a> Places<'a> {
+    /// Those of a stream whose first segment has the number, before it came.
+    pub(crate) fn new(alloc: Global, number: Seq12) -> Self
+        ensures highest { result.highest ≡ number + 4096 }
+        ensures ordered { result.ordered.items ≡ [] }
+    {
+        Places {
+            highest: u64::from(number.get()) + ROUND,
+            ordered: Vec::new(alloc),
+        }
+    }
+
+    /// Takes the segment of a packet, unless another stands in its place.
+    pub(crate) fn add(&mut self, packet: usize, segment: &Carried<'a>) -> Result<(), AllocError>
+        requires low { 4096 ≤ self.old.highest }
+        requires high { self.old.highest < 2 ^ 62 }
+        requires rises { Rises self.old.ordered.items }
+        ensures added { OnOk result (IsAdded packet segment.now self.old self.new) }
+    {
+        let place = place_near(self.highest, segment.number);
+        let counted = Counted {
+            place,
+            packet,
+            first: segment.first,
+            last: segment.last,
+            payload: segment.payload,
+        };
+        put_in(&mut self.ordered, counted)?;
+        self.highest = self.highest.max(place);
+        Ok(())
+    }
+}

@@ -1,0 +1,41 @@
+-- What was taken of a reader.
+use Rattle.std.proofs.Common.{◌≡◌, ◌≤◌, ◌+◌, ℕ, List, [], ◌++◌, length, Option, refl, arith, length-append}
+use Rattle.std.specs.Io.KnownBytes.{Consumes}
+use Rattle.std.proofs.KnownBytes.{Consumes-nil, Consumes-trans}
+use Rattle.dap_listing.specs.Gives.{TakesWithinLimit, input_limit}
+use Rattle.dap_listing.specs.Inner.Input.{TakesBehind}
+
+-- so many of the known bytes, from the front
+unfoldable pub HasTaken : ℕ → Option (List ℕ) → Option (List ℕ) → Type 0
+HasTaken count old now = (taken : List ℕ) × (count ≡ length taken) × Consumes old now taken
+
+pub taken_none : (known : Option (List ℕ)) → HasTaken 0 known known
+unfolding HasTaken
+taken_none known = ([], refl, Consumes-nil known)
+
+pub taken_more : (count later : ℕ) (old now new : Option (List ℕ)) (came : List ℕ) → HasTaken count old now → Consumes now new came
+    → count + length came ≡ later → HasTaken later old new
+unfolding HasTaken
+taken_more count later old now new came before read counted =
+    (before.0 ++ came, omega (arith, before.1, counted, length-append before.0 came), Consumes-trans old now new before.0 came before.2 read)
+
+pub taken_within : (count : ℕ) (old now : Option (List ℕ)) → HasTaken count old now → count ≤ input_limit + 1 → TakesWithinLimit old now
+unfolding HasTaken
+taken_within count old now before within = (before.0, before.2, omega (arith, before.1, within))
+
+pub takes_none : (count : ℕ) (known : Option (List ℕ)) → count ≤ input_limit → TakesBehind count known known
+unfolding TakesBehind
+takes_none count known within = ([], Consumes-nil known, omega (arith, within))
+
+-- with what is taken behind it
+pub taken_behind : (count : ℕ) (old now new : Option (List ℕ)) → HasTaken count old now → TakesBehind count now new → TakesWithinLimit old new
+unfolding HasTaken TakesBehind
+taken_behind count old now new before behind =
+    (before.0 ++ behind.0, Consumes-trans old now new before.0 behind.0 before.2 behind.1, omega (arith, before.1, behind.2, length-append before.0 behind.0))
+
+-- behind what was taken before
+pub takes_more : (count later : ℕ) (old now new : Option (List ℕ)) (taken : List ℕ) → later ≡ count + length taken → Consumes old now taken
+    → TakesBehind later now new → TakesBehind count old new
+unfolding TakesBehind
+takes_more count later old now new taken counted before more =
+    (taken ++ more.0, Consumes-trans old now new taken more.0 before more.1, omega (arith, counted, more.2, length-append taken more.0))

@@ -1,0 +1,12 @@
+pub mod InputLemmas
+pub mod CourseLemmas
+pub mod DecodeLemmas
+pub mod DigitLemmas
+pub mod HexTextLemmas
+pub mod ItemLemmas
+pub mod LineLemmas
+pub mod ListingLemmas
+pub mod MessageLemmas
+pub mod OneListing
+pub mod OutputLemmas
+pub mod PacketLemmas

@@ -1,0 +1,5 @@
+use Rattle.dap_listing.proofs.InputLemmas.{takes_none}
+use Rattle.dap_listing.proofs.input.skip_unread.Goals as goal
+
+pub returns-then-is_met-clause-taken : goal.returns-then-is_met-clause-taken
+returns-then-is_met-clause-taken g c = takes_none c.args.count.now (g.R.Read.remaining c.args.reader.now) c.requires.count

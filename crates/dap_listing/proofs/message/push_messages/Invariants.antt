@@ -1,0 +1,17 @@
+use Rattle.std.proofs.Common.{◌≡◌, ◌≤◌, ◌<◌, ◌+◌, ◌-◌, ◌++◌, ℕ, List, length}
+use Rattle.dap_listing.specs.Captured.{AreDecoded, Spell, bytes_of}
+use Rattle.dap_listing.proofs.MessageLemmas.{GoesOn}
+use Rattle.dap_listing.proofs.message.push_messages.Given as goal
+
+abbrev pub invariant-items : goal.invariant-items
+invariant-items l = record {
+  inside : l.at ≤ length l.nsp_message;
+  within : l.known ≤ length l.nsp_message;
+  spelled : Spell l.digits (length l.nsp_message);
+  decoded : AreDecoded l.digits l.at l.known l.nsp_message;
+  before_end : 0 < length l.nsp_message → l.at < length l.nsp_message;
+  so_far : (done : List ℕ) × (l.text.items ≡ l.initial.text.items ++ done) × GoesOn (bytes_of l.digits) l.at done;
+}
+
+abbrev pub decreases-items : goal.decreases-items
+decreases-items l = (length l.nsp_message - l.at) + (length l.nsp_message - l.known)

@@ -1,0 +1,62 @@
+-- What a run over a whole input answers.
+use Rattle.std.specs.Prelude.{◌≡◌, ◌≢◌, OnErr, ℕ, ◌+◌, ◌<◌, ◌≤◌, List, [], length, slice_get, Option, Some, IfSome, Result, Ok, Err, ◌⊎◌}
+use Rattle.std.specs.Io.KnownBytes.{Appends, Consumes, Keeps}
+use Rattle.dap_listing.specs.Output.{WritesFront}
+use Rattle.dap_listing.specs.declared.fault.Outcome.{Outcome}
+use Rattle.dap_listing.specs.declared.fault.CaptureFault.{CaptureFault}
+use Rattle.dap_listing.specs.declared.fault.CaptureFault.TheVariants.{BadLine, TooLarge, ReadFailed, WriteFailed, NoMemory}
+
+-- the most bytes of an input
+abbrev pub input_limit : ℕ
+input_limit = 16777216
+
+-- a fault that a line can have
+abbrev pub IsOfLine : CaptureFault → Type 0
+IsOfLine (BadLine number) = Unit {0}
+IsOfLine TooLarge = Unit {0}
+IsOfLine _ = ⊥
+
+-- the first of the faults, which a line can have
+abbrev pub IsFirst : List CaptureFault → CaptureFault → Type 0
+IsFirst faults fault = (slice_get faults 0 ≡ Some fault) × IsOfLine fault
+
+-- why known bytes can't be read whole: too many are told as such, and no fault is one of a line or of a writer
+abbrev pub IsReadFault : Option (List ℕ) → CaptureFault → Type 0
+IsReadFault known TooLarge = IfSome known (λ bytes. input_limit < length bytes)
+IsReadFault known ReadFailed = Unit {0}
+IsReadFault known NoMemory = Unit {0}
+IsReadFault known _ = ⊥
+
+-- A front of a reader's known bytes is taken, no longer than an input may be and one byte more.
+abbrev pub TakesWithinLimit : Option (List ℕ) → Option (List ℕ) → Type 0
+TakesWithinLimit old new = (taken : List ℕ) × Consumes old new taken × (length taken ≤ input_limit + 1)
+
+-- a text of an input whose lines have no fault
+pub record IsTextOf (faults : List CaptureFault) (IsText : List ℕ → Type 0) (input text : List ℕ) : Type 0 where
+  pub small : length input ≤ input_limit
+  pub no_fault : faults ≡ []
+  pub text_is : IsText text
+
+-- the first fault of the input's lines, of an input within the limit
+pub record HasLineFault (faults : List CaptureFault) (input : List ℕ) (fault : CaptureFault) : Type 0 where
+  pub small : length input ≤ input_limit
+  pub first : slice_get faults 0 ≡ Some fault
+
+-- What a run over an input answers, and how the known bytes of the writer change from old to new: by the faults of the
+-- input's lines, and the texts that go with an outcome.
+abbrev pub Gives : List CaptureFault → (Outcome → List ℕ → Type 0) → List ℕ
+    → Option (List ℕ) → Option (List ℕ) → Result Outcome CaptureFault → Type 0
+Gives faults IsText input old new (Ok outcome) =
+    (text : List ℕ) × IsTextOf faults (IsText outcome) input text × Appends old new text
+Gives faults IsText input old new (Err (BadLine number)) =
+    HasLineFault faults input (BadLine number) × Keeps old new
+Gives faults IsText input old new (Err TooLarge) =
+    ((input_limit < length input) ⊎ HasLineFault faults input TooLarge) × Keeps old new
+Gives faults IsText input old new (Err ReadFailed) = Keeps old new
+Gives faults IsText input old new (Err NoMemory) = Keeps old new
+Gives faults IsText input old new (Err WriteFailed) =
+    (outcome : Outcome) × (text : List ℕ) × IsTextOf faults (IsText outcome) input text × WritesFront old new text
+
+-- A fault leaves it as it was, save one of the writer.
+abbrev pub KeepsUnwritten : Result Outcome CaptureFault → Option (List ℕ) → Option (List ℕ) → Type 0
+KeepsUnwritten result old new = OnErr result ((result ≢ Err WriteFailed) → Keeps old new)

@@ -1,0 +1,9 @@
+-- What only the contracts of private functions cite, and proofs: nobody has to believe it.
+pub mod Adding
+pub mod Course
+pub mod Cutting
+pub mod Input
+pub mod Lines
+pub mod Decoding
+pub mod Messages
+pub mod Fields

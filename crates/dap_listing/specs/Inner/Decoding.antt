@@ -1,0 +1,38 @@
+-- Hex digits whose bytes are decoded as far as they are needed.
+use Rattle.std.specs.Prelude.{◌≡◌, ℕ, ◌+◌, ◌*◌, ◌<◌, ◌≤◌, List, length, drop, get_or, Result, Ok, Err}
+use Rattle.dap_listing.specs.Captured.{bytes_of}
+use Rattle.dap_listing.specs.declared.packet.Captured.{Captured}
+use Rattle.dap_listing.specs.declared.packet.Captured.TheVariants.{Segment, DataAck}
+use Rattle.nsp_seg.specs.declared.packet.SegFault.{SegFault}
+use Rattle.nsp_seg.specs.Packets.{SegmentValue, segment, Spells}
+use Rattle.dap_msg.specs.Message.{Message, Filedata}
+use Rattle.dap_msg.specs.Items.{Item, Whole, Malformed}
+
+-- the bytes spell a segment, of which so many in front are all but some of the payload
+abbrev pub IsSegmentFront : List ℕ → ℕ → Type 0
+IsSegmentFront bytes known =
+    (s : SegmentValue) × Spells (segment s) bytes × (length bytes ≤ known + length s.payload)
+
+-- a payload's digits end the digits, and stand behind so many bytes at most
+abbrev pub IsBehind : List ℕ → ℕ → Result Captured SegFault → Type 0
+IsBehind digits known (Ok (Segment c)) = (head : ℕ) × (head ≤ known) × (2 * head + length c.payload.now ≡ length digits) × (c.payload.now ≡ drop (2 * head) digits)
+IsBehind digits known (Ok (DataAck dst src ack1 ack2)) = Unit {0}
+IsBehind digits known (Err fault) = Unit {0}
+
+-- the message with another record, where it is one of a record
+abbrev pub with_record : Message → List ℕ → Message
+with_record (Filedata recnum payload) body = Filedata recnum body
+with_record m body = m
+
+abbrev pub item_with_record : Item → List ℕ → Item
+item_with_record (Whole m) body = Whole (with_record m body)
+item_with_record (Malformed fault) body = Malformed fault
+
+-- how many bytes of a record are its last
+abbrev pub message_record_size : Message → ℕ
+message_record_size (Filedata recnum payload) = length payload
+message_record_size m = 0
+
+abbrev pub record_size : Item → ℕ
+record_size (Whole m) = message_record_size m
+record_size (Malformed fault) = 0

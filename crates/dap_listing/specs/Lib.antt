@@ -1,0 +1,8 @@
+pub mod Inner
+pub mod Output
+pub mod Gives
+pub mod Lines
+pub mod Messages
+pub mod Packets
+pub mod Listing
+pub mod Captured

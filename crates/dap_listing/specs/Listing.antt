@@ -1,0 +1,99 @@
+-- The listing of a capture: of packets, or of NSP messages.
+use Rattle.std.specs.Prelude.{◌≡◌, ℕ, ◌+◌, List, [], ◌∷◌, ◌++◌, length, codes, Option, Some, None, Result, Ok}
+use Rattle.std.specs.List.{concat, filter_map, enumerate_from}
+use Rattle.std.specs.Fmt.{decimal}
+use Rattle.std.specs.Str.Lines.{lines}
+use Rattle.hex.specs.Hex.{decode_of}
+use Rattle.dap_listing.specs.Lines.{CaptureLine, captured, malformed, too_long, line_of}
+use Rattle.dap_listing.specs.Packets.{IsPacketText}
+use Rattle.dap_text.specs.Text.{line_feed}
+use Rattle.dap_listing.specs.Messages.{IsMessagesText}
+use Rattle.dap_listing.specs.Gives.{Gives}
+use Rattle.dap_listing.specs.declared.listing.Listed.{Listed}
+use Rattle.dap_listing.specs.declared.listing.Listed.TheVariants.{Packets, Messages}
+use Rattle.dap_listing.specs.declared.lines.Direction.{Direction}
+use Rattle.dap_listing.specs.declared.lines.Direction.TheVariants.{Right, Left}
+use Rattle.dap_listing.specs.declared.fault.Outcome.{Outcome}
+use Rattle.dap_listing.specs.declared.fault.Outcome.TheVariants.{Good, Stopped}
+use Rattle.dap_listing.specs.declared.fault.CaptureFault.{CaptureFault}
+use Rattle.dap_listing.specs.declared.fault.CaptureFault.TheVariants.{BadLine, TooLarge}
+
+-- what is wrong with the line of a number
+abbrev pub fault_of_line : ℕ → CaptureLine → Option CaptureFault
+fault_of_line number malformed = Some (BadLine number)
+fault_of_line number too_long = Some TooLarge
+fault_of_line number _ = None
+
+-- the faults of the lines in order, of which the first has the number
+abbrev pub faults_from : ℕ → ℕ → List ℕ → List CaptureFault
+faults_from limit number bytes =
+    filter_map (λ (place, line). fault_of_line place (line_of limit line)) (enumerate_from number (lines bytes))
+
+-- those of an input
+abbrev pub line_faults : ℕ → List ℕ → List CaptureFault
+line_faults limit input = faults_from limit 1 input
+
+-- the direction of captured bytes and their hex digits
+abbrev pub Capture : Type 0
+Capture = Direction × List ℕ
+
+abbrev pub capture_of_line : CaptureLine → Option Capture
+capture_of_line (captured direction digits) = Some (direction, digits)
+capture_of_line _ = None
+
+-- what was captured, in order
+abbrev pub captures : ℕ → List ℕ → List Capture
+captures limit input = filter_map (λ line. capture_of_line (line_of limit line)) (lines input)
+
+abbrev pub arrow_text : Direction → List ℕ
+arrow_text Right = codes ">"
+arrow_text Left = codes "<"
+
+-- the number of what was captured, and its direction
+abbrev pub heading : ℕ → Direction → List ℕ
+heading number direction = concat (decimal number ∷ codes " " ∷ arrow_text direction ∷ codes " " ∷ [])
+
+-- the line of an NSP message of so many bytes, and those of its messages
+pub record IsMessageText (bytes text : List ℕ) : Type 0 where
+  pub messages : List ℕ
+  pub listed : IsMessagesText bytes messages
+  pub joined : text ≡ concat (codes "message len=" ∷ decimal (length bytes) ∷ line_feed ∷ []) ++ messages
+
+-- what is listed of captured bytes after their number and direction
+abbrev pub IsCapturedText : Listed → List ℕ → List ℕ → Type 0
+IsCapturedText Packets bytes text = IsPacketText bytes text
+IsCapturedText Messages bytes text = IsMessageText bytes text
+
+-- the most bytes that the digits of a line spell
+abbrev pub limit_of : Listed → ℕ
+limit_of Packets = 4096
+limit_of Messages = 65535
+
+-- the lines of what was captured, the first of which has the number
+pub data CaptureLines (listed : Listed) : ℕ → List Capture → List ℕ → Type 0 where
+  no_more : {number : ℕ} → CaptureLines listed number [] []
+  one_more : {number : ℕ} {direction : Direction} {digits : List ℕ} {others : List Capture} (bytes first rest : List ℕ)
+      → decode_of digits ≡ Ok bytes → IsCapturedText listed bytes first → CaptureLines listed (number + 1) others rest
+      → CaptureLines listed number ((direction, digits) ∷ others) ((heading number direction ++ first) ++ rest)
+
+-- the text is the listing of the input, and all is good
+abbrev pub IsListing : Listed → List ℕ → Outcome → List ℕ → Type 0
+IsListing listed input Good text = CaptureLines listed 1 (captures (limit_of listed) input) text
+IsListing listed input Stopped text = ⊥
+
+-- what a listing of the input answers
+abbrev pub ListingGives : Listed → List ℕ → Option (List ℕ) → Option (List ℕ)
+    → Result Outcome CaptureFault → Type 0
+ListingGives listed input = Gives (line_faults (limit_of listed) input) (IsListing listed input) input
+
+abbrev pub ShowGives : List ℕ → Option (List ℕ) → Option (List ℕ) → Result Outcome CaptureFault → Type 0
+ShowGives = ListingGives Packets
+
+abbrev pub MessagesGive : List ℕ → Option (List ℕ) → Option (List ℕ) → Result Outcome CaptureFault → Type 0
+MessagesGive = ListingGives Messages
+
+-- No input has two listings of a kind.
+abbrev pub HasOneListing : Type 0
+HasOneListing =
+    (listed : Listed) (input a b : List ℕ)
+    → IsListing listed input Good a → IsListing listed input Good b → a ≡ b

@@ -1,0 +1,67 @@
+-- The lines of a packet, after its number and direction.
+use Rattle.std.specs.Prelude.{◌≡◌, ℕ, Bool, true, false, List, [], ◌∷◌, ◌++◌, length, codes, Option, Some, None, Result, Ok, Err}
+use Rattle.std.specs.List.{concat}
+use Rattle.std.specs.Fmt.{decimal}
+use Rattle.nsp_seg.specs.Packets.{PacketValue, SegmentValue, AckValue, segment, data_ack, Spells, HasFault}
+use Rattle.nsp_seg.specs.declared.packet.AckField.{AckField}
+use Rattle.nsp_seg.specs.declared.packet.SegFault.{SegFault}
+use Rattle.dap_text.specs.Answers.{fault_line}
+use Rattle.dap_text.specs.Text.{line_feed, word_text}
+use Rattle.dap_listing.specs.Messages.{IsMessagesText}
+
+-- an acknowledgement field: its qualifier and its number
+abbrev pub ack_text : AckField → List ℕ
+ack_text ack = concat (decimal ack.qual ∷ codes ":" ∷ decimal ack.number ∷ [])
+
+abbrev pub acks_text : Option AckField → Option AckField → List ℕ
+acks_text None second = codes "-"
+acks_text (Some first) None = ack_text first
+acks_text (Some first) (Some second) = concat (ack_text first ∷ codes "," ∷ ack_text second ∷ [])
+
+-- where in its message a segment stands
+abbrev pub mark_text : Bool → Bool → List ℕ
+mark_text true true = codes "only"
+mark_text true false = codes "first"
+mark_text false true = codes "last"
+mark_text false false = codes "middle"
+
+abbrev pub segment_line : SegmentValue → List ℕ
+segment_line s = concat (
+    codes "segment " ∷ mark_text s.first s.last ∷ codes " dst=" ∷ word_text s.dst ∷ codes " src=" ∷ word_text s.src
+    ∷ codes " seg=" ∷ decimal s.number ∷ codes " acks=" ∷ acks_text s.ack1 s.ack2 ∷ codes " len=" ∷ decimal (length s.payload) ∷ line_feed ∷ [])
+
+abbrev pub ack_line : AckValue → List ℕ
+ack_line a = concat (
+    codes "ack dst=" ∷ word_text a.dst ∷ codes " src=" ∷ word_text a.src ∷ codes " acks=" ∷ acks_text (Some a.ack1) a.ack2 ∷ line_feed ∷ [])
+
+-- a packet, or why captured bytes are none
+abbrev pub Seen : Type 0
+Seen = Result PacketValue SegFault
+
+abbrev pub IsSeen : Seen → List ℕ → Type 0
+IsSeen (Ok packet) bytes = Spells packet bytes
+IsSeen (Err fault) bytes = HasFault fault bytes
+
+abbrev pub seen_line : Seen → List ℕ
+seen_line (Ok (segment s)) = segment_line s
+seen_line (Ok (data_ack a)) = ack_line a
+seen_line (Err fault) = fault_line fault
+
+-- the messages of a segment are listed where it holds a whole NSP message
+abbrev pub SegmentMessages : Bool → Bool → List ℕ → List ℕ → Type 0
+SegmentMessages true true payload lines = IsMessagesText payload lines
+SegmentMessages true false payload lines = lines ≡ []
+SegmentMessages false last payload lines = lines ≡ []
+
+abbrev pub SeenMessages : Seen → List ℕ → Type 0
+SeenMessages (Ok (segment s)) lines = SegmentMessages s.first s.last s.payload lines
+SeenMessages (Ok (data_ack a)) lines = lines ≡ []
+SeenMessages (Err fault) lines = lines ≡ []
+
+-- the line of what the bytes are, and those of its messages
+pub record IsPacketText (bytes text : List ℕ) : Type 0 where
+  pub seen : Seen
+  pub messages : List ℕ
+  pub is : IsSeen seen bytes
+  pub listed : SeenMessages seen messages
+  pub joined : text ≡ seen_line seen ++ messages

@@ -1,0 +1,75 @@
+//! The captured packets of an input, one after another.
+
+ghost use Rattle.std.specs.Prelude.{◌≡◌, ◌<◌, ◌+◌, ◌^◌, IfErr, IfOk, MatchOption, OnOk, codes, length};
+ghost use Rattle.dap_listing.specs.Captured.{HasNone, IsNext};
+ghost use Rattle.dap_listing.specs.Gives.{IsFirst};
+ghost use Rattle.dap_listing.specs.Listing.{arrow_text, faults_from, heading, limit_of};
+ghost use Rattle.dap_listing.specs.declared.listing.Listed.TheVariants.{Packets};
+ghost use Rattle.dap_text.specs.Adding.{Adds};
+
+use crate::CaptureFault;
+use crate::lines::{Direction, next_line};
+use crate::listing::{Listed, read_line};
+use dap_text::{push_decimal, push_str};
+use std::alloc::AllocError;
+
+/// A captured packet among lines: the way that it went and the hex digits of its bytes; and the number of the line behind
+/// it, and what stands there (own).
+#[derive(Clone, Copy, Debug)]
+pub struct Found<'a> {
+    pub way: Direction,
+    pub digits: &'a [u8],
+    pub at: usize,
+    pub rest: &'a [u8],
+}
+
+/// The first captured packet among lines, of which the first has the number. Takes no memory. Own.
+///
+/// `BadLine` and `TooLarge`: the first line at fault, where it stands before a packet.
+pub fn next_packet<'a>(at: usize, bytes: &'a [u8]) -> Result<Option<Found<'a>>, CaptureFault>
+    requires { at + length bytes.now < 2 ^ 32 }
+    ensures found { IfOk result
+        (λ found. MatchOption found (HasNone at bytes.now) (IsNext at bytes.now)) }
+    ensures fault { IfErr result (IsFirst (faults_from (limit_of Packets) at bytes.now)) }
+{
+    let mut at = at;
+    let mut rest = bytes;
+    while let Some((line, after)) = next_line(rest) {
+        let read = read_line(at, line, Listed::Packets.limit())?;
+        at += 1;
+        rest = after;
+        if let Some((way, digits)) = read {
+            return Ok(Some(Found {
+                way,
+                digits,
+                at,
+                rest,
+            }));
+        }
+    }
+    Ok(None)
+}
+
+/// The sign of a direction.
+pub fn arrow(direction: Direction) -> &'static str
+    ensures { result.now ≡ arrow_text direction }
+{
+    match direction {
+        Direction::Right => ">",
+        Direction::Left => "<",
+    }
+}
+
+/// Appends the number of what was captured, and its direction. Refused for want of memory alone. Own.
+pub fn push_heading(
+    text: &mut Vec<u8>,
+    number: usize,
+    direction: Direction,
+) -> Result<(), AllocError>
+    ensures { OnOk result (Adds text.old text.new (heading number direction)) }
+{
+    push_decimal(text, number)?;
+    push_str(text, " ")?;
+    push_str(text, arrow(direction))?;
+    push_str(text, " ")
+}

@@ -1,0 +1,44 @@
+//! How a run over a capture ends.
+ghost use Rattle.std.specs.Prelude.{◌≡◌};
+
+use std::alloc::AllocError;
+use thiserror::Error;
+
+/// A run that came to its end (own).
+#[derive(Clone, Copy, Debug, PartialEq, Eq)]
+pub enum Outcome {
+    /// All was done.
+    Good,
+    /// A schedule met an event without a step, or its setup was refused.
+    Stopped,
+}
+
+/// Why a run wrote nothing, or not all (own).
+#[derive(Clone, Copy, Debug, PartialEq, Eq, Error)]
+pub enum CaptureFault {
+    /// The line of this number, from 1, has no meaning.
+    #[error("bad line {0}")]
+    BadLine(usize),
+    /// The input, a packet or a message is longer than its limit.
+    #[error("too large")]
+    TooLarge,
+    /// The reader failed.
+    #[error("read failed")]
+    ReadFailed,
+    /// The writer failed, or took nothing.
+    #[error("write failed")]
+    WriteFailed,
+    /// Memory ran out.
+    #[error("no memory")]
+    NoMemory,
+}
+
+impl From<AllocError> for CaptureFault {
+    ghost use Rattle.dap_listing.specs.declared.fault.CaptureFault.TheVariants.{NoMemory};
+
+    ghost from_gives = { λ _ fault. fault ≡ NoMemory };
+
+    fn from(_error: AllocError) -> CaptureFault {
+        CaptureFault::NoMemory
+    }
+}

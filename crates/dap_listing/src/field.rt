@@ -1,0 +1,109 @@
+//! The fields of messages with a menu, as a listing names them.
+
+ghost use Rattle.std.specs.Prelude.{◌≡◌, ◌++◌, ◌∷◌, [], OnOk, codes, length};
+ghost use Rattle.std.specs.List.{concat, flat_map};
+ghost use Rattle.dap_msg.specs.Message.{seen_attributes, seen_control};
+ghost use Rattle.dap_text.specs.Adding.{Adds};
+ghost use Rattle.dap_listing.specs.Messages.{attributes_text, control_text};
+ghost use Rattle.dap_text.specs.Text.{line_feed};
+ghost use Rattle.dap_listing.specs.Inner.Fields.{field_text};
+
+use dap_msg::{Attributes, Control};
+use dap_text::{push_image, push_number, push_str};
+use itoa::Integer;
+use std::alloc::AllocError;
+
+/// A field by its name, with its value where it is there.
+#[derive(Clone, Copy, Debug)]
+pub(crate) enum Field<'a> {
+    Byte(&'static str, Option<u8>),
+    Word(&'static str, Option<u16>),
+    Long(&'static str, Option<u32>),
+    Quad(&'static str, Option<u64>),
+    Image(&'static str, Option<&'a [u8]>),
+}
+
+/// The fields of Attributes in the order of their menu bits.
+pub(crate) fn attributes_fields<'a>(a: &Attributes<'a>) -> [Field<'a>; 21]
+    ensures { flat_map field_text result ≡ attributes_text (seen_attributes a.now) }
+{
+    [
+        Field::Word("datatype", a.datatype),
+        Field::Byte("org", a.org),
+        Field::Byte("rfm", a.rfm),
+        Field::Long("rat", a.rat),
+        Field::Word("bls", a.bls),
+        Field::Word("mrs", a.mrs),
+        Field::Image("alq", a.alq),
+        Field::Byte("bks", a.bks),
+        Field::Byte("fsz", a.fsz),
+        Field::Image("mrn", a.mrn),
+        Field::Image("runsys", a.runsys),
+        Field::Word("deq", a.deq),
+        Field::Quad("fop", a.fop),
+        Field::Byte("bsz", a.bsz),
+        Field::Quad("dev", a.dev),
+        Field::Quad("sdc", a.sdc),
+        Field::Word("lrl", a.lrl),
+        Field::Image("hbk", a.hbk),
+        Field::Image("ebk", a.ebk),
+        Field::Word("ffb", a.ffb),
+        Field::Image("sbn", a.sbn),
+    ]
+}
+
+/// The fields of Control after its function, likewise.
+pub(crate) fn control_fields<'a>(c: &Control<'a>) -> [Field<'a>; 6]
+    ensures { flat_map field_text result ≡ control_text (seen_control c.now) }
+{
+    [
+        Field::Byte("rac", c.rac),
+        Field::Image("key", c.key),
+        Field::Byte("krf", c.krf),
+        Field::Quad("rop", c.rop),
+        Field::Image("hsh", c.hsh),
+        Field::Long("display", c.display),
+    ]
+}
+
+/// Appends a number behind its name.
+fn push_value<I: Integer>(text: &mut Vec<u8>, name: &str, value: I) -> Result<(), AllocError>
+    ensures { OnOk result (Adds text.old text.new
+        (concat (codes " " ∷ name.now ∷ codes "=" ∷ I.text value ∷ []))) }
+{
+    push_str(text, " ")?;
+    push_str(text, name)?;
+    push_number(text, "=", value)
+}
+
+/// Appends a field that is there.
+fn push_field(text: &mut Vec<u8>, field: Field<'_>) -> Result<(), AllocError>
+    ensures { OnOk result (Adds text.old text.new (field_text field.entry)) }
+{
+    match field {
+        Field::Byte(name, Some(value)) => push_value(text, name, value),
+        Field::Word(name, Some(value)) => push_value(text, name, value),
+        Field::Long(name, Some(value)) => push_value(text, name, value),
+        Field::Quad(name, Some(value)) => push_value(text, name, value),
+        Field::Image(name, Some(image)) => {
+            push_str(text, " ")?;
+            push_str(text, name)?;
+            push_image(text, "=", image)
+        }
+        Field::Byte(_, None)
+        | Field::Word(_, None)
+        | Field::Long(_, None)
+        | Field::Quad(_, None)
+        | Field::Image(_, None) => Ok(()),
+    }
+}
+
+/// Appends the fields that are there, and ends the line.
+pub(crate) fn push_fields(text: &mut Vec<u8>, fields: &[Field<'_>]) -> Result<(), AllocError>
+    ensures { OnOk result (Adds text.old text.new (flat_map field_text fields.now ++ line_feed)) }
+{
+    for field in fields {
+        push_field(text, *field)?;
+    }
+    push_str(text, "\n")
+}

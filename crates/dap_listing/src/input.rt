@@ -1,0 +1,109 @@
+//! Reading a whole input.
+ghost use Rattle.std.specs.Prelude.{◌≡◌, ◌≤◌, ◌<◌, ◌+◌, IfOk, IfErr, OnOk, IfSome, length, take, true};
+ghost use Rattle.std.specs.Io.KnownBytes.{Consumes, IsAtEnd};
+ghost use Rattle.dap_listing.specs.Gives.{IsReadFault, TakesWithinLimit};
+ghost use Rattle.dap_listing.specs.Inner.Input.{IsFaultAfter, TakesBehind};
+
+use crate::CaptureFault;
+use std::alloc::Global;
+use std::io::Read;
+
+/// The most bytes that an input may have. Own.
+pub const INPUT_LIMIT: usize = 16_777_216;
+
+/// How many bytes are read at a time.
+pub(crate) const CHUNK: usize = 65_536;
+
+/// Reads on into the front of the chunk, no further than the byte that breaks the limit, and answers how many bytes
+/// came: 0 at the end. The count is of the bytes that were read before.
+#[tactic(auto, unfolding(crate::specs::Inner::Input::TakesBehind))]
+pub(crate) fn read_some<R: Read>(
+    reader: &mut R,
+    chunk: &mut [u8],
+    count: &mut usize,
+) -> Result<usize, CaptureFault>
+    requires chunk { 0 < length chunk.old }
+    requires count { count.old ≤ INPUT_LIMIT }
+    ensures chunk { length chunk.new ≡ length chunk.old }
+    ensures came { IfOk result (λ came. came ≤ length chunk.new) }
+    ensures count { IfOk result (λ came. count.new ≡ count.old + came) }
+    ensures small { OnOk result (count.new ≤ INPUT_LIMIT) }
+    ensures bytes { IfOk result (λ came.
+        Consumes (R.remaining reader.old) (R.remaining reader.new) (take came chunk.new)) }
+    ensures end { IfOk result (λ came. came ≡ 0 → IsAtEnd (R.remaining reader.new)) }
+    ensures taken { TakesBehind count.old (R.remaining reader.old) (R.remaining reader.new) }
+    ensures fault { IfErr result (IsFaultAfter count.old (R.remaining reader.old)) }
+{
+    let room = chunk.len().min(INPUT_LIMIT + 1 - *count);
+    match reader.read(&mut chunk[..room]) {
+        Ok(came) if *count + came > INPUT_LIMIT => Err(CaptureFault::TooLarge),
+        Ok(came) => {
+            *count += came;
+            Ok(came)
+        }
+        Err(_) => Err(CaptureFault::ReadFailed),
+    }
+}
+
+/// Reads on to the end. The count is of the bytes that were read before.
+pub(crate) fn skip_rest<R: Read>(
+    reader: &mut R,
+    chunk: &mut [u8],
+    count: &mut usize,
+) -> Result<(), CaptureFault>
+    requires chunk { 0 < length chunk.old }
+    requires count { count.old ≤ INPUT_LIMIT }
+    ensures small { OnOk result (IfSome (R.remaining reader.old)
+        (λ rest. count.old + length rest ≤ 16777216)) }
+    ensures taken { TakesBehind count.old (R.remaining reader.old) (R.remaining reader.new) }
+    ensures fault { IfErr result (IsFaultAfter count.old (R.remaining reader.old)) }
+{
+    while read_some(reader, chunk, count)? > 0 {}
+    Ok(())
+}
+
+/// Reads on to the end, unless it was met. The count is of the bytes that were read before.
+pub(crate) fn skip_unread<R: Read>(
+    reader: &mut R,
+    chunk: &mut [u8],
+    count: &mut usize,
+    is_met: bool,
+) -> Result<(), CaptureFault>
+    requires chunk { 0 < length chunk.old }
+    requires count { count.old ≤ INPUT_LIMIT }
+    requires met { is_met ≡ true → IsAtEnd (R.remaining reader.old) }
+    ensures small { OnOk result (IfSome (R.remaining reader.old)
+        (λ rest. count.old + length rest ≤ 16777216)) }
+    ensures taken { TakesBehind count.old (R.remaining reader.old) (R.remaining reader.new) }
+    ensures fault { IfErr result (IsFaultAfter count.old (R.remaining reader.old)) }
+{
+    if is_met {
+        return Ok(());
+    }
+    skip_rest(reader, chunk, count)
+}
+
+/// All that the reader has left, where it is no more than the limit. No byte past the one that breaks the limit is
+/// read. Own.
+///
+/// `TooLarge`: there is more. `ReadFailed`: the reader failed. `NoMemory`: a growth was refused.
+pub fn read_input<R: Read>(alloc: Global, reader: &mut R) -> Result<Vec<u8>, CaptureFault>
+    ensures whole { IfOk result
+        (λ input. IfSome (R.remaining reader.old) (λ bytes. input.items ≡ bytes)) }
+    ensures end { OnOk result (IsAtEnd (R.remaining reader.new)) }
+    ensures limit { IfOk result (λ input. length input.items ≤ INPUT_LIMIT) }
+    ensures taken { TakesWithinLimit (R.remaining reader.old) (R.remaining reader.new) }
+    ensures fault { IfErr result (IsReadFault (R.remaining reader.old)) }
+{
+    let mut input = Vec::new(alloc);
+    let mut chunk = [0; CHUNK];
+    while input.len() <= INPUT_LIMIT {
+        let room = CHUNK.min(INPUT_LIMIT + 1 - input.len());
+        match reader.read(&mut chunk[..room]) {
+            Ok(0) => return Ok(input),
+            Ok(count) => input.extend_from_slice(&chunk[..count])?,
+            Err(_) => return Err(CaptureFault::ReadFailed),
+        }
+    }
+    Err(CaptureFault::TooLarge)
+}

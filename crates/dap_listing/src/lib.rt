@@ -1,0 +1,26 @@
+//! Captures of NSP packets and messages, and their listings.
+#![tactic(auto)]
+
+mod captures;
+mod commands;
+mod decode;
+mod fault;
+mod field;
+mod input;
+mod laws;
+mod lines;
+mod listing;
+mod message;
+mod output;
+mod packet;
+mod text;
+
+pub use captures::{Found, arrow, next_packet, push_heading};
+pub use commands::{messages, show};
+pub use fault::{CaptureFault, Outcome};
+pub use input::{INPUT_LIMIT, read_input};
+pub use laws::listings_are_one;
+pub use lines::{Direction, next_line};
+pub use message::push_messages;
+pub use output::write_text;
+pub use packet::{Captured, Carried, push_seen, read_packet};

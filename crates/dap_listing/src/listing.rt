@@ -1,0 +1,346 @@
+//! The listing of an input: of packets, or of NSP messages.
+
+ghost use Rattle.std.specs.Prelude.{◌≡◌, ◌≢◌, ◌≤◌, ◌<◌, ◌+◌, ◌-◌, ◌⊎◌, [], drop, OnErr, IfSome, ◌*◌, ◌^◌, Some, true, false, IfErr, IfOk, MatchOption, None, OnOk, length};
+ghost use Rattle.dap_listing.specs.Gives.{TakesWithinLimit};
+ghost use Rattle.dap_listing.specs.Inner.Adding.{AddsCapture};
+ghost use Rattle.dap_text.specs.Adding.{AddsSome};
+ghost use Rattle.dap_listing.specs.Inner.Cutting.{FaultsGoOn, HasNoEnd, IsFirstFault, ListingGoesOn};
+ghost use Rattle.dap_listing.specs.Captured.{Spell, bytes_of};
+ghost use Rattle.dap_listing.specs.Inner.Course.{IsInputFault, IsWhole, TextGives};
+ghost use Rattle.dap_listing.specs.declared.fault.CaptureFault.TheVariants.{NoMemory, WriteFailed};
+ghost use Rattle.dap_text.specs.Words.{is_hex_text as is_spelled};
+ghost use Rattle.dap_listing.specs.Lines.{IsEnd, captured, digits_line, line_of, skipped};
+ghost use Rattle.dap_listing.specs.Listing.{IsCapturedText, IsMessageText, fault_of_line, limit_of};
+
+use crate::CaptureFault;
+use crate::captures::push_heading;
+use crate::input::{CHUNK, read_some, skip_unread};
+use crate::lines::{Direction, Head, cut_line, parse_head};
+use crate::message::push_messages;
+use crate::packet::push_packet;
+use dap_text::{find_byte, is_hex_text, push_number, push_str};
+use std::alloc::{AllocError, Global};
+use std::io::Read;
+
+/// What the lines of an input hold.
+#[derive(Clone, Copy, Debug, PartialEq, Eq)]
+pub(crate) enum Listed {
+    /// NSP packets.
+    Packets,
+    /// NSP messages.
+    Messages,
+}
+
+impl Listed {
+    /// The most bytes of a line. Own.
+    pub(crate) fn limit(self) -> usize
+        ensures { result ≡ limit_of self }
+    {
+        match self {
+            Listed::Packets => 4096,
+            Listed::Messages => 65_535,
+        }
+    }
+}
+
+/// Refuses what are no hex digits of bytes, of which there may be so many, in the line of a number.
+fn check_digits(number: usize, digits: &[u8], limit: usize) -> Result<(), CaptureFault>
+    requires { limit < 2 ^ 32 }
+    ensures good { OnOk result ((direction : Direction)
+        → digits_line limit direction digits.now ≡ captured direction digits.now) }
+    ensures hex { OnOk result (is_spelled digits.now ≡ true) }
+    ensures short { OnOk result (length digits.now ≤ 2 * limit) }
+    ensures fault { IfErr result (λ fault. (direction : Direction)
+        → fault_of_line number (digits_line limit direction digits.now) ≡ Some fault) }
+{
+    if !is_hex_text(digits) {
+        return Err(CaptureFault::BadLine(number));
+    }
+    if digits.len() > 2 * limit {
+        return Err(CaptureFault::TooLarge);
+    }
+    Ok(())
+}
+
+/// What the line of a number captured: the direction, and the hex digits of at most so many bytes.
+pub(crate) fn read_line(
+    number: usize,
+    line: &[u8],
+    limit: usize,
+) -> Result<Option<(Direction, &[u8])>, CaptureFault>
+    requires { limit < 2 ^ 32 }
+    ensures says { IfOk result (λ read. MatchOption read (line_of limit line.now ≡ skipped)
+        (λ has. line_of limit line.now ≡ captured has.0 has.1.now)) }
+    ensures hex { IfOk result
+        (λ read. IfSome read (λ has. is_spelled has.1.now ≡ true)) }
+    ensures short { IfOk result (λ read. IfSome read (λ has. length has.1.now ≤ 2 * limit)) }
+    ensures good { OnOk result (fault_of_line number (line_of limit line.now) ≡ None) }
+    ensures fault { IfErr result
+        (λ fault. fault_of_line number (line_of limit line.now) ≡ Some fault) }
+{
+    match parse_head(line) {
+        Head::Skipped => Ok(None),
+        Head::Digits(direction, digits) => {
+            check_digits(number, digits, limit)?;
+            Ok(Some((direction, digits)))
+        }
+        Head::Malformed => Err(CaptureFault::BadLine(number)),
+    }
+}
+
+/// Appends what the lines of the NSP message that the digits spell say after its number and direction.
+fn push_message(text: &mut Vec<u8>, digits: &[u8], bytes: &mut [u8]) -> Result<(), AllocError>
+    requires { Spell digits.now (length bytes.old) }
+    ensures { OnOk result (AddsSome text.old text.new (IsMessageText (bytes_of digits.now))) }
+{
+    push_number(text, "message len=", bytes.len())?;
+    push_str(text, "\n")?;
+    push_messages(text, digits, bytes, 0)
+}
+
+/// Appends what the lines of the bytes that the digits spell say after their number and direction.
+fn push_captured(
+    listed: Listed,
+    text: &mut Vec<u8>,
+    digits: &[u8],
+    bytes: &mut [u8],
+) -> Result<(), AllocError>
+    requires { Spell digits.now (length bytes.old) }
+    ensures { OnOk result
+        (AddsSome text.old text.new (IsCapturedText listed (bytes_of digits.now))) }
+{
+    match listed {
+        Listed::Packets => push_packet(text, digits, bytes),
+        Listed::Messages => push_message(text, digits, bytes),
+    }
+}
+
+/// Room for the words and numbers of a line.
+const WORDS: usize = 256;
+
+/// Appends the lines of the bytes that the digits spell. Room in the text is made once: for the digits and the words.
+/// The other room is for the bytes.
+fn push_capture(
+    listed: Listed,
+    text: &mut Vec<u8>,
+    number: usize,
+    direction: Direction,
+    digits: &[u8],
+    room: &mut [u8],
+) -> Result<(), AllocError>
+    requires digits { is_spelled digits.now ≡ true }
+    requires room { length digits.now ≤ 2 * length room.old }
+    requires size { length digits.now < 2 ^ 32 }
+    ensures room { length room.new ≡ length room.old }
+    ensures added { OnOk result
+        (AddsCapture listed number direction (bytes_of digits.now) text.old text.new) }
+{
+    text.reserve(digits.len() + WORDS)?;
+    push_heading(text, number, direction)?;
+    push_captured(listed, text, digits, &mut room[..digits.len() / 2])
+}
+
+/// A listing as far as it came.
+#[derive(Drop)]
+struct Course {
+    text: Vec<u8>,
+    /// The number of the next capture.
+    number: usize,
+    /// The number of the next line.
+    at: usize,
+    /// Memory was wanting for the text, so lines are only checked.
+    wants: bool,
+}
+
+/// Lists the lines in front of the bytes, up to the first line at fault, and answers what is left: a line
+/// without its end, unless the bytes are the last. The room is for the bytes of a line.
+fn list_cut<'a>(
+    listed: Listed,
+    course: &mut Course,
+    bytes: &'a [u8],
+    is_last: bool,
+    room: &mut [u8],
+) -> Result<&'a [u8], CaptureFault>
+    requires lines { course.old.at + length bytes.now < 2 ^ 32 }
+    requires captures { course.old.number + length bytes.now < 2 ^ 32 }
+    requires room { length room.old ≡ limit_of listed }
+    ensures room { length room.new ≡ length room.old }
+    ensures left { IfOk result (λ left. IsEnd bytes.now left.now) }
+    ensures short { IfOk result (λ left. length left.now ≤ length bytes.now) }
+    ensures last { IfOk result (λ left. is_last ≡ true → left.now ≡ []) }
+    ensures rest { IfOk result (λ left. HasNoEnd left.now) }
+    ensures lines { IfOk result
+        (λ left. course.new.at + length left.now ≤ course.old.at + length bytes.now) }
+    ensures captures { IfOk result
+        (λ left. course.new.number + length left.now ≤ course.old.number + length bytes.now) }
+    ensures clean { IfOk result (λ left. FaultsGoOn (limit_of listed) is_last
+        course.old.at bytes.now course.new.at left.now) }
+    ensures listed { IfOk result (λ left. ListingGoesOn listed is_last
+        course.old.number bytes.now course.old.text.items
+        course.new.number left.now course.new.text.items) }
+    ensures fault { IfErr result (λ fault. (fault ≡ NoMemory)
+        ⊎ IsFirstFault (limit_of listed) is_last course.old.at bytes.now fault) }
+    ensures at { OnErr result (course.new.at ≡ course.old.at) }
+    ensures number { OnErr result (course.new.number ≡ course.old.number) }
+    ensures wants { course.new.wants ≡ course.old.wants }
+{
+    let mut number = course.number;
+    let mut at = course.at;
+    let mut rest = bytes;
+    while let Some((line, after)) = cut_line(rest, is_last) {
+        match read_line(at, line, listed.limit())? {
+            None => {}
+            Some((direction, digits)) => {
+                push_capture(listed, &mut course.text, number, direction, digits, room)?;
+                number += 1;
+            }
+        }
+        at += 1;
+        rest = after;
+    }
+    course.number = number;
+    course.at = at;
+    Ok(rest)
+}
+
+/// Checks the lines in front of the bytes, of which the first has the number, up to the first line at fault, and
+/// answers what is left, as [`list_cut`] does.
+fn check_cut<'a>(
+    listed: Listed,
+    at: &mut usize,
+    bytes: &'a [u8],
+    is_last: bool,
+) -> Result<&'a [u8], CaptureFault>
+    requires lines { at.old + length bytes.now < 2 ^ 32 }
+    ensures left { IfOk result (λ left. IsEnd bytes.now left.now) }
+    ensures short { IfOk result (λ left. length left.now ≤ length bytes.now) }
+    ensures last { IfOk result (λ left. is_last ≡ true → left.now ≡ []) }
+    ensures rest { IfOk result (λ left. HasNoEnd left.now) }
+    ensures lines { IfOk result (λ left. at.new + length left.now ≤ at.old + length bytes.now) }
+    ensures clean { IfOk result (λ left. FaultsGoOn (limit_of listed) is_last
+        at.old bytes.now at.new left.now) }
+    ensures fault { IfErr result (IsFirstFault (limit_of listed) is_last at.old bytes.now) }
+{
+    let mut rest = bytes;
+    while let Some((line, after)) = cut_line(rest, is_last) {
+        read_line(*at, line, listed.limit())?;
+        *at += 1;
+        rest = after;
+    }
+    Ok(rest)
+}
+
+/// Lists the lines in front of the bytes, or only checks them where memory is wanting for the text, and answers
+/// how many bytes are left.
+fn take_lines(
+    listed: Listed,
+    course: &mut Course,
+    bytes: &[u8],
+    is_last: bool,
+    room: &mut [u8],
+) -> Result<usize, CaptureFault>
+    requires lines { course.old.at + length bytes.now < 2 ^ 32 }
+    requires captures { course.old.number + length bytes.now < 2 ^ 32 }
+    requires room { course.old.wants ≡ false → length room.old ≡ limit_of listed }
+    ensures room { length room.new ≡ length room.old }
+    ensures short { IfOk result (λ left. left ≤ length bytes.now) }
+    ensures last { IfOk result (λ left. is_last ≡ true → left ≡ 0) }
+    ensures rest { IfOk result (λ left. HasNoEnd (drop (length bytes.now - left) bytes.now)) }
+    ensures lines { IfOk result (λ left. course.new.at + left ≤ course.old.at + length bytes.now) }
+    ensures captures { IfOk result
+        (λ left. course.new.number + left ≤ course.old.number + length bytes.now) }
+    ensures clean { IfOk result (λ left. FaultsGoOn (limit_of listed) is_last
+        course.old.at bytes.now course.new.at (drop (length bytes.now - left) bytes.now)) }
+    ensures wanted { OnOk result (course.new.wants ≡ false → course.old.wants ≡ false) }
+    ensures listed { IfOk result (λ left. course.new.wants ≡ false → ListingGoesOn listed is_last
+        course.old.number bytes.now course.old.text.items
+        course.new.number (drop (length bytes.now - left) bytes.now) course.new.text.items) }
+    ensures fault { IfErr result
+        (IsFirstFault (limit_of listed) is_last course.old.at bytes.now) }
+{
+    if !course.wants {
+        match list_cut(listed, course, bytes, is_last, room) {
+            Ok(left) => return Ok(left.len()),
+            Err(fault @ (CaptureFault::BadLine(_) | CaptureFault::TooLarge)) => return Err(fault),
+            Err(_) => course.wants = true,
+        }
+    }
+    let left = check_cut(listed, &mut course.at, bytes, is_last)?;
+    Ok(left.len())
+}
+
+/// Drops all bytes but so many at the end.
+fn keep_end(bytes: &mut Vec<u8>, left: usize)
+    requires { left ≤ length bytes.old.items }
+    ensures { bytes.new.items ≡ drop (length bytes.old.items - left) bytes.old.items }
+{
+    let done = bytes.len() - left;
+    bytes.copy_within(done.., 0);
+    bytes.truncate(left);
+}
+
+/// Reads an input to its end and lists what was captured. Lines are listed as they come, so that no more of the
+/// input is kept than a line that has no end yet. A line at fault is told also where memory was wanting before
+/// it for a line's bytes or for the text.
+fn read_course<R: Read>(
+    listed: Listed,
+    alloc: Global,
+    reader: &mut R,
+) -> Result<Course, CaptureFault>
+    ensures whole { IfOk result
+        (λ course. IfSome (R.remaining reader.old) (λ input. IsWhole listed input course)) }
+    ensures fault { IfErr result
+        (λ fault. IfSome (R.remaining reader.old) (λ input. IsInputFault listed input fault)) }
+    ensures taken { TakesWithinLimit (R.remaining reader.old) (R.remaining reader.new) }
+    ensures unwritten { IfErr result (λ fault. fault ≢ WriteFailed) }
+{
+    let mut chunk = [0; CHUNK];
+    let mut bytes = Vec::new(alloc);
+    let (mut room, wants) = match vec![in alloc; 0; listed.limit()] {
+        Ok(room) => (room, false),
+        Err(_) => (Vec::new(alloc), true),
+    };
+    let mut course = Course {
+        text: Vec::new(alloc),
+        number: 1,
+        at: 1,
+        wants,
+    };
+    let mut count = 0;
+    'chunks: loop {
+        let came = read_some(reader, &mut chunk, &mut count)?;
+        let is_last = came == 0;
+        bytes.extend_from_slice(&chunk[..came])?;
+        if !is_last && find_byte(b'\n', &chunk[..came]).is_none() {
+            continue;
+        }
+        match take_lines(listed, &mut course, &bytes, is_last, &mut room) {
+            Ok(left) => keep_end(&mut bytes, left),
+            Err(fault) => {
+                skip_unread(reader, &mut chunk, &mut count, is_last)?;
+                return Err(fault);
+            }
+        }
+        if is_last {
+            return Ok(course);
+        }
+    }
+}
+
+/// The listing of what was captured in an input, which is read to its end. Want of memory for the text is told
+/// where no line is at fault.
+pub(crate) fn list_input<R: Read>(
+    listed: Listed,
+    alloc: Global,
+    reader: &mut R,
+) -> Result<Vec<u8>, CaptureFault>
+    ensures gives { IfSome (R.remaining reader.old) (λ input. TextGives listed input result) }
+    ensures taken { TakesWithinLimit (R.remaining reader.old) (R.remaining reader.new) }
+    ensures unwritten { IfErr result (λ fault. fault ≢ WriteFailed) }
+{
+    let course = read_course(listed, alloc, reader)?;
+    if course.wants {
+        return Err(CaptureFault::NoMemory);
+    }
+    Ok(course.text)
+}

@@ -1,0 +1,290 @@
+//! The lines of DAP messages.
+
+ghost use Rattle.std.specs.Prelude.{◌≡◌, ◌≤◌, ◌/◌, ◌++◌, ℕ, List, OnOk, length};
+ghost use Rattle.dap_msg.specs.Items.{seen_item};
+ghost use Rattle.dap_msg.specs.Message.{Attrib, Control as TheControl, Filedata, Other, Status, seen, seen_attributes, seen_control};
+ghost use Rattle.dap_text.specs.Adding.{Adds};
+ghost use Rattle.dap_text.specs.Adding.{AddsSome};
+ghost use Rattle.dap_listing.specs.Captured.{AreDecoded, Spell, bytes_of};
+ghost use Rattle.dap_listing.specs.Inner.Decoding.{item_with_record, record_size as size_of_record, with_record};
+ghost use Rattle.dap_listing.specs.Inner.Messages.{IsAccess, IsConfig};
+ghost use Rattle.dap_listing.specs.Messages.{IsMessagesText, check_text, fault_line, item_line, kind_text, message_line, version_text, wanted_text};
+
+use crate::decode::{FRONT, decode_to};
+use crate::field::{attributes_fields, control_fields, push_fields};
+use crate::text::push_spelled;
+use dap_msg::{Attributes, Control, FaultKind, Item, Message, MsgFault, item_at};
+use dap_text::{push_decimal, push_image, push_number, push_str, push_word};
+use std::alloc::AllocError;
+
+/// Appends the check of a completed file, if there is one.
+fn push_check(text: &mut Vec<u8>, check: Option<u16>) -> Result<(), AllocError>
+    ensures { OnOk result (Adds text.old text.new (check_text check)) }
+{
+    match check {
+        None => push_str(text, "-"),
+        Some(check) => push_decimal(text, check),
+    }
+}
+
+/// Appends the versions of a system's DAP and of its software.
+fn push_version(
+    text: &mut Vec<u8>,
+    vernum: u8,
+    econum: u8,
+    usrnum: u8,
+    softver: u8,
+    usrsoft: u8,
+) -> Result<(), AllocError>
+    ensures { OnOk result (Adds text.old text.new
+        (version_text vernum econum usrnum softver usrsoft)) }
+{
+    push_decimal(text, vernum)?;
+    push_number(text, ".", econum)?;
+    push_number(text, ".", usrnum)?;
+    push_number(text, ".", softver)?;
+    push_number(text, ".", usrsoft)
+}
+
+/// Appends what an Access asks for: FAC, SHR and DISPLAY.
+fn push_wanted(text: &mut Vec<u8>, fac: u32, shr: u32, display: u32) -> Result<(), AllocError>
+    ensures { OnOk result (Adds text.old text.new (wanted_text fac shr display)) }
+{
+    push_number(text, "fac=", fac)?;
+    push_number(text, " shr=", shr)?;
+    push_number(text, " display=", display)
+}
+
+/// Appends the line of a message. The digits are those of its record, where it is a Data message.
+#[inline(always)]
+fn push_message(text: &mut Vec<u8>, message: &Message<'_>, digits: &[u8]) -> Result<(), AllocError>
+    requires { Spell digits.now (length digits.now / 2) }
+    ensures { OnOk result (Adds text.old text.new
+        (message_line (with_record (seen message.now) (bytes_of digits.now)))) }
+{
+    match message {
+        Message::Config { .. } => push_config(text, message),
+        Message::Attrib(attributes) => push_attributes(text, *attributes),
+        Message::Control(control) => push_control(text, *control),
+        Message::Contran { func } => {
+            push_number(text, "  continue func=", *func)?;
+            push_str(text, "\n")
+        }
+        Message::Ack => push_str(text, "  ack\n"),
+        Message::Accomp { func, fop, check } => {
+            push_number(text, "  complete func=", *func)?;
+            push_number(text, " fop=", *fop)?;
+            push_str(text, " check=")?;
+            push_check(text, *check)?;
+            push_str(text, "\n")
+        }
+        Message::Access { .. } => push_access(text, message),
+        Message::Filedata { recnum, .. } => push_data(text, recnum, digits),
+        Message::Status {
+            code,
+            rfa,
+            recnum,
+            stv,
+        } => push_status(text, *code, rfa, recnum, stv),
+        Message::Other { number, body } => push_other(text, *number, body),
+    }
+}
+
+/// Appends the line of a Configuration message.
+#[inline(always)]
+fn push_config(text: &mut Vec<u8>, message: &Message<'_>) -> Result<(), AllocError>
+    requires { IsConfig (seen message.now) }
+    ensures { OnOk result (Adds text.old text.new (message_line (seen message.now))) }
+{
+    let Message::Config {
+        bufsiz,
+        ostype,
+        filesys,
+        vernum,
+        econum,
+        usrnum,
+        softver,
+        usrsoft,
+        syscap,
+    } = *message
+    else {
+        unreachable!()
+    };
+    push_number(text, "  config bufsiz=", bufsiz)?;
+    push_number(text, " ostype=", ostype)?;
+    push_number(text, " filesys=", filesys)?;
+    push_str(text, " version=")?;
+    push_version(text, vernum, econum, usrnum, softver, usrsoft)?;
+    push_number(text, " syscap=", syscap)?;
+    push_str(text, "\n")
+}
+
+/// Appends the line of an Access message.
+#[inline(always)]
+fn push_access(text: &mut Vec<u8>, message: &Message<'_>) -> Result<(), AllocError>
+    requires { IsAccess (seen message.now) }
+    ensures { OnOk result (Adds text.old text.new (message_line (seen message.now))) }
+{
+    let Message::Access {
+        func,
+        opt,
+        name,
+        fac,
+        shr,
+        display,
+        password,
+    } = *message
+    else {
+        unreachable!()
+    };
+    push_number(text, "  access func=", func)?;
+    push_number(text, " opt=", opt)?;
+    push_image(text, " name=", name)?;
+    push_str(text, " ")?;
+    push_wanted(text, fac, shr, display)?;
+    push_number(text, " password=", password.len())?;
+    push_str(text, "\n")
+}
+
+/// Appends the line of an Attributes message.
+#[inline(never)]
+fn push_attributes(text: &mut Vec<u8>, attributes: Attributes<'_>) -> Result<(), AllocError>
+    ensures { OnOk result (Adds text.old text.new
+        (message_line (Attrib (seen_attributes attributes.entry)))) }
+{
+    push_str(text, "  attributes")?;
+    push_fields(text, &attributes_fields(&attributes))
+}
+
+/// Appends the line of a Control message.
+#[inline(never)]
+fn push_control(text: &mut Vec<u8>, control: Control<'_>) -> Result<(), AllocError>
+    ensures { OnOk result (Adds text.old text.new
+        (message_line (TheControl (seen_control control.entry)))) }
+{
+    push_number(text, "  control func=", control.func)?;
+    push_fields(text, &control_fields(&control))
+}
+
+/// Appends the line of a Data message, whose record the digits spell.
+fn push_data(text: &mut Vec<u8>, recnum: &[u8], digits: &[u8]) -> Result<(), AllocError>
+    requires { Spell digits.now (length digits.now / 2) }
+    ensures { OnOk result (Adds text.old text.new
+        (message_line (Filedata recnum.now (bytes_of digits.now)))) }
+{
+    push_image(text, "  data recnum=", recnum)?;
+    push_spelled(text, " body=", digits)?;
+    push_str(text, "\n")
+}
+
+/// Appends the line of a Status message.
+fn push_status(
+    text: &mut Vec<u8>,
+    code: u16,
+    rfa: &[u8],
+    recnum: &[u8],
+    stv: &[u8],
+) -> Result<(), AllocError>
+    ensures { OnOk result (Adds text.old text.new (message_line (Status (record {
+      code = code;
+      rfa = rfa.now;
+      recnum = recnum.now;
+      stv = stv.now;
+    })))) }
+{
+    push_word(text, "  status ", code)?;
+    push_image(text, " rfa=", rfa)?;
+    push_image(text, " recnum=", recnum)?;
+    push_image(text, " stv=", stv)?;
+    push_str(text, "\n")
+}
+
+/// Appends the line of a message of another type.
+fn push_other(text: &mut Vec<u8>, number: u8, body: &[u8]) -> Result<(), AllocError>
+    ensures { OnOk result (Adds text.old text.new (message_line (Other number body.now))) }
+{
+    push_number(text, "  other type=", number)?;
+    push_image(text, " body=", body)?;
+    push_str(text, "\n")
+}
+
+/// The word of a listing for what is wrong with a message.
+fn kind_word(kind: FaultKind) -> &'static str
+    ensures { result.now ≡ kind_text kind }
+{
+    match kind {
+        FaultKind::Truncated => "truncated",
+        FaultKind::TooLong => "too-long",
+        FaultKind::BadFlags => "flags",
+        FaultKind::BadStream => "stream",
+        FaultKind::UnknownType => "type",
+        FaultKind::BadMenu => "menu",
+        FaultKind::NoMemory => "memory",
+    }
+}
+
+/// Appends the line of a fault.
+fn push_fault(text: &mut Vec<u8>, fault: MsgFault) -> Result<(), AllocError>
+    ensures { OnOk result (Adds text.old text.new (fault_line fault)) }
+{
+    push_str(text, "  bad ")?;
+    push_str(text, kind_word(fault.kind))?;
+    push_number(text, " type=", fault.message_type)?;
+    push_number(text, " at=", fault.offset)?;
+    push_str(text, "\n")
+}
+
+/// How many bytes of a record end an item: only a Data message has some.
+fn record_size(item: &Item<'_>) -> usize
+    ensures { result ≡ size_of_record (seen_item item.now) }
+{
+    match item {
+        Item::Whole(Message::Filedata { payload, .. }) => payload.len(),
+        Item::Whole(_) | Item::Malformed(_) => 0,
+    }
+}
+
+/// Appends the line of what stands at a place of an NSP message. The digits are those of its record, where it is
+/// a Data message.
+#[inline(always)]
+fn push_item(text: &mut Vec<u8>, item: &Item<'_>, digits: &[u8]) -> Result<(), AllocError>
+    requires { Spell digits.now (length digits.now / 2) }
+    ensures { OnOk result (Adds text.old text.new
+        (item_line (item_with_record (seen_item item.now) (bytes_of digits.now)))) }
+{
+    match item {
+        Item::Whole(message) => push_message(text, message, digits),
+        Item::Malformed(fault) => push_fault(text, *fault),
+    }
+}
+
+/// Appends the lines of the NSP message that the digits spell, of which so many bytes in front are decoded. More are
+/// decoded as they are needed, but a record's are not: its line repeats its digits. Refused for want of memory alone. Own.
+pub fn push_messages(
+    text: &mut Vec<u8>,
+    digits: &[u8],
+    nsp_message: &mut [u8],
+    decoded: usize,
+) -> Result<(), AllocError>
+    requires spelled { Spell digits.now (length nsp_message.old) }
+    requires within { decoded ≤ length nsp_message.old }
+    requires decoded { AreDecoded digits.now 0 decoded nsp_message.old }
+    ensures { OnOk result (AddsSome text.old text.new (IsMessagesText (bytes_of digits.now))) }
+{
+    let mut at = 0;
+    let mut known = decoded;
+    'items: loop {
+        known = decode_to(digits, nsp_message, known.max(at), at + FRONT);
+        let (item, next) = item_at(nsp_message, at);
+        let start = next - record_size(&item);
+        if known < start {
+            known = decode_to(digits, nsp_message, known, nsp_message.len());
+            continue;
+        }
+        push_item(text, &item, &digits[2 * start..2 * next])?;
+        if next == nsp_message.len() {
+            return Ok(());
+        }
+        at = next;
+    }
+}

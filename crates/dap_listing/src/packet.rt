@@ -1,0 +1,284 @@
+//! The lines of a packet.
+
+ghost use Rattle.std.specs.Prelude.{◌≡◌, ◌≤◌, ◌/◌, ◌⊎◌, ◌++◌, ◌∷◌, [], ℕ, List, Ok, OnOk, Some, codes, length};
+ghost use Rattle.std.specs.List.{concat};
+ghost use Rattle.dap_text.specs.Text.{word_text};
+ghost use Rattle.dap_text.specs.Adding.{Adds, AddsSome};
+ghost use Rattle.dap_listing.specs.Captured.{AreDecoded, HasDigits, Spell, bytes_of, carried_value, seen_value};
+ghost use Rattle.dap_listing.specs.Inner.Decoding.{IsBehind, IsSegmentFront};
+ghost use Rattle.dap_listing.specs.Packets.{IsPacketText, IsSeen, SegmentMessages, ack_line, ack_text, acks_text, mark_text, seen_line, segment_line};
+
+use crate::decode::{FRONT, decode_to};
+use crate::message::push_messages;
+use dap_text::{push_number, push_packet_fault, push_str, push_word};
+use nsp_seg::{AckField, Packet, SegFault, Seq12, decode_packet};
+use std::alloc::AllocError;
+
+/// Appends an acknowledgement field.
+fn push_ack_field(text: &mut Vec<u8>, word: &str, ack: AckField) -> Result<(), AllocError>
+    ensures { OnOk result (Adds text.old text.new (word.now ++ ack_text ack)) }
+{
+    push_number(text, word, ack.qual)?;
+    push_number(text, ":", ack.number.get())
+}
+
+/// Appends the acknowledgement fields of a packet.
+fn push_acks(
+    text: &mut Vec<u8>,
+    first: Option<AckField>,
+    second: Option<AckField>,
+) -> Result<(), AllocError>
+    ensures { OnOk result (Adds text.old text.new (codes " acks=" ++ acks_text first second)) }
+{
+    let Some(first) = first else {
+        return push_str(text, " acks=-");
+    };
+    push_ack_field(text, " acks=", first)?;
+    match second {
+        None => Ok(()),
+        Some(second) => push_ack_field(text, ",", second),
+    }
+}
+
+/// Appends the link addresses of a packet.
+fn push_ends(text: &mut Vec<u8>, dst: u16, src: u16) -> Result<(), AllocError>
+    ensures { OnOk result (Adds text.old text.new
+        (concat (codes " dst=" ∷ word_text dst ∷ codes " src=" ∷ word_text src ∷ []))) }
+{
+    push_word(text, " dst=", dst)?;
+    push_word(text, " src=", src)
+}
+
+/// A data segment (NSP 4.0.0, data segment message), and the hex digits of its payload.
+#[derive(Clone, Copy, Debug)]
+pub struct Carried<'a> {
+    pub first: bool,
+    pub last: bool,
+    pub dst: u16,
+    pub src: u16,
+    pub ack1: Option<AckField>,
+    pub ack2: Option<AckField>,
+    pub number: Seq12,
+    pub payload: &'a [u8],
+}
+
+/// A captured packet.
+#[derive(Clone, Copy, Debug)]
+pub enum Captured<'a> {
+    Segment(Carried<'a>),
+    /// NSP 4.0.0, data acknowledgement message.
+    DataAck {
+        dst: u16,
+        src: u16,
+        ack1: AckField,
+        ack2: Option<AckField>,
+    },
+}
+
+/// Appends the line of a segment, which carries so many bytes.
+fn push_segment(text: &mut Vec<u8>, line: &Carried<'_>, count: usize) -> Result<(), AllocError>
+    requires { count ≡ length (bytes_of line.now.payload.now) }
+    ensures { OnOk result (Adds text.old text.new (segment_line (carried_value line.now))) }
+{
+    push_str(text, "segment ")?;
+    push_str(text, mark_word(line.first, line.last))?;
+    push_ends(text, line.dst, line.src)?;
+    push_number(text, " seg=", line.number.get())?;
+    push_acks(text, line.ack1, line.ack2)?;
+    push_number(text, " len=", count)?;
+    push_str(text, "\n")
+}
+
+/// The word for the marks of a segment.
+fn mark_word(first: bool, last: bool) -> &'static str
+    ensures { result.now ≡ mark_text first last }
+{
+    match (first, last) {
+        (true, true) => "only",
+        (true, false) => "first",
+        (false, true) => "last",
+        (false, false) => "middle",
+    }
+}
+
+/// Appends the lines of a segment's messages, where it holds a whole NSP message. So many bytes in front of the
+/// payload are decoded.
+fn push_whole(
+    text: &mut Vec<u8>,
+    first: bool,
+    last: bool,
+    digits: &[u8],
+    payload: &mut [u8],
+    decoded: usize,
+) -> Result<(), AllocError>
+    requires spelled { Spell digits.now (length payload.old) }
+    requires within { decoded ≤ length payload.old }
+    requires decoded { AreDecoded digits.now 0 decoded payload.old }
+    ensures { OnOk result (AddsSome text.old text.new
+        (SegmentMessages first last (bytes_of digits.now))) }
+{
+    match (first, last) {
+        (true, true) => push_messages(text, digits, payload, decoded),
+        (true, false) | (false, _) => Ok(()),
+    }
+}
+
+/// Appends the line of a packet that only acknowledges.
+fn push_ack(
+    text: &mut Vec<u8>,
+    dst: u16,
+    src: u16,
+    ack1: AckField,
+    ack2: Option<AckField>,
+) -> Result<(), AllocError>
+    ensures { OnOk result (Adds text.old text.new
+        (ack_line (record { dst = dst; src = src; ack1 = ack1; ack2 = ack2 }))) }
+{
+    push_str(text, "ack")?;
+    push_ends(text, dst, src)?;
+    push_acks(text, Some(ack1), ack2)?;
+    push_str(text, "\n")
+}
+
+/// Decodes as many bytes as it takes to tell which packet they are, and answers how many.
+fn decode_front(digits: &[u8], bytes: &mut [u8]) -> usize
+    requires { Spell digits.now (length bytes.old) }
+    ensures size { length bytes.new ≡ length bytes.old }
+    ensures within { result ≤ length bytes.new }
+    ensures decoded { AreDecoded digits.now 0 result bytes.new }
+    ensures enough { (result ≡ length bytes.new) ⊎ IsSegmentFront bytes.new result }
+{
+    let known = decode_to(digits, bytes, 0, FRONT);
+    if known == bytes.len() {
+        return known;
+    }
+    match decode_packet(bytes) {
+        Ok(Packet::Segment { payload, .. }) if bytes.len() - payload.len() <= known => known,
+        _ => decode_to(digits, bytes, known, bytes.len()),
+    }
+}
+
+/// What the bytes of the digits are, and how many in front are decoded: all up to a payload, at least.
+fn see<'a>(digits: &'a [u8], bytes: &mut [u8]) -> (Result<Captured<'a>, SegFault>, usize)
+    requires { Spell digits.now (length bytes.old) }
+    ensures size { length bytes.new ≡ length bytes.old }
+    ensures within { result.1 ≤ length bytes.new }
+    ensures decoded { AreDecoded digits.now 0 result.1 bytes.new }
+    ensures seen { IsSeen (seen_value result.0) (bytes_of digits.now) }
+    ensures payload { HasDigits result.0 }
+    ensures behind { IsBehind digits.now result.1 result.0 }
+{
+    let known = decode_front(digits, bytes);
+    match decode_packet(bytes) {
+        Ok(
+            Packet::Segment {
+                first,
+                last,
+                dst,
+                src,
+                ack1,
+                ack2,
+                number,
+                payload,
+            },
+        ) => {
+            let head = bytes.len() - payload.len();
+            let payload = &digits[2 * head..];
+            let segment = Carried {
+                first,
+                last,
+                dst,
+                src,
+                ack1,
+                ack2,
+                number,
+                payload,
+            };
+            (Ok(Captured::Segment(segment)), known)
+        }
+        Ok(
+            Packet::DataAck {
+                dst,
+                src,
+                ack1,
+                ack2,
+            },
+        ) => {
+            let ack = Captured::DataAck {
+                dst,
+                src,
+                ack1,
+                ack2,
+            };
+            (Ok(ack), known)
+        }
+        Err(fault) => (Err(fault), known),
+    }
+}
+
+/// What the bytes are that the hex digits spell (NSP 4.0.0, data segment and data acknowledgement messages). The room is
+/// for the bytes. Own. Takes no memory.
+pub fn read_packet<'a>(digits: &'a [u8], room: &mut [u8]) -> Result<Captured<'a>, SegFault>
+    requires { Spell digits.now (length room.old) }
+    ensures size { length room.new ≡ length room.old }
+    ensures seen { IsSeen (seen_value result) (bytes_of digits.now) }
+    ensures payload { HasDigits result }
+{
+    let (seen, _) = see(digits, room);
+    seen
+}
+
+/// Appends the line of a packet.
+fn push_line(text: &mut Vec<u8>, packet: &Captured<'_>) -> Result<(), AllocError>
+    requires { HasDigits (Ok packet.now) }
+    ensures { OnOk result (Adds text.old text.new (seen_line (seen_value (Ok packet.now)))) }
+{
+    match packet {
+        Captured::Segment(line) => push_segment(text, line, line.payload.len() / 2),
+        Captured::DataAck {
+            dst,
+            src,
+            ack1,
+            ack2,
+        } => push_ack(text, *dst, *src, *ack1, *ack2),
+    }
+}
+
+/// Appends the line of a packet, or of bytes that are none. Refused for want of memory alone. Own.
+pub fn push_seen(
+    text: &mut Vec<u8>,
+    seen: &Result<Captured<'_>, SegFault>,
+) -> Result<(), AllocError>
+    requires { HasDigits seen.now }
+    ensures { OnOk result (Adds text.old text.new (seen_line (seen_value seen.now))) }
+{
+    match seen {
+        Ok(packet) => push_line(text, packet),
+        Err(fault) => push_packet_fault(text, *fault),
+    }
+}
+
+/// Appends what the lines of the packet that the digits spell say after its number and direction.
+pub(crate) fn push_packet(
+    text: &mut Vec<u8>,
+    digits: &[u8],
+    bytes: &mut [u8],
+) -> Result<(), AllocError>
+    requires { Spell digits.now (length bytes.old) }
+    ensures { OnOk result (AddsSome text.old text.new (IsPacketText (bytes_of digits.now))) }
+{
+    let (seen, known) = see(digits, bytes);
+    push_seen(text, &seen)?;
+    let Ok(Captured::Segment(line)) = seen else {
+        return Ok(());
+    };
+    let head = bytes.len() - line.payload.len() / 2;
+    push_whole(
+        text,
+        line.first,
+        line.last,
+        line.payload,
+        &mut bytes[head..],
+        known - head,
+    )
+}
