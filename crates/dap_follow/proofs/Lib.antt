@@ -1,1 +1,3 @@
 pub mod PlacingLemmas
+pub mod NameLemmas
+pub mod KeepingLemmas

@@ -1,9 +1,14 @@
 -- Segments in the order of their places.
-use Rattle.std.proofs.Common.{◌≡◌, ◌==◌, ◌<◌, ◌≤◌, ◌+◌, ◌%◌, ◌⊎◌, ◌++◌, ℕ, Bool, true, false, cond, List, [], ◌∷◌, map, max, Option, Some, None, refl, sym, ap, ◌∙◌, subst, arith, inl, inr, ⊎_elim, eqb}
-use Rattle.std.specs.List.{AllByRecursion}
+use Rattle.std.proofs.Common.{◌≡◌, ◌==◌, ◌<◌, ◌≤◌, ◌+◌, ◌%◌, ◌⊎◌, ◌++◌, ℕ, Bool, true, false, cond, List, [], ◌∷◌, map, max, Option, Some, None, zero, suc, length, take, drop, get_or, add-one, refl, sym, ap, ◌∙◌, subst, arith, inl, inr, ⊎_elim, eqb}
+use Rattle.std.specs.List.{AllByRecursion, insert}
+use Rattle.std.specs.List.Sorted.{IsNonDecreasingBy, IsPartitionPoint, IsSortedBy}
+use Rattle.std.specs.Ordering.{is_lt, nat_cmp, ordering_index}
+use Rattle.std.specs.declared.cmp.Ordering.TheVariants.{Less, Equal, Greater}
+use Rattle.std.specs.Cmp.{nat_cmp_total}
+use Rattle.std.proofs.lemmas.List.Sorted.{searchable_from_sorted}
 use Rattle.std.proofs.lemmas.Bool.{eqb-true, cases_eq}
 use Rattle.std.proofs.lemmas.Bool.Decides.{nat_tests}
-use Rattle.std.proofs.lemmas.List.{map-append}
+use Rattle.std.proofs.lemmas.List.{map-append, take-append-drop}
 use Rattle.dap_follow.specs.Streams.{ArePlaced, Came, Placed, at, no_more, one_more, put_at}
 use Rattle.dap_follow.specs.Inner.Placing.{IsPutIn, Rises, counted_value}
 use Rattle.dap_follow.specs.Inner.Keeping.{top}
@@ -136,3 +141,52 @@ pub all_put : (P : Counted → Type 0) (old : List Counted) (c : Counted) (new :
 all_put P old c new (inl there) all one = subst (AllByRecursion P) (sym there.0) all
 all_put P old c new (inr between) all one =
     subst (AllByRecursion P) (sym between.3) (all_between P between.0 between.1 c (subst (AllByRecursion P) between.2 all) one)
+
+-- ---- a place that was looked for
+
+rises_at : (cs : List Counted) → Rises cs → (k : ℕ) (d : Counted) → k + 1 < length cs → (get_or cs k d).place < (get_or cs (k + 1) d).place
+rises_at [] rises k d below = absurd (omega arith)
+rises_at (c ∷ []) rises k d below = absurd (omega arith)
+rises_at (c ∷ e ∷ cs) rises zero d below = rises.0.0
+rises_at (c ∷ e ∷ cs) rises (suc k) d below = rw add-one (rw add-one at (rises_at (e ∷ cs) rises.1 k d (omega arith)))
+
+not_lt : (a b : ℕ) → a < b → is_lt (nat_cmp b a) ≡ false
+not_lt a b below = grind (arith, nat_tests)
+
+less : (a b : ℕ) → nat_cmp a b ≡ Less → a < b
+less a b is = grind (arith, nat_tests)
+
+greater : (a b : ℕ) → nat_cmp a b ≡ Greater → b < a
+greater a b is = grind (arith, nat_tests)
+
+equal : (a b : ℕ) → nat_cmp a b ≡ Equal → a ≡ b
+equal a b is = grind (arith, nat_tests)
+
+each_of_take : (c : Counted) (cs : List Counted) (i : ℕ) → ((k : ℕ) (d : Counted) → k < i → nat_cmp (get_or cs k d).place c.place ≡ Less) → i ≤ length cs
+    → AllByRecursion (λ other. other.place < c.place) (take i cs)
+each_of_take c cs zero all within = tt
+each_of_take c [] (suc i) all within = absurd (omega arith)
+each_of_take c (d ∷ cs) (suc i) all within = (less d.place c.place (all zero d (omega arith)), each_of_take c cs i (λ k e below. all (suc k) e (omega arith)) (omega arith))
+
+each_of_drop : (c : Counted) (cs : List Counted) (i : ℕ) → ((k : ℕ) (d : Counted) → i ≤ k → k < length cs → nat_cmp (get_or cs k d).place c.place ≡ Greater)
+    → AllByRecursion (λ other. c.place < other.place) (drop i cs)
+each_of_drop c [] zero all = tt
+each_of_drop c [] (suc i) all = tt
+each_of_drop c (d ∷ cs) zero all = (greater d.place c.place (all zero d (omega arith) (omega arith)), each_of_drop c cs zero (λ k e low below. all (suc k) e (omega arith) (omega arith)))
+each_of_drop c (d ∷ cs) (suc i) all = each_of_drop c cs i (λ k e low below. all (suc k) e (omega arith) (omega arith))
+
+at_index : (cs : List Counted) (i : ℕ) (d : Counted) → i < length cs → cs ≡ take i cs ++ get_or cs i d ∷ drop (suc i) cs
+at_index [] i d below = absurd (omega arith)
+at_index (c ∷ cs) zero d below = refl
+at_index (c ∷ cs) (suc i) d below = ap (λ l. c ∷ l) (at_index cs i d (omega arith))
+
+pub found : (cs : List Counted) (c : Counted) (i : ℕ) → i < length cs → ((d : Counted) → nat_cmp (get_or cs i d).place c.place ≡ Equal) → IsPutIn cs c cs
+found cs c i below is = inl (refl, take i cs, drop (suc i) cs, get_or cs i c, at_index cs i c below, equal (get_or cs i c).place c.place (is c))
+
+pub not_found : (cs : List Counted) (c : Counted) (i : ℕ) → Rises cs → i ≤ length cs
+    → (IsNonDecreasingBy (λ o. ordering_index (nat_cmp o.place c.place)) cs → IsPartitionPoint (λ o. nat_cmp o.place c.place ≡ Less) (λ o. nat_cmp o.place c.place ≡ Greater) cs i)
+    → IsPutIn cs c (insert cs i c)
+not_found cs c i rises within parts =
+    let up : IsSortedBy (λ a b. is_lt (nat_cmp a.place b.place)) cs = λ k d low below. not_lt (get_or cs k d).place (get_or cs (k + 1) d).place (rises_at cs rises k d below) in
+    let at = parts (searchable_from_sorted nat_cmp_total (λ o. o.place) cs c.place up) in
+    inr (take i cs, drop i cs, sym (take-append-drop i cs), refl, each_of_take c cs i (λ k d below. at.0 k d (omega arith) below) within, each_of_drop c cs i (λ k d low below. at.1 k d low below))

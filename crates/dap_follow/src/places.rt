@@ -39,7 +39,7 @@ fn place_near(highest: u64, number: Seq12) -> u64
 /// Puts a segment in its place, unless another stands there.
 fn put_in<'a>(ordered: &mut Vec<Counted<'a>>, counted: Counted<'a>) -> Result<(), AllocError>
     requires { Rises ordered.old.items }
-    ensures { OnOk result (IsPutIn ordered.old.items counted ordered.new.items) }
+    ensures { OnOk result (IsPutIn ordered.old.items counted.entry ordered.new.items) }
 {
     match ordered.binary_search_by_key(&counted.place, |other| other.place) {
         Ok(_) => Ok(()),

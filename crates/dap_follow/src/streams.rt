@@ -1,14 +1,14 @@
 //! The streams of a capture, and the segments of each.
 
-ghost use Rattle.std.specs.Prelude.{◌≡◌, ◌≤◌, ◌<◌, ◌+◌, ◌^◌, ◌++◌, ◌∷◌, [], List, OnOk, Ok, length};
-ghost use Rattle.nsp_seg.specs.Packets.{segment as segment_packet};
-ghost use Rattle.dap_listing.specs.Captured.{Spell, carried_value};
+ghost use Rattle.std.specs.Prelude.{◌≡◌, ◌<◌, ◌+◌, ◌/◌, ◌^◌, ◌++◌, ◌∷◌, [], List, IfOk, OnOk, length};
+ghost use Rattle.dap_listing.specs.Captured.{Spell};
 ghost use Rattle.dap_follow.specs.Streams.{Packet};
-ghost use Rattle.dap_follow.specs.Inner.Keeping.{KeepsAll};
+ghost use Rattle.dap_follow.specs.Inner.Keeping.{IsIndexed, KeepsAll, KeepsSome, segment_packet};
 
 use crate::places::Places;
 use dap_listing::{Carried, Direction};
 use indexmap::IndexSet;
+use nsp_seg::Seq12;
 use std::alloc::{AllocError, Global};
 
 /// The segments that go one way between two ends (own).
@@ -38,26 +38,37 @@ impl<'a> Streams<'a> {
         }
     }
 
-    /// Takes the segment of the packet behind these.
+    /// Where the segments of a stream are kept, which begins with the number where it is new.
+    fn place_of(&mut self, stream: Stream, number: Seq12) -> Result<usize, AllocError>
+        ensures { IfOk result (IsIndexed stream number self.old self.new) }
+    {
+        let (index, is_new) = self.names.insert_full(stream)?;
+        if !is_new {
+            return Ok(index);
+        }
+        self.places.push(Places::new(self.alloc, number))?;
+        Ok(index)
+    }
+
+    /// Takes the segment of the packet behind some packets.
     pub(crate) fn add(
         &mut self,
         packet: usize,
         way: Direction,
         segment: &Carried<'a>,
     ) -> Result<(), AllocError>
-        requires small { packet < 2 ^ 32 }
-        ensures { OnOk result ((packets : List Packet) → KeepsAll packets self.old → packet ≡ length packets + 1
-            → KeepsAll (packets ++ (way, Ok (segment_packet (carried_value segment.now))) ∷ []) self.new) }
+        requires { KeepsSome packet self.old }
+        ensures { OnOk result ((packets : List Packet)
+            → KeepsAll packets self.old → packet ≡ length packets + 1
+            → Spell segment.now.payload.now (length segment.now.payload.now / 2)
+            → KeepsAll (packets ++ segment_packet way segment.now ∷ []) self.new) }
     {
         let stream = Stream {
             way,
             dst: segment.dst,
             src: segment.src,
         };
-        let (index, is_new) = self.names.insert_full(stream)?;
-        if is_new {
-            self.places.push(Places::new(self.alloc, segment.number))?;
-        }
+        let index = self.place_of(stream, segment.number)?;
         self.places[index].add(packet, segment)
     }
 }

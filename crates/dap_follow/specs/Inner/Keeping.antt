@@ -1,9 +1,11 @@
 -- What the program keeps of the streams of a capture.
-use Rattle.std.specs.Prelude.{◌≡◌, ◌<◌, ◌≤◌, ◌+◌, ◌*◌, ◌/◌, ◌%◌, ⊤, ℕ, List, [], ◌∷◌, length, map, max}
-use Rattle.std.specs.List.{AllByRecursion}
+use Rattle.std.specs.Prelude.{◌≡◌, ◌<◌, ◌≤◌, ◌+◌, ◌*◌, ◌/◌, ◌%◌, ◌^◌, ◌⊎◌, ⊤, ℕ, true, false, List, [], ◌∷◌, ◌++◌, length, map, max, slice_get, Some, Ok}
+use Rattle.std.specs.List.{AllByRecursion, IsDistinct, list_any}
+use Rattle.nsp_seg.specs.Packets.{segment}
+use Rattle.dap_listing.specs.declared.lines.Direction.{Direction}
 use Rattle.dap_listing.specs.Captured.{Spell, carried_value}
 use Rattle.dap_listing.specs.declared.packet.Carried.{Carried}
-use Rattle.dap_follow.specs.Streams.{ArePlaced, Came, Packet, Placed, at, came_in, first_place, put_at, streams}
+use Rattle.dap_follow.specs.Streams.{ArePlaced, Came, Packet, Placed, at, came_in, is_same, put_at, streams}
 use Rattle.dap_follow.specs.Inner.Placing.{IsPutIn, Rises, counted_value}
 use Rattle.dap_follow.specs.declared.places.Counted.{Counted}
 use Rattle.dap_follow.specs.declared.places.Places.{Places}
@@ -43,9 +45,12 @@ pub record Keeps (start : ℕ) (before : List Came) (p : Places) : Type 0 where
   pub rises : Rises p.ordered.items
   pub same : (place : ℕ) → at place (map counted_value p.ordered.items) ≡ at place placed
 
--- the same of a stream of so many packets
+-- the segments of a stream of some packets, of which there is a first
 pub record KeepsStream (packets : List Packet) (stream : Stream) (p : Places) : Type 0 where
-  pub keeps : Keeps (first_place (came_in stream packets)) (came_in stream packets) p
+  pub first : Came
+  pub others : List Came
+  pub are : came_in stream packets ≡ first ∷ others
+  pub keeps : Keeps (first.segment.number + 4096) (first ∷ others) p
   pub good : AllByRecursion (IsGood (length packets)) p.ordered.items
   pub low : 4096 ≤ p.highest
   pub high : p.highest ≤ 8192 + 2048 * length packets
@@ -61,3 +66,23 @@ KeepsEach packets (stream ∷ others) [] = ⊥
 pub record KeepsAll (packets : List Packet) (s : Streams) : Type 0 where
   pub names : s.names.keys ≡ streams packets
   pub each : KeepsEach packets (streams packets) s.places.items
+
+-- some packets of which these are kept, and another behind them, whose number is small
+abbrev pub KeepsSome : ℕ → Streams → Type 0
+KeepsSome packet s = (packets : List Packet) × KeepsAll packets s × (packet ≡ length packets + 1) × (packet < 2 ^ 32)
+
+abbrev pub segment_packet : Direction → Carried → Packet
+segment_packet way c = (way, Ok (segment (carried_value c)))
+
+-- the same stream stands there
+abbrev pub HasAt : Stream → ℕ → List Stream → Type 0
+HasAt stream index keys = (other : Stream) × (slice_get keys index ≡ Some other) × (is_same stream other ≡ true)
+
+-- a stream has a place among the others, in which nothing stands yet where it is new
+pub record IsIndexed (stream : Stream) (number : ℕ) (old new : Streams) (index : ℕ) : Type 0 where
+  pub small : number < 4096
+  pub distinct : IsDistinct is_same new.names.keys
+  pub has : HasAt stream index new.names.keys
+  pub case : ((list_any (is_same stream) old.names.keys ≡ true) × (new.names.keys ≡ old.names.keys) × (new.places.items ≡ old.places.items))
+      ⊎ ((list_any (is_same stream) old.names.keys ≡ false) × (new.names.keys ≡ old.names.keys ++ stream ∷ [])
+      × (p : Places) × (new.places.items ≡ old.places.items ++ p ∷ []) × (p.highest ≡ number + 4096) × (p.ordered.items ≡ []))
