@@ -32,9 +32,9 @@ keeps_more start packet c before old new k a =
       highest = a.highest ∙ ap (λ (h : ℕ). max h place) k.highest ∙ sym (top-snoc start k.placed (put_at place (came packet c)));
       rises = rises_put old.ordered.items a.counted new.ordered.items a.put k.rises;
       same = λ p. at_put p old.ordered.items a.counted new.ordered.items a.put
-        ∙ ap (λ (o : Option Placed). or_else o (at p (counted_value a.counted ∷ []))) (k.same p)
-        ∙ ap (λ (s : Placed). or_else (at p k.placed) (at p (s ∷ []))) a.value
-        ∙ sym (at-append p k.placed (put_at place (came packet c) ∷ []));
+          ∙ ap (λ (o : Option Placed). or_else o (at p (counted_value a.counted ∷ []))) (k.same p)
+          ∙ ap (λ (s : Placed). or_else (at p k.placed) (at p (s ∷ []))) a.value
+          ∙ sym (at-append p k.placed (put_at place (came packet c) ∷ []));
     }
 
 -- ---- packets of others
@@ -147,8 +147,8 @@ mid_known packets way c [] (p ∷ places) each = each
 mid_known packets way c (s ∷ keys) [] each = each
 mid_known packets way c (s ∷ keys) (p ∷ places) each = (
   ⊎_elim (λ (same : is_same s (stream_is way c) ≡ true). inl (same, ready_known packets c s p each.0))
-    (λ (other : is_same s (stream_is way c) ≡ false). inr (other, keeps_stream packets (segment_packet way c) s p (apart s way c (1 + length packets) other) each.0))
-    (cases_Bool (is_same s (stream_is way c))),
+      (λ (other : is_same s (stream_is way c) ≡ false). inr (other, keeps_stream packets (segment_packet way c) s p (apart s way c (1 + length packets) other) each.0))
+      (cases_Bool (is_same s (stream_is way c))),
   mid_known packets way c keys places each.1,
 )
 
@@ -174,9 +174,11 @@ mid_at packets way c index [] [] mid at = absurd (no_other at.0 at.1)
 mid_at packets way c index [] (p ∷ places) mid at = absurd mid
 mid_at packets way c index (s ∷ keys) [] mid at = absurd mid
 mid_at packets way c zero (s ∷ keys) (p ∷ places) mid at =
-    let is : stream_is way c ≡ s = same_is (stream_is way c) at.0 at.2 ∙ sym (some_is s at.0 at.1) in
-    (omega arith, λ d. ⊎_elim (λ both. subst (λ (t : Stream). Ready packets c t p) (sym is) both.1)
-      (λ both. absurd (false≢true (sym both.0 ∙ subst (λ (t : Stream). is_same t (stream_is way c) ≡ true) is (is_same_self (stream_is way c))))) mid.0)
+    let is : stream_is way c ≡ s = same_is (stream_is way c) at.0 at.2 ∙ sym (some_is s at.0 at.1) in (
+      omega arith,
+      λ d. ⊎_elim (λ both. subst (λ (t : Stream). Ready packets c t p) (sym is) both.1)
+          (λ both. absurd (false≢true (sym both.0 ∙ subst (λ (t : Stream). is_same t (stream_is way c) ≡ true) is (is_same_self (stream_is way c))))) mid.0,
+    )
 mid_at packets way c (suc index) (s ∷ keys) (p ∷ places) mid at =
     let rest = mid_at packets way c index keys places mid.1 at in (omega (arith, rest.0), rest.1)
 
@@ -207,9 +209,10 @@ mid_done packets way c new d spell zero (s ∷ keys) (p ∷ places) mid distinct
     let self : is_same s (stream_is way c) ≡ true = subst (λ (t : Stream). is_same t (stream_is way c) ≡ true) is (is_same_self (stream_is way c)) in
     (⊎_elim (λ both. ready_done packets way c s p new self spell both.1 added) (λ both. absurd (false≢true (sym both.0 ∙ self))) mid.0, mid_rest packets way c keys places head mid.1)
 mid_done packets way c new d spell (suc index) (s ∷ keys) (p ∷ places) mid distinct at added =
-    let other = other_at s (stream_is way c) index keys (IsDistinct-head is_same s keys distinct) at in
-    (⊎_elim (λ both. absurd (false≢true (sym other ∙ both.0))) (λ both. both.1) mid.0,
-      mid_done packets way c new d spell index keys places mid.1 (IsDistinct-tail is_same s keys distinct) at added)
+    let other = other_at s (stream_is way c) index keys (IsDistinct-head is_same s keys distinct) at in (
+      ⊎_elim (λ both. absurd (false≢true (sym other ∙ both.0))) (λ both. both.1) mid.0,
+      mid_done packets way c new d spell index keys places mid.1 (IsDistinct-tail is_same s keys distinct) at added,
+    )
 
 -- ---- all streams
 
@@ -220,13 +223,14 @@ mid_all packets way c old new index k i =
     let more : streams (packets ++ segment_packet way c ∷ []) ≡ insert_key is_same (streams packets) stream = streams-more packets (segment_packet way c) stream refl in
     ⊎_elim
     (λ known.
-      let there : list_any (is_same stream) (streams packets) ≡ true = rw k.names at known.0 in
-      (rw (known.1, known.2, k.names) (mid_known packets way c (streams packets) old.places.items k.each), known.1 ∙ k.names ∙ sym (more ∙ rw there refl)))
+    let there : list_any (is_same stream) (streams packets) ≡ true = rw k.names at known.0 in
+    (rw (known.1, known.2, k.names) (mid_known packets way c (streams packets) old.places.items k.each), known.1 ∙ k.names ∙ sym (more ∙ rw there refl)))
     (λ fresh.
-      let none : list_any (is_same stream) (streams packets) ≡ false = rw k.names at fresh.0 in
-      let ready = ready_new packets c stream fresh.2 (unseen stream packets none) fresh.4 i.small fresh.5 in
-      (rw (fresh.1, fresh.3, k.names) (mid_new packets way c fresh.2 ready (streams packets) old.places.items k.each),
-        fresh.1 ∙ ap (λ (l : List Stream). l ++ stream ∷ []) k.names ∙ sym (more ∙ rw none refl)))
+    let none : list_any (is_same stream) (streams packets) ≡ false = rw k.names at fresh.0 in
+    let ready = ready_new packets c stream fresh.2 (unseen stream packets none) fresh.4 i.small fresh.5 in (
+      rw (fresh.1, fresh.3, k.names) (mid_new packets way c fresh.2 ready (streams packets) old.places.items k.each),
+      fresh.1 ∙ ap (λ (l : List Stream). l ++ stream ∷ []) k.names ∙ sym (more ∙ rw none refl),
+    ))
     i.case
 
 pub keeps_streams : (packets : List Packet) (way : Direction) (c : Carried) (old mid new : Streams) (index packet : ℕ) (d added : Places) → KeepsAll packets old

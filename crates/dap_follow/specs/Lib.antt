@@ -1,2 +1,4 @@
 pub mod Inner
 pub mod Streams
+pub mod Joined
+pub mod Following

@@ -2,4 +2,5 @@
 #![tactic(auto)]
 
 mod places;
+mod reading;
 mod streams;

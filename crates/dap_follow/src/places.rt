@@ -9,7 +9,7 @@ use nsp_seg::Seq12;
 use std::alloc::{AllocError, Global};
 
 /// So many numbers of segments there are (NSP 4.0.0, segment numbers).
-const ROUND: u64 = 4096;
+pub(crate) const ROUND: u64 = 4096;
 
 /// How far below the highest place before it a segment may lie. Own.
 const BELOW: u64 = 2047;

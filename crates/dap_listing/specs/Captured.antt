@@ -5,10 +5,9 @@ use Rattle.std.specs.Result.{result_unwrap_or}
 use Rattle.hex.specs.Hex.{decode_of, is_hex_digit}
 use Rattle.nsp_seg.specs.Packets.{SegmentValue, segment, data_ack}
 use Rattle.nsp_seg.specs.declared.packet.SegFault.{SegFault}
-use Rattle.dap_listing.specs.Listing.{captures, faults_from, limit_of}
+use Rattle.dap_listing.specs.Listing.{captures, faults_from, packet_limit}
 use Rattle.dap_listing.specs.Packets.{Seen}
 use Rattle.dap_listing.specs.declared.captures.Found.{Found}
-use Rattle.dap_listing.specs.declared.listing.Listed.TheVariants.{Packets}
 use Rattle.dap_listing.specs.declared.packet.Carried.{Carried}
 use Rattle.dap_listing.specs.declared.packet.Captured.{Captured}
 use Rattle.dap_listing.specs.declared.packet.Captured.TheVariants.{Segment, DataAck}
@@ -55,14 +54,14 @@ HasDigits (Err fault) = Unit {0}
 
 -- no packet is captured in the lines, of which the first has the number, and none is at fault
 pub record HasNone (at : ℕ) (bytes : List ℕ) : Type 0 where
-  pub none : captures (limit_of Packets) bytes ≡ []
-  pub clean : faults_from (limit_of Packets) at bytes ≡ []
+  pub none : captures packet_limit bytes ≡ []
+  pub clean : faults_from packet_limit at bytes ≡ []
 
 -- the first captured packet, and the line behind it, none before which is at fault
 pub record IsNext (at : ℕ) (bytes : List ℕ) (found : Found) : Type 0 where
-  pub captured : captures (limit_of Packets) bytes ≡ (found.way, found.digits.now) ∷ captures (limit_of Packets) found.rest.now
-  pub clean : faults_from (limit_of Packets) at bytes ≡ faults_from (limit_of Packets) found.at found.rest.now
+  pub captured : captures packet_limit bytes ≡ (found.way, found.digits.now) ∷ captures packet_limit found.rest.now
+  pub clean : faults_from packet_limit at bytes ≡ faults_from packet_limit found.at found.rest.now
   pub spelled : Spell found.digits.now (length found.digits.now / 2)
-  pub short : length found.digits.now ≤ 2 * limit_of Packets
+  pub short : length found.digits.now ≤ 2 * packet_limit
   pub counted : found.at + length found.rest.now ≤ at + length bytes
   pub shorter : length found.rest.now < length bytes

@@ -64,9 +64,13 @@ abbrev pub IsCapturedText : Listed → List ℕ → List ℕ → Type 0
 IsCapturedText Packets bytes text = IsPacketText bytes text
 IsCapturedText Messages bytes text = IsMessageText bytes text
 
+-- the most bytes of a packet
+abbrev pub packet_limit : ℕ
+packet_limit = 4096
+
 -- the most bytes that the digits of a line spell
 abbrev pub limit_of : Listed → ℕ
-limit_of Packets = 4096
+limit_of Packets = packet_limit
 limit_of Messages = 65535
 
 -- the lines of what was captured, the first of which has the number

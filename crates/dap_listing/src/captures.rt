@@ -3,8 +3,7 @@
 ghost use Rattle.std.specs.Prelude.{◌≡◌, ◌<◌, ◌+◌, ◌^◌, IfErr, IfOk, MatchOption, OnOk, codes, length};
 ghost use Rattle.dap_listing.specs.Captured.{HasNone, IsNext};
 ghost use Rattle.dap_listing.specs.Gives.{IsFirst};
-ghost use Rattle.dap_listing.specs.Listing.{arrow_text, faults_from, heading, limit_of};
-ghost use Rattle.dap_listing.specs.declared.listing.Listed.TheVariants.{Packets};
+ghost use Rattle.dap_listing.specs.Listing.{arrow_text, faults_from, heading, packet_limit};
 ghost use Rattle.dap_text.specs.Adding.{Adds};
 
 use crate::CaptureFault;
@@ -12,6 +11,9 @@ use crate::lines::{Direction, next_line};
 use crate::listing::{Listed, read_line};
 use dap_text::{push_decimal, push_str};
 use std::alloc::AllocError;
+
+/// The most bytes of a packet in a capture. Own.
+pub const PACKET_LIMIT: usize = 4096;
 
 /// A captured packet among lines: the way that it went and the hex digits of its bytes; and the number of the line behind
 /// it, and what stands there (own).
@@ -30,7 +32,7 @@ pub fn next_packet<'a>(at: usize, bytes: &'a [u8]) -> Result<Option<Found<'a>>, 
     requires { at + length bytes.now < 2 ^ 32 }
     ensures found { IfOk result
         (λ found. MatchOption found (HasNone at bytes.now) (IsNext at bytes.now)) }
-    ensures fault { IfErr result (IsFirst (faults_from (limit_of Packets) at bytes.now)) }
+    ensures fault { IfErr result (IsFirst (faults_from packet_limit at bytes.now)) }
 {
     let mut at = at;
     let mut rest = bytes;

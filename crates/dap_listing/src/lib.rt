@@ -15,7 +15,7 @@ mod output;
 mod packet;
 mod text;
 
-pub use captures::{Found, arrow, next_packet, push_heading};
+pub use captures::{Found, PACKET_LIMIT, arrow, next_packet, push_heading};
 pub use commands::{messages, show};
 pub use fault::{CaptureFault, Outcome};
 pub use input::{INPUT_LIMIT, read_input};

@@ -13,7 +13,7 @@ ghost use Rattle.dap_listing.specs.Lines.{IsEnd, captured, digits_line, line_of,
 ghost use Rattle.dap_listing.specs.Listing.{IsCapturedText, IsMessageText, fault_of_line, limit_of};
 
 use crate::CaptureFault;
-use crate::captures::push_heading;
+use crate::captures::{PACKET_LIMIT, push_heading};
 use crate::input::{CHUNK, read_some, skip_unread};
 use crate::lines::{Direction, Head, cut_line, parse_head};
 use crate::message::push_messages;
@@ -37,7 +37,7 @@ impl Listed {
         ensures { result ≡ limit_of self }
     {
         match self {
-            Listed::Packets => 4096,
+            Listed::Packets => PACKET_LIMIT,
             Listed::Messages => 65_535,
         }
     }

@@ -42,6 +42,6 @@ pub returns : goal.returns
 returns c =
     on_ok_weaker c.add.result
     (λ added packets k number spell.
-      keeps_streams packets c.args.way c.args.segment.now c.args.self.now c.place_of.new.self _ c.in_ok-index.index c.args.packet c.index_mut.result.now c.add.new.self
-        k c.in_ok-index.ensures spell number added c.index_mut.ensures.value refl refl)
+    keeps_streams packets c.args.way c.args.segment.now c.args.self.now c.place_of.new.self _ c.in_ok-index.index c.args.packet c.index_mut.result.now c.add.new.self
+    k c.in_ok-index.ensures spell number added c.index_mut.ensures.value refl refl)
     c.add.ensures.added

@@ -1,0 +1,92 @@
+-- The listing of a capture with its messages joined. Own.
+use Rattle.std.specs.Prelude.{◌≡◌, ℕ, ◌+◌, ◌-◌, ◌%◌, ◌==◌, nat_lt, List, [], ◌∷◌, ◌++◌, length, codes, if◌then◌else◌, Option, Result, Ok}
+use Rattle.std.specs.List.{concat, filter, flat_map}
+use Rattle.std.specs.Fmt.{decimal}
+use Rattle.hex.specs.Hex.{decode_of}
+use Rattle.dap_text.specs.Text.{line_feed, word_text}
+use Rattle.dap_listing.specs.Gives.{Gives}
+use Rattle.dap_listing.specs.Listing.{Capture, arrow_text, captures, heading, packet_limit, line_faults}
+use Rattle.dap_listing.specs.Messages.{IsMessagesText}
+use Rattle.dap_listing.specs.Packets.{IsSeen, Seen, seen_line}
+use Rattle.dap_listing.specs.declared.fault.CaptureFault.{CaptureFault}
+use Rattle.dap_listing.specs.declared.fault.Outcome.{Outcome}
+use Rattle.dap_listing.specs.declared.fault.Outcome.TheVariants.{Good, Stopped}
+use Rattle.dap_follow.specs.Streams.{AreOrdered, Packet, Placed, streams}
+use Rattle.dap_follow.specs.Joined.{Message, Piece, is_message, messages, payload, pieces, tail}
+use Rattle.dap_follow.specs.declared.streams.Stream.{Stream}
+
+-- the captured packets
+pub data AreSeen : List Capture → List Packet → Type 0 where
+  no_more : AreSeen [] []
+  one_more : {capture : Capture} {captures : List Capture} {seen : Seen} {packets : List Packet} (bytes : List ℕ)
+      → decode_of capture.1 ≡ Ok bytes → IsSeen seen bytes → AreSeen captures packets
+      → AreSeen (capture ∷ captures) ((capture.0, seen) ∷ packets)
+
+-- ` seg=A..B`: the numbers of two places
+abbrev pub range_text : ℕ → ℕ → List ℕ
+range_text from to = concat (codes " seg=" ∷ decimal (from % 4096) ∷ codes ".." ∷ decimal (to % 4096) ∷ [])
+
+abbrev pub length_text : List ℕ → List ℕ
+length_text bytes = concat (codes " len=" ∷ decimal (length bytes) ∷ line_feed ∷ [])
+
+abbrev pub message_heading : Piece → List ℕ
+message_heading p = concat (codes "  message" ∷ range_text p.head.place (tail p).place ∷ length_text (payload p) ∷ [])
+
+-- the lines of messages: of each its own, and those of the DAP messages in it
+pub data AreMessageLines : List Message → List ℕ → Type 0 where
+  no_more : AreMessageLines [] []
+  one_more : {m : Message} {others : List Message} (lines rest : List ℕ)
+      → IsMessagesText (payload m.piece) lines → AreMessageLines others rest
+      → AreMessageLines (m ∷ others) (message_heading m.piece ++ lines ++ rest)
+
+-- under each packet stand the messages that are whole with it; the first packet has the number
+pub data ArePacketLines (all : List Message) : ℕ → List Packet → List ℕ → Type 0 where
+  no_more : {number : ℕ} → ArePacketLines all number [] []
+  one_more : {number : ℕ} {packet : Packet} {others : List Packet} (lines rest : List ℕ)
+      → AreMessageLines (filter (λ m. m.packet == number) all) lines → ArePacketLines all (number + 1) others rest
+      → ArePacketLines all number (packet ∷ others) (heading number packet.0 ++ seen_line packet.1 ++ lines ++ rest)
+
+-- ` > dst=X src=X`
+abbrev pub stream_text : Stream → List ℕ
+stream_text s = concat (codes " " ∷ arrow_text s.way ∷ codes " dst=" ∷ word_text s.dst ∷ codes " src=" ∷ word_text s.src ∷ [])
+
+-- a piece that is no message
+abbrev pub part_line : Stream → Piece → List ℕ
+part_line stream p =
+    if is_message p then []
+    else concat (codes "part" ∷ stream_text stream ∷ range_text p.head.place (tail p).place ∷ length_text (payload p) ∷ [])
+
+-- the places that are missing between a piece and the next
+abbrev pub gap_line : Stream → Piece → List Piece → List ℕ
+gap_line stream p [] = []
+gap_line stream p (next ∷ others) =
+    if nat_lt ((tail p).place + 1) next.head.place
+    then concat (codes "gap" ∷ stream_text stream ∷ range_text ((tail p).place + 1) (next.head.place - 1) ∷ line_feed ∷ []) else []
+
+-- the parts and the gaps of a stream, in the order of their places
+abbrev pub rest_lines : Stream → List Piece → List ℕ
+rest_lines stream [] = []
+rest_lines stream (p ∷ others) = part_line stream p ++ gap_line stream p others ++ rest_lines stream others
+
+abbrev pub all_rest_lines : List Stream → List (List Placed) → List ℕ
+all_rest_lines [] ordered = []
+all_rest_lines (stream ∷ others) [] = []
+all_rest_lines (stream ∷ others) (ordered ∷ rest) = rest_lines stream (pieces ordered) ++ all_rest_lines others rest
+
+-- the lines of the packets, and behind them what is left of each stream
+pub record IsFollowed (captured : List Capture) (text : List ℕ) : Type 0 where
+  pub packets : List Packet
+  pub ordered : List (List Placed)
+  pub lines : List ℕ
+  pub are_seen : AreSeen captured packets
+  pub are_ordered : AreOrdered packets (streams packets) ordered
+  pub are_lines : ArePacketLines (flat_map messages ordered) 1 packets lines
+  pub joined : text ≡ lines ++ all_rest_lines (streams packets) ordered
+
+abbrev pub IsFollowing : List ℕ → Outcome → List ℕ → Type 0
+IsFollowing input Good text = IsFollowed (captures packet_limit input) text
+IsFollowing input Stopped text = ⊥
+
+-- what the listing of an input answers
+abbrev pub FollowGives : List ℕ → Option (List ℕ) → Option (List ℕ) → Result Outcome CaptureFault → Type 0
+FollowGives input = Gives (line_faults packet_limit input) (IsFollowing input) input
