@@ -1,3 +1,4 @@
+pub mod ForCallers
 pub mod InputLemmas
 pub mod CourseLemmas
 pub mod DecodeLemmas

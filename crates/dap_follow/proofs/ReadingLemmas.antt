@@ -1,0 +1,51 @@
+-- What was read of a capture, packet after packet.
+use Rattle.std.proofs.Common.{◌≡◌, ◌<◌, ◌≤◌, ◌+◌, ◌^◌, ◌++◌, ℕ, List, [], ◌∷◌, length, length-append, suc, map, Option, Some, None, Ok, Err, refl, sym, ap, ◌∙◌, subst, add-zero, arith}
+use Rattle.std.specs.Global.{Vec}
+use Rattle.std.proofs.lemmas.List.{map-append, length-map}
+use Rattle.hex.specs.Hex.{decode_of}
+use Rattle.nsp_seg.specs.Packets.{segment, data_ack}
+use Rattle.dap_listing.specs.Listing.{Capture, heading}
+use Rattle.dap_listing.specs.Packets.{IsSeen, Seen, seen_line}
+use Rattle.dap_listing.specs.declared.lines.Direction.{Direction}
+use Rattle.dap_follow.specs.Streams.{Packet, came_as, stream_of}
+use Rattle.dap_follow.specs.Following.{AreSeen, no_more, one_more}
+use Rattle.dap_follow.specs.Inner.Keeping.{KeepsAll, KeepsSome}
+use Rattle.dap_follow.specs.Inner.Reading.{Reads, ReadsFew, line_texts}
+use Rattle.dap_follow.specs.declared.reading.Reading.{Reading}
+use Rattle.dap_follow.proofs.KeepingLemmas.{keeps_aside}
+
+line_texts-snoc : (n : ℕ) (packets : List Packet) (x : Packet) → line_texts n (packets ++ x ∷ []) ≡ line_texts n packets ++ (heading (n + length packets) x.0 ++ seen_line x.1) ∷ []
+line_texts-snoc n [] x = ap (λ (k : ℕ). (heading k x.0 ++ seen_line x.1) ∷ []) (sym (add-zero n))
+line_texts-snoc n (p ∷ packets) x =
+    let same : n + 1 + length packets ≡ n + length (p ∷ packets) = omega arith in
+    ap (λ l. (heading n p.0 ++ seen_line p.1) ∷ l) (line_texts-snoc (n + 1) packets x ∙ ap (λ (k : ℕ). line_texts (n + 1) packets ++ (heading k x.0 ++ seen_line x.1) ∷ []) same)
+
+length-line_texts : (n : ℕ) (packets : List Packet) → length (line_texts n packets) ≡ length packets
+length-line_texts n [] = refl
+length-line_texts n (p ∷ packets) = ap suc (length-line_texts (n + 1) packets)
+
+pub count_is : (packets : List Packet) (r : Reading) → Reads packets r → length r.lines.items ≡ length packets
+count_is packets r reads = sym (length-map r.lines.items (λ (line : Vec ℕ). line.items)) ∙ ap length reads.lines ∙ length-line_texts 1 packets
+
+pub reads_more : (packets : List Packet) (way : Direction) (seen : Seen) (old new : Reading) (line : Vec ℕ) (number : ℕ) → Reads packets old
+    → KeepsAll (packets ++ (way, seen) ∷ []) new.streams → new.lines.items ≡ old.lines.items ++ line ∷ [] → line.items ≡ heading number way ++ seen_line seen
+    → number ≡ length old.lines.items + 1 → Reads (packets ++ (way, seen) ∷ []) new
+reads_more packets way seen old new line number reads streams pushed is at =
+    let count : number ≡ 1 + length packets = omega (arith, at, count_is packets old reads) in
+    let text : line.items ≡ heading (1 + length packets) way ++ seen_line seen = is ∙ ap (λ (n : ℕ). heading n way ++ seen_line seen) count in
+    record {
+      lines = ap (map (λ (l : Vec ℕ). l.items)) pushed ∙ map-append (λ (l : Vec ℕ). l.items) old.lines.items (line ∷ [])
+        ∙ ap (λ l. l ++ line.items ∷ []) reads.lines ∙ ap (λ (t : List ℕ). line_texts 1 packets ++ t ∷ []) text ∙ sym (line_texts-snoc 1 packets (way, seen));
+      streams = streams;
+    }
+
+pub aside_fault : (packets : List Packet) (way : Direction) (seen : Seen) (old new : Reading) → Reads packets old → (stream_of (way, seen) ≡ None)
+    → ((s : _) → came_as s (1 + length packets) (way, seen) ≡ None) → new.streams ≡ old.streams → KeepsAll (packets ++ (way, seen) ∷ []) new.streams
+aside_fault packets way seen old new reads of_none none same = rw same (keeps_aside packets (way, seen) old.streams of_none none reads.streams)
+
+-- ---- the packets of captures
+
+pub seen_more : (captures : List Capture) (packets : List Packet) (way : Direction) (digits bytes : List ℕ) (seen : Seen) → AreSeen captures packets
+    → decode_of digits ≡ Ok bytes → IsSeen seen bytes → AreSeen (captures ++ (way, digits) ∷ []) (packets ++ (way, seen) ∷ [])
+seen_more captures packets way digits bytes seen no_more decoded is = one_more bytes decoded is no_more
+seen_more captures packets way digits bytes seen (one_more b d i rest) decoded is = one_more b d i (seen_more _ _ way digits bytes seen rest decoded is)

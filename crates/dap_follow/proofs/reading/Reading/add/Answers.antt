@@ -1,0 +1,67 @@
+use Rattle.std.proofs.Common.{arith, rules, ◌≡◌, ◌+◌, ◌/◌, ◌++◌, ◌∷◌, [], ℕ, List, length, Ok, Err, None, refl, sym, ap, ◌∙◌, subst}
+use Rattle.std.proofs.lemmas.Result.{on_ok_weaker}
+use Rattle.dap_listing.specs.Captured.{HasDigits, Spell, seen_value}
+use Rattle.dap_listing.specs.Listing.{heading}
+use Rattle.dap_listing.specs.Packets.{Seen, seen_line}
+use Rattle.dap_follow.specs.Streams.{Packet, came_as, stream_of}
+use Rattle.dap_follow.specs.Inner.Keeping.{KeepsAll}
+use Rattle.dap_follow.specs.Inner.Reading.{Reads}
+use Rattle.dap_follow.proofs.KeepingLemmas.{keeps_aside}
+use Rattle.dap_follow.proofs.ReadingLemmas.{count_is, reads_more}
+use Rattle.dap_follow.proofs.reading.Reading.add.Goals as goal
+
+pub add-requires : goal.add-requires
+add-requires c =
+    let few = c.requires.few in
+    let count : c.len-number.result ≡ length c.args.self.now.lines.items = search rules in
+    let same = count_is few.0 c.args.self.now few.1 in
+    (few.0, few.1.streams, omega (arith, count, same), omega (arith, count, same, few.2))
+
+pub returns-in-Ok-Segment-clause-more : goal.returns-in-Ok-Segment-clause-more
+returns-in-Ok-Segment-clause-more c =
+    let seen = seen_value c.read_packet-seen.result in
+    let way = c.args.way in
+    let old = c.args.self.now in
+    let whole = c.in-Ok-Segment.is ∙ ap Ok c.in-Ok-Segment.field-0-is in
+    let spell = subst HasDigits whole c.read_packet-seen.ensures.payload in
+    let number : ℕ = c.len-number.result + 1 in
+    let count : c.len-number.result ≡ length old.lines.items = search rules in
+    let line = c.in_ok-push_seen.ensures ∙ ap (λ (l : List ℕ). l ++ seen_line seen) (c.in_ok-push_heading.ensures ∙ ap (λ (l : List ℕ). l ++ heading number way) c.new-line.ensures.items) in
+    on_ok_weaker c.add.result
+    (λ kept.
+      (seen, c.read_packet-seen.ensures.seen, λ packets reads.
+        reads_more packets way seen old _ c.push_seen.new.text number reads
+          (subst (λ (s : Seen). KeepsAll (packets ++ (way, s) ∷ []) c.add.new.self) (sym (ap seen_value whole)) (kept packets reads.streams (omega (arith, count, count_is packets old reads)) spell))
+          c.in_ok-push.ensures.items line (omega (arith, count))))
+    c.add.ensures
+
+pub returns-in-Ok-DataAck-clause-more : goal.returns-in-Ok-DataAck-clause-more
+returns-in-Ok-DataAck-clause-more c =
+    let seen = seen_value c.read_packet-seen.result in
+    let way = c.args.way in
+    let old = c.args.self.now in
+    let whole = c.in-Ok-DataAck.is ∙ ap Ok c.in-Ok-DataAck.field-0-is in
+    let is = ap seen_value whole in
+    let number : ℕ = c.len-number.result + 1 in
+    let count : c.len-number.result ≡ length old.lines.items = search rules in
+    let line = c.in_ok-push_seen.ensures ∙ ap (λ (l : List ℕ). l ++ seen_line seen) (c.in_ok-push_heading.ensures ∙ ap (λ (l : List ℕ). l ++ heading number way) c.new-line.ensures.items) in
+    let no_stream : stream_of (way, seen) ≡ None = ap (λ (s : Seen). stream_of (way, s)) is in
+    (seen, c.read_packet-seen.ensures.seen, λ packets reads.
+      reads_more packets way seen old _ c.push_seen.new.text number reads
+        (keeps_aside packets (way, seen) old.streams no_stream (λ stream. ap (λ (s : Seen). came_as stream (1 + length packets) (way, s)) is) reads.streams)
+        c.in_ok-push.ensures.items line (omega (arith, count)))
+
+pub returns-in-Err-clause-more : goal.returns-in-Err-clause-more
+returns-in-Err-clause-more c =
+    let seen = seen_value c.read_packet-seen.result in
+    let way = c.args.way in
+    let old = c.args.self.now in
+    let is = ap seen_value c.in-Err.is in
+    let number : ℕ = c.len-number.result + 1 in
+    let count : c.len-number.result ≡ length old.lines.items = search rules in
+    let line = c.in_ok-push_seen.ensures ∙ ap (λ (l : List ℕ). l ++ seen_line seen) (c.in_ok-push_heading.ensures ∙ ap (λ (l : List ℕ). l ++ heading number way) c.new-line.ensures.items) in
+    let no_stream : stream_of (way, seen) ≡ None = ap (λ (s : Seen). stream_of (way, s)) is in
+    (seen, c.read_packet-seen.ensures.seen, λ packets reads.
+      reads_more packets way seen old _ c.push_seen.new.text number reads
+        (keeps_aside packets (way, seen) old.streams no_stream (λ stream. ap (λ (s : Seen). came_as stream (1 + length packets) (way, s)) is) reads.streams)
+        c.in_ok-push.ensures.items line (omega (arith, count)))

@@ -1,0 +1,40 @@
+use Rattle.std.proofs.Common.{arith, rules, ◌≡◌, ◌/◌, ◌++◌, ◌∷◌, [], List, length, length-append, refl, sym, ap, ◌∙◌}
+use Rattle.std.proofs.lemmas.List.{append_assoc}
+use Rattle.dap_listing.specs.Captured.{bytes_of}
+use Rattle.dap_listing.specs.Listing.{Capture, captures, packet_limit}
+use Rattle.dap_listing.proofs.ForCallers.{decoded}
+use Rattle.dap_follow.specs.Following.{no_more}
+use Rattle.dap_follow.proofs.ReadingLemmas.{seen_more}
+use Rattle.dap_follow.proofs.reading.read_packets.Goals as goal
+
+pub loop-reading-init : goal.loop-reading-init
+loop-reading-init c = record {
+  room = search rules;
+  lines = omega arith;
+  so_far = ([], [], no_more, refl, c.new-reading.ensures, omega arith);
+  clean = refl;
+}
+
+pub loop-reading-preserved : goal.loop-reading-preserved
+loop-reading-preserved c =
+    let before = c.loop-reading.invariant.so_far in
+    let next = rw c.in-Some.is at c.in_ok-found.ensures.found in
+    let way = c.in-Some.found.way in
+    let digits = c.in-Some.found.digits.now in
+    let more = c.in_ok-add.ensures.more in
+    let packets = before.0 in
+    let done = before.1 in
+    let longer = length-append packets ((way, more.0) ∷ []) in
+    record {
+      room = c.loop-reading.invariant.room;
+      lines = omega (arith, next.counted, c.loop-reading.invariant.lines);
+      so_far = (
+        packets ++ (way, more.0) ∷ [],
+        done ++ (way, digits) ∷ [],
+        seen_more done packets way digits (bytes_of digits) more.0 before.2 (decoded digits (length digits / 2) next.spelled) more.1,
+        before.3 ∙ ap (λ (l : List Capture). done ++ l) next.captured ∙ sym (append_assoc done ((way, digits) ∷ []) (captures packet_limit c.in-Some.found.rest.now)),
+        more.2 packets before.4,
+        omega (arith, longer, next.shorter, before.5),
+      );
+      clean = c.loop-reading.invariant.clean ∙ next.clean;
+    }
