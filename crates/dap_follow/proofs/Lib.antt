@@ -2,3 +2,4 @@ pub mod PlacingLemmas
 pub mod NameLemmas
 pub mod KeepingLemmas
 pub mod ReadingLemmas
+pub mod JoiningLemmas

@@ -35,7 +35,7 @@ reads_more packets way seen old new line number reads streams pushed is at =
     let text : line.items ≡ heading (1 + length packets) way ++ seen_line seen = is ∙ ap (λ (n : ℕ). heading n way ++ seen_line seen) count in
     record {
       lines = ap (map (λ (l : Vec ℕ). l.items)) pushed ∙ map-append (λ (l : Vec ℕ). l.items) old.lines.items (line ∷ [])
-        ∙ ap (λ l. l ++ line.items ∷ []) reads.lines ∙ ap (λ (t : List ℕ). line_texts 1 packets ++ t ∷ []) text ∙ sym (line_texts-snoc 1 packets (way, seen));
+          ∙ ap (λ l. l ++ line.items ∷ []) reads.lines ∙ ap (λ (t : List ℕ). line_texts 1 packets ++ t ∷ []) text ∙ sym (line_texts-snoc 1 packets (way, seen));
       streams = streams;
     }
 

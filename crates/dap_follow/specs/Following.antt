@@ -30,7 +30,7 @@ abbrev pub length_text : List ℕ → List ℕ
 length_text bytes = concat (codes " len=" ∷ decimal (length bytes) ∷ line_feed ∷ [])
 
 abbrev pub message_heading : Piece → List ℕ
-message_heading p = concat (codes "  message" ∷ range_text p.head.place (tail p).place ∷ length_text (payload p) ∷ [])
+message_heading p = codes "  message" ++ (range_text p.head.place (tail p).place ++ length_text (payload p))
 
 -- the lines of messages: of each its own, and those of the DAP messages in it
 pub data AreMessageLines : List Message → List ℕ → Type 0 where
@@ -50,18 +50,19 @@ pub data ArePacketLines (all : List Message) : ℕ → List Packet → List ℕ 
 abbrev pub stream_text : Stream → List ℕ
 stream_text s = concat (codes " " ∷ arrow_text s.way ∷ codes " dst=" ∷ word_text s.dst ∷ codes " src=" ∷ word_text s.src ∷ [])
 
+abbrev pub part_text : Stream → Piece → List ℕ
+part_text stream p = codes "part" ++ (stream_text stream ++ (range_text p.head.place (tail p).place ++ length_text (payload p)))
+
 -- a piece that is no message
 abbrev pub part_line : Stream → Piece → List ℕ
-part_line stream p =
-    if is_message p then []
-    else concat (codes "part" ∷ stream_text stream ∷ range_text p.head.place (tail p).place ∷ length_text (payload p) ∷ [])
+part_line stream p = if is_message p then [] else part_text stream p
 
 -- the places that are missing between a piece and the next
 abbrev pub gap_line : Stream → Piece → List Piece → List ℕ
 gap_line stream p [] = []
 gap_line stream p (next ∷ others) =
     if nat_lt ((tail p).place + 1) next.head.place
-    then concat (codes "gap" ∷ stream_text stream ∷ range_text ((tail p).place + 1) (next.head.place - 1) ∷ line_feed ∷ []) else []
+    then codes "gap" ++ (stream_text stream ++ (range_text ((tail p).place + 1) (next.head.place - 1) ++ line_feed)) else []
 
 -- the parts and the gaps of a stream, in the order of their places
 abbrev pub rest_lines : Stream → List Piece → List ℕ

@@ -2,3 +2,4 @@
 pub mod Placing
 pub mod Keeping
 pub mod Reading
+pub mod Listing

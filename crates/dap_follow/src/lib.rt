@@ -1,6 +1,7 @@
 //! The listing of a capture with the NSP messages of several segments joined. Own.
 #![tactic(auto)]
 
+mod joining;
 mod places;
 mod reading;
 mod streams;

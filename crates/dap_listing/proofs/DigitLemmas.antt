@@ -1,12 +1,12 @@
 -- The bytes that hex digits spell, and their image.
-use Rattle.std.proofs.Common.{◌≡◌, ◌==◌, ◌||◌, ◌&&◌, ◌<◌, ◌≤◌, ◌+◌, ◌*◌, ◌/◌, ◌%◌, not, ℕ, zero, suc, Bool, true, false, List, [], ◌∷◌, length, take, drop, map, Option, Some, None, Ok, unwrap_or, is_some, slice_index, refl, sym, ap, ◌∙◌, arith, inl, inr}
+use Rattle.std.proofs.Common.{◌≡◌, ◌==◌, ◌||◌, ◌&&◌, ◌<◌, ◌≤◌, ◌+◌, ◌*◌, ◌/◌, ◌%◌, not, ℕ, zero, suc, Bool, true, false, List, [], ◌∷◌, ◌++◌, length, length-append, take, drop, map, Option, Some, None, Ok, unwrap_or, is_some, slice_index, refl, sym, ap, ◌∙◌, arith, inl, inr}
 use Rattle.std.specs.Prelude.{codes}
 use Rattle.std.specs.List.{AllPass}
 use Rattle.std.specs.Char.{to_ascii_lowercase}
 use Rattle.std.proofs.lemmas.Bool.{and_parts, cases_lt, eqb-true}
 use Rattle.std.proofs.lemmas.Bool.Decides.{nat_tests}
 use Rattle.std.proofs.lemmas.List.{length-drop, length-take, get_or-take, get_or-drop}
-use Rattle.std.proofs.lemmas.List.Elements.{All-head, All-tail}
+use Rattle.std.proofs.lemmas.List.Elements.{All-append, All-head, All-tail}
 use Rattle.hex.specs.Hex.{decode_of, decode_pairs, digit_or_error, encode_lower, encode_with, hex_digit_value, is_hex_digit, lower_digits, pair_value, value_at}
 use Rattle.hex.proofs.HexLemmas.{decode_of-even, decode_of-ok}
 use Rattle.hex.proofs.Pairs.{cons_byte, decode_pairs-ok_pair}
@@ -159,3 +159,19 @@ no_image (b ∷ bytes) none = absurd (omega arith)
 
 pub none_is : (digits : List ℕ) (count : ℕ) → Spell digits count → length digits ≡ 0 → image_text (bytes_of digits) ≡ codes "-"
 none_is digits count spell none = no_image (bytes_of digits) (omega (arith, count_of digits count spell, spell.1, none))
+
+-- ---- digits one behind the other
+
+pairs-append : (a b : List ℕ) → length a % 2 ≡ 0 → pair_bytes (a ++ b) ≡ pair_bytes a ++ pair_bytes b
+pairs-append [] b even = refl
+pairs-append (x ∷ []) b even = absurd (omega arith)
+pairs-append (x ∷ y ∷ a) b even = ap (λ (l : List ℕ). (value x * 16 + value y) ∷ l) (pairs-append a b (omega arith))
+
+pub spell-append : (a b : List ℕ) (n m : ℕ) → Spell a n → Spell b m → Spell (a ++ b) (n + m)
+spell-append a b n m one other = (All-append IsDigit a b one.0 other.0, omega (arith, length-append a b, one.1, other.1))
+
+pub bytes-append : (a b : List ℕ) (n m : ℕ) → Spell a n → Spell b m → bytes_of (a ++ b) ≡ bytes_of a ++ bytes_of b
+bytes-append a b n m one other =
+    let even : length a % 2 ≡ 0 = omega (arith, one.1) in
+    of_pairs (a ++ b) (n + m) (spell-append a b n m one other) ∙ pairs-append a b even
+    ∙ ap (λ (l : List ℕ). l ++ pair_bytes b) (sym (of_pairs a n one)) ∙ ap (λ (l : List ℕ). bytes_of a ++ l) (sym (of_pairs b m other))

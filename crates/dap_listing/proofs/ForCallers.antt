@@ -2,3 +2,5 @@
 
 -- hex digits of bytes decode, to so many bytes
 pub use Rattle.dap_listing.proofs.DigitLemmas.{decoded, count_of}
+-- digits one behind the other spell the bytes one behind the other
+pub use Rattle.dap_listing.proofs.DigitLemmas.{bytes-append, spell-append}

@@ -10,7 +10,7 @@ invariant-loop-reading l = record {
   room : vec_len l.room ≡ 4096;
   lines : l.at + length l.rest ≤ 1 + length l.input;
   so_far : (packets : List Packet) × (done : List Capture) × AreSeen done packets × (captures packet_limit l.input ≡ done ++ captures packet_limit l.rest)
-    × Reads packets l.reading × (length packets + length l.rest ≤ length l.input);
+      × Reads packets l.reading × (length packets + length l.rest ≤ length l.input);
   clean : line_faults packet_limit l.input ≡ faults_from packet_limit l.at l.rest;
 }
 

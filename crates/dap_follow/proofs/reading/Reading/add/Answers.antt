@@ -28,11 +28,14 @@ returns-in-Ok-Segment-clause-more c =
     let count : c.len-number.result ≡ length old.lines.items = search rules in
     let line = c.in_ok-push_seen.ensures ∙ ap (λ (l : List ℕ). l ++ seen_line seen) (c.in_ok-push_heading.ensures ∙ ap (λ (l : List ℕ). l ++ heading number way) c.new-line.ensures.items) in
     on_ok_weaker c.add.result
-    (λ kept.
-      (seen, c.read_packet-seen.ensures.seen, λ packets reads.
-        reads_more packets way seen old _ c.push_seen.new.text number reads
+    (λ kept. (
+      seen,
+      c.read_packet-seen.ensures.seen,
+      λ packets reads.
+          reads_more packets way seen old _ c.push_seen.new.text number reads
           (subst (λ (s : Seen). KeepsAll (packets ++ (way, s) ∷ []) c.add.new.self) (sym (ap seen_value whole)) (kept packets reads.streams (omega (arith, count, count_is packets old reads)) spell))
-          c.in_ok-push.ensures.items line (omega (arith, count))))
+          c.in_ok-push.ensures.items line (omega (arith, count)),
+    ))
     c.add.ensures
 
 pub returns-in-Ok-DataAck-clause-more : goal.returns-in-Ok-DataAck-clause-more
@@ -45,11 +48,14 @@ returns-in-Ok-DataAck-clause-more c =
     let number : ℕ = c.len-number.result + 1 in
     let count : c.len-number.result ≡ length old.lines.items = search rules in
     let line = c.in_ok-push_seen.ensures ∙ ap (λ (l : List ℕ). l ++ seen_line seen) (c.in_ok-push_heading.ensures ∙ ap (λ (l : List ℕ). l ++ heading number way) c.new-line.ensures.items) in
-    let no_stream : stream_of (way, seen) ≡ None = ap (λ (s : Seen). stream_of (way, s)) is in
-    (seen, c.read_packet-seen.ensures.seen, λ packets reads.
-      reads_more packets way seen old _ c.push_seen.new.text number reads
-        (keeps_aside packets (way, seen) old.streams no_stream (λ stream. ap (λ (s : Seen). came_as stream (1 + length packets) (way, s)) is) reads.streams)
-        c.in_ok-push.ensures.items line (omega (arith, count)))
+    let no_stream : stream_of (way, seen) ≡ None = ap (λ (s : Seen). stream_of (way, s)) is in (
+      seen,
+      c.read_packet-seen.ensures.seen,
+      λ packets reads.
+          reads_more packets way seen old _ c.push_seen.new.text number reads
+          (keeps_aside packets (way, seen) old.streams no_stream (λ stream. ap (λ (s : Seen). came_as stream (1 + length packets) (way, s)) is) reads.streams)
+          c.in_ok-push.ensures.items line (omega (arith, count)),
+    )
 
 pub returns-in-Err-clause-more : goal.returns-in-Err-clause-more
 returns-in-Err-clause-more c =
@@ -60,8 +66,11 @@ returns-in-Err-clause-more c =
     let number : ℕ = c.len-number.result + 1 in
     let count : c.len-number.result ≡ length old.lines.items = search rules in
     let line = c.in_ok-push_seen.ensures ∙ ap (λ (l : List ℕ). l ++ seen_line seen) (c.in_ok-push_heading.ensures ∙ ap (λ (l : List ℕ). l ++ heading number way) c.new-line.ensures.items) in
-    let no_stream : stream_of (way, seen) ≡ None = ap (λ (s : Seen). stream_of (way, s)) is in
-    (seen, c.read_packet-seen.ensures.seen, λ packets reads.
-      reads_more packets way seen old _ c.push_seen.new.text number reads
-        (keeps_aside packets (way, seen) old.streams no_stream (λ stream. ap (λ (s : Seen). came_as stream (1 + length packets) (way, s)) is) reads.streams)
-        c.in_ok-push.ensures.items line (omega (arith, count)))
+    let no_stream : stream_of (way, seen) ≡ None = ap (λ (s : Seen). stream_of (way, s)) is in (
+      seen,
+      c.read_packet-seen.ensures.seen,
+      λ packets reads.
+          reads_more packets way seen old _ c.push_seen.new.text number reads
+          (keeps_aside packets (way, seen) old.streams no_stream (λ stream. ap (λ (s : Seen). came_as stream (1 + length packets) (way, s)) is) reads.streams)
+          c.in_ok-push.ensures.items line (omega (arith, count)),
+    )

@@ -1,0 +1,206 @@
+-- The pieces of segments in order.
+use Rattle.std.proofs.Common.{◌≡◌, ◌==◌, ◌<◌, ◌≤◌, ◌+◌, ◌-◌, ◌*◌, ◌/◌, ◌⊎◌, ◌++◌, ◌&&◌, ℕ, zero, suc, Bool, true, false, cond, List, [], ◌∷◌, length, take, drop, get_or, map, max, add-one, refl, sym, ap, ◌∙◌, subst, arith, inl, inr, ⊎_elim}
+use Rattle.std.specs.Global.{Vec}
+use Rattle.std.specs.Prelude.{slice_set}
+use Rattle.std.specs.List.{AllByRecursion, filter, flat_map}
+use Rattle.std.proofs.lemmas.Bool.Decides.{nat_tests}
+use Rattle.std.proofs.lemmas.List.Elements.{filter-append}
+use Rattle.std.proofs.lemmas.Bool.{cases_Bool, false≢true}
+use Rattle.std.proofs.lemmas.List.{append-nil, append_assoc, map-append, take-append-drop}
+use Rattle.dap_listing.specs.Captured.{Spell, bytes_of}
+use Rattle.dap_listing.proofs.ForCallers.{bytes-append, count_of, spell-append}
+use Rattle.dap_follow.specs.Streams.{Placed}
+use Rattle.dap_listing.specs.Messages.{IsMessagesText}
+use Rattle.dap_follow.specs.Following.{AreMessageLines, message_heading, no_more, one_more}
+use Rattle.dap_follow.specs.Joined.{Message, Piece, end_of, joins, latest, payload, pieces, segments, tail, with_segment}
+use Rattle.dap_follow.specs.Inner.Listing.{AreSpelled, IsCutOff, IsPiece, UnderAll, digits_of, values}
+use Rattle.dap_follow.specs.Inner.Placing.{counted_value}
+use Rattle.dap_follow.specs.declared.places.Counted.{Counted}
+
+-- ---- the segments of a piece
+
+head_is : (a b : Placed) (xs ys : List Placed) → a ∷ xs ≡ b ∷ ys → a ≡ b
+head_is a b xs ys e = cc
+
+tail_is : (a b : Placed) (xs ys : List Placed) → a ∷ xs ≡ b ∷ ys → xs ≡ ys
+tail_is a b xs ys e = cc
+
+last_is : (c : Counted) (cs : List Counted) (d : Counted) → counted_value (get_or (c ∷ cs) (length cs) d) ≡ end_of (counted_value c) (values cs)
+last_is c [] d = refl
+last_is c (e ∷ cs) d = last_is e cs d
+
+pub last_of : (cs : List Counted) (d : Counted) (p : Piece) → 0 < length cs → IsPiece p cs → counted_value (get_or cs (length cs - 1) d) ≡ tail p
+last_of [] d p some is = absurd (omega arith)
+last_of (c ∷ cs) d p some is =
+    let at : length (c ∷ cs) - 1 ≡ length cs = omega arith in
+    let first : counted_value c ≡ p.head = sym (head_is p.head (counted_value c) p.others (values cs) is) in
+    let others : values cs ≡ p.others = sym (tail_is p.head (counted_value c) p.others (values cs) is) in
+    ap (λ (i : ℕ). counted_value (get_or (c ∷ cs) i d)) at ∙ last_is c cs d ∙ ap (λ (s : Placed). end_of s (values cs)) first ∙ ap (end_of p.head) others
+
+pub latest-append : (xs ys : List Placed) → latest (xs ++ ys) ≡ max (latest xs) (latest ys)
+latest-append [] ys = omega arith
+latest-append (x ∷ xs) ys = let rest = latest-append xs ys in omega (arith, rest)
+
+-- ---- the first piece
+
+-- each of these joins the next
+pub Chain : Placed → List Placed → Type 0
+Chain s [] = Unit {0}
+Chain s (t ∷ others) = (joins s t ≡ true) × Chain t others
+
+-- the last doesn't join what follows
+pub Ends : Placed → List Placed → Type 0
+Ends s [] = Unit {0}
+Ends s (t ∷ others) = joins s t ≡ false
+
+pieces_begin : (b : Placed) (bs : List Piece) → (p : Piece) × (rest : List Piece) × (with_segment b bs ≡ p ∷ rest) × (p.head ≡ b)
+pieces_begin b [] = (record { head = b; others = [] }, [], refl, refl)
+pieces_begin b (p ∷ ps) = ⊎_elim
+    (λ (yes : joins b p.head ≡ true). (record { head = b; others = segments p }, ps, rw yes refl, refl))
+    (λ (other : joins b p.head ≡ false). (record { head = b; others = [] }, p ∷ ps, rw other refl, refl))
+    (cases_Bool (joins b p.head))
+
+alone : (s b : Placed) (ps : List Piece) (p : Piece) (rest : List Piece) → ps ≡ p ∷ rest → p.head ≡ b → joins s b ≡ false → with_segment s ps ≡ record { head = s; others = [] } ∷ ps
+alone s b ps p rest is head other =
+    let test : joins s p.head ≡ false = rw head other in
+    rw is (rw test refl)
+
+pub chain_cut : (s : Placed) (front back : List Placed) → Chain s front → Ends (end_of s front) back → pieces (s ∷ front ++ back) ≡ record { head = s; others = front } ∷ pieces back
+unfolding Chain Ends
+chain_cut s [] [] chain end = refl
+chain_cut s [] (b ∷ back) chain end =
+    let begin = pieces_begin b (pieces back) in
+    alone s b (pieces (b ∷ back)) begin.0 begin.1 begin.2 begin.3 end
+chain_cut s (f ∷ front) back chain end = rw (chain_cut f front back chain.1 end, chain.0) refl
+
+chain_of : (c : Counted) (cs : List Counted) (n : ℕ) → n ≤ length cs
+    → ((k : ℕ) (d : Counted) → k < n → joins (counted_value (get_or (c ∷ cs) k d)) (counted_value (get_or (c ∷ cs) (suc k) d)) ≡ true) → Chain (counted_value c) (values (take n cs))
+unfolding Chain
+chain_of c cs zero within all = tt
+chain_of c [] (suc n) within all = absurd (omega arith)
+chain_of c (e ∷ cs) (suc n) within all = (all zero e (omega arith), chain_of e cs n (omega arith) (λ k d below. all (suc k) d (omega arith)))
+
+ends_of : (c : Counted) (cs : List Counted) (n : ℕ) (d : Counted) → n ≤ length cs
+    → (n < length cs → joins (counted_value (get_or (c ∷ cs) n d)) (counted_value (get_or (c ∷ cs) (suc n) d)) ≡ false) → Ends (end_of (counted_value c) (values (take n cs))) (values (drop n cs))
+unfolding Ends
+ends_of c [] zero d within other = tt
+ends_of c (e ∷ cs) zero d within other = other (omega arith)
+ends_of c [] (suc n) d within other = absurd (omega arith)
+ends_of c (e ∷ cs) (suc n) d within other = ends_of e cs n d (omega arith) (λ below. other (omega arith))
+
+cut_off : (c : Counted) (cs : List Counted) (n : ℕ) (d : Counted) → n ≤ length cs
+    → ((k : ℕ) (d : Counted) → k < n → joins (counted_value (get_or (c ∷ cs) k d)) (counted_value (get_or (c ∷ cs) (suc k) d)) ≡ true)
+    → (n < length cs → joins (counted_value (get_or (c ∷ cs) n d)) (counted_value (get_or (c ∷ cs) (suc n) d)) ≡ false)
+    → IsCutOff (c ∷ cs) (c ∷ take n cs) (drop n cs)
+cut_off c cs n d within all other =
+    let split : cs ≡ take n cs ++ drop n cs = sym (take-append-drop n cs) in
+    let both : values cs ≡ values (take n cs) ++ values (drop n cs) = ap values split ∙ map-append counted_value (take n cs) (drop n cs) in
+    record {
+      first = record { head = counted_value c; others = values (take n cs) };
+      is = refl;
+      joined = ap (λ (l : List Counted). c ∷ l) split;
+      cut = ap (λ (l : List Placed). pieces (counted_value c ∷ l)) both ∙ chain_cut (counted_value c) (values (take n cs)) (values (drop n cs)) (chain_of c cs n within all) (ends_of c cs n d within other);
+    }
+
+pub cut_at : (cs : List Counted) (end : ℕ) (d : Counted) → 1 ≤ end → end ≤ length cs
+    → ((k : ℕ) (d : Counted) → k + 1 < end → joins (counted_value (get_or cs k d)) (counted_value (get_or cs (k + 1) d)) ≡ true)
+    → (end < length cs → joins (counted_value (get_or cs (end - 1) d)) (counted_value (get_or cs end d)) ≡ false)
+    → IsCutOff cs (take end cs) (drop end cs)
+cut_at cs zero d some within all other = absurd (omega arith)
+cut_at [] (suc n) d some within all other = absurd (omega arith)
+cut_at (c ∷ cs) (suc n) d some within all other =
+    let before : suc n - 1 ≡ n = omega arith in
+    cut_off c cs n d (omega arith) (λ k e below. rw add-one at (all k e (omega arith))) (λ below. rw before at (other (omega arith)))
+
+-- ---- what a piece carries
+
+empty_of : (xs : List ℕ) → length xs ≡ 0 → xs ≡ []
+empty_of [] none = refl
+empty_of (x ∷ xs) none = absurd (omega arith)
+
+no_digits : Spell [] 0
+no_digits = ((λ k d below. absurd (omega arith)), refl)
+
+pub spelled_all : (cs : List Counted) → AreSpelled cs → (n : ℕ) × Spell (digits_of cs) n × (bytes_of (digits_of cs) ≡ flat_map (λ (s : Placed). s.payload) (values cs))
+spelled_all [] spelled = (0, no_digits, empty_of (bytes_of []) (count_of [] 0 no_digits))
+spelled_all (c ∷ cs) spelled =
+    let rest = spelled_all cs spelled.1 in
+    let payload = c.payload.now in
+    let n : ℕ = length payload / 2 in (
+      n + rest.0,
+      spell-append payload (digits_of cs) n rest.0 spelled.0 rest.1,
+      bytes-append payload (digits_of cs) n rest.0 spelled.0 rest.1 ∙ ap (λ (l : List ℕ). bytes_of payload ++ l) rest.2,
+    )
+
+pub spelled_half : (cs : List Counted) → AreSpelled cs → Spell (digits_of cs) (length (digits_of cs) / 2)
+spelled_half cs spelled =
+    let all = spelled_all cs spelled in
+    let half : all.0 ≡ length (digits_of cs) / 2 = omega (arith, all.1.1) in subst (Spell (digits_of cs)) half all.1
+
+pub payload_is : (cs : List Counted) (p : Piece) → AreSpelled cs → IsPiece p cs → (bytes_of (digits_of cs) ≡ payload p) × Spell (digits_of cs) (length (digits_of cs) / 2)
+    × (length (payload p) ≡ length (digits_of cs) / 2)
+payload_is cs p spelled is =
+    let all = spelled_all cs spelled in
+    let half : all.0 ≡ length (digits_of cs) / 2 = omega (arith, all.1.1) in
+    let bytes : bytes_of (digits_of cs) ≡ payload p = all.2 ∙ ap (flat_map (λ (s : Placed). s.payload)) (sym is) in
+    (bytes, subst (Spell (digits_of cs)) half all.1, ap length (sym bytes) ∙ count_of (digits_of cs) all.0 all.1 ∙ half)
+
+-- ---- text that is appended piece by piece
+
+pub appended_twice : (start middle end p q : List ℕ) → middle ≡ start ++ p → end ≡ middle ++ q → end ≡ start ++ (p ++ q)
+appended_twice start middle end p q one two = two ∙ ap (λ (l : List ℕ). l ++ q) one ∙ append_assoc start p q
+
+-- ---- a message under its packet
+
+pub lines_append : (ms ns : List Message) (a b : List ℕ) → AreMessageLines ms a → AreMessageLines ns b → AreMessageLines (ms ++ ns) (a ++ b)
+lines_append [] ns a b no_more more = more
+lines_append (m ∷ ms) ns a b (one_more first rest of_first others) more =
+    subst (AreMessageLines ((m ∷ ms) ++ ns)) (sym (append_assoc (message_heading m.piece ++ first) rest b))
+    (one_more first (rest ++ b) of_first (lines_append ms ns rest b others more))
+
+-- nothing is under any packet
+pub under_none : (n : ℕ) (vs : List (Vec ℕ)) → UnderAll [] n vs vs
+under_none n [] = tt
+under_none n (v ∷ vs) = (([], no_more, sym (append-nil v.items)), under_none (n + 1) vs)
+
+-- one list of messages, and then another
+pub under_both : (ms ns : List Message) (n : ℕ) (olds mids news : List (Vec ℕ)) → UnderAll ms n olds mids → UnderAll ns n mids news → UnderAll (ms ++ ns) n olds news
+under_both ms ns n [] [] [] one two = tt
+under_both ms ns n [] [] (v ∷ news) one two = two
+under_both ms ns n [] (m ∷ mids) news one two = absurd one
+under_both ms ns n (o ∷ olds) [] news one two = absurd one
+under_both ms ns n (o ∷ olds) (m ∷ mids) [] one two = two
+under_both ms ns n (o ∷ olds) (m ∷ mids) (v ∷ news) one two =
+    let a = one.0 in
+    let b = two.0 in
+    let both = subst (λ (l : List Message). AreMessageLines l (a.0 ++ b.0)) (sym (filter-append (λ (k : Message). k.packet == n) ms ns)) (lines_append _ _ a.0 b.0 a.1 b.1) in
+    ((a.0 ++ b.0, both, appended_twice o.items m.items v.items a.0 b.0 a.2 b.2), under_both ms ns (n + 1) olds mids news one.1 two.1)
+
+apart_number : (a b : ℕ) → (a ≡ b → ⊥) → (a == b) ≡ false
+apart_number a b apart = grind (arith, nat_tests)
+
+same_number : (a b : ℕ) → a ≡ b → (a == b) ≡ true
+same_number a b same = grind (arith, nat_tests)
+
+-- none of the messages is under later packets
+under_later : (m : Message) (n : ℕ) (vs : List (Vec ℕ)) → m.packet < n → UnderAll (m ∷ []) n vs vs
+under_later m n [] below = tt
+under_later m n (v ∷ vs) below =
+    let none : filter (λ (k : Message). k.packet == n) (m ∷ []) ≡ [] = rw (apart_number m.packet n (λ e. omega (arith, e, below))) refl in
+    (([], subst (λ (l : List Message). AreMessageLines l []) (sym none) no_more, sym (append-nil v.items)), under_later m (n + 1) vs (omega (arith, below)))
+
+-- one message, under its packet
+pub under_one : (m : Message) (n i : ℕ) (vs : List (Vec ℕ)) (new : Vec ℕ) (d : Vec ℕ) (lines : List ℕ) → m.packet ≡ n + i → i < length vs → IsMessagesText (payload m.piece) lines
+    → new.items ≡ (get_or vs i d).items ++ (message_heading m.piece ++ lines) → UnderAll (m ∷ []) n vs (slice_set vs i new)
+under_one m n i [] new d lines at within is added = absurd (omega arith)
+under_one m n zero (v ∷ vs) new d lines at within is added =
+    let here : filter (λ (k : Message). k.packet == n) (m ∷ []) ≡ m ∷ [] = rw (same_number m.packet n (omega (arith, at))) refl in
+    let lines_are = subst (AreMessageLines (m ∷ [])) (append-nil (message_heading m.piece ++ lines)) (one_more lines [] is no_more) in (
+      (message_heading m.piece ++ lines, subst (λ (l : List Message). AreMessageLines l (message_heading m.piece ++ lines)) (sym here) lines_are, added),
+      under_later m (n + 1) vs (omega (arith, at)),
+    )
+under_one m n (suc i) (v ∷ vs) new d lines at within is added =
+    let none : filter (λ (k : Message). k.packet == n) (m ∷ []) ≡ [] = rw (apart_number m.packet n (λ e. omega (arith, e, at))) refl in (
+      ([], subst (λ (l : List Message). AreMessageLines l []) (sym none) no_more, sym (append-nil v.items)),
+      under_one m (n + 1) i vs new d lines (omega (arith, at)) (omega (arith, within)) is added,
+    )

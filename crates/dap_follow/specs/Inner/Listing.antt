@@ -1,0 +1,61 @@
+-- What the program lists of a stream.
+use Rattle.std.specs.Prelude.{◌≡◌, ◌==◌, ◌+◌, ◌/◌, ⊤, ℕ, List, [], ◌∷◌, ◌++◌, length, map, if◌then◌else◌}
+use Rattle.std.specs.List.{AllByRecursion, filter, flat_map}
+use Rattle.std.specs.Global.{Vec}
+use Rattle.dap_text.specs.Adding.{Adds}
+use Rattle.dap_listing.specs.Captured.{Spell}
+use Rattle.dap_listing.specs.Messages.{IsMessagesText}
+use Rattle.dap_follow.specs.Streams.{Placed}
+use Rattle.dap_follow.specs.Joined.{Message, Piece, is_message, messages, payload, pieces, segments}
+use Rattle.dap_follow.specs.Following.{AreMessageLines, message_heading, part_line, rest_lines}
+use Rattle.dap_follow.specs.Inner.Placing.{counted_value}
+use Rattle.dap_follow.specs.declared.places.Counted.{Counted}
+use Rattle.dap_follow.specs.declared.streams.Stream.{Stream}
+
+abbrev pub values : List Counted → List Placed
+values cs = map counted_value cs
+
+-- the digits of the payloads, one behind the other
+abbrev pub digits_of : List Counted → List ℕ
+digits_of cs = flat_map (λ c. c.payload.now) cs
+
+-- the segments of a piece
+abbrev pub IsPiece : Piece → List Counted → Type 0
+IsPiece p cs = segments p ≡ values cs
+
+-- the first piece of segments, and the others
+pub record IsCutOff (all piece others : List Counted) : Type 0 where
+  pub first : Piece
+  pub is : IsPiece first piece
+  pub joined : all ≡ piece ++ others
+  pub cut : pieces (values all) ≡ first ∷ pieces (values others)
+
+-- the lines of a message of this piece
+abbrev pub IsMessageText : Piece → List ℕ → Type 0
+IsMessageText p text = (lines : List ℕ) × IsMessagesText (payload p) lines × (text ≡ message_heading p ++ lines)
+
+-- The lines of messages were added, to each text those of the messages of its number.
+abbrev pub UnderAll : List Message → ℕ → List (Vec ℕ) → List (Vec ℕ) → Type 0
+UnderAll all number [] [] = ⊤
+UnderAll all number (old ∷ olds) (new ∷ news) =
+    ((text : List ℕ) × AreMessageLines (filter (λ m. m.packet == number) all) text × (new.items ≡ old.items ++ text)) × UnderAll all (number + 1) olds news
+UnderAll all number [] (new ∷ news) = ⊥
+UnderAll all number (old ∷ olds) [] = ⊥
+
+-- each payload's digits are hex digits
+abbrev pub AreSpelled : List Counted → Type 0
+AreSpelled cs = AllByRecursion (λ c. Spell c.payload.now (length c.payload.now / 2)) cs
+
+-- the message that a piece is, if it is one
+abbrev pub message_at : ℕ → Piece → List Message
+message_at packet p = if is_message p then record { packet = packet; piece = p } ∷ [] else []
+
+-- what is listed of a piece was added: its message under a packet, or a part
+pub record ListsPiece (stream : Stream) (packet : ℕ) (p : Piece) (olds news : List (Vec ℕ)) (old new : Vec ℕ) : Type 0 where
+  pub under : UnderAll (message_at packet p) 1 olds news
+  pub rest : Adds old new (part_line stream p)
+
+-- what is listed of a stream was added
+pub record ListsStream (stream : Stream) (ordered : List Placed) (olds news : List (Vec ℕ)) (old new : Vec ℕ) : Type 0 where
+  pub under : UnderAll (messages ordered) 1 olds news
+  pub rest : Adds old new (rest_lines stream (pieces ordered))
