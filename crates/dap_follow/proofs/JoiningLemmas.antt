@@ -1,21 +1,24 @@
 -- The pieces of segments in order.
-use Rattle.std.proofs.Common.{◌≡◌, ◌==◌, ◌<◌, ◌≤◌, ◌+◌, ◌-◌, ◌*◌, ◌/◌, ◌⊎◌, ◌++◌, ◌&&◌, ℕ, zero, suc, Bool, true, false, cond, List, [], ◌∷◌, length, take, drop, get_or, map, max, add-one, refl, sym, ap, ◌∙◌, subst, arith, inl, inr, ⊎_elim}
+use Rattle.std.proofs.Common.{◌≡◌, ◌==◌, ◌<◌, ◌≤◌, ◌+◌, ◌-◌, ◌*◌, ◌/◌, ◌⊎◌, ◌++◌, ◌&&◌, ℕ, zero, suc, Bool, true, false, cond, List, [], ◌∷◌, length, take, drop, get_or, map, max, add-one, Some, None, refl, sym, ap, ◌∙◌, subst, arith, inl, inr, ⊎_elim}
 use Rattle.std.specs.Global.{Vec}
-use Rattle.std.specs.Prelude.{slice_set}
+use Rattle.std.specs.Prelude.{codes, if◌then◌else◌, nat_lt, slice_get, slice_set}
+use Rattle.dap_text.specs.Text.{line_feed}
 use Rattle.std.specs.List.{AllByRecursion, filter, flat_map}
 use Rattle.std.proofs.lemmas.Bool.Decides.{nat_tests}
 use Rattle.std.proofs.lemmas.List.Elements.{filter-append}
 use Rattle.std.proofs.lemmas.Bool.{cases_Bool, false≢true}
 use Rattle.std.proofs.lemmas.List.{append-nil, append_assoc, map-append, take-append-drop}
+use Rattle.dap_text.specs.Adding.{Adds, AddsSome}
 use Rattle.dap_listing.specs.Captured.{Spell, bytes_of}
 use Rattle.dap_listing.proofs.ForCallers.{bytes-append, count_of, spell-append}
 use Rattle.dap_follow.specs.Streams.{Placed}
 use Rattle.dap_listing.specs.Messages.{IsMessagesText}
-use Rattle.dap_follow.specs.Following.{AreMessageLines, message_heading, no_more, one_more}
-use Rattle.dap_follow.specs.Joined.{Message, Piece, end_of, joins, latest, payload, pieces, segments, tail, with_segment}
-use Rattle.dap_follow.specs.Inner.Listing.{AreSpelled, IsCutOff, IsPiece, UnderAll, digits_of, values}
+use Rattle.dap_follow.specs.Following.{AreMessageLines, gap_line, message_heading, no_more, one_more, part_line, part_text, range_text, rest_lines, stream_text}
+use Rattle.dap_follow.specs.Joined.{Message, Piece, end_of, is_message, joins, latest, payload, pieces, segments, tail, with_segment}
+use Rattle.dap_follow.specs.Inner.Listing.{AreSpelled, IsCutOff, IsMessageText, IsPiece, ListsPiece, ListsStream, UnderAll, digits_of, message_at, values}
 use Rattle.dap_follow.specs.Inner.Placing.{counted_value}
 use Rattle.dap_follow.specs.declared.places.Counted.{Counted}
+use Rattle.dap_follow.specs.declared.streams.Stream.{Stream}
 
 -- ---- the segments of a piece
 
@@ -204,3 +207,76 @@ under_one m n (suc i) (v ∷ vs) new d lines at within is added =
       ([], subst (λ (l : List Message). AreMessageLines l []) (sym none) no_more, sym (append-nil v.items)),
       under_one m (n + 1) i vs new d lines (omega (arith, at)) (omega (arith, within)) is added,
     )
+
+-- ---- what is listed of a piece
+
+pub marks : (p : Piece) (first last : Bool) → p.head.first ≡ first → (tail p).last ≡ last → is_message p ≡ (first && last)
+marks p first last one two = ap (λ (b : Bool). b && (tail p).last) one ∙ ap (λ (b : Bool). first && b) two
+
+pub lists_message : (stream : Stream) (packet : ℕ) (p : Piece) (lines : List (Vec ℕ)) (rest new d : Vec ℕ) → is_message p ≡ true → 0 < packet → packet ≤ length lines
+    → AddsSome (get_or lines (packet - 1) d) new (IsMessageText p) → ListsPiece stream packet p lines (slice_set lines (packet - 1) new) rest rest
+lists_message stream packet p lines rest new d message some within added =
+    let m : Message = record { packet = packet; piece = p } in
+    let one : message_at packet p ≡ m ∷ [] = rw message refl in
+    let none : part_line stream p ≡ [] = rw message refl in
+    let text = added.1 in
+    let items : new.items ≡ (get_or lines (packet - 1) d).items ++ (message_heading p ++ text.0) = added.2 ∙ ap (λ (l : List ℕ). (get_or lines (packet - 1) d).items ++ l) text.2 in
+    record {
+      under = subst (λ (ms : List Message). UnderAll ms 1 lines (slice_set lines (packet - 1) new)) (sym one)
+        (under_one m 1 (packet - 1) lines new d text.0 (omega (arith, some)) (omega (arith, some, within)) text.1 items);
+      rest = sym (append-nil rest.items) ∙ ap (λ (l : List ℕ). rest.items ++ l) (sym none);
+    }
+
+pub lists_part : (stream : Stream) (packet : ℕ) (p : Piece) (lines : List (Vec ℕ)) (rest new : Vec ℕ) → is_message p ≡ false
+    → Adds rest new (part_text stream p) → ListsPiece stream packet p lines lines rest new
+lists_part stream packet p lines rest new other added =
+    let none : message_at packet p ≡ [] = rw other refl in
+    let part : part_line stream p ≡ part_text stream p = rw other refl in
+    record {
+      under = subst (λ (ms : List Message). UnderAll ms 1 lines lines) (sym none) (under_none 1 lines);
+      rest = added ∙ ap (λ (l : List ℕ). rest.items ++ l) (sym part);
+    }
+
+pub cut_at_end : (cs : List Counted) (end : ℕ) → 1 ≤ end → end ≤ length cs
+    → ((k : ℕ) (d : Counted) → k + 1 < end → joins (counted_value (get_or cs k d)) (counted_value (get_or cs (k + 1) d)) ≡ true)
+    → length cs ≤ end → IsCutOff cs (take end cs) (drop end cs)
+cut_at_end [] end some within all last = absurd (omega arith)
+cut_at_end (c ∷ cs) end some within all last = cut_at (c ∷ cs) end c some within all (λ below. absurd (omega arith))
+
+-- ---- a gap behind a piece
+
+gap_text : Stream → ℕ → ℕ → List ℕ
+gap_text stream last next =
+    if nat_lt (last + 1) next then codes "gap" ++ (stream_text stream ++ (range_text (last + 1) (next - 1) ++ line_feed)) else []
+
+some_one : (a b : Counted) → Some a ≡ Some b → a ≡ b
+some_one a b e = cc
+
+no_one : (a : Counted) → Some a ≡ None → ⊥
+no_one a e = cc
+
+gap_behind : (stream : Stream) (p : Piece) (b : Placed) (bs : List Piece) → gap_line stream p (with_segment b bs) ≡ gap_text stream (tail p).place b.place
+unfolding gap_text
+gap_behind stream p b bs =
+    let begin = pieces_begin b bs in
+    ap (gap_line stream p) begin.2 ∙ ap (λ (q : Placed). gap_text stream (tail p).place q.place) begin.3
+
+gap_is : (stream : Stream) (p : Piece) (others : List Counted) (next : Counted) → Some next ≡ slice_get others 0 → gap_line stream p (pieces (values others)) ≡ gap_text stream (tail p).place next.place
+gap_is stream p [] next is = absurd (no_one next is)
+gap_is stream p (o ∷ others) next is = gap_behind stream p (counted_value o) (pieces (values others)) ∙ ap (λ (c : Counted). gap_text stream (tail p).place c.place) (sym (some_one next o is))
+
+not_beyond : (a b : ℕ) → b ≤ a + 1 → nat_lt (a + 1) b ≡ false
+not_beyond a b near = grind (arith, nat_tests)
+
+is_beyond : (a b : ℕ) → a + 1 < b → nat_lt (a + 1) b ≡ true
+is_beyond a b far = grind (arith, nat_tests)
+
+pub no_gap : (stream : Stream) (p : Piece) (others : List Counted) (next : Counted) → Some next ≡ slice_get others 0 → next.place ≤ (tail p).place + 1
+    → gap_line stream p (pieces (values others)) ≡ []
+unfolding gap_text
+no_gap stream p others next is near = gap_is stream p others next is ∙ rw (not_beyond (tail p).place next.place near) refl
+
+pub a_gap : (stream : Stream) (p : Piece) (others : List Counted) (next : Counted) → Some next ≡ slice_get others 0 → (tail p).place + 1 < next.place
+    → gap_line stream p (pieces (values others)) ≡ codes "gap" ++ (stream_text stream ++ (range_text ((tail p).place + 1) (next.place - 1) ++ line_feed))
+unfolding gap_text
+a_gap stream p others next is far = gap_is stream p others next is ∙ rw (is_beyond (tail p).place next.place far) refl

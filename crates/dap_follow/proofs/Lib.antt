@@ -3,3 +3,4 @@ pub mod NameLemmas
 pub mod KeepingLemmas
 pub mod ReadingLemmas
 pub mod JoiningLemmas
+pub mod StreamLemmas

@@ -1,5 +1,5 @@
 use Rattle.std.proofs.Common.{arith, sym, ◌∙◌}
-use Rattle.dap_follow.proofs.JoiningLemmas.{cut_at}
+use Rattle.dap_follow.proofs.JoiningLemmas.{cut_at, cut_at_end}
 use Rattle.dap_follow.proofs.joining.piece_len.Goals as goal
 
 pub returns-else-joins-clause-cut : goal.returns-else-joins-clause-cut
@@ -10,4 +10,4 @@ returns-else-joins-clause-cut c =
 pub returns-after-loop-end-clause-cut : goal.returns-after-loop-end-clause-cut
 returns-after-loop-end-clause-cut c =
     let known = c.loop-end.invariant in
-    cut_at c.args.segments.now c.loop-end.end c.args.segments.now.0 known.some known.within known.joined (λ below. absurd (omega arith))
+    cut_at_end c.args.segments.now c.loop-end.end known.some known.within known.joined (omega arith)
