@@ -81,4 +81,5 @@ def main():
     print("\n".join(make(int(sys.argv[2])).lines))
 
 
-main()
+if __name__ == "__main__":
+    main()

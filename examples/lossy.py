@@ -14,42 +14,11 @@ asked, and at the end the files. With --transcript all lines of both ends are ke
 import argparse
 import pathlib
 import random
-import subprocess
 import sys
 
-DAPLIVE = pathlib.Path(__file__).resolve().parent.parent / "daplive"
+sys.path.insert(0, str(pathlib.Path(__file__).resolve().parent.parent / "bridge"))
 
-
-class End:
-    """A live end: one line in, its answer out."""
-
-    def __init__(self, program, words):
-        self.process = subprocess.Popen(
-            [str(program), *words], stdin=subprocess.PIPE, stdout=subprocess.PIPE, text=True, bufsize=1)
-        self.waits = 0
-        self.transcript = []
-
-    def tell(self, line):
-        """The lines of the answer, without the last, which says how many packets wait."""
-        self.process.stdin.write(line + "\n")
-        self.process.stdin.flush()
-        self.transcript.append(line)
-        answer = []
-        for text in self.process.stdout:
-            text = text.rstrip("\n")
-            self.transcript.append(text)
-            if text.startswith("waits "):
-                self.waits = int(text[len("waits "):])
-                return answer
-            answer.append(text)
-        raise EOFError(f"{self.process.args} ended")
-
-    def close(self):
-        """The exit status."""
-        self.process.stdin.close()
-        status = self.process.wait()
-        self.process.stdout.close()
-        return status
+from end import DAPLIVE, End
 
 
 class Line:
@@ -81,9 +50,10 @@ class Both:
 
     OTHER = {"asking": "serving", "serving": "asking"}
 
-    def __init__(self, line, asking=(), serving=(), program=DAPLIVE):
+    def __init__(self, line, asking=(), serving=(), program=DAPLIVE, ends=None):
         self.line, self.reports = line, []
-        self.ends = {"asking": End(program, ["ask", *asking]), "serving": End(program, ["serve", *serving])}
+        self.ends = ends or {
+            "asking": End(program, ["ask", *asking], keep=True), "serving": End(program, ["serve", *serving], keep=True)}
 
     def tell(self, name, line):
         """Tells an end, and gives what it writes to the line."""

@@ -50,8 +50,23 @@ THERE, BACK = frame(1, 2), frame(2, 1)
 BOTH = [THERE, BACK]
 LINES = f"# frame 1\n> {NSP.hex()}\n# frame 2\n< {NSP.hex()}\n"
 TAKEN = "2 packets taken between 1.1 and 1.2"
+LONGER = NSP + bytes(90)
 ROUTING = ethernet(b"\x0d\x02\x00\x00")
 OTHER = bytes(12) + b"\x08\x00" + bytes(40)
+# Of each form: a frame twice, another way, another pair, cut short, longer, the first again; and what comes of them.
+FORMS = [{"form": SHORT}, {"form": LONG}, {"form": LONG, "padding": b"\x81"}, {"form": SHORT, "tags": [b"\x81\x00"]}]
+ALIKE = [
+    one
+    for how in FORMS
+    for there in [frame(1, 2, **how)]
+    for one in (
+        there, there, frame(2, 1, **how), frame(1, 3, **how), there[:-1], frame(1, 2, LONGER, **how), there,
+    )
+]
+ALIKE_WAYS = [
+    f"> {NSP.hex()}\n", f"> {NSP.hex()}\n", f"< {NSP.hex()}\n", "", "", f"> {LONGER.hex()}\n", f"> {NSP.hex()}\n",
+] * len(FORMS)
+MANY = "".join(f"# frame {number}\n{'>' if number % 2 else '<'} {NSP.hex()}\n" for number in range(1, 1201))
 # the name of a kind, its file, the words behind it, the lines and what is told
 KINDS = [
     ("lower byte first", pcap(BOTH), [], LINES, TAKEN),
@@ -77,6 +92,14 @@ KINDS = [
         LINES.replace("frame 2", "frame 4").replace("frame 1", "frame 3"),
         TAKEN + "; 1 frames of another kind; 1 routing messages",
     ),
+    (
+        "frames alike, of every form",
+        pcap(ALIKE),
+        [],
+        "".join(f"# frame {number}\n{way}" for number, way in enumerate(ALIKE_WAYS, 1) if way),
+        "20 packets taken between 1.1 and 1.2; 4 packets cut short; 4 packets between 1.1 and 1.3",
+    ),
+    ("more lines than are written at once", pcap(BOTH * 600), [], MANY, "1200" + TAKEN[1:]),
     ("no DECnet at all", pcap([OTHER]), [], "", "0 packets taken; 1 frames of another kind"),
     ("no frame", pcap([]), [], "", "0 packets taken"),
     ("a frame cut short", pcap([THERE, BACK, THERE[:-1]]), [], LINES, TAKEN + "; 1 packets cut short"),
@@ -109,12 +132,18 @@ KINDS = [
         "2 packets taken between 1.2 and 1.1; 1 packets between 1.7 and 1.8",
     ),
 ]
-# what is refused: the file, the words and the line
+# what is refused: the file, the words, the lines before the fault and what is told
 REFUSED = [
-    (b"", [], "-: no capture of Ethernet frames: it is neither pcap nor pcapng"),
-    (b"# a text\n", [], "-: no capture of Ethernet frames: it is neither pcap nor pcapng"),
-    (pcap(BOTH, link=113), [], "-: no capture of Ethernet frames: its frames are not those of Ethernet"),
-    (pcap(BOTH), ["1.2", "64.1"], "pcap_to_capture.py: 64.1 is no DECnet address, as 1.10"),
+    (b"", [], "", "-: no capture of Ethernet frames: it is neither pcap nor pcapng"),
+    (b"# a text\n", [], "", "-: no capture of Ethernet frames: it is neither pcap nor pcapng"),
+    (pcap(BOTH, link=113), [], "", "-: no capture of Ethernet frames: its frames are not those of Ethernet"),
+    (pcap(BOTH), ["1.2", "64.1"], "", "pcap_to_capture.py: 64.1 is no DECnet address, as 1.10"),
+    (
+        pcapng([1], [(0, THERE), (0, BACK)]) + bytes(12),
+        [],
+        LINES,
+        "-: no capture of Ethernet frames: a block of it has no such length",
+    ),
 ]
 
 
@@ -128,10 +157,10 @@ def main():
         done = run(file, words)
         if (done.returncode, done.stdout.decode(), done.stderr.decode()) != (0, lines, told + "\n"):
             wrong.append(f"{name}: {done}")
-    for file, words, line in REFUSED:
+    for file, words, lines, told in REFUSED:
         done = run(file, words)
-        if (done.returncode, done.stdout, done.stderr.decode()) != (1, b"", line + "\n"):
-            wrong.append(f"{line}: {done}")
+        if (done.returncode, done.stdout.decode(), done.stderr.decode()) != (1, lines, told + "\n"):
+            wrong.append(f"{told}: {done}")
     for line in wrong:
         print(f"examples: pcap_to_capture.py: {line}", file=sys.stderr)
     return 1 if wrong else 0

@@ -20,6 +20,8 @@ import sys
 DECNET = b"\x60\x03"
 TAGS = (b"\x81\x00", b"\x88\xa8", b"\x91\x00")  # 802.1Q, 802.1ad, and the tag that came before it
 ETHERNET = 1  # the link type of a capture file
+STATIONS = 12  # so many bytes of a frame are the addresses of its stations
+AT_ONCE = 512  # so many lines are written at once
 
 
 class BadFile(Exception):
@@ -81,33 +83,34 @@ def frames(data):
 
 
 def read_frame(frame):
-    """What a frame is: its kind, and of a data packet the source, the destination and the NSP packet."""
-    at = 12
+    """What a frame is: its kind, and of a data packet the source, the destination, and where the NSP packet begins and
+    ends. What lies before the packet tells all of it, but for how long the frame is."""
+    at = STATIONS
     while frame[at : at + 2] in TAGS:
         at += 4
     if frame[at : at + 2] != DECNET:
-        return ("frames of another kind", None, None, None)
+        return ("frames of another kind", None, None, 0, 0)
     length = int.from_bytes(frame[at + 2 : at + 4], "little")
     at += 4
     end = at + length
     if len(frame) < end or length == 0:
-        return ("packets cut short", None, None, None)
+        return ("packets cut short", None, None, 0, 0)
     if frame[at] & 0x80:  # padding, this byte with it
         at += frame[at] & 0x7F
         if at >= end:
-            return ("packets cut short", None, None, None)
+            return ("packets cut short", None, None, 0, 0)
     if frame[at] & 0x01:
-        return ("routing messages", None, None, None)
+        return ("routing messages", None, None, 0, 0)
     form = frame[at] & 0x07
     if form == 0x06:  # long: area, subarea and six bytes of each end, and four bytes more
         destination, source, at = frame[at + 7 : at + 9], frame[at + 15 : at + 17], at + 21
     elif form == 0x02:  # short: two bytes of each end, and one more
         destination, source, at = frame[at + 1 : at + 3], frame[at + 3 : at + 5], at + 6
     else:
-        return ("routing messages", None, None, None)
+        return ("routing messages", None, None, 0, 0)
     if at >= end:
-        return ("packets cut short", None, None, None)
-    return (None, source, destination, frame[at:end])
+        return ("packets cut short", None, None, 0, 0)
+    return (None, source, destination, at, end)
 
 
 def address(text):
@@ -126,24 +129,46 @@ def spelled(source):
 
 def lines(data, pair, passed, pairs):
     """The lines of the capture; what is passed over is counted, by its kind and by its pair of addresses."""
+    met, begin = {}, STATIONS  # by what lies before a packet that was taken: its way, and where it ends
     for number, frame in enumerate(frames(data), 1):
         if frame is None:
             passed["frame at the end, which the file cuts short"] += 1
             continue
-        kind, source, destination, packet = read_frame(frame)
-        if kind:
-            passed[kind] += 1
-            continue
-        if not pair:
-            pair += (source, destination)
-        if source == pair[0] and destination == pair[1]:
-            way = ">"
-        elif source == pair[1] and destination == pair[0]:
-            way = "<"
-        else:
-            pairs[frozenset((source, destination))] += 1
-            continue
-        yield f"# frame {number}\n{way} {packet.hex()}\n"
+        # Most packets lie behind what is met already, and begin where the one before them did.
+        way, end = met.get(frame[STATIONS:begin], (None, 0))
+        if way is None or end > len(frame):
+            kind, source, destination, start, end = read_frame(frame)
+            if kind:
+                passed[kind] += 1
+                continue
+            if not pair:
+                pair += (source, destination)
+            if source == pair[0] and destination == pair[1]:
+                way = ">"
+            elif source == pair[1] and destination == pair[0]:
+                way = "<"
+            else:
+                pairs[frozenset((source, destination))] += 1
+                continue
+            begin = start
+            met[frame[STATIONS:begin]] = (way, end)
+        yield f"# frame {number}\n{way} {frame[begin:end].hex()}\n"
+
+
+def write_all(made):
+    """Writes lines as they are made, also where a fault ends them; how many there were."""
+    some, count = [], 0
+    try:
+        for line in made:
+            some.append(line)
+            if len(some) == AT_ONCE:
+                text, some = "".join(some), []
+                sys.stdout.write(text)
+                count += AT_ONCE
+    finally:
+        sys.stdout.write("".join(some))
+        sys.stdout.flush()
+    return count + len(some)
 
 
 def main():
@@ -154,14 +179,11 @@ def main():
     if len(words) not in (1, 3):
         sys.exit(__doc__)
     pair = [address(word) for word in words[1:]]
-    passed, pairs, taken = collections.Counter(), collections.Counter(), 0
+    passed, pairs = collections.Counter(), collections.Counter()
     try:
         with (sys.stdin.buffer if words[0] == "-" else open(words[0], "rb")) as file:
             data = file.read()
-        for line in lines(data, pair, passed, pairs):
-            sys.stdout.write(line)
-            taken += 1
-        sys.stdout.flush()
+        taken = write_all(lines(data, pair, passed, pairs))
     except (BadFile, struct.error) as fault:
         sys.exit(f"{words[0]}: no capture of Ethernet frames: {fault}")
     except BrokenPipeError:

@@ -1,21 +1,21 @@
 -- The pieces of segments in order.
-use Rattle.std.proofs.Common.{◌≡◌, ◌==◌, ◌<◌, ◌≤◌, ◌+◌, ◌-◌, ◌*◌, ◌/◌, ◌⊎◌, ◌++◌, ◌&&◌, ℕ, zero, suc, Bool, true, false, cond, List, [], ◌∷◌, length, take, drop, get_or, map, max, add-one, Some, None, refl, sym, ap, ◌∙◌, subst, arith, inl, inr, ⊎_elim}
+use Rattle.std.proofs.Common.{◌≡◌, ◌==◌, ◌<◌, ◌≤◌, ◌+◌, ◌-◌, ◌/◌, ◌++◌, ◌&&◌, ℕ, zero, suc, Bool, true, false, List, [], ◌∷◌, length, take, drop, get_or, max, add-one, Some, None, refl, sym, ap, ◌∙◌, subst, arith, ⊎_elim}
 use Rattle.std.specs.Global.{Vec}
 use Rattle.std.specs.Prelude.{codes, if◌then◌else◌, nat_lt, slice_get, slice_set}
 use Rattle.dap_text.specs.Text.{line_feed}
-use Rattle.std.specs.List.{AllByRecursion, filter, flat_map}
+use Rattle.std.specs.List.{filter, flat_map}
 use Rattle.std.proofs.lemmas.Bool.Decides.{nat_tests}
 use Rattle.std.proofs.lemmas.List.Elements.{filter-append}
-use Rattle.std.proofs.lemmas.Bool.{cases_Bool, false≢true}
+use Rattle.std.proofs.lemmas.Bool.{cases_Bool}
 use Rattle.std.proofs.lemmas.List.{append-nil, append_assoc, map-append, take-append-drop}
 use Rattle.dap_text.specs.Adding.{Adds, AddsSome}
 use Rattle.dap_listing.specs.Captured.{Spell, bytes_of}
 use Rattle.dap_listing.proofs.ForCallers.{bytes-append, count_of, spell-append}
 use Rattle.dap_follow.specs.Streams.{Placed}
 use Rattle.dap_listing.specs.Messages.{IsMessagesText}
-use Rattle.dap_follow.specs.Following.{AreMessageLines, gap_line, message_heading, no_more, one_more, part_line, part_text, range_text, rest_lines, stream_text}
+use Rattle.dap_follow.specs.Following.{AreMessageLines, gap_line, message_heading, no_more, one_more, part_line, part_text, range_text, stream_text}
 use Rattle.dap_follow.specs.Joined.{Message, Piece, end_of, is_message, joins, latest, payload, pieces, segments, tail, with_segment}
-use Rattle.dap_follow.specs.Inner.Listing.{AreSpelled, IsCutOff, IsMessageText, IsPiece, ListsPiece, ListsStream, UnderAll, digits_of, message_at, values}
+use Rattle.dap_follow.specs.Inner.Listing.{AreSpelled, IsCutOff, IsMessageText, IsPiece, ListsPiece, UnderAll, digits_of, message_at, values}
 use Rattle.dap_follow.specs.Inner.Placing.{counted_value}
 use Rattle.dap_follow.specs.declared.places.Counted.{Counted}
 use Rattle.dap_follow.specs.declared.streams.Stream.{Stream}
@@ -223,7 +223,7 @@ lists_message stream packet p lines rest new d message some within added =
     let items : new.items ≡ (get_or lines (packet - 1) d).items ++ (message_heading p ++ text.0) = added.2 ∙ ap (λ (l : List ℕ). (get_or lines (packet - 1) d).items ++ l) text.2 in
     record {
       under = subst (λ (ms : List Message). UnderAll ms 1 lines (slice_set lines (packet - 1) new)) (sym one)
-        (under_one m 1 (packet - 1) lines new d text.0 (omega (arith, some)) (omega (arith, some, within)) text.1 items);
+          (under_one m 1 (packet - 1) lines new d text.0 (omega (arith, some)) (omega (arith, some, within)) text.1 items);
       rest = sym (append-nil rest.items) ∙ ap (λ (l : List ℕ). rest.items ++ l) (sym none);
     }
 

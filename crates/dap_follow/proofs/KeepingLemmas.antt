@@ -1,16 +1,16 @@
 -- What is kept of the streams, as packets come.
-use Rattle.std.proofs.Common.{◌≡◌, ◌<◌, ◌≤◌, ◌+◌, ◌*◌, ◌/◌, ◌^◌, ◌⊎◌, ◌++◌, ℕ, zero, suc, Bool, true, false, List, [], ◌∷◌, length, length-append, map, max, get_or, Option, Some, None, Ok, refl, sym, ap, ◌∙◌, subst, arith, inl, inr, ⊎_elim}
-use Rattle.std.specs.Prelude.{slice_get, slice_set}
+use Rattle.std.proofs.Common.{◌≡◌, ◌<◌, ◌≤◌, ◌+◌, ◌*◌, ◌/◌, ◌⊎◌, ◌++◌, ℕ, zero, suc, true, false, List, [], ◌∷◌, length, length-append, map, max, get_or, Option, Some, None, refl, sym, ap, ◌∙◌, subst, arith, inl, inr, ⊎_elim}
+use Rattle.std.specs.Prelude.{slice_set}
 use Rattle.std.specs.List.{AllByRecursion, IsDistinct, list_any}
-use Rattle.std.proofs.lemmas.Bool.{cases_Bool, false≢true, or_parts}
+use Rattle.std.proofs.lemmas.Bool.{cases_Bool, false≢true}
 use Rattle.std.proofs.lemmas.Map.Keys.{IsDistinct-head, IsDistinct-tail}
 use Rattle.indexmap.specs.IndexSet.{insert_key}
 use Rattle.dap_listing.specs.Captured.{Spell}
 use Rattle.dap_listing.specs.declared.lines.Direction.{Direction}
 use Rattle.dap_listing.specs.declared.packet.Carried.{Carried}
-use Rattle.dap_follow.specs.Streams.{ArePlaced, Came, Packet, Placed, at, came_as, came_in, is_same, no_more, put_at, stream_of, streams}
+use Rattle.dap_follow.specs.Streams.{Came, Packet, Placed, at, came_as, came_in, is_same, no_more, put_at, stream_of, streams}
 use Rattle.dap_follow.specs.Inner.Placing.{Rises, counted_value}
-use Rattle.dap_follow.specs.Inner.Keeping.{HasAt, IsAdded, IsGood, IsIndexed, Keeps, KeepsAll, KeepsEach, KeepsSome, KeepsStream, came, segment_packet, top}
+use Rattle.dap_follow.specs.Inner.Keeping.{HasAt, IsAdded, IsGood, IsIndexed, Keeps, KeepsAll, KeepsEach, KeepsStream, came, segment_packet, top}
 use Rattle.dap_follow.specs.declared.places.Counted.{Counted}
 use Rattle.dap_follow.specs.declared.places.Places.{Places}
 use Rattle.dap_follow.specs.declared.streams.Stream.{Stream}

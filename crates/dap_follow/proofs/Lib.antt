@@ -4,3 +4,4 @@ pub mod KeepingLemmas
 pub mod ReadingLemmas
 pub mod JoiningLemmas
 pub mod StreamLemmas
+pub mod WholeLemmas

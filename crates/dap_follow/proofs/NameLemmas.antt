@@ -1,7 +1,7 @@
 -- Streams that are the same.
 use mathlib.Core.Path.{fun_ext}
-use Rattle.std.proofs.Common.{◌≡◌, ◌==◌, ◌&&◌, ◌||◌, ◌++◌, ◌+◌, ℕ, Bool, true, false, not, List, [], ◌∷◌, cond, length, refl, sym, ap, ◌∙◌, subst, Option, Some, None, Ok, Err, suc, add-zero, arith, ⊎_elim}
-use Rattle.std.specs.List.{cons_option, enumerate_from, filter_map, fold, list_any}
+use Rattle.std.proofs.Common.{◌≡◌, ◌==◌, ◌&&◌, ◌||◌, ◌++◌, ◌+◌, ℕ, Bool, true, false, not, List, [], ◌∷◌, length, refl, sym, ap, ◌∙◌, subst, Option, Some, None, Ok, Err, add-zero, arith, ⊎_elim}
+use Rattle.std.specs.List.{cons_option, enumerate_from, filter_map, list_any}
 use Rattle.std.proofs.lemmas.Bool.{and_parts, cases_Bool, eqb-true, false_from_ne_true, false≢true, or_from, or_parts}
 use Rattle.std.proofs.lemmas.Bool.Decides.{nat_tests}
 use Rattle.std.proofs.lemmas.List.{append-nil}

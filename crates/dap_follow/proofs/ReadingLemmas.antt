@@ -1,16 +1,15 @@
 -- What was read of a capture, packet after packet.
-use Rattle.std.proofs.Common.{◌≡◌, ◌<◌, ◌≤◌, ◌+◌, ◌^◌, ◌++◌, ℕ, List, [], ◌∷◌, length, length-append, suc, map, Option, Some, None, Ok, Err, refl, sym, ap, ◌∙◌, subst, add-zero, arith}
+use Rattle.std.proofs.Common.{◌≡◌, ◌+◌, ◌++◌, ℕ, List, [], ◌∷◌, length, suc, map, None, Ok, refl, sym, ap, ◌∙◌, add-zero, arith}
 use Rattle.std.specs.Global.{Vec}
 use Rattle.std.proofs.lemmas.List.{map-append, length-map}
 use Rattle.hex.specs.Hex.{decode_of}
-use Rattle.nsp_seg.specs.Packets.{segment, data_ack}
 use Rattle.dap_listing.specs.Listing.{Capture, heading}
 use Rattle.dap_listing.specs.Packets.{IsSeen, Seen, seen_line}
 use Rattle.dap_listing.specs.declared.lines.Direction.{Direction}
 use Rattle.dap_follow.specs.Streams.{Packet, came_as, stream_of}
 use Rattle.dap_follow.specs.Following.{AreSeen, no_more, one_more}
-use Rattle.dap_follow.specs.Inner.Keeping.{KeepsAll, KeepsSome}
-use Rattle.dap_follow.specs.Inner.Reading.{Reads, ReadsFew, line_texts}
+use Rattle.dap_follow.specs.Inner.Keeping.{KeepsAll}
+use Rattle.dap_follow.specs.Inner.Reading.{Reads, line_texts}
 use Rattle.dap_follow.specs.declared.reading.Reading.{Reading}
 use Rattle.dap_follow.proofs.KeepingLemmas.{keeps_aside}
 

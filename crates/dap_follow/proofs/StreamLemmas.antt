@@ -1,20 +1,19 @@
 -- A stream that is listed piece after piece.
-use Rattle.std.proofs.Common.{◌≡◌, ◌==◌, ◌<◌, ◌≤◌, ◌+◌, ◌-◌, ◌/◌, ◌++◌, ℕ, zero, suc, Bool, true, false, List, [], ◌∷◌, length, length-drop, length-take, take, drop, map, max, refl, sym, ap, ◌∙◌, subst, arith, ⊎_elim}
+use Rattle.std.proofs.Common.{◌≡◌, ◌<◌, ◌≤◌, ◌+◌, ◌++◌, ℕ, true, false, List, [], ◌∷◌, length, length-drop, length-take, take, drop, map, max, refl, sym, ap, ◌∙◌, subst, arith, ⊎_elim}
 use Rattle.std.specs.Global.{Vec}
 use Rattle.std.specs.Prelude.{nat_le}
 use Rattle.std.specs.List.{AllByRecursion, filter}
 use Rattle.std.proofs.lemmas.Bool.{cases_Bool}
 use Rattle.std.proofs.lemmas.Bool.Decides.{nat_tests}
 use Rattle.std.proofs.Math.Seq.{take-add}
-use Rattle.std.proofs.lemmas.List.{append_assoc, append-nil, drop-drop, map-append, take-append-drop, take_all}
+use Rattle.std.proofs.lemmas.List.{append_assoc, drop-drop, map-append, take-append-drop}
 use Rattle.std.proofs.lemmas.List.Elements.{filter-append}
 use Rattle.dap_text.specs.Adding.{Adds}
-use Rattle.dap_listing.specs.Captured.{Spell}
 use Rattle.dap_follow.specs.Streams.{Placed}
-use Rattle.dap_follow.specs.Joined.{Message, Piece, end_of, is_message, latest, message_of, messages, pieces, segments, tail}
+use Rattle.dap_follow.specs.Joined.{Message, Piece, end_of, is_message, latest, message_of, pieces, tail}
 use Rattle.dap_follow.specs.Following.{gap_line, part_line, rest_lines}
 use Rattle.dap_follow.specs.Inner.Keeping.{IsGood}
-use Rattle.dap_follow.specs.Inner.Listing.{AreSpelled, IsCutOff, IsPiece, ListsPiece, ListsStream, UnderAll, message_at, values}
+use Rattle.dap_follow.specs.Inner.Listing.{AreSpelled, IsCutOff, IsPiece, ListsPiece, UnderAll, message_at, values}
 use Rattle.dap_follow.specs.Inner.Placing.{Rises, counted_value}
 use Rattle.dap_follow.specs.declared.places.Counted.{Counted}
 use Rattle.dap_follow.specs.declared.streams.Stream.{Stream}
@@ -110,9 +109,9 @@ one_message ordered done p packet is =
     ap (map (message_of ordered)) (filter-append is_message done (p ∷ [])) ∙ map-append (message_of ordered) (filter is_message done) (filter is_message (p ∷ [])) in
     both ∙ ap (λ (l : List Message). map (message_of ordered) (filter is_message done) ++ l)
     (⊎_elim
-      (λ (yes : is_message p ≡ true). rw yes (ap (λ (k : ℕ). record { packet = k; piece = p } ∷ []) is))
-      (λ (other : is_message p ≡ false). rw other refl)
-      (cases_Bool (is_message p)))
+    (λ (yes : is_message p ≡ true). rw yes (ap (λ (k : ℕ). record { packet = k; piece = p } ∷ []) is))
+    (λ (other : is_message p ≡ false). rw other refl)
+    (cases_Bool (is_message p)))
 
 -- ---- one piece more
 
@@ -131,7 +130,7 @@ latest_more o a n packet later is more =
 pub piece_good : (o : List Counted) (a n limit : ℕ) → AllByRecursion (IsGood limit) o → AreSpelled (take n (drop a o))
 piece_good o a n limit good =
     spelled_good limit (take n (drop a o)) (all_front (IsGood limit) (take n (drop a o)) (drop n (drop a o))
-      (all_back (IsGood limit) (take a o) (take n (drop a o) ++ drop n (drop a o)) (subst (AllByRecursion (IsGood limit)) (split_at o a n) good)))
+    (all_back (IsGood limit) (take a o) (take n (drop a o) ++ drop n (drop a o)) (subst (AllByRecursion (IsGood limit)) (split_at o a n) good)))
 
 pub packet_low : (o : List Counted) (k limit : ℕ) → AllByRecursion (IsGood limit) o → 0 < k → 0 < length o → 0 < latest (values (take k o))
 packet_low o k limit good some more =
@@ -162,12 +161,14 @@ listed_more stream o olds mids news old mid part new packet later a n rises befo
     record {
       within = omega (arith, before.within, within, length-drop a o);
       latest_is = is;
-      cut = (done ++ p ∷ [],
+      cut = (
+        done ++ p ∷ [],
         before.cut.1 ∙ ap (λ (l : List Piece). done ++ l) next ∙ sym (append_assoc done (p ∷ []) ps),
-        subst (λ (ms : List Message). UnderAll ms 1 olds news) (sym (one_message (values o) done p later packet_of)) (under_both _ (message_at later p) 1 olds mids news before.cut.2 one.under));
+        subst (λ (ms : List Message). UnderAll ms 1 olds news) (sym (one_message (values o) done p later packet_of)) (under_both _ (message_at later p) 1 olds mids news before.cut.2 one.under),
+      );
       rest =
-        ap (λ (l : List ℕ). l ++ r) (gap ∙ ap (λ (l : List ℕ). l ++ gap_line stream p ps) one.rest)
-        ∙ ap (λ (l : List ℕ). l ++ r) (append_assoc mid.items (part_line stream p) (gap_line stream p ps))
-        ∙ append_assoc mid.items (part_line stream p ++ gap_line stream p ps) r
-        ∙ ap (λ (l : List Piece). mid.items ++ rest_lines stream l) (sym next) ∙ before.rest;
+          ap (λ (l : List ℕ). l ++ r) (gap ∙ ap (λ (l : List ℕ). l ++ gap_line stream p ps) one.rest)
+          ∙ ap (λ (l : List ℕ). l ++ r) (append_assoc mid.items (part_line stream p) (gap_line stream p ps))
+          ∙ append_assoc mid.items (part_line stream p ++ gap_line stream p ps) r
+          ∙ ap (λ (l : List Piece). mid.items ++ rest_lines stream l) (sym next) ∙ before.rest;
     }

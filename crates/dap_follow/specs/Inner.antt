@@ -3,3 +3,4 @@ pub mod Placing
 pub mod Keeping
 pub mod Reading
 pub mod Listing
+pub mod Whole

@@ -1,5 +1,5 @@
 -- Pieces of a stream, and the messages among them. Own.
-use Rattle.std.specs.Prelude.{ℕ, ◌+◌, ◌==◌, ◌&&◌, not, nat_le, Bool, true, false, List, [], ◌∷◌, map, max, if◌then◌else◌}
+use Rattle.std.specs.Prelude.{ℕ, ◌+◌, ◌==◌, ◌&&◌, not, nat_le, Bool, List, [], ◌∷◌, map, max, if◌then◌else◌}
 use Rattle.std.specs.List.{filter, flat_map}
 use Rattle.dap_follow.specs.Streams.{Placed}
 

@@ -1,7 +1,10 @@
 //! The listing of a capture with the NSP messages of several segments joined. Own.
 #![tactic(auto)]
 
+mod following;
 mod joining;
 mod places;
 mod reading;
 mod streams;
+
+pub use following::follow;

@@ -1,5 +1,5 @@
 -- How the program keeps the segments of a stream in the order of their places.
-use Rattle.std.specs.Prelude.{◌≡◌, ◌<◌, ◌⊎◌, ⊤, ℕ, List, [], ◌∷◌, ◌++◌}
+use Rattle.std.specs.Prelude.{◌≡◌, ◌<◌, ◌⊎◌, ⊤, List, [], ◌∷◌, ◌++◌}
 use Rattle.std.specs.List.{AllByRecursion}
 use Rattle.dap_listing.specs.Captured.{bytes_of}
 use Rattle.dap_follow.specs.Streams.{Placed}

@@ -41,3 +41,7 @@ pub record ReadsAll (input : List ℕ) (r : Reading) : Type 0 where
 -- memory was wanting, or it is the first fault
 abbrev pub WantsOrFirst : List ℕ → CaptureFault → Type 0
 WantsOrFirst input fault = (fault ≡ NoMemory) ⊎ IsFirst (line_faults packet_limit input) fault
+
+-- it is the first fault, or memory was wanting where there is none
+abbrev pub FirstThenWants : List ℕ → CaptureFault → Type 0
+FirstThenWants input fault = ((fault ≡ NoMemory) × (line_faults packet_limit input ≡ [])) ⊎ IsFirst (line_faults packet_limit input) fault

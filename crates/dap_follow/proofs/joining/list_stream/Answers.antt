@@ -1,4 +1,4 @@
-use Rattle.std.proofs.Common.{arith, ◌≡◌, ◌≤◌, ◌<◌, ◌+◌, ◌-◌, ℕ, List, [], length, length-drop, take, drop, refl, sym, subst}
+use Rattle.std.proofs.Common.{arith, ◌≡◌, ◌<◌, ◌+◌, ◌-◌, ℕ, List, [], length, length-drop, take, drop, refl, sym, subst}
 use Rattle.std.proofs.lemmas.List.{take_all}
 use Rattle.dap_follow.specs.declared.places.Counted.{Counted}
 use Rattle.dap_follow.proofs.JoiningLemmas.{under_none}
@@ -47,4 +47,4 @@ loop-at-preserved c =
     let lists = rw size at c.in_ok-list_piece.ensures in
     let gaps = rw (size, to_end o (a + n)) at c.in_ok-push_gap.ensures in
     listed_more c.args.stream.now o c.args.lines.now c.loop-at.lines c.list_piece.new.lines c.args.rest.now c.loop-at.rest c.list_piece.new.rest c.push_gap.new.text
-      c.loop-at.latest c.latest_after-latest.result a n c.requires.rises c.loop-at.invariant len.some len.within len.cut more lists gaps
+    c.loop-at.latest c.latest_after-latest.result a n c.requires.rises c.loop-at.invariant len.some len.within len.cut more lists gaps

@@ -1,4 +1,4 @@
-use Rattle.std.proofs.Common.{arith, rules, ◌≡◌, ◌/◌, ◌++◌, ◌∷◌, [], List, length, length-append, refl, sym, ap, ◌∙◌}
+use Rattle.std.proofs.Common.{arith, rules, ◌/◌, ◌++◌, ◌∷◌, [], List, length, length-append, refl, sym, ap, ◌∙◌}
 use Rattle.std.proofs.lemmas.List.{append_assoc}
 use Rattle.dap_listing.specs.Captured.{bytes_of}
 use Rattle.dap_listing.specs.Listing.{Capture, captures, packet_limit}

@@ -1,10 +1,6 @@
-use Rattle.std.proofs.Common.{arith, ◌≡◌, ◌≤◌, ◌+◌, ◌∷◌, ◌++◌, ℕ, length, List, get_or, sym, ap, ◌∙◌, refl, subst, rules}
+use Rattle.std.proofs.Common.{arith, refl, rules}
 use Rattle.std.proofs.lemmas.Result.{on_ok_weaker}
-use Rattle.dap_follow.specs.Inner.Placing.{Rises}
-use Rattle.dap_follow.specs.Inner.Keeping.{IsAdded, KeepsAll, segment_packet}
-use Rattle.dap_follow.specs.Streams.{Packet}
-use Rattle.dap_follow.specs.declared.places.Places.{Places}
-use Rattle.dap_follow.proofs.KeepingLemmas.{Ready, keeps_streams, mid_all, mid_at, mid_done, ready_rises, stream_is}
+use Rattle.dap_follow.proofs.KeepingLemmas.{keeps_streams, mid_all, mid_at, ready_rises, stream_is}
 use Rattle.dap_follow.proofs.streams.Streams.add.Goals as goal
 
 pub index_mut-requires : goal.index_mut-requires

@@ -1,4 +1,4 @@
-use Rattle.std.proofs.Common.{◌≡◌, not, Bool, true, false, List, ◌++◌, ◌∷◌, [], sym, ◌∙◌, ap, subst, refl, inl, inr, arith}
+use Rattle.std.proofs.Common.{◌≡◌, not, Bool, true, false, sym, ◌∙◌, subst, refl, inl, inr, arith}
 use Rattle.std.specs.List.{IsDistinct, list_any}
 use Rattle.indexmap.specs.IndexSet.{insert_key}
 use Rattle.dap_follow.specs.Streams.{is_same}

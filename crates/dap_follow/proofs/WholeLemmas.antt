@@ -1,0 +1,147 @@
+-- All streams, and all lines.
+use Rattle.std.proofs.Common.{◌≡◌, ◌<◌, ◌≤◌, ◌+◌, ◌++◌, ℕ, zero, suc, List, [], ◌∷◌, length, take, drop, get_or, map, Some, None, add-one, refl, sym, ap, ◌∙◌, subst, arith}
+use Rattle.std.specs.Global.{Vec}
+use Rattle.std.specs.Prelude.{slice_get}
+use Rattle.std.specs.List.{AllByRecursion, flat_map}
+use Rattle.std.specs.List.Sorted.{IsStrictlySortedBy}
+use Rattle.std.specs.Ordering.{nat_cmp}
+use Rattle.std.specs.declared.cmp.Ordering.TheVariants.{Less}
+use Rattle.std.proofs.Math.ListN.{drop_of_length-le}
+use Rattle.std.proofs.Math.Seq.{drop-cons, take-suc}
+use Rattle.std.proofs.lemmas.Bool.Decides.{nat_tests}
+use Rattle.std.proofs.lemmas.Grind.{flat_map-append}
+use Rattle.std.proofs.lemmas.List.{append_assoc, append-nil, map-append, take_all}
+use Rattle.std.proofs.lemmas.Map.Keys.{IsStrictlyIncreasing-from_sorted}
+use Rattle.dap_listing.specs.Listing.{heading}
+use Rattle.dap_listing.specs.Packets.{seen_line}
+use Rattle.dap_follow.specs.Streams.{AreOrdered, ArePlaced, Came, IsOrdered, Packet, came_in, first_place, no_more, one_more}
+use Rattle.dap_follow.specs.Joined.{Message, messages, pieces}
+use Rattle.dap_follow.specs.Following.{ArePacketLines, all_rest_lines, rest_lines}
+use Rattle.dap_follow.specs.Following as follows
+use Rattle.dap_follow.specs.Inner.Keeping.{KeepsEach, KeepsStream}
+use Rattle.dap_follow.specs.Inner.Listing.{UnderAll, values}
+use Rattle.dap_follow.specs.Inner.Placing.{Rises}
+use Rattle.dap_follow.specs.Inner.Reading.{line_texts}
+use Rattle.dap_follow.specs.Inner.Whole.{ordered_of, texts_of}
+use Rattle.dap_follow.specs.declared.places.Counted.{Counted}
+use Rattle.dap_follow.specs.declared.places.Places.{Places}
+use Rattle.dap_follow.specs.declared.streams.Stream.{Stream}
+use Rattle.dap_follow.proofs.JoiningLemmas.{under_both}
+
+-- ---- one stream
+
+none_some : {X : Type 0} (x : X) → None ≡ Some x → ⊥
+none_some x e = cc
+
+pub kept_one : (packets : List Packet) (i : ℕ) (keys : List Stream) (places : List Places) (d : Places) → KeepsEach packets keys places → i < length places
+    → (s : Stream) × (slice_get keys i ≡ Some s) × KeepsStream packets s (get_or places i d)
+kept_one packets i [] [] d each below = absurd (omega arith)
+kept_one packets i [] (p ∷ places) d each below = absurd each
+kept_one packets i (s ∷ keys) [] d each below = absurd each
+kept_one packets zero (s ∷ keys) (p ∷ places) d each below = (s, refl, each.0)
+kept_one packets (suc i) (s ∷ keys) (p ∷ places) d each below = kept_one packets i keys places d each.1 (omega arith)
+
+drop_key : (keys : List Stream) (i : ℕ) (s : Stream) → slice_get keys i ≡ Some s → drop i keys ≡ s ∷ drop (i + 1) keys
+drop_key [] i s is = absurd (none_some s is)
+drop_key (k ∷ keys) zero s is = let same : k ≡ s = cc in ap (λ (t : Stream). t ∷ keys) same
+drop_key (k ∷ keys) (suc i) s is = rw add-one (rw add-one at (drop_key keys i s is))
+
+-- ---- one stream more
+
+pub under_more : (places : List Places) (i : ℕ) (d : Places) (olds mids news : List (Vec ℕ)) → i < length places → UnderAll (flat_map messages (ordered_of (take i places))) 1 olds mids
+    → UnderAll (messages (values (get_or places i d).ordered.items)) 1 mids news → UnderAll (flat_map messages (ordered_of (take (i + 1) places))) 1 olds news
+under_more places i d olds mids news below before one =
+    let p = get_or places i d in
+    let more : take (i + 1) places ≡ take i places ++ p ∷ [] = rw add-one (take-suc places i d below) in
+    let all : flat_map messages (ordered_of (take (i + 1) places)) ≡ flat_map messages (ordered_of (take i places)) ++ messages (values p.ordered.items) =
+    ap (λ (l : List Places). flat_map messages (ordered_of l)) more
+    ∙ ap (flat_map messages) (map-append (λ (q : Places). values q.ordered.items) (take i places) (p ∷ []))
+    ∙ flat_map-append messages (ordered_of (take i places)) (values p.ordered.items ∷ [])
+    ∙ ap (λ (l : List Message). flat_map messages (ordered_of (take i places)) ++ l) (append-nil (messages (values p.ordered.items))) in
+    subst (λ (ms : List Message). UnderAll ms 1 olds news) (sym all) (under_both _ _ 1 olds mids news before one)
+
+pub left_more : (keys : List Stream) (places : List Places) (i : ℕ) (d : Places) (s : Stream) (old new whole : List ℕ) → i < length places → slice_get keys i ≡ Some s
+    → new ≡ old ++ rest_lines s (pieces (values (get_or places i d).ordered.items))
+    → old ++ all_rest_lines (drop i keys) (ordered_of (drop i places)) ≡ whole → new ++ all_rest_lines (drop (i + 1) keys) (ordered_of (drop (i + 1) places)) ≡ whole
+left_more keys places i d s old new whole below is added before =
+    let p = get_or places i d in
+    let line = rest_lines s (pieces (values p.ordered.items)) in
+    let others = all_rest_lines (drop (i + 1) keys) (ordered_of (drop (i + 1) places)) in
+    let place : drop i places ≡ p ∷ drop (i + 1) places = rw add-one (drop-cons places i d below) in
+    let both : all_rest_lines (drop i keys) (ordered_of (drop i places)) ≡ line ++ others =
+    ap (λ (l : List Stream). all_rest_lines l (ordered_of (drop i places))) (drop_key keys i s is) ∙ ap (λ (l : List Places). all_rest_lines (s ∷ drop (i + 1) keys) (ordered_of l)) place in
+    ap (λ (l : List ℕ). l ++ others) added ∙ append_assoc old line others ∙ ap (λ (l : List ℕ). old ++ l) (sym both) ∙ before
+
+-- ---- the segments that are kept are those in order
+
+less_is : (a b : ℕ) → a < b → nat_cmp a b ≡ Less
+less_is a b below = grind (arith, nat_tests)
+
+sorted_each : (n : ℕ) (cs : List Counted) → AllByRecursion (λ c. n < c.place) cs → AllByRecursion (λ y. nat_cmp n y ≡ Less) (map (λ s. s.place) (values cs))
+sorted_each n [] above = tt
+sorted_each n (c ∷ cs) above = (less_is n c.place above.0, sorted_each n cs above.1)
+
+sorted_places : (cs : List Counted) → Rises cs → IsStrictlySortedBy nat_cmp (map (λ s. s.place) (values cs))
+unfolding IsStrictlySortedBy
+sorted_places [] rises = tt
+sorted_places (c ∷ cs) rises = (sorted_each c.place cs rises.0, sorted_places cs rises.1)
+
+is_ordered : (packets : List Packet) (s : Stream) (p : Places) → KeepsStream packets s p → IsOrdered (came_in s packets) (values p.ordered.items)
+is_ordered packets s p k = record {
+  placed = k.keeps.placed;
+  are_placed = subst (λ (l : List Came). ArePlaced (first_place l) l k.keeps.placed) (sym k.are) k.keeps.are_placed;
+  ascending = IsStrictlyIncreasing-from_sorted (map (λ s. s.place) (values p.ordered.items)) (sorted_places p.ordered.items k.keeps.rises);
+  same = k.keeps.same;
+}
+
+pub are_ordered : (packets : List Packet) (keys : List Stream) (places : List Places) → KeepsEach packets keys places → AreOrdered packets keys (ordered_of places)
+are_ordered packets [] [] each = no_more
+are_ordered packets [] (p ∷ places) each = absurd each
+are_ordered packets (s ∷ keys) [] each = absurd each
+are_ordered packets (s ∷ keys) (p ∷ places) each = one_more (is_ordered packets s p each.0) (are_ordered packets keys places each.1)
+
+-- ---- the lines of all packets
+
+cons_nil : (x : List ℕ) (xs : List (List ℕ)) → x ∷ xs ≡ [] → ⊥
+cons_nil x xs e = cc
+
+nil_cons : (x : List ℕ) (xs : List (List ℕ)) → [] ≡ x ∷ xs → ⊥
+nil_cons x xs e = cc
+
+same_parts : (a b : List ℕ) (xs ys : List (List ℕ)) → a ∷ xs ≡ b ∷ ys → (a ≡ b) × (xs ≡ ys)
+same_parts a b xs ys e = ((let first : a ≡ b = cc in first), (let rest : xs ≡ ys = cc in rest))
+
+pub packet_lines : (all : List Message) (n : ℕ) (packets : List Packet) (olds news : List (Vec ℕ)) → map (λ (v : Vec ℕ). v.items) olds ≡ line_texts n packets → UnderAll all n olds news
+    → ArePacketLines all n packets (texts_of news)
+packet_lines all n [] [] [] are under = follows.no_more
+packet_lines all n [] [] (v ∷ news) are under = absurd under
+packet_lines all n [] (o ∷ olds) news are under = absurd (cons_nil _ _ are)
+packet_lines all n (p ∷ packets) [] news are under = absurd (nil_cons _ _ are)
+packet_lines all n (p ∷ packets) (o ∷ olds) [] are under = absurd under
+packet_lines all n (p ∷ packets) (o ∷ olds) (v ∷ news) are under =
+    let parts = same_parts o.items (heading n p.0 ++ seen_line p.1) (map (λ (w : Vec ℕ). w.items) olds) (line_texts (n + 1) packets) are in
+    let here = under.0 in
+    let text : v.items ≡ heading n p.0 ++ seen_line p.1 ++ here.0 = here.2 ∙ ap (λ (l : List ℕ). l ++ here.0) parts.0 in
+    subst (λ (l : List ℕ). ArePacketLines all n (p ∷ packets) (l ++ texts_of news)) (sym text)
+    (follows.one_more here.0 (texts_of news) here.1 (packet_lines all (n + 1) packets olds news parts.1 under.1))
+
+pub key_there : (packets : List Packet) (i : ℕ) (keys : List Stream) (places : List Places) → KeepsEach packets keys places → i < length places → slice_get keys i ≡ None → ⊥
+key_there packets i [] [] each below none = absurd (omega arith)
+key_there packets i [] (p ∷ places) each below none = each
+key_there packets i (s ∷ keys) [] each below none = each
+key_there packets zero (s ∷ keys) (p ∷ places) each below none = none_some s (sym none)
+key_there packets (suc i) (s ∷ keys) (p ∷ places) each below none = key_there packets i keys places each.1 (omega arith) none
+
+no_rest : (keys : List Stream) → all_rest_lines keys [] ≡ []
+no_rest [] = refl
+no_rest (s ∷ keys) = refl
+
+-- all streams were listed
+pub left_all : (keys : List Stream) (places : List Places) (i : ℕ) (rest whole : List ℕ) → length places ≤ i → rest ++ all_rest_lines (drop i keys) (ordered_of (drop i places)) ≡ whole → rest ≡ whole
+left_all keys places i rest whole end is =
+    let none : drop i places ≡ [] = drop_of_length-le places end in
+    sym (append-nil rest) ∙ ap (λ (l : List ℕ). rest ++ l) (sym (ap (λ (l : List Places). all_rest_lines (drop i keys) (ordered_of l)) none ∙ no_rest (drop i keys))) ∙ is
+
+pub under_whole : (places : List Places) (i : ℕ) (olds news : List (Vec ℕ)) → length places ≤ i → UnderAll (flat_map messages (ordered_of (take i places))) 1 olds news
+    → UnderAll (flat_map messages (ordered_of places)) 1 olds news
+under_whole places i olds news end under = subst (λ (l : List Places). UnderAll (flat_map messages (ordered_of l)) 1 olds news) (take_all i places end) under

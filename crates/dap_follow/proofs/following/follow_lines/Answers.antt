@@ -1,0 +1,48 @@
+use Rattle.std.proofs.Common.{arith, take, drop, ◌≡◌, ◌++◌, length, ℕ, List, sym, ap, ◌∙◌, subst}
+use Rattle.std.proofs.Math.Seq.{take-append_seam}
+use Rattle.std.specs.List.{flat_map}
+use Rattle.std.specs.Global.{Vec}
+use Rattle.dap_follow.specs.Streams.{AreOrdered, streams}
+use Rattle.dap_follow.specs.Joined.{messages}
+use Rattle.dap_follow.specs.Following.{all_rest_lines}
+use Rattle.dap_follow.specs.Inner.Keeping.{KeepsEach}
+use Rattle.dap_follow.specs.Inner.Listing.{UnderAll}
+use Rattle.dap_follow.specs.Inner.Whole.{ordered_of, texts_of}
+use Rattle.dap_follow.specs.declared.streams.Stream.{Stream}
+use Rattle.dap_follow.proofs.ReadingLemmas.{count_is}
+use Rattle.dap_follow.proofs.WholeLemmas.{are_ordered, packet_lines}
+use Rattle.dap_follow.proofs.following.follow_lines.Goals as goal
+
+pub list_streams-requires : goal.list_streams-requires
+list_streams-requires c =
+    let all = c.in_ok-lines.ensures.all in
+    let count = count_is all.packets c.in_ok-lines.field-0 all.reads in
+    (all.packets, all.reads.streams, sym (ap length c.deref_mut.ensures.value ∙ count))
+
+pub returns-clause-whole : goal.returns-clause-whole
+returns-clause-whole c =
+    let all = c.in_ok-lines.ensures.all in
+    let r = c.in_ok-lines.field-0 in
+    let places = r.streams.places.items in
+    let listed = c.in_ok-rest.ensures in
+    let names : streams all.packets ≡ r.streams.names.keys = sym all.reads.streams.names in
+    let each : KeepsEach all.packets r.streams.names.keys places = subst (λ (keys : List Stream). KeepsEach all.packets keys places) names all.reads.streams.each in
+    let ordered : AreOrdered all.packets (streams all.packets) (ordered_of places) =
+    subst (λ (keys : List Stream). AreOrdered all.packets keys (ordered_of places)) (sym names) (are_ordered all.packets r.streams.names.keys places each) in
+    let under : UnderAll (flat_map messages (ordered_of places)) 1 r.lines.items c.list_streams.new.lines =
+    subst (λ (olds : List (Vec ℕ)). UnderAll (flat_map messages (ordered_of places)) 1 olds c.list_streams.new.lines) c.deref_mut.ensures.value listed.under in
+    let left : c.in_ok-rest.rest.items ≡ all_rest_lines (streams all.packets) (ordered_of places) =
+    listed.left ∙ ap (λ (keys : List Stream). all_rest_lines keys (ordered_of places)) (sym names) in
+    let news = c.list_streams.new.lines in
+    let many : r.lines.len ≡ length news = omega (arith, r.lines.ok, ap length c.deref_mut.ensures.value, c.list_streams.auto.lines) in
+    let same : c.deref.result.now ≡ news =
+    c.deref.ensures.value ∙ ap (λ (n : ℕ). take n (news ++ drop (length news) r.lines.items)) many ∙ take-append_seam news (drop (length news) r.lines.items) in
+    record {
+      packets = all.packets;
+      ordered = ordered_of places;
+      lines = texts_of c.list_streams.new.lines;
+      are_seen = all.are_seen;
+      are_ordered = ordered;
+      are_lines = packet_lines (flat_map messages (ordered_of places)) 1 all.packets r.lines.items c.list_streams.new.lines all.reads.lines under;
+      joined = c.in_ok-join.ensures ∙ ap (λ (l : List ℕ). l ++ c.deref-2.result.now) (ap texts_of same) ∙ ap (λ (l : List ℕ). texts_of c.list_streams.new.lines ++ l) (c.deref-2.ensures.value ∙ left);
+    }

@@ -1,0 +1,18 @@
+use Rattle.std.proofs.Common.{◌≡◌, ◌≤◌, ◌-◌, ◌++◌, length, take, drop}
+use Rattle.std.specs.List.{flat_map}
+use Rattle.dap_follow.specs.Joined.{messages}
+use Rattle.dap_follow.specs.Following.{all_rest_lines}
+use Rattle.dap_follow.specs.Inner.Listing.{UnderAll}
+use Rattle.dap_follow.specs.Inner.Whole.{ordered_of}
+use Rattle.dap_follow.proofs.following.list_streams.Given as goal
+
+abbrev pub invariant-loop-at : goal.invariant-loop-at
+invariant-loop-at l = record {
+  within : l.at ≤ length l.streams.places.items;
+  under : UnderAll (flat_map messages (ordered_of (take l.at l.streams.places.items))) 1 l.initial.lines l.lines;
+  left : l.rest.items ++ all_rest_lines (drop l.at l.streams.names.keys) (ordered_of (drop l.at l.streams.places.items))
+      ≡ all_rest_lines l.streams.names.keys (ordered_of l.streams.places.items);
+}
+
+abbrev pub decreases-loop-at : goal.decreases-loop-at
+decreases-loop-at l = length l.streams.places.items - l.at

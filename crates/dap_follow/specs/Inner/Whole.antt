@@ -1,0 +1,27 @@
+-- What the program lists of all streams.
+use Rattle.std.specs.Prelude.{◌≡◌, ℕ, List, length, map}
+use Rattle.std.specs.List.{flat_map}
+use Rattle.std.specs.Global.{Vec}
+use Rattle.dap_follow.specs.Streams.{Packet, Placed}
+use Rattle.dap_follow.specs.Joined.{messages}
+use Rattle.dap_follow.specs.Following.{all_rest_lines}
+use Rattle.dap_follow.specs.Inner.Keeping.{KeepsAll}
+use Rattle.dap_follow.specs.Inner.Listing.{UnderAll, values}
+use Rattle.dap_follow.specs.declared.places.Places.{Places}
+use Rattle.dap_follow.specs.declared.streams.Streams.{Streams}
+
+-- some packets of which there are so many
+abbrev pub KeepsFew : ℕ → Streams → Type 0
+KeepsFew count s = (packets : List Packet) × KeepsAll packets s × (length packets ≡ count)
+
+-- the segments of each stream, in order
+abbrev pub ordered_of : List Places → List (List Placed)
+ordered_of = map (λ p. values p.ordered.items)
+
+-- what is listed of all streams
+pub record ListsAll (s : Streams) (olds news : List (Vec ℕ)) (rest : Vec ℕ) : Type 0 where
+  pub under : UnderAll (flat_map messages (ordered_of s.places.items)) 1 olds news
+  pub left : rest.items ≡ all_rest_lines s.names.keys (ordered_of s.places.items)
+
+abbrev pub texts_of : List (Vec ℕ) → List ℕ
+texts_of lines = flat_map (λ line. line.items) lines

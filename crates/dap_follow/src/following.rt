@@ -1,0 +1,121 @@
+//! The listing of a capture with its messages joined.
+
+ghost use Rattle.std.specs.Prelude.{◌≡◌, ◌≤◌, ◌++◌, [], IfErr, IfOk, IfSome, OnOk, length};
+ghost use Rattle.dap_listing.specs.Gives.{IsFirst, KeepsUnwritten, TakesWithinLimit};
+ghost use Rattle.dap_listing.specs.Listing.{captures, line_faults, packet_limit};
+ghost use Rattle.dap_follow.specs.Following.{FollowGives, IsFollowed};
+ghost use Rattle.dap_follow.specs.Inner.Reading.{FirstThenWants, WantsOrFirst};
+ghost use Rattle.dap_follow.specs.Inner.Whole.{KeepsFew, ListsAll, texts_of};
+
+use crate::joining::{Room, list_stream};
+use crate::reading::{Reading, read_packets};
+use crate::streams::Streams;
+use dap_listing::{CaptureFault, INPUT_LIMIT, Outcome, next_packet, read_input, write_text};
+use std::alloc::{AllocError, Global};
+use std::io::{Read, Write};
+
+/// Lists all streams: messages under their packets, and the text of what is left of each.
+fn list_streams(
+    alloc: Global,
+    streams: &Streams<'_>,
+    lines: &mut [Vec<u8>],
+) -> Result<Vec<u8>, AllocError>
+    requires { KeepsFew (length lines.old) streams.now }
+    ensures { IfOk result (λ rest. ListsAll streams.now lines.old lines.new rest) }
+{
+    let mut rest = Vec::new(alloc);
+    let mut room = Room::new(alloc);
+    let mut at = 0;
+    while at < streams.places.len() {
+        let Some(stream) = streams.names.get_index(at) else {
+            unreachable!()
+        };
+        list_stream(
+            stream,
+            &streams.places[at].ordered,
+            lines,
+            &mut rest,
+            &mut room,
+        )?;
+        at += 1;
+    }
+    Ok(rest)
+}
+
+/// All lines, and the text behind them.
+fn join(alloc: Global, lines: &[Vec<u8>], rest: &[u8]) -> Result<Vec<u8>, AllocError>
+    ensures { IfOk result (λ text. text.items ≡ texts_of lines.now ++ rest.now) }
+{
+    let mut text = Vec::new(alloc);
+    for line in lines {
+        text.extend_from_slice(line)?;
+    }
+    text.extend_from_slice(rest)?;
+    Ok(text)
+}
+
+/// The listing of an input up to its first line at fault.
+fn follow_lines(alloc: Global, input: &[u8]) -> Result<Vec<u8>, CaptureFault>
+    requires { length input.now ≤ INPUT_LIMIT }
+    ensures whole { IfOk result (λ text. IsFollowed (captures packet_limit input.now) text.items) }
+    ensures clean { OnOk result (line_faults packet_limit input.now ≡ []) }
+    ensures fault { IfErr result (WantsOrFirst input.now) }
+{
+    let Reading { mut lines, streams } = read_packets(alloc, input)?;
+    let rest = list_streams(alloc, &streams, &mut lines)?;
+    Ok(join(alloc, &lines, &rest)?)
+}
+
+/// Whether no line of an input is at fault, or else the first fault.
+fn check_lines(input: &[u8]) -> Result<(), CaptureFault>
+    requires { length input.now ≤ INPUT_LIMIT }
+    ensures good { OnOk result (line_faults packet_limit input.now ≡ []) }
+    ensures fault { IfErr result (IsFirst (line_faults packet_limit input.now)) }
+{
+    let mut at = 1;
+    let mut rest = input;
+    while let Some(found) = next_packet(at, rest)? {
+        at = found.at;
+        rest = found.rest;
+    }
+    Ok(())
+}
+
+/// The listing of an input. A line at fault is told also where memory was wanting before it.
+fn follow_input(alloc: Global, input: &[u8]) -> Result<Vec<u8>, CaptureFault>
+    requires { length input.now ≤ INPUT_LIMIT }
+    ensures whole { IfOk result (λ text. IsFollowed (captures packet_limit input.now) text.items) }
+    ensures clean { OnOk result (line_faults packet_limit input.now ≡ []) }
+    ensures fault { IfErr result (FirstThenWants input.now) }
+{
+    match follow_lines(alloc, input) {
+        Err(CaptureFault::NoMemory) => {
+            check_lines(input)?;
+            Err(CaptureFault::NoMemory)
+        }
+        followed => followed,
+    }
+}
+
+/// Reads a capture of NSP packets, of at most 4,096 bytes each, to its end and writes its listing, in which the DAP
+/// messages stand under the packet with which their NSP message is whole. Own.
+///
+/// The whole input is read, and all lines are checked, before anything is written. `TooLarge`: the input has more than
+/// 16,777,216 bytes, of which no more than one is read, or the first line at fault a packet that is too long.
+/// `BadLine`: the first line at fault is no line of a capture. `ReadFailed` and `NoMemory`: nothing is written.
+/// `WriteFailed`: a front of the listing is.
+pub fn follow<R: Read, W: Write>(
+    alloc: Global,
+    reader: &mut R,
+    writer: &mut W,
+) -> Result<Outcome, CaptureFault>
+    ensures followed { IfSome (R.remaining reader.old)
+        (λ input. FollowGives input (W.contents writer.old) (W.contents writer.new) result) }
+    ensures unwritten { KeepsUnwritten result (W.contents writer.old) (W.contents writer.new) }
+    ensures taken { TakesWithinLimit (R.remaining reader.old) (R.remaining reader.new) }
+{
+    let input = read_input(alloc, reader)?;
+    let text = follow_input(alloc, &input)?;
+    write_text(text.as_slice(), writer)?;
+    Ok(Outcome::Good)
+}
