@@ -4,12 +4,12 @@ ghost use Rattle.std.specs.Io.KnownBytes.{Keeps};
 ghost use Rattle.clap.specs.Words.{FailsBy, kind_of, fault_of};
 ghost use Rattle.dap_cli.specs.declared.run.Choice.{Choice};
 ghost use Rattle.dap_cli.specs.Inner.CommandLine.{HasOneMore, IsCommandLine};
-ghost use Rattle.dap_cli.specs.Run.{AreMistakes, Chooses, IsMistake, RunGives, dapnsp, status_of, word_of};
+ghost use Rattle.dap_cli.specs.Run.{AreMistakes, Chooses, IsMistake, RunGives, dapnsp, word_of};
 
 use clap::error::ErrorKind;
 use clap::{Command, Error};
 use dap_capture::schedule;
-use dap_listing::{CaptureFault, Outcome, messages, show, write_text};
+use dap_listing::{CaptureFault, finish, messages, show, write_text};
 use std::alloc::Global;
 use std::io::{Read, Write};
 
@@ -111,23 +111,6 @@ fn read_words<'a>(alloc: Global, words: &'a [String]) -> Result<Choice, Error>
         Some("msg") => Ok(Choice::Msg),
         Some("run") => Ok(Choice::Run),
         _ => unreachable!(),
-    }
-}
-
-/// The exit status of an outcome, whose fault is told in one line.
-fn finish<E: Write>(outcome: Result<Outcome, CaptureFault>, error_writer: &mut E) -> u8
-    ensures { result ≡ status_of outcome }
-{
-    match outcome {
-        Ok(Outcome::Good) => 0,
-        Ok(Outcome::Stopped) => 1,
-        Err(fault) => {
-            let _ = writeln!(error_writer, "{fault}");
-            match fault {
-                CaptureFault::BadLine(_) | CaptureFault::TooLarge => 1,
-                CaptureFault::ReadFailed | CaptureFault::WriteFailed | CaptureFault::NoMemory => 3,
-            }
-        }
     }
 }
 

@@ -3,6 +3,7 @@ use Rattle.std.specs.Prelude.{◌≡◌, ◌≢◌, OnErr, ℕ, ◌+◌, ◌<◌
 use Rattle.std.specs.Io.KnownBytes.{Appends, Consumes, Keeps}
 use Rattle.dap_listing.specs.Output.{WritesFront}
 use Rattle.dap_listing.specs.declared.fault.Outcome.{Outcome}
+use Rattle.dap_listing.specs.declared.fault.Outcome.TheVariants.{Good, Stopped}
 use Rattle.dap_listing.specs.declared.fault.CaptureFault.{CaptureFault}
 use Rattle.dap_listing.specs.declared.fault.CaptureFault.TheVariants.{BadLine, TooLarge, ReadFailed, WriteFailed, NoMemory}
 
@@ -60,3 +61,13 @@ Gives faults IsText input old new (Err WriteFailed) =
 -- A fault leaves it as it was, save one of the writer.
 abbrev pub KeepsUnwritten : Result Outcome CaptureFault → Option (List ℕ) → Option (List ℕ) → Type 0
 KeepsUnwritten result old new = OnErr result ((result ≢ Err WriteFailed) → Keeps old new)
+
+-- the exit status of an outcome
+abbrev pub status_of : Result Outcome CaptureFault → ℕ
+status_of (Ok Good) = 0
+status_of (Ok Stopped) = 1
+status_of (Err (BadLine number)) = 1
+status_of (Err TooLarge) = 1
+status_of (Err ReadFailed) = 3
+status_of (Err WriteFailed) = 3
+status_of (Err NoMemory) = 3

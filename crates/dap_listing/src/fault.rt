@@ -1,7 +1,9 @@
 //! How a run over a capture ends.
 ghost use Rattle.std.specs.Prelude.{◌≡◌};
+ghost use Rattle.dap_listing.specs.Gives.{status_of};
 
 use std::alloc::AllocError;
+use std::io::Write;
 use thiserror::Error;
 
 /// A run that came to its end (own).
@@ -40,5 +42,22 @@ impl From<AllocError> for CaptureFault {
 
     fn from(_error: AllocError) -> CaptureFault {
         CaptureFault::NoMemory
+    }
+}
+
+/// The exit status of an outcome, whose fault is told in one line. Own.
+pub fn finish<E: Write>(outcome: Result<Outcome, CaptureFault>, error_writer: &mut E) -> u8
+    ensures { result ≡ status_of outcome }
+{
+    match outcome {
+        Ok(Outcome::Good) => 0,
+        Ok(Outcome::Stopped) => 1,
+        Err(fault) => {
+            let _ = writeln!(error_writer, "{fault}");
+            match fault {
+                CaptureFault::BadLine(_) | CaptureFault::TooLarge => 1,
+                CaptureFault::ReadFailed | CaptureFault::WriteFailed | CaptureFault::NoMemory => 3,
+            }
+        }
     }
 }

@@ -17,7 +17,7 @@ mod text;
 
 pub use captures::{Found, PACKET_LIMIT, arrow, next_packet, push_heading};
 pub use commands::{messages, show};
-pub use fault::{CaptureFault, Outcome};
+pub use fault::{CaptureFault, Outcome, finish};
 pub use input::{INPUT_LIMIT, read_input};
 pub use laws::listings_are_one;
 pub use lines::{Direction, next_line};

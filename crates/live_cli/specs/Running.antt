@@ -1,7 +1,11 @@
 -- What the program answers to an input, and its exit status.
-use Rattle.std.specs.Prelude.{◌≡◌, ◌⊎◌, ℕ, Bool, true, false, List, [], Option}
+use Rattle.std.specs.Prelude.{◌≡◌, ◌≤◌, ◌⊎◌, ℕ, Bool, true, false, List, [], Option, Result}
 use Rattle.std.specs.Io.KnownBytes.{Appends, Keeps}
 use Rattle.nsp_link.specs.declared.link.LinkSetup.{LinkSetup}
+use Rattle.dap_follow.specs.Following.{FollowGives}
+use Rattle.dap_listing.specs.Gives as listing
+use Rattle.dap_listing.specs.declared.fault.CaptureFault.{CaptureFault}
+use Rattle.dap_listing.specs.declared.fault.Outcome.{Outcome}
 use Rattle.dap_end.specs.Ports.{new_port}
 use Rattle.dap_end.specs.Serving.{IsAfter, nothing_yet}
 use Rattle.dap_end.specs.Asking.{HasAsked, nothing_asked}
@@ -14,6 +18,9 @@ use Rattle.dap_live.specs.Asking as asking
 use Rattle.live_cli.specs.declared.words.Options.{Options}
 use Rattle.live_cli.specs.declared.words.Role.{Role}
 use Rattle.live_cli.specs.declared.words.Role.TheVariants.{Serve, Ask}
+use Rattle.live_cli.specs.declared.words.Task.{Task}
+use Rattle.live_cli.specs.declared.words.Task.TheVariants.{End, Follow}
+use Rattle.dap_msg.specs.Exchange.{least_buffer}
 
 -- how the link is set up
 abbrev pub setup_of : Options → LinkSetup
@@ -72,3 +79,18 @@ GivesAs Ask o input written holds status =
 -- what an end that is set up so answers
 abbrev pub RunGives : Options → List ℕ → (written holds : Option (List ℕ)) → ℕ → Type 0
 RunGives o input written holds status = GivesAs o.role o input written holds status ⊎ IsSilent written holds status
+
+-- what the listing of a capture answers, and its exit status
+abbrev pub ListingGives : List ℕ → (written holds : Option (List ℕ)) → ℕ → Type 0
+ListingGives input written holds status =
+    (outcome : Result Outcome CaptureFault) × FollowGives input written holds outcome × (status ≡ listing.status_of outcome)
+
+-- what the program answers
+abbrev pub TaskGives : Task → List ℕ → (written holds : Option (List ℕ)) → ℕ → Type 0
+TaskGives (End options) = RunGives options
+TaskGives Follow = ListingGives
+
+-- an end's buffer has room for any message of a fixed length
+abbrev pub HasRoom : Task → Type 0
+HasRoom (End options) = least_buffer ≤ options.buffer
+HasRoom Follow = Unit {0}

@@ -3,13 +3,15 @@
 ghost use Rattle.std.specs.Prelude.{◌≡◌, ◌≤◌, ◌⊎◌, ℕ, List, IfSome};
 ghost use Rattle.std.specs.Io.KnownBytes.{Keeps};
 ghost use Rattle.dap_msg.specs.Exchange.{least_buffer};
-ghost use Rattle.live_cli.specs.declared.words.Options.{Options as TheOptions};
+ghost use Rattle.live_cli.specs.declared.words.Task.{Task as TheTask};
 ghost use Rattle.live_cli.specs.declared.words.Role.TheVariants as role;
-ghost use Rattle.live_cli.specs.Running.{AnswersAll, GivesAs, RunGives, IsSilent, setup_of, status_of};
+ghost use Rattle.live_cli.specs.Running.{AnswersAll, GivesAs, RunGives, IsSilent, TaskGives, setup_of, status_of};
 
-use crate::words::{Options, Role, read_words};
+use crate::words::{Options, Role, Task, read_words};
 use clap::Error;
 use clap::error::ErrorKind;
+use dap_follow::follow;
+use dap_listing::finish;
 use dap_live::{Asking, Serving};
 use linewise::{Answers, TalkFault, talk};
 use nsp_link::{LARGEST_LIMIT, LinkFault, LinkSetup};
@@ -157,11 +159,12 @@ fn refuse<W: Write, E: Write>(
     }
 }
 
-/// Runs the end that the words name, the program's name first, and answers the exit status. Own.
+/// Does what the words name, the program's name first, and answers the exit status. Own.
 ///
-/// 0: the input ended, or help was asked for and written. 1: the input ended, and some line was none of the end's. 2: the
-/// words name no end. 3: the reader or the writer failed, or memory was refused before the first line. Nothing is read
-/// where the words name no end or ask for help. What is wrong is told to the error writer, whose failure changes nothing.
+/// 0: the input ended, or help was asked for and written. 1: the input ended, and some line was none of the end's; of a
+/// capture, that some line is at fault, or too large, which is told. 2: the words name nothing. 3: the reader or the writer
+/// failed, or memory was refused; of an end, before the first line. Nothing is read where the words name nothing or ask for
+/// help. What is wrong is told to the error writer, whose failure changes nothing.
 pub fn run_words<R: BufRead, W: Write, E: Write>(
     alloc: Global,
     words: &[String],
@@ -169,12 +172,13 @@ pub fn run_words<R: BufRead, W: Write, E: Write>(
     writer: &mut W,
     error_writer: &mut E,
 ) -> u8
-    ensures { ((options : TheOptions) × IfSome (R.remaining reader.old) (λ input. RunGives options
+    ensures { ((task : TheTask) × IfSome (R.remaining reader.old) (λ input. TaskGives task
         input (W.contents writer.old) (W.contents writer.new) result))
         ⊎ (R.remaining reader.new ≡ R.remaining reader.old) }
 {
     match read_words(alloc, words) {
-        Ok(Some(options)) => run_options(alloc, options, reader, writer, error_writer),
+        Ok(Some(Task::End(options))) => run_options(alloc, options, reader, writer, error_writer),
+        Ok(Some(Task::Follow)) => finish(follow(alloc, reader, writer), error_writer),
         Ok(None) => {
             let _ = writeln!(error_writer, "an address is four hex digits");
             2

@@ -1,18 +1,17 @@
 //! What the words say.
 
-ghost use Rattle.std.specs.Prelude.{◌≡◌, ◌≤◌, IfOk, IfSome};
+ghost use Rattle.std.specs.Prelude.{◌≤◌, IfOk, IfSome};
 ghost use Rattle.dap_msg.specs.Exchange.{least_buffer};
+ghost use Rattle.live_cli.specs.Running.{HasRoom};
 
-use clap::{Arg, ArgAction, ArgMatches, Command, Error, value_parser};
+use clap::{Arg, ArgMatches, Command, Error, value_parser};
 use dap_msg::{GREATEST_MESSAGE, LEAST_BUFFER};
 use nsp_link::{LARGEST_SEGMENT, LARGEST_WINDOW};
 use std::alloc::Global;
 
-static ROLES: [&str; 2] = ["serve", "ask"];
-
 const ABOUT: &str =
     "One end of a DECnet file access, over lines of standard input and output: whoever carries the \
-lines has the network and the timers.";
+lines has the network and the timers. And a listing of captured lines with their messages joined.";
 
 const LINES: &str =
     "Each line is answered before the next is read, and its answer ends with 'waits N': so many packets \
@@ -35,10 +34,38 @@ Example: echo 'ask hello' | ./daplive ask
   < 60020201010080010001020a00040703050600000000
   waits 1";
 
-/// The end's own address and the other's, where they aren't said: those of the end that serves.
-const SERVING: (u16, u16) = (0x0202, 0x0101);
+const FOLLOW: &str = "\
+Reads lines of > or <, for the way that a packet went, a space, and its bytes in hex, at most 4,096.
+Empty lines, and lines that begin with #, are skipped. The messages of a link stand behind 'message', under the packet
+with which they are whole; what is missing, and what is left over, stands behind 'gap' and 'part' at the end.
 
-fn number<'a>(
+Example: echo '> 600201040305800100060200' | ./daplive follow
+
+README.md explains each word of a listing.";
+
+/// What help says of an end, and the addresses that are usual for it.
+struct Usual {
+    name: &'static str,
+    about: &'static str,
+    local: &'static str,
+    remote: &'static str,
+}
+
+const SERVING: Usual = Usual {
+    name: "serve",
+    about: "The end that holds the files",
+    local: "0202",
+    remote: "0101",
+};
+
+const ASKING: Usual = Usual {
+    name: "ask",
+    about: "The end that asks",
+    local: "0101",
+    remote: "0202",
+};
+
+fn option<'a>(
     alloc: Global,
     name: &'static str,
     value: &'static str,
@@ -52,60 +79,67 @@ fn number<'a>(
         .default_value(usual)
 }
 
-fn address<'a>(alloc: Global, name: &'static str, help: &'static str) -> Arg<'a> {
-    Arg::new(alloc, name)
-        .long(name)
-        .value_name("HEX4")
-        .help(help)
-}
-
-fn command_line<'a>(alloc: Global) -> Result<Command<'a>, Error> {
-    let role = Arg::new(alloc, "end")
-        .required(true)
-        .action(ArgAction::Set)
-        .help("Which end: the one that holds the files, or the one that asks")
-        .value_parser(ROLES.as_slice());
-    let local = address(
+/// The command line of an end.
+fn end_command<'a>(alloc: Global, usual: &Usual) -> Result<Command<'a>, Error> {
+    let local = option(
         alloc,
         "local",
-        "This end's link address [default: 0202 of serve, 0101 of ask]",
+        "HEX4",
+        usual.local,
+        "This end's link address",
     );
-    let remote = address(
+    let remote = option(
         alloc,
         "remote",
-        "The other end's link address [default: 0101 of serve, 0202 of ask]",
+        "HEX4",
+        usual.remote,
+        "The other end's link address",
     );
-    let segment = number(
+    let segment = option(
         alloc,
         "segment",
         "BYTES",
         "512",
         "The most bytes of a segment, 1 to 1400",
     );
-    let window = number(
+    let window = option(
         alloc,
         "window",
         "COUNT",
         "8",
         "The most segments that wait for an acknowledgement, 1 to 2047",
     );
-    let buffer = number(
+    let buffer = option(
         alloc,
         "buffer",
         "BYTES",
         "1024",
         "The most bytes of a message to this end, 64 to 65535",
     );
-    let command = Command::new(alloc, "daplive")
-        .about(ABOUT)
+    let command = Command::new(alloc, usual.name)
+        .about(usual.about)
         .after_help(LINES);
-    let command = command.arg(role)?.arg(local)?.arg(remote)?;
+    let command = command.arg(local)?.arg(remote)?;
     let segments = value_parser!(u16).range(1..=LARGEST_SEGMENT as i64);
     let windows = value_parser!(u16).range(1..=LARGEST_WINDOW as i64);
     let buffers = value_parser!(u16).range(LEAST_BUFFER as i64..=GREATEST_MESSAGE as i64);
     let command = command.arg(segment.value_parser(segments))?;
     let command = command.arg(window.value_parser(windows))?;
     let command = command.arg(buffer.value_parser(buffers))?;
+    Ok(command)
+}
+
+fn command_line<'a>(alloc: Global) -> Result<Command<'a>, Error> {
+    let follow = Command::new(alloc, "follow")
+        .about("Lists captured NSP packets with the DAP messages of each link joined")
+        .after_help(FOLLOW);
+    let command = Command::new(alloc, "daplive")
+        .about(ABOUT)
+        .subcommand_required(true)
+        .disable_help_subcommand(true);
+    let command = command.subcommand(end_command(alloc, &SERVING)?)?;
+    let command = command.subcommand(end_command(alloc, &ASKING)?)?;
+    let command = command.subcommand(follow)?;
     Ok(command)
 }
 
@@ -128,6 +162,15 @@ pub struct Options {
     pub buffer: u16,
 }
 
+/// What the program does (own).
+#[derive(Clone, Copy, Debug, PartialEq, Eq)]
+pub enum Task {
+    /// Answers lines as an end.
+    End(Options),
+    /// Lists a capture.
+    Follow,
+}
+
 /// The number of four hex digits.
 fn address_of(text: &str) -> Option<u16> {
     if text.len() != 4 || !text.bytes().all(|byte| byte.is_ascii_hexdigit()) {
@@ -136,23 +179,12 @@ fn address_of(text: &str) -> Option<u16> {
     u16::from_str_radix(text, 16).ok()
 }
 
-fn address_or(matches: &ArgMatches<'_>, name: &str, usual: u16) -> Option<u16> {
-    match matches.get_str(name) {
-        Some(text) => address_of(text),
-        None => Some(usual),
-    }
-}
-
-/// What the words say, or `None` where an address isn't four hex digits.
-fn options_of(matches: &ArgMatches<'_>) -> Option<Options>
+/// What the words behind the end's name say, or `None` where an address isn't four hex digits.
+fn options_of(role: Role, matches: &ArgMatches<'_>) -> Option<Options>
     ensures { IfSome result (λ o. least_buffer ≤ o.buffer) }
 {
-    let (role, local, remote) = match matches.get_str("end")? {
-        "serve" => (Role::Serve, SERVING.0, SERVING.1),
-        _ => (Role::Ask, SERVING.1, SERVING.0),
-    };
-    let local = address_or(matches, "local", local)?;
-    let remote = address_or(matches, "remote", remote)?;
+    let local = address_of(matches.get_str("local")?)?;
+    let remote = address_of(matches.get_str("remote")?)?;
     let segment = matches.get_one::<u16>("segment")?;
     let window = matches.get_one::<u16>("window")?;
     let buffer = matches.get_one::<u16>("buffer")?.max(LEAST_BUFFER);
@@ -166,11 +198,25 @@ fn options_of(matches: &ArgMatches<'_>) -> Option<Options>
     })
 }
 
-/// What the words say, the program's name first, or `None` where an address isn't four hex digits.
-pub(crate) fn read_words(alloc: Global, words: &[String]) -> Result<Option<Options>, Error>
-    ensures { IfOk result (λ o. IfSome o (λ o. least_buffer ≤ o.buffer)) }
+/// What the words name, or `None` where an address isn't four hex digits.
+fn task_of(matches: &ArgMatches<'_>) -> Option<Task>
+    ensures { IfSome result HasRoom }
+{
+    let (name, matches) = matches.subcommand()?;
+    let role = match name {
+        "serve" => Role::Serve,
+        "ask" => Role::Ask,
+        _ => return Some(Task::Follow),
+    };
+    let options = options_of(role, matches)?;
+    Some(Task::End(options))
+}
+
+/// What the words name, the program's name first, or `None` where an address isn't four hex digits.
+pub(crate) fn read_words(alloc: Global, words: &[String]) -> Result<Option<Task>, Error>
+    ensures { IfOk result (λ task. IfSome task HasRoom) }
 {
     let command = command_line(alloc)?;
     let matches = command.try_get_matches_from(words)?;
-    Ok(options_of(&matches))
+    Ok(task_of(&matches))
 }
