@@ -1,3 +1,4 @@
 mod AgainLemmas
+mod LeftLemmas
 mod ReachLemmas
 mod ResultLemmas

@@ -1,5 +1,5 @@
 -- What the end that asks does by a line, and what it says.
-use Rattle.std.specs.Prelude.{◌≡◌, ◌≢◌, ◌⊎◌, ℕ, ◌++◌, Bool, true, false, List, [], ◌∷◌, codes, Result, Ok, Err, Option, Some, None}
+use Rattle.std.specs.Prelude.{◌≡◌, ◌⊎◌, ℕ, ◌++◌, Bool, true, false, not, ◌&&◌, ◌||◌, nat_lt, length, List, [], ◌∷◌, codes, Result, Ok, Err, Option, Some, None}
 use Rattle.std.specs.List.{concat}
 use Rattle.std.specs.Fmt.{decimal}
 use Rattle.nsp_link.specs.declared.link.Got.{Got}
@@ -23,7 +23,7 @@ use Rattle.dap_live.specs.declared.orders.Anew.{Anew}
 use Rattle.dap_live.specs.declared.orders.Order.{Order}
 use Rattle.dap_live.specs.declared.orders.Order.TheVariants as order
 use Rattle.dap_live.specs.Orders.{order_of, setup_anew}
-use Rattle.dap_live.specs.Sending.{SaysAck, SaysAgain, waits_of}
+use Rattle.dap_live.specs.Sending.{AllAgain, SaysAck, has_message, is_left, waits_of}
 use Rattle.dap_live.specs.declared.asking.Front.{Front}
 use Rattle.dap_live.specs.declared.asking.Front.TheVariants.{Asked}
 use Rattle.dap_live.specs.declared.asking.Front.TheVariants as front
@@ -79,6 +79,27 @@ pub record GoesOn (old : AskingValue) (before : List Report) (front : List ℕ) 
   pub says : text ≡ front ++ (reports_text new.reports.items ++ (packets_text packets ++ gone_text gone))
   pub ends : became ≡ gone_became gone
 
+-- The end would do something by going on, memory aside. What came is read before what waits is handed over, and an end that
+-- an unexpected answer failed does nothing more.
+abbrev pub goes_on : AskingValue → Bool
+goes_on end = not end.accessing.failed && (has_message end.port.link || is_left end.port.link end.port.outbox)
+
+-- it does, or the reports that wait are told alone
+abbrev pub GoesOnIf : (left : Bool) → AskingValue → (before : List Report) → (front : List ℕ) → Asking → List ℕ → Became → Type 0
+GoesOnIf true old before front new text became = GoesOn old before front new text became
+GoesOnIf false old before front new text became =
+    (new.end ≡ old) × (new.reports.items ≡ before) × (text ≡ front ++ reports_text before) × (became ≡ Done)
+
+-- behind the packets of all segments that aren't acknowledged
+abbrev pub ResendsRunning : Asking → Asking → List ℕ → Became → Type 0
+ResendsRunning old new text became = OnEnd old new × ((packets : List (List ℕ)) × AllAgain old.end.port.link packets
+    × GoesOnIf (goes_on old.end) old.end old.reports.items (packets_text packets) new text became)
+
+-- nothing is sent on a link that has failed
+abbrev pub Resends : (failed : Bool) → Asking → Asking → List ℕ → Became → Type 0
+Resends true old new text became = (new ≡ old) × (text ≡ link_line Failed) × (became ≡ Done)
+Resends false old new text became = ResendsRunning old new text became
+
 -- it was asked, and its messages are on their way
 abbrev pub AsksIt : Asking → Request → Asking → List ℕ → Became → Type 0
 AsksIt old request new text became =
@@ -125,7 +146,7 @@ IsNone old new text became = (new ≡ old) × (text ≡ []) × (became ≡ BadLi
 -- what is done by a line that says this, and what is said
 abbrev pub Does : Asking → Order → Asking → List ℕ → Became → Type 0
 Does old (order.Packet bytes) new text became = TakesPacket old bytes new text became
-Does old order.Resend new text became = Tells old new became × SaysAgain old.end.port.link text
+Does old order.Resend new text became = Resends old.end.port.link.failed old new text became
 Does old order.Ack new text became = Tells old new became × SaysAck old.end.port.link text
 Does old (order.New anew) new text became = Renews old anew new text became
 Does old (order.Ask request) new text became = Asks old.end.port.link.failed old request new text became
@@ -133,11 +154,13 @@ Does old order.Files new text became = IsNone old new text became
 Does old (order.File file) new text became = IsNone old new text became
 Does old (order.Record r) new text became = IsNone old new text became
 
--- the answers to these have the reports
-abbrev pub has_reports : Order → Bool
-has_reports (order.Packet bytes) = true
-has_reports (order.Ask request) = true
-has_reports _ = false
+-- the answers to these have the reports, on a link that runs
+abbrev pub has_reports : (failed : Bool) → Order → Bool
+has_reports true o = false
+has_reports false (order.Packet bytes) = true
+has_reports false (order.Ask request) = true
+has_reports false order.Resend = true
+has_reports false _ = false
 
 -- and then none waits
 abbrev pub TellsIf : Bool → Asking → Asking → Type 0
@@ -145,7 +168,7 @@ TellsIf true old new = IsTold old new
 TellsIf false old new = new ≡ old
 
 abbrev pub DoesAll : Asking → Order → Asking → List ℕ → Became → Type 0
-DoesAll old o new text became = (mid : Asking) × Does old o mid text became × TellsIf (has_reports o) mid new
+DoesAll old o new text became = (mid : Asking) × Does old o mid text became × TellsIf (has_reports old.end.port.link.failed o) mid new
 
 -- it is done or it isn't, and nothing is said: its reports still wait
 abbrev pub Reaches : Asking → Order → Asking → Type 0
@@ -157,8 +180,12 @@ DoesOrder old None new text became = (new ≡ old) × (text ≡ []) × (became �
 DoesOrder old (Some o) new text became =
     DoesAll old o new text became ⊎ (Reaches old o new × (text ≡ []) × (became ≡ NoMemory))
 
+-- it would do something by going on, or has reports to tell
+abbrev pub is_behind : Asking → Bool
+is_behind asking = goes_on asking.end || nat_lt 0 (length asking.reports.items)
+
 abbrev pub answered : Asking → List ℕ → Asking → List ℕ → Became → Type 0
 answered old line new text became = DoesOrder old (order_of line) new text became
 
 abbrev pub waiting : Asking → ℕ
-waiting asking = waits_of asking.end.port.link
+waiting asking = waits_of asking.end.port.link (is_behind asking)

@@ -1,15 +1,35 @@
 -- What a link sends again, and what it waits for.
-use Rattle.std.specs.Prelude.{◌≡◌, ℕ, ◌+◌, ◌-◌, Bool, true, false, List, [], ◌∷◌, length, Some, if◌then◌else◌}
+use Rattle.std.specs.Prelude.{◌≡◌, ℕ, ◌+◌, ◌-◌, Bool, true, false, not, ◌||◌, ◌&&◌, nat_le, nat_lt, List, [], ◌∷◌, length, Some, if◌then◌else◌}
+use Rattle.std.specs.List.{list_all}
+use Rattle.nsp_link.specs.Cutting.{cut}
+use Rattle.nsp_link.specs.Limits.{most_segments}
 use Rattle.nsp_link.specs.Link.{LinkValue, IsSpelling}
 use Rattle.nsp_link.specs.Sending.{WritesSent, ack_packet_of}
 use Rattle.nsp_link.specs.declared.fault.LinkFault.TheVariants.{Failed}
-use Rattle.linewise.specs.declared.talking.Became.{Became}
-use Rattle.linewise.specs.declared.talking.Became.TheVariants.{Done}
-use Rattle.dap_live.specs.Texts.{link_line, packet_text, packets_text}
+use Rattle.dap_live.specs.Texts.{link_line, packet_text}
 
--- how many segments are sent and not acknowledged; none on a link that has failed
-abbrev pub waits_of : LinkValue → ℕ
-waits_of link = if link.failed then 0 else link.sent - link.acked
+-- a segment waits that was never sent, and the window has room
+abbrev pub may_send : LinkValue → Bool
+may_send link = nat_lt link.sent (link.acked + length link.queue) && nat_lt link.sent (link.acked + link.window)
+
+-- an NSP message that came is left
+abbrev pub has_message : LinkValue → Bool
+has_message link = nat_lt 0 (length link.inbox)
+
+-- memory aside, the link takes these NSP messages: it runs, each is short enough, and their segments are few enough
+abbrev pub may_queue : LinkValue → List (List ℕ) → Bool
+may_queue link messages = not link.failed
+    && (list_all (λ m. nat_le (length m) link.max_message) messages
+    && nat_le (link.acked + length link.queue + length (cut link.seg_size messages)) most_segments)
+
+-- There is something to do behind NSP messages that wait, which the link takes: one waits, or one that came is left, or a
+-- segment may be sent. It is so only behind want of memory: else all this is done at once.
+abbrev pub is_left : LinkValue → (outbox : List (List ℕ)) → Bool
+is_left link outbox = may_queue link outbox && (nat_lt 0 (length outbox) || (has_message link || may_send link))
+
+-- how many segments are sent and not acknowledged, and one more where something is left; none on a link that has failed
+abbrev pub waits_of : LinkValue → (left : Bool) → ℕ
+waits_of link left = if link.failed then 0 else link.sent - link.acked + (if left then 1 else 0)
 
 -- the packets of the segments that aren't acknowledged, from this place on, the oldest at place 0
 abbrev pub AreAgain : LinkValue → (place : ℕ) → List (List ℕ) → Type 0
@@ -25,11 +45,6 @@ AllAgain link packets = AreAgain link 0 packets × (length packets ≡ link.sent
 abbrev pub UnlessFailed : Bool → List ℕ → (List ℕ → Type 0) → Type 0
 UnlessFailed true text Says = text ≡ link_line Failed
 UnlessFailed false text Says = Says text
-
--- the lines of all segments that aren't acknowledged
-abbrev pub SaysAgain : LinkValue → List ℕ → Type 0
-SaysAgain link text =
-    UnlessFailed link.failed text (λ text. (packets : List (List ℕ)) × AllAgain link packets × (text ≡ packets_text packets))
 
 -- the line of an acknowledgement
 abbrev pub SaysAck : LinkValue → List ℕ → Type 0

@@ -1,7 +1,8 @@
 -- What the end that serves does by a line, and what it says.
-use Rattle.std.specs.Prelude.{◌≡◌, ◌⊎◌, ℕ, List, [], Result, Ok, Err, Option, Some, None, MatchOption}
+use Rattle.std.specs.Prelude.{◌≡◌, ◌⊎◌, ◌++◌, ℕ, Bool, true, false, List, [], Result, Ok, Err, Option, Some, None, MatchOption}
 use Rattle.nsp_link.specs.declared.link.Got.{Got}
 use Rattle.nsp_link.specs.declared.fault.LinkFault.{LinkFault}
+use Rattle.nsp_link.specs.declared.fault.LinkFault.TheVariants.{Failed}
 use Rattle.nsp_link.specs.Link.{SetupFault}
 use Rattle.rec_file.specs.declared.shapes.Shape.{Shape}
 use Rattle.rec_file.specs.Shapes.{checked_shape}
@@ -12,7 +13,7 @@ use Rattle.dap_accessed.specs.declared.fault.AddFault.{AddFault}
 use Rattle.dap_end.specs.declared.fault.TakeFault.{TakeFault}
 use Rattle.dap_end.specs.Ports.{new_port}
 use Rattle.dap_end.specs.Serving.{ServingValue, IsAfter, IsGiven, NotAdded, NotStored, nothing_yet}
-use Rattle.dap_end.specs.Taking.{TookAll, NotTaken}
+use Rattle.dap_end.specs.Taking.{TookAll, NotTaken, WentOn, IsDone, GoOnFault}
 use Rattle.linewise.specs.declared.talking.Became.{Became}
 use Rattle.linewise.specs.declared.talking.Became.TheVariants.{Done, BadLine, NoMemory}
 use Rattle.dap_text.specs.declared.filed.FileLine.{FileLine}
@@ -23,8 +24,8 @@ use Rattle.dap_live.specs.declared.orders.Anew.{Anew}
 use Rattle.dap_live.specs.declared.orders.Order.{Order}
 use Rattle.dap_live.specs.declared.orders.Order.TheVariants as order
 use Rattle.dap_live.specs.Orders.{order_of, setup_anew}
-use Rattle.dap_live.specs.Sending.{SaysAck, SaysAgain, waits_of}
-use Rattle.dap_live.specs.Texts.{add_became, add_refusal, link_became, link_line, status_line, taken_became, taken_text}
+use Rattle.dap_live.specs.Sending.{AllAgain, SaysAck, is_left, waits_of}
+use Rattle.dap_live.specs.Texts.{add_became, add_refusal, link_became, link_line, packets_text, status_line, taken_became, taken_text}
 
 -- ---- A packet.
 
@@ -39,6 +40,44 @@ pub record TakesPacket (old : ServingValue) (bytes : List ℕ) (new : ServingVal
   pub took : Took old bytes new packets taken
   pub says : text ≡ taken_text taken [] packets
   pub ends : became ≡ taken_became taken
+
+-- ---- Going on.
+
+-- what going on comes to, and the packets that are written then
+abbrev pub Went : ServingValue → ServingValue → List (List ℕ) → Result (Unit {0}) LinkFault → Type 0
+Went old new packets (Ok done) = WentOn old new [] packets × IsDone new
+Went old new packets (Err f) = WentOn old new [] packets × GoOnFault new f
+
+abbrev pub gone_text : Result (Unit {0}) LinkFault → List ℕ
+gone_text (Ok done) = []
+gone_text (Err f) = link_line f
+
+abbrev pub gone_became : Result (Unit {0}) LinkFault → Became
+gone_became (Ok done) = Done
+gone_became (Err f) = link_became f
+
+-- This is said first, and then what going on comes to.
+pub record GoesOn (old : ServingValue) (front : List ℕ) (new : ServingValue) (text : List ℕ) (became : Became) : Type 0 where
+  pub gone : Result (Unit {0}) LinkFault
+  pub packets : List (List ℕ)
+  pub went : Went old new packets gone
+  pub says : text ≡ front ++ (packets_text packets ++ gone_text gone)
+  pub ends : became ≡ gone_became gone
+
+-- only where something is left
+abbrev pub GoesOnIf : (left : Bool) → ServingValue → List ℕ → ServingValue → List ℕ → Became → Type 0
+GoesOnIf true old front new text became = GoesOn old front new text became
+GoesOnIf false old front new text became = (new ≡ old) × (text ≡ front) × (became ≡ Done)
+
+-- behind the packets of all segments that aren't acknowledged
+abbrev pub ResendsRunning : ServingValue → ServingValue → List ℕ → Became → Type 0
+ResendsRunning old new text became = (packets : List (List ℕ)) × AllAgain old.port.link packets
+    × GoesOnIf (is_left old.port.link old.port.outbox) old (packets_text packets) new text became
+
+-- nothing is sent on a link that has failed
+abbrev pub Resends : (failed : Bool) → ServingValue → ServingValue → List ℕ → Became → Type 0
+Resends true old new text became = (new ≡ old) × (text ≡ link_line Failed) × (became ≡ Done)
+Resends false old new text became = ResendsRunning old new text became
 
 -- ---- A new link.
 
@@ -97,7 +136,7 @@ Tells old new became = (new ≡ old) × (became ≡ Done)
 -- what is done by a line that says this, and what is said
 abbrev pub Does : Serving → Order → Serving → List ℕ → Became → Type 0
 Does old (order.Packet bytes) new text became = OnEnd old new × TakesPacket old.end bytes new.end text became
-Does old order.Resend new text became = Tells old new became × SaysAgain old.end.port.link text
+Does old order.Resend new text became = OnEnd old new × Resends old.end.port.link.failed old.end new.end text became
 Does old order.Ack new text became = Tells old new became × SaysAck old.end.port.link text
 Does old (order.New anew) new text became = Renews old anew new text became
 Does old order.Files new text became = Tells old new became × (text ≡ files_text old.end.accessed.files)
@@ -119,4 +158,4 @@ abbrev pub answered : Serving → List ℕ → Serving → List ℕ → Became �
 answered old line new text became = DoesOrder old (order_of line) new text became
 
 abbrev pub waiting : Serving → ℕ
-waiting serving = waits_of serving.end.port.link
+waiting serving = waits_of serving.end.port.link (is_left serving.end.port.link serving.end.port.outbox)

@@ -9,10 +9,10 @@ ghost use Rattle.dap_end.specs.Asking.{HasAsked, nothing_asked};
 ghost use Rattle.dap_text.specs.Adding.{Adds};
 ghost use Rattle.linewise.specs.declared.talking.Became.{Became as TheBecame};
 ghost use Rattle.dap_live.specs.Texts.{packets_text, reports_text};
-ghost use Rattle.dap_live.specs.Asking.{Asks, AsksRunning, Does, DoesOrder, GoesOn, OnEnd, Reaches, Renews, TakesPacket, Took, TellsIf, Went, front_text, gone_became, gone_text, has_reports};
+ghost use Rattle.dap_live.specs.Asking.{Asks, AsksRunning, Does, DoesOrder, GoesOn, GoesOnIf, OnEnd, Reaches, Renews, Resends, ResendsRunning, TakesPacket, Took, TellsIf, Went, front_text, gone_became, gone_text, goes_on as goes_on_by, has_reports, is_behind as is_behind_by};
 
 use crate::orders::{Anew, Order, read_order, set_up};
-use crate::sending::{say_ack, say_again, waits};
+use crate::sending::{has_message, is_left, push_again, say_ack, waits};
 use crate::texts::{
     push_ask_refusal, push_end_refusal, push_link_refusal, push_packets, push_refused,
     push_reports, push_taken,
@@ -159,6 +159,75 @@ fn go_on_behind(asking: &mut Asking, front: Front, text: &mut Vec<u8>) -> Result
     push_gone(text, gone, &asking.reports, &packets)
 }
 
+/// Whether an unexpected answer failed the end.
+fn has_failed(end: &AskingEnd) -> bool
+    ensures { result ≡ end.now.accessing.failed }
+{
+    matches!(end.check(&Request::Hello), Err(AskFault::Failed))
+}
+
+/// Whether the end would do something by going on.
+fn goes_on(end: &AskingEnd) -> bool
+    ensures { result ≡ goes_on_by end.now }
+{
+    !has_failed(end) && (has_message(end.link()) || is_left(end.link(), end.waiting()))
+}
+
+/// Goes on behind segments that are sent again, and says what comes of it behind their lines.
+fn go_on_again(asking: &mut Asking, text: &mut Vec<u8>) -> Result<Became, AllocError>
+    ensures end { OnEnd asking.old asking.new }
+    ensures ok { IfOk result (GoesOn asking.old.end asking.old.reports.items text.old.items
+        asking.new text.new.items) }
+    ensures err { OnErr result ((said : List ℕ) × (became : TheBecame)
+        × GoesOn asking.old.end asking.old.reports.items text.old.items asking.new said became) }
+{
+    let mut packets = Vec::new(asking.alloc);
+    let gone = go_on(&mut asking.end, &mut packets, &mut asking.reports);
+    push_gone(text, gone, &asking.reports, &packets)
+}
+
+/// Goes on where something is left, or tells the reports that wait.
+fn go_on_if_left(asking: &mut Asking, text: &mut Vec<u8>) -> Result<Became, AllocError>
+    ensures end { OnEnd asking.old asking.new }
+    ensures ok { IfOk result (GoesOnIf (goes_on_by asking.old.end) asking.old.end
+        asking.old.reports.items text.old.items asking.new text.new.items) }
+    ensures err { OnErr result ((said : List ℕ) × (became : TheBecame)
+        × GoesOnIf (goes_on_by asking.old.end) asking.old.end asking.old.reports.items
+        text.old.items asking.new said became) }
+{
+    if goes_on(&asking.end) {
+        go_on_again(asking, text)
+    } else {
+        push_reports(text, &asking.reports)?;
+        Ok(Became::Done)
+    }
+}
+
+/// Sends all segments again that aren't acknowledged, and goes on, on a link that runs.
+fn resend_running(asking: &mut Asking, text: &mut Vec<u8>) -> Result<Became, AllocError>
+    requires { text.old.items ≡ [] }
+    ensures ok { IfOk result (ResendsRunning asking.old asking.new text.new.items) }
+    ensures err { OnErr result ((asking.new ≡ asking.old) ⊎ ((said : List ℕ) × (became : TheBecame)
+        × ResendsRunning asking.old asking.new said became)) }
+{
+    push_again(asking.end.link(), text)?;
+    go_on_if_left(asking, text)
+}
+
+/// Sends all segments again that aren't acknowledged, and goes on.
+fn resend(asking: &mut Asking, text: &mut Vec<u8>) -> Result<Became, AllocError>
+    requires { text.old.items ≡ [] }
+    ensures ok { IfOk result (Resends asking.old.end.port.link.failed asking.old asking.new
+        text.new.items) }
+    ensures err { OnErr result ((asking.new ≡ asking.old) ⊎ ((said : List ℕ) × (became : TheBecame)
+        × Resends asking.old.end.port.link.failed asking.old asking.new said became)) }
+{
+    if asking.end.link().has_failed() {
+        return push_link_refusal(text, LinkFault::Failed);
+    }
+    resend_running(asking, text)
+}
+
 /// Asks a request, on a link that runs.
 fn ask_request(
     asking: &mut Asking,
@@ -218,7 +287,7 @@ fn act(asking: &mut Asking, order: Order<'_>, text: &mut Vec<u8>) -> Result<Beca
     match order {
         Order::Packet(digits) => take_packet(asking, &digits, text),
         Order::Ask(wish) => ask(asking, &wish, text),
-        Order::Resend => say_again(asking.end.link(), text),
+        Order::Resend => resend(asking, text),
         Order::Ack => say_ack(asking.end.link(), text),
         Order::New(anew) => renew(asking, anew, text),
         Order::Files | Order::File(_) | Order::Record(_) => Ok(Became::BadLine),
@@ -226,10 +295,10 @@ fn act(asking: &mut Asking, order: Order<'_>, text: &mut Vec<u8>) -> Result<Beca
 }
 
 /// Whether the answer has the reports.
-fn tells_reports(order: &Order<'_>) -> bool
-    ensures { result ≡ has_reports order.now }
+fn tells_reports(failed: bool, order: &Order<'_>) -> bool
+    ensures { result ≡ has_reports failed order.now }
 {
-    matches!(order, Order::Packet(_) | Order::Ask(_))
+    !failed && matches!(order, Order::Packet(_) | Order::Ask(_) | Order::Resend)
 }
 
 /// The reports were told, where the answer has them.
@@ -246,7 +315,7 @@ fn answer_one(asking: &mut Asking, order: Order<'_>, text: &mut Vec<u8>) -> Beca
     requires { text.old.items ≡ [] }
     ensures { DoesOrder asking.old (Some order.entry) asking.new text.new.items result }
 {
-    let has_reports = tells_reports(&order);
+    let has_reports = tells_reports(asking.end.link().has_failed(), &order);
     match act(asking, order, text) {
         Ok(became) => {
             tell(asking, has_reports);
@@ -270,6 +339,13 @@ fn answer_order(asking: &mut Asking, order: Option<Order<'_>>, text: &mut Vec<u8
     }
 }
 
+/// Whether the end would do something by going on, or has reports to tell.
+fn is_behind(asking: &Asking) -> bool
+    ensures { result ≡ is_behind_by asking.now }
+{
+    goes_on(&asking.end) || !asking.reports.is_empty()
+}
+
 impl Answers for Asking {
     ghost use Rattle.dap_live.specs.Asking.{answered, waiting};
 
@@ -282,6 +358,6 @@ impl Answers for Asking {
     }
 
     fn waits(&self) -> usize {
-        waits(self.end.link())
+        waits(self.end.link(), is_behind(self))
     }
 }

@@ -1,8 +1,9 @@
 //! What a link sends again, and what it waits for.
 
 ghost use Rattle.std.specs.Prelude.{◌≡◌, ◌++◌, [], OnOk, OnErr, IfOk};
+ghost use Rattle.dap_msg.specs.Blocked.{bodies};
 ghost use Rattle.dap_text.specs.Adding.{Adds};
-ghost use Rattle.dap_live.specs.Sending.{AllAgain, SaysAck, SaysAgain, waits_of};
+ghost use Rattle.dap_live.specs.Sending.{AllAgain, SaysAck, has_message as has_message_on, is_left as is_left_of, may_queue as may_queue_on, may_send as may_send_on, waits_of};
 ghost use Rattle.dap_live.specs.Inner.Again.{AddsAgain, AddsOneAgain};
 
 use crate::texts::{push_link_refusal, push_packet};
@@ -10,11 +11,45 @@ use linewise::Became;
 use nsp_link::{LinkEnd, LinkFault};
 use std::alloc::AllocError;
 
-/// How many packets would be sent again.
-pub(crate) fn waits(link: &LinkEnd) -> usize
-    ensures { result ≡ waits_of link.now }
+/// Whether an NSP message that came is left.
+pub(crate) fn has_message(link: &LinkEnd) -> bool
+    ensures { result ≡ has_message_on link.now }
 {
-    if link.has_failed() { 0 } else { link.unacked() }
+    link.peek_message().is_some()
+}
+
+/// Whether a segment may be written that was never sent.
+fn may_send(link: &LinkEnd) -> bool
+    ensures { result ≡ may_send_on link.now }
+{
+    link.may_send()
+}
+
+/// Whether the link takes these NSP messages, memory aside.
+fn may_queue(link: &LinkEnd, messages: &[Vec<u8>]) -> bool
+    ensures { result ≡ may_queue_on link.now (bodies messages.now) }
+{
+    match link.check_messages(messages) {
+        Ok(()) => true,
+        Err(_) => false,
+    }
+}
+
+/// Whether there is something to do behind these NSP messages, which wait to be handed to the link.
+pub(crate) fn is_left(link: &LinkEnd, outbox: &[Vec<u8>]) -> bool
+    ensures { result ≡ is_left_of link.now (bodies outbox.now) }
+{
+    may_queue(link, outbox) && (!outbox.is_empty() || has_message(link) || may_send(link))
+}
+
+/// How many packets would be sent again, and one more where something is left.
+pub(crate) fn waits(link: &LinkEnd, left: bool) -> usize
+    ensures { result ≡ waits_of link.now left }
+{
+    if link.has_failed() {
+        return 0;
+    }
+    link.unacked() + usize::from(left)
 }
 
 /// The line of a segment that isn't acknowledged.
@@ -28,25 +63,13 @@ fn push_one_again(link: &LinkEnd, place: usize, text: &mut Vec<u8>) -> Result<()
 }
 
 /// The lines of all segments that aren't acknowledged, of a link that runs.
-fn push_again(link: &LinkEnd, text: &mut Vec<u8>) -> Result<(), AllocError>
+pub(crate) fn push_again(link: &LinkEnd, text: &mut Vec<u8>) -> Result<(), AllocError>
     ensures { OnOk result (AddsAgain link.now text.old text.new) }
 {
     for place in 0..link.unacked() {
         push_one_again(link, place, text)?;
     }
     Ok(())
-}
-
-/// Sends all segments again that aren't acknowledged.
-pub(crate) fn say_again(link: &LinkEnd, text: &mut Vec<u8>) -> Result<Became, AllocError>
-    requires { text.old.items ≡ [] }
-    ensures { IfOk result (λ became. (became ≡ Became.Done) × SaysAgain link.now text.new.items) }
-{
-    if link.has_failed() {
-        return push_link_refusal(text, LinkFault::Failed);
-    }
-    push_again(link, text)?;
-    Ok(Became::Done)
 }
 
 /// Acknowledges all segments that were taken.

@@ -1,19 +1,22 @@
 //! The end that serves, over lines.
 
-ghost use Rattle.std.specs.Prelude.{◌≡◌, ◌≤◌, ◌⊎◌, [], ℕ, List, Some, OnOk, OnErr, IfOk, IfErr, IsTrue};
+ghost use Rattle.std.specs.Prelude.{◌≡◌, ◌≤◌, ◌⊎◌, ◌++◌, [], ℕ, List, Some, OnOk, OnErr, IfOk, IfErr, IsTrue};
 ghost use Rattle.dap_msg.specs.Exchange.{least_buffer};
 ghost use Rattle.dap_msg.specs.Blocked.{bodies};
 ghost use Rattle.nsp_link.specs.Link.{SetupFault};
 ghost use Rattle.dap_end.specs.Ports.{new_port};
 ghost use Rattle.dap_end.specs.Serving.{IsAfter, nothing_yet};
+ghost use Rattle.dap_text.specs.Adding.{Adds};
 ghost use Rattle.dap_text.specs.Tables.{files_text};
 ghost use Rattle.rec_file.specs.Shapes.{is_shape};
 ghost use Rattle.linewise.specs.declared.talking.Became.{Became as TheBecame};
-ghost use Rattle.dap_live.specs.Serving.{AddsFile, AddsRecord, AddsShaped, Does, DoesOrder, Reaches, Renews, TakesPacket, Took};
+ghost use Rattle.dap_live.specs.Sending.{is_left as is_left_of};
+ghost use Rattle.dap_live.specs.Texts.{packets_text};
+ghost use Rattle.dap_live.specs.Serving.{AddsFile, AddsRecord, AddsShaped, Does, DoesOrder, GoesOn, GoesOnIf, Reaches, Renews, Resends, ResendsRunning, TakesPacket, Took, Went, gone_became, gone_text};
 
 use crate::orders::{Anew, Order, read_order, set_up};
-use crate::sending::{say_ack, say_again, waits};
-use crate::texts::{push_add_refusal, push_link_refusal, push_status, push_taken};
+use crate::sending::{is_left, push_again, say_ack, waits};
+use crate::texts::{push_add_refusal, push_link_refusal, push_packets, push_status, push_taken};
 use dap_end::{ServingEnd, TakeFault};
 use dap_msg::codes::{ACCESS_REFUSED, Reason};
 use dap_text::{FileLine, RecordLine, Text, push_files};
@@ -72,6 +75,100 @@ fn take_packet(
     let taken = take(end, &bytes, &mut packets);
     let reports = Vec::new(alloc);
     push_taken(text, taken, &reports, &packets)
+}
+
+/// Serves, hands over and writes what is left.
+fn go_on(end: &mut ServingEnd, packets: &mut Vec<Vec<u8>>) -> Result<(), LinkFault>
+    requires { packets.old.items ≡ [] }
+    ensures { Went end.old end.new (bodies packets.new.items) result }
+{
+    end.go_on(packets)
+}
+
+/// What going on came to.
+fn push_gone(
+    text: &mut Vec<u8>,
+    gone: Result<(), LinkFault>,
+    packets: &Vec<Vec<u8>>,
+) -> Result<Became, AllocError>
+    ensures text { OnOk result (Adds text.old text.new
+        (packets_text (bodies packets.now.items) ++ gone_text gone)) }
+    ensures became { IfOk result (λ became. became ≡ gone_became gone) }
+{
+    push_packets(text, packets)?;
+    match gone {
+        Ok(()) => Ok(Became::Done),
+        Err(fault) => push_link_refusal(text, fault),
+    }
+}
+
+/// Goes on, and says what comes of it behind the text.
+fn go_on_behind(
+    alloc: Global,
+    end: &mut ServingEnd,
+    text: &mut Vec<u8>,
+) -> Result<Became, AllocError>
+    ensures ok { IfOk result (GoesOn end.old text.old.items end.new text.new.items) }
+    ensures err { OnErr result ((said : List ℕ) × (became : TheBecame)
+        × GoesOn end.old text.old.items end.new said became) }
+{
+    let mut packets = Vec::new(alloc);
+    let gone = go_on(end, &mut packets);
+    push_gone(text, gone, &packets)
+}
+
+/// Whether something is left of what the end does by itself.
+fn is_behind(end: &ServingEnd) -> bool
+    ensures { result ≡ is_left_of end.now.port.link end.now.port.outbox }
+{
+    is_left(end.link(), end.waiting())
+}
+
+/// Goes on where something is left, and says what comes of it behind the text.
+fn go_on_if_left(
+    alloc: Global,
+    end: &mut ServingEnd,
+    text: &mut Vec<u8>,
+) -> Result<Became, AllocError>
+    ensures ok { IfOk result (GoesOnIf (is_left_of end.old.port.link end.old.port.outbox) end.old
+        text.old.items end.new text.new.items) }
+    ensures err { OnErr result ((said : List ℕ) × (became : TheBecame)
+        × GoesOnIf (is_left_of end.old.port.link end.old.port.outbox) end.old text.old.items
+        end.new said became) }
+{
+    if is_behind(end) {
+        go_on_behind(alloc, end, text)
+    } else {
+        Ok(Became::Done)
+    }
+}
+
+/// Sends all segments again that aren't acknowledged, and goes on, on a link that runs.
+fn resend_running(
+    alloc: Global,
+    end: &mut ServingEnd,
+    text: &mut Vec<u8>,
+) -> Result<Became, AllocError>
+    requires { text.old.items ≡ [] }
+    ensures ok { IfOk result (ResendsRunning end.old end.new text.new.items) }
+    ensures err { OnErr result ((end.new ≡ end.old) ⊎ ((said : List ℕ) × (became : TheBecame)
+        × ResendsRunning end.old end.new said became)) }
+{
+    push_again(end.link(), text)?;
+    go_on_if_left(alloc, end, text)
+}
+
+/// Sends all segments again that aren't acknowledged, and goes on.
+fn resend(alloc: Global, end: &mut ServingEnd, text: &mut Vec<u8>) -> Result<Became, AllocError>
+    requires { text.old.items ≡ [] }
+    ensures ok { IfOk result (Resends end.old.port.link.failed end.old end.new text.new.items) }
+    ensures err { OnErr result ((end.new ≡ end.old) ⊎ ((said : List ℕ) × (became : TheBecame)
+        × Resends end.old.port.link.failed end.old end.new said became)) }
+{
+    if end.link().has_failed() {
+        return push_link_refusal(text, LinkFault::Failed);
+    }
+    resend_running(alloc, end, text)
 }
 
 /// Makes the link anew, over the same files.
@@ -167,7 +264,7 @@ fn act(serving: &mut Serving, order: Order<'_>, text: &mut Vec<u8>) -> Result<Be
     let alloc = serving.alloc;
     match order {
         Order::Packet(digits) => take_packet(alloc, &mut serving.end, &digits, text),
-        Order::Resend => say_again(serving.end.link(), text),
+        Order::Resend => resend(alloc, &mut serving.end, text),
         Order::Ack => say_ack(serving.end.link(), text),
         Order::New(anew) => renew(serving, anew, text),
         Order::Files => list_files(&serving.end, text),
@@ -214,6 +311,6 @@ impl Answers for Serving {
     }
 
     fn waits(&self) -> usize {
-        waits(self.end.link())
+        waits(self.end.link(), is_behind(&self.end))
     }
 }

@@ -31,7 +31,7 @@ refusal_of Done = []
 refusal_of BadLine = codes "refused bad-line\n"
 refusal_of NoMemory = codes "refused no-memory\n"
 
--- the last line: so many packets would be sent again
+-- the last line: so many packets would be sent again, and one more where something is left to do
 abbrev pub waits_text : ℕ → List ℕ
 waits_text count = codes "waits " ++ (decimal count ++ codes "\n")
 

@@ -30,7 +30,7 @@ pub trait Answers {
     // What it may come to by a line, the text of its answer, and what became of the line.
     ghost answered: { Self → List ℕ → Self → List ℕ → Became → Type 0 };
 
-    // How many packets it waits to be acknowledged.
+    // How many packets it waits to be acknowledged, and one more where it has something left to do.
     ghost waiting: { Self → ℕ };
 
     /// Answers a line, which comes without its end. The text comes empty.
@@ -38,7 +38,7 @@ pub trait Answers {
         requires { text.old.items ≡ [] }
         ensures { answered self.old line.now self.new text.new.items result };
 
-    /// How many packets it waits to be acknowledged. It takes no memory.
+    /// How many packets it waits to be acknowledged, and one more where it has something left to do. It takes no memory.
     fn waits(&self) -> usize
         ensures { result ≡ waiting self.now };
 }

@@ -15,10 +15,10 @@ lines has the network and the timers. And a listing of captured lines with their
 
 const LINES: &str =
     "Each line is answered before the next is read, and its answer ends with 'waits N': so many packets \
-would be sent again. Empty lines, and those that begin with #, have no answer.
+would be sent again, and one more where want of memory left something undone. Empty lines, and those that begin with #, have no answer.
 
   > HEX                       takes a packet: accepted, repeat, early or ack-only; reports; packets to send, each '< HEX'
-  resend                      the packets that aren't acknowledged, the oldest first
+  resend                      the packets that aren't acknowledged, the oldest first; then what want of memory left undone
   ack                         an acknowledgement of all that came
   new [LOCAL REMOTE [BYTES]]  a new link, between these addresses, with so many bytes in a segment; serve keeps its files
   files                       serve: the files, as the two lines below

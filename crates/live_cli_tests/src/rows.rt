@@ -93,4 +93,73 @@ refused bad-line\nwaits 0\nrefused bad-line\nwaits 0\n",
         b"",
         b"an address is four hex digits\n",
     ),
+    // A message of three segments, the second one twice and behind the third.
+    (
+        &["follow"],
+        b"> 20020201010100010001020a\n\
+> 400202010103000600000000\n\
+> 000202010102000004070305\n\
+> 00020201010200ff\n",
+        0,
+        b"1 > segment first dst=0202 src=0101 seg=1 acks=- len=5\n\
+2 > segment last dst=0202 src=0101 seg=3 acks=- len=5\n\
+3 > segment middle dst=0202 src=0101 seg=2 acks=- len=5\n\
+\x20 message seg=1..3 len=15\n\
+\x20 config bufsiz=513 ostype=10 filesys=0 version=4.7.3.5.6 syscap=0\n\
+4 > segment middle dst=0202 src=0101 seg=2 acks=- len=1\n",
+        b"",
+    ),
+    // The same without the second.
+    (
+        &["follow"],
+        b"> 20020201010100010001020a\n\
+> 400202010103000600000000\n",
+        0,
+        b"1 > segment first dst=0202 src=0101 seg=1 acks=- len=5\n\
+2 > segment last dst=0202 src=0101 seg=3 acks=- len=5\n\
+part > dst=0202 src=0101 seg=1..1 len=5\n\
+gap > dst=0202 src=0101 seg=2..2\n\
+part > dst=0202 src=0101 seg=3..3 len=5\n",
+        b"",
+    ),
+    // Across the wrap of the numbers, and in another order.
+    (
+        &["follow"],
+        b"> 400202010100000600000000\n\
+> 0002020101ff0f0004070305\n\
+> 2002020101fe0f010001020a\n",
+        0,
+        b"1 > segment last dst=0202 src=0101 seg=0 acks=- len=5\n\
+2 > segment middle dst=0202 src=0101 seg=4095 acks=- len=5\n\
+3 > segment first dst=0202 src=0101 seg=4094 acks=- len=5\n\
+\x20 message seg=4094..0 len=15\n\
+\x20 config bufsiz=513 ostype=10 filesys=0 version=4.7.3.5.6 syscap=0\n",
+        b"",
+    ),
+    // Three streams, both ways, among packets that carry no segment.
+    (
+        &["follow"],
+        b"> 20020201010100010001020a\n\
+< 600101020201000700\n\
+> 6004040101010000\n\
+> 6002\n\
+> 04020201010180\n\
+> 4002020101020000040703050600000000\n",
+        0,
+        b"1 > segment first dst=0202 src=0101 seg=1 acks=- len=5\n\
+2 < segment only dst=0101 src=0202 seg=1 acks=- len=2\n\
+\x20 message seg=1..1 len=2\n\
+\x20 bad truncated type=7 at=2\n\
+3 > segment only dst=0404 src=0101 seg=1 acks=- len=1\n\
+\x20 message seg=1..1 len=1\n\
+\x20 bad type type=0 at=0\n\
+4 > bad truncated at=1\n\
+5 > ack dst=0202 src=0101 acks=0:1\n\
+6 > segment last dst=0202 src=0101 seg=2 acks=- len=10\n\
+\x20 message seg=1..2 len=15\n\
+\x20 config bufsiz=513 ostype=10 filesys=0 version=4.7.3.5.6 syscap=0\n",
+        b"",
+    ),
+    // A line at fault, behind which nothing is written.
+    (&["follow"], b"> 6002\n> 6\n", 1, b"", b"bad line 2\n"),
 ];

@@ -1,0 +1,19 @@
+use Rattle.std.proofs.Common.{sym, ◌∙◌, ◌++◌}
+use Rattle.linewise.specs.declared.talking.Became.TheVariants.{Done}
+use Rattle.dap_live.specs.Texts.{reports_text}
+use Rattle.dap_live.proofs.ResultLemmas.{err_always, err_from}
+use Rattle.dap_live.proofs.ReachLemmas.{asking_goes, asking_stays}
+use Rattle.dap_live.proofs.asking.go_on_if_left.Goals as goal
+
+pub returns-in_err-push_reports-clause-err : goal.returns-in_err-push_reports-clause-err
+returns-in_err-push_reports-clause-err c =
+    err_always c.from_residual.result (
+      c.args.text.now.items ++ reports_text c.args.asking.now.reports.items,
+      Done,
+      asking_stays _ (sym c.goes_on.ensures ∙ c.if-goes_on.false) c.args.asking.now c.args.text.now.items,
+    )
+
+pub returns-then-goes_on-clause-err : goal.returns-then-goes_on-clause-err
+returns-then-goes_on-clause-err c =
+    err_from c.go_on_again.result c.go_on_again.ensures.err
+    (λ done. (done.0, done.1, asking_goes _ (sym c.goes_on.ensures ∙ c.if-goes_on.true) _ _ _ _ done.0 done.1 done.2))
