@@ -1,11 +1,12 @@
 #!/usr/bin/env python3
-"""Compares both live ends over a lossy line with `dapnsp run` over a clean one.
+"""Compares both live ends over a lossy line with `dapnsp run` over a clean one, and what is listed of both.
 
 usage: lossy_tests.py [--first SEED] [--seeds N] [--requests N] [--daplive PROGRAM] [--dapnsp PROGRAM]
 
 For each seed: so many mixed requests over a line that loses, repeats and reorders, with settings by the seed. The
 reports and the files have to be those of a schedule of the same requests in which each packet arrives once and in order;
-the exit statuses 0; and the transcript a capture in which `dapnsp show` finds nothing that is bad.
+the exit statuses 0; and the transcript a capture in which `dapnsp show` finds nothing that is bad. `daplive follow` has to
+list the same DAP messages each way, and no part and no gap, of what went in and out of each end as of the clean packets.
 """
 import argparse
 import os
@@ -30,7 +31,7 @@ class Clean:
     """A schedule of requests in which each packet arrives once and in order, found by trying its events."""
 
     def __init__(self, program, asking, serving):
-        self.program, self.events, self.wrote, self.files = program, [], {"a": 0, "b": 0}, []
+        self.program, self.events, self.packets, self.files = program, [], [], []
         self.setup = f"setup 1400 2047 {asking} {serving}"
 
     def tries(self, *events):
@@ -43,6 +44,10 @@ class Clean:
         refused = told.pop().removeprefix("refused ") if run.returncode else None
         self.events += events[:len(told)]
         self.files = re.findall(r"^(?:file|  ).*$", run.stdout, re.M)
+        for line in told:
+            if line.startswith("packet "):
+                _, end, _, packet = line.split()
+                self.packets.append(f"{'<>'[end == 'a']} {packet}")
         return told, refused
 
     def writes(self, end, *before):
@@ -119,6 +124,23 @@ class Requests:
             self.phase = "stopped" if answer.split()[3:4] == ["stopped"] else "connected"
 
 
+def messages_of(daplive, lines, other_way=False):
+    """The DAP messages that went each way in a capture."""
+    capture = "".join(f"{line}\n" for line in lines if line[:1] in ("<", ">"))
+    run = subprocess.run([str(daplive), "follow"], input=capture, capture_output=True, text=True, check=False)
+    messages, way = {"<": [], ">": []}, None
+    for line in run.stdout.splitlines():
+        if line.startswith(("part", "gap", "  bad")):
+            raise RuntimeError(f"daplive follow: {line}")
+        if not line.startswith("  "):
+            way = line.split()[1]
+        elif not line.startswith("  message "):
+            messages[way].append(line)
+    if run.returncode:
+        raise RuntimeError(f"daplive follow: {run.stderr}")
+    return {"<": messages[">"], ">": messages["<"]} if other_way else messages
+
+
 def differs(seed, count, daplive, dapnsp):
     """What isn't as it has to be in the run of a seed."""
     chance = random.Random(seed)
@@ -147,6 +169,10 @@ def differs(seed, count, daplive, dapnsp):
     shown = subprocess.run([str(dapnsp), "show"], input=capture, capture_output=True, text=True, check=False)
     if shown.returncode or re.search(r"^(\d+ [<>]| ) bad ", shown.stdout, re.M):
         return f"dapnsp show finds something bad in the transcript, or fails: {shown.stderr}"
+    wanted = messages_of(daplive, clean.packets)
+    for name, end in both.ends.items():
+        if messages_of(daplive, end.transcript, other_way=name == "asking") != wanted:
+            return f"daplive follow, at the end that is {name}"
     return None
 
 
