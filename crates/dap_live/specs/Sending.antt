@@ -22,8 +22,8 @@ may_queue link messages = not link.failed
     && (list_all (λ m. nat_le (length m) link.max_message) messages
     && nat_le (link.acked + length link.queue + length (cut link.seg_size messages)) most_segments)
 
--- There is something to do behind NSP messages that wait, which the link takes: one waits, or one that came is left, or a
--- segment may be sent. It is so only behind want of memory: else all this is done at once.
+-- The link takes the NSP messages that wait; and one waits, or one that came is left, or a segment may be sent. It is so only
+-- behind want of memory: else all this is done at once.
 abbrev pub is_left : LinkValue → (outbox : List (List ℕ)) → Bool
 is_left link outbox = may_queue link outbox && (nat_lt 0 (length outbox) || (has_message link || may_send link))
 

@@ -35,7 +35,7 @@ fn may_queue(link: &LinkEnd, messages: &[Vec<u8>]) -> bool
     }
 }
 
-/// Whether there is something to do behind these NSP messages, which wait to be handed to the link.
+/// Whether something is left that an end would do by itself, with these NSP messages that wait.
 pub(crate) fn is_left(link: &LinkEnd, outbox: &[Vec<u8>]) -> bool
     ensures { result ≡ is_left_of link.now (bodies outbox.now) }
 {
