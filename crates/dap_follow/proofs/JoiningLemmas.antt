@@ -47,12 +47,12 @@ latest-append (x ∷ xs) ys = let rest = latest-append xs ys in omega (arith, re
 -- ---- the first piece
 
 -- each of these joins the next
-pub Chain : Placed → List Placed → Type 0
+unfoldable pub Chain : Placed → List Placed → Type 0
 Chain s [] = Unit {0}
 Chain s (t ∷ others) = (joins s t ≡ true) × Chain t others
 
 -- the last doesn't join what follows
-pub Ends : Placed → List Placed → Type 0
+unfoldable pub Ends : Placed → List Placed → Type 0
 Ends s [] = Unit {0}
 Ends s (t ∷ others) = joins s t ≡ false
 

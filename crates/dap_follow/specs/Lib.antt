@@ -1,4 +1,5 @@
 pub mod Inner
 pub mod Streams
 pub mod Joined
+pub mod Cut
 pub mod Following

@@ -3,8 +3,10 @@
 
 mod following;
 mod joining;
+mod laws;
 mod places;
 mod reading;
 mod streams;
 
 pub use following::follow;
+pub use laws::cut_messages_are_listed;
