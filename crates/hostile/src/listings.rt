@@ -2,8 +2,8 @@
 
 use crate::growing::{Came, Growing, Trouble};
 use dap_capture::schedule;
-use dap_listing::{CaptureFault, Outcome, messages, show};
 use dap_cli::run_words;
+use dap_listing::{CaptureFault, Outcome, messages, show};
 use std::alloc::{AllocError, Global};
 use std::io;
 use std::io::{Read, Write};
