@@ -1,5 +1,6 @@
 """Builds a proved program over crates of the repository, and a plain program that does the same, and times both."""
 import os
+import resource
 import shutil
 import subprocess
 import sys
@@ -47,6 +48,15 @@ def build_plain(work, name):
 def stay_on_one_processor():
     """Binds this process, and those that it starts, to one processor."""
     os.sched_setaffinity(0, {max(os.sched_getaffinity(0))})
+
+
+def timed(words, source):
+    """The seconds that a run over a file keeps a processor busy."""
+    before = resource.getrusage(resource.RUSAGE_CHILDREN)
+    with open(source, "rb") as reader:
+        subprocess.run(words, stdin=reader, stdout=subprocess.DEVNULL, check=True)
+    after = resource.getrusage(resource.RUSAGE_CHILDREN)
+    return after.ru_utime + after.ru_stime - before.ru_utime - before.ru_stime
 
 
 def measure(program, words):
