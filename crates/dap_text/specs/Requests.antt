@@ -1,6 +1,6 @@
 -- The request that words say.
 use Rattle.std.specs.Prelude.{ℕ, List, [], ◌∷◌, codes, if◌then◌else◌, Option, Some, None, option_map}
-use Rattle.dap_accessing.specs.declared.request.Request.{Request}
+use Rattle.dap_accessing.specs.Request.{Request}
 use Rattle.dap_accessing.specs.declared.request.Request.TheVariants as request
 use Rattle.dap_accessing.specs.declared.request.By.TheVariants.{Next, Key, Rfa}
 use Rattle.dap_accessing.specs.declared.request.How.{How}

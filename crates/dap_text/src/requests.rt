@@ -292,7 +292,7 @@ pub struct Wish<'a> {
 }
 
 impl<'a> Model for Wish<'a> {
-    ghost use Rattle.dap_accessing.specs.declared.request.Request.{Request};
+    ghost use Rattle.dap_accessing.specs.Request.{Request};
     ghost use Rattle.dap_text.specs.Inner.Requests.{request_of_asked};
 
     ghost Value = { Request };

@@ -1,5 +1,5 @@
 -- What a request is whose names and bodies are still digits.
-use Rattle.dap_accessing.specs.declared.request.Request.{Request}
+use Rattle.dap_accessing.specs.Request.{Request}
 use Rattle.dap_accessing.specs.declared.request.Request.TheVariants as request
 use Rattle.dap_text.specs.declared.requests.NewFile.{NewFile}
 use Rattle.dap_text.specs.declared.requests.Asked.{Asked}
