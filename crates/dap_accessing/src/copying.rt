@@ -7,8 +7,8 @@ use crate::request::Request;
 use std::alloc::{AllocError, Global};
 
 impl<H: ToBytes> Octets<H> {
-    /// The same bytes, in memory of their own. The only refusal is want of memory. Own.
-    pub fn copy(&self, alloc: Global) -> Result<Octets, AllocError>
+    /// The same bytes, in memory of their own.
+    pub(crate) fn copy(&self, alloc: Global) -> Result<Octets, AllocError>
         ensures { IfOk result (λ copy. copy ≡ self.now) }
     {
         Ok(Octets(self.0.to_bytes(alloc)?))
@@ -16,8 +16,8 @@ impl<H: ToBytes> Octets<H> {
 }
 
 impl<L: ToRecords> OctetsList<L> {
-    /// The same records, in memory of their own. The only refusal is want of memory. Own.
-    pub fn copy(&self, alloc: Global) -> Result<OctetsList, AllocError>
+    /// The same records, in memory of their own.
+    pub(crate) fn copy(&self, alloc: Global) -> Result<OctetsList, AllocError>
         ensures { IfOk result (λ copy. copy ≡ self.now) }
     {
         Ok(OctetsList(self.0.to_records(alloc)?))

@@ -1,5 +1,5 @@
 -- The request that words say.
-use Rattle.std.specs.Prelude.{List, ◌∷◌, [], codes, Option, Some, None, option_map}
+use Rattle.std.specs.Prelude.{◌∷◌, [], codes, Option, Some, None, option_map}
 use Rattle.dap_accessing.specs.Request.{Request}
 use Rattle.dap_accessing.specs.declared.request.Request.TheVariants as request
 use Rattle.dap_accessing.specs.declared.request.By.TheVariants.{Next, Key, Rfa}

@@ -208,7 +208,7 @@ impl<'a> ToRecords for Texts<'a> {
             let Some(text) = read_text(word) else {
                 unreachable!()
             };
-            list.push(Octets(text).copy(alloc)?)?;
+            list.push(Octets(text.to_vec(alloc)?))?;
         }
         Ok(list)
     }
