@@ -74,7 +74,11 @@ fn parts(words: &str) -> (&str, &str, u32) {
     let Some((piece, times)) = braced.split_once('}') else {
         return (words, "", 0);
     };
-    (before, piece, read_number(times.as_bytes(), 65_535).unwrap_or(0))
+    (
+        before,
+        piece,
+        read_number(times.as_bytes(), 65_535).unwrap_or(0),
+    )
 }
 
 /// The request that words say.
@@ -112,11 +116,7 @@ fn is_told(alloc: Global, report: &Report, words: &str) -> Result<bool, WorldFau
 }
 
 /// Whether the reports are those of the turns.
-fn are_told(
-    alloc: Global,
-    reports: &[Report],
-    turns: &[Told],
-) -> Result<bool, WorldFault> {
+fn are_told(alloc: Global, reports: &[Report], turns: &[Told]) -> Result<bool, WorldFault> {
     for (report, (_request, words)) in reports.iter().zip(turns) {
         if !is_told(alloc, report, words)? {
             return Ok(false);

@@ -23,13 +23,7 @@ const WIDE: WorldSetup = WorldSetup {
 const CREATE: &str = "create 46 0 2 0 0 3";
 
 /// Two puts of 1,002 bytes each make 2,047 segments, and one of a further request makes the first of all too old.
-const PUTS: &[&str] = &[
-    "hello",
-    CREATE,
-    "connect",
-    "put {41}991",
-    "put {41}991",
-];
+const PUTS: &[&str] = &["hello", CREATE, "connect", "put {41}991", "put {41}991"];
 
 const AGED: &[Line] = &[
     Direct(PUTS),
@@ -37,19 +31,13 @@ const AGED: &[Line] = &[
     Asks("get", Ok(Step::Asked(1))),
     Does(Post(A), Ok(Step::Posted(1))),
     Does(Emit(A), Ok(Step::Packet(2112))),
-    Does(
-        Deliver(B, 2112),
-        Ok(Step::Delivered(Got::Accepted)),
-    ),
+    Does(Deliver(B, 2112), Ok(Step::Delivered(Got::Accepted))),
     Does(Deliver(B, 0), Err(WorldFault::Stale)),
     Counts(1, 5, 8),
     Does(Emit(A), Ok(Step::Packet(2113))),
     Does(Emit(A), Ok(Step::Packet(2114))),
     Does(Deliver(B, 2114), Ok(Step::Delivered(Got::Early))),
-    Does(
-        Deliver(B, 2113),
-        Ok(Step::Delivered(Got::Accepted)),
-    ),
+    Does(Deliver(B, 2113), Ok(Step::Delivered(Got::Accepted))),
     Does(Deliver(B, 0), Err(WorldFault::Stale)),
     Counts(3, 5, 8),
     Took(2050),

@@ -49,7 +49,15 @@ const ROWS: &[Row] = &[
     Row {
         setup: (512, 8, 1024, 1024),
         turns: &[READY, LOG, CONNECTED, ("put 41", "done 1")],
-        lost: &[Post(A), Emit(A), Deliver(B, 6), Serve, Serve, Post(B), Emit(B)],
+        lost: &[
+            Post(A),
+            Emit(A),
+            Deliver(B, 6),
+            Serve,
+            Serve,
+            Post(B),
+            Emit(B),
+        ],
         events: 9,
         files: &[(b"L", &[(1, b"A")])],
     },
@@ -239,11 +247,7 @@ fn write(world: &mut World, row: Settled) -> Result<(), WorldFault> {
 }
 
 fn counts(world: &World) -> (usize, usize, u64) {
-    (
-        written(world, A),
-        written(world, B),
-        taken(world, B),
-    )
+    (written(world, A), written(world, B), taken(world, B))
 }
 
 /// Whether the end of A is settled as the row says.

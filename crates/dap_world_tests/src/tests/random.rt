@@ -17,10 +17,7 @@ const SETUP: WorldSetup = WorldSetup {
 /// The requests in order, with their reports.
 const TURNS: &[Told] = &[
     ("hello", "ready 256"),
-    (
-        "create 46 16 2 0 9 15",
-        "opened 16 2 0 9",
-    ),
+    ("create 46 16 2 0 9 15", "opened 16 2 0 9"),
     ("connect", "connected"),
     ("put key 3 7468697264207265636f7264", "done 3"),
     ("put key 3 7468697264207265636f7264", "refused 5000 5"),

@@ -19,9 +19,7 @@ const FRESH: &[Line] = &[
     Does(Post(A), NOTHING),
     Does(Emit(A), NOTHING),
     Does(Resend(A, 0), NOTHING),
-    Asks("get",
-        Err(WorldFault::Ask(AskFault::WrongPhase)),
-    ),
+    Asks("get", Err(WorldFault::Ask(AskFault::WrongPhase))),
     Asks("hello", Ok(Step::Asked(1))),
     Asks("hello", Err(WorldFault::Ask(AskFault::Busy))),
     Counts(0, 0, 0),
@@ -74,18 +72,9 @@ const WAITING: &[Line] = &[
 /// A run stops at an event that is refused: in the last it is the third.
 const RUNS: &[Line] = &[
     Runs(&[], Ok(()), (true, 0, 0, 0)),
+    Runs(&[Serve], Err((0, WorldFault::NothingToDo)), (true, 0, 0, 0)),
     Runs(
-        &[Serve],
-        Err((0, WorldFault::NothingToDo)),
-        (true, 0, 0, 0),
-    ),
-    Runs(
-        &[
-            Ask(Request::Hello),
-            Post(A),
-            Emit(B),
-            Serve,
-        ],
+        &[Ask(Request::Hello), Post(A), Emit(B), Serve],
         Err((2, WorldFault::NothingToDo)),
         (false, 1, 1, 0),
     ),

@@ -5,16 +5,59 @@ use super::*;
 use dap_world::End::{A, B};
 use dap_world::Event::*;
 
+/// The first request, where A takes 1,024 bytes.
+const HELLO: Line = Turn(
+    "hello",
+    "60020201010080010001020a00040703050600000000",
+    1,
+    "60010102020180010001020a00040703050600000000",
+    1,
+    "ready 1024",
+);
+
+/// The third request.
+const CONNECT: Line = Turn(
+    "connect",
+    "6002020101028003000402020200",
+    1,
+    "600101020203800300060200",
+    1,
+    "connected",
+);
+
+/// The first request, where A takes 64 bytes.
+const HELLO_NARROW: Line = Turn(
+    "hello",
+    "60020201010080010001020a40000703050600000000",
+    1,
+    "60010102020180010001020a00040703050600000000",
+    1,
+    "ready 1024",
+);
+
+/// A sequential file to put and get, behind the first request.
+const CREATE_LOG: Line = Turn(
+    "create 46 0 2 0 0 3",
+    "60020201010180020002020ba6040002000004000000000302080200014603000000",
+    2,
+    "60010102020280020002020ba604000200000400000000060200",
+    2,
+    "opened 0 2 0 0",
+);
+
+/// The first record, of ten bytes.
+const PUT_TEN: Line = Turn(
+    "put 61616161616161616161",
+    "60020201010380040004020304010008020b0061616161616161616161",
+    2,
+    "60010102020480040009020d00100401000000040100000000",
+    1,
+    "done 1",
+);
+
 /// A relative file with three numbers: what is put, found and deleted, and what is refused.
 const KEYS: &[Line] = &[
-    Turn(
-        "hello",
-        "60020201010080010001020a00040703050600000000",
-        1,
-        "60010102020180010001020a00040703050600000000",
-        1,
-        "ready 1024",
-    ),
+    HELLO,
     Turn(
         "create 46 16 2 0 3 7",
         "60020201010180020002020ba6041002000004030000000302080200014607000000",
@@ -23,14 +66,7 @@ const KEYS: &[Line] = &[
         2,
         "opened 16 2 0 3",
     ),
-    Turn(
-        "connect",
-        "6002020101028003000402020200",
-        1,
-        "600101020203800300060200",
-        1,
-        "connected",
-    ),
+    CONNECT,
     Turn(
         "put key 3 41",
         "60020201010380040004020804030104030000000802020041",
@@ -91,14 +127,7 @@ const KEYS: &[Line] = &[
 
 /// A put whose answer is lost, written again, and delivered twice.
 const LOST: &[Line] = &[
-    Turn(
-        "hello",
-        "60020201010080010001020a00040703050600000000",
-        1,
-        "60010102020180010001020a00040703050600000000",
-        1,
-        "ready 1024",
-    ),
+    HELLO,
     Turn(
         "create 46 0 2 0 0 1",
         "60020201010180020002020ba6040002000004000000000302080200014601000000",
@@ -107,22 +136,10 @@ const LOST: &[Line] = &[
         2,
         "opened 0 2 0 0",
     ),
-    Turn(
-        "connect",
-        "6002020101028003000402020200",
-        1,
-        "600101020203800300060200",
-        1,
-        "connected",
-    ),
+    CONNECT,
     Asks("put 41", Ok(Step::Asked(1))),
     Does(Post(A), Ok(Step::Posted(1))),
-    Writes(
-        Emit(A),
-        A,
-        3,
-        "6002020101038004000402030401000802020041",
-    ),
+    Writes(Emit(A), A, 3, "6002020101038004000402030401000802020041"),
     Does(Deliver(B, 3), Ok(Step::Delivered(Got::Accepted))),
     Writes(Ack(B), B, 3, "04010102020480"),
     Does(Deliver(A, 3), Ok(Step::Delivered(Got::AckOnly))),
@@ -153,14 +170,7 @@ const LOST: &[Line] = &[
 
 /// A record is replaced once it was read, and not with another length.
 const UPDATES: &[Line] = &[
-    Turn(
-        "hello",
-        "60020201010080010001020a00040703050600000000",
-        1,
-        "60010102020180010001020a00040703050600000000",
-        1,
-        "ready 1024",
-    ),
+    HELLO,
     Turn(
         "create 46 0 2 0 0 11",
         "60020201010180020002020ba604000200000400000000030208020001460b000000",
@@ -169,14 +179,7 @@ const UPDATES: &[Line] = &[
         2,
         "opened 0 2 0 0",
     ),
-    Turn(
-        "connect",
-        "6002020101028003000402020200",
-        1,
-        "600101020203800300060200",
-        1,
-        "connected",
-    ),
+    CONNECT,
     Turn(
         "put 41",
         "6002020101038004000402030401000802020041",
@@ -262,38 +265,10 @@ const UPDATES: &[Line] = &[
 
 /// A record is longer than A takes: the transfer stops there, stays there, and goes on behind it.
 const FETCH: &[Line] = &[
-    Turn(
-        "hello",
-        "60020201010080010001020a40000703050600000000",
-        1,
-        "60010102020180010001020a00040703050600000000",
-        1,
-        "ready 1024",
-    ),
-    Turn(
-        "create 46 0 2 0 0 3",
-        "60020201010180020002020ba6040002000004000000000302080200014603000000",
-        2,
-        "60010102020280020002020ba604000200000400000000060200",
-        2,
-        "opened 0 2 0 0",
-    ),
-    Turn(
-        "connect",
-        "6002020101028003000402020200",
-        1,
-        "600101020203800300060200",
-        1,
-        "connected",
-    ),
-    Turn(
-        "put 61616161616161616161",
-        "60020201010380040004020304010008020b0061616161616161616161",
-        2,
-        "60010102020480040009020d00100401000000040100000000",
-        1,
-        "done 1",
-    ),
+    HELLO_NARROW,
+    CREATE_LOG,
+    CONNECT,
+    PUT_TEN,
     Turn(
         "put {62}200",
         "6002020101048005000402030401000802c9006262626262626262626262626262626262626262626262626262626262626262626262626262626262626262626262626262626262626262626262626262626262626262626262626262626262626262626262626262626262626262626262626262626262626262626262626262626262626262626262626262626262626262626262626262626262626262626262626262626262626262626262626262626262626262626262626262626262626262626262626262626262626262626262626262626262626262",
@@ -338,38 +313,10 @@ const FETCH: &[Line] = &[
 
 /// Four records come in two NSP messages of 54 and 26 bytes; the second one comes first.
 const JOINED: &[Line] = &[
-    Turn(
-        "hello",
-        "60020201010080010001020a40000703050600000000",
-        1,
-        "60010102020180010001020a00040703050600000000",
-        1,
-        "ready 1024",
-    ),
-    Turn(
-        "create 46 0 2 0 0 3",
-        "60020201010180020002020ba6040002000004000000000302080200014603000000",
-        2,
-        "60010102020280020002020ba604000200000400000000060200",
-        2,
-        "opened 0 2 0 0",
-    ),
-    Turn(
-        "connect",
-        "6002020101028003000402020200",
-        1,
-        "600101020203800300060200",
-        1,
-        "connected",
-    ),
-    Turn(
-        "put 61616161616161616161",
-        "60020201010380040004020304010008020b0061616161616161616161",
-        2,
-        "60010102020480040009020d00100401000000040100000000",
-        1,
-        "done 1",
-    ),
+    HELLO_NARROW,
+    CREATE_LOG,
+    CONNECT,
+    PUT_TEN,
     Turn(
         "put 61616161616161616161",
         "60020201010480050004020304010008020b0061616161616161616161",
@@ -396,12 +343,7 @@ const JOINED: &[Line] = &[
     ),
     Asks("fetch", Ok(Step::Asked(1))),
     Does(Post(A), Ok(Step::Posted(1))),
-    Writes(
-        Emit(A),
-        A,
-        7,
-        "600202010107800800040203010103",
-    ),
+    Writes(Emit(A), A, 7, "600202010107800800040203010103"),
     Does(Deliver(B, 7), Ok(Step::Delivered(Got::Accepted))),
     Does(Serve, Ok(Step::Served(2))),
     Does(Post(B), Ok(Step::Posted(2))),
@@ -425,20 +367,15 @@ const JOINED: &[Line] = &[
     Does(Read, Ok(Step::Nothing)),
     Does(Read, Ok(Step::Nothing)),
     Does(Read, Ok(Step::Reported)),
-    Reports("batch 4 complete 1:61616161616161616161 2:61616161616161616161 3:61616161616161616161 4:61616161616161616161"),
+    Reports(
+        "batch 4 complete 1:61616161616161616161 2:61616161616161616161 3:61616161616161616161 4:61616161616161616161",
+    ),
 ];
 
 /// The second record of a store is too long for the file: its number among those sent is told, and the third
 /// isn't stored.
 const STORE: &[Line] = &[
-    Turn(
-        "hello",
-        "60020201010080010001020a00040703050600000000",
-        1,
-        "60010102020180010001020a00040703050600000000",
-        1,
-        "ready 1024",
-    ),
+    HELLO,
     Turn(
         "create 46 0 2 5 0 1",
         "60020201010180020002020ba6040002050004000000000302080200014601000000",
@@ -447,17 +384,8 @@ const STORE: &[Line] = &[
         2,
         "opened 0 2 5 0",
     ),
-    Turn(
-        "connect",
-        "6002020101028003000402020200",
-        1,
-        "600101020203800300060200",
-        1,
-        "connected",
-    ),
-    Asks("store 41 424242424242 43",
-        Ok(Step::Asked(1)),
-    ),
+    CONNECT,
+    Asks("store 41 424242424242 43", Ok(Step::Asked(1))),
     Does(Post(A), Ok(Step::Posted(1))),
     Writes(
         Emit(A),

@@ -27,19 +27,13 @@ const SCRIPTS: &[Script] = &[
         1024,
         &[
             READY,
-            (
-                "create 46 16 2 0 3 7",
-                "opened 16 2 0 3",
-            ),
+            ("create 46 16 2 0 3 7", "opened 16 2 0 3"),
             CLOSED,
             ("open 47 2", "refused 4032 0"),
             ("create 46 16 2 0 3 7", "refused 4000 1"),
             ("open 46 2", "opened 16 2 0 3"),
             ("purge", "closed"),
-            (
-                "create 47 16 2 0 3 7",
-                "opened 16 2 0 3",
-            ),
+            ("create 47 16 2 0 3 7", "opened 16 2 0 3"),
             ("purge", "closed"),
         ],
         &[(b"F", &[])],
@@ -48,13 +42,7 @@ const SCRIPTS: &[Script] = &[
     (
         1024,
         1024,
-        &[
-            READY,
-            (
-                "create 48 32 2 0 0 0",
-                "refused 4000 11",
-            ),
-        ],
+        &[READY, ("create 48 32 2 0 0 0", "refused 4000 11")],
         &[],
     ),
     // Records by their numbers, in a relative file and in a sequential one.
@@ -63,10 +51,7 @@ const SCRIPTS: &[Script] = &[
         64,
         &[
             ("hello", "ready 64"),
-            (
-                "create 52 16 1 2 0 3",
-                "opened 16 1 2 0",
-            ),
+            ("create 52 16 1 2 0 3", "opened 16 1 2 0"),
             CONNECTED,
             ("put key 2147483647 4142", "done 2147483647"),
             ("put 4344", "done 1"),
@@ -158,10 +143,7 @@ const SCRIPTS: &[Script] = &[
             READY,
             ("create 46 0 2 5 0 1", "opened 0 2 5 0"),
             CONNECTED,
-            (
-                "store 41 424242424242 43",
-                "stored refused 5000 7 2",
-            ),
+            ("store 41 424242424242 43", "stored refused 5000 7 2"),
             CONNECTED,
             ("store", "stored"),
             CONNECTED,
@@ -169,10 +151,7 @@ const SCRIPTS: &[Script] = &[
             CLOSED,
             ("open 46 2", "opened 0 2 5 0"),
             CONNECTED,
-            (
-                "fetch",
-                "batch 3 complete 1:41 2:44 3:45",
-            ),
+            ("fetch", "batch 3 complete 1:41 2:44 3:45"),
         ],
         &[(b"F", &[(1, b"A"), (2, b"D"), (3, b"E")])],
     ),
