@@ -22,14 +22,26 @@ use std::test::Fail;
 /// A request in the words of a schedule, and what is printed of its report.
 type Told = (&'static str, &'static str);
 
+/// An event, with the words of the request that is asked.
+#[derive(Clone, Copy)]
+enum Do {
+    Ask(&'static str),
+    Post(End),
+    Emit(End),
+    Resend(End, usize),
+    Ack(End),
+    Deliver(End, usize),
+    Serve,
+    Read,
+}
+
 /// What a script says. Requests are the words of a schedule, and reports are what is printed of them.
+#[derive(Clone, Copy)]
 enum Line {
     /// The event comes to this.
-    Does(Event, Result<Step, WorldFault>),
-    /// Asking this request comes to this.
-    Asks(&'static str, Result<Step, WorldFault>),
+    Does(Do, Result<Step, WorldFault>),
     /// The event writes a packet with these bytes to this place of the end's wire.
-    Writes(Event, End, usize, &'static str),
+    Writes(Do, End, usize, &'static str),
     /// The newest report.
     Reports(&'static str),
     /// The segments of A that aren't acknowledged, the reports, and the messages that B has served.
@@ -50,7 +62,7 @@ enum Line {
     Finishes,
     /// Events one after the other, what they come to, whether the world is fresh then, and how many requests were
     /// asked, messages sent, and messages read.
-    Runs(&'static [Event], Result<(), (usize, WorldFault)>, (bool, usize, usize, u64)),
+    Runs(&'static [Do], Result<(), (usize, WorldFault)>, (bool, usize, usize, u64)),
     /// A request over a clean network: its packet, how many messages of it are served, the packet that
     /// answers, how many messages of it are read, and the report.
     Turn(&'static str, &'static str, usize, &'static str, usize, &'static str),
@@ -108,6 +120,28 @@ fn all_of(alloc: Global, turns: &[Told]) -> Result<Vec<Request>, WorldFault> {
     Ok(requests)
 }
 
+/// An event, as the world has it.
+fn event(alloc: Global, what: Do) -> Result<Event, WorldFault> {
+    Ok(match what {
+        Do::Ask(words) => Event::Ask(request(alloc, words)?),
+        Do::Post(end) => Event::Post(end),
+        Do::Emit(end) => Event::Emit(end),
+        Do::Resend(end, place) => Event::Resend(end, place),
+        Do::Ack(end) => Event::Ack(end),
+        Do::Deliver(end, place) => Event::Deliver(end, place),
+        Do::Serve => Event::Serve,
+        Do::Read => Event::Read,
+    })
+}
+
+fn events(alloc: Global, list: &[Do]) -> Result<Vec<Event>, WorldFault> {
+    let mut events = Vec::new(alloc);
+    for what in list {
+        events.push(event(alloc, *what)?)?;
+    }
+    Ok(events)
+}
+
 /// Whether the report is printed so.
 fn is_told(alloc: Global, report: &Report, words: &str) -> Result<bool, WorldFault> {
     let mut text = Vec::new(alloc);
@@ -132,10 +166,10 @@ fn is_hex(alloc: Global, bytes: &[u8], digits: &str) -> Result<bool, WorldFault>
     Ok(text.as_slice() == digits.as_bytes())
 }
 
-/// A request is asked.
-fn ask(alloc: Global, world: &mut World, words: &str) -> Result<Step, WorldFault> {
-    let request = request(alloc, words)?;
-    apply(world, &Event::Ask(request))
+/// One event.
+fn happen(alloc: Global, world: &mut World, what: Do) -> Result<Step, WorldFault> {
+    let event = event(alloc, what)?;
+    apply(world, &event)
 }
 
 /// Whether a packet with these bytes stands at the place of the end's wire, and is the last one.
@@ -179,12 +213,12 @@ fn acknowledges(alloc: Global, world: &World, end: End, digits: &str) -> Result<
 fn turn(
     alloc: Global,
     world: &mut World,
-    words: &str,
+    words: &'static str,
     serves: usize,
     reads: usize,
 ) -> Result<(), WorldFault> {
     let (asked, answered) = (written(world, End::A), written(world, End::B));
-    ask(alloc, world, words)?;
+    happen(alloc, world, Do::Ask(words))?;
     apply(world, &Event::Post(End::A))?;
     apply(world, &Event::Emit(End::A))?;
     apply(world, &Event::Deliver(End::B, asked))?;
@@ -225,13 +259,13 @@ fn counts(world: &World) -> (bool, usize, usize, u64) {
 }
 
 /// Whether a request over a clean network comes to what the line says.
-fn turns_so(alloc: Global, world: &mut World, line: &Line) -> Result<bool, WorldFault> {
+fn turns_so(alloc: Global, world: &mut World, line: Line) -> Result<bool, WorldFault> {
     let Line::Turn(words, sent, serves, answered, reads, told) = line else {
         return Ok(false);
     };
     let (asks, answers) = (written(world, End::A), written(world, End::B));
     let before = world.reports().len();
-    turn(alloc, world, words, *serves, *reads)?;
+    turn(alloc, world, words, serves, reads)?;
     Ok(
         is_written(alloc, world, End::A, asks, sent)?
             && is_written(alloc, world, End::B, answers, answered)?
@@ -241,35 +275,37 @@ fn turns_so(alloc: Global, world: &mut World, line: &Line) -> Result<bool, World
 }
 
 /// Whether what the line says of many events is so.
-fn go_so(alloc: Global, world: &mut World, line: &Line) -> Result<bool, WorldFault> {
+fn go_so(alloc: Global, world: &mut World, line: Line) -> Result<bool, WorldFault> {
     match line {
         Line::Direct(list) => Ok(direct(world, &all(alloc, list)?) == Ok(())),
-        Line::Brings(segments) => bring(world, *segments).map(|()| true),
+        Line::Brings(segments) => bring(world, segments).map(|()| true),
         Line::Finishes => finish(world).map(|_events| true),
-        Line::Runs(list, wanted, seen) => Ok(run(world, list) == *wanted && counts(world) == *seen),
+        Line::Runs(list, wanted, seen) => {
+            let events = events(alloc, list)?;
+            Ok(run(world, &events) == wanted && counts(world) == seen)
+        }
         line => turns_so(alloc, world, line),
     }
 }
 
 /// Whether what the line says is so.
-fn is_so(alloc: Global, world: &mut World, line: &Line) -> Result<bool, WorldFault> {
+fn is_so(alloc: Global, world: &mut World, line: Line) -> Result<bool, WorldFault> {
     Ok(match line {
-        Line::Does(event, answer) => apply(world, event) == *answer,
-        Line::Asks(words, answer) => ask(alloc, world, words) == *answer,
-        Line::Writes(event, end, place, digits) => {
-            apply(world, event) == Ok(Step::Packet(*place))
-                && is_written(alloc, world, *end, *place, digits)?
+        Line::Does(what, answer) => happen(alloc, world, what) == answer,
+        Line::Writes(what, end, place, digits) => {
+            happen(alloc, world, what) == Ok(Step::Packet(place))
+                && is_written(alloc, world, end, place, digits)?
         }
         Line::Reports(words) => is_newest(alloc, world, words)?,
         Line::Counts(unacked, reports, taken) => {
-            count_unacked(world, End::A) == *unacked
-                && world.reports().len() == *reports
-                && world.taken().len() == *taken
+            count_unacked(world, End::A) == unacked
+                && world.reports().len() == reports
+                && world.taken().len() == taken
         }
-        Line::Took(segments) => taken(world, End::B) == *segments,
-        Line::Holds(number, body) => is_held(world, *number, *body),
+        Line::Took(segments) => taken(world, End::B) == segments,
+        Line::Holds(number, body) => is_held(world, number, body),
         Line::Has(files) => holds(world.files(), files),
-        Line::Acknowledges(end, digits) => acknowledges(alloc, world, *end, digits)?,
+        Line::Acknowledges(end, digits) => acknowledges(alloc, world, end, digits)?,
         line => go_so(alloc, world, line)?,
     })
 }
@@ -292,7 +328,7 @@ fn go_on(
     script: &[Line],
 ) -> Result<(), WorldFault> {
     for (at, line) in script.iter().enumerate() {
-        let so = is_so(rt.alloc(), world, line)?;
+        let so = is_so(rt.alloc(), world, *line)?;
         assert!(rt; so, "at line {at}");
     }
     Ok(())

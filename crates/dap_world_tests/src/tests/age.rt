@@ -1,10 +1,10 @@
 //! Packets that are 2,047 numbers old, and older ones. The first packet of A is delivered again, at a small
 //! window and at the largest.
 
+use super::Do::*;
 use super::Line::*;
 use super::*;
 use dap_world::End::{A, B};
-use dap_world::Event::*;
 
 /// Segments of one byte over a window of 127.
 const SMALL: WorldSetup = WorldSetup {
@@ -28,7 +28,7 @@ const PUTS: &[&str] = &["hello", CREATE, "connect", "put {41}991", "put {41}991"
 const AGED: &[Line] = &[
     Direct(PUTS),
     Does(Deliver(B, 0), Ok(Step::Delivered(Got::Repeat))),
-    Asks("get", Ok(Step::Asked(1))),
+    Does(Ask("get"), Ok(Step::Asked(1))),
     Does(Post(A), Ok(Step::Posted(1))),
     Does(Emit(A), Ok(Step::Packet(2112))),
     Does(Deliver(B, 2112), Ok(Step::Delivered(Got::Accepted))),
@@ -57,7 +57,7 @@ fn edge_of_age(rt: HostRuntime) -> Result<(), Fail> {
 /// is finished.
 const WITHIN: &[Line] = &[
     Direct(&["hello", CREATE, "connect"]),
-    Asks("store{ -}500", Ok(Step::Asked(1))),
+    Does(Ask("store{ -}500"), Ok(Step::Asked(1))),
     Does(Post(A), Ok(Step::Posted(1))),
     Took(43),
     Brings(2004),

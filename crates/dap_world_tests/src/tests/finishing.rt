@@ -1,20 +1,21 @@
 //! Stretches without loss: what is settled and finished after all on the wires was lost, and requests over
 //! a clean network.
 
+use super::Do::*;
 use super::calls::{after, directed, finish, settle, taken};
 use super::*;
 use dap_world::AskFault;
 use dap_world::End::{A, B};
-use dap_world::Event::*;
 
 /// Requests over a clean network, then one whose packets may be lost, and then all is finished.
+#[derive(Clone, Copy)]
 struct Row {
     /// Segment size, window and both buffers.
     setup: (usize, usize, u16, u16),
     /// The requests with their reports; only the last one is not over a clean network.
     turns: &'static [Told],
     /// What happens once it is asked.
-    lost: &'static [Event],
+    lost: &'static [Do],
     /// How many events finish it.
     events: usize,
     files: Files,
@@ -98,9 +99,9 @@ const ROWS: &[Row] = &[
 ];
 
 /// Whether what was lost is finished as the row says.
-fn is_finished(alloc: Global, world: &mut World, row: &Row) -> Result<bool, WorldFault> {
-    for event in row.lost {
-        apply(world, event)?;
+fn is_finished(alloc: Global, world: &mut World, row: Row) -> Result<bool, WorldFault> {
+    for what in row.lost {
+        happen(alloc, world, *what)?;
     }
     let (events, more) = (finish(world)?, finish(world)?);
     Ok(
@@ -112,7 +113,7 @@ fn is_finished(alloc: Global, world: &mut World, row: &Row) -> Result<bool, Worl
 }
 
 /// Whether all comes to what the row says.
-fn comes_so(alloc: Global, row: &Row) -> Result<bool, WorldFault> {
+fn comes_so(alloc: Global, row: Row) -> Result<bool, WorldFault> {
     let (seg_size, window, bufsiz_a, bufsiz_b) = row.setup;
     let setup = WorldSetup {
         seg_size,
@@ -124,14 +125,14 @@ fn comes_so(alloc: Global, row: &Row) -> Result<bool, WorldFault> {
         return Ok(false);
     };
     let mut world = after(alloc, setup, &all_of(alloc, direct)?)?;
-    ask(alloc, &mut world, words)?;
+    happen(alloc, &mut world, Ask(words))?;
     is_finished(alloc, &mut world, row)
 }
 
 #[test]
 fn all_come_to_their_reports(rt: HostRuntime) -> Result<(), Fail> {
     for (at, row) in ROWS.iter().enumerate() {
-        let so = comes_so(rt.alloc(), row)?;
+        let so = comes_so(rt.alloc(), *row)?;
         assert!(rt; so, "row {at}");
     }
     Ok(())
@@ -234,13 +235,13 @@ const SETTLED: &[Settled] = &[
 ];
 
 fn write(world: &mut World, row: Settled) -> Result<(), WorldFault> {
-    apply(world, &Post(A))?;
+    apply(world, &Event::Post(A))?;
     for _ in 0..row.written {
-        apply(world, &Emit(A))?;
+        apply(world, &Event::Emit(A))?;
     }
     if row.came {
         for place in 0..row.written {
-            apply(world, &Deliver(B, place))?;
+            apply(world, &Event::Deliver(B, place))?;
         }
     }
     Ok(())
@@ -271,7 +272,7 @@ fn settles_so(alloc: Global, row: Settled) -> Result<bool, WorldFault> {
         bufsiz_b: 4096,
     };
     let mut world = after(alloc, setup, &all(alloc, row.direct)?)?;
-    ask(alloc, &mut world, row.asked)?;
+    happen(alloc, &mut world, Ask(row.asked))?;
     is_settled(&mut world, row)
 }
 

@@ -64,16 +64,16 @@ fn draw_packet(written: usize, seed: &mut u32) -> usize {
 }
 
 /// An event, whether it has a step or not.
-fn draw_event(world: &World, seed: &mut u32) -> Event {
+fn draw_event(world: &World, seed: &mut u32) -> Do {
     let end = draw_end(seed);
     match draw(seed, 10) {
-        0 => Event::Post(end),
-        1 | 2 => Event::Emit(end),
-        3 => Event::Resend(end, draw(seed, 4)),
-        4 => Event::Ack(end),
-        5..=7 => Event::Deliver(end, draw_packet(written(world, other(end)), seed)),
-        8 => Event::Serve,
-        _ => Event::Read,
+        0 => Do::Post(end),
+        1 | 2 => Do::Emit(end),
+        3 => Do::Resend(end, draw(seed, 4)),
+        4 => Do::Ack(end),
+        5..=7 => Do::Deliver(end, draw_packet(written(world, other(end)), seed)),
+        8 => Do::Serve,
+        _ => Do::Read,
     }
 }
 
@@ -82,12 +82,12 @@ fn play_drawn(alloc: Global, world: &mut World, seed: &mut u32) -> usize {
     let mut asked: usize = 0;
     for _ in 0..draw(seed, MOST_EVENTS) {
         if let Some((words, _report)) = TURNS.get(asked) {
-            if ask(alloc, world, words).is_ok() {
+            if happen(alloc, world, Do::Ask(words)).is_ok() {
                 asked = asked.saturating_add(1);
             }
         }
-        let event = draw_event(world, seed);
-        let _ = apply(world, &event);
+        let what = draw_event(world, seed);
+        let _ = happen(alloc, world, what);
     }
     asked
 }

@@ -1,10 +1,10 @@
 //! What has no step, and what no world can be made of.
 
+use super::Do::*;
 use super::Line::*;
 use super::*;
 use dap_world::AskFault;
 use dap_world::End::{A, B};
-use dap_world::Event::*;
 
 const NOTHING: Result<Step, WorldFault> = Err(WorldFault::NothingToDo);
 
@@ -19,15 +19,15 @@ const FRESH: &[Line] = &[
     Does(Post(A), NOTHING),
     Does(Emit(A), NOTHING),
     Does(Resend(A, 0), NOTHING),
-    Asks("get", Err(WorldFault::Ask(AskFault::WrongPhase))),
-    Asks("hello", Ok(Step::Asked(1))),
-    Asks("hello", Err(WorldFault::Ask(AskFault::Busy))),
+    Does(Ask("get"), Err(WorldFault::Ask(AskFault::WrongPhase))),
+    Does(Ask("hello"), Ok(Step::Asked(1))),
+    Does(Ask("hello"), Err(WorldFault::Ask(AskFault::Busy))),
     Counts(0, 0, 0),
 ];
 
 /// What is served waits before more is served.
 const WAITING: &[Line] = &[
-    Asks("hello", Ok(Step::Asked(1))),
+    Does(Ask("hello"), Ok(Step::Asked(1))),
     Does(Emit(A), NOTHING),
     Does(Post(A), Ok(Step::Posted(1))),
     Does(Post(A), NOTHING),
@@ -74,7 +74,7 @@ const RUNS: &[Line] = &[
     Runs(&[], Ok(()), (true, 0, 0, 0)),
     Runs(&[Serve], Err((0, WorldFault::NothingToDo)), (true, 0, 0, 0)),
     Runs(
-        &[Ask(Request::Hello), Post(A), Emit(B), Serve],
+        &[Ask("hello"), Post(A), Emit(B), Serve],
         Err((2, WorldFault::NothingToDo)),
         (false, 1, 1, 0),
     ),

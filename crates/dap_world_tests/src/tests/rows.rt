@@ -1,9 +1,9 @@
 //! Whole exchanges, event by event, with each packet that is written.
 
+use super::Do::*;
 use super::Line::*;
 use super::*;
 use dap_world::End::{A, B};
-use dap_world::Event::*;
 
 /// The first request, where A takes 1,024 bytes.
 const HELLO: Line = Turn(
@@ -137,7 +137,7 @@ const LOST: &[Line] = &[
         "opened 0 2 0 0",
     ),
     CONNECT,
-    Asks("put 41", Ok(Step::Asked(1))),
+    Does(Ask("put 41"), Ok(Step::Asked(1))),
     Does(Post(A), Ok(Step::Posted(1))),
     Writes(Emit(A), A, 3, "6002020101038004000402030401000802020041"),
     Does(Deliver(B, 3), Ok(Step::Delivered(Got::Accepted))),
@@ -341,7 +341,7 @@ const JOINED: &[Line] = &[
         1,
         "done 4",
     ),
-    Asks("fetch", Ok(Step::Asked(1))),
+    Does(Ask("fetch"), Ok(Step::Asked(1))),
     Does(Post(A), Ok(Step::Posted(1))),
     Writes(Emit(A), A, 7, "600202010107800800040203010103"),
     Does(Deliver(B, 7), Ok(Step::Delivered(Got::Accepted))),
@@ -385,7 +385,7 @@ const STORE: &[Line] = &[
         "opened 0 2 5 0",
     ),
     CONNECT,
-    Asks("store 41 424242424242 43", Ok(Step::Asked(1))),
+    Does(Ask("store 41 424242424242 43"), Ok(Step::Asked(1))),
     Does(Post(A), Ok(Step::Posted(1))),
     Writes(
         Emit(A),
