@@ -7,7 +7,7 @@ use Rattle.dap_msg.specs.Message.{Attrib, Accomp, Filedata, Status, StatusFields
 use Rattle.dap_msg.specs.Items.{Item, Whole}
 use Rattle.dap_msg.specs.Codes.{is_success}
 use Rattle.dap_msg.specs.Exchange.{number_of}
-use Rattle.dap_accessing.specs.declared.request.Request.{Request}
+use Rattle.dap_accessing.specs.Request.{Request}
 use Rattle.dap_accessing.specs.declared.request.Request.TheVariants.{Hello, Create, OpenFile, Connect, Get, Put, Update, Delete, Rewind, Fetch, Store, Continue, Close, Purge}
 use Rattle.dap_accessing.specs.declared.report.Report.{Report}
 use Rattle.dap_accessing.specs.declared.report.Report.TheVariants as report

@@ -1,18 +1,18 @@
 -- What an end keeps follows from the requests and answers that it stands after.
-use Rattle.std.proofs.Common.{◌≡◌, ℕ, Bool, List, [], ◌∷◌, ◌++◌, Option, Some, None, refl, sym, ◌∙◌, ap}
+use Rattle.std.proofs.Common.{◌≡◌, ℕ, Bool, List, [], ◌∷◌, Option, Some, None, refl, sym, ◌∙◌, ap}
 use Rattle.std.specs.Option.{option_or}
 use Rattle.std.proofs.lemmas.List.{append-nil}
 use Rattle.dap_msg.specs.Codes as codes
-use Rattle.dap_msg.specs.Message.{Message, Attrib, Ack, Filedata, Status}
+use Rattle.dap_msg.specs.Message.{Ack, Filedata, Status}
 use Rattle.dap_msg.specs.Exchange.{config_of, complete_with}
 use Rattle.dap_msg.specs.Items.{Item, Whole}
 use Rattle.dap_accessing.specs.declared.report.Report.{Report}
 use Rattle.dap_accessing.specs.declared.report.Report.TheVariants as report
-use Rattle.dap_accessing.specs.declared.request.Request.{Request}
+use Rattle.dap_accessing.specs.Request.{Request}
 use Rattle.dap_accessing.specs.declared.phase.Phase.{Phase}
 use Rattle.dap_accessing.specs.declared.pending.Pending.{Pending}
 use Rattle.dap_accessing.specs.declared.pending.Pending.TheVariants as pending
-use Rattle.dap_accessing.specs.Told.{Hearing, Reports, Waits, Unexpected, Told, Due, NothingDue, AnswersDue, Wrong, due_after}
+use Rattle.dap_accessing.specs.Told.{Hearing, Reports, Due, NothingDue, AnswersDue, Wrong, due_after}
 use Rattle.dap_accessing.specs.Present.{Present, hear_from, FitsDue, StandsAfter}
 
 -- ---- What is pending is told by what it makes of six answers.

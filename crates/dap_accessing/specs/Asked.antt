@@ -7,7 +7,7 @@ use Rattle.dap_accessing.specs.declared.request.By.{By}
 use Rattle.dap_accessing.specs.declared.request.By.TheVariants.{Next, Key, Rfa}
 use Rattle.dap_accessing.specs.declared.request.How.{How}
 use Rattle.dap_accessing.specs.declared.request.How.TheVariants.{Again, Skip, Abort}
-use Rattle.dap_accessing.specs.declared.request.Request.{Request}
+use Rattle.dap_accessing.specs.Request.{Request}
 use Rattle.dap_accessing.specs.declared.request.Request.TheVariants.{Hello, Create, OpenFile, Connect, Get, Put, Update, Delete, Rewind, Fetch, Store, Continue, Close, Purge}
 
 abbrev pub attributes : Option ℕ → Option ℕ → Option ℕ → Option (List ℕ) → Message

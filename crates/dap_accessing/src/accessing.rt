@@ -11,7 +11,7 @@ ghost use Rattle.dap_accessing.specs.Present.{Present, StandsAfter};
 ghost use Rattle.dap_msg.specs.Items.{IsPlace};
 ghost use Rattle.dap_accessing.specs.Calls.{Asks, AskRefused, IsAdmittedBy, MayAsk, Reads, ReadRefused};
 ghost use Rattle.dap_accessing.specs.Told.{Told};
-ghost use Rattle.dap_accessing.specs.declared.request.Request.{Request as TheRequest};
+ghost use Rattle.dap_accessing.specs.Request.{Request as TheRequest};
 ghost use Rattle.dap_accessing.specs.declared.report.Report.{Report as TheReport};
 
 use crate::asking::{Outgoing, carried_number};

@@ -1,31 +1,33 @@
-//! Copies of requests.
+//! Requests in memory of their own.
 
 ghost use Rattle.std.specs.Prelude.{◌≡◌, IfOk};
 
-use crate::bytes::{Octets, OctetsList};
+use crate::bytes::{Octets, OctetsList, ToBytes, ToRecords};
 use crate::request::Request;
 use std::alloc::{AllocError, Global};
 
-fn copy_octets(alloc: Global, octets: &Octets) -> Result<Octets, AllocError>
-    ensures { IfOk result (λ copy. copy ≡ octets.now) }
-{
-    Ok(Octets(Vec::from_slice(alloc, &octets.0)?))
-}
-
-fn copy_list(alloc: Global, list: &OctetsList) -> Result<OctetsList, AllocError>
-    ensures { IfOk result (λ copy. copy ≡ list.now) }
-{
-    let mut copy = Vec::new(alloc);
-    for octets in &list.0 {
-        copy.push(copy_octets(alloc, octets)?)?;
-    }
-    Ok(OctetsList(copy))
-}
-
-impl Request {
-    /// The same request, in memory of its own. The only refusal is want of memory. Own.
-    pub fn copy(&self, alloc: Global) -> Result<Request, AllocError>
+impl<H: ToBytes> Octets<H> {
+    /// The same bytes, in memory of their own.
+    pub(crate) fn copy(&self, alloc: Global) -> Result<Octets, AllocError>
         ensures { IfOk result (λ copy. copy ≡ self.now) }
+    {
+        Ok(Octets(self.0.to_bytes(alloc)?))
+    }
+}
+
+impl<L: ToRecords> OctetsList<L> {
+    /// The same records, in memory of their own.
+    pub(crate) fn copy(&self, alloc: Global) -> Result<OctetsList, AllocError>
+        ensures { IfOk result (λ copy. copy ≡ self.now) }
+    {
+        Ok(OctetsList(self.0.to_records(alloc)?))
+    }
+}
+
+impl<H: ToBytes, L: ToRecords> Request<Octets<H>, OctetsList<L>> {
+    /// The same request, in memory of its own. The only refusal is want of memory. Own.
+    pub fn to_request(&self, alloc: Global) -> Result<Request, AllocError>
+        ensures { IfOk result (λ request. request ≡ self.now) }
     {
         Ok(match self {
             Request::Hello => Request::Hello,
@@ -37,7 +39,7 @@ impl Request {
                 mrn,
                 fac,
             } => Request::Create {
-                name: copy_octets(alloc, name)?,
+                name: name.copy(alloc)?,
                 org: *org,
                 rfm: *rfm,
                 mrs: *mrs,
@@ -45,25 +47,34 @@ impl Request {
                 fac: *fac,
             },
             Request::OpenFile { name, fac } => Request::OpenFile {
-                name: copy_octets(alloc, name)?,
+                name: name.copy(alloc)?,
                 fac: *fac,
             },
             Request::Connect => Request::Connect,
             Request::Get(by) => Request::Get(*by),
             Request::Put { key, body } => Request::Put {
                 key: *key,
-                body: copy_octets(alloc, body)?,
+                body: body.copy(alloc)?,
             },
             Request::Update { body } => Request::Update {
-                body: copy_octets(alloc, body)?,
+                body: body.copy(alloc)?,
             },
             Request::Delete => Request::Delete,
             Request::Rewind => Request::Rewind,
             Request::Fetch => Request::Fetch,
-            Request::Store(bodies) => Request::Store(copy_list(alloc, bodies)?),
+            Request::Store(bodies) => Request::Store(bodies.copy(alloc)?),
             Request::Continue(how) => Request::Continue(*how),
             Request::Close => Request::Close,
             Request::Purge => Request::Purge,
         })
+    }
+}
+
+impl Request {
+    /// The same of a request that is held so already. Own.
+    pub fn copy(&self, alloc: Global) -> Result<Request, AllocError>
+        ensures { IfOk result (λ copy. copy ≡ self.now) }
+    {
+        self.to_request(alloc)
     }
 }

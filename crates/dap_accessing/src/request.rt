@@ -3,7 +3,7 @@
 use crate::bytes::{Octets, OctetsList};
 
 /// Which record a Get asks for (DAP 5.6.0, Control message, RAC).
-#[derive(Clone, Copy, Drop)]
+#[derive(Clone, Copy, Drop, Debug, PartialEq, Eq)]
 pub enum By {
     /// The next one.
     Next,
@@ -14,7 +14,7 @@ pub enum By {
 }
 
 /// How a Fetch that stopped goes on (DAP 5.6.0, Continue Transfer message).
-#[derive(Clone, Copy, Drop)]
+#[derive(Clone, Copy, Drop, Debug, PartialEq, Eq)]
 pub enum How {
     /// With the record at which it stopped.
     Again,
@@ -24,15 +24,15 @@ pub enum How {
     Abort,
 }
 
-/// What is asked of the end that holds the files. Own.
-#[derive(Drop)]
-pub enum Request {
+/// What is asked of the end that holds the files, however its names and its lists of records are held. Own.
+#[derive(Drop, Debug, PartialEq)]
+pub enum Request<B = Octets, L = OctetsList> {
     /// The first request: each end tells its buffer size.
     Hello,
     /// A new file of a name, with ORG, RFM, MRS in bytes, MRN and FAC (DAP 5.6.0, Attributes and
     /// Access messages).
     Create {
-        name: Octets,
+        name: B,
         org: u8,
         rfm: u8,
         mrs: u16,
@@ -41,7 +41,7 @@ pub enum Request {
     },
     /// An existing file of a name, with FAC.
     OpenFile {
-        name: Octets,
+        name: B,
         fac: u32,
     },
     /// A stream to the file.
@@ -52,11 +52,11 @@ pub enum Request {
     /// the stream's next number.
     Put {
         key: Option<u32>,
-        body: Octets,
+        body: B,
     },
     /// Another body for the current record.
     Update {
-        body: Octets,
+        body: B,
     },
     /// The current record is removed.
     Delete,
@@ -65,7 +65,7 @@ pub enum Request {
     /// All records from the next one on.
     Fetch,
     /// New records, each as by a Put without a number; the stream ends with them.
-    Store(OctetsList),
+    Store(L),
     /// After a Fetch that stopped.
     Continue(How),
     /// The file is closed.

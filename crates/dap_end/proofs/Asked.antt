@@ -18,7 +18,7 @@ use Rattle.nsp_link.specs.Link.{LinkValue, SendsStill, Stands, MaySend}
 use Rattle.nsp_link.specs.Sending.{MayQueueAll, SendAllFault}
 use Rattle.nsp_link.proofs.ForCallers.{sends_all}
 use Rattle.dap_accessed.specs.Served.{AllAtMost}
-use Rattle.dap_accessing.specs.declared.request.Request.{Request}
+use Rattle.dap_accessing.specs.Request.{Request}
 use Rattle.dap_accessing.specs.declared.report.Report.{Report}
 use Rattle.dap_accessing.specs.declared.fault.ReadStep.{ReadStep}
 use Rattle.dap_accessing.specs.Asked.{Asked, messages_of}

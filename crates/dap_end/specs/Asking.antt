@@ -9,7 +9,7 @@ use Rattle.nsp_link.specs.Sending.{MayQueueAll, SendAllFault}
 use Rattle.nsp_link.specs.declared.link.Got.{Got}
 use Rattle.nsp_link.specs.declared.fault.LinkFault.{LinkFault}
 use Rattle.nsp_link.specs.declared.fault.LinkFault.TheVariants as fault
-use Rattle.dap_accessing.specs.declared.request.Request.{Request}
+use Rattle.dap_accessing.specs.Request.{Request}
 use Rattle.dap_accessing.specs.declared.report.Report.{Report}
 use Rattle.dap_accessing.specs.declared.fault.ReadFault.{ReadFault}
 use Rattle.dap_accessing.specs.declared.fault.ReadFault.TheVariants as read_fault

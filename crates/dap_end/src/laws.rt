@@ -7,7 +7,7 @@ ghost use Rattle.nsp_link.specs.declared.fault.LinkFault.{LinkFault as TheFault}
 ghost use Rattle.nsp_link.specs.Link.{IsSpelling};
 ghost use Rattle.nsp_link.specs.Sending.{WritesSent, ack_packet_of};
 ghost use Rattle.dap_accessed.specs.Standing.{Files};
-ghost use Rattle.dap_accessing.specs.declared.request.Request.{Request as TheRequest};
+ghost use Rattle.dap_accessing.specs.Request.{Request as TheRequest};
 ghost use Rattle.dap_accessing.specs.declared.report.Report.{Report as TheReport};
 ghost use Rattle.dap_accessing.specs.declared.fault.ReadFault.TheVariants as read_fault;
 ghost use Rattle.dap_end.specs.declared.fault.EndFault.{EndFault as TheEndFault};

@@ -1,7 +1,7 @@
 -- How far an order was done.
 use Rattle.std.proofs.Common.{◌≡◌, ◌⊎◌, ◌++◌, inl, inr, ℕ, Bool, true, false, List, refl, ap, sym, true≢false}
 use Rattle.dap_accessing.specs.declared.report.Report.{Report}
-use Rattle.dap_accessing.specs.declared.request.Request.{Request}
+use Rattle.dap_accessing.specs.Request.{Request}
 use Rattle.linewise.specs.declared.talking.Became.{Became}
 use Rattle.linewise.specs.declared.talking.Became.TheVariants.{Done}
 use Rattle.dap_end.specs.Serving.{ServingValue}

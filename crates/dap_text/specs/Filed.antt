@@ -7,13 +7,9 @@ use Rattle.rec_file.specs.Shapes.{checked_shape, is_shape}
 use Rattle.rec_file.specs.declared.shapes.Shape.{Shape}
 use Rattle.dap_text.specs.Tables.{file_line, record_line}
 use Rattle.dap_text.specs.Text.{line_feed}
-use Rattle.dap_text.specs.Words.{Words, ends, first, is, long, short, text_of, words_of}
+use Rattle.dap_text.specs.Words.{Words, ends, field, is, long, short, text_of, word, words_of}
 use Rattle.dap_text.specs.declared.filed.FileLine.{FileLine}
 use Rattle.dap_text.specs.declared.filed.RecordLine.{RecordLine}
-
--- the word is this one, and says nothing more
-abbrev pub just : List ℕ → List ℕ → Option (Unit {0})
-just name word = if is word name then Some tt else None
 
 -- ORG by its word
 abbrev pub org_of : List ℕ → Option ℕ
@@ -31,25 +27,21 @@ rfm_of word =
 
 -- NAME ORG RFM MRS MRN
 abbrev pub attributes_of : Words → Option FileLine
-attributes_of words =
-    first text_of words (λ name words. first org_of words (λ org words. first rfm_of words (λ rfm words.
-    first short words (λ mrs words. first long words (λ mrn words.
-    ends (record { name = name; org = org; rfm = rfm; mrs = mrs; mrn = mrn }) words)))))
+attributes_of =
+    field text_of (λ name. field org_of (λ org. field rfm_of (λ rfm. field short (λ mrs. field long (λ mrn.
+    ends (record { name = name; org = org; rfm = rfm; mrs = mrs; mrn = mrn }))))))
 
 -- `file`, and the attributes
 abbrev pub file_of : List ℕ → Option FileLine
-file_of line = first (just (codes "file")) (words_of line) (λ file words. attributes_of words)
+file_of line = word (codes "file") attributes_of (words_of line)
 
 -- N BODY
 abbrev pub numbered_of : Words → Option RecordLine
-numbered_of words =
-    first long words (λ number words. first text_of words (λ body words.
-    ends (record { number = number; body = body }) words))
+numbered_of = field long (λ number. field text_of (λ body. ends (record { number = number; body = body })))
 
 -- two empty words, as the line begins with two spaces, and the record
 abbrev pub record_of : List ℕ → Option RecordLine
-record_of line =
-    first (just []) (words_of line) (λ first_space words. first (just []) words (λ second_space words. numbered_of words))
+record_of line = word [] (word [] numbered_of) (words_of line)
 
 -- ---- What is printed is read back.
 

@@ -1,5 +1,6 @@
 -- The words of a line, and what a word says.
 use Rattle.std.specs.Prelude.{ℕ, Bool, ◌+◌, ◌-◌, ◌*◌, ◌%◌, ◌==◌, ◌&&◌, nat_le, List, [], ◌∷◌, length, codes, bytes_eq, if◌then◌else◌, Option, Some, None, Result, Ok, Err}
+use Rattle.std.specs.Option.{option_or}
 use Rattle.std.specs.List.{slice_split, list_all, fold}
 use Rattle.std.specs.Char.{is_ascii_digit, is_ascii_hexdigit}
 use Rattle.hex.specs.Hex.{decode_of}
@@ -73,6 +74,20 @@ goes_on next (Some x) words = next x words
 abbrev pub first : {X Y : Type 0} → (List ℕ → Option X) → Words → (X → Words → Option Y) → Option Y
 first read [] next = None
 first read (word ∷ words) next = goes_on next (read word) words
+
+-- the first word is this one, and then what follows
+abbrev pub word : {X : Type 0} → List ℕ → (Words → Option X) → Words → Option X
+word name next [] = None
+word name next (w ∷ words) = if is w name then next words else None
+
+-- a word is read, and then what follows
+abbrev pub field : {X Y : Type 0} → (List ℕ → Option X) → (X → Words → Option Y) → Words → Option Y
+field read next words = first read words next
+
+-- the first of the forms in which the words say something
+abbrev pub one_of : {X : Type 0} → List (Words → Option X) → Words → Option X
+one_of [] words = None
+one_of (form ∷ forms) words = option_or (form words) (one_of forms words)
 
 -- numbers, by the widest value of their fields
 

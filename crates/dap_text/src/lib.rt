@@ -19,4 +19,4 @@ pub use reports::push_report;
 pub use requests::{Wish, read_wish};
 pub use tables::push_files;
 pub use text::{push_decimal, push_hex, push_image, push_number, push_str, push_word};
-pub use words::{Text, Words, is, read_hex, read_number};
+pub use words::{Text, Texts, Words, is, read_hex, read_number};

@@ -8,7 +8,7 @@ ghost use Rattle.dap_text.specs.Words.{decimal_of, hex_of, text_of, texts_of, wo
 ghost use Rattle.dap_text.specs.Inner.Words.{words_left};
 
 use crate::bytes::{find_byte, is_hex_text};
-use dap_accessing::{Octets, OctetsList};
+use dap_accessing::{Octets, ToBytes, ToRecords};
 use std::alloc::{AllocError, Global};
 use std::marker::Model;
 
@@ -162,9 +162,17 @@ impl<'a> Text<'a> {
     }
 }
 
-/// The bytes of records, each behind the other.
+impl<'a> ToBytes for Text<'a> {
+    ghost bytes = { λ t. t };
+
+    fn to_bytes(&self, alloc: Global) -> Result<Vec<u8>, AllocError> {
+        self.to_vec(alloc)
+    }
+}
+
+/// Records, each by the hex digits of a word or `-`, which contracts see as lists of bytes. Own.
 #[derive(Drop)]
-pub(crate) struct Texts<'a> {
+pub struct Texts<'a> {
     words: Words<'a>,
 }
 
@@ -190,22 +198,18 @@ pub(crate) fn read_texts<'a>(words: Words<'a>) -> Option<Texts<'a>>
     Some(Texts { words })
 }
 
-impl<'a> Texts<'a> {
-    ghost use Rattle.std.specs.Prelude.{◌≡◌, IfOk};
+impl<'a> ToRecords for Texts<'a> {
+    ghost records = { λ t. t };
 
-    /// The bytes.
-    pub(crate) fn to_list(&self, alloc: Global) -> Result<OctetsList, AllocError>
-        ensures { IfOk result (λ list. list ≡ self.now) }
-    {
+    fn to_records(&self, alloc: Global) -> Result<Vec<Octets>, AllocError> {
         let mut list = Vec::new(alloc);
         let mut left = self.words.again();
         while let Some(word) = left.next() {
             let Some(text) = read_text(word) else {
                 unreachable!()
             };
-            let bytes = text.to_vec(alloc)?;
-            list.push(Octets(bytes))?;
+            list.push(Octets(text.to_vec(alloc)?))?;
         }
-        Ok(OctetsList(list))
+        Ok(list)
     }
 }

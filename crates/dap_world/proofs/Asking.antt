@@ -5,7 +5,7 @@ use Rattle.dap_msg.specs.Message.{Message}
 use Rattle.dap_msg.specs.Items.{Item, Whole}
 use Rattle.dap_accessed.specs.Groups.{Answers, added}
 use Rattle.dap_accessed.proofs.ForCallers.{Answers-more}
-use Rattle.dap_accessing.specs.declared.request.Request.{Request}
+use Rattle.dap_accessing.specs.Request.{Request}
 use Rattle.dap_accessing.specs.Told.{Hearing, Reports, Waits, Unexpected, hear, Told, Due, NothingDue, AnswersDue, Wrong, due_after, is_unexpected}
 use Rattle.dap_accessing.specs.Phase.{IsNoneDue, IsAdmissible}
 use Rattle.dap_accessing.proofs.ForCallers.{Stays, stays, told_by, Told-told_by}

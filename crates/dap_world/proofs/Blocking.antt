@@ -12,7 +12,7 @@ use Rattle.std.proofs.lemmas.List.{append-nil}
 use Rattle.dap_accessed.specs.Groups.{added, limit_for}
 use Rattle.dap_accessed.specs.Served.{AllAtMost}
 use Rattle.dap_accessed.proofs.ForCallers.{HasShortType, added-sends}
-use Rattle.dap_accessing.specs.declared.request.Request.{Request}
+use Rattle.dap_accessing.specs.Request.{Request}
 use Rattle.dap_accessing.specs.declared.request.Request.TheVariants as request
 use Rattle.dap_accessing.specs.declared.request.By.TheVariants as by
 use Rattle.dap_accessing.specs.Asked.{Asked, messages_of, unnumbered_record}

@@ -6,7 +6,7 @@ use Rattle.dap_msg.specs.Items.{Item}
 use Rattle.dap_msg.specs.Blocked.{NspMessage, Blocked, messages_in, AllFit, AllWithin}
 use Rattle.dap_msg.proofs.ForCallers.{messages_in-Blocked, within_limit}
 use Rattle.dap_accessed.specs.Groups.{added, stands_after}
-use Rattle.dap_accessing.specs.declared.request.Request.{Request}
+use Rattle.dap_accessing.specs.Request.{Request}
 use Rattle.dap_accessing.specs.Asked.{messages_of, Asked}
 use Rattle.dap_end.proofs.ForCallers.{full-blocked, full-both, in_append}
 use Rattle.dap_world.specs.Inner.Parts.{asked_packets, answer_packets}

@@ -3,7 +3,7 @@ use Rattle.std.proofs.Common.{◌≡◌, ◌∙◌, arith, refl, sym, subst, ap,
 use Rattle.std.specs.Prelude.{Some}
 use Rattle.dap_accessing.specs.declared.fault.AskFault.{AskFault}
 use Rattle.dap_accessing.specs.declared.fault.AskFault.TheVariants as ask_fault
-use Rattle.dap_accessing.specs.declared.request.Request.{Request}
+use Rattle.dap_accessing.specs.Request.{Request}
 use Rattle.dap_world.specs.declared.event.Event.{Event}
 use Rattle.dap_world.specs.declared.event.Event.TheVariants as event
 use Rattle.dap_world.specs.declared.event.WorldFault.{WorldFault}

@@ -7,7 +7,7 @@ use Rattle.dap_msg.specs.Message.{Message}
 use Rattle.dap_msg.specs.Items.{Whole}
 use Rattle.dap_accessed.specs.Groups.{After}
 use Rattle.dap_accessing.specs.declared.fault.AskFault.TheVariants as ask_fault
-use Rattle.dap_accessing.specs.declared.request.Request.{Request}
+use Rattle.dap_accessing.specs.Request.{Request}
 use Rattle.dap_accessing.specs.Asked.{Asked}
 use Rattle.dap_accessing.specs.Phase.{IsNoneDue}
 use Rattle.dap_accessing.specs.Told.{Wrong, due_after, Told}

@@ -9,7 +9,7 @@ use Rattle.dap_msg.specs.Blocked.{NspMessage, messages_in}
 use Rattle.dap_msg.proofs.ForCallers.{messages_in-Blocked}
 use Rattle.dap_accessed.specs.Groups.{Answers, added}
 use Rattle.dap_accessed.proofs.ForCallers.{Answers-more}
-use Rattle.dap_accessing.specs.declared.request.Request.{Request}
+use Rattle.dap_accessing.specs.Request.{Request}
 use Rattle.dap_accessing.specs.Asked.{messages_of, Asked}
 use Rattle.dap_accessing.specs.Phase.{IsAdmissible}
 use Rattle.nsp_link.specs.Limits.{most_segments}

@@ -16,7 +16,7 @@ use Rattle.dap_end.specs.Ports.{PortValue, new_port}
 use Rattle.dap_end.specs.Asking.{AskingValue, HasAsked, nothing_asked}
 use Rattle.dap_end.specs.Serving.{ServingValue, IsAfter, nothing_yet}
 use Rattle.dap_world.specs.Inner.Setups.{link_of}
-use Rattle.dap_accessing.specs.declared.request.Request.{Request}
+use Rattle.dap_accessing.specs.Request.{Request}
 use Rattle.dap_accessing.specs.declared.report.Report.{Report}
 use Rattle.dap_world.specs.Wires.{address_of}
 use Rattle.dap_world.specs.Inner.Worlds.{IsWorld}

@@ -5,7 +5,7 @@ use Rattle.dap_msg.specs.Message.{Message}
 use Rattle.dap_msg.specs.Items.{Whole}
 use Rattle.dap_msg.specs.Blocked.{NspMessage, messages_in}
 use Rattle.dap_accessed.specs.Groups.{Answers}
-use Rattle.dap_accessing.specs.declared.request.Request.{Request}
+use Rattle.dap_accessing.specs.Request.{Request}
 use Rattle.dap_accessing.specs.Told.{Told}
 use Rattle.dap_world.specs.declared.event.End.{End}
 use Rattle.dap_world.specs.declared.event.End.TheVariants.{A, B}

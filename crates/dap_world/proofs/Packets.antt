@@ -6,7 +6,7 @@ use Rattle.std.proofs.lemmas.Option.{slice_get_within, get_or_from_slice_get}
 use Rattle.dap_msg.specs.Message.{Message}
 use Rattle.dap_msg.specs.Blocked.{NspMessage, joined, messages_in, AllFit}
 use Rattle.nsp_link.specs.Cutting.{count_of}
-use Rattle.dap_accessing.specs.declared.request.Request.{Request}
+use Rattle.dap_accessing.specs.Request.{Request}
 use Rattle.dap_accessing.specs.Asked.{messages_of, Asked}
 use Rattle.dap_end.proofs.ForCallers.{in_append}
 use Rattle.dap_world.specs.Machine.{arrived}

@@ -8,7 +8,7 @@ use Rattle.dap_world.specs.declared.event.Step.{Step}
 use Rattle.dap_world.specs.declared.event.WorldFault.{WorldFault}
 use Rattle.std.proofs.Common.{List}
 use Rattle.dap_msg.specs.Blocked.{NspMessage}
-use Rattle.dap_accessing.specs.declared.request.Request.{Request}
+use Rattle.dap_accessing.specs.Request.{Request}
 use Rattle.dap_world.specs.Machine.{State, Direction, sends, Steps}
 use Rattle.dap_world.specs.Settling.{SendsNothing, moved}
 use Rattle.dap_world.specs.Runs.{Went}

@@ -10,67 +10,22 @@ mod rows;
 mod scripts;
 
 use calls::{acknowledgement, apply, begin, count_unacked, direct, finish, run, taken, written};
+use dap_text::{Words, push_hex, push_report, read_number, read_wish};
 use dap_world::{
-    By, End, Ending, Event, Got, How, Numbered, Octets, OctetsList, RecordFile, Report, Request,
-    Step, World, WorldFault, WorldSetup,
+    End, Event, Got, RecordFile, Report, Request, Step, World, WorldFault, WorldSetup,
 };
 use files::{Files, holds};
 use std::alloc::Global;
 use std::process::Abort;
 use std::test::Fail;
 
-/// A request, as a line of a script.
-#[derive(Clone, Copy)]
-enum Call {
-    Hello,
-    /// Name, ORG, RFM, MRS, MRN and FAC.
-    Create(&'static [u8], u8, u8, u16, u32, u32),
-    Open(&'static [u8], u32),
-    Connect,
-    Get,
-    GetKey(u32),
-    GetRfa(u32),
-    Put(&'static [u8]),
-    PutKey(u32, &'static [u8]),
-    Update(&'static [u8]),
-    Delete,
-    Rewind,
-    Fetch,
-    Store(&'static [&'static [u8]]),
-    Again,
-    Skip,
-    Abort,
-    Close,
-    Purge,
-}
+/// A request in the words of a schedule, and what is printed of its report.
+type Told = (&'static str, &'static str);
 
-/// Records behind their numbers.
-type Records = &'static [(u64, &'static [u8])];
-
-/// The report that is to come.
-#[derive(Clone, Copy)]
-enum Want {
-    Ready(u16),
-    Opened(u8, u8, u16, u32),
-    Connected,
-    Found(u64, &'static [u8]),
-    Done(u64),
-    EndOfFile,
-    Refused(u16, u8),
-    Complete(Records),
-    Stopped(Records),
-    BatchRefused(Records, u16, u8),
-    /// To Store: nothing was refused.
-    Stored,
-    /// To Store: the code, the reason and the place of what was refused first.
-    StoredSave(u16, u8, u64),
-    Closed,
-}
-
-/// An event.
+/// An event, with the words of the request that is asked.
 #[derive(Clone, Copy)]
 enum Do {
-    Ask(Call),
+    Ask(&'static str),
     Post(End),
     Emit(End),
     Resend(End, usize),
@@ -80,7 +35,7 @@ enum Do {
     Read,
 }
 
-/// What a script says.
+/// What a script says. Requests are the words of a schedule, and reports are what is printed of them.
 #[derive(Clone, Copy)]
 enum Line {
     /// The event comes to this.
@@ -88,7 +43,7 @@ enum Line {
     /// The event writes a packet with these bytes to this place of the end's wire.
     Writes(Do, End, usize, &'static str),
     /// The newest report.
-    Reports(Want),
+    Reports(&'static str),
     /// The segments of A that aren't acknowledged, the reports, and the messages that B has served.
     Counts(usize, usize, usize),
     /// The record of the first file under this number.
@@ -98,7 +53,7 @@ enum Line {
     /// The acknowledgement that the end's link would write.
     Acknowledges(End, &'static str),
     /// Requests over a clean network, each with its report.
-    Direct(&'static [Call]),
+    Direct(&'static [&'static str]),
     /// So many packets of A are written and come to B, with an acknowledgement after each 127.
     Brings(usize),
     /// The segments that B took.
@@ -110,152 +65,105 @@ enum Line {
     Runs(&'static [Do], Result<(), (usize, WorldFault)>, (bool, usize, usize, u64)),
     /// A request over a clean network: its packet, how many messages of it are served, the packet that
     /// answers, how many messages of it are read, and the report.
-    Turn(Call, &'static str, usize, &'static str, usize, Want),
+    Turn(&'static str, &'static str, usize, &'static str, usize, &'static str),
 }
 
-fn octets(alloc: Global, bytes: &[u8]) -> Result<Octets, WorldFault> {
-    Ok(Octets(Vec::from_slice(alloc, bytes)?))
-}
-
-fn bodies(alloc: Global, list: &[&[u8]]) -> Result<OctetsList, WorldFault> {
-    let mut all = Vec::new(alloc);
-    for body in list {
-        all.push(octets(alloc, body)?)?;
+/// Words, in which what stands in braces is said as often as the number behind them says.
+fn spelled(alloc: Global, words: &str) -> Result<Vec<u8>, WorldFault> {
+    let (before, piece, times) = parts(words);
+    let mut line = Vec::from_slice(alloc, before.as_bytes())?;
+    for _ in 0..times {
+        line.extend_from_slice(piece.as_bytes())?;
     }
-    Ok(OctetsList(all))
+    Ok(line)
 }
 
-fn request(alloc: Global, call: Call) -> Result<Request, WorldFault> {
-    Ok(match call {
-        Call::Hello => Request::Hello,
-        Call::Create(name, org, rfm, mrs, mrn, fac) => Request::Create {
-            name: octets(alloc, name)?,
-            org,
-            rfm,
-            mrs,
-            mrn,
-            fac,
-        },
-        Call::Open(name, fac) => Request::OpenFile {
-            name: octets(alloc, name)?,
-            fac,
-        },
-        Call::Connect => Request::Connect,
-        Call::Put(body) => Request::Put {
-            key: None,
-            body: octets(alloc, body)?,
-        },
-        Call::PutKey(number, body) => Request::Put {
-            key: Some(number),
-            body: octets(alloc, body)?,
-        },
-        Call::Update(body) => Request::Update {
-            body: octets(alloc, body)?,
-        },
-        Call::Store(list) => Request::Store(bodies(alloc, list)?),
-        call => plain(call),
-    })
+/// What stands before braces, in them, and the number behind them.
+fn parts(words: &str) -> (&str, &str, u32) {
+    let Some((before, braced)) = words.split_once('{') else {
+        return (words, "", 0);
+    };
+    let Some((piece, times)) = braced.split_once('}') else {
+        return (words, "", 0);
+    };
+    (
+        before,
+        piece,
+        read_number(times.as_bytes(), 65_535).unwrap_or(0),
+    )
+}
+
+/// The request that words say.
+fn request(alloc: Global, words: &str) -> Result<Request, WorldFault> {
+    let line = spelled(alloc, words)?;
+    match read_wish(Words::of(&line)) {
+        Some(wish) => Ok(wish.to_request(alloc)?),
+        None => Err(WorldFault::BadSetup),
+    }
 }
 
 /// The requests of a list.
-fn all(alloc: Global, calls: &[Call]) -> Result<Vec<Request>, WorldFault> {
+fn all(alloc: Global, list: &[&str]) -> Result<Vec<Request>, WorldFault> {
     let mut requests = Vec::new(alloc);
-    for call in calls {
-        requests.push(request(alloc, *call)?)?;
+    for words in list {
+        requests.push(request(alloc, words)?)?;
     }
     Ok(requests)
 }
 
-/// The requests that hold no bytes.
-fn plain(call: Call) -> Request {
-    match call {
-        Call::Get => Request::Get(By::Next),
-        Call::GetKey(number) => Request::Get(By::Key(number)),
-        Call::GetRfa(number) => Request::Get(By::Rfa(number)),
-        Call::Delete => Request::Delete,
-        Call::Rewind => Request::Rewind,
-        Call::Fetch => Request::Fetch,
-        Call::Again => Request::Continue(How::Again),
-        Call::Skip => Request::Continue(How::Skip),
-        Call::Abort => Request::Continue(How::Abort),
-        Call::Close => Request::Close,
-        _ => Request::Purge,
+/// The requests of turns, each with its report.
+fn all_of(alloc: Global, turns: &[Told]) -> Result<Vec<Request>, WorldFault> {
+    let mut requests = Vec::new(alloc);
+    for (words, _report) in turns {
+        requests.push(request(alloc, words)?)?;
     }
-}
-
-/// Whether a batch has just these records.
-fn has(batch: &Numbered, records: Records) -> bool {
-    batch.0.len() == records.len()
-        && batch.0.iter().zip(records).all(|(one, other)| one.0 == other.0
-            && one.1.0.as_slice() == other.1)
-}
-
-/// Whether the report is the one that was wanted.
-fn is_wanted(report: &Report, want: Want) -> bool {
-    match (report, want) {
-        (Report::Ready(bufsiz), Want::Ready(wanted)) => *bufsiz == wanted,
-        (Report::Opened { org, rfm, mrs, mrn }, Want::Opened(o, f, s, n)) => {
-            *org == o && *rfm == f && *mrs == s && *mrn == n
-        }
-        (Report::Connected, Want::Connected) => true,
-        (Report::Found { number, body }, Want::Found(wanted, bytes)) => {
-            *number == wanted && body.0.as_slice() == bytes
-        }
-        (Report::Done(number), Want::Done(wanted)) => *number == wanted,
-        (Report::EndOfFile, Want::EndOfFile) => true,
-        (Report::Refused(code, reason), Want::Refused(c, r)) => *code == c && *reason == r,
-        (Report::Batch { bodies, ending }, want) => is_batch(bodies, *ending, want),
-        (Report::Stored(None), Want::Stored) => true,
-        (Report::Stored(Some(first)), Want::StoredSave(code, reason, place)) => {
-            *first == (code, reason, place)
-        }
-        (Report::Closed, Want::Closed) => true,
-        _ => false,
-    }
-}
-
-/// Whether the batch is the one that was wanted.
-fn is_batch(batch: &Numbered, ending: Ending, want: Want) -> bool {
-    match (ending, want) {
-        (Ending::Complete, Want::Complete(records)) => has(batch, records),
-        (Ending::Stopped, Want::Stopped(records)) => has(batch, records),
-        (Ending::Refused(code, reason), Want::BatchRefused(records, c, r)) => {
-            code == c && reason == r && has(batch, records)
-        }
-        _ => false,
-    }
-}
-
-/// A lower-case hex digit.
-fn digit(value: u8) -> u8 {
-    if value < 10 {
-        b'0' + value
-    } else {
-        b'a' + (value & 15) - 10
-    }
-}
-
-/// Whether the bytes are those of the hex text.
-fn is_hex(bytes: &[u8], text: &str) -> bool {
-    let digits = text.as_bytes();
-    digits.len() == 2 * bytes.len()
-        && bytes.iter().zip(digits.chunks(2)).all(|(byte, pair)| {
-            pair == [digit(byte >> 4), digit(byte & 15)].as_slice()
-        })
+    Ok(requests)
 }
 
 /// An event, as the world has it.
 fn event(alloc: Global, what: Do) -> Result<Event, WorldFault> {
     Ok(match what {
-        Do::Ask(call) => Event::Ask(request(alloc, call)?),
+        Do::Ask(words) => Event::Ask(request(alloc, words)?),
         Do::Post(end) => Event::Post(end),
         Do::Emit(end) => Event::Emit(end),
         Do::Resend(end, place) => Event::Resend(end, place),
         Do::Ack(end) => Event::Ack(end),
-        Do::Deliver(end, j) => Event::Deliver(end, j),
+        Do::Deliver(end, place) => Event::Deliver(end, place),
         Do::Serve => Event::Serve,
         Do::Read => Event::Read,
     })
+}
+
+fn events(alloc: Global, list: &[Do]) -> Result<Vec<Event>, WorldFault> {
+    let mut events = Vec::new(alloc);
+    for what in list {
+        events.push(event(alloc, *what)?)?;
+    }
+    Ok(events)
+}
+
+/// Whether the report is printed so.
+fn is_told(alloc: Global, report: &Report, words: &str) -> Result<bool, WorldFault> {
+    let mut text = Vec::new(alloc);
+    push_report(&mut text, report)?;
+    Ok(text.as_slice() == words.as_bytes())
+}
+
+/// Whether the reports are those of the turns.
+fn are_told(alloc: Global, reports: &[Report], turns: &[Told]) -> Result<bool, WorldFault> {
+    for (report, (_request, words)) in reports.iter().zip(turns) {
+        if !is_told(alloc, report, words)? {
+            return Ok(false);
+        }
+    }
+    Ok(reports.len() == turns.len())
+}
+
+/// Whether the bytes are those of the hex text.
+fn is_hex(alloc: Global, bytes: &[u8], digits: &str) -> Result<bool, WorldFault> {
+    let mut text = Vec::new(alloc);
+    push_hex(&mut text, bytes)?;
+    Ok(text.as_slice() == digits.as_bytes())
 }
 
 /// One event.
@@ -265,19 +173,26 @@ fn happen(alloc: Global, world: &mut World, what: Do) -> Result<Step, WorldFault
 }
 
 /// Whether a packet with these bytes stands at the place of the end's wire, and is the last one.
-fn is_written(world: &World, end: End, place: usize, hex: &str) -> bool {
+fn is_written(
+    alloc: Global,
+    world: &World,
+    end: End,
+    place: usize,
+    digits: &str,
+) -> Result<bool, WorldFault> {
     match world.wire(end).last() {
-        Some(last) => place.checked_add(1) == Some(written(world, end))
-            && is_hex(&last.packet, hex),
-        None => false,
+        Some(last) if place.checked_add(1) == Some(written(world, end)) => {
+            is_hex(alloc, &last.packet, digits)
+        }
+        _ => Ok(false),
     }
 }
 
-/// Whether the newest report is the one that was wanted.
-fn is_newest(world: &World, want: Want) -> bool {
+/// Whether the newest report is printed so.
+fn is_newest(alloc: Global, world: &World, words: &str) -> Result<bool, WorldFault> {
     match world.reports().last() {
-        Some(report) => is_wanted(report, want),
-        None => false,
+        Some(report) => is_told(alloc, report, words),
+        None => Ok(false),
     }
 }
 
@@ -287,10 +202,10 @@ fn is_held(world: &World, number: u32, body: Option<&[u8]>) -> bool {
 }
 
 /// Whether the end's link would write this acknowledgement.
-fn acknowledges(world: &World, end: End, hex: &str) -> bool {
+fn acknowledges(alloc: Global, world: &World, end: End, digits: &str) -> Result<bool, WorldFault> {
     match acknowledgement(world, end) {
-        Ok(packet) => is_hex(&packet, hex),
-        Err(_) => false,
+        Ok(packet) => is_hex(alloc, &packet, digits),
+        Err(_) => Ok(false),
     }
 }
 
@@ -298,13 +213,12 @@ fn acknowledges(world: &World, end: End, hex: &str) -> bool {
 fn turn(
     alloc: Global,
     world: &mut World,
-    call: Call,
+    words: &'static str,
     serves: usize,
     reads: usize,
 ) -> Result<(), WorldFault> {
     let (asked, answered) = (written(world, End::A), written(world, End::B));
-    let request = request(alloc, call)?;
-    apply(world, &Event::Ask(request))?;
+    happen(alloc, world, Do::Ask(words))?;
     apply(world, &Event::Post(End::A))?;
     apply(world, &Event::Emit(End::A))?;
     apply(world, &Event::Deliver(End::B, asked))?;
@@ -335,14 +249,6 @@ fn bring(world: &mut World, segments: usize) -> Result<(), WorldFault> {
     Ok(())
 }
 
-fn events(alloc: Global, list: &[Do]) -> Result<Vec<Event>, WorldFault> {
-    let mut events = Vec::new(alloc);
-    for what in list {
-        events.push(event(alloc, *what)?)?;
-    }
-    Ok(events)
-}
-
 fn counts(world: &World) -> (bool, usize, usize, u64) {
     (
         world.is_fresh(),
@@ -354,24 +260,24 @@ fn counts(world: &World) -> (bool, usize, usize, u64) {
 
 /// Whether a request over a clean network comes to what the line says.
 fn turns_so(alloc: Global, world: &mut World, line: Line) -> Result<bool, WorldFault> {
-    let Line::Turn(call, sent, serves, answered, reads, want) = line else {
+    let Line::Turn(words, sent, serves, answered, reads, told) = line else {
         return Ok(false);
     };
     let (asks, answers) = (written(world, End::A), written(world, End::B));
-    let told = world.reports().len();
-    turn(alloc, world, call, serves, reads)?;
+    let before = world.reports().len();
+    turn(alloc, world, words, serves, reads)?;
     Ok(
-        is_written(world, End::A, asks, sent)
-            && is_written(world, End::B, answers, answered)
-            && world.reports().len() == told + 1
-            && is_newest(world, want),
+        is_written(alloc, world, End::A, asks, sent)?
+            && is_written(alloc, world, End::B, answers, answered)?
+            && world.reports().len() == before + 1
+            && is_newest(alloc, world, told)?,
     )
 }
 
 /// Whether what the line says of many events is so.
 fn go_so(alloc: Global, world: &mut World, line: Line) -> Result<bool, WorldFault> {
     match line {
-        Line::Direct(calls) => Ok(direct(world, &all(alloc, calls)?) == Ok(())),
+        Line::Direct(list) => Ok(direct(world, &all(alloc, list)?) == Ok(())),
         Line::Brings(segments) => bring(world, segments).map(|()| true),
         Line::Finishes => finish(world).map(|_events| true),
         Line::Runs(list, wanted, seen) => {
@@ -386,11 +292,11 @@ fn go_so(alloc: Global, world: &mut World, line: Line) -> Result<bool, WorldFaul
 fn is_so(alloc: Global, world: &mut World, line: Line) -> Result<bool, WorldFault> {
     Ok(match line {
         Line::Does(what, answer) => happen(alloc, world, what) == answer,
-        Line::Writes(what, end, place, hex) => {
+        Line::Writes(what, end, place, digits) => {
             happen(alloc, world, what) == Ok(Step::Packet(place))
-                && is_written(world, end, place, hex)
+                && is_written(alloc, world, end, place, digits)?
         }
-        Line::Reports(want) => is_newest(world, want),
+        Line::Reports(words) => is_newest(alloc, world, words)?,
         Line::Counts(unacked, reports, taken) => {
             count_unacked(world, End::A) == unacked
                 && world.reports().len() == reports
@@ -399,7 +305,7 @@ fn is_so(alloc: Global, world: &mut World, line: Line) -> Result<bool, WorldFaul
         Line::Took(segments) => taken(world, End::B) == segments,
         Line::Holds(number, body) => is_held(world, number, body),
         Line::Has(files) => holds(world.files(), files),
-        Line::Acknowledges(end, hex) => acknowledges(world, end, hex),
+        Line::Acknowledges(end, digits) => acknowledges(alloc, world, end, digits)?,
         line => go_so(alloc, world, line)?,
     })
 }

@@ -2,7 +2,7 @@
 
 use crate::growing::{note, note_bytes};
 use dap_accessed::FileTable;
-use dap_accessing::{By, Ending, How, Report, Request};
+use dap_accessing::{Ending, Report};
 use nsp_link::LinkEnd;
 use rec_file::{RecordFile, first_record};
 use std::io;
@@ -84,65 +84,5 @@ pub fn look_at_link(link: &LinkEnd, seen: &mut Vec<u8>) -> io::Result<()> {
     match link.peek_message() {
         Some(message) => note_bytes(seen, "message", message),
         None => Ok(()),
-    }
-}
-
-/// The word for what is asked.
-fn word_of(request: &Request) -> &'static str {
-    match request {
-        Request::Hello => "hello",
-        Request::Create { .. } => "create",
-        Request::OpenFile { .. } => "open",
-        Request::Connect => "connect",
-        Request::Get(By::Next) => "get",
-        Request::Get(By::Key(_)) => "get key",
-        Request::Get(By::Rfa(_)) => "get rfa",
-        Request::Put { .. } => "put",
-        Request::Update { .. } => "update",
-        Request::Delete => "delete",
-        Request::Rewind => "rewind",
-        Request::Fetch => "fetch",
-        Request::Store(_) => "store",
-        Request::Continue(How::Again) => "continue again",
-        Request::Continue(How::Skip) => "continue skip",
-        Request::Continue(How::Abort) => "continue abort",
-        Request::Close => "close",
-        Request::Purge => "purge",
-    }
-}
-
-/// A request that was asked.
-pub fn look_at_request(request: &Request, seen: &mut Vec<u8>) -> io::Result<()> {
-    let word = word_of(request);
-    write!(seen, "\n {word}")?;
-    match request {
-        Request::Create {
-            name,
-            org,
-            rfm,
-            mrs,
-            mrn,
-            fac,
-        } => {
-            write!(seen, " {org} {rfm} {mrs} {mrn} {fac}")?;
-            note_bytes(seen, "name", &name.0)
-        }
-        Request::OpenFile { name, fac } => {
-            write!(seen, " {fac}")?;
-            note_bytes(seen, "name", &name.0)
-        }
-        Request::Get(By::Key(number) | By::Rfa(number)) => write!(seen, " {number}"),
-        Request::Put { key, body } => {
-            write!(seen, " {key:?}")?;
-            note_bytes(seen, "body", &body.0)
-        }
-        Request::Update { body } => note_bytes(seen, "body", &body.0),
-        Request::Store(list) => {
-            for body in &list.0 {
-                note_bytes(seen, "body", &body.0)?;
-            }
-            Ok(())
-        }
-        _ => Ok(()),
     }
 }

@@ -9,7 +9,7 @@ use Rattle.nsp_link.specs.Holding.{numbers}
 use Rattle.nsp_link.specs.Limits.{largest_limit}
 use Rattle.dap_accessed.specs.Present as accessed
 use Rattle.dap_accessing.specs.Present as accessing
-use Rattle.dap_accessing.specs.declared.request.Request.{Request}
+use Rattle.dap_accessing.specs.Request.{Request}
 use Rattle.dap_accessing.specs.declared.report.Report.{Report}
 use Rattle.dap_accessing.specs.Asked.{Asked, messages_of}
 use Rattle.dap_world.specs.declared.event.End.{End}

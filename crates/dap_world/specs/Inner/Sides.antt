@@ -6,7 +6,7 @@ use Rattle.nsp_link.specs.Limits.{most_segments}
 use Rattle.nsp_link.specs.Sending.{WritesSent}
 use Rattle.dap_accessing.specs.Present.{Present}
 use Rattle.dap_accessing.specs.Calls.{AskRefused, IsAdmittedBy}
-use Rattle.dap_accessing.specs.declared.request.Request.{Request}
+use Rattle.dap_accessing.specs.Request.{Request}
 use Rattle.dap_accessing.specs.declared.report.Report.{Report}
 use Rattle.dap_accessing.specs.declared.fault.AskFault.TheVariants as ask_fault
 use Rattle.dap_end.specs.Asking.{AskingValue, AskedOne}

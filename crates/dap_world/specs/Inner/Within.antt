@@ -4,7 +4,7 @@ use Rattle.dap_msg.specs.Message.{Message}
 use Rattle.dap_msg.specs.Canon.{canon}
 use Rattle.dap_msg.specs.Items.{Item}
 use Rattle.dap_accessed.specs.Groups.{limit_for}
-use Rattle.dap_accessing.specs.declared.request.Request.{Request}
+use Rattle.dap_accessing.specs.Request.{Request}
 use Rattle.dap_world.specs.Agreement.{items_of}
 
 -- each message of a request is no longer than the other end takes

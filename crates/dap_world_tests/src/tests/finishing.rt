@@ -1,155 +1,113 @@
 //! Stretches without loss: what is settled and finished after all on the wires was lost, and requests over
 //! a clean network.
 
+use super::Do::*;
 use super::calls::{after, directed, finish, settle, taken};
 use super::*;
 use dap_world::AskFault;
+use dap_world::End::{A, B};
 
-/// Requests over a clean network, then events whose packets may be lost, and then all is finished.
+/// Requests over a clean network, then one whose packets may be lost, and then all is finished.
 #[derive(Clone, Copy)]
 struct Row {
     /// Segment size, window and both buffers.
     setup: (usize, usize, u16, u16),
-    direct: &'static [Call],
+    /// The requests with their reports; only the last one is not over a clean network.
+    turns: &'static [Told],
+    /// What happens once it is asked.
     lost: &'static [Do],
     /// How many events finish it.
     events: usize,
-    told: &'static [Want],
     files: Files,
 }
 
-const CREATE_F: Call = Call::Create(b"F", 16, 2, 0, 3, 7);
+const CREATE_F: &str = "create 46 16 2 0 3 7";
 
-const CREATE_TO_PUT: Call = Call::Create(b"F", 0, 2, 0, 0, 1);
+const CREATE_LOG: &str = "create 4c 0 2 0 0 3";
 
-const CREATE_LOG: Call = Call::Create(b"L", 0, 2, 0, 0, 3);
+const READY: Told = ("hello", "ready 1024");
 
-const OPENED_F: Want = Want::Opened(16, 2, 0, 3);
+const LOG: Told = (CREATE_LOG, "opened 0 2 0 0");
 
-const OPENED_SEQUENTIAL: Want = Want::Opened(0, 2, 0, 0);
-
-const READY: Want = Want::Ready(1024);
-
-const CONNECTED: Want = Want::Connected;
-
-const CLOSED: Want = Want::Closed;
-
-const TEN: &[u8] = b"0123456789";
-
-const LONG: &[u8] = b"-------------------------------------------------------------------------";
+const CONNECTED: Told = ("connect", "connected");
 
 const ROWS: &[Row] = &[
     // The only packet of a put is lost: four events settle it, two serve it, five bring the answer, and one
     // reads it.
     Row {
         setup: (512, 8, 1024, 1024),
-        direct: &[Call::Hello, CREATE_TO_PUT, Call::Connect],
-        lost: &[Do::Ask(Call::Put(b"A")), Do::Post(End::A), Do::Emit(End::A)],
+        turns: &[
+            READY,
+            ("create 46 0 2 0 0 1", "opened 0 2 0 0"),
+            CONNECTED,
+            ("put 41", "done 1"),
+        ],
+        lost: &[Post(A), Emit(A)],
         events: 12,
-        told: &[READY, OPENED_SEQUENTIAL, CONNECTED, Want::Done(1)],
         files: &[(b"F", &[(1, b"A")])],
     },
     // The put was served, and its answer is lost, as is every acknowledgement.
     Row {
         setup: (512, 8, 1024, 1024),
-        direct: &[Call::Hello, CREATE_LOG, Call::Connect],
+        turns: &[READY, LOG, CONNECTED, ("put 41", "done 1")],
         lost: &[
-            Do::Ask(Call::Put(b"A")),
-            Do::Post(End::A),
-            Do::Emit(End::A),
-            Do::Deliver(End::B, 6),
-            Do::Serve,
-            Do::Serve,
-            Do::Post(End::B),
-            Do::Emit(End::B),
+            Post(A),
+            Emit(A),
+            Deliver(B, 6),
+            Serve,
+            Serve,
+            Post(B),
+            Emit(B),
         ],
         events: 9,
-        told: &[READY, OPENED_SEQUENTIAL, CONNECTED, Want::Done(1)],
         files: &[(b"L", &[(1, b"A")])],
     },
     // A transfer stopped at a record that is too long, and its answer is lost: four events settle each end, and
     // two messages are read.
     Row {
         setup: (512, 8, 64, 1024),
-        direct: &[
-            Call::Hello,
-            CREATE_LOG,
-            Call::Connect,
-            Call::Put(TEN),
-            Call::Put(LONG),
-            Call::Rewind,
-        ],
-        lost: &[
-            Do::Ask(Call::Fetch),
-            Do::Post(End::A),
-            Do::Emit(End::A),
-            Do::Deliver(End::B, 12),
-            Do::Serve,
-            Do::Post(End::B),
-            Do::Emit(End::B),
-        ],
-        events: 10,
-        told: &[
+        turns: &[
             READY,
-            OPENED_SEQUENTIAL,
+            LOG,
             CONNECTED,
-            Want::Done(1),
-            Want::Done(2),
-            Want::Done(0),
-            Want::Stopped(&[(1, TEN)]),
+            ("put 30313233343536373839", "done 1"),
+            ("put {2d}73", "done 2"),
+            ("rewind", "done 0"),
+            ("fetch", "batch 1 stopped 1:30313233343536373839"),
         ],
-        files: &[(b"L", &[(1, TEN), (2, LONG)])],
+        lost: &[Post(A), Emit(A), Deliver(B, 12), Serve, Post(B), Emit(B)],
+        events: 10,
+        files: &[(b"L", &[(1, b"0123456789"), (2, &[b'-'; 73])])],
     },
     // A request in two pieces, of which the second came and the first is lost: six events settle them.
     Row {
         setup: (8, 4, 1024, 1024),
-        direct: &[],
-        lost: &[
-            Do::Ask(Call::Hello),
-            Do::Post(End::A),
-            Do::Emit(End::A),
-            Do::Emit(End::A),
-            Do::Deliver(End::B, 1),
-        ],
+        turns: &[READY],
+        lost: &[Post(A), Emit(A), Emit(A), Deliver(B, 1)],
         events: 17,
-        told: &[READY],
         files: &[],
     },
     // Two of three pieces of a store are lost: six events settle them, four bring the third, four serve the
     // messages, five bring the answer, and one reads it.
     Row {
         setup: (8, 4, 1024, 1024),
-        direct: &[Call::Hello, CREATE_LOG, Call::Connect],
-        lost: &[
-            Do::Ask(Call::Store(&[b"A", b"BB"])),
-            Do::Post(End::A),
-            Do::Emit(End::A),
-            Do::Emit(End::A),
-        ],
+        turns: &[READY, LOG, CONNECTED, ("store 41 4242", "stored")],
+        lost: &[Post(A), Emit(A), Emit(A)],
         events: 20,
-        told: &[READY, OPENED_SEQUENTIAL, CONNECTED, Want::Stored],
         files: &[(b"L", &[(1, b"A"), (2, b"BB")])],
     },
 ];
 
-fn are_told(reports: &[Report], told: &[Want]) -> bool {
-    reports.len() == told.len()
-        && reports
-            .iter()
-            .zip(told)
-            .all(|(report, want)| is_wanted(report, *want))
-}
-
 /// Whether what was lost is finished as the row says.
 fn is_finished(alloc: Global, world: &mut World, row: Row) -> Result<bool, WorldFault> {
     for what in row.lost {
-        let _step = happen(alloc, world, *what)?;
+        happen(alloc, world, *what)?;
     }
     let (events, more) = (finish(world)?, finish(world)?);
     Ok(
         events == row.events
             && more == 0
-            && are_told(world.reports(), row.told)
+            && are_told(alloc, world.reports(), row.turns)?
             && holds(world.files(), row.files),
     )
 }
@@ -163,8 +121,11 @@ fn comes_so(alloc: Global, row: Row) -> Result<bool, WorldFault> {
         bufsiz_a,
         bufsiz_b,
     };
-    let requests = all(alloc, row.direct)?;
-    let mut world = after(alloc, setup, &requests)?;
+    let Some(((words, _report), direct)) = row.turns.split_last() else {
+        return Ok(false);
+    };
+    let mut world = after(alloc, setup, &all_of(alloc, direct)?)?;
+    happen(alloc, &mut world, Ask(words))?;
     is_finished(alloc, &mut world, row)
 }
 
@@ -178,23 +139,23 @@ fn all_come_to_their_reports(rt: HostRuntime) -> Result<(), Fail> {
 }
 
 /// B's buffer, requests, what they come to, and how many are asked.
-const STOPS: &[(u16, &[Call], Result<(), (usize, WorldFault)>, usize)] = &[
+const STOPS: &[(u16, &[&str], Result<(), (usize, WorldFault)>, usize)] = &[
     (1024, &[], Ok(()), 0),
     (
         1024,
-        &[Call::Connect],
+        &["connect"],
         Err((0, WorldFault::Ask(AskFault::WrongPhase))),
         0,
     ),
     (
         1024,
-        &[Call::Hello, CREATE_F, Call::Get, Call::Purge],
+        &["hello", CREATE_F, "get", "purge"],
         Err((2, WorldFault::Ask(AskFault::WrongPhase))),
         2,
     ),
     (
         64,
-        &[Call::Hello, CREATE_LOG, Call::Connect, Call::Put(LONG)],
+        &["hello", CREATE_LOG, "connect", "put {2d}73"],
         Err((3, WorldFault::Ask(AskFault::TooLarge))),
         3,
     ),
@@ -204,7 +165,7 @@ const STOPS: &[(u16, &[Call], Result<(), (usize, WorldFault)>, usize)] = &[
 fn stop(
     alloc: Global,
     bufsiz_b: u16,
-    calls: &[Call],
+    list: &[&str],
 ) -> Result<(Result<(), (usize, WorldFault)>, usize, usize), WorldFault> {
     let setup = WorldSetup {
         seg_size: 512,
@@ -212,15 +173,15 @@ fn stop(
         bufsiz_a: 1024,
         bufsiz_b,
     };
-    let requests = all(alloc, calls)?;
+    let requests = all(alloc, list)?;
     let (world, came) = directed(alloc, setup, &requests)?;
     Ok((came, world.requests().len(), world.reports().len()))
 }
 
 #[test]
 fn requests_stop_at_one_that_is_refused(rt: HostRuntime) -> Result<(), Fail> {
-    for (bufsiz_b, calls, wanted, count) in STOPS {
-        let (came, asked, told) = stop(rt.alloc(), *bufsiz_b, calls)?;
+    for (bufsiz_b, list, wanted, count) in STOPS {
+        let (came, asked, told) = stop(rt.alloc(), *bufsiz_b, list)?;
         assert_eq!(rt; came, *wanted);
         assert_eq!(rt; (asked, told), (*count, *count));
     }
@@ -231,9 +192,9 @@ fn requests_stop_at_one_that_is_refused(rt: HostRuntime) -> Result<(), Fail> {
 #[derive(Clone, Copy)]
 struct Settled {
     window: usize,
-    direct: &'static [Call],
-    /// How many bytes are put, and how many of their segments are written. None: Hello is asked.
-    bytes: usize,
+    direct: &'static [&'static str],
+    /// What is asked then, and how many of its segments are written.
+    asked: &'static str,
     written: usize,
     /// Whether they came to the other end.
     came: bool,
@@ -246,7 +207,7 @@ const SETTLED: &[Settled] = &[
     Settled {
         window: 4,
         direct: &[],
-        bytes: 0,
+        asked: "hello",
         written: 4,
         came: false,
         events: 10,
@@ -255,7 +216,7 @@ const SETTLED: &[Settled] = &[
     Settled {
         window: 4,
         direct: &[],
-        bytes: 0,
+        asked: "hello",
         written: 4,
         came: true,
         events: 10,
@@ -264,8 +225,8 @@ const SETTLED: &[Settled] = &[
     // Three requests of 43 bytes, and 33 bytes of answers, each in a packet and acknowledged by one.
     Settled {
         window: 2047,
-        direct: &[Call::Hello, CREATE_LOG, Call::Connect],
-        bytes: 2100,
+        direct: &["hello", CREATE_LOG, "connect"],
+        asked: "put {41}2100",
         written: 2047,
         came: false,
         events: 4096,
@@ -273,50 +234,31 @@ const SETTLED: &[Settled] = &[
     },
 ];
 
-fn asked(alloc: Global, bytes: usize) -> Result<Request, WorldFault> {
-    if bytes == 0 {
-        return Ok(Request::Hello);
-    }
-    let mut body = Vec::new(alloc);
-    for _ in 0..bytes {
-        body.push(b'A')?;
-    }
-    Ok(Request::Put {
-        key: None,
-        body: Octets(body),
-    })
-}
-
 fn write(world: &mut World, row: Settled) -> Result<(), WorldFault> {
-    apply(world, &Event::Post(End::A))?;
+    apply(world, &Event::Post(A))?;
     for _ in 0..row.written {
-        apply(world, &Event::Emit(End::A))?;
+        apply(world, &Event::Emit(A))?;
     }
     if row.came {
         for place in 0..row.written {
-            apply(world, &Event::Deliver(End::B, place))?;
+            apply(world, &Event::Deliver(B, place))?;
         }
     }
     Ok(())
 }
 
 fn counts(world: &World) -> (usize, usize, u64) {
-    (
-        written(world, End::A),
-        written(world, End::B),
-        taken(world, End::B),
-    )
+    (written(world, A), written(world, B), taken(world, B))
 }
 
-/// Whether the end of A is settled as the row says, once the event has come.
-fn is_settled(world: &mut World, event: &Event, row: Settled) -> Result<bool, WorldFault> {
-    apply(world, event)?;
+/// Whether the end of A is settled as the row says.
+fn is_settled(world: &mut World, row: Settled) -> Result<bool, WorldFault> {
     write(world, row)?;
-    let (events, more) = (settle(world, End::A)?, settle(world, End::A)?);
+    let (events, more) = (settle(world, A)?, settle(world, A)?);
     Ok(
         events == row.events
             && more == 0
-            && count_unacked(world, End::A) == 0
+            && count_unacked(world, A) == 0
             && counts(world) == row.counts,
     )
 }
@@ -329,10 +271,9 @@ fn settles_so(alloc: Global, row: Settled) -> Result<bool, WorldFault> {
         bufsiz_a: 4096,
         bufsiz_b: 4096,
     };
-    let requests = all(alloc, row.direct)?;
-    let event = Event::Ask(asked(alloc, row.bytes)?);
-    let mut world = after(alloc, setup, &requests)?;
-    is_settled(&mut world, &event, row)
+    let mut world = after(alloc, setup, &all(alloc, row.direct)?)?;
+    happen(alloc, &mut world, Ask(row.asked))?;
+    is_settled(&mut world, row)
 }
 
 #[test]

@@ -15,24 +15,21 @@ const SETUP: WorldSetup = WorldSetup {
 };
 
 /// The requests in order, with their reports.
-const TURNS: &[(Call, Want)] = &[
-    (Call::Hello, Want::Ready(256)),
+const TURNS: &[Told] = &[
+    ("hello", "ready 256"),
+    ("create 46 16 2 0 9 15", "opened 16 2 0 9"),
+    ("connect", "connected"),
+    ("put key 3 7468697264207265636f7264", "done 3"),
+    ("put key 3 7468697264207265636f7264", "refused 5000 5"),
+    ("put key 7 736576656e7468", "done 7"),
+    ("get", "found 3 7468697264207265636f7264"),
+    ("update 616e6f74686572", "done 3"),
+    ("rewind", "done 0"),
     (
-        Call::Create(b"F", 16, 2, 0, 9, 15),
-        Want::Opened(16, 2, 0, 9),
+        "fetch",
+        "batch 2 complete 3:616e6f74686572 7:736576656e7468",
     ),
-    (Call::Connect, Want::Connected),
-    (Call::PutKey(3, b"third record"), Want::Done(3)),
-    (Call::PutKey(3, b"third record"), Want::Refused(0x5000, 5)),
-    (Call::PutKey(7, b"seventh"), Want::Done(7)),
-    (Call::Get, Want::Found(3, b"third record")),
-    (Call::Update(b"another"), Want::Done(3)),
-    (Call::Rewind, Want::Done(0)),
-    (
-        Call::Fetch,
-        Want::Complete(&[(3, b"another"), (7, b"seventh")]),
-    ),
-    (Call::Close, Want::Closed),
+    ("close", "closed"),
 ];
 
 /// How many schedules there are, and how many events the longest has.
@@ -84,8 +81,8 @@ fn draw_event(world: &World, seed: &mut u32) -> Do {
 fn play_drawn(alloc: Global, world: &mut World, seed: &mut u32) -> usize {
     let mut asked: usize = 0;
     for _ in 0..draw(seed, MOST_EVENTS) {
-        if let Some((call, _report)) = TURNS.get(asked) {
-            if happen(alloc, world, Do::Ask(*call)).is_ok() {
+        if let Some((words, _report)) = TURNS.get(asked) {
+            if happen(alloc, world, Do::Ask(words)).is_ok() {
                 asked = asked.saturating_add(1);
             }
         }
@@ -93,16 +90,6 @@ fn play_drawn(alloc: Global, world: &mut World, seed: &mut u32) -> usize {
         let _ = happen(alloc, world, what);
     }
     asked
-}
-
-/// Whether the reports are those that are wanted.
-fn are_wanted(world: &World, asked: usize) -> bool {
-    world.reports().len() == asked
-        && world
-            .reports()
-            .iter()
-            .zip(TURNS)
-            .all(|(report, turn)| is_wanted(report, turn.1))
 }
 
 /// Whether two files have the same records.
@@ -128,24 +115,16 @@ fn are_same(one: &FileTable, other: &FileTable) -> bool {
     true
 }
 
-/// The world after so many requests over a clean network.
-fn clean(alloc: Global, asked: usize) -> Result<World, WorldFault> {
-    let mut requests = Vec::new(alloc);
-    for (call, _report) in TURNS.iter().take(asked) {
-        requests.push(request(alloc, *call)?)?;
-    }
-    after(alloc, SETUP, &requests)
-}
-
 /// Whether a world, once it is finished, is what so many requests over a clean network come to.
 fn comes_clean(alloc: Global, world: &mut World, asked: usize) -> Result<bool, WorldFault> {
     finish(world)?;
     let more = finish(world)?;
-    let other = clean(alloc, asked)?;
+    let turns = TURNS.get(..asked).unwrap_or(TURNS);
+    let other = after(alloc, SETUP, &all_of(alloc, turns)?)?;
     Ok(
         more == 0
-            && are_wanted(world, asked)
-            && are_wanted(&other, asked)
+            && are_told(alloc, world.reports(), turns)?
+            && are_told(alloc, other.reports(), turns)?
             && are_same(world.files(), other.files()),
     )
 }

@@ -1,90 +1,80 @@
 //! What has no step, and what no world can be made of.
 
+use super::Do::*;
 use super::Line::*;
 use super::*;
 use dap_world::AskFault;
+use dap_world::End::{A, B};
 
 const NOTHING: Result<Step, WorldFault> = Err(WorldFault::NothingToDo);
 
 /// Nothing happened yet, and then one request was asked.
 const FRESH: &[Line] = &[
-    Acknowledges(End::A, "04020201010080"),
-    Acknowledges(End::B, "04010102020080"),
-    Does(Do::Deliver(End::B, 0), Err(WorldFault::NoSuchPacket)),
-    Does(Do::Deliver(End::A, 0), Err(WorldFault::NoSuchPacket)),
-    Does(Do::Serve, NOTHING),
-    Does(Do::Read, NOTHING),
-    Does(Do::Post(End::A), NOTHING),
-    Does(Do::Emit(End::A), NOTHING),
-    Does(Do::Resend(End::A, 0), NOTHING),
-    Does(
-        Do::Ask(Call::Get),
-        Err(WorldFault::Ask(AskFault::WrongPhase)),
-    ),
-    Does(Do::Ask(Call::Hello), Ok(Step::Asked(1))),
-    Does(Do::Ask(Call::Hello), Err(WorldFault::Ask(AskFault::Busy))),
+    Acknowledges(A, "04020201010080"),
+    Acknowledges(B, "04010102020080"),
+    Does(Deliver(B, 0), Err(WorldFault::NoSuchPacket)),
+    Does(Deliver(A, 0), Err(WorldFault::NoSuchPacket)),
+    Does(Serve, NOTHING),
+    Does(Read, NOTHING),
+    Does(Post(A), NOTHING),
+    Does(Emit(A), NOTHING),
+    Does(Resend(A, 0), NOTHING),
+    Does(Ask("get"), Err(WorldFault::Ask(AskFault::WrongPhase))),
+    Does(Ask("hello"), Ok(Step::Asked(1))),
+    Does(Ask("hello"), Err(WorldFault::Ask(AskFault::Busy))),
     Counts(0, 0, 0),
 ];
 
 /// What is served waits before more is served.
 const WAITING: &[Line] = &[
-    Does(Do::Ask(Call::Hello), Ok(Step::Asked(1))),
-    Does(Do::Emit(End::A), NOTHING),
-    Does(Do::Post(End::A), Ok(Step::Posted(1))),
-    Does(Do::Post(End::A), NOTHING),
-    Does(Do::Serve, NOTHING),
+    Does(Ask("hello"), Ok(Step::Asked(1))),
+    Does(Emit(A), NOTHING),
+    Does(Post(A), Ok(Step::Posted(1))),
+    Does(Post(A), NOTHING),
+    Does(Serve, NOTHING),
     Writes(
-        Do::Emit(End::A),
-        End::A,
+        Emit(A),
+        A,
         0,
         "60020201010080010001020a00040703050600000000",
     ),
-    Does(Do::Emit(End::A), NOTHING),
-    Does(Do::Serve, NOTHING),
-    Does(Do::Deliver(End::A, 0), Err(WorldFault::NoSuchPacket)),
-    Does(Do::Deliver(End::B, 1), Err(WorldFault::NoSuchPacket)),
-    Does(Do::Resend(End::A, 1), NOTHING),
+    Does(Emit(A), NOTHING),
+    Does(Serve, NOTHING),
+    Does(Deliver(A, 0), Err(WorldFault::NoSuchPacket)),
+    Does(Deliver(B, 1), Err(WorldFault::NoSuchPacket)),
+    Does(Resend(A, 1), NOTHING),
     Writes(
-        Do::Resend(End::A, 0),
-        End::A,
+        Resend(A, 0),
+        A,
         1,
         "60020201010080010001020a00040703050600000000",
     ),
-    Does(Do::Deliver(End::B, 1), Ok(Step::Delivered(Got::Accepted))),
-    Does(Do::Deliver(End::B, 0), Ok(Step::Delivered(Got::Repeat))),
-    Does(Do::Serve, Ok(Step::Served(1))),
-    Does(Do::Serve, NOTHING),
-    Does(Do::Read, NOTHING),
-    Does(Do::Post(End::B), Ok(Step::Posted(1))),
-    Does(Do::Read, NOTHING),
+    Does(Deliver(B, 1), Ok(Step::Delivered(Got::Accepted))),
+    Does(Deliver(B, 0), Ok(Step::Delivered(Got::Repeat))),
+    Does(Serve, Ok(Step::Served(1))),
+    Does(Serve, NOTHING),
+    Does(Read, NOTHING),
+    Does(Post(B), Ok(Step::Posted(1))),
+    Does(Read, NOTHING),
     Writes(
-        Do::Emit(End::B),
-        End::B,
+        Emit(B),
+        B,
         0,
         "60010102020180010001020a00040703050600000000",
     ),
-    Does(Do::Deliver(End::A, 0), Ok(Step::Delivered(Got::Accepted))),
-    Does(Do::Resend(End::A, 0), NOTHING),
-    Does(Do::Read, Ok(Step::Reported)),
-    Reports(Want::Ready(1024)),
-    Does(Do::Read, NOTHING),
+    Does(Deliver(A, 0), Ok(Step::Delivered(Got::Accepted))),
+    Does(Resend(A, 0), NOTHING),
+    Does(Read, Ok(Step::Reported)),
+    Reports("ready 1024"),
+    Does(Read, NOTHING),
 ];
 
 /// A run stops at an event that is refused: in the last it is the third.
 const RUNS: &[Line] = &[
     Runs(&[], Ok(()), (true, 0, 0, 0)),
+    Runs(&[Serve], Err((0, WorldFault::NothingToDo)), (true, 0, 0, 0)),
     Runs(
-        &[Do::Serve],
-        Err((0, WorldFault::NothingToDo)),
-        (true, 0, 0, 0),
-    ),
-    Runs(
-        &[
-            Do::Ask(Call::Hello),
-            Do::Post(End::A),
-            Do::Emit(End::B),
-            Do::Serve,
-        ],
+        &[Ask("hello"), Post(A), Emit(B), Serve],
         Err((2, WorldFault::NothingToDo)),
         (false, 1, 1, 0),
     ),

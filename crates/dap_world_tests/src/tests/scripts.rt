@@ -4,7 +4,7 @@ use super::calls::after;
 use super::*;
 
 /// Both buffers, the requests with their reports, and the files at the end.
-type Script = (u16, u16, &'static [(Call, Want)], Files);
+type Script = (u16, u16, &'static [Told], Files);
 
 const TEN: &[u8] = &[1; 10];
 
@@ -14,13 +14,11 @@ const HUNDRED: &[u8] = &[3; 100];
 
 const LONGEST: &[u8] = &[4; 32_767];
 
-const LONGER: &[u8] = &[4; 32_768];
+const READY: Told = ("hello", "ready 1024");
 
-const READY: (Call, Want) = (Call::Hello, Want::Ready(1024));
+const CONNECTED: Told = ("connect", "connected");
 
-const CONNECTED: (Call, Want) = (Call::Connect, Want::Connected);
-
-const CLOSED: (Call, Want) = (Call::Close, Want::Closed);
+const CLOSED: Told = ("close", "closed");
 
 const SCRIPTS: &[Script] = &[
     // Files are created, refused and purged; the one that an access created is left.
@@ -29,20 +27,14 @@ const SCRIPTS: &[Script] = &[
         1024,
         &[
             READY,
-            (
-                Call::Create(b"F", 16, 2, 0, 3, 7),
-                Want::Opened(16, 2, 0, 3),
-            ),
+            ("create 46 16 2 0 3 7", "opened 16 2 0 3"),
             CLOSED,
-            (Call::Open(b"G", 2), Want::Refused(0x4032, 0)),
-            (Call::Create(b"F", 16, 2, 0, 3, 7), Want::Refused(0x4000, 1)),
-            (Call::Open(b"F", 2), Want::Opened(16, 2, 0, 3)),
-            (Call::Purge, Want::Closed),
-            (
-                Call::Create(b"G", 16, 2, 0, 3, 7),
-                Want::Opened(16, 2, 0, 3),
-            ),
-            (Call::Purge, Want::Closed),
+            ("open 47 2", "refused 4032 0"),
+            ("create 46 16 2 0 3 7", "refused 4000 1"),
+            ("open 46 2", "opened 16 2 0 3"),
+            ("purge", "closed"),
+            ("create 47 16 2 0 3 7", "opened 16 2 0 3"),
+            ("purge", "closed"),
         ],
         &[(b"F", &[])],
     ),
@@ -50,13 +42,7 @@ const SCRIPTS: &[Script] = &[
     (
         1024,
         1024,
-        &[
-            READY,
-            (
-                Call::Create(b"H", 32, 2, 0, 0, 0),
-                Want::Refused(0x4000, 11),
-            ),
-        ],
+        &[READY, ("create 48 32 2 0 0 0", "refused 4000 11")],
         &[],
     ),
     // Records by their numbers, in a relative file and in a sequential one.
@@ -64,28 +50,25 @@ const SCRIPTS: &[Script] = &[
         64,
         64,
         &[
-            (Call::Hello, Want::Ready(64)),
-            (
-                Call::Create(b"R", 16, 1, 2, 0, 3),
-                Want::Opened(16, 1, 2, 0),
-            ),
+            ("hello", "ready 64"),
+            ("create 52 16 1 2 0 3", "opened 16 1 2 0"),
             CONNECTED,
-            (Call::PutKey(2147483647, b"AB"), Want::Done(2147483647)),
-            (Call::Put(b"CD"), Want::Done(1)),
-            (Call::Put(b"E"), Want::Refused(0x5000, 7)),
-            (Call::GetKey(2147483647), Want::Found(2147483647, b"AB")),
-            (Call::GetRfa(1), Want::Found(1, b"CD")),
-            (Call::GetKey(2), Want::Refused(0x5000, 4)),
-            (Call::GetKey(0), Want::Refused(0x5000, 6)),
-            (Call::Delete, Want::Refused(0x5000, 2)),
+            ("put key 2147483647 4142", "done 2147483647"),
+            ("put 4344", "done 1"),
+            ("put 45", "refused 5000 7"),
+            ("get key 2147483647", "found 2147483647 4142"),
+            ("get rfa 1", "found 1 4344"),
+            ("get key 2", "refused 5000 4"),
+            ("get key 0", "refused 5000 6"),
+            ("delete", "refused 5000 2"),
             CLOSED,
-            (Call::Create(b"S", 0, 2, 0, 0, 15), Want::Opened(0, 2, 0, 0)),
+            ("create 53 0 2 0 0 15", "opened 0 2 0 0"),
             CONNECTED,
-            (Call::PutKey(1, b""), Want::Refused(0x5000, 8)),
-            (Call::Put(b""), Want::Done(1)),
-            (Call::GetKey(1), Want::Refused(0x5000, 8)),
-            (Call::GetRfa(1), Want::Found(1, b"")),
-            (Call::Delete, Want::Refused(0x5000, 9)),
+            ("put key 1 -", "refused 5000 8"),
+            ("put -", "done 1"),
+            ("get key 1", "refused 5000 8"),
+            ("get rfa 1", "found 1 -"),
+            ("delete", "refused 5000 9"),
         ],
         &[
             (b"R", &[(1, b"CD"), (2147483647, b"AB")]),
@@ -98,19 +81,19 @@ const SCRIPTS: &[Script] = &[
         1024,
         &[
             READY,
-            (Call::Create(b"F", 0, 2, 0, 0, 1), Want::Opened(0, 2, 0, 0)),
+            ("create 46 0 2 0 0 1", "opened 0 2 0 0"),
             CONNECTED,
-            (Call::Get, Want::Refused(0x5000, 2)),
-            (Call::Fetch, Want::BatchRefused(&[], 0x5000, 2)),
-            (Call::Update(b"A"), Want::Refused(0x5000, 2)),
-            (Call::Delete, Want::Refused(0x5000, 2)),
-            (Call::Put(b"A"), Want::Done(1)),
+            ("get", "refused 5000 2"),
+            ("fetch", "batch 0 refused 5000 2"),
+            ("update 41", "refused 5000 2"),
+            ("delete", "refused 5000 2"),
+            ("put 41", "done 1"),
             CLOSED,
-            (Call::Open(b"F", 0), Want::Opened(0, 2, 0, 0)),
+            ("open 46 0", "opened 0 2 0 0"),
             CONNECTED,
-            (Call::Put(b"B"), Want::Refused(0x5000, 2)),
-            (Call::Get, Want::Found(1, b"A")),
-            (Call::Store(&[b"B"]), Want::StoredSave(0x5000, 2, 1)),
+            ("put 42", "refused 5000 2"),
+            ("get", "found 1 41"),
+            ("store 42", "stored refused 5000 2 1"),
         ],
         &[(b"F", &[(1, b"A")])],
     ),
@@ -119,19 +102,19 @@ const SCRIPTS: &[Script] = &[
         64,
         65535,
         &[
-            (Call::Hello, Want::Ready(65535)),
-            (Call::Create(b"F", 0, 2, 0, 0, 3), Want::Opened(0, 2, 0, 0)),
+            ("hello", "ready 65535"),
+            ("create 46 0 2 0 0 3", "opened 0 2 0 0"),
             CONNECTED,
-            (Call::Put(TEN), Want::Done(1)),
-            (Call::Put(LARGE), Want::Done(2)),
-            (Call::Put(TEN), Want::Done(3)),
-            (Call::Fetch, Want::Stopped(&[(1, TEN)])),
-            (Call::Again, Want::Stopped(&[])),
-            (Call::Skip, Want::Complete(&[(3, TEN)])),
-            (Call::Get, Want::EndOfFile),
-            (Call::Rewind, Want::Done(0)),
-            (Call::Get, Want::Found(1, TEN)),
-            (Call::Get, Want::Refused(0x5000, 10)),
+            ("put 01010101010101010101", "done 1"),
+            ("put {02}200", "done 2"),
+            ("put 01010101010101010101", "done 3"),
+            ("fetch", "batch 1 stopped 1:01010101010101010101"),
+            ("continue again", "batch 0 stopped"),
+            ("continue skip", "batch 1 complete 3:01010101010101010101"),
+            ("get", "end-of-file"),
+            ("rewind", "done 0"),
+            ("get", "found 1 01010101010101010101"),
+            ("get", "refused 5000 10"),
         ],
         &[(b"F", &[(1, TEN), (2, LARGE), (3, TEN)])],
     ),
@@ -140,15 +123,15 @@ const SCRIPTS: &[Script] = &[
         64,
         65535,
         &[
-            (Call::Hello, Want::Ready(65535)),
-            (Call::Create(b"F", 0, 2, 0, 0, 3), Want::Opened(0, 2, 0, 0)),
+            ("hello", "ready 65535"),
+            ("create 46 0 2 0 0 3", "opened 0 2 0 0"),
             CONNECTED,
-            (Call::Put(TEN), Want::Done(1)),
-            (Call::Put(LARGE), Want::Done(2)),
-            (Call::Fetch, Want::Stopped(&[(1, TEN)])),
-            (Call::Abort, Want::Complete(&[])),
-            (Call::Get, Want::Refused(0x5000, 10)),
-            (Call::Purge, Want::Closed),
+            ("put 01010101010101010101", "done 1"),
+            ("put {02}200", "done 2"),
+            ("fetch", "batch 1 stopped 1:01010101010101010101"),
+            ("continue abort", "batch 0 complete"),
+            ("get", "refused 5000 10"),
+            ("purge", "closed"),
         ],
         &[],
     ),
@@ -158,23 +141,17 @@ const SCRIPTS: &[Script] = &[
         1024,
         &[
             READY,
-            (Call::Create(b"F", 0, 2, 5, 0, 1), Want::Opened(0, 2, 5, 0)),
+            ("create 46 0 2 5 0 1", "opened 0 2 5 0"),
             CONNECTED,
-            (
-                Call::Store(&[b"A", b"BBBBBB", b"C"]),
-                Want::StoredSave(0x5000, 7, 2),
-            ),
+            ("store 41 424242424242 43", "stored refused 5000 7 2"),
             CONNECTED,
-            (Call::Store(&[]), Want::Stored),
+            ("store", "stored"),
             CONNECTED,
-            (Call::Store(&[b"D", b"E"]), Want::Stored),
+            ("store 44 45", "stored"),
             CLOSED,
-            (Call::Open(b"F", 2), Want::Opened(0, 2, 5, 0)),
+            ("open 46 2", "opened 0 2 5 0"),
             CONNECTED,
-            (
-                Call::Fetch,
-                Want::Complete(&[(1, b"A"), (2, b"D"), (3, b"E")]),
-            ),
+            ("fetch", "batch 3 complete 1:41 2:44 3:45"),
         ],
         &[(b"F", &[(1, b"A"), (2, b"D"), (3, b"E")])],
     ),
@@ -183,10 +160,10 @@ const SCRIPTS: &[Script] = &[
         1024,
         104,
         &[
-            (Call::Hello, Want::Ready(104)),
-            (Call::Create(b"F", 0, 2, 0, 0, 1), Want::Opened(0, 2, 0, 0)),
+            ("hello", "ready 104"),
+            ("create 46 0 2 0 0 1", "opened 0 2 0 0"),
             CONNECTED,
-            (Call::Put(HUNDRED), Want::Done(1)),
+            ("put {03}100", "done 1"),
         ],
         &[(b"F", &[(1, HUNDRED)])],
     ),
@@ -195,31 +172,15 @@ const SCRIPTS: &[Script] = &[
         1024,
         65535,
         &[
-            (Call::Hello, Want::Ready(65535)),
-            (Call::Create(b"F", 0, 2, 0, 0, 1), Want::Opened(0, 2, 0, 0)),
+            ("hello", "ready 65535"),
+            ("create 46 0 2 0 0 1", "opened 0 2 0 0"),
             CONNECTED,
-            (Call::Put(LONGEST), Want::Done(1)),
-            (Call::Put(LONGER), Want::Refused(0x5000, 7)),
+            ("put {04}32767", "done 1"),
+            ("put {04}32768", "refused 5000 7"),
         ],
         &[(b"F", &[(1, LONGEST)])],
     ),
 ];
-
-fn all(alloc: Global, script: &[(Call, Want)]) -> Result<Vec<Request>, WorldFault> {
-    let mut requests = Vec::new(alloc);
-    for (call, _want) in script {
-        requests.push(request(alloc, *call)?)?;
-    }
-    Ok(requests)
-}
-
-fn are_told(reports: &[Report], script: &[(Call, Want)]) -> bool {
-    reports.len() == script.len()
-        && reports
-            .iter()
-            .zip(script)
-            .all(|(report, line)| is_wanted(report, line.1))
-}
 
 /// Whether the requests of a script have their reports, and leave these files.
 fn comes_so(alloc: Global, script: Script) -> Result<bool, WorldFault> {
@@ -230,9 +191,8 @@ fn comes_so(alloc: Global, script: Script) -> Result<bool, WorldFault> {
         bufsiz_a,
         bufsiz_b,
     };
-    let requests = all(alloc, turns)?;
-    let world = after(alloc, setup, &requests)?;
-    Ok(are_told(world.reports(), turns) && holds(world.files(), files))
+    let world = after(alloc, setup, &all_of(alloc, turns)?)?;
+    Ok(are_told(alloc, world.reports(), turns)? && holds(world.files(), files))
 }
 
 #[test]

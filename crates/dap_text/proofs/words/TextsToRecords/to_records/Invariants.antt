@@ -1,7 +1,7 @@
 use Rattle.std.proofs.Common.{◌≡◌, ◌++◌, length, []}
 use Rattle.std.specs.Prelude.{IsSome, unwrap_or}
 use Rattle.dap_text.specs.Words.{texts_of}
-use Rattle.dap_text.proofs.words.Texts.to_list.Given as goal
+use Rattle.dap_text.proofs.words.TextsToRecords.to_records.Given as goal
 
 abbrev pub invariant-loop-word : goal.invariant-loop-word
 invariant-loop-word l = record {

@@ -1,5 +1,0 @@
-use Rattle.std.proofs.Common.{◌≡◌, take}
-use Rattle.dap_accessing.proofs.copying.copy_list.Given as goal
-
-abbrev pub invariant-loop-octets : goal.invariant-loop-octets
-invariant-loop-octets l = l.copy.items ≡ take l.octets-index l.list
