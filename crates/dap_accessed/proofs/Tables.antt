@@ -1,46 +1,68 @@
--- A list of entries, each seen as a name and a file, as a file table.
-use Rattle.std.proofs.Common.{◌≡◌, ℕ, zero, suc, ◌+◌, ◌<◌, Bool, true, not, cond, List, [], ◌∷◌, length, map, get_or, set, Option, Some, None, refl, ap, sym, subst, ◌∙◌, arith}
-use Rattle.std.specs.Prelude.{nat_lt}
+-- A map from names to files, seen as a file table.
+use Rattle.std.proofs.Common.{◌≡◌, ℕ, zero, suc, ◌+◌, ◌<◌, Bool, true, false, not, cond, ◌++◌, List, [], ◌∷◌, length, map, get_or, set, Option, Some, None, refl, ap, sym, subst, ◌∙◌, arith}
+use Rattle.std.specs.Prelude.{is_some, nat_lt, slice_get}
 use Rattle.std.specs.List.{position, prefix_len, remove}
+use Rattle.std.specs.Map.{keys_of, values_of, lookup}
+use Rattle.indexmap.proofs.MapLemmas.{some_index}
 use Rattle.std.proofs.lemmas.List.{length-map}
 use Rattle.std.specs.Prelude.{Result, MatchBool}
+use Rattle.indexmap.specs.IndexMap.{set_value_at}
 use Rattle.rec_file.specs.declared.refusals.Refusal.{Refusal}
 use Rattle.rec_file.specs.Acts.{Operation, StreamVal, Acts, act, is_no_memory, LacksMemory, IsOutcome}
 use Rattle.rec_file.specs.Files.{FileVal}
 use Rattle.dap_accessed.specs.Standing.{Files, file_at, name_at, with_file, without_file}
 
-module _ {V : Type 0} (f : V → List ℕ × FileVal) where
-  pub file_at-map : (es : List V) (i : ℕ) (d : V) → i < length es → file_at i (map f es) ≡ (f (get_or es i d)).1
-  file_at-map [] i d h = absurd (omega arith)
-  file_at-map (e ∷ es) zero d h = refl
-  file_at-map (e ∷ es) (suc i) d h = file_at-map es i d (omega arith)
+-- where two tests answer alike at every element of two lists of one length, the first that passes has one place
+prefix_len-alike : {X Y Z : Type 0} (f : X → Y) (g : X → Z) (p : Y → Bool) (q : Z → Bool) → ((x : X) → p (f x) ≡ q (g x))
+    → (xs : List X) → prefix_len (λ y. not (p y)) (map f xs) ≡ prefix_len (λ z. not (q z)) (map g xs)
+prefix_len-alike f g p q alike [] = refl
+prefix_len-alike f g p q alike (x ∷ xs) =
+    ap (λ (b : Bool). cond (not b) (1 + prefix_len (λ y. not (p y)) (map f xs)) 0) (alike x)
+    ∙ ap (λ (n : ℕ). cond (not (q (g x))) (1 + n) 0) (prefix_len-alike f g p q alike xs)
 
-  pub name_at-map : (es : List V) (i : ℕ) (d : V) → i < length es → name_at i (map f es) ≡ (f (get_or es i d)).0
-  name_at-map [] i d h = absurd (omega arith)
-  name_at-map (e ∷ es) zero d h = refl
-  name_at-map (e ∷ es) (suc i) d h = name_at-map es i d (omega arith)
+pub position-alike : {X Y Z : Type 0} (f : X → Y) (g : X → Z) (p : Y → Bool) (q : Z → Bool) → ((x : X) → p (f x) ≡ q (g x))
+    → (xs : List X) → position p (map f xs) ≡ position q (map g xs)
+position-alike f g p q alike xs =
+    let found : ℕ → ℕ → Option ℕ = λ n m. cond (nat_lt n m) (Some n) None in
+    ap (λ (n : ℕ). found n (length (map f xs))) (prefix_len-alike f g p q alike xs)
+    ∙ ap (λ (m : ℕ). found (prefix_len (λ z. not (q z)) (map g xs)) m) (length-map xs f ∙ sym (length-map xs g))
 
-  pub with_file-map : (es : List V) (i : ℕ) (d v : V) → i < length es → (f v).0 ≡ (f (get_or es i d)).0 → map f (set es i v) ≡ with_file i (f v).1 (map f es)
-  with_file-map [] i d v h n = absurd (omega arith)
-  with_file-map (e ∷ es) zero d v h n = ap (λ (x : List ℕ × FileVal). x ∷ map f es) (ap (λ (x : List ℕ). (x, (f v).1)) n)
-  with_file-map (e ∷ es) (suc i) d v h n = ap (λ (l : List (List ℕ × FileVal)). f e ∷ l) (with_file-map es i d v (omega arith) n)
+pub map-last : {X Y : Type 0} (f : X → Y) (xs : List X) (x : X) → map f (xs ++ x ∷ []) ≡ map f xs ++ f x ∷ []
+map-last {Y = Y} f [] x = refl
+map-last {Y = Y} f (y ∷ xs) x = ap (λ (l : List Y). f y ∷ l) (map-last f xs x)
 
-  prefix_len-map : (p : List ℕ × FileVal → Bool) (es : List V) → prefix_len p (map f es) ≡ prefix_len (λ e. p (f e)) es
-  prefix_len-map p [] = refl
-  prefix_len-map p (e ∷ es) = ap (λ (n : ℕ). cond (p (f e)) (1 + n) 0) (prefix_len-map p es)
+none_of : {X : Type 0} (o : Option X) → is_some o ≡ false → o ≡ None
+none_of None none = refl
+none_of (Some x) none = let no : ⊥ = cc in absurd no
 
-  pub position-map : (p : List ℕ × FileVal → Bool) (es : List V) → position p (map f es) ≡ position (λ e. p (f e)) es
-  position-map p es =
-      let a = prefix_len-map (λ x. not (p x)) es in
-      let b = length-map es f in
-      let g : ℕ → ℕ → Option ℕ = λ n m. cond (nat_lt n m) (Some n) None in
-      ap (λ (n : ℕ). g n (length (map f es))) a ∙ ap (λ (m : ℕ). g (prefix_len (λ e. not (p (f e))) es) m) b
+-- where no key passes, none is found
+pub absent : {K V : Type 0} (test : K → Bool) (es : List (K × V)) → position test (keys_of es) ≡ None → lookup test es ≡ None
+absent test es none = none_of (lookup test es) (sym (some_index test es) ∙ ap is_some none)
 
-  pub without-map : (es : List V) (i : ℕ) → map f (remove es i) ≡ without_file i (map f es)
+module _ {K V : Type 0} (name : K → List ℕ) (file : V → FileVal) where
+  abbrev pub view : K × V → List ℕ × FileVal
+  view e = (name e.0, file e.1)
+
+  pub file_at-map : (es : List (K × V)) (i : ℕ) (v : V) → slice_get (values_of es) i ≡ Some v → file_at i (map view es) ≡ file v
+  file_at-map [] i v at = let no : ⊥ = cc in absurd no
+  file_at-map (e ∷ es) zero v at = let is : e.1 ≡ v = cc in ap file is
+  file_at-map (e ∷ es) (suc i) v at = file_at-map es i v at
+
+  pub name_at-map : (es : List (K × V)) (i : ℕ) (k : K) (v : V) → slice_get es i ≡ Some (k, v) → name_at i (map view es) ≡ name k
+  name_at-map [] i k v at = let no : ⊥ = cc in absurd no
+  name_at-map (e ∷ es) zero k v at = let is : e ≡ (k, v) = cc in ap (λ (x : K × V). name x.0) is
+  name_at-map (e ∷ es) (suc i) k v at = name_at-map es i k v at
+
+  pub with_file-map : (es : List (K × V)) (i : ℕ) (w : V) → map view (set_value_at es i w) ≡ with_file i (file w) (map view es)
+  with_file-map [] i w = refl
+  with_file-map (e ∷ es) zero w = refl
+  with_file-map (e ∷ es) (suc i) w = ap (λ (l : Files). view e ∷ l) (with_file-map es i w)
+
+  pub without-map : (es : List (K × V)) (i : ℕ) → map view (remove es i) ≡ without_file i (map view es)
   without-map [] zero = refl
   without-map [] (suc i) = refl
   without-map (e ∷ es) zero = refl
-  without-map (e ∷ es) (suc i) = ap (λ (l : List (List ℕ × FileVal)). f e ∷ l) (without-map es i)
+  without-map (e ∷ es) (suc i) = ap (λ (l : Files). view e ∷ l) (without-map es i)
 
 pub file_at-with : (files : Files) (i : ℕ) (file : FileVal) → i < length files → file_at i (with_file i file files) ≡ file
 file_at-with [] i file h = absurd (omega arith)
@@ -53,21 +75,18 @@ length-with (e ∷ es) zero file = refl
 length-with (e ∷ es) (suc i) file = ap suc (length-with es i file)
 
 -- another file in the place of an entry's: the table is the one with it, and it stands there
-module _ {V : Type 0} (f : V → List ℕ × FileVal) (es : List V) (i : ℕ) (d v : V) (files : Files) (seen : map f es ≡ files) (h : i < length files) (same : (f v).0 ≡ (f (get_or es i d)).0) where
-  within : i < length es
-  within = omega (arith, length-map es f, ap length seen)
+module _ {K V : Type 0} (name : K → List ℕ) (file : V → FileVal) (es : List (K × V)) (i : ℕ) (v w : V) (files : Files) (seen : map (view name file) es ≡ files) (h : i < length files) (at : slice_get (values_of es) i ≡ Some v) where
+  pub replaced : map (view name file) (set_value_at es i w) ≡ with_file i (file w) files
+  replaced = with_file-map name file es i w ∙ ap (with_file i (file w)) seen
 
-  pub replaced : map f (set es i v) ≡ with_file i (f v).1 files
-  replaced = with_file-map f es i d v within same ∙ ap (with_file i (f v).1) seen
+  pub there : file_at i (map (view name file) (set_value_at es i w)) ≡ file w
+  there = ap (file_at i) replaced ∙ file_at-with files i (file w) h
 
-  pub there : file_at i (map f (set es i v)) ≡ (f v).1
-  there = ap (file_at i) replaced ∙ file_at-with files i (f v).1 h
-
-  pub others : map f (set es i v) ≡ with_file i (file_at i (map f (set es i v))) files
+  pub others : map (view name file) (set_value_at es i w) ≡ with_file i (file_at i (map (view name file) (set_value_at es i w))) files
   others = replaced ∙ ap (λ (x : FileVal). with_file i x files) (sym there)
 
-  pub was : (f (get_or es i d)).1 ≡ file_at i files
-  was = sym (file_at-map f es i d within) ∙ ap (file_at i) seen
+  pub was : file v ≡ file_at i files
+  was = sym (file_at-map name file es i v at) ∙ ap (file_at i) seen
 
 pub with-same : (files : Files) (i : ℕ) → with_file i (file_at i files) files ≡ files
 with-same [] i = refl

@@ -4,14 +4,14 @@ use Rattle.dap_accessed.proofs.table.FileTable.update.Goals as goal
 
 pub returns-clause-others : goal.returns-clause-others
 returns-clause-others c =
-    others_stay c.self.inside.entries.items c.args.at c.index_mut-entry.result.now c.update.new.file c.args.self.now c.self.view_is c.requires c.index_mut-entry.ensures.value
+    others_stay c.self.inside.files.entries c.args.at c.index_mut-file.result.now c.update.new.file c.args.self.now c.self.view_is c.requires c.index_mut-file.ensures.value
 
 pub returns-clause-acts : goal.returns-clause-acts
 returns-clause-acts c =
-    acts c.self.inside.entries.items c.args.at c.index_mut-entry.result.now c.update.new.file c.args.self.now c.self.view_is c.requires c.index_mut-entry.ensures.value
+    acts c.self.inside.files.entries c.args.at c.index_mut-file.result.now c.update.new.file c.args.self.now c.self.view_is c.requires c.index_mut-file.ensures.value
     (update_record c.args.body.now) c.args.stream.now c.update.new.self c.update.result c.update.ensures
 
 pub returns-clause-no_memory : goal.returns-clause-no_memory
 returns-clause-no_memory c = λ lacks.
-    stays c.self.inside.entries.items c.args.at c.index_mut-entry.result.now c.update.new.file c.args.self.now c.self.view_is c.requires c.index_mut-entry.ensures.value
+    stays c.self.inside.files.entries c.args.at c.index_mut-file.result.now c.update.new.file c.args.self.now c.self.view_is c.requires c.index_mut-file.ensures.value
     (update_record c.args.body.now) c.args.stream.now c.update.new.self c.update.result c.update.ensures lacks
