@@ -4,12 +4,14 @@ ghost use Rattle.std.specs.Io.KnownBytes.{Keeps};
 ghost use Rattle.clap.specs.Words.{FailsBy, kind_of, fault_of};
 ghost use Rattle.dap_cli.specs.declared.run.Choice.{Choice};
 ghost use Rattle.dap_cli.specs.Inner.CommandLine.{HasOneMore, IsCommandLine};
-ghost use Rattle.dap_cli.specs.Run.{AreMistakes, Chooses, IsMistake, RunGives, dapnsp, word_of};
+ghost use Rattle.cli_faults.specs.Mistakes.{AreMistakes};
+ghost use Rattle.dap_cli.specs.Run.{Chooses, RunGives, dapnsp, word_of};
 
 use clap::error::ErrorKind;
 use clap::{Command, Error};
+use cli_faults::refuse;
 use dap_capture::schedule;
-use dap_listing::{CaptureFault, finish, messages, show, write_text};
+use dap_listing::{finish, messages, show};
 use std::alloc::Global;
 use std::io::{Read, Write};
 
@@ -111,36 +113,6 @@ fn read_words<'a>(alloc: Global, words: &'a [String]) -> Result<Choice, Error>
         Some("msg") => Ok(Choice::Msg),
         Some("run") => Ok(Choice::Run),
         _ => unreachable!(),
-    }
-}
-
-/// Tells why the words name no command: help goes to the writer, and what is wrong to the error
-/// writer.
-fn refuse<W: Write, E: Write>(
-    alloc: Global,
-    error: Error,
-    writer: &mut W,
-    error_writer: &mut E,
-) -> u8
-    ensures memory { kind_of error ≡ ErrorKind.OutOfMemory
-        → (result ≡ 3) × Keeps (W.contents writer.old) (W.contents writer.new) }
-    ensures help { kind_of error ≡ ErrorKind.DisplayHelp → (result ≡ 0) ⊎ (result ≡ 3) }
-    ensures mistake { IsMistake (kind_of error) → (kind_of error ≡ ErrorKind.OutOfMemory)
-        ⊎ ((result ≡ 2) × Keeps (W.contents writer.old) (W.contents writer.new)) }
-{
-    if error.kind() == ErrorKind::OutOfMemory {
-        return finish(Err(CaptureFault::NoMemory), error_writer);
-    }
-    if error.use_stderr() {
-        let _ = write!(error_writer, "{error}");
-        return 2;
-    }
-    let Ok(text) = error.to_string(alloc) else {
-        return finish(Err(CaptureFault::NoMemory), error_writer);
-    };
-    match write_text(text.as_bytes(), writer) {
-        Ok(()) => 0,
-        Err(fault) => finish(Err(fault), error_writer),
     }
 }
 

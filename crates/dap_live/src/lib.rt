@@ -9,4 +9,5 @@ mod serving;
 mod texts;
 
 pub use asking::Asking;
+pub use orders::read_address;
 pub use serving::Serving;

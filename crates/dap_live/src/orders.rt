@@ -88,8 +88,8 @@ fn number_of(high: u8, low: u8) -> u16
     256 * u16::from(high) + u16::from(low)
 }
 
-/// An address, by four hex digits.
-fn read_address(word: &[u8]) -> Option<u16>
+/// A link address, by four hex digits of either case; or None. It takes no memory. Own.
+pub fn read_address(word: &[u8]) -> Option<u16>
     ensures { result ≡ address_of word.now }
 {
     let mut bytes = [0; 2];

@@ -1,6 +1,59 @@
--- What holds where a reader's bytes are known.
+-- What the program's command line makes of words, and what holds where a reader's bytes are known.
+use Rattle.std.proofs.Common.{◌≡◌, ◌∙◌, ap, refl, inr, ℕ, List, [], ◌∷◌, true, codes, Err}
 use Rattle.std.specs.Prelude.{Option, Some, None, IfSome}
+use Rattle.std.specs.Io.KnownBytes.{Keeps}
+use Rattle.hex.specs.Hex.{decode_pairs}
+use Rattle.clap.specs.Words.{Text, fault_of, is_simple, is_simple_and_free}
+use Rattle.clap.proofs.OnLiterals.{clap_on_literals}
+use Rattle.live_cli.specs.declared.words.Role.{Role}
+use Rattle.live_cli.specs.declared.words.Role.TheVariants.{Serve, Ask}
+use Rattle.live_cli.specs.declared.words.Task.{Task}
+use Rattle.live_cli.specs.declared.words.Task.TheVariants.{End, Follow}
+use Rattle.dap_listing.specs.declared.fault.CaptureFault.TheVariants.{NoMemory}
+use Rattle.live_cli.specs.Running.{TaskGives}
+use Rattle.live_cli.specs.Words.{daplive, task_of, usual, word_of}
 
 pub some_from : {X : Type 0} {P Q : X → Type 0} (o : Option X) → IfSome o P → ((x : X) → P x → Q x) → IfSome o Q
 some_from None holds next = tt
 some_from (Some x) holds next = next x holds
+
+pub is_simple_line : is_simple daplive ≡ true
+unfolding clap_on_literals
+is_simple_line = refl
+
+pub is_free_line : is_simple_and_free daplive ≡ true
+unfolding clap_on_literals
+is_free_line = refl
+
+-- on the word of an end alone
+pub no_fault : (program : Text) (role : Role) → fault_of daplive (program ∷ word_of role ∷ []) ≡ []
+unfolding clap_on_literals
+no_fault program Serve = refl
+no_fault program Ask = refl
+
+pub names_usual : (program : Text) (role : Role) → task_of (program ∷ word_of role ∷ []) ≡ Some (End (usual role))
+unfolding clap_on_literals decode_pairs
+names_usual program Serve = refl
+names_usual program Ask = refl
+
+-- and on that of the listing
+pub no_fault_follow : (program : Text) → fault_of daplive (program ∷ codes "follow" ∷ []) ≡ []
+unfolding clap_on_literals
+no_fault_follow program = refl
+
+pub names_follow : (program : Text) → task_of (program ∷ codes "follow" ∷ []) ≡ Some Follow
+unfolding clap_on_literals
+names_follow program = refl
+
+-- want of memory, of whatever input
+pub refused : (task : Task) (known old new : Option (List ℕ)) (status : ℕ) → (status ≡ 3) × Keeps old new → IfSome known (λ input. TaskGives task input old new status)
+refused task None old new status memory = tt
+refused (End options) (Some input) old new status memory = inr (memory.1, memory.0)
+refused Follow (Some input) old new status memory = (Err NoMemory, memory.1, memory.0)
+
+-- two things that the words name are one
+pub one_task : (words : List Text) (a b : Task) → Some a ≡ task_of words → task_of words ≡ Some b → a ≡ b
+one_task words a b first second = let same : Some a ≡ Some b = first ∙ second in cc
+
+pub none_named : (words : List Text) (task : Task) → None ≡ task_of words → task_of words ≡ Some task → ⊥
+none_named words task none some = let no : None ≡ Some task = none ∙ some in cc

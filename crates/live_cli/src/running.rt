@@ -1,15 +1,19 @@
 //! The program over any reader and writers.
 
-ghost use Rattle.std.specs.Prelude.{◌≡◌, ◌≤◌, ◌⊎◌, ℕ, List, IfSome};
+ghost use Rattle.std.specs.Prelude.{◌≡◌, ◌≢◌, ◌≤◌, ◌⊎◌, ◌∷◌, ℕ, List, [], IfSome, None, Some, codes, map, string_bytes};
 ghost use Rattle.std.specs.Io.KnownBytes.{Keeps};
+ghost use Rattle.clap.specs.Words.{fault_of};
+ghost use Rattle.cli_faults.specs.Mistakes.{AreMistakes};
 ghost use Rattle.dap_msg.specs.Exchange.{least_buffer};
 ghost use Rattle.live_cli.specs.declared.words.Task.{Task as TheTask};
 ghost use Rattle.live_cli.specs.declared.words.Role.TheVariants as role;
-ghost use Rattle.live_cli.specs.Running.{AnswersAll, GivesAs, RunGives, IsSilent, TaskGives, setup_of, status_of};
+ghost use Rattle.live_cli.specs.declared.words.Role.{Role as TheRole};
+ghost use Rattle.live_cli.specs.Running.{AnswersAll, GivesAs, HasRoom, ListingGives, RunGives, IsSilent, TaskGives, setup_of, status_of};
+ghost use Rattle.live_cli.specs.Words.{daplive, task_of, usual, word_of};
 
 use crate::words::{Options, Role, Task, read_words};
-use clap::Error;
 use clap::error::ErrorKind;
+use cli_faults::refuse;
 use dap_follow::follow;
 use dap_listing::finish;
 use dap_live::{Asking, Serving};
@@ -132,31 +136,33 @@ pub fn run_options<R: BufRead, W: Write, E: Write>(
     }
 }
 
-/// Tells why the words name no end: help goes to the writer, and what is wrong to the error writer.
-fn refuse<W: Write, E: Write>(
+/// Does what was named, and answers the exit status.
+fn run_task<R: BufRead, W: Write, E: Write>(
     alloc: Global,
-    error: Error,
+    task: Task,
+    reader: &mut R,
     writer: &mut W,
     error_writer: &mut E,
-) -> u8 {
-    if error.kind() == ErrorKind::OutOfMemory {
-        return tell("no memory", error_writer);
+) -> u8
+    requires { HasRoom task }
+    ensures { IfSome (R.remaining reader.old) (λ input. TaskGives task input
+        (W.contents writer.old) (W.contents writer.new) result) }
+{
+    match task {
+        Task::End(options) => run_options(alloc, options, reader, writer, error_writer),
+        Task::Follow => finish(follow(alloc, reader, writer), error_writer),
     }
-    if error.use_stderr() {
-        let _ = write!(error_writer, "{error}");
-        return 2;
-    }
-    let Ok(text) = error.to_string(alloc) else {
-        return tell("no memory", error_writer);
-    };
-    match writer.write_all(text.as_bytes()) {
-        Ok(()) => {}
-        Err(_) => return tell("write failed", error_writer),
-    }
-    match writer.flush() {
-        Ok(()) => 0,
-        Err(_) => tell("write failed", error_writer),
-    }
+}
+
+/// Tells that an address or a number isn't spelled as it has to be.
+fn refuse_digits<E: Write>(error_writer: &mut E) -> u8
+    ensures { result ≡ 2 }
+{
+    let _ = writeln!(
+        error_writer,
+        "an address is four hex digits, and a number decimal digits"
+    );
+    2
 }
 
 /// Does what the words name, the program's name first, and answers the exit status. Own.
@@ -172,17 +178,34 @@ pub fn run_words<R: BufRead, W: Write, E: Write>(
     writer: &mut W,
     error_writer: &mut E,
 ) -> u8
-    ensures { ((task : TheTask) × IfSome (R.remaining reader.old) (λ input. TaskGives task
-        input (W.contents writer.old) (W.contents writer.new) result))
-        ⊎ (R.remaining reader.new ≡ R.remaining reader.old) }
+    // The words of clap: what is at fault in a list of words, first things first.
+    ensures named { (task : TheTask)
+        → fault_of daplive (map string_bytes words.now) ≡ []
+        → task_of (map string_bytes words.now) ≡ Some task
+        → IfSome (R.remaining reader.old) (λ input. TaskGives task input
+        (W.contents writer.old) (W.contents writer.new) result) }
+    ensures usual { (program : List ℕ) (role : TheRole)
+        → map string_bytes words.now ≡ program ∷ word_of role ∷ []
+        → IfSome (R.remaining reader.old) (λ input. RunGives (usual role) input
+        (W.contents writer.old) (W.contents writer.new) result) }
+    ensures follow { (program : List ℕ)
+        → map string_bytes words.now ≡ program ∷ codes "follow" ∷ []
+        → IfSome (R.remaining reader.old) (λ input. ListingGives input
+        (W.contents writer.old) (W.contents writer.new) result) }
+    ensures digits { fault_of daplive (map string_bytes words.now) ≡ []
+        → task_of (map string_bytes words.now) ≡ None
+        → ((result ≡ 2) ⊎ (result ≡ 3)) × Keeps (W.contents writer.old) (W.contents writer.new) }
+    ensures mistake { AreMistakes (fault_of daplive (map string_bytes words.now))
+        → ((result ≡ 2) ⊎ (result ≡ 3)) × Keeps (W.contents writer.old) (W.contents writer.new) }
+    ensures unread { (fault_of daplive (map string_bytes words.now) ≢ [])
+        ⊎ (task_of (map string_bytes words.now) ≡ None)
+        → R.remaining reader.new ≡ R.remaining reader.old }
+    ensures help { fault_of daplive (map string_bytes words.now) ≡ ErrorKind.DisplayHelp ∷ []
+        → (result ≡ 0) ⊎ (result ≡ 3) }
 {
     match read_words(alloc, words) {
-        Ok(Some(Task::End(options))) => run_options(alloc, options, reader, writer, error_writer),
-        Ok(Some(Task::Follow)) => finish(follow(alloc, reader, writer), error_writer),
-        Ok(None) => {
-            let _ = writeln!(error_writer, "an address is four hex digits");
-            2
-        }
+        Ok(Some(task)) => run_task(alloc, task, reader, writer, error_writer),
+        Ok(None) => refuse_digits(error_writer),
         Err(error) => refuse(alloc, error, writer, error_writer),
     }
 }

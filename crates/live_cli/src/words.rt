@@ -1,11 +1,22 @@
 //! What the words say.
 
-ghost use Rattle.std.specs.Prelude.{◌≤◌, IfOk, IfSome};
-ghost use Rattle.dap_msg.specs.Exchange.{least_buffer};
+ghost use Rattle.std.specs.Prelude.{◌≡◌, ◌≤◌, false, IfErr, IfOk, IfSome, Some, codes, map, option_map, pos, string_bytes};
+ghost use Rattle.clap.specs.Words.{FailsBy, app_of, fault_of, first_of, found_of, kind_of, new_app, rows_of, rule_of};
+ghost use Rattle.clap.specs.declared.builder.value_parser.ValueParser.TheVariants as parser;
+ghost use Rattle.dap_msg.specs.Exchange.{greatest_message, least_buffer};
+ghost use Rattle.nsp_link.specs.Limits.{largest_segment, largest_window};
+ghost use Rattle.clap.specs.declared.builder.command.Command.TheViews.{out-Command};
+ghost use Rattle.dap_text.specs.Words.{short};
 ghost use Rattle.live_cli.specs.Running.{HasRoom};
+ghost use Rattle.live_cli.specs.Words.{daplive, option as option_rule, options_of, address_in as address_in_rows, number_in as number_in_rows, task_in as task_of_rows, task_of};
+ghost use Rattle.live_cli.specs.Inner.CommandLine.{HasAddresses, HasLimits, IsCommandLine, IsEndLine};
 
+use clap::builder::ValueParser;
+use clap::error::ErrorKind;
 use clap::{Arg, ArgMatches, Command, Error, value_parser};
+use dap_live::read_address;
 use dap_msg::{GREATEST_MESSAGE, LEAST_BUFFER};
+use dap_text::{is, read_number};
 use nsp_link::{LARGEST_SEGMENT, LARGEST_WINDOW};
 use std::alloc::Global;
 
@@ -65,13 +76,17 @@ const ASKING: Usual = Usual {
     remote: "0202",
 };
 
+/// An option with a value, and the one that is usual.
 fn option<'a>(
     alloc: Global,
     name: &'static str,
     value: &'static str,
     usual: &'static str,
     help: &'static str,
-) -> Arg<'a> {
+) -> Arg<'a>
+    ensures rule { rule_of result ≡ option_rule name.now usual.now }
+    ensures local { result.global ≡ false }
+{
     Arg::new(alloc, name)
         .long(name)
         .value_name(value)
@@ -79,8 +94,15 @@ fn option<'a>(
         .default_value(usual)
 }
 
-/// The command line of an end.
-fn end_command<'a>(alloc: Global, usual: &Usual) -> Result<Command<'a>, Error> {
+/// The two addresses of an end.
+fn with_addresses<'a>(
+    alloc: Global,
+    command: Command<'a>,
+    usual: &Usual,
+) -> Result<Command<'a>, Error>
+    ensures added { IfOk result (HasAddresses command.entry usual.now.local.now usual.now.remote.now) }
+    ensures memory { IfErr result (λ error. kind_of error ≡ ErrorKind.OutOfMemory) }
+{
     let local = option(
         alloc,
         "local",
@@ -95,51 +117,111 @@ fn end_command<'a>(alloc: Global, usual: &Usual) -> Result<Command<'a>, Error> {
         usual.remote,
         "The other end's link address",
     );
-    let segment = option(
+    let command = command.arg(local)?.arg(remote)?;
+    Ok(command)
+}
+
+/// An option with a number.
+fn number<'a>(
+    alloc: Global,
+    name: &'static str,
+    value: &'static str,
+    usual: &'static str,
+    help: &'static str,
+    range: ValueParser<'a>,
+) -> Arg<'a>
+    ensures rule { rule_of result
+        ≡ record (option_rule name.now usual.now) { parser = Some range.entry } }
+    ensures local { result.global ≡ false }
+{
+    option(alloc, name, value, usual, help).value_parser(range)
+}
+
+fn segments<'a>() -> ValueParser<'a>
+    ensures { result ≡ parser.Signed (pos 1) (pos largest_segment) }
+{
+    value_parser!(u16).range(1..=LARGEST_SEGMENT as i64)
+}
+
+fn windows<'a>() -> ValueParser<'a>
+    ensures { result ≡ parser.Signed (pos 1) (pos largest_window) }
+{
+    value_parser!(u16).range(1..=LARGEST_WINDOW as i64)
+}
+
+fn buffers<'a>() -> ValueParser<'a>
+    ensures { result ≡ parser.Signed (pos least_buffer) (pos greatest_message) }
+{
+    value_parser!(u16).range(LEAST_BUFFER as i64..=GREATEST_MESSAGE as i64)
+}
+
+/// The limits of an end.
+fn with_limits<'a>(alloc: Global, command: Command<'a>) -> Result<Command<'a>, Error>
+    ensures added { IfOk result (HasLimits command.entry) }
+    ensures memory { IfErr result (λ error. kind_of error ≡ ErrorKind.OutOfMemory) }
+{
+    let segment = number(
         alloc,
         "segment",
         "BYTES",
         "512",
         "The most bytes of a segment, 1 to 1400",
+        segments(),
     );
-    let window = option(
+    let window = number(
         alloc,
         "window",
         "COUNT",
         "8",
         "The most segments that wait for an acknowledgement, 1 to 2047",
+        windows(),
     );
-    let buffer = option(
+    let buffer = number(
         alloc,
         "buffer",
         "BYTES",
         "1024",
         "The most bytes of a message to this end, 64 to 65535",
+        buffers(),
     );
-    let command = Command::new(alloc, usual.name)
-        .about(usual.about)
-        .after_help(LINES);
-    let command = command.arg(local)?.arg(remote)?;
-    let segments = value_parser!(u16).range(1..=LARGEST_SEGMENT as i64);
-    let windows = value_parser!(u16).range(1..=LARGEST_WINDOW as i64);
-    let buffers = value_parser!(u16).range(LEAST_BUFFER as i64..=GREATEST_MESSAGE as i64);
-    let command = command.arg(segment.value_parser(segments))?;
-    let command = command.arg(window.value_parser(windows))?;
-    let command = command.arg(buffer.value_parser(buffers))?;
+    let command = command.arg(segment)?.arg(window)?.arg(buffer)?;
     Ok(command)
 }
 
-fn command_line<'a>(alloc: Global) -> Result<Command<'a>, Error> {
-    let follow = Command::new(alloc, "follow")
+/// The command line of an end.
+fn end_command<'a>(alloc: Global, usual: &Usual) -> Result<Command<'a>, Error>
+    ensures line { IfOk result (IsEndLine usual.now.name.now usual.now.local.now usual.now.remote.now) }
+    ensures memory { IfErr result (λ error. kind_of error ≡ ErrorKind.OutOfMemory) }
+{
+    let command = Command::new(alloc, usual.name)
+        .about(usual.about)
+        .after_help(LINES);
+    let command = with_addresses(alloc, command, usual)?;
+    with_limits(alloc, command)
+}
+
+/// The command line of the listing.
+fn follow_command<'a>(alloc: Global) -> Command<'a>
+    ensures app { app_of result ≡ new_app (codes "follow") }
+    ensures local { (out-Command result).has_globals ≡ false }
+{
+    Command::new(alloc, "follow")
         .about("Lists captured NSP packets with the DAP messages of each link joined")
-        .after_help(FOLLOW);
+        .after_help(FOLLOW)
+}
+
+/// The program's command line.
+fn command_line<'a>(alloc: Global) -> Result<Command<'a>, Error>
+    ensures line { IfOk result IsCommandLine }
+    ensures memory { IfErr result (λ error. kind_of error ≡ ErrorKind.OutOfMemory) }
+{
     let command = Command::new(alloc, "daplive")
         .about(ABOUT)
         .subcommand_required(true)
         .disable_help_subcommand(true);
     let command = command.subcommand(end_command(alloc, &SERVING)?)?;
     let command = command.subcommand(end_command(alloc, &ASKING)?)?;
-    let command = command.subcommand(follow)?;
+    let command = command.subcommand(follow_command(alloc))?;
     Ok(command)
 }
 
@@ -171,23 +253,51 @@ pub enum Task {
     Follow,
 }
 
-/// The number of four hex digits.
-fn address_of(text: &str) -> Option<u16> {
-    if text.len() != 4 || !text.bytes().all(|byte| byte.is_ascii_hexdigit()) {
-        return None;
-    }
-    u16::from_str_radix(text, 16).ok()
+/// The value of an option.
+fn text_in<'a>(matches: &ArgMatches<'a>, name: &str) -> Option<&'a str>
+    ensures { option_map (λ text. text.now) result ≡ first_of name.now (rows_of (found_of matches.now)) }
+{
+    matches.get_str(name)
 }
 
-/// What the words behind the end's name say, or `None` where an address isn't four hex digits.
-fn options_of(role: Role, matches: &ArgMatches<'_>) -> Option<Options>
-    ensures { IfSome result (λ o. least_buffer ≤ o.buffer) }
+/// An address, by four hex digits.
+fn address_in(matches: &ArgMatches<'_>, name: &str) -> Option<u16>
+    ensures { result ≡ address_in_rows name.now (rows_of (found_of matches.now)) }
 {
-    let local = address_of(matches.get_str("local")?)?;
-    let remote = address_of(matches.get_str("remote")?)?;
-    let segment = matches.get_one::<u16>("segment")?;
-    let window = matches.get_one::<u16>("window")?;
-    let buffer = matches.get_one::<u16>("buffer")?.max(LEAST_BUFFER);
+    match text_in(matches, name) {
+        Some(text) => read_address(text.as_bytes()),
+        None => None,
+    }
+}
+
+/// A number, by decimal digits.
+fn number_in(matches: &ArgMatches<'_>, name: &str) -> Option<u16>
+    ensures { result ≡ number_in_rows name.now (rows_of (found_of matches.now)) }
+{
+    match text_in(matches, name) {
+        Some(text) => read_short(text),
+        None => None,
+    }
+}
+
+/// A number of 16 bits.
+fn read_short(text: &str) -> Option<u16>
+    ensures { result ≡ short text.now }
+{
+    let number = read_number(text.as_bytes(), 65535)?;
+    Some(number as u16)
+}
+
+/// How an end is set up, or `None` where an address isn't four hex digits or a number isn't decimal digits.
+fn options_in(role: Role, matches: &ArgMatches<'_>) -> Option<Options>
+    ensures options { result ≡ options_of role (rows_of (found_of matches.now)) }
+    ensures room { IfSome result (λ o. least_buffer ≤ o.buffer) }
+{
+    let local = address_in(matches, "local")?;
+    let remote = address_in(matches, "remote")?;
+    let segment = number_in(matches, "segment")?;
+    let window = number_in(matches, "window")?;
+    let buffer = number_in(matches, "buffer")?.max(LEAST_BUFFER);
     Some(Options {
         role,
         local,
@@ -198,25 +308,31 @@ fn options_of(role: Role, matches: &ArgMatches<'_>) -> Option<Options>
     })
 }
 
-/// What the words name, or `None` where an address isn't four hex digits.
-fn task_of(matches: &ArgMatches<'_>) -> Option<Task>
-    ensures { IfSome result HasRoom }
+/// What a word and those behind it name.
+fn task_in(name: &str, matches: &ArgMatches<'_>) -> Option<Task>
+    ensures task { result ≡ task_of_rows (name.now, rows_of (found_of matches.now)) }
+    ensures room { IfSome result HasRoom }
 {
-    let (name, matches) = matches.subcommand()?;
-    let role = match name {
-        "serve" => Role::Serve,
-        "ask" => Role::Ask,
-        _ => return Some(Task::Follow),
-    };
-    let options = options_of(role, matches)?;
-    Some(Task::End(options))
+    if is(name.as_bytes(), "serve") {
+        Some(Task::End(options_in(Role::Serve, matches)?))
+    } else if is(name.as_bytes(), "ask") {
+        Some(Task::End(options_in(Role::Ask, matches)?))
+    } else {
+        Some(Task::Follow)
+    }
 }
 
-/// What the words name, the program's name first, or `None` where an address isn't four hex digits.
+/// What the words name, the program's name first, or `None` where an address isn't four hex digits or a number isn't
+/// decimal digits.
 pub(crate) fn read_words(alloc: Global, words: &[String]) -> Result<Option<Task>, Error>
-    ensures { IfOk result (λ task. IfSome task HasRoom) }
+    ensures task { IfOk result (λ task. task ≡ task_of (map string_bytes words.now)) }
+    ensures room { IfOk result (λ task. IfSome task HasRoom) }
+    ensures kinds { FailsBy (fault_of daplive (map string_bytes words.now)) result }
 {
     let command = command_line(alloc)?;
     let matches = command.try_get_matches_from(words)?;
-    Ok(task_of(&matches))
+    match matches.subcommand() {
+        Some((name, matches)) => Ok(task_in(name, matches)),
+        None => Ok(None),
+    }
 }

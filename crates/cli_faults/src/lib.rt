@@ -1,0 +1,6 @@
+//! What is told where the words of a program are at fault, and the exit status.
+#![tactic(auto)]
+
+mod refusing;
+
+pub use refusing::refuse;

@@ -1,0 +1,44 @@
+//! Words that `clap` refuses.
+
+ghost use Rattle.std.specs.Prelude.{◌≡◌, ◌⊎◌};
+ghost use Rattle.std.specs.Io.KnownBytes.{Keeps};
+ghost use Rattle.clap.specs.Words.{kind_of};
+ghost use Rattle.cli_faults.specs.Mistakes.{IsMistake};
+
+use clap::Error;
+use clap::error::ErrorKind;
+use dap_listing::{CaptureFault, finish, write_text};
+use std::alloc::Global;
+use std::io::Write;
+
+/// Tells what is at fault in the words, and answers the exit status (own): help goes to the writer, and what is wrong to
+/// the error writer, whose failure changes nothing.
+///
+/// 0: help was asked for and written. 2: a mistake. 3: memory was refused, or help couldn't be written.
+pub fn refuse<W: Write, E: Write>(
+    alloc: Global,
+    error: Error,
+    writer: &mut W,
+    error_writer: &mut E,
+) -> u8
+    ensures memory { kind_of error ≡ ErrorKind.OutOfMemory
+        → (result ≡ 3) × Keeps (W.contents writer.old) (W.contents writer.new) }
+    ensures help { kind_of error ≡ ErrorKind.DisplayHelp → (result ≡ 0) ⊎ (result ≡ 3) }
+    ensures mistake { IsMistake (kind_of error) → (kind_of error ≡ ErrorKind.OutOfMemory)
+        ⊎ ((result ≡ 2) × Keeps (W.contents writer.old) (W.contents writer.new)) }
+{
+    if error.kind() == ErrorKind::OutOfMemory {
+        return finish(Err(CaptureFault::NoMemory), error_writer);
+    }
+    if error.use_stderr() {
+        let _ = write!(error_writer, "{error}");
+        return 2;
+    }
+    let Ok(text) = error.to_string(alloc) else {
+        return finish(Err(CaptureFault::NoMemory), error_writer);
+    };
+    match write_text(text.as_bytes(), writer) {
+        Ok(()) => 0,
+        Err(fault) => finish(Err(fault), error_writer),
+    }
+}

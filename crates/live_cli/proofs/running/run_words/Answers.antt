@@ -1,0 +1,68 @@
+use Rattle.std.proofs.Common.{◌≡◌, rules, map, string_bytes, codes, ap, subst, ◌∙◌, inl, inr, refl}
+use Rattle.std.specs.Prelude.{IfSome, Some, None}
+use Rattle.clap.specs.Words.{fault_of}
+use Rattle.cli_faults.proofs.ForCallers.{memory_or_help, memory_or_mistake, only_memory}
+use Rattle.live_cli.specs.declared.words.Task.{Task}
+use Rattle.live_cli.specs.declared.words.Task.TheVariants.{End, Follow}
+use Rattle.live_cli.specs.Running.{TaskGives}
+use Rattle.live_cli.specs.Words.{daplive, task_of, usual}
+use Rattle.live_cli.proofs.RunLemmas.{names_follow, names_usual, no_fault, no_fault_follow, none_named, one_task, refused}
+use Rattle.live_cli.proofs.running.run_words.Goals as goal
+
+pub returns-in-Err : goal.returns-in-Err
+returns-in-Err g c =
+    let kinds = fault_of daplive (map string_bytes c.args.words.now) in
+    let e = c.in-Err.error in
+    let has = c.in-Err.ensures.kinds in
+    let input = g.R.Read.remaining c.args.reader.now in
+    let old = g.W.Write.contents c.args.writer.now in
+    let new = g.W.Write.contents c.refuse.new.writer in
+    record {
+      named = λ task none named. refused task input old new c.refuse.result (c.refuse.ensures.memory (only_memory kinds e none has));
+      usual = λ program role words. refused (End (usual role)) input old new c.refuse.result
+          (c.refuse.ensures.memory (only_memory kinds e (ap (fault_of daplive) words ∙ no_fault program role) has));
+      follow = λ program words. refused Follow input old new c.refuse.result
+          (c.refuse.ensures.memory (only_memory kinds e (ap (fault_of daplive) words ∙ no_fault_follow program) has));
+      digits = λ none unnamed. let kept = c.refuse.ensures.memory (only_memory kinds e none has) in (inr kept.0, kept.1);
+      mistake = λ mistakes.
+          elim (memory_or_mistake kinds e mistakes has) [
+            | inl memory ↦ let kept = c.refuse.ensures.memory memory in (inr kept.0, kept.1)
+            | inr mistake ↦
+                elim (c.refuse.ensures.mistake mistake) [
+                  | inl memory ↦ let kept = c.refuse.ensures.memory memory in (inr kept.0, kept.1)
+                  | inr told ↦ (inl told.0, told.1)
+                ]
+          ];
+      unread = λ fault. refl;
+      help = λ help.
+          elim (memory_or_help kinds e help has) [
+            | inl memory ↦ inr (c.refuse.ensures.memory memory).0
+            | inr asked ↦ c.refuse.ensures.help asked
+          ];
+    }
+
+pub returns-in-Ok-Some-clause-usual : goal.returns-in-Ok-Some-clause-usual
+returns-in-Ok-Some-clause-usual g c program role named =
+    let words = map string_bytes c.args.words.now in
+    let named_first : Some c.in-Ok-Some.task ≡ task_of words = search rules in
+    let same = one_task words c.in-Ok-Some.task (End (usual role)) named_first (ap task_of named ∙ names_usual program role) in
+    subst (λ (task : Task). IfSome (g.R.Read.remaining c.args.reader.now) (λ input. TaskGives task input (g.W.Write.contents c.args.writer.now) (g.W.Write.contents c.run_task.new.writer) c.run_task.result)) same c.run_task.ensures
+
+pub returns-in-Ok-Some-clause-follow : goal.returns-in-Ok-Some-clause-follow
+returns-in-Ok-Some-clause-follow g c program named =
+    let words = map string_bytes c.args.words.now in
+    let named_first : Some c.in-Ok-Some.task ≡ task_of words = search rules in
+    let same = one_task words c.in-Ok-Some.task Follow named_first (ap task_of named ∙ names_follow program) in
+    subst (λ (task : Task). IfSome (g.R.Read.remaining c.args.reader.now) (λ input. TaskGives task input (g.W.Write.contents c.args.writer.now) (g.W.Write.contents c.run_task.new.writer) c.run_task.result)) same c.run_task.ensures
+
+pub returns-in-Ok-None-clause-usual : goal.returns-in-Ok-None-clause-usual
+returns-in-Ok-None-clause-usual g c program role named =
+    let words = map string_bytes c.args.words.now in
+    let none : None ≡ task_of words = search rules in
+    absurd (none_named words (End (usual role)) none (ap task_of named ∙ names_usual program role))
+
+pub returns-in-Ok-None-clause-follow : goal.returns-in-Ok-None-clause-follow
+returns-in-Ok-None-clause-follow g c program named =
+    let words = map string_bytes c.args.words.now in
+    let none : None ≡ task_of words = search rules in
+    absurd (none_named words Follow none (ap task_of named ∙ names_follow program))

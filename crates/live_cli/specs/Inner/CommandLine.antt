@@ -1,0 +1,37 @@
+-- How the command line is built.
+use Rattle.std.specs.Prelude.{◌≡◌, ◌∷◌, true, false, codes}
+use Rattle.clap.specs.declared.builder.command.Command.{Command}
+use Rattle.clap.specs.declared.builder.command.Command.TheViews.{out-Command}
+use Rattle.clap.specs.Words.{App, Text, app_of, with_rule}
+use Rattle.dap_msg.specs.Exchange.{greatest_message, least_buffer}
+use Rattle.nsp_link.specs.Limits.{largest_segment, largest_window}
+use Rattle.live_cli.specs.Words.{daplive, end_line, number, option}
+
+-- the command is another with more words, none of them global
+pub record Becomes (before : Command) (line : App) (command : Command) : Type 0 where
+  pub app : app_of command ≡ line
+  pub local : (out-Command before).has_globals ≡ false → (out-Command command).has_globals ≡ false
+
+abbrev pub HasAddresses : Command → (local remote : Text) → Command → Type 0
+HasAddresses before local remote =
+    Becomes before (with_rule (with_rule (app_of before) (option (codes "local") local)) (option (codes "remote") remote))
+
+abbrev pub HasLimits : Command → Command → Type 0
+HasLimits before =
+    Becomes before
+    (with_rule
+    (with_rule
+    (with_rule (app_of before) (number (codes "segment") (codes "512") 1 largest_segment))
+    (number (codes "window") (codes "8") 1 largest_window))
+    (number (codes "buffer") (codes "1024") least_buffer greatest_message))
+
+-- a command that is the command line of an end
+pub record IsEndLine (name own other : Text) (command : Command) : Type 0 where
+  pub app : app_of command ≡ end_line name own other
+  pub local : (out-Command command).has_globals ≡ false
+
+-- a command that is the program's command line
+pub record IsCommandLine (command : Command) : Type 0 where
+  pub app : app_of command ≡ daplive
+  pub local : (out-Command command).has_globals ≡ false
+  pub required : (out-Command command).subcommand_required ≡ true
