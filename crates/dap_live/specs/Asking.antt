@@ -151,8 +151,8 @@ Does old (order.Record r) new text came = IsNone old new text came
 
 -- where the answer has the reports, none waits; else they wait as before
 abbrev pub Ends : Came → Asking → Asking → Became → Type 0
-Ends (Told done) old new became = (new ≡ record old { reports = new.reports }) × (new.reports.items ≡ []) × (became ≡ done)
-Ends (Untold done) old new became = (new ≡ old) × (became ≡ done)
+Ends (Told was) old new became = (new ≡ record old { reports = new.reports }) × (new.reports.items ≡ []) × (became ≡ was)
+Ends (Untold was) old new became = (new ≡ old) × (became ≡ was)
 
 abbrev pub DoesAll : Asking → Order → Asking → List ℕ → Became → Type 0
 DoesAll old o new text became = (mid : Asking) × (came : Came) × Does old o mid text came × Ends came mid new became

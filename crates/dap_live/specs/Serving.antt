@@ -95,6 +95,7 @@ SaysWhy Why old new text became =
 pub record Added (old new : ServingValue) (text : List ℕ) (became : Became) : Type 0 where
   pub idle : HasCome old.port → ⊥
   pub given : IsGiven old new
+  pub own : new.accessed.own ≡ old.accessed.own
   pub port : new.port ≡ old.port
   pub silent : text ≡ []
   pub ends : became ≡ Done
