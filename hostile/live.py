@@ -53,6 +53,14 @@ LAST = {
         b"> 04020201010c80",
     ],
 }
+# The asking end is asked, and a packet completes the report. Each of the other lines is refused then, and leaves it waiting.
+REPORTED, REPORT = [b"ask hello", b"> 60010102020180010001020a00040703050600000000"], b"report ready 1024"
+REFUSED = {
+    "a packet of another link": b"> 04030304040180",
+    "a packet of another kind": b"> 1001010202",
+    "bytes that are no packet": b"> 60",
+    "a request that doesn't fit": b"ask put 41",
+}
 # What is asked over a line that loses packets, while the serving end is refused a growth; the words of both ends, and
 # the loss in percent.
 ASKED = ["hello", "create 46 16 2 0 0 15", "connect", "put 4142", "put " + "43" * 150, "rewind", "fetch", "close"]
@@ -308,6 +316,29 @@ class LiveEnds:
         name = f"daplive {role}, a resend behind one growth refused"
         self.suite.until_none(name, run, lambda end, _at: not end.wrong)
 
+    def told_late(self, line):
+        """A talk whose last line is answered without its report, since one growth was refused, and behind which a line is
+        refused: the report still comes, once, by 'resend', or with the packet where that wasn't taken."""
+
+        def run(at):
+            end = End(self.suite.made, self.program, "ask", REFUSE_GROWTH=at)
+            answers = [end.tell(said) for said in REPORTED]
+            end.wrong = None
+            if NO_MEMORY in answers[-1]:
+                answers += [end.tell(said) for said in [line, b"resend", REPORTED[-1]]]
+                reports = [report for answer in answers for report in kinds(answer)[1]]
+                if reports != [REPORT]:
+                    end.wrong = f"{reports} behind {answers}"
+            end.close()
+            return end
+
+        return run
+
+    def all_told_late(self):
+        for what, line in REFUSED.items():
+            name = f"daplive ask, a report behind one growth refused and {what}"
+            self.suite.until_none(name, self.told_late(line), lambda end, _at: not end.wrong)
+
     def lossy(self):
         """Both ends over a line that loses, while the serving end is refused a growth: the reports are the same.
         The files are told in the last line, which may be the one that is refused."""
@@ -459,6 +490,7 @@ class LiveEnds:
 
     def all(self):
         self.talks()
+        self.all_told_late()
         self.lossy()
         self.unread()
         self.silent()

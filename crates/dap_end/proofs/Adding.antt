@@ -1,5 +1,5 @@
 -- Files that an end is given.
-use Rattle.std.proofs.Common.{◌≡◌, ℕ, refl, sym, ap, subst, ◌∙◌, List, [], inl, inr}
+use Rattle.std.proofs.Common.{◌≡◌, ℕ, List, [], inr}
 use Rattle.std.specs.Prelude.{Result, Ok, Err, OnOk, IfErr}
 use Rattle.dap_accessed.specs.declared.fault.AddFault.{AddFault}
 use Rattle.dap_accessed.specs.declared.fault.AddFault.TheVariants as fault
@@ -7,7 +7,7 @@ use Rattle.dap_accessed.specs.Standing.{Files}
 use Rattle.dap_accessed.specs.Present.{Present, StandsAfter}
 use Rattle.dap_accessed.specs.Adding.{AddRefused, RecordRefused}
 use Rattle.dap_end.specs.Ports.{HasCome}
-use Rattle.dap_end.specs.Serving.{ServingValue, IsAfter, nothing_yet, NotAdded, NotStored, IsGiven}
+use Rattle.dap_end.specs.Serving.{ServingValue, NotAdded, NotStored, IsGiven}
 use Rattle.dap_end.specs.Inner.ServingView.{serving_of}
 
 pub given : (old : ServingValue) (after : Present) (r : Result (Unit {0}) AddFault) → after.own ≡ old.accessed.own → OnOk r ((first : Files) → StandsAfter first [] old.accessed → StandsAfter after.files [] after)

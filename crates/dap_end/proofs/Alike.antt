@@ -1,24 +1,35 @@
--- What a call of an asking end answers and leaves follows from what it did and what came.
-use Rattle.std.proofs.Common.{◌≡◌, ℕ, ◌+◌, refl, sym, ◌∙◌, subst, ap, List, [], ◌∷◌, ◌++◌, length}
-use Rattle.std.specs.Prelude.{Option, Some, None, option_to_list}
-use Rattle.std.proofs.lemmas.List.{append-nil}
+-- What a call of an asking end answers and leaves follows from what it did and what came, want of memory aside.
+use Rattle.std.proofs.Common.{◌≡◌, ◌≢◌, ℕ, refl, sym, ◌∙◌, subst, ap, true, false, true≢false, List, [], ◌∷◌, ◌++◌, length, inl, inr}
+use Rattle.std.specs.Prelude.{Option, Some, None, Result, Ok, Err, option_to_list}
+use Rattle.dap_fields.specs.Spelling.{AreBytes}
 use Rattle.dap_msg.specs.Items.{Item, ItemAt}
-use Rattle.dap_msg.specs.Blocked.{Blocked, all_joined}
 use Rattle.dap_msg.proofs.ForCallers.{one_item}
 use Rattle.nsp_link.specs.declared.link.Got.{Got}
+use Rattle.nsp_link.specs.declared.fault.LinkFault.{LinkFault}
+use Rattle.nsp_link.specs.declared.fault.LinkFault.TheVariants as fault
 use Rattle.nsp_link.specs.Link.{LinkValue, Sends}
+use Rattle.nsp_link.specs.Sending.{MayQueueAll, SendAllFault}
+use Rattle.nsp_link.proofs.ForCallers.{sends_all}
 use Rattle.dap_accessing.specs.Request.{Request}
 use Rattle.dap_accessing.specs.declared.report.Report.{Report}
-use Rattle.dap_accessing.specs.Asked.{messages_of}
-use Rattle.dap_accessing.specs.Told.{Told}
-use Rattle.dap_accessing.specs.Present.{Present, StandsAfter}
+use Rattle.dap_accessing.specs.declared.pending.Pending.{Pending}
+use Rattle.dap_accessing.specs.declared.fault.ReadFault.{ReadFault}
+use Rattle.dap_accessing.specs.declared.fault.ReadFault.TheVariants as read_fault
+use Rattle.dap_accessing.specs.Told.{Told, Due, NothingDue, AnswersDue, Wrong, due_after, is_unexpected}
+use Rattle.dap_accessing.specs.Present.{Present, StandsAfter, FitsDue}
 use Rattle.dap_accessing.proofs.ForCallers.{one_present}
+use Rattle.dap_end.specs.declared.fault.EndFault.{EndFault}
+use Rattle.dap_end.specs.declared.fault.EndFault.TheVariants as end_fault
+use Rattle.dap_end.specs.declared.fault.TakeFault.{TakeFault}
+use Rattle.dap_end.specs.declared.fault.TakeFault.TheVariants as take_fault
 use Rattle.dap_end.specs.Ports.{PortValue, gone_on, posted}
-use Rattle.dap_end.specs.Going.{AllBytes, AreItemsOf, GoneThrough}
-use Rattle.dap_end.specs.Writing.{WroteAnswer}
-use Rattle.dap_end.specs.Asking.{AskingValue, AskingPast, HasAsked, AskedOne, ReadOne, ReadMore, HeardAll, HeardAndWrote, TookAll, received, read_one, asked_one}
-use Rattle.dap_end.proofs.Fronts.{same_items}
-use Rattle.dap_end.proofs.Determined.{same_back, all_gone, receives_one, answer_one}
+use Rattle.dap_end.specs.Receiving.{Receives}
+use Rattle.dap_end.specs.Writing.{WroteAll, AnsweredAll, IsFull, sent_more}
+use Rattle.dap_end.specs.Asking.{AskingValue, AskingPast, HasAsked, HasStill, AskedOne, HandedAll, ReadOne, ReadNone, ReadOn, begins, goes, ReadAll, ReadPart, ReadsAll, HeardAll, HearFault, HeardIn, AnswerFault, WentOn, GoOnFault, GoesOn, TookAll, TookPart, Refused, Takes, AreAlike, HasDone, received, read_one, asked_one}
+use Rattle.dap_end.specs.Wanting.{is_want, went_wanting, took_wanting}
+use Rattle.dap_end.proofs.Asked.{read_grows}
+use Rattle.dap_end.proofs.Determined.{may_or_not, refused_one, all_wrote, answered_one, no_next, ok_apart, ok_same, err_same}
+use Rattle.dap_end.proofs.Refusing.{receives_same}
 
 -- ---- Asking.
 
@@ -63,79 +74,347 @@ reading_one past old one two r s h a b =
       one_option r s told,
     )
 
--- ---- Reading all.
+-- ---- Ends that are alike.
 
-record IsAll (past : AskingPast) (old v : AskingValue) (reports : List Report) : Type 0 where
-  now : AskingPast
-  is : HasAsked now v
-  requests : now.requests ≡ past.requests
-  handed : now.handed ≡ past.handed
-  items : AreItemsOf (past.given ++ old.port.link.inbox) now.answers
-  bytes : AllBytes (past.given ++ old.port.link.inbox)
-  place : 0 ≡ v.port.place
-  link : v.port.link ≡ record old.port.link { inbox = [] }
-  outbox : v.port.outbox ≡ old.port.outbox
-  own : v.accessing.own ≡ old.accessing.own
-  told : Told past.requests now.answers ≡ Told past.requests past.answers ++ reports
+pub alike_of : (one two : AskingValue) → one ≡ two → AreAlike one two
+alike_of one two e =
+    (ap (λ (v : AskingValue). v.port) e, ap (λ (v : AskingValue). v.accessing.own) e, ap (λ (v : AskingValue). v.accessing.failed) e, λ works. ap (λ (v : AskingValue). v.accessing) e)
 
-all_read : (past : AskingPast) (old v : AskingValue) (reports : List Report) → HasAsked past old → ReadMore old v reports → v.port.link.inbox ≡ [] → IsAll past old v reports
-all_read past old v reports h m done =
-    let g = m.past past h in
-    let given : g.0.given ≡ past.given ++ old.port.link.inbox = sym (append-nil g.0.given) ∙ ap (λ (l : List (List ℕ)). g.0.given ++ l) (sym done) ∙ g.1.given in
-    let gone = all_gone g.0.given v.port.place g.0.answers (subst (λ (l : List (List ℕ)). GoneThrough g.0.given l v.port.place g.0.answers) done g.1.is.gone) in
-    record {
-      now = g.0;
-      is = g.1.is;
-      requests = g.1.requests;
-      handed = g.1.handed;
-      items = subst (λ (l : List (List ℕ)). AreItemsOf l g.0.answers) given gone.0;
-      bytes = subst AllBytes given g.1.is.gone.bytes;
-      place = gone.1;
-      link = m.link ∙ ap (λ (l : List (List ℕ)). record old.port.link { inbox = l }) done;
-      outbox = m.outbox;
-      own = m.own;
-      told = g.1.told;
-    }
+pub alike_back : (one two : AskingValue) → AreAlike one two → AreAlike two one
+alike_back one two h = (sym h.0, sym h.1, sym h.2, λ works. sym (h.3 (h.2 ∙ works)))
 
-all_same : (past : AskingPast) (old one two : AskingValue) (reports more : List Report) → IsAll past old one reports → IsAll past old two more → (one ≡ two) × (reports ≡ more)
-all_same past old one two reports more a b =
-    let answers : a.now.answers ≡ b.now.answers = same_items (past.given ++ old.port.link.inbox) a.now.answers b.now.answers a.bytes a.items b.items in
-    let present : one.accessing ≡ two.accessing =
-    one_present past.requests a.now.answers one.accessing two.accessing (subst (λ (l : List Request). StandsAfter l a.now.answers one.accessing) a.requests a.is.asking)
-    (subst (λ (l : List Item). StandsAfter past.requests l two.accessing) (sym answers) (subst (λ (l : List Request). StandsAfter l b.now.answers two.accessing) b.requests b.is.asking)) (a.own ∙ sym b.own) in
-    let port : one.port ≡ two.port =
-    ap (λ (l : LinkValue). record one.port { link = l }) (a.link ∙ sym b.link) ∙ ap (λ (l : List (List ℕ)). record one.port { link = two.port.link; outbox = l }) (a.outbox ∙ sym b.outbox)
-    ∙ ap (λ (n : ℕ). record two.port { place = n }) (sym a.place ∙ b.place) in (
-      ap (λ (p : PortValue). record one { port = p }) port ∙ ap (λ (x : Present). record two { accessing = x }) present,
-      back_of (Told past.requests past.answers) reports more (sym a.told ∙ ap (Told past.requests) answers ∙ b.told),
+-- those that work are one
+pub alike_same : (one two : AskingValue) → AreAlike one two → one.accessing.failed ≡ false → one ≡ two
+alike_same one two h works = ap (λ (p : PortValue). record one { port = p }) h.0 ∙ ap (λ (x : Present). record two { accessing = x }) (h.3 works)
+
+alike_port : (one two : AskingValue) (p q : PortValue) → AreAlike one two → p ≡ q → AreAlike (record one { port = p }) (record two { port = q })
+alike_port one two p q h e = (e, h.1, h.2, h.3)
+
+pub alike_done : (one two : AskingValue) → AreAlike one two → HasDone one → HasDone two
+alike_done one two h (inl d) = inl (d.0, subst (HasAsked d.0) (alike_same one two h d.1.asking.works) d.1)
+alike_done one two h (inr d) = inr (sym h.2 ∙ d.0, (d.1.0, subst (λ (p : PortValue). Sends p.link d.1.0) h.0 d.1.1))
+
+pub has_sent : (v : AskingValue) → HasDone v → (handed : List (List ℕ)) × Sends v.port.link handed
+has_sent v (inl d) = (d.0.handed, d.1.sends)
+has_sent v (inr d) = d.1
+
+-- ---- Reading as far as it goes.
+
+abbrev Stops : AskingValue → Type 0
+Stops v = (next : AskingValue) (report : Option Report) → ReadOne v next report → ⊥
+
+reads_once : (past : AskingPast) (old one two : AskingValue) (rs ss : List Report) → HasAsked past old → ReadOn old one rs → ReadOn old two ss → Stops one → Stops two → (one ≡ two) × (rs ≡ ss)
+reads_once past old one two rs ss h begins begins a b = (refl, refl)
+reads_once past old one two rs ss h begins (goes n s more y other js) a b = absurd (a n s y)
+reads_once past old one two rs ss h (goes m r more x on is) begins a b = absurd (b m r x)
+reads_once past old one two rs ss h (goes m r more x on is) (goes n s rest y other js) a b =
+    let same = reading_one past old m n r s h x y in
+    let next = reads_once (read_one past x.bytes x.item x.next) m one two more rest (x.past past h) on (subst (λ (v : AskingValue). ReadOn v two rest) (sym same.0) other) a b in
+    (next.0, is ∙ ap (λ (l : List Report). option_to_list r ++ l) next.1 ∙ ap (λ (o : Option Report). option_to_list o ++ rest) same.1 ∙ sym js)
+
+-- an end that failed reads nothing
+failed_reads : (old one : AskingValue) (rs : List Report) → old.accessing.failed ≡ true → ReadOn old one rs → (one ≡ old) × (rs ≡ [])
+failed_reads old one rs e begins = (refl, refl)
+failed_reads old one rs e (goes m r more x on is) = absurd (true≢false (sym e ∙ x.works))
+
+read_past : (past : AskingPast) (old new : AskingValue) (rs : List Report) → HasAsked past old → ReadOn old new rs → (now : AskingPast) × HasAsked now new
+read_past past old new rs h on = let g = (read_grows old new rs on).past past h in (g.0, g.1.is)
+
+stops_empty : (v : AskingValue) → v.port.link.inbox ≡ [] → Stops v
+stops_empty v none = λ next report r. no_next r.bytes r.later (sym none ∙ r.came)
+
+not_wrong : (d : Due) (p : Option Pending) → elim d [ NothingDue ↦ false | AnswersDue request so_far ↦ false | Wrong ↦ true ] ≡ true → FitsDue d p → ⊥
+not_wrong NothingDue p e h = true≢false (sym e)
+not_wrong (AnswersDue request so_far) p e h = true≢false (sym e)
+not_wrong Wrong None e h = h
+not_wrong Wrong (Some p) e h = h
+
+-- an answer that has no place is read by nobody
+no_place : (past : AskingPast) (v new next : AskingValue) (report : Option Report) → HasAsked past v → ReadNone v new read_fault.Unexpected → ReadOne v next report → ⊥
+no_place past v new next report h n r =
+    let there = n.refused.2 in
+    let bytes : n.bytes ≡ r.bytes = (let both = sym n.came ∙ r.came in cc) in
+    let same = one_item r.bytes v.port.place r.item there.0 r.next there.1 r.fits r.reads (subst (λ (l : List ℕ). ItemAt l v.port.place there.0 there.1) bytes there.2) in
+    let unexpected : is_unexpected past.requests past.answers r.item ≡ true =
+    subst (λ (i : Item). is_unexpected past.requests past.answers i ≡ true) same.0 (there.3 past.requests past.answers h.asking) in
+    not_wrong (due_after past.requests (past.answers ++ r.item ∷ [])) next.accessing.pending unexpected (r.past past h).asking.pending
+
+stops_unread : (v new : AskingValue) (f : ReadFault) → f ≢ read_fault.NoMemory → ReadNone v new f → ((past : AskingPast) × HasAsked past v) → Stops v
+stops_unread v new read_fault.Failed want n p = λ next report r. true≢false (sym n.refused.0 ∙ r.works)
+stops_unread v new read_fault.Unexpected want n p = λ next report r. no_place p.0 v new next report p.1 n r
+stops_unread v new read_fault.NoMemory want n p = absurd (want refl)
+
+read_alike : (old other one two : AskingValue) (before xs ys : List Report) → HasDone old → AreAlike old other → ReadAll old one before xs → ReadAll other two before ys
+    → (((past : AskingPast) × HasAsked past one) → Stops one) → (((past : AskingPast) × HasAsked past two) → Stops two) → AreAlike one two × (xs ≡ ys) × HasDone one
+read_alike old other one two before xs ys (inl d) like ra rb sa sb =
+    let rc : ReadAll old two before ys = subst (λ (v : AskingValue). ReadAll v two before ys) (sym (alike_same old other like d.1.asking.works)) rb in
+    let pa = read_past d.0 old one ra.0 d.1 ra.2 in
+    let pb = read_past d.0 old two rc.0 d.1 rc.2 in
+    let s = reads_once d.0 old one two ra.0 rc.0 d.1 ra.2 rc.2 (sa pa) (sb pb) in
+    (alike_of one two s.0, ra.1 ∙ ap (λ (l : List Report). before ++ l) s.1 ∙ sym rc.1, inl pa)
+read_alike old other one two before xs ys (inr d) like ra rb sa sb =
+    let fa = failed_reads old one ra.0 d.0 ra.2 in
+    let fb = failed_reads other two rb.0 (sym like.2 ∙ d.0) rb.2 in (
+      subst (λ (v : AskingValue). AreAlike v two) (sym fa.0) (subst (λ (v : AskingValue). AreAlike old v) (sym fb.0) like),
+      ra.1 ∙ ap (λ (l : List Report). before ++ l) (fa.1 ∙ sym fb.1) ∙ sym rb.1,
+      subst HasDone (sym fa.0) (inr d),
     )
+
+-- ---- Reading all, and handing over.
+
+abbrev Hears : (old new : AskingValue) → (before reports : List Report) → Result (Unit {0}) EndFault → Type 0
+Hears old new before reports (Ok done) = HeardAll old new before reports
+Hears old new before reports (Err f) = HearFault old new before reports f
+
+no_link_want : (f : LinkFault) → is_want (end_fault.Link f) ≡ false → f ≢ fault.NoMemory
+no_link_want f e k = true≢false (sym (ap (λ (x : LinkFault). is_want (end_fault.Link x)) k) ∙ e)
+
+no_read_want : (f : ReadFault) → is_want (end_fault.Read f) ≡ false → f ≢ read_fault.NoMemory
+no_read_want f e k = true≢false (sym (ap (λ (x : ReadFault). is_want (end_fault.Read x)) k) ∙ e)
+
+-- where reading stopped at one that was refused
+abbrev Unread : (old new : AskingValue) → (before all : List Report) → ReadFault → Type 0
+Unread old new before all f = (mid : AskingValue) × ReadAll old mid before all × ReadNone mid new f
+
+unread : (old new : AskingValue) (before all : List Report) (f : ReadFault) → f ≢ read_fault.NoMemory → ReadPart old new before all f → Unread old new before all f
+unread old new before all f want (inl h) = absurd (want h.0)
+unread old new before all f want (inr h) = h
+
+handed_done : (v new : AskingValue) (n : ℕ) → HandedAll v new n → HasDone v → HasDone new
+handed_done v new n h (inl d) = inl (_, h.past d.0 d.1)
+handed_done v new n h (inr d) =
+    subst HasDone (sym h.posted) (inr (d.0, (d.1.0 ++ v.port.outbox, sends_all v.port.link d.1.0 v.port.outbox d.1.1)))
+
+heard_alike : (old other one two : AskingValue) (before xs ys : List Report) → HasDone old → AreAlike old other → HeardAll old one before xs → HeardAll other two before ys → AreAlike one two × (xs ≡ ys) × HasDone one
+heard_alike old other one two before xs ys d like a b =
+    let t = read_alike old other a.heard b.heard before xs ys d like a.read b.read (λ p. stops_empty a.heard a.done) (λ p. stops_empty b.heard b.done) in
+    let there = alike_port a.heard b.heard (posted a.heard.port) (posted b.heard.port) t.0 (ap posted t.0.0) in (
+      subst (λ (v : AskingValue). AreAlike v two) (sym a.handed.posted) (subst (λ (v : AskingValue). AreAlike (record a.heard { port = posted a.heard.port }) v) (sym b.handed.posted) there),
+      t.1,
+      handed_done a.heard one a.count a.handed t.2,
+    )
+
+-- all that came was read, or reading stopped
+empty_apart : (old other one mid two : AskingValue) (before xs ys : List Report) (f : ReadFault) → HasDone old → AreAlike old other → f ≢ read_fault.NoMemory → ReadAll old one before xs → one.port.link.inbox ≡ [] → ReadAll other mid before ys
+    → ReadNone mid two f → ⊥
+empty_apart old other one mid two before xs ys f d like want ra none rb n =
+    let t = read_alike old other one mid before xs ys d like ra rb (λ p. stops_empty one none) (λ p. stops_unread mid two f want n p) in
+    no_next n.bytes n.later (sym none ∙ ap (λ (p : PortValue). p.link.inbox) t.0.0 ∙ n.came)
+
+heard_apart : (old other one two : AskingValue) (before xs ys : List Report) (f : EndFault) → HasDone old → AreAlike old other → is_want f ≡ false → HeardAll old one before xs → HearFault other two before ys f → ⊥
+heard_apart old other one two before xs ys (end_fault.Link f) d like want a b =
+    let t = read_alike old other a.heard two before xs ys d like a.read b.read (λ p. stops_empty a.heard a.done) (λ p. stops_empty two b.done) in
+    may_or_not two.port.link two.port.outbox f (no_link_want f want) (subst (λ (p : PortValue). MayQueueAll p.link p.outbox) t.0.0 a.handed.may) b.refused
+heard_apart old other one two before xs ys (end_fault.Read f) d like want a b =
+    let u = unread other two before ys f (no_read_want f want) b in
+    empty_apart old other a.heard u.0 two before xs ys f d like (no_read_want f want) a.read a.done u.1 u.2
+
+left_alike : (a b one two : AskingValue) (f g : ReadFault) → f ≢ read_fault.NoMemory → g ≢ read_fault.NoMemory → AreAlike a b → HasDone a → ReadNone a one f → ReadNone b two g → AreAlike one two × (f ≡ g) × HasDone one
+left_alike a b one two read_fault.Failed read_fault.Failed nf ng like d x y =
+    let ea : one ≡ a = ap (λ (p : PortValue). record one { port = p }) x.port ∙ ap (λ (k : Present). record a { accessing = k }) x.refused.1 in
+    let eb : two ≡ b = ap (λ (p : PortValue). record two { port = p }) y.port ∙ ap (λ (k : Present). record b { accessing = k }) y.refused.1 in
+    (subst (λ (v : AskingValue). AreAlike v two) (sym ea) (subst (λ (v : AskingValue). AreAlike a v) (sym eb) like), refl, subst HasDone (sym ea) d)
+left_alike a b one two read_fault.Unexpected read_fault.Unexpected nf ng like d x y =
+    let sent = has_sent a d in (
+      (x.port ∙ like.0 ∙ sym y.port, x.own ∙ like.1 ∙ sym y.own, x.refused.1 ∙ sym y.refused.1, λ works. absurd (true≢false (sym x.refused.1 ∙ works))),
+      refl,
+      inr (x.refused.1, (sent.0, subst (λ (p : PortValue). Sends p.link sent.0) (sym x.port) sent.1)),
+    )
+left_alike a b one two read_fault.Failed read_fault.Unexpected nf ng like d x y = absurd (true≢false (sym x.refused.0 ∙ like.2 ∙ y.refused.0))
+left_alike a b one two read_fault.Unexpected read_fault.Failed nf ng like d x y = absurd (true≢false (sym y.refused.0 ∙ sym like.2 ∙ x.refused.0))
+left_alike a b one two read_fault.NoMemory g nf ng like d x y = absurd (nf refl)
+left_alike a b one two f read_fault.NoMemory nf ng like d x y = absurd (ng refl)
+
+unread_alike : (old other one two : AskingValue) (before xs ys : List Report) (f g : ReadFault) → HasDone old → AreAlike old other
+    → f ≢ read_fault.NoMemory → g ≢ read_fault.NoMemory → ReadPart old one before xs f → ReadPart other two before ys g
+    → AreAlike one two × (f ≡ g) × (xs ≡ ys) × HasDone one
+unread_alike old other one two before xs ys f g d like nf ng a b =
+    let ua = unread old one before xs f nf a in
+    let ub = unread other two before ys g ng b in
+    let t = read_alike old other ua.0 ub.0 before xs ys d like ua.1 ub.1 (λ p. stops_unread ua.0 one f nf ua.2 p) (λ p. stops_unread ub.0 two g ng ub.2 p) in
+    let left = left_alike ua.0 ub.0 one two f g nf ng t.0 t.2 ua.2 ub.2 in
+    (left.0, left.1, t.1, left.2)
+
+abbrev not_read : ReadFault → Result (Unit {0}) ReadFault
+not_read f = Err f
+
+pub reading_alike : (old other one two : AskingValue) (before xs ys : List Report) (r s : Result (Unit {0}) ReadFault) → HasDone old
+    → AreAlike old other → r ≢ Err read_fault.NoMemory → s ≢ Err read_fault.NoMemory → ReadsAll old one before xs r
+    → ReadsAll other two before ys s → AreAlike one two × (r ≡ s) × (xs ≡ ys) × HasDone one
+reading_alike old other one two before xs ys (Ok u) (Ok w) d like nr ns a b =
+    let t = read_alike old other one two before xs ys d like a.0 b.0 (λ p. stops_empty one a.1) (λ p. stops_empty two b.1) in
+    (t.0, refl, t.1, t.2)
+reading_alike old other one two before xs ys (Ok u) (Err g) d like nr ns a b =
+    let want : g ≢ read_fault.NoMemory = λ k. ns (ap not_read k) in
+    let n = unread other two before ys g want b in
+    absurd (empty_apart old other one n.0 two before xs ys g d like want a.0 a.1 n.1 n.2)
+reading_alike old other one two before xs ys (Err f) (Ok w) d like nr ns a b =
+    let want : f ≢ read_fault.NoMemory = λ k. nr (ap not_read k) in
+    let n = unread old one before xs f want a in
+    absurd
+    (empty_apart other old two n.0 one before ys xs f (alike_done old other like d) (alike_back old other like) want b.0 b.1 n.1 n.2)
+reading_alike old other one two before xs ys (Err f) (Err g) d like nr ns a b =
+    let t = unread_alike old other one two before xs ys f g d like (λ k. nr (ap not_read k)) (λ k. ns (ap not_read k)) a b in
+    (t.0, ap not_read t.1, t.2, t.3)
+
+stopped_alike : (old other one two : AskingValue) (before xs ys : List Report) (f g : EndFault) → HasDone old → AreAlike old other → is_want f ≡ false → is_want g ≡ false → HearFault old one before xs f → HearFault other two before ys g
+    → AreAlike one two × (f ≡ g) × (xs ≡ ys) × HasDone one
+stopped_alike old other one two before xs ys (end_fault.Link f) (end_fault.Link g) d like nf ng a b =
+    let t = read_alike old other one two before xs ys d like a.read b.read (λ p. stops_empty one a.done) (λ p. stops_empty two b.done) in
+    let same = refused_one two.port.link two.port.outbox f g (no_link_want f nf) (no_link_want g ng) (subst (λ (p : PortValue). SendAllFault p.link p.outbox f) t.0.0 a.refused) b.refused in
+    (t.0, ap (λ (x : LinkFault). end_fault.Link x) same, t.1, t.2)
+stopped_alike old other one two before xs ys (end_fault.Link f) (end_fault.Read g) d like nf ng a b =
+    let u = unread other two before ys g (no_read_want g ng) b in
+    absurd (empty_apart old other one u.0 two before xs ys g d like (no_read_want g ng) a.read a.done u.1 u.2)
+stopped_alike old other one two before xs ys (end_fault.Read f) (end_fault.Link g) d like nf ng a b =
+    let u = unread old one before xs f (no_read_want f nf) a in
+    absurd (empty_apart other old two u.0 one before ys xs f (alike_done old other like d) (alike_back old other like) (no_read_want f nf) b.read b.done u.1 u.2)
+stopped_alike old other one two before xs ys (end_fault.Read f) (end_fault.Read g) d like nf ng a b =
+    let t = unread_alike old other one two before xs ys f g d like (no_read_want f nf) (no_read_want g ng) a b in
+    (t.0, ap (λ (x : ReadFault). end_fault.Read x) t.1, t.2, t.3)
+
+-- ---- Writing.
+
+still_done : (v new : AskingValue) (n : ℕ) → HasStill v new → new ≡ record v { port = new.port } → new.port ≡ sent_more v.port n → HasDone v → HasDone new
+still_done v new n still rest sent (inl d) = inl (d.0, still d.0 d.1)
+still_done v new n still rest sent (inr d) =
+    let here : HasDone (record v { port = sent_more v.port n }) = inr (d.0, (d.1.0, record { queue = d.1.1.queue; acked = d.1.1.acked })) in
+    subst HasDone (sym (rest ∙ ap (λ (p : PortValue). record v { port = p }) sent)) here
+
+-- both ends wrote from one port
+rest_alike : (heard other one two : AskingValue) → AreAlike heard other → one ≡ record heard { port = one.port } → two ≡ record other { port = two.port } → one.port ≡ two.port → AreAlike one two
+rest_alike heard other one two like ra rb e =
+    subst (λ (v : AskingValue). AreAlike v two) (sym ra) (subst (λ (v : AskingValue). AreAlike (record heard { port = one.port }) v) (sym rb) (alike_port heard other one.port two.port like e))
+
+went_alike : (old other one two : AskingValue) (out xs ys : List (List ℕ)) (before rs ss : List Report) → HasDone old → AreAlike old other → WentOn old one out xs before rs → WentOn other two out ys before ss → IsFull one.port.link → IsFull two.port.link
+    → AreAlike one two × (xs ≡ ys) × (rs ≡ ss) × HasDone one
+went_alike old other one two out xs ys before rs ss d like a b fa fb =
+    let t = heard_alike old other a.heard b.heard before rs ss d like a.hears b.hears in
+    let sent = has_sent a.heard t.2 in
+    let wb : WroteAll a.heard.port two.port out ys = subst (λ (p : PortValue). WroteAll p two.port out ys) (sym t.0.0) b.wrote in
+    let w = all_wrote a.heard.port one.port two.port sent.0 out xs ys sent.1 a.wrote wb fa fb in
+    (rest_alike a.heard b.heard one two t.0 a.rest b.rest w.0, w.1, t.1, still_done a.heard one _ a.still a.rest a.wrote.2.sent t.2)
+
+abbrev failed_by : EndFault → Result (Unit {0}) EndFault
+failed_by f = Err f
+
+went_apart : (old other one two : AskingValue) (out xs ys : List (List ℕ)) (before rs ss : List Report) (f : EndFault) → HasDone old → AreAlike old other → is_want f ≡ false → WentOn old one out xs before rs → GoOnFault other two out ys before ss f → ⊥
+went_apart old other one two out xs ys before rs ss f d like want a (inl b) = heard_apart old other a.heard two before rs ss f d like want a.hears b.0
+went_apart old other one two out xs ys before rs ss f d like want a (inr b) = true≢false (sym (ap is_want b.0) ∙ want)
+
+halted_alike : (old other one two : AskingValue) (out xs ys : List (List ℕ)) (before rs ss : List Report) (f g : EndFault) → HasDone old → AreAlike old other → is_want f ≡ false → is_want g ≡ false → GoOnFault old one out xs before rs f
+    → GoOnFault other two out ys before ss g → AreAlike one two × (f ≡ g) × (xs ≡ ys) × (rs ≡ ss) × HasDone one
+halted_alike old other one two out xs ys before rs ss f g d like nf ng (inl a) (inl b) =
+    let t = stopped_alike old other one two before rs ss f g d like nf ng a.0 b.0 in (t.0, t.1, a.1 ∙ sym b.1, t.2, t.3)
+halted_alike old other one two out xs ys before rs ss f g d like nf ng (inl a) (inr b) = absurd (true≢false (sym (ap is_want b.0) ∙ ng))
+halted_alike old other one two out xs ys before rs ss f g d like nf ng (inr a) b = absurd (true≢false (sym (ap is_want a.0) ∙ nf))
+
+pub going_alike : (old other one two : AskingValue) (out xs ys : List (List ℕ)) (before rs ss : List Report) (r s : Result (Unit {0}) EndFault) → HasDone old → AreAlike old other → went_wanting r ≡ false → went_wanting s ≡ false
+    → GoesOn old one out xs before rs r → GoesOn other two out ys before ss s → AreAlike one two × (r ≡ s) × (xs ≡ ys) × (rs ≡ ss) × HasDone one
+going_alike old other one two out xs ys before rs ss (Ok u) (Ok w) d like nr ns a b =
+    let t = went_alike old other one two out xs ys before rs ss d like a.0 b.0 a.1 b.1 in (t.0, refl, t.1, t.2, t.3)
+going_alike old other one two out xs ys before rs ss (Ok u) (Err g) d like nr ns a b = absurd (went_apart old other one two out xs ys before rs ss g d like ns a.0 b)
+going_alike old other one two out xs ys before rs ss (Err f) (Ok w) d like nr ns a b =
+    absurd (went_apart other old two one out ys xs before ss rs f (alike_done old other like d) (alike_back old other like) nr b.0 a)
+going_alike old other one two out xs ys before rs ss (Err f) (Err g) d like nr ns a b =
+    let t = halted_alike old other one two out xs ys before rs ss f g d like nr ns a b in (t.0, ap failed_by t.1, t.2, t.3, t.4)
 
 -- ---- Taking.
 
-handed_same : (old one two a b : AskingValue) (n m : ℕ) → one ≡ two → a ≡ record one { port = posted one.port } → b ≡ record two { port = posted two.port } → a ≡ b
-handed_same old one two a b n m same x y = x ∙ ap (λ (v : AskingValue). record v { port = posted v.port }) same ∙ sym y
+abbrev took : Got → Result Got TakeFault
+took got = Ok got
 
-pub heard_one : (past : AskingPast) (old one two : AskingValue) (got : Got) (out xs ys : List (List ℕ)) (before rs ss : List Report) → HasAsked past old → HeardAndWrote old one got out xs before rs → HeardAndWrote old two got out ys before ss
-    → (one ≡ two) × (xs ≡ ys) × (rs ≡ ss)
-heard_one past old one two got out xs ys before rs ss h a b =
-    let ra = a.hears.read in
-    let rb = b.hears.read in
-    let ia = all_read past old a.hears.heard ra.0 h ra.2 a.hears.done in
-    let ib = all_read past old b.hears.heard rb.0 h rb.2 b.hears.done in
-    let same = all_same past old a.hears.heard b.hears.heard ra.0 rb.0 ia ib in
-    let heard : a.heard ≡ b.heard = handed_same old a.hears.heard b.hears.heard a.heard b.heard a.hears.count b.hears.count same.0 a.hears.handed.posted b.hears.handed.posted in
-    let wb : WroteAnswer a.heard.port two.port got b.answered.0 = subst (λ (v : AskingValue). WroteAnswer v.port two.port got b.answered.0) (sym heard) b.answered.2 in
-    let w = answer_one a.heard.port one.port two.port (ia.now.handed ++ a.hears.heard.port.outbox) got a.answered.0 b.answered.0 (a.hears.handed.past ia.now ia.is).sends a.answered.2 wb in (
-      a.rest ∙ ap (λ (p : PortValue). record a.heard { port = p }) w.0 ∙ ap (λ (v : AskingValue). record v { port = two.port }) heard ∙ sym b.rest,
-      a.answered.1 ∙ ap (λ (l : List (List ℕ)). out ++ l) w.1 ∙ sym b.answered.1,
-      ra.1 ∙ ap (λ (l : List Report). before ++ l) same.1 ∙ sym rb.1,
+abbrev refused : LinkFault → Result Got TakeFault
+refused f = Err (take_fault.Refused f)
+
+abbrev unfinished : Got → EndFault → Result Got TakeFault
+unfinished got f = Err (take_fault.Unfinished got f)
+
+in_done : (old : AskingValue) (link : LinkValue) (bytes : List ℕ) (got : Got) → HeardIn old bytes got link → HasDone old → HasDone (received old link)
+in_done old link bytes got t (inl d) = inl (d.0, t.still d.0 d.1)
+in_done old link bytes got t (inr d) = inr (d.0, (d.1.0, t.receives.sends d.1.0 d.1.1))
+
+-- a packet that both took in
+in_alike : (old other : AskingValue) (a b : LinkValue) (bytes : List ℕ) (g h : Got) → AreBytes bytes → AreAlike old other → Receives old.port.link a bytes (Ok g) → Receives other.port.link b bytes (Ok h)
+    → (g ≡ h) × AreAlike (received old a) (received other b)
+in_alike old other a b bytes g h fits like ra rb =
+    let rc : Receives old.port.link b bytes (Ok h) = subst (λ (p : PortValue). Receives p.link b bytes (Ok h)) (sym like.0) rb in
+    let r = receives_same old.port.link a b bytes (Ok g) (Ok h) fits (ok_apart g fault.NoMemory) (ok_apart h fault.NoMemory) ra rc in (
+      ok_same g h r.0,
+      alike_port old other _ _ like (ap (λ (l : LinkValue). record old.port { link = l }) r.1 ∙ ap (λ (p : PortValue). record p { link = b }) like.0),
     )
 
-pub taking_alike : (past : AskingPast) (old one two : AskingValue) (bytes : List ℕ) (got other : Got) (out xs ys : List (List ℕ)) (before rs ss : List Report) → HasAsked past old
-    → TookAll old one bytes got out xs before rs → TookAll old two bytes other out ys before ss → (one ≡ two) × (got ≡ other) × (xs ≡ ys) × (rs ≡ ss)
-taking_alike past old one two bytes got other out xs ys before rs ss h a b =
-    let r = receives_one old.port.link a.link b.link bytes got other a.took.receives b.took.receives in
-    let there : HeardAndWrote (received old a.link) two got out ys before ss =
-    subst (λ (l : LinkValue). HeardAndWrote (received old l) two got out ys before ss) (sym r.1) (subst (λ (g : Got). HeardAndWrote (received old b.link) two g out ys before ss) (sym r.0) b.all_done) in
-    let same = heard_one past (received old a.link) one two got out xs ys before rs ss (a.took.still past h) a.all_done there in
-    (same.0, r.0, same.1, same.2)
+in_apart : (old other : AskingValue) (a b : LinkValue) (bytes : List ℕ) (g : Got) (f : LinkFault) → AreBytes bytes → AreAlike old other → f ≢ fault.NoMemory → Receives old.port.link a bytes (Ok g) → Receives other.port.link b bytes (Err f) → ⊥
+in_apart old other a b bytes g f fits like want ra rb =
+    let rc : Receives old.port.link b bytes (Err f) = subst (λ (p : PortValue). Receives p.link b bytes (Err f)) (sym like.0) rb in
+    ok_apart g f ((receives_same old.port.link a b bytes (Ok g) (Err f) fits (ok_apart g fault.NoMemory) (λ k. want (err_same f fault.NoMemory k)) ra rc).0)
+
+taken_alike : (old other one two : AskingValue) (bytes : List ℕ) (g h : Got) (out xs ys : List (List ℕ)) (before rs ss : List Report) → AreBytes bytes → HasDone old → AreAlike old other → TookAll old one bytes g out xs before rs
+    → TookAll other two bytes h out ys before ss → AreAlike one two × (g ≡ h) × (xs ≡ ys) × (rs ≡ ss) × HasDone one
+taken_alike old other one two bytes g h out xs ys before rs ss fits d like a b =
+    let i = in_alike old other a.link b.link bytes g h fits like a.took.receives b.took.receives in
+    let wa = a.all_done in
+    let wb = b.all_done in
+    let t = heard_alike (received old a.link) (received other b.link) wa.heard wb.heard before rs ss (in_done old a.link bytes g a.took d) i.1 wa.hears wb.hears in
+    let sent = has_sent wa.heard t.2 in
+    let ab : AnsweredAll wa.heard.port two.port g out ys =
+    subst (λ (x : Got). AnsweredAll wa.heard.port two.port x out ys) (sym i.0) (subst (λ (p : PortValue). AnsweredAll p two.port h out ys) (sym t.0.0) wb.answered) in
+    let w = answered_one wa.heard.port one.port two.port sent.0 g out xs ys sent.1 wa.answered ab in
+    (rest_alike wa.heard wb.heard one two t.0 wa.rest wb.rest w.0, i.0, w.1, t.1, still_done wa.heard one _ wa.still wa.rest wa.answered.2.wrote.sent t.2)
+
+fault_in : (mid new : AskingValue) (got : Got) (out all : List (List ℕ)) (before reports : List Report) (f : EndFault) → is_want f ≡ false → AnswerFault mid new got out all before reports f → HearFault mid new before reports f × (all ≡ out)
+fault_in mid new got out all before reports f want (inl h) = h
+fault_in mid new got out all before reports f want (inr h) =
+    absurd (true≢false (sym (ap is_want (h.1 ∙ ap (λ (x : LinkFault). end_fault.Link x) h.2.part.memory)) ∙ want))
+
+taken_apart : (old other one two : AskingValue) (bytes : List ℕ) (g h : Got) (f : EndFault) (out xs ys : List (List ℕ)) (before rs ss : List Report) → AreBytes bytes → HasDone old → AreAlike old other → is_want f ≡ false
+    → TookAll old one bytes g out xs before rs → TookPart other two bytes h out ys before ss f → ⊥
+taken_apart old other one two bytes g h f out xs ys before rs ss fits d like want a b =
+    let i = in_alike old other a.link b.link bytes g h fits like a.took.receives b.took.receives in
+    let p = fault_in (received other b.link) two h out ys before ss f want b.why in
+    heard_apart (received old a.link) (received other b.link) a.all_done.heard two before rs ss f (in_done old a.link bytes g a.took d) i.1 want a.all_done.hears p.0
+
+part_alike : (old other one two : AskingValue) (bytes : List ℕ) (g h : Got) (e f : EndFault) (out xs ys : List (List ℕ)) (before rs ss : List Report) → AreBytes bytes → HasDone old → AreAlike old other → is_want e ≡ false → is_want f ≡ false
+    → TookPart old one bytes g out xs before rs e → TookPart other two bytes h out ys before ss f → AreAlike one two × (unfinished g e ≡ unfinished h f) × (xs ≡ ys) × (rs ≡ ss) × HasDone one
+part_alike old other one two bytes g h e f out xs ys before rs ss fits d like ne nf a b =
+    let i = in_alike old other a.link b.link bytes g h fits like a.took.receives b.took.receives in
+    let pa = fault_in (received old a.link) one g out xs before rs e ne a.why in
+    let pb = fault_in (received other b.link) two h out ys before ss f nf b.why in
+    let t = stopped_alike (received old a.link) (received other b.link) one two before rs ss e f (in_done old a.link bytes g a.took d) i.1 ne nf pa.0 pb.0 in
+    (t.0, ap (λ (x : Got). unfinished x e) i.0 ∙ ap (unfinished h) t.1, pa.1 ∙ sym pb.1, t.2, t.3)
+
+none_done : (old new : AskingValue) (bytes : List ℕ) (f : LinkFault) → Refused old new bytes f → HasDone old → HasDone new
+none_done old new bytes f r (inl d) = inl (d.0, r.still d.0 d.1)
+none_done old new bytes f r (inr d) = subst HasDone (sym r.new_is) (inr (d.0, (d.1.0, r.receives.sends d.1.0 d.1.1)))
+
+none_alike : (old other one two : AskingValue) (bytes : List ℕ) (f g : LinkFault) → AreBytes bytes → HasDone old → AreAlike old other → f ≢ fault.NoMemory → g ≢ fault.NoMemory → Refused old one bytes f → Refused other two bytes g
+    → AreAlike one two × (refused f ≡ refused g) × HasDone one
+none_alike old other one two bytes f g fits d like nf ng a b =
+    let rc : Receives old.port.link b.link bytes (Err g) = subst (λ (p : PortValue). Receives p.link b.link bytes (Err g)) (sym like.0) b.receives in
+    let r = receives_same old.port.link a.link b.link bytes (Err f) (Err g) fits (λ k. nf (err_same f fault.NoMemory k)) (λ k. ng (err_same g fault.NoMemory k)) a.receives rc in
+    let there = alike_port old other _ _ like (ap (λ (l : LinkValue). record old.port { link = l }) r.1 ∙ ap (λ (p : PortValue). record p { link = b.link }) like.0) in (
+      subst (λ (v : AskingValue). AreAlike v two) (sym a.new_is) (subst (λ (v : AskingValue). AreAlike (received old a.link) v) (sym b.new_is) there),
+      ap refused (err_same f g r.0),
+      none_done old one bytes f a d,
+    )
+
+pub taking_alike : (old other one two : AskingValue) (bytes : List ℕ) (r s : Result Got TakeFault) (out xs ys : List (List ℕ)) (before rs ss : List Report) → AreBytes bytes → HasDone old → AreAlike old other → took_wanting r ≡ false → took_wanting s ≡ false
+    → Takes old one bytes out xs before rs r → Takes other two bytes out ys before ss s → AreAlike one two × (r ≡ s) × (xs ≡ ys) × (rs ≡ ss) × HasDone one
+taking_alike old other one two bytes (Ok g) (Ok h) out xs ys before rs ss fits d like nr ns a b =
+    let t = taken_alike old other one two bytes g h out xs ys before rs ss fits d like a b in (t.0, ap took t.1, t.2, t.3, t.4)
+taking_alike old other one two bytes (Ok g) (Err (take_fault.Refused f)) out xs ys before rs ss fits d like nr ns a b =
+    absurd (in_apart old other a.link b.0.link bytes g f fits like (no_link_want f ns) a.took.receives b.0.receives)
+taking_alike old other one two bytes (Ok g) (Err (take_fault.Unfinished h f)) out xs ys before rs ss fits d like nr ns a b =
+    absurd (taken_apart old other one two bytes g h f out xs ys before rs ss fits d like ns a b)
+taking_alike old other one two bytes (Err (take_fault.Refused f)) (Ok h) out xs ys before rs ss fits d like nr ns a b =
+    absurd (in_apart other old b.link a.0.link bytes h f fits (alike_back old other like) (no_link_want f nr) b.took.receives a.0.receives)
+taking_alike old other one two bytes (Err (take_fault.Refused f)) (Err (take_fault.Refused g)) out xs ys before rs ss fits d like nr ns a b =
+    let t = none_alike old other one two bytes f g fits d like (no_link_want f nr) (no_link_want g ns) a.0 b.0 in (t.0, t.1, a.1 ∙ sym b.1, a.2 ∙ sym b.2, t.2)
+taking_alike old other one two bytes (Err (take_fault.Refused f)) (Err (take_fault.Unfinished h g)) out xs ys before rs ss fits d like nr ns a b =
+    absurd (in_apart other old b.link a.0.link bytes h f fits (alike_back old other like) (no_link_want f nr) b.took.receives a.0.receives)
+taking_alike old other one two bytes (Err (take_fault.Unfinished g f)) (Ok h) out xs ys before rs ss fits d like nr ns a b =
+    absurd (taken_apart other old two one bytes h g f out ys xs before ss rs fits (alike_done old other like d) (alike_back old other like) nr b a)
+taking_alike old other one two bytes (Err (take_fault.Unfinished g f)) (Err (take_fault.Refused e)) out xs ys before rs ss fits d like nr ns a b =
+    absurd (in_apart old other a.link b.0.link bytes g e fits like (no_link_want e ns) a.took.receives b.0.receives)
+taking_alike old other one two bytes (Err (take_fault.Unfinished g f)) (Err (take_fault.Unfinished h e)) out xs ys before rs ss fits d like nr ns a b =
+    part_alike old other one two bytes g h f e out xs ys before rs ss fits d like nr ns a b

@@ -1,8 +1,8 @@
 -- What the calls of an asking end leave of what it did.
-use Rattle.std.proofs.Common.{◌≡◌, inl, inr, eq-eqb, ◌-◌, ℕ, ◌+◌, ◌<◌, ◌≤◌, arith, refl, sym, ◌∙◌, subst, ap, append_assoc, Bool, true, false, List, [], ◌∷◌, ◌++◌, length}
-use Rattle.std.specs.Prelude.{◌==◌, Some, None, Option, Result, Ok, Err, IfOk, OnOk, IfErr, nat_le, if◌then◌else◌, slice_get, option_to_list}
+use Rattle.std.proofs.Common.{◌≡◌, inl, inr, eq-eqb, ◌-◌, ℕ, ◌+◌, ◌<◌, ◌≤◌, arith, refl, sym, ◌∙◌, subst, ap, append_assoc, true, false, List, [], ◌∷◌, ◌++◌, length}
+use Rattle.std.specs.Prelude.{◌==◌, Option, Result, Ok, Err, IfOk, OnOk, IfErr, nat_le, if◌then◌else◌, option_to_list}
 use Rattle.std.proofs.lemmas.Bool.{cases_eq, ne_eqb}
-use Rattle.std.proofs.lemmas.List.{append-nil, map-append, length-append}
+use Rattle.std.proofs.lemmas.List.{append-nil, map-append}
 use Rattle.std.proofs.lemmas.List.Elements.{All-append}
 use Rattle.dap_fields.specs.Spelling.{AreBytes}
 use Rattle.dap_msg.specs.Message.{Message}
@@ -28,10 +28,9 @@ use Rattle.dap_accessing.specs.Calls.{Asks, Reads}
 use Rattle.dap_end.specs.declared.fault.EndFault.{EndFault}
 use Rattle.dap_end.specs.declared.fault.EndFault.TheVariants as end_fault
 use Rattle.dap_end.specs.Ports.{PortValue, with_link, posted, gone_on}
-use Rattle.dap_end.specs.Receiving.{Receives}
 use Rattle.dap_end.specs.Writing.{sent_more, WroteAll, AnsweredAll, AnsweredPart}
 use Rattle.dap_end.specs.Going.{GoneThrough, given_then}
-use Rattle.dap_end.specs.Asking.{AskingValue, AskingPast, AreFull, HasAsked, HasStill, AskedOne, HandedAll, ReadOne, ReadAll, ReadMore, HasRead, HeardAll, HeardOnly, WentOn, GoOnFault, HeardIn, HeardAndWrote, WrotePart, AnswerFault, TookAll, TookPart, received, asked_one, read_one}
+use Rattle.dap_end.specs.Asking.{AskingValue, AskingPast, AreFull, HasAsked, HasStill, AskedOne, HandedAll, ReadOne, ReadOn, begins, goes, ReadAll, HeardAll, HeardOnly, WentOn, GoOnFault, HeardIn, HeardAndWrote, AnswerFault, TookAll, TookPart, received, read_one}
 use Rattle.dap_end.specs.Inner.Answered.{Ended}
 use Rattle.dap_end.specs.Inner.Kept.{IsPort, AreShort}
 use Rattle.dap_end.specs.Inner.AskingView.{asking_of}
@@ -188,8 +187,9 @@ few_blocked limit (m ∷ messages) = omega (arith, blocked-few limit (m ∷ []) 
 pub reads_one : (old : AskingValue) (bytes : List ℕ) (later : List (List ℕ)) → AreBytes bytes → (after : Present) (port : PortValue) (step : ReadStep) → old.port.link.inbox ≡ bytes ∷ later → IsPlace old.port.place bytes
     → (r : Reads bytes old.port.place old.accessing after step) → step.next ≤ length bytes → (old.port.place < length bytes → old.port.place < step.next) → after.own ≡ old.accessing.own
     → port ≡ gone_on old.port bytes later step.next → ReadOne old (asking_of port after) step.report
-reads_one old bytes later fits after port step inbox place r within goes own is =
+reads_one old bytes later fits after port step inbox place r within onward own is =
     record {
+      works = r.works;
       bytes = bytes;
       later = later;
       came = inbox;
@@ -198,7 +198,7 @@ reads_one old bytes later fits after port step inbox place r within goes own is 
       next = step.next;
       reads = r.reads;
       place = place;
-      goes = goes;
+      goes = onward;
       within = within;
       port = is;
       own = own;
@@ -222,7 +222,26 @@ some_first (m ∷ inbox) h = (m, inbox, refl)
 
 -- ---- Several answers.
 
-pub read_nothing : (v : AskingValue) → ReadMore v v []
+-- What the end did grew into this, and these are the reports that were told.
+pub record HasRead (past now : AskingPast) (old new : AskingValue) (reports : List Report) : Type 0 where
+  pub is : HasAsked now new
+  pub requests : now.requests ≡ past.requests
+  pub asked : now.asked ≡ past.asked
+  pub handed : now.handed ≡ past.handed
+  pub answers : (more : List Item) × (now.answers ≡ past.answers ++ more)
+  pub told : Told past.requests now.answers ≡ Told past.requests past.answers ++ reports
+  -- what left the link was read
+  pub given : now.given ++ new.port.link.inbox ≡ past.given ++ old.port.link.inbox
+  pub stands : (size : ℕ) (messages : List (List ℕ)) → Stands old.port.link size messages past.given
+      → Stands new.port.link size messages now.given
+
+pub record ReadMore (old new : AskingValue) (reports : List Report) : Type 0 where
+  pub link : new.port.link ≡ record old.port.link { inbox = new.port.link.inbox }
+  pub outbox : new.port.outbox ≡ old.port.outbox
+  pub own : new.accessing.own ≡ old.accessing.own
+  pub past : (past : AskingPast) → HasAsked past old → (now : AskingPast) × HasRead past now old new reports
+
+read_nothing : (v : AskingValue) → ReadMore v v []
 read_nothing v =
     record {
       link = refl;
@@ -244,7 +263,7 @@ read_nothing v =
     }
 
 pub read_none : (v : AskingValue) (reports : List Report) → ReadAll v v reports reports
-read_none v reports = ([], sym (append-nil reports), read_nothing v)
+read_none v reports = ([], sym (append-nil reports), begins)
 
 -- what left, and what is left
 split_given : (given inbox later : List (List ℕ)) (bytes : List ℕ) (next : ℕ) → inbox ≡ bytes ∷ later →
@@ -272,19 +291,38 @@ read_grew a b c report told past now g r =
       stands = λ size messages s. r.given size messages now (g.stands size messages s);
     }
 
-pub read_more : (a b c : AskingValue) (report : Option Report) (before all new : List Report) → ReadAll a b before all → ReadOne b c report → new ≡ all ++ option_to_list report → ReadAll a c before new
-read_more a b c report before all new m r is =
+read_then : (a b c : AskingValue) (told : List Report) (report : Option Report) → ReadMore a b told → ReadOne b c report → ReadMore a c (told ++ option_to_list report)
+read_then a b c told report m r =
     let link : c.port.link ≡ record b.port.link { inbox = if r.next == length r.bytes then r.later else b.port.link.inbox } = ap (λ (p : PortValue). p.link) r.port in
-    let here : c.port.link ≡ record b.port.link { inbox = c.port.link.inbox } = subst (λ (l : LinkValue). l ≡ record b.port.link { inbox = l.inbox }) (sym link) refl in (
-      m.0 ++ option_to_list report,
-      is ∙ ap (λ (l : List Report). l ++ option_to_list report) m.1 ∙ append_assoc before m.0 (option_to_list report),
-      record {
-        link = here ∙ ap (λ (l : LinkValue). record l { inbox = c.port.link.inbox }) m.2.link;
-        outbox = ap (λ (p : PortValue). p.outbox) r.port ∙ m.2.outbox;
-        own = r.own ∙ m.2.own;
-        past = λ past h. (let g = m.2.past past h in (read_one g.0 r.bytes r.item r.next, read_grew a b c report m.0 past g.0 g.1 r));
-      },
-    )
+    let here : c.port.link ≡ record b.port.link { inbox = c.port.link.inbox } = subst (λ (l : LinkValue). l ≡ record b.port.link { inbox = l.inbox }) (sym link) refl in
+    record {
+      link = here ∙ ap (λ (l : LinkValue). record l { inbox = c.port.link.inbox }) m.link;
+      outbox = ap (λ (p : PortValue). p.outbox) r.port ∙ m.outbox;
+      own = r.own ∙ m.own;
+      past = λ past h. (let g = m.past past h in (read_one g.0 r.bytes r.item r.next, read_grew a b c report told past g.0 g.1 r));
+    }
+
+read_behind : (a b c : AskingValue) (told more all : List Report) → ReadMore a b told → ReadOn b c more → all ≡ told ++ more → ReadMore a c all
+read_behind a b c told more all m begins e = subst (ReadMore a b) (sym (e ∙ append-nil told)) m
+read_behind a b c told more all m (goes mid report rest r on is) e =
+    read_behind a mid c (told ++ option_to_list report) rest all (read_then a b mid told report m r) on
+    (e ∙ ap (λ (l : List Report). told ++ l) is ∙ sym (append_assoc told (option_to_list report) rest))
+
+pub read_grows : (a b : AskingValue) (reports : List Report) → ReadOn a b reports → ReadMore a b reports
+read_grows a b reports on = read_behind a a b [] reports reports (read_nothing a) on refl
+
+read_on : (a b c : AskingValue) (reports : List Report) (report : Option Report) → ReadOn a b reports → ReadOne b c report → ReadOn a c (reports ++ option_to_list report)
+read_on a b c reports report begins r = goes c report [] r begins (sym (append-nil (option_to_list report)))
+read_on a b c reports report (goes mid first more s on is) r =
+    goes mid first (more ++ option_to_list report) s (read_on mid b c more report on r)
+    (ap (λ (l : List Report). l ++ option_to_list report) is ∙ append_assoc (option_to_list first) more (option_to_list report))
+
+pub read_more : (a b c : AskingValue) (report : Option Report) (before all new : List Report) → ReadAll a b before all → ReadOne b c report → new ≡ all ++ option_to_list report → ReadAll a c before new
+read_more a b c report before all new m r is = (
+  m.0 ++ option_to_list report,
+  is ∙ ap (λ (l : List Report). l ++ option_to_list report) m.1 ∙ append_assoc before m.0 (option_to_list report),
+  read_on a b c m.0 report m.2 r,
+)
 
 pub read_falls : (old new : AskingValue) (report : Option Report) → ReadOne old new report → work new.port.link.inbox - new.port.place < work old.port.link.inbox - old.port.place
 read_falls old new report r =

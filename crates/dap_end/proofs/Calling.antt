@@ -16,10 +16,9 @@ use Rattle.dap_end.specs.declared.fault.EndFault.TheVariants as end_fault
 use Rattle.dap_end.specs.Ports.{PortValue}
 use Rattle.dap_end.specs.Receiving.{Receives}
 use Rattle.dap_end.specs.Writing.{wants_ack, WroteNext, WroteMore}
-use Rattle.dap_end.specs.Asking.{AskingValue, AskedOne, HandedAll, ReadOne, ReadMore, ReadAll, HeardAll, WentOn, GoOnFault, HearFault, AnswerFault, ReadNone, ReadPart, TookAll, TookPart, WrotePart, HeardOnly, Refused, received}
-use Rattle.dap_end.specs.Headline.{Written, numbered, bytes_of, WroteOne}
-use Rattle.dap_end.specs.Hearing.{AskingEvent, Came, Asks, GoesOn, Again, Acks, HandedOver, AskingStepped, AskingRuns, AreAskingCalls}
-use Rattle.dap_end.proofs.Asked.{read_nothing, read_none, read_more}
+use Rattle.dap_end.specs.Asking.{AskingValue, AskedOne, HandedAll, ReadOne, begins, goes as reads_first, ReadAll, HeardAll, WentOn, GoOnFault, HearFault, AnswerFault, ReadNone, ReadPart, TookAll, TookPart, Refused, received}
+use Rattle.dap_end.specs.Headline.{Written, numbered, bytes_of}
+use Rattle.dap_end.specs.Hearing.{AskingEvent, Came, Asks, GoesOn, Again, Acks, AskingStepped, AskingRuns, AreAskingCalls}
 use Rattle.dap_end.proofs.Packets.{ack_written}
 use Rattle.dap_end.proofs.Emitting.{wrote_nothing}
 use Rattle.dap_end.proofs.Running.{one_segment, numbered_bytes}
@@ -32,15 +31,15 @@ asking_is old new request n a = one_event old new (Asks request) [] [] (n, a, re
 
 pub reading_is : (old new : AskingValue) (report : Option Report) → ReadOne old new report → AskingRuns old (GoesOn ∷ []) new (option_to_list report) []
 reading_is old new report r =
-    let m = read_more old old new report [] [] (option_to_list report) (read_none old []) r refl in
-    one_event old new GoesOn (option_to_list report) [] (new, new, [], subst (ReadMore old new) (sym m.1) m.2, inl refl, wrote_nothing new.port, refl, refl)
+    one_event old new GoesOn (option_to_list report) []
+    (new, new, [], reads_first new report [] r begins (sym (append-nil (option_to_list report))), inl refl, wrote_nothing new.port, refl, refl)
 
 pub posting_is : (old new : AskingValue) (n : ℕ) → HandedAll old new n → AskingRuns old (GoesOn ∷ []) new [] []
-posting_is old new n h = one_event old new GoesOn [] [] (old, new, [], read_nothing old, inr (n, h), wrote_nothing new.port, refl, refl)
+posting_is old new n h = one_event old new GoesOn [] [] (old, new, [], begins, inr (n, h), wrote_nothing new.port, refl, refl)
 
 pub writing_is : (old new : AskingValue) (bytes : List ℕ) → new ≡ record old { port = new.port } → WroteNext old.port new.port bytes
     → AskingRuns old (GoesOn ∷ []) new [] (numbered (old.port.link.sent + 1) old.port.link.received (bytes ∷ []))
-writing_is old new bytes rest w = one_event old new GoesOn [] _ (old, old, bytes ∷ [], read_nothing old, inl refl, one_segment old.port new.port bytes w, rest, refl)
+writing_is old new bytes rest w = one_event old new GoesOn [] _ (old, old, bytes ∷ [], begins, inl refl, one_segment old.port new.port bytes w, rest, refl)
 
 pub again_is : (v : AskingValue) (i : ℕ) (bytes : List ℕ) → i < v.port.link.sent - v.port.link.acked → WritesSent v.port.link (Some (v.port.link.acked + 1 + i)) bytes
     → AskingRuns v (Again i ∷ []) v [] (record { bytes = bytes; segment = Some (v.port.link.acked + 1 + i); acks = v.port.link.received } ∷ [])

@@ -1,12 +1,12 @@
 -- Writing segments, one after another.
-use Rattle.std.proofs.Common.{◌≡◌, ℕ, ◌+◌, ◌-◌, ◌<◌, ◌≤◌, arith, refl, sym, ◌∙◌, subst, ap, append_assoc, List, [], ◌∷◌, ◌++◌, length, inl, inr, add-zero, true, false}
+use Rattle.std.proofs.Common.{◌≡◌, ℕ, ◌+◌, arith, refl, sym, ◌∙◌, subst, ap, append_assoc, List, [], ◌∷◌, ◌++◌, length, inl, inr, add-zero, true, false}
 use Rattle.std.specs.Prelude.{Some, None, Option, Result, Ok, Err, IfOk, IfErr, OnOk, OnErr, IfSome, Bool}
 use Rattle.std.specs.Global.{Vec}
 use Rattle.std.proofs.lemmas.List.{append-nil, length-append}
 use Rattle.nsp_link.specs.declared.link.Got.{Got}
 use Rattle.nsp_link.specs.declared.fault.LinkFault.{LinkFault}
-use Rattle.nsp_link.specs.Link.{LinkValue, Sends, Writes, MaySend, IsSpelling}
-use Rattle.nsp_link.specs.Sending.{NextFault, WritesNext, WritesSent, ack_packet_of}
+use Rattle.nsp_link.specs.Link.{LinkValue, Sends, Writes, MaySend}
+use Rattle.nsp_link.specs.Sending.{WritesNext, WritesSent}
 use Rattle.dap_end.specs.Ports.{PortValue, with_link}
 use Rattle.nsp_link.specs.declared.fault.LinkFault.TheVariants as fault
 use Rattle.dap_end.specs.Writing.{AreWritten, IsWithin, IsFull, sent_more, WroteNext, WroteMore, WroteAll, wants_ack, AnsweredAll, AnsweredPart}

@@ -16,3 +16,8 @@ pub use Rattle.dap_end.proofs.Asked.{few_blocked}
 -- messages have spellings: those of two lists, of a front, of the rest
 pub use Rattle.dap_end.proofs.ServingOne.{fit-both}
 pub use Rattle.dap_end.proofs.Joined.{front_fit, back_fit}
+-- what a call answers and leaves follows from the end and the call
+pub use Rattle.dap_end.proofs.Determined.{going_one, taking_one}
+pub use Rattle.dap_end.proofs.Alike.{alike_of, alike_back, alike_same, alike_done, has_sent, asking_one, going_alike, taking_alike}
+-- an end that serves did something, through its calls
+pub use Rattle.dap_end.proofs.Known.{IsKnown, new_known, going_known, taking_known}

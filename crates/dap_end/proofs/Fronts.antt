@@ -1,10 +1,9 @@
 -- What was gone through is a front of the items of what the peer sends.
 use Rattle.std.proofs.Common.{◌≡◌, ℕ, ◌<◌, arith, refl, sym, ◌∙◌, subst, ap, append_assoc, List, [], ◌∷◌, ◌++◌, length}
-use Rattle.std.specs.Prelude.{take, drop}
-use Rattle.std.specs.List.{AllByRecursion}
-use Rattle.std.proofs.lemmas.List.{append-nil, take-append-drop}
+use Rattle.std.specs.Prelude.{drop}
+use Rattle.std.proofs.lemmas.List.{take-append-drop}
 use Rattle.dap_fields.specs.Spelling.{AreBytes}
-use Rattle.dap_msg.specs.Items.{Item, ItemAt, Items, ItemsFrom}
+use Rattle.dap_msg.specs.Items.{Item, Items, ItemsFrom}
 use Rattle.dap_msg.proofs.ForCallers.{one_item, have_items}
 use Rattle.nsp_link.specs.Link.{LinkValue, Stands}
 use Rattle.dap_end.specs.Ports.{oldest}

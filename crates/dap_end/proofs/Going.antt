@@ -1,9 +1,8 @@
 -- Going through the items of the NSP messages that came.
-use Rattle.std.proofs.Common.{◌≡◌, ℕ, ◌<◌, ◌≤◌, arith, refl, sym, ◌∙◌, subst, ap, append_assoc, List, [], ◌∷◌, ◌++◌, length, inl, inr, eq-eqb}
+use Rattle.std.proofs.Common.{ℕ, ◌<◌, ◌≤◌, arith, refl, sym, ◌∙◌, subst, ap, append_assoc, List, [], ◌∷◌, ◌++◌, length, inl, inr, eq-eqb}
 use Rattle.std.specs.Prelude.{◌==◌, if◌then◌else◌}
 use Rattle.std.proofs.lemmas.Bool.{cases_eq, ne_eqb}
 use Rattle.std.proofs.lemmas.List.{append-nil}
-use Rattle.std.specs.List.{AllByRecursion}
 use Rattle.dap_fields.specs.Spelling.{AreBytes}
 use Rattle.dap_msg.specs.Items.{Item, ItemAt, Items, ItemsFrom}
 use Rattle.dap_end.specs.Ports.{oldest}

@@ -1,27 +1,21 @@
 -- What a list of an asking end's calls leaves.
-use Rattle.std.proofs.Common.{◌≡◌, ℕ, ◌+◌, ◌-◌, ◌<◌, refl, sym, ◌∙◌, subst, ap, append_assoc, true, false, List, [], ◌∷◌, ◌++◌, length, inl, inr}
-use Rattle.std.specs.Prelude.{◌⊎◌, Bool, Option, Some, None, Result, Ok, Err, option_to_list}
-use Rattle.std.proofs.lemmas.List.{append-nil, map-append}
-use Rattle.nsp_link.specs.declared.link.Got.{Got}
-use Rattle.nsp_link.specs.declared.fault.LinkFault.{LinkFault}
-use Rattle.nsp_link.specs.Link.{LinkValue, Stands, IsSpelling}
-use Rattle.nsp_link.specs.Sending.{WritesSent, ack_packet_of}
+use Rattle.std.proofs.Common.{◌≡◌, ℕ, ◌+◌, refl, sym, ◌∙◌, subst, ap, append_assoc, false, List, [], ◌∷◌, ◌++◌, length, inl, inr}
+use Rattle.std.specs.Prelude.{Option}
+use Rattle.std.proofs.lemmas.List.{append-nil}
+use Rattle.nsp_link.specs.Link.{LinkValue, Stands}
 use Rattle.dap_accessing.specs.Request.{Request}
 use Rattle.dap_accessing.specs.declared.report.Report.{Report}
-use Rattle.dap_accessing.specs.declared.fault.ReadFault.{ReadFault}
 use Rattle.dap_accessing.specs.Told.{Told}
-use Rattle.dap_end.specs.declared.fault.EndFault.{EndFault}
-use Rattle.dap_end.specs.Ports.{PortValue, with_link}
-use Rattle.dap_end.specs.Receiving.{Receives}
+use Rattle.dap_end.specs.Ports.{PortValue}
 use Rattle.dap_end.specs.Going.{AreFrontOf}
-use Rattle.dap_end.specs.Writing.{sent_more, wants_ack, WroteNext, WroteMore}
-use Rattle.dap_end.specs.Asking.{AskingValue, AskingPast, HasAsked, HasStill, AskedOne, HandedAll, ReadOne, HasRead, ReadMore, ReadAll, nothing_asked, asked_one}
-use Rattle.dap_end.specs.Headline.{Written, numbered, WroteOne, AreWrittenOf, IsFromPeer}
+use Rattle.dap_end.specs.Writing.{sent_more, WroteMore}
+use Rattle.dap_end.specs.Asking.{AskingValue, AskingPast, HasAsked, AskedOne, HandedAll, nothing_asked, asked_one}
+use Rattle.dap_end.specs.Headline.{Written, numbered, WroteOne, AreWrittenOf}
 use Rattle.dap_end.specs.Hearing.{AskingEvent, Came, Asks, GoesOn, Again, Acks, HandedOver, AskingStepped, AskingRuns, requests_in, AskingPromises, IsAskingEventOf, AskingRunsFrom}
 use Rattle.dap_end.proofs.Taking.{grown}
-use Rattle.dap_end.proofs.Asked.{still_received, still_sent, read_none, read_more}
-use Rattle.dap_end.proofs.Packets.{all_written, still_written, written_on, numbered_written, one_written, ack_written}
-use Rattle.dap_end.proofs.Running.{StandsThen, then_stands, went_written, sent_link}
+use Rattle.dap_end.proofs.Asked.{ReadMore, still_received, still_sent, read_grows}
+use Rattle.dap_end.proofs.Packets.{all_written, still_written, written_on, numbered_written, one_written}
+use Rattle.dap_end.proofs.Running.{StandsThen, then_stands, sent_link}
 use Rattle.dap_end.proofs.Fronts.{served_front}
 
 -- what the end did: these requests were asked, these reports told, and these packets written
@@ -114,7 +108,7 @@ step_so requests reports more wrote ws old new (Asks request) s t =
           (subst (λ (l : List Written). AreWrittenOf old.port.link t.past.handed l) (sym (ap (λ (l : List Written). wrote ++ l) s.3 ∙ append-nil wrote)) t.packets);
     }
 step_so requests reports more wrote ws old new GoesOn s t =
-    let heard = heard_so requests reports more wrote old s.0 s.3 t in
+    let heard = heard_so requests reports more wrote old s.0 (read_grows old s.0 more s.3) t in
     let handed = handed_so requests (reports ++ more) wrote s.0 s.1 s.4 heard in
     subst (λ (l : List Request). Asked_So l (reports ++ more) (wrote ++ ws) new) (sym (append-nil requests))
     (sent_so requests (reports ++ more) wrote ws s.1 new s.2 s.5 s.6 s.7 handed)
@@ -180,8 +174,9 @@ step_listens size messages more ws old new (Came bytes) f s t =
 step_listens size messages more ws old new (Asks request) f s t =
     record { past = asked_one t.past old.accessing.own old.accessing.limit request; is = s.1.past t.past t.is; stands = asked_stands old size messages t.past.given new request s.0 s.1 t.stands }
 step_listens size messages more ws old new GoesOn f s t =
-    let g = s.3.past t.past t.is in
-    let works : s.0.port.link.failed ≡ false = ap (λ (l : LinkValue). l.failed) s.3.link ∙ t.stands.1 in
+    let m = read_grows old s.0 more s.3 in
+    let g = m.past t.past t.is in
+    let works : s.0.port.link.failed ≡ false = ap (λ (l : LinkValue). l.failed) m.link ∙ t.stands.1 in
     let heard : Listens size messages s.0 = record { past = g.0; is = g.1.is; stands = (g.1.stands size messages t.stands.0, works) } in
     sent_listens size messages s.1 new s.2 s.5 s.6 (handed_listens size messages s.0 s.1 s.4 heard)
 step_listens size messages more ws old new (Again i) f s t = subst (Listens size messages) (sym s.3) t

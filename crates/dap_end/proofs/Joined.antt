@@ -1,14 +1,13 @@
 -- Two ends keep the headline.
-use Rattle.std.proofs.Common.{◌≡◌, ◌≢◌, ℕ, zero, suc, ◌+◌, ◌-◌, ◌<◌, ◌≤◌, arith, refl, sym, ◌∙◌, subst, ap, append_assoc, List, [], ◌∷◌, ◌++◌, length, map, false, inl, inr}
-use Rattle.std.specs.Prelude.{◌⊎◌, Option, Some, None, IfSome, Result, Ok, Err, All, slice_get}
+use Rattle.std.proofs.Common.{◌≡◌, ℕ, zero, suc, ◌+◌, ◌-◌, ◌<◌, ◌≤◌, arith, refl, sym, ◌∙◌, subst, ap, append_assoc, List, [], ◌∷◌, ◌++◌, length, map, inl, inr}
+use Rattle.std.specs.Prelude.{Option, Some, IfSome, All}
 use Rattle.std.proofs.lemmas.List.{append-nil, map-append}
 use Rattle.dap_msg.specs.Message.{Message}
 use Rattle.dap_msg.specs.Items.{Item, Whole}
 use Rattle.dap_msg.specs.Blocked.{NspMessage, joined, Blocked, all_joined, messages_in, AllFit}
 use Rattle.dap_msg.proofs.ForCallers.{are_items}
 use Rattle.nsp_link.specs.declared.link.LinkSetup.{LinkSetup}
-use Rattle.nsp_link.specs.Cutting.{Piece}
-use Rattle.nsp_link.specs.Link.{LinkValue, IsTimely, Stands, Sends, new_link}
+use Rattle.nsp_link.specs.Link.{LinkValue, Stands, Sends, new_link}
 use Rattle.nsp_link.specs.Sending.{AreShort}
 use Rattle.nsp_link.proofs.ForCallers.{stands_new}
 use Rattle.dap_accessed.specs.Standing.{Files}
@@ -18,23 +17,23 @@ use Rattle.dap_accessing.specs.Request.{Request}
 use Rattle.dap_accessing.specs.declared.report.Report.{Report}
 use Rattle.dap_accessing.specs.Asked.{Asked}
 use Rattle.dap_accessing.specs.Told.{Told}
-use Rattle.dap_end.specs.Ports.{PortValue, new_port, with_link, posted}
+use Rattle.dap_end.specs.Ports.{PortValue}
 use Rattle.dap_end.specs.Receiving.{Receives}
 use Rattle.dap_end.specs.Going.{AreItemsOf, AreFrontOf}
 use Rattle.dap_end.specs.Writing.{AreWritten, WroteMore}
 use Rattle.dap_end.specs.Serving.{ServingValue, Past, IsAfter, answers_to, nothing_yet}
-use Rattle.dap_end.specs.Taking.{ServedMore, with_port}
-use Rattle.dap_end.specs.Asking.{AreFull, AskingValue, AskingPast, HasAsked, AskedOne, ReadMore, HandedAll, nothing_asked, asked_one}
+use Rattle.dap_end.specs.Taking.{with_port}
+use Rattle.dap_end.specs.Asking.{AreFull, AskingValue, AskingPast, HasAsked, nothing_asked, asked_one}
 use Rattle.dap_end.specs.Headline as serving
 use Rattle.dap_end.specs.Headline.{Written, numbered, WroteOne, AreWrittenOf, ServingEvent, Stepped}
 use Rattle.dap_end.specs.Hearing as asking
 use Rattle.dap_end.specs.Hearing.{AskingEvent, AskingStepped, HandedOver, requests_in}
-use Rattle.dap_end.specs.Joined.{Pair, AreOpposite, AreNew, IsBrought, MayComeToA, MayComeToB, PairEvent, AtA, AtB, PairStepped, PairRuns, PairHeadline}
-use Rattle.dap_end.proofs.Taking.{Grown, grown}
+use Rattle.dap_end.specs.Joined.{Pair, AreOpposite, AreNew, PairEvent, AtA, AtB, PairStepped, PairRuns, PairHeadline}
+use Rattle.dap_end.proofs.Taking.{grown}
 use Rattle.dap_end.proofs.Afterwards.{after_received}
 use Rattle.dap_end.proofs.Proceeding.{none_short, still_sent}
 use Rattle.dap_end.proofs.Fronts.{served_front}
-use Rattle.dap_end.proofs.Asked.{full-blocked, full-both, still_received}
+use Rattle.dap_end.proofs.Asked.{full-blocked, full-both, read_grows, still_received}
 use Rattle.dap_end.proofs.Asked as asked
 use Rattle.dap_end.proofs.Packets.{all_written, written_on, numbered_written, one_written}
 use Rattle.dap_end.proofs.Running.{in_append, answers_from, went_written}
@@ -404,15 +403,16 @@ asks first old new (asking.Asks request) s j =
     })
 asks first old new asking.GoesOn s j =
     let t = s.3 in
-    let read = t.3.past j.asked j.asking in
+    let m = read_grows old.a t.0 s.0 t.3 in
+    let read = m.past j.asked j.asking in
     let g = read.1 in
     let h = hands read.0 old.a t.0 t.1 g.is t.4 in
-    let limit : t.0.port.link.max_message ≡ old.a.port.link.max_message = ap (λ (l : LinkValue). l.max_message) t.3.link in
+    let limit : t.0.port.link.max_message ≡ old.a.port.link.max_message = ap (λ (l : LinkValue). l.max_message) m.link in
     let short : AreShort old.a.port.link h.more = subst (λ (n : ℕ). All (λ m. length m ≤ n) h.more) limit h.short in
     let stands : Stands t.1.port.link old.b.port.link.seg_size j.served.handed h.now.given =
     h.same old.b.port.link.seg_size j.served.handed h.now.given (subst (λ (l : List (List ℕ)). Stands t.0.port.link old.b.port.link.seg_size j.served.handed l) (sym h.given) (g.stands old.b.port.link.seg_size j.served.handed j.ways.back.stands)) in
     let ways = goes old.a.port.link old.b.port.link t.1.port.link new.a.port t.1.port j.asked.handed j.served.handed j.asked.given j.served.given h.more h.now.given h.now.handed old.from_a old.from_b t.2 j.ways refl
-    (link_trans old.a.port.link t.0.port.link t.1.port.link t.3.link h.link) t.5 (h.more_is ∙ ap (λ (l : List (List ℕ)). l ++ h.more) g.handed) short stands h.is.sends in
+    (link_trans old.a.port.link t.0.port.link t.1.port.link m.link h.link) t.5 (h.more_is ∙ ap (λ (l : List (List ℕ)). l ++ h.more) g.handed) short stands h.is.sends in
     subst (IsLinked first) (sym s.4)
     (record {
       asked = h.now;

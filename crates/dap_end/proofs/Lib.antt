@@ -12,8 +12,10 @@ pub mod Packets
 pub mod Running
 pub mod Asked
 pub mod Hearing
+pub mod Refusing
 pub mod Determined
 pub mod Alike
+pub mod Known
 pub mod Ways
 pub mod Joined
 pub mod Calling

@@ -1,12 +1,11 @@
 -- The packets that an end wrote carry what was handed to its link.
-use Rattle.std.proofs.Common.{◌≡◌, ℕ, ◌+◌, refl, sym, ◌∙◌, subst, ap, List, [], ◌∷◌, ◌++◌}
-use Rattle.std.specs.Prelude.{Option, Some, None}
+use Rattle.std.proofs.Common.{ℕ, ◌+◌, refl, sym, subst, List, [], ◌∷◌, ◌++◌}
+use Rattle.std.specs.Prelude.{Option, None}
 use Rattle.nsp_link.specs.Cutting.{cut}
 use Rattle.nsp_link.specs.Link.{LinkValue, Sends, Writes, IsWritten, IsSpelling}
 use Rattle.nsp_link.specs.Sending.{WritesSent, ack_packet_of}
 use Rattle.nsp_link.proofs.ForCallers.{writes_more}
-use Rattle.dap_end.specs.Ports.{PortValue}
-use Rattle.dap_end.specs.Writing.{AreWritten, sent_more, WroteMore}
+use Rattle.dap_end.specs.Writing.{AreWritten}
 use Rattle.dap_end.specs.Headline.{Written, numbered, WroteOne, AreWrittenOf}
 use Rattle.dap_end.proofs.Taking.{Grown}
 

@@ -1,5 +1,5 @@
 -- Where a link takes all that an end may send, no message that waits is too long.
-use Rattle.std.proofs.Common.{◌≡◌, ◌≢◌, ℕ, ◌<◌, ◌≤◌, arith, List, [], length}
+use Rattle.std.proofs.Common.{◌≡◌, ◌≢◌, arith, []}
 use Rattle.nsp_link.specs.Limits.{largest_limit}
 use Rattle.nsp_link.specs.declared.fault.LinkFault.{LinkFault}
 use Rattle.nsp_link.specs.declared.fault.LinkFault.TheVariants as fault

@@ -1,21 +1,20 @@
 -- Serving, handing over and writing, one after another.
-use Rattle.std.proofs.Common.{◌≡◌, ℕ, zero, suc, ◌+◌, ◌-◌, ◌<◌, ◌≤◌, arith, refl, sym, ◌∙◌, subst, ap, append_assoc, List, [], ◌∷◌, ◌++◌, length, inl, inr, eq-eqb, add-zero, true, false}
-use Rattle.std.specs.Prelude.{All, ◌==◌, if◌then◌else◌, Some, None, Option, Result, Ok, Err, OnOk, OnErr, IfErr}
+use Rattle.std.proofs.Common.{◌≡◌, ℕ, ◌+◌, ◌-◌, ◌<◌, ◌≤◌, arith, refl, sym, ◌∙◌, subst, ap, append_assoc, List, [], ◌∷◌, ◌++◌, length, inl, inr, eq-eqb, false}
+use Rattle.std.specs.Prelude.{All, ◌==◌, if◌then◌else◌, Result, Ok, Err, OnOk, IfErr}
 use Rattle.std.proofs.lemmas.Bool.{cases_eq, ne_eqb}
-use Rattle.std.proofs.lemmas.List.{append-nil, length-append}
+use Rattle.std.proofs.lemmas.List.{append-nil}
 use Rattle.std.proofs.lemmas.List.Elements.{All-append}
 use Rattle.dap_msg.specs.Items.{Item, IsPlace}
 use Rattle.nsp_link.specs.declared.link.Got.{Got}
 use Rattle.nsp_link.specs.declared.fault.LinkFault.{LinkFault}
 use Rattle.nsp_link.specs.declared.fault.LinkFault.TheVariants as fault
-use Rattle.nsp_link.specs.Link.{LinkValue, Stands, MaySend}
-use Rattle.nsp_link.specs.Sending.{AreShort, SendAllFault}
+use Rattle.nsp_link.specs.Link.{LinkValue, MaySend}
+use Rattle.nsp_link.specs.Sending.{AreShort}
 use Rattle.dap_end.specs.Ports.{PortValue, posted}
 use Rattle.dap_end.specs.Serving.{ServingValue, Past, IsAfter, ServedOne, PostedAll, MayServe, IsStill, served}
 use Rattle.dap_end.specs.Writing.{sent_more, IsFull, WroteAll, AnsweredAll, AnsweredPart}
-use Rattle.dap_end.specs.Taking.{SameCounts, Grew, ServedMore, IsServed, ServeFault, GoOnFault, WentOn, IsDone, with_port, received, TookIn, TookAll, TookPart, WrotePart}
+use Rattle.dap_end.specs.Taking.{SameCounts, Grew, ServedMore, ServedOn, begins, goes, ServedUp, IsServed, ServeFault, GoOnFault, WentOn, IsDone, with_port, received, TookIn, TookAll, TookPart}
 use Rattle.dap_end.specs.Inner.Answered.{ServedAndAnswered, ServedPart}
-use Rattle.dap_end.proofs.Emitting.{wrote_none}
 
 -- ---- Serving and handing over.
 
@@ -100,6 +99,23 @@ more_served old new n s =
       );
     }
 
+-- ---- One after another.
+
+pub on_more : (a b posted c : ServingValue) (count n : ℕ) → ServedOn a b → PostedAll b posted count → ServedOne posted c n → ServedOn a c
+on_more a b posted c count n begins p s = goes posted c count n p s begins
+on_more a b posted c count n (goes first mid k m q t on) p s = goes first mid k m q t (on_more mid b posted c count n on p s)
+
+pub on_grew : (a b : ServingValue) → ServedOn a b → ServedMore a b
+on_grew a b begins = more_none a
+on_grew a b (goes posted mid count n p s on) = more_trans a mid b (more_trans a posted mid (more_posted a posted count p) (more_served posted mid n s)) (on_grew mid b on)
+
+pub up_grew : (a b : ServingValue) → ServedUp a b → ServedMore a b
+up_grew a b u = more_trans a u.0 b (on_grew a u.0 u.2) (more_posted u.0 b u.1 u.3)
+
+pub fault_grew : (a b : ServingValue) (f : LinkFault) → ServeFault a b f → ServedMore a b
+fault_grew a b f (inl h) = on_grew a b h.0
+fault_grew a b f (inr h) = up_grew a b h.1
+
 no_more : (v : ServingValue) (inbox : List (List ℕ)) → v.port.link.inbox ≡ inbox → v.port.outbox ≡ [] → (MayServe v → ⊥) → inbox ≡ []
 no_more v [] is idle none = refl
 no_more v (m ∷ inbox) is idle none = absurd (none (idle, (let long = ap length is in omega arith)))
@@ -109,24 +125,6 @@ all_served v idle none = (no_more v v.port.link.inbox refl idle none, idle)
 
 pub none_waits : (v new : ServingValue) (n : ℕ) → PostedAll v new n → new.port.outbox ≡ []
 none_waits v new n p = ap (λ (x : ServingValue). x.port.outbox) p.posted
-
-pub post_refused : (v : ServingValue) (f : LinkFault) → SendAllFault v.port.link v.port.outbox f → ServeFault v f
-post_refused v fault.NoMemory h = inl h
-post_refused v fault.Failed h = h
-post_refused v fault.Exhausted h = h
-post_refused v fault.MessageTooLong h = h
-post_refused v fault.BadSetup h = h
-post_refused v (fault.Malformed s) h = h
-post_refused v fault.WrongLink h = h
-post_refused v fault.BadSequence h = h
-post_refused v fault.NoSuchSegment h = h
-
-pub refused_here : (old new : ServingValue) (f : LinkFault) → (new ≡ old) × SendAllFault old.port.link old.port.outbox f → ServeFault new f
-refused_here old new f h = post_refused new f (subst (λ (v : ServingValue). SendAllFault v.port.link v.port.outbox f) (sym h.0) h.1)
-
--- memory was wanting to serve the next item
-pub wants_here : (old new : ServingValue) → (new ≡ old) × MayServe old → ServeFault new fault.NoMemory
-wants_here old new h = inr (subst MayServe (sym h.0) h.1)
 
 -- a link to which something was handed runs
 pub works_here : (old new : ServingValue) (n : ℕ) → PostedAll old new n → new.port.link.failed ≡ false
@@ -146,15 +144,15 @@ less_ends later bytes place (inl lt) = omega arith
 less_ends later bytes place (inr none) = omega (arith, none.0, none.1)
 
 less_inside : (later : List (List ℕ)) (bytes : List ℕ) (place next : ℕ) → IsPlace place bytes → (place < length bytes → place < next) → next < length bytes → work (bytes ∷ later) - next < work (bytes ∷ later) - place
-less_inside later bytes place next (inl lt) goes inside = let h = goes lt in omega arith
-less_inside later bytes place next (inr none) goes inside = absurd (omega (arith, none.1))
+less_inside later bytes place next (inl lt) onward inside = let h = onward lt in omega arith
+less_inside later bytes place next (inr none) onward inside = absurd (omega (arith, none.1))
 
 pub less_left : (inbox later : List (List ℕ)) (bytes : List ℕ) (place next : ℕ) → inbox ≡ bytes ∷ later → IsPlace place bytes → (place < length bytes → place < next) → next ≤ length bytes →
     let ends = next == length bytes in work (if ends then later else inbox) - (if ends then 0 else next) < work inbox - place
-less_left inbox later bytes place next came at goes within =
+less_left inbox later bytes place next came at onward within =
     elim (cases_eq next (length bytes)) [
       | inl end ↦ rw (eq-eqb next (length bytes) end, came) (less_ends later bytes place at)
-      | inr inside ↦ rw (ne_eqb next (length bytes) inside, came) (less_inside later bytes place next at goes (omega (arith, within, inside)))
+      | inr inside ↦ rw (ne_eqb next (length bytes) inside, came) (less_inside later bytes place next at onward (omega (arith, within, inside)))
     ]
 
 pub falls : (old new : ServingValue) (n : ℕ) → ServedOne old new n → left new < left old
@@ -171,12 +169,9 @@ pub still_by : (v : ServingValue) (port : PortValue) (n : ℕ) → port ≡ sent
 still_by v port n e = subst (λ (p : PortValue). IsStill v (with_port v p)) (sym e) (still_sent v n)
 
 -- all was served, and then segments were written
-pub went_on : (old served : ServingValue) (port : PortValue) (out all : List (List ℕ)) → ServedMore old served → WroteAll served.port port out all → WentOn old (with_port served port) out all
-went_on old served port out all m w =
-    record { served = served; more = m; rest = refl; still = still_by served port _ w.2.sent; wrote = w }
-
-pub went_part : (old new : ServingValue) (out : List (List ℕ)) → ServedMore old new → WentOn old new out out
-went_part old new out m = went_on old new new.port out out m (wrote_none new.port out)
+pub went_on : (old served : ServingValue) (port : PortValue) (out all : List (List ℕ)) → ServedUp old served → IsServed served → WroteAll served.port port out all → WentOn old (with_port served port) out all
+went_on old served port out all m d w =
+    record { served = served; more = m; done = d; rest = refl; still = still_by served port _ w.2.sent; wrote = w }
 
 pub served_still : (v : ServingValue) (port : PortValue) (n : ℕ) → port ≡ sent_more v.port n → IsServed v → IsServed (with_port v port)
 served_still v port n e h = (ap (λ (p : PortValue). p.link.inbox) e ∙ h.0, ap (λ (p : PortValue). p.outbox) e ∙ h.1)
@@ -185,18 +180,18 @@ pub done_by : (served : ServingValue) (port : PortValue) (out all : List (List �
 done_by served port out all (Ok u) d w h = (served_still served port _ w.2.sent d, h)
 done_by served port out all (Err f) d w h = tt
 
-pub went_by : (served : ServingValue) (port : PortValue) (out all : List (List ℕ)) (r : Result (Unit {0}) LinkFault) → IsServed served → WroteAll served.port port out all → IfErr r (λ f. (f ≡ fault.NoMemory) × MaySend port.link)
-    → IfErr r (λ f. GoOnFault (with_port served port) f)
-went_by served port out all (Ok u) d w h = tt
-went_by served port out all (Err f) d w h = inr (h.0, served_still served port _ w.2.sent d, h.1)
+pub went_by : (old served : ServingValue) (port : PortValue) (out all : List (List ℕ)) (r : Result (Unit {0}) LinkFault) → ServedUp old served → IsServed served → WroteAll served.port port out all
+    → IfErr r (λ f. (f ≡ fault.NoMemory) × MaySend port.link) → IfErr r (λ f. GoOnFault old (with_port served port) out all f)
+went_by old served port out all (Ok u) m d w h = tt
+went_by old served port out all (Err f) m d w h = inr (h.0, went_on old served port out all m d w, h.1)
 
-pub answered_by : (old served : ServingValue) (port : PortValue) (got : Got) (out all : List (List ℕ)) (r : Result (Unit {0}) LinkFault) → ServedMore old served → IsServed served → OnOk r (AnsweredAll served.port port got out all)
+pub answered_by : (old served : ServingValue) (port : PortValue) (got : Got) (out all : List (List ℕ)) (r : Result (Unit {0}) LinkFault) → ServedUp old served → IsServed served → OnOk r (AnsweredAll served.port port got out all)
     → OnOk r (ServedAndAnswered old (with_port served port) got out all)
 answered_by old served port got out all (Ok u) m d h =
     record { served = served; more = m; done = d; rest = refl; still = still_by served port _ h.2.wrote.sent; answered = h }
 answered_by old served port got out all (Err f) m d h = tt
 
-pub part_by : (old served : ServingValue) (port : PortValue) (got : Got) (out all : List (List ℕ)) (r : Result (Unit {0}) LinkFault) → ServedMore old served → IsServed served → IfErr r (λ f. AnsweredPart served.port port got out all f)
+pub part_by : (old served : ServingValue) (port : PortValue) (got : Got) (out all : List (List ℕ)) (r : Result (Unit {0}) LinkFault) → ServedUp old served → IsServed served → IfErr r (λ f. AnsweredPart served.port port got out all f)
     → IfErr r (λ f. ServedPart old (with_port served port) got out all f)
 part_by old served port got out all (Ok u) m d h = tt
 part_by old served port got out all (Err f) m d h = inr (record { served = served; more = m; done = d; rest = refl; still = still_by served port _ h.wrote.sent; part = h })
@@ -209,7 +204,7 @@ took_all old mid new bytes got out all rest took h =
       link = mid.port.link;
       took = took;
       served = h.served;
-      more = subst (λ (v : ServingValue). ServedMore v h.served) rest h.more;
+      more = subst (λ (v : ServingValue). ServedUp v h.served) rest h.more;
       done = h.done;
       rest = h.rest;
       still = h.still;

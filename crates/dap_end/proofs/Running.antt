@@ -1,32 +1,32 @@
 -- What a list of a serving end's calls leaves.
-use Rattle.std.proofs.Common.{◌≡◌, add-zero, ℕ, ◌+◌, ◌<◌, ◌≤◌, refl, sym, ◌∙◌, subst, ap, append_assoc, true, false, List, [], ◌∷◌, ◌++◌, length, map, inl, inr, arith}
-use Rattle.std.specs.Prelude.{◌⊎◌, Bool, ◌-◌, Option, Some, None, Result, Ok, Err, MatchResult}
+use Rattle.std.proofs.Common.{◌≡◌, ℕ, ◌+◌, ◌<◌, refl, sym, ◌∙◌, subst, ap, append_assoc, true, false, List, [], ◌∷◌, ◌++◌, length, inl, inr, arith}
+use Rattle.std.specs.Prelude.{◌⊎◌, Bool, ◌-◌, Option, Some, None, Result, Ok, Err}
 use Rattle.std.proofs.lemmas.List.{append-nil, map-append}
 use Rattle.dap_msg.specs.Items.{Item}
 use Rattle.dap_msg.specs.Message.{Message}
-use Rattle.dap_msg.specs.Blocked.{NspMessage, Blocked, all_joined, messages_in}
+use Rattle.dap_msg.specs.Blocked.{NspMessage, Blocked, messages_in}
 use Rattle.dap_msg.proofs.ForCallers.{messages_in-Blocked}
 use Rattle.nsp_link.specs.declared.link.Got.{Got}
 use Rattle.nsp_link.specs.declared.fault.LinkFault.{LinkFault}
-use Rattle.nsp_link.specs.Link.{LinkValue, Stands, IsDue, IsSpelling, Writes}
+use Rattle.nsp_link.specs.Link.{LinkValue, Stands, IsDue, IsSpelling}
 use Rattle.nsp_link.specs.Sending.{WritesSent, ack_packet_of}
 use Rattle.dap_accessed.specs.Standing.{Files}
 use Rattle.dap_accessed.specs.Present.{Present}
 use Rattle.dap_accessed.specs.Groups.{Answers, added, limit_for}
 use Rattle.dap_accessed.proofs.ForCallers.{Answers-more}
-use Rattle.dap_end.specs.Ports.{PortValue, with_link}
+use Rattle.dap_end.specs.Ports.{PortValue}
 use Rattle.dap_end.specs.Receiving.{Receives}
 use Rattle.dap_end.specs.Going.{AreFrontOf}
 use Rattle.dap_end.specs.Writing.{IsWithin, sent_more, wants_ack, WroteNext, WroteMore}
 use Rattle.dap_end.specs.Serving.{ServingValue, Past, IsAfter, answers_to, nothing_yet, ServedOne, PostedAll}
-use Rattle.dap_end.specs.Taking.{ServedMore, with_port, received, WentOn, TookAll, TookPart, WrotePart, ServeFault, Refused}
+use Rattle.dap_end.specs.Taking.{ServedMore, with_port, received, WentOn, GoOnFault, TookAll, TookPart, WrotePart, ServeFault, Refused}
 use Rattle.dap_end.specs.Headline.{Written, numbered, bytes_of, WroteOne, ServingEvent, Came, GoesOn, Again, Acks, Stepped, Runs, AreWrittenOf, Promises, IsFromPeer, IsEventOf, RunsFrom, AreCalls}
-use Rattle.dap_end.proofs.Taking.{Grown, grown}
+use Rattle.dap_end.proofs.Taking.{grown}
 use Rattle.dap_end.proofs.Afterwards.{after_received}
 use Rattle.dap_end.proofs.Fronts.{served_front}
 use Rattle.dap_end.proofs.Packets.{all_written, still_written, written_on, numbered_written, one_written, ack_written}
 use Rattle.dap_end.proofs.Emitting.{wrote_nothing}
-use Rattle.dap_end.proofs.Proceeding.{still_sent, more_none, more_served, more_posted}
+use Rattle.dap_end.proofs.Proceeding.{still_sent, more_none, more_served, more_posted, up_grew, fault_grew}
 
 -- ---- The answers.
 
@@ -236,7 +236,7 @@ behind out all packets k a e = e ∙ ap (λ (l : List (List ℕ)). out ++ l) (sy
 
 pub going_is : (old new : ServingValue) (out all : List (List ℕ)) → WentOn old new out all → AreCalls old (GoesOn ∷ []) new out all
 going_is old new out all w =
-    (_, one_event old new GoesOn _ (w.served, w.wrote.0, w.more, w.wrote.2, w.rest, refl), behind out all w.wrote.0 _ _ w.wrote.1)
+    (_, one_event old new GoesOn _ (w.served, w.wrote.0, up_grew old w.served w.more, w.wrote.2, w.rest, refl), behind out all w.wrote.0 _ _ w.wrote.1)
 
 came : (old : ServingValue) (link : LinkValue) (bytes : List ℕ) (r : Result Got LinkFault) → Receives old.port.link link bytes r → Stepped old (Came bytes) (received old link) []
 came old link bytes r h = (r, link, h, refl, refl)
@@ -271,16 +271,20 @@ answered_is old served new got out all packets written true m rest w is e quiet 
 pub taking_is : (old new : ServingValue) (bytes : List ℕ) (got : Got) (out all : List (List ℕ)) → TookAll old new bytes got out all → (events : List ServingEvent) × AreCalls old (Came bytes ∷ events) new out all
 taking_is old new bytes got out all t =
     let a = t.answered in
-    let r = answered_is (received old t.link) t.served new got out all a.0 a.2.written (wants_ack got (length a.2.written)) t.more t.rest a.2.wrote a.1 refl a.2.quiet a.2.acks in
+    let r = answered_is (received old t.link) t.served new got out all a.0 a.2.written (wants_ack got (length a.2.written)) (up_grew (received old t.link) t.served t.more) t.rest a.2.wrote a.1 refl a.2.quiet a.2.acks in
     (r.0, took_by old (received old t.link) new bytes r.0 out all (came old t.link bytes (Ok got) t.took.receives) r.1)
 
 part_of : (old new : ServingValue) (got : Got) (out all : List (List ℕ)) (f : LinkFault) → WrotePart old new got out all f → AreCalls old (GoesOn ∷ []) new out all
 part_of old new got out all f p =
-    (_, one_event old new GoesOn _ (p.served, p.part.packets, p.more, p.part.wrote, p.rest, refl), behind out all p.part.packets _ _ p.part.behind)
+    (_, one_event old new GoesOn _ (p.served, p.part.packets, up_grew old p.served p.more, p.part.wrote, p.rest, refl), behind out all p.part.packets _ _ p.part.behind)
 
-part_by : (old new : ServingValue) (got : Got) (out all : List (List ℕ)) (f : LinkFault) → (ServedMore old new × (all ≡ out) × ServeFault new f) ⊎ WrotePart old new got out all f → AreCalls old (GoesOn ∷ []) new out all
-part_by old new got out all f (inl h) = ([], one_event old new GoesOn [] (served_only old new h.0), h.1 ∙ sym (append-nil out))
+part_by : (old new : ServingValue) (got : Got) (out all : List (List ℕ)) (f : LinkFault) → (ServeFault old new f × (all ≡ out)) ⊎ WrotePart old new got out all f → AreCalls old (GoesOn ∷ []) new out all
+part_by old new got out all f (inl h) = ([], one_event old new GoesOn [] (served_only old new (fault_grew old new f h.0)), h.1 ∙ sym (append-nil out))
 part_by old new got out all f (inr h) = part_of old new got out all f h
+
+pub halting_is : (old new : ServingValue) (out all : List (List ℕ)) (f : LinkFault) → GoOnFault old new out all f → AreCalls old (GoesOn ∷ []) new out all
+halting_is old new out all f (inl h) = ([], one_event old new GoesOn [] (served_only old new (fault_grew old new f h.0)), h.1 ∙ sym (append-nil out))
+halting_is old new out all f (inr h) = going_is old new out all h.1
 
 pub part_is : (old new : ServingValue) (bytes : List ℕ) (got : Got) (out all : List (List ℕ)) (f : LinkFault) → TookPart old new bytes got out all f → AreCalls old (Came bytes ∷ GoesOn ∷ []) new out all
 part_is old new bytes got out all f t =

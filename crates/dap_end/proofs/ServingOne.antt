@@ -8,10 +8,10 @@ use Rattle.dap_fields.specs.Spelling.{AreBytes}
 use Rattle.dap_msg.specs.Items.{Item, ItemAt, IsPlace}
 use Rattle.dap_msg.specs.Blocked.{NspMessage, Blocked, all_joined, bodies, joined, AllFit}
 use Rattle.dap_msg.specs.Message.{Message}
-use Rattle.nsp_link.specs.Link.{Sends, Stands, HasTaken, IsWhole}
+use Rattle.nsp_link.specs.Link.{Stands}
 use Rattle.dap_accessed.specs.Groups.{Answers, added, limit_for}
 use Rattle.dap_accessed.proofs.ForCallers.{Answers-more}
-use Rattle.dap_accessed.specs.Present.{Present, StandsAfter}
+use Rattle.dap_accessed.specs.Present.{Present}
 use Rattle.dap_accessed.specs.Served.{Serves, AllAtMost}
 use Rattle.dap_accessed.specs.declared.served.Served.{Served}
 use Rattle.dap_end.specs.Ports.{PortValue, oldest, gone_on}

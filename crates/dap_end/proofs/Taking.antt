@@ -1,6 +1,6 @@
 -- What taking a packet in leaves as it was.
-use Rattle.std.proofs.Common.{◌≡◌, ℕ, ◌<◌, arith, refl, sym, ◌∙◌, subst, ap, append_assoc, true, false, List, [], ◌∷◌, ◌++◌, length, inl, inr}
-use Rattle.std.specs.Prelude.{◌⊎◌, Bool, Option, Some, None, Result, Ok, Err, nat_lt, if◌then◌else◌}
+use Rattle.std.proofs.Common.{◌≡◌, ℕ, arith, refl, sym, ◌∙◌, subst, ap, append_assoc, true, false, List, [], ◌∷◌, ◌++◌, inl, inr}
+use Rattle.std.specs.Prelude.{Bool, Result, Ok, Err, if◌then◌else◌}
 use Rattle.std.proofs.lemmas.List.{append-nil}
 use Rattle.nsp_seg.specs.Packets.{PacketValue, SegmentValue, segment, data_ack}
 use Rattle.nsp_link.specs.declared.link.Got.{Got}
@@ -10,7 +10,7 @@ use Rattle.nsp_link.specs.Cutting.{Piece}
 use Rattle.nsp_link.specs.Coming.{Coming, taken, taken_all, body_with}
 use Rattle.nsp_link.specs.Holding.{inserted}
 use Rattle.nsp_link.specs.Link.{LinkValue, coming, piece_of, failed_link}
-use Rattle.nsp_link.specs.Receiving.{Received, TakesSegment, run, closed, kept, stopped, is_end, forgotten}
+use Rattle.nsp_link.specs.Receiving.{Received, TakesSegment, run, closed, is_end, forgotten}
 use Rattle.dap_msg.specs.Items.{IsPlace}
 use Rattle.dap_end.specs.Ports.{PortValue, oldest, with_link}
 use Rattle.dap_end.specs.Receiving.{ReceivedBytes, Receives}

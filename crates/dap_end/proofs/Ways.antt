@@ -1,5 +1,5 @@
 -- Two links, each of which takes what the other sends, over a line that brings nothing altered or too old.
-use Rattle.std.proofs.Common.{◌≡◌, ℕ, zero, suc, ◌+◌, ◌<◌, ◌≤◌, max, arith, refl, sym, ◌∙◌, subst, ap, true, false, List, [], ◌∷◌, ◌++◌, length, drop, inl, inr, eq-eqb}
+use Rattle.std.proofs.Common.{◌≡◌, ℕ, zero, suc, ◌+◌, ◌<◌, ◌≤◌, arith, sym, ◌∙◌, subst, true, false, List, [], ◌∷◌, ◌++◌, length, drop, inl, inr, eq-eqb}
 use Rattle.std.specs.Prelude.{◌==◌, Bool, nat_lt, ◌&&◌, if◌then◌else◌, Option, Some, None, IfSome, Result, Ok, Err, slice_get, All}
 use Rattle.std.specs.List.{AllByRecursion}
 use Rattle.std.proofs.lemmas.Bool.{cases_eq, ne_eqb}
@@ -10,12 +10,11 @@ use Rattle.nsp_link.specs.declared.fault.LinkFault.{LinkFault}
 use Rattle.nsp_link.specs.Limits.{largest_window}
 use Rattle.nsp_link.specs.Cutting.{Piece, cut}
 use Rattle.nsp_link.specs.Holding.{following, inserted}
-use Rattle.nsp_link.specs.Link.{LinkValue, IsBetween, Carries, IsTimely, IsDue, Stands, Writes, Delivered, taken_after, held_after}
+use Rattle.nsp_link.specs.Link.{LinkValue, IsBetween, IsTimely, IsDue, Stands, Writes, Delivered, taken_after, held_after}
 use Rattle.nsp_link.specs.Sending.{AreShort}
 use Rattle.nsp_link.proofs.ForCallers.{written_spells, stands_more}
 use Rattle.dap_end.specs.Receiving.{Receives}
 use Rattle.dap_end.specs.Headline.{Written, numbered, AreWrittenOf}
-use Rattle.dap_end.proofs.Packets.{all_written, still_written}
 
 -- ---- What holds of one way.
 

@@ -1,5 +1,5 @@
 -- The end that asks, before any peer.
-use Rattle.std.specs.Prelude.{◌≡◌, ◌≢◌, ◌⊎◌, ℕ, ◌<◌, ◌≤◌, Ok, Err, List, [], ◌∷◌, ◌++◌, length, Option, Some, None, option_to_list}
+use Rattle.std.specs.Prelude.{◌≡◌, ◌≢◌, ◌⊎◌, ℕ, ◌<◌, ◌≤◌, Result, Ok, Err, List, [], ◌∷◌, ◌++◌, length, true, false, Option, Some, None, option_to_list}
 use Rattle.std.specs.List.{AllByRecursion}
 use Rattle.dap_fields.specs.Spelling.{AreBytes}
 use Rattle.dap_msg.specs.Items.{Item, ItemAt, IsPlace}
@@ -26,7 +26,7 @@ use Rattle.dap_end.specs.declared.fault.TakeFault.TheVariants as take_fault
 use Rattle.dap_end.specs.Ports.{PortValue, with_link, gone_on, posted}
 use Rattle.dap_end.specs.Going.{GoneThrough, given_then}
 use Rattle.dap_end.specs.Receiving.{Receives}
-use Rattle.dap_end.specs.Writing.{WroteAll, AnsweredAll, AnsweredPart}
+use Rattle.dap_end.specs.Writing.{WroteAll, AnsweredAll, AnsweredPart, IsFull}
 
 pub record AskingValue : Type 0 where
   pub port : PortValue
@@ -93,6 +93,7 @@ read_one past bytes item next = record past { given = given_then past.given byte
 
 -- The next item of the oldest NSP message was read; it had its place, and the report is the one that it adds.
 pub record ReadOne (old new : AskingValue) (report : Option Report) : Type 0 where
+  pub works : old.accessing.failed ≡ false
   pub bytes : List ℕ
   pub later : List (List ℕ)
   pub came : old.port.link.inbox ≡ bytes ∷ later
@@ -126,29 +127,15 @@ ReadNext old new heard.Nothing = (old.port.link.inbox ≡ []) × (new ≡ old)
 ReadNext old new heard.Part = ReadOne old new None
 ReadNext old new (heard.Report report) = ReadOne old new (Some report)
 
--- What the end did grew into this, and these are the reports that were told.
-pub record HasRead (past now : AskingPast) (old new : AskingValue) (reports : List Report) : Type 0 where
-  pub is : HasAsked now new
-  pub requests : now.requests ≡ past.requests
-  pub asked : now.asked ≡ past.asked
-  pub handed : now.handed ≡ past.handed
-  pub answers : (more : List Item) × (now.answers ≡ past.answers ++ more)
-  pub told : Told past.requests now.answers ≡ Told past.requests past.answers ++ reports
-  -- what left the link was read
-  pub given : now.given ++ new.port.link.inbox ≡ past.given ++ old.port.link.inbox
-  pub stands : (size : ℕ) (messages : List (List ℕ)) → Stands old.port.link size messages past.given
-      → Stands new.port.link size messages now.given
-
--- Answers that came were read, and these are the reports that they added.
-pub record ReadMore (old new : AskingValue) (reports : List Report) : Type 0 where
-  pub link : new.port.link ≡ record old.port.link { inbox = new.port.link.inbox }
-  pub outbox : new.port.outbox ≡ old.port.outbox
-  pub own : new.accessing.own ≡ old.accessing.own
-  pub past : (past : AskingPast) → HasAsked past old → (now : AskingPast) × HasRead past now old new reports
+-- Answers that came were read, one after another, and these are the reports that they added.
+pub data ReadOn : AskingValue → AskingValue → List Report → Type 0 where
+  begins : {v : AskingValue} → ReadOn v v []
+  goes : {old new : AskingValue} {all : List Report} (mid : AskingValue) (report : Option Report) (more : List Report)
+      → ReadOne old mid report → ReadOn mid new more → all ≡ option_to_list report ++ more → ReadOn old new all
 
 -- they stand behind those that were there
 abbrev pub ReadAll : (old new : AskingValue) → (before all : List Report) → Type 0
-ReadAll old new before all = (reports : List Report) × (all ≡ before ++ reports) × ReadMore old new reports
+ReadAll old new before all = (reports : List Report) × (all ≡ before ++ reports) × ReadOn old new reports
 
 -- Some were read, and then memory was wanting for one that came, or it was refused.
 abbrev pub ReadPart : (old new : AskingValue) → (before all : List Report) → ReadFault → Type 0
@@ -246,3 +233,31 @@ pub record Refused (old new : AskingValue) (bytes : List ℕ) (f : LinkFault) : 
 abbrev pub NotTaken : (old new : AskingValue) → (bytes : List ℕ) → (out all : List (List ℕ)) → (before reports : List Report) → TakeFault → Type 0
 NotTaken old new bytes out all before reports (take_fault.Refused f) = Refused old new bytes f × (all ≡ out) × (reports ≡ before)
 NotTaken old new bytes out all before reports (take_fault.Unfinished got f) = TookPart old new bytes got out all before reports f
+
+-- ---- What the calls come to, done or refused.
+
+abbrev pub ReadsAll : (old new : AskingValue) → (before reports : List Report) → Result (Unit {0}) ReadFault → Type 0
+ReadsAll old new before reports (Ok done) = ReadAll old new before reports × (new.port.link.inbox ≡ [])
+ReadsAll old new before reports (Err f) = ReadPart old new before reports f
+
+abbrev pub GoesOn : (old new : AskingValue) → (out all : List (List ℕ)) → (before reports : List Report) → Result (Unit {0}) EndFault → Type 0
+GoesOn old new out all before reports (Ok done) = WentOn old new out all before reports × IsFull new.port.link
+GoesOn old new out all before reports (Err f) = GoOnFault old new out all before reports f
+
+abbrev pub Takes : (old new : AskingValue) → (bytes : List ℕ) → (out all : List (List ℕ)) → (before reports : List Report) → Result Got TakeFault → Type 0
+Takes old new bytes out all before reports (Ok got) = TookAll old new bytes got out all before reports
+Takes old new bytes out all before reports (Err f) = NotTaken old new bytes out all before reports f
+
+-- ---- Ends that do the same from now on.
+
+-- of an end that an unexpected answer failed, what it keeps of its requests and answers doesn't count any more
+abbrev pub AreAlike : AskingValue → AskingValue → Type 0
+AreAlike one two =
+    (one.port ≡ two.port) × (one.accessing.own ≡ two.accessing.own) × (one.accessing.failed ≡ two.accessing.failed)
+    × (one.accessing.failed ≡ false → one.accessing ≡ two.accessing)
+
+-- the end is as after some past, or an unexpected answer failed it after some
+abbrev pub HasDone : AskingValue → Type 0
+HasDone v =
+    ((past : AskingPast) × HasAsked past v)
+    ⊎ ((v.accessing.failed ≡ true) × ((handed : List (List ℕ)) × Sends v.port.link handed))

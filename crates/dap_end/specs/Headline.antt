@@ -10,11 +10,10 @@ use Rattle.nsp_link.specs.Limits.{largest_window}
 use Rattle.nsp_link.specs.Cutting.{cut}
 use Rattle.nsp_link.specs.Link.{LinkValue, IsBetween, Carries, IsTimely, Writes}
 use Rattle.nsp_link.specs.Sending.{WritesSent}
-use Rattle.dap_accessed.specs.Standing.{Files}
 use Rattle.dap_accessed.specs.Groups.{After, Answers}
-use Rattle.dap_end.specs.Ports.{PortValue, with_link}
+use Rattle.dap_end.specs.Ports.{with_link}
 use Rattle.dap_end.specs.Receiving.{Receives}
-use Rattle.dap_end.specs.Serving.{ServingValue, Past, IsAfter, answers_to}
+use Rattle.dap_end.specs.Serving.{ServingValue, Past, answers_to}
 use Rattle.dap_end.specs.Taking.{ServedMore, with_port}
 use Rattle.dap_end.specs.Writing.{WroteMore}
 

@@ -12,7 +12,7 @@ use Rattle.dap_accessing.specs.Told.{Told}
 use Rattle.dap_end.specs.Ports.{with_link}
 use Rattle.dap_end.specs.Receiving.{Receives}
 use Rattle.dap_end.specs.Writing.{WroteMore}
-use Rattle.dap_end.specs.Asking.{AskingValue, AskingPast, AskedOne, HandedAll, ReadMore}
+use Rattle.dap_end.specs.Asking.{AskingValue, AskingPast, AskedOne, HandedAll, ReadOn}
 use Rattle.dap_end.specs.Headline.{Written, numbered, bytes_of, WroteOne, AreWrittenOf, IsFromPeer}
 
 -- A packet came; a request was asked; the end did what it does by itself, or some of it; it wrote a segment again that isn't
@@ -35,7 +35,7 @@ AskingStepped old (Came bytes) new reports wrote =
     × (new ≡ record old { port = with_link old.port link }) × (reports ≡ []) × (wrote ≡ [])
 AskingStepped old (Asks request) new reports wrote = (n : ℕ) × AskedOne request old new n × (reports ≡ []) × (wrote ≡ [])
 AskingStepped old GoesOn new reports wrote =
-    (heard : AskingValue) × (handed : AskingValue) × (packets : List (List ℕ)) × ReadMore old heard reports × HandedOver heard handed
+    (heard : AskingValue) × (handed : AskingValue) × (packets : List (List ℕ)) × ReadOn old heard reports × HandedOver heard handed
     × WroteMore handed.port new.port packets × (new ≡ record handed { port = new.port })
     × (wrote ≡ numbered (handed.port.link.sent + 1) handed.port.link.received packets)
 AskingStepped old (Again i) new reports wrote =

@@ -1,5 +1,5 @@
 -- Two ends, each the other's peer, and a line between them that loses, repeats and reorders packets.
-use Rattle.std.specs.Prelude.{◌≡◌, ℕ, List, [], ◌∷◌, ◌++◌, map, Option, Some, slice_get}
+use Rattle.std.specs.Prelude.{◌≡◌, ℕ, List, [], ◌∷◌, ◌++◌, map, Some, slice_get}
 use Rattle.dap_msg.specs.Message.{Message}
 use Rattle.dap_msg.specs.Items.{Whole}
 use Rattle.nsp_link.specs.declared.link.LinkSetup.{LinkSetup}

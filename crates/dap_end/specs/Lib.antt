@@ -4,6 +4,7 @@ pub mod Receiving
 pub mod Writing
 pub mod Serving
 pub mod Taking
+pub mod Wanting
 pub mod Asking
 pub mod Hearing
 pub mod Headline

@@ -1,5 +1,5 @@
 -- Taking a packet in, and doing at once all that it lets the end that serves do.
-use Rattle.std.specs.Prelude.{◌≡◌, ◌⊎◌, ℕ, List, [], ◌++◌, Ok, Err}
+use Rattle.std.specs.Prelude.{◌≡◌, ◌⊎◌, ℕ, List, [], ◌++◌, Result, Ok, Err}
 use Rattle.dap_msg.specs.Items.{Item}
 use Rattle.nsp_link.specs.declared.link.Got.{Got}
 use Rattle.nsp_link.specs.declared.fault.LinkFault.{LinkFault}
@@ -12,7 +12,7 @@ use Rattle.dap_end.specs.declared.fault.TakeFault.TheVariants as take_fault
 use Rattle.dap_end.specs.Ports.{PortValue, with_link}
 use Rattle.dap_end.specs.Receiving.{Receives}
 use Rattle.dap_end.specs.Writing.{IsFull, WroteAll, AnsweredAll, AnsweredPart}
-use Rattle.dap_end.specs.Serving.{ServingValue, Past, IsAfter, IsStill, MayServe}
+use Rattle.dap_end.specs.Serving.{ServingValue, Past, IsAfter, IsStill, MayServe, PostedAll, ServedOne}
 
 -- ---- Serving all.
 
@@ -37,24 +37,35 @@ pub record ServedMore (old new : ServingValue) : Type 0 where
   pub own : new.accessed.own ≡ old.accessed.own
   pub past : (past : Past) → IsAfter past old → (now : Past) × Grew past now old new
 
+-- What waits was handed over, and the next item was served; and so on.
+pub data ServedOn : ServingValue → ServingValue → Type 0 where
+  begins : {v : ServingValue} → ServedOn v v
+  goes : {old new : ServingValue} (posted mid : ServingValue) (count n : ℕ)
+      → PostedAll old posted count → ServedOne posted mid n → ServedOn mid new → ServedOn old new
+
+-- and at last what waits was handed over
+abbrev pub ServedUp : ServingValue → ServingValue → Type 0
+ServedUp old new = (last : ServingValue) × (count : ℕ) × ServedOn old last × PostedAll last new count
+
 -- nothing that came is left, and no answer waits
 abbrev pub IsServed : ServingValue → Type 0
 IsServed v = (v.port.link.inbox ≡ []) × (v.port.outbox ≡ [])
 
--- why not all is served and handed over, at the end as it is then
-abbrev pub ServeFault : ServingValue → LinkFault → Type 0
-ServeFault v fault.NoMemory = SendAllFault v.port.link v.port.outbox fault.NoMemory ⊎ MayServe v
-ServeFault v f = SendAllFault v.port.link v.port.outbox f
+-- why not all is served and handed over, and what is done then: what waits is refused, or memory to serve the next item
+abbrev pub ServeFault : ServingValue → ServingValue → LinkFault → Type 0
+ServeFault old new f =
+    (ServedOn old new × SendAllFault new.port.link new.port.outbox f) ⊎ ((f ≡ fault.NoMemory) × ServedUp old new × MayServe new)
 
 -- ---- Going on.
 
 abbrev pub with_port : ServingValue → PortValue → ServingValue
 with_port v port = record v { port = port }
 
--- More was served and handed over, and then segments were written.
+-- All was served and handed over, and then segments were written.
 pub record WentOn (old new : ServingValue) (out all : List (List ℕ)) : Type 0 where
   pub served : ServingValue
-  pub more : ServedMore old served
+  pub more : ServedUp old served
+  pub done : IsServed served
   pub rest : new ≡ with_port served new.port
   pub still : IsStill served new
   pub wrote : WroteAll served.port new.port out all
@@ -63,9 +74,10 @@ pub record WentOn (old new : ServingValue) (out all : List (List ℕ)) : Type 0 
 abbrev pub IsDone : ServingValue → Type 0
 IsDone v = IsServed v × IsFull v.port.link
 
--- why not all is done: memory may be wanting for a segment too
-abbrev pub GoOnFault : ServingValue → LinkFault → Type 0
-GoOnFault v f = ServeFault v f ⊎ ((f ≡ fault.NoMemory) × IsServed v × MaySend v.port.link)
+-- why not all is done, and what is done then: memory may be wanting for a segment too
+abbrev pub GoOnFault : (old new : ServingValue) → (out all : List (List ℕ)) → LinkFault → Type 0
+GoOnFault old new out all f =
+    (ServeFault old new f × (all ≡ out)) ⊎ ((f ≡ fault.NoMemory) × WentOn old new out all × MaySend new.port.link)
 
 -- ---- Taking.
 
@@ -83,7 +95,7 @@ pub record TookAll (old new : ServingValue) (bytes : List ℕ) (got : Got) (out 
   pub link : LinkValue
   pub took : TookIn old bytes got link
   pub served : ServingValue
-  pub more : ServedMore (received old link) served
+  pub more : ServedUp (received old link) served
   pub done : IsServed served
   pub rest : new ≡ with_port served new.port
   pub still : IsStill served new
@@ -92,7 +104,7 @@ pub record TookAll (old new : ServingValue) (bytes : List ℕ) (got : Got) (out 
 -- All was served and handed over, and then memory was wanting for a packet.
 pub record WrotePart (old new : ServingValue) (got : Got) (out all : List (List ℕ)) (f : LinkFault) : Type 0 where
   pub served : ServingValue
-  pub more : ServedMore old served
+  pub more : ServedUp old served
   pub done : IsServed served
   pub rest : new ≡ with_port served new.port
   pub still : IsStill served new
@@ -102,7 +114,7 @@ pub record WrotePart (old new : ServingValue) (got : Got) (out all : List (List 
 pub record TookPart (old new : ServingValue) (bytes : List ℕ) (got : Got) (out all : List (List ℕ)) (f : LinkFault) : Type 0 where
   pub link : LinkValue
   pub took : TookIn old bytes got link
-  pub part : (ServedMore (received old link) new × (all ≡ out) × ServeFault new f) ⊎ WrotePart (received old link) new got out all f
+  pub part : (ServeFault (received old link) new f × (all ≡ out)) ⊎ WrotePart (received old link) new got out all f
 
 -- It was refused, and nothing of it was taken.
 pub record Refused (old new : ServingValue) (bytes : List ℕ) (out all : List (List ℕ)) (f : LinkFault) : Type 0 where
@@ -116,3 +128,17 @@ abbrev pub NotTaken : (old new : ServingValue) → (bytes : List ℕ) → (out a
 NotTaken old new bytes out all (take_fault.Refused f) = Refused old new bytes out all f
 NotTaken old new bytes out all (take_fault.Unfinished got (end_fault.Link f)) = TookPart old new bytes got out all f
 NotTaken old new bytes out all _ = ⊥
+
+-- ---- What the calls come to, done or refused.
+
+abbrev pub ServesAll : (old new : ServingValue) → Result (Unit {0}) LinkFault → Type 0
+ServesAll old new (Ok done) = ServedUp old new × IsServed new
+ServesAll old new (Err f) = ServeFault old new f
+
+abbrev pub GoesOn : (old new : ServingValue) → (out all : List (List ℕ)) → Result (Unit {0}) LinkFault → Type 0
+GoesOn old new out all (Ok done) = WentOn old new out all × IsDone new
+GoesOn old new out all (Err f) = GoOnFault old new out all f
+
+abbrev pub Takes : (old new : ServingValue) → (bytes : List ℕ) → (out all : List (List ℕ)) → Result Got TakeFault → Type 0
+Takes old new bytes out all (Ok got) = TookAll old new bytes got out all
+Takes old new bytes out all (Err f) = NotTaken old new bytes out all f

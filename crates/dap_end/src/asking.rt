@@ -81,6 +81,7 @@ impl AskingEnd {
         ensures ok { OnOk result (HasAsked nothing_asked self.new
             × (self.new.port ≡ new_port setup)
             × (self.new.accessing.own ≡ self.old.accessing.own)) }
+        ensures setup { OnOk result (IsSetup setup) }
         ensures err { IfErr result (λ f. (self.new ≡ self.old) × SetupFault setup f) }
     {
         let port = Port::new(alloc, setup)?;

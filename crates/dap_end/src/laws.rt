@@ -1,25 +1,30 @@
 //! Laws over the definitions alone. Each function does nothing: its contract is the law.
 
-ghost use Rattle.std.specs.Prelude.{◌≡◌, ◌≢◌, ◌+◌, ◌-◌, ◌<◌, ℕ, List, [], ◌∷◌, ◌++◌, Option, Some, None, option_to_list};
+ghost use Rattle.std.specs.Prelude.{◌≡◌, ◌≢◌, ◌+◌, ◌-◌, ◌<◌, ℕ, List, [], ◌∷◌, ◌++◌, Option, Some, None, Result, Err, false, option_to_list};
+ghost use Rattle.dap_fields.specs.Spelling.{AreBytes};
 ghost use Rattle.nsp_link.specs.declared.link.LinkSetup.{LinkSetup as TheSetup};
 ghost use Rattle.nsp_link.specs.declared.link.Got.{Got as TheGot};
 ghost use Rattle.nsp_link.specs.declared.fault.LinkFault.{LinkFault as TheFault};
 ghost use Rattle.nsp_link.specs.Link.{IsSpelling};
-ghost use Rattle.nsp_link.specs.Sending.{WritesSent, ack_packet_of};
+ghost use Rattle.nsp_link.specs.declared.fault.LinkFault.TheVariants as fault;
+ghost use Rattle.nsp_link.specs.Sending.{SendAllFault, WritesSent, ack_packet_of};
 ghost use Rattle.dap_accessed.specs.Standing.{Files};
 ghost use Rattle.dap_accessing.specs.Request.{Request as TheRequest};
 ghost use Rattle.dap_accessing.specs.declared.report.Report.{Report as TheReport};
+ghost use Rattle.dap_accessing.specs.declared.fault.ReadFault.{ReadFault as TheReadFault};
 ghost use Rattle.dap_accessing.specs.declared.fault.ReadFault.TheVariants as read_fault;
 ghost use Rattle.dap_end.specs.declared.fault.EndFault.{EndFault as TheEndFault};
 ghost use Rattle.dap_end.specs.declared.fault.EndFault.TheVariants as end_fault;
-ghost use Rattle.dap_end.specs.Ports.{new_port};
+ghost use Rattle.dap_end.specs.declared.fault.TakeFault.{TakeFault as TheTakeFault};
+ghost use Rattle.dap_end.specs.Ports.{PortValue, new_port};
 ghost use Rattle.dap_end.specs.Going.{AreFrontOf};
 ghost use Rattle.dap_end.specs.Serving.{ServingValue, Past, IsAfter, ServedOne, PostedAll, nothing_yet};
 ghost use Rattle.dap_end.specs.Writing.{WroteNext};
 ghost use Rattle.dap_end.specs.Taking as serving;
 ghost use Rattle.dap_end.specs.Taking.{with_port};
+ghost use Rattle.dap_end.specs.Wanting.{took_wanting, went_wanting};
 ghost use Rattle.dap_end.specs.Asking as asking;
-ghost use Rattle.dap_end.specs.Asking.{AskingValue, AskingPast, HasAsked, AskedOne, HandedAll, ReadOne, nothing_asked};
+ghost use Rattle.dap_end.specs.Asking.{AreAlike, AskingValue, AskingPast, HasAsked, HasDone, AskedOne, HandedAll, ReadOne, nothing_asked};
 ghost use Rattle.dap_end.specs.Headline.{Written, ServingEvent, Came, GoesOn, Again, Acks, Runs, RunsFrom, AreCalls, Promises, numbered};
 ghost use Rattle.dap_end.specs.Hearing as hearing;
 ghost use Rattle.dap_end.specs.Hearing.{AskingEvent, AskingRuns, AskingRunsFrom, AreAskingCalls, AskingPromises, requests_in};
@@ -70,6 +75,8 @@ pub fn calls_are_runs()
         } ∷ []) }
     ensures go_on { (old new : ServingValue) (out all : List (List ℕ))
         → serving.WentOn old new out all → AreCalls old (GoesOn ∷ []) new out all }
+    ensures halted { (old new : ServingValue) (out all : List (List ℕ)) (f : TheFault)
+        → serving.GoOnFault old new out all f → AreCalls old (GoesOn ∷ []) new out all }
     ensures take { (old new : ServingValue) (bytes : List ℕ) (got : TheGot) (out all : List (List ℕ))
         → serving.TookAll old new bytes got out all
         → (events : List ServingEvent) × AreCalls old (Came bytes ∷ events) new out all }
@@ -126,33 +133,68 @@ pub fn asking_calls_are_runs()
         → asking.Refused old new bytes f → AskingRuns old (hearing.Came bytes ∷ []) new [] [] }
 {}
 
-/// Serving one more message leaves one end, by what the end did before. Own.
+/// Whatever an end that serves is called to do by itself leaves one end, and writes one list of packets, by what the end did
+/// before: also where it is refused half-way, but for want of memory. Own.
 pub fn serving_is_determined()
-    ensures { (past : Past) (old one two : ServingValue) (n m : ℕ) → IsAfter past old
+    ensures serve { (past : Past) (old one two : ServingValue) (n m : ℕ) → IsAfter past old
         → ServedOne old one n → ServedOne old two m → (one ≡ two) × (n ≡ m) }
+    ensures serve_all { (past : Past) (old one two : ServingValue)
+        (r s : Result (Unit {0}) TheFault) → IsAfter past old → r ≢ Err fault.NoMemory
+        → s ≢ Err fault.NoMemory → serving.ServesAll old one r → serving.ServesAll old two s
+        → (one ≡ two) × (r ≡ s) }
+    ensures go_on { (past : Past) (old one two : ServingValue) (out xs ys : List (List ℕ))
+        (r s : Result (Unit {0}) TheFault) → IsAfter past old → r ≢ Err fault.NoMemory
+        → s ≢ Err fault.NoMemory → serving.GoesOn old one out xs r
+        → serving.GoesOn old two out ys s → (one ≡ two) × (r ≡ s) × (xs ≡ ys) }
 {}
 
-/// A request that is asked, and an answer that is read, leave one end and one report, by what the end did before. Own.
+/// A request that is asked, an answer that is read, and whatever an end that asks does by itself leave one end, one list of
+/// reports and one of packets, by what the end did before: also where it is refused half-way, but for want of memory. Own.
 pub fn asking_is_determined()
     ensures ask { (past : AskingPast) (request : TheRequest) (old one two : AskingValue) (n m : ℕ)
         → HasAsked past old → AskedOne request old one n → AskedOne request old two m
         → (one ≡ two) × (n ≡ m) }
     ensures read { (past : AskingPast) (old one two : AskingValue) (r s : Option TheReport)
         → HasAsked past old → ReadOne old one r → ReadOne old two s → (one ≡ two) × (r ≡ s) }
+    ensures read_all { (old other one two : AskingValue) (before rs ss : List TheReport)
+        (r s : Result (Unit {0}) TheReadFault) → HasDone old → AreAlike old other
+        → r ≢ Err read_fault.NoMemory → s ≢ Err read_fault.NoMemory
+        → asking.ReadsAll old one before rs r → asking.ReadsAll other two before ss s
+        → AreAlike one two × (r ≡ s) × (rs ≡ ss) × HasDone one }
+    ensures go_on { (old other one two : AskingValue) (out xs ys : List (List ℕ))
+        (before rs ss : List TheReport) (r s : Result (Unit {0}) TheEndFault) → HasDone old
+        → AreAlike old other → went_wanting r ≡ false → went_wanting s ≡ false
+        → asking.GoesOn old one out xs before rs r → asking.GoesOn other two out ys before ss s
+        → AreAlike one two × (r ≡ s) × (xs ≡ ys) × (rs ≡ ss) × HasDone one }
 {}
 
-/// A packet that is taken whole leaves one end, and is answered by one list of packets, and of reports, by what the end did
-/// before. Own.
+/// A packet that is taken in leaves one end, and is answered by one list of packets, and of reports, by what the end did
+/// before; so is one that is refused, or of which not all is done, but for want of memory. Own.
 pub fn taking_is_determined()
-    ensures serving { (past : Past) (old one two : ServingValue) (bytes : List ℕ) (got other : TheGot)
-        (out xs ys : List (List ℕ)) → IsAfter past old
-        → serving.TookAll old one bytes got out xs → serving.TookAll old two bytes other out ys
-        → (one ≡ two) × (got ≡ other) × (xs ≡ ys) }
-    ensures asking { (past : AskingPast) (old one two : AskingValue) (bytes : List ℕ)
-        (got other : TheGot) (out xs ys : List (List ℕ)) (before rs ss : List TheReport)
-        → HasAsked past old → asking.TookAll old one bytes got out xs before rs
-        → asking.TookAll old two bytes other out ys before ss
-        → (one ≡ two) × (got ≡ other) × (xs ≡ ys) × (rs ≡ ss) }
+    ensures serving { (past : Past) (old one two : ServingValue) (bytes : List ℕ)
+        (out xs ys : List (List ℕ)) (r s : Result TheGot TheTakeFault) → AreBytes bytes
+        → IsAfter past old → took_wanting r ≡ false → took_wanting s ≡ false
+        → serving.Takes old one bytes out xs r → serving.Takes old two bytes out ys s
+        → (one ≡ two) × (r ≡ s) × (xs ≡ ys) }
+    ensures asking { (old other one two : AskingValue) (bytes : List ℕ)
+        (out xs ys : List (List ℕ)) (before rs ss : List TheReport)
+        (r s : Result TheGot TheTakeFault) → AreBytes bytes → HasDone old → AreAlike old other
+        → took_wanting r ≡ false → took_wanting s ≡ false
+        → asking.Takes old one bytes out xs before rs r
+        → asking.Takes other two bytes out ys before ss s
+        → AreAlike one two × (r ≡ s) × (xs ≡ ys) × (rs ≡ ss) × HasDone one }
+{}
+
+/// What is handed over is handed over or refused by what waits, want of memory aside. Own.
+pub fn posting_is_determined()
+    ensures one { (old one two : ServingValue) (n m : ℕ) → PostedAll old one n → PostedAll old two m
+        → (one ≡ two) × (n ≡ m) }
+    ensures apart { (old new : ServingValue) (n : ℕ) (f : TheFault) → f ≢ fault.NoMemory
+        → PostedAll old new n → SendAllFault old.port.link old.port.outbox f → ⊥ }
+    ensures asking { (old new : AskingValue) (n : ℕ) (f : TheFault) → f ≢ fault.NoMemory
+        → HandedAll old new n → SendAllFault old.port.link old.port.outbox f → ⊥ }
+    ensures why { (old : PortValue) (f g : TheFault) → f ≢ fault.NoMemory → g ≢ fault.NoMemory
+        → SendAllFault old.link old.outbox f → SendAllFault old.link old.outbox g → f ≡ g }
 {}
 
 /// Whatever bytes come to an end of which nothing was asked, and whatever is asked of it, up to the first answer that has no

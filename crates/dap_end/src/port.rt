@@ -56,7 +56,9 @@ impl Port {
         ensures receives { Receives self.old.link self.new.link packet.now result }
         ensures kept { IsPort self.old → IsPort self.new }
     {
-        self.link.receive(packet)
+        let received = self.link.receive(packet);
+        let _ = self.link.unacked();
+        received
     }
 
     // Whether a segment came, and was taken or is held.

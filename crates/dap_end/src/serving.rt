@@ -10,12 +10,12 @@ ghost use Rattle.nsp_link.specs.Sending.{NextFault, SendAllFault, WritesSent, ac
 ghost use Rattle.nsp_link.specs.declared.fault.LinkFault.TheVariants.{Failed, NoSuchSegment, MessageTooLong};
 ghost use Rattle.nsp_link.specs.declared.fault.LinkFault.TheVariants as fault;
 ghost use Rattle.dap_accessed.specs.Groups.{After};
-ghost use Rattle.dap_accessed.specs.Adding.{with_new_file, with_record};
-ghost use Rattle.dap_end.specs.Ports.{new_port};
+ghost use Rattle.dap_accessed.specs.Adding.{MayAdd, MayAddRecord, with_new_file, with_record};
+ghost use Rattle.dap_end.specs.Ports.{HasCome, new_port};
 ghost use Rattle.dap_end.specs.Receiving.{Receives};
 ghost use Rattle.dap_end.specs.Writing.{WroteNext};
 ghost use Rattle.dap_end.specs.Serving.{Past, IsAfter, IsStill, NotAdded, NotStored, IsGiven, MayServe, ServedOne, PostedAll, nothing_yet};
-ghost use Rattle.dap_end.specs.Taking.{ServedMore, IsServed, ServeFault, GoOnFault, WentOn, IsDone, TookAll, NotTaken, with_port, received};
+ghost use Rattle.dap_end.specs.Taking.{ServedUp, IsServed, ServeFault, GoOnFault, WentOn, IsDone, TookAll, NotTaken, with_port, received};
 ghost use Rattle.dap_end.specs.Inner.Answered.{ServedAndAnswered, ServedPart};
 ghost use Rattle.dap_end.specs.Inner.Kept.{IsPort};
 ghost use Rattle.dap_end.specs.Inner.ServingView.{serving_of};
@@ -88,6 +88,7 @@ impl ServingEnd {
         ensures ok { OnOk result (IsAfter (nothing_yet self.old.accessed.files) self.new
             × (self.new.port ≡ new_port setup)
             × (self.new.accessed.own ≡ self.old.accessed.own)) }
+        ensures setup { OnOk result (IsSetup setup) }
         ensures err { IfErr result (λ f. (self.new ≡ self.old) × SetupFault setup f) }
     {
         let port = Port::new(alloc, setup)?;
@@ -102,10 +103,13 @@ impl ServingEnd {
     /// Refusals in order: Busy, FileExists, NoMemory; each leaves the end unchanged.
     pub fn add(&mut self, name: &[u8], shape: Shape) -> Result<(), AddFault>
         requires { IsTrue (is_shape shape) }
+        ensures idle { OnOk result (HasCome self.old.port → ⊥) }
+        ensures may { OnOk result (MayAdd self.old.accessed name.now) }
         ensures files { OnOk result (self.new.accessed.files
             ≡ with_new_file name.now shape self.old.accessed.files) }
         ensures given { OnOk result (IsGiven self.old self.new) }
         ensures port { self.new.port ≡ self.old.port }
+        ensures own { self.new.accessed.own ≡ self.old.accessed.own }
         ensures refused { IfErr result (λ f. NotAdded self.old name.now f) }
         ensures unchanged { OnErr result (self.new ≡ self.old) }
     {
@@ -121,10 +125,13 @@ impl ServingEnd {
     /// Refusals in order: Busy, NoFile; as of a PUT with this number BadLength, NumberOutOfRange, RecordExists;
     /// NoMemory. Each leaves the end unchanged.
     pub fn add_record(&mut self, number: u32, body: &[u8]) -> Result<(), AddFault>
+        ensures idle { OnOk result (HasCome self.old.port → ⊥) }
+        ensures may { OnOk result (MayAddRecord self.old.accessed number body.now) }
         ensures files { OnOk result (self.new.accessed.files
             ≡ with_record number body.now self.old.accessed.files) }
         ensures given { OnOk result (IsGiven self.old self.new) }
         ensures port { self.new.port ≡ self.old.port }
+        ensures own { self.new.accessed.own ≡ self.old.accessed.own }
         ensures refused { IfErr result (λ f. NotStored self.old number body.now f) }
         ensures unchanged { OnErr result (self.new ≡ self.old) }
     {
@@ -185,10 +192,10 @@ impl ServingEnd {
     /// Serves all that came, and hands each group of answers to the link (own). Refused as `post` and `serve` are. What
     /// was served and handed over before that stays so, and the same call goes on.
     pub fn serve_all(&mut self) -> Result<(), LinkFault>
-        ensures more { ServedMore self.old self.new }
+        ensures ok { OnOk result (ServedUp self.old self.new) }
         ensures all { OnOk result (IsServed self.new) }
         ensures works { OnOk result (self.new.port.link.failed ≡ false) }
-        ensures err { IfErr result (ServeFault self.new) }
+        ensures err { IfErr result (ServeFault self.old self.new) }
     {
         'messages: loop {
             match self.post() {
@@ -206,9 +213,11 @@ impl ServingEnd {
     /// as the window allows, behind the packets in `out` (own). Refused as `post` is, or for want of memory. What was done
     /// before that stays done, and the same call goes on.
     pub fn go_on(&mut self, out: &mut Vec<Vec<u8>>) -> Result<(), LinkFault>
-        ensures went { WentOn self.old self.new (bodies out.old.items) (bodies out.new.items) }
+        ensures ok { OnOk result (WentOn self.old self.new (bodies out.old.items)
+            (bodies out.new.items)) }
         ensures all { OnOk result (IsDone self.new) }
-        ensures err { IfErr result (GoOnFault self.new) }
+        ensures err { IfErr result (GoOnFault self.old self.new (bodies out.old.items)
+            (bodies out.new.items)) }
     {
         match self.serve_all() {
             Ok(()) => self.port.emit_all(out),

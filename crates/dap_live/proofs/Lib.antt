@@ -1,4 +1,8 @@
 mod AgainLemmas
 mod LeftLemmas
+pub mod OneLine
+pub mod OneServing
+pub mod OneAsking
 mod ReachLemmas
 mod ResultLemmas
+pub mod ForCallers

@@ -4,6 +4,8 @@ use Rattle.dap_accessing.specs.declared.report.Report.{Report}
 use Rattle.dap_accessing.specs.Request.{Request}
 use Rattle.linewise.specs.declared.talking.Became.{Became}
 use Rattle.linewise.specs.declared.talking.Became.TheVariants.{Done}
+use Rattle.dap_live.specs.declared.asking.Came.{Came}
+use Rattle.dap_live.specs.declared.asking.Came.TheVariants.{Told}
 use Rattle.dap_end.specs.Serving.{ServingValue}
 use Rattle.dap_end.specs.Asking.{AskingValue}
 use Rattle.dap_live.specs.declared.orders.Order.TheVariants as order
@@ -21,14 +23,14 @@ pub reaches_packet : (old : Serving) (bytes : List ℕ) (end : ServingValue)
 reaches_packet old bytes end (inl same) = inl (ap (λ e. record old { end = e }) same)
 reaches_packet old bytes end (inr done) = inr (done.0, done.1, (refl, done.2))
 
-pub asks_running : (failed : Bool) → failed ≡ false → (old : Asking) (request : Request) (new : Asking) (said : List ℕ) (became : Became)
-    → AsksRunning old request new said became → Asks failed old request new said became
-asks_running false works old request new said became running = running
-asks_running true works old request new said became running = absurd (true≢false works)
+pub asks_running : (failed : Bool) → failed ≡ false → (old : Asking) (request : Request) (new : Asking) (said : List ℕ) (came : Came)
+    → AsksRunning old request new said came → Asks failed old request new said came
+asks_running false works old request new said came running = running
+asks_running true works old request new said came running = absurd (true≢false works)
 
 pub asks_reached : (failed : Bool) → failed ≡ false → (old : Asking) (request : Request) (new : Asking)
-    → ((new ≡ old) ⊎ ((said : List ℕ) × (became : Became) × AsksRunning old request new said became))
-    → (new ≡ old) ⊎ ((said : List ℕ) × (became : Became) × Asks failed old request new said became)
+    → ((new ≡ old) ⊎ ((said : List ℕ) × (came : Came) × AsksRunning old request new said came))
+    → (new ≡ old) ⊎ ((said : List ℕ) × (came : Came) × Asks failed old request new said came)
 asks_reached failed works old request new (inl same) = inl same
 asks_reached failed works old request new (inr done) = inr (done.0, done.1, asks_running failed works old request new done.0 done.1 done.2)
 
@@ -39,13 +41,13 @@ pub serving_goes : (left : Bool) → left ≡ true → (old : ServingValue) (fro
 serving_goes true some old front new said became goes = goes
 serving_goes false some old front new said became goes = absurd (true≢false (sym some))
 
-pub asking_goes : (left : Bool) → left ≡ true → (old : AskingValue) (before : List Report) (front : List ℕ) (new : Asking) (said : List ℕ) (became : Became)
-    → asking.GoesOn old before front new said became → asking.GoesOnIf left old before front new said became
-asking_goes true some old before front new said became goes = goes
-asking_goes false some old before front new said became goes = absurd (true≢false (sym some))
+pub asking_goes : (left : Bool) → left ≡ true → (old : AskingValue) (before : List Report) (front : List ℕ) (new : Asking) (said : List ℕ) (came : Came)
+    → asking.GoesOn old before front new said came → asking.GoesOnIf left old before front new said came
+asking_goes true some old before front new said came goes = goes
+asking_goes false some old before front new said came goes = absurd (true≢false (sym some))
 
 pub asking_stays : (left : Bool) → left ≡ false → (old : Asking) (front : List ℕ)
-    → asking.GoesOnIf left old.end old.reports.items front old (front ++ reports_text old.reports.items) Done
+    → asking.GoesOnIf left old.end old.reports.items front old (front ++ reports_text old.reports.items) (Told Done)
 asking_stays false none old front = (refl, refl, refl, refl)
 asking_stays true none old front = absurd (true≢false none)
 
@@ -62,14 +64,14 @@ pub serving_reached : (failed : Bool) → failed ≡ false → (old new : Servin
 serving_reached failed works old new (inl same) = inl same
 serving_reached failed works old new (inr done) = inr (done.0, done.1, serving_runs failed works old new done.0 done.1 done.2)
 
-asking_runs : (failed : Bool) → failed ≡ false → (old new : Asking) (said : List ℕ) (became : Became)
-    → asking.ResendsRunning old new said became → asking.Resends failed old new said became
-asking_runs false works old new said became running = running
-asking_runs true works old new said became running = absurd (true≢false works)
+asking_runs : (failed : Bool) → failed ≡ false → (old new : Asking) (said : List ℕ) (came : Came)
+    → asking.ResendsRunning old new said came → asking.Resends failed old new said came
+asking_runs false works old new said came running = running
+asking_runs true works old new said came running = absurd (true≢false works)
 
 pub asking_reached : (failed : Bool) → failed ≡ false → (old new : Asking)
-    → ((new ≡ old) ⊎ ((said : List ℕ) × (became : Became) × asking.ResendsRunning old new said became))
-    → (new ≡ old) ⊎ ((said : List ℕ) × (became : Became) × asking.Resends failed old new said became)
+    → ((new ≡ old) ⊎ ((said : List ℕ) × (came : Came) × asking.ResendsRunning old new said came))
+    → (new ≡ old) ⊎ ((said : List ℕ) × (came : Came) × asking.Resends failed old new said came)
 asking_reached failed works old new (inl same) = inl same
 asking_reached failed works old new (inr done) = inr (done.0, done.1, asking_runs failed works old new done.0 done.1 done.2)
 

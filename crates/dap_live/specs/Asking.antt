@@ -5,7 +5,7 @@ use Rattle.std.specs.Fmt.{decimal}
 use Rattle.nsp_link.specs.declared.link.Got.{Got}
 use Rattle.nsp_link.specs.declared.fault.LinkFault.{LinkFault}
 use Rattle.nsp_link.specs.declared.fault.LinkFault.TheVariants.{Failed}
-use Rattle.nsp_link.specs.Link.{SetupFault}
+use Rattle.nsp_link.specs.Link.{IsSetup, SetupFault}
 use Rattle.dap_accessing.specs.Request.{Request}
 use Rattle.dap_accessing.specs.declared.report.Report.{Report}
 use Rattle.dap_accessing.specs.declared.fault.AskFault.{AskFault}
@@ -13,12 +13,14 @@ use Rattle.dap_accessing.specs.declared.fault.AskFault.TheVariants.{Busy}
 use Rattle.dap_accessing.specs.Calls.{AskRefused}
 use Rattle.dap_end.specs.declared.fault.EndFault.{EndFault}
 use Rattle.dap_end.specs.declared.fault.TakeFault.{TakeFault}
+use Rattle.dap_end.specs.declared.fault.TakeFault.TheVariants as take
 use Rattle.dap_end.specs.Ports.{new_port}
-use Rattle.dap_end.specs.Writing.{IsFull}
-use Rattle.dap_end.specs.Asking.{AskingValue, AskedOne, GoOnFault, HasAsked, NotTaken, TookAll, WentOn, nothing_asked}
+use Rattle.dap_end.specs.Asking.{AskingValue, AskedOne, GoesOn as Went, HasAsked, Takes, nothing_asked}
 use Rattle.linewise.specs.declared.talking.Became.{Became}
 use Rattle.linewise.specs.declared.talking.Became.TheVariants.{Done, BadLine, NoMemory}
 use Rattle.dap_live.specs.declared.asking.Asking.{Asking}
+use Rattle.dap_live.specs.declared.asking.Came.{Came}
+use Rattle.dap_live.specs.declared.asking.Came.TheVariants.{Told, Untold}
 use Rattle.dap_live.specs.declared.orders.Anew.{Anew}
 use Rattle.dap_live.specs.declared.orders.Order.{Order}
 use Rattle.dap_live.specs.declared.orders.Order.TheVariants as order
@@ -30,28 +32,24 @@ use Rattle.dap_live.specs.declared.asking.Front.TheVariants as front
 use Rattle.dap_text.specs.Text.{line_feed}
 use Rattle.dap_live.specs.Texts.{ask_became, ask_refusal, end_became, end_refusal, link_became, link_line, packets_text, refused_line, reports_text, taken_became, taken_text}
 
--- the reports were told, and none waits
-abbrev pub IsTold : Asking → Asking → Type 0
-IsTold old new = (new ≡ record old { reports = new.reports }) × (new.reports.items ≡ [])
-
 -- only the end moved, and reports came
 abbrev pub OnEnd : Asking → Asking → Type 0
 OnEnd old new = new ≡ record old { end = new.end; reports = new.reports }
 
 -- ---- A packet.
 
--- what taking it comes to, the packets that are written then, and the reports that wait to be told
-abbrev pub Took : AskingValue → List ℕ → AskingValue → List (List ℕ) → (before reports : List Report) → Result Got TakeFault → Type 0
-Took old bytes new packets before reports (Ok got) = TookAll old new bytes got [] packets before reports
-Took old bytes new packets before reports (Err f) = NotTaken old new bytes [] packets before reports f
+-- the answer has the reports, but where the link refused the packet
+abbrev pub came_by : Result Got TakeFault → Became → Came
+came_by (Err (take.Refused f)) became = Untold became
+came_by _ became = Told became
 
-pub record TakesPacket (old : Asking) (bytes : List ℕ) (new : Asking) (text : List ℕ) (became : Became) : Type 0 where
+pub record TakesPacket (old : Asking) (bytes : List ℕ) (new : Asking) (text : List ℕ) (came : Came) : Type 0 where
   pub rest : OnEnd old new
   pub taken : Result Got TakeFault
   pub packets : List (List ℕ)
-  pub took : Took old.end bytes new.end packets old.reports.items new.reports.items taken
+  pub took : Takes old.end new.end bytes [] packets old.reports.items new.reports.items taken
   pub says : text ≡ taken_text taken new.reports.items packets
-  pub ends : became ≡ taken_became taken
+  pub ends : came ≡ came_by taken (taken_became taken)
 
 -- ---- A request.
 
@@ -67,17 +65,13 @@ abbrev pub gone_became : Result (Unit {0}) EndFault → Became
 gone_became (Ok done) = Done
 gone_became (Err f) = end_became f
 
-abbrev pub Went : AskingValue → AskingValue → List (List ℕ) → (before reports : List Report) → Result (Unit {0}) EndFault → Type 0
-Went old new packets before reports (Ok done) = WentOn old new [] packets before reports × IsFull new.port.link
-Went old new packets before reports (Err f) = GoOnFault old new [] packets before reports f
-
 -- This is said first, and then what going on comes to.
-pub record GoesOn (old : AskingValue) (before : List Report) (front : List ℕ) (new : Asking) (text : List ℕ) (became : Became) : Type 0 where
+pub record GoesOn (old : AskingValue) (before : List Report) (front : List ℕ) (new : Asking) (text : List ℕ) (came : Came) : Type 0 where
   pub gone : Result (Unit {0}) EndFault
   pub packets : List (List ℕ)
-  pub went : Went old new.end packets before new.reports.items gone
+  pub went : Went old new.end [] packets before new.reports.items gone
   pub says : text ≡ front ++ (reports_text new.reports.items ++ (packets_text packets ++ gone_text gone))
-  pub ends : became ≡ gone_became gone
+  pub ends : came ≡ Told (gone_became gone)
 
 -- The end would do something by going on, memory aside. What came is read before what waits is handed over, and an end that
 -- an unexpected answer failed does nothing more.
@@ -85,39 +79,39 @@ abbrev pub goes_on : AskingValue → Bool
 goes_on end = not end.accessing.failed && (has_message end.port.link || is_left end.port.link end.port.outbox)
 
 -- it does, or the reports that wait are told alone
-abbrev pub GoesOnIf : (left : Bool) → AskingValue → (before : List Report) → (front : List ℕ) → Asking → List ℕ → Became → Type 0
-GoesOnIf true old before front new text became = GoesOn old before front new text became
-GoesOnIf false old before front new text became =
-    (new.end ≡ old) × (new.reports.items ≡ before) × (text ≡ front ++ reports_text before) × (became ≡ Done)
+abbrev pub GoesOnIf : (left : Bool) → AskingValue → (before : List Report) → (front : List ℕ) → Asking → List ℕ → Came → Type 0
+GoesOnIf true old before front new text came = GoesOn old before front new text came
+GoesOnIf false old before front new text came =
+    (new.end ≡ old) × (new.reports.items ≡ before) × (text ≡ front ++ reports_text before) × (came ≡ Told Done)
 
 -- behind the packets of all segments that aren't acknowledged
-abbrev pub ResendsRunning : Asking → Asking → List ℕ → Became → Type 0
-ResendsRunning old new text became = OnEnd old new × ((packets : List (List ℕ)) × AllAgain old.end.port.link packets
-    × GoesOnIf (goes_on old.end) old.end old.reports.items (packets_text packets) new text became)
+abbrev pub ResendsRunning : Asking → Asking → List ℕ → Came → Type 0
+ResendsRunning old new text came = OnEnd old new × ((packets : List (List ℕ)) × AllAgain old.end.port.link packets
+    × GoesOnIf (goes_on old.end) old.end old.reports.items (packets_text packets) new text came)
 
 -- nothing is sent on a link that has failed
-abbrev pub Resends : (failed : Bool) → Asking → Asking → List ℕ → Became → Type 0
-Resends true old new text became = (new ≡ old) × (text ≡ link_line Failed) × (became ≡ Done)
-Resends false old new text became = ResendsRunning old new text became
+abbrev pub Resends : (failed : Bool) → Asking → Asking → List ℕ → Came → Type 0
+Resends true old new text came = (new ≡ old) × (text ≡ link_line Failed) × (came ≡ Untold Done)
+Resends false old new text came = ResendsRunning old new text came
 
 -- it was asked, and its messages are on their way
-abbrev pub AsksIt : Asking → Request → Asking → List ℕ → Became → Type 0
-AsksIt old request new text became =
-    (count : ℕ) × (mid : AskingValue) × AskedOne request old.end mid count × GoesOn mid old.reports.items (front_text (Asked count)) new text became
+abbrev pub AsksIt : Asking → Request → Asking → List ℕ → Came → Type 0
+AsksIt old request new text came =
+    (count : ℕ) × (mid : AskingValue) × AskedOne request old.end mid count × GoesOn mid old.reports.items (front_text (Asked count)) new text came
 
 -- It wasn't. Where a report is due still, what is on its way goes on.
-abbrev pub AsksNot : Asking → Request → Asking → List ℕ → Became → AskFault → Type 0
-AsksNot old request new text became Busy = GoesOn old.end old.reports.items (front_text front.Busy) new text became
-AsksNot old request new text became f = (new ≡ old) × (text ≡ ask_refusal f) × (became ≡ ask_became f)
+abbrev pub AsksNot : Asking → Request → Asking → List ℕ → Came → AskFault → Type 0
+AsksNot old request new text came Busy = GoesOn old.end old.reports.items (front_text front.Busy) new text came
+AsksNot old request new text came f = (new ≡ old) × (text ≡ ask_refusal f) × (came ≡ Untold (ask_became f))
 
-abbrev pub AsksRunning : Asking → Request → Asking → List ℕ → Became → Type 0
-AsksRunning old request new text became = OnEnd old new × (AsksIt old request new text became
-    ⊎ ((f : AskFault) × AskRefused request old.end.accessing f × AsksNot old request new text became f))
+abbrev pub AsksRunning : Asking → Request → Asking → List ℕ → Came → Type 0
+AsksRunning old request new text came = OnEnd old new × (AsksIt old request new text came
+    ⊎ ((f : AskFault) × AskRefused request old.end.accessing f × AsksNot old request new text came f))
 
 -- nothing is asked on a link that has failed
-abbrev pub Asks : Bool → Asking → Request → Asking → List ℕ → Became → Type 0
-Asks true old request new text became = (new ≡ old) × (text ≡ link_line Failed) × (became ≡ Done)
-Asks false old request new text became = AsksRunning old request new text became
+abbrev pub Asks : Bool → Asking → Request → Asking → List ℕ → Came → Type 0
+Asks true old request new text came = (new ≡ old) × (text ≡ link_line Failed) × (came ≡ Untold Done)
+Asks false old request new text came = AsksRunning old request new text came
 
 -- ---- A new link.
 
@@ -127,52 +121,45 @@ pub record Renewed (old : Asking) (anew : Anew) (new : Asking) : Type 0 where
   pub port : new.end.port ≡ new_port (setup_anew old.setup anew)
   pub own : new.end.accessing.own ≡ old.end.accessing.own
   pub setup : new.setup ≡ setup_anew old.setup anew
+  pub good : IsSetup new.setup
   pub reports : new.reports.items ≡ []
 
-abbrev pub Renews : Asking → Anew → Asking → List ℕ → Became → Type 0
-Renews old anew new text became =
-    (Renewed old anew new × (text ≡ []) × (became ≡ Done))
-    ⊎ ((f : LinkFault) × SetupFault (setup_anew old.setup anew) f × (new ≡ old) × (text ≡ link_line f) × (became ≡ link_became f))
+abbrev pub Renews : Asking → Anew → Asking → List ℕ → Came → Type 0
+Renews old anew new text came =
+    (Renewed old anew new × (text ≡ []) × (came ≡ Untold Done))
+    ⊎ ((f : LinkFault) × SetupFault (setup_anew old.setup anew) f × (new ≡ old) × (text ≡ link_line f) × (came ≡ Untold (link_became f)))
 
 -- ---- A line.
 
 -- what is said where the end stays as it is
-abbrev pub Tells : Asking → Asking → Became → Type 0
-Tells old new became = (new ≡ old) × (became ≡ Done)
+abbrev pub Tells : Asking → Asking → Came → Type 0
+Tells old new came = (new ≡ old) × (came ≡ Untold Done)
 
-abbrev pub IsNone : Asking → Asking → List ℕ → Became → Type 0
-IsNone old new text became = (new ≡ old) × (text ≡ []) × (became ≡ BadLine)
+abbrev pub IsNone : Asking → Asking → List ℕ → Came → Type 0
+IsNone old new text came = (new ≡ old) × (text ≡ []) × (came ≡ Untold BadLine)
 
 -- what is done by a line that says this, and what is said
-abbrev pub Does : Asking → Order → Asking → List ℕ → Became → Type 0
-Does old (order.Packet bytes) new text became = TakesPacket old bytes new text became
-Does old order.Resend new text became = Resends old.end.port.link.failed old new text became
-Does old order.Ack new text became = Tells old new became × SaysAck old.end.port.link text
-Does old (order.New anew) new text became = Renews old anew new text became
-Does old (order.Ask request) new text became = Asks old.end.port.link.failed old request new text became
-Does old order.Files new text became = IsNone old new text became
-Does old (order.File file) new text became = IsNone old new text became
-Does old (order.Record r) new text became = IsNone old new text became
+abbrev pub Does : Asking → Order → Asking → List ℕ → Came → Type 0
+Does old (order.Packet bytes) new text came = TakesPacket old bytes new text came
+Does old order.Resend new text came = Resends old.end.port.link.failed old new text came
+Does old order.Ack new text came = Tells old new came × SaysAck old.end.port.link text
+Does old (order.New anew) new text came = Renews old anew new text came
+Does old (order.Ask request) new text came = Asks old.end.port.link.failed old request new text came
+Does old order.Files new text came = IsNone old new text came
+Does old (order.File file) new text came = IsNone old new text came
+Does old (order.Record r) new text came = IsNone old new text came
 
--- the answers to these have the reports, on a link that runs
-abbrev pub has_reports : (failed : Bool) → Order → Bool
-has_reports true o = false
-has_reports false (order.Packet bytes) = true
-has_reports false (order.Ask request) = true
-has_reports false order.Resend = true
-has_reports false _ = false
-
--- and then none waits
-abbrev pub TellsIf : Bool → Asking → Asking → Type 0
-TellsIf true old new = IsTold old new
-TellsIf false old new = new ≡ old
+-- where the answer has the reports, none waits; else they wait as before
+abbrev pub Ends : Came → Asking → Asking → Became → Type 0
+Ends (Told was) old new became = (new ≡ record old { reports = new.reports }) × (new.reports.items ≡ []) × (became ≡ was)
+Ends (Untold was) old new became = (new ≡ old) × (became ≡ was)
 
 abbrev pub DoesAll : Asking → Order → Asking → List ℕ → Became → Type 0
-DoesAll old o new text became = (mid : Asking) × Does old o mid text became × TellsIf (has_reports old.end.port.link.failed o) mid new
+DoesAll old o new text became = (mid : Asking) × (came : Came) × Does old o mid text came × Ends came mid new became
 
 -- it is done or it isn't, and nothing is said: its reports still wait
 abbrev pub Reaches : Asking → Order → Asking → Type 0
-Reaches old o new = (new ≡ old) ⊎ ((said : List ℕ) × (became : Became) × Does old o new said became)
+Reaches old o new = (new ≡ old) ⊎ ((said : List ℕ) × (came : Came) × Does old o new said came)
 
 -- Where memory is refused to the text, nothing is said but that.
 abbrev pub DoesOrder : Asking → Option Order → Asking → List ℕ → Became → Type 0

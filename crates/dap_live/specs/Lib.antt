@@ -3,4 +3,5 @@ pub mod Texts
 pub mod Sending
 pub mod Serving
 pub mod Asking
+pub mod OneText
 pub mod Inner

@@ -3,17 +3,17 @@ use Rattle.std.specs.Prelude.{◌≡◌, ◌⊎◌, ◌++◌, ℕ, Bool, true, f
 use Rattle.nsp_link.specs.declared.link.Got.{Got}
 use Rattle.nsp_link.specs.declared.fault.LinkFault.{LinkFault}
 use Rattle.nsp_link.specs.declared.fault.LinkFault.TheVariants.{Failed}
-use Rattle.nsp_link.specs.Link.{SetupFault}
+use Rattle.nsp_link.specs.Link.{IsSetup, SetupFault}
 use Rattle.rec_file.specs.declared.shapes.Shape.{Shape}
 use Rattle.rec_file.specs.Shapes.{checked_shape}
 use Rattle.dap_msg.specs.Codes.{stscode, reason_number}
 use Rattle.dap_msg.specs.declared.codes.Reason.TheVariants.{BadAttributes}
-use Rattle.dap_accessed.specs.Adding.{with_new_file, with_record}
+use Rattle.dap_accessed.specs.Adding.{MayAdd, MayAddRecord, with_new_file, with_record}
 use Rattle.dap_accessed.specs.declared.fault.AddFault.{AddFault}
 use Rattle.dap_end.specs.declared.fault.TakeFault.{TakeFault}
-use Rattle.dap_end.specs.Ports.{new_port}
+use Rattle.dap_end.specs.Ports.{HasCome, new_port}
 use Rattle.dap_end.specs.Serving.{ServingValue, IsAfter, IsGiven, NotAdded, NotStored, nothing_yet}
-use Rattle.dap_end.specs.Taking.{TookAll, NotTaken, WentOn, IsDone, GoOnFault}
+use Rattle.dap_end.specs.Taking.{GoesOn as Went, Takes}
 use Rattle.linewise.specs.declared.talking.Became.{Became}
 use Rattle.linewise.specs.declared.talking.Became.TheVariants.{Done, BadLine, NoMemory}
 use Rattle.dap_text.specs.declared.filed.FileLine.{FileLine}
@@ -29,24 +29,14 @@ use Rattle.dap_live.specs.Texts.{add_became, add_refusal, link_became, link_line
 
 -- ---- A packet.
 
--- what taking it comes to, and the packets that are written then
-abbrev pub Took : ServingValue → List ℕ → ServingValue → List (List ℕ) → Result Got TakeFault → Type 0
-Took old bytes new packets (Ok got) = TookAll old new bytes got [] packets
-Took old bytes new packets (Err f) = NotTaken old new bytes [] packets f
-
 pub record TakesPacket (old : ServingValue) (bytes : List ℕ) (new : ServingValue) (text : List ℕ) (became : Became) : Type 0 where
   pub taken : Result Got TakeFault
   pub packets : List (List ℕ)
-  pub took : Took old bytes new packets taken
+  pub took : Takes old new bytes [] packets taken
   pub says : text ≡ taken_text taken [] packets
   pub ends : became ≡ taken_became taken
 
 -- ---- Going on.
-
--- what going on comes to, and the packets that are written then
-abbrev pub Went : ServingValue → ServingValue → List (List ℕ) → Result (Unit {0}) LinkFault → Type 0
-Went old new packets (Ok done) = WentOn old new [] packets × IsDone new
-Went old new packets (Err f) = WentOn old new [] packets × GoOnFault new f
 
 abbrev pub gone_text : Result (Unit {0}) LinkFault → List ℕ
 gone_text (Ok done) = []
@@ -60,7 +50,7 @@ gone_became (Err f) = link_became f
 pub record GoesOn (old : ServingValue) (front : List ℕ) (new : ServingValue) (text : List ℕ) (became : Became) : Type 0 where
   pub gone : Result (Unit {0}) LinkFault
   pub packets : List (List ℕ)
-  pub went : Went old new packets gone
+  pub went : Went old new [] packets gone
   pub says : text ≡ front ++ (packets_text packets ++ gone_text gone)
   pub ends : became ≡ gone_became gone
 
@@ -87,6 +77,7 @@ pub record Renewed (old : Serving) (anew : Anew) (new : Serving) : Type 0 where
   pub port : new.end.port ≡ new_port (setup_anew old.setup anew)
   pub own : new.end.accessed.own ≡ old.end.accessed.own
   pub setup : new.setup ≡ setup_anew old.setup anew
+  pub good : IsSetup new.setup
 
 abbrev pub Renews : Serving → Anew → Serving → List ℕ → Became → Type 0
 Renews old anew new text became =
@@ -102,14 +93,16 @@ SaysWhy Why old new text became =
 
 -- one was added, and no packet moved
 pub record Added (old new : ServingValue) (text : List ℕ) (became : Became) : Type 0 where
+  pub idle : HasCome old.port → ⊥
   pub given : IsGiven old new
+  pub own : new.accessed.own ≡ old.accessed.own
   pub port : new.port ≡ old.port
   pub silent : text ≡ []
   pub ends : became ≡ Done
 
 abbrev pub AddsShaped : ServingValue → List ℕ → Shape → ServingValue → List ℕ → Became → Type 0
 AddsShaped old name shape new text became =
-    ((new.accessed.files ≡ with_new_file name shape old.accessed.files) × Added old new text became)
+    (MayAdd old.accessed name × (new.accessed.files ≡ with_new_file name shape old.accessed.files) × Added old new text became)
     ⊎ SaysWhy (NotAdded old name) old new text became
 
 -- where the attributes are none of a file, they are told before all else
@@ -120,7 +113,7 @@ AddsFile old file new text became = MatchOption (checked_shape file.org file.rfm
 
 abbrev pub AddsRecord : ServingValue → RecordLine → ServingValue → List ℕ → Became → Type 0
 AddsRecord old r new text became =
-    ((new.accessed.files ≡ with_record r.number r.body old.accessed.files) × Added old new text became)
+    (MayAddRecord old.accessed r.number r.body × (new.accessed.files ≡ with_record r.number r.body old.accessed.files) × Added old new text became)
     ⊎ SaysWhy (NotStored old r.number r.body) old new text became
 
 -- ---- A line.

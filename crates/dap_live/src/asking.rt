@@ -5,11 +5,11 @@ ghost use Rattle.dap_msg.specs.Exchange.{least_buffer};
 ghost use Rattle.dap_msg.specs.Blocked.{bodies};
 ghost use Rattle.nsp_link.specs.Link.{SetupFault};
 ghost use Rattle.dap_end.specs.Ports.{new_port};
-ghost use Rattle.dap_end.specs.Asking.{HasAsked, nothing_asked};
+ghost use Rattle.dap_end.specs.Asking.{GoesOn as Went, HasAsked, Takes, nothing_asked};
 ghost use Rattle.dap_text.specs.Adding.{Adds};
-ghost use Rattle.linewise.specs.declared.talking.Became.{Became as TheBecame};
+ghost use Rattle.dap_live.specs.declared.asking.Came.{Came as TheCame};
 ghost use Rattle.dap_live.specs.Texts.{packets_text, reports_text};
-ghost use Rattle.dap_live.specs.Asking.{Asks, AsksRunning, Does, DoesOrder, GoesOn, GoesOnIf, OnEnd, Reaches, Renews, Resends, ResendsRunning, TakesPacket, Took, TellsIf, Went, front_text, gone_became, gone_text, goes_on as goes_on_by, has_reports, is_behind as is_behind_by};
+ghost use Rattle.dap_live.specs.Asking.{Asks, AsksRunning, Does, DoesOrder, Ends, GoesOn, GoesOnIf, OnEnd, Reaches, Renews, Resends, ResendsRunning, TakesPacket, came_by, front_text, gone_became, gone_text, goes_on as goes_on_by, is_behind as is_behind_by};
 
 use crate::orders::{Anew, Order, read_order, set_up};
 use crate::sending::{has_message, is_left, push_again, say_ack, waits};
@@ -60,6 +60,15 @@ impl Asking {
     }
 }
 
+/// What an order came to.
+#[derive(Clone, Copy)]
+pub(crate) enum Came {
+    /// The answer has the reports.
+    Told(Became),
+    /// It hasn't.
+    Untold(Became),
+}
+
 /// Takes a packet, and goes on.
 fn take(
     end: &mut AskingEnd,
@@ -68,10 +77,20 @@ fn take(
     reports: &mut Vec<Report>,
 ) -> Result<Got, TakeFault>
     requires { packets.old.items ≡ [] }
-    ensures { Took end.old bytes.now end.new (bodies packets.new.items)
+    ensures { Takes end.old end.new bytes.now [] (bodies packets.new.items)
         reports.old.items reports.new.items result }
 {
     end.take(bytes, packets, reports)
+}
+
+/// The answer to a packet has the reports where the link took it.
+fn came_of(taken: Result<Got, TakeFault>, became: Became) -> Came
+    ensures { result ≡ came_by taken became }
+{
+    match taken {
+        Err(TakeFault::Refused(_)) => Came::Untold(became),
+        _ => Came::Told(became),
+    }
 }
 
 /// The answer to a packet.
@@ -79,16 +98,17 @@ fn take_packet(
     asking: &mut Asking,
     digits: &Text<'_>,
     text: &mut Vec<u8>,
-) -> Result<Became, AllocError>
+) -> Result<Came, AllocError>
     requires { text.old.items ≡ [] }
     ensures ok { IfOk result (TakesPacket asking.old digits.now asking.new text.new.items) }
-    ensures err { OnErr result ((asking.new ≡ asking.old) ⊎ ((said : List ℕ) × (became : TheBecame)
-        × TakesPacket asking.old digits.now asking.new said became)) }
+    ensures err { OnErr result ((asking.new ≡ asking.old) ⊎ ((said : List ℕ) × (came : TheCame)
+        × TakesPacket asking.old digits.now asking.new said came)) }
 {
     let bytes = digits.to_vec(asking.alloc)?;
     let mut packets = Vec::new(asking.alloc);
     let taken = take(&mut asking.end, &bytes, &mut packets, &mut asking.reports);
-    push_taken(text, taken, &asking.reports, &packets)
+    let became = push_taken(text, taken, &asking.reports, &packets)?;
+    Ok(came_of(taken, became))
 }
 
 /// Reads, hands over and writes what is left.
@@ -98,7 +118,7 @@ fn go_on(
     reports: &mut Vec<Report>,
 ) -> Result<(), EndFault>
     requires { packets.old.items ≡ [] }
-    ensures { Went end.old end.new (bodies packets.new.items)
+    ensures { Went end.old end.new [] (bodies packets.new.items)
         reports.old.items reports.new.items result }
 {
     end.go_on(packets, reports)
@@ -110,17 +130,18 @@ fn push_gone(
     gone: Result<(), EndFault>,
     reports: &Vec<Report>,
     packets: &Vec<Vec<u8>>,
-) -> Result<Became, AllocError>
+) -> Result<Came, AllocError>
     ensures text { OnOk result (Adds text.old text.new (reports_text reports.now.items
         ++ (packets_text (bodies packets.now.items) ++ gone_text gone))) }
-    ensures became { IfOk result (λ became. became ≡ gone_became gone) }
+    ensures came { IfOk result (λ came. came ≡ Came.Told (gone_became gone)) }
 {
     push_reports(text, reports)?;
     push_packets(text, packets)?;
-    match gone {
-        Ok(()) => Ok(Became::Done),
-        Err(fault) => push_end_refusal(text, fault),
-    }
+    let became = match gone {
+        Ok(()) => Became::Done,
+        Err(fault) => push_end_refusal(text, fault)?,
+    };
+    Ok(Came::Told(became))
 }
 
 /// What is said before what going on comes to.
@@ -145,13 +166,13 @@ fn push_front(text: &mut Vec<u8>, front: Front) -> Result<(), AllocError>
 }
 
 /// Goes on, and says what comes of it behind this.
-fn go_on_behind(asking: &mut Asking, front: Front, text: &mut Vec<u8>) -> Result<Became, AllocError>
+fn go_on_behind(asking: &mut Asking, front: Front, text: &mut Vec<u8>) -> Result<Came, AllocError>
     requires { text.old.items ≡ [] }
     ensures end { OnEnd asking.old asking.new }
     ensures ok { IfOk result (GoesOn asking.old.end asking.old.reports.items (front_text front)
         asking.new text.new.items) }
-    ensures err { OnErr result ((said : List ℕ) × (became : TheBecame)
-        × GoesOn asking.old.end asking.old.reports.items (front_text front) asking.new said became) }
+    ensures err { OnErr result ((said : List ℕ) × (came : TheCame)
+        × GoesOn asking.old.end asking.old.reports.items (front_text front) asking.new said came) }
 {
     let mut packets = Vec::new(asking.alloc);
     let gone = go_on(&mut asking.end, &mut packets, &mut asking.reports);
@@ -174,12 +195,12 @@ fn goes_on(end: &AskingEnd) -> bool
 }
 
 /// Goes on behind segments that are sent again, and says what comes of it behind their lines.
-fn go_on_again(asking: &mut Asking, text: &mut Vec<u8>) -> Result<Became, AllocError>
+fn go_on_again(asking: &mut Asking, text: &mut Vec<u8>) -> Result<Came, AllocError>
     ensures end { OnEnd asking.old asking.new }
     ensures ok { IfOk result (GoesOn asking.old.end asking.old.reports.items text.old.items
         asking.new text.new.items) }
-    ensures err { OnErr result ((said : List ℕ) × (became : TheBecame)
-        × GoesOn asking.old.end asking.old.reports.items text.old.items asking.new said became) }
+    ensures err { OnErr result ((said : List ℕ) × (came : TheCame)
+        × GoesOn asking.old.end asking.old.reports.items text.old.items asking.new said came) }
 {
     let mut packets = Vec::new(asking.alloc);
     let gone = go_on(&mut asking.end, &mut packets, &mut asking.reports);
@@ -187,43 +208,43 @@ fn go_on_again(asking: &mut Asking, text: &mut Vec<u8>) -> Result<Became, AllocE
 }
 
 /// Goes on where something is left, or tells the reports that wait.
-fn go_on_if_left(asking: &mut Asking, text: &mut Vec<u8>) -> Result<Became, AllocError>
+fn go_on_if_left(asking: &mut Asking, text: &mut Vec<u8>) -> Result<Came, AllocError>
     ensures end { OnEnd asking.old asking.new }
     ensures ok { IfOk result (GoesOnIf (goes_on_by asking.old.end) asking.old.end
         asking.old.reports.items text.old.items asking.new text.new.items) }
-    ensures err { OnErr result ((said : List ℕ) × (became : TheBecame)
+    ensures err { OnErr result ((said : List ℕ) × (came : TheCame)
         × GoesOnIf (goes_on_by asking.old.end) asking.old.end asking.old.reports.items
-        text.old.items asking.new said became) }
+        text.old.items asking.new said came) }
 {
     if goes_on(&asking.end) {
         go_on_again(asking, text)
     } else {
         push_reports(text, &asking.reports)?;
-        Ok(Became::Done)
+        Ok(Came::Told(Became::Done))
     }
 }
 
 /// Sends all segments again that aren't acknowledged, and goes on, on a link that runs.
-fn resend_running(asking: &mut Asking, text: &mut Vec<u8>) -> Result<Became, AllocError>
+fn resend_running(asking: &mut Asking, text: &mut Vec<u8>) -> Result<Came, AllocError>
     requires { text.old.items ≡ [] }
     ensures ok { IfOk result (ResendsRunning asking.old asking.new text.new.items) }
-    ensures err { OnErr result ((asking.new ≡ asking.old) ⊎ ((said : List ℕ) × (became : TheBecame)
-        × ResendsRunning asking.old asking.new said became)) }
+    ensures err { OnErr result ((asking.new ≡ asking.old) ⊎ ((said : List ℕ) × (came : TheCame)
+        × ResendsRunning asking.old asking.new said came)) }
 {
     push_again(asking.end.link(), text)?;
     go_on_if_left(asking, text)
 }
 
 /// Sends all segments again that aren't acknowledged, and goes on.
-fn resend(asking: &mut Asking, text: &mut Vec<u8>) -> Result<Became, AllocError>
+fn resend(asking: &mut Asking, text: &mut Vec<u8>) -> Result<Came, AllocError>
     requires { text.old.items ≡ [] }
     ensures ok { IfOk result (Resends asking.old.end.port.link.failed asking.old asking.new
         text.new.items) }
-    ensures err { OnErr result ((asking.new ≡ asking.old) ⊎ ((said : List ℕ) × (became : TheBecame)
-        × Resends asking.old.end.port.link.failed asking.old asking.new said became)) }
+    ensures err { OnErr result ((asking.new ≡ asking.old) ⊎ ((said : List ℕ) × (came : TheCame)
+        × Resends asking.old.end.port.link.failed asking.old asking.new said came)) }
 {
     if asking.end.link().has_failed() {
-        return push_link_refusal(text, LinkFault::Failed);
+        return Ok(Came::Untold(push_link_refusal(text, LinkFault::Failed)?));
     }
     resend_running(asking, text)
 }
@@ -233,36 +254,36 @@ fn ask_request(
     asking: &mut Asking,
     request: &Request,
     text: &mut Vec<u8>,
-) -> Result<Became, AllocError>
+) -> Result<Came, AllocError>
     requires { text.old.items ≡ [] }
     ensures ok { IfOk result (AsksRunning asking.old request.now asking.new text.new.items) }
-    ensures err { OnErr result ((asking.new ≡ asking.old) ⊎ ((said : List ℕ) × (became : TheBecame)
-        × AsksRunning asking.old request.now asking.new said became)) }
+    ensures err { OnErr result ((asking.new ≡ asking.old) ⊎ ((said : List ℕ) × (came : TheCame)
+        × AsksRunning asking.old request.now asking.new said came)) }
 {
     match asking.end.ask(request) {
         Ok(count) => go_on_behind(asking, Front::Asked(count), text),
         Err(AskFault::Busy) => go_on_behind(asking, Front::Busy, text),
-        Err(fault) => push_ask_refusal(text, fault),
+        Err(fault) => Ok(Came::Untold(push_ask_refusal(text, fault)?)),
     }
 }
 
 /// Asks what the words say.
-fn ask(asking: &mut Asking, wish: &Wish<'_>, text: &mut Vec<u8>) -> Result<Became, AllocError>
+fn ask(asking: &mut Asking, wish: &Wish<'_>, text: &mut Vec<u8>) -> Result<Came, AllocError>
     requires { text.old.items ≡ [] }
     ensures ok { IfOk result (Asks asking.old.end.port.link.failed asking.old wish.now asking.new
         text.new.items) }
-    ensures err { OnErr result ((asking.new ≡ asking.old) ⊎ ((said : List ℕ) × (became : TheBecame)
-        × Asks asking.old.end.port.link.failed asking.old wish.now asking.new said became)) }
+    ensures err { OnErr result ((asking.new ≡ asking.old) ⊎ ((said : List ℕ) × (came : TheCame)
+        × Asks asking.old.end.port.link.failed asking.old wish.now asking.new said came)) }
 {
     if asking.end.link().has_failed() {
-        return push_link_refusal(text, LinkFault::Failed);
+        return Ok(Came::Untold(push_link_refusal(text, LinkFault::Failed)?));
     }
     let request = wish.to_request(asking.alloc)?;
     ask_request(asking, &request, text)
 }
 
 /// Makes the link anew.
-fn renew(asking: &mut Asking, anew: Anew, text: &mut Vec<u8>) -> Result<Became, AllocError>
+fn renew(asking: &mut Asking, anew: Anew, text: &mut Vec<u8>) -> Result<Came, AllocError>
     requires { text.old.items ≡ [] }
     ensures ok { IfOk result (Renews asking.old anew asking.new text.new.items) }
     ensures err { OnErr result (asking.new ≡ asking.old) }
@@ -272,14 +293,14 @@ fn renew(asking: &mut Asking, anew: Anew, text: &mut Vec<u8>) -> Result<Became, 
         Ok(()) => {
             asking.setup = setup;
             asking.reports.clear();
-            Ok(Became::Done)
+            Ok(Came::Untold(Became::Done))
         }
-        Err(fault) => push_link_refusal(text, fault),
+        Err(fault) => Ok(Came::Untold(push_link_refusal(text, fault)?)),
     }
 }
 
 /// Does what a line says.
-fn act(asking: &mut Asking, order: Order<'_>, text: &mut Vec<u8>) -> Result<Became, AllocError>
+fn act(asking: &mut Asking, order: Order<'_>, text: &mut Vec<u8>) -> Result<Came, AllocError>
     requires { text.old.items ≡ [] }
     ensures ok { IfOk result (Does asking.old order.entry asking.new text.new.items) }
     ensures err { OnErr result (Reaches asking.old order.entry asking.new) }
@@ -288,25 +309,22 @@ fn act(asking: &mut Asking, order: Order<'_>, text: &mut Vec<u8>) -> Result<Beca
         Order::Packet(digits) => take_packet(asking, &digits, text),
         Order::Ask(wish) => ask(asking, &wish, text),
         Order::Resend => resend(asking, text),
-        Order::Ack => say_ack(asking.end.link(), text),
+        Order::Ack => Ok(Came::Untold(say_ack(asking.end.link(), text)?)),
         Order::New(anew) => renew(asking, anew, text),
-        Order::Files | Order::File(_) | Order::Record(_) => Ok(Became::BadLine),
+        Order::Files | Order::File(_) | Order::Record(_) => Ok(Came::Untold(Became::BadLine)),
     }
 }
 
-/// Whether the answer has the reports.
-fn tells_reports(failed: bool, order: &Order<'_>) -> bool
-    ensures { result ≡ has_reports failed order.now }
+/// Where the answer has the reports, none waits.
+fn end_answer(asking: &mut Asking, came: Came) -> Became
+    ensures { Ends came asking.old asking.new result }
 {
-    !failed && matches!(order, Order::Packet(_) | Order::Ask(_) | Order::Resend)
-}
-
-/// The reports were told, where the answer has them.
-fn tell(asking: &mut Asking, has_reports: bool)
-    ensures { TellsIf has_reports asking.old asking.new }
-{
-    if has_reports {
-        asking.reports.clear();
+    match came {
+        Came::Told(became) => {
+            asking.reports.clear();
+            became
+        }
+        Came::Untold(became) => became,
     }
 }
 
@@ -315,12 +333,8 @@ fn answer_one(asking: &mut Asking, order: Order<'_>, text: &mut Vec<u8>) -> Beca
     requires { text.old.items ≡ [] }
     ensures { DoesOrder asking.old (Some order.entry) asking.new text.new.items result }
 {
-    let has_reports = tells_reports(asking.end.link().has_failed(), &order);
     match act(asking, order, text) {
-        Ok(became) => {
-            tell(asking, has_reports);
-            became
-        }
+        Ok(came) => end_answer(asking, came),
         Err(_) => {
             text.clear();
             Became::NoMemory

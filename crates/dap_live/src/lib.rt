@@ -3,11 +3,13 @@
 #![tactic(auto)]
 
 mod asking;
+mod laws;
 mod orders;
 mod sending;
 mod serving;
 mod texts;
 
 pub use asking::Asking;
+pub use laws::inputs_have_one_text;
 pub use orders::read_address;
 pub use serving::Serving;

@@ -6,13 +6,14 @@ ghost use Rattle.dap_msg.specs.Blocked.{bodies};
 ghost use Rattle.nsp_link.specs.Link.{SetupFault};
 ghost use Rattle.dap_end.specs.Ports.{new_port};
 ghost use Rattle.dap_end.specs.Serving.{IsAfter, nothing_yet};
+ghost use Rattle.dap_end.specs.Taking.{GoesOn as Went, Takes};
 ghost use Rattle.dap_text.specs.Adding.{Adds};
 ghost use Rattle.dap_text.specs.Tables.{files_text};
 ghost use Rattle.rec_file.specs.Shapes.{is_shape};
 ghost use Rattle.linewise.specs.declared.talking.Became.{Became as TheBecame};
 ghost use Rattle.dap_live.specs.Sending.{is_left as is_left_of};
 ghost use Rattle.dap_live.specs.Texts.{packets_text};
-ghost use Rattle.dap_live.specs.Serving.{AddsFile, AddsRecord, AddsShaped, Does, DoesOrder, GoesOn, GoesOnIf, Reaches, Renews, Resends, ResendsRunning, TakesPacket, Took, Went, gone_became, gone_text};
+ghost use Rattle.dap_live.specs.Serving.{AddsFile, AddsRecord, AddsShaped, Does, DoesOrder, GoesOn, GoesOnIf, Reaches, Renews, Resends, ResendsRunning, TakesPacket, gone_became, gone_text};
 
 use crate::orders::{Anew, Order, read_order, set_up};
 use crate::sending::{is_left, push_again, say_ack, waits};
@@ -53,7 +54,7 @@ impl Serving {
 /// Takes a packet, and goes on.
 fn take(end: &mut ServingEnd, bytes: &[u8], packets: &mut Vec<Vec<u8>>) -> Result<Got, TakeFault>
     requires { packets.old.items ≡ [] }
-    ensures { Took end.old bytes.now end.new (bodies packets.new.items) result }
+    ensures { Takes end.old end.new bytes.now [] (bodies packets.new.items) result }
 {
     end.take(bytes, packets)
 }
@@ -80,7 +81,7 @@ fn take_packet(
 /// Serves, hands over and writes what is left.
 fn go_on(end: &mut ServingEnd, packets: &mut Vec<Vec<u8>>) -> Result<(), LinkFault>
     requires { packets.old.items ≡ [] }
-    ensures { Went end.old end.new (bodies packets.new.items) result }
+    ensures { Went end.old end.new [] (bodies packets.new.items) result }
 {
     end.go_on(packets)
 }

@@ -83,6 +83,19 @@ pub data Talked {E : Type 0} (answered : Answering E) (waiting : E → ℕ) : E 
       → SaysTo answered waiting now (first_line rest) new more became
       → Talked answered waiting old input new (drop_through 10 rest) (said ++ more) (bad || is_bad became)
 
+-- no answer of the talk wants memory
+abbrev pub NeverWants : {E : Type 0} {answered : Answering E} {waiting : E → ℕ} {old new : E} {input rest text : List ℕ} {bad : Bool}
+    → Talked answered waiting old input new rest text bad → Type 0
+NeverWants Talked.begins = Unit {0}
+NeverWants (Talked.goes now rest said more bad became talked some says) = NeverWants talked × (became ≢ Some NoMemory)
+
+-- Two such talks of the same ends over one input have one text, and both had a bad line, or none.
+abbrev pub HaveOneText : {E : Type 0} → Answering E → (E → ℕ) → (AreSame : E → E → Type 0) → Type 0
+HaveOneText answered waiting AreSame =
+    (one other new end : _) (input text more : List ℕ) (bad worse : Bool) → AreSame one other
+    → (t : Talked answered waiting one input new [] text bad) (u : Talked answered waiting other input end [] more worse)
+    → NeverWants t → NeverWants u → (text ≡ more) × (bad ≡ worse)
+
 -- The writer failed at an answer, of which it holds a front behind those before it.
 pub record BreaksOff {E : Type 0} (answered : Answering E) (waiting : E → ℕ) (old : E) (input : List ℕ) (new : E) (written holds : Option (List ℕ)) : Type 0 where
   pub now : E

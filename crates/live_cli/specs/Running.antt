@@ -41,6 +41,13 @@ pub record IsNewAsking (o : Options) (a : Asking) : Type 0 where
   pub setup : a.setup ≡ setup_of o
   pub reports : a.reports.items ≡ []
 
+-- two of each
+abbrev pub AreNewServing : Options → Serving → Serving → Type 0
+AreNewServing o one other = IsNewServing o one × IsNewServing o other
+
+abbrev pub AreNewAsking : Options → Asking → Asking → Type 0
+AreNewAsking o one other = IsNewAsking o one × IsNewAsking o other
+
 -- the exit status of a conversation over all lines
 abbrev pub status_of : Bool → ℕ
 status_of true = 1

@@ -2,8 +2,10 @@
 //! with its messages joined, and the exit status.
 #![tactic(auto)]
 
+mod laws;
 mod running;
 mod words;
 
+pub use laws::inputs_have_one_text;
 pub use running::{run_options, run_words};
 pub use words::{Options, Role, Task};

@@ -10,11 +10,11 @@ use Rattle.dap_end.specs.declared.fault.EndFault.TheVariants as end_fault
 use Rattle.nsp_link.specs.declared.fault.LinkFault.{LinkFault}
 use Rattle.dap_end.specs.Writing.{AnsweredAll}
 use Rattle.dap_end.specs.Serving.{ServingValue, IsStill}
-use Rattle.dap_end.specs.Taking.{ServedMore, IsServed, ServeFault, WrotePart, with_port}
+use Rattle.dap_end.specs.Taking.{ServedUp, IsServed, ServeFault, WrotePart, with_port}
 
 pub record ServedAndAnswered (old new : ServingValue) (got : Got) (out all : List (List ℕ)) : Type 0 where
   pub served : ServingValue
-  pub more : ServedMore old served
+  pub more : ServedUp old served
   pub done : IsServed served
   pub rest : new ≡ with_port served new.port
   pub still : IsStill served new
@@ -22,7 +22,7 @@ pub record ServedAndAnswered (old new : ServingValue) (got : Got) (out all : Lis
 
 -- not all was served and handed over, or not all written
 abbrev pub ServedPart : (old new : ServingValue) → Got → (out all : List (List ℕ)) → LinkFault → Type 0
-ServedPart old new got out all f = (ServedMore old new × (all ≡ out) × ServeFault new f) ⊎ WrotePart old new got out all f
+ServedPart old new got out all f = (ServeFault old new f × (all ≡ out)) ⊎ WrotePart old new got out all f
 
 -- where it is wanted, one acknowledgement stands behind the packets that were there
 abbrev pub Acknowledged : PortValue → (wanted : Bool) → (out all : List (List ℕ)) → Type 0

@@ -1,6 +1,6 @@
 use Rattle.std.proofs.Common.{◌≡◌, ◌<◌, Some, sym, subst, refl, length}
 use Rattle.std.specs.Prelude.{slice_get}
-use Rattle.dap_accessing.specs.Calls.{Reads, ReadRefused}
+use Rattle.dap_accessing.specs.Calls.{Reads}
 use Rattle.dap_end.specs.Ports.{PortValue}
 use Rattle.dap_end.specs.Inner.AskingView.{asking_of}
 use Rattle.dap_end.proofs.ServingOne.{has_first, gone_is, place_there}

@@ -1,4 +1,4 @@
-use Rattle.dap_end.proofs.Alike.{asking_one, reading_one}
+use Rattle.dap_end.proofs.Alike.{asking_one, reading_one, going_alike, reading_alike}
 use Rattle.dap_end.proofs.laws.asking_is_determined.Goals as goal
 
 pub returns-clause-ask : goal.returns-clause-ask
@@ -6,3 +6,9 @@ returns-clause-ask c = λ past request old one two n m h a b. asking_one past re
 
 pub returns-clause-read : goal.returns-clause-read
 returns-clause-read c = λ past old one two r s h a b. reading_one past old one two r s h a b
+
+pub returns-clause-go_on : goal.returns-clause-go_on
+returns-clause-go_on c = λ old other one two out xs ys before rs ss r s d like nr ns a b. going_alike old other one two out xs ys before rs ss r s d like nr ns a b
+
+pub returns-clause-read_all : goal.returns-clause-read_all
+returns-clause-read_all c = λ old other one two before rs ss r s d like nr ns a b. reading_alike old other one two before rs ss r s d like nr ns a b

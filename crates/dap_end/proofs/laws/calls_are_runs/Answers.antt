@@ -1,4 +1,4 @@
-use Rattle.dap_end.proofs.Running.{serving_is, posting_is, writing_is, again_is, ack_is, going_is, taking_is, part_is, refusing_is}
+use Rattle.dap_end.proofs.Running.{serving_is, posting_is, writing_is, again_is, ack_is, going_is, halting_is, taking_is, part_is, refusing_is}
 use Rattle.dap_end.proofs.laws.calls_are_runs.Goals as goal
 
 pub returns-clause-serve : goal.returns-clause-serve
@@ -18,6 +18,9 @@ returns-clause-ack c = λ v bytes s. ack_is v bytes s
 
 pub returns-clause-go_on : goal.returns-clause-go_on
 returns-clause-go_on c = λ old new out all w. going_is old new out all w
+
+pub returns-clause-halted : goal.returns-clause-halted
+returns-clause-halted c = λ old new out all f h. halting_is old new out all f h
 
 pub returns-clause-take : goal.returns-clause-take
 returns-clause-take c = λ old new bytes got out all t. taking_is old new bytes got out all t

@@ -1,7 +1,6 @@
-use Rattle.std.proofs.Common.{◌≡◌, ◌≤◌, ℕ, rules, refl, sym, ◌∙◌, ap, subst, length, arith}
+use Rattle.std.proofs.Common.{◌≡◌, rules, sym, ◌∙◌, subst, length}
 use Rattle.std.proofs.lemmas.List.{length-map}
 use Rattle.dap_msg.specs.Blocked.{bodies}
-use Rattle.dap_end.specs.Ports.{PortValue, gone_on}
 use Rattle.dap_end.specs.Inner.Kept.{IsPort}
 use Rattle.dap_end.specs.Inner.PortView.{port_view}
 use Rattle.dap_end.specs.Inner.ServingView.{serving_of}

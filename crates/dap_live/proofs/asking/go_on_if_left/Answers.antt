@@ -1,5 +1,6 @@
 use Rattle.std.proofs.Common.{sym, ◌∙◌, ◌++◌}
 use Rattle.linewise.specs.declared.talking.Became.TheVariants.{Done}
+use Rattle.dap_live.specs.declared.asking.Came.TheVariants.{Told}
 use Rattle.dap_live.specs.Texts.{reports_text}
 use Rattle.dap_live.proofs.ResultLemmas.{err_always, err_from}
 use Rattle.dap_live.proofs.ReachLemmas.{asking_goes, asking_stays}
@@ -9,7 +10,7 @@ pub returns-in_err-push_reports-clause-err : goal.returns-in_err-push_reports-cl
 returns-in_err-push_reports-clause-err c =
     err_always c.from_residual.result (
       c.args.text.now.items ++ reports_text c.args.asking.now.reports.items,
-      Done,
+      Told Done,
       asking_stays _ (sym c.goes_on.ensures ∙ c.if-goes_on.false) c.args.asking.now c.args.text.now.items,
     )
 

@@ -1,17 +1,18 @@
 use Rattle.std.proofs.Common.{refl, inr}
 use Rattle.dap_msg.specs.Blocked.{bodies}
 use Rattle.dap_live.specs.Texts.{taken_became, taken_text}
+use Rattle.dap_live.specs.Asking.{came_by}
 use Rattle.dap_live.proofs.ResultLemmas.{err_always}
 use Rattle.dap_live.proofs.asking.take_packet.Goals as goal
 
 -- what was done is done, also where it isn't told
-pub returns-clause-err : goal.returns-clause-err
-returns-clause-err c =
+pub returns-in_err-became-clause-err : goal.returns-in_err-became-clause-err
+returns-in_err-became-clause-err c =
     let taken = c.take-taken.result in
     let packets = bodies c.take-taken.new.packets.items in
-    err_always c.push_taken.result (inr (
+    err_always c.from_residual-in_err-became.result (inr (
       taken_text taken c.take-taken.new.reports.items packets,
-      taken_became taken,
+      came_by taken (taken_became taken),
       record {
         rest = refl;
         taken = taken;

@@ -1,4 +1,4 @@
-use Rattle.std.proofs.Common.{ℕ, ◌++◌, ◌∷◌, [], length-append, arith, sym}
+use Rattle.std.proofs.Common.{◌++◌, ◌∷◌, [], length-append, arith, sym}
 use Rattle.dap_live.proofs.AgainLemmas.{again_behind, adds_one}
 use Rattle.dap_live.proofs.sending.push_again.Goals as goal
 

@@ -1,12 +1,7 @@
-use Rattle.std.proofs.Common.{◌≡◌, subst, sym, inl, refl}
+use Rattle.std.proofs.Common.{subst, sym, inl, refl}
 use Rattle.dap_msg.specs.Blocked.{bodies}
-use Rattle.nsp_link.specs.Link.{MaySend}
-use Rattle.nsp_link.specs.declared.fault.LinkFault.TheVariants as fault
-use Rattle.dap_end.specs.Writing.{IsFull}
-use Rattle.dap_end.specs.Asking.{HeardAll, WentOn, GoOnFault}
+use Rattle.dap_end.specs.Asking.{HeardAll}
 use Rattle.dap_end.specs.Inner.AskingInside.{asking_view}
-use Rattle.dap_end.specs.Inner.AskingView.{asking_of}
-use Rattle.dap_end.specs.declared.fault.EndFault.TheVariants as end_fault
 use Rattle.dap_end.proofs.Asked.{went_on, went_part, ended_ok, ended_err, if_ok, if_err}
 use Rattle.dap_end.proofs.asking.AskingEnd.go_on.Goals as goal
 

@@ -1,5 +1,3 @@
-use Rattle.std.proofs.Common.{subst, sym, ap, ◌∙◌, ◌≡◌}
-use Rattle.dap_end.specs.Asking.{AskingValue}
 use Rattle.dap_end.proofs.Asked.{heard_only, works_after}
 use Rattle.dap_end.proofs.asking.AskingEnd.hear_all.Goals as goal
 

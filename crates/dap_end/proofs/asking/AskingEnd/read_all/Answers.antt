@@ -1,4 +1,4 @@
-use Rattle.std.proofs.Common.{◌≡◌, ◌++◌, ap, ◌∙◌}
+use Rattle.std.proofs.Common.{◌++◌, ap, ◌∙◌}
 use Rattle.std.specs.Prelude.{option_to_list}
 use Rattle.dap_end.proofs.Asked.{read_none, read_more}
 use Rattle.dap_end.proofs.asking.AskingEnd.read_all.Goals as goal

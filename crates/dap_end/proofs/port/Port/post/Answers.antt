@@ -1,4 +1,4 @@
-use Rattle.std.proofs.Common.{◌≡◌, refl, ap, sym, subst, List, ℕ}
+use Rattle.std.proofs.Common.{ap, sym, subst, List, ℕ}
 use Rattle.dap_msg.specs.Blocked.{bodies}
 use Rattle.nsp_link.specs.Sending.{SendAllFault, MayQueueAll}
 use Rattle.nsp_link.specs.Link.{LinkValue}

@@ -1,9 +1,8 @@
-use Rattle.std.proofs.Common.{refl, subst, sym, ap, []}
+use Rattle.std.proofs.Common.{refl, subst, sym, []}
 use Rattle.nsp_link.proofs.ForCallers.{sends_new}
 use Rattle.dap_end.specs.Ports.{PortValue}
 use Rattle.dap_end.specs.Serving.{IsAfter, nothing_yet}
 use Rattle.dap_end.specs.Inner.ServingView.{serving_of}
-use Rattle.dap_end.specs.Inner.ServingInside.{serving_view}
 use Rattle.dap_end.proofs.Going.{gone_nothing}
 use Rattle.dap_end.proofs.serving.ServingEnd.renew.Goals as goal
 

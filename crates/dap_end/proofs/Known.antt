@@ -1,0 +1,151 @@
+-- What an end that serves did, through its calls; and that it did nothing before a segment came.
+use Rattle.std.proofs.Common.{◌≡◌, ℕ, ◌<◌, arith, refl, sym, ◌∙◌, subst, ap, Bool, true, false, List, [], ◌∷◌, ◌++◌, length, inl, inr}
+use Rattle.std.specs.Prelude.{◌⊎◌, ◌==◌, Result, Ok, Err, nat_lt, if◌then◌else◌}
+use Rattle.nsp_seg.specs.Packets.{PacketValue, SegmentValue, segment, data_ack}
+use Rattle.nsp_link.specs.declared.link.Got.{Got}
+use Rattle.nsp_link.specs.declared.link.Got.TheVariants.{Accepted, Repeat, Early, AckOnly}
+use Rattle.nsp_link.specs.declared.fault.LinkFault.{LinkFault}
+use Rattle.nsp_link.specs.Cutting.{Piece}
+use Rattle.nsp_link.specs.Holding.{inserted}
+use Rattle.nsp_link.specs.Link.{LinkValue, coming, piece_of, failed_link}
+use Rattle.nsp_link.specs.Receiving.{Received, TakesSegment, run, closed, is_end}
+use Rattle.dap_end.specs.declared.fault.EndFault.TheVariants as end_fault
+use Rattle.dap_end.specs.declared.fault.TakeFault.{TakeFault}
+use Rattle.dap_end.specs.declared.fault.TakeFault.TheVariants as take_fault
+use Rattle.dap_end.specs.Ports.{PortValue, HasCome}
+use Rattle.dap_end.specs.Receiving.{ReceivedBytes, Receives}
+use Rattle.dap_end.specs.Writing.{sent_more}
+use Rattle.dap_end.specs.Serving.{ServingValue, Past, IsAfter, IsStill, ServedOne, PostedAll, nothing_yet, served}
+use Rattle.dap_end.specs.Taking.{ServedOn, begins, goes, ServedUp, ServeFault, WentOn, GoesOn, WrotePart, Takes, received}
+use Rattle.dap_end.proofs.Refusing.{taken_count}
+use Rattle.dap_end.proofs.Determined.{no_next}
+
+-- ---- A packet.
+
+-- a segment came, or nothing did
+abbrev Comes : LinkValue → LinkValue → Type 0
+Comes old new =
+    ((0 < new.received) ⊎ (0 < length new.held)) ⊎ ((new.received ≡ old.received) × (new.held ≡ old.held) × (new.inbox ≡ old.inbox))
+
+stays : (v : LinkValue) → Comes v v
+stays v = inr (refl, refl, refl)
+
+along : (old new other : LinkValue) → new ≡ other → Comes old other → Comes old new
+along old new other e h = subst (Comes old) (sym e) h
+
+inserted_some : (k : ℕ) (p : Piece) (held : List (ℕ × Piece)) → 0 < length (inserted k p held)
+unfolding inserted
+inserted_some k p [] = omega arith
+inserted_some k p (h ∷ held) =
+    elim (nat_lt k h.0) as (λ b. 0 < length (if b then (k, p) ∷ h ∷ held else if k == h.0 then h ∷ held else h ∷ inserted k p held)) [
+      | true ↦ omega arith
+      | false ↦ elim (k == h.0) as (λ b. 0 < length (if b then h ∷ held else h ∷ inserted k p held)) [ true ↦ omega arith | false ↦ omega arith ]
+    ]
+
+closed_comes : (v : LinkValue) (p : Piece) → Comes v (closed v p)
+closed_comes v p = inl (inl (omega (arith, taken_count (coming v) (run v p))))
+
+kept_comes : (v : LinkValue) (k : ℕ) (p : Piece) (near : Bool) → Comes v (if near then record v { held = inserted k p v.held } else v)
+kept_comes v k p true = inl (inr (inserted_some k p v.held))
+kept_comes v k p false = stays v
+
+stopped_comes : (v : LinkValue) (ends : Bool) → Comes v (if ends then failed_link v else v)
+stopped_comes v true = inr (refl, refl, refl)
+stopped_comes v false = stays v
+
+takes_comes : (old mid : LinkValue) (s : SegmentValue) (got : Got) → TakesSegment old s got mid → Comes old mid
+takes_comes old mid s Accepted h = along old mid _ h.2 (closed_comes old (piece_of s))
+takes_comes old mid s Early h = along old mid _ h.2 (kept_comes old _ (piece_of s) _)
+takes_comes old mid s Repeat h = along old mid old h.1 (stays old)
+takes_comes old mid s AckOnly h = absurd h
+
+received_comes : (old new : LinkValue) (p : PacketValue) (r : Result Got LinkFault) → Received old p r new → Comes old new
+received_comes old new (segment s) (Ok got) h =
+    let mid = h.1 in
+    let there : Comes old mid.0 = takes_comes old mid.0 s got mid.1 in
+    along old new _ mid.2.2 there
+received_comes old new (data_ack s) (Ok got) h = along old new _ h.2.2 (inr (refl, refl, refl))
+received_comes old new (segment s) (Err e) (inl h) = along old new old h.2 (stays old)
+received_comes old new (segment s) (Err e) (inr (_, inl h)) = along old new _ h.2 (stopped_comes old true)
+received_comes old new (segment s) (Err e) (inr (_, inr (inl h))) = along old new _ h.2.1 (stopped_comes old (is_end e))
+received_comes old new (segment s) (Err e) (inr (_, inr (inr h))) = along old new old h.4 (stays old)
+received_comes old new (data_ack s) (Err e) (inl h) = along old new old h.2 (stays old)
+received_comes old new (data_ack s) (Err e) (inr h) = along old new _ h.3 (stopped_comes old true)
+
+bytes_come : (old new : LinkValue) (bytes : List ℕ) (r : Result Got LinkFault) → ReceivedBytes old new bytes r → Comes old new
+bytes_come old new bytes r (inl h) = along old new old h.3 (stays old)
+bytes_come old new bytes r (inr h) = received_comes old new h.0 r h.2
+
+comes_by : (failed : Bool) (old new : LinkValue) (bytes : List ℕ) (r : Result Got LinkFault) → old.failed ≡ failed → Receives old new bytes r → Comes old new
+comes_by true old new bytes r e h = along old new old (h.failed e).1 (stays old)
+comes_by false old new bytes r e h = bytes_come old new bytes r (h.any e)
+
+-- ---- The end.
+
+-- the end is as after some past, in which it did nothing before a segment came
+abbrev pub IsKnown : ServingValue → Type 0
+IsKnown v = (past : Past) × IsAfter past v × (HasCome v.port ⊎ ((past ≡ nothing_yet past.first) × (v.port.link.inbox ≡ [])))
+
+known_by : (old : ServingValue) (link : LinkValue) → Comes old.port.link link → IsStill old (received old link) → IsKnown old → IsKnown (received old link)
+known_by old link (inl came) still (past, h, c) = (past, still past h, inl came)
+known_by old link (inr same) still (past, h, inl (inl lt)) = (past, still past h, inl (inl (subst (λ (n : ℕ). 0 < n) (sym same.0) lt)))
+known_by old link (inr same) still (past, h, inl (inr lt)) = (past, still past h, inl (inr (subst (λ (l : List (ℕ × Piece)). 0 < length l) (sym same.1) lt)))
+known_by old link (inr same) still (past, h, inr none) = (past, still past h, inr (none.0, same.2 ∙ none.1))
+
+known_in : (old : ServingValue) (link : LinkValue) (bytes : List ℕ) (r : Result Got LinkFault) → Receives old.port.link link bytes r → IsStill old (received old link) → IsKnown old → IsKnown (received old link)
+known_in old link bytes r h still k = known_by old link (comes_by old.port.link.failed old.port.link link bytes r refl h) still k
+
+posted_known : (v new : ServingValue) (n : ℕ) → PostedAll v new n → IsKnown v → IsKnown new
+posted_known v new n p (past, h, inl came) =
+    (record past { handed = past.handed ++ v.port.outbox }, p.past past h, inl (subst (λ (w : ServingValue). HasCome w.port) (sym p.posted) came))
+posted_known v new n p (past, h, inr none) =
+    let first = nothing_yet past.first in
+    let there : IsAfter first v = subst (λ (q : Past). IsAfter q v) none.0 h in
+    let outbox : v.port.outbox ≡ [] = there.answers in
+    let after : IsAfter first new = subst (λ (l : List (List ℕ)). IsAfter (record first { handed = l }) new) outbox (p.past first there) in
+    (first, after, inr (refl, ap (λ (w : ServingValue). w.port.link.inbox) p.posted ∙ none.1))
+
+served_known : (v new : ServingValue) (n : ℕ) → ServedOne v new n → IsKnown v → IsKnown new
+served_known v new n s (past, h, inl came) =
+    (served past s.bytes s.item s.next, s.past past h, inl (subst (λ (p : PortValue). HasCome p) (sym s.port) came))
+served_known v new n s (past, h, inr none) = absurd (no_next s.bytes s.later (sym none.1 ∙ s.came))
+
+on_known : (a b : ServingValue) → ServedOn a b → IsKnown a → IsKnown b
+on_known a b begins k = k
+on_known a b (goes p m count n x y on) k = on_known m b on (served_known p m n y (posted_known a p count x k))
+
+up_known : (a b : ServingValue) → ServedUp a b → IsKnown a → IsKnown b
+up_known a b u k = posted_known u.0 b u.1 u.3 (on_known a u.0 u.2 k)
+
+fault_known : (a b : ServingValue) (f : LinkFault) → ServeFault a b f → IsKnown a → IsKnown b
+fault_known a b f (inl h) k = on_known a b h.0 k
+fault_known a b f (inr h) k = up_known a b h.1 k
+
+wrote_known : (served new : ServingValue) (n : ℕ) → IsStill served new → new.port ≡ sent_more served.port n → IsKnown served → IsKnown new
+wrote_known served new n still sent (past, h, inl came) = (past, still past h, inl (subst (λ (p : PortValue). HasCome p) (sym sent) came))
+wrote_known served new n still sent (past, h, inr none) = (past, still past h, inr (none.0, ap (λ (p : PortValue). p.link.inbox) sent ∙ none.1))
+
+went_known : (old new : ServingValue) (out all : List (List ℕ)) → WentOn old new out all → IsKnown old → IsKnown new
+went_known old new out all w k = wrote_known w.served new _ w.still w.wrote.2.sent (up_known old w.served w.more k)
+
+pub going_known : (old new : ServingValue) (out all : List (List ℕ)) (r : Result (Unit {0}) LinkFault) → GoesOn old new out all r → IsKnown old → IsKnown new
+going_known old new out all (Ok u) h k = went_known old new out all h.0 k
+going_known old new out all (Err f) (inl h) k = fault_known old new f h.0 k
+going_known old new out all (Err f) (inr h) k = went_known old new out all h.1 k
+
+part_known : (mid new : ServingValue) (got : Got) (out all : List (List ℕ)) (f : LinkFault) → (ServeFault mid new f × (all ≡ out)) ⊎ WrotePart mid new got out all f → IsKnown mid → IsKnown new
+part_known mid new got out all f (inl h) k = fault_known mid new f h.0 k
+part_known mid new got out all f (inr h) k = wrote_known h.served new _ h.still h.part.wrote.sent (up_known mid h.served h.more k)
+
+pub taking_known : (old new : ServingValue) (bytes : List ℕ) (out all : List (List ℕ)) (r : Result Got TakeFault) → Takes old new bytes out all r → IsKnown old → IsKnown new
+taking_known old new bytes out all (Ok got) t k =
+    wrote_known t.served new _ t.still t.answered.2.wrote.sent (up_known (received old t.link) t.served t.more (known_in old t.link bytes (Ok got) t.took.receives t.took.still k))
+taking_known old new bytes out all (Err (take_fault.Refused f)) t k =
+    let still : IsStill old (received old t.link) = subst (IsStill old) t.new_is t.still in
+    subst IsKnown (sym t.new_is) (known_in old t.link bytes (Err f) t.receives still k)
+taking_known old new bytes out all (Err (take_fault.Unfinished got (end_fault.Link f))) t k =
+    part_known (received old t.link) new got out all f t.part (known_in old t.link bytes (Ok got) t.took.receives t.took.still k)
+taking_known old new bytes out all (Err (take_fault.Unfinished got (end_fault.Read f))) t k = absurd t
+
+pub new_known : (first : _) (v : ServingValue) → IsAfter (nothing_yet first) v → v.port.link.inbox ≡ [] → IsKnown v
+new_known first v h none = (nothing_yet first, h, inr (refl, none))

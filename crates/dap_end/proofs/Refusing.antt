@@ -1,0 +1,187 @@
+-- A packet is refused for one reason, and one that is taken isn't refused.
+use Rattle.std.proofs.Common.{◌≡◌, ℕ, ◌+◌, ◌≤◌, arith, refl, sym, ◌∙◌, subst, ap, Bool, true, false, List, [], ◌∷◌, length, inl, inr}
+use Rattle.std.specs.Prelude.{◌≢◌, Option, Result, Ok, Err}
+use Rattle.dap_fields.specs.Spelling.{AreBytes}
+use Rattle.nsp_seg.specs.declared.packet.SegFault.{SegFault}
+use Rattle.nsp_seg.specs.Packets.{PacketValue, SegmentValue, segment, data_ack}
+use Rattle.nsp_seg.proofs.ForCallers.{spells-one, spells-apart, fault-one}
+use Rattle.nsp_link.specs.declared.link.Got.{Got}
+use Rattle.nsp_link.specs.declared.link.Got.TheVariants.{Accepted, Repeat, Early, AckOnly}
+use Rattle.nsp_link.specs.declared.fault.LinkFault.{LinkFault}
+use Rattle.nsp_link.specs.declared.fault.LinkFault.TheVariants.{Malformed, BadSequence, MessageTooLong, Exhausted, NoMemory}
+use Rattle.nsp_link.specs.Cutting.{Piece}
+use Rattle.nsp_link.specs.Limits.{most_segments}
+use Rattle.nsp_link.specs.Coming.{Coming, taken, taken_all, FitsBehind, AllFit, Misfits, MisfitsOne, RefusesAll}
+use Rattle.nsp_link.specs.Link.{LinkValue, coming, first_ack, piece_of}
+use Rattle.nsp_link.specs.Receiving.{Received, TakesSegment, RefusesSegment, Acknowledges, forgotten, run, stopped}
+use Rattle.dap_end.specs.Receiving.{ReceivedBytes, Receives}
+
+-- ---- Segments that follow one another.
+
+one_apart : (limit : ℕ) (c : Coming) (p : Piece) (e : LinkFault) → Misfits limit c p e → FitsBehind limit c p → ⊥
+one_apart limit c p BadSequence m a = m a.0
+one_apart limit c p MessageTooLong m a = omega (arith, m.1, a.1)
+one_apart limit c p e m a = absurd m
+
+all_apart : (limit : ℕ) (c : Coming) (ps : List Piece) (e : LinkFault) → MisfitsOne limit c ps e → AllFit limit c ps → ⊥
+unfolding MisfitsOne AllFit
+all_apart limit c [] e m a = m
+all_apart limit c (p ∷ ps) e (inl m) a = one_apart limit c p e m a.0
+all_apart limit c (p ∷ ps) e (inr m) a = all_apart limit (taken c p) ps e m.1 a.1
+
+one_reason : (limit : ℕ) (c : Coming) (p : Piece) (e f : LinkFault) → Misfits limit c p e → Misfits limit c p f → e ≡ f
+one_reason limit c p BadSequence BadSequence m n = refl
+one_reason limit c p BadSequence MessageTooLong m n = absurd (m n.0)
+one_reason limit c p BadSequence f m n = absurd n
+one_reason limit c p MessageTooLong BadSequence m n = absurd (n m.0)
+one_reason limit c p MessageTooLong MessageTooLong m n = refl
+one_reason limit c p MessageTooLong f m n = absurd n
+one_reason limit c p e f m n = absurd m
+
+first_reason : (limit : ℕ) (c : Coming) (ps : List Piece) (e f : LinkFault) → MisfitsOne limit c ps e → MisfitsOne limit c ps f → e ≡ f
+unfolding MisfitsOne
+first_reason limit c [] e f m n = absurd m
+first_reason limit c (p ∷ ps) e f (inl m) (inl n) = one_reason limit c p e f m n
+first_reason limit c (p ∷ ps) e f (inl m) (inr n) = absurd (one_apart limit c p e m n.0)
+first_reason limit c (p ∷ ps) e f (inr m) (inl n) = absurd (one_apart limit c p f n m.0)
+first_reason limit c (p ∷ ps) e f (inr m) (inr n) = first_reason limit (taken c p) ps e f m.1 n.1
+
+refuses_one : (limit : ℕ) (c : Coming) (ps : List Piece) (e f : LinkFault) → e ≢ NoMemory → f ≢ NoMemory → RefusesAll limit c ps e → RefusesAll limit c ps f → e ≡ f
+refuses_one limit c ps BadSequence BadSequence ne nf a b = refl
+refuses_one limit c ps BadSequence MessageTooLong ne nf a b = first_reason limit c ps BadSequence MessageTooLong a b
+refuses_one limit c ps BadSequence Exhausted ne nf a b = absurd (all_apart limit c ps BadSequence a b.0)
+refuses_one limit c ps BadSequence NoMemory ne nf a b = absurd (nf refl)
+refuses_one limit c ps BadSequence f ne nf a b = absurd b
+refuses_one limit c ps MessageTooLong BadSequence ne nf a b = first_reason limit c ps MessageTooLong BadSequence a b
+refuses_one limit c ps MessageTooLong MessageTooLong ne nf a b = refl
+refuses_one limit c ps MessageTooLong Exhausted ne nf a b = absurd (all_apart limit c ps MessageTooLong a b.0)
+refuses_one limit c ps MessageTooLong NoMemory ne nf a b = absurd (nf refl)
+refuses_one limit c ps MessageTooLong f ne nf a b = absurd b
+refuses_one limit c ps Exhausted BadSequence ne nf a b = absurd (all_apart limit c ps BadSequence b a.0)
+refuses_one limit c ps Exhausted MessageTooLong ne nf a b = absurd (all_apart limit c ps MessageTooLong b a.0)
+refuses_one limit c ps Exhausted Exhausted ne nf a b = refl
+refuses_one limit c ps Exhausted NoMemory ne nf a b = absurd (nf refl)
+refuses_one limit c ps Exhausted f ne nf a b = absurd b
+refuses_one limit c ps NoMemory f ne nf a b = absurd (ne refl)
+refuses_one limit c ps e f ne nf a b = absurd a
+
+-- how many were taken then
+pub taken_count : (c : Coming) (ps : List Piece) → (taken_all c ps).received ≡ c.received + length ps
+unfolding taken_all
+taken_count c [] = omega arith
+taken_count c (p ∷ ps) = omega (arith, taken_count (taken c p) ps)
+
+-- segments that were taken aren't refused
+taken_apart : (limit : ℕ) (c : Coming) (ps : List Piece) (e : LinkFault) → e ≢ NoMemory → AllFit limit c ps → (taken_all c ps).received ≤ most_segments → RefusesAll limit c ps e → ⊥
+taken_apart limit c ps BadSequence ne a few b = all_apart limit c ps BadSequence b a
+taken_apart limit c ps MessageTooLong ne a few b = all_apart limit c ps MessageTooLong b a
+taken_apart limit c ps Exhausted ne a few b = omega (arith, taken_count c ps, few, b.1)
+taken_apart limit c ps NoMemory ne a few b = ne refl
+taken_apart limit c ps e ne a few b = absurd b
+
+-- ---- One packet.
+
+-- neither an acknowledgement of what was never sent nor a segment that isn't taken, where it was
+segment_apart : (old mid one two : LinkValue) (s : SegmentValue) (g : Got) (e : LinkFault) → e ≢ NoMemory → one.received ≤ most_segments
+    → TakesSegment old s g mid → Acknowledges old (first_ack s.ack1 s.ack2) mid one → RefusesSegment old s e two → ⊥
+segment_apart old mid one two s g e ne few t a (inl h) = let none : ⊥ = (let both = sym h.0 ∙ a.1 in cc) in none
+segment_apart old mid one two s Accepted e ne few t a (inr (inl h)) =
+    let count : one.received ≡ mid.received = ap (λ (v : LinkValue). v.received) a.2 in
+    let all : mid.received ≡ (taken_all (coming old) (run old (piece_of s))).received = ap (λ (v : LinkValue). v.received) t.2 in
+    taken_apart old.max_message (coming old) (run old (piece_of s)) e ne t.1 (subst (λ (n : ℕ). n ≤ most_segments) (count ∙ all) few) h.2.0
+segment_apart old mid one two s Early e ne few t a (inr (inl h)) = omega (arith, t.0, h.1)
+segment_apart old mid one two s Repeat e ne few t a (inr (inl h)) = omega (arith, t.0, h.1)
+segment_apart old mid one two s AckOnly e ne few t a (inr (inl h)) = absurd t
+segment_apart old mid one two s g e ne few t a (inr (inr h)) = ne h.3
+
+refused_same : (old one two : LinkValue) (s : SegmentValue) (e f : LinkFault) → e ≢ NoMemory → f ≢ NoMemory → RefusesSegment old s e one → RefusesSegment old s f two → (e ≡ f) × (one ≡ two)
+refused_same old one two s e f ne nf (inl a) (inl b) = (a.1 ∙ sym b.1, a.2 ∙ sym b.2)
+refused_same old one two s e f ne nf (inl a) (inr (inl b)) = let none : ⊥ = (let both = sym a.0 ∙ b.0.1 in cc) in absurd none
+refused_same old one two s e f ne nf (inl a) (inr (inr b)) = absurd (nf b.3)
+refused_same old one two s e f ne nf (inr (inl a)) (inl b) = let none : ⊥ = (let both = sym b.0 ∙ a.0.1 in cc) in absurd none
+refused_same old one two s e f ne nf (inr (inl a)) (inr (inl b)) =
+    let same = refuses_one old.max_message (coming old) (run old (piece_of s)) e f ne nf a.2.0 b.2.0 in
+    (same, a.2.1 ∙ ap (λ (x : LinkFault). stopped x old) same ∙ sym b.2.1)
+refused_same old one two s e f ne nf (inr (inl a)) (inr (inr b)) = absurd (nf b.3)
+refused_same old one two s e f ne nf (inr (inr a)) b = absurd (ne a.3)
+
+takes_one : (old one two : LinkValue) (s : SegmentValue) (g h : Got) → TakesSegment old s g one → TakesSegment old s h two → (g ≡ h) × (one ≡ two)
+takes_one old one two s Accepted Accepted a b = (refl, a.2 ∙ sym b.2)
+takes_one old one two s Accepted Early a b = absurd (omega (arith, a.0, b.0))
+takes_one old one two s Accepted Repeat a b = absurd (omega (arith, a.0, b.0))
+takes_one old one two s Accepted AckOnly a b = absurd b
+takes_one old one two s Early Accepted a b = absurd (omega (arith, a.0, b.0))
+takes_one old one two s Early Early a b = (refl, a.2 ∙ sym b.2)
+takes_one old one two s Early Repeat a b = absurd (omega (arith, a.1, b.0))
+takes_one old one two s Early AckOnly a b = absurd b
+takes_one old one two s Repeat Accepted a b = absurd (omega (arith, a.0, b.0))
+takes_one old one two s Repeat Early a b = absurd (omega (arith, a.0, b.1))
+takes_one old one two s Repeat Repeat a b = (refl, a.1 ∙ sym b.1)
+takes_one old one two s Repeat AckOnly a b = absurd b
+takes_one old one two s AckOnly h a b = absurd a
+
+acks_one : (old mid other one two : LinkValue) (number : Option ℕ) → mid ≡ other → Acknowledges old number mid one → Acknowledges old number other two → one ≡ two
+acks_one old mid other one two number same a b =
+    let counts : a.0 ≡ b.0 = (let both = sym a.1 ∙ b.1 in cc) in
+    a.2 ∙ ap (λ (v : LinkValue). forgotten v a.0) same ∙ ap (forgotten other) counts ∙ sym b.2
+
+received_one : (old one two : LinkValue) (p : PacketValue) (g h : Got) → Received old p (Ok g) one → Received old p (Ok h) two → (g ≡ h) × (one ≡ two)
+received_one old one two (segment s) g h a b =
+    let t = takes_one old a.1.0 b.1.0 s g h a.1.1 b.1.1 in (t.0, acks_one old a.1.0 b.1.0 one two _ t.1 a.1.2 b.1.2)
+received_one old one two (data_ack s) g h a b = (a.1 ∙ sym b.1, acks_one old old old one two _ refl a.2 b.2)
+
+-- a packet that was taken isn't refused
+taken_or_not : (old one two : LinkValue) (p : PacketValue) (g : Got) (e : LinkFault) → e ≢ NoMemory → one.received ≤ most_segments → Received old p (Ok g) one → Received old p (Err e) two → ⊥
+taken_or_not old one two (segment s) g e ne few a (inl b) = b.0 a.0
+taken_or_not old one two (segment s) g e ne few a (inr b) = segment_apart old a.1.0 one two s g e ne few a.1.1 a.1.2 b.1
+taken_or_not old one two (data_ack s) g e ne few a (inl b) = b.0 a.0
+taken_or_not old one two (data_ack s) g e ne few a (inr b) = let none : ⊥ = (let both = sym b.1 ∙ a.2.1 in cc) in none
+
+not_taken : (old one two : LinkValue) (p : PacketValue) (e f : LinkFault) → e ≢ NoMemory → f ≢ NoMemory → Received old p (Err e) one → Received old p (Err f) two → (e ≡ f) × (one ≡ two)
+not_taken old one two (segment s) e f ne nf (inl a) (inl b) = (a.1 ∙ sym b.1, a.2 ∙ sym b.2)
+not_taken old one two (segment s) e f ne nf (inl a) (inr b) = absurd (a.0 b.0)
+not_taken old one two (segment s) e f ne nf (inr a) (inl b) = absurd (b.0 a.0)
+not_taken old one two (segment s) e f ne nf (inr a) (inr b) = refused_same old one two s e f ne nf a.1 b.1
+not_taken old one two (data_ack s) e f ne nf (inl a) (inl b) = (a.1 ∙ sym b.1, a.2 ∙ sym b.2)
+not_taken old one two (data_ack s) e f ne nf (inl a) (inr b) = absurd (a.0 b.0)
+not_taken old one two (data_ack s) e f ne nf (inr a) (inl b) = absurd (b.0 a.0)
+not_taken old one two (data_ack s) e f ne nf (inr a) (inr b) = (a.2 ∙ sym b.2, a.3 ∙ sym b.3)
+
+abbrev got_by : Got → Result Got LinkFault
+got_by got = Ok got
+
+abbrev failed_by : LinkFault → Result Got LinkFault
+failed_by f = Err f
+
+abbrev malformed_by : SegFault → Result Got LinkFault
+malformed_by f = Err (Malformed f)
+
+packet_same : (old one two : LinkValue) (p : PacketValue) (r s : Result Got LinkFault) → r ≢ Err NoMemory → s ≢ Err NoMemory → one.received ≤ most_segments → two.received ≤ most_segments
+    → Received old p r one → Received old p s two → (r ≡ s) × (one ≡ two)
+packet_same old one two p (Ok g) (Ok h) nr ns few less a b =
+    let same = received_one old one two p g h a b in (ap got_by same.0, same.1)
+packet_same old one two p (Ok g) (Err f) nr ns few less a b = absurd (taken_or_not old one two p g f (λ k. ns (ap failed_by k)) few a b)
+packet_same old one two p (Err e) (Ok h) nr ns few less a b = absurd (taken_or_not old two one p h e (λ k. nr (ap failed_by k)) less b a)
+packet_same old one two p (Err e) (Err f) nr ns few less a b =
+    let same = not_taken old one two p e f (λ k. nr (ap failed_by k)) (λ k. ns (ap failed_by k)) a b in
+    (ap failed_by same.0, same.1)
+
+-- ---- Any bytes.
+
+bytes_same : (old one two : LinkValue) (bytes : List ℕ) (r s : Result Got LinkFault) → AreBytes bytes → r ≢ Err NoMemory → s ≢ Err NoMemory → one.received ≤ most_segments → two.received ≤ most_segments
+    → ReceivedBytes old one bytes r → ReceivedBytes old two bytes s → (r ≡ s) × (one ≡ two)
+bytes_same old one two bytes r s fits nr ns few less (inl a) (inl b) =
+    (a.1 ∙ ap malformed_by (fault-one a.0 b.0 bytes fits a.2 b.2) ∙ sym b.1, a.3 ∙ sym b.3)
+bytes_same old one two bytes r s fits nr ns few less (inl a) (inr b) = absurd (spells-apart b.0 a.0 bytes fits b.1 a.2)
+bytes_same old one two bytes r s fits nr ns few less (inr a) (inl b) = absurd (spells-apart a.0 b.0 bytes fits a.1 b.2)
+bytes_same old one two bytes r s fits nr ns few less (inr a) (inr b) =
+    packet_same old one two a.0 r s nr ns few less a.2 (subst (λ (p : PacketValue). Received old p s two) (spells-one b.0 a.0 bytes b.1 a.1) b.2)
+
+receives_by : (failed : Bool) (old one two : LinkValue) (bytes : List ℕ) (r s : Result Got LinkFault) → old.failed ≡ failed → AreBytes bytes → r ≢ Err NoMemory → s ≢ Err NoMemory
+    → Receives old one bytes r → Receives old two bytes s → (r ≡ s) × (one ≡ two)
+receives_by true old one two bytes r s e fits nr ns a b = ((a.failed e).0 ∙ sym (b.failed e).0, (a.failed e).1 ∙ sym (b.failed e).1)
+receives_by false old one two bytes r s e fits nr ns a b = bytes_same old one two bytes r s fits nr ns a.few b.few (a.any e) (b.any e)
+
+-- what taking a packet in comes to, want of memory aside
+pub receives_same : (old one two : LinkValue) (bytes : List ℕ) (r s : Result Got LinkFault) → AreBytes bytes → r ≢ Err NoMemory → s ≢ Err NoMemory → Receives old one bytes r → Receives old two bytes s → (r ≡ s) × (one ≡ two)
+receives_same old one two bytes r s fits nr ns a b = receives_by old.failed old one two bytes r s refl fits nr ns a b

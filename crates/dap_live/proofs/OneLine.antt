@@ -1,0 +1,255 @@
+-- What both ends say to a line is one text.
+use Rattle.std.proofs.Common.{◌≡◌, ◌≢◌, ℕ, ◌+◌, ◌<◌, ◌≤◌, ◌%◌, ◌==◌, arith, refl, sym, ◌∙◌, subst, ap, true, false, true≢false, List, [], ◌∷◌, length, inl, inr}
+use Rattle.std.specs.Prelude.{Bool, Option, Some, None, Result, Ok, Err, option_map, if◌then◌else◌}
+use Rattle.hex.specs.Hex.{IsBytes as AreBytes}
+use Rattle.hex.specs.Hex.{decode_of, decode_pairs}
+use Rattle.hex.specs.declared.error.FromHexError.{FromHexError}
+use Rattle.hex.specs.declared.error.FromHexError.TheVariants.{OddLength}
+use Rattle.hex.proofs.HexLemmas.{decode_pairs-ok}
+use Rattle.nsp_link.specs.declared.link.Got.{Got}
+use Rattle.nsp_link.specs.declared.link.LinkSetup.{LinkSetup}
+use Rattle.nsp_link.specs.declared.fault.LinkFault.{LinkFault}
+use Rattle.nsp_link.specs.declared.fault.LinkFault.TheVariants as fault
+use Rattle.nsp_link.specs.Cutting.{cut}
+use Rattle.nsp_link.specs.Link.{LinkValue, Sends, IsSetup, IsSpelling, SetupFault}
+use Rattle.nsp_link.specs.Sending.{ack_packet_of}
+use Rattle.nsp_link.proofs.ForCallers.{written_one}
+use Rattle.dap_accessing.specs.declared.fault.ReadFault.TheVariants as read
+use Rattle.dap_end.specs.declared.fault.EndFault.{EndFault}
+use Rattle.dap_end.specs.declared.fault.EndFault.TheVariants as end
+use Rattle.dap_end.specs.declared.fault.TakeFault.{TakeFault}
+use Rattle.dap_end.specs.declared.fault.TakeFault.TheVariants as take
+use Rattle.dap_end.specs.Wanting.{is_want, took_wanting}
+use Rattle.dap_text.specs.Words.{Words, decoded, ends, first, goes_on, hex_of, is_hex_text, long, words_of}
+use Rattle.dap_text.specs.Filed.{file_of, record_of}
+use Rattle.dap_text.specs.Requests.{wish_of}
+use Rattle.dap_text.specs.declared.filed.FileLine.{FileLine}
+use Rattle.dap_text.specs.declared.filed.RecordLine.{RecordLine}
+use Rattle.dap_accessing.specs.Request.{Request}
+use Rattle.linewise.specs.declared.talking.Became.{Became}
+use Rattle.linewise.specs.declared.talking.Became.TheVariants.{Done, BadLine, NoMemory}
+use Rattle.linewise.proofs.ForCallers.{OneAnswer}
+use Rattle.linewise.specs.Talks.{Answering, AnswersLine, IsUnread, is_skipped, longest, said_of}
+use Rattle.dap_live.specs.declared.orders.Anew.TheVariants.{Cut}
+use Rattle.dap_live.specs.declared.orders.Order.{Order}
+use Rattle.dap_live.specs.declared.orders.Order.TheVariants as order
+use Rattle.dap_live.specs.declared.orders.Verb.{Verb}
+use Rattle.dap_live.specs.declared.orders.Verb.TheVariants as verb
+use Rattle.dap_live.specs.Orders.{address_of, anew_of, between_of, order_of, packet_of, verb_of, words_order}
+use Rattle.dap_live.specs.Sending.{AreAgain, AllAgain, SaysAck, UnlessFailed}
+use Rattle.dap_live.specs.Texts.{end_became, link_became, packet_text, taken_became}
+
+-- ---- A packet's line says bytes.
+
+abbrev HexFits : Option (List ℕ) → Type 0
+HexFits None = Unit {0}
+HexFits (Some bytes) = AreBytes bytes
+
+pairs_fit : (word : List ℕ) (r : Result (List ℕ) FromHexError) → decode_pairs 0 word ≡ r → HexFits (decoded r)
+pairs_fit word (Ok bytes) e = (decode_pairs-ok 0 word bytes e).2
+pairs_fit word (Err f) e = tt
+
+decoded_fits : (word : List ℕ) (odd : Bool) → HexFits (decoded (if odd then Err OddLength else decode_pairs 0 word))
+decoded_fits word true = tt
+decoded_fits word false = pairs_fit word (decode_pairs 0 word) refl
+
+test_fits : (word : List ℕ) (good : Bool) → HexFits (if good then decoded (decode_of word) else None)
+test_fits word true = decoded_fits word (length word % 2 == 1)
+test_fits word false = tt
+
+hex_fits : (word : List ℕ) → HexFits (hex_of word)
+hex_fits word = test_fits word (is_hex_text word)
+
+abbrev pub Fits : Option Order → Type 0
+Fits (Some (order.Packet bytes)) = AreBytes bytes
+Fits _ = Unit {0}
+
+packet_ends : (bytes : List ℕ) (words : Words) → AreBytes bytes → Fits (ends (order.Packet bytes) words)
+packet_ends bytes [] h = h
+packet_ends bytes (w ∷ words) h = tt
+
+packet_next : (o : Option (List ℕ)) (words : Words) → HexFits o → Fits (goes_on (λ bytes words. ends (order.Packet bytes) words) o words)
+packet_next None words h = tt
+packet_next (Some bytes) words h = packet_ends bytes words h
+
+packet_fits : (words : Words) → Fits (packet_of words)
+packet_fits [] = tt
+packet_fits (word ∷ words) = packet_next (hex_of word) words (hex_fits word)
+
+resend_fits : (words : Words) → Fits (ends order.Resend words)
+resend_fits [] = tt
+resend_fits (w ∷ words) = tt
+
+ack_fits : (words : Words) → Fits (ends order.Ack words)
+ack_fits [] = tt
+ack_fits (w ∷ words) = tt
+
+files_fit : (words : Words) → Fits (ends order.Files words)
+files_fit [] = tt
+files_fit (w ∷ words) = tt
+
+cut_ends : (local remote segment : ℕ) (words : Words) → Fits (ends (order.New (Cut local remote segment)) words)
+cut_ends local remote segment [] = tt
+cut_ends local remote segment (w ∷ words) = tt
+
+cut_next : (local remote : ℕ) (o : Option ℕ) (words : Words) → Fits (goes_on (λ segment words. ends (order.New (Cut local remote segment)) words) o words)
+cut_next local remote None words = tt
+cut_next local remote (Some segment) words = cut_ends local remote segment words
+
+between_fits : (local remote : ℕ) (words : Words) → Fits (between_of local remote words)
+between_fits local remote [] = tt
+between_fits local remote (word ∷ words) = cut_next local remote (long word) words
+
+remote_next : (local : ℕ) (o : Option ℕ) (words : Words) → Fits (goes_on (λ remote words. between_of local remote words) o words)
+remote_next local None words = tt
+remote_next local (Some remote) words = between_fits local remote words
+
+remote_first : (local : ℕ) (words : Words) → Fits (first address_of words (λ remote words. between_of local remote words))
+remote_first local [] = tt
+remote_first local (word ∷ words) = remote_next local (address_of word) words
+
+local_next : (o : Option ℕ) (words : Words) → Fits (goes_on (λ local words. first address_of words (λ remote words. between_of local remote words)) o words)
+local_next None words = tt
+local_next (Some local) words = remote_first local words
+
+anew_fits : (words : Words) → Fits (anew_of words)
+anew_fits [] = tt
+anew_fits (word ∷ words) = local_next (address_of word) words
+
+file_fits : (o : Option FileLine) → Fits (option_map order.File o)
+file_fits None = tt
+file_fits (Some file) = tt
+
+record_fits : (o : Option RecordLine) → Fits (option_map order.Record o)
+record_fits None = tt
+record_fits (Some r) = tt
+
+ask_fits : (o : Option Request) → Fits (option_map order.Ask o)
+ask_fits None = tt
+ask_fits (Some request) = tt
+
+words_fit : (line : List ℕ) (v : Verb) (words : Words) → Fits (words_order line v words)
+words_fit line verb.Packet words = packet_fits words
+words_fit line verb.Resend words = resend_fits words
+words_fit line verb.Ack words = ack_fits words
+words_fit line verb.New words = anew_fits words
+words_fit line verb.Files words = files_fit words
+words_fit line verb.File words = file_fits (file_of line)
+words_fit line verb.Record words = record_fits (record_of line)
+words_fit line verb.Ask words = ask_fits (wish_of words)
+
+verb_next : (line : List ℕ) (o : Option Verb) (words : Words) → Fits (goes_on (words_order line) o words)
+verb_next line None words = tt
+verb_next line (Some v) words = words_fit line v words
+
+verb_first : (line : List ℕ) (words : Words) → Fits (first verb_of words (words_order line))
+verb_first line [] = tt
+verb_first line (word ∷ words) = verb_next line (verb_of word) words
+
+pub line_fits : (line : List ℕ) → Fits (order_of line)
+line_fits line = verb_first line (words_of line)
+
+-- ---- What a link sends again.
+
+again_one : (link : LinkValue) (handed : List (List ℕ)) (place : ℕ) (xs ys : List (List ℕ)) → Sends link handed → length xs ≡ length ys → AreAgain link place xs
+    → AreAgain link place ys → xs ≡ ys
+again_one link handed place [] [] sends e a b = refl
+again_one link handed place [] (y ∷ ys) sends e a b = absurd (omega arith)
+again_one link handed place (x ∷ xs) [] sends e a b = absurd (omega arith)
+again_one link handed place (x ∷ xs) (y ∷ ys) sends e a b =
+    ap (λ (z : List ℕ). z ∷ xs)
+    (written_one link.local link.remote (cut link.seg_size handed) (Some (link.acked + 1 + place)) link.received x y (a.0 handed sends) (b.0 handed sends))
+    ∙ ap (λ (l : List (List ℕ)). y ∷ l) (again_one link handed (place + 1) xs ys sends (omega arith) a.1 b.1)
+
+pub all_again : (link : LinkValue) (handed xs ys : List (List ℕ)) → Sends link handed → AllAgain link xs → AllAgain link ys → xs ≡ ys
+all_again link handed xs ys sends a b = again_one link handed 0 xs ys sends (a.1 ∙ sym b.1) a.0 b.0
+
+ack_by : (failed : Bool) (link : LinkValue) (xs ys : List ℕ)
+    → UnlessFailed failed xs (λ text. (bytes : List ℕ) × IsSpelling (ack_packet_of link) bytes × (text ≡ packet_text bytes))
+    → UnlessFailed failed ys (λ text. (bytes : List ℕ) × IsSpelling (ack_packet_of link) bytes × (text ≡ packet_text bytes)) → xs ≡ ys
+ack_by true link xs ys a b = a ∙ sym b
+ack_by false link xs ys a b = a.2 ∙ ap packet_text (a.1.1 ∙ sym b.1.1) ∙ sym b.2
+
+pub ack_one : (link : LinkValue) (xs ys : List ℕ) → SaysAck link xs → SaysAck link ys → xs ≡ ys
+ack_one link xs ys a b = ack_by link.failed link xs ys a b
+
+-- ---- Where no memory is wanting.
+
+pub link_want : (f : LinkFault) → link_became f ≢ NoMemory → f ≢ fault.NoMemory
+link_want f want e = want (ap link_became e)
+
+link_wants : (f : LinkFault) → link_became f ≢ NoMemory → is_want (end.Link f) ≡ false
+link_wants fault.NoMemory want = absurd (want refl)
+link_wants f want = refl
+
+pub end_wants : (f : EndFault) → end_became f ≢ NoMemory → is_want f ≡ false
+end_wants (end.Link f) want = link_wants f want
+end_wants (end.Read read.NoMemory) want = absurd (want refl)
+end_wants (end.Read f) want = refl
+
+pub taken_wants : (r : Result Got TakeFault) → taken_became r ≢ NoMemory → took_wanting r ≡ false
+taken_wants (Ok got) want = refl
+taken_wants (Err (take.Refused f)) want = link_wants f want
+taken_wants (Err (take.Unfinished got f)) want = end_wants f want
+
+-- a setup is good or bad
+pub setup_apart : (s : LinkSetup) (f : LinkFault) → link_became f ≢ NoMemory → IsSetup s → SetupFault s f → ⊥
+setup_apart s f want good (inl bad) = bad.1 good
+setup_apart s f want good (inr none) = want (ap link_became none.0)
+
+pub setup_one : (s : LinkSetup) (f g : LinkFault) → link_became f ≢ NoMemory → link_became g ≢ NoMemory → SetupFault s f → SetupFault s g → f ≡ g
+setup_one s f g nf ng (inl a) (inl b) = a.0 ∙ sym b.0
+setup_one s f g nf ng (inl a) (inr b) = absurd (ng (ap link_became b.0))
+setup_one s f g nf ng (inr a) b = absurd (nf (ap link_became a.0))
+
+-- ---- Lines.
+
+abbrev became_by : Became → Option Became
+became_by b = Some b
+
+unread_bad : (line : List ℕ) (b : Became) → b ≢ NoMemory → IsUnread line b → (b ≡ BadLine) × (longest < length line)
+unread_bad line Done want h = absurd h
+unread_bad line BadLine want h = (refl, h)
+unread_bad line NoMemory want h = absurd (want refl)
+
+module _ {E : Type 0} (answered : Answering E) (waiting : E → ℕ) (AreSame : E → E → Type 0)
+    (answers : (one other new end : E) (line said more : List ℕ) (b c : Became) → AreSame one other → b ≢ NoMemory → c ≢ NoMemory
+    → answered one line new said b → answered other line end more c → AreSame new end × (said ≡ more) × (b ≡ c))
+    (waits : (one other : E) → AreSame one other → waiting one ≡ waiting other) where
+  stay : (one other new end : E) → AreSame one other → new ≡ one → end ≡ other → AreSame new end
+  stay one other new end same e f = subst (λ (x : E). AreSame x end) (sym e) (subst (λ (x : E). AreSame one x) (sym f) same)
+
+  -- a line is skipped, or it isn't
+  skipped_apart : (one other new end : E) (line text : List ℕ) (b : Became) → b ≢ NoMemory → is_skipped line ≡ true → length line ≤ longest
+      → AnswersLine answered one line new text (Some b) → ⊥
+  skipped_apart one other new end line text b want skipped short (inl a) = let bad = unread_bad line b want a.0 in omega (arith, bad.1, short)
+  skipped_apart one other new end line text b want skipped short (inr a) = true≢false (sym skipped ∙ a.0)
+
+  some_line : (one other new end : E) (line text told : List ℕ) (b c : Became) → AreSame one other → b ≢ NoMemory → c ≢ NoMemory
+      → AnswersLine answered one line new text (Some b) → AnswersLine answered other line end told (Some c)
+      → AreSame new end × (text ≡ told) × (became_by b ≡ became_by c)
+  some_line one other new end line text told b c same nb nc (inl x) (inl y) =
+      (stay one other new end same x.1 y.1, x.2 ∙ sym y.2, ap became_by ((unread_bad line b nb x.0).0 ∙ sym (unread_bad line c nc y.0).0))
+  some_line one other new end line text told b c same nb nc (inl x) (inr y) = let bad = unread_bad line b nb x.0 in absurd (omega (arith, bad.1, y.1))
+  some_line one other new end line text told b c same nb nc (inr x) (inl y) = let bad = unread_bad line c nc y.0 in absurd (omega (arith, bad.1, x.1))
+  some_line one other new end line text told b c same nb nc (inr x) (inr y) =
+      let t = answers one other new end line text told b c same nb nc x.2 y.2 in (t.0, t.1, ap became_by t.2)
+
+  any_line : (one other new end : E) (line text told : List ℕ) (b c : Option Became) → AreSame one other → b ≢ Some NoMemory → c ≢ Some NoMemory
+      → AnswersLine answered one line new text b → AnswersLine answered other line end told c → AreSame new end × (text ≡ told) × (b ≡ c)
+  any_line one other new end line text told None None same nb nc x y = (stay one other new end same x.2 y.2, x.3 ∙ sym y.3, refl)
+  any_line one other new end line text told None (Some c) same nb nc x y =
+      absurd (skipped_apart other one end new line told c (λ e. nc (ap became_by e)) x.0 x.1 y)
+  any_line one other new end line text told (Some b) None same nb nc x y =
+      absurd (skipped_apart one other new end line text b (λ e. nb (ap became_by e)) y.0 y.1 x)
+  any_line one other new end line text told (Some b) (Some c) same nb nc x y =
+      some_line one other new end line text told b c same (λ e. nb (ap became_by e)) (λ e. nc (ap became_by e)) x y
+
+  pub one_answer : OneAnswer answered waiting AreSame
+  one_answer one other new end line said more b c same nb nc x y =
+      let t = any_line one other new end line x.text y.text b c same nb nc x.answers y.answers in (
+        t.0,
+        x.says ∙ ap (λ (l : List ℕ). said_of l b (waiting new)) t.1 ∙ ap (λ (o : Option Became). said_of y.text o (waiting new)) t.2
+            ∙ ap (λ (n : ℕ). said_of y.text c n) (waits new end t.0) ∙ sym y.says,
+        t.2,
+      )

@@ -1,0 +1,288 @@
+-- What the end that serves does by a line, and says, follows from the end and the line, want of memory aside.
+use Rattle.std.proofs.Common.{◌≡◌, ◌≢◌, ℕ, ◌<◌, arith, refl, sym, ◌∙◌, subst, ap, true, false, List, [], ◌++◌, length, inl, inr}
+use Rattle.std.specs.Prelude.{Bool, Option, Some, None, Result, Err, MatchOption}
+use Rattle.hex.specs.Hex.{IsBytes as AreBytes}
+use Rattle.nsp_link.specs.declared.link.Got.{Got}
+use Rattle.nsp_link.specs.declared.link.LinkSetup.{LinkSetup}
+use Rattle.nsp_link.specs.declared.fault.LinkFault.{LinkFault}
+use Rattle.nsp_link.specs.declared.fault.LinkFault.TheVariants as fault
+use Rattle.nsp_link.specs.Link.{SetupFault}
+use Rattle.rec_file.specs.declared.shapes.Shape.{Shape}
+use Rattle.rec_file.specs.declared.refusals.Refusal.{Refusal}
+use Rattle.rec_file.specs.Shapes.{checked_shape}
+use Rattle.dap_accessed.specs.declared.fault.AddFault.{AddFault}
+use Rattle.dap_accessed.specs.declared.fault.AddFault.TheVariants as add
+use Rattle.dap_accessed.specs.Standing.{Files}
+use Rattle.dap_accessed.specs.Present.{Present, present_of}
+use Rattle.dap_accessed.specs.Groups.{stands_after}
+use Rattle.dap_accessed.specs.Adding.{MayAdd, MayAddRecord}
+use Rattle.dap_end.specs.declared.fault.TakeFault.{TakeFault}
+use Rattle.dap_end.specs.Ports.{PortValue, HasCome, new_port}
+use Rattle.dap_end.specs.Serving.{ServingValue, Past, IsAfter, NotAdded, NotStored, nothing_yet}
+use Rattle.dap_end.proofs.ForCallers.{going_one, taking_one, new_known, going_known, taking_known}
+use Rattle.dap_text.specs.declared.filed.FileLine.{FileLine}
+use Rattle.dap_text.specs.declared.filed.RecordLine.{RecordLine}
+use Rattle.dap_text.specs.Tables.{files_text}
+use Rattle.linewise.specs.declared.talking.Became.{Became}
+use Rattle.linewise.specs.declared.talking.Became.TheVariants.{Done, NoMemory}
+use Rattle.linewise.specs.Talks.{HaveOneText}
+use Rattle.linewise.proofs.ForCallers.{one_text}
+use Rattle.dap_live.specs.declared.serving.Serving.{Serving}
+use Rattle.dap_live.specs.declared.orders.Anew.{Anew}
+use Rattle.dap_live.specs.declared.orders.Order.{Order}
+use Rattle.dap_live.specs.declared.orders.Order.TheVariants as order
+use Rattle.dap_live.specs.Orders.{order_of, setup_anew}
+use Rattle.dap_live.specs.Sending.{SaysAck, is_left, waits_of}
+use Rattle.dap_live.specs.Texts.{add_became, add_refusal, link_became, link_line, packets_text, taken_became, taken_text}
+use Rattle.dap_live.specs.Serving.{TakesPacket, GoesOn, GoesOnIf, Resends, Renewed, Renews, Added, AddsShaped, AddsFile, AddsRecord, OnEnd, Does, DoesOrder, answered, waiting, gone_became, gone_text}
+use Rattle.dap_live.specs.OneText.{HasServed, AreSameServing}
+use Rattle.dap_live.proofs.OneLine.{Fits, line_fits, all_again, ack_one, taken_wants, setup_apart, setup_one, one_answer}
+
+-- what a call leaves and says: one end, which did something through its calls, one text, and one outcome
+abbrev One : (one two : ServingValue) → (said more : List ℕ) → (b c : Became) → Type 0
+One one two said more b c = (one ≡ two) × (said ≡ more) × (b ≡ c) × HasServed one
+
+-- ---- A packet.
+
+packet_one : (end one two : ServingValue) (bytes said more : List ℕ) (b c : Became) → AreBytes bytes → HasServed end → b ≢ NoMemory → c ≢ NoMemory
+    → TakesPacket end bytes one said b → TakesPacket end bytes two more c → One one two said more b c
+packet_one end one two bytes said more b c fits k nb nc x y =
+    let t = taking_one k.0 end one two bytes x.taken y.taken [] x.packets y.packets fits k.1 (taken_wants x.taken (λ e. nb (x.ends ∙ e))) (taken_wants y.taken (λ e. nc (y.ends ∙ e))) x.took y.took in (
+      t.0,
+      x.says ∙ ap (λ (r : Result Got TakeFault). taken_text r [] x.packets) t.1 ∙ ap (λ (l : List (List ℕ)). taken_text y.taken [] l) t.2 ∙ sym y.says,
+      x.ends ∙ ap taken_became t.1 ∙ sym y.ends,
+      taking_known end one bytes [] x.packets x.taken x.took k,
+    )
+
+-- ---- Going on.
+
+gone_want : (r : Result (Unit {0}) LinkFault) → gone_became r ≢ NoMemory → r ≢ Err fault.NoMemory
+gone_want r want e = want (ap gone_became e)
+
+going_same : (end one two : ServingValue) (front said more : List ℕ) (b c : Became) → HasServed end → b ≢ NoMemory → c ≢ NoMemory
+    → GoesOn end front one said b → GoesOn end front two more c → One one two said more b c
+going_same end one two front said more b c k nb nc x y =
+    let t = going_one k.0 end one two [] x.packets y.packets x.gone y.gone k.1 (gone_want x.gone (λ e. nb (x.ends ∙ e))) (gone_want y.gone (λ e. nc (y.ends ∙ e))) x.went y.went in (
+      t.0,
+      x.says ∙ ap (λ (r : Result (Unit {0}) LinkFault). front ++ (packets_text x.packets ++ gone_text r)) t.1
+          ∙ ap (λ (l : List (List ℕ)). front ++ (packets_text l ++ gone_text y.gone)) t.2 ∙ sym y.says,
+      x.ends ∙ ap gone_became t.1 ∙ sym y.ends,
+      going_known end one [] x.packets x.gone x.went k,
+    )
+
+going_if : (left : Bool) (end one two : ServingValue) (front said more : List ℕ) (b c : Became) → HasServed end → b ≢ NoMemory → c ≢ NoMemory
+    → GoesOnIf left end front one said b → GoesOnIf left end front two more c → One one two said more b c
+going_if true end one two front said more b c k nb nc x y = going_same end one two front said more b c k nb nc x y
+going_if false end one two front said more b c k nb nc x y = (x.0 ∙ sym y.0, x.1 ∙ sym y.1, x.2 ∙ sym y.2, subst HasServed (sym x.0) k)
+
+resend_one : (failed : Bool) (end one two : ServingValue) (said more : List ℕ) (b c : Became) → HasServed end → b ≢ NoMemory → c ≢ NoMemory
+    → Resends failed end one said b → Resends failed end two more c → One one two said more b c
+resend_one true end one two said more b c k nb nc x y = (x.0 ∙ sym y.0, x.1 ∙ sym y.1, x.2 ∙ sym y.2, subst HasServed (sym x.0) k)
+resend_one false end one two said more b c k nb nc x y =
+    let same = all_again end.port.link k.0.handed x.0 y.0 k.1.sends x.1 y.1 in
+    going_if (is_left end.port.link end.port.outbox) end one two (packets_text x.0) said more b c k nb nc x.2
+    (subst (λ (l : List (List ℕ)). GoesOnIf (is_left end.port.link end.port.outbox) end (packets_text l) two more c) (sym same) y.2)
+
+-- ---- A new link.
+
+-- the same files, and nothing served
+anew_one : (files : Files) (one two : ServingValue) → one.port ≡ two.port → one.accessed.own ≡ two.accessed.own → IsAfter (nothing_yet files) one → IsAfter (nothing_yet files) two → one ≡ two
+anew_one files one two port own x y =
+    let accessed : one.accessed ≡ two.accessed = x.serving ∙ ap (λ (n : ℕ). present_of n (stands_after n files [])) own ∙ sym y.serving in
+    ap (λ (p : PortValue). record one { port = p }) port ∙ ap (λ (a : Present). record two { accessed = a }) accessed
+
+-- ends of one value, with what is said
+abbrev Two : (one two : Serving) → (said more : List ℕ) → (b c : Became) → Type 0
+Two one two said more b c = AreSameServing one two × (said ≡ more) × (b ≡ c)
+
+stay : (old other one two : Serving) → AreSameServing old other → one ≡ old → two ≡ other → AreSameServing one two
+stay old other one two same e f = subst (λ (s : Serving). AreSameServing s two) (sym e) (subst (λ (s : Serving). AreSameServing old s) (sym f) same)
+
+renewed_one : (old other one two : Serving) (anew : Anew) → AreSameServing old other → Renewed old anew one → Renewed other anew two → AreSameServing one two
+renewed_one old other one two anew same x y =
+    let setup : setup_anew old.setup anew ≡ setup_anew other.setup anew = ap (λ (s : LinkSetup). setup_anew s anew) same.1 in
+    let files : old.end.accessed.files ≡ other.end.accessed.files = ap (λ (v : ServingValue). v.accessed.files) same.0 in
+    let own : old.end.accessed.own ≡ other.end.accessed.own = ap (λ (v : ServingValue). v.accessed.own) same.0 in
+    let after : IsAfter (nothing_yet old.end.accessed.files) two.end = subst (λ (f : Files). IsAfter (nothing_yet f) two.end) (sym files) y.after in (
+      anew_one old.end.accessed.files one.end two.end (x.port ∙ ap new_port setup ∙ sym y.port) (x.own ∙ own ∙ sym y.own) x.after after,
+      x.setup ∙ setup ∙ sym y.setup,
+      new_known old.end.accessed.files one.end x.after (ap (λ (p : PortValue). p.link.inbox) x.port),
+    )
+
+renew_one : (old other one two : Serving) (anew : Anew) (said more : List ℕ) (b c : Became) → AreSameServing old other → b ≢ NoMemory → c ≢ NoMemory
+    → Renews old anew one said b → Renews other anew two more c → Two one two said more b c
+renew_one old other one two anew said more b c same nb nc (inl x) (inl y) = (renewed_one old other one two anew same x.0 y.0, x.1 ∙ sym y.1, x.2 ∙ sym y.2)
+renew_one old other one two anew said more b c same nb nc (inl x) (inr y) =
+    let setup : setup_anew other.setup anew ≡ one.setup = ap (λ (s : LinkSetup). setup_anew s anew) (sym same.1) ∙ sym x.0.setup in
+    absurd (setup_apart one.setup y.0 (λ e. nc (y.4 ∙ e)) x.0.good (subst (λ (s : LinkSetup). SetupFault s y.0) setup y.1))
+renew_one old other one two anew said more b c same nb nc (inr x) (inl y) =
+    let setup : setup_anew old.setup anew ≡ two.setup = ap (λ (s : LinkSetup). setup_anew s anew) same.1 ∙ sym y.0.setup in
+    absurd (setup_apart two.setup x.0 (λ e. nb (x.4 ∙ e)) y.0.good (subst (λ (s : LinkSetup). SetupFault s x.0) setup x.1))
+renew_one old other one two anew said more b c same nb nc (inr x) (inr y) =
+    let setup : setup_anew old.setup anew ≡ setup_anew other.setup anew = ap (λ (s : LinkSetup). setup_anew s anew) same.1 in
+    let f = setup_one (setup_anew other.setup anew) x.0 y.0 (λ e. nb (x.4 ∙ e)) (λ e. nc (y.4 ∙ e)) (subst (λ (s : LinkSetup). SetupFault s x.0) setup x.1) y.1 in
+    (stay old other one two same x.2 y.2, x.3 ∙ ap link_line f ∙ sym y.3, x.4 ∙ ap link_became f ∙ sym y.4)
+
+-- ---- Files that it is given.
+
+added_one : (end one two : ServingValue) (said more : List ℕ) (b c : Became) → HasServed end → one.accessed.files ≡ two.accessed.files → Added end one said b → Added end two more c
+    → One one two said more b c
+added_one end one two said more b c (past, h, inl came) files x y = absurd (x.idle came)
+added_one end one two said more b c (past, h, inr none) files x y =
+    let there : IsAfter (nothing_yet past.first) end = subst (λ (p : Past). IsAfter p end) none.0 h in
+    let after = x.given past.first there in
+    let other : IsAfter (nothing_yet one.accessed.files) two = subst (λ (f : Files). IsAfter (nothing_yet f) two) (sym files) (y.given past.first there) in (
+      anew_one one.accessed.files one two (x.port ∙ sym y.port) (x.own ∙ sym y.own) after other,
+      x.silent ∙ sym y.silent,
+      x.ends ∙ sym y.ends,
+      new_known one.accessed.files one after (ap (λ (p : PortValue). p.link.inbox) x.port ∙ none.1),
+    )
+
+add_want : (f : AddFault) → add_became f ≢ NoMemory → f ≢ add.NoMemory
+add_want f want e = want (ap add_became e)
+
+why_one : (end one two : ServingValue) (said more : List ℕ) (b c : Became) (f g : AddFault) → HasServed end → f ≡ g → (one ≡ end) × (said ≡ add_refusal f) × (b ≡ add_became f)
+    → (two ≡ end) × (more ≡ add_refusal g) × (c ≡ add_became g) → One one two said more b c
+why_one end one two said more b c f g k e x y =
+    (x.0 ∙ sym y.0, x.1 ∙ ap add_refusal e ∙ sym y.1, x.2 ∙ ap add_became e ∙ sym y.2, subst HasServed (sym x.0) k)
+
+file_apart : (end : ServingValue) (name : List ℕ) (f : AddFault) → f ≢ add.NoMemory → (HasCome end.port → ⊥) → MayAdd end.accessed name → NotAdded end name f → ⊥
+file_apart end name add.Busy want idle may (inl came) = idle came
+file_apart end name add.Busy want idle may (inr late) = late may.0
+file_apart end name add.FileExists want idle may h = h.1.1 may.1
+file_apart end name add.NoMemory want idle may h = want refl
+file_apart end name f want idle may h = absurd h.1
+
+file_why : (end : ServingValue) (name : List ℕ) (f g : AddFault) → f ≢ add.NoMemory → g ≢ add.NoMemory → NotAdded end name f → NotAdded end name g → f ≡ g
+file_why end name add.Busy add.Busy nf ng x y = refl
+file_why end name add.Busy add.FileExists nf ng (inl came) y = absurd (y.0 came)
+file_why end name add.Busy add.FileExists nf ng (inr late) y = absurd (late y.1.0)
+file_why end name add.Busy add.NoMemory nf ng x y = absurd (ng refl)
+file_why end name add.Busy g nf ng x y = absurd y.1
+file_why end name add.FileExists add.Busy nf ng x (inl came) = absurd (x.0 came)
+file_why end name add.FileExists add.Busy nf ng x (inr late) = absurd (late x.1.0)
+file_why end name add.FileExists add.FileExists nf ng x y = refl
+file_why end name add.FileExists add.NoMemory nf ng x y = absurd (ng refl)
+file_why end name add.FileExists g nf ng x y = absurd y.1
+file_why end name add.NoMemory g nf ng x y = absurd (nf refl)
+file_why end name f g nf ng x y = absurd x.1
+
+shaped_one : (end one two : ServingValue) (name : List ℕ) (shape : Shape) (said more : List ℕ) (b c : Became) → HasServed end → b ≢ NoMemory → c ≢ NoMemory → AddsShaped end name shape one said b
+    → AddsShaped end name shape two more c → One one two said more b c
+shaped_one end one two name shape said more b c k nb nc (inl x) (inl y) = added_one end one two said more b c k (x.1 ∙ sym y.1) x.2 y.2
+shaped_one end one two name shape said more b c k nb nc (inl x) (inr y) = absurd (file_apart end name y.0 (add_want y.0 (λ e. nc (y.4 ∙ e))) x.2.idle x.0 y.1)
+shaped_one end one two name shape said more b c k nb nc (inr x) (inl y) = absurd (file_apart end name x.0 (add_want x.0 (λ e. nb (x.4 ∙ e))) y.2.idle y.0 x.1)
+shaped_one end one two name shape said more b c k nb nc (inr x) (inr y) =
+    let f = file_why end name x.0 y.0 (add_want x.0 (λ e. nb (x.4 ∙ e))) (add_want y.0 (λ e. nc (y.4 ∙ e))) x.1 y.1 in
+    why_one end one two said more b c x.0 y.0 k f (x.2, x.3, x.4) (y.2, y.3, y.4)
+
+file_by : (o : Option Shape) (end one two : ServingValue) (name said more why : List ℕ) (b c : Became) → HasServed end → b ≢ NoMemory → c ≢ NoMemory
+    → MatchOption o ((one ≡ end) × (said ≡ why) × (b ≡ Done)) (λ shape. AddsShaped end name shape one said b)
+    → MatchOption o ((two ≡ end) × (more ≡ why) × (c ≡ Done)) (λ shape. AddsShaped end name shape two more c) → One one two said more b c
+file_by None end one two name said more why b c k nb nc x y = (x.0 ∙ sym y.0, x.1 ∙ sym y.1, x.2 ∙ sym y.2, subst HasServed (sym x.0) k)
+file_by (Some shape) end one two name said more why b c k nb nc x y = shaped_one end one two name shape said more b c k nb nc x y
+
+file_one : (end one two : ServingValue) (file : FileLine) (said more : List ℕ) (b c : Became) → HasServed end → b ≢ NoMemory → c ≢ NoMemory → AddsFile end file one said b → AddsFile end file two more c
+    → One one two said more b c
+file_one end one two file said more b c k nb nc x y = file_by (checked_shape file.org file.rfm file.mrs file.mrn) end one two file.name said more _ b c k nb nc x y
+
+no_file : (files : Files) → 0 < length files → files ≡ [] → ⊥
+no_file files some e = omega (arith, ap length e, some)
+
+two_why : (o : Option Refusal) (v w : Refusal) → o ≡ Some v → o ≡ Some w → v ≡ w
+two_why o v w e f = (let both = sym e ∙ f in cc)
+
+none_why : (o : Option Refusal) (v : Refusal) → o ≡ None → o ≡ Some v → ⊥
+none_why o v e f = (let both = sym e ∙ f in cc)
+
+record_apart : (end : ServingValue) (n : ℕ) (body : List ℕ) (f : AddFault) → f ≢ add.NoMemory → (HasCome end.port → ⊥) → MayAddRecord end.accessed n body → NotStored end n body f → ⊥
+record_apart end n body add.Busy want idle may (inl came) = idle came
+record_apart end n body add.Busy want idle may (inr late) = late may.0
+record_apart end n body add.NoFile want idle may h = no_file end.accessed.files may.1 h.1.1
+record_apart end n body (add.Record why) want idle may h = none_why _ why may.2 h.1.2
+record_apart end n body add.NoMemory want idle may h = want refl
+record_apart end n body f want idle may h = absurd h.1
+
+record_why : (end : ServingValue) (n : ℕ) (body : List ℕ) (f g : AddFault) → f ≢ add.NoMemory → g ≢ add.NoMemory → NotStored end n body f → NotStored end n body g → f ≡ g
+record_why end n body add.Busy add.Busy nf ng x y = refl
+record_why end n body add.Busy add.NoFile nf ng (inl came) y = absurd (y.0 came)
+record_why end n body add.Busy add.NoFile nf ng (inr late) y = absurd (late y.1.0)
+record_why end n body add.Busy (add.Record w) nf ng (inl came) y = absurd (y.0 came)
+record_why end n body add.Busy (add.Record w) nf ng (inr late) y = absurd (late y.1.0)
+record_why end n body add.Busy add.NoMemory nf ng x y = absurd (ng refl)
+record_why end n body add.Busy g nf ng x y = absurd y.1
+record_why end n body add.NoFile add.Busy nf ng x (inl came) = absurd (x.0 came)
+record_why end n body add.NoFile add.Busy nf ng x (inr late) = absurd (late x.1.0)
+record_why end n body add.NoFile add.NoFile nf ng x y = refl
+record_why end n body add.NoFile (add.Record w) nf ng x y = absurd (no_file end.accessed.files y.1.1 x.1.1)
+record_why end n body add.NoFile add.NoMemory nf ng x y = absurd (ng refl)
+record_why end n body add.NoFile g nf ng x y = absurd y.1
+record_why end n body (add.Record v) add.Busy nf ng x (inl came) = absurd (x.0 came)
+record_why end n body (add.Record v) add.Busy nf ng x (inr late) = absurd (late x.1.0)
+record_why end n body (add.Record v) add.NoFile nf ng x y = absurd (no_file end.accessed.files x.1.1 y.1.1)
+record_why end n body (add.Record v) (add.Record w) nf ng x y = ap (λ (r : Refusal). add.Record r) (two_why _ v w x.1.2 y.1.2)
+record_why end n body (add.Record v) add.NoMemory nf ng x y = absurd (ng refl)
+record_why end n body (add.Record v) g nf ng x y = absurd y.1
+record_why end n body add.NoMemory g nf ng x y = absurd (nf refl)
+record_why end n body f g nf ng x y = absurd x.1
+
+record_one : (end one two : ServingValue) (r : RecordLine) (said more : List ℕ) (b c : Became) → HasServed end → b ≢ NoMemory → c ≢ NoMemory → AddsRecord end r one said b → AddsRecord end r two more c
+    → One one two said more b c
+record_one end one two r said more b c k nb nc (inl x) (inl y) = added_one end one two said more b c k (x.1 ∙ sym y.1) x.2 y.2
+record_one end one two r said more b c k nb nc (inl x) (inr y) = absurd (record_apart end r.number r.body y.0 (add_want y.0 (λ e. nc (y.4 ∙ e))) x.2.idle x.0 y.1)
+record_one end one two r said more b c k nb nc (inr x) (inl y) = absurd (record_apart end r.number r.body x.0 (add_want x.0 (λ e. nb (x.4 ∙ e))) y.2.idle y.0 x.1)
+record_one end one two r said more b c k nb nc (inr x) (inr y) =
+    let f = record_why end r.number r.body x.0 y.0 (add_want x.0 (λ e. nb (x.4 ∙ e))) (add_want y.0 (λ e. nc (y.4 ∙ e))) x.1 y.1 in
+    why_one end one two said more b c x.0 y.0 k f (x.2, x.3, x.4) (y.2, y.3, y.4)
+
+-- ---- A line.
+
+on_end : (old other one two : Serving) (said more : List ℕ) (b c : Became) → AreSameServing old other → OnEnd old one → OnEnd other two → One one.end two.end said more b c → Two one two said more b c
+on_end old other one two said more b c same x y h =
+    ((h.0, ap (λ (s : Serving). s.setup) x ∙ same.1 ∙ sym (ap (λ (s : Serving). s.setup) y), h.3), h.1, h.2)
+
+does_one : (old other one two : Serving) (o : Order) (said more : List ℕ) (b c : Became) → Fits (Some o) → AreSameServing old other → b ≢ NoMemory → c ≢ NoMemory → Does old o one said b → Does other o two more c
+    → Two one two said more b c
+does_one old other one two (order.Packet bytes) said more b c fits same nb nc x y =
+    on_end old other one two said more b c same x.0 y.0
+    (packet_one old.end one.end two.end bytes said more b c fits same.2 nb nc x.1 (subst (λ (v : ServingValue). TakesPacket v bytes two.end more c) (sym same.0) y.1))
+does_one old other one two order.Resend said more b c fits same nb nc x y =
+    on_end old other one two said more b c same x.0 y.0
+    (resend_one old.end.port.link.failed old.end one.end two.end said more b c same.2 nb nc x.1
+    (subst (λ (v : ServingValue). Resends v.port.link.failed v two.end more c) (sym same.0) y.1))
+does_one old other one two order.Ack said more b c fits same nb nc x y = (
+  stay old other one two same x.0.0 y.0.0,
+  ack_one old.end.port.link said more x.1 (subst (λ (v : ServingValue). SaysAck v.port.link more) (sym same.0) y.1),
+  x.0.1 ∙ sym y.0.1,
+)
+does_one old other one two (order.New anew) said more b c fits same nb nc x y = renew_one old other one two anew said more b c same nb nc x y
+does_one old other one two order.Files said more b c fits same nb nc x y =
+    (stay old other one two same x.0.0 y.0.0, x.1 ∙ ap (λ (v : ServingValue). files_text v.accessed.files) same.0 ∙ sym y.1, x.0.1 ∙ sym y.0.1)
+does_one old other one two (order.File file) said more b c fits same nb nc x y =
+    on_end old other one two said more b c same x.0 y.0
+    (file_one old.end one.end two.end file said more b c same.2 nb nc x.1 (subst (λ (v : ServingValue). AddsFile v file two.end more c) (sym same.0) y.1))
+does_one old other one two (order.Record r) said more b c fits same nb nc x y =
+    on_end old other one two said more b c same x.0 y.0
+    (record_one old.end one.end two.end r said more b c same.2 nb nc x.1 (subst (λ (v : ServingValue). AddsRecord v r two.end more c) (sym same.0) y.1))
+does_one old other one two (order.Ask request) said more b c fits same nb nc x y = (stay old other one two same x.0 y.0, x.1 ∙ sym y.1, x.2 ∙ sym y.2)
+
+order_one : (old other one two : Serving) (o : Option Order) (said more : List ℕ) (b c : Became) → Fits o → AreSameServing old other → b ≢ NoMemory → c ≢ NoMemory → DoesOrder old o one said b → DoesOrder other o two more c
+    → Two one two said more b c
+order_one old other one two None said more b c fits same nb nc x y = (stay old other one two same x.0 y.0, x.1 ∙ sym y.1, x.2 ∙ sym y.2)
+order_one old other one two (Some o) said more b c fits same nb nc (inl x) (inl y) = does_one old other one two o said more b c fits same nb nc x y
+order_one old other one two (Some o) said more b c fits same nb nc (inl x) (inr y) = absurd (nc y.2)
+order_one old other one two (Some o) said more b c fits same nb nc (inr x) y = absurd (nb x.2)
+
+serving_answers : (one other new end : Serving) (line said more : List ℕ) (b c : Became) → AreSameServing one other → b ≢ NoMemory → c ≢ NoMemory → answered one line new said b → answered other line end more c
+    → AreSameServing new end × (said ≡ more) × (b ≡ c)
+serving_answers one other new end line said more b c same nb nc x y = order_one one other new end (order_of line) said more b c (line_fits line) same nb nc x y
+
+pub serving_text : HaveOneText answered waiting AreSameServing
+serving_text =
+    one_text answered waiting AreSameServing
+    (one_answer answered waiting AreSameServing serving_answers (λ one other same. ap (λ (v : ServingValue). waits_of v.port.link (is_left v.port.link v.port.outbox)) same.0))
+
+-- new ends that are set up alike
+pub new_serving : (files : Files) (one other : Serving) → IsAfter (nothing_yet files) one.end → IsAfter (nothing_yet files) other.end → one.end.port ≡ other.end.port
+    → one.end.accessed.own ≡ other.end.accessed.own → one.setup ≡ other.setup → one.end.port.link.inbox ≡ [] → AreSameServing one other
+new_serving files one other x y port own setup none = (anew_one files one.end other.end port own x y, setup, new_known files one.end x none)

@@ -1,0 +1,19 @@
+-- Ends that answer each line alike.
+use Rattle.std.specs.Prelude.{◌≡◌, ◌⊎◌, []}
+use Rattle.dap_end.specs.Ports.{HasCome}
+use Rattle.dap_end.specs.Serving.{ServingValue, Past, IsAfter, nothing_yet}
+use Rattle.dap_end.specs.Asking.{AreAlike, HasDone}
+use Rattle.dap_live.specs.declared.serving.Serving.{Serving}
+use Rattle.dap_live.specs.declared.asking.Asking.{Asking}
+
+-- the end is as after some past, in which it did nothing before a segment came
+abbrev pub HasServed : ServingValue → Type 0
+HasServed v = (past : Past) × IsAfter past v × (HasCome v.port ⊎ ((past ≡ nothing_yet past.first) × (v.port.link.inbox ≡ [])))
+
+-- both ends are of one value
+abbrev pub AreSameServing : Serving → Serving → Type 0
+AreSameServing one other = (one.end ≡ other.end) × (one.setup ≡ other.setup) × HasServed one.end
+
+abbrev pub AreSameAsking : Asking → Asking → Type 0
+AreSameAsking one other =
+    AreAlike one.end other.end × (one.setup ≡ other.setup) × (one.reports.items ≡ other.reports.items) × HasDone one.end

@@ -1,0 +1,4 @@
+-- What the crates above may cite of this one's proofs. No other file here is for them.
+
+-- two talks have one text, where each line has one answer
+pub use Rattle.linewise.proofs.OneText.{OneAnswer, one_text}

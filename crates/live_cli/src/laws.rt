@@ -1,0 +1,16 @@
+//! Laws over the definitions alone. The function does nothing: its contract is the law.
+
+ghost use Rattle.linewise.specs.Talks.{HaveOneText};
+ghost use Rattle.dap_live.specs.Serving as serving;
+ghost use Rattle.dap_live.specs.Asking as asking;
+ghost use Rattle.live_cli.specs.declared.words.Options.{Options as TheOptions};
+ghost use Rattle.live_cli.specs.Running.{AreNewServing, AreNewAsking};
+
+/// By the same options an input has one text, and one exit status: whatever two new ends answer to all its lines, where no
+/// answer wants memory. Own.
+pub fn inputs_have_one_text()
+    ensures serving { (options : TheOptions)
+        → HaveOneText serving.answered serving.waiting (AreNewServing options) }
+    ensures asking { (options : TheOptions)
+        → HaveOneText asking.answered asking.waiting (AreNewAsking options) }
+{}
