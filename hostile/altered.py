@@ -13,15 +13,17 @@ import re
 import subprocess
 
 SECONDS = 120
-# The words of an end, its link's addresses as they stand in a packet to it, and what it is told before.
+# The words of an end, its link's addresses as they stand in a packet to it, and what it is told before. The end that serves
+# has the file of the messages from the first, so that no packet that was altered makes it.
+SERVED = [b"new 0202 0101 16", b"file 46 seq variable 0 0", b"> 60020201010080010001020a00040703050600000000"]
 ROLES = {
-    "serve": ("02020101", [b"new 0202 0101 16", b"> 60020201010080010001020a00040703050600000000"]),
+    "serve": ("02020101", SERVED),
     "ask": ("01010202", [b"new 0101 0202 16", b"ask hello"]),
 }
 # NSP messages: those of each kind, several in one, and bytes of which none can be read.
 MESSAGES = [
     "01020a00040703050600000000",
-    "02020ba60410020000040300000003020802000146070000" + "00",
+    "02020ba6041002000004030000000302080200014607000000",
     "020201000302080100014602000000",
     "0402020200",
     "0402030405000000",
@@ -30,7 +32,7 @@ MESSAGES = [
     "060200",
     "070203010000",
     "08020500414243",
-    "0902022750" + "00",
+    "090202275000",
     "0a020300010203",
     "ff020141",
 ]

@@ -21,6 +21,7 @@ import tempfile
 
 HERE = os.path.dirname(os.path.abspath(__file__))
 sys.path.append(f"{HERE}/../examples")
+from altered import altered_packets
 from lossy import Both, Line
 
 SECONDS = 60
@@ -495,6 +496,8 @@ class LiveEnds:
         self.unread()
         self.silent()
         for role in PROBES:
+            told, wrong = altered_packets(self.program, role)
+            self.count(f"daplive {role}, packets that were altered or cut", not wrong, f"{told} told, {wrong} answered wrongly")
             self.resent(role)
             self.fail(role)
             self.unwritten(role)
