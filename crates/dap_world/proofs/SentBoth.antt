@@ -11,7 +11,7 @@ still_a : (old new : State) (n : ℕ) → IsEmpty old A → Emptied old new B n 
 still_a old new n e b =
     record {
       waiting = b.back_waiting ∙ e.waiting;
-      sent = b.back_sent ∙ e.sent ∙ sym (ap (λ (i : ℕ). segments_of i new.from_a.handed) b.seg_size ∙ ap (segments_of old.seg_size) b.back_handed);
+      sent = b.back_sent ∙ e.sent ∙ sym (ap (λ (i : ℕ). segments_of i new.a.handed) b.seg_size ∙ ap (segments_of old.seg_size) b.back_handed);
       acked = omega (arith, b.back_sent, b.back_acked, e.acked);
     }
 
@@ -19,7 +19,7 @@ pub still_b : (old new : State) (n : ℕ) → IsEmpty old B → Emptied old new 
 still_b old new n e a =
     record {
       waiting = a.back_waiting ∙ e.waiting;
-      sent = a.back_sent ∙ e.sent ∙ sym (ap (λ (i : ℕ). segments_of i new.from_b.handed) a.seg_size ∙ ap (segments_of old.seg_size) a.back_handed);
+      sent = a.back_sent ∙ e.sent ∙ sym (ap (λ (i : ℕ). segments_of i new.b.handed) a.seg_size ∙ ap (segments_of old.seg_size) a.back_handed);
       acked = omega (arith, a.back_sent, a.back_acked, e.acked);
     }
 
