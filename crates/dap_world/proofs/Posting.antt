@@ -140,3 +140,12 @@ not_empty old mid end k p may e =
 
 pub waits_then : (s : State) (end : End) → 0 < length (end_of s end).waiting → IsEmpty s end → ⊥
 waits_then s end some e = omega (arith, some, ap length e.waiting)
+
+-- the other end stays empty
+pub still_other : (old new : State) (end : End) (n : ℕ) → IsEmpty old (other end) → Emptied old new end n → IsEmpty new (other end)
+still_other old new end n e b =
+    record {
+      waiting = b.back_waiting ∙ e.waiting;
+      sent = b.back_sent ∙ e.sent ∙ sym (ap (λ (i : ℕ). segments_of i (end_of new (other end)).handed) b.seg_size ∙ ap (segments_of old.seg_size) b.back_handed);
+      acked = omega (arith, b.back_sent, b.back_acked, e.acked);
+    }

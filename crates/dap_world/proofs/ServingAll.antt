@@ -19,6 +19,7 @@ use Rattle.dap_world.specs.Settling.{RanBy, RanTo, IsEmpty, IsExhausted, IsPostD
 use Rattle.dap_world.specs.Inner.Settling.{AreEmpty, Emptied, Served, ServedEvery}
 use Rattle.dap_world.proofs.Exhausting.{quiet_empty, quiet_enough}
 use Rattle.dap_world.proofs.Kept.{headline_of}
+use Rattle.dap_world.proofs.Posting.{still_other}
 use Rattle.dap_world.proofs.Settles.{ran_none, ran_one, ran_both}
 
 -- all came, where all segments were taken
@@ -98,17 +99,9 @@ served_none s e = record { ran = ran_none s; empty = e; handed = refl; sent_a = 
 
 pub served_more : (old now mid new : State) (n k more m : ℕ) → Served old now n k → ServedOne now mid → Emptied mid new B more → m ≡ k + 1 → Served old new (n + (1 + more)) m
 served_more old now mid new n k more m h one e is =
-    let same_a : unacked new A ≡ 0 = omega (arith, e.back_sent, e.back_acked, ap (λ (e : EndState). e.sent) one.from_a, ap (λ (e : EndState). e.acked) one.from_a, h.empty.0.acked) in
     record {
       ran = ran_both old now new n (1 + more) h.ran (ran_both now mid new 1 more one.ran e.ran);
-      empty = (
-        record {
-          waiting = e.back_waiting ∙ ap (λ (e : EndState). e.waiting) one.from_a ∙ h.empty.0.waiting;
-          sent = e.back_sent ∙ ap (λ (e : EndState). e.sent) one.from_a ∙ h.empty.0.sent ∙ sym (all_a one e);
-          acked = same_a;
-        },
-        e.empty,
-      );
+      empty = (still_other mid new B more (served_due now mid one h.empty).0 e, e.empty);
       handed = e.back_handed ∙ ap (λ (e : EndState). e.handed) one.from_a ∙ h.handed;
       sent_a = e.back_sent ∙ ap (λ (e : EndState). e.sent) one.from_a ∙ h.sent_a;
       served = omega (arith, e.served, one.served, h.served, is);
@@ -118,11 +111,6 @@ served_more old now mid new n k more m h one e is =
       count = omega (arith, e.count, h.count, is);
       nothing = λ none. absurd (omega (arith, none, is));
     }
-  where
-    all_a : ServedOne now mid → Emptied mid new B more → segments_of new.seg_size new.a.handed ≡ segments_of now.seg_size now.a.handed
-    all_a one e =
-        ap (λ (i : ℕ). segments_of i new.a.handed) (e.seg_size ∙ one.seg_size)
-        ∙ ap (segments_of now.seg_size) (e.back_handed ∙ ap (λ (e : EndState). e.handed) one.from_a)
 
 -- ---- How many.
 
