@@ -1,5 +1,5 @@
 -- What isn't stale is told apart by its numbers modulo 4,096.
-use Rattle.std.proofs.Common.{◌≡◌, ℕ, ◌+◌, ◌≤◌, arith, refl, subst}
+use Rattle.std.proofs.Common.{◌≡◌, ℕ, ◌+◌, ◌≤◌, arith, subst}
 use Rattle.std.specs.Prelude.{Option, Some, None, IfSome}
 use Rattle.nsp_seg.specs.Numbers.{residue}
 use Rattle.nsp_link.specs.Separation.{IsSegmentNear, IsAckNear}

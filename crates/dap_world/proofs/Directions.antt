@@ -1,5 +1,5 @@
 -- What is true of a direction stays so.
-use Rattle.std.proofs.Common.{◌≡◌, ℕ, zero, suc, ◌+◌, ◌≤◌, ◌<◌, arith, refl, sym, true, false, Bool, subst}
+use Rattle.std.proofs.Common.{◌≡◌, ℕ, zero, suc, ◌+◌, ◌≤◌, ◌<◌, arith, refl, true, false, Bool, subst}
 use Rattle.std.specs.Prelude.{max, nat_lt, ◌==◌, ◌&&◌, List, [], ◌∷◌, ◌++◌, Option, Some, None, if◌then◌else◌, slice_get}
 use Rattle.dap_msg.specs.Blocked.{NspMessage}
 use Rattle.nsp_link.specs.Holding.{closed_up, with_number}

@@ -146,7 +146,7 @@ came keep taken held None = (taken, held)
 came keep taken held (Some k) =
     if k == taken + 1 then closed_up k held else (taken, if nat_lt taken k && keep then with_number k held else held)
 
--- a packet comes, with an acknowledgement
+-- a packet comes; of the acknowledgements the greatest counts
 abbrev pub delivered : (keep : Bool) → EndState → Sending → EndState
 delivered keep e p =
     let got = came keep e.taken e.held p.segment in record e { acked = max e.acked p.acks; taken = got.0; held = got.1 }

@@ -6,6 +6,7 @@ use Rattle.dap_accessed.specs.Groups.{Answers}
 use Rattle.dap_accessing.specs.Asked.{Asked}
 use Rattle.nsp_link.specs.Limits.{largest_window, most_segments}
 use Rattle.dap_world.specs.Agreement.{IsBufsiz, AreAdmissible}
+use Rattle.dap_world.specs.declared.event.End.TheVariants.{A, B}
 use Rattle.dap_world.specs.Machine.{State, EndState, Sending, taken_of, arrived_at, segments_of}
 
 -- ---- Each direction.
@@ -32,10 +33,10 @@ abbrev pub AreTrue : ℕ → ℕ → List Sending → Type 0
 AreTrue sent taken [] = Unit {0}
 AreTrue sent taken (p ∷ wire) = WasSent sent p.segment × (p.acks ≤ taken) × AreTrue sent taken wire
 
-pub record IsDirection (window there sent acked taken : ℕ) (held : List ℕ) (back : ℕ) (wire : List Sending) : Type 0 where
+pub record IsDirection (window there sent acked taken : ℕ) (held : List ℕ) (back : ℕ) (packets : List Sending) : Type 0 where
   pub counts : CountsInOrder window there sent acked taken
   pub early : AreEarly (taken + 1) sent held
-  pub wire : AreTrue sent back wire
+  pub wire : AreTrue sent back packets
 
 -- what one end sends, and the other takes
 abbrev pub Reaches : (seg_size window : ℕ) → (from to : EndState) → Type 0
