@@ -1,6 +1,6 @@
 -- A segment is sent, delivered and acknowledged.
-use Rattle.std.proofs.Common.{◌≡◌, ℕ, ◌+◌, ◌*◌, ◌≤◌, ◌<◌, List, arith, refl, sym, ◌∙◌, subst, ap, Bool, true, false, length, le-ltb}
-use Rattle.std.specs.Prelude.{◌-◌, Option, Some, None, Err, slice_get}
+use Rattle.std.proofs.Common.{◌≡◌, ℕ, ◌+◌, ◌*◌, ◌≤◌, ◌<◌, List, arith, refl, sym, ◌∙◌, subst, ap, true, false, length, le-ltb}
+use Rattle.std.specs.Prelude.{◌-◌, Option, Some, Err, slice_get}
 use Rattle.dap_world.specs.declared.event.End.{End}
 use Rattle.dap_world.specs.declared.event.End.TheVariants.{A, B}
 use Rattle.dap_world.specs.declared.event.Event.TheVariants as event

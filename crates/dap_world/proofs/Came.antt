@@ -1,11 +1,11 @@
 -- A packet that is delivered is a step of the machine.
-use Rattle.std.proofs.Common.{◌≡◌, ℕ, zero, suc, ◌+◌, ◌≤◌, ◌<◌, arith, refl, sym, ◌∙◌, subst, ap, true, false, List, [], ◌∷◌, length, drop, map, inl, inr, lt-ltb, le-ltb, eq-eqb}
+use Rattle.std.proofs.Common.{◌≡◌, ℕ, zero, suc, ◌+◌, ◌≤◌, ◌<◌, arith, refl, sym, ◌∙◌, subst, ap, true, false, List, [], ◌∷◌, length, map, inl, inr, lt-ltb, le-ltb, eq-eqb}
 use Rattle.std.specs.Prelude.{◌⊎◌, max, nat_lt, Option, Some, None, IfSome, Result, Ok, Err, slice_get}
 use Rattle.std.specs.Option.{option_map}
 use Rattle.std.proofs.lemmas.Option.{slice_get-map}
 use Rattle.std.proofs.lemmas.Bool.{cases_lt, cases_eq, ne_eqb}
 use Rattle.nsp_link.specs.Cutting.{Piece, cut}
-use Rattle.nsp_link.specs.Holding.{closed_up, with_number, numbers, following}
+use Rattle.nsp_link.specs.Holding.{closed_up, numbers, following}
 use Rattle.nsp_link.specs.Limits.{most_segments, largest_window}
 use Rattle.nsp_link.specs.Link.{LinkValue, Sends, Delivered, Keeps, MayRefuse, got_of, taken_after, held_after}
 use Rattle.nsp_link.specs.declared.link.Got.{Got}
@@ -35,7 +35,7 @@ use Rattle.dap_world.proofs.Counting.{segments-handed}
 use Rattle.dap_world.proofs.Directions.{closed}
 use Rattle.dap_world.proofs.Kept.{kept-step}
 use Rattle.dap_world.proofs.Ways.{takes, told_gives, told_takes}
-use Rattle.dap_world.proofs.Arriving.{AllNear, IsDueAs, IsNear, all_at, due}
+use Rattle.dap_world.proofs.Arriving.{AllNear, IsDueAs, due}
 use Rattle.dap_world.proofs.Wrote.{AreAfter, AreThen, StaysAt, asking_parts, serving_parts, at_a, at_b, none_more}
 
 -- ---- What is near.

@@ -1,6 +1,7 @@
 -- Every answer is read.
 use Rattle.std.proofs.Common.{◌≡◌, ℕ, ◌+◌, ◌-◌, ◌<◌, arith, refl, sym, ◌∙◌, subst, ap, length}
 use Rattle.std.specs.Prelude.{Err}
+use Rattle.dap_world.specs.declared.event.End.TheVariants.{A}
 use Rattle.dap_world.specs.declared.event.Event.TheVariants as event
 use Rattle.dap_world.specs.declared.event.Step.{Step}
 use Rattle.dap_world.specs.declared.event.WorldFault.{WorldFault}

@@ -1,5 +1,5 @@
 -- Whether the Post that is due would make too many segments.
-use Rattle.std.proofs.Common.{◌≡◌, ℕ, ◌<◌, arith, refl, sym, ◌∙◌, subst, ap, List, [], length, map, take, drop}
+use Rattle.std.proofs.Common.{◌≡◌, ◌<◌, arith, refl, sym, ◌∙◌, subst, ap, List, [], length, map, take, drop}
 use Rattle.std.specs.Prelude.{Err}
 use Rattle.std.proofs.Math.Seq.{drop-nil, take-nil}
 use Rattle.dap_msg.specs.Message.{Message}

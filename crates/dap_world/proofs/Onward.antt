@@ -12,7 +12,7 @@ use Rattle.dap_world.specs.declared.event.End.TheVariants.{A, B}
 use Rattle.dap_world.specs.declared.event.Event.{Event}
 use Rattle.dap_world.specs.declared.event.Event.TheVariants as event
 use Rattle.dap_world.specs.declared.event.Step.{Step}
-use Rattle.dap_world.specs.Machine.{State, end_of, sent_by, taken_of, answers_read, reported, Steps}
+use Rattle.dap_world.specs.Machine.{State, sent_by, taken_of, answers_read, reported, Steps}
 use Rattle.dap_world.specs.Runs.{Runs}
 use Rattle.dap_world.specs.Inner.Worlds.{IsWorld}
 use Rattle.dap_world.specs.Settling.{AsksNothing, RanBy, RanTo}

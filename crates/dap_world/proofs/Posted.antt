@@ -22,7 +22,6 @@ use Rattle.dap_end.specs.Serving.{ServingValue, Past, IsAfter, PostedAll}
 use Rattle.dap_end.proofs.ForCallers.{back_fit, in_append}
 use Rattle.dap_world.specs.declared.event.End.{End}
 use Rattle.dap_world.specs.declared.event.End.TheVariants.{A, B}
-use Rattle.dap_world.specs.declared.event.Event.{Event}
 use Rattle.dap_world.specs.declared.event.Event.TheVariants as event
 use Rattle.dap_world.specs.declared.event.Step.{Step}
 use Rattle.dap_world.specs.declared.event.Step.TheVariants as step

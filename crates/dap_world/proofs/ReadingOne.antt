@@ -1,5 +1,5 @@
 -- Reading an answer is a step of the machine.
-use Rattle.std.proofs.Common.{◌≡◌, ◌≢◌, ℕ, ◌+◌, ◌^◌, ◌≤◌, ◌<◌, arith, refl, sym, ◌∙◌, subst, ap, append_assoc, Bool, true, List, [], ◌∷◌, ◌++◌, length, take, drop, map, inl, eq-eqb}
+use Rattle.std.proofs.Common.{◌≡◌, ◌≢◌, ℕ, ◌+◌, ◌^◌, ◌≤◌, ◌<◌, arith, refl, sym, ◌∙◌, subst, ap, append_assoc, true, List, [], ◌∷◌, ◌++◌, length, take, drop, map, eq-eqb}
 use Rattle.std.specs.Prelude.{◌==◌, if◌then◌else◌, option_to_list, Option, Some, None, Ok, Err, slice_get}
 use Rattle.std.proofs.lemmas.List.{length-append, map-append, append-nil}
 use Rattle.std.proofs.lemmas.Bool.{ne_eqb}
@@ -12,10 +12,10 @@ use Rattle.dap_accessing.specs.Told.{Told, is_unexpected}
 use Rattle.dap_accessing.specs.declared.report.Report.{Report}
 use Rattle.nsp_link.specs.Cutting.{cut}
 use Rattle.nsp_link.specs.Limits.{most_segments}
+use Rattle.dap_world.specs.declared.event.End.TheVariants.{A}
 use Rattle.dap_world.specs.declared.event.Event.TheVariants as event
 use Rattle.dap_world.specs.declared.event.Step.{Step}
 use Rattle.dap_world.specs.declared.event.Step.TheVariants as step
-use Rattle.dap_world.specs.declared.event.WorldFault.{WorldFault}
 use Rattle.dap_world.specs.declared.event.WorldFault.TheVariants as fault
 use Rattle.dap_world.specs.Machine.{Refuses, arrived, arrived_at, taken_of, answers_read, read_one, next_to_read, told_by, reported, Steps}
 use Rattle.dap_world.specs.Runs.{Went, MayHappen}

@@ -1,8 +1,8 @@
 -- What waits at both ends is brought to the other.
-use Rattle.std.proofs.Common.{◌≡◌, ℕ, ◌+◌, arith, sym, ◌∙◌, ap}
+use Rattle.std.proofs.Common.{◌≡◌, ℕ, ◌+◌, arith, ◌∙◌}
 use Rattle.dap_world.specs.declared.event.End.TheVariants.{A, B}
-use Rattle.dap_world.specs.Machine.{State, segments_of}
-use Rattle.dap_world.specs.Settling.{IsEmpty, unacked}
+use Rattle.dap_world.specs.Machine.{State}
+use Rattle.dap_world.specs.Settling.{unacked}
 use Rattle.dap_world.specs.Inner.Settling.{Emptied, SentBoth}
 use Rattle.dap_world.proofs.Posting.{still_other}
 use Rattle.dap_world.proofs.Settles.{ran_both}

@@ -1,12 +1,12 @@
 -- Serving a message is a step of the machine.
-use Rattle.std.proofs.Common.{◌≡◌, ℕ, ◌+◌, ◌≤◌, ◌<◌, arith, refl, sym, ◌∙◌, subst, ap, append_assoc, List, [], ◌∷◌, ◌++◌, length, take, drop, map, inl, inr}
+use Rattle.std.proofs.Common.{◌≡◌, ℕ, ◌+◌, ◌<◌, arith, refl, sym, ◌∙◌, subst, ap, append_assoc, List, [], ◌∷◌, ◌++◌, length, take, drop, map, inl, inr}
 use Rattle.std.specs.Prelude.{◌⊎◌, Some, Ok, Err, slice_get}
 use Rattle.std.proofs.lemmas.List.{append-nil, length-append, length-map, map-append, take-append-le, take-append-drop, drop_all}
 use Rattle.std.proofs.Math.Seq.{drop-append_seam}
 use Rattle.dap_msg.specs.Message.{Message}
 use Rattle.dap_msg.specs.Items.{Item, Whole}
 use Rattle.dap_msg.specs.Canon.{canon}
-use Rattle.dap_msg.specs.Blocked.{NspMessage, joined, Blocked, all_joined, messages_in, AllFit}
+use Rattle.dap_msg.specs.Blocked.{NspMessage, joined, all_joined, messages_in, AllFit}
 use Rattle.dap_msg.proofs.ForCallers.{messages_in-Blocked}
 use Rattle.dap_accessed.specs.Groups.{Answers, added, stands_after}
 use Rattle.dap_accessed.specs.Present as accessed

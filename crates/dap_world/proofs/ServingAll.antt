@@ -15,7 +15,7 @@ use Rattle.dap_world.specs.declared.event.WorldFault.TheVariants as fault
 use Rattle.dap_world.specs.Machine.{State, EndState, arrived, arrived_at, segments_of, sent_by, taken_of, Steps, Refuses}
 use Rattle.dap_world.specs.Runs.{Went}
 use Rattle.dap_world.specs.Inner.Worlds.{IsWorld}
-use Rattle.dap_world.specs.Settling.{RanBy, RanTo, IsEmpty, IsExhausted, IsPostDue, FinishFault, unacked}
+use Rattle.dap_world.specs.Settling.{RanBy, RanTo, IsEmpty, IsExhausted, IsPostDue, FinishFault}
 use Rattle.dap_world.specs.Inner.Settling.{AreEmpty, Emptied, Served, ServedEvery}
 use Rattle.dap_world.proofs.Exhausting.{quiet_empty, quiet_enough}
 use Rattle.dap_world.proofs.Kept.{headline_of}
