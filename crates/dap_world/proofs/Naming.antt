@@ -7,19 +7,19 @@ use Rattle.dap_accessed.specs.Groups.{Answers as Answered}
 use Rattle.dap_accessing.specs.Told.{Told}
 use Rattle.dap_accessing.proofs.ForCallers.{reports_grow}
 use Rattle.dap_world.specs.declared.event.End.{End}
-use Rattle.dap_world.specs.declared.event.End.TheVariants.{A, B}
 use Rattle.dap_world.specs.declared.event.Event.{Event}
 use Rattle.dap_world.specs.declared.event.Event.TheVariants as event
 use Rattle.dap_world.specs.declared.event.Step.{Step}
 use Rattle.dap_world.specs.declared.event.Step.TheVariants as step
 use Rattle.dap_world.specs.declared.event.WorldFault.{WorldFault}
-use Rattle.dap_world.specs.Machine.{State, end_of, with_end, wrote, taken_of, answers_read, reported, read_one, told_by, Steps}
+use Rattle.dap_world.specs.Machine.{State, EndState, end_of, with_end, wrote, taken_of, answers_read, reported, read_one, told_by, Steps}
 use Rattle.dap_world.specs.Runs.{NamedIsThere, Went, writer_of}
+use Rattle.dap_world.proofs.Kept.{now_at}
 
 -- one packet more was written
 wire_grew : (s new : State) (end : End) (sent : ℕ) (k : Option ℕ) → new ≡ with_end s end (wrote (end_of s end) sent k) → length (end_of s end).wire < length (end_of new end).wire
-wire_grew s new A sent k e = omega (arith, ap (λ (t : State). length t.a.wire) e, length-append s.a.wire (record { segment = k; acks = s.a.taken } ∷ []))
-wire_grew s new B sent k e = omega (arith, ap (λ (t : State). length t.b.wire) e, length-append s.b.wire (record { segment = k; acks = s.b.taken } ∷ []))
+wire_grew s new end sent k e =
+    let wire = (end_of s end).wire in omega (arith, ap (λ (x : EndState). length x.wire) (now_at s new end _ e), length-append wire (record { segment = k; acks = (end_of s end).taken } ∷ []))
 
 packet_there : (e : Event) (s new : State) (end : End) (sent : ℕ) (k : Option ℕ) (answer : Step) → writer_of e ≡ Some end → answer ≡ step.Packet (length (end_of s end).wire) → new ≡ with_end s end (wrote (end_of s end) sent k) → NamedIsThere e answer new
 packet_there e s new end sent k answer by is went = subst (λ (a : Step). NamedIsThere e a new) (sym is) (end, by, wire_grew s new end sent k went)

@@ -123,45 +123,15 @@ took taken sent held keep k n early is le there =
     ]
 
 -- the packet at the next place is the one that carries the next segment
-next_there : (old now : State) (end : End) (first count n : ℕ) → AllCame old now end n → AreThere old end first count → n < count → slice_get (end_of now end).wire (first + n) ≡ Some (again old end n)
-next_there old now end first count n h there lt = ap (λ (l : List Sending). slice_get l (first + n)) h.wire ∙ there n lt
+next_at : (old now : State) (end : End) (first last j : ℕ) → AllCame old now end (j - first) → AreThere old end first (last - first) → first ≤ j → j < last
+    → slice_get (end_of now (other (other end))).wire j ≡ Some (again old end (j - first))
+next_at old now end first last j h there le lt =
+    let at : j ≡ first + (j - first) = omega arith in
+    ap (λ (e : End). slice_get (end_of now e).wire j) (twice end) ∙ ap (λ (e : EndState). slice_get e.wire j) h.still
+    ∙ ap (slice_get (end_of old end).wire) at ∙ there (j - first) (omega arith)
 
 pub is_same : (p q : Sending) (o : Option Sending) → o ≡ Some p → o ≡ Some q → p ≡ q
 is_same p q o e f = cc
-
--- one more was delivered
-came_one : (old now new : State) (end : End) (n : ℕ) (keep : Bool) → IsWorld now → AllCame old now end n → n < unacked old end → RanBy old new (n + 1)
-    → new ≡ with_end now (other end) (delivered keep (end_of now (other end)) (again old end n)) → AllCame old new end (n + 1)
-came_one old now new end n keep world h lt ran is =
-    let first = (end_of old end).acked in
-    let to = end_of now (other end) in
-    let grew : first + (n + 1) ≤ (came keep to.taken to.held (Some (first + 1 + n))).0 =
-    omega (arith, took to.taken (end_of now end).sent to.held keep (first + 1 + n) (first + n) (direction now end world).early (omega arith) h.taken (omega (arith, h.sent, lt))) in
-    let here = still_at now new end _ is in
-    record {
-      ran = ran;
-      taken = subst (λ (e : EndState). first + (n + 1) ≤ e.taken) (sym (now_at now new (other end) _ is)) grew;
-      sent = ap (λ (e : EndState). e.sent) here ∙ h.sent;
-      acked = ap (λ (e : EndState). e.acked) here ∙ h.acked;
-      wire = ap (λ (e : EndState). e.wire) here ∙ h.wire;
-      back = ap (λ (e : EndState). e.taken) here ∙ h.back;
-      window = same_window now new (other end) _ is ∙ h.window;
-    }
-  where
-    same_window : (s new : State) (end : End) (e : EndState) → new ≡ with_end s end e → new.window ≡ s.window
-    same_window s new A e is = ap (λ (t : State). t.window) is
-    same_window s new B e is = ap (λ (t : State). t.window) is
-
-came_at : (old now new : State) (end : End) (first count n j m : ℕ) (answer : Step) → IsWorld now → AllCame old now end n → AreThere old end first count → n < count → count ≤ unacked old end → j ≡ first + n → m ≡ n + 1
-    → Steps now (event.Deliver (other end) j) answer new → AllCame old new end m
-unfolding Steps
-came_at old now new end first count n j m answer world h there lt few is one step =
-    let at : slice_get (end_of now (other (other end))).wire j ≡ Some (again old end n) =
-    subst (λ (e : End). slice_get (end_of now e).wire j ≡ Some (again old end n)) (sym (twice end)) (ap (slice_get (end_of now end).wire) is ∙ next_there old now end first count n h there lt) in
-    let same : step.0 ≡ again old end n = is_same step.0 (again old end n) _ step.1 at in
-    subst (λ (x : ℕ). AllCame old new end x) (sym one)
-    (came_one old now new end n true world h (omega arith) (ran_more old now new n (event.Deliver (other end) j) answer tt h.ran step)
-    (step.4 ∙ ap (λ (p : Sending). with_end now (other end) (delivered true (end_of now (other end)) p)) same))
 
 -- a segment that isn't acknowledged isn't stale, nor is an acknowledgement of all that was taken
 fresh_again : (old now : State) (end : End) (n : ℕ) → IsWorld now → AllCame old now end n → is_stale (end_of now (other end)) (again old end n) ≡ false
@@ -170,28 +140,35 @@ fresh_again old now end n world h =
     let b = (back now end world).counts in
     let to = end_of now (other end) in
     rw (
-      le-ltb ((end_of old end).acked + 1 + n + 2047) (to.taken + 1) (omega (arith, c.taken_sent, c.within_window, world.window, h.acked)),
-      le-ltb ((end_of old end).taken + 2047) to.acked (omega (arith, b.acked_taken, h.back)),
+      le-ltb ((end_of old end).acked + 1 + n + 2047) (to.taken + 1) (omega (arith, c.taken_sent, c.within_window, world.window, ap (λ (e : EndState). e.acked) h.still)),
+      le-ltb ((end_of old end).taken + 2047) to.acked (omega (arith, b.acked_taken, ap (λ (e : EndState). e.taken) h.still)),
     ) refl
 
+-- one more was delivered
 pub came_more : (old now new : State) (end : End) (first last j : ℕ) (answer : Step) → IsWorld now → AllCame old now end (j - first) → AreThere old end first (last - first) → first ≤ j → j < last → last - first ≤ unacked old end
     → Steps now (event.Deliver (other end) j) answer new → AllCame old new end (j + 1 - first)
 unfolding Steps
 came_more old now new end first last j answer world h there le lt few step =
-    came_at old now new end first (last - first) (j - first) j (j + 1 - first) answer world h there (omega arith) few (omega arith) (omega arith) step
+    let k = (end_of old end).acked + 1 + (j - first) in
+    let to = end_of now (other end) in
+    let same : step.0 ≡ again old end (j - first) = is_same step.0 (again old end (j - first)) _ step.1 (next_at old now end first last j h there le lt) in
+    let is = step.4 ∙ ap (λ (p : Sending). with_end now (other end) (delivered true to p)) same in
+    let grew : (end_of old end).acked + (j + 1 - first) ≤ (came true to.taken to.held (Some k)).0 =
+    omega (arith, took to.taken (end_of now end).sent to.held true k ((end_of old end).acked + (j - first)) (direction now end world).early (omega arith) h.taken (omega (arith, ap (λ (e : EndState). e.sent) h.still, few, lt))) in
+    record {
+      ran = subst (RanBy old new) (omega arith) (ran_more old now new (j - first) (event.Deliver (other end) j) answer tt h.ran step);
+      taken = subst (λ (e : EndState). (end_of old end).acked + (j + 1 - first) ≤ e.taken) (sym (now_at now new (other end) _ is)) grew;
+      still = still_at now new end _ is ∙ h.still;
+    }
 
 pub came_refused : (old now new : State) (end : End) (first last j : ℕ) (f : WorldFault) → IsWorld now → AllCame old now end (j - first) → AreThere old end first (last - first) → first ≤ j → j < last
     → Went now (event.Deliver (other end) j) (Err f) new → (f ≡ fault.NoMemory) × RanTo old new
 unfolding Steps Refuses
 came_refused old now new end first last j fault.NoMemory world h there le lt went = (refl, (j - first, subst (λ (s : State). RanBy old s (j - first)) (sym went.1) h.ran))
 came_refused old now new end first last j fault.NoSuchPacket world h there le lt went =
-    let at : slice_get (end_of now (other (other end))).wire j ≡ Some (again old end (j - first)) =
-    subst (λ (e : End). slice_get (end_of now e).wire j ≡ Some (again old end (j - first))) (sym (twice end)) (ap (slice_get (end_of now end).wire) (omega arith) ∙ next_there old now end first (last - first) (j - first) h there (omega arith)) in
-    let none = went.0 in absurd cc
+    let at = next_at old now end first last j h there le lt in let none = went.0 in absurd cc
 came_refused old now new end first last j fault.Stale world h there le lt went =
-    let at : slice_get (end_of now (other (other end))).wire j ≡ Some (again old end (j - first)) =
-    subst (λ (e : End). slice_get (end_of now e).wire j ≡ Some (again old end (j - first))) (sym (twice end)) (ap (slice_get (end_of now end).wire) (omega arith) ∙ next_there old now end first (last - first) (j - first) h there (omega arith)) in
-    let same : went.0.0 ≡ again old end (j - first) = is_same went.0.0 (again old end (j - first)) _ went.0.1 at in
+    let same : went.0.0 ≡ again old end (j - first) = is_same went.0.0 (again old end (j - first)) _ went.0.1 (next_at old now end first last j h there le lt) in
     let stale : is_stale (end_of now (other end)) (again old end (j - first)) ≡ true = subst (λ (p : Sending). is_stale (end_of now (other end)) p ≡ true) same went.0.2 in
     let young = fresh_again old now end (j - first) world h in absurd cc
 came_refused old now new end first last j fault.NothingToDo world h there le lt went = absurd went.0
@@ -297,11 +274,11 @@ pub same_unacked : (old mid : State) (end : End) (count : ℕ) → AllResent old
 same_unacked old mid end count h = ap (λ (e : EndState). e.sent - e.acked) (now_at old mid end _ h.wrote)
 
 pub came_unacked : (old new : State) (end : End) (n : ℕ) → AllCame old new end n → unacked new end ≡ unacked old end
-came_unacked old new end n h = omega (arith, h.sent, h.acked)
+came_unacked old new end n h = ap (λ (e : EndState). e.sent - e.acked) h.still
 
 -- all that was sent was taken
 pub all_taken : (mid now : State) (end : End) (count : ℕ) → IsWorld mid → AllCame mid now end count → count ≡ unacked mid end → (end_of now end).sent ≤ (end_of now (other end)).taken
-all_taken mid now end count world h is = let c = (direction mid end world).counts in omega (arith, h.taken, h.sent, is, c.acked_taken, c.taken_sent)
+all_taken mid now end count world h is = let c = (direction mid end world).counts in omega (arith, h.taken, ap (λ (e : EndState). e.sent) h.still, is, c.acked_taken, c.taken_sent)
 
 -- as many packets are shown as stand on the wire
 pub wire_length : (s : State) (end : End) (wire : List Wired) → AreWired s end wire → length wire ≡ length (end_of s end).wire

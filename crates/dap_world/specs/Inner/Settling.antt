@@ -45,15 +45,11 @@ abbrev pub AreThere : State → End → (first count : ℕ) → Type 0
 AreThere s end first count =
     (i : ℕ) → i < count → slice_get (end_of s end).wire (first + i) ≡ Some (record { segment = Some ((end_of s end).acked + 1 + i); acks = (end_of s end).taken })
 
--- So many of them were delivered: the other end took no fewer segments, and of this one nothing moved.
+-- So many of them were delivered: the other end took no fewer segments, and this one didn't move.
 pub record AllCame (old new : State) (end : End) (n : ℕ) : Type 0 where
   pub ran : RanBy old new n
   pub taken : (end_of old end).acked + n ≤ (end_of new (other end)).taken
-  pub sent : (end_of new end).sent ≡ (end_of old end).sent
-  pub acked : (end_of new end).acked ≡ (end_of old end).acked
-  pub wire : (end_of new end).wire ≡ (end_of old end).wire
-  pub back : (end_of new end).taken ≡ (end_of old end).taken
-  pub window : new.window ≡ old.window
+  pub still : end_of new end ≡ end_of old end
 
 -- So many segments more were sent, and brought to the other end, which acknowledged them.
 pub record Brought (old new : State) (end : End) (n : ℕ) : Type 0 where
