@@ -4,9 +4,9 @@ use Rattle.std.specs.Prelude.{Option, Some, None, IfSome}
 use Rattle.nsp_seg.specs.Numbers.{residue}
 use Rattle.nsp_link.specs.Separation.{IsSegmentNear, IsAckNear}
 use Rattle.dap_world.specs.declared.event.End.{End}
-use Rattle.dap_world.specs.Machine.{State, Sending, end_of, other, is_old, is_old_segment}
+use Rattle.dap_world.specs.Machine.{State, Sending, end_of, other, is_old, is_old_segment, IsDue}
 use Rattle.dap_world.specs.Runs.{IsReached}
-use Rattle.dap_world.specs.Separation.{InOrder, IsFreshAt, AreApart}
+use Rattle.dap_world.specs.Separation.{InOrder, AreApart}
 use Rattle.dap_world.specs.Inner.Worlds.{IsWorld, WasSent}
 use Rattle.dap_world.proofs.Arriving.{young_segment, young_ack, neither}
 use Rattle.dap_world.proofs.Kept.{runs_sound, back, direction, true_of}
@@ -16,7 +16,7 @@ segment_near taken sent None le was young = tt
 segment_near taken sent (Some k) le was young = (young, omega (arith, le, was.1))
 
 module _ (s : State) (end : End) (h : IsWorld s) where
-  near_is : (j : ℕ) (p : Sending) → IsFreshAt s end j p → IfSome p.segment (IsSegmentNear (end_of s end).taken) × IsAckNear (end_of s end).acked p.acks
+  near_is : (j : ℕ) (p : Sending) → IsDue s end j p → IfSome p.segment (IsSegmentNear (end_of s end).taken) × IsAckNear (end_of s end).acked p.acks
   near_is j p fresh =
       let comes = back s end h in
       let there = direction s end h in

@@ -90,7 +90,7 @@ same_ack old new end answer step = same_wrote old new end _ _ step.1
 pub same_deliver : (old new : State) (end : End) (j : ℕ) (answer : Step) → IsWorld old → Steps old (event.Deliver end j) answer new → SameBut old new
 unfolding Steps
 same_deliver old new end j answer h step =
-    same_moves old new end _ step.4 (record { handed = refl; waiting = refl; taken = (came_in old end true j step.0 h step.1).1; acked = omega arith })
+    same_moves old new end _ step.3 (record { handed = refl; waiting = refl; taken = (came_in old end true j step.0 h step.1.0).1; acked = omega arith })
 
 -- how many were sent
 pub emit_sent : (old new : State) (end : End) (answer : Step) → Steps old (event.Emit end) answer new → ((end_of new end).sent ≡ (end_of old end).sent + 1) × ((end_of new (other end)).sent ≡ (end_of old (other end)).sent)
@@ -110,7 +110,7 @@ ack_sent old new end e answer step = sent_same old new end e _ step.1 refl
 
 pub deliver_sent : (old new : State) (end e : End) (j : ℕ) (answer : Step) → Steps old (event.Deliver end j) answer new → (end_of new e).sent ≡ (end_of old e).sent
 unfolding Steps
-deliver_sent old new end e j answer step = sent_same old new end e _ step.4 refl
+deliver_sent old new end e j answer step = sent_same old new end e _ step.3 refl
 
 -- it isn't acknowledged
 pub emit_unacked : (old mid : State) (end : End) (answer : Step) → IsWorld old → unacked old end ≡ 0 → Steps old (event.Emit end) answer mid → unacked mid end ≡ 1
@@ -121,7 +121,7 @@ emit_unacked old mid end answer h none step =
 -- nor is it when it came
 pub deliver_unacked : (mid new : State) (end : End) (j : ℕ) (answer : Step) → Steps mid (event.Deliver (other end) j) answer new → unacked new end ≡ unacked mid end
 unfolding Steps
-deliver_unacked mid new end j answer step = ap (λ (e : EndState). e.sent - e.acked) (still_at mid new end _ step.4)
+deliver_unacked mid new end j answer step = ap (λ (e : EndState). e.sent - e.acked) (still_at mid new end _ step.3)
 
 -- ---- The segment arrives.
 
@@ -174,8 +174,8 @@ unfolding Steps
 arrived_all old mid new end place one two h w none first at second =
     let count = (end_of old end).sent in
     let to = end_of mid (other end) in
-    let same : second.0 ≡ first_sent old end = is_same second.0 (first_sent old end) _ second.1 (there_first old mid end place one first at) in
-    let is = second.4 ∙ ap (λ (p : Sending). with_end mid (other end) (delivered true to p)) same in
+    let same : second.0 ≡ first_sent old end = is_same second.0 (first_sent old end) _ second.1.0 (there_first old mid end place one first at) in
+    let is = second.3 ∙ ap (λ (p : Sending). with_end mid (other end) (delivered true to p)) same in
     let sent : (end_of mid end).sent ≡ count + 1 = (emit_sent old mid end one first).0 in
     let taken = ap (λ (e : EndState). e.taken) (other_still old mid end _ first.2) in
     let grew = took to.taken (end_of mid end).sent to.held true (count + 1) count (direction mid end w).early refl (omega (arith, (direction old end h).counts.acked_taken, none, taken)) (omega (arith, sent)) in

@@ -188,7 +188,7 @@ steps : (p : Parts) (end : End) (j : ℕ) (w : Wired) → slice_get (side p (oth
     → Steps (state_of p) (event.Deliver end j) (step.Delivered (got_of (side p end).link.received w.segment)) (with_end (state_of p) end (delivered true (end_of (state_of p) end) (sending_of w)))
 unfolding Steps
 steps p end j w at young =
-    (sending_of w, there p (other end) j (Some w) at, stale_is p end w ∙ young, ap (λ (n : ℕ). step.Delivered (got_of n w.segment)) (sym (taken_is p end)), refl)
+    (sending_of w, (there p (other end) j (Some w) at, stale_is p end w ∙ young), ap (λ (n : ℕ). step.Delivered (got_of n w.segment)) (sym (taken_is p end)), refl)
 
 -- the segment is the next, or an early one that the link keeps
 abbrev TakesIn : LinkValue → Option ℕ → Type 0
@@ -203,10 +203,10 @@ takes_some v (Some k) (inr keeps) le = omega (arith, keeps.0)
 
 next_takes : (p : Parts) (end : End) (j : ℕ) (w : Wired) → slice_get (side p (other end)).wire j ≡ Some w → TakesIn (side p end).link w.segment → TakesNoMemory (state_of p) (event.Deliver end j) → ⊥
 next_takes p end j w at takes t =
-    let same : Some (sending_of w) ≡ Some t.0 = sym (there p (other end) j (Some w) at) ∙ t.1 in
+    let same : Some (sending_of w) ≡ Some t.0 = sym (there p (other end) j (Some w) at) ∙ t.1.0 in
     let is : sending_of w ≡ t.0 = cc in
     let le : IfSome w.segment (λ n. n ≤ (side p end).link.received) =
-    subst (λ (n : ℕ). IfSome w.segment (λ k. k ≤ n)) (taken_is p end) (subst (λ (x : Sending). IfSome x.segment (λ k. k ≤ (end_of (state_of p) end).taken)) (sym is) t.3) in
+    subst (λ (n : ℕ). IfSome w.segment (λ k. k ≤ n)) (taken_is p end) (subst (λ (x : Sending). IfSome x.segment (λ k. k ≤ (end_of (state_of p) end).taken)) (sym is) t.2) in
     takes_some (side p end).link w.segment takes le
 
 -- only memory was wanting

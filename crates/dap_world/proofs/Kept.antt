@@ -334,7 +334,7 @@ kept-freely old new (event.Resend end i) answer step h =
 kept-freely old new (event.Ack end) answer step h =
     let counts = (direction old end h).counts in
     subst IsWorld (sym step.1) (kept-wrote old end (end_of old end).sent None h (omega arith) counts.within_window counts.sent_there tt)
-kept-freely old new (event.Deliver end j) answer (keep, step) h = subst IsWorld (sym step.4) (kept-comes keep old end j step.0 h step.1)
+kept-freely old new (event.Deliver end j) answer (keep, step) h = subst IsWorld (sym step.3) (kept-comes keep old end j step.0 h step.1.0)
 kept-freely old new event.Serve answer step h = subst IsWorld (sym step.4) (kept-served old step.0 h step.1 step.2)
 kept-freely old new event.Read answer step h = subst IsWorld (sym step.3) (kept-read old step.0 h step.1)
 

@@ -61,7 +61,7 @@ answers_there s new (event.Post end) answer step = subst (λ (a : Step). NamedIs
 answers_there s new (event.Emit end) answer step = packet_there (event.Emit end) s new end ((end_of s end).sent + 1) (Some ((end_of s end).sent + 1)) answer refl step.1 step.2
 answers_there s new (event.Resend end i) answer step = packet_there (event.Resend end i) s new end (end_of s end).sent (Some ((end_of s end).acked + 1 + i)) answer refl step.1 step.2
 answers_there s new (event.Ack end) answer step = packet_there (event.Ack end) s new end (end_of s end).sent None answer refl step.0 step.1
-answers_there s new (event.Deliver end j) answer step = subst (λ (a : Step). NamedIsThere (event.Deliver end j) a new) (sym step.3) tt
+answers_there s new (event.Deliver end j) answer step = subst (λ (a : Step). NamedIsThere (event.Deliver end j) a new) (sym step.2) tt
 answers_there s new event.Serve answer step = subst (λ (a : Step). NamedIsThere event.Serve a new) (sym step.3) tt
 answers_there s new event.Read answer step = report_there s new answer step.2 step.3 (grows s)
 

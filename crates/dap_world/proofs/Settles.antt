@@ -151,8 +151,8 @@ unfolding Steps
 came_more old now new end first last j answer world h there le lt few step =
     let k = (end_of old end).acked + 1 + (j - first) in
     let to = end_of now (other end) in
-    let same : step.0 ≡ again old end (j - first) = is_same step.0 (again old end (j - first)) _ step.1 (next_at old now end first last j h there le lt) in
-    let is = step.4 ∙ ap (λ (p : Sending). with_end now (other end) (delivered true to p)) same in
+    let same : step.0 ≡ again old end (j - first) = is_same step.0 (again old end (j - first)) _ step.1.0 (next_at old now end first last j h there le lt) in
+    let is = step.3 ∙ ap (λ (p : Sending). with_end now (other end) (delivered true to p)) same in
     let grew : (end_of old end).acked + (j + 1 - first) ≤ (came true to.taken to.held (Some k)).0 =
     omega (arith, took to.taken (end_of now end).sent to.held true k ((end_of old end).acked + (j - first)) (direction now end world).early (omega arith) h.taken (omega (arith, ap (λ (e : EndState). e.sent) h.still, few, lt))) in
     record {
@@ -215,9 +215,9 @@ pub acknowledged_all : (old mid new : State) (end : End) (place : ℕ) (one two 
 unfolding Steps
 acknowledged_all old mid new end place one two world all at first second =
     let is = ack_wrote old mid end one first in
-    let same : second.0 ≡ alone old end = is_same second.0 (alone old end) _ second.1 (acked_wire old mid end place is at) in (
+    let same : second.0 ≡ alone old end = is_same second.0 (alone old end) _ second.1.0 (acked_wire old mid end place is at) in (
       ran_both old mid new 1 1 (ran_one old mid (event.Ack (other end)) one tt first) (ran_one mid new (event.Deliver end place) two tt second),
-      acked_all old mid new end true world all is (second.4 ∙ ap (λ (p : Sending). with_end mid end (delivered true (end_of mid end) p)) same),
+      acked_all old mid new end true world all is (second.3 ∙ ap (λ (p : Sending). with_end mid end (delivered true (end_of mid end) p)) same),
     )
 
 fresh_alone : (old mid : State) (end : End) → IsWorld old → WroteAck old mid end → is_stale (end_of mid end) (alone old end) ≡ false

@@ -196,12 +196,15 @@ next_to_read s = slice_get (arrived_at s A) s.read
 
 -- ---- Events.
 
--- A packet that the other end wrote comes to an end, and isn't stale.
+-- the other end wrote the packet at this place of its wire, and it isn't stale at this one
+abbrev pub IsDue : State → End → ℕ → Sending → Type 0
+IsDue s end j p = (slice_get (end_of s (other end)).wire j ≡ Some p) × (is_stale (end_of s end) p ≡ false)
+
+-- a packet comes to an end
 abbrev pub Delivers : (keep : Bool) → State → End → ℕ → Step → State → Type 0
 Delivers keep s end j answer new =
     let e = end_of s end in
-    (p : Sending) × (slice_get (end_of s (other end)).wire j ≡ Some p) × (is_stale e p ≡ false)
-    × (answer ≡ step.Delivered (got_of e.taken p.segment)) × (new ≡ with_end s end (delivered keep e p))
+    (p : Sending) × IsDue s end j p × (answer ≡ step.Delivered (got_of e.taken p.segment)) × (new ≡ with_end s end (delivered keep e p))
 
 -- The event happens: it is answered so, and leads from the old state to the new. Each early segment is kept.
 unfoldable pub Steps : State → Event → Step → State → Type 0

@@ -10,7 +10,7 @@ use Rattle.dap_world.specs.declared.event.Step.{Step}
 use Rattle.dap_world.specs.declared.event.Step.TheVariants as step
 use Rattle.dap_world.specs.declared.event.WorldFault.{WorldFault}
 use Rattle.dap_world.specs.declared.event.WorldFault.TheVariants as fault
-use Rattle.dap_world.specs.Machine.{State, Sending, Steps, StepsFreely, Refuses, fresh, end_of, other, is_stale, reported}
+use Rattle.dap_world.specs.Machine.{State, Sending, Steps, StepsFreely, Refuses, fresh, end_of, other, reported, IsDue}
 use Rattle.dap_world.specs.Setups.{IsWorldSetup}
 use Rattle.dap_world.specs.Wires.{address_of}
 use Rattle.dap_world.specs.declared.setup.WorldSetup.{WorldSetup}
@@ -22,8 +22,7 @@ MayHappen s e = (answer : Step) × (new : State) × Steps s e answer new
 -- a delivery that takes in no segment and holds none: of one that was taken, or of none
 abbrev pub TakesNoMemory : State → Event → Type 0
 TakesNoMemory s (event.Deliver end j) =
-    (p : Sending) × (slice_get (end_of s (other end)).wire j ≡ Some p) × (is_stale (end_of s end) p ≡ false)
-    × IfSome p.segment (λ k. k ≤ (end_of s end).taken)
+    (p : Sending) × IsDue s end j p × IfSome p.segment (λ k. k ≤ (end_of s end).taken)
 TakesNoMemory s e = ⊥
 
 -- Memory was refused: only to an event that has a step, and may take some.
