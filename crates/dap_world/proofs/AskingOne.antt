@@ -42,7 +42,7 @@ use Rattle.dap_world.specs.Inner.Sides.{AreShort, AskFaultOf, AskedSo, side_of}
 use Rattle.dap_world.specs.Inner.Parts.{Parts, AreParts, IsAskedAll, IsServedAll, IsTold, asks, answers, asking_end, serving_end, served_items, answer_packets, asked_packets, end_state, state_of}
 use Rattle.dap_world.proofs.Counting.{counted}
 use Rattle.dap_world.proofs.Blocks.{asked-more}
-use Rattle.dap_world.proofs.Growing.{told_to, told_more, handed_same}
+use Rattle.dap_world.proofs.Growing.{told_more, handed_same}
 use Rattle.dap_world.proofs.Kept.{kept-step, all-answers, served-front, served_count}
 use Rattle.dap_world.proofs.Agreeing.{both-agree}
 use Rattle.dap_world.proofs.Within.{messages-within}
@@ -161,7 +161,7 @@ module _ (p : Parts) (h : AreParts p) (r : Request) (m : IsAdmissible p.accessin
         most = h.most;
         from_a = subst (λ (l : List NspMessage). IsTold (record p.a { outbox = outbox }) p.b l p.served) (sym (asked-more p.accessing.own p.accessed.own p.requests r))
             (told_more p.a p.b (asks p) block p.served p.a.link.inbox p.a.place outbox more h.from_a refl more_is fit short);
-        from_b = subst (λ (l : List NspMessage). IsTold p.b (record p.a { outbox = outbox }) l p.read) (sym answers_same) (told_to p.b p.a (answers p) p.read outbox h.from_b);
+        from_b = subst (λ (l : List NspMessage). IsTold p.b (record p.a { outbox = outbox }) l p.read) (sym answers_same) h.from_b;
         sent_is = h.sent_is ∙ ap (λ (x : State). map canon (messages_in x.a.handed)) (sym state);
         reports_is = h.reports_is ∙ sym (same_told p.requests (answers_read s) p.accessing r h.asking.1.asking m.0) ∙ ap reported (sym state);
         asking = subst (λ (x : State). IsAskedAll (asking_end (q_of outbox after)) (p.requests ++ r ∷ []) (answers_read x)) (sym state) asking;

@@ -39,7 +39,7 @@ use Rattle.dap_world.proofs.Counting.{segments_queued, segments-cut, all_segment
 use Rattle.dap_world.proofs.Packets.{served-stays}
 use Rattle.dap_world.proofs.Blocks.{asked-full, full-drop}
 use Rattle.dap_world.proofs.Kept.{kept-step}
-use Rattle.dap_world.proofs.Ways.{still_way}
+use Rattle.dap_world.proofs.Ways.{still_way, told_with}
 use Rattle.dap_world.proofs.Wrote.{AreThen, asking_parts, serving_parts}
 
 -- ---- The ways.
@@ -162,17 +162,7 @@ told_posted packets count from to h short room =
     }
 
 told_queued : (packets : List NspMessage) (count : ℕ) (from to : SideValue) → IsTold from to packets count → IsTold from (new_side to) packets count
-told_queued packets count from to h =
-    record {
-      handed = h.handed;
-      posted = h.posted;
-      gone = h.gone;
-      among = h.among;
-      way = still_way from to.link (queued_link to.link (cut to.link.seg_size to.outbox)) h.handed _ refl h.way;
-      bytes = h.bytes;
-      fit = h.fit;
-      short = h.short;
-    }
+told_queued packets count from to h = told_with h (still_way from to.link (queued_link to.link (cut to.link.seg_size to.outbox)) h.handed _ refl h.way)
 
 -- what B served is a front of what A handed over, before and after
 served_same : (p : Parts) → AreParts p

@@ -31,7 +31,7 @@ use Rattle.dap_world.proofs.Packets.{arrived-front, get-front, take-next}
 use Rattle.dap_world.proofs.Blocks.{asked-all, asked-full}
 use Rattle.dap_world.proofs.Splits.{one_there, only_item}
 use Rattle.dap_world.proofs.Arrived.{Next, find_next, none_next, handled_one, handled_side}
-use Rattle.dap_world.proofs.Growing.{told_to, told_more, handed_same, all_short}
+use Rattle.dap_world.proofs.Growing.{told_more, handed_same, all_short}
 use Rattle.dap_world.proofs.Kept.{kept-step, taken-more, served-front}
 use Rattle.dap_world.proofs.Blocking.{answers-blocked}
 use Rattle.dap_world.proofs.Posted.{waits}
@@ -178,7 +178,7 @@ module _ (p : Parts) (h : AreParts p) (m : Message) (next : next_to_serve (state
         limit_a = h.limit_a;
         limit_b = h.limit_b;
         most = h.most;
-        from_a = (told_to p.a s (asks p) (p.served + 1) outbox (handled_one p.a p.b (asks p) p.served bytes later next_place h.from_a n inbox goes));
+        from_a = handled_one p.a p.b (asks p) p.served bytes later next_place h.from_a n inbox goes;
         from_b = subst (λ (l : List NspMessage). IsTold q.b p.a l p.read) (sym answers_are)
             (told_more p.b p.a (answers p) b p.read s.link.inbox s.place outbox outbox h.from_b (ap (λ (l : List (List ℕ)). l ++ outbox) (sym idle)) block_is fit_block short);
         sent_is = h.sent_is;

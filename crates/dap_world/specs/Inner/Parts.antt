@@ -128,16 +128,19 @@ pub record IsAmong (packets : List NspMessage) (count place : ℕ) (gone : List 
 
 -- One direction: the bytes are those of the NSP messages, the messages have a spelling, and the link of the other end
 -- gave away those NSP messages of which every message was handled.
-pub record IsTold (from : SideValue) (to : SideValue) (packets : List NspMessage) (count : ℕ) : Type 0 where
+pub record IsToldBy (count_posted place most : ℕ) (outbox : List (List ℕ)) (packets : List NspMessage) (count : ℕ) (Way : (messages given : List (List ℕ)) → Type 0) : Type 0 where
   pub handed : List (List ℕ)
-  pub posted : from.posted ≡ length handed
+  pub posted : count_posted ≡ length handed
   pub gone : List NspMessage
-  pub among : IsAmong (take from.posted packets) count to.place gone
-  pub way : IsWay from to.link handed (all_joined gone)
-  pub bytes : handed ++ from.outbox ≡ all_joined packets
+  pub among : IsAmong (take count_posted packets) count place gone
+  pub way : Way handed (all_joined gone)
+  pub bytes : handed ++ outbox ≡ all_joined packets
   pub fit : AllFit (messages_in packets)
   -- what waits isn't too long
-  pub short : AreShort from.link.max_message from.outbox
+  pub short : AreShort most outbox
+
+abbrev pub IsTold : (from to : SideValue) → List NspMessage → (count : ℕ) → Type 0
+IsTold from to packets count = IsToldBy from.posted to.place from.link.max_message from.outbox packets count (IsWay from to.link)
 
 pub record AreParts (p : Parts) : Type 0 where
   pub world : IsWorld (state_of p)
