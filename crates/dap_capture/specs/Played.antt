@@ -12,7 +12,7 @@ use Rattle.dap_world.specs.declared.event.Step.TheVariants as step
 use Rattle.dap_world.specs.declared.event.WorldFault.{WorldFault}
 use Rattle.dap_world.specs.declared.event.WorldFault.TheVariants as fault
 use Rattle.dap_world.specs.declared.setup.WorldSetup.{WorldSetup}
-use Rattle.dap_world.specs.Machine.{State, Sending, Steps, Refuses, fresh, sends, reported, files_of}
+use Rattle.dap_world.specs.Machine.{State, Sending, Steps, Refuses, fresh, end_of, reported, files_of}
 use Rattle.dap_world.specs.Setups.{IsWorldSetup}
 use Rattle.dap_world.specs.Wires.{IsOnWire}
 use Rattle.dap_world.specs.Runs.{writer_of}
@@ -42,7 +42,7 @@ end_text B = codes "b"
 -- these are the bytes of the packet at a place of an end's wire
 pub record IsPacketAt (s : State) (end : End) (place : ℕ) (bytes : List ℕ) : Type 0 where
   pub sending : Sending
-  pub written : slice_get (sends s end).wire place ≡ Some sending
+  pub written : slice_get (end_of s end).wire place ≡ Some sending
   pub packet : IsOnWire s end sending bytes
 
 -- the packet at a place of an end's wire, in hex

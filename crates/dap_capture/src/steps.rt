@@ -1,7 +1,7 @@
 //! What a schedule prints of its events.
 
 ghost use Rattle.std.specs.Prelude.{◌≡◌, ◌<◌, ◌++◌, ℕ, List, OnOk, None, codes, length, option_copied};
-ghost use Rattle.dap_world.specs.Machine.{reported, sends};
+ghost use Rattle.dap_world.specs.Machine.{reported, end_of};
 ghost use Rattle.dap_world.specs.Runs.{NamedIsThere, writer_of};
 ghost use Rattle.dap_text.specs.Adding.{Adds};
 ghost use Rattle.dap_text.specs.Adding.{AddsSome};
@@ -48,7 +48,7 @@ fn writer(event: &Event) -> Option<End>
 
 /// The packet at a place of an end's wire.
 fn packet_at(world: &World, end: End, place: usize) -> &[u8]
-    requires { place < length (sends world.now end).wire }
+    requires { place < length (end_of world.now end).wire }
     ensures { IsPacketAt world.now end place result.now }
 {
     let wire = world.wire(end);
@@ -57,7 +57,7 @@ fn packet_at(world: &World, end: End, place: usize) -> &[u8]
 
 /// Appends the packet at a place of an end's wire.
 fn push_packet(text: &mut Vec<u8>, world: &World, end: End, place: usize) -> Result<(), AllocError>
-    requires { place < length (sends world.now end).wire }
+    requires { place < length (end_of world.now end).wire }
     ensures { OnOk result (AddsSome text.old text.new (IsPacketWritten world.now end place)) }
 {
     push_str(text, "packet ")?;

@@ -1,43 +1,33 @@
 -- What isn't stale is told apart by its numbers modulo 4,096.
-use Rattle.std.proofs.Common.{◌≡◌, ℕ, ◌+◌, ◌≤◌, arith, refl, subst}
+use Rattle.std.proofs.Common.{◌≡◌, ℕ, ◌+◌, ◌≤◌, arith, subst}
 use Rattle.std.specs.Prelude.{Option, Some, None, IfSome}
 use Rattle.nsp_seg.specs.Numbers.{residue}
 use Rattle.nsp_link.specs.Separation.{IsSegmentNear, IsAckNear}
 use Rattle.dap_world.specs.declared.event.End.{End}
-use Rattle.dap_world.specs.declared.event.End.TheVariants.{A, B}
-use Rattle.dap_world.specs.Machine.{State, Sending, sends, other, is_old, is_old_segment}
+use Rattle.dap_world.specs.Machine.{State, Sending, end_of, other, is_old, is_old_segment, IsDue}
 use Rattle.dap_world.specs.Runs.{IsReached}
-use Rattle.dap_world.specs.Separation.{InOrder, IsFreshAt, AreApart}
-use Rattle.dap_world.specs.Inner.Worlds.{IsWorld, IsDirection, WasSent}
+use Rattle.dap_world.specs.Separation.{InOrder, AreApart}
+use Rattle.dap_world.specs.Inner.Worlds.{IsWorld, WasSent}
 use Rattle.dap_world.proofs.Arriving.{young_segment, young_ack, neither}
-use Rattle.dap_world.proofs.Directions.{AreTrue-at}
-use Rattle.dap_world.proofs.Kept.{runs_sound, direction}
-
-twice : (end : End) → other (other end) ≡ end
-twice A = refl
-twice B = refl
-
--- what the other end sends, and what comes back
-from_other : (s : State) (end : End) → IsWorld s → IsDirection s.seg_size s.window (sends s (other end)) (sends s end)
-from_other s end h = subst (λ (e : End). IsDirection s.seg_size s.window (sends s (other end)) (sends s e)) (twice end) (direction s (other end) h)
+use Rattle.dap_world.proofs.Kept.{runs_sound, back, direction, true_of}
 
 segment_near : (taken sent : ℕ) (k : Option ℕ) → sent ≤ taken + 2047 → WasSent sent k → IfSome k (λ n. taken + 1 ≤ n + 2047) → IfSome k (IsSegmentNear taken)
 segment_near taken sent None le was young = tt
 segment_near taken sent (Some k) le was young = (young, omega (arith, le, was.1))
 
 module _ (s : State) (end : End) (h : IsWorld s) where
-  near_is : (j : ℕ) (p : Sending) → IsFreshAt s end j p → IfSome p.segment (IsSegmentNear (sends s (other end)).taken) × IsAckNear (sends s end).acked p.acks
+  near_is : (j : ℕ) (p : Sending) → IsDue s end j p → IfSome p.segment (IsSegmentNear (end_of s end).taken) × IsAckNear (end_of s end).acked p.acks
   near_is j p fresh =
-      let back = from_other s end h in
+      let comes = back s end h in
       let there = direction s end h in
-      let was = AreTrue-at (sends s (other end)).wire j p (sends s (other end)).sent (sends s end).taken back.wire fresh.0 in
-      let young = neither (is_old_segment (sends s (other end)).taken p.segment) (is_old p.acks (sends s end).acked) fresh.1 in (
-        segment_near (sends s (other end)).taken (sends s (other end)).sent p.segment
-            (omega (arith, back.counts.within_window, back.counts.acked_taken, h.window)) was.0 (young_segment (sends s (other end)).taken p.segment young.0),
-        (young_ack p.acks (sends s end).acked young.1, omega (arith, was.1, there.counts.taken_sent, there.counts.within_window, h.window)),
+      let was = true_of s end j p h fresh.0 in
+      let young = neither (is_old_segment (end_of s end).taken p.segment) (is_old p.acks (end_of s end).acked) fresh.1 in (
+        segment_near (end_of s end).taken (end_of s (other end)).sent p.segment
+            (omega (arith, comes.counts.within_window, comes.counts.acked_taken, h.window)) was.0 (young_segment (end_of s end).taken p.segment young.0),
+        (young_ack p.acks (end_of s end).acked young.1, omega (arith, was.1, there.counts.taken_sent, there.counts.within_window, h.window)),
       )
 
-  in_order : InOrder s.window (sends s end)
+  in_order : InOrder s.window (end_of s end) (end_of s (other end))
   in_order =
       let counts = (direction s end h).counts in
       record { acked_taken = counts.acked_taken; taken_sent = counts.taken_sent; within = counts.within_window; window_limit = h.window }
@@ -59,15 +49,15 @@ module _ (s : State) (end : End) (h : IsWorld s) where
         near = λ j p fresh. (near_is j p fresh).0;
         near_ack = λ j p fresh. (near_is j p fresh).1;
         segments = λ i j k l p q one two is also same.
-            segments_apart (sends s (other end)).taken k l (numbered (sends s (other end)).taken k p.segment is (near_is i p one).0)
-            (numbered (sends s (other end)).taken l q.segment also (near_is j q two).0) same;
-        acks = λ i j p q one two same. acks_apart (sends s end).acked p.acks q.acks (near_is i p one).1 (near_is j q two).1 same;
+            segments_apart (end_of s end).taken k l (numbered (end_of s end).taken k p.segment is (near_is i p one).0)
+            (numbered (end_of s end).taken l q.segment also (near_is j q two).0) same;
+        acks = λ i j p q one two same. acks_apart (end_of s end).acked p.acks q.acks (near_is i p one).1 (near_is j q two).1 same;
       }
 
 pub reached_sound : (s : State) → IsReached s → IsWorld s
 reached_sound s r = runs_sound r.0 r.1 s r.2 r.3
 
-pub counts_in_order : (s : State) → IsReached s → (end : End) → InOrder s.window (sends s end)
+pub counts_in_order : (s : State) → IsReached s → (end : End) → InOrder s.window (end_of s end) (end_of s (other end))
 counts_in_order s r end = in_order s end (reached_sound s r)
 
 pub told_apart : (s : State) → IsReached s → (end : End) → AreApart s end

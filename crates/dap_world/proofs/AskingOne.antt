@@ -1,21 +1,19 @@
 -- Asking a request is a step of the machine.
-use Rattle.std.proofs.Common.{◌≡◌, ◌≢◌, ℕ, zero, suc, ◌+◌, ◌≤◌, arith, refl, sym, ◌∙◌, subst, ap, true, false, List, [], ◌∷◌, ◌++◌, length, take, drop, map}
+use Rattle.std.proofs.Common.{◌≡◌, ◌≢◌, ℕ, ◌≤◌, arith, refl, sym, ◌∙◌, subst, ap, true, List, [], ◌∷◌, ◌++◌, length, take, drop, map}
 use Rattle.std.specs.Prelude.{Result, Ok, Err, IfOk, IfErr, OnOk}
 use Rattle.std.proofs.lemmas.List.{drop-append-le, length-append, length-map, take-append-le}
 use Rattle.std.proofs.lemmas.List.Elements.{All-cons}
 use Rattle.dap_msg.specs.Message.{Message}
 use Rattle.dap_msg.specs.Items.{Item, Whole}
 use Rattle.dap_msg.specs.Canon.{canon}
-use Rattle.dap_msg.specs.Blocked.{NspMessage, joined, Blocked, blocked_after, all_joined, messages_in, AllFit, AllWithin}
+use Rattle.dap_msg.specs.Blocked.{NspMessage, joined, Blocked, all_joined, messages_in, AllFit, AllWithin}
 use Rattle.dap_msg.proofs.ForCallers.{messages_in-Blocked, within_limit}
 use Rattle.dap_accessed.specs.Standing as at
 use Rattle.dap_accessed.specs.Standing.{Place}
 use Rattle.dap_accessed.specs.Groups.{stands_after}
-use Rattle.dap_accessed.specs.Present as accessed
 use Rattle.dap_accessing.specs.Present as accessing
 use Rattle.dap_accessing.specs.Asked.{Asked, messages_of}
 use Rattle.dap_accessing.specs.Told.{Told}
-use Rattle.dap_msg.specs.Sendable.{AreSendable}
 use Rattle.dap_accessing.specs.Phase.{IsAdmissible, IsNoneDue, phase_after, limit_after, phase_fits}
 use Rattle.dap_accessing.specs.declared.phase.Phase.{Phase}
 use Rattle.dap_accessing.specs.declared.phase.Phase.TheVariants.{Fresh, Ready, Opened, Connected, Stopped}
@@ -41,10 +39,10 @@ use Rattle.dap_end.specs.Ports.{PortValue}
 use Rattle.dap_end.specs.Asking.{AskingValue, AskedOne, HasAsked}
 use Rattle.dap_end.proofs.ForCallers.{Asked-more, sendable-fit}
 use Rattle.dap_world.specs.Inner.Sides.{AreShort, AskFaultOf, AskedSo, side_of}
-use Rattle.dap_world.specs.Inner.Parts.{Parts, AreParts, IsAskedAll, IsServedAll, IsTold, asks, answers, asking_end, serving_end, served_items, answer_packets, asked_packets, direction_of, state_of}
+use Rattle.dap_world.specs.Inner.Parts.{Parts, AreParts, IsAskedAll, IsServedAll, IsTold, asks, answers, asking_end, serving_end, served_items, answer_packets, asked_packets, end_state, state_of}
 use Rattle.dap_world.proofs.Counting.{counted}
 use Rattle.dap_world.proofs.Blocks.{asked-more}
-use Rattle.dap_world.proofs.Growing.{told_to, told_more, handed_same}
+use Rattle.dap_world.proofs.Growing.{told_more, handed_same}
 use Rattle.dap_world.proofs.Kept.{kept-step, all-answers, served-front, served_count}
 use Rattle.dap_world.proofs.Agreeing.{both-agree}
 use Rattle.dap_world.proofs.Within.{messages-within}
@@ -133,11 +131,11 @@ module _ (p : Parts) (h : AreParts p) (r : Request) (m : IsAdmissible p.accessin
   state_asked outbox after =
       let s = state_of p in
       let n = counted p.a.posted h.from_a.handed p.a.outbox (asks p) h.from_a.posted h.from_a.bytes in
-      ap (λ (l : List NspMessage). record s { requests = p.requests ++ r ∷ []; from_a = direction_of p.a p.b.link (asked_packets p.accessing.own p.accessed.own (p.requests ++ r ∷ [])); from_b = direction_of p.b p.a.link l }) answers_same
-      ∙ ap (λ (l : List NspMessage). record s { requests = p.requests ++ r ∷ []; from_a = direction_of p.a p.b.link l }) (asked-more p.accessing.own p.accessed.own p.requests r)
-      ∙ ap (λ (l : List NspMessage). record s { requests = p.requests ++ r ∷ []; from_a = record s.from_a { waiting = drop p.a.posted (asks p ++ block); handed = l } }) (handed_same p.a p.b (asks p) block p.served h.from_a)
-      ∙ ap (λ (l : List NspMessage). record s { requests = p.requests ++ r ∷ []; from_a = record s.from_a { waiting = l } })
-      (drop-append-le p.a.posted (asks p) block (omega arith) ∙ ap (λ (l : List NspMessage). s.from_a.waiting ++ l) (sym (asking_is s r h.world m)))
+      ap (λ (l : List NspMessage). record s { requests = p.requests ++ r ∷ []; a = end_state p.a (asked_packets p.accessing.own p.accessed.own (p.requests ++ r ∷ [])); b = end_state p.b l }) answers_same
+      ∙ ap (λ (l : List NspMessage). record s { requests = p.requests ++ r ∷ []; a = end_state p.a l }) (asked-more p.accessing.own p.accessed.own p.requests r)
+      ∙ ap (λ (l : List NspMessage). record s { requests = p.requests ++ r ∷ []; a = record s.a { waiting = drop p.a.posted (asks p ++ block); handed = l } }) (handed_same p.a p.b (asks p) block p.served h.from_a)
+      ∙ ap (λ (l : List NspMessage). record s { requests = p.requests ++ r ∷ []; a = record s.a { waiting = l } })
+      (drop-append-le p.a.posted (asks p) block (omega arith) ∙ ap (λ (l : List NspMessage). s.a.waiting ++ l) (sym (asking_is s r h.world m)))
 
   parts_asked : (more : List (List ℕ)) (after : accessing.Present) → more ≡ all_joined (Blocked p.accessed.own (messages_of p.accessing.own r))
       → IsAskedAll (asking_end (q_of (p.a.outbox ++ more) after)) (p.requests ++ r ∷ []) (answers_read (state_of p)) → AreParts (q_of (p.a.outbox ++ more) after)
@@ -163,8 +161,8 @@ module _ (p : Parts) (h : AreParts p) (r : Request) (m : IsAdmissible p.accessin
         most = h.most;
         from_a = subst (λ (l : List NspMessage). IsTold (record p.a { outbox = outbox }) p.b l p.served) (sym (asked-more p.accessing.own p.accessed.own p.requests r))
             (told_more p.a p.b (asks p) block p.served p.a.link.inbox p.a.place outbox more h.from_a refl more_is fit short);
-        from_b = subst (λ (l : List NspMessage). IsTold p.b (record p.a { outbox = outbox }) l p.read) (sym answers_same) (told_to p.b p.a (answers p) p.read outbox h.from_b);
-        sent_is = h.sent_is ∙ ap (λ (x : State). map canon (messages_in x.from_a.handed)) (sym state);
+        from_b = subst (λ (l : List NspMessage). IsTold p.b (record p.a { outbox = outbox }) l p.read) (sym answers_same) h.from_b;
+        sent_is = h.sent_is ∙ ap (λ (x : State). map canon (messages_in x.a.handed)) (sym state);
         reports_is = h.reports_is ∙ sym (same_told p.requests (answers_read s) p.accessing r h.asking.1.asking m.0) ∙ ap reported (sym state);
         asking = subst (λ (x : State). IsAskedAll (asking_end (q_of outbox after)) (p.requests ++ r ∷ []) (answers_read x)) (sym state) asking;
         serving = subst (λ (x : State). IsServedAll (serving_end p) (map Whole (taken_of x))) (sym state) h.serving;

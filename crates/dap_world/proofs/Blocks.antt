@@ -2,14 +2,12 @@
 use Rattle.std.proofs.Common.{◌≡◌, ℕ, zero, suc, refl, sym, ◌∙◌, ap, append_assoc, List, [], ◌∷◌, ◌++◌, drop}
 use Rattle.std.proofs.lemmas.List.{append-nil}
 use Rattle.dap_msg.specs.Message.{Message}
-use Rattle.dap_msg.specs.Items.{Item}
-use Rattle.dap_msg.specs.Blocked.{NspMessage, Blocked, messages_in, AllFit, AllWithin}
-use Rattle.dap_msg.proofs.ForCallers.{messages_in-Blocked, within_limit}
-use Rattle.dap_accessed.specs.Groups.{added, stands_after}
+use Rattle.dap_msg.specs.Blocked.{NspMessage, Blocked, messages_in}
+use Rattle.dap_msg.proofs.ForCallers.{messages_in-Blocked}
 use Rattle.dap_accessing.specs.Request.{Request}
 use Rattle.dap_accessing.specs.Asked.{messages_of, Asked}
 use Rattle.dap_end.proofs.ForCallers.{full-blocked, full-both, in_append}
-use Rattle.dap_world.specs.Inner.Parts.{asked_packets, answer_packets}
+use Rattle.dap_world.specs.Inner.Parts.{asked_packets}
 use Rattle.dap_end.specs.Asking.{AreFull}
 
 -- ---- They have the messages of the definitions.

@@ -1,11 +1,11 @@
 -- A packet that is delivered is a step of the machine.
-use Rattle.std.proofs.Common.{◌≡◌, ℕ, zero, suc, ◌+◌, ◌≤◌, ◌<◌, arith, refl, sym, ◌∙◌, subst, ap, true, false, List, [], ◌∷◌, length, drop, map, inl, inr, lt-ltb, le-ltb, eq-eqb}
-use Rattle.std.specs.Prelude.{◌⊎◌, nat_lt, Option, Some, None, IfSome, Result, Ok, Err, slice_get}
+use Rattle.std.proofs.Common.{◌≡◌, ℕ, zero, suc, ◌+◌, ◌≤◌, ◌<◌, arith, refl, sym, ◌∙◌, subst, ap, true, false, List, [], ◌∷◌, length, map, inl, inr, lt-ltb, le-ltb, eq-eqb}
+use Rattle.std.specs.Prelude.{◌⊎◌, max, nat_lt, Option, Some, None, IfSome, Result, Ok, Err, slice_get}
 use Rattle.std.specs.Option.{option_map}
 use Rattle.std.proofs.lemmas.Option.{slice_get-map}
 use Rattle.std.proofs.lemmas.Bool.{cases_lt, cases_eq, ne_eqb}
 use Rattle.nsp_link.specs.Cutting.{Piece, cut}
-use Rattle.nsp_link.specs.Holding.{closed_up, with_number, numbers, following}
+use Rattle.nsp_link.specs.Holding.{closed_up, numbers, following}
 use Rattle.nsp_link.specs.Limits.{most_segments, largest_window}
 use Rattle.nsp_link.specs.Link.{LinkValue, Sends, Delivered, Keeps, MayRefuse, got_of, taken_after, held_after}
 use Rattle.nsp_link.specs.declared.link.Got.{Got}
@@ -22,19 +22,20 @@ use Rattle.dap_world.specs.declared.event.Step.{Step}
 use Rattle.dap_world.specs.declared.event.Step.TheVariants as step
 use Rattle.dap_world.specs.declared.event.WorldFault.{WorldFault}
 use Rattle.dap_world.specs.declared.event.WorldFault.TheVariants as fault
-use Rattle.dap_world.specs.Machine.{reported, State, Direction, Sending, other, sends, with_sends, is_stale, acknowledged, came, delivered, Steps, Refuses}
+use Rattle.dap_world.specs.Machine.{reported, State, EndState, Sending, other, end_of, with_end, is_stale, came, delivered, Steps, Refuses}
 use Rattle.dap_world.specs.Runs.{TakesNoMemory, Went}
 use Rattle.dap_world.specs.Inner.Worlds.{IsWorld, AreTrue, AreEarly, WasSent}
 use Rattle.dap_world.specs.declared.side.Wired.{Wired}
 use Rattle.dap_world.specs.Wires.{sending_of}
 use Rattle.dap_world.specs.Inner.Sides.{SideValue, port_of, side_of}
 use Rattle.dap_world.specs.Inner.Ways.{IsWay, Delivery, NotDue, delivered_as, is_old_wired}
-use Rattle.dap_world.specs.Inner.Parts.{Parts, AreParts, asks, answers, asking_end, serving_end, state_of, side, with_side}
+use Rattle.dap_world.specs.Inner.Parts.{Parts, AreParts, asks, answers, asking_end, serving_end, end_state, state_of, side, with_side}
+use Rattle.dap_msg.specs.Blocked.{NspMessage}
 use Rattle.dap_world.proofs.Counting.{segments-handed}
 use Rattle.dap_world.proofs.Directions.{closed}
 use Rattle.dap_world.proofs.Kept.{kept-step}
 use Rattle.dap_world.proofs.Ways.{takes, told_gives, told_takes}
-use Rattle.dap_world.proofs.Arriving.{AllNear, IsDueAs, IsNear, all_at, due}
+use Rattle.dap_world.proofs.Arriving.{AllNear, IsDueAs, due}
 use Rattle.dap_world.proofs.Wrote.{AreAfter, AreThen, StaysAt, asking_parts, serving_parts, at_a, at_b, none_more}
 
 -- ---- What is near.
@@ -82,34 +83,20 @@ all_near p B h =
 
 -- ---- What comes.
 
--- a direction whose peer has this link
-record Joins (d : Direction) (v : LinkValue) : Type 0 where
-  taken : d.taken ≡ v.received
-  held : d.held ≡ numbers v.held
-
 -- the machine takes in what the link does, and keeps what it keeps
-came_is : (d : Direction) (v : LinkValue) (k : Option ℕ) (p : Piece) → Joins d v → IfSome k (λ n. n < v.received + 1 + v.window)
-    → came true d k ≡ record d { taken = taken_after v k; held = numbers (held_after v k p) }
-came_is d v None p j near = ap (λ (n : ℕ). record d { taken = n }) j.taken ∙ ap (λ (l : List ℕ). record d { taken = v.received; held = l }) j.held
-came_is d v (Some k) p j near =
+came_is : (v : LinkValue) (k : Option ℕ) (p : Piece) → IfSome k (λ n. n < v.received + 1 + v.window)
+    → came true v.received (numbers v.held) k ≡ (taken_after v k, numbers (held_after v k p))
+came_is v None p near = refl
+came_is v (Some k) p near =
     elim (cases_eq k (v.received + 1)) [
-      | inl same ↦
-          let all : closed_up k d.held ≡ (k + length (following k v.held), numbers (drop (length (following k v.held)) v.held)) = ap (closed_up k) j.held ∙ closes k v.held in
-          rw (j.taken, eq-eqb k (v.received + 1) same) (ap (λ (c : ℕ × List ℕ). record d { taken = c.0; held = c.1 }) all)
+      | inl same ↦ rw (eq-eqb k (v.received + 1) same) (closes k v.held)
       | inr apart ↦ elim (cases_lt v.received k) [
         | inl lt ↦
             let below : nat_lt k (v.received + 1 + v.window) ≡ true = lt-ltb k (v.received + 1 + v.window) near in
-            rw (j.taken, ne_eqb k (v.received + 1) apart, lt-ltb v.received k lt, below)
-            (ap (λ (l : List ℕ). record d { taken = v.received; held = l }) (ap (with_number k) j.held ∙ sym (keeps k p v.held)))
-        | inr le ↦
-            rw (j.taken, ne_eqb k (v.received + 1) apart, le-ltb v.received k le)
-            (ap (λ (l : List ℕ). record d { taken = v.received; held = l }) j.held)
+            rw (ne_eqb k (v.received + 1) apart, lt-ltb v.received k lt, below) (ap (λ (l : List ℕ). (v.received, l)) (sym (keeps k p v.held)))
+        | inr le ↦ rw (ne_eqb k (v.received + 1) apart, le-ltb v.received k le) refl
       ]
     ]
-
-joins : (p : Parts) (end : End) → Joins (sends (state_of p) (other end)) (side p end).link
-joins p A = record { taken = refl; held = refl }
-joins p B = record { taken = refl; held = refl }
 
 below_one : (k : Option ℕ) (sent n : ℕ) → WasSent sent k → sent < n → IfSome k (λ k. k < n)
 below_one None sent n was lt = tt
@@ -135,11 +122,11 @@ below p B j w h at =
 at_wire : (wire : List Wired) (j : ℕ) (o : Option Wired) → slice_get wire j ≡ o → slice_get (map sending_of wire) j ≡ option_map sending_of o
 at_wire wire j o at = slice_get-map sending_of wire j ∙ ap (option_map sending_of) at
 
-there : (p : Parts) (end : End) (j : ℕ) (o : Option Wired) → slice_get (side p end).wire j ≡ o → slice_get (sends (state_of p) end).wire j ≡ option_map sending_of o
+there : (p : Parts) (end : End) (j : ℕ) (o : Option Wired) → slice_get (side p end).wire j ≡ o → slice_get (end_of (state_of p) end).wire j ≡ option_map sending_of o
 there p A j o at = at_wire p.a.wire j o at
 there p B j o at = at_wire p.b.wire j o at
 
-stale_is : (p : Parts) (end : End) (w : Wired) → is_stale (state_of p) end (sending_of w) ≡ is_old_wired (side p end).link w
+stale_is : (p : Parts) (end : End) (w : Wired) → is_stale (end_of (state_of p) end) (sending_of w) ≡ is_old_wired (side p end).link w
 stale_is p A w = refl
 stale_is p B w = refl
 
@@ -147,14 +134,16 @@ abbrev with_link : Parts → End → LinkValue → Parts
 with_link p end v = with_side p end (record (side p end) { link = v })
 
 -- the state after a delivery
-delivered_is : (p : Parts) (end : End) (w : Wired) (v : LinkValue) → AreParts p → IfSome w.segment (λ n. n < (side p end).link.received + 1 + (side p end).link.window)
-    → Delivered (side p end).link v w.segment w.acks → delivered true (state_of p) end (sending_of w) ≡ state_of (with_link p end v)
-delivered_is p A w v h near d =
-    ap (λ (x : Direction). with_sends (with_sends (state_of p) A (acknowledged (state_of p).from_a w.acks)) B x) (came_is (state_of p).from_b p.a.link w.segment d.held.0 (joins p A) near)
-    ∙ rw (d.seg_size, d.window, d.sent, d.acked, d.received, d.held.1) refl
-delivered_is p B w v h near d =
-    ap (λ (x : Direction). with_sends (with_sends (state_of p) B (acknowledged (state_of p).from_b w.acks)) A x) (came_is (state_of p).from_a p.b.link w.segment d.held.0 (joins p B) near)
+comes_to : (s : SideValue) (packets : List NspMessage) (w : Wired) (v : LinkValue) → IfSome w.segment (λ n. n < s.link.received + 1 + s.link.window) → Delivered s.link v w.segment w.acks
+    → delivered true (end_state s packets) (sending_of w) ≡ end_state (record s { link = v }) packets
+comes_to s packets w v near d =
+    ap (λ (c : ℕ × List ℕ). record (end_state s packets) { acked = max s.link.acked w.acks; taken = c.0; held = c.1 }) (came_is s.link w.segment d.held.0 near)
     ∙ rw (d.sent, d.acked, d.received, d.held.1) refl
+
+delivered_is : (p : Parts) (end : End) (w : Wired) (v : LinkValue) → IfSome w.segment (λ n. n < (side p end).link.received + 1 + (side p end).link.window)
+    → Delivered (side p end).link v w.segment w.acks → with_end (state_of p) end (delivered true (end_of (state_of p) end) (sending_of w)) ≡ state_of (with_link p end v)
+delivered_is p A w v near d = ap (λ (e : EndState). with_end (state_of p) A e) (comes_to p.a (asks p) w v near d) ∙ rw (d.seg_size, d.window) refl
+delivered_is p B w v near d = ap (λ (e : EndState). with_end (state_of p) B e) (comes_to p.b (answers p) w v near d)
 
 parts_came : (p : Parts) (end : End) (w : Wired) (v : LinkValue) → AreParts p → Delivered (side p end).link v w.segment w.acks
     → ((messages given : List (List ℕ)) → IsWay (side p (other end)) (side p end).link messages given → IsWay (side p (other end)) v messages given)
@@ -190,16 +179,16 @@ parts_came p B w v h d on sends still world =
       serving = (h.serving.0, still _ h.serving.1);
     }
 
-taken_is : (p : Parts) (end : End) → (sends (state_of p) (other end)).taken ≡ (side p end).link.received
+taken_is : (p : Parts) (end : End) → (end_of (state_of p) end).taken ≡ (side p end).link.received
 taken_is p A = refl
 taken_is p B = refl
 
 -- it is a step
 steps : (p : Parts) (end : End) (j : ℕ) (w : Wired) → slice_get (side p (other end)).wire j ≡ Some w → is_old_wired (side p end).link w ≡ false
-    → Steps (state_of p) (event.Deliver end j) (step.Delivered (got_of (side p end).link.received w.segment)) (delivered true (state_of p) end (sending_of w))
+    → Steps (state_of p) (event.Deliver end j) (step.Delivered (got_of (side p end).link.received w.segment)) (with_end (state_of p) end (delivered true (end_of (state_of p) end) (sending_of w)))
 unfolding Steps
 steps p end j w at young =
-    (sending_of w, there p (other end) j (Some w) at, stale_is p end w ∙ young, ap (λ (n : ℕ). step.Delivered (got_of n w.segment)) (sym (taken_is p end)), refl)
+    (sending_of w, (there p (other end) j (Some w) at, stale_is p end w ∙ young), ap (λ (n : ℕ). step.Delivered (got_of n w.segment)) (sym (taken_is p end)), refl)
 
 -- the segment is the next, or an early one that the link keeps
 abbrev TakesIn : LinkValue → Option ℕ → Type 0
@@ -214,10 +203,10 @@ takes_some v (Some k) (inr keeps) le = omega (arith, keeps.0)
 
 next_takes : (p : Parts) (end : End) (j : ℕ) (w : Wired) → slice_get (side p (other end)).wire j ≡ Some w → TakesIn (side p end).link w.segment → TakesNoMemory (state_of p) (event.Deliver end j) → ⊥
 next_takes p end j w at takes t =
-    let same : Some (sending_of w) ≡ Some t.0 = sym (there p (other end) j (Some w) at) ∙ t.1 in
+    let same : Some (sending_of w) ≡ Some t.0 = sym (there p (other end) j (Some w) at) ∙ t.1.0 in
     let is : sending_of w ≡ t.0 = cc in
     let le : IfSome w.segment (λ n. n ≤ (side p end).link.received) =
-    subst (λ (n : ℕ). IfSome w.segment (λ k. k ≤ n)) (taken_is p end) (subst (λ (x : Sending). IfSome x.segment (λ k. k ≤ (sends (state_of p) (other end)).taken)) (sym is) t.3) in
+    subst (λ (n : ℕ). IfSome w.segment (λ k. k ≤ n)) (taken_is p end) (subst (λ (x : Sending). IfSome x.segment (λ k. k ≤ (end_of (state_of p) end).taken)) (sym is) t.2) in
     takes_some (side p end).link w.segment takes le
 
 -- only memory was wanting
@@ -264,8 +253,8 @@ module _ (p : Parts) (end : End) (j : ℕ) (h : AreParts p) (w : Wired) (at : sl
       λ messages given way. (let d = due_so messages given way in
       takes (side p (other end)) (side p end).link v messages given w.segment w.acks way came.1 (receives.due _ messages given d.value w.segment w.acks d.spelled d.due).2) in
       let went : Steps (state_of p) (event.Deliver end j) (step.Delivered got) (state_of (with_link p end v)) =
-      subst (λ (x : State). Steps (state_of p) (event.Deliver end j) (step.Delivered got) x) (delivered_is p end w v h (below p end j w h at) came.1)
-      (subst (λ (g : Got). Steps (state_of p) (event.Deliver end j) (step.Delivered g) (delivered true (state_of p) end (sending_of w))) (sym came.0) (steps p end j w at young)) in
+      subst (λ (x : State). Steps (state_of p) (event.Deliver end j) (step.Delivered got) x) (delivered_is p end w v (below p end j w h at) came.1)
+      (subst (λ (g : Got). Steps (state_of p) (event.Deliver end j) (step.Delivered g) (with_end (state_of p) end (delivered true (end_of (state_of p) end) (sending_of w)))) (sym came.0) (steps p end j w at young)) in
       (parts_came p end w v h came.1 on receives.sends still (kept-step (state_of p) (state_of (with_link p end v)) (event.Deliver end j) (step.Delivered got) went h.world), went)
   took v (Err f) receives still =
       let way = any_way p end h in

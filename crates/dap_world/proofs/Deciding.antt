@@ -12,7 +12,7 @@ use Rattle.dap_msg.specs.Message.{Message}
 use Rattle.nsp_link.specs.Link.{got_of}
 use Rattle.dap_world.specs.declared.event.Step.{Step}
 use Rattle.dap_world.specs.declared.event.Step.TheVariants as step
-use Rattle.dap_world.specs.Machine.{State, Sending, answering, delivered, other, sends, served_one, is_stale, Steps, Refuses}
+use Rattle.dap_world.specs.Machine.{State, Sending, answering, delivered, end_of, with_end, served_one, is_stale, Steps, Refuses}
 use Rattle.dap_world.specs.Runs.{MayHappen}
 
 same_sending : (s : State) (p q : Sending) (x : _) → x ≡ Some p → x ≡ Some q → p ≡ q
@@ -33,15 +33,15 @@ refused_ask s r ask_fault.Failed why may = why
 pub no_step : (s : State) (e : Event) (f : WorldFault) → Refuses s e f → MayHappen s e → ⊥
 unfolding Steps Refuses
 no_step s (event.Ask r) (fault.Ask f) why may = refused_ask s r f why may
-no_step s (event.Post end) fault.NothingToDo why may = let some = may.2.0 in let none : length (sends s end).waiting ≡ 0 = ap length why in omega (arith, some, none)
+no_step s (event.Post end) fault.NothingToDo why may = let some = may.2.0 in let none : length (end_of s end).waiting ≡ 0 = ap length why in omega (arith, some, none)
 no_step s (event.Post end) fault.Exhausted why may = omega (arith, why.1, may.2.1)
 no_step s (event.Emit end) fault.NothingToDo why may = why may.2.0
 no_step s (event.Resend end i) fault.NothingToDo why may = omega (arith, why, may.2.0)
-no_step s (event.Deliver end j) fault.NoSuchPacket why may = let there = may.2.1 in let missing : ⊥ = cc in missing
+no_step s (event.Deliver end j) fault.NoSuchPacket why may = let there = may.2.1.0 in let missing : ⊥ = cc in missing
 no_step s (event.Deliver end j) fault.Stale why may =
-    let same : why.0 ≡ may.2.0 = same_sending s why.0 may.2.0 _ why.1 may.2.1 in
-    let stale : is_stale s end may.2.0 ≡ true = subst (λ (p : Sending). is_stale s end p ≡ true) same why.2 in
-    let young = may.2.2 in let missing : ⊥ = cc in missing
+    let same : why.0 ≡ may.2.0 = same_sending s why.0 may.2.0 _ why.1 may.2.1.0 in
+    let stale : is_stale (end_of s end) may.2.0 ≡ true = subst (λ (p : Sending). is_stale (end_of s end) p ≡ true) same why.2 in
+    let young = may.2.1.1 in let missing : ⊥ = cc in missing
 no_step s event.Serve fault.NothingToDo why may =
     let empty = may.2.1 in let there = may.2.2 in
     elim why [ inl some ↦ omega (arith, some, ap length empty) | inr none ↦ let missing : ⊥ = cc in missing ]
@@ -57,9 +57,9 @@ one_step s (event.Emit end) a b m n one two = (one.1 ∙ sym two.1, one.2 ∙ sy
 one_step s (event.Resend end i) a b m n one two = (one.1 ∙ sym two.1, one.2 ∙ sym two.2)
 one_step s (event.Ack end) a b m n one two = (one.0 ∙ sym two.0, one.1 ∙ sym two.1)
 one_step s (event.Deliver end j) a b m n one two =
-    let same : one.0 ≡ two.0 = same_sending s one.0 two.0 _ one.1 two.1 in (
-      one.3 ∙ ap (λ (p : Sending). step.Delivered (got_of (sends s (other end)).taken p.segment)) same ∙ sym two.3,
-      one.4 ∙ ap (λ (p : Sending). delivered true s end p) same ∙ sym two.4,
+    let same : one.0 ≡ two.0 = same_sending s one.0 two.0 _ one.1.0 two.1.0 in (
+      one.2 ∙ ap (λ (p : Sending). step.Delivered (got_of (end_of s end).taken p.segment)) same ∙ sym two.2,
+      one.3 ∙ ap (λ (p : Sending). with_end s end (delivered true (end_of s end) p)) same ∙ sym two.3,
     )
 one_step s event.Serve a b m n one two =
     let same : one.0 ≡ two.0 = same_message one.0 two.0 _ one.2 two.2 in

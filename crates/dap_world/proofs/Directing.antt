@@ -39,8 +39,8 @@ unfolding reported files_of
 fresh_told s h none =
     let order = (headline_of s h).sent_in_order in
     let all : Asked s.own_a s.requests ≡ [] = ap (Asked s.own_a) none in
-    let sent : sent_by s.from_a ≡ Asked s.own_a s.requests = nothing (sent_by s.from_a) order.0 (Asked s.own_a s.requests) order.1 all in
-    let taken : taken_of s ≡ Asked s.own_a s.requests = take_all s.served (sent_by s.from_a) (omega (arith, ap length (sent ∙ all))) ∙ sent in
+    let sent : sent_by s.a ≡ Asked s.own_a s.requests = nothing (sent_by s.a) order.0 (Asked s.own_a s.requests) order.1 all in
+    let taken : taken_of s ≡ Asked s.own_a s.requests = take_all s.served (sent_by s.a) (omega (arith, ap length (sent ∙ all))) ∙ sent in
     record {
       sent = sent;
       taken = taken;

@@ -1,10 +1,10 @@
 -- What is true of a direction stays so.
-use Rattle.std.proofs.Common.{◌≡◌, ℕ, zero, suc, ◌+◌, ◌≤◌, ◌<◌, arith, refl, sym, true, false, Bool, subst}
-use Rattle.std.specs.Prelude.{nat_lt, ◌==◌, ◌&&◌, List, [], ◌∷◌, ◌++◌, Option, Some, None, if◌then◌else◌, slice_get}
+use Rattle.std.proofs.Common.{◌≡◌, ℕ, zero, suc, ◌+◌, ◌≤◌, ◌<◌, arith, refl, true, false, Bool, subst}
+use Rattle.std.specs.Prelude.{max, nat_lt, ◌==◌, ◌&&◌, List, [], ◌∷◌, ◌++◌, Option, Some, None, if◌then◌else◌, slice_get}
 use Rattle.dap_msg.specs.Blocked.{NspMessage}
 use Rattle.nsp_link.specs.Holding.{closed_up, with_number}
 use Rattle.nsp_link.specs.Limits.{most_segments}
-use Rattle.dap_world.specs.Machine.{Direction, Sending, acknowledged, segments_of, came}
+use Rattle.dap_world.specs.Machine.{Sending, segments_of, came}
 use Rattle.dap_world.specs.Inner.Worlds.{WasSent, AreTrue, AreEarly, IsDirection}
 
 pub segments_of-append : (seg : ℕ) (xs ys : List NspMessage) → segments_of seg (xs ++ ys) ≡ segments_of seg xs + segments_of seg ys
@@ -56,85 +56,57 @@ AreEarly-with (n ∷ held) k low sent a b h =
       ] refl
     ] refl
 
-module _ (seg win : ℕ) (d back : Direction) (h : IsDirection seg win d back) where
-  pub kept-back : (back' : Direction) → back.taken ≤ back'.taken → IsDirection seg win d back'
-  kept-back back' le = record { counts = h.counts; early = h.early; wire = AreTrue-more d.wire d.sent d.sent back.taken back'.taken (omega arith) le h.wire }
-
-  -- what waits is another list, and what is handed over is more
-  pub kept-handed : (waiting more : List NspMessage) → segments_of seg (d.handed ++ more) ≤ most_segments → IsDirection seg win (record d { waiting = waiting; handed = d.handed ++ more }) back
-  kept-handed waiting more few =
+module _ (window there sent acked taken : ℕ) (held : List ℕ) (back : ℕ) (wire : List Sending) (h : IsDirection window there sent acked taken held back wire) where
+  -- more segments are there
+  pub kept-there : (more : ℕ) → there ≤ more → more ≤ most_segments → IsDirection window more sent acked taken held back wire
+  kept-there more le few =
       record {
-        counts = record { acked_taken = h.counts.acked_taken; taken_sent = h.counts.taken_sent; within_window = h.counts.within_window; sent_there = omega (arith, segments_of-append seg d.handed more, h.counts.sent_there); few = few };
+        counts = record { acked_taken = h.counts.acked_taken; taken_sent = h.counts.taken_sent; within_window = h.counts.within_window; sent_there = omega (arith, h.counts.sent_there); few = few };
         early = h.early;
         wire = h.wire;
       }
 
-  pub kept-waiting : (waiting : List NspMessage) → IsDirection seg win (record d { waiting = waiting }) back
-  kept-waiting waiting =
+  -- a packet is written
+  pub kept-writes : (all : ℕ) (p : Sending) → sent ≤ all → all ≤ acked + window → all ≤ there → WasSent all p.segment → p.acks ≤ back → IsDirection window there all acked taken held back (wire ++ p ∷ [])
+  kept-writes all p le within room was acks =
       record {
-        counts = record { acked_taken = h.counts.acked_taken; taken_sent = h.counts.taken_sent; within_window = h.counts.within_window; sent_there = h.counts.sent_there; few = h.counts.few };
-        early = h.early;
-        wire = h.wire;
+        counts = record { acked_taken = h.counts.acked_taken; taken_sent = omega (arith, h.counts.taken_sent); within_window = within; sent_there = room; few = h.counts.few };
+        early = AreEarly-more held (taken + 1) sent all le h.early;
+        wire = AreTrue-append wire p all back (AreTrue-more wire sent all back back le (omega arith) h.wire) was acks;
       }
 
-  pub kept-writes : (sent : ℕ) (p : Sending) → d.sent ≤ sent → sent ≤ d.acked + win → sent ≤ segments_of seg d.handed → WasSent sent p.segment → p.acks ≤ back.taken → IsDirection seg win (record d { sent = sent; wire = d.wire ++ p ∷ [] }) back
-  kept-writes sent p le within there was acks =
-      record {
-        counts = record { acked_taken = h.counts.acked_taken; taken_sent = omega (arith, h.counts.taken_sent); within_window = within; sent_there = there; few = h.counts.few };
-        early = AreEarly-more d.held (d.taken + 1) d.sent sent le h.early;
-        wire = AreTrue-append d.wire p sent back.taken (AreTrue-more d.wire d.sent sent back.taken back.taken le (omega arith) h.wire) was acks;
-      }
-
-  pub kept-acked : (a : ℕ) → a ≤ d.taken → IsDirection seg win (acknowledged d a) back
-  kept-acked a le =
+  -- an acknowledgement comes, and the end takes more
+  pub kept-acked : (a more : ℕ) → a ≤ taken → back ≤ more → IsDirection window there sent (max acked a) taken held more wire
+  kept-acked a more le grew =
       record {
         counts = record { acked_taken = omega (arith, h.counts.acked_taken); taken_sent = h.counts.taken_sent; within_window = omega (arith, h.counts.within_window); sent_there = h.counts.sent_there; few = h.counts.few };
         early = h.early;
-        wire = h.wire;
+        wire = AreTrue-more wire sent sent back more (omega arith) grew h.wire;
       }
 
-  kept-closed : (k : ℕ) → k ≡ d.taken + 1 → k ≤ d.sent → IsDirection seg win (record d { taken = (closed_up k d.held).0; held = (closed_up k d.held).1 }) back × (d.taken ≤ (closed_up k d.held).0)
-  kept-closed k e le =
-      let c = closed d.held k d.sent le (subst (λ (n : ℕ). AreEarly n d.sent d.held) (sym e) h.early) in (
-        record {
-          counts = record { acked_taken = omega (arith, h.counts.acked_taken, c.0, e); taken_sent = c.1; within_window = h.counts.within_window; sent_there = h.counts.sent_there; few = h.counts.few };
-          early = c.2;
-          wire = h.wire;
-        },
-        omega (arith, c.0, e),
-      )
-
-  kept-with : (k : ℕ) → d.taken + 1 < k → k ≤ d.sent → IsDirection seg win (record d { held = with_number k d.held }) back
-  kept-with k above le =
+  -- the other end took more, and holds these
+  kept-taken : (more : ℕ) (early : List ℕ) → taken ≤ more → more ≤ sent → AreEarly (more + 1) sent early → IsDirection window there sent acked more early back wire
+  kept-taken more early le most is =
       record {
-        counts = record { acked_taken = h.counts.acked_taken; taken_sent = h.counts.taken_sent; within_window = h.counts.within_window; sent_there = h.counts.sent_there; few = h.counts.few };
-        early = AreEarly-with d.held k (d.taken + 1) d.sent above le h.early;
+        counts = record { acked_taken = omega (arith, h.counts.acked_taken); taken_sent = most; within_window = h.counts.within_window; sent_there = h.counts.sent_there; few = h.counts.few };
+        early = is;
         wire = h.wire;
       }
 
-  pub kept-came : (keep : Bool) (segment : Option ℕ) → WasSent d.sent segment → IsDirection seg win (came keep d segment) back × (d.taken ≤ (came keep d segment).taken)
+  -- a segment comes to the other end
+  pub kept-came : (keep : Bool) (segment : Option ℕ) → WasSent sent segment
+      → IsDirection window there sent acked (came keep taken held segment).0 (came keep taken held segment).1 back wire × (taken ≤ (came keep taken held segment).0)
   kept-came keep None was = (h, omega arith)
   kept-came keep (Some k) was =
-      elim (k == d.taken + 1) as (λ b. (k == d.taken + 1) ≡ b →
-      let new : Direction = (if b then (let c = closed_up k d.held in record d { taken = c.0; held = c.1 }) else (if nat_lt d.taken k && keep then record d { held = with_number k d.held } else d)) in
-      IsDirection seg win new back × (d.taken ≤ new.taken)) [
-        | true ↦ λ e. kept-closed k (grind (arith, e)) was.1
-        | false ↦ λ e. elim (nat_lt d.taken k && keep) as (λ b. (nat_lt d.taken k && keep) ≡ b →
-            let new : Direction = (if b then record d { held = with_number k d.held } else d) in IsDirection seg win new back × (d.taken ≤ new.taken)) [
-              | true ↦ λ e'. (kept-with k (grind (arith, e, e')) was.1, omega arith)
-              | false ↦ λ e'. (h, omega arith)
-            ] refl
+      elim (k == taken + 1) as (λ b. (k == taken + 1) ≡ b →
+      let new : ℕ × List ℕ = (if b then closed_up k held else (taken, if nat_lt taken k && keep then with_number k held else held)) in
+      IsDirection window there sent acked new.0 new.1 back wire × (taken ≤ new.0)) [
+        | true ↦ λ e.
+            let c = closed held k sent was.1 (subst (λ (n : ℕ). AreEarly n sent held) (grind (arith, e)) h.early) in
+            let le : taken ≤ (closed_up k held).0 = grind (arith, e, c.0) in
+            (kept-taken (closed_up k held).0 (closed_up k held).1 le c.1 c.2, le)
+        | false ↦ λ e. elim (nat_lt taken k && keep) as (λ b. (nat_lt taken k && keep) ≡ b → IsDirection window there sent acked taken (if b then with_number k held else held) back wire × (taken ≤ taken)) [
+          | true ↦ λ e'. (kept-taken taken (with_number k held) (omega arith) h.counts.taken_sent (AreEarly-with held k (taken + 1) sent (grind (arith, e, e')) was.1 h.early), omega arith)
+          | false ↦ λ e'. (h, omega arith)
+        ] refl
       ] refl
-
--- a segment that comes moves what is taken and held alone
-pub came-moves : (keep : Bool) (d : Direction) (segment : Option ℕ) → (taken : ℕ) × (held : List ℕ) × (came keep d segment ≡ record d { taken = taken; held = held })
-came-moves keep d None = (d.taken, d.held, refl)
-came-moves keep d (Some k) =
-    elim (k == d.taken + 1) as (λ b. (taken : ℕ) × (held : List ℕ) × (
-    (if b then (let c = closed_up k d.held in record d { taken = c.0; held = c.1 }) else (if nat_lt d.taken k && keep then record d { held = with_number k d.held } else d)) ≡ record d { taken = taken; held = held })) [
-      | true ↦ ((closed_up k d.held).0, (closed_up k d.held).1, refl)
-      | false ↦ elim (nat_lt d.taken k && keep) as (λ b. (taken : ℕ) × (held : List ℕ) × ((if b then record d { held = with_number k d.held } else d) ≡ record d { taken = taken; held = held })) [
-        | true ↦ (d.taken, with_number k d.held, refl)
-        | false ↦ (d.taken, d.held, refl)
-      ]
-    ]

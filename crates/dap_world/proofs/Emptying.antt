@@ -1,11 +1,12 @@
 -- Every answer is read.
 use Rattle.std.proofs.Common.{◌≡◌, ℕ, ◌+◌, ◌-◌, ◌<◌, arith, refl, sym, ◌∙◌, subst, ap, length}
 use Rattle.std.specs.Prelude.{Err}
+use Rattle.dap_world.specs.declared.event.End.TheVariants.{A}
 use Rattle.dap_world.specs.declared.event.Event.TheVariants as event
 use Rattle.dap_world.specs.declared.event.Step.{Step}
 use Rattle.dap_world.specs.declared.event.WorldFault.{WorldFault}
 use Rattle.dap_world.specs.declared.event.WorldFault.TheVariants as fault
-use Rattle.dap_world.specs.Machine.{Refuses, State, Steps, arrived_of}
+use Rattle.dap_world.specs.Machine.{Refuses, State, Steps, arrived_at}
 use Rattle.dap_world.specs.Runs.{Went}
 use Rattle.dap_world.specs.Inner.Worlds.{IsWorld}
 use Rattle.dap_world.specs.Settling.{RanBy}
@@ -30,11 +31,11 @@ read_more old now new n answer h step =
 
 -- one fewer is left
 pub fewer_left : (old now new : State) (n : ℕ) (answer : Step) → ReadSome old now n → IsWorld new → Steps now event.Read answer new
-    → length (arrived_of new.seg_size new.from_b) - new.read < length (arrived_of now.seg_size now.from_b) - now.read
+    → length (arrived_at new A) - new.read < length (arrived_at now A) - now.read
 unfolding Steps
 fewer_left old now new n answer h world step =
     let grew : new.read ≡ now.read + 1 = ap (λ (s : State). s.read) step.3 in
-    let same : length (arrived_of new.seg_size new.from_b) ≡ length (arrived_of now.seg_size now.from_b) = ap (λ (s : State). length (arrived_of s.seg_size s.from_b)) step.3 in
+    let same : length (arrived_at new A) ≡ length (arrived_at now A) = ap (λ (s : State). length (arrived_at s A)) step.3 in
     omega (arith, grew, same, world.read)
 
 pub read_ends : (old now new : State) (n k : ℕ) → ReadSome old now n → Went now event.Read (Err fault.NothingToDo) new → k ≡ new.read - old.read → ReadEvery old new k

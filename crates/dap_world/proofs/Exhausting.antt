@@ -1,5 +1,5 @@
 -- Whether the Post that is due would make too many segments.
-use Rattle.std.proofs.Common.{◌≡◌, ℕ, ◌<◌, arith, refl, sym, ◌∙◌, subst, ap, List, [], length, map, take, drop}
+use Rattle.std.proofs.Common.{◌≡◌, ◌<◌, arith, refl, sym, ◌∙◌, subst, ap, List, [], length, map, take, drop}
 use Rattle.std.specs.Prelude.{Err}
 use Rattle.std.proofs.Math.Seq.{drop-nil, take-nil}
 use Rattle.dap_msg.specs.Message.{Message}
@@ -11,7 +11,7 @@ use Rattle.dap_world.specs.declared.event.End.TheVariants.{A, B}
 use Rattle.dap_world.specs.declared.event.Event.TheVariants as event
 use Rattle.dap_world.specs.declared.event.WorldFault.{WorldFault}
 use Rattle.dap_world.specs.declared.event.WorldFault.TheVariants as fault
-use Rattle.dap_world.specs.Machine.{State, MayEmit, sends, Steps, Refuses}
+use Rattle.dap_world.specs.Machine.{State, MayEmit, end_of, Steps, Refuses}
 use Rattle.dap_world.specs.Runs.{MayHappen, Went}
 use Rattle.dap_world.specs.Inner.Parts.{Parts, answer_packets, asked_packets, state_of}
 use Rattle.dap_world.specs.Settling.{FinishFault, IsEmpty, IsExhausted, IsPostDue, unacked}
@@ -39,7 +39,7 @@ unsettled s B some (B, due, why) = omega (arith, some, due.1)
 
 -- nothing waits at an end, nor at A where it is B's turn
 abbrev pub IsHandedOver : State → End → Type 0
-IsHandedOver s A = (sends s A).waiting ≡ []
+IsHandedOver s A = (end_of s A).waiting ≡ []
 IsHandedOver s B = IsQuiet s
 
 -- none is, where an end that has handed over all has something left
@@ -84,5 +84,5 @@ quiet_parts p none B =
 
 -- nothing waits after reading
 pub quiet_read : (old new : State) → ReadPart old new → AreEmpty old → IsQuiet new
-quiet_read old new part empty A = ap (λ (s : State). s.from_a.waiting) part.read ∙ empty.0.waiting
-quiet_read old new part empty B = ap (λ (s : State). s.from_b.waiting) part.read ∙ empty.1.waiting
+quiet_read old new part empty A = ap (λ (s : State). s.a.waiting) part.read ∙ empty.0.waiting
+quiet_read old new part empty B = ap (λ (s : State). s.b.waiting) part.read ∙ empty.1.waiting

@@ -12,7 +12,7 @@ use Rattle.dap_accessing.specs.Told.{Told}
 use Rattle.dap_world.specs.Agreement.{reports_of}
 use Rattle.dap_world.specs.declared.event.End.{End}
 use Rattle.dap_world.specs.declared.event.End.TheVariants.{A, B}
-use Rattle.dap_world.specs.Machine.{State, arrived_of, answers_read, files_of, next_to_read, reported, segments_of, sent_by, taken_of}
+use Rattle.dap_world.specs.Machine.{State, arrived_at, answers_read, files_of, next_to_read, reported, segments_of, sent_by, taken_of}
 use Rattle.dap_world.specs.Inner.Worlds.{IsWorld}
 use Rattle.dap_world.specs.Settling.{AllTold, Finished, IsEmpty, IsFinished, RanBy, unacked}
 use Rattle.dap_world.specs.Inner.Settling.{NothingSent}
@@ -33,7 +33,7 @@ handed_all handed waiting all none is = ap messages_in (sym (append-nil handed) 
 pub all_told : (s : State) → IsWorld s → IsFinished s → AllTold s
 unfolding reported files_of
 all_told s h f =
-    let sent : sent_by s.from_a ≡ Asked s.own_a s.requests = handed_all s.from_a.handed s.from_a.waiting (Asked s.own_a s.requests) f.from_a.waiting h.asked in
+    let sent : sent_by s.a ≡ Asked s.own_a s.requests = handed_all s.a.handed s.a.waiting (Asked s.own_a s.requests) f.a.waiting h.asked in
     let taken : taken_of s ≡ Asked s.own_a s.requests = f.served ∙ sent in
     let reports : Told s.requests (answers_read s) ≡ reports_of s.own_a s.own_b s.requests = ap (Told s.requests) (f.read ∙ ap (λ (l : List Message). map Whole (Answers s.own_b [] (map Whole l))) taken) in
     record {
@@ -49,44 +49,44 @@ all_told s h f =
 empty_read : (s new : State) (end : End) → new ≡ record s { read = new.read } → IsEmpty s end → IsEmpty new end
 empty_read s new A is e =
     record {
-      waiting = ap (λ (t : State). t.from_a.waiting) is ∙ e.waiting;
-      sent = ap (λ (t : State). t.from_a.sent) is ∙ e.sent ∙ sym (ap (λ (t : State). segments_of t.seg_size t.from_a.handed) is);
+      waiting = ap (λ (t : State). t.a.waiting) is ∙ e.waiting;
+      sent = ap (λ (t : State). t.a.sent) is ∙ e.sent ∙ sym (ap (λ (t : State). segments_of t.seg_size t.a.handed) is);
       acked = ap (λ (t : State). unacked t A) is ∙ e.acked;
     }
 empty_read s new B is e =
     record {
-      waiting = ap (λ (t : State). t.from_b.waiting) is ∙ e.waiting;
-      sent = ap (λ (t : State). t.from_b.sent) is ∙ e.sent ∙ sym (ap (λ (t : State). segments_of t.seg_size t.from_b.handed) is);
+      waiting = ap (λ (t : State). t.b.waiting) is ∙ e.waiting;
+      sent = ap (λ (t : State). t.b.sent) is ∙ e.sent ∙ sym (ap (λ (t : State). segments_of t.seg_size t.b.handed) is);
       acked = ap (λ (t : State). unacked t B) is ∙ e.acked;
     }
 
 -- where all were read, no answer is left
 read_all : (s : State) → IsWorld s → IsEmpty s B → next_to_read s ≡ None → length (Answers s.own_b [] (map Whole (taken_of s))) ≤ s.read
 read_all s h e none =
-    let all : sent_by s.from_b ≡ Answers s.own_b [] (map Whole (taken_of s)) = handed_all s.from_b.handed s.from_b.waiting (Answers s.own_b [] (map Whole (taken_of s))) e.waiting h.answered in
+    let all : sent_by s.b ≡ Answers s.own_b [] (map Whole (taken_of s)) = handed_all s.b.handed s.b.waiting (Answers s.own_b [] (map Whole (taken_of s))) e.waiting h.answered in
     let came = arrived_empty_b s h e in
-    most (length (Answers s.own_b [] (map Whole (taken_of s)))) s.read (λ lt. none_past (arrived_of s.seg_size s.from_b) s.read (omega (arith, lt, ap length all, ap length came)) none)
+    most (length (Answers s.own_b [] (map Whole (taken_of s)))) s.read (λ lt. none_past (arrived_at s A) s.read (omega (arith, lt, ap length all, ap length came)) none)
   where
     most : (a b : ℕ) → (b < a → ⊥) → a ≤ b
     most a b stop = omega (arith, stop)
 
-is_finished : (s new : State) (n : ℕ) → IsWorld new → AreEmpty s → length (sent_by s.from_a) ≤ s.served → ReadEvery s new n → IsFinished new
+is_finished : (s new : State) (n : ℕ) → IsWorld new → AreEmpty s → length (sent_by s.a) ≤ s.served → ReadEvery s new n → IsFinished new
 is_finished s new n w e all r =
     let b = empty_read s new B r.read e.1 in
     let answers = Answers new.own_b [] (map Whole (taken_of new)) in
     record {
-      from_a = empty_read s new A r.read e.0;
-      from_b = b;
-      served = take_all new.served (sent_by new.from_a) (omega (arith, all, ap (λ (t : State). t.served) r.read, ap (λ (t : State). length (sent_by t.from_a)) r.read));
+      a = empty_read s new A r.read e.0;
+      b = b;
+      served = take_all new.served (sent_by new.a) (omega (arith, all, ap (λ (t : State). t.served) r.read, ap (λ (t : State). length (sent_by t.a)) r.read));
       read = ap (map Whole) (take_all new.read answers (read_all new w b r.none_left));
     }
 
 -- ---- Where nothing is left to do, nothing is done.
 
-pub all_served : (s : State) → IsWorld s → IsFinished s → length (sent_by s.from_a) ≤ s.served
-all_served s h f = omega (arith, ap length f.served, length-take-le s.served (sent_by s.from_a) (headline_of s h).taken_there)
+pub all_served : (s : State) → IsWorld s → IsFinished s → length (sent_by s.a) ≤ s.served
+all_served s h f = omega (arith, ap length f.served, length-take-le s.served (sent_by s.a) (headline_of s h).taken_there)
 
-none_to_read : (s : State) → IsWorld s → IsFinished s → length (arrived_of s.seg_size s.from_b) ≤ s.read
+none_to_read : (s : State) → IsWorld s → IsFinished s → length (arrived_at s A) ≤ s.read
 none_to_read s h f =
     let answers = Answers s.own_b [] (map Whole (taken_of s)) in
     omega (
@@ -99,10 +99,10 @@ none_to_read s h f =
     )
 
 pub still_settled : (old new : State) (n : ℕ) → IsFinished old → SettledBoth old new n → new ≡ old
-still_settled old new n f h = ran_still old new n h.ran (h.nothing f.from_a.acked f.from_b.acked)
+still_settled old new n f h = ran_still old new n h.ran (h.nothing f.a.acked f.b.acked)
 
 pub are_empty : (s : State) → IsFinished s → AreEmpty s
-are_empty s f = (f.from_a, f.from_b)
+are_empty s f = (f.a, f.b)
 
 pub still_sent : (old new : State) (n : ℕ) → IsFinished old → SentBoth old new n → new ≡ old
 still_sent old new n f h = ran_still old new n h.ran (h.nothing (are_empty old f))
@@ -113,10 +113,10 @@ still_served old new n w f h = ran_still old new n h.done.ran (h.done.nothing (h
 pub unread : (s new : State) → IsWorld s → ReadPart s new → IsFinished s → ⊥
 unread s new h part f =
     let there = slice_get_within _ new.read part.next part.there in
-    omega (arith, none_to_read s h f, there, part.more, ap (λ (t : State). length (arrived_of t.seg_size t.from_b)) part.read)
+    omega (arith, none_to_read s h f, there, part.more, ap (λ (t : State). length (arrived_at t A)) part.read)
 
 none_read : (s new : State) (n : ℕ) → IsWorld s → IsWorld new → IsFinished s → ReadEvery s new n → n ≡ 0
-none_read s new n h w f r = omega (arith, none_to_read s h f, w.read, r.count, ap (λ (t : State). length (arrived_of t.seg_size t.from_b)) r.read)
+none_read s new n h w f r = omega (arith, none_to_read s h f, w.read, r.count, ap (λ (t : State). length (arrived_at t A)) r.read)
 
 -- ---- All of it.
 
@@ -145,8 +145,8 @@ module _ (old s1 s2 s3 : State) (n1 n2 n3 : ℕ) (h : IsWorld old) (a : SettledB
       let ran = ran_both old s3 new ((n1 + n2) + n3) n4 ran_three r.ran in
       let sent_a = rest.sent A in
       let sent_b = rest.sent B in
-      let moved_a = ap (λ (t : State). t.from_a.sent) r.read in
-      let moved_b = ap (λ (t : State). t.from_b.sent) r.read in
+      let moved_a = ap (λ (t : State). t.a.sent) r.read in
+      let moved_b = ap (λ (t : State). t.b.sent) r.read in
       let moved = ap (λ (t : State). t.served) r.read in
       record {
         ran = ran;
@@ -181,7 +181,7 @@ module _ (old s1 s2 s3 : State) (n1 n2 n3 : ℕ) (h : IsWorld old) (a : SettledB
             let three = still_four f in
             omega (
               arith,
-              a.nothing f.from_a.acked f.from_b.acked,
+              a.nothing f.a.acked f.b.acked,
               b.nothing (are_empty s1 (subst IsFinished (sym one) f)),
               c.done.nothing (c.only (all_served s2 (subst IsWorld (sym two) h) (subst IsFinished (sym two) f))),
               none_read s3 new n4 w3 w (subst IsFinished (sym three) f) r,

@@ -4,7 +4,7 @@ use Rattle.dap_msg.specs.Blocked.{all_joined}
 use Rattle.nsp_link.specs.Cutting.{cut}
 use Rattle.nsp_link.proofs.ForCallers.{written_one}
 use Rattle.dap_world.specs.declared.event.End.{End}
-use Rattle.dap_world.specs.Machine.{State, Sending, other, sends}
+use Rattle.dap_world.specs.Machine.{State, Sending, other, end_of}
 use Rattle.dap_world.specs.Wires.{IsOnWire, address_of}
 -- an event has one step at the most, or one reason why it has none
 pub use Rattle.dap_world.proofs.Deciding.{no_step, one_reason, one_step}
@@ -13,4 +13,4 @@ pub use Rattle.dap_world.proofs.Deciding.{no_step, one_reason, one_step}
 pub one_on_wire : (s : State) (end : End) (sending : Sending) (a b : List ℕ) → IsOnWire s end sending a → IsOnWire s end sending b → a ≡ b
 unfolding IsOnWire
 one_on_wire s end sending a b one two =
-    written_one (address_of end) (address_of (other end)) (cut s.seg_size (all_joined (sends s end).handed)) sending.segment sending.acks a b one two
+    written_one (address_of end) (address_of (other end)) (cut s.seg_size (all_joined (end_of s end).handed)) sending.segment sending.acks a b one two

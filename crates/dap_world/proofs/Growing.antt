@@ -9,16 +9,30 @@ use Rattle.dap_accessed.specs.Served.{AllAtMost}
 use Rattle.nsp_link.specs.Cutting.{cut, count_of}
 use Rattle.nsp_link.specs.Limits.{largest_limit, most_segments}
 use Rattle.dap_end.proofs.ForCallers.{back_fit, fit-both, front_fit, in_append}
+use Rattle.nsp_link.specs.Link.{LinkValue}
 use Rattle.dap_world.specs.Inner.Sides.{SideValue, AreShort}
 use Rattle.dap_world.specs.Inner.Parts.{IsTold, IsAmong}
+use Rattle.dap_world.specs.Inner.Ways.{IsWay}
 use Rattle.dap_world.proofs.Counting.{counted, segments-first}
 use Rattle.dap_world.proofs.Splits.{some_bytes}
-use Rattle.dap_world.proofs.Ways.{same_writes}
+use Rattle.dap_world.proofs.Ways.{same_writes, told_with}
 
--- what waits at the taking end is another list
-pub told_to : (from to : SideValue) (packets : List NspMessage) (count : ℕ) (outbox : List (List ℕ)) → IsTold from to packets count → IsTold from (record to { outbox = outbox }) packets count
-told_to from to packets count outbox h =
-    record { handed = h.handed; posted = h.posted; gone = h.gone; among = h.among; way = h.way; bytes = h.bytes; fit = h.fit; short = h.short }
+-- the sending end moved its place, and has other messages to send
+moved_way : (from : SideValue) (to : LinkValue) (messages given : List (List ℕ)) (inbox : List (List ℕ)) (place : ℕ) (outbox : List (List ℕ)) → IsWay from to messages given
+    → IsWay (record from { link = record from.link { inbox = inbox }; place = place; outbox = outbox }) to messages given
+moved_way from to messages given inbox place outbox way =
+    record {
+      size = way.size;
+      running = way.running;
+      listening = way.listening;
+      there = way.there;
+      back = way.back;
+      sends = record { queue = way.sends.queue; acked = way.sends.acked };
+      stands = way.stands;
+      short = way.short;
+      few = way.few;
+      wire = same_writes from.link (record from.link { inbox = inbox }) messages refl refl refl from.wire way.wire;
+    }
 
 -- the first NSP messages are the same with more behind them
 pub handed_same : (from to : SideValue) (packets block : List NspMessage) (count : ℕ) → IsTold from to packets count → take from.posted (packets ++ block) ≡ take from.posted packets
@@ -34,18 +48,7 @@ told_more from to packets block count inbox place outbox more h outbox_is more_i
       posted = h.posted;
       gone = h.gone;
       among = subst (λ (l : List NspMessage). IsAmong l count to.place h.gone) (sym (handed_same from to packets block count h)) h.among;
-      way = record {
-        size = h.way.size;
-        running = h.way.running;
-        listening = h.way.listening;
-        there = h.way.there;
-        back = h.way.back;
-        sends = record { queue = h.way.sends.queue; acked = h.way.sends.acked };
-        stands = h.way.stands;
-        short = h.way.short;
-        few = h.way.few;
-        wire = same_writes from.link (record from.link { inbox = inbox }) h.handed refl refl refl from.wire h.way.wire;
-      };
+      way = moved_way from to.link h.handed _ inbox place outbox h.way;
       bytes = ap (λ (l : List (List ℕ)). h.handed ++ l) outbox_is ∙ sym (append_assoc h.handed from.outbox more) ∙ ap (λ (l : List (List ℕ)). l ++ more) h.bytes
           ∙ ap (λ (l : List (List ℕ)). all_joined packets ++ l) more_is ∙ sym (map-append joined packets block);
       fit = subst AllFit (sym (in_append packets block)) (fit-both (messages_in packets) (messages_in block) h.fit fit);
@@ -60,28 +63,7 @@ all_short limit most (x ∷ list) le h = All-cons (λ m. length m ≤ most) x li
 -- the sending end moved its place
 pub told_moved : (from to : SideValue) (packets : List NspMessage) (count : ℕ) (inbox : List (List ℕ)) (place : ℕ) → IsTold from to packets count
     → IsTold (record from { link = record from.link { inbox = inbox }; place = place }) to packets count
-told_moved from to packets count inbox place h =
-    record {
-      handed = h.handed;
-      posted = h.posted;
-      gone = h.gone;
-      among = h.among;
-      way = record {
-        size = h.way.size;
-        running = h.way.running;
-        listening = h.way.listening;
-        there = h.way.there;
-        back = h.way.back;
-        sends = record { queue = h.way.sends.queue; acked = h.way.sends.acked };
-        stands = h.way.stands;
-        short = h.way.short;
-        few = h.way.few;
-        wire = same_writes from.link (record from.link { inbox = inbox }) h.handed refl refl refl from.wire h.way.wire;
-      };
-      bytes = h.bytes;
-      fit = h.fit;
-      short = h.short;
-    }
+told_moved from to packets count inbox place h = told_with h (moved_way from to.link h.handed _ inbox place from.outbox h.way)
 
 -- ---- No more messages than segments, and than bytes.
 

@@ -21,38 +21,39 @@ use Rattle.dap_world.specs.declared.event.Event.TheVariants as event
 use Rattle.dap_world.specs.declared.event.Step.{Step}
 use Rattle.dap_world.specs.declared.setup.WorldSetup.{WorldSetup}
 use Rattle.dap_world.specs.Setups.{IsWorldSetup}
-use Rattle.dap_world.specs.Machine.{files_of, reported, State, Direction, Sending, fresh, idle, other, sends, with_sends, arrived, arrived_of, sent_by, taken_of, answers_read, asking, asked, posted, wrote, came, delivered, answering, served_one, read_one, segments_of, segments_then, Steps, StepsFreely}
+use Rattle.dap_world.specs.Machine.{files_of, reported, State, EndState, Sending, fresh, other, end_of, with_end, arrived, arrived_at, sent_by, taken_of, answers_read, asking, asked, posted, wrote, delivered, answering, served_one, read_one, segments_of, segments_then, Steps, StepsFreely}
 use Rattle.dap_world.specs.Runs.{RunsBy}
 use Rattle.dap_accessed.specs.Present as accessed
 use Rattle.dap_end.proofs.ForCallers.{Asked-more, in_append}
 use Rattle.dap_world.specs.Inner.Parts.{Parts, state_of}
-use Rattle.dap_world.specs.Inner.Worlds.{WasSent, IsDirection, IsWorld}
+use Rattle.dap_world.specs.Inner.Worlds.{WasSent, IsDirection, IsWorld, Reaches}
 use Rattle.dap_world.specs.Headline.{HeadlineOf}
 use Rattle.dap_world.proofs.Agreeing.{none-unexpected}
 use Rattle.dap_world.proofs.Asking.{all_read, answers-front, admissible-more}
-use Rattle.dap_world.proofs.Directions.{kept-back, kept-handed, kept-waiting, kept-writes, kept-acked, kept-came, came-moves, AreTrue-at}
+use Rattle.dap_world.proofs.Directions.{kept-there, kept-writes, kept-acked, kept-came, segments_of-append, AreTrue-at}
 use Rattle.dap_world.proofs.Packets.{arrived-front, arrived-more, arrived-later, get-front, take-next, served-stays}
 
 -- ---- The headline of a state.
 
--- what came is among what was handed over
-pub came-handed : (seg : ℕ) (d : Direction) → length (arrived_of seg d) ≤ length (sent_by d)
-came-handed seg d =
-    let front = arrived-front seg d.taken d.handed in
-    omega (arith, length-append (arrived_of seg d) front.0, ap length front.1)
+-- what came is among what the other end handed over
+pub came-handed : (s : State) (end : End) → length (arrived_at s end) ≤ length (sent_by (end_of s (other end)))
+came-handed s end =
+    let from = end_of s (other end) in
+    let front = arrived-front s.seg_size (end_of s end).taken from.handed in
+    omega (arith, length-append (arrived_at s end) front.0, ap length front.1)
 
 pub headline_of : (s : State) → IsWorld s → HeadlineOf s
 unfolding files_of reported
 headline_of s h =
     record {
-      sent_in_order = (messages_in s.from_a.waiting, sym (in_append s.from_a.handed s.from_a.waiting) ∙ h.asked);
+      sent_in_order = (messages_in s.a.waiting, sym (in_append s.a.handed s.a.waiting) ∙ h.asked);
       taken_in_order = refl;
-      taken_there = omega (arith, h.served, came-handed s.seg_size s.from_a);
+      taken_there = omega (arith, h.served, came-handed s B);
       files_after = refl;
       reports_told = refl;
       answers_there =
-          let all = ap length (sym (in_append s.from_b.handed s.from_b.waiting) ∙ h.answered) in
-          omega (arith, h.read, came-handed s.seg_size s.from_b, length-append (sent_by s.from_b) (messages_in s.from_b.waiting), all);
+          let all = ap length (sym (in_append s.b.handed s.b.waiting) ∙ h.answered) in
+          omega (arith, h.read, came-handed s A, length-append (sent_by s.b) (messages_in s.b.waiting), all);
     }
 
 -- the files that the accessed end keeps
@@ -62,8 +63,8 @@ files_are p stands = ap (λ (v : accessed.Present). v.files) stands
 
 -- ---- A new world.
 
-is_idle : (seg_size window : ℕ) → IsDirection seg_size window idle idle
-is_idle seg_size window =
+is_idle : (window : ℕ) → IsDirection window 0 0 0 0 [] 0 []
+is_idle window =
     record { counts = record { acked_taken = omega arith; taken_sent = omega arith; within_window = omega arith; sent_there = omega arith; few = omega arith }; early = tt; wire = tt }
 
 pub is_fresh : (setup : WorldSetup) → IsWorldSetup setup → IsWorld (fresh setup)
@@ -73,8 +74,8 @@ is_fresh setup h =
       some = h.window;
       own_a = h.own_a;
       own_b = h.own_b;
-      from_a = is_idle setup.seg_size setup.window;
-      from_b = is_idle setup.seg_size setup.window;
+      from_a = is_idle setup.window;
+      from_b = is_idle setup.window;
       admissible = tt;
       asked = refl;
       answered = refl;
@@ -87,20 +88,18 @@ is_fresh setup h =
 -- what was served is a front of what was asked
 pub served-front : (s : State) → IsWorld s → (rest : List Message) × (taken_of s ++ rest ≡ Asked s.own_a s.requests)
 served-front s h = (
-  drop s.served (sent_by s.from_a) ++ messages_in s.from_a.waiting,
-  sym (append_assoc (taken_of s) (drop s.served (sent_by s.from_a)) (messages_in s.from_a.waiting))
-      ∙ ap (λ (l : List Message). l ++ messages_in s.from_a.waiting) (take-append-drop s.served (sent_by s.from_a))
-      ∙ sym (in_append s.from_a.handed s.from_a.waiting) ∙ h.asked,
+  drop s.served (sent_by s.a) ++ messages_in s.a.waiting,
+  sym (append_assoc (taken_of s) (drop s.served (sent_by s.a)) (messages_in s.a.waiting))
+      ∙ ap (λ (l : List Message). l ++ messages_in s.a.waiting) (take-append-drop s.served (sent_by s.a))
+      ∙ sym (in_append s.a.handed s.a.waiting) ∙ h.asked,
 )
 
 -- no more was served than was handed over
-pub served_there : (s : State) → IsWorld s → s.served ≤ length (sent_by s.from_a)
-served_there s h =
-    let front = arrived-front s.seg_size s.from_a.taken s.from_a.handed in
-    omega (arith, h.served, ap length front.1, length-append (messages_in (arrived s.seg_size s.from_a.taken s.from_a.handed)) front.0)
+pub served_there : (s : State) → IsWorld s → s.served ≤ length (sent_by s.a)
+served_there s h = omega (arith, h.served, came-handed s B)
 
 pub served_count : (s : State) → IsWorld s → length (taken_of s) ≡ s.served
-served_count s h = length-take-le s.served (sent_by s.from_a) (served_there s h)
+served_count s h = length-take-le s.served (sent_by s.a) (served_there s h)
 
 -- what was read is a front of the answers to all that was asked
 pub read-front : (s : State) → IsWorld s → (back : List Item) × (answers_read s ++ back ≡ map Whole (answers_to s.own_a s.own_b s.requests))
@@ -128,149 +127,147 @@ kept-asked s r h m =
       some = h.some;
       own_a = h.own_a;
       own_b = h.own_b;
-      from_a = kept-waiting s.seg_size s.window s.from_a s.from_b h.from_a (s.from_a.waiting ++ packets);
-      from_b = kept-back s.seg_size s.window s.from_b s.from_a h.from_b _ (omega arith);
+      from_a = h.from_a;
+      from_b = h.from_b;
       admissible = admissible-more s.own_a s.own_b [] s.requests r h.admissible (subst (λ (l : List Item). IsAdmissible s.own_a s.requests l r) (all-answers s r h m) m);
-      asked = ap messages_in (sym (append_assoc s.from_a.handed s.from_a.waiting packets)) ∙ in_append (s.from_a.handed ++ s.from_a.waiting) packets
-          ∙ ap (λ l. messages_in (s.from_a.handed ++ s.from_a.waiting) ++ l) (messages_in-Blocked _ (messages_of s.own_a r))
+      asked = ap messages_in (sym (append_assoc s.a.handed s.a.waiting packets)) ∙ in_append (s.a.handed ++ s.a.waiting) packets
+          ∙ ap (λ l. messages_in (s.a.handed ++ s.a.waiting) ++ l) (messages_in-Blocked _ (messages_of s.own_a r))
           ∙ ap (λ l. l ++ messages_of s.own_a r) h.asked ∙ sym (Asked-more s.own_a s.requests r);
       answered = h.answered;
       served = h.served;
       read = h.read;
     }
 
--- ---- Post.
+-- ---- An end moves.
 
-kept-posted : (s : State) (end : End) → IsWorld s → segments_then s end ≤ most_segments → IsWorld (with_sends s end (posted (sends s end)))
-kept-posted s A h few =
-    record {
-      window = h.window;
-      some = h.some;
-      own_a = h.own_a;
-      own_b = h.own_b;
-      from_a = kept-handed s.seg_size s.window s.from_a s.from_b h.from_a [] s.from_a.waiting few;
-      from_b = kept-back s.seg_size s.window s.from_b s.from_a h.from_b _ (omega arith);
-      admissible = h.admissible;
-      asked = ap messages_in (append-nil (s.from_a.handed ++ s.from_a.waiting)) ∙ h.asked;
-      answered = h.answered ∙ ap (λ l. Answers s.own_b [] (map Whole l)) (sym (served-stays s.served s.seg_size s.from_a.taken s.from_a.handed s.from_a.waiting h.served));
-      served = omega (arith, h.served, arrived-more s.seg_size s.from_a.taken s.from_a.taken s.from_a.handed s.from_a.waiting (omega arith));
-      read = h.read;
-    }
-kept-posted s B h few =
-    record {
-      window = h.window;
-      some = h.some;
-      own_a = h.own_a;
-      own_b = h.own_b;
-      from_a = kept-back s.seg_size s.window s.from_a s.from_b h.from_a _ (omega arith);
-      from_b = kept-handed s.seg_size s.window s.from_b s.from_a h.from_b [] s.from_b.waiting few;
-      admissible = h.admissible;
-      asked = h.asked;
-      answered = ap messages_in (append-nil (s.from_b.handed ++ s.from_b.waiting)) ∙ h.answered;
-      served = h.served;
-      read = omega (arith, h.read, arrived-more s.seg_size s.from_b.taken s.from_b.taken s.from_b.handed s.from_b.waiting (omega arith));
-    }
+pub now_at : (s new : State) (end : End) (e : EndState) → new ≡ with_end s end e → end_of new end ≡ e
+now_at s new A e is = ap (λ (t : State). t.a) is
+now_at s new B e is = ap (λ (t : State). t.b) is
 
--- ---- Emit, Resend, Ack.
+-- and the other one doesn't
+pub still_at : (s new : State) (end : End) (e : EndState) → new ≡ with_end s (other end) e → end_of new end ≡ end_of s end
+still_at s new A e is = ap (λ (t : State). t.a) is
+still_at s new B e is = ap (λ (t : State). t.b) is
 
-kept-wrote : (s : State) (end : End) (sent : ℕ) (segment : Option ℕ) → IsWorld s
-    → (sends s end).sent ≤ sent → sent ≤ (sends s end).acked + s.window → sent ≤ segments_of s.seg_size (sends s end).handed → WasSent sent segment → IsWorld (wrote s end sent segment)
-kept-wrote s A sent segment h le within there was =
-    record {
-      window = h.window;
-      some = h.some;
-      own_a = h.own_a;
-      own_b = h.own_b;
-      from_a = kept-writes s.seg_size s.window s.from_a s.from_b h.from_a sent _ le within there was (omega arith);
-      from_b = kept-back s.seg_size s.window s.from_b s.from_a h.from_b _ (omega arith);
-      admissible = h.admissible;
-      asked = h.asked;
-      answered = h.answered;
-      served = h.served;
-      read = h.read;
-    }
-kept-wrote s B sent segment h le within there was =
-    record {
-      window = h.window;
-      some = h.some;
-      own_a = h.own_a;
-      own_b = h.own_b;
-      from_a = kept-back s.seg_size s.window s.from_a s.from_b h.from_a _ (omega arith);
-      from_b = kept-writes s.seg_size s.window s.from_b s.from_a h.from_b sent _ le within there was (omega arith);
-      admissible = h.admissible;
-      asked = h.asked;
-      answered = h.answered;
-      served = h.served;
-      read = h.read;
-    }
+pub other_still : (s new : State) (end : End) (e : EndState) → new ≡ with_end s end e → end_of new (other end) ≡ end_of s (other end)
+other_still s new A e is = ap (λ (t : State). t.b) is
+other_still s new B e is = ap (λ (t : State). t.a) is
 
-pub direction : (s : State) (end : End) → IsWorld s → IsDirection s.seg_size s.window (sends s end) (sends s (other end))
+pub twice : (end : End) → other (other end) ≡ end
+twice A = refl
+twice B = refl
+
+-- what an end sends, and what comes to it
+pub direction : (s : State) (end : End) → IsWorld s → Reaches s.seg_size s.window (end_of s end) (end_of s (other end))
 direction s A h = h.from_a
 direction s B h = h.from_b
 
--- ---- Deliver.
+pub back : (s : State) (end : End) → IsWorld s → Reaches s.seg_size s.window (end_of s (other end)) (end_of s end)
+back s A h = h.from_b
+back s B h = h.from_a
 
-came_handed : (keep : Bool) (d : Direction) (segment : Option ℕ) → (came keep d segment).handed ≡ d.handed
-came_handed keep d segment = ap (λ (x : Direction). x.handed) (came-moves keep d segment).2
+-- It may move so: both directions stand in order, it has the same to send, and handed over and took no less.
+record Moves (s : State) (end : End) (e : EndState) : Type 0 where
+  out : Reaches s.seg_size s.window e (end_of s (other end))
+  comes : Reaches s.seg_size s.window (end_of s (other end)) e
+  all : messages_in (e.handed ++ e.waiting) ≡ messages_in ((end_of s end).handed ++ (end_of s end).waiting)
+  more : List NspMessage
+  handed : e.handed ≡ (end_of s end).handed ++ more
+  taken : (end_of s end).taken ≤ e.taken
 
-came_all : (keep : Bool) (d : Direction) (segment : Option ℕ) → messages_in ((came keep d segment).handed ++ (came keep d segment).waiting) ≡ messages_in (d.handed ++ d.waiting)
-came_all keep d segment = ap (λ (x : Direction). messages_in (x.handed ++ x.waiting)) (came-moves keep d segment).2
+-- no less came, once more was handed over or taken
+more_came : (seg taken n : ℕ) (handed more now : List NspMessage) → now ≡ handed ++ more → n ≤ length (messages_in (arrived seg taken handed)) → n ≤ length (messages_in (arrived seg taken now))
+more_came seg taken n handed more now is le =
+    subst (λ (l : List NspMessage). n ≤ length (messages_in (arrived seg taken l))) (sym is) (omega (arith, le, arrived-more seg taken taken handed more (omega arith)))
 
-came_more : (seg n : ℕ) (keep : Bool) (d : Direction) (segment : Option ℕ) → d.taken ≤ (came keep d segment).taken → n ≤ length (arrived_of seg d) → n ≤ length (arrived_of seg (came keep d segment))
-came_more seg n keep d segment le h =
-    subst (λ (l : List NspMessage). n ≤ length (messages_in (arrived seg (came keep d segment).taken l))) (sym (came_handed keep d segment))
-    (omega (arith, h, arrived-later seg d.taken (came keep d segment).taken d.handed le))
-
-kept-delivered : (keep : Bool) (s : State) (end : End) (p : Sending) → IsWorld s
-    → WasSent (sends s (other end)).sent p.segment → p.acks ≤ (sends s end).taken → IsWorld (delivered keep s end p)
-kept-delivered keep s A p h was acks =
-    let got = kept-came s.seg_size s.window s.from_b s.from_a h.from_b keep p.segment was in
+kept-moves : (s : State) (end : End) (e : EndState) → IsWorld s → Moves s end e → IsWorld (with_end s end e)
+kept-moves s A e h m =
     record {
       window = h.window;
       some = h.some;
       own_a = h.own_a;
       own_b = h.own_b;
-      from_a = kept-back s.seg_size s.window _ s.from_b (kept-acked s.seg_size s.window s.from_a s.from_b h.from_a p.acks acks) _ got.1;
-      from_b = kept-back s.seg_size s.window _ s.from_a got.0 _ (omega arith);
+      from_a = m.out;
+      from_b = m.comes;
+      admissible = h.admissible;
+      asked = m.all ∙ h.asked;
+      answered = h.answered
+          ∙ ap (λ l. Answers s.own_b [] (map Whole l)) (sym (ap (λ l. take s.served (messages_in l)) m.handed ∙ served-stays s.served s.seg_size s.b.taken s.a.handed m.more h.served));
+      served = more_came s.seg_size s.b.taken s.served s.a.handed m.more e.handed m.handed h.served;
+      read = omega (arith, h.read, arrived-later s.seg_size s.a.taken e.taken s.b.handed m.taken);
+    }
+kept-moves s B e h m =
+    record {
+      window = h.window;
+      some = h.some;
+      own_a = h.own_a;
+      own_b = h.own_b;
+      from_a = m.comes;
+      from_b = m.out;
       admissible = h.admissible;
       asked = h.asked;
-      answered = came_all keep s.from_b p.segment ∙ h.answered;
-      served = h.served;
-      read = came_more s.seg_size s.read keep s.from_b p.segment got.1 h.read;
-    }
-kept-delivered keep s B p h was acks =
-    let got = kept-came s.seg_size s.window s.from_a s.from_b h.from_a keep p.segment was in
-    record {
-      window = h.window;
-      some = h.some;
-      own_a = h.own_a;
-      own_b = h.own_b;
-      from_a = kept-back s.seg_size s.window _ s.from_b got.0 _ (omega arith);
-      from_b = kept-back s.seg_size s.window _ s.from_a (kept-acked s.seg_size s.window s.from_b s.from_a h.from_b p.acks acks) _ got.1;
-      admissible = h.admissible;
-      asked = came_all keep s.from_a p.segment ∙ h.asked;
-      answered = h.answered ∙ ap (λ l. Answers s.own_b [] (map Whole (take s.served (messages_in l)))) (sym (came_handed keep s.from_a p.segment));
-      served = came_more s.seg_size s.served keep s.from_a p.segment got.1 h.served;
-      read = h.read;
+      answered = m.all ∙ h.answered;
+      served = omega (arith, h.served, arrived-later s.seg_size s.b.taken e.taken s.a.handed m.taken);
+      read = more_came s.seg_size s.a.taken s.read s.b.handed m.more e.handed m.handed h.read;
     }
 
-kept-comes : (keep : Bool) (s : State) (end : End) (j : ℕ) (p : Sending) → IsWorld s → slice_get (sends s (other end)).wire j ≡ Some p → IsWorld (delivered keep s end p)
-kept-comes keep s end j p h e =
-    let true_of = AreTrue-at (sends s (other end)).wire j p (sends s (other end)).sent (sends s (other (other end))).taken (direction s (other end) h).wire e in
-    kept-delivered keep s end p h true_of.0 (back end true_of.1) where
-      back : (end : End) → p.acks ≤ (sends s (other (other end))).taken → p.acks ≤ (sends s end).taken
-      back A le = le
-      back B le = le
+kept-posted : (s : State) (end : End) → IsWorld s → segments_then s end ≤ most_segments → IsWorld (with_end s end (posted (end_of s end)))
+kept-posted s end h few =
+    let e = end_of s end in
+    kept-moves s end (posted e) h
+    (record {
+      out = kept-there _ _ _ _ _ _ _ _ (direction s end h) (segments_then s end) (omega (arith, segments_of-append s.seg_size e.handed e.waiting)) few;
+      comes = back s end h;
+      all = ap messages_in (append-nil (e.handed ++ e.waiting));
+      more = e.waiting;
+      handed = refl;
+      taken = omega arith;
+    })
+
+kept-wrote : (s : State) (end : End) (sent : ℕ) (segment : Option ℕ) → IsWorld s
+    → (end_of s end).sent ≤ sent → sent ≤ (end_of s end).acked + s.window → sent ≤ segments_of s.seg_size (end_of s end).handed → WasSent sent segment → IsWorld (with_end s end (wrote (end_of s end) sent segment))
+kept-wrote s end sent segment h le within there was =
+    kept-moves s end (wrote (end_of s end) sent segment) h
+    (record {
+      out = kept-writes _ _ _ _ _ _ _ _ (direction s end h) sent (record { segment = segment; acks = (end_of s end).taken }) le within there was (omega arith);
+      comes = back s end h;
+      all = refl;
+      more = [];
+      handed = sym (append-nil (end_of s end).handed);
+      taken = omega arith;
+    })
+
+-- what comes was sent, and acknowledges no more than was taken
+pub true_of : (s : State) (end : End) (j : ℕ) (p : Sending) → IsWorld s → slice_get (end_of s (other end)).wire j ≡ Some p → WasSent (end_of s (other end)).sent p.segment × (p.acks ≤ (end_of s (other end)).taken)
+true_of s end j p h at = AreTrue-at (end_of s (other end)).wire j p (end_of s (other end)).sent (end_of s (other end)).taken (back s end h).wire at
+
+-- what is taken when it comes
+pub came_in : (s : State) (end : End) (keep : Bool) (j : ℕ) (p : Sending) → IsWorld s → slice_get (end_of s (other end)).wire j ≡ Some p
+    → Reaches s.seg_size s.window (end_of s (other end)) (delivered keep (end_of s end) p) × ((end_of s end).taken ≤ (delivered keep (end_of s end) p).taken)
+came_in s end keep j p h at = kept-came _ _ _ _ _ _ _ _ (back s end h) keep p.segment (true_of s end j p h at).0
+
+kept-comes : (keep : Bool) (s : State) (end : End) (j : ℕ) (p : Sending) → IsWorld s → slice_get (end_of s (other end)).wire j ≡ Some p → IsWorld (with_end s end (delivered keep (end_of s end) p))
+kept-comes keep s end j p h at =
+    let came = came_in s end keep j p h at in
+    kept-moves s end (delivered keep (end_of s end) p) h
+    (record {
+      out = kept-acked _ _ _ _ _ _ _ _ (direction s end h) p.acks (delivered keep (end_of s end) p).taken (true_of s end j p h at).1 came.1;
+      comes = came.0;
+      all = refl;
+      more = [];
+      handed = sym (append-nil (end_of s end).handed);
+      taken = came.1;
+    })
 
 -- ---- Serve and Read.
 
 -- the messages that B served, once it served the next
-pub taken-more : (s : State) (m : Message) → slice_get (arrived_of s.seg_size s.from_a) s.served ≡ Some m → take (s.served + 1) (sent_by s.from_a) ≡ taken_of s ++ m ∷ []
+pub taken-more : (s : State) (m : Message) → slice_get (arrived_at s B) s.served ≡ Some m → take (s.served + 1) (sent_by s.a) ≡ taken_of s ++ m ∷ []
 taken-more s m e =
-    let f = arrived-front s.seg_size s.from_a.taken s.from_a.handed in
-    take-next (sent_by s.from_a) s.served m (subst (λ (l : List Message). slice_get l s.served ≡ Some m) f.1 (get-front (arrived_of s.seg_size s.from_a) f.0 s.served m e))
+    let f = arrived-front s.seg_size s.b.taken s.a.handed in
+    take-next (sent_by s.a) s.served m (subst (λ (l : List Message). slice_get l s.served ≡ Some m) f.1 (get-front (arrived_at s B) f.0 s.served m e))
 
-kept-served : (s : State) (m : Message) → IsWorld s → s.from_b.waiting ≡ [] → slice_get (arrived_of s.seg_size s.from_a) s.served ≡ Some m → IsWorld (served_one s m)
+kept-served : (s : State) (m : Message) → IsWorld s → s.b.waiting ≡ [] → slice_get (arrived_at s B) s.served ≡ Some m → IsWorld (served_one s m)
 kept-served s m h empty e =
     let answers = added s.own_b [] (map Whole (taken_of s)) (Whole m) in
     record {
@@ -278,13 +275,13 @@ kept-served s m h empty e =
       some = h.some;
       own_a = h.own_a;
       own_b = h.own_b;
-      from_a = kept-back s.seg_size s.window s.from_a s.from_b h.from_a _ (omega arith);
-      from_b = kept-waiting s.seg_size s.window s.from_b s.from_a h.from_b (answering s m);
+      from_a = h.from_a;
+      from_b = h.from_b;
       admissible = h.admissible;
       asked = h.asked;
-      answered = in_append s.from_b.handed (answering s m)
-          ∙ ap (λ l. messages_in s.from_b.handed ++ l) (messages_in-Blocked _ answers)
-          ∙ ap (λ l. l ++ answers) (ap messages_in (sym (append-nil s.from_b.handed) ∙ ap (λ (w : List NspMessage). s.from_b.handed ++ w) (sym empty)) ∙ h.answered)
+      answered = in_append s.b.handed (answering s m)
+          ∙ ap (λ l. messages_in s.b.handed ++ l) (messages_in-Blocked _ answers)
+          ∙ ap (λ l. l ++ answers) (ap messages_in (sym (append-nil s.b.handed) ∙ ap (λ (w : List NspMessage). s.b.handed ++ w) (sym empty)) ∙ h.answered)
           ∙ sym (Answers-more s.own_b [] (map Whole (taken_of s)) (Whole m))
           ∙ ap (Answers s.own_b []) (sym (map-append Whole (taken_of s) (m ∷ [])))
           ∙ ap (λ l. Answers s.own_b [] (map Whole l)) (sym (taken-more s m e));
@@ -292,7 +289,7 @@ kept-served s m h empty e =
       read = h.read;
     }
 
-kept-read : (s : State) (m : Message) → IsWorld s → slice_get (arrived_of s.seg_size s.from_b) s.read ≡ Some m → IsWorld (read_one s)
+kept-read : (s : State) (m : Message) → IsWorld s → slice_get (arrived_at s A) s.read ≡ Some m → IsWorld (read_one s)
 kept-read s m h e =
     record {
       window = h.window;
@@ -327,17 +324,17 @@ unfolding Steps
 kept-freely old new (event.Ask request) answer step h = subst IsWorld (sym step.2) (kept-asked old request h step.0)
 kept-freely old new (event.Post end) answer step h = subst IsWorld (sym step.3) (kept-posted old end h step.1)
 kept-freely old new (event.Emit end) answer step h =
-    let d = sends old end in
+    let d = end_of old end in
     let counts = (direction old end h).counts in
     subst IsWorld (sym step.2) (kept-wrote old end (d.sent + 1) (Some (d.sent + 1)) h (omega arith) (omega (arith, step.0.1, counts.acked_taken, counts.taken_sent)) (omega (arith, step.0.0)) (omega arith, omega arith))
 kept-freely old new (event.Resend end i) answer step h =
-    let d = sends old end in
+    let d = end_of old end in
     let counts = (direction old end h).counts in
     subst IsWorld (sym step.2) (kept-wrote old end d.sent (Some (d.acked + 1 + i)) h (omega arith) counts.within_window counts.sent_there (omega arith, omega (arith, step.0)))
 kept-freely old new (event.Ack end) answer step h =
     let counts = (direction old end h).counts in
-    subst IsWorld (sym step.1) (kept-wrote old end (sends old end).sent None h (omega arith) counts.within_window counts.sent_there tt)
-kept-freely old new (event.Deliver end j) answer (keep, step) h = subst IsWorld (sym step.4) (kept-comes keep old end j step.0 h step.1)
+    subst IsWorld (sym step.1) (kept-wrote old end (end_of old end).sent None h (omega arith) counts.within_window counts.sent_there tt)
+kept-freely old new (event.Deliver end j) answer (keep, step) h = subst IsWorld (sym step.3) (kept-comes keep old end j step.0 h step.1.0)
 kept-freely old new event.Serve answer step h = subst IsWorld (sym step.4) (kept-served old step.0 h step.1 step.2)
 kept-freely old new event.Read answer step h = subst IsWorld (sym step.3) (kept-read old step.0 h step.1)
 

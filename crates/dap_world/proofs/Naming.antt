@@ -7,21 +7,21 @@ use Rattle.dap_accessed.specs.Groups.{Answers as Answered}
 use Rattle.dap_accessing.specs.Told.{Told}
 use Rattle.dap_accessing.proofs.ForCallers.{reports_grow}
 use Rattle.dap_world.specs.declared.event.End.{End}
-use Rattle.dap_world.specs.declared.event.End.TheVariants.{A, B}
 use Rattle.dap_world.specs.declared.event.Event.{Event}
 use Rattle.dap_world.specs.declared.event.Event.TheVariants as event
 use Rattle.dap_world.specs.declared.event.Step.{Step}
 use Rattle.dap_world.specs.declared.event.Step.TheVariants as step
 use Rattle.dap_world.specs.declared.event.WorldFault.{WorldFault}
-use Rattle.dap_world.specs.Machine.{State, sends, wrote, taken_of, answers_read, reported, read_one, told_by, Steps}
+use Rattle.dap_world.specs.Machine.{State, EndState, end_of, with_end, wrote, taken_of, answers_read, reported, read_one, told_by, Steps}
 use Rattle.dap_world.specs.Runs.{NamedIsThere, Went, writer_of}
+use Rattle.dap_world.proofs.Kept.{now_at}
 
 -- one packet more was written
-wire_grew : (s new : State) (end : End) (sent : ℕ) (k : Option ℕ) → new ≡ wrote s end sent k → length (sends s end).wire < length (sends new end).wire
-wire_grew s new A sent k e = omega (arith, ap (λ (t : State). length t.from_a.wire) e, length-append s.from_a.wire (record { segment = k; acks = s.from_b.taken } ∷ []))
-wire_grew s new B sent k e = omega (arith, ap (λ (t : State). length t.from_b.wire) e, length-append s.from_b.wire (record { segment = k; acks = s.from_a.taken } ∷ []))
+wire_grew : (s new : State) (end : End) (sent : ℕ) (k : Option ℕ) → new ≡ with_end s end (wrote (end_of s end) sent k) → length (end_of s end).wire < length (end_of new end).wire
+wire_grew s new end sent k e =
+    let wire = (end_of s end).wire in omega (arith, ap (λ (x : EndState). length x.wire) (now_at s new end _ e), length-append wire (record { segment = k; acks = (end_of s end).taken } ∷ []))
 
-packet_there : (e : Event) (s new : State) (end : End) (sent : ℕ) (k : Option ℕ) (answer : Step) → writer_of e ≡ Some end → answer ≡ step.Packet (length (sends s end).wire) → new ≡ wrote s end sent k → NamedIsThere e answer new
+packet_there : (e : Event) (s new : State) (end : End) (sent : ℕ) (k : Option ℕ) (answer : Step) → writer_of e ≡ Some end → answer ≡ step.Packet (length (end_of s end).wire) → new ≡ with_end s end (wrote (end_of s end) sent k) → NamedIsThere e answer new
 packet_there e s new end sent k answer by is went = subst (λ (a : Step). NamedIsThere e a new) (sym is) (end, by, wire_grew s new end sent k went)
 
 -- a report came of it only where there is one more
@@ -58,10 +58,10 @@ answers_there : (s new : State) (e : Event) (answer : Step) → Steps s e answer
 unfolding Steps
 answers_there s new (event.Ask request) answer step = subst (λ (a : Step). NamedIsThere (event.Ask request) a new) (sym step.1) tt
 answers_there s new (event.Post end) answer step = subst (λ (a : Step). NamedIsThere (event.Post end) a new) (sym step.2) tt
-answers_there s new (event.Emit end) answer step = packet_there (event.Emit end) s new end ((sends s end).sent + 1) (Some ((sends s end).sent + 1)) answer refl step.1 step.2
-answers_there s new (event.Resend end i) answer step = packet_there (event.Resend end i) s new end (sends s end).sent (Some ((sends s end).acked + 1 + i)) answer refl step.1 step.2
-answers_there s new (event.Ack end) answer step = packet_there (event.Ack end) s new end (sends s end).sent None answer refl step.0 step.1
-answers_there s new (event.Deliver end j) answer step = subst (λ (a : Step). NamedIsThere (event.Deliver end j) a new) (sym step.3) tt
+answers_there s new (event.Emit end) answer step = packet_there (event.Emit end) s new end ((end_of s end).sent + 1) (Some ((end_of s end).sent + 1)) answer refl step.1 step.2
+answers_there s new (event.Resend end i) answer step = packet_there (event.Resend end i) s new end (end_of s end).sent (Some ((end_of s end).acked + 1 + i)) answer refl step.1 step.2
+answers_there s new (event.Ack end) answer step = packet_there (event.Ack end) s new end (end_of s end).sent None answer refl step.0 step.1
+answers_there s new (event.Deliver end j) answer step = subst (λ (a : Step). NamedIsThere (event.Deliver end j) a new) (sym step.2) tt
 answers_there s new event.Serve answer step = subst (λ (a : Step). NamedIsThere event.Serve a new) (sym step.3) tt
 answers_there s new event.Read answer step = report_there s new answer step.2 step.3 (grows s)
 

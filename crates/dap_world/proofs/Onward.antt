@@ -12,13 +12,13 @@ use Rattle.dap_world.specs.declared.event.End.TheVariants.{A, B}
 use Rattle.dap_world.specs.declared.event.Event.{Event}
 use Rattle.dap_world.specs.declared.event.Event.TheVariants as event
 use Rattle.dap_world.specs.declared.event.Step.{Step}
-use Rattle.dap_world.specs.Machine.{State, sends, sent_by, taken_of, answers_read, reported, Steps}
+use Rattle.dap_world.specs.Machine.{State, sent_by, taken_of, answers_read, reported, Steps}
 use Rattle.dap_world.specs.Runs.{Runs}
 use Rattle.dap_world.specs.Inner.Worlds.{IsWorld}
 use Rattle.dap_world.specs.Settling.{AsksNothing, RanBy, RanTo}
 use Rattle.dap_world.specs.Inner.Settling.{SameBut}
 use Rattle.dap_world.proofs.Asking.{answers-front}
-use Rattle.dap_world.proofs.Bringing.{same_emit, same_ack, same_deliver, same_wrote, same_is}
+use Rattle.dap_world.proofs.Bringing.{same_emit, same_ack, same_deliver, same_wrote}
 use Rattle.dap_world.proofs.Kept.{kept-step, taken-more, headline_of}
 use Rattle.dap_world.proofs.Packets.{served-stays}
 use Rattle.dap_world.proofs.Settles.{ran_none}
@@ -62,7 +62,7 @@ on_same old new h =
       requests = h.requests;
       read = omega (arith, h.read);
       more = [];
-      taken = ap (λ (n : ℕ). take n (sent_by new.from_a)) h.served ∙ ap (λ (l : List NspMessage). take old.served (messages_in l)) (h.handed A) ∙ sym (append-nil (taken_of old));
+      taken = ap (λ (n : ℕ). take n (sent_by new.a)) h.served ∙ ap (λ (l : List NspMessage). take old.served (messages_in l)) (h.handed A) ∙ sym (append-nil (taken_of old));
     }
 
 on_post : (old new : State) (end : End) (answer : Step) → IsWorld old → Steps old (event.Post end) answer new → Onward old new
@@ -77,7 +77,7 @@ on_post old new A answer h step =
       requests = refl;
       read = omega arith;
       more = [];
-      taken = served-stays old.served old.seg_size old.from_a.taken old.from_a.handed old.from_a.waiting h.served ∙ sym (append-nil (taken_of old));
+      taken = served-stays old.served old.seg_size old.b.taken old.a.handed old.a.waiting h.served ∙ sym (append-nil (taken_of old));
     })
 on_post old new B answer h step =
     on_is old _ new step.3
@@ -85,7 +85,7 @@ on_post old new B answer h step =
 
 on_resend : (old new : State) (end : End) (i : ℕ) (answer : Step) → Steps old (event.Resend end i) answer new → Onward old new
 unfolding Steps
-on_resend old new end i answer step = on_same old new (same_is old _ new step.2 (same_wrote old end (sends old end).sent _))
+on_resend old new end i answer step = on_same old new (same_wrote old new end _ _ step.2)
 
 on_serve : (old new : State) (answer : Step) → Steps old event.Serve answer new → Onward old new
 unfolding Steps

@@ -1,13 +1,11 @@
 -- Lists of NSP messages: what is handed over, and what came.
-use Rattle.std.proofs.Common.{◌≡◌, ℕ, zero, suc, ◌+◌, ◌≤◌, arith, refl, sym, ◌∙◌, true, false, subst, ap, append_assoc, List, [], ◌∷◌, ◌++◌, length, take}
+use Rattle.std.proofs.Common.{◌≡◌, ℕ, zero, suc, ◌+◌, ◌≤◌, arith, refl, ◌∙◌, true, false, subst, ap, append_assoc, List, [], ◌∷◌, ◌++◌, length, take}
 use Rattle.std.specs.Prelude.{nat_le, ◌-◌, Some, if◌then◌else◌, slice_get}
 use Rattle.std.proofs.lemmas.List.{take-append-le, take_more, length-append, append-nil}
 use Rattle.std.proofs.lemmas.Option.{slice_get_within, get_or_from_slice_get}
 use Rattle.dap_msg.specs.Message.{Message}
-use Rattle.dap_msg.specs.Blocked.{NspMessage, joined, messages_in, AllFit}
+use Rattle.dap_msg.specs.Blocked.{NspMessage, joined, messages_in}
 use Rattle.nsp_link.specs.Cutting.{count_of}
-use Rattle.dap_accessing.specs.Request.{Request}
-use Rattle.dap_accessing.specs.Asked.{messages_of, Asked}
 use Rattle.dap_end.proofs.ForCallers.{in_append}
 use Rattle.dap_world.specs.Machine.{arrived}
 

@@ -22,25 +22,24 @@ use Rattle.dap_end.specs.Serving.{ServingValue, Past, IsAfter, PostedAll}
 use Rattle.dap_end.proofs.ForCallers.{back_fit, in_append}
 use Rattle.dap_world.specs.declared.event.End.{End}
 use Rattle.dap_world.specs.declared.event.End.TheVariants.{A, B}
-use Rattle.dap_world.specs.declared.event.Event.{Event}
 use Rattle.dap_world.specs.declared.event.Event.TheVariants as event
 use Rattle.dap_world.specs.declared.event.Step.{Step}
 use Rattle.dap_world.specs.declared.event.Step.TheVariants as step
 use Rattle.dap_world.specs.declared.event.WorldFault.{WorldFault}
 use Rattle.dap_world.specs.declared.event.WorldFault.TheVariants as fault
-use Rattle.dap_world.specs.Machine.{reported, Direction, sends, with_sends, posted, segments_of, segments_then, Steps, Refuses}
+use Rattle.dap_world.specs.Machine.{reported, EndState, end_of, with_end, posted, segments_of, segments_then, Steps, Refuses}
 use Rattle.dap_world.specs.Runs.{Went}
 use Rattle.dap_world.specs.Inner.Worlds.{IsWorld}
 use Rattle.dap_world.specs.declared.side.Wired.{Wired}
 use Rattle.dap_world.specs.Inner.Sides.{SideValue, AreShort, PostFault, PostedSo, port_of, side_of}
 use Rattle.dap_world.specs.Inner.Ways.{IsWay}
-use Rattle.dap_world.specs.Inner.Parts.{Parts, AreParts, IsTold, IsAmong, IsAskedAll, IsServedAll, asks, answers, asking_end, serving_end, direction_of, state_of, side}
+use Rattle.dap_world.specs.Inner.Parts.{Parts, AreParts, IsTold, IsAmong, IsAskedAll, IsServedAll, asks, answers, asking_end, serving_end, end_state, state_of, side}
 use Rattle.dap_world.specs.Inner.Splitting.{SplitsAll, SentAll}
 use Rattle.dap_world.proofs.Counting.{segments_queued, segments-cut, all_segments, counted}
 use Rattle.dap_world.proofs.Packets.{served-stays}
 use Rattle.dap_world.proofs.Blocks.{asked-full, full-drop}
 use Rattle.dap_world.proofs.Kept.{kept-step}
-use Rattle.dap_world.proofs.Ways.{still_way}
+use Rattle.dap_world.proofs.Ways.{still_way, told_with}
 use Rattle.dap_world.proofs.Wrote.{AreThen, asking_parts, serving_parts}
 
 -- ---- The ways.
@@ -72,11 +71,11 @@ way_posted s to handed given way short room =
 
 -- ---- The state.
 
-posted_is : (s : SideValue) (to : LinkValue) (packets : List NspMessage) → s.posted + length s.outbox ≡ length packets → posted (direction_of s to packets) ≡ direction_of (new_side s) to packets
-posted_is s to packets n =
-    let d = direction_of s to packets in
-    ap (λ (l : List NspMessage). record d { waiting = []; handed = l }) (take-append-drop s.posted packets ∙ sym (take_all (s.posted + length s.outbox) packets (omega arith)))
-    ∙ ap (λ (l : List NspMessage). record d { waiting = l; handed = take (s.posted + length s.outbox) packets }) (sym (drop_all (s.posted + length s.outbox) packets (omega arith)))
+posted_is : (s : SideValue) (packets : List NspMessage) → s.posted + length s.outbox ≡ length packets → posted (end_state s packets) ≡ end_state (new_side s) packets
+posted_is s packets n =
+    let e = end_state s packets in
+    ap (λ (l : List NspMessage). record e { waiting = []; handed = l }) (take-append-drop s.posted packets ∙ sym (take_all (s.posted + length s.outbox) packets (omega arith)))
+    ∙ ap (λ (l : List NspMessage). record e { waiting = l; handed = take (s.posted + length s.outbox) packets }) (sym (drop_all (s.posted + length s.outbox) packets (omega arith)))
 
 pub waits : (from to : SideValue) (packets : List NspMessage) (count : ℕ) → IsTold from to packets count → length (drop from.posted packets) ≡ length from.outbox
 waits from to packets count h =
@@ -97,7 +96,7 @@ segments_are : (p : Parts) (end : End) → AreParts p → segments_then (state_o
 segments_are p A h = segments_all p.a.link.seg_size p.a h.from_a.handed (asks p) refl h.from_a.bytes h.from_a.way.sends
 segments_are p B h = segments_all p.a.link.seg_size p.b h.from_b.handed (answers p) (sym h.alike.size) h.from_b.bytes h.from_b.way.sends
 
-waiting_is : (p : Parts) (end : End) → AreParts p → length (sends (state_of p) end).waiting ≡ length (side p end).outbox
+waiting_is : (p : Parts) (end : End) → AreParts p → length (end_of (state_of p) end).waiting ≡ length (side p end).outbox
 waiting_is p A h = waits p.a p.b (asks p) p.served h.from_a
 waiting_is p B h = waits p.b p.a (answers p) p.read h.from_b
 
@@ -116,9 +115,9 @@ abbrev pub SentMore : Parts → End → List (List ℕ) → Type 0
 SentMore p A more = SplitsAll p.a.outbox [] more
 SentMore p B more = Unit {0}
 
-state_posted : (p : Parts) (end : End) (more : List (List ℕ)) → AreParts p → with_sends (state_of p) end (posted (sends (state_of p) end)) ≡ state_of (posted_parts p end more)
-state_posted p A more h = ap (λ (d : Direction). with_sends (state_of p) A d) (posted_is p.a p.b.link (asks p) (counted p.a.posted h.from_a.handed p.a.outbox (asks p) h.from_a.posted h.from_a.bytes))
-state_posted p B more h = ap (λ (d : Direction). with_sends (state_of p) B d) (posted_is p.b p.a.link (answers p) (counted p.b.posted h.from_b.handed p.b.outbox (answers p) h.from_b.posted h.from_b.bytes))
+state_posted : (p : Parts) (end : End) (more : List (List ℕ)) → AreParts p → with_end (state_of p) end (posted (end_of (state_of p) end)) ≡ state_of (posted_parts p end more)
+state_posted p A more h = ap (λ (e : EndState). with_end (state_of p) A e) (posted_is p.a (asks p) (counted p.a.posted h.from_a.handed p.a.outbox (asks p) h.from_a.posted h.from_a.bytes))
+state_posted p B more h = ap (λ (e : EndState). with_end (state_of p) B e) (posted_is p.b (answers p) (counted p.b.posted h.from_b.handed p.b.outbox (answers p) h.from_b.posted h.from_b.bytes))
 
 posts : (p : Parts) (end : End) (more : List (List ℕ)) → AreParts p → 0 < length (side p end).outbox → segments_queued (side p end) ≤ most_segments
     → Steps (state_of p) (event.Post end) (step.Posted (length (side p end).outbox)) (state_of (posted_parts p end more))
@@ -163,17 +162,7 @@ told_posted packets count from to h short room =
     }
 
 told_queued : (packets : List NspMessage) (count : ℕ) (from to : SideValue) → IsTold from to packets count → IsTold from (new_side to) packets count
-told_queued packets count from to h =
-    record {
-      handed = h.handed;
-      posted = h.posted;
-      gone = h.gone;
-      among = h.among;
-      way = still_way from to.link (queued_link to.link (cut to.link.seg_size to.outbox)) h.handed _ refl h.way;
-      bytes = h.bytes;
-      fit = h.fit;
-      short = h.short;
-    }
+told_queued packets count from to h = told_with h (still_way from to.link (queued_link to.link (cut to.link.seg_size to.outbox)) h.handed _ refl h.way)
 
 -- what B served is a front of what A handed over, before and after
 served_same : (p : Parts) → AreParts p
@@ -248,7 +237,7 @@ posted_step p end more h some room splits goes =
 -- nothing was handed over
 pub post_refused : (p : Parts) (end : End) (f : WorldFault) → AreParts p → PostFault (side p end).link (side p end).outbox f → Went (state_of p) (event.Post end) (Err f) (state_of p)
 unfolding Steps Refuses
-post_refused p end fault.NothingToDo h none = (no_length (sends (state_of p) end).waiting (waiting_is p end h ∙ ap length none), refl)
+post_refused p end fault.NothingToDo h none = (no_length (end_of (state_of p) end).waiting (waiting_is p end h ∙ ap length none), refl)
 post_refused p end fault.Exhausted h many = let n = waiting_is p end h in let all = segments_are p end h in ((omega (arith, many.0), omega (arith, many.1)), refl)
 post_refused p end fault.NoMemory h may = (((_, _, posts p end [] h may.0 may.1), λ t. t), refl)
 post_refused p end fault.NoSuchPacket h none = absurd none

@@ -10,7 +10,7 @@ use Rattle.dap_world.specs.declared.event.Event.TheVariants as event
 use Rattle.dap_world.specs.declared.event.Step.{Step}
 use Rattle.dap_world.specs.declared.event.WorldFault.{WorldFault}
 use Rattle.dap_world.specs.declared.event.WorldFault.TheVariants as fault
-use Rattle.dap_world.specs.Machine.{State, Direction, sends, with_sends, other, posted, segments_of, MayEmit, Steps, Refuses}
+use Rattle.dap_world.specs.Machine.{State, EndState, end_of, with_end, other, posted, segments_of, MayEmit, Steps, Refuses}
 use Rattle.dap_world.specs.Runs.{Went}
 use Rattle.dap_world.specs.Inner.Worlds.{IsWorld}
 use Rattle.dap_world.specs.Settling.{RanBy, IsEmpty, IsExhausted, IsPostDue, unacked}
@@ -26,13 +26,13 @@ unfolding Steps
 posted_one old new end answer step =
     record { ran = ran_one old new (event.Post end) answer tt step; is = step.3; few = omega arith; nothing = λ none. absurd (omega (arith, step.0, ap length none)) }
 
-posted_still : (s : State) (end : End) → (sends s end).waiting ≡ [] → s ≡ with_sends s end (posted (sends s end))
+posted_still : (s : State) (end : End) → (end_of s end).waiting ≡ [] → s ≡ with_end s end (posted (end_of s end))
 posted_still s A none =
-    ap (λ (l : List NspMessage). record s { from_a = record s.from_a { handed = l } }) (sym (append-nil s.from_a.handed) ∙ ap (λ (l : List NspMessage). s.from_a.handed ++ l) (sym none))
-    ∙ ap (λ (l : List NspMessage). record s { from_a = record s.from_a { handed = s.from_a.handed ++ s.from_a.waiting; waiting = l } }) none
+    ap (λ (l : List NspMessage). record s { a = record s.a { handed = l } }) (sym (append-nil s.a.handed) ∙ ap (λ (l : List NspMessage). s.a.handed ++ l) (sym none))
+    ∙ ap (λ (l : List NspMessage). record s { a = record s.a { handed = s.a.handed ++ s.a.waiting; waiting = l } }) none
 posted_still s B none =
-    ap (λ (l : List NspMessage). record s { from_b = record s.from_b { handed = l } }) (sym (append-nil s.from_b.handed) ∙ ap (λ (l : List NspMessage). s.from_b.handed ++ l) (sym none))
-    ∙ ap (λ (l : List NspMessage). record s { from_b = record s.from_b { handed = s.from_b.handed ++ s.from_b.waiting; waiting = l } }) none
+    ap (λ (l : List NspMessage). record s { b = record s.b { handed = l } }) (sym (append-nil s.b.handed) ∙ ap (λ (l : List NspMessage). s.b.handed ++ l) (sym none))
+    ∙ ap (λ (l : List NspMessage). record s { b = record s.b { handed = s.b.handed ++ s.b.waiting; waiting = l } }) none
 
 pub posted_none : (old new : State) (end : End) → Went old (event.Post end) (Err fault.NothingToDo) new → PostedAll old new end 0
 unfolding Refuses
@@ -40,7 +40,7 @@ posted_none old new end went =
     subst (λ (s : State). PostedAll old s end 0) (sym went.1)
     (record { ran = ran_none old; is = posted_still old end went.0; few = omega arith; nothing = λ none. refl })
 
-pub post_refused : (old new : State) (end : End) (f : WorldFault) → (f ≡ fault.NothingToDo → ⊥) → Went old (event.Post end) (Err f) new → 0 < length (sends old end).waiting
+pub post_refused : (old new : State) (end : End) (f : WorldFault) → (f ≡ fault.NothingToDo → ⊥) → Went old (event.Post end) (Err f) new → 0 < length (end_of old end).waiting
 unfolding Steps Refuses
 post_refused old new end fault.NoMemory other went = went.0.0.2.0
 post_refused old new end fault.Exhausted other went = went.0.0
@@ -54,22 +54,22 @@ post_refused old new end fault.BadSetup other went = absurd went.0
 
 -- what handing over leaves alone
 record Moved (old mid : State) (end : End) : Type 0 where
-  waiting : (sends mid end).waiting ≡ []
-  handed : (sends mid end).handed ≡ (sends old end).handed ++ (sends old end).waiting
-  sent : (sends mid end).sent ≡ (sends old end).sent
-  acked : (sends mid end).acked ≡ (sends old end).acked
+  waiting : (end_of mid end).waiting ≡ []
+  handed : (end_of mid end).handed ≡ (end_of old end).handed ++ (end_of old end).waiting
+  sent : (end_of mid end).sent ≡ (end_of old end).sent
+  acked : (end_of mid end).acked ≡ (end_of old end).acked
   served : mid.served ≡ old.served
   read : mid.read ≡ old.read
-  back : sends mid (other end) ≡ sends old (other end)
+  back : end_of mid (other end) ≡ end_of old (other end)
   seg_size : mid.seg_size ≡ old.seg_size
 
-moved : (old mid : State) (end : End) → mid ≡ with_sends old end (posted (sends old end)) → Moved old mid end
+moved : (old mid : State) (end : End) → mid ≡ with_end old end (posted (end_of old end)) → Moved old mid end
 moved old mid A is = subst (λ (s : State). Moved old s A) (sym is) (record { waiting = refl; handed = refl; sent = refl; acked = refl; served = refl; read = refl; back = refl; seg_size = refl })
 moved old mid B is = subst (λ (s : State). Moved old s B) (sym is) (record { waiting = refl; handed = refl; sent = refl; acked = refl; served = refl; read = refl; back = refl; seg_size = refl })
 
 -- all that waits is handed over, and stays so
-both_over : (old mid : State) (e : End) → IsPostDue old B → Moved old mid B → (sends mid e).waiting ≡ []
-both_over old mid A due m = ap (λ (d : Direction). d.waiting) m.back ∙ due.0.waiting
+both_over : (old mid : State) (e : End) → IsPostDue old B → Moved old mid B → (end_of mid e).waiting ≡ []
+both_over old mid A due m = ap (λ (e : EndState). e.waiting) m.back ∙ due.0.waiting
 both_over old mid B due m = m.waiting
 
 handed_over : (old mid : State) (end : End) (n : ℕ) → IsPostDue old end → PostedAll old mid end n → IsHandedOver mid end
@@ -91,7 +91,7 @@ pub posted_settled : (old mid : State) (end : End) (n : ℕ) → PostedAll old m
 posted_settled old mid end n p none = let m = moved old mid end p.is in omega (arith, m.sent, m.acked, none)
 
 -- all was sent, where nothing more may be
-all_sent : (s : State) (end : End) → IsWorld s → unacked s end ≡ 0 → (MayEmit s end → ⊥) → (sends s end).sent ≡ segments_of s.seg_size (sends s end).handed
+all_sent : (s : State) (end : End) → IsWorld s → unacked s end ≡ 0 → (MayEmit s end → ⊥) → (end_of s end).sent ≡ segments_of s.seg_size (end_of s end).handed
 all_sent s end h none stop =
     elim (eq-or-lt_of_le (direction s end h).counts.sent_there) [
       | inl most ↦ most
@@ -109,10 +109,10 @@ emptied old mid new end k n w p b =
       served = s.served ∙ m.served;
       read = s.read ∙ m.read;
       handed = s.handed end ∙ m.handed;
-      back_waiting = s.waiting (other end) ∙ ap (λ (d : Direction). d.waiting) m.back;
-      back_handed = s.handed (other end) ∙ ap (λ (d : Direction). d.handed) m.back;
-      back_sent = b.brought.back ∙ ap (λ (d : Direction). d.sent) m.back;
-      back_acked = omega (arith, s.acked (other end), ap (λ (d : Direction). d.acked) m.back);
+      back_waiting = s.waiting (other end) ∙ ap (λ (e : EndState). e.waiting) m.back;
+      back_handed = s.handed (other end) ∙ ap (λ (e : EndState). e.handed) m.back;
+      back_sent = b.brought.back ∙ ap (λ (e : EndState). e.sent) m.back;
+      back_acked = omega (arith, s.acked (other end), ap (λ (e : EndState). e.acked) m.back);
       more = b.segments;
       sent = omega (arith, b.brought.sent, m.sent);
       count = omega (arith, p.few, b.count);
@@ -124,19 +124,28 @@ emptied old mid new end k n w p b =
         let m = moved old mid end p.is in
         let s = b.brought.same in
         let c = (direction new end w).counts in
-        let all : segments_of new.seg_size (sends new end).handed ≡ segments_of old.seg_size (sends old end).handed =
-        ap (λ (i : ℕ). segments_of i (sends new end).handed) (s.seg_size ∙ m.seg_size)
-        ∙ ap (segments_of old.seg_size) (s.handed end ∙ m.handed ∙ ap (λ (l : List NspMessage). (sends old end).handed ++ l) e.waiting ∙ append-nil (sends old end).handed) in
+        let all : segments_of new.seg_size (end_of new end).handed ≡ segments_of old.seg_size (end_of old end).handed =
+        ap (λ (i : ℕ). segments_of i (end_of new end).handed) (s.seg_size ∙ m.seg_size)
+        ∙ ap (segments_of old.seg_size) (s.handed end ∙ m.handed ∙ ap (λ (l : List NspMessage). (end_of old end).handed ++ l) e.waiting ∙ append-nil (end_of old end).handed) in
         omega (arith, p.nothing e.waiting, b.count, b.brought.sent, m.sent, e.sent, all, c.sent_there)
 
 -- why not, where all is there to be sent
 pub not_empty : (old mid : State) (end : End) (k : ℕ) → PostedAll old mid end k → MayEmit mid end → IsEmpty old end → ⊥
 not_empty old mid end k p may e =
     let m = moved old mid end p.is in
-    let all : segments_of mid.seg_size (sends mid end).handed ≡ segments_of old.seg_size (sends old end).handed =
-    ap (λ (i : ℕ). segments_of i (sends mid end).handed) m.seg_size
-    ∙ ap (segments_of old.seg_size) (m.handed ∙ ap (λ (l : List NspMessage). (sends old end).handed ++ l) e.waiting ∙ append-nil (sends old end).handed) in
+    let all : segments_of mid.seg_size (end_of mid end).handed ≡ segments_of old.seg_size (end_of old end).handed =
+    ap (λ (i : ℕ). segments_of i (end_of mid end).handed) m.seg_size
+    ∙ ap (segments_of old.seg_size) (m.handed ∙ ap (λ (l : List NspMessage). (end_of old end).handed ++ l) e.waiting ∙ append-nil (end_of old end).handed) in
     omega (arith, may.0, m.sent, e.sent, all)
 
-pub waits_then : (s : State) (end : End) → 0 < length (sends s end).waiting → IsEmpty s end → ⊥
+pub waits_then : (s : State) (end : End) → 0 < length (end_of s end).waiting → IsEmpty s end → ⊥
 waits_then s end some e = omega (arith, some, ap length e.waiting)
+
+-- the other end stays empty
+pub still_other : (old new : State) (end : End) (n : ℕ) → IsEmpty old (other end) → Emptied old new end n → IsEmpty new (other end)
+still_other old new end n e b =
+    record {
+      waiting = b.back_waiting ∙ e.waiting;
+      sent = b.back_sent ∙ e.sent ∙ sym (ap (λ (i : ℕ). segments_of i (end_of new (other end)).handed) b.seg_size ∙ ap (segments_of old.seg_size) b.back_handed);
+      acked = omega (arith, b.back_sent, b.back_acked, e.acked);
+    }

@@ -1,5 +1,5 @@
 -- Reading an answer is a step of the machine.
-use Rattle.std.proofs.Common.{◌≡◌, ◌≢◌, ℕ, ◌+◌, ◌^◌, ◌≤◌, ◌<◌, arith, refl, sym, ◌∙◌, subst, ap, append_assoc, Bool, true, List, [], ◌∷◌, ◌++◌, length, take, drop, map, inl, eq-eqb}
+use Rattle.std.proofs.Common.{◌≡◌, ◌≢◌, ℕ, ◌+◌, ◌^◌, ◌≤◌, ◌<◌, arith, refl, sym, ◌∙◌, subst, ap, append_assoc, true, List, [], ◌∷◌, ◌++◌, length, take, drop, map, eq-eqb}
 use Rattle.std.specs.Prelude.{◌==◌, if◌then◌else◌, option_to_list, Option, Some, None, Ok, Err, slice_get}
 use Rattle.std.proofs.lemmas.List.{length-append, map-append, append-nil}
 use Rattle.std.proofs.lemmas.Bool.{ne_eqb}
@@ -12,12 +12,12 @@ use Rattle.dap_accessing.specs.Told.{Told, is_unexpected}
 use Rattle.dap_accessing.specs.declared.report.Report.{Report}
 use Rattle.nsp_link.specs.Cutting.{cut}
 use Rattle.nsp_link.specs.Limits.{most_segments}
+use Rattle.dap_world.specs.declared.event.End.TheVariants.{A}
 use Rattle.dap_world.specs.declared.event.Event.TheVariants as event
 use Rattle.dap_world.specs.declared.event.Step.{Step}
 use Rattle.dap_world.specs.declared.event.Step.TheVariants as step
-use Rattle.dap_world.specs.declared.event.WorldFault.{WorldFault}
 use Rattle.dap_world.specs.declared.event.WorldFault.TheVariants as fault
-use Rattle.dap_world.specs.Machine.{Refuses, arrived, arrived_of, taken_of, answers_read, read_one, next_to_read, told_by, reported, Steps}
+use Rattle.dap_world.specs.Machine.{Refuses, arrived, arrived_at, taken_of, answers_read, read_one, next_to_read, told_by, reported, Steps}
 use Rattle.dap_world.specs.Runs.{Went, MayHappen}
 use Rattle.dap_world.specs.Inner.Worlds.{IsWorld}
 use Rattle.dap_fields.specs.Spelling.{AreBytes}
@@ -61,9 +61,9 @@ next_read p bytes h n =
 read-more : (p : Parts) (m : Message) → AreParts p → next_to_read (state_of p) ≡ Some m → answers_read (read_one (state_of p)) ≡ answers_read (state_of p) ++ Whole m ∷ []
 read-more p m h next =
     let s = state_of p in
-    let front = arrived-front s.seg_size s.from_b.taken s.from_b.handed in
-    let here = subst (λ (l : List Message). slice_get l p.read ≡ Some m) front.1 (get-front (arrived_of s.seg_size s.from_b) front.0 p.read m next) in
-    let there = subst (λ (l : List Message). slice_get l p.read ≡ Some m) (all-answered p h) (get-front (messages_in s.from_b.handed) (messages_in s.from_b.waiting) p.read m here) in
+    let front = arrived-front s.seg_size s.a.taken s.b.handed in
+    let here = subst (λ (l : List Message). slice_get l p.read ≡ Some m) front.1 (get-front (arrived_at s A) front.0 p.read m next) in
+    let there = subst (λ (l : List Message). slice_get l p.read ≡ Some m) (all-answered p h) (get-front (messages_in s.b.handed) (messages_in s.b.waiting) p.read m here) in
     ap (map Whole) (take-next (Answers p.accessed.own [] (map Whole (taken_of s))) p.read m there) ∙ map-append Whole (take p.read (Answers p.accessed.own [] (map Whole (taken_of s)))) (m ∷ [])
 
 reads : (p : Parts) (m : Message) → next_to_read (state_of p) ≡ Some m → Steps (state_of p) event.Read (told_by (state_of p) (read_one (state_of p))) (read_one (state_of p))
@@ -85,8 +85,8 @@ pub few_read : (p : Parts) → AreParts p → p.read < 2 ^ 56
 few_read p h =
     let s = state_of p in
     let packets = take p.b.posted (answers p) in
-    let front = arrived-front s.seg_size s.from_b.taken s.from_b.handed in
-    few_messages p.b.link.seg_size packets p.read (omega (arith, h.world.read, ap length front.1, length-append (messages_in (arrived s.seg_size s.from_b.taken s.from_b.handed)) front.0))
+    let front = arrived-front s.seg_size s.a.taken s.b.handed in
+    few_messages p.b.link.seg_size packets p.read (omega (arith, h.world.read, ap length front.1, length-append (messages_in (arrived s.seg_size s.a.taken s.b.handed)) front.0))
     (fit-take p.b.posted (answers p) h.from_b.fit) p.a.link.max_message
     (subst (AreShort p.a.link.max_message) (handed-bytes p.b.posted h.from_b.handed p.b.outbox (answers p) h.from_b.posted h.from_b.bytes) h.from_b.way.short) h.most
     (subst (λ (l : List (List ℕ)). length (cut p.b.link.seg_size l) ≤ most_segments) (handed-bytes p.b.posted h.from_b.handed p.b.outbox (answers p) h.from_b.posted h.from_b.bytes) h.from_b.way.few)

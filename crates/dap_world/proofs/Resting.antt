@@ -9,13 +9,13 @@ use Rattle.dap_world.specs.declared.event.WorldFault.{WorldFault}
 use Rattle.std.proofs.Common.{List}
 use Rattle.dap_msg.specs.Blocked.{NspMessage}
 use Rattle.dap_accessing.specs.Request.{Request}
-use Rattle.dap_world.specs.Machine.{State, Direction, sends, Steps}
+use Rattle.dap_world.specs.Machine.{State, EndState, end_of, Steps}
 use Rattle.dap_world.specs.Settling.{SendsNothing, moved}
 use Rattle.dap_world.specs.Runs.{Went}
 use Rattle.dap_world.specs.Inner.Worlds.{IsWorld}
 use Rattle.dap_world.specs.Inner.Settling.{SameBut, NothingSent}
 use Rattle.dap_world.proofs.Others.{refused_same}
-use Rattle.dap_world.proofs.Bringing.{same_none, same_both, same_is, same_wrote, same_emit, same_ack, same_deliver, ack_sent, deliver_sent}
+use Rattle.dap_world.proofs.Bringing.{same_none, same_both, same_wrote, sent_same, same_emit, same_ack, same_deliver, ack_sent, deliver_sent}
 
 pub rest_none : (s : State) → NothingSent s s
 rest_none s = record { same = same_none s; sent = λ e. refl }
@@ -30,14 +30,11 @@ rest_both old mid new a b = record { same = same_both old mid new a.same b.same;
 
 resend_same : (old new : State) (end : End) (i : ℕ) (answer : Step) → Steps old (event.Resend end i) answer new → SameBut old new
 unfolding Steps
-resend_same old new end i answer step = same_is old _ new step.2 (same_wrote old end (sends old end).sent _)
+resend_same old new end i answer step = same_wrote old new end _ _ step.2
 
-resend_sent : (old new : State) (end e : End) (i : ℕ) (answer : Step) → Steps old (event.Resend end i) answer new → (sends new e).sent ≡ (sends old e).sent
+resend_sent : (old new : State) (end e : End) (i : ℕ) (answer : Step) → Steps old (event.Resend end i) answer new → (end_of new e).sent ≡ (end_of old e).sent
 unfolding Steps
-resend_sent old new A A i answer step = ap (λ (s : State). s.from_a.sent) step.2
-resend_sent old new A B i answer step = ap (λ (s : State). s.from_b.sent) step.2
-resend_sent old new B A i answer step = ap (λ (s : State). s.from_a.sent) step.2
-resend_sent old new B B i answer step = ap (λ (s : State). s.from_b.sent) step.2
+resend_sent old new end e i answer step = sent_same old new end e _ step.2 refl
 
 pub rest_resend : (old new : State) (end : End) (i : ℕ) (r : Result Step WorldFault) → Went old (event.Resend end i) r new → NothingSent old new
 rest_resend old new end i (Ok answer) went = record { same = resend_same old new end i answer went; sent = λ e. resend_sent old new end e i answer went }
@@ -57,34 +54,29 @@ same_emitted old new end (Err f) went = (rest_is old new (refused_same old new (
 
 -- ---- Said by a state.
 
+moved_is : (old new : EndState) → new.waiting ≡ old.waiting → new.handed ≡ old.handed → new.sent ≡ old.sent → new ≡ moved old new
+moved_is old new a b c =
+    ap (λ (l : List NspMessage). record new { waiting = l }) a ∙ ap (λ (l : List NspMessage). record new { waiting = old.waiting; handed = l }) b
+    ∙ ap (λ (n : ℕ). record new { waiting = old.waiting; handed = old.handed; sent = n }) c
+
 pub sends_nothing : (old new : State) → NothingSent old new → SendsNothing old new
 sends_nothing old new h =
-    let a = h.same.waiting A in
-    let b = h.same.handed A in
-    let c = h.sent A in
-    let d = h.same.waiting B in
-    let e = h.same.handed B in
-    let f = h.sent B in
-    let at : ℕ → ℕ → ℕ → ℕ → List Request → Direction → Direction → ℕ → ℕ → State =
-    λ seg_size window own_a own_b requests from_a from_b served read.
-    record { seg_size = seg_size; window = window; own_a = own_a; own_b = own_b; requests = requests; from_a = from_a; from_b = from_b; served = served; read = read } in
-    let way : List NspMessage → List NspMessage → ℕ → Direction → Direction =
-    λ waiting handed sent new. record new { waiting = waiting; handed = handed; sent = sent } in
-    let from_a : new.from_a ≡ moved old.from_a new.from_a =
-    ap (λ x. way x new.from_a.handed new.from_a.sent new.from_a) a ∙ ap (λ x. way old.from_a.waiting x new.from_a.sent new.from_a) b ∙ ap (λ x. way old.from_a.waiting old.from_a.handed x new.from_a) c in
-    let from_b : new.from_b ≡ moved old.from_b new.from_b =
-    ap (λ x. way x new.from_b.handed new.from_b.sent new.from_b) d ∙ ap (λ x. way old.from_b.waiting x new.from_b.sent new.from_b) e ∙ ap (λ x. way old.from_b.waiting old.from_b.handed x new.from_b) f in
+    let at : ℕ → ℕ → ℕ → ℕ → List Request → EndState → EndState → ℕ → ℕ → State =
+    λ seg_size window own_a own_b requests a b served read.
+    record { seg_size = seg_size; window = window; own_a = own_a; own_b = own_b; requests = requests; a = a; b = b; served = served; read = read } in
+    let a = moved_is old.a new.a (h.same.waiting A) (h.same.handed A) (h.sent A) in
+    let b = moved_is old.b new.b (h.same.waiting B) (h.same.handed B) (h.sent B) in
     record {
       rest =
-          ap (λ x. at x new.window new.own_a new.own_b new.requests new.from_a new.from_b new.served new.read) h.same.seg_size
-          ∙ ap (λ x. at old.seg_size x new.own_a new.own_b new.requests new.from_a new.from_b new.served new.read) h.same.window
-          ∙ ap (λ x. at old.seg_size old.window x new.own_b new.requests new.from_a new.from_b new.served new.read) h.same.own_a
-          ∙ ap (λ x. at old.seg_size old.window old.own_a x new.requests new.from_a new.from_b new.served new.read) h.same.own_b
-          ∙ ap (λ x. at old.seg_size old.window old.own_a old.own_b x new.from_a new.from_b new.served new.read) h.same.requests
-          ∙ ap (λ x. at old.seg_size old.window old.own_a old.own_b old.requests x new.from_b new.served new.read) from_a
-          ∙ ap (λ x. at old.seg_size old.window old.own_a old.own_b old.requests (moved old.from_a new.from_a) x new.served new.read) from_b
-          ∙ ap (λ x. at old.seg_size old.window old.own_a old.own_b old.requests (moved old.from_a new.from_a) (moved old.from_b new.from_b) x new.read) h.same.served
-          ∙ ap (λ x. at old.seg_size old.window old.own_a old.own_b old.requests (moved old.from_a new.from_a) (moved old.from_b new.from_b) old.served x) h.same.read;
+          ap (λ x. at x new.window new.own_a new.own_b new.requests new.a new.b new.served new.read) h.same.seg_size
+          ∙ ap (λ x. at old.seg_size x new.own_a new.own_b new.requests new.a new.b new.served new.read) h.same.window
+          ∙ ap (λ x. at old.seg_size old.window x new.own_b new.requests new.a new.b new.served new.read) h.same.own_a
+          ∙ ap (λ x. at old.seg_size old.window old.own_a x new.requests new.a new.b new.served new.read) h.same.own_b
+          ∙ ap (λ x. at old.seg_size old.window old.own_a old.own_b x new.a new.b new.served new.read) h.same.requests
+          ∙ ap (λ x. at old.seg_size old.window old.own_a old.own_b old.requests x new.b new.served new.read) a
+          ∙ ap (λ x. at old.seg_size old.window old.own_a old.own_b old.requests (moved old.a new.a) x new.served new.read) b
+          ∙ ap (λ x. at old.seg_size old.window old.own_a old.own_b old.requests (moved old.a new.a) (moved old.b new.b) x new.read) h.same.served
+          ∙ ap (λ x. at old.seg_size old.window old.own_a old.own_b old.requests (moved old.a new.a) (moved old.b new.b) old.served x) h.same.read;
       taken = h.same.taken;
       acked = h.same.acked;
     }

@@ -1,27 +1,11 @@
 -- What waits at both ends is brought to the other.
-use Rattle.std.proofs.Common.{◌≡◌, ℕ, ◌+◌, arith, sym, ◌∙◌, ap}
+use Rattle.std.proofs.Common.{◌≡◌, ℕ, ◌+◌, arith, ◌∙◌}
 use Rattle.dap_world.specs.declared.event.End.TheVariants.{A, B}
-use Rattle.dap_world.specs.Machine.{State, segments_of}
-use Rattle.dap_world.specs.Settling.{IsEmpty, unacked}
+use Rattle.dap_world.specs.Machine.{State}
+use Rattle.dap_world.specs.Settling.{unacked}
 use Rattle.dap_world.specs.Inner.Settling.{Emptied, SentBoth}
+use Rattle.dap_world.proofs.Posting.{still_other}
 use Rattle.dap_world.proofs.Settles.{ran_both}
-
--- the one end is empty still
-still_a : (old new : State) (n : ℕ) → IsEmpty old A → Emptied old new B n → IsEmpty new A
-still_a old new n e b =
-    record {
-      waiting = b.back_waiting ∙ e.waiting;
-      sent = b.back_sent ∙ e.sent ∙ sym (ap (λ (i : ℕ). segments_of i new.from_a.handed) b.seg_size ∙ ap (segments_of old.seg_size) b.back_handed);
-      acked = omega (arith, b.back_sent, b.back_acked, e.acked);
-    }
-
-pub still_b : (old new : State) (n : ℕ) → IsEmpty old B → Emptied old new A n → IsEmpty new B
-still_b old new n e a =
-    record {
-      waiting = a.back_waiting ∙ e.waiting;
-      sent = a.back_sent ∙ e.sent ∙ sym (ap (λ (i : ℕ). segments_of i new.from_b.handed) a.seg_size ∙ ap (segments_of old.seg_size) a.back_handed);
-      acked = omega (arith, a.back_sent, a.back_acked, e.acked);
-    }
 
 pub settled_b : (old new : State) (n : ℕ) → unacked old B ≡ 0 → Emptied old new A n → unacked new B ≡ 0
 settled_b old new n none a = omega (arith, a.back_sent, a.back_acked, none)
@@ -30,7 +14,7 @@ pub sent_both : (old mid new : State) (n k : ℕ) → Emptied old mid A n → Em
 sent_both old mid new n k a b =
     record {
       ran = ran_both old mid new n k a.ran b.ran;
-      empty = (still_a mid new k a.empty b, b.empty);
+      empty = (still_other mid new B k a.empty b, b.empty);
       served = b.served ∙ a.served;
       read = b.read ∙ a.read;
       more_a = a.more;
@@ -38,5 +22,5 @@ sent_both old mid new n k a b =
       sent_a = b.back_sent ∙ a.sent;
       sent_b = omega (arith, b.sent, a.back_sent);
       count = omega (arith, a.count, b.count);
-      nothing = λ e. omega (arith, a.nothing e.0, b.nothing (still_b old mid n e.1 a));
+      nothing = λ e. omega (arith, a.nothing e.0, b.nothing (still_other old mid A n e.1 a));
     }

@@ -1,12 +1,12 @@
 -- Serving a message is a step of the machine.
-use Rattle.std.proofs.Common.{◌≡◌, ℕ, ◌+◌, ◌≤◌, ◌<◌, arith, refl, sym, ◌∙◌, subst, ap, append_assoc, List, [], ◌∷◌, ◌++◌, length, take, drop, map, inl, inr}
+use Rattle.std.proofs.Common.{◌≡◌, ℕ, ◌+◌, ◌<◌, arith, refl, sym, ◌∙◌, subst, ap, append_assoc, List, [], ◌∷◌, ◌++◌, length, take, drop, map, inl, inr}
 use Rattle.std.specs.Prelude.{◌⊎◌, Some, Ok, Err, slice_get}
 use Rattle.std.proofs.lemmas.List.{append-nil, length-append, length-map, map-append, take-append-le, take-append-drop, drop_all}
 use Rattle.std.proofs.Math.Seq.{drop-append_seam}
 use Rattle.dap_msg.specs.Message.{Message}
 use Rattle.dap_msg.specs.Items.{Item, Whole}
 use Rattle.dap_msg.specs.Canon.{canon}
-use Rattle.dap_msg.specs.Blocked.{NspMessage, joined, Blocked, all_joined, messages_in, AllFit}
+use Rattle.dap_msg.specs.Blocked.{NspMessage, joined, all_joined, messages_in, AllFit}
 use Rattle.dap_msg.proofs.ForCallers.{messages_in-Blocked}
 use Rattle.dap_accessed.specs.Groups.{Answers, added, stands_after}
 use Rattle.dap_accessed.specs.Present as accessed
@@ -24,14 +24,14 @@ use Rattle.dap_end.specs.Ports.{PortValue}
 use Rattle.dap_end.specs.Serving.{ServingValue, Past, IsAfter, MayServe, ServedOne, served}
 use Rattle.dap_end.proofs.ForCallers.{answer_to, answers-more, back_fit, front_fit, front_full, in_append}
 use Rattle.dap_world.specs.Inner.Sides.{AreShort, side_of}
-use Rattle.dap_world.specs.Inner.Parts.{Parts, AreParts, IsAskedAll, IsServedAll, IsTold, asks, answers, asking_end, serving_end, served_items, answer_packets, direction_of, state_of}
+use Rattle.dap_world.specs.Inner.Parts.{Parts, AreParts, IsAskedAll, IsServedAll, IsTold, asks, answers, asking_end, serving_end, served_items, answer_packets, end_state, state_of}
 use Rattle.dap_end.specs.Asking.{AreFull}
 use Rattle.dap_world.proofs.Counting.{counted}
 use Rattle.dap_world.proofs.Packets.{arrived-front, get-front, take-next}
 use Rattle.dap_world.proofs.Blocks.{asked-all, asked-full}
 use Rattle.dap_world.proofs.Splits.{one_there, only_item}
 use Rattle.dap_world.proofs.Arrived.{Next, find_next, none_next, handled_one, handled_side}
-use Rattle.dap_world.proofs.Growing.{told_to, told_more, handed_same, all_short}
+use Rattle.dap_world.proofs.Growing.{told_more, handed_same, all_short}
 use Rattle.dap_world.proofs.Kept.{kept-step, taken-more, served-front}
 use Rattle.dap_world.proofs.Blocking.{answers-blocked}
 use Rattle.dap_world.proofs.Posted.{waits}
@@ -78,8 +78,8 @@ read-stays : (p : Parts) (m : Message) → AreParts p
 read-stays p m h =
     let s = state_of p in
     let items = map Whole (taken_of s) in
-    let front = arrived-front s.seg_size s.from_b.taken s.from_b.handed in
-    let all = ap length (sym (in_append s.from_b.handed s.from_b.waiting) ∙ h.world.answered) in
+    let front = arrived-front s.seg_size s.a.taken s.b.handed in
+    let all = ap length (sym (in_append s.b.handed s.b.waiting) ∙ h.world.answered) in
     ap (λ l. take p.read (Answers p.accessed.own [] l)) (map-append Whole (taken_of s) (m ∷ []))
     ∙ ap (take p.read) (Answers-more p.accessed.own [] items (Whole m))
     ∙ take-append-le p.read (Answers p.accessed.own [] items) (added p.accessed.own [] items (Whole m))
@@ -87,8 +87,8 @@ read-stays p m h =
       arith,
       h.world.read,
       all,
-      length-append (messages_in s.from_b.handed) (messages_in s.from_b.waiting),
-      length-append (messages_in (arrived s.seg_size s.from_b.taken s.from_b.handed)) front.0,
+      length-append (messages_in s.b.handed) (messages_in s.b.waiting),
+      length-append (messages_in (arrived s.seg_size s.a.taken s.b.handed)) front.0,
       ap length front.1,
     ))
 
@@ -133,10 +133,10 @@ module _ (p : Parts) (h : AreParts p) (m : Message) (next : next_to_serve (state
   state_served inbox place outbox after =
       let s = state_of p in
       let b = answer_to p.accessed.own [] (served_items p) (Whole m) in
-      ap (λ (l : List NspMessage). record s { from_b = direction_of p.b p.a.link l; served = p.served + 1 }) answers_are
-      ∙ ap (λ (l : List NspMessage). record s { from_b = record s.from_b { waiting = drop p.b.posted (answers p ++ b); handed = l }; served = p.served + 1 })
+      ap (λ (l : List NspMessage). record s { b = end_state p.b l; served = p.served + 1 }) answers_are
+      ∙ ap (λ (l : List NspMessage). record s { b = record s.b { waiting = drop p.b.posted (answers p ++ b); handed = l }; served = p.served + 1 })
       (handed_same p.b p.a (answers p) b p.read h.from_b)
-      ∙ ap (λ (l : List NspMessage). record s { from_b = record s.from_b { waiting = l }; served = p.served + 1 })
+      ∙ ap (λ (l : List NspMessage). record s { b = record s.b { waiting = l }; served = p.served + 1 })
       (ap (λ (n : ℕ). drop n (answers p ++ b)) all_handed ∙ drop-append_seam (answers p) b ∙ sym answering_is)
 
   serves : Steps (state_of p) event.Serve (step.Served (length (answering (state_of p) m))) (served_one (state_of p) m)
@@ -178,7 +178,7 @@ module _ (p : Parts) (h : AreParts p) (m : Message) (next : next_to_serve (state
         limit_a = h.limit_a;
         limit_b = h.limit_b;
         most = h.most;
-        from_a = (told_to p.a s (asks p) (p.served + 1) outbox (handled_one p.a p.b (asks p) p.served bytes later next_place h.from_a n inbox goes));
+        from_a = handled_one p.a p.b (asks p) p.served bytes later next_place h.from_a n inbox goes;
         from_b = subst (λ (l : List NspMessage). IsTold q.b p.a l p.read) (sym answers_are)
             (told_more p.b p.a (answers p) b p.read s.link.inbox s.place outbox outbox h.from_b (ap (λ (l : List (List ℕ)). l ++ outbox) (sym idle)) block_is fit_block short);
         sent_is = h.sent_is;

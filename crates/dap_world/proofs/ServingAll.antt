@@ -12,13 +12,14 @@ use Rattle.dap_world.specs.declared.event.Event.TheVariants as event
 use Rattle.dap_world.specs.declared.event.Step.{Step}
 use Rattle.dap_world.specs.declared.event.WorldFault.{WorldFault}
 use Rattle.dap_world.specs.declared.event.WorldFault.TheVariants as fault
-use Rattle.dap_world.specs.Machine.{State, Direction, arrived, arrived_of, segments_of, sent_by, taken_of, Steps, Refuses}
+use Rattle.dap_world.specs.Machine.{State, EndState, arrived, arrived_at, segments_of, sent_by, taken_of, Steps, Refuses}
 use Rattle.dap_world.specs.Runs.{Went}
 use Rattle.dap_world.specs.Inner.Worlds.{IsWorld}
-use Rattle.dap_world.specs.Settling.{RanBy, RanTo, IsEmpty, IsExhausted, IsPostDue, FinishFault, unacked}
+use Rattle.dap_world.specs.Settling.{RanBy, RanTo, IsEmpty, IsExhausted, IsPostDue, FinishFault}
 use Rattle.dap_world.specs.Inner.Settling.{AreEmpty, Emptied, Served, ServedEvery}
 use Rattle.dap_world.proofs.Exhausting.{quiet_empty, quiet_enough}
 use Rattle.dap_world.proofs.Kept.{headline_of}
+use Rattle.dap_world.proofs.Posting.{still_other}
 use Rattle.dap_world.proofs.Settles.{ran_none, ran_one, ran_both}
 
 -- all came, where all segments were taken
@@ -32,11 +33,11 @@ all_arrived seg r (x ∷ xs) le =
     ] refl
 
 -- so it is where nothing is left to send
-pub arrived_empty_a : (s : State) → IsWorld s → IsEmpty s A → arrived_of s.seg_size s.from_a ≡ sent_by s.from_a
-arrived_empty_a s h e = ap messages_in (all_arrived s.seg_size s.from_a.taken s.from_a.handed (omega (arith, e.sent, e.acked, h.from_a.counts.acked_taken)))
+pub arrived_empty_a : (s : State) → IsWorld s → IsEmpty s A → arrived_at s B ≡ sent_by s.a
+arrived_empty_a s h e = ap messages_in (all_arrived s.seg_size s.b.taken s.a.handed (omega (arith, e.sent, e.acked, h.from_a.counts.acked_taken)))
 
-pub arrived_empty_b : (s : State) → IsWorld s → IsEmpty s B → arrived_of s.seg_size s.from_b ≡ sent_by s.from_b
-arrived_empty_b s h e = ap messages_in (all_arrived s.seg_size s.from_b.taken s.from_b.handed (omega (arith, e.sent, e.acked, h.from_b.counts.acked_taken)))
+pub arrived_empty_b : (s : State) → IsWorld s → IsEmpty s B → arrived_at s A ≡ sent_by s.b
+arrived_empty_b s h e = ap messages_in (all_arrived s.seg_size s.a.taken s.b.handed (omega (arith, e.sent, e.acked, h.from_b.counts.acked_taken)))
 
 -- a message is there to be served
 pub none_past : (xs : List Message) (n : ℕ) → n < length xs → slice_get xs n ≡ None → ⊥
@@ -44,13 +45,13 @@ none_past [] n lt e = omega (arith, lt)
 none_past (x ∷ xs) zero lt e = cc
 none_past (x ∷ xs) (suc n) lt e = none_past xs n (omega (arith, lt)) e
 
-pub serve_refused : (old now new : State) (n k : ℕ) (f : WorldFault) → IsWorld now → Served old now n k → now.served < length (sent_by now.from_a) → Went now event.Serve (Err f) new → FinishFault new f × RanTo old new
+pub serve_refused : (old now new : State) (n k : ℕ) (f : WorldFault) → IsWorld now → Served old now n k → now.served < length (sent_by now.a) → Went now event.Serve (Err f) new → FinishFault new f × RanTo old new
 unfolding Steps Refuses
 serve_refused old now new n k fault.NoMemory w h lt went = (subst (λ (s : State). IsExhausted s → ⊥) (sym went.1) (quiet_enough now (quiet_empty now h.empty)), (n, subst (λ (s : State). RanBy old s n) (sym went.1) h.ran))
 serve_refused old now new n k fault.NothingToDo w h lt went =
     elim went.0 [
       | inl some ↦ absurd (omega (arith, some, ap length h.empty.1.waiting))
-      | inr none ↦ absurd (none_past (sent_by now.from_a) now.served lt (ap (λ (l : List Message). slice_get l now.served) (sym (arrived_empty_a now w h.empty.0)) ∙ none))
+      | inr none ↦ absurd (none_past (sent_by now.a) now.served lt (ap (λ (l : List Message). slice_get l now.served) (sym (arrived_empty_a now w h.empty.0)) ∙ none))
     ]
 serve_refused old now new n k fault.NoSuchPacket w h lt went = absurd went.0
 serve_refused old now new n k fault.Stale w h lt went = absurd went.0
@@ -60,10 +61,10 @@ serve_refused old now new n k fault.BadSetup w h lt went = absurd went.0
 
 -- what serving one leaves alone
 pub record ServedOne (old new : State) : Type 0 where
-  pub from_a : new.from_a ≡ old.from_a
-  pub handed : new.from_b.handed ≡ old.from_b.handed
-  pub sent : new.from_b.sent ≡ old.from_b.sent
-  pub acked : new.from_b.acked ≡ old.from_b.acked
+  pub from_a : new.a ≡ old.a
+  pub handed : new.b.handed ≡ old.b.handed
+  pub sent : new.b.sent ≡ old.b.sent
+  pub acked : new.b.acked ≡ old.b.acked
   pub served : new.served ≡ old.served + 1
   pub read : new.read ≡ old.read
   pub seg_size : new.seg_size ≡ old.seg_size
@@ -73,10 +74,10 @@ pub served_one : (old new : State) (answer : Step) → Steps old event.Serve ans
 unfolding Steps
 served_one old new answer step =
     record {
-      from_a = ap (λ (s : State). s.from_a) step.4;
-      handed = ap (λ (s : State). s.from_b.handed) step.4;
-      sent = ap (λ (s : State). s.from_b.sent) step.4;
-      acked = ap (λ (s : State). s.from_b.acked) step.4;
+      from_a = ap (λ (s : State). s.a) step.4;
+      handed = ap (λ (s : State). s.b.handed) step.4;
+      sent = ap (λ (s : State). s.b.sent) step.4;
+      acked = ap (λ (s : State). s.b.acked) step.4;
       served = ap (λ (s : State). s.served) step.4;
       read = ap (λ (s : State). s.read) step.4;
       seg_size = ap (λ (s : State). s.seg_size) step.4;
@@ -86,31 +87,23 @@ served_one old new answer step =
 -- B has nothing unacknowledged
 pub served_due : (old new : State) → ServedOne old new → AreEmpty old → IsPostDue new B
 served_due old new h e = (
-  record { waiting = ap (λ (d : Direction). d.waiting) h.from_a ∙ e.0.waiting; sent = ap (λ (d : Direction). d.sent) h.from_a ∙ e.0.sent ∙ sent_all; acked = ap (λ (d : Direction). d.sent - d.acked) h.from_a ∙ e.0.acked },
+  record { waiting = ap (λ (e : EndState). e.waiting) h.from_a ∙ e.0.waiting; sent = ap (λ (e : EndState). e.sent) h.from_a ∙ e.0.sent ∙ sent_all; acked = ap (λ (e : EndState). e.sent - e.acked) h.from_a ∙ e.0.acked },
   omega (arith, h.sent, h.acked, e.1.acked),
 )
   where
-    sent_all : segments_of old.seg_size old.from_a.handed ≡ segments_of new.seg_size new.from_a.handed
-    sent_all = ap (λ (n : ℕ). segments_of n old.from_a.handed) (sym h.seg_size) ∙ ap (λ (d : Direction). segments_of new.seg_size d.handed) (sym h.from_a)
+    sent_all : segments_of old.seg_size old.a.handed ≡ segments_of new.seg_size new.a.handed
+    sent_all = ap (λ (n : ℕ). segments_of n old.a.handed) (sym h.seg_size) ∙ ap (λ (e : EndState). segments_of new.seg_size e.handed) (sym h.from_a)
 
 pub served_none : (s : State) → AreEmpty s → Served s s 0 0
 served_none s e = record { ran = ran_none s; empty = e; handed = refl; sent_a = refl; served = omega arith; read = refl; more = 0; sent_b = omega arith; count = omega arith; nothing = λ none. refl }
 
 pub served_more : (old now mid new : State) (n k more m : ℕ) → Served old now n k → ServedOne now mid → Emptied mid new B more → m ≡ k + 1 → Served old new (n + (1 + more)) m
 served_more old now mid new n k more m h one e is =
-    let same_a : unacked new A ≡ 0 = omega (arith, e.back_sent, e.back_acked, ap (λ (d : Direction). d.sent) one.from_a, ap (λ (d : Direction). d.acked) one.from_a, h.empty.0.acked) in
     record {
       ran = ran_both old now new n (1 + more) h.ran (ran_both now mid new 1 more one.ran e.ran);
-      empty = (
-        record {
-          waiting = e.back_waiting ∙ ap (λ (d : Direction). d.waiting) one.from_a ∙ h.empty.0.waiting;
-          sent = e.back_sent ∙ ap (λ (d : Direction). d.sent) one.from_a ∙ h.empty.0.sent ∙ sym (all_a one e);
-          acked = same_a;
-        },
-        e.empty,
-      );
-      handed = e.back_handed ∙ ap (λ (d : Direction). d.handed) one.from_a ∙ h.handed;
-      sent_a = e.back_sent ∙ ap (λ (d : Direction). d.sent) one.from_a ∙ h.sent_a;
+      empty = (still_other mid new B more (served_due now mid one h.empty).0 e, e.empty);
+      handed = e.back_handed ∙ ap (λ (e : EndState). e.handed) one.from_a ∙ h.handed;
+      sent_a = e.back_sent ∙ ap (λ (e : EndState). e.sent) one.from_a ∙ h.sent_a;
       served = omega (arith, e.served, one.served, h.served, is);
       read = e.read ∙ one.read ∙ h.read;
       more = h.more + e.more;
@@ -118,29 +111,24 @@ served_more old now mid new n k more m h one e is =
       count = omega (arith, e.count, h.count, is);
       nothing = λ none. absurd (omega (arith, none, is));
     }
-  where
-    all_a : ServedOne now mid → Emptied mid new B more → segments_of new.seg_size new.from_a.handed ≡ segments_of now.seg_size now.from_a.handed
-    all_a one e =
-        ap (λ (i : ℕ). segments_of i new.from_a.handed) (e.seg_size ∙ one.seg_size)
-        ∙ ap (segments_of now.seg_size) (e.back_handed ∙ ap (λ (d : Direction). d.handed) one.from_a)
 
 -- ---- How many.
 
 pub count_taken : {V : Type 0} (s : State) (f : V → List ℕ) (list : List V) → IsWorld s → map f list ≡ map canon (taken_of s) → length list ≡ s.served
 count_taken s f list h is =
     let all = sym (length-map list f) ∙ ap length is ∙ length-map (taken_of s) canon in
-    omega (arith, all, length_take s.served (sent_by s.from_a) (headline_of s h).taken_there)
+    omega (arith, all, length_take s.served (sent_by s.a) (headline_of s h).taken_there)
   where
     length_take : (c : ℕ) (r : List Message) → c ≤ length r → length (take c r) ≡ c
     length_take c r le = grind (arith, common_steps, le)
 
-pub count_sent : {V : Type 0} (s : State) (f : V → List ℕ) (list : List V) → map f list ≡ map canon (sent_by s.from_a) → length list ≡ length (sent_by s.from_a)
-count_sent s f list is = sym (length-map list f) ∙ ap length is ∙ length-map (sent_by s.from_a) canon
+pub count_sent : {V : Type 0} (s : State) (f : V → List ℕ) (list : List V) → map f list ≡ map canon (sent_by s.a) → length list ≡ length (sent_by s.a)
+count_sent s f list is = sym (length-map list f) ∙ ap length is ∙ length-map (sent_by s.a) canon
 
-pub same_sent : (old now : State) (n k : ℕ) → Served old now n k → length (sent_by now.from_a) ≡ length (sent_by old.from_a)
+pub same_sent : (old now : State) (n k : ℕ) → Served old now n k → length (sent_by now.a) ≡ length (sent_by old.a)
 same_sent old now n k h = ap (λ (l : List NspMessage). length (messages_in l)) h.handed
 
-pub served_every : (old now : State) (n k : ℕ) → IsWorld now → Served old now n k → length (sent_by old.from_a) ≤ now.served → ServedEvery old now n
+pub served_every : (old now : State) (n k : ℕ) → IsWorld now → Served old now n k → length (sent_by old.a) ≤ now.served → ServedEvery old now n
 served_every old now n k w h all =
     let same = same_sent old now n k h in
     record { messages = k; done = h; all = omega (arith, same, all); only = λ none. omega (arith, none, h.served, same, (headline_of now w).taken_there) }

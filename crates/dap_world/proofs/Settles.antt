@@ -1,11 +1,10 @@
 -- A stretch without loss.
 use Rattle.std.proofs.Common.{◌≡◌, ℕ, zero, suc, ◌+◌, ◌-◌, ◌≤◌, ◌<◌, arith, refl, sym, ◌∙◌, subst, ap, append_assoc, Bool, true, false, List, [], ◌∷◌, ◌++◌, length, inl, inr, le-ltb, eq-eqb}
-use Rattle.std.specs.Prelude.{nat_lt, ◌&&◌, if◌then◌else◌, Option, Some, None, Err, slice_get}
+use Rattle.std.specs.Prelude.{max, Option, Some, None, Err, slice_get}
 use Rattle.std.proofs.lemmas.List.{length-append, length-map}
 use Rattle.std.proofs.lemmas.Bool.{cases_eq, ne_eqb}
 use Rattle.std.proofs.lemmas.Option.{slice_get-get_or}
 use Rattle.std.proofs.lemmas.Grind.{common_steps}
-use Rattle.nsp_link.specs.Holding.{with_number}
 use Rattle.dap_world.specs.declared.event.End.{End}
 use Rattle.dap_world.specs.declared.event.End.TheVariants.{A, B}
 use Rattle.dap_world.specs.declared.event.Event.{Event}
@@ -13,16 +12,16 @@ use Rattle.dap_world.specs.declared.event.Event.TheVariants as event
 use Rattle.dap_world.specs.declared.event.Step.{Step}
 use Rattle.dap_world.specs.declared.event.WorldFault.{WorldFault}
 use Rattle.dap_world.specs.declared.event.WorldFault.TheVariants as fault
-use Rattle.dap_world.specs.Machine.{State, Direction, Sending, sends, with_sends, other, wrote, came, delivered, is_stale, Steps, Refuses}
+use Rattle.dap_world.specs.Machine.{State, EndState, Sending, end_of, with_end, other, wrote, came, delivered, is_stale, Steps, Refuses}
 use Rattle.dap_world.specs.Runs.{Runs, Went}
-use Rattle.dap_world.specs.Inner.Worlds.{IsWorld, IsDirection, AreEarly}
+use Rattle.dap_world.specs.Inner.Worlds.{IsWorld, AreEarly}
 use Rattle.dap_world.specs.Wires as wires
 use Rattle.dap_world.specs.Wires.{AreWired}
 use Rattle.dap_world.specs.declared.side.Wired.{Wired}
 use Rattle.dap_world.specs.Settling.{AsksNothing, RanBy, RanTo, unacked}
 use Rattle.dap_world.specs.Inner.Settling.{AllResent, AreThere, AllCame}
-use Rattle.dap_world.proofs.Directions.{closed, came-moves}
-use Rattle.dap_world.proofs.Kept.{direction}
+use Rattle.dap_world.proofs.Directions.{closed}
+use Rattle.dap_world.proofs.Kept.{back, direction, now_at, still_at, twice}
 
 -- ---- Runs.
 
@@ -60,10 +59,10 @@ ran_more old mid new n e answer quiet a step = ran_both old mid new n 1 a (ran_o
 -- ---- Resending.
 
 abbrev again : State → End → ℕ → Sending
-again s end i = record { segment = Some ((sends s end).acked + 1 + i); acks = (sends s (other end)).taken }
+again s end i = record { segment = Some ((end_of s end).acked + 1 + i); acks = (end_of s end).taken }
 
 abbrev with_more : State → End → List Sending → State
-with_more s end more = with_sends s end (record (sends s end) { wire = (sends s end).wire ++ more })
+with_more s end more = with_end s end (record (end_of s end) { wire = (end_of s end).wire ++ more })
 
 each_more : (s : State) (end : End) (more : List Sending) (n : ℕ) → length more ≡ n → ((i : ℕ) → i < n → slice_get more i ≡ Some (again s end i)) → (i : ℕ) → i < n + 1 → slice_get (more ++ again s end n ∷ []) i ≡ Some (again s end i)
 each_more s end more n long each i lt =
@@ -80,9 +79,10 @@ each_more s end more n long each i lt =
     front (z ∷ xs) ys zero x e = e
     front (z ∷ xs) ys (suc i) x e = front xs ys i x e
 
-wrote_more : (s : State) (end : End) (more : List Sending) (i : ℕ) → wrote (with_more s end more) end (sends (with_more s end more) end).sent (Some ((sends (with_more s end more) end).acked + 1 + i)) ≡ with_more s end (more ++ again s end i ∷ [])
-wrote_more s A more i = ap (λ (l : List Sending). record s { from_a = record s.from_a { wire = l } }) (append_assoc s.from_a.wire more (again s A i ∷ []))
-wrote_more s B more i = ap (λ (l : List Sending). record s { from_b = record s.from_b { wire = l } }) (append_assoc s.from_b.wire more (again s B i ∷ []))
+wrote_more : (s : State) (end : End) (more : List Sending) (i : ℕ)
+    → (let t = with_more s end more in let e = end_of t end in with_end t end (wrote e e.sent (Some (e.acked + 1 + i)))) ≡ with_more s end (more ++ again s end i ∷ [])
+wrote_more s A more i = ap (λ (l : List Sending). record s { a = record s.a { wire = l } }) (append_assoc s.a.wire more (again s A i ∷ []))
+wrote_more s B more i = ap (λ (l : List Sending). record s { b = record s.b { wire = l } }) (append_assoc s.b.wire more (again s B i ∷ []))
 
 pub resent_more : (old now new : State) (end : End) (i : ℕ) (answer : Step) → AllResent old now end i → Steps now (event.Resend end i) answer new → AllResent old new end (i + 1)
 unfolding Steps
@@ -98,8 +98,7 @@ resent_more old now new end i answer h step =
 
 -- the segment is there to be written again
 left : (old now : State) (end : End) (i : ℕ) → AllResent old now end i → i < unacked old end → i < unacked now end
-left old now A i h lt = subst (λ (s : State). i < unacked s A) (sym h.wrote) lt
-left old now B i h lt = subst (λ (s : State). i < unacked s B) (sym h.wrote) lt
+left old now end i h lt = subst (λ (e : EndState). i < e.sent - e.acked) (sym (now_at old now end _ h.wrote)) lt
 
 pub resend_refused : (old now new : State) (end : End) (i : ℕ) (f : WorldFault) → AllResent old now end i → i < unacked old end → Went now (event.Resend end i) (Err f) new → (f ≡ fault.NoMemory) × RanTo old new
 unfolding Steps Refuses
@@ -113,115 +112,64 @@ resend_refused old now new end i fault.BadSetup h lt went = absurd went.0
 
 -- ---- Delivering.
 
-pub twice : (end : End) → other (other end) ≡ end
-twice A = refl
-twice B = refl
-
 -- the next segment, or one that was taken, leaves no less taken
-pub took : (seg win : ℕ) (d back : Direction) (keep : Bool) (k n : ℕ) → IsDirection seg win d back → k ≡ n + 1 → n ≤ d.taken → k ≤ d.sent → n + 1 ≤ (came keep d (Some k)).taken
-took seg win d back keep k n h is le sent =
-    elim (cases_eq k (d.taken + 1)) [
+pub took : (taken sent : ℕ) (held : List ℕ) (keep : Bool) (k n : ℕ) → AreEarly (taken + 1) sent held → k ≡ n + 1 → n ≤ taken → k ≤ sent → n + 1 ≤ (came keep taken held (Some k)).0
+took taken sent held keep k n early is le there =
+    elim (cases_eq k (taken + 1)) [
       | inl same ↦
-          let c = closed d.held k d.sent sent (subst (λ (m : ℕ). AreEarly m d.sent d.held) (sym same) h.early) in
-          rw (eq-eqb k (d.taken + 1) same) (omega (arith, c.0, is))
-      | inr apart ↦ rw (ne_eqb k (d.taken + 1) apart) (later (nat_lt d.taken k && keep) (omega (arith, is, le, apart)))
+          let c = closed held k sent there (subst (λ (m : ℕ). AreEarly m sent held) (sym same) early) in
+          rw (eq-eqb k (taken + 1) same) (omega (arith, c.0, is))
+      | inr apart ↦ rw (ne_eqb k (taken + 1) apart) (omega (arith, is, le, apart))
     ]
-  where
-    later : (b : Bool) → n + 1 ≤ d.taken → n + 1 ≤ (if b then record d { held = with_number k d.held } else d).taken
-    later true h = h
-    later false h = h
-
-came_sent : (keep : Bool) (d : Direction) (k : Option ℕ) → (came keep d k).sent ≡ d.sent
-came_sent keep d k = ap (λ (x : Direction). x.sent) (came-moves keep d k).2
-
-came_acked : (keep : Bool) (d : Direction) (k : Option ℕ) → (came keep d k).acked ≡ d.acked
-came_acked keep d k = ap (λ (x : Direction). x.acked) (came-moves keep d k).2
-
-came_wire : (keep : Bool) (d : Direction) (k : Option ℕ) → (came keep d k).wire ≡ d.wire
-came_wire keep d k = ap (λ (x : Direction). x.wire) (came-moves keep d k).2
 
 -- the packet at the next place is the one that carries the next segment
-next_there : (old now : State) (end : End) (first count n : ℕ) → AllCame old now end n → AreThere old end first count → n < count → slice_get (sends now end).wire (first + n) ≡ Some (again old end n)
-next_there old now end first count n h there lt = ap (λ (l : List Sending). slice_get l (first + n)) h.wire ∙ there n lt
+next_at : (old now : State) (end : End) (first last j : ℕ) → AllCame old now end (j - first) → AreThere old end first (last - first) → first ≤ j → j < last
+    → slice_get (end_of now (other (other end))).wire j ≡ Some (again old end (j - first))
+next_at old now end first last j h there le lt =
+    let at : j ≡ first + (j - first) = omega arith in
+    ap (λ (e : End). slice_get (end_of now e).wire j) (twice end) ∙ ap (λ (e : EndState). slice_get e.wire j) h.still
+    ∙ ap (slice_get (end_of old end).wire) at ∙ there (j - first) (omega arith)
 
 pub is_same : (p q : Sending) (o : Option Sending) → o ≡ Some p → o ≡ Some q → p ≡ q
 is_same p q o e f = cc
 
--- one more was delivered
-came_one : (old now new : State) (end : End) (n : ℕ) (keep : Bool) → IsWorld now → AllCame old now end n → n < unacked old end → RanBy old new (n + 1)
-    → new ≡ delivered keep now (other end) (again old end n) → AllCame old new end (n + 1)
-came_one old now new A n keep world h lt ran is =
-    let k = Some (old.from_a.acked + 1 + n) in
-    let grew = took now.seg_size now.window now.from_a now.from_b keep (old.from_a.acked + 1 + n) (old.from_a.acked + n) world.from_a (omega arith) h.taken (omega (arith, h.sent, lt)) in
-    record {
-      ran = ran;
-      taken = subst (λ (s : State). old.from_a.acked + (n + 1) ≤ s.from_a.taken) (sym is) (omega (arith, grew));
-      sent = ap (λ (s : State). s.from_a.sent) is ∙ came_sent keep now.from_a k ∙ h.sent;
-      acked = ap (λ (s : State). s.from_a.acked) is ∙ came_acked keep now.from_a k ∙ h.acked;
-      wire = ap (λ (s : State). s.from_a.wire) is ∙ came_wire keep now.from_a k ∙ h.wire;
-      back = ap (λ (s : State). s.from_b.taken) is ∙ h.back;
-      window = ap (λ (s : State). s.window) is ∙ h.window;
-    }
-came_one old now new B n keep world h lt ran is =
-    let k = Some (old.from_b.acked + 1 + n) in
-    let grew = took now.seg_size now.window now.from_b now.from_a keep (old.from_b.acked + 1 + n) (old.from_b.acked + n) world.from_b (omega arith) h.taken (omega (arith, h.sent, lt)) in
-    record {
-      ran = ran;
-      taken = subst (λ (s : State). old.from_b.acked + (n + 1) ≤ s.from_b.taken) (sym is) (omega (arith, grew));
-      sent = ap (λ (s : State). s.from_b.sent) is ∙ came_sent keep now.from_b k ∙ h.sent;
-      acked = ap (λ (s : State). s.from_b.acked) is ∙ came_acked keep now.from_b k ∙ h.acked;
-      wire = ap (λ (s : State). s.from_b.wire) is ∙ came_wire keep now.from_b k ∙ h.wire;
-      back = ap (λ (s : State). s.from_a.taken) is ∙ h.back;
-      window = ap (λ (s : State). s.window) is ∙ h.window;
-    }
-
-came_at : (old now new : State) (end : End) (first count n j m : ℕ) (answer : Step) → IsWorld now → AllCame old now end n → AreThere old end first count → n < count → count ≤ unacked old end → j ≡ first + n → m ≡ n + 1
-    → Steps now (event.Deliver (other end) j) answer new → AllCame old new end m
-unfolding Steps
-came_at old now new end first count n j m answer world h there lt few is one step =
-    let at : slice_get (sends now (other (other end))).wire j ≡ Some (again old end n) =
-    subst (λ (e : End). slice_get (sends now e).wire j ≡ Some (again old end n)) (sym (twice end)) (ap (slice_get (sends now end).wire) is ∙ next_there old now end first count n h there lt) in
-    let same : step.0 ≡ again old end n = is_same step.0 (again old end n) _ step.1 at in
-    subst (λ (x : ℕ). AllCame old new end x) (sym one)
-    (came_one old now new end n true world h (omega arith) (ran_more old now new n (event.Deliver (other end) j) answer tt h.ran step)
-    (step.4 ∙ ap (λ (p : Sending). delivered true now (other end) p) same))
-
 -- a segment that isn't acknowledged isn't stale, nor is an acknowledgement of all that was taken
-fresh_again : (old now : State) (end : End) (n : ℕ) → IsWorld now → AllCame old now end n → is_stale now (other end) (again old end n) ≡ false
-fresh_again old now A n world h =
-    let c = world.from_a.counts in
-    let b = world.from_b.counts in
+fresh_again : (old now : State) (end : End) (n : ℕ) → IsWorld now → AllCame old now end n → is_stale (end_of now (other end)) (again old end n) ≡ false
+fresh_again old now end n world h =
+    let c = (direction now end world).counts in
+    let b = (back now end world).counts in
+    let to = end_of now (other end) in
     rw (
-      le-ltb (old.from_a.acked + 1 + n + 2047) (now.from_a.taken + 1) (omega (arith, c.taken_sent, c.within_window, world.window, h.acked)),
-      le-ltb (old.from_b.taken + 2047) now.from_b.acked (omega (arith, b.acked_taken, h.back)),
-    ) refl
-fresh_again old now B n world h =
-    let c = world.from_b.counts in
-    let b = world.from_a.counts in
-    rw (
-      le-ltb (old.from_b.acked + 1 + n + 2047) (now.from_b.taken + 1) (omega (arith, c.taken_sent, c.within_window, world.window, h.acked)),
-      le-ltb (old.from_a.taken + 2047) now.from_a.acked (omega (arith, b.acked_taken, h.back)),
+      le-ltb ((end_of old end).acked + 1 + n + 2047) (to.taken + 1) (omega (arith, c.taken_sent, c.within_window, world.window, ap (λ (e : EndState). e.acked) h.still)),
+      le-ltb ((end_of old end).taken + 2047) to.acked (omega (arith, b.acked_taken, ap (λ (e : EndState). e.taken) h.still)),
     ) refl
 
+-- one more was delivered
 pub came_more : (old now new : State) (end : End) (first last j : ℕ) (answer : Step) → IsWorld now → AllCame old now end (j - first) → AreThere old end first (last - first) → first ≤ j → j < last → last - first ≤ unacked old end
     → Steps now (event.Deliver (other end) j) answer new → AllCame old new end (j + 1 - first)
 unfolding Steps
 came_more old now new end first last j answer world h there le lt few step =
-    came_at old now new end first (last - first) (j - first) j (j + 1 - first) answer world h there (omega arith) few (omega arith) (omega arith) step
+    let k = (end_of old end).acked + 1 + (j - first) in
+    let to = end_of now (other end) in
+    let same : step.0 ≡ again old end (j - first) = is_same step.0 (again old end (j - first)) _ step.1.0 (next_at old now end first last j h there le lt) in
+    let is = step.3 ∙ ap (λ (p : Sending). with_end now (other end) (delivered true to p)) same in
+    let grew : (end_of old end).acked + (j + 1 - first) ≤ (came true to.taken to.held (Some k)).0 =
+    omega (arith, took to.taken (end_of now end).sent to.held true k ((end_of old end).acked + (j - first)) (direction now end world).early (omega arith) h.taken (omega (arith, ap (λ (e : EndState). e.sent) h.still, few, lt))) in
+    record {
+      ran = subst (RanBy old new) (omega arith) (ran_more old now new (j - first) (event.Deliver (other end) j) answer tt h.ran step);
+      taken = subst (λ (e : EndState). (end_of old end).acked + (j + 1 - first) ≤ e.taken) (sym (now_at now new (other end) _ is)) grew;
+      still = still_at now new end _ is ∙ h.still;
+    }
 
 pub came_refused : (old now new : State) (end : End) (first last j : ℕ) (f : WorldFault) → IsWorld now → AllCame old now end (j - first) → AreThere old end first (last - first) → first ≤ j → j < last
     → Went now (event.Deliver (other end) j) (Err f) new → (f ≡ fault.NoMemory) × RanTo old new
 unfolding Steps Refuses
 came_refused old now new end first last j fault.NoMemory world h there le lt went = (refl, (j - first, subst (λ (s : State). RanBy old s (j - first)) (sym went.1) h.ran))
 came_refused old now new end first last j fault.NoSuchPacket world h there le lt went =
-    let at : slice_get (sends now (other (other end))).wire j ≡ Some (again old end (j - first)) =
-    subst (λ (e : End). slice_get (sends now e).wire j ≡ Some (again old end (j - first))) (sym (twice end)) (ap (slice_get (sends now end).wire) (omega arith) ∙ next_there old now end first (last - first) (j - first) h there (omega arith)) in
-    let none = went.0 in absurd cc
+    let at = next_at old now end first last j h there le lt in let none = went.0 in absurd cc
 came_refused old now new end first last j fault.Stale world h there le lt went =
-    let at : slice_get (sends now (other (other end))).wire j ≡ Some (again old end (j - first)) =
-    subst (λ (e : End). slice_get (sends now e).wire j ≡ Some (again old end (j - first))) (sym (twice end)) (ap (slice_get (sends now end).wire) (omega arith) ∙ next_there old now end first (last - first) (j - first) h there (omega arith)) in
-    let same : went.0.0 ≡ again old end (j - first) = is_same went.0.0 (again old end (j - first)) _ went.0.1 at in
-    let stale : is_stale now (other end) (again old end (j - first)) ≡ true = subst (λ (p : Sending). is_stale now (other end) p ≡ true) same went.0.2 in
+    let same : went.0.0 ≡ again old end (j - first) = is_same went.0.0 (again old end (j - first)) _ went.0.1 (next_at old now end first last j h there le lt) in
+    let stale : is_stale (end_of now (other end)) (again old end (j - first)) ≡ true = subst (λ (p : Sending). is_stale (end_of now (other end)) p ≡ true) same went.0.2 in
     let young = fresh_again old now end (j - first) world h in absurd cc
 came_refused old now new end first last j fault.NothingToDo world h there le lt went = absurd went.0
 came_refused old now new end first last j (fault.Ask g) world h there le lt went = absurd went.0
@@ -235,51 +183,47 @@ at_last xs n y e = slice_get-get_or (xs ++ y ∷ []) n y (omega (arith, length-a
 
 -- the acknowledgement of all that was sent
 abbrev alone : State → End → Sending
-alone s end = record { segment = None; acks = (sends s end).taken }
+alone s end = record { segment = None; acks = (end_of s (other end)).taken }
 
-acked_wire : (old mid : State) (end : End) (place : ℕ) → mid ≡ wrote old (other end) (sends old (other end)).sent None → place ≡ length (sends old (other end)).wire
-    → slice_get (sends mid (other end)).wire place ≡ Some (alone old end)
-acked_wire old mid A place is at = ap (λ (s : State). slice_get s.from_b.wire place) is ∙ at_last old.from_b.wire place (alone old A) at
-acked_wire old mid B place is at = ap (λ (s : State). slice_get s.from_a.wire place) is ∙ at_last old.from_a.wire place (alone old B) at
+-- the other end wrote it
+abbrev WroteAck : (old mid : State) → End → Type 0
+WroteAck old mid end = mid ≡ with_end old (other end) (wrote (end_of old (other end)) (end_of old (other end)).sent None)
 
-acked_all : (old mid new : State) (end : End) (keep : Bool) → IsWorld old → (sends old end).sent ≤ (sends old end).taken → mid ≡ wrote old (other end) (sends old (other end)).sent None
-    → new ≡ delivered keep mid end (alone old end) → unacked new end ≡ 0
-acked_all old mid new A keep world all is came_is =
-    let c = world.from_a.counts in
-    ap (λ (s : State). unacked s A) (came_is ∙ ap (λ (s : State). delivered keep s A (alone old A)) is) ∙ (omega (arith, c.taken_sent, all))
-acked_all old mid new B keep world all is came_is =
-    let c = world.from_b.counts in
-    ap (λ (s : State). unacked s B) (came_is ∙ ap (λ (s : State). delivered keep s B (alone old B)) is) ∙ (omega (arith, c.taken_sent, all))
+acked_wire : (old mid : State) (end : End) (place : ℕ) → WroteAck old mid end → place ≡ length (end_of old (other end)).wire → slice_get (end_of mid (other end)).wire place ≡ Some (alone old end)
+acked_wire old mid end place is at = ap (λ (e : EndState). slice_get e.wire place) (now_at old mid (other end) _ is) ∙ at_last (end_of old (other end)).wire place (alone old end) at
+
+acked_all : (old mid new : State) (end : End) (keep : Bool) → IsWorld old → (end_of old end).sent ≤ (end_of old (other end)).taken → WroteAck old mid end
+    → new ≡ with_end mid end (delivered keep (end_of mid end) (alone old end)) → unacked new end ≡ 0
+acked_all old mid new end keep world all is came_is =
+    let c = (direction old end world).counts in
+    ap (λ (e : EndState). e.sent - e.acked) (now_at mid new end _ came_is) ∙ ap (λ (e : EndState). e.sent - max e.acked (end_of old (other end)).taken) (still_at old mid end _ is)
+    ∙ (omega (arith, c.taken_sent, all))
 
 abbrev AckStep : State → End → Step → State → Type 0
 AckStep old end answer mid = Steps old (event.Ack (other end)) answer mid
 
 -- how it is written
-ack_wrote : (old mid : State) (end : End) (answer : Step) → AckStep old end answer mid → mid ≡ wrote old (other end) (sends old (other end)).sent None
+ack_wrote : (old mid : State) (end : End) (answer : Step) → AckStep old end answer mid → WroteAck old mid end
 unfolding Steps
 ack_wrote old mid end answer step = step.1
 
 pub ack_unacked : (old mid : State) (end : End) (answer : Step) → AckStep old end answer mid → unacked mid end ≡ unacked old end
-ack_unacked old mid A answer step = ap (λ (s : State). unacked s A) (ack_wrote old mid A answer step)
-ack_unacked old mid B answer step = ap (λ (s : State). unacked s B) (ack_wrote old mid B answer step)
+ack_unacked old mid end answer step = ap (λ (e : EndState). e.sent - e.acked) (still_at old mid end _ (ack_wrote old mid end answer step))
 
-pub acknowledged_all : (old mid new : State) (end : End) (place : ℕ) (one two : Step) → IsWorld old → (sends old end).sent ≤ (sends old end).taken → place ≡ length (sends old (other end)).wire
+pub acknowledged_all : (old mid new : State) (end : End) (place : ℕ) (one two : Step) → IsWorld old → (end_of old end).sent ≤ (end_of old (other end)).taken → place ≡ length (end_of old (other end)).wire
     → Steps old (event.Ack (other end)) one mid → Steps mid (event.Deliver end place) two new → RanBy old new 2 × (unacked new end ≡ 0)
 unfolding Steps
 acknowledged_all old mid new end place one two world all at first second =
     let is = ack_wrote old mid end one first in
-    let same : second.0 ≡ alone old end = is_same second.0 (alone old end) _ second.1 (acked_wire old mid end place is at) in (
+    let same : second.0 ≡ alone old end = is_same second.0 (alone old end) _ second.1.0 (acked_wire old mid end place is at) in (
       ran_both old mid new 1 1 (ran_one old mid (event.Ack (other end)) one tt first) (ran_one mid new (event.Deliver end place) two tt second),
-      acked_all old mid new end true world all is (second.4 ∙ ap (λ (p : Sending). delivered true mid end p) same),
+      acked_all old mid new end true world all is (second.3 ∙ ap (λ (p : Sending). with_end mid end (delivered true (end_of mid end) p)) same),
     )
 
-fresh_alone : (old mid : State) (end : End) → IsWorld old → mid ≡ wrote old (other end) (sends old (other end)).sent None → is_stale mid end (alone old end) ≡ false
-fresh_alone old mid A world is =
-    let c = world.from_a.counts in
-    ap (λ (s : State). is_stale s A (alone old A)) is ∙ le-ltb (old.from_a.taken + 2047) old.from_a.acked (omega (arith, c.acked_taken))
-fresh_alone old mid B world is =
-    let c = world.from_b.counts in
-    ap (λ (s : State). is_stale s B (alone old B)) is ∙ le-ltb (old.from_b.taken + 2047) old.from_b.acked (omega (arith, c.acked_taken))
+fresh_alone : (old mid : State) (end : End) → IsWorld old → WroteAck old mid end → is_stale (end_of mid end) (alone old end) ≡ false
+fresh_alone old mid end world is =
+    let c = (direction old end world).counts in
+    ap (λ (e : EndState). is_stale e (alone old end)) (still_at old mid end _ is) ∙ le-ltb ((end_of old (other end)).taken + 2047) (end_of old end).acked (omega (arith, c.acked_taken))
 
 pub ack_refused : (old new : State) (end : End) (f : WorldFault) → Went old (event.Ack (other end)) (Err f) new → (f ≡ fault.NoMemory) × RanTo old new
 unfolding Steps Refuses
@@ -291,7 +235,7 @@ ack_refused old new end (fault.Ask g) went = absurd went.0
 ack_refused old new end fault.Exhausted went = absurd went.0
 ack_refused old new end fault.BadSetup went = absurd went.0
 
-pub back_refused : (old mid new : State) (end : End) (place : ℕ) (one : Step) (f : WorldFault) → IsWorld old → place ≡ length (sends old (other end)).wire → Steps old (event.Ack (other end)) one mid
+pub back_refused : (old mid new : State) (end : End) (place : ℕ) (one : Step) (f : WorldFault) → IsWorld old → place ≡ length (end_of old (other end)).wire → Steps old (event.Ack (other end)) one mid
     → Went mid (event.Deliver end place) (Err f) new → (f ≡ fault.NoMemory) × RanTo old new
 unfolding Steps Refuses
 back_refused old mid new end place one fault.NoMemory world at first went = (refl, (1, subst (λ (s : State). RanBy old s 1) (sym went.1) (ran_one old mid (event.Ack (other end)) one tt first)))
@@ -300,7 +244,7 @@ back_refused old mid new end place one fault.NoSuchPacket world at first went =
 back_refused old mid new end place one fault.Stale world at first went =
     let is = ack_wrote old mid end one first in
     let same : went.0.0 ≡ alone old end = is_same went.0.0 (alone old end) _ went.0.1 (acked_wire old mid end place is at) in
-    let stale : is_stale mid end (alone old end) ≡ true = subst (λ (p : Sending). is_stale mid end p ≡ true) same went.0.2 in
+    let stale : is_stale (end_of mid end) (alone old end) ≡ true = subst (λ (p : Sending). is_stale (end_of mid end) p ≡ true) same went.0.2 in
     let young = fresh_alone old mid end world is in absurd cc
 back_refused old mid new end place one fault.NothingToDo world at first went = absurd went.0
 back_refused old mid new end place one (fault.Ask g) world at first went = absurd went.0
@@ -310,32 +254,32 @@ back_refused old mid new end place one fault.BadSetup world at first went = absu
 -- ---- All of it.
 
 -- the segments that were written again stand on the wire
-pub there_again : (old mid : State) (end : End) (first last count : ℕ) → AllResent old mid end count → first ≡ length (sends old end).wire → last - first ≡ count → AreThere mid end first (last - first)
+pub there_again : (old mid : State) (end : End) (first last count : ℕ) → AllResent old mid end count → first ≡ length (end_of old end).wire → last - first ≡ count → AreThere mid end first (last - first)
 there_again old mid end first last count h at is = λ i lt. at_place old mid end first i count h at (omega arith)
   where
     behind : (xs ys : List Sending) (n i : ℕ) (y : Sending) → n ≡ length xs → slice_get ys i ≡ Some y → slice_get (xs ++ ys) (n + i) ≡ Some y
     behind [] ys n i y e at = let goes : n + i ≡ i = omega arith in ap (slice_get ys) goes ∙ at
     behind (x ∷ xs) ys n i y e at = let goes : n + i ≡ suc (length xs + i) = omega arith in ap (slice_get (x ∷ (xs ++ ys))) goes ∙ behind xs ys (length xs) i y refl at
 
-    at_place : (old mid : State) (end : End) (first i count : ℕ) → AllResent old mid end count → first ≡ length (sends old end).wire → i < count → slice_get (sends mid end).wire (first + i) ≡ Some (again mid end i)
-    at_place old mid A first i count h at lt = subst (λ (s : State). slice_get s.from_a.wire (first + i) ≡ Some (again s A i)) (sym h.wrote) (behind old.from_a.wire h.more first i (again old A i) at (h.each i lt))
-    at_place old mid B first i count h at lt = subst (λ (s : State). slice_get s.from_b.wire (first + i) ≡ Some (again s B i)) (sym h.wrote) (behind old.from_b.wire h.more first i (again old B i) at (h.each i lt))
+    at_place : (old mid : State) (end : End) (first i count : ℕ) → AllResent old mid end count → first ≡ length (end_of old end).wire → i < count → slice_get (end_of mid end).wire (first + i) ≡ Some (again mid end i)
+    at_place old mid end first i count h at lt =
+        subst (λ (e : EndState). slice_get e.wire (first + i) ≡ Some (record { segment = Some (e.acked + 1 + i); acks = e.taken })) (sym (now_at old mid end _ h.wrote))
+        (behind (end_of old end).wire h.more first i (again old end i) at (h.each i lt))
 
-pub wire_grew : (old mid : State) (end : End) (count : ℕ) → AllResent old mid end count → length (sends mid end).wire ≡ length (sends old end).wire + count
-wire_grew old mid A count h = ap (λ (s : State). length s.from_a.wire) h.wrote ∙ length-append old.from_a.wire h.more ∙ ap (λ (n : ℕ). length old.from_a.wire + n) h.long
-wire_grew old mid B count h = ap (λ (s : State). length s.from_b.wire) h.wrote ∙ length-append old.from_b.wire h.more ∙ ap (λ (n : ℕ). length old.from_b.wire + n) h.long
+pub wire_grew : (old mid : State) (end : End) (count : ℕ) → AllResent old mid end count → length (end_of mid end).wire ≡ length (end_of old end).wire + count
+wire_grew old mid end count h =
+    let wire = (end_of old end).wire in ap (λ (e : EndState). length e.wire) (now_at old mid end _ h.wrote) ∙ length-append wire h.more ∙ ap (λ (n : ℕ). length wire + n) h.long
 
 pub same_unacked : (old mid : State) (end : End) (count : ℕ) → AllResent old mid end count → unacked mid end ≡ unacked old end
-same_unacked old mid A count h = ap (λ (s : State). unacked s A) h.wrote
-same_unacked old mid B count h = ap (λ (s : State). unacked s B) h.wrote
+same_unacked old mid end count h = ap (λ (e : EndState). e.sent - e.acked) (now_at old mid end _ h.wrote)
 
 pub came_unacked : (old new : State) (end : End) (n : ℕ) → AllCame old new end n → unacked new end ≡ unacked old end
-came_unacked old new end n h = omega (arith, h.sent, h.acked)
+came_unacked old new end n h = ap (λ (e : EndState). e.sent - e.acked) h.still
 
 -- all that was sent was taken
-pub all_taken : (mid now : State) (end : End) (count : ℕ) → IsWorld mid → AllCame mid now end count → count ≡ unacked mid end → (sends now end).sent ≤ (sends now end).taken
-all_taken mid now end count world h is = let c = (direction mid end world).counts in omega (arith, h.taken, h.sent, is, c.acked_taken, c.taken_sent)
+pub all_taken : (mid now : State) (end : End) (count : ℕ) → IsWorld mid → AllCame mid now end count → count ≡ unacked mid end → (end_of now end).sent ≤ (end_of now (other end)).taken
+all_taken mid now end count world h is = let c = (direction mid end world).counts in omega (arith, h.taken, ap (λ (e : EndState). e.sent) h.still, is, c.acked_taken, c.taken_sent)
 
 -- as many packets are shown as stand on the wire
-pub wire_length : (s : State) (end : End) (wire : List Wired) → AreWired s end wire → length wire ≡ length (sends s end).wire
+pub wire_length : (s : State) (end : End) (wire : List Wired) → AreWired s end wire → length wire ≡ length (end_of s end).wire
 wire_length s end wire h = sym (length-map wire wires.sending_of) ∙ ap length h.sendings

@@ -12,8 +12,9 @@ use Rattle.dap_accessing.specs.declared.report.Report.{Report}
 use Rattle.dap_accessing.specs.Told.{Hearing, Reports, Waits, Unexpected, hear, Told}
 use Rattle.dap_accessing.proofs.ForCallers.{told_by, Told-told_by, reports_grow}
 use Rattle.dap_end.proofs.ForCallers.{in_append}
+use Rattle.dap_world.specs.declared.event.End.TheVariants.{A}
 use Rattle.dap_world.specs.Agreement.{answers_to}
-use Rattle.dap_world.specs.Machine.{State, arrived_of, sent_by, taken_of, answers_read, reported}
+use Rattle.dap_world.specs.Machine.{State, arrived_at, sent_by, taken_of, answers_read, reported}
 use Rattle.dap_world.specs.Inner.Worlds.{IsWorld}
 use Rattle.dap_world.specs.Settling.{RanBy}
 use Rattle.dap_world.specs.Inner.Settling.{IsOneDue}
@@ -34,10 +35,10 @@ no_more [] answers = omega arith
 no_more (r ∷ rs) answers = omega (arith, ap length (Told-told_by r rs answers), no_more_by rs (hear r answers) (λ rest. no_more rs rest))
 
 -- how many answers there are
-pub answered_length : (s : State) → IsWorld s → length (arrived_of s.seg_size s.from_b) ≤ length (Answers s.own_b [] (map Whole (taken_of s)))
+pub answered_length : (s : State) → IsWorld s → length (arrived_at s A) ≤ length (Answers s.own_b [] (map Whole (taken_of s)))
 answered_length s h =
-    let all = ap length (sym (in_append s.from_b.handed s.from_b.waiting) ∙ h.answered) in
-    omega (arith, came-handed s.seg_size s.from_b, length-append (sent_by s.from_b) (messages_in s.from_b.waiting), all)
+    let all = ap length (sym (in_append s.b.handed s.b.waiting) ∙ h.answered) in
+    omega (arith, came-handed s A, length-append (sent_by s.b) (messages_in s.b.waiting), all)
 
 -- with an answer left, some request has no report
 pub some_due : (s : State) → IsWorld s → s.read < length (Answers s.own_b [] (map Whole (taken_of s))) → length (Told s.requests (answers_read s)) ≡ length s.requests → ⊥

@@ -2,14 +2,14 @@
 use Rattle.std.proofs.Common.{◌≡◌, ℕ, ◌≤◌, ◌<◌, refl, sym, ◌∙◌, subst, ap, List, [], ◌∷◌, ◌++◌, length}
 use Rattle.std.specs.Prelude.{Option, All}
 use Rattle.std.specs.List.{AllByRecursion}
-use Rattle.dap_msg.specs.Blocked.{NspMessage}
+use Rattle.dap_msg.specs.Blocked.{NspMessage, all_joined}
 use Rattle.nsp_link.specs.Limits.{most_segments}
 use Rattle.nsp_link.specs.Cutting.{cut}
 use Rattle.nsp_link.specs.Link.{LinkValue, Sends, Stands, Writes, IsWritten, Delivered}
 use Rattle.dap_world.specs.declared.side.Wired.{Wired}
 use Rattle.dap_world.specs.Inner.Sides.{SideValue, AreShort}
 use Rattle.dap_world.specs.Inner.Ways.{IsWay}
-use Rattle.dap_world.specs.Inner.Parts.{IsTold}
+use Rattle.dap_world.specs.Inner.Parts.{IsTold, IsToldBy}
 
 -- the end counts this many segments as sent, and wrote one packet more
 abbrev pub wrote_side : SideValue → ℕ → Wired → SideValue
@@ -106,55 +106,22 @@ still_way from v w messages given same way =
 
 -- ---- What is told of a direction.
 
+-- it is told of another way
+pub told_with : {n place most count : ℕ} {outbox : List (List ℕ)} {packets : List NspMessage} {Way Now : List (List ℕ) → List (List ℕ) → Type 0}
+    → (h : IsToldBy n place most outbox packets count Way) → Now h.handed (all_joined h.gone) → IsToldBy n place most outbox packets count Now
+told_with h way = record { handed = h.handed; posted = h.posted; gone = h.gone; among = h.among; way = way; bytes = h.bytes; fit = h.fit; short = h.short }
+
 module _ (packets : List NspMessage) (count : ℕ) (from to : SideValue) (h : IsTold from to packets count) where
   pub told_writes : (sent : ℕ) (w : Wired) → Writes from.link h.handed w.segment w.acks w.packet.items → IsTold (wrote_side from sent w) to packets count
-  told_writes sent w written =
-      record {
-        handed = h.handed;
-        posted = h.posted;
-        gone = h.gone;
-        among = h.among;
-        way = writes_more from to.link h.handed _ sent w h.way written;
-        bytes = h.bytes;
-        fit = h.fit;
-        short = h.short;
-      }
+  told_writes sent w written = told_with h (writes_more from to.link h.handed _ sent w h.way written)
 
   pub told_sent : (sent : ℕ) (w : Wired) → IsTold from (wrote_side to sent w) packets count
-  told_sent sent w =
-      record {
-        handed = h.handed;
-        posted = h.posted;
-        gone = h.gone;
-        among = h.among;
-        way = still_way from to.link (record to.link { sent = sent }) h.handed _ refl h.way;
-        bytes = h.bytes;
-        fit = h.fit;
-        short = h.short;
-      }
+  told_sent sent w = told_with h (still_way from to.link (record to.link { sent = sent }) h.handed _ refl h.way)
 
   pub told_gives : (v : LinkValue) (k : Option ℕ) (a : ℕ) → Delivered from.link v k a → Sends v h.handed → IsTold (record from { link = v }) to packets count
   told_gives v k a d sends =
-      record {
-        handed = h.handed;
-        posted = h.posted;
-        gone = h.gone;
-        among = h.among;
-        way = gives from v to.link h.handed _ k a h.way d sends;
-        bytes = h.bytes;
-        fit = h.fit;
-        short = subst (λ (n : ℕ). AreShort n from.outbox) (sym d.max_message) h.short;
-      }
+      subst (λ (most : ℕ). IsToldBy from.posted to.place most from.outbox packets count (IsWay (record from { link = v }) to.link)) (sym d.max_message)
+      (told_with h (gives from v to.link h.handed _ k a h.way d sends))
 
   pub told_takes : (v : LinkValue) → ((messages given : List (List ℕ)) → IsWay from to.link messages given → IsWay from v messages given) → IsTold from (record to { link = v }) packets count
-  told_takes v on =
-      record {
-        handed = h.handed;
-        posted = h.posted;
-        gone = h.gone;
-        among = h.among;
-        way = on h.handed _ h.way;
-        bytes = h.bytes;
-        fit = h.fit;
-        short = h.short;
-      }
+  told_takes v on = told_with h (on h.handed _ h.way)

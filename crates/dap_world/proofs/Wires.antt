@@ -7,7 +7,7 @@ use Rattle.nsp_link.specs.Link.{LinkValue, Sends, Writes, IsWritten}
 use Rattle.dap_world.specs.declared.event.End.{End}
 use Rattle.dap_world.specs.declared.event.End.TheVariants.{A, B}
 use Rattle.dap_world.specs.declared.side.Wired.{Wired}
-use Rattle.dap_world.specs.Machine.{State, sends, other}
+use Rattle.dap_world.specs.Machine.{State, end_of, other}
 use Rattle.dap_world.specs.Runs.{IsLinkOf}
 use Rattle.dap_world.specs.Wires.{address_of, sending_of, IsOnWire, AreWired}
 use Rattle.dap_world.specs.Inner.Parts.{Parts, AreParts, asks, answers, state_of, side}
@@ -18,7 +18,7 @@ record IsSideOf (s : State) (end : End) (v : LinkValue) (messages : List (List �
   local : v.local ≡ address_of end
   remote : v.remote ≡ address_of (other end)
   size : v.seg_size ≡ s.seg_size
-  messages_are : messages ≡ all_joined (sends s end).handed
+  messages_are : messages ≡ all_joined (end_of s end).handed
 
 packet_of : (s : State) (end : End) (v : LinkValue) (messages : List (List ℕ)) (w : Wired) → IsSideOf s end v messages
     → Writes v messages w.segment w.acks w.packet.items → IsOnWire s end (sending_of w) w.packet.items

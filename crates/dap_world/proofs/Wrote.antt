@@ -1,6 +1,6 @@
 -- A packet that an end writes is a step of the machine.
-use Rattle.std.proofs.Common.{◌≡◌, ℕ, ◌+◌, ◌-◌, ◌≤◌, ◌<◌, arith, refl, sym, ◌∙◌, subst, ap, List, [], ◌∷◌, ◌++◌, length, map, false}
-use Rattle.std.specs.Prelude.{Option, Some, None, Result, Ok, Err, IfOk, IfErr, OnOk, OnErr}
+use Rattle.std.proofs.Common.{◌≡◌, ℕ, ◌+◌, ◌-◌, ◌≤◌, ◌<◌, arith, refl, sym, ◌∙◌, subst, ap, List, [], ◌∷◌, ◌++◌, length, false}
+use Rattle.std.specs.Prelude.{Option, Some, None, Result, Ok, Err, IfOk, IfErr, OnOk}
 use Rattle.std.proofs.lemmas.List.{length-map, map-append}
 use Rattle.nsp_link.specs.Link as link
 use Rattle.nsp_link.specs.Link.{Sends, Writes}
@@ -13,7 +13,7 @@ use Rattle.dap_world.specs.declared.event.Step.{Step}
 use Rattle.dap_world.specs.declared.event.Step.TheVariants as step
 use Rattle.dap_world.specs.declared.event.WorldFault.{WorldFault}
 use Rattle.dap_world.specs.declared.event.WorldFault.TheVariants as fault
-use Rattle.dap_world.specs.Machine.{reported, State, Sending, sends, with_sends, wrote, MayEmit, segments_of, Steps, Refuses}
+use Rattle.dap_world.specs.Machine.{reported, State, EndState, Sending, end_of, with_end, wrote, MayEmit, segments_of, Steps, Refuses}
 use Rattle.dap_world.specs.Runs.{Went}
 use Rattle.dap_world.specs.Inner.Worlds.{IsWorld}
 use Rattle.dap_accessed.specs.Present as accessed
@@ -25,7 +25,8 @@ use Rattle.dap_end.specs.Serving.{ServingValue, IsStill}
 use Rattle.dap_world.specs.declared.side.Wired.{Wired}
 use Rattle.dap_world.specs.Wires.{sending_of}
 use Rattle.dap_world.specs.Inner.Sides.{SideValue, port_of, side_of, WroteOne, EmitFault, ResendFault}
-use Rattle.dap_world.specs.Inner.Parts.{Parts, AreParts, asks, answers, asking_end, serving_end, state_of, side, with_side}
+use Rattle.dap_world.specs.Inner.Parts.{Parts, AreParts, asks, answers, asking_end, serving_end, end_state, state_of, side, with_side}
+use Rattle.dap_msg.specs.Blocked.{NspMessage}
 use Rattle.dap_world.proofs.Counting.{segments-handed, queued}
 use Rattle.dap_world.proofs.Kept.{kept-step}
 use Rattle.dap_world.proofs.Ways.{told_writes, told_sent, wrote_side}
@@ -36,16 +37,18 @@ StaysAt p A s = HasStill (asking_end p) (record { port = port_of s; accessing = 
 StaysAt p B s = IsStill (serving_end p) (record { port = port_of s; accessed = p.accessed })
 
 -- the machine wrote what the end wrote
-wrote_is : (p : Parts) (end : End) (sent : ℕ) (w : Wired) → w.acks ≡ (side p end).link.received
-    → wrote (state_of p) end sent w.segment ≡ state_of (with_side p end (wrote_side (side p end) sent w))
-wrote_is p A sent w acks =
-    ap (λ (n : ℕ). with_sends (state_of p) A (record (state_of p).from_a { sent = sent; wire = map sending_of p.a.wire ++ record { segment = w.segment; acks = n } ∷ [] })) (sym acks)
-    ∙ ap (λ (l : List Sending). with_sends (state_of p) A (record (state_of p).from_a { sent = sent; wire = l })) (sym (map-append sending_of p.a.wire (w ∷ [])))
-wrote_is p B sent w acks =
-    ap (λ (n : ℕ). with_sends (state_of p) B (record (state_of p).from_b { sent = sent; wire = map sending_of p.b.wire ++ record { segment = w.segment; acks = n } ∷ [] })) (sym acks)
-    ∙ ap (λ (l : List Sending). with_sends (state_of p) B (record (state_of p).from_b { sent = sent; wire = l })) (sym (map-append sending_of p.b.wire (w ∷ [])))
+wrote_is : (s : SideValue) (packets : List NspMessage) (sent : ℕ) (w : Wired) → w.acks ≡ s.link.received → wrote (end_state s packets) sent w.segment ≡ end_state (wrote_side s sent w) packets
+wrote_is s packets sent w acks =
+    let e = end_state s packets in
+    ap (λ (n : ℕ). record e { sent = sent; wire = e.wire ++ record { segment = w.segment; acks = n } ∷ [] }) (sym acks)
+    ∙ ap (λ (l : List Sending). record e { sent = sent; wire = l }) (sym (map-append sending_of s.wire (w ∷ [])))
 
-place_is : (p : Parts) (end : End) → length (sends (state_of p) end).wire ≡ length (side p end).wire
+wrote_at : (p : Parts) (end : End) (sent : ℕ) (w : Wired) → w.acks ≡ (side p end).link.received
+    → with_end (state_of p) end (wrote (end_of (state_of p) end) sent w.segment) ≡ state_of (with_side p end (wrote_side (side p end) sent w))
+wrote_at p A sent w acks = ap (λ (e : EndState). with_end (state_of p) A e) (wrote_is p.a (asks p) sent w acks)
+wrote_at p B sent w acks = ap (λ (e : EndState). with_end (state_of p) B e) (wrote_is p.b (answers p) sent w acks)
+
+place_is : (p : Parts) (end : End) → length (end_of (state_of p) end).wire ≡ length (side p end).wire
 place_is p A = length-map p.a.wire sending_of
 place_is p B = length-map p.b.wire sending_of
 
@@ -127,16 +130,16 @@ none_more p end e s f h same went =
 -- the end wrote a packet where the machine does
 one_more : (p : Parts) (end : End) (e : Event) (sent : ℕ) (k : Option ℕ) (s : SideValue) (answer : Step) → AreParts p
     → s ≡ record (side p end) { link = record (side p end).link { sent = sent }; wire = s.wire } → WroteOne (side p end).link (side p end).wire s.wire k answer → StaysAt p end s
-    → Steps (state_of p) e (step.Packet (length (sends (state_of p) end).wire)) (wrote (state_of p) end sent k) → AreAfter p end e s (Ok answer)
+    → Steps (state_of p) e (step.Packet (length (end_of (state_of p) end).wire)) (with_end (state_of p) end (wrote (end_of (state_of p) end) sent k)) → AreAfter p end e s (Ok answer)
 unfolding Steps Refuses
 one_more p end e sent k s answer h is w still steps =
     let new = wrote_side (side p end) sent w.wired in
     let same : s ≡ new = is ∙ ap (λ (l : List Wired). record (side p end) { link = record (side p end).link { sent = sent }; wire = l }) w.wire in
-    let wrote_so : wrote (state_of p) end sent k ≡ state_of (with_side p end new) =
-    ap (λ (k : Option ℕ). wrote (state_of p) end sent k) (sym w.segment) ∙ wrote_is p end sent w.wired w.acks in
+    let is_now : Option ℕ → State = λ k. with_end (state_of p) end (wrote (end_of (state_of p) end) sent k) in
+    let wrote_so : is_now k ≡ state_of (with_side p end new) = ap is_now (sym w.segment) ∙ wrote_at p end sent w.wired w.acks in
     let went : Steps (state_of p) e answer (state_of (with_side p end new)) =
     subst (λ (x : State). Steps (state_of p) e answer x) wrote_so
-    (subst (λ (x : Step). Steps (state_of p) e x (wrote (state_of p) end sent k)) (ap (λ (n : ℕ). step.Packet n) (place_is p end) ∙ sym w.place) steps) in
+    (subst (λ (x : Step). Steps (state_of p) e x (is_now k)) (ap (λ (n : ℕ). step.Packet n) (place_is p end) ∙ sym w.place) steps) in
     let carries : (messages : List (List ℕ)) → Sends (side p end).link messages → Writes (side p end).link messages w.wired.segment w.wired.acks w.wired.packet.items =
     λ messages sends. subst (λ (k : Option ℕ). Writes (side p end).link messages k w.wired.acks w.wired.packet.items) (sym w.segment)
     (subst (λ (n : ℕ). Writes (side p end).link messages k n w.wired.packet.items) (sym w.acks) (w.writes messages sends)) in
@@ -154,7 +157,7 @@ same_wire p end wire same = ap (λ (l : List Wired). record (side p end) { wire 
 -- ---- Emit.
 
 -- the segments that the machine counts for an end
-segments_there : (p : Parts) (end : End) → AreParts p → segments_of (state_of p).seg_size (sends (state_of p) end).handed ≡ (side p end).link.acked + length (side p end).link.queue
+segments_there : (p : Parts) (end : End) → AreParts p → segments_of (state_of p).seg_size (end_of (state_of p) end).handed ≡ (side p end).link.acked + length (side p end).link.queue
 segments_there p A h = segments-handed p.a.link.seg_size p.a.posted h.from_a.handed p.a.outbox (asks p) h.from_a.posted h.from_a.bytes ∙ sym (queued p.a.link h.from_a.handed h.from_a.way.sends)
 segments_there p B h =
     segments-handed p.a.link.seg_size p.b.posted h.from_b.handed p.b.outbox (answers p) h.from_b.posted h.from_b.bytes
@@ -177,12 +180,12 @@ cannot p B h denied m =
     let there = segments_there p B h in
     denied (omega (arith, there, m.0), omega (arith, m.1, h.alike.window, h.world.from_b.counts.acked_taken, h.world.from_b.counts.taken_sent))
 
-same_sent : (p : Parts) (end : End) → (sends (state_of p) end).sent ≡ (side p end).link.sent
+same_sent : (p : Parts) (end : End) → (end_of (state_of p) end).sent ≡ (side p end).link.sent
 same_sent p A = refl
 same_sent p B = refl
 
 emits : (p : Parts) (end : End) → MayEmit (state_of p) end
-    → Steps (state_of p) (event.Emit end) (step.Packet (length (sends (state_of p) end).wire)) (wrote (state_of p) end ((side p end).link.sent + 1) (Some ((side p end).link.sent + 1)))
+    → Steps (state_of p) (event.Emit end) (step.Packet (length (end_of (state_of p) end).wire)) (with_end (state_of p) end (wrote (end_of (state_of p) end) ((side p end).link.sent + 1) (Some ((side p end).link.sent + 1))))
 unfolding Steps
 emits p A m = (m, refl, refl)
 emits p B m = (m, refl, refl)
@@ -228,7 +231,7 @@ emitted_b p v wire r h rest ok sent err still =
 -- ---- Resend.
 
 resends : (p : Parts) (end : End) (i : ℕ) → i < (side p end).link.sent - (side p end).link.acked
-    → Steps (state_of p) (event.Resend end i) (step.Packet (length (sends (state_of p) end).wire)) (wrote (state_of p) end (side p end).link.sent (Some ((side p end).link.acked + 1 + i)))
+    → Steps (state_of p) (event.Resend end i) (step.Packet (length (end_of (state_of p) end).wire)) (with_end (state_of p) end (wrote (end_of (state_of p) end) (side p end).link.sent (Some ((side p end).link.acked + 1 + i))))
 unfolding Steps
 resends p A i lt = (lt, refl, refl)
 resends p B i lt = (lt, refl, refl)
@@ -253,7 +256,7 @@ resent p end i wire (Err fault.BadSetup) h ok err = absurd err.1
 
 -- ---- Ack.
 
-acks : (p : Parts) (end : End) → Steps (state_of p) (event.Ack end) (step.Packet (length (sends (state_of p) end).wire)) (wrote (state_of p) end (side p end).link.sent None)
+acks : (p : Parts) (end : End) → Steps (state_of p) (event.Ack end) (step.Packet (length (end_of (state_of p) end).wire)) (with_end (state_of p) end (wrote (end_of (state_of p) end) (side p end).link.sent None))
 unfolding Steps
 acks p A = (refl, refl)
 acks p B = (refl, refl)

@@ -24,4 +24,4 @@ pub record Headline (own_a own_b : ℕ) (requests : List Request) (sent taken : 
 -- the same of what the readers of a world in this state answer
 abbrev pub HeadlineOf : State → Type 0
 HeadlineOf s =
-    Headline s.own_a s.own_b s.requests (sent_by s.from_a) (taken_of s) s.served (files_of s) (reported s) s.read
+    Headline s.own_a s.own_b s.requests (sent_by s.a) (taken_of s) s.served (files_of s) (reported s) s.read

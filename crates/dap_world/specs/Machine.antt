@@ -30,15 +30,15 @@ pub record Sending : Type 0 where
   pub segment : Option ℕ
   pub acks : ℕ
 
--- What one end sends, and how far it came.
-pub record Direction : Type 0 where
+-- One end: what it has to send and how far that came, and what it took of the other.
+pub record EndState : Type 0 where
   pub waiting : List NspMessage  -- not yet handed to the link
   pub handed : List NspMessage  -- handed to the link
   pub sent : ℕ  -- segments sent, each counted once
-  pub taken : ℕ  -- segments that the peer took, in order
-  pub acked : ℕ  -- segments that are acknowledged
-  pub held : List ℕ  -- early segments that the peer holds, the lowest first
-  pub wire : List Sending  -- every packet that the end ever wrote
+  pub acked : ℕ  -- segments that are acknowledged to it
+  pub taken : ℕ  -- segments of the other end that it took, in order
+  pub held : List ℕ  -- early segments that it holds, the lowest first
+  pub wire : List Sending  -- every packet that it ever wrote
 
 pub record State : Type 0 where
   pub seg_size : ℕ
@@ -46,13 +46,13 @@ pub record State : Type 0 where
   pub own_a : ℕ  -- the BUFSIZ of each end
   pub own_b : ℕ
   pub requests : List Request
-  pub from_a : Direction
-  pub from_b : Direction
+  pub a : EndState
+  pub b : EndState
   pub served : ℕ  -- DAP messages that B served
   pub read : ℕ  -- answers that A read
 
-abbrev pub idle : Direction
-idle = record { waiting = []; handed = []; sent = 0; taken = 0; acked = 0; held = []; wire = [] }
+abbrev pub idle : EndState
+idle = record { waiting = []; handed = []; sent = 0; acked = 0; taken = 0; held = []; wire = [] }
 
 -- where a world begins
 abbrev pub fresh : WorldSetup → State
@@ -63,8 +63,8 @@ fresh setup =
       own_a = setup.bufsiz_a;
       own_b = setup.bufsiz_b;
       requests = [];
-      from_a = idle;
-      from_b = idle;
+      a = idle;
+      b = idle;
       served = 0;
       read = 0;
     }
@@ -73,14 +73,13 @@ abbrev pub other : End → End
 other A = B
 other B = A
 
--- what an end sends
-abbrev pub sends : State → End → Direction
-sends s A = s.from_a
-sends s B = s.from_b
+abbrev pub end_of : State → End → EndState
+end_of s A = s.a
+end_of s B = s.b
 
-abbrev pub with_sends : State → End → Direction → State
-with_sends s A d = record s { from_a = d }
-with_sends s B d = record s { from_b = d }
+abbrev pub with_end : State → End → EndState → State
+with_end s A e = record s { a = e }
+with_end s B e = record s { b = e }
 
 -- ---- Segments.
 
@@ -96,18 +95,19 @@ arrived seg_size r (message ∷ messages) =
     let n = count_of seg_size (length (joined message)) in
     if nat_le n r then message ∷ arrived seg_size (r - n) messages else []
 
--- the messages that were handed to the link, and those among them whose NSP message the peer has whole
-abbrev pub sent_by : Direction → List Message
-sent_by d = messages_in d.handed
+-- the messages that an end handed to its link
+abbrev pub sent_by : EndState → List Message
+sent_by e = messages_in e.handed
 
-abbrev pub arrived_of : ℕ → Direction → List Message
-arrived_of seg_size d = messages_in (arrived seg_size d.taken d.handed)
+-- those of the other end whose NSP message an end has whole
+abbrev pub arrived_at : State → End → List Message
+arrived_at s end = messages_in (arrived s.seg_size (end_of s end).taken (end_of s (other end)).handed)
 
 -- ---- What both ends did.
 
 -- the messages that B served
 abbrev pub taken_of : State → List Message
-taken_of s = take s.served (sent_by s.from_a)
+taken_of s = take s.served (sent_by s.a)
 
 -- the answers that A read
 abbrev pub answers_read : State → List Item
@@ -129,34 +129,27 @@ asking s request = Blocked (limit_after (reported s)) (messages_of s.own_a reque
 
 abbrev pub asked : State → Request → State
 asked s request =
-    record s { requests = s.requests ++ request ∷ []; from_a = record s.from_a { waiting = s.from_a.waiting ++ asking s request } }
+    record s { requests = s.requests ++ request ∷ []; a = record s.a { waiting = s.a.waiting ++ asking s request } }
 
 -- all that waits is handed over
-abbrev pub posted : Direction → Direction
-posted d = record d { waiting = []; handed = d.handed ++ d.waiting }
+abbrev pub posted : EndState → EndState
+posted e = record e { waiting = []; handed = e.handed ++ e.waiting }
 
 -- the packet of a segment, or of none, is written: it acknowledges what the end has taken
-abbrev pub wrote : State → End → (sent : ℕ) → Option ℕ → State
-wrote s end sent k =
-    let d = sends s end in
-    with_sends s end (record d { sent = sent; wire = d.wire ++ record { segment = k; acks = (sends s (other end)).taken } ∷ [] })
+abbrev pub wrote : EndState → (sent : ℕ) → Option ℕ → EndState
+wrote e sent k = record e { sent = sent; wire = e.wire ++ record { segment = k; acks = e.taken } ∷ [] }
 
--- an acknowledgement of the first a segments comes
-abbrev pub acknowledged : Direction → ℕ → Direction
-acknowledged d a = record d { acked = max d.acked a }
+-- What an end took and holds once a segment came: the next one is taken, with all held ones that follow it without a hole;
+-- a later one is held, if the end keeps it; one that was taken moves nothing.
+abbrev pub came : (keep : Bool) → (taken : ℕ) → (held : List ℕ) → Option ℕ → ℕ × List ℕ
+came keep taken held None = (taken, held)
+came keep taken held (Some k) =
+    if k == taken + 1 then closed_up k held else (taken, if nat_lt taken k && keep then with_number k held else held)
 
--- A segment comes: the next one is taken, with all held ones that follow it without a hole; a later one is held, if the
--- peer keeps it; one that was taken moves nothing.
-abbrev pub came : (keep : Bool) → Direction → Option ℕ → Direction
-came keep d None = d
-came keep d (Some k) =
-    if k == d.taken + 1
-    then (let closed = closed_up k d.held in record d { taken = closed.0; held = closed.1 })
-    else (if nat_lt d.taken k && keep then record d { held = with_number k d.held } else d)
-
-abbrev pub delivered : (keep : Bool) → State → End → Sending → State
-delivered keep s end p =
-    with_sends (with_sends s end (acknowledged (sends s end) p.acks)) (other end) (came keep (sends s (other end)) p.segment)
+-- a packet comes; of the acknowledgements the greatest counts
+abbrev pub delivered : (keep : Bool) → EndState → Sending → EndState
+delivered keep e p =
+    let got = came keep e.taken e.held p.segment in record e { acked = max e.acked p.acks; taken = got.0; held = got.1 }
 
 -- more than 2,047 numbers behind
 abbrev pub is_old : ℕ → ℕ → Bool
@@ -166,15 +159,15 @@ abbrev pub is_old_segment : ℕ → Option ℕ → Bool
 is_old_segment taken None = false
 is_old_segment taken (Some k) = is_old k (taken + 1)
 
-abbrev pub is_stale : State → End → Sending → Bool
-is_stale s end p = is_old_segment (sends s (other end)).taken p.segment || is_old p.acks (sends s end).acked
+abbrev pub is_stale : EndState → Sending → Bool
+is_stale e p = is_old_segment e.taken p.segment || is_old p.acks e.acked
 
 -- the answers to one message more, joined as far as the limit of A goes that B knows
 abbrev pub answering : State → Message → List NspMessage
 answering s m = let taken = map Whole (taken_of s) in Blocked (limit_for s.own_b [] taken) (added s.own_b [] taken (Whole m))
 
 abbrev pub served_one : State → Message → State
-served_one s m = record s { from_b = record s.from_b { waiting = answering s m }; served = s.served + 1 }
+served_one s m = record s { b = record s.b { waiting = answering s m }; served = s.served + 1 }
 
 abbrev pub read_one : State → State
 read_one s = record s { read = s.read + 1 }
@@ -188,45 +181,49 @@ told_by old new = if length (reported new) == length (reported old) then step.No
 -- a segment was never sent, and the window has room
 abbrev pub MayEmit : State → End → Type 0
 MayEmit s end =
-    let d = sends s end in (d.sent < segments_of s.seg_size d.handed) × (d.sent - d.acked < s.window)
+    let e = end_of s end in (e.sent < segments_of s.seg_size e.handed) × (e.sent - e.acked < s.window)
 
 -- how many segments an end has, once all that waits is handed over
 abbrev pub segments_then : State → End → ℕ
-segments_then s end = let d = sends s end in segments_of s.seg_size (d.handed ++ d.waiting)
+segments_then s end = let e = end_of s end in segments_of s.seg_size (e.handed ++ e.waiting)
 
 -- the next message that B can serve, and A read
 abbrev pub next_to_serve : State → Option Message
-next_to_serve s = slice_get (arrived_of s.seg_size s.from_a) s.served
+next_to_serve s = slice_get (arrived_at s B) s.served
 
 abbrev pub next_to_read : State → Option Message
-next_to_read s = slice_get (arrived_of s.seg_size s.from_b) s.read
+next_to_read s = slice_get (arrived_at s A) s.read
 
 -- ---- Events.
 
--- A packet that the other end wrote comes to an end, and isn't stale.
+-- the other end wrote the packet at this place of its wire, and it isn't stale at this one
+abbrev pub IsDue : State → End → ℕ → Sending → Type 0
+IsDue s end j p = (slice_get (end_of s (other end)).wire j ≡ Some p) × (is_stale (end_of s end) p ≡ false)
+
+-- a packet comes to an end
 abbrev pub Delivers : (keep : Bool) → State → End → ℕ → Step → State → Type 0
 Delivers keep s end j answer new =
-    (p : Sending) × (slice_get (sends s (other end)).wire j ≡ Some p) × (is_stale s end p ≡ false)
-    × (answer ≡ step.Delivered (got_of (sends s (other end)).taken p.segment)) × (new ≡ delivered keep s end p)
+    let e = end_of s end in
+    (p : Sending) × IsDue s end j p × (answer ≡ step.Delivered (got_of e.taken p.segment)) × (new ≡ with_end s end (delivered keep e p))
 
 -- The event happens: it is answered so, and leads from the old state to the new. Each early segment is kept.
 unfoldable pub Steps : State → Event → Step → State → Type 0
 Steps s (event.Ask request) answer new =
     IsAdmissible s.own_a s.requests (answers_read s) request × (answer ≡ step.Asked (length (asking s request))) × (new ≡ asked s request)
 Steps s (event.Post end) answer new =
-    let d = sends s end in
-    (0 < length d.waiting) × (segments_then s end ≤ most_segments) × (answer ≡ step.Posted (length d.waiting)) × (new ≡ with_sends s end (posted d))
+    let e = end_of s end in
+    (0 < length e.waiting) × (segments_then s end ≤ most_segments) × (answer ≡ step.Posted (length e.waiting)) × (new ≡ with_end s end (posted e))
 Steps s (event.Emit end) answer new =
-    let d = sends s end in
-    MayEmit s end × (answer ≡ step.Packet (length d.wire)) × (new ≡ wrote s end (d.sent + 1) (Some (d.sent + 1)))
+    let e = end_of s end in
+    MayEmit s end × (answer ≡ step.Packet (length e.wire)) × (new ≡ with_end s end (wrote e (e.sent + 1) (Some (e.sent + 1))))
 Steps s (event.Resend end i) answer new =
-    let d = sends s end in
-    (i < d.sent - d.acked) × (answer ≡ step.Packet (length d.wire)) × (new ≡ wrote s end d.sent (Some (d.acked + 1 + i)))
+    let e = end_of s end in
+    (i < e.sent - e.acked) × (answer ≡ step.Packet (length e.wire)) × (new ≡ with_end s end (wrote e e.sent (Some (e.acked + 1 + i))))
 Steps s (event.Ack end) answer new =
-    let d = sends s end in (answer ≡ step.Packet (length d.wire)) × (new ≡ wrote s end d.sent None)
+    let e = end_of s end in (answer ≡ step.Packet (length e.wire)) × (new ≡ with_end s end (wrote e e.sent None))
 Steps s (event.Deliver end j) answer new = Delivers true s end j answer new
 Steps s event.Serve answer new =
-    (m : Message) × (s.from_b.waiting ≡ []) × (next_to_serve s ≡ Some m) × (answer ≡ step.Served (length (answering s m))) × (new ≡ served_one s m)
+    (m : Message) × (s.b.waiting ≡ []) × (next_to_serve s ≡ Some m) × (answer ≡ step.Served (length (answering s m))) × (new ≡ served_one s m)
 Steps s event.Read answer new =
     (m : Message) × (next_to_read s ≡ Some m) × (answer ≡ told_by s (read_one s)) × (new ≡ read_one s)
 
@@ -239,12 +236,12 @@ StepsFreely s e answer new = Steps s e answer new
 unfoldable pub Refuses : State → Event → WorldFault → Type 0
 Refuses s (event.Ask request) (fault.Ask ask_fault.NoMemory) = ⊥
 Refuses s (event.Ask request) (fault.Ask f) = IsRefused s.own_a s.requests (answers_read s) request f
-Refuses s (event.Post end) fault.NothingToDo = (sends s end).waiting ≡ []
-Refuses s (event.Post end) fault.Exhausted = (0 < length (sends s end).waiting) × (most_segments < segments_then s end)
+Refuses s (event.Post end) fault.NothingToDo = (end_of s end).waiting ≡ []
+Refuses s (event.Post end) fault.Exhausted = (0 < length (end_of s end).waiting) × (most_segments < segments_then s end)
 Refuses s (event.Emit end) fault.NothingToDo = MayEmit s end → ⊥
-Refuses s (event.Resend end i) fault.NothingToDo = (sends s end).sent - (sends s end).acked ≤ i
-Refuses s (event.Deliver end j) fault.NoSuchPacket = slice_get (sends s (other end)).wire j ≡ None
-Refuses s (event.Deliver end j) fault.Stale = (p : Sending) × (slice_get (sends s (other end)).wire j ≡ Some p) × (is_stale s end p ≡ true)
-Refuses s event.Serve fault.NothingToDo = (0 < length s.from_b.waiting) ⊎ (next_to_serve s ≡ None)
+Refuses s (event.Resend end i) fault.NothingToDo = (end_of s end).sent - (end_of s end).acked ≤ i
+Refuses s (event.Deliver end j) fault.NoSuchPacket = slice_get (end_of s (other end)).wire j ≡ None
+Refuses s (event.Deliver end j) fault.Stale = (p : Sending) × (slice_get (end_of s (other end)).wire j ≡ Some p) × (is_stale (end_of s end) p ≡ true)
+Refuses s event.Serve fault.NothingToDo = (0 < length s.b.waiting) ⊎ (next_to_serve s ≡ None)
 Refuses s event.Read fault.NothingToDo = next_to_read s ≡ None
 Refuses s e f = ⊥

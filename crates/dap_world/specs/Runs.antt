@@ -10,7 +10,7 @@ use Rattle.dap_world.specs.declared.event.Step.{Step}
 use Rattle.dap_world.specs.declared.event.Step.TheVariants as step
 use Rattle.dap_world.specs.declared.event.WorldFault.{WorldFault}
 use Rattle.dap_world.specs.declared.event.WorldFault.TheVariants as fault
-use Rattle.dap_world.specs.Machine.{State, Sending, Steps, StepsFreely, Refuses, fresh, sends, other, is_stale, reported}
+use Rattle.dap_world.specs.Machine.{State, Sending, Steps, StepsFreely, Refuses, fresh, end_of, other, reported, IsDue}
 use Rattle.dap_world.specs.Setups.{IsWorldSetup}
 use Rattle.dap_world.specs.Wires.{address_of}
 use Rattle.dap_world.specs.declared.setup.WorldSetup.{WorldSetup}
@@ -22,8 +22,7 @@ MayHappen s e = (answer : Step) × (new : State) × Steps s e answer new
 -- a delivery that takes in no segment and holds none: of one that was taken, or of none
 abbrev pub TakesNoMemory : State → Event → Type 0
 TakesNoMemory s (event.Deliver end j) =
-    (p : Sending) × (slice_get (sends s (other end)).wire j ≡ Some p) × (is_stale s end p ≡ false)
-    × IfSome p.segment (λ k. k ≤ (sends s (other end)).taken)
+    (p : Sending) × IsDue s end j p × IfSome p.segment (λ k. k ≤ (end_of s end).taken)
 TakesNoMemory s e = ⊥
 
 -- Memory was refused: only to an event that has a step, and may take some.
@@ -45,7 +44,7 @@ writer_of _ = None
 
 -- What an answer names is there: the packet stands at its place of the writer's wire, and there is a newest report.
 abbrev pub NamedIsThere : Event → Step → State → Type 0
-NamedIsThere e (step.Packet place) s = (end : End) × (writer_of e ≡ Some end) × (place < length (sends s end).wire)
+NamedIsThere e (step.Packet place) s = (end : End) × (writer_of e ≡ Some end) × (place < length (end_of s end).wire)
 NamedIsThere e step.Reported s = 0 < length (reported s)
 NamedIsThere e _ s = Unit {0}
 
@@ -74,9 +73,9 @@ pub record IsLinkOf (s : State) (end : End) (v : LinkValue) : Type 0 where
   pub remote : v.remote ≡ address_of (other end)
   pub size : v.seg_size ≡ s.seg_size
   pub window : v.window ≡ s.window
-  pub sent : v.sent ≡ (sends s end).sent
-  pub acked : v.acked ≡ (sends s end).acked
-  pub queued : Sends v (all_joined (sends s end).handed)
-  pub received : v.received ≡ (sends s (other end)).taken
-  pub held : numbers v.held ≡ (sends s (other end)).held
+  pub sent : v.sent ≡ (end_of s end).sent
+  pub acked : v.acked ≡ (end_of s end).acked
+  pub queued : Sends v (all_joined (end_of s end).handed)
+  pub received : v.received ≡ (end_of s end).taken
+  pub held : numbers v.held ≡ (end_of s end).held
   pub running : v.failed ≡ false

@@ -14,7 +14,7 @@ use Rattle.dap_world.specs.declared.event.Event.{Event}
 use Rattle.dap_world.specs.declared.event.Event.TheVariants as event
 use Rattle.dap_world.specs.declared.event.WorldFault.{WorldFault}
 use Rattle.dap_world.specs.declared.event.WorldFault.TheVariants as fault
-use Rattle.dap_world.specs.Machine.{State, Direction, Refuses, sends, segments_of, sent_by, taken_of, answers_read, reported, files_of}
+use Rattle.dap_world.specs.Machine.{State, EndState, Refuses, end_of, segments_of, sent_by, taken_of, answers_read, reported, files_of}
 use Rattle.dap_world.specs.Runs.{Runs}
 
 -- no event asks
@@ -36,17 +36,17 @@ RanTo old new = (n : ℕ) × RanBy old new n
 
 -- how many of the segments that an end sent aren't acknowledged
 abbrev pub unacked : State → End → ℕ
-unacked s end = (sends s end).sent - (sends s end).acked
+unacked s end = (end_of s end).sent - (end_of s end).acked
 
--- what moves of a direction: the counts of segments taken and acknowledged, the wire, and what the peer holds
-abbrev pub moved : (old new : Direction) → Direction
-moved old new = record old { taken = new.taken; acked = new.acked; held = new.held; wire = new.wire }
+-- what moves of an end: the counts of segments acknowledged and taken, what it holds, and its wire
+abbrev pub moved : (old new : EndState) → EndState
+moved old new = record old { acked = new.acked; taken = new.taken; held = new.held; wire = new.wire }
 
 -- nothing else moved, so that no segment more was sent, and no count went back
 pub record SendsNothing (old new : State) : Type 0 where
-  pub rest : new ≡ record old { from_a = moved old.from_a new.from_a; from_b = moved old.from_b new.from_b }
-  pub taken : (end : End) → (sends old end).taken ≤ (sends new end).taken
-  pub acked : (end : End) → (sends old end).acked ≤ (sends new end).acked
+  pub rest : new ≡ record old { a = moved old.a new.a; b = moved old.b new.b }
+  pub taken : (end : End) → (end_of old end).taken ≤ (end_of new end).taken
+  pub acked : (end : End) → (end_of old end).acked ≤ (end_of new end).acked
 
 -- ---- One end is settled.
 
@@ -61,20 +61,20 @@ pub record Settled (old new : State) (end : End) (n : ℕ) : Type 0 where
 
 -- nothing waits at the end, and each of its segments was sent and is acknowledged
 pub record IsEmpty (s : State) (end : End) : Type 0 where
-  pub waiting : (sends s end).waiting ≡ []
-  pub sent : (sends s end).sent ≡ segments_of s.seg_size (sends s end).handed
+  pub waiting : (end_of s end).waiting ≡ []
+  pub sent : (end_of s end).sent ≡ segments_of s.seg_size (end_of s end).handed
   pub acked : unacked s end ≡ 0
 
 -- there is nothing to do: all that was sent was served, and all answers were read
 pub record IsFinished (s : State) : Type 0 where
-  pub from_a : IsEmpty s A
-  pub from_b : IsEmpty s B
-  pub served : taken_of s ≡ sent_by s.from_a
+  pub a : IsEmpty s A
+  pub b : IsEmpty s B
+  pub served : taken_of s ≡ sent_by s.a
   pub read : answers_read s ≡ map Whole (Answers s.own_b [] (map Whole (taken_of s)))
 
 -- All that the requests ask was sent and served, the files are those after it, and every request has its report.
 pub record AllTold (s : State) : Type 0 where
-  pub sent : sent_by s.from_a ≡ Asked s.own_a s.requests
+  pub sent : sent_by s.a ≡ Asked s.own_a s.requests
   pub taken : taken_of s ≡ Asked s.own_a s.requests
   pub files : files_of s ≡ After s.own_b [] (items_of s.own_a s.requests)
   pub reports : reported s ≡ reports_of s.own_a s.own_b s.requests
@@ -82,7 +82,7 @@ pub record AllTold (s : State) : Type 0 where
 
 -- the segments first sent between two states, and the messages served and answers read
 abbrev pub sent_between : State → State → ℕ
-sent_between old new = (new.from_a.sent - old.from_a.sent) + (new.from_b.sent - old.from_b.sent)
+sent_between old new = (new.a.sent - old.a.sent) + (new.b.sent - old.b.sent)
 
 abbrev pub handled_between : State → State → ℕ
 handled_between old new = (new.served - old.served) + (new.read - old.read)
@@ -115,7 +115,7 @@ FinishFault s _ = ⊥
 -- ---- Requests over perfect delivery.
 
 abbrev pub IsFresh : State → Type 0
-IsFresh s = (s.requests ≡ []) × (s.from_a.wire ≡ []) × (s.from_b.wire ≡ [])
+IsFresh s = (s.requests ≡ []) × (s.a.wire ≡ []) × (s.b.wire ≡ [])
 
 -- these requests were asked, each was admissible after those before it, and each has its report
 pub record AllDone (requests : List Request) (new : State) : Type 0 where

@@ -7,7 +7,7 @@ use Rattle.nsp_link.specs.Link.{IsWritten}
 use Rattle.dap_world.specs.declared.event.End.{End}
 use Rattle.dap_world.specs.declared.event.End.TheVariants.{A, B}
 use Rattle.dap_world.specs.declared.side.Wired.{Wired}
-use Rattle.dap_world.specs.Machine.{State, Sending, sends, other}
+use Rattle.dap_world.specs.Machine.{State, Sending, end_of, other}
 
 -- the address of each end
 abbrev pub address_of : End → ℕ
@@ -18,12 +18,12 @@ address_of B = 0x0202
 -- those into which the NSP messages are cut that were handed over, or of none, with its acknowledgement.
 unfoldable pub IsOnWire : State → End → Sending → List ℕ → Type 0
 IsOnWire s end sending bytes =
-    IsWritten (address_of end) (address_of (other end)) (cut s.seg_size (all_joined (sends s end).handed)) sending.segment sending.acks bytes
+    IsWritten (address_of end) (address_of (other end)) (cut s.seg_size (all_joined (end_of s end).handed)) sending.segment sending.acks bytes
 
 abbrev pub sending_of : Wired → Sending
 sending_of w = record { segment = w.segment; acks = w.acks }
 
 -- these are the packets that the end wrote, each with its number and its acknowledgement
 pub record AreWired (s : State) (end : End) (wired : List Wired) : Type 0 where
-  pub sendings : map sending_of wired ≡ (sends s end).wire
+  pub sendings : map sending_of wired ≡ (end_of s end).wire
   pub packets : AllByRecursion (λ w. IsOnWire s end (sending_of w) w.packet.items) wired

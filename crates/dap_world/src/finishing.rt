@@ -20,7 +20,7 @@ impl WorldFault {
 impl World {
     ghost use Rattle.std.specs.Prelude.{◌≡◌, ◌≢◌, ◌<◌, ◌^◌, List, [], length, IfOk, IfErr, IsOk, OnOk, OnErr};
     ghost use Rattle.dap_accessing.specs.Told.{due_after, Wrong};
-    ghost use Rattle.dap_world.specs.Machine.{MayEmit, answers_read, reported, sends, sent_by};
+    ghost use Rattle.dap_world.specs.Machine.{MayEmit, answers_read, reported, end_of, sent_by};
     ghost use Rattle.dap_world.specs.Headline.{HeadlineOf};
     ghost use Rattle.dap_world.specs.Runs.{Runs};
     ghost use Rattle.dap_world.specs.declared.event.Event.{Event as TheEvent};
@@ -94,7 +94,7 @@ impl World {
         requires due { IsPostDue self.old end }
         ensures ok { IfOk result (λ n. PostedAll self.old self.new end n × IsWorld self.new) }
         ensures err { IfErr result (λ f. FinishFault self.new f × (self.new ≡ self.old)) }
-        ensures waits { OnErr result (0 < length (sends self.old end).waiting) }
+        ensures waits { OnErr result (0 < length (end_of self.old end).waiting) }
     {
         match self.step(&Event::Post(end)) {
             Ok(_step) => Ok(1),

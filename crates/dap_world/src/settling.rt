@@ -5,7 +5,7 @@ use crate::world::World;
 
 impl World {
     ghost use Rattle.std.specs.Prelude.{◌≡◌, ◌<◌, ◌≤◌, ◌+◌, ◌-◌, IfOk, IfErr, IsOk, OnOk, OnErr, length, ℕ};
-    ghost use Rattle.dap_world.specs.Machine.{sends, other};
+    ghost use Rattle.dap_world.specs.Machine.{end_of, other};
     ghost use Rattle.dap_world.specs.Inner.Worlds.{IsWorld};
     ghost use Rattle.dap_world.specs.Settling.{RanBy, RanTo, SendsNothing, Settled, unacked};
     ghost use Rattle.dap_world.specs.Inner.Settling.{AllResent, AreThere, AllCame, NothingSent};
@@ -54,7 +54,7 @@ impl World {
     // The other end, which took all segments, acknowledges them.
     pub(crate) fn acknowledge(&mut self, end: End) -> Result<(), WorldFault>
         requires world { IsWorld self.old }
-        requires taken { (sends self.old end).sent ≤ (sends self.old end).taken }
+        requires taken { (end_of self.old end).sent ≤ (end_of self.old (other end)).taken }
         ensures ok { OnOk result (RanBy self.old self.new 2 × (unacked self.new end ≡ 0)) }
         ensures rest { NothingSent self.old self.new }
         ensures world { OnOk result (IsWorld self.new) }

@@ -44,7 +44,7 @@ impl Model for World {
 impl World {
     ghost use Rattle.std.specs.Prelude.{◌≡◌, IfOk, OnOk, IfErr, map, true, false};
     ghost use Rattle.dap_msg.specs.Canon.{canon};
-    ghost use Rattle.dap_world.specs.Machine.{MayEmit, files_of, reported, sends, sent_by, taken_of};
+    ghost use Rattle.dap_world.specs.Machine.{MayEmit, files_of, reported, end_of, sent_by, taken_of};
     ghost use Rattle.dap_world.specs.Runs.{NamedIsThere, IsLinkOf, Runs, StopsAt, Went};
     ghost use Rattle.dap_world.specs.Inner.Worlds.{IsWorld};
     ghost use Rattle.dap_world.specs.Wires.{AreWired};
@@ -138,7 +138,7 @@ impl World {
 
     /// The DAP messages that were handed to A's link (own). It takes no memory.
     pub fn sent(&self) -> &[Vec<u8>]
-        ensures { map (λ v. v.items) result.now ≡ map canon (sent_by self.now.from_a) }
+        ensures { map (λ v. v.items) result.now ≡ map canon (sent_by self.now.a) }
     {
         &self.sent
     }

@@ -14,7 +14,7 @@ use Rattle.dap_accessing.specs.declared.report.Report.{Report}
 use Rattle.dap_accessing.specs.Asked.{Asked, messages_of}
 use Rattle.dap_world.specs.declared.event.End.{End}
 use Rattle.dap_world.specs.declared.event.End.TheVariants.{A, B}
-use Rattle.dap_world.specs.Machine.{State, Direction, sent_by, taken_of, answers_read, reported}
+use Rattle.dap_world.specs.Machine.{State, EndState, sent_by, taken_of, answers_read, reported}
 use Rattle.dap_world.specs.Inner.Worlds.{IsWorld}
 use Rattle.dap_end.specs.Asking.{AskingValue, AskingPast, HasAsked}
 use Rattle.dap_end.specs.Serving.{ServingValue, Past, IsAfter, answers_to}
@@ -57,16 +57,16 @@ answers p = answer_packets p.accessed.own [] (served_items p)
 -- ---- The state.
 
 -- of these NSP messages, so many were handed over, and the others wait
-abbrev pub direction_of : SideValue → LinkValue → List NspMessage → Direction
-direction_of from to packets =
+abbrev pub end_state : SideValue → List NspMessage → EndState
+end_state s packets =
     record {
-      waiting = drop from.posted packets;
-      handed = take from.posted packets;
-      sent = from.link.sent;
-      taken = to.received;
-      acked = from.link.acked;
-      held = numbers to.held;
-      wire = map sending_of from.wire;
+      waiting = drop s.posted packets;
+      handed = take s.posted packets;
+      sent = s.link.sent;
+      acked = s.link.acked;
+      taken = s.link.received;
+      held = numbers s.link.held;
+      wire = map sending_of s.wire;
     }
 
 abbrev pub state_of : Parts → State
@@ -77,8 +77,8 @@ state_of p =
       own_a = p.accessing.own;
       own_b = p.accessed.own;
       requests = p.requests;
-      from_a = direction_of p.a p.b.link (asks p);
-      from_b = direction_of p.b p.a.link (answers p);
+      a = end_state p.a (asks p);
+      b = end_state p.b (answers p);
       served = p.served;
       read = p.read;
     }
@@ -128,16 +128,19 @@ pub record IsAmong (packets : List NspMessage) (count place : ℕ) (gone : List 
 
 -- One direction: the bytes are those of the NSP messages, the messages have a spelling, and the link of the other end
 -- gave away those NSP messages of which every message was handled.
-pub record IsTold (from : SideValue) (to : SideValue) (packets : List NspMessage) (count : ℕ) : Type 0 where
+pub record IsToldBy (count_posted place most : ℕ) (outbox : List (List ℕ)) (packets : List NspMessage) (count : ℕ) (Way : (messages given : List (List ℕ)) → Type 0) : Type 0 where
   pub handed : List (List ℕ)
-  pub posted : from.posted ≡ length handed
+  pub posted : count_posted ≡ length handed
   pub gone : List NspMessage
-  pub among : IsAmong (take from.posted packets) count to.place gone
-  pub way : IsWay from to.link handed (all_joined gone)
-  pub bytes : handed ++ from.outbox ≡ all_joined packets
+  pub among : IsAmong (take count_posted packets) count place gone
+  pub way : Way handed (all_joined gone)
+  pub bytes : handed ++ outbox ≡ all_joined packets
   pub fit : AllFit (messages_in packets)
   -- what waits isn't too long
-  pub short : AreShort from.link.max_message from.outbox
+  pub short : AreShort most outbox
+
+abbrev pub IsTold : (from to : SideValue) → List NspMessage → (count : ℕ) → Type 0
+IsTold from to packets count = IsToldBy from.posted to.place from.link.max_message from.outbox packets count (IsWay from to.link)
 
 pub record AreParts (p : Parts) : Type 0 where
   pub world : IsWorld (state_of p)
@@ -148,7 +151,7 @@ pub record AreParts (p : Parts) : Type 0 where
   pub most : p.a.link.max_message ≤ largest_limit
   pub from_a : IsTold p.a p.b (asks p) p.served
   pub from_b : IsTold p.b p.a (answers p) p.read
-  pub sent_is : p.sent ≡ map canon (sent_by (state_of p).from_a)
+  pub sent_is : p.sent ≡ map canon (sent_by (state_of p).a)
   pub reports_is : p.reports ≡ reported (state_of p)
   -- the ends are as after what was asked, served and read
   pub asking : IsAskedAll (asking_end p) p.requests (answers_read (state_of p))

@@ -4,7 +4,7 @@ use Rattle.dap_world.specs.declared.event.End.{End}
 use Rattle.dap_world.specs.declared.event.Event.{Event}
 use Rattle.dap_world.specs.declared.event.WorldFault.{WorldFault}
 use Rattle.dap_world.specs.Runs.{Runs}
-use Rattle.dap_world.specs.Machine.{State, Sending, MayEmit, next_to_read, posted, reported, sends, sent_by, other, with_sends}
+use Rattle.dap_world.specs.Machine.{State, Sending, MayEmit, next_to_read, posted, reported, end_of, sent_by, other, with_end}
 use Rattle.dap_msg.specs.Message.{Message}
 use Rattle.dap_world.specs.Settling.{FinishFault, IsEmpty, RanBy, RanTo, unacked}
 use Rattle.dap_world.specs.declared.event.End.TheVariants.{A, B}
@@ -18,15 +18,15 @@ pub record SameBut (old new : State) : Type 0 where
   pub requests : new.requests ≡ old.requests
   pub served : new.served ≡ old.served
   pub read : new.read ≡ old.read
-  pub handed : (end : End) → (sends new end).handed ≡ (sends old end).handed
-  pub waiting : (end : End) → (sends new end).waiting ≡ (sends old end).waiting
-  pub taken : (end : End) → (sends old end).taken ≤ (sends new end).taken
-  pub acked : (end : End) → (sends old end).acked ≤ (sends new end).acked
+  pub handed : (end : End) → (end_of new end).handed ≡ (end_of old end).handed
+  pub waiting : (end : End) → (end_of new end).waiting ≡ (end_of old end).waiting
+  pub taken : (end : End) → (end_of old end).taken ≤ (end_of new end).taken
+  pub acked : (end : End) → (end_of old end).acked ≤ (end_of new end).acked
 
 -- and no segment is sent for the first time
 pub record NothingSent (old new : State) : Type 0 where
   pub same : SameBut old new
-  pub sent : (end : End) → (sends new end).sent ≡ (sends old end).sent
+  pub sent : (end : End) → (end_of new end).sent ≡ (end_of old end).sent
 
 -- at most one request has no report yet
 abbrev pub IsOneDue : State → Type 0
@@ -36,31 +36,27 @@ IsOneDue s = length s.requests ≤ length (reported s) + 1
 pub record AllResent (old new : State) (end : End) (count : ℕ) : Type 0 where
   pub ran : RanBy old new count
   pub more : List Sending
-  pub wrote : new ≡ with_sends old end (record (sends old end) { wire = (sends old end).wire ++ more })
+  pub wrote : new ≡ with_end old end (record (end_of old end) { wire = (end_of old end).wire ++ more })
   pub long : length more ≡ count
-  pub each : (i : ℕ) → i < count → slice_get more i ≡ Some (record { segment = Some ((sends old end).acked + 1 + i); acks = (sends old (other end)).taken })
+  pub each : (i : ℕ) → i < count → slice_get more i ≡ Some (record { segment = Some ((end_of old end).acked + 1 + i); acks = (end_of old end).taken })
 
 -- of these packets of the end, from a place on, the i-th carries the i-th segment that isn't acknowledged
 abbrev pub AreThere : State → End → (first count : ℕ) → Type 0
 AreThere s end first count =
-    (i : ℕ) → i < count → slice_get (sends s end).wire (first + i) ≡ Some (record { segment = Some ((sends s end).acked + 1 + i); acks = (sends s (other end)).taken })
+    (i : ℕ) → i < count → slice_get (end_of s end).wire (first + i) ≡ Some (record { segment = Some ((end_of s end).acked + 1 + i); acks = (end_of s end).taken })
 
--- So many of them were delivered: no fewer segments were taken, and nothing else of the end moved.
+-- So many of them were delivered: the other end took no fewer segments, and this one didn't move.
 pub record AllCame (old new : State) (end : End) (n : ℕ) : Type 0 where
   pub ran : RanBy old new n
-  pub taken : (sends old end).acked + n ≤ (sends new end).taken
-  pub sent : (sends new end).sent ≡ (sends old end).sent
-  pub acked : (sends new end).acked ≡ (sends old end).acked
-  pub wire : (sends new end).wire ≡ (sends old end).wire
-  pub back : (sends new (other end)).taken ≡ (sends old (other end)).taken
-  pub window : new.window ≡ old.window
+  pub taken : (end_of old end).acked + n ≤ (end_of new (other end)).taken
+  pub still : end_of new end ≡ end_of old end
 
 -- So many segments more were sent, and brought to the other end, which acknowledged them.
 pub record Brought (old new : State) (end : End) (n : ℕ) : Type 0 where
   pub ran : RanBy old new (4 * n)
   pub same : SameBut old new
-  pub sent : (sends new end).sent ≡ (sends old end).sent + n
-  pub back : (sends new (other end)).sent ≡ (sends old (other end)).sent
+  pub sent : (end_of new end).sent ≡ (end_of old end).sent + n
+  pub back : (end_of new (other end)).sent ≡ (end_of old (other end)).sent
   pub done : unacked new end ≡ 0
 
 -- All that there are were, by so many events.
@@ -74,14 +70,14 @@ pub record BroughtAll (old new : State) (end : End) (n : ℕ) : Type 0 where
 
 -- nothing waits at either end
 abbrev pub IsQuiet : State → Type 0
-IsQuiet s = (end : End) → (sends s end).waiting ≡ []
+IsQuiet s = (end : End) → (end_of s end).waiting ≡ []
 
 -- All that waits was handed over, by one event or none.
 pub record PostedAll (old new : State) (end : End) (n : ℕ) : Type 0 where
   pub ran : RanBy old new n
-  pub is : new ≡ with_sends old end (posted (sends old end))
+  pub is : new ≡ with_end old end (posted (end_of old end))
   pub few : n ≤ 1
-  pub nothing : (sends old end).waiting ≡ [] → n ≡ 0
+  pub nothing : (end_of old end).waiting ≡ [] → n ≡ 0
 
 -- All that waits was handed over, and all segments were brought to the other end.
 pub record Emptied (old new : State) (end : End) (n : ℕ) : Type 0 where
@@ -90,13 +86,13 @@ pub record Emptied (old new : State) (end : End) (n : ℕ) : Type 0 where
   pub empty : IsEmpty new end
   pub served : new.served ≡ old.served
   pub read : new.read ≡ old.read
-  pub handed : (sends new end).handed ≡ (sends old end).handed ++ (sends old end).waiting
-  pub back_waiting : (sends new (other end)).waiting ≡ (sends old (other end)).waiting
-  pub back_handed : (sends new (other end)).handed ≡ (sends old (other end)).handed
-  pub back_sent : (sends new (other end)).sent ≡ (sends old (other end)).sent
-  pub back_acked : (sends old (other end)).acked ≤ (sends new (other end)).acked
+  pub handed : (end_of new end).handed ≡ (end_of old end).handed ++ (end_of old end).waiting
+  pub back_waiting : (end_of new (other end)).waiting ≡ (end_of old (other end)).waiting
+  pub back_handed : (end_of new (other end)).handed ≡ (end_of old (other end)).handed
+  pub back_sent : (end_of new (other end)).sent ≡ (end_of old (other end)).sent
+  pub back_acked : (end_of old (other end)).acked ≤ (end_of new (other end)).acked
   pub more : ℕ
-  pub sent : (sends new end).sent ≡ (sends old end).sent + more
+  pub sent : (end_of new end).sent ≡ (end_of old end).sent + more
   pub count : n ≤ 1 + 4 * more
   pub nothing : IsEmpty old end → n ≡ 0
 
@@ -111,7 +107,7 @@ AreSettled s = (unacked s A ≡ 0) × (unacked s B ≡ 0)
 
 -- all that was sent was served
 abbrev pub IsServed : State → Type 0
-IsServed s = length (sent_by s.from_a) ≤ s.served
+IsServed s = length (sent_by s.a) ≤ s.served
 
 abbrev pub AreEmpty : State → Type 0
 AreEmpty s = IsEmpty s A × IsEmpty s B
@@ -132,8 +128,8 @@ pub record SentBoth (old new : State) (n : ℕ) : Type 0 where
   pub read : new.read ≡ old.read
   pub more_a : ℕ
   pub more_b : ℕ
-  pub sent_a : new.from_a.sent ≡ old.from_a.sent + more_a
-  pub sent_b : new.from_b.sent ≡ old.from_b.sent + more_b
+  pub sent_a : new.a.sent ≡ old.a.sent + more_a
+  pub sent_b : new.b.sent ≡ old.b.sent + more_b
   pub count : n ≤ 2 + 4 * more_a + 4 * more_b
   pub nothing : AreEmpty old → n ≡ 0
 
@@ -141,20 +137,20 @@ pub record SentBoth (old new : State) (n : ℕ) : Type 0 where
 pub record Served (old new : State) (n messages : ℕ) : Type 0 where
   pub ran : RanBy old new n
   pub empty : AreEmpty new
-  pub handed : new.from_a.handed ≡ old.from_a.handed
-  pub sent_a : new.from_a.sent ≡ old.from_a.sent
+  pub handed : new.a.handed ≡ old.a.handed
+  pub sent_a : new.a.sent ≡ old.a.sent
   pub served : new.served ≡ old.served + messages
   pub read : new.read ≡ old.read
   pub more : ℕ
-  pub sent_b : new.from_b.sent ≡ old.from_b.sent + more
+  pub sent_b : new.b.sent ≡ old.b.sent + more
   pub count : n ≤ 2 * messages + 4 * more
   pub nothing : messages ≡ 0 → n ≡ 0
 
 pub record ServedEvery (old new : State) (n : ℕ) : Type 0 where
   pub messages : ℕ
   pub done : Served old new n messages
-  pub all : length (sent_by new.from_a) ≤ new.served
-  pub only : length (sent_by old.from_a) ≤ old.served → messages ≡ 0
+  pub all : length (sent_by new.a) ≤ new.served
+  pub only : length (sent_by old.a) ≤ old.served → messages ≡ 0
 
 -- ---- Reading.
 

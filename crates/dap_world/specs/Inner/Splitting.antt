@@ -1,5 +1,5 @@
 -- The DAP messages in an NSP message, as bytes.
-use Rattle.std.specs.Prelude.{◌≡◌, ◌≢◌, ℕ, List, [], ◌∷◌, ◌++◌, map}
+use Rattle.std.specs.Prelude.{◌≡◌, ◌≢◌, ℕ, List, [], ◌++◌, map}
 use Rattle.dap_msg.specs.Canon.{canon}
 use Rattle.dap_end.specs.Asking.{AreFull}
 use Rattle.dap_msg.specs.Blocked.{NspMessage, joined, all_joined, messages_in, AllFit}

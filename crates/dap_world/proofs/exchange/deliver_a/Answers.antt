@@ -1,5 +1,4 @@
-use Rattle.std.proofs.Common.{◌≡◌, ℕ, List, Some, refl, subst, inl, inr, false}
-use Rattle.std.specs.Prelude.{slice_get}
+use Rattle.std.proofs.Common.{◌≡◌, ℕ, List, refl, subst, inl, inr, false}
 use Rattle.nsp_link.specs.Link.{LinkValue}
 use Rattle.dap_end.specs.Receiving.{Receives}
 use Rattle.dap_world.specs.Inner.Ways.{NotDue, is_old_wired}

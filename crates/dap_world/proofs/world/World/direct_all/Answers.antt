@@ -46,7 +46,7 @@ loop-place-preserved c =
           c.in-Ok-finish._count done;
       ran = runs_to c.args.self.now c.ask.new.self c.finish.new.self
           (runs_asked c.args.self.now c.loop-place.self c.ask.new.self c.index-requests-place.result c.in-Ok._step c.loop-place.invariant.ran c.in-Ok.ensures) (c.in-Ok-finish._count, done.ran);
-      quiet = quiet_empty c.finish.new.self (done.finished.from_a, done.finished.from_b);
+      quiet = quiet_empty c.finish.new.self (done.finished.a, done.finished.b);
       world = c.sound-in-Ok-finish.ensures;
       still = λ none. absurd (omega (arith, none));
     }

@@ -8,7 +8,7 @@ use Rattle.dap_world.proofs.Untold.{untold}
 use Rattle.dap_world.proofs.world.World.finish_all.Goals as goal
 
 pub returns-in-Err-clause-err : goal.returns-in-Err-clause-err
-returns-in-Err-clause-err c = let err = c.in-Err.ensures.err in (err.0, err.1, λ f. err.2 (f.from_a.acked, f.from_b.acked))
+returns-in-Err-clause-err c = let err = c.in-Err.ensures.err in (err.0, err.1, λ f. err.2 (f.a.acked, f.b.acked))
 
 pub returns-in-Err-clause-untold : goal.returns-in-Err-clause-untold
 returns-in-Err-clause-untold c =

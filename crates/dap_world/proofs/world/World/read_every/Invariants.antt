@@ -1,5 +1,6 @@
 use Rattle.std.proofs.Common.{◌-◌, ℕ, length}
-use Rattle.dap_world.specs.Machine.{arrived_of}
+use Rattle.dap_world.specs.declared.event.End.TheVariants.{A}
+use Rattle.dap_world.specs.Machine.{arrived_at}
 use Rattle.dap_world.specs.Inner.Worlds.{IsWorld}
 use Rattle.dap_world.proofs.Emptying.{ReadSome}
 use Rattle.dap_world.proofs.world.World.read_every.Given as goal
@@ -8,4 +9,4 @@ abbrev pub invariant-answers : goal.invariant-answers
 invariant-answers l = record { so_far : (n : ℕ) × ReadSome l.fn.self l.self n; world : IsWorld l.self }
 
 abbrev pub decreases-answers : goal.decreases-answers
-decreases-answers l = length (arrived_of l.self.seg_size l.self.from_b) - l.self.read
+decreases-answers l = length (arrived_at l.self A) - l.self.read

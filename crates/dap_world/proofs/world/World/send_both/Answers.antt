@@ -1,6 +1,8 @@
 use Rattle.std.proofs.Common.{◌+◌}
 use Rattle.dap_world.proofs.Settles.{ran_both}
-use Rattle.dap_world.proofs.SentBoth.{sent_both, settled_b, still_b}
+use Rattle.dap_world.specs.declared.event.End.TheVariants.{A}
+use Rattle.dap_world.proofs.Posting.{still_other}
+use Rattle.dap_world.proofs.SentBoth.{sent_both, settled_b}
 use Rattle.dap_world.proofs.world.World.send_both.Goals as goal
 
 pub send_waiting-requires-clause-due : goal.send_waiting-requires-clause-due
@@ -23,5 +25,5 @@ returns-in-Err-send_waiting-clause-err c =
     let a = c.in-Ok.ensures.ok.0 in (
       err.0,
       (c.in-Ok.count + err.1.0, ran_both c.args.self.now c.send_waiting.new.self c.send_waiting-2.new.self c.in-Ok.count err.1.0 a.ran err.1.1),
-      λ e. err.2 (still_b c.args.self.now c.send_waiting.new.self c.in-Ok.count e.1 a),
+      λ e. err.2 (still_other c.args.self.now c.send_waiting.new.self A c.in-Ok.count e.1 a),
     )
