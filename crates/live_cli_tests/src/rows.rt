@@ -91,7 +91,7 @@ refused bad-line\nwaits 0\nrefused bad-line\nwaits 0\n",
         b"files\n",
         2,
         b"",
-        b"an address is four hex digits\n",
+        b"an address is four hex digits, and a number decimal digits\n",
     ),
     // A message of three segments, the second one twice and behind the third.
     (
