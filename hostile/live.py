@@ -54,13 +54,25 @@ LAST = {
         b"> 04020201010c80",
     ],
 }
-# The asking end is asked, and a packet completes the report. Each of the other lines is refused then, and leaves it waiting.
-REPORTED, REPORT = [b"ask hello", b"> 60010102020180010001020a00040703050600000000"], b"report ready 1024"
+# The asking end gets a record, and the last packet completes the report: a long one, so that its text needs a growth. Each
+# of the other lines is refused then, and leaves it waiting.
+RECORD = b"42" * 300
+REPORTED = [
+    b"ask hello",
+    b"> 60010102020180010001020a00040703050600000000",
+    b"ask open 46 2",
+    b"> 60010102020280020002020ba604000200000400000000060200",
+    b"ask connect",
+    b"> 600101020203800300060200",
+    b"ask get",
+    b"> 6001010202048004000806" + b"31010401000000" + RECORD,
+]
+REPORT = b"report found 1 " + RECORD
 REFUSED = {
     "a packet of another link": b"> 04030304040180",
     "a packet of another kind": b"> 1001010202",
     "bytes that are no packet": b"> 60",
-    "a request that doesn't fit": b"ask put 41",
+    "a request that doesn't fit": b"ask hello",
 }
 # What is asked over a line that loses packets, while the serving end is refused a growth; the words of both ends, and
 # the loss in percent.
@@ -326,7 +338,7 @@ class LiveEnds:
             answers = [end.tell(said) for said in REPORTED]
             end.wrong = None
             if NO_MEMORY in answers[-1]:
-                answers += [end.tell(said) for said in [line, b"resend", REPORTED[-1]]]
+                answers = answers[-1:] + [end.tell(said) for said in [line, b"resend", REPORTED[-1]]]
                 reports = [report for answer in answers for report in kinds(answer)[1]]
                 if reports != [REPORT]:
                     end.wrong = f"{reports} behind {answers}"
