@@ -508,12 +508,14 @@ class LiveEnds:
         self.unread()
         self.silent()
         for role in PROBES:
-            told, wrong = altered_packets(self.program, role)
-            self.count(f"daplive {role}, packets that were altered or cut", not wrong, f"{told} told, {wrong} answered wrongly")
             self.resent(role)
             self.fail(role)
             self.unwritten(role)
             self.endless(role)
+        # last: what this script keeps in memory counts for the memory of a program that it starts
+        for role in PROBES:
+            told, wrong = altered_packets(self.program, role)
+            self.count(f"daplive {role}, packets that were altered or cut", not wrong, f"{told} told, {wrong} answered wrongly")
 
 
 def lines_through(given):
