@@ -7,13 +7,14 @@ use Rattle.dap_msg.specs.Message.{Attrib, Accomp, Filedata, Status, StatusFields
 use Rattle.dap_msg.specs.Items.{Item, Whole}
 use Rattle.dap_msg.specs.Codes.{is_success}
 use Rattle.dap_msg.specs.Exchange.{number_of}
+use Rattle.rec_file.specs.Limits.{greatest_number}
 use Rattle.dap_accessing.specs.Request.{Request}
 use Rattle.dap_accessing.specs.declared.request.Request.TheVariants.{Hello, Create, OpenFile, Connect, Get, Put, Update, Delete, Rewind, Fetch, Store, Continue, Close, Purge}
 use Rattle.dap_accessing.specs.declared.report.Report.{Report}
 use Rattle.dap_accessing.specs.declared.report.Report.TheVariants as report
 use Rattle.dap_accessing.specs.declared.pending.Pending.{Pending}
 use Rattle.dap_accessing.specs.declared.pending.Pending.TheVariants as pending
-use Rattle.dap_accessing.specs.Told.{Hearing, Unexpected, hear, behind, hear_ack, is_other, hear_opened, opened_as, greatest_mrn, hear_file, hear_attributes, is_record, records_in_front, hear_batch_end, is_status, statuses_in_front, has_success, told_of, first_told, hear_store_end}
+use Rattle.dap_accessing.specs.Told.{Hearing, Unexpected, hear, behind, hear_ack, is_other, hear_opened, opened_as, hear_file, hear_attributes, is_record, records_in_front, hear_batch_end, is_status, statuses_in_front, has_success, told_of, first_told, hear_store_end}
 use Rattle.dap_accessing.specs.Present.{hear_from}
 use Rattle.dap_accessing.specs.Inner.Hears.{pending_of}
 use Rattle.dap_accessing.proofs.Fronts.{behind-more, records-more, statuses-more}
@@ -28,7 +29,7 @@ attributes : (answers : List Item) → hear_attributes answers ≡ gather_attrib
 attributes [] = refl
 attributes (Whole (Other number body) ∷ rest) = ap hear_file (behind-more is_other (Whole (Other number body)) rest refl) ∙ attributes rest
 attributes (Whole (Attrib a) ∷ rest) =
-    ap (λ h. if nat_le (number_of (unwrap_or a.mrn [])) greatest_mrn then h else Unexpected) (opened (opened_as a) rest)
+    ap (λ h. if nat_le (number_of (unwrap_or a.mrn [])) greatest_number then h else Unexpected) (opened (opened_as a) rest)
 attributes (_ ∷ rest) = refl
 
 -- a fetch, after these records

@@ -6,11 +6,12 @@ use Rattle.dap_msg.specs.Message.{Config, Attrib, Ack, Accomp, Filedata, Status,
 use Rattle.dap_msg.specs.Items.{Item, Whole}
 use Rattle.dap_msg.specs.Codes.{cmpfunc, stscode}
 use Rattle.dap_msg.specs.Exchange.{number_of, is_too_small}
+use Rattle.rec_file.specs.Limits.{greatest_number}
 use Rattle.dap_accessing.specs.Request.{Request}
 use Rattle.dap_accessing.specs.declared.report.Report.{Report}
 use Rattle.dap_accessing.specs.declared.report.Report.TheVariants as report
 use Rattle.dap_msg.specs.Codes.{is_success}
-use Rattle.dap_accessing.specs.Told.{Hearing, Reports, Waits, Unexpected, refusal, hear, hear_config, hear_ack, opened_as, greatest_mrn, hear_record, hear_done, ending_of, reason_in, told_of, hear_closed, Told}
+use Rattle.dap_accessing.specs.Told.{Hearing, Reports, Waits, Unexpected, refusal, hear, hear_config, hear_ack, opened_as, hear_record, hear_done, ending_of, reason_in, told_of, hear_closed, Told}
 use Rattle.dap_accessing.specs.declared.pending.Pending.{Pending}
 use Rattle.dap_accessing.specs.declared.pending.Pending.TheVariants as pending
 use Rattle.dap_accessing.specs.Inner.Hears.{pending_of}
@@ -58,7 +59,7 @@ stays-attributes : (answers more : List Item) → Stays (gather_attributes answe
 stays-attributes [] more = tt
 stays-attributes (Whole (Other _ _) ∷ rest) more = stays-attributes rest more
 stays-attributes (Whole (Attrib a) ∷ rest) more =
-    elim (nat_le (number_of (unwrap_or a.mrn [])) greatest_mrn) as (λ b. Stays (if b then gather_opened (opened_as a) rest else Unexpected) (if b then gather_opened (opened_as a) (rest ++ more) else Unexpected) more) [
+    elim (nat_le (number_of (unwrap_or a.mrn [])) greatest_number) as (λ b. Stays (if b then gather_opened (opened_as a) rest else Unexpected) (if b then gather_opened (opened_as a) (rest ++ more) else Unexpected) more) [
       | true ↦ stays-opened (opened_as a) rest more
       | false ↦ refl
     ]

@@ -6,6 +6,7 @@ use Rattle.dap_msg.specs.declared.codes.Reason.TheVariants.{TooLargeForBuffer}
 use Rattle.dap_msg.specs.Message.{Config, Attrib, Ack, Accomp, Filedata, Status, Other, Attributes, StatusFields}
 use Rattle.dap_msg.specs.Items.{Item, Whole}
 use Rattle.dap_msg.specs.Exchange.{number_of, is_too_small}
+use Rattle.rec_file.specs.Limits.{greatest_number}
 use Rattle.dap_accessing.specs.Request.{Request}
 use Rattle.dap_accessing.specs.declared.request.Request.TheVariants.{Hello, Create, OpenFile, Connect, Get, Put, Update, Delete, Rewind, Fetch, Store, Continue, Close, Purge}
 use Rattle.dap_accessing.specs.declared.report.Report.{Report}
@@ -61,15 +62,11 @@ opened_as a =
     report.Opened (unwrap_or a.org codes.org.sequential) (unwrap_or a.rfm codes.rfm.variable) (unwrap_or a.mrs 0)
     (number_of (unwrap_or a.mrn []))
 
--- no record of a file has a greater number
-abbrev pub greatest_mrn : ℕ
-greatest_mrn = 2147483647
-
--- the attributes of a file, and then the Ack
+-- the attributes of a file, whose records have no greater number than any file's, and then the Ack
 abbrev pub hear_file : List Item → Hearing
 hear_file [] = Waits
 hear_file (Whole (Attrib a) ∷ rest) =
-    if nat_le (number_of (unwrap_or a.mrn [])) greatest_mrn then hear_opened (opened_as a) rest else Unexpected
+    if nat_le (number_of (unwrap_or a.mrn [])) greatest_number then hear_opened (opened_as a) rest else Unexpected
 hear_file (Whole (Status status) ∷ rest) = refusal status rest
 hear_file (_ ∷ rest) = Unexpected
 

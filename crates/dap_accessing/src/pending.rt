@@ -14,10 +14,8 @@ use dap_msg::codes::{
     CMPFUNC_RESPONSE, END_OF_FILE, ORG_SEQUENTIAL, RECORD_REFUSED, RFM_VARIABLE, Reason,
 };
 use dap_msg::{Message, StatusCode, is_too_small, number_of};
+use rec_file::MAX_NUMBER;
 use std::alloc::Global;
-
-/// No record of a file has a greater number.
-const GREATEST_MRN: u64 = 2_147_483_647;
 
 #[derive(Drop)]
 pub(crate) enum Pending {
@@ -143,7 +141,7 @@ fn hear_attributes(message: &Message<'_>) -> Heard
     match *message {
         Message::Attrib(attributes) => {
             let mrn = number_of(attributes.mrn.unwrap_or(&[]));
-            if mrn <= GREATEST_MRN {
+            if mrn <= u64::from(MAX_NUMBER) {
                 Heard::Waits(Pending::Opened {
                     org: attributes.org.unwrap_or(ORG_SEQUENTIAL),
                     rfm: attributes.rfm.unwrap_or(RFM_VARIABLE),

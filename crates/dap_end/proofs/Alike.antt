@@ -23,7 +23,7 @@ use Rattle.dap_end.specs.declared.fault.EndFault.TheVariants as end_fault
 use Rattle.dap_end.specs.declared.fault.TakeFault.{TakeFault}
 use Rattle.dap_end.specs.declared.fault.TakeFault.TheVariants as take_fault
 use Rattle.dap_end.specs.Ports.{PortValue, gone_on, posted}
-use Rattle.dap_end.specs.Receiving.{Receives}
+use Rattle.nsp_link.specs.Receiving.{Receives}
 use Rattle.dap_end.specs.Writing.{WroteAll, AnsweredAll, IsFull, sent_more}
 use Rattle.dap_end.specs.Asking.{AskingValue, AskingPast, HasAsked, HasStill, AskedOne, HandedAll, ReadOne, ReadNone, ReadOn, begins, goes, ReadAll, ReadPart, ReadsAll, HeardAll, HearFault, HeardIn, AnswerFault, WentOn, GoOnFault, GoesOn, TookAll, TookPart, Refused, Takes, AreAlike, HasDone, received, read_one, asked_one}
 use Rattle.dap_end.specs.Wanting.{is_want, went_wanting, took_wanting}

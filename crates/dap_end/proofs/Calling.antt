@@ -14,7 +14,7 @@ use Rattle.dap_accessing.specs.Present.{Present}
 use Rattle.dap_end.specs.declared.fault.EndFault.{EndFault}
 use Rattle.dap_end.specs.declared.fault.EndFault.TheVariants as end_fault
 use Rattle.dap_end.specs.Ports.{PortValue}
-use Rattle.dap_end.specs.Receiving.{Receives}
+use Rattle.nsp_link.specs.Receiving.{Receives}
 use Rattle.dap_end.specs.Writing.{wants_ack, WroteNext, WroteMore}
 use Rattle.dap_end.specs.Asking.{AskingValue, AskedOne, HandedAll, ReadOne, begins, goes as reads_first, ReadAll, HeardAll, WentOn, GoOnFault, HearFault, AnswerFault, ReadNone, ReadPart, TookAll, TookPart, Refused, received}
 use Rattle.dap_end.specs.Headline.{Written, numbered, bytes_of}

@@ -20,7 +20,7 @@ use Rattle.dap_end.specs.declared.fault.EndFault.TheVariants as end_fault
 use Rattle.dap_end.specs.declared.fault.TakeFault.{TakeFault}
 use Rattle.dap_end.specs.declared.fault.TakeFault.TheVariants as take_fault
 use Rattle.dap_end.specs.Ports.{PortValue, gone_on, posted}
-use Rattle.dap_end.specs.Receiving.{Receives}
+use Rattle.nsp_link.specs.Receiving.{Receives}
 use Rattle.dap_end.specs.Going.{StandFrom}
 use Rattle.dap_end.specs.Writing.{AreWritten, IsWithin, IsFull, sent_more, WroteMore, WroteAll, WroteAnswer, AnsweredAll, wants_ack}
 use Rattle.dap_end.specs.Serving.{ServingValue, Past, IsAfter, ServedOne, PostedAll, answers_to, served}

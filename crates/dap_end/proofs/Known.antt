@@ -8,12 +8,11 @@ use Rattle.nsp_link.specs.declared.fault.LinkFault.{LinkFault}
 use Rattle.nsp_link.specs.Cutting.{Piece}
 use Rattle.nsp_link.specs.Holding.{inserted}
 use Rattle.nsp_link.specs.Link.{LinkValue, coming, piece_of, failed_link}
-use Rattle.nsp_link.specs.Receiving.{Received, TakesSegment, run, closed, is_end}
+use Rattle.nsp_link.specs.Receiving.{Received, TakesSegment, run, closed, is_end, ReceivedBytes, Receives}
 use Rattle.dap_end.specs.declared.fault.EndFault.TheVariants as end_fault
 use Rattle.dap_end.specs.declared.fault.TakeFault.{TakeFault}
 use Rattle.dap_end.specs.declared.fault.TakeFault.TheVariants as take_fault
 use Rattle.dap_end.specs.Ports.{PortValue, HasCome}
-use Rattle.dap_end.specs.Receiving.{ReceivedBytes, Receives}
 use Rattle.dap_end.specs.Writing.{sent_more}
 use Rattle.dap_end.specs.Serving.{ServingValue, Past, IsAfter, IsStill, ServedOne, PostedAll, nothing_yet, served}
 use Rattle.dap_end.specs.Taking.{ServedOn, begins, goes, ServedUp, ServeFault, WentOn, GoesOn, WrotePart, Takes, received}

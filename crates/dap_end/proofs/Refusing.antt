@@ -13,8 +13,7 @@ use Rattle.nsp_link.specs.Cutting.{Piece}
 use Rattle.nsp_link.specs.Limits.{most_segments}
 use Rattle.nsp_link.specs.Coming.{Coming, taken, taken_all, FitsBehind, AllFit, Misfits, MisfitsOne, RefusesAll}
 use Rattle.nsp_link.specs.Link.{LinkValue, coming, first_ack, piece_of}
-use Rattle.nsp_link.specs.Receiving.{Received, TakesSegment, RefusesSegment, Acknowledges, forgotten, run, stopped}
-use Rattle.dap_end.specs.Receiving.{ReceivedBytes, Receives}
+use Rattle.nsp_link.specs.Receiving.{Received, TakesSegment, RefusesSegment, Acknowledges, forgotten, run, stopped, ReceivedBytes, Receives}
 
 -- ---- Segments that follow one another.
 

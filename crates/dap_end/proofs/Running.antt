@@ -15,7 +15,7 @@ use Rattle.dap_accessed.specs.Present.{Present}
 use Rattle.dap_accessed.specs.Groups.{Answers, added, limit_for}
 use Rattle.dap_accessed.proofs.ForCallers.{Answers-more}
 use Rattle.dap_end.specs.Ports.{PortValue}
-use Rattle.dap_end.specs.Receiving.{Receives}
+use Rattle.nsp_link.specs.Receiving.{Receives}
 use Rattle.dap_end.specs.Going.{AreFrontOf}
 use Rattle.dap_end.specs.Writing.{IsWithin, sent_more, wants_ack, WroteNext, WroteMore}
 use Rattle.dap_end.specs.Serving.{ServingValue, Past, IsAfter, answers_to, nothing_yet, ServedOne, PostedAll}

@@ -10,10 +10,9 @@ use Rattle.nsp_link.specs.Cutting.{Piece}
 use Rattle.nsp_link.specs.Coming.{Coming, taken, taken_all, body_with}
 use Rattle.nsp_link.specs.Holding.{inserted}
 use Rattle.nsp_link.specs.Link.{LinkValue, coming, piece_of, failed_link}
-use Rattle.nsp_link.specs.Receiving.{Received, TakesSegment, run, closed, is_end, forgotten}
+use Rattle.nsp_link.specs.Receiving.{Received, TakesSegment, run, closed, is_end, forgotten, ReceivedBytes, Receives}
 use Rattle.dap_msg.specs.Items.{IsPlace}
 use Rattle.dap_end.specs.Ports.{PortValue, oldest, with_link}
-use Rattle.dap_end.specs.Receiving.{ReceivedBytes, Receives}
 use Rattle.dap_end.specs.Inner.Kept.{IsPort}
 
 -- more messages may wait, and the link is the same

@@ -13,7 +13,7 @@ use Rattle.nsp_link.specs.Holding.{following, inserted}
 use Rattle.nsp_link.specs.Link.{LinkValue, IsBetween, IsTimely, IsDue, Stands, Writes, Delivered, taken_after, held_after}
 use Rattle.nsp_link.specs.Sending.{AreShort}
 use Rattle.nsp_link.proofs.ForCallers.{written_spells, stands_more}
-use Rattle.dap_end.specs.Receiving.{Receives}
+use Rattle.nsp_link.specs.Receiving.{Receives}
 use Rattle.dap_end.specs.Headline.{Written, numbered, AreWrittenOf}
 
 -- ---- What holds of one way.

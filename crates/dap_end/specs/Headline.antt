@@ -12,7 +12,7 @@ use Rattle.nsp_link.specs.Link.{LinkValue, IsBetween, Carries, IsTimely, Writes}
 use Rattle.nsp_link.specs.Sending.{WritesSent}
 use Rattle.dap_accessed.specs.Groups.{After, Answers}
 use Rattle.dap_end.specs.Ports.{with_link}
-use Rattle.dap_end.specs.Receiving.{Receives}
+use Rattle.nsp_link.specs.Receiving.{Receives}
 use Rattle.dap_end.specs.Serving.{ServingValue, Past, answers_to}
 use Rattle.dap_end.specs.Taking.{ServedMore, with_port}
 use Rattle.dap_end.specs.Writing.{WroteMore}

@@ -10,7 +10,7 @@ use Rattle.dap_accessing.specs.declared.report.Report.{Report}
 use Rattle.dap_accessing.specs.Asked.{Asked}
 use Rattle.dap_accessing.specs.Told.{Told}
 use Rattle.dap_end.specs.Ports.{with_link}
-use Rattle.dap_end.specs.Receiving.{Receives}
+use Rattle.nsp_link.specs.Receiving.{Receives}
 use Rattle.dap_end.specs.Writing.{WroteMore}
 use Rattle.dap_end.specs.Asking.{AskingValue, AskingPast, AskedOne, HandedAll, ReadOn}
 use Rattle.dap_end.specs.Headline.{Written, numbered, bytes_of, WroteOne, AreWrittenOf, IsFromPeer}

@@ -1,6 +1,5 @@
 pub mod Ports
 pub mod Going
-pub mod Receiving
 pub mod Writing
 pub mod Serving
 pub mod Taking

@@ -10,7 +10,7 @@ use Rattle.dap_end.specs.declared.fault.EndFault.TheVariants as end_fault
 use Rattle.dap_end.specs.declared.fault.TakeFault.{TakeFault}
 use Rattle.dap_end.specs.declared.fault.TakeFault.TheVariants as take_fault
 use Rattle.dap_end.specs.Ports.{PortValue, with_link}
-use Rattle.dap_end.specs.Receiving.{Receives}
+use Rattle.nsp_link.specs.Receiving.{Receives}
 use Rattle.dap_end.specs.Writing.{IsFull, WroteAll, AnsweredAll, AnsweredPart}
 use Rattle.dap_end.specs.Serving.{ServingValue, Past, IsAfter, IsStill, MayServe, PostedAll, ServedOne}
 

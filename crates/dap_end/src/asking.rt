@@ -13,7 +13,7 @@ ghost use Rattle.dap_accessing.specs.Calls.{AskRefused, IsAdmittedBy, MayAsk};
 ghost use Rattle.dap_accessing.specs.declared.fault.AskFault.TheVariants as ask_fault;
 ghost use Rattle.dap_fields.specs.Spelling.{AreBytes};
 ghost use Rattle.dap_end.specs.Ports.{new_port, oldest};
-ghost use Rattle.dap_end.specs.Receiving.{Receives};
+ghost use Rattle.nsp_link.specs.Receiving.{Receives};
 ghost use Rattle.dap_end.specs.Writing.{WroteNext, IsFull};
 ghost use Rattle.dap_end.specs.Asking.{HasAsked, HasStill, AskedOne, HandedAll, ReadOne, ReadNone, ReadNext, ReadAll, ReadPart, HeardAll, HearFault, WentOn, GoOnFault, HeardAndWrote, AnswerFault, TookAll, NotTaken, nothing_asked, received};
 ghost use Rattle.dap_end.specs.Inner.Answered.{Ended};

@@ -9,7 +9,7 @@ ghost use Rattle.std.specs.Prelude.{◌==◌};
 ghost use Rattle.dap_fields.specs.Spelling.{AreBytes};
 ghost use Rattle.dap_msg.specs.Blocked.{bodies};
 ghost use Rattle.dap_end.specs.Writing.{WroteNext, WroteAll, AnsweredAll, AnsweredPart, IsFull, sent_more, wants_ack};
-ghost use Rattle.dap_end.specs.Receiving.{Receives};
+ghost use Rattle.nsp_link.specs.Receiving.{Receives};
 ghost use Rattle.dap_end.specs.Ports.{new_port, with_link, posted, gone_on, HasCome};
 ghost use Rattle.dap_end.specs.Inner.Kept.{IsPort};
 ghost use Rattle.dap_end.specs.Inner.Answered.{Acknowledged};

@@ -12,7 +12,7 @@ ghost use Rattle.nsp_link.specs.declared.fault.LinkFault.TheVariants as fault;
 ghost use Rattle.dap_accessed.specs.Groups.{After};
 ghost use Rattle.dap_accessed.specs.Adding.{MayAdd, MayAddRecord, with_new_file, with_record};
 ghost use Rattle.dap_end.specs.Ports.{HasCome, new_port};
-ghost use Rattle.dap_end.specs.Receiving.{Receives};
+ghost use Rattle.nsp_link.specs.Receiving.{Receives};
 ghost use Rattle.dap_end.specs.Writing.{WroteNext};
 ghost use Rattle.dap_end.specs.Serving.{Past, IsAfter, IsStill, NotAdded, NotStored, IsGiven, MayServe, ServedOne, PostedAll, nothing_yet};
 ghost use Rattle.dap_end.specs.Taking.{ServedUp, IsServed, ServeFault, GoOnFault, WentOn, IsDone, TookAll, NotTaken, with_port, received};

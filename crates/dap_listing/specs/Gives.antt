@@ -1,15 +1,16 @@
 -- What a run over a whole input answers.
 use Rattle.std.specs.Prelude.{◌≡◌, ◌≢◌, OnErr, ℕ, ◌+◌, ◌<◌, ◌≤◌, List, [], length, slice_get, Option, Some, IfSome, Result, Ok, Err, ◌⊎◌}
 use Rattle.std.specs.Io.KnownBytes.{Appends, Consumes, Keeps}
+use Rattle.linewise.specs.Talks.{longest}
 use Rattle.dap_listing.specs.Output.{WritesFront}
 use Rattle.dap_listing.specs.declared.fault.Outcome.{Outcome}
 use Rattle.dap_listing.specs.declared.fault.Outcome.TheVariants.{Good, Stopped}
 use Rattle.dap_listing.specs.declared.fault.CaptureFault.{CaptureFault}
 use Rattle.dap_listing.specs.declared.fault.CaptureFault.TheVariants.{BadLine, TooLarge, ReadFailed, WriteFailed, NoMemory}
 
--- the most bytes of an input
+-- the most bytes of an input: those of the longest line
 abbrev pub input_limit : ℕ
-input_limit = 16777216
+input_limit = longest
 
 -- a fault that a line can have
 abbrev pub IsOfLine : CaptureFault → Type 0

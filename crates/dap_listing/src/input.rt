@@ -5,11 +5,12 @@ ghost use Rattle.dap_listing.specs.Gives.{IsReadFault, TakesWithinLimit};
 ghost use Rattle.dap_listing.specs.Inner.Input.{IsFaultAfter, TakesBehind};
 
 use crate::CaptureFault;
+use linewise::LONGEST;
 use std::alloc::Global;
 use std::io::Read;
 
-/// The most bytes that an input may have. Own.
-pub const INPUT_LIMIT: usize = 16_777_216;
+/// The most bytes that an input may have: those of the longest line. Own.
+pub const INPUT_LIMIT: usize = LONGEST;
 
 /// How many bytes are read at a time.
 pub(crate) const CHUNK: usize = 65_536;

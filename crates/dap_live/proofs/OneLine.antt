@@ -1,6 +1,7 @@
 -- What both ends say to a line is one text.
 use Rattle.std.proofs.Common.{◌≡◌, ◌≢◌, ℕ, ◌+◌, ◌<◌, ◌≤◌, ◌%◌, ◌==◌, arith, refl, sym, ◌∙◌, subst, ap, true, false, true≢false, List, [], ◌∷◌, length, inl, inr}
-use Rattle.std.specs.Prelude.{Bool, Option, Some, None, Result, Ok, Err, option_map, if◌then◌else◌}
+use Rattle.std.specs.Prelude.{Bool, Option, Some, None, Result, Ok, Err, codes, option_map, if◌then◌else◌}
+use Rattle.std.specs.Option.{option_or}
 use Rattle.hex.specs.Hex.{IsBytes as AreBytes}
 use Rattle.hex.specs.Hex.{decode_of, decode_pairs}
 use Rattle.hex.specs.declared.error.FromHexError.{FromHexError}
@@ -20,22 +21,17 @@ use Rattle.dap_end.specs.declared.fault.EndFault.TheVariants as end
 use Rattle.dap_end.specs.declared.fault.TakeFault.{TakeFault}
 use Rattle.dap_end.specs.declared.fault.TakeFault.TheVariants as take
 use Rattle.dap_end.specs.Wanting.{is_want, took_wanting}
-use Rattle.dap_text.specs.Words.{Words, decoded, ends, first, goes_on, hex_of, is_hex_text, long, words_of}
+use Rattle.dap_text.specs.Words.{Words, decoded, ends, field, goes_on, hex_of, is, is_hex_text, long, one_of, word, words_of}
 use Rattle.dap_text.specs.Filed.{file_of, record_of}
 use Rattle.dap_text.specs.Requests.{wish_of}
-use Rattle.dap_text.specs.declared.filed.FileLine.{FileLine}
-use Rattle.dap_text.specs.declared.filed.RecordLine.{RecordLine}
-use Rattle.dap_accessing.specs.Request.{Request}
 use Rattle.linewise.specs.declared.talking.Became.{Became}
 use Rattle.linewise.specs.declared.talking.Became.TheVariants.{Done, BadLine, NoMemory}
 use Rattle.linewise.proofs.ForCallers.{OneAnswer}
 use Rattle.linewise.specs.Talks.{Answering, AnswersLine, IsUnread, is_skipped, longest, said_of}
-use Rattle.dap_live.specs.declared.orders.Anew.TheVariants.{Cut}
+use Rattle.dap_live.specs.declared.orders.Anew.TheVariants.{Same, Between, Cut}
 use Rattle.dap_live.specs.declared.orders.Order.{Order}
 use Rattle.dap_live.specs.declared.orders.Order.TheVariants as order
-use Rattle.dap_live.specs.declared.orders.Verb.{Verb}
-use Rattle.dap_live.specs.declared.orders.Verb.TheVariants as verb
-use Rattle.dap_live.specs.Orders.{address_of, anew_of, between_of, order_of, packet_of, verb_of, words_order}
+use Rattle.dap_live.specs.Orders.{address_of, anew_of, between_of, order_of, order_words, packet_of}
 use Rattle.dap_live.specs.Sending.{AreAgain, AllAgain, SaysAck, UnlessFailed}
 use Rattle.dap_live.specs.Texts.{end_became, link_became, packet_text, taken_became}
 
@@ -64,90 +60,77 @@ abbrev pub Fits : Option Order → Type 0
 Fits (Some (order.Packet bytes)) = AreBytes bytes
 Fits _ = Unit {0}
 
-packet_ends : (bytes : List ℕ) (words : Words) → AreBytes bytes → Fits (ends (order.Packet bytes) words)
-packet_ends bytes [] h = h
-packet_ends bytes (w ∷ words) h = tt
+-- a line of one word, or the last word of a line
+ends_fit : (order : Order) (words : Words) → Fits (Some order) → Fits (ends order words)
+ends_fit order [] h = h
+ends_fit order (w ∷ words) h = tt
 
-packet_next : (o : Option (List ℕ)) (words : Words) → HexFits o → Fits (goes_on (λ bytes words. ends (order.Packet bytes) words) o words)
-packet_next None words h = tt
-packet_next (Some bytes) words h = packet_ends bytes words h
+next_fits : {X : Type 0} (next : X → Words → Option Order) (o : Option X) (words : Words)
+    → ((x : X) → o ≡ Some x → (more : Words) → Fits (next x more)) → Fits (goes_on next o words)
+next_fits next None words h = tt
+next_fits next (Some x) words h = h x refl words
+
+field_fits : {X : Type 0} (read : List ℕ → Option X) (next : X → Words → Option Order)
+    → ((w : List ℕ) (x : X) → read w ≡ Some x → (more : Words) → Fits (next x more)) → (words : Words) → Fits (field read next words)
+field_fits read next h [] = tt
+field_fits read next h (w ∷ words) = next_fits next (read w) words (h w)
+
+either_fits : (one other : Option Order) → Fits one → Fits other → Fits (option_or one other)
+either_fits None other h k = k
+either_fits (Some order) other h k = h
+
+-- a form of line, behind its first word
+form_fits : (name : List ℕ) (next : Words → Option Order) → ((words : Words) → Fits (next words)) → (words : Words) → Fits (word name next words)
+form_fits name next h [] = tt
+form_fits name next h (w ∷ words) = if_fits (is w name) (next words) (h words)
+    where
+      if_fits : (b : Bool) (o : Option Order) → Fits o → Fits (if b then o else None)
+      if_fits true o k = k
+      if_fits false o k = tt
+
+abbrev AllFit : List (Words → Option Order) → Type 0
+AllFit [] = Unit {0}
+AllFit (form ∷ forms) = ((words : Words) → Fits (form words)) × AllFit forms
+
+forms_fit : (forms : List (Words → Option Order)) → AllFit forms → (words : Words) → Fits (one_of forms words)
+forms_fit [] h words = tt
+forms_fit (form ∷ forms) h words = either_fits (form words) (one_of forms words) (h.0 words) (forms_fit forms h.1 words)
 
 packet_fits : (words : Words) → Fits (packet_of words)
-packet_fits [] = tt
-packet_fits (word ∷ words) = packet_next (hex_of word) words (hex_fits word)
-
-resend_fits : (words : Words) → Fits (ends order.Resend words)
-resend_fits [] = tt
-resend_fits (w ∷ words) = tt
-
-ack_fits : (words : Words) → Fits (ends order.Ack words)
-ack_fits [] = tt
-ack_fits (w ∷ words) = tt
-
-files_fit : (words : Words) → Fits (ends order.Files words)
-files_fit [] = tt
-files_fit (w ∷ words) = tt
-
-cut_ends : (local remote segment : ℕ) (words : Words) → Fits (ends (order.New (Cut local remote segment)) words)
-cut_ends local remote segment [] = tt
-cut_ends local remote segment (w ∷ words) = tt
-
-cut_next : (local remote : ℕ) (o : Option ℕ) (words : Words) → Fits (goes_on (λ segment words. ends (order.New (Cut local remote segment)) words) o words)
-cut_next local remote None words = tt
-cut_next local remote (Some segment) words = cut_ends local remote segment words
+packet_fits = field_fits hex_of (λ bytes. ends (order.Packet bytes))
+    (λ w bytes read more. ends_fit (order.Packet bytes) more (subst HexFits read (hex_fits w)))
 
 between_fits : (local remote : ℕ) (words : Words) → Fits (between_of local remote words)
-between_fits local remote [] = tt
-between_fits local remote (word ∷ words) = cut_next local remote (long word) words
-
-remote_next : (local : ℕ) (o : Option ℕ) (words : Words) → Fits (goes_on (λ remote words. between_of local remote words) o words)
-remote_next local None words = tt
-remote_next local (Some remote) words = between_fits local remote words
-
-remote_first : (local : ℕ) (words : Words) → Fits (first address_of words (λ remote words. between_of local remote words))
-remote_first local [] = tt
-remote_first local (word ∷ words) = remote_next local (address_of word) words
-
-local_next : (o : Option ℕ) (words : Words) → Fits (goes_on (λ local words. first address_of words (λ remote words. between_of local remote words)) o words)
-local_next None words = tt
-local_next (Some local) words = remote_first local words
+between_fits local remote = forms_fit (_ ∷ _ ∷ []) (
+    (λ words. ends_fit (order.New (Between local remote)) words tt),
+    field_fits long (λ segment. ends (order.New (Cut local remote segment)))
+        (λ w segment read more. ends_fit (order.New (Cut local remote segment)) more tt),
+    tt)
 
 anew_fits : (words : Words) → Fits (anew_of words)
-anew_fits [] = tt
-anew_fits (word ∷ words) = local_next (address_of word) words
+anew_fits = forms_fit (_ ∷ _ ∷ []) (
+    (λ words. ends_fit (order.New Same) words tt),
+    field_fits address_of _ (λ w local read. field_fits address_of _ (λ v remote read'. between_fits local remote)),
+    tt)
 
-file_fits : (o : Option FileLine) → Fits (option_map order.File o)
-file_fits None = tt
-file_fits (Some file) = tt
+map_fits : {X : Type 0} (of : X → Order) → ((x : X) → Fits (Some (of x))) → (o : Option X) → Fits (option_map of o)
+map_fits of h None = tt
+map_fits of h (Some x) = h x
 
-record_fits : (o : Option RecordLine) → Fits (option_map order.Record o)
-record_fits None = tt
-record_fits (Some r) = tt
-
-ask_fits : (o : Option Request) → Fits (option_map order.Ask o)
-ask_fits None = tt
-ask_fits (Some request) = tt
-
-words_fit : (line : List ℕ) (v : Verb) (words : Words) → Fits (words_order line v words)
-words_fit line verb.Packet words = packet_fits words
-words_fit line verb.Resend words = resend_fits words
-words_fit line verb.Ack words = ack_fits words
-words_fit line verb.New words = anew_fits words
-words_fit line verb.Files words = files_fit words
-words_fit line verb.File words = file_fits (file_of line)
-words_fit line verb.Record words = record_fits (record_of line)
-words_fit line verb.Ask words = ask_fits (wish_of words)
-
-verb_next : (line : List ℕ) (o : Option Verb) (words : Words) → Fits (goes_on (words_order line) o words)
-verb_next line None words = tt
-verb_next line (Some v) words = words_fit line v words
-
-verb_first : (line : List ℕ) (words : Words) → Fits (first verb_of words (words_order line))
-verb_first line [] = tt
-verb_first line (word ∷ words) = verb_next line (verb_of word) words
+words_fit : (line : List ℕ) (words : Words) → Fits (order_words line words)
+words_fit line = forms_fit (_ ∷ _ ∷ _ ∷ _ ∷ _ ∷ _ ∷ _ ∷ _ ∷ []) (
+    form_fits (codes ">") packet_of packet_fits,
+    form_fits (codes "resend") _ (λ words. ends_fit order.Resend words tt),
+    form_fits (codes "ack") _ (λ words. ends_fit order.Ack words tt),
+    form_fits (codes "new") anew_of anew_fits,
+    form_fits (codes "files") _ (λ words. ends_fit order.Files words tt),
+    form_fits (codes "file") _ (λ words. map_fits order.File (λ file. tt) (file_of line)),
+    form_fits [] _ (λ words. map_fits order.Record (λ r. tt) (record_of line)),
+    form_fits (codes "ask") _ (λ words. map_fits order.Ask (λ request. tt) (wish_of words)),
+    tt)
 
 pub line_fits : (line : List ℕ) → Fits (order_of line)
-line_fits line = verb_first line (words_of line)
+line_fits line = words_fit line (words_of line)
 
 -- ---- What a link sends again.
 

@@ -1,7 +1,7 @@
 //! What the lines of a live end say.
 
 ghost use Rattle.std.specs.Prelude.{◌≡◌, ◌+◌, ◌*◌};
-ghost use Rattle.dap_live.specs.Orders.{address_of, anew_of, between_of, order_of, packet_of, setup_anew, verb_of, words_order};
+ghost use Rattle.dap_live.specs.Orders.{address_of, anew_of, between_of, order_of, packet_of, setup_anew};
 ghost use Rattle.dap_text.specs.Words.{ends};
 
 use dap_text::{
@@ -31,45 +31,6 @@ pub(crate) enum Order<'a> {
     File(FileLine<'a>),
     Record(RecordLine<'a>),
     Ask(Wish<'a>),
-}
-
-/// The first word of a line.
-#[derive(Clone, Copy)]
-pub(crate) enum Verb {
-    Packet,
-    Resend,
-    Ack,
-    New,
-    Files,
-    File,
-    Record,
-    Ask,
-}
-
-/// What a first word says.
-fn read_verb(word: &[u8]) -> Option<Verb>
-    ensures { result ≡ verb_of word.now }
-{
-    let verb = if is(word, ">") {
-        Verb::Packet
-    } else if is(word, "resend") {
-        Verb::Resend
-    } else if is(word, "ack") {
-        Verb::Ack
-    } else if is(word, "new") {
-        Verb::New
-    } else if is(word, "files") {
-        Verb::Files
-    } else if is(word, "file") {
-        Verb::File
-    } else if is(word, "") {
-        Verb::Record
-    } else if is(word, "ask") {
-        Verb::Ask
-    } else {
-        return None;
-    };
-    Some(verb)
 }
 
 /// `HEX`
@@ -131,29 +92,22 @@ fn read_plain<'a>(words: Words<'a>, order: Order<'a>) -> Option<Order<'a>>
     Some(order)
 }
 
-/// What a line says, by its first word and those after it.
-fn read_words<'a>(line: &'a [u8], verb: Verb, words: Words<'a>) -> Option<Order<'a>>
-    ensures { result ≡ words_order line.now verb words.entry }
-{
-    match verb {
-        Verb::Packet => read_packet(words),
-        Verb::Resend => read_plain(words, Order::Resend),
-        Verb::Ack => read_plain(words, Order::Ack),
-        Verb::New => read_anew(words),
-        Verb::Files => read_plain(words, Order::Files),
-        Verb::File => Some(Order::File(read_file_line(line)?)),
-        Verb::Record => Some(Order::Record(read_record_line(line)?)),
-        Verb::Ask => Some(Order::Ask(read_wish(words)?)),
-    }
-}
-
 /// What a line says. It takes no memory.
 pub(crate) fn read_order(line: &[u8]) -> Option<Order<'_>>
     ensures { result ≡ order_of line.now }
 {
     let mut words = Words::of(line);
-    let verb = read_verb(words.next()?)?;
-    read_words(line, verb, words)
+    match words.next()? {
+        word if is(word, ">") => read_packet(words),
+        word if is(word, "resend") => read_plain(words, Order::Resend),
+        word if is(word, "ack") => read_plain(words, Order::Ack),
+        word if is(word, "new") => read_anew(words),
+        word if is(word, "files") => read_plain(words, Order::Files),
+        word if is(word, "file") => Some(Order::File(read_file_line(line)?)),
+        word if is(word, "") => Some(Order::Record(read_record_line(line)?)),
+        word if is(word, "ask") => Some(Order::Ask(read_wish(words)?)),
+        _ => None,
+    }
 }
 
 /// How a link is set up that was set up so.

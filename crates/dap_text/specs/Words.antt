@@ -70,11 +70,6 @@ abbrev pub goes_on : {X Y : Type 0} → (X → Words → Option Y) → Option X 
 goes_on next None words = None
 goes_on next (Some x) words = next x words
 
--- a word is read, and then what follows
-abbrev pub first : {X Y : Type 0} → (List ℕ → Option X) → Words → (X → Words → Option Y) → Option Y
-first read [] next = None
-first read (word ∷ words) next = goes_on next (read word) words
-
 -- the first word is this one, and then what follows
 abbrev pub word : {X : Type 0} → List ℕ → (Words → Option X) → Words → Option X
 word name next [] = None
@@ -82,7 +77,8 @@ word name next (w ∷ words) = if is w name then next words else None
 
 -- a word is read, and then what follows
 abbrev pub field : {X Y : Type 0} → (List ℕ → Option X) → (X → Words → Option Y) → Words → Option Y
-field read next words = first read words next
+field read next [] = None
+field read next (word ∷ words) = goes_on next (read word) words
 
 -- the first of the forms in which the words say something
 abbrev pub one_of : {X : Type 0} → List (Words → Option X) → Words → Option X

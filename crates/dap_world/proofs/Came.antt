@@ -11,7 +11,7 @@ use Rattle.nsp_link.specs.Link.{LinkValue, Sends, Delivered, Keeps, MayRefuse, g
 use Rattle.nsp_link.specs.declared.link.Got.{Got}
 use Rattle.nsp_link.specs.declared.fault.LinkFault.{LinkFault}
 use Rattle.dap_end.specs.Ports.{PortValue, with_link as port_with}
-use Rattle.dap_end.specs.Receiving.{Receives}
+use Rattle.nsp_link.specs.Receiving.{Receives}
 use Rattle.dap_end.specs.Asking.{AskingValue, HasStill}
 use Rattle.dap_end.specs.Serving.{ServingValue, IsStill}
 use Rattle.nsp_link.proofs.ForCallers.{closes, keeps}

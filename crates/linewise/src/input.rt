@@ -9,8 +9,8 @@ use memchr::memchr;
 use std::alloc::Global;
 use std::io::{BufRead, Error, ErrorKind, Result};
 
-/// The most bytes of a line, without its end.
-pub(crate) const LONGEST: usize = 16_777_216;
+/// The most bytes of a line, without its end. Own.
+pub const LONGEST: usize = 16_777_216;
 
 /// A carriage return and a line feed.
 const END: usize = 2;

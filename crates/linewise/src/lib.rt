@@ -5,4 +5,5 @@ mod input;
 mod output;
 mod talking;
 
+pub use input::LONGEST;
 pub use talking::{Answers, Became, TalkFault, talk};

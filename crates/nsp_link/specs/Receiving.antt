@@ -1,15 +1,17 @@
 -- What receiving computes, by the numbers that a packet shows.
-use Rattle.std.specs.Prelude.{◌≡◌, ℕ, ◌+◌, ◌-◌, ◌<◌, ◌≤◌, Bool, true, false, List, ◌∷◌, ◌⊎◌, length, drop, Result, Ok, Err, Option, Some, None, nat_lt, if◌then◌else◌}
+use Rattle.std.specs.Prelude.{◌≡◌, ℕ, ◌+◌, ◌-◌, ◌<◌, ◌≤◌, Bool, true, false, List, ◌∷◌, ◌⊎◌, length, drop, Result, Ok, Err, Option, Some, None, IfSome, IsOk, MatchResult, nat_lt, if◌then◌else◌}
 use Rattle.nsp_seg.specs.Numbers.{residue}
 use Rattle.nsp_link.specs.declared.fault.LinkFault.{LinkFault}
-use Rattle.nsp_link.specs.declared.fault.LinkFault.TheVariants.{WrongLink, BadSequence, MessageTooLong, NoMemory}
-use Rattle.nsp_seg.specs.Packets.{PacketValue, SegmentValue, segment, data_ack}
+use Rattle.nsp_link.specs.declared.fault.LinkFault.TheVariants.{WrongLink, BadSequence, MessageTooLong, NoMemory, Failed, Malformed}
+use Rattle.nsp_seg.specs.declared.packet.SegFault.{SegFault}
+use Rattle.nsp_seg.specs.Packets.{PacketValue, SegmentValue, segment, data_ack, Spells, HasFault}
 use Rattle.nsp_link.specs.declared.link.Got.{Got}
 use Rattle.nsp_link.specs.declared.link.Got.TheVariants.{Accepted, Repeat, Early, AckOnly}
 use Rattle.nsp_link.specs.Cutting.{Piece}
 use Rattle.nsp_link.specs.Coming.{Coming, taken_all, AllFit, RefusesAll}
 use Rattle.nsp_link.specs.Holding.{following, inserted}
-use Rattle.nsp_link.specs.Link.{LinkValue, coming, failed_link, first_ack, piece_of, IsBetween, Keeps}
+use Rattle.nsp_link.specs.Limits.{most_segments}
+use Rattle.nsp_link.specs.Link.{LinkValue, IsDue, MayRefuse, got_of, Delivered, Stands, SendsStill, coming, failed_link, first_ack, piece_of, IsBetween, Keeps}
 
 -- How many segments a field acknowledges anew: 0 where its number is 2,048 or more ahead, which is old, and nothing where
 -- it is less far ahead, and of a segment never sent.
@@ -99,3 +101,38 @@ Received old (data_ack s) (Err e) new =
     ((IsBetween old.remote old.local (data_ack s) → ⊥) × (e ≡ WrongLink) × (new ≡ old))
     ⊎ (IsBetween old.remote old.local (data_ack s) × (newly_acked old (first_ack (Some s.ack1) s.ack2) ≡ None)
     × (e ≡ BadSequence) × (new ≡ failed_link old))
+
+-- ---- What an end does with any bytes.
+
+-- the bytes are malformed, which changes nothing, or they are a packet, and its numbers tell what becomes of it
+abbrev pub ReceivedBytes : (old new : LinkValue) → List ℕ → Result Got LinkFault → Type 0
+ReceivedBytes old new bytes result =
+    ((f : SegFault) × (result ≡ Err (Malformed f)) × HasFault f bytes × (new ≡ old))
+    ⊎ ((p : PacketValue) × Spells p bytes × Received old p result new)
+
+-- A packet that is due from a peer that sends these NSP messages: what it is answered follows from the number of its
+-- segment, and the link takes just the messages whose last segment has come, each once and in order. Only memory, or the
+-- limit of 2^40 segments, refuses it, and then nothing has changed.
+abbrev pub ReceivedDue : (old new : LinkValue) → List ℕ → Result Got LinkFault → Type 0
+ReceivedDue old new bytes result =
+    (size : ℕ) (messages given : List (List ℕ)) (p : PacketValue) (k : Option ℕ) (a : ℕ)
+    → Spells p bytes → IsDue old size messages given p k a
+    → MatchResult result
+    (λ got. (got ≡ got_of old.received k) × Delivered old new k a × Stands new size messages given)
+    (λ e. MayRefuse old k e × (new ≡ old))
+
+-- one that only acknowledges, or whose segment was taken before, is never refused
+abbrev pub UnrefusedDue : LinkValue → List ℕ → Result Got LinkFault → Type 0
+UnrefusedDue old bytes result =
+    (size : ℕ) (messages given : List (List ℕ)) (p : PacketValue) (k : Option ℕ) (a : ℕ)
+    → Spells p bytes → IsDue old size messages given p k a → IfSome k (λ n. n ≤ old.received) → IsOk result
+
+pub record Receives (old new : LinkValue) (bytes : List ℕ) (result : Result Got LinkFault) : Type 0 where
+  pub failed : old.failed ≡ true → (result ≡ Err Failed) × (new ≡ old)
+  pub any : old.failed ≡ false → ReceivedBytes old new bytes result
+  pub due : ReceivedDue old new bytes result
+  pub unrefused : UnrefusedDue old bytes result
+  -- no end takes more segments than that
+  pub few : new.received ≤ most_segments
+  -- the messages sent stay those that were sent
+  pub sends : SendsStill old new

@@ -449,7 +449,7 @@ impl LinkEnd {
     ghost use Rattle.nsp_link.specs.Inner.Pieces.{piece_with};
     ghost use Rattle.nsp_link.specs.Coming.{AllFit};
     ghost use Rattle.nsp_link.specs.Link.{coming, Keeps};
-    ghost use Rattle.nsp_link.specs.Receiving.{run, closed, kept, NotTaken, Received};
+    ghost use Rattle.nsp_link.specs.Receiving.{run, closed, kept, NotTaken, Received, ReceivedBytes, ReceivedDue, UnrefusedDue};
     ghost use Rattle.std.specs.Option.{option_copied};
 
     /// The oldest whole message, which leaves (own). It takes no memory.
@@ -511,9 +511,7 @@ impl LinkEnd {
             → Received self.old p result self.new }
         // All bytes: they are malformed, which changes nothing, or they are a packet.
         ensures whole { self.old.failed ≡ false
-            → ((f : SegFault) × (result ≡ Err (Malformed f)) × HasFault f packet.now
-            × (self.new ≡ self.old))
-            ⊎ ((p : PacketValue) × Spells p packet.now × Received self.old p result self.new) }
+            → ReceivedBytes self.old self.new packet.now result }
         // Bytes at fault are malformed with that fault, and these alone; this changes nothing.
         ensures fault_found { self.old.failed ≡ false → (f : SegFault) → HasFault f packet.now
             → (result ≡ Err (Malformed f)) × (self.new ≡ self.old) }
@@ -522,18 +520,9 @@ impl LinkEnd {
         // The messages sent stay those that were sent.
         ensures sends { SendsStill self.old self.new }
         // A packet that is due, by the counts for which its numbers stand.
-        ensures due { (size : ℕ) (messages given : List (List ℕ)) (p : PacketValue)
-            (k : Option ℕ) (a : ℕ)
-            → Spells p packet.now → IsDue self.old size messages given p k a
-            → MatchResult result
-            (λ got. (got ≡ got_of self.old.received k) × Delivered self.old self.new k a
-            × Stands self.new size messages given)
-            (λ e. MayRefuse self.old k e × (self.new ≡ self.old)) }
+        ensures due { ReceivedDue self.old self.new packet.now result }
         // One that only acknowledges, or whose segment was taken before, is never refused.
-        ensures unrefused { (size : ℕ) (messages given : List (List ℕ)) (p : PacketValue)
-            (k : Option ℕ) (a : ℕ)
-            → Spells p packet.now → IsDue self.old size messages given p k a
-            → IfSome k (λ n. n ≤ self.old.received) → IsOk result }
+        ensures unrefused { UnrefusedDue self.old packet.now result }
     {
         if self.failed {
             return Err(LinkFault::Failed);

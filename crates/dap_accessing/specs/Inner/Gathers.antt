@@ -5,11 +5,12 @@ use Rattle.dap_msg.specs.Codes as codes
 use Rattle.dap_msg.specs.Message.{Attrib, Accomp, Filedata, Status, Other}
 use Rattle.dap_msg.specs.Items.{Item, Whole}
 use Rattle.dap_msg.specs.Exchange.{number_of}
+use Rattle.rec_file.specs.Limits.{greatest_number}
 use Rattle.dap_accessing.specs.declared.report.Report.{Report}
 use Rattle.dap_accessing.specs.declared.report.Report.TheVariants as report
 use Rattle.dap_accessing.specs.declared.pending.Pending.{Pending}
 use Rattle.dap_accessing.specs.declared.pending.Pending.TheVariants as pending
-use Rattle.dap_accessing.specs.Told.{Hearing, Reports, Waits, Unexpected, refusal, hear_config, hear_ack, opened_as, greatest_mrn, hear_record, hear_done, ending_of, told_of, completes, hear_closed}
+use Rattle.dap_accessing.specs.Told.{Hearing, Reports, Waits, Unexpected, refusal, hear_config, hear_ack, opened_as, hear_record, hear_done, ending_of, told_of, completes, hear_closed}
 
 -- the Ack of an open or a create
 abbrev pub gather_opened : Report → List Item → Hearing
@@ -21,7 +22,7 @@ abbrev pub gather_attributes : List Item → Hearing
 gather_attributes [] = Waits
 gather_attributes (Whole (Other _ _) ∷ rest) = gather_attributes rest
 gather_attributes (Whole (Attrib a) ∷ rest) =
-    if nat_le (number_of (unwrap_or a.mrn [])) greatest_mrn then gather_opened (opened_as a) rest else Unexpected
+    if nat_le (number_of (unwrap_or a.mrn [])) greatest_number then gather_opened (opened_as a) rest else Unexpected
 gather_attributes (Whole (Status status) ∷ rest) = refusal status rest
 gather_attributes (_ ∷ rest) = Unexpected
 

@@ -6,7 +6,7 @@ use Rattle.nsp_link.specs.Limits.{most_segments}
 use Rattle.nsp_link.specs.Link.{LinkValue, Sends, Stands, Writes}
 use Rattle.nsp_link.specs.declared.link.Got.{Got}
 use Rattle.nsp_link.specs.declared.fault.LinkFault.{LinkFault}
-use Rattle.dap_end.specs.Receiving.{Receives}
+use Rattle.nsp_link.specs.Receiving.{Receives}
 use Rattle.dap_world.specs.Machine.{is_old, is_old_segment}
 use Rattle.dap_world.specs.Inner.Sides.{SideValue, AreShort}
 use Rattle.dap_world.specs.declared.side.Wired.{Wired}

@@ -1,6 +1,6 @@
 use Rattle.std.proofs.Common.{◌≡◌, ℕ, List, refl, subst, inl, inr, false}
 use Rattle.nsp_link.specs.Link.{LinkValue}
-use Rattle.dap_end.specs.Receiving.{Receives}
+use Rattle.nsp_link.specs.Receiving.{Receives}
 use Rattle.dap_world.specs.Inner.Ways.{NotDue, is_old_wired}
 use Rattle.dap_world.proofs.exchange.deliver_a.Goals as goal
 
