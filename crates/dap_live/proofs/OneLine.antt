@@ -31,7 +31,7 @@ use Rattle.linewise.specs.Talks.{Answering, AnswersLine, IsUnread, is_skipped, l
 use Rattle.dap_live.specs.declared.orders.Anew.TheVariants.{Same, Between, Cut}
 use Rattle.dap_live.specs.declared.orders.Order.{Order}
 use Rattle.dap_live.specs.declared.orders.Order.TheVariants as order
-use Rattle.dap_live.specs.Orders.{address_of, anew_of, between_of, order_of, order_words, packet_of}
+use Rattle.dap_live.specs.Orders.{address_of, anew_of, between_of, order_forms, order_of, packet_of}
 use Rattle.dap_live.specs.Sending.{AreAgain, AllAgain, SaysAck, UnlessFailed}
 use Rattle.dap_live.specs.Texts.{end_became, link_became, packet_text, taken_became}
 
@@ -88,49 +88,61 @@ form_fits name next h (w ∷ words) = if_fits (is w name) (next words) (h words)
       if_fits true o k = k
       if_fits false o k = tt
 
-abbrev AllFit : List (Words → Option Order) → Type 0
-AllFit [] = Unit {0}
-AllFit (form ∷ forms) = ((words : Words) → Fits (form words)) × AllFit forms
+-- forms that all are such
+AllFit : List (Words → Option Order) → Type 0
+AllFit forms = (words : Words) → Fits (one_of forms words)
 
-forms_fit : (forms : List (Words → Option Order)) → AllFit forms → (words : Words) → Fits (one_of forms words)
-forms_fit [] h words = tt
-forms_fit (form ∷ forms) h words = either_fits (form words) (one_of forms words) (h.0 words) (forms_fit forms h.1 words)
+none_fit : AllFit []
+unfolding AllFit
+none_fit words = tt
+
+also : (form : Words → Option Order) (forms : List (Words → Option Order)) → ((words : Words) → Fits (form words)) → AllFit forms
+    → AllFit (form ∷ forms)
+unfolding AllFit
+also form forms h k words = either_fits (form words) (one_of forms words) (h words) (k words)
 
 packet_fits : (words : Words) → Fits (packet_of words)
 packet_fits = field_fits hex_of (λ bytes. ends (order.Packet bytes))
     (λ w bytes read more. ends_fit (order.Packet bytes) more (subst HexFits read (hex_fits w)))
 
+all_fit : (forms : List (Words → Option Order)) → AllFit forms → (words : Words) → Fits (one_of forms words)
+unfolding AllFit
+all_fit forms h words = h words
+
 between_fits : (local remote : ℕ) (words : Words) → Fits (between_of local remote words)
-between_fits local remote = forms_fit (_ ∷ _ ∷ []) (
-    (λ words. ends_fit (order.New (Between local remote)) words tt),
-    field_fits long (λ segment. ends (order.New (Cut local remote segment)))
-        (λ w segment read more. ends_fit (order.New (Cut local remote segment)) more tt),
-    tt)
+between_fits local remote = all_fit
+    (ends (order.New (Between local remote)) ∷ field long (λ segment. ends (order.New (Cut local remote segment))) ∷ [])
+    (also _ _ (λ words. ends_fit (order.New (Between local remote)) words tt)
+    (also _ _ (field_fits long (λ segment. ends (order.New (Cut local remote segment)))
+        (λ w segment read more. ends_fit (order.New (Cut local remote segment)) more tt))
+    none_fit))
 
 anew_fits : (words : Words) → Fits (anew_of words)
-anew_fits = forms_fit (_ ∷ _ ∷ []) (
-    (λ words. ends_fit (order.New Same) words tt),
-    field_fits address_of _ (λ w local read. field_fits address_of _ (λ v remote read'. between_fits local remote)),
-    tt)
+anew_fits = all_fit
+    (ends (order.New Same) ∷ field address_of (λ local. field address_of (λ remote. between_of local remote)) ∷ [])
+    (also _ _ (λ words. ends_fit (order.New Same) words tt)
+    (also _ _ (field_fits address_of (λ local. field address_of (λ remote. between_of local remote))
+        (λ w local read. field_fits address_of (λ remote. between_of local remote) (λ v remote read'. between_fits local remote)))
+    none_fit))
 
 map_fits : {X : Type 0} (of : X → Order) → ((x : X) → Fits (Some (of x))) → (o : Option X) → Fits (option_map of o)
 map_fits of h None = tt
 map_fits of h (Some x) = h x
 
-words_fit : (line : List ℕ) (words : Words) → Fits (order_words line words)
-words_fit line = forms_fit (_ ∷ _ ∷ _ ∷ _ ∷ _ ∷ _ ∷ _ ∷ _ ∷ []) (
-    form_fits (codes ">") packet_of packet_fits,
-    form_fits (codes "resend") _ (λ words. ends_fit order.Resend words tt),
-    form_fits (codes "ack") _ (λ words. ends_fit order.Ack words tt),
-    form_fits (codes "new") anew_of anew_fits,
-    form_fits (codes "files") _ (λ words. ends_fit order.Files words tt),
-    form_fits (codes "file") _ (λ words. map_fits order.File (λ file. tt) (file_of line)),
-    form_fits [] _ (λ words. map_fits order.Record (λ r. tt) (record_of line)),
-    form_fits (codes "ask") _ (λ words. map_fits order.Ask (λ request. tt) (wish_of words)),
-    tt)
+forms_fit : (line : List ℕ) → AllFit (order_forms line)
+forms_fit line =
+    also _ _ (form_fits (codes ">") packet_of packet_fits)
+    (also _ _ (form_fits (codes "resend") (ends order.Resend) (λ words. ends_fit order.Resend words tt))
+    (also _ _ (form_fits (codes "ack") (ends order.Ack) (λ words. ends_fit order.Ack words tt))
+    (also _ _ (form_fits (codes "new") anew_of anew_fits)
+    (also _ _ (form_fits (codes "files") (ends order.Files) (λ words. ends_fit order.Files words tt))
+    (also _ _ (form_fits (codes "file") (λ words. option_map order.File (file_of line)) (λ words. map_fits order.File (λ file. tt) (file_of line)))
+    (also _ _ (form_fits [] (λ words. option_map order.Record (record_of line)) (λ words. map_fits order.Record (λ r. tt) (record_of line)))
+    (also _ _ (form_fits (codes "ask") (λ words. option_map order.Ask (wish_of words)) (λ words. map_fits order.Ask (λ request. tt) (wish_of words)))
+    none_fit)))))))
 
 pub line_fits : (line : List ℕ) → Fits (order_of line)
-line_fits line = words_fit line (words_of line)
+line_fits line = all_fit (order_forms line) (forms_fit line) (words_of line)
 
 -- ---- What a link sends again.
 

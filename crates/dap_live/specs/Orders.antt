@@ -37,9 +37,10 @@ anew_of = one_of (
     ∷ field address_of (λ local. field address_of (λ remote. between_of local remote))
     ∷ [])
 
--- The first word, and those after it. The line of a record begins with two spaces, so its first word is empty.
-abbrev pub order_words : List ℕ → Words → Option Order
-order_words line = one_of (
+-- The forms of a line: its first word, and those after it. That of a record begins with two spaces, so its first word
+-- is empty.
+abbrev pub order_forms : List ℕ → List (Words → Option Order)
+order_forms line =
     word (codes ">") packet_of
     ∷ word (codes "resend") (ends order.Resend)
     ∷ word (codes "ack") (ends order.Ack)
@@ -48,11 +49,11 @@ order_words line = one_of (
     ∷ word (codes "file") (λ words. option_map order.File (file_of line))
     ∷ word [] (λ words. option_map order.Record (record_of line))
     ∷ word (codes "ask") (λ words. option_map order.Ask (wish_of words))
-    ∷ [])
+    ∷ []
 
 -- what a line says
 abbrev pub order_of : List ℕ → Option Order
-order_of line = order_words line (words_of line)
+order_of line = one_of (order_forms line) (words_of line)
 
 -- how the link is set up then
 abbrev pub setup_anew : LinkSetup → Anew → LinkSetup
