@@ -6,9 +6,11 @@ ghost use Rattle.dap_accessed.specs.declared.fault.AddFault.TheVariants as fault
 use dap_msg::MsgFault;
 use rec_file::Refusal;
 use std::alloc::{AllocError, AllocFailed};
+use thiserror::Error;
 
 /// Memory was refused (own). Nothing has changed, and the same call may be made again.
-#[derive(Clone, Copy, Debug, PartialEq, Eq)]
+#[derive(Clone, Copy, Debug, PartialEq, Eq, Error)]
+#[error("memory ran out")]
 pub struct NoMemory;
 
 impl From<AllocError> for NoMemory {
@@ -31,17 +33,22 @@ impl From<MsgFault> for NoMemory {
 }
 
 /// Why a file or a record isn't added, in the order in which it is looked at (own). Nothing has changed.
-#[derive(Clone, Copy, Debug, PartialEq, Eq)]
+#[derive(Clone, Copy, Debug, PartialEq, Eq, Error)]
 pub enum AddFault {
     /// The peer's Config was served.
+    #[error("the peer's Config was served")]
     Busy,
     /// A file has the name.
+    #[error("a file has the name")]
     FileExists,
     /// There is no file that could take a record.
+    #[error("there is no file that could take a record")]
     NoFile,
     /// The newest file doesn't take the record.
+    #[error("the newest file doesn't take the record: {0}")]
     Record(Refusal),
     /// Memory was refused. The same call may be made again.
+    #[error("memory ran out")]
     NoMemory,
 }
 

@@ -1,31 +1,40 @@
 //! Why a request or an answer is refused.
 
 use crate::report::Report;
+use thiserror::Error;
 
 /// Why a request isn't asked, in the order in which it is looked at. Each leaves the end unchanged.
 /// Own.
-#[derive(Clone, Copy, Drop, Debug, PartialEq, Eq)]
+#[derive(Clone, Copy, Drop, Debug, PartialEq, Eq, Error)]
 pub enum AskFault {
     /// An answer had no place, so the end has failed.
+    #[error("an answer had no place, so the end has failed")]
     Failed,
     /// A report is still due.
+    #[error("a report is still due")]
     Busy,
     /// The request isn't asked in this phase.
+    #[error("the request isn't asked in this phase")]
     WrongPhase,
     /// A message has no spelling, or is longer than the peer takes.
+    #[error("a message has no spelling, or is longer than the peer takes")]
     TooLarge,
     /// Memory ran out.
+    #[error("memory ran out")]
     NoMemory,
 }
 
 /// Why an answer isn't read. Own.
-#[derive(Clone, Copy, Drop, Debug, PartialEq, Eq)]
+#[derive(Clone, Copy, Drop, Debug, PartialEq, Eq, Error)]
 pub enum ReadFault {
     /// An earlier answer had no place, so the end has failed.
+    #[error("an earlier answer had no place, so the end has failed")]
     Failed,
     /// The answer has no place. Afterwards every call answers `Failed`.
+    #[error("the answer has no place")]
     Unexpected,
     /// Memory ran out. Nothing has changed, and the same call may be made again.
+    #[error("memory ran out")]
     NoMemory,
 }
 

@@ -28,7 +28,7 @@ use std::alloc::Global;
 use std::marker::Model;
 
 /// What reading the next answer comes to (own).
-#[derive(Drop)]
+#[derive(Drop, Debug, PartialEq)]
 pub enum Heard {
     /// Nothing came that wasn't read.
     Nothing,

@@ -2,22 +2,27 @@
 
 use dap_accessing::ReadFault;
 use nsp_link::{Got, LinkFault};
+use thiserror::Error;
 
 /// Why an end didn't do all that there was to do (own). What was done before that stays done, and the same call
 /// goes on.
-#[derive(Clone, Copy, Drop, Debug, PartialEq, Eq)]
+#[derive(Clone, Copy, Drop, Debug, PartialEq, Eq, Error)]
 pub enum EndFault {
     /// The link took no message, or no packet was written.
+    #[error("no more was sent: {0}")]
     Link(LinkFault),
     /// An answer that came wasn't read.
+    #[error("an answer wasn't read: {0}")]
     Read(ReadFault),
 }
 
 /// What became of a packet that wasn't answered in full (own).
-#[derive(Clone, Copy, Drop, Debug, PartialEq, Eq)]
+#[derive(Clone, Copy, Drop, Debug, PartialEq, Eq, Error)]
 pub enum TakeFault {
     /// The link refused it, and nothing of it was taken.
+    #[error("the packet was refused: {0}")]
     Refused(LinkFault),
     /// The link took it in so, and then not all was done; what is left does a call that goes on.
+    #[error("the packet was taken in, and then not all was done: {1}")]
     Unfinished(Got, EndFault),
 }

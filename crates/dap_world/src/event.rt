@@ -3,6 +3,7 @@
 use dap_accessing::{AskFault, Request};
 use nsp_link::Got;
 use std::alloc::{AllocError, AllocFailed};
+use thiserror::Error;
 
 /// The two ends (own).
 #[derive(Clone, Copy, Drop, Debug, PartialEq, Eq)]
@@ -29,7 +30,7 @@ impl End {
 }
 
 /// What happens in a world (own).
-#[derive(Drop)]
+#[derive(Drop, Debug, PartialEq)]
 pub enum Event {
     /// A request is asked of A; its messages wait.
     Ask(Request),
@@ -69,21 +70,28 @@ pub enum Step {
 }
 
 /// Why an event has no step, or a call none (own). A refused event leaves the world unchanged.
-#[derive(Clone, Copy, Drop, Debug, PartialEq, Eq)]
+#[derive(Clone, Copy, Drop, Debug, PartialEq, Eq, Error)]
 pub enum WorldFault {
     /// The other end wrote no packet of this place.
+    #[error("the other end wrote no packet of this place")]
     NoSuchPacket,
     /// The segment or the acknowledgement is more than 2,047 numbers old.
+    #[error("the segment or the acknowledgement is more than 2,047 numbers old")]
     Stale,
     /// Nothing waits, or may be written, served or read.
+    #[error("nothing waits, or may be written, served or read")]
     NothingToDo,
     /// The request isn't asked.
+    #[error("the request isn't asked: {0}")]
     Ask(AskFault),
     /// Memory was refused.
+    #[error("memory ran out")]
     NoMemory,
     /// A direction would have more than 2^40 segments.
+    #[error("a direction would have more than 2^40 segments")]
     Exhausted,
     /// A number of the setup isn't in its range.
+    #[error("a number of the setup is out of its range")]
     BadSetup,
 }
 

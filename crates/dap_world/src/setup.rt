@@ -18,7 +18,7 @@ use nsp_link::{LinkFault, LinkSetup};
 use std::alloc::Global;
 
 /// The numbers of a world (own).
-#[derive(Clone, Copy, Debug)]
+#[derive(Clone, Copy, Debug, PartialEq, Eq)]
 pub struct WorldSetup {
     /// The bytes of a segment, 1 to 1,400.
     pub seg_size: usize,

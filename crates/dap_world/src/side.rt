@@ -17,7 +17,7 @@ use crate::event::{Step, WorldFault};
 use nsp_link::{GREATEST_AGE, LinkEnd, LinkFault};
 
 /// A packet that an end wrote (own).
-#[derive(Drop)]
+#[derive(Drop, Debug, PartialEq)]
 pub struct Wired {
     /// Its bytes.
     pub packet: Vec<u8>,

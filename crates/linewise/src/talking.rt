@@ -11,6 +11,7 @@ use crate::input::{Kept, LONGEST, Line, read_line};
 use crate::output::write_answer;
 use std::alloc::Global;
 use std::io::{BufRead, Write};
+use thiserror::Error;
 
 /// What became of a line (own).
 #[derive(Clone, Copy, Debug, PartialEq, Eq)]
@@ -44,9 +45,11 @@ pub trait Answers {
 }
 
 /// Why a conversation ended before its input did (own).
-#[derive(Clone, Copy, Debug, PartialEq, Eq)]
+#[derive(Clone, Copy, Debug, PartialEq, Eq, Error)]
 pub enum TalkFault {
+    #[error("read failed")]
     ReadFailed,
+    #[error("write failed")]
     WriteFailed,
 }
 

@@ -6,6 +6,7 @@ ghost use Rattle.nsp_seg.specs.Flags.{flag_kind_of};
 
 use crate::seq12::Seq12;
 use std::alloc::AllocError;
+use thiserror::Error;
 
 /// The first byte of a data acknowledgement (NSP 4.0.0, MSGFLG).
 pub(crate) const DATA_ACK: u8 = 0x04;
@@ -32,7 +33,7 @@ pub struct AckField {
 
 /// A packet (NSP 4.0.0, data segments and their acknowledgement); its payload lies in the bytes that were read. A
 /// second acknowledgement field stands only beside a first.
-#[derive(Clone, Copy, Debug)]
+#[derive(Clone, Copy, Debug, PartialEq, Eq)]
 pub enum Packet<'a> {
     /// NSP 4.0.0, data segment message: whether it is the first and the last segment of its message, to
     /// whom and from whom, up to two acknowledgement fields, its number and its bytes, which may be none.
@@ -56,18 +57,23 @@ pub enum Packet<'a> {
 }
 
 /// Why bytes are no packet; an offset counts bytes from their start (own).
-#[derive(Clone, Copy, Debug, PartialEq, Eq)]
+#[derive(Clone, Copy, Debug, PartialEq, Eq, Error)]
 pub enum SegFault {
     /// The field that begins at this offset is missing, or not whole.
+    #[error("the field at byte {0} is missing or not whole")]
     Truncated(usize),
     /// What stands from this offset on may not follow an acknowledgement.
+    #[error("what stands from byte {0} on may not follow an acknowledgement")]
     Trailing(usize),
     /// This first byte is neither that of a data segment nor that of a data acknowledgement.
+    #[error("the first byte {0:#04x} is neither that of a data segment nor of a data acknowledgement")]
     NotHere(u8),
     /// The number at this offset has the wrong highest bit: it is set where a segment's own number has to
     /// stand, or clear where an acknowledgement field has to.
+    #[error("the number at byte {0} has the wrong highest bit")]
     BadNumber(usize),
     /// Memory ran out in writing.
+    #[error("memory ran out")]
     NoMemory,
 }
 
