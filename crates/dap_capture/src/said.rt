@@ -1,17 +1,11 @@
 //! The lines of a schedule that say something.
 
 ghost use Rattle.std.specs.Prelude.{◌≡◌, ◌≤◌, ◌+◌, ◌∷◌, [], length, IfSome, MatchOption};
-ghost use Rattle.dap_capture.specs.Schedules.{is_skipped as skipped, said, said_from};
+ghost use Rattle.dap_capture.specs.Schedules.{said, said_from};
 
 use dap_listing::{INPUT_LIMIT, next_line};
+use linewise::is_skipped;
 use std::marker::Model;
-
-/// Whether a line says nothing.
-fn is_skipped(line: &[u8]) -> bool
-    ensures { result ≡ skipped line.now }
-{
-    matches!(line, [] | [b'#', ..])
-}
 
 /// The first line that says something, behind its number, and what stands after it. The first of
 /// all lines has the number.

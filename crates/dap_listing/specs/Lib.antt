@@ -1,5 +1,4 @@
 pub mod Inner
-pub mod Output
 pub mod Gives
 pub mod Lines
 pub mod Messages

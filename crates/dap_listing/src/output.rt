@@ -1,7 +1,7 @@
 //! Writing a whole text.
 ghost use Rattle.std.specs.Prelude.{◌≡◌, OnOk, IfErr};
 ghost use Rattle.std.specs.Io.KnownBytes.{Appends};
-ghost use Rattle.dap_listing.specs.Output.{WritesFront};
+ghost use Rattle.linewise.specs.Output.{WritesFront};
 
 use crate::CaptureFault;
 use std::io::Write;

@@ -6,4 +6,4 @@ mod output;
 mod talking;
 
 pub use input::LONGEST;
-pub use talking::{Answers, Became, TalkFault, talk};
+pub use talking::{Answers, Became, TalkFault, is_skipped, talk};

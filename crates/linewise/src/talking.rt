@@ -73,8 +73,8 @@ fn without_end(line: &[u8]) -> &[u8]
     }
 }
 
-/// Whether a line says nothing.
-fn is_skipped(line: &[u8]) -> bool
+/// Whether a line says nothing: it is empty, or begins with `#`. It takes no memory. Own.
+pub fn is_skipped(line: &[u8]) -> bool
     ensures { result ≡ says_nothing line.now }
 {
     match line {

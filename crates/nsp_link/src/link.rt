@@ -54,7 +54,7 @@ const HALF_ROUND: u16 = 2048;
 pub const LARGEST_SEGMENT: usize = 1400;
 
 /// The segments sent and not acknowledged at most (own): fewer than half of the 4,096 numbers.
-pub const LARGEST_WINDOW: usize = 2047;
+pub const LARGEST_WINDOW: usize = GREATEST_AGE as usize;
 
 /// The limit on a message lies between this and [`LARGEST_LIMIT`] (own).
 const LEAST_LIMIT: usize = 64;
