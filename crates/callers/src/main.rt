@@ -1,8 +1,9 @@
-//! A short caller of each library of this repository. It prints what comes of each.
+//! A short caller of each library of this repository. It prints what comes of each, and the texts of the faults.
 #![tactic(auto)]
 
 mod asking;
 mod ends;
+mod faults;
 mod files;
 mod links;
 mod messages;
@@ -22,7 +23,8 @@ fn call_all<W: Write>(alloc: Global, out: &mut W) -> Result<(), Trouble> {
     asking::call(alloc, out)?;
     serving::call(alloc, out)?;
     ends::call(alloc, out)?;
-    worlds::call(alloc, out)
+    worlds::call(alloc, out)?;
+    faults::call(out)
 }
 
 fn main(rt: HostRuntime) -> ExitCode {

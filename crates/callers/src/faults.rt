@@ -1,0 +1,143 @@
+//! What each fault of the libraries prints.
+
+use crate::trouble::Trouble;
+use dap_accessed::{AddFault, NoMemory};
+use dap_accessing::{AskFault, ReadFault};
+use dap_end::{EndFault, TakeFault};
+use dap_fields::FieldFault;
+use dap_msg::{FaultKind, MsgFault};
+use dap_world::WorldFault;
+use linewise::TalkFault;
+use nsp_link::{Got, LinkFault};
+use nsp_seg::SegFault;
+use rec_file::Refusal;
+use std::error::Error;
+use std::io::Write;
+
+const OF_FIELDS: &[FieldFault] = &[
+    FieldFault::Truncated,
+    FieldFault::TooLong,
+    FieldFault::NoMemory,
+];
+
+const KINDS: &[FaultKind] = &[
+    FaultKind::Truncated,
+    FaultKind::TooLong,
+    FaultKind::BadFlags,
+    FaultKind::BadStream,
+    FaultKind::UnknownType,
+    FaultKind::BadMenu,
+    FaultKind::NoMemory,
+];
+
+const OF_MESSAGES: &[MsgFault] = &[MsgFault {
+    kind: FaultKind::BadMenu,
+    message_type: 4,
+    offset: 7,
+}];
+
+const OF_PACKETS: &[SegFault] = &[
+    SegFault::Truncated(3),
+    SegFault::Trailing(9),
+    SegFault::NotHere(8),
+    SegFault::BadNumber(5),
+    SegFault::NoMemory,
+];
+
+const OF_LINKS: &[LinkFault] = &[
+    LinkFault::BadSetup,
+    LinkFault::Malformed(SegFault::Truncated(0)),
+    LinkFault::WrongLink,
+    LinkFault::BadSequence,
+    LinkFault::MessageTooLong,
+    LinkFault::Failed,
+    LinkFault::Exhausted,
+    LinkFault::NoSuchSegment,
+    LinkFault::NoMemory,
+];
+
+const OF_STREAMS: &[Refusal] = &[
+    Refusal::NotPermitted,
+    Refusal::NoCurrent,
+    Refusal::RecordNotFound,
+    Refusal::RecordExists,
+    Refusal::NumberOutOfRange,
+    Refusal::BadLength,
+    Refusal::BadAccessMode,
+    Refusal::DeleteNotAllowed,
+    Refusal::BadKey,
+    Refusal::EndOfFile,
+    Refusal::NoMemory,
+];
+
+const OF_REQUESTS: &[AskFault] = &[
+    AskFault::Failed,
+    AskFault::Busy,
+    AskFault::WrongPhase,
+    AskFault::TooLarge,
+    AskFault::NoMemory,
+];
+
+const OF_ANSWERS: &[ReadFault] = &[
+    ReadFault::Failed,
+    ReadFault::Unexpected,
+    ReadFault::NoMemory,
+];
+
+const OF_SERVING: &[NoMemory] = &[NoMemory];
+
+const OF_ADDING: &[AddFault] = &[
+    AddFault::Busy,
+    AddFault::FileExists,
+    AddFault::NoFile,
+    AddFault::Record(Refusal::BadLength),
+    AddFault::NoMemory,
+];
+
+const OF_ENDS: &[EndFault] = &[
+    EndFault::Link(LinkFault::Exhausted),
+    EndFault::Read(ReadFault::Unexpected),
+];
+
+const OF_TAKING: &[TakeFault] = &[
+    TakeFault::Refused(LinkFault::Malformed(SegFault::BadNumber(5))),
+    TakeFault::Unfinished(Got::Accepted, EndFault::Link(LinkFault::NoMemory)),
+];
+
+const OF_WORLDS: &[WorldFault] = &[
+    WorldFault::NoSuchPacket,
+    WorldFault::Stale,
+    WorldFault::NothingToDo,
+    WorldFault::Ask(AskFault::Busy),
+    WorldFault::NoMemory,
+    WorldFault::Exhausted,
+    WorldFault::BadSetup,
+];
+
+const OF_TALKS: &[TalkFault] = &[TalkFault::ReadFailed, TalkFault::WriteFailed];
+
+/// Prints faults of one type, each in a line.
+fn print<E: Error, W: Write>(of: &str, faults: &[E], out: &mut W) -> Result<(), Trouble> {
+    for fault in faults {
+        writeln!(out, "faults: {of}: {fault}")?;
+    }
+    Ok(())
+}
+
+/// Prints the faults of the libraries, from the lowest on.
+pub fn call<W: Write>(out: &mut W) -> Result<(), Trouble> {
+    print("field", OF_FIELDS, out)?;
+    print("kind", KINDS, out)?;
+    print("message", OF_MESSAGES, out)?;
+    print("packet", OF_PACKETS, out)?;
+    print("link", OF_LINKS, out)?;
+    print("stream", OF_STREAMS, out)?;
+    print("request", OF_REQUESTS, out)?;
+    print("answer", OF_ANSWERS, out)?;
+    print("serving", OF_SERVING, out)?;
+    print("adding", OF_ADDING, out)?;
+    print("end", OF_ENDS, out)?;
+    print("taking", OF_TAKING, out)?;
+    print("world", OF_WORLDS, out)?;
+    print("talk", OF_TALKS, out)
+}
