@@ -69,21 +69,21 @@ const PUTS: Exchange = &[
             // RAC 2 and above.
             (&[4, 2, 8, 4, 3, 2, 4, 2, 0, 0, 0], NOTHING),
         ],
-        Seen::At(Stage::PutDue),
+        Seen::Nothing,
     ),
     (
         &[
             (DATA_B, BAD_MODE),
             (&[4, 2, 8, 4, 3, 4, 4, 2, 0, 0, 0], NOTHING),
         ],
-        Seen::At(Stage::PutDue),
+        Seen::Nothing,
     ),
     (
         &[
             (DATA_B, BAD_MODE),
             (&[4, 2, 8, 4, 3, 255, 4, 2, 0, 0, 0], NOTHING),
         ],
-        Seen::At(Stage::PutDue),
+        Seen::Nothing,
     ),
     (
         &[(DATA_B, BAD_MODE)],
@@ -213,7 +213,7 @@ const LARGE: Exchange = &[
             (GET, TOO_LARGE),
             (DELETE, NO_CURRENT),
         ],
-        Seen::Reads(Stage::Connected, 2, 0),
+        Seen::Nothing,
     ),
     (
         &[
@@ -222,7 +222,7 @@ const LARGE: Exchange = &[
             (GET_FROM_2, TOO_LARGE),
             (DELETE, NO_CURRENT),
         ],
-        Seen::Reads(Stage::Connected, 2, 0),
+        Seen::Nothing,
     ),
     (&[(REWIND, REWOUND), (GET, FOUND_1_A)], Seen::Nothing),
 ];

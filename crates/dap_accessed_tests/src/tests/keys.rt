@@ -111,7 +111,7 @@ const OF_ONE_TO_FOUR_BYTES: Exchange = &[
             (DATA_B, OUT_OF_RANGE),
             (GET, &[8, 2, 6, 4, 0xff, 0xff, 0xff, 0x7f, 0x42]),
         ],
-        Seen::Reads(Stage::Connected, 0x8000_0000, 0),
+        Seen::Nothing,
     ),
     (
         &[(GET, ENDED), (PUT, NOTHING), (DATA_B, OUT_OF_RANGE)],

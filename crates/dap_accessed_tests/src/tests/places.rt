@@ -42,6 +42,33 @@ const WAYS: &[(Stage, Script)] = &[
     (Stage::Stopped, TO_STOPPED),
 ];
 
+/// What an end in a phase answers so, and one in another doesn't, for the phases in which a message may leave one.
+const ANSWERS: &[(Stage, Script)] = &[
+    (Stage::Fresh, &[(CONFIG, CONFIG)]),
+    (Stage::Ready, &[(OPEN_7, FILE_NOT_FOUND)]),
+    (Stage::Opened, &[(CONNECT, ACKNOWLEDGE)]),
+    (Stage::Connected, &[(REWIND, REWOUND)]),
+    (
+        Stage::Storing,
+        &[
+            (SKIP, MISPLACED_CONTINUE),
+            (GET, MISPLACED_CONTROL),
+            (END_STREAM, COMPLETED),
+        ],
+    ),
+    (Stage::Dropping, &[(SKIP, NOTHING)]),
+    (Stage::Stopped, &[(TRY_AGAIN, TOO_LARGE)]),
+];
+
+/// The end stands there, by its answers, and goes on from there.
+pub(crate) fn stands(rt: &impl Abort, end: &mut Accessed, to: Stage) {
+    for (stage, script) in ANSWERS {
+        if *stage == to {
+            play(rt, end, script);
+        }
+    }
+}
+
 /// Brings a new end to this phase.
 fn bring(rt: &impl Abort, end: &mut Accessed, to: Stage) {
     match to {
@@ -57,7 +84,6 @@ fn bring(rt: &impl Abort, end: &mut Accessed, to: Stage) {
             }
         }
     }
-    assert!(rt; stage_of(end) == to);
 }
 
 /// An end in this phase, whose only file is sequential and has the record `A`, save in the first two.
@@ -70,15 +96,15 @@ pub(crate) fn brought(rt: &(impl AllocGlobal + Abort), to: Stage) -> Accessed {
 /// Messages that an end in the first phase answers so, each alone, and that leave the second.
 pub(crate) type Cases = &'static [(Stage, Stage, Script)];
 
-/// Serves a message, which leaves this phase: the stream and the files stay.
+/// Serves a message, which leaves this phase: the files stay.
 fn alone(rt: &impl Abort, end: &mut Accessed, message: &[u8], answer: &[u8], to: Stage) {
-    let before = (numbers(end), held(end));
+    let before = held(end);
     says(rt, end, message, answer);
-    assert!(rt; stage_of(end) == to, "at {message:?}");
-    assert_eq!(rt; (numbers(end), held(end)), before, "at {message:?}");
+    assert_eq!(rt; held(end), before, "at {message:?}");
+    stands(rt, end, to);
 }
 
-/// Serves each of these messages by a new end: its stream and its files stay.
+/// Serves each of these messages by a new end: its files stay.
 pub(crate) fn each_alone(rt: &(impl AllocGlobal + Abort), cases: Cases) {
     for (from, to, script) in cases {
         for (message, answer) in *script {
@@ -285,5 +311,5 @@ fn controls_and_continue_transfers_in_each_place(rt: HostRuntime) {
     each_alone(&rt, CONTINUES);
     let mut end = brought(&rt, Stage::Stopped);
     says(&rt, &mut end, SKIP, ENDED);
-    look(&rt, &end, Seen::Reads(Stage::Connected, 3, 0));
+    stands(&rt, &mut end, Stage::Connected);
 }

@@ -4,21 +4,18 @@ use super::*;
 
 const OTHER_SYSTEM: Exchange = &[(
     &[(&[1, 2, 11, 0, 2, 4, 1, 7, 2, 9, 8, 6, 0x85, 1], CONFIG)],
-    Seen::At(Stage::Ready),
+    Seen::Nothing,
 )];
 
 /// A peer whose buffer is too small is refused, and may then tell another.
 fn refuses(rt: &impl Abort, end: &mut Accessed, bufsiz: u16) {
     says(rt, end, &config_of(bufsiz), &[9, 2, 5, 0x40, 0x90, 0, 0, 0]);
-    assert!(rt; stage_of(end) == Stage::Fresh, "at {bufsiz}");
     says(rt, end, SMALL_CONFIG, CONFIG);
-    assert!(rt; stage_of(end) == Stage::Ready, "at {bufsiz}");
 }
 
 /// One whose buffer is large enough tells it once.
 fn takes(rt: &impl Abort, end: &mut Accessed, bufsiz: u16) {
     says(rt, end, &config_of(bufsiz), CONFIG);
-    assert!(rt; stage_of(end) == Stage::Ready, "at {bufsiz}");
     says(rt, end, CONFIG, MISPLACED_CONFIG);
 }
 
@@ -61,25 +58,25 @@ const REFUSED: Exchange = &[
     (&[(CONFIG, CONFIG)], Seen::Nothing),
     (
         &[(&[3, 2, 8, 0, 0, 1, 0x46, 7, 0, 0, 0], UNKNOWN_ACCESS)],
-        Seen::Holds(Stage::Ready, 0, 0),
+        Seen::Holds(0, 0),
     ),
     (
         &[(&[3, 2, 8, 3, 0, 1, 0x46, 7, 0, 0, 0], UNKNOWN_ACCESS)],
-        Seen::Holds(Stage::Ready, 0, 0),
+        Seen::Holds(0, 0),
     ),
     (
         &[(&[3, 2, 8, 4, 0, 1, 0x46, 7, 0, 0, 0], UNKNOWN_ACCESS)],
-        Seen::Holds(Stage::Ready, 0, 0),
+        Seen::Holds(0, 0),
     ),
     (
         &[(&[3, 2, 8, 9, 0, 1, 0x46, 7, 0, 0, 0], UNKNOWN_ACCESS)],
-        Seen::Holds(Stage::Ready, 0, 0),
+        Seen::Holds(0, 0),
     ),
     (
         &[(&[3, 2, 8, 255, 0, 1, 0x46, 7, 0, 0, 0], UNKNOWN_ACCESS)],
-        Seen::Holds(Stage::Ready, 0, 0),
+        Seen::Holds(0, 0),
     ),
-    (&[(OPEN_7, FILE_NOT_FOUND)], Seen::Holds(Stage::Ready, 0, 0)),
+    (&[(OPEN_7, FILE_NOT_FOUND)], Seen::Holds(0, 0)),
     (
         &[
             (SEQUENTIAL, NOTHING),
@@ -87,7 +84,7 @@ const REFUSED: Exchange = &[
             (CLOSE, COMPLETED),
             (MAKE_7, FILE_EXISTS),
         ],
-        Seen::Holds(Stage::Ready, 1, 0),
+        Seen::Holds(1, 0),
     ),
     // The name `f`.
     (

@@ -13,7 +13,7 @@ const ORDINALS: Exchange = &[
             (BAD_FLAGS, WRONG_FLAGS),
             (DATA_SIX, &[9, 2, 0x0a, 0, 0x50, 0, 4, 2, 0, 0, 0, 1, 7]),
         ],
-        Seen::Reads(Stage::Dropping, 1, 2),
+        Seen::Nothing,
     ),
     (
         &[
@@ -22,7 +22,7 @@ const ORDINALS: Exchange = &[
             (ACKNOWLEDGE, MISPLACED_ACKNOWLEDGE),
             (SKIP, NOTHING),
         ],
-        Seen::Reads(Stage::Storing, 1, 4),
+        Seen::Nothing,
     ),
     (
         &[
@@ -77,7 +77,7 @@ const IN_A_RELATIVE_FILE: Exchange = &[
 
 const WITHOUT_THE_RIGHT: Exchange = &[
     (ON_SEQUENTIAL_2, Seen::Nothing),
-    (&[(STORE, NOTHING)], Seen::Reads(Stage::Storing, 1, 0)),
+    (&[(STORE, NOTHING)], Seen::Nothing),
     (
         &[
             (DATA_A, &[9, 2, 0x0a, 0, 0x50, 0, 4, 1, 0, 0, 0, 1, 2]),

@@ -194,7 +194,7 @@ fn makes(rt: &(impl AllocGlobal + Abort), attributes: Script) {
         says(rt, &mut end, asked, NOTHING);
         says(rt, &mut end, MAKE_1, answer);
         if *answer == BAD_ATTRIBUTES {
-            look(rt, &end, Seen::Holds(Stage::Ready, 0, 0));
+            look(rt, &end, Seen::Holds(0, 0));
         } else {
             says(rt, &mut end, CLOSE, COMPLETED);
         }

@@ -34,12 +34,12 @@ const PUT_THEN_DATA: Steps = &[
 
 /// Messages, each with its answer and with what is seen of the end before it, and again where memory was refused.
 const ONE_PUT: &[(&[u8], &[u8], Seen)] = &[
-    (CONFIG, CONFIG, Seen::Holds(Stage::Fresh, 0, 0)),
-    (SEQUENTIAL, NOTHING, Seen::Holds(Stage::Ready, 0, 0)),
-    (MAKE_1, OPENED_SEQUENTIAL, Seen::Holds(Stage::Ready, 0, 0)),
-    (CONNECT, ACKNOWLEDGE, Seen::Holds(Stage::Opened, 1, 0)),
-    (PUT, NOTHING, Seen::Holds(Stage::Connected, 1, 0)),
-    (DATA_A, DONE_1, Seen::Holds(Stage::PutDue, 1, 0)),
+    (CONFIG, CONFIG, Seen::Holds(0, 0)),
+    (SEQUENTIAL, NOTHING, Seen::Holds(0, 0)),
+    (MAKE_1, OPENED_SEQUENTIAL, Seen::Holds(0, 0)),
+    (CONNECT, ACKNOWLEDGE, Seen::Holds(1, 0)),
+    (PUT, NOTHING, Seen::Holds(1, 0)),
+    (DATA_A, DONE_1, Seen::Holds(1, 0)),
 ];
 
 /// Serves a message, and once more where memory was refused.
@@ -112,8 +112,8 @@ const LARGE_RECORD: Script = &[
 
 const SKIPPED: Exchange = &[
     (SMALL_ON_SEQUENTIAL_3, Seen::Nothing),
-    (LARGE_RECORD, Seen::At(Stage::Stopped)),
-    (&[(TRY_AGAIN, TOO_LARGE)], Seen::At(Stage::Stopped)),
+    (LARGE_RECORD, Seen::Nothing),
+    (&[(TRY_AGAIN, TOO_LARGE)], Seen::Nothing),
     (
         &[(
             SKIP,
@@ -122,15 +122,15 @@ const SKIPPED: Exchange = &[
                 0x63, 9, 2, 5, 0x27, 0x50, 0, 0, 0,
             ],
         )],
-        Seen::At(Stage::Connected),
+        Seen::Nothing,
     ),
     (&[(GET, ENDED)], Seen::Nothing),
 ];
 
 const GIVEN_UP: Exchange = &[
     (SMALL_ON_SEQUENTIAL_3, Seen::Nothing),
-    (LARGE_RECORD, Seen::At(Stage::Stopped)),
-    (&[(ABORT, ENDED)], Seen::At(Stage::Connected)),
+    (LARGE_RECORD, Seen::Nothing),
+    (&[(ABORT, ENDED)], Seen::Nothing),
     (&[(GET, TOO_LARGE), (GET, TOO_LARGE)], Seen::Nothing),
 ];
 
@@ -144,10 +144,7 @@ const STORED_TWO: Script = &[
 const REFUSED: Exchange = &[
     (ON_FIVE_1, Seen::Nothing),
     (STORED_TWO, Seen::Nothing),
-    (
-        &[(DATA_C, NOTHING), (END_STREAM, COMPLETED)],
-        Seen::At(Stage::Opened),
-    ),
+    (&[(DATA_C, NOTHING), (END_STREAM, COMPLETED)], Seen::Nothing),
     (&[], Seen::Has(&[(1, b"A")])),
 ];
 
@@ -170,7 +167,6 @@ const DROPPED: Exchange = &[
         ],
         Seen::Has(&[]),
     ),
-    (&[], Seen::At(Stage::Connected)),
 ];
 
 const UPDATED: Exchange = &[
@@ -211,15 +207,12 @@ fn refused_stores_a_dropped_put_and_an_update(rt: HostRuntime) {
 
 const READY: Exchange = &[
     (&[(CONFIG, CONFIG)], Seen::Nothing),
-    (&[(BAD_FLAGS, WRONG_FLAGS)], Seen::At(Stage::Ready)),
+    (&[(BAD_FLAGS, WRONG_FLAGS)], Seen::Nothing),
 ];
 
 const PUT_DUE: Exchange = &[
     (ON_SEQUENTIAL_1, Seen::Nothing),
-    (
-        &[(PUT, NOTHING), (BAD_FLAGS, WRONG_FLAGS)],
-        Seen::At(Stage::Connected),
-    ),
+    (&[(PUT, NOTHING), (BAD_FLAGS, WRONG_FLAGS)], Seen::Nothing),
     (&[(DATA_A, MISPLACED_DATA)], Seen::Has(&[])),
 ];
 
@@ -230,7 +223,7 @@ const UNKNOWN: Exchange = &[(
         (MAKE_1, OPENED_SEQUENTIAL),
         (&[4, 2, 2, 9, 0], UNKNOWN_CONTROL),
     ],
-    Seen::At(Stage::Opened),
+    Seen::Nothing,
 )];
 
 #[test]

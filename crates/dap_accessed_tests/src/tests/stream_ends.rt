@@ -29,8 +29,8 @@ const OPEN: &[Stage] = &[
 ];
 
 const CLOSED: Exchange = &[
-    (&[(CLOSE, COMPLETED)], Seen::At(Stage::Ready)),
-    (&[(CLOSE, MISPLACED_COMPLETE)], Seen::At(Stage::Ready)),
+    (&[(CLOSE, COMPLETED)], Seen::Nothing),
+    (&[(CLOSE, MISPLACED_COMPLETE)], Seen::Nothing),
 ];
 
 const STREAMING: &[Stage] = &[
@@ -41,11 +41,8 @@ const STREAMING: &[Stage] = &[
 ];
 
 const STREAM_ENDED: Exchange = &[
-    (&[(END_STREAM, COMPLETED)], Seen::At(Stage::Opened)),
-    (
-        &[(CONNECT, ACKNOWLEDGE)],
-        Seen::Reads(Stage::Connected, 1, 0),
-    ),
+    (&[(END_STREAM, COMPLETED)], Seen::Nothing),
+    (&[(CONNECT, ACKNOWLEDGE)], Seen::Nothing),
     (&[(GET, FOUND_1_A)], Seen::Nothing),
 ];
 
@@ -94,7 +91,7 @@ const OF_A_NEW_FILE: &[Stage] = &[
 ];
 
 const PURGED: Exchange = &[
-    (&[(PURGE, COMPLETED)], Seen::Holds(Stage::Ready, 0, 0)),
+    (&[(PURGE, COMPLETED)], Seen::Holds(0, 0)),
     (&[(OPEN_2, FILE_NOT_FOUND)], Seen::Nothing),
 ];
 
@@ -106,7 +103,7 @@ const PURGED_WHILE_DROPPING: Exchange = &[
             (DATA_A, &[9, 2, 0x0a, 0, 0x50, 0, 4, 1, 0, 0, 0, 1, 2]),
             (PURGE, COMPLETED),
         ],
-        Seen::Holds(Stage::Ready, 0, 0),
+        Seen::Holds(0, 0),
     ),
 ];
 
@@ -114,7 +111,7 @@ const PURGED_WHILE_DROPPING: Exchange = &[
 const OF_AN_OLD_FILE: &[Stage] = &[Stage::Dropping];
 
 const NOT_PURGED: Exchange = &[
-    (&[(PURGE, COMPLETED)], Seen::At(Stage::Ready)),
+    (&[(PURGE, COMPLETED)], Seen::Nothing),
     (&[], Seen::Has(&[(1, b"A")])),
     (
         &[(OPEN_2, OPENED_SEQUENTIAL), (PURGE, COMPLETED)],

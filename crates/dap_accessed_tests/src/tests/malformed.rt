@@ -1,6 +1,6 @@
 //! Bytes of which no message can be read, and several messages in one NSP message.
 
-use super::places::{Cases, brought, each_alone};
+use super::places::{Cases, brought, each_alone, stands};
 use super::*;
 
 /// Bytes of each kind of fault.
@@ -44,7 +44,7 @@ fn in_each_phase(rt: HostRuntime) {
         };
         assert_eq!(rt; served.next, 0);
         assert!(rt; is_answer(&served, &[9, 2, 5, 0, 0x80, 0, 0, 0]));
-        assert!(rt; stage_of(&end) == *to);
+        stands(&rt, &mut end, *to);
     }
 }
 
@@ -53,8 +53,8 @@ const CUT: &[u8] = &[6, 2, 0, 4, 2, 3, 4, 1, 0, 8, 2, 9, 0, 0x41, 6, 2, 0];
 
 const CUT_STEPS: Steps = &[
     (3, MISPLACED_ACKNOWLEDGE, Seen::Nothing),
-    (9, NOTHING, Seen::At(Stage::PutDue)),
-    (17, &[9, 2, 5, 0, 0x82, 0, 0, 0], Seen::At(Stage::Connected)),
+    (9, NOTHING, Seen::Nothing),
+    (17, &[9, 2, 5, 0, 0x82, 0, 0, 0], Seen::Nothing),
 ];
 
 /// A PUT, and a Filedata without a length, to which the rest belongs.
@@ -71,10 +71,10 @@ const OPENING: &[u8] = &[
 ];
 
 const OPENING_STEPS: Steps = &[
-    (13, SMALL_CONFIG, Seen::At(Stage::Ready)),
-    (27, NOTHING, Seen::At(Stage::Ready)),
-    (38, OPENED_SEQUENTIAL, Seen::At(Stage::Opened)),
-    (43, ACKNOWLEDGE, Seen::At(Stage::Connected)),
+    (13, SMALL_CONFIG, Seen::Nothing),
+    (27, NOTHING, Seen::Nothing),
+    (38, OPENED_SEQUENTIAL, Seen::Nothing),
+    (43, ACKNOWLEDGE, Seen::Nothing),
 ];
 
 const RECORDS: &[u8] = &[
@@ -82,11 +82,11 @@ const RECORDS: &[u8] = &[
 ];
 
 const RECORD_STEPS: Steps = &[
-    (6, NOTHING, Seen::At(Stage::PutDue)),
-    (11, DONE_1, Seen::At(Stage::Connected)),
-    (17, FOUND_1_A, Seen::At(Stage::Connected)),
-    (23, ENDED, Seen::At(Stage::Connected)),
-    (28, COMPLETED, Seen::At(Stage::Ready)),
+    (6, NOTHING, Seen::Nothing),
+    (11, DONE_1, Seen::Nothing),
+    (17, FOUND_1_A, Seen::Nothing),
+    (23, ENDED, Seen::Nothing),
+    (28, COMPLETED, Seen::Nothing),
 ];
 
 #[test]

@@ -122,7 +122,7 @@ fn of_records(rt: HostRuntime) {
     let above = padded(&rt, &[8, 6, 1, 0x80, 0], 32768);
     says(&rt, &mut end, PUT, NOTHING);
     says(&rt, &mut end, &above, BAD_LENGTH);
-    look(&rt, &end, Seen::Holds(Stage::Connected, 1, 1));
+    look(&rt, &end, Seen::Holds(1, 1));
     says(&rt, &mut end, STORE, NOTHING);
     says(
         &rt,
@@ -130,7 +130,7 @@ fn of_records(rt: HostRuntime) {
         &above,
         &[9, 2, 0x0a, 0, 0x50, 0, 4, 1, 0, 0, 0, 1, 7],
     );
-    look(&rt, &end, Seen::Holds(Stage::Dropping, 1, 1));
+    look(&rt, &end, Seen::Holds(1, 1));
 }
 
 const OWN_BUFFER: Script = &[

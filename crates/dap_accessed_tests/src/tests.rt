@@ -12,8 +12,7 @@ mod stores;
 mod stream_ends;
 mod transfers;
 
-use crate::phase::Phase;
-use crate::{Accessed, Served};
+use dap_accessed::{Accessed, Served};
 use rec_file::{RecordFile, first_record};
 use std::process::Abort;
 
@@ -413,7 +412,7 @@ fn status(code: u16) -> [u8; 8] {
 
 // ---- An end, and what it is asked.
 
-/// Where an end stands, for comparing.
+/// Where an end stands.
 #[derive(Clone, Copy, PartialEq, Eq)]
 enum Stage {
     Fresh,
@@ -432,46 +431,12 @@ enum Stage {
 enum Seen {
     /// It is not looked at.
     Nothing,
-    /// Where it stands.
-    At(Stage),
-    /// Where it stands, the number from which its stream reads, and the ordinal of a Store, or 0.
-    Reads(Stage, u32, u32),
-    /// Where it stands, how many files there are, and the greatest number in the last.
-    Holds(Stage, usize, u32),
+    /// How many files there are, and the greatest number in the last.
+    Holds(usize, u32),
     /// The names of all files.
     Names(&'static [&'static [u8]]),
     /// All records of the first file.
     Has(&'static [(u32, &'static [u8])]),
-}
-
-fn stage_of(end: &Accessed) -> Stage {
-    let phase = end.phase;
-    match phase {
-        Phase::Fresh => Stage::Fresh,
-        Phase::Ready => Stage::Ready,
-        Phase::Opened(_) => Stage::Opened,
-        Phase::Connected(_, _) => Stage::Connected,
-        Phase::PutDue(_, _, _) => Stage::PutDue,
-        Phase::UpdateDue(_, _) => Stage::UpdateDue,
-        Phase::Storing(_, _, _) => Stage::Storing,
-        Phase::Dropping(_, _, _) => Stage::Dropping,
-        Phase::Stopped(_, _) => Stage::Stopped,
-    }
-}
-
-/// The number from which the stream reads, and the ordinal of a Store; 0 where there is none.
-fn numbers(end: &Accessed) -> (u32, u32) {
-    let phase = end.phase;
-    match phase {
-        Phase::Fresh | Phase::Ready | Phase::Opened(_) => (0, 0),
-        Phase::Connected(_, stream)
-        | Phase::PutDue(_, stream, _)
-        | Phase::UpdateDue(_, stream)
-        | Phase::Stopped(_, stream) => (stream.next(), 0),
-        Phase::Storing(_, stream, ordinal) | Phase::Dropping(_, stream, ordinal) => {
-            (stream.next(), ordinal)
-        }
-    }
 }
 
 /// How many files there are, and the greatest number in the last.
@@ -544,15 +509,7 @@ fn serve_all(rt: &impl Abort, end: &mut Accessed, bytes: &[u8], steps: Steps) {
 fn look(rt: &impl Abort, end: &Accessed, seen: Seen) {
     match seen {
         Seen::Nothing => {}
-        Seen::At(stage) => assert!(rt; stage_of(end) == stage),
-        Seen::Reads(stage, next, ordinal) => {
-            assert!(rt; stage_of(end) == stage);
-            assert_eq!(rt; numbers(end), (next, ordinal));
-        }
-        Seen::Holds(stage, count, highest) => {
-            assert!(rt; stage_of(end) == stage);
-            assert_eq!(rt; held(end), (count, highest));
-        }
+        Seen::Holds(count, highest) => assert_eq!(rt; held(end), (count, highest)),
         Seen::Names(names) => is_named(rt, end, names),
         Seen::Has(records) => has(rt, end, records),
     }
