@@ -1,7 +1,7 @@
 //! The greatest value of each field that has a limit, and the one above it.
 
-use crate::{Attributes, Control, FileAccess, Message, fits};
 use bitflags::Flags;
+use dap_msg::{Attributes, Control, FileAccess, Message, fits};
 use std::test::Fail;
 
 /// The greatest values of extensible fields of 2 to 12 bytes.

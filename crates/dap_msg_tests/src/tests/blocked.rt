@@ -1,6 +1,6 @@
 //! Several messages in one NSP message.
 
-use crate::{Message, MsgFault, append_blocked, append_message, fits};
+use dap_msg::{Message, MsgFault, append_blocked, append_message, fits};
 use std::alloc::Global;
 use std::test::Fail;
 

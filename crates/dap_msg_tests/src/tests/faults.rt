@@ -1,7 +1,7 @@
 //! The first fault of bytes that are no message, and the code of the Status that answers them.
 
-use crate::FaultKind::{BadFlags, BadMenu, BadStream, TooLong, Truncated, UnknownType};
-use crate::{FaultKind, decode, status_for};
+use dap_msg::FaultKind::{BadFlags, BadMenu, BadStream, TooLong, Truncated, UnknownType};
+use dap_msg::{FaultKind, decode, status_for};
 
 fn fault_of(input: &[u8]) -> Option<(FaultKind, u8, usize, u16)> {
     match decode(input) {

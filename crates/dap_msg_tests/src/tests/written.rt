@@ -1,6 +1,6 @@
 //! Each message, written and read.
 
-use crate::{
+use dap_msg::{
     Attributes, Control, Message, MsgFault, StatusCode, decode, encode, encoded_len, fits,
 };
 use std::alloc::Global;

@@ -1,6 +1,6 @@
 //! What stands at the places of an NSP message.
 
-use crate::{Control, FaultKind, Item, Message, MsgFault, item_at};
+use dap_msg::{Control, FaultKind, Item, Message, MsgFault, item_at};
 
 const GET: Message<'static> = Message::Control(Control {
     func: 1,

@@ -1,7 +1,7 @@
 //! The numbers of codes, and what both ends say of limits.
 
-use crate::codes::{Reason, invalid, out_of_place, unsupported};
-use crate::{GREATEST_MESSAGE, Message, encoded_len, fits, is_too_small, limit_of, number_of};
+use dap_msg::codes::{Reason, invalid, out_of_place, unsupported};
+use dap_msg::{GREATEST_MESSAGE, Message, encoded_len, fits, is_too_small, limit_of, number_of};
 
 #[test]
 fn codes_by_the_type_of_a_message(rt: HostRuntime) {
