@@ -1,19 +1,12 @@
 //! Scripts over each kind of file: worked examples, and each refusal beside a call that isn't refused.
 
-mod blank;
-mod plain;
-
-use crate::any::AnyFile;
-use crate::files::{RecordFile, first_record};
-use crate::picks::{Pick, Rights};
-use crate::refusals::{Refusal, key_number};
-use crate::relative::RelFile;
-use crate::sequential::SeqFile;
-use crate::shapes::{Format, MAX_NUMBER, Org, Shape};
-use crate::streams::Stream;
-use blank::BlankFile;
-use plain::PlainFile;
+use rec_file::{
+    AnyFile, Format, MAX_NUMBER, Org, Pick, RecordFile, Refusal, RelFile, Rights, SeqFile, Shape,
+    Stream, first_record, key_number,
+};
+use std::collections::BTreeMap;
 use std::process::Abort;
+use std::test::Fail;
 
 const ALL: Rights = Rights {
     get: true,
@@ -138,7 +131,6 @@ fn three_numbers<F: RecordFile>(rt: &impl Abort, file: &mut F) {
 fn a_relative_file_of_three_numbers(rt: HostRuntime) {
     let shape = Shape { mrs: 0, ..THREE };
     three_numbers(&rt, &mut RelFile::new(rt.alloc(), shape));
-    three_numbers(&rt, &mut PlainFile::new(rt.alloc(), shape));
     three_numbers(&rt, &mut AnyFile::new(rt.alloc(), shape));
 }
 
@@ -365,7 +357,6 @@ fn two_streams<F: RecordFile>(rt: &impl Abort, file: &mut F) {
 #[test]
 fn each_refusal_of_a_relative_file(rt: HostRuntime) {
     relative_refusals(&rt, &mut RelFile::new(rt.alloc(), THREE));
-    relative_refusals(&rt, &mut PlainFile::new(rt.alloc(), THREE));
     relative_refusals(&rt, &mut AnyFile::new(rt.alloc(), THREE));
 }
 
@@ -413,35 +404,6 @@ fn a_stream_at_its_end(rt: HostRuntime) {
         &mut stream,
         AT_THE_END,
     );
-}
-
-fn full(rt: &impl Abort, file: &mut BlankFile) {
-    play(
-        rt,
-        file,
-        &mut Stream::new(ALL),
-        &[
-            (Call::Put(None, b""), Err(Refusal::NumberOutOfRange)),
-            (Call::Put(None, &LONG), Err(Refusal::BadLength)),
-            (Call::Put(Some(1), b""), Err(Refusal::BadAccessMode)),
-            (Call::Get(Pick::Rfa(MAX_NUMBER)), Ok(2147483647)),
-            (Call::Get(Pick::Next), Err(Refusal::EndOfFile)),
-        ],
-    );
-    assert_eq!(rt;
-        (file.highest(), file.lookup(2147483648)),
-        (2147483647, None)
-    );
-}
-
-// With one number left it is want of memory that refuses.
-const LAST: Script = &[(Call::Put(None, b""), Err(Refusal::NoMemory))];
-
-#[test]
-fn a_sequential_file_with_no_number_left(rt: HostRuntime) {
-    full(&rt, &mut BlankFile::new(MAX_NUMBER));
-    let mut last = BlankFile::new(MAX_NUMBER - 1);
-    play(&rt, &mut last, &mut Stream::new(ALL), LAST);
 }
 
 // ORG, RFM, MRS and MRN, and the shape that they name: whether it is sequential, and its limits.
@@ -493,66 +455,93 @@ fn keys_of_one_to_four_bytes(rt: HostRuntime) {
     }
 }
 
-// The pages and the plain list answer the same to a long script of scattered numbers.
-#[test]
-fn pages_answer_as_the_plain_list(rt: HostRuntime) {
-    let mut pages = RelFile::new(rt.alloc(), RELATIVE);
-    let mut plain = PlainFile::new(rt.alloc(), RELATIVE);
-    let mut here = Stream::new(ALL);
-    let mut there = Stream::new(ALL);
-    let mut seed: u32 = 1;
-    for step in 0..1500u32 {
-        seed = seed.wrapping_mul(1664525).wrapping_add(1013904223);
-        let number = (seed >> 8) % 300 + 1;
-        if step % 5 < 2 {
-            assert_eq!(rt;
-                here.put(&mut pages, Some(number), b"put"),
-                there.put(&mut plain, Some(number), b"put")
-            );
-        } else {
-            let pick = if step % 2 == 0 {
-                Pick::Next
+// Records by their numbers, as the standard library keeps them.
+type Map = BTreeMap<u32, &'static [u8]>;
+
+fn first_of(map: &Map, from: u32) -> Option<u32> {
+    map.range(from..).next().map(|(number, _)| *number)
+}
+
+// What a pick of the map answers, where a stream reads from `next`.
+fn picked(map: &Map, pick: Pick, next: u32) -> Result<u32, Refusal> {
+    match pick {
+        Pick::Next => first_of(map, next).ok_or(Refusal::EndOfFile),
+        Pick::Key(number) | Pick::Rfa(number) => {
+            if map.contains_key(&number) {
+                Ok(number)
             } else {
-                Pick::Key(number)
-            };
-            assert_eq!(rt; here.get(&pages, pick), there.get(&plain, pick));
-            if step % 3 == 0 {
-                assert_eq!(rt; here.delete(&mut pages), there.delete(&mut plain));
-            } else {
-                assert_eq!(rt;
-                    here.update(&mut pages, b"updated"),
-                    there.update(&mut plain, b"updated")
-                );
+                Err(Refusal::RecordNotFound)
             }
-        }
-        if step % 50 == 0 {
-            same_records(&rt, &pages, &plain);
         }
     }
 }
 
-fn is_same(pages: &RelFile, plain: &PlainFile, number: u32) -> bool {
-    pages.first_from(number) == plain.first_from(number)
-        && pages.lookup(number) == plain.lookup(number)
-}
-
-// How many pages the records of a plain list take.
-fn count_pages(plain: &PlainFile) -> usize {
+// How many pages the records of the map take.
+fn count_pages(map: &Map) -> usize {
     let mut count = 0usize;
     let mut page = None;
-    for number in 1..400 {
-        if plain.lookup(number).is_some() && page != Some((number - 1) / 64) {
-            page = Some((number - 1) / 64);
+    for number in map.keys() {
+        let here = Some(number.saturating_sub(1) / 64);
+        if page != here {
+            page = here;
             count = count.saturating_add(1);
         }
     }
     count
 }
 
-fn same_records(rt: &impl Abort, pages: &RelFile, plain: &PlainFile) {
-    assert_eq!(rt; pages.highest(), plain.highest());
+fn same_records(rt: &impl Abort, pages: &RelFile, map: &Map) {
+    let highest = map.last_key_value().map(|(number, _)| *number);
+    assert_eq!(rt; pages.highest(), highest.unwrap_or(0));
     for number in 0..400 {
-        assert!(rt; is_same(pages, plain, number), "at {number}");
+        assert_eq!(rt; pages.first_from(number), first_of(map, number));
+        assert_eq!(rt; pages.lookup(number), map.get(&number).copied());
     }
-    assert_eq!(rt; pages.page_count(), count_pages(plain));
+    assert_eq!(rt; pages.page_count(), count_pages(map));
+}
+
+// The pages answer as a map does to a long script of scattered numbers.
+#[test]
+fn pages_answer_as_a_map(rt: HostRuntime) -> Result<(), Fail> {
+    let mut pages = RelFile::new(rt.alloc(), RELATIVE);
+    let mut map = Map::new(rt.alloc());
+    let mut stream = Stream::new(ALL);
+    let mut seed: u32 = 1;
+    for step in 0..1500u32 {
+        seed = seed.wrapping_mul(1664525).wrapping_add(1013904223);
+        let number = (seed >> 8) % 300 + 1;
+        if step % 5 < 2 {
+            let put = stream.put(&mut pages, Some(number), b"put");
+            if map.contains_key(&number) {
+                assert_eq!(rt; put, Err(Refusal::RecordExists));
+            } else {
+                assert_eq!(rt; put, Ok(number));
+                map.insert(number, b"put")?;
+            }
+            continue;
+        }
+        let pick = if step % 2 == 0 {
+            Pick::Next
+        } else {
+            Pick::Key(number)
+        };
+        let got = picked(&map, pick, stream.next());
+        assert_eq!(rt; stream.get(&pages, pick), got);
+        let want = got.map_err(|_| Refusal::NoCurrent);
+        if step % 3 == 0 {
+            assert_eq!(rt; stream.delete(&mut pages), want);
+            if let Ok(number) = got {
+                map.remove(&number);
+            }
+        } else {
+            assert_eq!(rt; stream.update(&mut pages, b"updated"), want);
+            if let Ok(number) = got {
+                map.insert(number, b"updated")?;
+            }
+        }
+        if step % 50 == 0 {
+            same_records(&rt, &pages, &map);
+        }
+    }
+    Ok(())
 }
