@@ -1,6 +1,6 @@
 //! Links over outside examples: what each end answers, call by call.
 
-use crate::{Got, LinkEnd, LinkFault, LinkSetup};
+use nsp_link::{Got, LinkEnd, LinkFault, LinkSetup};
 use std::alloc::Global;
 use std::test::Fail;
 
