@@ -3,7 +3,7 @@
 ghost use Rattle.std.specs.Prelude.{◌≤◌};
 ghost use Rattle.dap_msg.specs.Exchange.{greatest_message};
 
-use crate::{
+use dap_accessing::{
     Accessing, AskFault, By, Ending, How, Numbered, Octets, OctetsList, ReadFault, Report, Request,
 };
 use std::alloc::{AllocError, Global};

@@ -1,7 +1,7 @@
 //! Which answers each request hears, and what they report.
 
 use super::ends::*;
-use crate::{Accessing, AskFault, By, Ending, How, ReadFault, Request};
+use dap_accessing::{Accessing, AskFault, By, Ending, How, ReadFault, Request};
 use std::alloc::AllocError;
 use std::process::Abort;
 use std::test::Fail;

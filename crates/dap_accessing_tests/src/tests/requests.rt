@@ -2,7 +2,7 @@
 //! that is asked next.
 
 use super::ends::*;
-use crate::{AskFault, By, Ending, How};
+use dap_accessing::{AskFault, By, Ending, How};
 use std::test::Fail;
 
 /// What isn't asked before the first request.

@@ -1,7 +1,7 @@
 //! Messages at the limits of fields and of the peer, and the order of refusals.
 
 use super::ends::*;
-use crate::{Accessing, AskFault, By, How, Octets, OctetsList, ReadFault, Request};
+use dap_accessing::{Accessing, AskFault, By, How, Octets, OctetsList, ReadFault, Request};
 use std::alloc::{AllocError, Global};
 use std::process::Abort;
 use std::test::Fail;

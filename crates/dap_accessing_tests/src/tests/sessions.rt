@@ -1,7 +1,7 @@
 //! Worked examples: requests and answers one after another.
 
 use super::ends::*;
-use crate::{AskFault, By, Ending, How, ReadFault};
+use dap_accessing::{AskFault, By, Ending, How, ReadFault};
 use std::test::Fail;
 
 /// The Status of the first record, that was put or updated.
