@@ -23,6 +23,3 @@ pub use laws::{
 };
 pub use served::Served;
 pub use table::FileTable;
-
-#[cfg(test)]
-mod tests;

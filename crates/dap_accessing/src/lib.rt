@@ -17,6 +17,3 @@ pub use bytes::{Numbered, Octets, OctetsList, ToBytes, ToRecords};
 pub use fault::{AskFault, ReadFault, ReadStep};
 pub use report::{Ending, Report};
 pub use request::{By, How, Request};
-
-#[cfg(test)]
-mod tests;

@@ -39,6 +39,3 @@ pub use laws::{
 };
 pub use message::{Attributes, Control, Message};
 pub use status::{StatusCode, status_for};
-
-#[cfg(test)]
-mod tests;

@@ -14,6 +14,3 @@ pub use laws::{distances_separate, held_by_number, messages_only_grow};
 pub use link::{
     GREATEST_AGE, Got, LARGEST_LIMIT, LARGEST_SEGMENT, LARGEST_WINDOW, LinkEnd, LinkSetup,
 };
-
-#[cfg(test)]
-mod tests;

@@ -1,5 +1,5 @@
 -- What a tree of groups answers, and what it is after each edit.
-use Rattle.std.proofs.Common.{◌≡◌, ℕ, ◌≢◌, ◌+◌, ◌<◌, ◌&&◌, ◌++◌, cond, eqb, Bool, true, false, List, [], ◌∷◌, length, get_or, slice_get, arith, Option, Some, None, IsSome, is_some, option_map, refl, sym, ap, subst, ◌∙◌, inl, inr}
+use Rattle.std.proofs.Common.{◌≡◌, ℕ, ◌≢◌, ◌+◌, ◌<◌, ◌≤◌, ◌&&◌, ◌++◌, cond, eqb, Bool, true, false, List, [], ◌∷◌, length, get_or, slice_get, arith, Option, Some, None, IsSome, is_some, option_map, refl, sym, ap, subst, ◌∙◌, inl, inr}
 use Rattle.std.specs.Global.{Vec}
 use Rattle.std.specs.Ordering.{nat_cmp, is_le, match_ordering}
 use Rattle.std.specs.declared.cmp.Ordering.TheVariants.{Less, Equal, Greater}
@@ -14,6 +14,10 @@ use Rattle.rec_file.proofs.Rising.{at, IsRising, same_or_not, at_first, at_tail}
 use Rattle.rec_file.proofs.Keyed.{lookup_is_at, behind, at-written, is_there, is_elsewhere, value_at, all-written, all-inserted, all-removed, rising-written, rising-inserted, rising-removed}
 use Rattle.rec_file.proofs.Gaps.{numbers, ordered, at-gap, at-place, number_at}
 use Rattle.rec_file.proofs.PlacesLaws.{yes, no, from-listed, rest_of, rising-of, sorted-of, rising-listed, at-listed, in_group, group-at, group-inserted, group-removed, are-written, are-inserted, are-removed, put-in-group, put-new-group, take-in-group, take-none, drop-empty}
+
+pub no_items : {A : Type 0} (l : List A) → length l ≤ 0 → l ≡ []
+no_items [] h = refl
+no_items (x ∷ l) h = absurd (omega arith)
 
 abbrev Kept : Type 0
 Kept = List (ℕ × Vec (ℕ × ℕ))

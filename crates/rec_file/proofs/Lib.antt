@@ -4,8 +4,6 @@ pub mod FileLaws
 pub mod NumberedLaws
 pub mod SequentialLaws
 pub mod Gaps
-pub mod PlainLaws
-pub mod BlankLaws
 pub mod PageLaws
 pub mod PackedLaws
 pub mod PagedLaws

@@ -27,6 +27,3 @@ pub use relative::RelFile;
 pub use sequential::SeqFile;
 pub use shapes::{Format, MAX_NUMBER, MAX_RECORD, Org, Shape};
 pub use streams::Stream;
-
-#[cfg(test)]
-mod tests;

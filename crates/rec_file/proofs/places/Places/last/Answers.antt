@@ -1,8 +1,7 @@
 use Rattle.std.proofs.Common.{◌-◌, length, refl, arith}
 use Rattle.std.proofs.lemmas.Option.{slice_get_read}
 use Rattle.rec_file.proofs.RelativeLaws.{none_above}
-use Rattle.rec_file.proofs.PlainLaws.{no_items}
-use Rattle.rec_file.proofs.HeldLaws.{last-page, last-there}
+use Rattle.rec_file.proofs.HeldLaws.{no_items, last-page, last-there}
 use Rattle.rec_file.proofs.places.Places.last.Goals as goal
 
 pub returns-in_err-last-clause-none : goal.returns-in_err-last-clause-none

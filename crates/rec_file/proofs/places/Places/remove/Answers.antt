@@ -1,7 +1,6 @@
 use Rattle.std.proofs.Common.{◌≡◌, [], length, ap, sym, ◌∙◌, arith}
 use Rattle.std.proofs.lemmas.Bool.Decides.{nat_tests}
-use Rattle.rec_file.proofs.PlainLaws.{no_items}
-use Rattle.rec_file.proofs.HeldLaws.{Holds, group-sorted, take-some, take-last, take-nothing}
+use Rattle.rec_file.proofs.HeldLaws.{no_items, Holds, group-sorted, take-some, take-last, take-nothing}
 use Rattle.rec_file.proofs.places.Places.remove.Goals as goal
 
 pub returns-in_default : goal.returns-in_default

@@ -1,0 +1,265 @@
+//! Worked exchanges, whole.
+
+use super::*;
+
+const ONE_RECORD: Exchange = &[
+    (ON_RELATIVE_7, Seen::Nothing),
+    (
+        &[
+            (PUT_3, NOTHING),
+            (DATA_A, DONE_3),
+            (PUT_3, NOTHING),
+            (DATA_A, RECORD_EXISTS),
+            (PUT_4, NOTHING),
+            (DATA_A, OUT_OF_RANGE),
+        ],
+        Seen::Has(&[(3, b"A")]),
+    ),
+    (&[(GET, FOUND_3_A), (DELETE, DONE_3)], Seen::Has(&[])),
+    (&[(DELETE, NO_CURRENT), (GET, ENDED)], Seen::Names(&[b"F"])),
+];
+
+#[test]
+fn a_relative_file(rt: HostRuntime) {
+    let end = exchange(&rt, ONE_RECORD);
+    assert_eq!(rt; end.files().find(b"f"), None);
+}
+
+const PUT_AND_DATA: &[u8] = &[4, 2, 3, 4, 1, 0, 8, 2, 2, 0, 0x41];
+
+const PUT_THEN_DATA: Steps = &[
+    (6, NOTHING, Seen::Has(&[])),
+    (11, DONE_1, Seen::Has(&[(1, b"A")])),
+];
+
+/// Messages, each with its answer and with what is seen of the end before it, and again where memory was refused.
+const ONE_PUT: &[(&[u8], &[u8], Seen)] = &[
+    (CONFIG, CONFIG, Seen::Holds(0, 0)),
+    (SEQUENTIAL, NOTHING, Seen::Holds(0, 0)),
+    (MAKE_1, OPENED_SEQUENTIAL, Seen::Holds(0, 0)),
+    (CONNECT, ACKNOWLEDGE, Seen::Holds(1, 0)),
+    (PUT, NOTHING, Seen::Holds(1, 0)),
+    (DATA_A, DONE_1, Seen::Holds(1, 0)),
+];
+
+/// Serves a message, and once more where memory was refused.
+fn serves_at_last(rt: &impl Abort, end: &mut Accessed, message: &[u8], answer: &[u8], seen: Seen) {
+    assert!(rt; 0 < message.len());
+    if let Ok(served) = end.serve(message, 0) {
+        assert!(rt; is_answer(&served, answer), "{:?}", served.answers);
+    } else {
+        look(rt, end, seen);
+        says(rt, end, message, answer);
+    }
+}
+
+// All that grows here grows in `serve`, so any one growth may be refused.
+#[test]
+fn one_record_and_one_status_where_memory_is_refused(rt: HostRuntime) {
+    let mut end = Accessed::new(rt.alloc(), 1024);
+    for (message, answer, seen) in ONE_PUT {
+        look(&rt, &end, *seen);
+        serves_at_last(&rt, &mut end, message, answer, *seen);
+    }
+    look(&rt, &end, Seen::Has(&[(1, b"A")]));
+}
+
+const GET_AND_ACKNOWLEDGE: &[u8] = &[4, 2, 3, 1, 1, 0, 6, 2, 0];
+
+const GET_THEN_ACKNOWLEDGE: Steps = &[
+    (6, ENDED, Seen::Nothing),
+    (9, MISPLACED_ACKNOWLEDGE, Seen::Nothing),
+];
+
+const TO_PUT: Exchange = &[(ON_SEQUENTIAL_1, Seen::Nothing)];
+
+const TO_GET: Exchange = &[(ON_SEQUENTIAL_2, Seen::Nothing)];
+
+#[test]
+fn two_messages_in_one_nsp_message(rt: HostRuntime) {
+    let mut puts = exchange(&rt, TO_PUT);
+    serve_all(&rt, &mut puts, PUT_AND_DATA, PUT_THEN_DATA);
+    let mut gets = exchange(&rt, TO_GET);
+    serve_all(&rt, &mut gets, GET_AND_ACKNOWLEDGE, GET_THEN_ACKNOWLEDGE);
+}
+
+/// Records of 10, 200 and 10 bytes, and a fetch by a peer with BUFSIZ 64.
+const LARGE_RECORD: Script = &[
+    (PUT, NOTHING),
+    (
+        &[
+            8, 2, 11, 0, 0x61, 0x61, 0x61, 0x61, 0x61, 0x61, 0x61, 0x61, 0x61, 0x61,
+        ],
+        DONE_1,
+    ),
+    (PUT, NOTHING),
+    (DATA_LARGE, DONE_2),
+    (PUT, NOTHING),
+    (
+        &[
+            8, 2, 11, 0, 0x63, 0x63, 0x63, 0x63, 0x63, 0x63, 0x63, 0x63, 0x63, 0x63,
+        ],
+        DONE_3,
+    ),
+    (
+        FETCH,
+        &[
+            8, 2, 15, 4, 1, 0, 0, 0, 0x61, 0x61, 0x61, 0x61, 0x61, 0x61, 0x61, 0x61, 0x61, 0x61, 9,
+            2, 6, 0, 0x50, 0, 0, 1, 0x0a,
+        ],
+    ),
+];
+
+const SKIPPED: Exchange = &[
+    (SMALL_ON_SEQUENTIAL_3, Seen::Nothing),
+    (LARGE_RECORD, Seen::Nothing),
+    (&[(TRY_AGAIN, TOO_LARGE)], Seen::Nothing),
+    (
+        &[(
+            SKIP,
+            &[
+                8, 2, 15, 4, 3, 0, 0, 0, 0x63, 0x63, 0x63, 0x63, 0x63, 0x63, 0x63, 0x63, 0x63,
+                0x63, 9, 2, 5, 0x27, 0x50, 0, 0, 0,
+            ],
+        )],
+        Seen::Nothing,
+    ),
+    (&[(GET, ENDED)], Seen::Nothing),
+];
+
+const GIVEN_UP: Exchange = &[
+    (SMALL_ON_SEQUENTIAL_3, Seen::Nothing),
+    (LARGE_RECORD, Seen::Nothing),
+    (&[(ABORT, ENDED)], Seen::Nothing),
+    (&[(GET, TOO_LARGE), (GET, TOO_LARGE)], Seen::Nothing),
+];
+
+/// `A`, and a record that is too long.
+const STORED_TWO: Script = &[
+    (STORE, NOTHING),
+    (DATA_A, NOTHING),
+    (DATA_SIX, &[9, 2, 0x0a, 0, 0x50, 0, 4, 2, 0, 0, 0, 1, 7]),
+];
+
+const REFUSED: Exchange = &[
+    (ON_FIVE_1, Seen::Nothing),
+    (STORED_TWO, Seen::Nothing),
+    (&[(DATA_C, NOTHING), (END_STREAM, COMPLETED)], Seen::Nothing),
+    (&[], Seen::Has(&[(1, b"A")])),
+];
+
+const TAKEN_UP_AGAIN: Exchange = &[
+    (ON_FIVE_1, Seen::Nothing),
+    (STORED_TWO, Seen::Nothing),
+    (
+        &[(SKIP, NOTHING), (DATA_C, NOTHING), (END_STREAM, COMPLETED)],
+        Seen::Has(&[(1, b"A"), (2, b"C")]),
+    ),
+];
+
+const DROPPED: Exchange = &[
+    (ON_SEQUENTIAL_1, Seen::Nothing),
+    (
+        &[
+            (PUT, NOTHING),
+            (REWIND, MISPLACED_CONTROL),
+            (DATA_A, MISPLACED_DATA),
+        ],
+        Seen::Has(&[]),
+    ),
+];
+
+const UPDATED: Exchange = &[
+    (ON_SEQUENTIAL_1, Seen::Nothing),
+    (
+        &[
+            (PUT, NOTHING),
+            (DATA_A, DONE_1),
+            (CLOSE, COMPLETED),
+            (OPEN_10, OPENED_SEQUENTIAL),
+            (CONNECT, ACKNOWLEDGE),
+            (GET, FOUND_1_A),
+            (UPDATE, NOTHING),
+            (DATA_B, DONE_1),
+            (UPDATE, NOTHING),
+            (DATA_C, NO_CURRENT),
+        ],
+        Seen::Has(&[(1, b"B")]),
+    ),
+    (
+        &[
+            (REWIND, REWOUND),
+            (GET, FOUND_1_B),
+            (UPDATE, NOTHING),
+            (&[8, 2, 3, 0, 0x42, 0x43], BAD_LENGTH),
+        ],
+        Seen::Has(&[(1, b"B")]),
+    ),
+];
+
+#[test]
+fn refused_stores_a_dropped_put_and_an_update(rt: HostRuntime) {
+    exchange(&rt, REFUSED);
+    exchange(&rt, TAKEN_UP_AGAIN);
+    exchange(&rt, DROPPED);
+    exchange(&rt, UPDATED);
+}
+
+const READY: Exchange = &[
+    (&[(CONFIG, CONFIG)], Seen::Nothing),
+    (&[(BAD_FLAGS, WRONG_FLAGS)], Seen::Nothing),
+];
+
+const PUT_DUE: Exchange = &[
+    (ON_SEQUENTIAL_1, Seen::Nothing),
+    (&[(PUT, NOTHING), (BAD_FLAGS, WRONG_FLAGS)], Seen::Nothing),
+    (&[(DATA_A, MISPLACED_DATA)], Seen::Has(&[])),
+];
+
+const UNKNOWN: Exchange = &[(
+    &[
+        (CONFIG, CONFIG),
+        (SEQUENTIAL, NOTHING),
+        (MAKE_1, OPENED_SEQUENTIAL),
+        (&[4, 2, 2, 9, 0], UNKNOWN_CONTROL),
+    ],
+    Seen::Nothing,
+)];
+
+#[test]
+fn bad_flags_and_an_unknown_control(rt: HostRuntime) {
+    exchange(&rt, READY);
+    exchange(&rt, PUT_DUE);
+    exchange(&rt, UNKNOWN);
+}
+
+const FOUR_PUTS: Script = &[
+    (PUT, NOTHING),
+    (DATA_TEN_1, DONE_1),
+    (PUT, NOTHING),
+    (DATA_TEN_2, DONE_2),
+    (PUT, NOTHING),
+    (DATA_TEN_3, DONE_3),
+    (PUT, NOTHING),
+    (DATA_TEN_4, DONE_4),
+];
+
+const FOUR_RECORDS: Exchange = &[
+    (SMALL_ON_SEQUENTIAL_3, Seen::Nothing),
+    (FOUR_PUTS, Seen::Nothing),
+];
+
+const FOUR_FETCHED: &[&[u8]] = &[
+    FOUND_TEN_1_TO_3,
+    &[
+        8, 2, 15, 4, 4, 0, 0, 0, 4, 4, 4, 4, 4, 4, 4, 4, 4, 4, 9, 2, 5, 0x27, 0x50, 0, 0, 0,
+    ],
+];
+
+#[test]
+fn fetches_that_skip_are_given_up_or_take_two_nsp_messages(rt: HostRuntime) {
+    exchange(&rt, SKIPPED);
+    exchange(&rt, GIVEN_UP);
+    let mut end = exchange(&rt, FOUR_RECORDS);
+    gives(&rt, &mut end, FETCH, FOUR_FETCHED);
+}

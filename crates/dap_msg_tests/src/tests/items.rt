@@ -1,0 +1,61 @@
+//! What stands at the places of an NSP message.
+
+use dap_msg::{Control, FaultKind, Item, Message, MsgFault, item_at};
+
+const GET: Message<'static> = Message::Control(Control {
+    func: 1,
+    rac: Some(0),
+    key: None,
+    krf: None,
+    rop: None,
+    hsh: None,
+    display: None,
+});
+
+const DATA_CUT_SHORT: MsgFault = MsgFault {
+    kind: FaultKind::Truncated,
+    message_type: 8,
+    offset: 5,
+};
+
+const NO_TYPE: MsgFault = MsgFault {
+    kind: FaultKind::Truncated,
+    message_type: 0,
+    offset: 0,
+};
+
+/// Bytes, a place in them, what stands there, and where it ends.
+const ITEMS: &[(&[u8], usize, Item<'static>, usize)] = &[
+    // A message after another.
+    (&[4, 2, 3, 1, 1, 0, 6, 2, 0], 0, Item::Whole(GET), 6),
+    (
+        &[4, 2, 3, 1, 1, 0, 6, 2, 0],
+        6,
+        Item::Whole(Message::Ack),
+        9,
+    ),
+    // A message without LENGTH is the last.
+    (&[6, 2, 0, 6, 0, 6, 2, 0], 3, Item::Whole(Message::Ack), 8),
+    // A fault is counted from the start.
+    (
+        &[6, 2, 0, 8, 2, 5, 0, 0x41],
+        0,
+        Item::Whole(Message::Ack),
+        3,
+    ),
+    (
+        &[6, 2, 0, 8, 2, 5, 0, 0x41],
+        3,
+        Item::Malformed(DATA_CUT_SHORT),
+        8,
+    ),
+    // No bytes are one fault.
+    (&[], 0, Item::Malformed(NO_TYPE), 0),
+];
+
+#[test]
+fn items(rt: HostRuntime) {
+    for (bytes, at, item, end) in ITEMS {
+        assert_eq!(rt; item_at(bytes, *at), (*item, *end));
+    }
+}
