@@ -71,16 +71,22 @@ impl RecordFile for BlankFile {
         self.count
     }
 
-    fn place(&mut self, _number: u32, _body: &[u8]) -> Result<(), AllocError> {
+    fn place(&mut self, _number: u32, _body: &[u8]) -> Result<bool, AllocError> {
+        let _ = &self.count;
         Err(AllocError)
     }
 
-    fn replace(&mut self, _number: u32, _body: &[u8]) -> Result<(), AllocError> {
-        Err(AllocError)
+    fn replace(&mut self, number: u32, _body: &[u8]) -> Result<bool, AllocError> {
+        if self.lookup(number).is_some() {
+            Err(AllocError)
+        } else {
+            Ok(false)
+        }
     }
 
     // No file is sequential and relative.
-    fn remove(&mut self, _number: u32) {
+    fn remove(&mut self, _number: u32) -> bool {
         let _ = &self.count;
+        unreachable!()
     }
 }

@@ -82,25 +82,29 @@ impl RecordFile for PlainFile {
         }
     }
 
-    fn place(&mut self, number: u32, body: &[u8]) -> Result<(), AllocError> {
+    fn place(&mut self, number: u32, body: &[u8]) -> Result<bool, AllocError> {
+        let Err(at) = search(&self.entries, number) else {
+            return Ok(false);
+        };
         let body = Vec::from_slice(*self.entries.allocator(), body)?;
-        if let Err(at) = search(&self.entries, number) {
-            self.entries.insert(at, (number, body))?;
-        }
-        Ok(())
+        self.entries.insert(at, (number, body))?;
+        Ok(true)
     }
 
-    fn replace(&mut self, number: u32, body: &[u8]) -> Result<(), AllocError> {
+    fn replace(&mut self, number: u32, body: &[u8]) -> Result<bool, AllocError> {
+        let Ok(at) = search(&self.entries, number) else {
+            return Ok(false);
+        };
         let body = Vec::from_slice(*self.entries.allocator(), body)?;
-        if let Ok(at) = search(&self.entries, number) {
-            self.entries[at].1 = body;
-        }
-        Ok(())
+        self.entries[at].1 = body;
+        Ok(true)
     }
 
-    fn remove(&mut self, number: u32) {
-        if let Ok(at) = search(&self.entries, number) {
-            let _ = self.entries.remove(at);
-        }
+    fn remove(&mut self, number: u32) -> bool {
+        let Ok(at) = search(&self.entries, number) else {
+            return false;
+        };
+        let _ = self.entries.remove(at);
+        true
     }
 }
