@@ -95,7 +95,10 @@ pub(crate) fn add_record(file: &mut AnyFile, number: u32, body: &[u8]) -> Result
     ensures { Stores number body.now (any_value file.old) (any_value file.new) result }
 {
     match check_record(file, number, body) {
-        Ok(()) => Ok(file.place(number, body)?),
+        Ok(()) => match file.place(number, body)? {
+            true => Ok(()),
+            false => unreachable!(),
+        },
         Err(refusal) => Err(AddFault::Record(refusal)),
     }
 }

@@ -83,22 +83,20 @@ fn place(file: &mut AnyFile, number: u32, body: &[u8]) -> Result<(), Trouble> {
     if shape.is_sequential() && number != file.highest() + 1 {
         return Err(Trouble::Wrong);
     }
-    match file.lookup(number) {
-        Some(_) => return Err(Trouble::Wrong),
-        None => {}
-    }
     match file.place(number, body) {
-        Ok(()) => Ok(()),
+        Ok(true) => Ok(()),
+        Ok(false) => Err(Trouble::Wrong),
         Err(_) => Err(Trouble::Wants),
     }
 }
 
 fn replace(file: &mut AnyFile, number: u32, body: &[u8]) -> Result<(), Trouble> {
-    if file.lookup(number).is_none() || !file.shape().allows(body.len()) {
+    if !file.shape().allows(body.len()) {
         return Err(Trouble::Wrong);
     }
     match file.replace(number, body) {
-        Ok(()) => Ok(()),
+        Ok(true) => Ok(()),
+        Ok(false) => Err(Trouble::Wrong),
         Err(_) => Err(Trouble::Wants),
     }
 }

@@ -1,6 +1,6 @@
 -- An operation leaves what holds of every file.
-use Rattle.std.proofs.Common.{◌≡◌, ℕ, ◌+◌, ◌<◌, ◌≤◌, ◌≢◌, cond, eqb, Bool, true, false, not, ◌&&◌, ◌||◌, List, length, Option, Some, None, IsSome, IfSome, IsTrue, Bor, is_some, refl, sym, ap, subst, ◌∙◌, arith, inl, inr}
-use Rattle.std.specs.Prelude.{nat_le, nat_eq}
+use Rattle.std.proofs.Common.{◌≡◌, ℕ, ◌+◌, ◌<◌, ◌≤◌, ◌≢◌, cond, eqb, Bool, true, false, not, ◌&&◌, ◌||◌, List, length, Option, Some, None, IsSome, IfSome, IsTrue, Bor, is_none, is_some, refl, sym, ap, subst, ◌∙◌, arith, inl, inr}
+use Rattle.std.specs.Prelude.{nat_le, nat_eq, Result, Ok, Err, OnErr}
 use Rattle.std.specs.Option.{option_copied}
 use Rattle.std.specs.Ordering.{nat_cmp, eq_by_cmp}
 use Rattle.std.specs.Cmp.{nat_cmp_total}
@@ -170,3 +170,21 @@ record_fits f n h = by (get f.records n) refl
     by : (o : Option (List ℕ)) → get f.records n ≡ o → IfSome o (λ body. length body ≤ longest_record)
     by None e = tt
     by (Some body) e = body_fits f n body h (sym e)
+
+-- what a reference has is none, or some, as the reference is
+pub copied_none : (o : Option (Bor (List ℕ))) (r : Option (List ℕ)) → option_copied o ≡ r → is_some o ≡ false → None ≡ r
+copied_none None r is none = is
+copied_none (Some body) r is none = cc
+
+pub copied_some : (o : Option (Bor (List ℕ))) (r : Option (List ℕ)) → option_copied o ≡ r → is_some o ≡ true → IsSome r
+copied_some None r is some = cc
+copied_some (Some body) r is some = ap is_some (sym is)
+
+pub not_none : (o : Option (List ℕ)) → IsSome o → false ≡ is_none o
+not_none None some = cc
+not_none (Some body) some = refl
+
+-- what holds, holds also where an answer is an error
+pub wanted : {A E P : Type 0} (r : Result A E) → P → OnErr r P
+wanted (Ok a) p = tt
+wanted (Err e) p = p

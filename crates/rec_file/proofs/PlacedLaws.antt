@@ -8,6 +8,7 @@ use Rattle.std.specs.List.{count_by}
 use Rattle.std.specs.FinMap.{is_sorted}
 use Rattle.std.proofs.lemmas.Bool.Decides.{nat_tests}
 use Rattle.std.proofs.lemmas.List.Sums.{sum_by-cons}
+use Rattle.std.proofs.lemmas.List.{set-get_or}
 use Rattle.std.specs.Map.{lookup, set_value, remove_entry}
 use Rattle.std.specs.BTreeMap.{is_at, insert_entry}
 use Rattle.slab.specs.Slab.{Slab, get, slab_len, with_value, Updates}
@@ -195,6 +196,13 @@ pub page-written : (s : Slab Cells) (es : List (ℕ × ℕ)) (p i : ℕ) (old ne
 page-written s es p i old new made own is there same =
     let u = Updates-with_value s i new (ap is_some there) in
     written (get s) (get (with_value s i new)) i u.others new es p u.changed own (sym (lookup_is_at es p) ∙ is) ∙ ap (set_value (is_at (nat_cmp p)) (pages_at (get s) es)) same
+
+with-same : {T : Type 0} (s : Slab T) (i : ℕ) (v : T) → get s i ≡ Some v → with_value s i v ≡ s
+with-same s i v is = ap (λ slots. record s { slots = slots }) (ap (set s.slots i) (sym is) ∙ set-get_or s.slots i None)
+
+-- a page written back changes nothing
+pub page-same : (s : Slab Cells) (es : List (ℕ × ℕ)) (i : ℕ) (old : Cells) → get s i ≡ Some old → pages_at (get (with_value s i old)) es ≡ pages_at (get s) es
+page-same s es i old is = ap (λ t. pages_at (get t) es) (with-same s i old is)
 
 -- a page that was written and then removed
 pub page-removed :

@@ -57,5 +57,5 @@ pub lowest_occupied : (m : Records) (n k : ℕ) → lowest_from m n ≡ Some k �
 lowest_occupied m n k lowest none = first_there (entries m) n k (rising m) lowest (sym (get_is_at m k) ∙ none)
 
 -- behind the highest number nothing is occupied
-pub next_is_free : (m : Records) (n : ℕ) (body : List ℕ) → n ≡ highest_of m + 1 → Some body ≡ get m n → ⊥
-next_is_free m n body is some = let none = (is_highest m).none_above n (omega arith) in cc
+pub next_is_none : (m : Records) (n : ℕ) → n ≡ highest_of m + 1 → get m n ≡ None
+next_is_none m n is = (is_highest m).none_above n (omega arith)

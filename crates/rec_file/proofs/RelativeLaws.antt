@@ -1,6 +1,6 @@
 -- What a paged file answers, by its pages in order.
 use Rattle.std.proofs.Common.{◌≡◌, ℕ, zero, suc, ◌+◌, ◌-◌, ◌*◌, ◌/◌, ◌%◌, ◌<◌, ◌≤◌, ◌≢◌, cond, eqb, max, Bool, true, false, List, [], ◌∷◌, length, set, map, Option, Some, None, IsSome, IfSome, IfNone, is_some, unwrap_or, refl, sym, ap, subst, ◌∙◌, T, length-set, arith, inl, inr}
-use Rattle.std.specs.Prelude.{replicate, Result, Ok, Err, OnErr, OnOk}
+use Rattle.std.specs.Prelude.{replicate, Result, Ok, Err, OnErr, IfOk, MatchBool}
 use Rattle.std.specs.List.{AllByRecursion}
 use Rattle.std.specs.Ordering.{nat_cmp, is_lt}
 use Rattle.std.specs.Cmp.{nat_cmp_total}
@@ -361,28 +361,27 @@ module _ (s : Shape) (ps : List (ℕ × Cells)) (f : FileVal) (h : HoldsFile s p
       by None is = put_cells n empty_cells body least length-empty (λ k. ap (λ c. page_cell c k) is ∙ sym (cell-replicate 64 k))
       by (Some cells) is = put_cells n cells body least (page_is ps (page_of n) cells h.all is).size (λ k. ap (λ c. page_cell c k) is)
 
-  -- a cell is free where its number is
-  pub put_free : (n : ℕ) → 1 ≤ n → None ≡ get f.records n → IfSome (lookup (is_at (nat_cmp (page_of n))) ps) (λ cells. cell cells (cell_of n) ≡ None)
-  put_free n least free = by (lookup (is_at (nat_cmp (page_of n))) ps) (sym (lookup_is_at ps (page_of n)))
-    where
-      by : (o : Option Cells) → at ps (page_of n) ≡ o → IfSome o (λ cells. cell cells (cell_of n) ≡ None)
-      by None is = tt
-      by (Some cells) is = here n cells least is ∙ sym free
+  -- what the cell of a number has is what the file has there
+  pub held_cell : (n : ℕ) → 1 ≤ n → page_cell (lookup (is_at (nat_cmp (page_of n))) ps) (cell_of n) ≡ get f.records n
+  held_cell n least =
+      ap (λ c. page_cell c (cell_of n)) (lookup_is_at ps (page_of n)) ∙ sym (get-paged ps n r (sized ps h.all) least) ∙ ap (λ g. get g.records n) h.same
 
   -- a record that may be refused
-  module _ {A E : Type 0} (result : Result A E) (now : List (ℕ × Cells)) (n : ℕ) (body : List ℕ) (least : 1 ≤ n) (ok : OnOk result (now ≡ put_entry ps (page_of n) (cell_of n) body))
-      (err : OnErr result (now ≡ ps)) where
-    pub put_same : OnOk result (paged_file s now ≡ stored f n body)
+  module _ {E : Type 0} (result : Result Bool E) (now : List (ℕ × Cells)) (n : ℕ) (body : List ℕ) (least : 1 ≤ n)
+      (ok : IfOk result (λ empty. MatchBool empty (now ≡ put_entry ps (page_of n) (cell_of n) body) (now ≡ ps))) (err : OnErr result (now ≡ ps)) where
+    pub put_same : IfOk result (λ empty. MatchBool empty (paged_file s now ≡ stored f n body) (paged_file s now ≡ f))
     put_same = by result ok
       where
-        by : (r : Result A E) → OnOk r (now ≡ put_entry ps (page_of n) (cell_of n) body) → OnOk r (paged_file s now ≡ stored f n body)
-        by (Ok a) is = ap (paged_file s) is ∙ (put_page n body least).same
+        by : (r : Result Bool E) → IfOk r (λ empty. MatchBool empty (now ≡ put_entry ps (page_of n) (cell_of n) body) (now ≡ ps))
+            → IfOk r (λ empty. MatchBool empty (paged_file s now ≡ stored f n body) (paged_file s now ≡ f))
+        by (Ok true) is = ap (paged_file s) is ∙ (put_page n body least).same
+        by (Ok false) is = ap (paged_file s) is ∙ h.same
         by (Err e) is = tt
 
     pub put_back : OnErr result (paged_file s now ≡ f)
     put_back = by result err
       where
-        by : (r : Result A E) → OnErr r (now ≡ ps) → OnErr r (paged_file s now ≡ f)
+        by : (r : Result Bool E) → OnErr r (now ≡ ps) → OnErr r (paged_file s now ≡ f)
         by (Ok a) is = tt
         by (Err e) is = ap (paged_file s) is ∙ h.same
 
@@ -392,8 +391,9 @@ module _ (s : Shape) (ps : List (ℕ × Cells)) (f : FileVal) (h : HoldsFile s p
     pub put_stands : IsFile f → IsFile (stored f n body) → Stands now
     put_stands before after = by result ok err
       where
-        by : (r : Result A E) → OnOk r (now ≡ put_entry ps (page_of n) (cell_of n) body) → OnErr r (now ≡ ps) → Stands now
-        by (Ok a) is back = let put = put_page n body least in subst Stands (sym is) (subst IsFile (sym put.same) after, put.sorted, put.all)
+        by : (r : Result Bool E) → IfOk r (λ empty. MatchBool empty (now ≡ put_entry ps (page_of n) (cell_of n) body) (now ≡ ps)) → OnErr r (now ≡ ps) → Stands now
+        by (Ok false) is back = subst Stands (sym is) (subst IsFile (sym h.same) before, h.sorted, h.all)
+        by (Ok true) is back = let put = put_page n body least in subst Stands (sym is) (subst IsFile (sym put.same) after, put.sorted, put.all)
         by (Err e) is back = subst Stands (sym back) (subst IsFile (sym h.same) before, h.sorted, h.all)
 
   -- a record less in a page that stays

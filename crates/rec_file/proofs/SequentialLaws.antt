@@ -62,6 +62,10 @@ module _ (s : Shape) (vs : List (Vec ℕ Global)) (f : FileVal) (e : sequential_
   pub occupied_within : (n : ℕ) → IsSome (get f.records n) → (1 ≤ n) × (n ≤ length vs)
   occupied_within n some = let h = within-numbered (bodies vs) n (subst (λ m. IsSome (get m n)) (sym records_are) some) in let same = size in (h.0, omega arith)
 
+  -- and each number within it is occupied
+  pub within_occupied : (n : ℕ) → 1 ≤ n → n ≤ length vs → IsSome (get f.records n)
+  within_occupied n least most = subst (λ m. IsSome (get m n)) records_are (some-numbered (bodies vs) n least (let same = size in omega arith))
+
   pub pushed : (v : Vec ℕ Global) (n : ℕ) (body : List ℕ) → v.items ≡ body → n ≡ highest_of f.records + 1 → sequential_file s (bodies (vs ++ v ∷ [])) ≡ stored f n body
   pushed v n body is next =
       let top = highest_is_length (length vs) refl in

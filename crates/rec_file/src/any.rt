@@ -71,21 +71,21 @@ impl RecordFile for AnyFile {
         }
     }
 
-    fn place(&mut self, number: u32, body: &[u8]) -> Result<(), AllocError> {
+    fn place(&mut self, number: u32, body: &[u8]) -> Result<bool, AllocError> {
         match self {
             AnyFile::Seq(file) => file.place(number, body),
             AnyFile::Rel(file) => file.place(number, body),
         }
     }
 
-    fn replace(&mut self, number: u32, body: &[u8]) -> Result<(), AllocError> {
+    fn replace(&mut self, number: u32, body: &[u8]) -> Result<bool, AllocError> {
         match self {
             AnyFile::Seq(file) => file.replace(number, body),
             AnyFile::Rel(file) => file.replace(number, body),
         }
     }
 
-    fn remove(&mut self, number: u32) {
+    fn remove(&mut self, number: u32) -> bool {
         match self {
             AnyFile::Seq(file) => file.remove(number),
             AnyFile::Rel(file) => file.remove(number),

@@ -1,5 +1,5 @@
 //! What a record file is: a shape and a finite map from numbers to records.
-ghost use Rattle.std.specs.Prelude.{◌≡◌, ◌≤◌, ◌+◌, [], ◌∷◌, length, Some, None, false, IsTrue, IsSome, IfSome, IfNone, OnOk, OnErr};
+ghost use Rattle.std.specs.Prelude.{◌≡◌, ◌≤◌, ◌+◌, [], ◌∷◌, length, Some, None, false, is_none, is_some, IsTrue, IsSome, IfSome, IfNone, IfOk, OnErr, MatchBool};
 ghost use Rattle.std.specs.Option.{option_copied};
 ghost use Rattle.std.specs.FinMap as map;
 ghost use Rattle.rec_file.specs.Shapes.{limit_of, allows_length, is_seq};
@@ -54,31 +54,41 @@ pub trait RecordFile {
         ensures same { result ≡ highest_of (value self.now).records }
         ensures within { result ≤ greatest_number };
 
-    /// Stores a record under a free number, in a sequential file under the next one. An error is
-    /// want of memory: nothing has changed.
-    fn place(&mut self, number: u32, body: &[u8]) -> Result<(), AllocError>
+    /// Stores a record under a number, in a sequential file under the next one: whether the number was free. Where it
+    /// wasn't, nothing has changed. An error is want of memory: the number is free, and nothing has changed.
+    fn place(&mut self, number: u32, body: &[u8]) -> Result<bool, AllocError>
         requires above { 1 ≤ number }
         requires within { number ≤ limit_of (value self.old).shape }
-        requires free { map.get (value self.old).records number ≡ None }
         requires next { IsTrue (is_seq (value self.old).shape.org)
             → number ≡ highest_of (value self.old).records + 1 }
         requires length { IsTrue (allows_length (value self.old).shape (length body.now)) }
-        ensures ok { OnOk result (value self.new ≡ stored (value self.old) number body.now) }
-        ensures err { OnErr result (value self.new ≡ value self.old) };
+        ensures free { IfOk result
+            (λ free. free ≡ is_none (map.get (value self.old).records number)) }
+        ensures ok { IfOk result (λ free. MatchBool free
+            (value self.new ≡ stored (value self.old) number body.now)
+            (value self.new ≡ value self.old)) }
+        ensures err { OnErr result (value self.new ≡ value self.old) }
+        ensures wanted { OnErr result (map.get (value self.old).records number ≡ None) };
 
-    /// Stores another record under an occupied number. An error is want of memory: nothing has
-    /// changed.
-    fn replace(&mut self, number: u32, body: &[u8]) -> Result<(), AllocError>
-        requires occupied { IsSome (map.get (value self.old).records number) }
+    /// Stores another record under a number: whether it was occupied. Where it wasn't, nothing has changed. An error is
+    /// want of memory: the number is occupied, and nothing has changed.
+    fn replace(&mut self, number: u32, body: &[u8]) -> Result<bool, AllocError>
         requires length { IsTrue (allows_length (value self.old).shape (length body.now)) }
-        ensures ok { OnOk result (value self.new ≡ stored (value self.old) number body.now) }
-        ensures err { OnErr result (value self.new ≡ value self.old) };
+        ensures occupied { IfOk result
+            (λ had. had ≡ is_some (map.get (value self.old).records number)) }
+        ensures ok { IfOk result (λ had. MatchBool had
+            (value self.new ≡ stored (value self.old) number body.now)
+            (value self.new ≡ value self.old)) }
+        ensures err { OnErr result (value self.new ≡ value self.old) }
+        ensures wanted { OnErr result (IsSome (map.get (value self.old).records number)) };
 
-    /// Removes the record of an occupied number of a relative file.
-    fn remove(&mut self, number: u32)
+    /// Removes the record of a number of a relative file: whether it was occupied. Where it wasn't, nothing has changed.
+    fn remove(&mut self, number: u32) -> bool
         requires relative { is_seq (value self.old).shape.org ≡ false }
-        requires occupied { IsSome (map.get (value self.old).records number) }
-        ensures { value self.new ≡ removed (value self.old) number };
+        ensures occupied { result ≡ is_some (map.get (value self.old).records number) }
+        ensures ok { MatchBool result
+            (value self.new ≡ removed (value self.old) number)
+            (value self.new ≡ value self.old) };
 }
 
 /// The record of the lowest occupied number from this one on, behind its number: one step through

@@ -1,13 +1,16 @@
 //! Where the pages of a relative file stand.
-ghost use Rattle.std.specs.Prelude.{◌≡◌, ◌≤◌, ◌<◌, ℕ, [], ◌∷◌, length, map, slice_index, true, IfOk, IfErr, IfSome, IfNone, OnErr, OnOk};
+ghost use Rattle.std.specs.Prelude.{◌≡◌, ◌≤◌, ◌<◌, ℕ, [], ◌∷◌, length, map, slice_index, true, None, IfOk, IfErr, IfSome, IfNone, OnErr, OnOk};
 ghost use Rattle.std.specs.Map.{remove_entry};
 ghost use Rattle.std.specs.BTreeMap.{is_at};
 ghost use Rattle.std.specs.Ordering.{nat_cmp};
 ghost use Rattle.std.specs.FinMap.{is_sorted};
 ghost use Rattle.rec_file.specs.Inner.Sorted.{IsGapFor, IsInOrder, IsPlaceOf};
-ghost use Rattle.rec_file.specs.Inner.Places.{place_of, places_from, with_place, IsLastPlace};
+ghost use Rattle.slab.specs.Slab.{HasRoomFor};
+ghost use Rattle.rec_file.specs.Inner.Places.{place_of, places_from, with_place, had_of, IsBegunWith, IsLastPlace};
 
+use crate::pages::Page;
 use crate::sorted::search;
+use slab::Slab;
 use std::alloc::{AllocError, Global};
 use std::collections::BTreeMap;
 use std::collections::btree_map::Range;
@@ -87,19 +90,58 @@ fn place_in(group: &[(u32, u32)], page: u32) -> Option<u32>
     }
 }
 
-/// Puts a page into its group, where it has no place: the place that it had. An error is want of memory: nothing has
+/// What a put of a page found.
+#[derive(Drop)]
+pub(crate) enum Put {
+    /// The page is kept, at this place.
+    Kept(u32),
+    /// The page now has the next place of the pages, for which there is room, as for its first record.
+    Begun(Vec<u8>),
+}
+
+/// Makes room for a page more, with a record: its place, and the record. An error is want of memory.
+fn room_for(
+    pages: &mut Slab<Page>,
+    alloc: Global,
+    body: &[u8],
+) -> Result<(u32, Vec<u8>), AllocError>
+    ensures place { IfOk result (λ r. r.0 ≡ pages.old.vacant_key) }
+    ensures body { IfOk result (λ r. r.1.items ≡ body.now) }
+    ensures room { OnOk result (HasRoomFor pages.new 1) }
+    ensures pages { pages.new ≡ record pages.old { capacity = pages.new.capacity } }
+{
+    // There are at most 2^25 pages, so the next place always has 32 bits.
+    let place = u32::try_from(pages.vacant_key()).map_err(|_| AllocError)?;
+    let record = Vec::from_slice(alloc, body)?;
+    pages.reserve(1)?;
+    Ok((place, record))
+}
+
+/// Puts a page into its group, where it has no place. An error is want of memory: it has no place, and nothing has
 /// changed.
-fn put_in(group: &mut Vec<(u32, u32)>, page: u32, place: u32) -> Result<Option<u32>, AllocError>
+fn put_in(
+    group: &mut Vec<(u32, u32)>,
+    alloc: Global,
+    page: u32,
+    pages: &mut Slab<Page>,
+    body: &[u8],
+) -> Result<Put, AllocError>
     requires { is_sorted nat_cmp group.old.items ≡ true }
-    ensures had { IfOk result (λ had. had ≡ place_of group.old.items page) }
-    ensures ok { OnOk result (group.new.items ≡ with_place group.old.items page place) }
+    ensures had { IfOk result (λ put. had_of put ≡ place_of group.old.items page) }
+    ensures body { IfOk result (IsBegunWith body.now) }
+    ensures room { IfOk result (λ put. IfNone (had_of put) (HasRoomFor pages.new 1)) }
+    ensures pages { pages.new ≡ record pages.old { capacity = pages.new.capacity } }
+    ensures ok { OnOk result
+        (group.new.items ≡ with_place group.old.items page pages.old.vacant_key) }
     ensures err { OnErr result (group.new.items ≡ group.old.items) }
+    ensures wanted { OnErr result (place_of group.old.items page ≡ None) }
 {
     match seek(group, page) {
-        Ok(at) => Ok(Some(group[at].1)),
+        Ok(at) => Ok(Put::Kept(group[at].1)),
         Err(at) => {
+            let (place, record) = room_for(pages, alloc, body)?;
             group.insert(at, (page, place))?;
-            Ok(None)
+            Ok(Put::Begun(record))
         }
     }
 }
@@ -143,21 +185,32 @@ impl Places {
         place_in(group, page)
     }
 
-    /// Puts a page, where it has no place: the place that it had. An error is want of memory: nothing has changed.
-    pub fn put(&mut self, alloc: Global, page: u32, place: u32) -> Result<Option<u32>, AllocError>
-        ensures had { IfOk result (λ had. had ≡ place_of self.old page) }
-        ensures ok { OnOk result (self.new ≡ with_place self.old page place) }
+    /// Puts a page, where it has no place. An error is want of memory: it has no place, and nothing has changed.
+    pub fn put(
+        &mut self,
+        alloc: Global,
+        page: u32,
+        pages: &mut Slab<Page>,
+        body: &[u8],
+    ) -> Result<Put, AllocError>
+        ensures had { IfOk result (λ put. had_of put ≡ place_of self.old page) }
+        ensures body { IfOk result (IsBegunWith body.now) }
+        ensures room { IfOk result (λ put. IfNone (had_of put) (HasRoomFor pages.new 1)) }
+        ensures pages { pages.new ≡ record pages.old { capacity = pages.new.capacity } }
+        ensures ok { OnOk result (self.new ≡ with_place self.old page pages.old.vacant_key) }
         ensures err { OnErr result (self.new ≡ self.old) }
+        ensures wanted { OnErr result (place_of self.old page ≡ None) }
         ensures sorted { is_sorted nat_cmp self.old ≡ true }
     {
         let own = page / GROUP;
         if let Some(group) = self.groups.get_mut(&own) {
-            return put_in(group, page, place);
+            return put_in(group, alloc, page, pages, body);
         }
+        let (place, record) = room_for(pages, alloc, body)?;
         let mut group = Vec::new(alloc);
         group.push((page, place))?;
         let _ = self.groups.insert(own, group)?;
-        Ok(None)
+        Ok(Put::Begun(record))
     }
 
     /// Takes a page out, where it has a place. It takes no memory.

@@ -1,5 +1,5 @@
 //! Relative files in pages.
-ghost use Rattle.std.specs.Prelude.{◌≡◌, ◌≤◌, ◌<◌, None, Some, false, length, map as each, IfNone, IfSome, IsTrue, OnErr, OnOk};
+ghost use Rattle.std.specs.Prelude.{◌≡◌, ◌≤◌, ◌<◌, None, Some, false, is_none, length, map as each, IfNone, IfOk, IfSome, IsTrue, MatchBool, OnErr};
 ghost use Rattle.std.specs.List.{AllByRecursion};
 ghost use Rattle.std.specs.BTreeMap.{is_at};
 ghost use Rattle.std.specs.Map.{lookup};
@@ -10,11 +10,11 @@ ghost use Rattle.rec_file.specs.Shapes.{is_shape, is_seq};
 ghost use Rattle.rec_file.specs.Pages.{occupied_pages};
 ghost use Rattle.rec_file.specs.Files.{lowest_from};
 ghost use Rattle.rec_file.specs.Limits.{greatest_number, longest_record};
-ghost use Rattle.rec_file.specs.Inner.Pages.{cell as cell_in, cell_of as cell_at, pages_at, put_entry, HaveOwnPlaces, IsPage};
+ghost use Rattle.rec_file.specs.Inner.Pages.{cell as cell_in, cell_of as cell_at, pages_at, page_cell, put_entry, HaveOwnPlaces, IsPage};
 
 use crate::files::RecordFile;
 use crate::pages::{Page, cell_of, first_in, last_in, page_of};
-use crate::places::Places;
+use crate::places::{Places, Put};
 use crate::shapes::Shape;
 use slab::Slab;
 use std::alloc::{AllocError, Global};
@@ -107,43 +107,48 @@ impl RelFile {
     }
 }
 
-/// Stores a record in an empty cell of a page that is kept, or else of a new one. An error is want of memory:
-/// nothing has changed.
+/// Stores a record in a page that is kept, or else in a new one: whether its cell was empty. An error is want of memory:
+/// the cell is empty. Where it wasn't stored nothing has changed.
 fn put_in(
     places: &mut Places,
     pages: &mut Slab<Page>,
     alloc: Global,
     at: u32,
     cell: usize,
-    body: Vec<u8>,
-) -> Result<(), AllocError>
+    body: &[u8],
+) -> Result<bool, AllocError>
     requires within { cell < 64 }
     requires kept { AllByRecursion IsPage (each (λ p. p.1) (pages_at (get pages.old)
         places.old)) }
     requires own { HaveOwnPlaces places.old }
     requires as_many { slab_len pages.old ≡ length places.old }
-    requires empty { IfSome (lookup (is_at (nat_cmp at)) (pages_at (get pages.old)
-        places.old)) (λ page. cell_in page cell ≡ None) }
-    ensures ok { OnOk result (pages_at (get pages.new) places.new
-        ≡ put_entry (pages_at (get pages.old) places.old) at cell body.items) }
+    ensures empty { IfOk result (λ empty. empty ≡ is_none (page_cell
+        (lookup (is_at (nat_cmp at)) (pages_at (get pages.old) places.old)) cell)) }
+    ensures ok { IfOk result (λ empty. MatchBool empty (pages_at (get pages.new) places.new
+        ≡ put_entry (pages_at (get pages.old) places.old) at cell body.now)
+        (pages_at (get pages.new) places.new ≡ pages_at (get pages.old) places.old)) }
     ensures err { OnErr result (pages_at (get pages.new) places.new
         ≡ pages_at (get pages.old) places.old) }
+    ensures wanted { OnErr result (page_cell
+        (lookup (is_at (nat_cmp at)) (pages_at (get pages.old) places.old)) cell ≡ None) }
     ensures own { HaveOwnPlaces places.new }
     ensures as_many { slab_len pages.new ≡ length places.new }
 {
-    // There are at most 2^25 pages, so the next place always has 32 bits.
-    let free = u32::try_from(pages.vacant_key()).map_err(|_| AllocError)?;
-    pages.reserve(1)?;
-    match places.put(alloc, at, free)? {
-        Some(place) => match pages.get_mut(place as usize) {
-            Some(page) => page.put(cell, body),
-            None => Ok(()),
-        },
-        None => {
+    match places.put(alloc, at, pages, body)? {
+        Put::Kept(place) => {
+            let Some(page) = pages.get_mut(place as usize) else {
+                unreachable!();
+            };
+            if page.get(cell).is_some() {
+                return Ok(false);
+            }
+            page.put(cell, Vec::from_slice(alloc, body)?)?;
+        }
+        Put::Begun(body) => {
             let _ = pages.insert_reserved(Page::with(alloc, cell, body));
-            Ok(())
         }
     }
+    Ok(true)
 }
 
 impl RecordFile for RelFile {
@@ -184,8 +189,7 @@ impl RecordFile for RelFile {
         }
     }
 
-    fn place(&mut self, number: u32, body: &[u8]) -> Result<(), AllocError> {
-        let body = Vec::from_slice(self.alloc, body)?;
+    fn place(&mut self, number: u32, body: &[u8]) -> Result<bool, AllocError> {
         let at = page_of(number);
         let cell = cell_of(number);
         put_in(
@@ -198,32 +202,47 @@ impl RecordFile for RelFile {
         )
     }
 
-    fn replace(&mut self, number: u32, body: &[u8]) -> Result<(), AllocError> {
-        let body = Vec::from_slice(self.alloc, body)?;
-        let Some(place) = self.places.get(page_of(number)) else {
-            return Ok(());
+    fn replace(&mut self, number: u32, body: &[u8]) -> Result<bool, AllocError> {
+        let places = &self.places;
+        if number == 0 {
+            return Ok(false);
+        }
+        let Some(place) = places.get(page_of(number)) else {
+            return Ok(false);
         };
         let Some(page) = self.pages.get_mut(place as usize) else {
-            return Ok(());
+            unreachable!();
         };
-        page.replace(cell_of(number), body);
-        Ok(())
+        let cell = cell_of(number);
+        if page.get(cell).is_none() {
+            return Ok(false);
+        }
+        page.replace(cell, Vec::from_slice(self.alloc, body)?);
+        Ok(true)
     }
 
-    fn remove(&mut self, number: u32) {
+    fn remove(&mut self, number: u32) -> bool {
         let places = &self.places;
+        if number == 0 {
+            return false;
+        }
         let at = page_of(number);
         let Some(place) = places.get(at) else {
-            return;
+            return false;
         };
         let place = place as usize;
         let Some(page) = self.pages.get_mut(place) else {
-            return;
+            unreachable!();
         };
-        page.clear(cell_of(number));
+        let cell = cell_of(number);
+        if page.get(cell).is_none() {
+            return false;
+        }
+        page.clear(cell);
         if page.is_empty() {
             let _ = self.pages.try_remove(place);
             self.places.remove(at);
         }
+        true
     }
 }

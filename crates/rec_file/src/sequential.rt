@@ -72,20 +72,24 @@ impl RecordFile for SeqFile {
         self.records.len() as u32
     }
 
-    fn place(&mut self, _number: u32, body: &[u8]) -> Result<(), AllocError> {
+    fn place(&mut self, _number: u32, body: &[u8]) -> Result<bool, AllocError> {
         let record = Vec::from_slice(*self.records.allocator(), body)?;
         self.records.push(record)?;
-        Ok(())
+        Ok(true)
     }
 
-    fn replace(&mut self, number: u32, body: &[u8]) -> Result<(), AllocError> {
+    fn replace(&mut self, number: u32, body: &[u8]) -> Result<bool, AllocError> {
+        if number == 0 || number as usize > self.records.len() {
+            return Ok(false);
+        }
         let record = Vec::from_slice(*self.records.allocator(), body)?;
         self.records[number as usize - 1] = record;
-        Ok(())
+        Ok(true)
     }
 
     // No file is sequential and relative.
-    fn remove(&mut self, _number: u32) {
+    fn remove(&mut self, _number: u32) -> bool {
         let _ = &self.shape;
+        unreachable!()
     }
 }

@@ -1,9 +1,10 @@
 //! A stream: a place in a file, and the operations of a user on it.
-ghost use Rattle.std.specs.Prelude.{◌≡◌, ◌≤◌, ◌+◌, false, length, IfOk, IsSome, IsTrue};
-ghost use Rattle.std.specs.FinMap as map;
-ghost use Rattle.rec_file.specs.Shapes.{limit_of, allows_length};
+ghost use Rattle.std.specs.Prelude.{◌≡◌, ◌≤◌, ◌+◌, false, length, Ok, Err, IfErr, IfOk, IsTrue, if◌then◌else◌};
+ghost use Rattle.rec_file.specs.declared.refusals.Refusal.TheVariants.{NoCurrent, RecordExists};
+ghost use Rattle.rec_file.specs.Files.{highest_of};
+ghost use Rattle.rec_file.specs.Shapes.{limit_of, allows_length, is_seq};
 ghost use Rattle.rec_file.specs.Limits.{greatest_number};
-ghost use Rattle.rec_file.specs.Acts.{act, Acts, IsOutcome, is_no_memory, get_record, put_record, update_record, delete_record};
+ghost use Rattle.rec_file.specs.Acts.{act, Acts, IsOutcome, is_free, is_no_memory, get_record, put_record, update_record, delete_record};
 
 use crate::files::RecordFile;
 use crate::picks::{Pick, Rights};
@@ -155,7 +156,7 @@ impl Stream {
         ensures { Acts (put_record key body.now) (F.value file.old) self.old
             (F.value file.new) self.new result }
     {
-        let number = match self.free_number(file, key, body) {
+        let number = match self.put_number(file, key, body) {
             Ok(number) => number,
             Err(refusal) => {
                 self.current = None;
@@ -163,25 +164,36 @@ impl Stream {
             }
         };
         let moves = key.is_none() && !file.shape().is_sequential();
-        if file.place(number, body).is_err() {
-            return Err(Refusal::NoMemory);
+        match file.place(number, body) {
+            Ok(true) => {
+                let next = if moves { number + 1 } else { self.next };
+                self.seek(next);
+                Ok(number)
+            }
+            Ok(false) => {
+                self.current = None;
+                Err(Refusal::RecordExists)
+            }
+            Err(_) => Err(Refusal::NoMemory),
         }
-        let next = if moves { number + 1 } else { self.next };
-        self.seek(next);
-        Ok(number)
     }
 
-    // The number that a put gives.
-    fn free_number<F: RecordFile>(
+    // The number that a put gives, where it is free.
+    fn put_number<F: RecordFile>(
         &self,
         file: &F,
         key: Option<u32>,
         body: &[u8],
     ) -> Result<u32, Refusal>
-        ensures reply { result ≡ (act (put_record key body.now) (F.value file.now) self.now).reply }
+        ensures refused { IfErr result (λ refusal.
+            (act (put_record key body.now) (F.value file.now) self.now).reply ≡ Err refusal) }
+        ensures reply { IfOk result (λ n.
+            (act (put_record key body.now) (F.value file.now) self.now).reply
+            ≡ (if is_free (F.value file.now) n then Ok n else Err RecordExists)) }
         ensures above { IfOk result (λ n. 1 ≤ n) }
         ensures within { IfOk result (λ n. n ≤ limit_of (F.value file.now).shape) }
-        ensures free { IfOk result (λ n. map.get (F.value file.now).records n ≡ None) }
+        ensures next { IfOk result (λ n. IsTrue (is_seq (F.value file.now).shape.org)
+            → n ≡ highest_of (F.value file.now).records + 1) }
         ensures length { IfOk result
             (λ _. IsTrue (allows_length (F.value file.now).shape (length body.now))) }
     {
@@ -203,10 +215,7 @@ impl Stream {
         if number == 0 || number > shape.limit() {
             return Err(Refusal::NumberOutOfRange);
         }
-        match file.lookup(number) {
-            None => Ok(number),
-            Some(_) => Err(Refusal::RecordExists),
-        }
+        Ok(number)
     }
 
     /// Replaces the current record, in a sequential file by one of the same length (own).
@@ -223,17 +232,26 @@ impl Stream {
                 return Err(refusal);
             }
         };
-        if file.replace(number, body).is_err() {
-            return Err(Refusal::NoMemory);
+        match file.replace(number, body) {
+            Ok(true) => {
+                self.forget();
+                Ok(number)
+            }
+            Ok(false) => {
+                self.current = None;
+                Err(Refusal::NoCurrent)
+            }
+            Err(_) => Err(Refusal::NoMemory),
         }
-        self.forget();
-        Ok(number)
     }
 
-    // The number that an update is about.
+    // The number that an update is about, where it is occupied.
     fn updated_number<F: RecordFile>(&self, file: &F, body: &[u8]) -> Result<u32, Refusal>
-        ensures reply { result ≡ (act (update_record body.now) (F.value file.now) self.now).reply }
-        ensures occupied { IfOk result (λ n. IsSome (map.get (F.value file.now).records n)) }
+        ensures refused { IfErr result (λ refusal.
+            (act (update_record body.now) (F.value file.now) self.now).reply ≡ Err refusal) }
+        ensures reply { IfOk result (λ n.
+            (act (update_record body.now) (F.value file.now) self.now).reply
+            ≡ (if is_free (F.value file.now) n then Err NoCurrent else Ok n)) }
         ensures length { IfOk result
             (λ _. IsTrue (allows_length (F.value file.now).shape (length body.now))) }
     {
@@ -243,14 +261,19 @@ impl Stream {
         let Some(number) = self.current else {
             return Err(Refusal::NoCurrent);
         };
+        let shape = file.shape();
+        let allowed = shape.allows(body.len());
+        if allowed && !shape.is_sequential() {
+            return Ok(number);
+        }
         let Some(record) = file.lookup(number) else {
             return Err(Refusal::NoCurrent);
         };
-        let shape = file.shape();
-        if !shape.allows(body.len()) || (shape.is_sequential() && body.len() != record.len()) {
-            return Err(Refusal::BadLength);
+        if allowed && body.len() == record.len() {
+            Ok(number)
+        } else {
+            Err(Refusal::BadLength)
         }
-        Ok(number)
     }
 
     /// Removes the current record of a relative file (own). It takes no memory.
@@ -271,10 +294,9 @@ impl Stream {
         let Some(number) = current else {
             return Err(Refusal::NoCurrent);
         };
-        if file.lookup(number).is_none() {
+        if !file.remove(number) {
             return Err(Refusal::NoCurrent);
         }
-        file.remove(number);
         Ok(number)
     }
 }

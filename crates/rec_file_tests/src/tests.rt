@@ -206,8 +206,7 @@ const FIRSTS: &[(u32, Option<u32>)] = &[
 // The record of a number is there, and is removed.
 fn removes(rt: &impl Abort, file: &mut RelFile, number: u32) {
     assert!(rt; !file.shape().is_sequential());
-    assert!(rt; file.lookup(number).is_some());
-    file.remove(number);
+    assert!(rt; file.remove(number));
     assert!(rt; file.lookup(number).is_none());
 }
 

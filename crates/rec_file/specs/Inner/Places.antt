@@ -6,6 +6,8 @@ use Rattle.std.specs.Map.{lookup}
 use Rattle.std.specs.BTreeMap.{is_at, insert_entry}
 use Rattle.std.specs.Ordering.{nat_cmp, is_le}
 use Rattle.std.specs.FinMap.{is_sorted}
+use Rattle.rec_file.specs.declared.places.Put.{Put}
+use Rattle.rec_file.specs.declared.places.Put.TheVariants.{Kept, Begun}
 
 -- the group of a page
 abbrev pub group_of : ℕ → ℕ
@@ -45,6 +47,16 @@ place_of es page = lookup (is_at (nat_cmp page)) es
 -- with this place for a page that has none
 abbrev pub with_place : List (ℕ × ℕ) → ℕ → ℕ → List (ℕ × ℕ)
 with_place es page place = if is_some (place_of es page) then es else insert_entry nat_cmp es page place
+
+-- the place that a page had
+abbrev pub had_of : Put → Option ℕ
+had_of (Kept place) = Some place
+had_of (Begun body) = None
+
+-- what is begun has this record
+abbrev pub IsBegunWith : List ℕ → Put → Type 0
+IsBegunWith body (Kept place) = Unit {0}
+IsBegunWith body (Begun first) = first.items ≡ body
 
 -- the places of the pages from one on
 abbrev pub places_from : ℕ → List (ℕ × ℕ) → List (ℕ × ℕ)

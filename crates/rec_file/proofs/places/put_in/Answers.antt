@@ -1,4 +1,6 @@
-use Rattle.std.proofs.Common.{◌∙◌}
+use Rattle.std.proofs.Common.{ap, sym, ◌∙◌}
+use Rattle.rec_file.specs.Inner.Places.{with_place}
+use Rattle.rec_file.proofs.FileLaws.{wanted}
 use Rattle.rec_file.proofs.SoughtLaws.{searchable, read-place, with-found, gap-place, with-gap}
 use Rattle.rec_file.proofs.places.put_in.Goals as goal
 
@@ -10,11 +12,21 @@ returns-in-Ok-clause-had c =
     read-place c.args.group.now.items c.requires c.args.page c.in-Ok.at (rw c.deref.ensures.value at c.in-Ok.ensures.found) c.index.result.now c.index.ensures
 
 pub returns-in-Ok-clause-ok : goal.returns-in-Ok-clause-ok
-returns-in-Ok-clause-ok c = with-found c.args.group.now.items c.requires c.args.page c.in-Ok.at (rw c.deref.ensures.value at c.in-Ok.ensures.found) c.args.place
+returns-in-Ok-clause-ok c = with-found c.args.group.now.items c.requires c.args.page c.in-Ok.at (rw c.deref.ensures.value at c.in-Ok.ensures.found) c.args.pages.now.vacant_key
 
 pub returns-in_ok-insert-in-Err-clause-had : goal.returns-in_ok-insert-in-Err-clause-had
 returns-in_ok-insert-in-Err-clause-had c = gap-place c.args.group.now.items c.requires c.args.page c.in-Err.at (rw c.deref.ensures.value at c.in-Err.ensures.gap)
 
 pub returns-in_ok-insert-in-Err-clause-ok : goal.returns-in_ok-insert-in-Err-clause-ok
 returns-in_ok-insert-in-Err-clause-ok c =
-    c.in_ok-insert-in-Err.ensures.items ∙ with-gap c.args.group.now.items c.requires c.args.page c.in-Err.at (rw c.deref.ensures.value at c.in-Err.ensures.gap) c.args.place
+    c.in_ok-insert-in-Err.ensures.items
+    ∙ with-gap c.args.group.now.items c.requires c.args.page c.in-Err.at (rw c.deref.ensures.value at c.in-Err.ensures.gap) c.in_ok-place-in-Err.place
+    ∙ ap (λ place. with_place c.args.group.now.items c.args.page place) c.in_ok-place-in-Err.ensures.place
+
+pub returns-in_err-place-in-Err-clause-wanted : goal.returns-in_err-place-in-Err-clause-wanted
+returns-in_err-place-in-Err-clause-wanted c =
+    wanted _ (sym (gap-place c.args.group.now.items c.requires c.args.page c.in-Err.at (rw c.deref.ensures.value at c.in-Err.ensures.gap)))
+
+pub returns-in_err-insert-in-Err-clause-wanted : goal.returns-in_err-insert-in-Err-clause-wanted
+returns-in_err-insert-in-Err-clause-wanted c =
+    wanted _ (sym (gap-place c.args.group.now.items c.requires c.args.page c.in-Err.at (rw c.deref.ensures.value at c.in-Err.ensures.gap)))

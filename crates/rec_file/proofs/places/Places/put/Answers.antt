@@ -1,5 +1,7 @@
-use Rattle.std.proofs.Common.{◌≡◌, Result, Ok, Err, IfOk, sym, subst}
+use Rattle.std.proofs.Common.{◌≡◌, Result, Ok, Err, IfOk, None, ap, sym, subst, ◌∙◌}
 use Rattle.std.specs.Prelude.{OnOk, OnErr}
+use Rattle.rec_file.specs.Inner.Places.{had_of, with_place}
+use Rattle.rec_file.proofs.FileLaws.{wanted}
 use Rattle.rec_file.proofs.HeldLaws.{Holds, group-sorted, get-some, get-none, put-some, put-same, put-none, places-sorted}
 use Rattle.rec_file.proofs.places.Places.put.Goals as goal
 
@@ -25,13 +27,13 @@ invariant_of-self c =
     let written = (c.get_mut.follows.holds c.put_in.new.group).0 in
     let kept : Holds _ =
     either c.put_in.result c.put_in.ensures.ok c.put_in.ensures.err
-    (λ same. (put-some c.self.inside.groups.entries holds c.args.self.now c.self.view_is c.args.page c.in-Some.group.now (sym c.in-Some.ensures.value) c.put_in.new.group _ written c.args.place same).1)
+    (λ same. (put-some c.self.inside.groups.entries holds c.args.self.now c.self.view_is c.args.page c.in-Some.group.now (sym c.in-Some.ensures.value) c.put_in.new.group _ written c.args.pages.now.vacant_key same).1)
     (λ same. (put-same c.self.inside.groups.entries holds c.args.self.now c.self.view_is c.args.page c.in-Some.group.now (sym c.in-Some.ensures.value) c.put_in.new.group _ written same).1) in
     (kept.sorted, kept.are, kept.have)
 
 pub returns-in-Some-clause-had : goal.returns-in-Some-clause-had
 returns-in-Some-clause-had c =
-    subst (λ o. IfOk c.put_in.result (λ had. had ≡ o))
+    subst (λ o. IfOk c.put_in.result (λ put. had_of put ≡ o))
     (get-some c.self.inside.groups.entries (record { sorted = c.self.invariant.0; are = c.self.invariant.1; have = c.self.invariant.2 }) c.args.self.now c.self.view_is c.args.page c.in-Some.group.now (sym c.in-Some.ensures.value))
     c.put_in.ensures.had
 
@@ -40,7 +42,7 @@ returns-in-Some-clause-ok c =
     let holds : Holds c.self.inside.groups.entries = record { sorted = c.self.invariant.0; are = c.self.invariant.1; have = c.self.invariant.2 } in
     let written = (c.get_mut.follows.holds c.put_in.new.group).0 in
     on-ok c.put_in.result c.put_in.ensures.ok
-    (λ same. (put-some c.self.inside.groups.entries holds c.args.self.now c.self.view_is c.args.page c.in-Some.group.now (sym c.in-Some.ensures.value) c.put_in.new.group _ written c.args.place same).0)
+    (λ same. (put-some c.self.inside.groups.entries holds c.args.self.now c.self.view_is c.args.page c.in-Some.group.now (sym c.in-Some.ensures.value) c.put_in.new.group _ written c.args.pages.now.vacant_key same).0)
 
 pub returns-in-Some-clause-err : goal.returns-in-Some-clause-err
 returns-in-Some-clause-err c =
@@ -51,6 +53,10 @@ returns-in-Some-clause-err c =
 
 pub returns-in-Some-clause-sorted : goal.returns-in-Some-clause-sorted
 returns-in-Some-clause-sorted c =
+    places-sorted c.self.inside.groups.entries (record { sorted = c.self.invariant.0; are = c.self.invariant.1; have = c.self.invariant.2 }) c.args.self.now c.self.view_is
+
+pub returns-in_err-place-clause-sorted : goal.returns-in_err-place-clause-sorted
+returns-in_err-place-clause-sorted c =
     places-sorted c.self.inside.groups.entries (record { sorted = c.self.invariant.0; are = c.self.invariant.1; have = c.self.invariant.2 }) c.args.self.now c.self.view_is
 
 pub returns-in_err-push-clause-sorted : goal.returns-in_err-push-clause-sorted
@@ -69,7 +75,7 @@ pub invariant_of-self-2 : goal.invariant_of-self-2
 invariant_of-self-2 c =
     let holds : Holds c.self.inside.groups.entries = record { sorted = c.self.invariant.0; are = c.self.invariant.1; have = c.self.invariant.2 } in
     let made = rw c.get_mut.follows.holds-at-none at c.in_ok-insert.ensures.entries in
-    let kept = (put-none c.self.inside.groups.entries holds c.args.self.now c.self.view_is c.args.page c.args.place c.push.new.self c.insert.new.self.entries (sym c.in_default.ensures.value) made (rw c.new-group.ensures.items at c.in_ok-push.ensures.items)).1 in
+    let kept = (put-none c.self.inside.groups.entries holds c.args.self.now c.self.view_is c.args.page c.in_ok-place.place c.push.new.self c.insert.new.self.entries (sym c.in_default.ensures.value) made (rw c.new-group.ensures.items at c.in_ok-push.ensures.items)).1 in
     (kept.sorted, kept.are, kept.have)
 
 pub returns-clause-had : goal.returns-clause-had
@@ -80,4 +86,23 @@ pub returns-clause-ok : goal.returns-clause-ok
 returns-clause-ok c =
     let holds : Holds c.self.inside.groups.entries = record { sorted = c.self.invariant.0; are = c.self.invariant.1; have = c.self.invariant.2 } in
     let made = rw c.get_mut.follows.holds-at-none at c.in_ok-insert.ensures.entries in
-    (put-none c.self.inside.groups.entries holds c.args.self.now c.self.view_is c.args.page c.args.place c.push.new.self c.insert.new.self.entries (sym c.in_default.ensures.value) made (rw c.new-group.ensures.items at c.in_ok-push.ensures.items)).0
+    (put-none c.self.inside.groups.entries holds c.args.self.now c.self.view_is c.args.page c.in_ok-place.place c.push.new.self c.insert.new.self.entries (sym c.in_default.ensures.value) made (rw c.new-group.ensures.items at c.in_ok-push.ensures.items)).0
+    ∙ ap (λ place. with_place c.args.self.now c.args.page place) c.in_ok-place.ensures.place
+
+pub returns-in-Some-clause-wanted : goal.returns-in-Some-clause-wanted
+returns-in-Some-clause-wanted c =
+    subst (λ o. OnErr c.put_in.result (o ≡ None))
+    (get-some c.self.inside.groups.entries (record { sorted = c.self.invariant.0; are = c.self.invariant.1; have = c.self.invariant.2 }) c.args.self.now c.self.view_is c.args.page c.in-Some.group.now (sym c.in-Some.ensures.value))
+    c.put_in.ensures.wanted
+
+pub returns-in_err-place-clause-wanted : goal.returns-in_err-place-clause-wanted
+returns-in_err-place-clause-wanted c =
+    wanted _ (sym (get-none c.self.inside.groups.entries (record { sorted = c.self.invariant.0; are = c.self.invariant.1; have = c.self.invariant.2 }) c.args.self.now c.self.view_is c.args.page (sym c.in_default.ensures.value)))
+
+pub returns-in_err-push-clause-wanted : goal.returns-in_err-push-clause-wanted
+returns-in_err-push-clause-wanted c =
+    wanted _ (sym (get-none c.self.inside.groups.entries (record { sorted = c.self.invariant.0; are = c.self.invariant.1; have = c.self.invariant.2 }) c.args.self.now c.self.view_is c.args.page (sym c.in_default.ensures.value)))
+
+pub returns-in_err-insert-clause-wanted : goal.returns-in_err-insert-clause-wanted
+returns-in_err-insert-clause-wanted c =
+    wanted _ (sym (get-none c.self.inside.groups.entries (record { sorted = c.self.invariant.0; are = c.self.invariant.1; have = c.self.invariant.2 }) c.args.self.now c.self.view_is c.args.page (sym c.in_default.ensures.value)))
