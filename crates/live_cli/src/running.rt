@@ -17,9 +17,10 @@ use cli_faults::refuse;
 use dap_follow::follow;
 use dap_listing::finish;
 use dap_live::{Asking, Serving};
-use linewise::{Answers, TalkFault, talk};
+use linewise::{Answers, talk};
 use nsp_link::{LARGEST_LIMIT, LinkFault, LinkSetup};
 use std::alloc::Global;
+use std::fmt::Display;
 use std::io::{BufRead, Write};
 
 /// How the link is set up: the limit of a message is any length that a buffer may have.
@@ -36,7 +37,7 @@ fn link_setup(options: Options) -> LinkSetup
 }
 
 /// Tells why there is no end, or no more of it, and answers the exit status.
-fn tell<E: Write>(why: &str, error_writer: &mut E) -> u8
+fn tell<D: Display + Drop, E: Write>(why: D, error_writer: &mut E) -> u8
     ensures { result ≡ 3 }
 {
     let _ = writeln!(error_writer, "{why}");
@@ -48,13 +49,6 @@ fn status(bad: bool) -> u8
     ensures { result ≡ status_of bad }
 {
     if bad { 1 } else { 0 }
-}
-
-fn fault_text(fault: TalkFault) -> &'static str {
-    match fault {
-        TalkFault::ReadFailed => "read failed",
-        TalkFault::WriteFailed => "write failed",
-    }
 }
 
 /// Answers the lines of the input.
@@ -70,7 +64,7 @@ fn converse<A: Answers, R: BufRead, W: Write, E: Write>(
 {
     match talk(alloc, end, reader, writer, error_writer) {
         Ok(bad) => status(bad),
-        Err(fault) => tell(fault_text(fault), error_writer),
+        Err(fault) => tell(fault, error_writer),
     }
 }
 
