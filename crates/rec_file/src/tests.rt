@@ -200,6 +200,10 @@ const FOUR_PUTS: Script = &[
     (Call::Put(Some(1), b""), Ok(1)),
 ];
 
+fn first_from<F: RecordFile>(file: &F, from: u32) -> Option<u32> {
+    file.record_from(from).map(|(number, _body)| number)
+}
+
 // Numbers, and the first record from each on.
 const FIRSTS: &[(u32, Option<u32>)] = &[
     (0, Some(1)),
@@ -226,12 +230,12 @@ fn pages_of_four_records(rt: HostRuntime) {
     play(&rt, &mut file, &mut stream, FOUR_PUTS);
     assert_eq!(rt; file.page_count(), 3);
     for (from, first) in FIRSTS {
-        assert_eq!(rt; file.first_from(*from), *first, "from {from}");
+        assert_eq!(rt; first_from(&file, *from), *first, "from {from}");
     }
     assert!(rt; holds(&file, 1, b""));
     assert_eq!(rt; file.lookup(2), None);
     removes(&rt, &mut file, 64);
-    assert_eq!(rt; file.first_from(2), Some(65));
+    assert_eq!(rt; first_from(&file, 2), Some(65));
     assert_eq!(rt; file.page_count(), 3);
     removes(&rt, &mut file, 2147483647);
     assert_eq!(rt; file.highest(), 65);
@@ -531,7 +535,7 @@ fn pages_answer_as_the_plain_list(rt: HostRuntime) {
 }
 
 fn is_same(pages: &RelFile, plain: &PlainFile, number: u32) -> bool {
-    pages.first_from(number) == plain.first_from(number)
+    pages.record_from(number) == plain.record_from(number)
         && pages.lookup(number) == plain.lookup(number)
 }
 

@@ -58,10 +58,10 @@ impl RecordFile for BlankFile {
         }
     }
 
-    fn first_from(&self, number: u32) -> Option<u32> {
+    fn record_from(&self, number: u32) -> Option<(u32, &[u8])> {
         let first = number.max(1);
         if first <= self.count {
-            Some(first)
+            Some((first, &[]))
         } else {
             None
         }

@@ -65,11 +65,11 @@ impl RecordFile for PlainFile {
         }
     }
 
-    fn first_from(&self, number: u32) -> Option<u32> {
+    fn record_from(&self, number: u32) -> Option<(u32, &[u8])> {
         match search(&self.entries, number) {
-            Ok(_) => Some(number),
+            Ok(at) => Some((number, self.entries[at].1.as_slice())),
             Err(at) => match self.entries.get(at) {
-                Some(entry) => Some(entry.0),
+                Some(entry) => Some((entry.0, entry.1.as_slice())),
                 None => None,
             },
         }
