@@ -14,7 +14,7 @@ ghost use Rattle.dap_accessed.specs.declared.phase.Phase.TheVariants as phases;
 use crate::accessed::{Accessed, malformed, misplaced, out_of_place};
 use crate::answers::{Answer, Room, one, too_large};
 use crate::fault::NoMemory;
-use crate::measuring::{body_of, filedata_len};
+use crate::measuring::filedata_len;
 use crate::phase::{OpenFile, Phase};
 use crate::refusing::{key_for, pick_for, refused, settled, wants_memory, without_current};
 use crate::verbs::{Verb, verb_of};
@@ -189,11 +189,10 @@ impl Accessed {
             Err(refusal) => return self.refuse(opened, stream, refusal),
         };
         let mut after = stream;
-        let number = match after.get(file, pick) {
-            Ok(number) => number,
+        let (number, body) = match after.read(file, pick) {
+            Ok(read) => read,
             Err(refusal) => return self.refuse(opened, stream, refusal),
         };
-        let body = body_of(file, number);
         if filedata_len(body) > usize::from(self.limit) {
             let answers = self.one(too_large())?;
             self.phase = Phase::Connected(opened, without_current(stream));

@@ -50,13 +50,6 @@ impl RecordFile for AnyFile {
         }
     }
 
-    fn first_from(&self, number: u32) -> Option<u32> {
-        match self {
-            AnyFile::Seq(file) => file.first_from(number),
-            AnyFile::Rel(file) => file.first_from(number),
-        }
-    }
-
     fn record_from(&self, number: u32) -> Option<(u32, &[u8])> {
         match self {
             AnyFile::Seq(file) => file.record_from(number),

@@ -28,11 +28,6 @@ pub trait RecordFile {
         ensures same { option_copied result ≡ map.get (value self.now).records number }
         ensures short { IfSome result (λ body. length body.now ≤ longest_record) };
 
-    /// The lowest occupied number from this one on, or None where there is none.
-    fn first_from(&self, number: u32) -> Option<u32>
-        ensures lowest { result ≡ lowest_from (value self.now).records number }
-        ensures within { IfSome result (λ n. n ≤ greatest_number) };
-
     /// The record of the lowest occupied number from this one on, behind its number, or None where
     /// there is none.
     fn record_from(&self, number: u32) -> Option<(u32, &[u8])>
@@ -42,11 +37,15 @@ pub trait RecordFile {
         ensures same { IfSome result
             (λ r. map.get (value self.now).records r.0 ≡ Some r.1.now) }
         ensures within { IfSome result (λ r. r.0 ≤ greatest_number) }
-        ensures short { IfSome result (λ r. length r.1.now ≤ longest_record) }
+        ensures short { IfSome result (λ r. length r.1.now ≤ longest_record) };
+
+    /// The lowest occupied number from this one on, or None where there is none.
+    fn first_from(&self, number: u32) -> Option<u32>
+        ensures lowest { result ≡ lowest_from (value self.now).records number }
+        ensures within { IfSome result (λ n. n ≤ greatest_number) }
     {
-        let first = self.first_from(number)?;
-        let body = self.lookup(first)?;
-        Some((first, body))
+        let (first, _body) = self.record_from(number)?;
+        Some(first)
     }
 
     /// The highest occupied number, or 0 where the file is empty.

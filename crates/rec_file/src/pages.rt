@@ -9,10 +9,10 @@ use std::alloc::{AllocError, Global};
 use std::marker::Model;
 
 /// How many cells a page has.
-pub const CELLS: u32 = 64;
+pub(crate) const CELLS: u32 = 64;
 
 /// The page of a number.
-pub fn page_of(number: u32) -> u32
+pub(crate) fn page_of(number: u32) -> u32
     requires { 1 ≤ number }
     ensures { result ≡ page_of number }
 {
@@ -20,7 +20,7 @@ pub fn page_of(number: u32) -> u32
 }
 
 /// The cell of a number within its page.
-pub fn cell_of(number: u32) -> usize
+pub(crate) fn cell_of(number: u32) -> usize
     requires { 1 ≤ number }
     ensures same { result ≡ cell_of number }
     ensures within { result < 64 }
@@ -30,7 +30,7 @@ pub fn cell_of(number: u32) -> usize
 
 /// 64 cells, each with a record or none.
 #[derive(Drop)]
-pub struct Page {
+pub(crate) struct Page {
     // Bit k is set exactly where cell k is occupied.
     mask: u64,
     // The records of the occupied cells, in the order of the cells. A single one stands in the page itself.
@@ -50,7 +50,7 @@ impl Model for Page {
 
 impl Page {
     /// A page with one record. It takes no memory.
-    pub fn with(alloc: Global, at: usize, body: Vec<u8>) -> Page
+    pub(crate) fn with(alloc: Global, at: usize, body: Vec<u8>) -> Page
         requires { at < 64 }
         ensures { result ≡ slice_set empty_cells at (Some body.items) }
     {
@@ -61,7 +61,7 @@ impl Page {
     }
 
     /// The record of a cell.
-    pub fn get(&self, at: usize) -> Option<&[u8]>
+    pub(crate) fn get(&self, at: usize) -> Option<&[u8]>
         requires { at < 64 }
         ensures { option_copied result ≡ cell self.now at }
     {
@@ -72,7 +72,7 @@ impl Page {
     }
 
     /// Stores a record in an empty cell. An error is want of memory: nothing has changed.
-    pub fn put(&mut self, at: usize, body: Vec<u8>) -> Result<(), AllocError>
+    pub(crate) fn put(&mut self, at: usize, body: Vec<u8>) -> Result<(), AllocError>
         requires within { at < 64 }
         requires empty { cell self.old at ≡ None }
         ensures ok { OnOk result (self.new ≡ slice_set self.old at (Some body.items)) }
@@ -85,7 +85,7 @@ impl Page {
     }
 
     /// Stores another record in an occupied cell. It takes no memory.
-    pub fn replace(&mut self, at: usize, body: Vec<u8>)
+    pub(crate) fn replace(&mut self, at: usize, body: Vec<u8>)
         requires within { at < 64 }
         requires occupied { IsSome (cell self.old at) }
         ensures { self.new ≡ slice_set self.old at (Some body.items) }
@@ -95,7 +95,7 @@ impl Page {
     }
 
     /// Empties an occupied cell. It takes no memory.
-    pub fn clear(&mut self, at: usize)
+    pub(crate) fn clear(&mut self, at: usize)
         requires within { at < 64 }
         requires occupied { IsSome (cell self.old at) }
         ensures { self.new ≡ slice_set self.old at None }
@@ -115,14 +115,14 @@ impl Page {
     }
 
     /// Whether no cell is occupied.
-    pub fn is_empty(&self) -> bool
+    pub(crate) fn is_empty(&self) -> bool
         ensures { IsTrue result ↔ ((k : ℕ) → cell self.now k ≡ None) }
     {
         self.mask == 0
     }
 
     /// The first occupied cell from this one on.
-    pub fn first_from(&self, at: usize) -> Option<usize>
+    pub(crate) fn first_from(&self, at: usize) -> Option<usize>
         requires { at < 64 }
         ensures none { IfNone result ((k : ℕ) → at ≤ k → cell self.now k ≡ None) }
         ensures some { IfSome result (IsFirstIn self.now at) }
@@ -136,7 +136,7 @@ impl Page {
     }
 
     /// The last occupied cell.
-    pub fn last(&self) -> Option<usize>
+    pub(crate) fn last(&self) -> Option<usize>
         ensures none { IfNone result ((k : ℕ) → cell self.now k ≡ None) }
         ensures some { IfSome result (IsLastIn self.now) }
     {
@@ -149,7 +149,7 @@ impl Page {
 }
 
 /// The number of the first record in the cells of the page with this number, from one on.
-pub fn first_in(at: u32, page: &Page, from: usize) -> Option<u32>
+pub(crate) fn first_in(at: u32, page: &Page, from: usize) -> Option<u32>
     requires page { at ≤ last_page }
     requires cell { from < 64 }
     ensures none { IfNone result ((k : ℕ) → from ≤ k → cell page.now k ≡ None) }
@@ -161,7 +161,7 @@ pub fn first_in(at: u32, page: &Page, from: usize) -> Option<u32>
 }
 
 /// The number of the last record in the page with this number.
-pub fn last_in(at: u32, page: &Page) -> Option<u32>
+pub(crate) fn last_in(at: u32, page: &Page) -> Option<u32>
     requires { at ≤ last_page }
     ensures none { IfNone result ((k : ℕ) → cell page.now k ≡ None) }
     ensures some { IfSome result (λ n. (1 ≤ n) × (page_of n ≡ at) × IsLastIn page.now (cell_of n)) }

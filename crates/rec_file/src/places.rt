@@ -21,7 +21,7 @@ const GROUP: u32 = 4096;
 
 /// The places of pages, by the pages' numbers, in order. Pages whose numbers have the same quotient are a group.
 #[derive(Drop)]
-pub struct Places {
+pub(crate) struct Places {
     groups: BTreeMap<u32, Vec<(u32, u32)>>,
 }
 
@@ -169,7 +169,7 @@ fn rest_from(group: &[(u32, u32)], page: u32) -> &[(u32, u32)]
 
 impl Places {
     /// No places. It takes no memory.
-    pub fn new(alloc: Global) -> Places
+    pub(crate) fn new(alloc: Global) -> Places
         ensures { result ≡ [] }
     {
         Places {
@@ -178,7 +178,7 @@ impl Places {
     }
 
     /// The place of a page.
-    pub fn get(&self, page: u32) -> Option<u32>
+    pub(crate) fn get(&self, page: u32) -> Option<u32>
         ensures { result ≡ place_of self.now page }
     {
         let group = self.groups.get(&(page / GROUP))?;
@@ -186,7 +186,7 @@ impl Places {
     }
 
     /// Puts a page, where it has no place. An error is want of memory: it has no place, and nothing has changed.
-    pub fn put(
+    pub(crate) fn put(
         &mut self,
         alloc: Global,
         page: u32,
@@ -214,7 +214,7 @@ impl Places {
     }
 
     /// Takes a page out, where it has a place. It takes no memory.
-    pub fn remove(&mut self, page: u32)
+    pub(crate) fn remove(&mut self, page: u32)
         ensures { self.new ≡ remove_entry (is_at (nat_cmp page)) self.old }
     {
         let own = page / GROUP;
@@ -228,17 +228,19 @@ impl Places {
     }
 
     /// The last page, and its place.
-    pub fn last(&self) -> Option<(u32, u32)>
+    pub(crate) fn last(&self) -> Option<(u32, u32)>
         ensures none { IfNone result (self.now ≡ []) }
         ensures some { IfSome result (IsLastPlace self.now) }
     {
         let (_own, group) = self.groups.last_key_value()?;
-        let last = group.last()?;
+        let Some(last) = group.last() else {
+            unreachable!();
+        };
         Some(*last)
     }
 
     /// The pages from one on, and their places.
-    pub fn from(&self, page: u32) -> PlacesFrom<'_>
+    pub(crate) fn from(&self, page: u32) -> PlacesFrom<'_>
         ensures { result ≡ places_from page self.now }
     {
         let own = page / GROUP;
@@ -257,7 +259,7 @@ impl Places {
 
 /// Pages and their places, in order: those of a group, and those of the groups behind it.
 #[derive(Drop)]
-pub struct PlacesFrom<'a> {
+pub(crate) struct PlacesFrom<'a> {
     rest: &'a [(u32, u32)],
     groups: Range<'a, u32, Vec<(u32, u32)>>,
 }
@@ -275,7 +277,7 @@ impl<'a> Model for PlacesFrom<'a> {
 
 impl<'a> PlacesFrom<'a> {
     /// Takes the first page that is left, and its place.
-    pub fn pop_first(&mut self) -> Option<(u32, u32)>
+    pub(crate) fn pop_first(&mut self) -> Option<(u32, u32)>
         ensures none { IfNone result (self.old ≡ []) }
         ensures some { IfSome result (λ first. self.old ≡ first ∷ self.new) }
     {
@@ -284,9 +286,6 @@ impl<'a> PlacesFrom<'a> {
             self.rest = group.as_slice();
         }
         let rest = self.rest;
-        if rest.is_empty() {
-            return None;
-        }
         self.rest = &rest[1..];
         Some(rest[0])
     }

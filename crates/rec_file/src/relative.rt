@@ -93,14 +93,20 @@ impl RelFile {
         let own = page_of(least);
         let mut rest = self.places.from(own);
         let (at, place) = rest.pop_first()?;
-        let page = self.pages.get(place as usize)?;
+        let Some(page) = self.pages.get(place as usize) else {
+            unreachable!();
+        };
         let from = if at == own { cell_of(least) } else { 0 };
         match first_in(at, page, from) {
             Some(first) => Some((first, page)),
             None => {
                 let (at, place) = rest.pop_first()?;
-                let page = self.pages.get(place as usize)?;
-                let first = first_in(at, page, 0)?;
+                let Some(page) = self.pages.get(place as usize) else {
+                    unreachable!();
+                };
+                let Some(first) = first_in(at, page, 0) else {
+                    unreachable!();
+                };
                 Some((first, page))
             }
         }
@@ -164,18 +170,17 @@ impl RecordFile for RelFile {
             return None;
         }
         let place = places.get(page_of(number))?;
-        let page = self.pages.get(place as usize)?;
+        let Some(page) = self.pages.get(place as usize) else {
+            unreachable!();
+        };
         page.get(cell_of(number))
-    }
-
-    fn first_from(&self, number: u32) -> Option<u32> {
-        let (first, _page) = self.spot_from(number)?;
-        Some(first)
     }
 
     fn record_from(&self, number: u32) -> Option<(u32, &[u8])> {
         let (first, page) = self.spot_from(number)?;
-        let body = page.get(cell_of(first))?;
+        let Some(body) = page.get(cell_of(first)) else {
+            unreachable!();
+        };
         Some((first, body))
     }
 
@@ -183,10 +188,13 @@ impl RecordFile for RelFile {
         let Some((at, place)) = self.places.last() else {
             return 0;
         };
-        match self.pages.get(place as usize) {
-            Some(page) => last_in(at, page).unwrap_or(0),
-            None => 0,
-        }
+        let Some(page) = self.pages.get(place as usize) else {
+            unreachable!();
+        };
+        let Some(highest) = last_in(at, page) else {
+            unreachable!();
+        };
+        highest
     }
 
     fn place(&mut self, number: u32, body: &[u8]) -> Result<bool, AllocError> {

@@ -59,13 +59,11 @@ impl RecordFile for SeqFile {
         Some(record.as_slice())
     }
 
-    fn first_from(&self, number: u32) -> Option<u32> {
+    fn record_from(&self, number: u32) -> Option<(u32, &[u8])> {
+        let records = &self.records;
         let first = number.max(1);
-        if first as usize <= self.records.len() {
-            Some(first)
-        } else {
-            None
-        }
+        let record = records.get(first as usize - 1)?;
+        Some((first, record.as_slice()))
     }
 
     fn highest(&self) -> u32 {

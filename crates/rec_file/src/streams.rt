@@ -1,9 +1,10 @@
 //! A stream: a place in a file, and the operations of a user on it.
-ghost use Rattle.std.specs.Prelude.{◌≡◌, ◌≤◌, ◌+◌, false, length, Ok, Err, IfErr, IfOk, IsTrue, if◌then◌else◌};
+ghost use Rattle.std.specs.Prelude.{◌≡◌, ◌≤◌, ◌+◌, false, length, Some, Ok, Err, IfErr, IfOk, IsTrue, if◌then◌else◌};
 ghost use Rattle.rec_file.specs.declared.refusals.Refusal.TheVariants.{NoCurrent, RecordExists};
 ghost use Rattle.rec_file.specs.Files.{highest_of};
 ghost use Rattle.rec_file.specs.Shapes.{limit_of, allows_length, is_seq};
-ghost use Rattle.rec_file.specs.Limits.{greatest_number};
+ghost use Rattle.std.specs.FinMap as map;
+ghost use Rattle.rec_file.specs.Limits.{greatest_number, longest_record};
 ghost use Rattle.rec_file.specs.Acts.{act, Acts, IsOutcome, is_free, is_no_memory, get_record, put_record, update_record, delete_record};
 
 use crate::files::RecordFile;
@@ -105,11 +106,34 @@ impl Stream {
         ensures stream { self.new ≡ (act (get_record pick) (F.value file.now) self.old).stream }
         ensures no_memory_wanted { is_no_memory result ≡ false }
     {
+        match self.read(file, pick) {
+            Ok((number, _body)) => Ok(number),
+            Err(refusal) => Err(refusal),
+        }
+    }
+
+    /// A get that answers the record too, behind its number (own). It takes no memory. Its refusals are those of
+    /// [`Stream::get`].
+    pub fn read<'a, F: RecordFile>(
+        &mut self,
+        file: &'a F,
+        pick: Pick,
+    ) -> Result<(u32, &'a [u8]), Refusal>
+        ensures refused { IfErr result (λ refusal.
+            (act (get_record pick) (F.value file.now) self.old).reply ≡ Err refusal) }
+        ensures reply { IfOk result (λ r.
+            (act (get_record pick) (F.value file.now) self.old).reply ≡ Ok r.0) }
+        ensures same { IfOk result
+            (λ r. map.get (F.value file.now).records r.0 ≡ Some r.1.now) }
+        ensures short { IfOk result (λ r. length r.1.now ≤ longest_record) }
+        ensures stream { self.new ≡ (act (get_record pick) (F.value file.now) self.old).stream }
+        ensures no_memory_wanted { IfErr result (λ refusal. is_no_memory (Err refusal) ≡ false) }
+    {
         match self.found(file, pick) {
-            Ok(number) => {
+            Ok((number, body)) => {
                 self.seek(number + 1);
                 self.current = Some(number);
-                Ok(number)
+                Ok((number, body))
             }
             Err(refusal) => {
                 self.current = None;
@@ -118,24 +142,33 @@ impl Stream {
         }
     }
 
-    // The number that a get finds.
-    fn found<F: RecordFile>(&self, file: &F, pick: Pick) -> Result<u32, Refusal>
-        ensures reply { result ≡ (act (get_record pick) (F.value file.now) self.now).reply }
-        ensures within { IfOk result (λ n. n ≤ greatest_number) }
-        ensures no_memory_wanted { is_no_memory result ≡ false }
+    // The record that a get finds, behind its number.
+    fn found<'a, F: RecordFile>(&self, file: &'a F, pick: Pick) -> Result<(u32, &'a [u8]), Refusal>
+        ensures refused { IfErr result (λ refusal.
+            (act (get_record pick) (F.value file.now) self.now).reply ≡ Err refusal) }
+        ensures reply { IfOk result (λ r.
+            (act (get_record pick) (F.value file.now) self.now).reply ≡ Ok r.0) }
+        ensures same { IfOk result
+            (λ r. map.get (F.value file.now).records r.0 ≡ Some r.1.now) }
+        ensures within { IfOk result (λ r. r.0 ≤ greatest_number) }
+        ensures short { IfOk result (λ r. length r.1.now ≤ longest_record) }
+        ensures no_memory_wanted { IfErr result (λ refusal. is_no_memory (Err refusal) ≡ false) }
     {
         if !self.rights.get {
             return Err(Refusal::NotPermitted);
         }
         match pick {
-            Pick::Next => file.first_from(self.next).ok_or(Refusal::EndOfFile),
+            Pick::Next => match file.record_from(self.next) {
+                Some((number, body)) => Ok((number, body)),
+                None => Err(Refusal::EndOfFile),
+            },
             Pick::Key(_) if file.shape().is_sequential() => Err(Refusal::BadAccessMode),
             Pick::Key(number) | Pick::Rfa(number) => {
                 if number == 0 || number > file.shape().limit() {
                     return Err(Refusal::NumberOutOfRange);
                 }
                 match file.lookup(number) {
-                    Some(_) => Ok(number),
+                    Some(body) => Ok((number, body)),
                     None => Err(Refusal::RecordNotFound),
                 }
             }

@@ -14,123 +14,123 @@ pub returns-in_err-at-clause-none : goal.returns-in_err-at-clause-none
 returns-in_err-at-clause-none c =
     rw c.from_residual.ensures (sym (no_page _ _ c.args.self.now (held c.self.inside.shape (pages_at (get c.self.inside.pages) c.self.inside.places) c.args.self.now c.self.view_is c.self.invariant.2 c.self.invariant.3) c.args.number c.max-least.result c.max-least.ensures (rest-none (get c.self.inside.pages) c.self.inside.places (page_of c.max-least.result) (from-behind (page_of c.max-least.result) c.self.inside.places ∙ sym (rw c.page_of-own.ensures at c.from-rest.ensures) ∙ c.in_err-at.ensures.none))))
 
-pub returns-in_err-page-clause-none : goal.returns-in_err-page-clause-none
-returns-in_err-page-clause-none c =
-    absurd (rest-stands (get c.self.inside.pages) c.self.inside.places (page_of c.max-least.result) (c.in_ok-at.at, c.in_ok-at.place) _ (from-behind (page_of c.max-least.result) c.self.inside.places ∙ sym (rw c.page_of-own.ensures at c.from-rest.ensures) ∙ c.in_ok-at.ensures.some) c.self.invariant.3 (sym c.in_err-page.ensures))
+pub unreachable-requires : goal.unreachable-requires
+unreachable-requires c =
+    rest-stands (get c.self.inside.pages) c.self.inside.places (page_of c.max-least.result) (c.in_ok-at.at, c.in_ok-at.place) _ (from-behind (page_of c.max-least.result) c.self.inside.places ∙ sym (rw c.page_of-own.ensures at c.from-rest.ensures) ∙ c.in_ok-at.ensures.some) c.self.invariant.3 (sym c.in_default.ensures)
 
 pub first_in-requires-clause-page : goal.first_in-requires-clause-page
 first_in-requires-clause-page c =
-    first_fits _ _ c.args.self.now (held c.self.inside.shape (pages_at (get c.self.inside.pages) c.self.inside.places) c.args.self.now c.self.view_is c.self.invariant.2 c.self.invariant.3) c.args.number c.max-least.result c.max-least.ensures c.in_ok-at.at c.in_ok-page.page.now _ (rest-is (get c.self.inside.pages) c.self.inside.places (page_of c.max-least.result) (c.in_ok-at.at, c.in_ok-at.place) _ (from-behind (page_of c.max-least.result) c.self.inside.places ∙ sym (rw c.page_of-own.ensures at c.from-rest.ensures) ∙ c.in_ok-at.ensures.some) _ (sym c.in_ok-page.ensures)) (subst IsFile c.self.view_is c.self.invariant.0)
+    first_fits _ _ c.args.self.now (held c.self.inside.shape (pages_at (get c.self.inside.pages) c.self.inside.places) c.args.self.now c.self.view_is c.self.invariant.2 c.self.invariant.3) c.args.number c.max-least.result c.max-least.ensures c.in_ok-at.at c.in-Some.page.now _ (rest-is (get c.self.inside.pages) c.self.inside.places (page_of c.max-least.result) (c.in_ok-at.at, c.in_ok-at.place) _ (from-behind (page_of c.max-least.result) c.self.inside.places ∙ sym (rw c.page_of-own.ensures at c.from-rest.ensures) ∙ c.in_ok-at.ensures.some) _ (sym c.in-Some.ensures)) (subst IsFile c.self.view_is c.self.invariant.0)
 
-pub returns-in-Some-clause-lowest : goal.returns-in-Some-clause-lowest
-returns-in-Some-clause-lowest c =
-    (found_first _ _ c.args.self.now (held c.self.inside.shape (pages_at (get c.self.inside.pages) c.self.inside.places) c.args.self.now c.self.view_is c.self.invariant.2 c.self.invariant.3) c.args.number c.max-least.result c.max-least.ensures c.in_ok-at.at c.in_ok-page.page.now _ (rest-is (get c.self.inside.pages) c.self.inside.places (page_of c.max-least.result) (c.in_ok-at.at, c.in_ok-at.place) _ (from-behind (page_of c.max-least.result) c.self.inside.places ∙ sym (rw c.page_of-own.ensures at c.from-rest.ensures) ∙ c.in_ok-at.ensures.some) _ (sym c.in_ok-page.ensures)) c.if-at-own.from c.in-Some.first
+pub returns-in-Some-first_in-clause-lowest : goal.returns-in-Some-first_in-clause-lowest
+returns-in-Some-first_in-clause-lowest c =
+    (found_first _ _ c.args.self.now (held c.self.inside.shape (pages_at (get c.self.inside.pages) c.self.inside.places) c.args.self.now c.self.view_is c.self.invariant.2 c.self.invariant.3) c.args.number c.max-least.result c.max-least.ensures c.in_ok-at.at c.in-Some.page.now _ (rest-is (get c.self.inside.pages) c.self.inside.places (page_of c.max-least.result) (c.in_ok-at.at, c.in_ok-at.place) _ (from-behind (page_of c.max-least.result) c.self.inside.places ∙ sym (rw c.page_of-own.ensures at c.from-rest.ensures) ∙ c.in_ok-at.ensures.some) _ (sym c.in-Some.ensures)) c.if-at-own.from c.in-Some-first_in.first
     (elim c.if-at-own.branch [
       | then-at-own w ↦ (λ own. w.from-is ∙ w.cell_of-from.ensures.same, λ other. absurd (other (sym (w.if-at-own.true ∙ c.page_of-own.ensures))))
       | else-at-own w ↦ (λ own. absurd (w.if-at-own.false (sym (c.page_of-own.ensures ∙ own))), λ other. w.from-is)
     ])
-    (subst IsFile c.self.view_is c.self.invariant.0) c.in-Some.ensures.some).lowest
+    (subst IsFile c.self.view_is c.self.invariant.0) c.in-Some-first_in.ensures.some).lowest
 
-pub returns-in-Some-clause-same : goal.returns-in-Some-clause-same
-returns-in-Some-clause-same c =
-    (found_first _ _ c.args.self.now (held c.self.inside.shape (pages_at (get c.self.inside.pages) c.self.inside.places) c.args.self.now c.self.view_is c.self.invariant.2 c.self.invariant.3) c.args.number c.max-least.result c.max-least.ensures c.in_ok-at.at c.in_ok-page.page.now _ (rest-is (get c.self.inside.pages) c.self.inside.places (page_of c.max-least.result) (c.in_ok-at.at, c.in_ok-at.place) _ (from-behind (page_of c.max-least.result) c.self.inside.places ∙ sym (rw c.page_of-own.ensures at c.from-rest.ensures) ∙ c.in_ok-at.ensures.some) _ (sym c.in_ok-page.ensures)) c.if-at-own.from c.in-Some.first
+pub returns-in-Some-first_in-clause-same : goal.returns-in-Some-first_in-clause-same
+returns-in-Some-first_in-clause-same c =
+    (found_first _ _ c.args.self.now (held c.self.inside.shape (pages_at (get c.self.inside.pages) c.self.inside.places) c.args.self.now c.self.view_is c.self.invariant.2 c.self.invariant.3) c.args.number c.max-least.result c.max-least.ensures c.in_ok-at.at c.in-Some.page.now _ (rest-is (get c.self.inside.pages) c.self.inside.places (page_of c.max-least.result) (c.in_ok-at.at, c.in_ok-at.place) _ (from-behind (page_of c.max-least.result) c.self.inside.places ∙ sym (rw c.page_of-own.ensures at c.from-rest.ensures) ∙ c.in_ok-at.ensures.some) _ (sym c.in-Some.ensures)) c.if-at-own.from c.in-Some-first_in.first
     (elim c.if-at-own.branch [
       | then-at-own w ↦ (λ own. w.from-is ∙ w.cell_of-from.ensures.same, λ other. absurd (other (sym (w.if-at-own.true ∙ c.page_of-own.ensures))))
       | else-at-own w ↦ (λ own. absurd (w.if-at-own.false (sym (c.page_of-own.ensures ∙ own))), λ other. w.from-is)
     ])
-    (subst IsFile c.self.view_is c.self.invariant.0) c.in-Some.ensures.some).same
+    (subst IsFile c.self.view_is c.self.invariant.0) c.in-Some-first_in.ensures.some).same
 
-pub returns-in-Some-clause-above : goal.returns-in-Some-clause-above
-returns-in-Some-clause-above c =
-    (found_first _ _ c.args.self.now (held c.self.inside.shape (pages_at (get c.self.inside.pages) c.self.inside.places) c.args.self.now c.self.view_is c.self.invariant.2 c.self.invariant.3) c.args.number c.max-least.result c.max-least.ensures c.in_ok-at.at c.in_ok-page.page.now _ (rest-is (get c.self.inside.pages) c.self.inside.places (page_of c.max-least.result) (c.in_ok-at.at, c.in_ok-at.place) _ (from-behind (page_of c.max-least.result) c.self.inside.places ∙ sym (rw c.page_of-own.ensures at c.from-rest.ensures) ∙ c.in_ok-at.ensures.some) _ (sym c.in_ok-page.ensures)) c.if-at-own.from c.in-Some.first
+pub returns-in-Some-first_in-clause-above : goal.returns-in-Some-first_in-clause-above
+returns-in-Some-first_in-clause-above c =
+    (found_first _ _ c.args.self.now (held c.self.inside.shape (pages_at (get c.self.inside.pages) c.self.inside.places) c.args.self.now c.self.view_is c.self.invariant.2 c.self.invariant.3) c.args.number c.max-least.result c.max-least.ensures c.in_ok-at.at c.in-Some.page.now _ (rest-is (get c.self.inside.pages) c.self.inside.places (page_of c.max-least.result) (c.in_ok-at.at, c.in_ok-at.place) _ (from-behind (page_of c.max-least.result) c.self.inside.places ∙ sym (rw c.page_of-own.ensures at c.from-rest.ensures) ∙ c.in_ok-at.ensures.some) _ (sym c.in-Some.ensures)) c.if-at-own.from c.in-Some-first_in.first
     (elim c.if-at-own.branch [
       | then-at-own w ↦ (λ own. w.from-is ∙ w.cell_of-from.ensures.same, λ other. absurd (other (sym (w.if-at-own.true ∙ c.page_of-own.ensures))))
       | else-at-own w ↦ (λ own. absurd (w.if-at-own.false (sym (c.page_of-own.ensures ∙ own))), λ other. w.from-is)
     ])
-    (subst IsFile c.self.view_is c.self.invariant.0) c.in-Some.ensures.some).above
+    (subst IsFile c.self.view_is c.self.invariant.0) c.in-Some-first_in.ensures.some).above
 
-pub returns-in-Some-clause-within : goal.returns-in-Some-clause-within
-returns-in-Some-clause-within c =
-    (found_first _ _ c.args.self.now (held c.self.inside.shape (pages_at (get c.self.inside.pages) c.self.inside.places) c.args.self.now c.self.view_is c.self.invariant.2 c.self.invariant.3) c.args.number c.max-least.result c.max-least.ensures c.in_ok-at.at c.in_ok-page.page.now _ (rest-is (get c.self.inside.pages) c.self.inside.places (page_of c.max-least.result) (c.in_ok-at.at, c.in_ok-at.place) _ (from-behind (page_of c.max-least.result) c.self.inside.places ∙ sym (rw c.page_of-own.ensures at c.from-rest.ensures) ∙ c.in_ok-at.ensures.some) _ (sym c.in_ok-page.ensures)) c.if-at-own.from c.in-Some.first
+pub returns-in-Some-first_in-clause-within : goal.returns-in-Some-first_in-clause-within
+returns-in-Some-first_in-clause-within c =
+    (found_first _ _ c.args.self.now (held c.self.inside.shape (pages_at (get c.self.inside.pages) c.self.inside.places) c.args.self.now c.self.view_is c.self.invariant.2 c.self.invariant.3) c.args.number c.max-least.result c.max-least.ensures c.in_ok-at.at c.in-Some.page.now _ (rest-is (get c.self.inside.pages) c.self.inside.places (page_of c.max-least.result) (c.in_ok-at.at, c.in_ok-at.place) _ (from-behind (page_of c.max-least.result) c.self.inside.places ∙ sym (rw c.page_of-own.ensures at c.from-rest.ensures) ∙ c.in_ok-at.ensures.some) _ (sym c.in-Some.ensures)) c.if-at-own.from c.in-Some-first_in.first
     (elim c.if-at-own.branch [
       | then-at-own w ↦ (λ own. w.from-is ∙ w.cell_of-from.ensures.same, λ other. absurd (other (sym (w.if-at-own.true ∙ c.page_of-own.ensures))))
       | else-at-own w ↦ (λ own. absurd (w.if-at-own.false (sym (c.page_of-own.ensures ∙ own))), λ other. w.from-is)
     ])
-    (subst IsFile c.self.view_is c.self.invariant.0) c.in-Some.ensures.some).within
+    (subst IsFile c.self.view_is c.self.invariant.0) c.in-Some-first_in.ensures.some).within
 
 pub returns-in_err-at-in-None-clause-none : goal.returns-in_err-at-in-None-clause-none
 returns-in_err-at-in-None-clause-none c =
-    rw c.from_residual-in_err-at-in-None.ensures (sym (no_second _ _ c.args.self.now (held c.self.inside.shape (pages_at (get c.self.inside.pages) c.self.inside.places) c.args.self.now c.self.view_is c.self.invariant.2 c.self.invariant.3) c.args.number c.max-least.result c.max-least.ensures c.in_ok-at.at c.in_ok-page.page.now _ (rest-is (get c.self.inside.pages) c.self.inside.places (page_of c.max-least.result) (c.in_ok-at.at, c.in_ok-at.place) _ (from-behind (page_of c.max-least.result) c.self.inside.places ∙ sym (rw c.page_of-own.ensures at c.from-rest.ensures) ∙ c.in_ok-at.ensures.some) _ (sym c.in_ok-page.ensures)) c.if-at-own.from
+    rw c.from_residual-in_err-at-in-None.ensures (sym (no_second _ _ c.args.self.now (held c.self.inside.shape (pages_at (get c.self.inside.pages) c.self.inside.places) c.args.self.now c.self.view_is c.self.invariant.2 c.self.invariant.3) c.args.number c.max-least.result c.max-least.ensures c.in_ok-at.at c.in-Some.page.now _ (rest-is (get c.self.inside.pages) c.self.inside.places (page_of c.max-least.result) (c.in_ok-at.at, c.in_ok-at.place) _ (from-behind (page_of c.max-least.result) c.self.inside.places ∙ sym (rw c.page_of-own.ensures at c.from-rest.ensures) ∙ c.in_ok-at.ensures.some) _ (sym c.in-Some.ensures)) c.if-at-own.from
     (elim c.if-at-own.branch [
       | then-at-own w ↦ (λ own. w.from-is ∙ w.cell_of-from.ensures.same, λ other. absurd (other (sym (w.if-at-own.true ∙ c.page_of-own.ensures))))
       | else-at-own w ↦ (λ own. absurd (w.if-at-own.false (sym (c.page_of-own.ensures ∙ own))), λ other. w.from-is)
     ])
     c.in-None.ensures.none (next-none (get c.self.inside.pages) c.self.inside.places (page_of c.max-least.result) (c.in_ok-at.at, c.in_ok-at.place) _ (from-behind (page_of c.max-least.result) c.self.inside.places ∙ sym (rw c.page_of-own.ensures at c.from-rest.ensures) ∙ c.in_ok-at.ensures.some) c.in_err-at-in-None.ensures.none)))
 
-pub returns-in_err-page-in-None-clause-none : goal.returns-in_err-page-in-None-clause-none
-returns-in_err-page-in-None-clause-none c =
-    absurd (next-stands (get c.self.inside.pages) c.self.inside.places (page_of c.max-least.result) (c.in_ok-at.at, c.in_ok-at.place) _ (from-behind (page_of c.max-least.result) c.self.inside.places ∙ sym (rw c.page_of-own.ensures at c.from-rest.ensures) ∙ c.in_ok-at.ensures.some) (c.in_ok-at-in-None.at, c.in_ok-at-in-None.place) _ c.in_ok-at-in-None.ensures.some c.self.invariant.3 (sym c.in_err-page-in-None.ensures))
+pub unreachable-requires-in_default-get : goal.unreachable-requires-in_default-get
+unreachable-requires-in_default-get c =
+    next-stands (get c.self.inside.pages) c.self.inside.places (page_of c.max-least.result) (c.in_ok-at.at, c.in_ok-at.place) _ (from-behind (page_of c.max-least.result) c.self.inside.places ∙ sym (rw c.page_of-own.ensures at c.from-rest.ensures) ∙ c.in_ok-at.ensures.some) (c.in_ok-at-in-None.at, c.in_ok-at-in-None.place) _ c.in_ok-at-in-None.ensures.some c.self.invariant.3 (sym c.in_default-get.ensures)
 
 pub first_in-requires-in-None-clause-page : goal.first_in-requires-in-None-clause-page
 first_in-requires-in-None-clause-page c =
-    second_fits _ _ c.args.self.now (held c.self.inside.shape (pages_at (get c.self.inside.pages) c.self.inside.places) c.args.self.now c.self.view_is c.self.invariant.2 c.self.invariant.3) c.args.number c.max-least.result c.max-least.ensures c.in_ok-at.at c.in_ok-page.page.now _ (rest-is (get c.self.inside.pages) c.self.inside.places (page_of c.max-least.result) (c.in_ok-at.at, c.in_ok-at.place) _ (from-behind (page_of c.max-least.result) c.self.inside.places ∙ sym (rw c.page_of-own.ensures at c.from-rest.ensures) ∙ c.in_ok-at.ensures.some) _ (sym c.in_ok-page.ensures)) c.if-at-own.from
+    second_fits _ _ c.args.self.now (held c.self.inside.shape (pages_at (get c.self.inside.pages) c.self.inside.places) c.args.self.now c.self.view_is c.self.invariant.2 c.self.invariant.3) c.args.number c.max-least.result c.max-least.ensures c.in_ok-at.at c.in-Some.page.now _ (rest-is (get c.self.inside.pages) c.self.inside.places (page_of c.max-least.result) (c.in_ok-at.at, c.in_ok-at.place) _ (from-behind (page_of c.max-least.result) c.self.inside.places ∙ sym (rw c.page_of-own.ensures at c.from-rest.ensures) ∙ c.in_ok-at.ensures.some) _ (sym c.in-Some.ensures)) c.if-at-own.from
     (elim c.if-at-own.branch [
       | then-at-own w ↦ (λ own. w.from-is ∙ w.cell_of-from.ensures.same, λ other. absurd (other (sym (w.if-at-own.true ∙ c.page_of-own.ensures))))
       | else-at-own w ↦ (λ own. absurd (w.if-at-own.false (sym (c.page_of-own.ensures ∙ own))), λ other. w.from-is)
     ])
-    c.in-None.ensures.none c.in_ok-at-in-None.at c.in_ok-page-in-None.page.now _ (next-is (get c.self.inside.pages) c.self.inside.places (page_of c.max-least.result) (c.in_ok-at.at, c.in_ok-at.place) _ (from-behind (page_of c.max-least.result) c.self.inside.places ∙ sym (rw c.page_of-own.ensures at c.from-rest.ensures) ∙ c.in_ok-at.ensures.some) (c.in_ok-at-in-None.at, c.in_ok-at-in-None.place) _ c.in_ok-at-in-None.ensures.some _ (sym c.in_ok-page-in-None.ensures)) (subst IsFile c.self.view_is c.self.invariant.0)
+    c.in-None.ensures.none c.in_ok-at-in-None.at c.in-Some-get.page.now _ (next-is (get c.self.inside.pages) c.self.inside.places (page_of c.max-least.result) (c.in_ok-at.at, c.in_ok-at.place) _ (from-behind (page_of c.max-least.result) c.self.inside.places ∙ sym (rw c.page_of-own.ensures at c.from-rest.ensures) ∙ c.in_ok-at.ensures.some) (c.in_ok-at-in-None.at, c.in_ok-at-in-None.place) _ c.in_ok-at-in-None.ensures.some _ (sym c.in-Some-get.ensures)) (subst IsFile c.self.view_is c.self.invariant.0)
 
-pub returns-in_err-first-in-None-clause-none : goal.returns-in_err-first-in-None-clause-none
-returns-in_err-first-in-None-clause-none c =
-    absurd (second_has _ _ c.args.self.now (held c.self.inside.shape (pages_at (get c.self.inside.pages) c.self.inside.places) c.args.self.now c.self.view_is c.self.invariant.2 c.self.invariant.3) c.args.number c.max-least.result c.max-least.ensures c.in_ok-at.at c.in_ok-page.page.now _ (rest-is (get c.self.inside.pages) c.self.inside.places (page_of c.max-least.result) (c.in_ok-at.at, c.in_ok-at.place) _ (from-behind (page_of c.max-least.result) c.self.inside.places ∙ sym (rw c.page_of-own.ensures at c.from-rest.ensures) ∙ c.in_ok-at.ensures.some) _ (sym c.in_ok-page.ensures)) c.if-at-own.from
+pub unreachable-requires-in_default-first_in : goal.unreachable-requires-in_default-first_in
+unreachable-requires-in_default-first_in c =
+    second_has _ _ c.args.self.now (held c.self.inside.shape (pages_at (get c.self.inside.pages) c.self.inside.places) c.args.self.now c.self.view_is c.self.invariant.2 c.self.invariant.3) c.args.number c.max-least.result c.max-least.ensures c.in_ok-at.at c.in-Some.page.now _ (rest-is (get c.self.inside.pages) c.self.inside.places (page_of c.max-least.result) (c.in_ok-at.at, c.in_ok-at.place) _ (from-behind (page_of c.max-least.result) c.self.inside.places ∙ sym (rw c.page_of-own.ensures at c.from-rest.ensures) ∙ c.in_ok-at.ensures.some) _ (sym c.in-Some.ensures)) c.if-at-own.from
     (elim c.if-at-own.branch [
       | then-at-own w ↦ (λ own. w.from-is ∙ w.cell_of-from.ensures.same, λ other. absurd (other (sym (w.if-at-own.true ∙ c.page_of-own.ensures))))
       | else-at-own w ↦ (λ own. absurd (w.if-at-own.false (sym (c.page_of-own.ensures ∙ own))), λ other. w.from-is)
     ])
-    c.in-None.ensures.none c.in_ok-at-in-None.at c.in_ok-page-in-None.page.now _ (next-is (get c.self.inside.pages) c.self.inside.places (page_of c.max-least.result) (c.in_ok-at.at, c.in_ok-at.place) _ (from-behind (page_of c.max-least.result) c.self.inside.places ∙ sym (rw c.page_of-own.ensures at c.from-rest.ensures) ∙ c.in_ok-at.ensures.some) (c.in_ok-at-in-None.at, c.in_ok-at-in-None.place) _ c.in_ok-at-in-None.ensures.some _ (sym c.in_ok-page-in-None.ensures)) c.in_err-first-in-None.ensures.none)
+    c.in-None.ensures.none c.in_ok-at-in-None.at c.in-Some-get.page.now _ (next-is (get c.self.inside.pages) c.self.inside.places (page_of c.max-least.result) (c.in_ok-at.at, c.in_ok-at.place) _ (from-behind (page_of c.max-least.result) c.self.inside.places ∙ sym (rw c.page_of-own.ensures at c.from-rest.ensures) ∙ c.in_ok-at.ensures.some) (c.in_ok-at-in-None.at, c.in_ok-at-in-None.place) _ c.in_ok-at-in-None.ensures.some _ (sym c.in-Some-get.ensures)) c.in_default-first_in.ensures.none
 
-pub returns-in_ok-first-in-None-clause-lowest : goal.returns-in_ok-first-in-None-clause-lowest
-returns-in_ok-first-in-None-clause-lowest c =
-    (found_second _ _ c.args.self.now (held c.self.inside.shape (pages_at (get c.self.inside.pages) c.self.inside.places) c.args.self.now c.self.view_is c.self.invariant.2 c.self.invariant.3) c.args.number c.max-least.result c.max-least.ensures c.in_ok-at.at c.in_ok-page.page.now _ (rest-is (get c.self.inside.pages) c.self.inside.places (page_of c.max-least.result) (c.in_ok-at.at, c.in_ok-at.place) _ (from-behind (page_of c.max-least.result) c.self.inside.places ∙ sym (rw c.page_of-own.ensures at c.from-rest.ensures) ∙ c.in_ok-at.ensures.some) _ (sym c.in_ok-page.ensures)) c.if-at-own.from
+pub returns-in-Some-first_in-2-clause-lowest : goal.returns-in-Some-first_in-2-clause-lowest
+returns-in-Some-first_in-2-clause-lowest c =
+    (found_second _ _ c.args.self.now (held c.self.inside.shape (pages_at (get c.self.inside.pages) c.self.inside.places) c.args.self.now c.self.view_is c.self.invariant.2 c.self.invariant.3) c.args.number c.max-least.result c.max-least.ensures c.in_ok-at.at c.in-Some.page.now _ (rest-is (get c.self.inside.pages) c.self.inside.places (page_of c.max-least.result) (c.in_ok-at.at, c.in_ok-at.place) _ (from-behind (page_of c.max-least.result) c.self.inside.places ∙ sym (rw c.page_of-own.ensures at c.from-rest.ensures) ∙ c.in_ok-at.ensures.some) _ (sym c.in-Some.ensures)) c.if-at-own.from
     (elim c.if-at-own.branch [
       | then-at-own w ↦ (λ own. w.from-is ∙ w.cell_of-from.ensures.same, λ other. absurd (other (sym (w.if-at-own.true ∙ c.page_of-own.ensures))))
       | else-at-own w ↦ (λ own. absurd (w.if-at-own.false (sym (c.page_of-own.ensures ∙ own))), λ other. w.from-is)
     ])
-    c.in-None.ensures.none c.in_ok-at-in-None.at c.in_ok-page-in-None.page.now _ (next-is (get c.self.inside.pages) c.self.inside.places (page_of c.max-least.result) (c.in_ok-at.at, c.in_ok-at.place) _ (from-behind (page_of c.max-least.result) c.self.inside.places ∙ sym (rw c.page_of-own.ensures at c.from-rest.ensures) ∙ c.in_ok-at.ensures.some) (c.in_ok-at-in-None.at, c.in_ok-at-in-None.place) _ c.in_ok-at-in-None.ensures.some _ (sym c.in_ok-page-in-None.ensures))
-    c.in_ok-first-in-None.first (subst IsFile c.self.view_is c.self.invariant.0) c.in_ok-first-in-None.ensures.some).lowest
+    c.in-None.ensures.none c.in_ok-at-in-None.at c.in-Some-get.page.now _ (next-is (get c.self.inside.pages) c.self.inside.places (page_of c.max-least.result) (c.in_ok-at.at, c.in_ok-at.place) _ (from-behind (page_of c.max-least.result) c.self.inside.places ∙ sym (rw c.page_of-own.ensures at c.from-rest.ensures) ∙ c.in_ok-at.ensures.some) (c.in_ok-at-in-None.at, c.in_ok-at-in-None.place) _ c.in_ok-at-in-None.ensures.some _ (sym c.in-Some-get.ensures))
+    c.in-Some-first_in-2.first (subst IsFile c.self.view_is c.self.invariant.0) c.in-Some-first_in-2.ensures.some).lowest
 
-pub returns-in_ok-first-in-None-clause-same : goal.returns-in_ok-first-in-None-clause-same
-returns-in_ok-first-in-None-clause-same c =
-    (found_second _ _ c.args.self.now (held c.self.inside.shape (pages_at (get c.self.inside.pages) c.self.inside.places) c.args.self.now c.self.view_is c.self.invariant.2 c.self.invariant.3) c.args.number c.max-least.result c.max-least.ensures c.in_ok-at.at c.in_ok-page.page.now _ (rest-is (get c.self.inside.pages) c.self.inside.places (page_of c.max-least.result) (c.in_ok-at.at, c.in_ok-at.place) _ (from-behind (page_of c.max-least.result) c.self.inside.places ∙ sym (rw c.page_of-own.ensures at c.from-rest.ensures) ∙ c.in_ok-at.ensures.some) _ (sym c.in_ok-page.ensures)) c.if-at-own.from
+pub returns-in-Some-first_in-2-clause-same : goal.returns-in-Some-first_in-2-clause-same
+returns-in-Some-first_in-2-clause-same c =
+    (found_second _ _ c.args.self.now (held c.self.inside.shape (pages_at (get c.self.inside.pages) c.self.inside.places) c.args.self.now c.self.view_is c.self.invariant.2 c.self.invariant.3) c.args.number c.max-least.result c.max-least.ensures c.in_ok-at.at c.in-Some.page.now _ (rest-is (get c.self.inside.pages) c.self.inside.places (page_of c.max-least.result) (c.in_ok-at.at, c.in_ok-at.place) _ (from-behind (page_of c.max-least.result) c.self.inside.places ∙ sym (rw c.page_of-own.ensures at c.from-rest.ensures) ∙ c.in_ok-at.ensures.some) _ (sym c.in-Some.ensures)) c.if-at-own.from
     (elim c.if-at-own.branch [
       | then-at-own w ↦ (λ own. w.from-is ∙ w.cell_of-from.ensures.same, λ other. absurd (other (sym (w.if-at-own.true ∙ c.page_of-own.ensures))))
       | else-at-own w ↦ (λ own. absurd (w.if-at-own.false (sym (c.page_of-own.ensures ∙ own))), λ other. w.from-is)
     ])
-    c.in-None.ensures.none c.in_ok-at-in-None.at c.in_ok-page-in-None.page.now _ (next-is (get c.self.inside.pages) c.self.inside.places (page_of c.max-least.result) (c.in_ok-at.at, c.in_ok-at.place) _ (from-behind (page_of c.max-least.result) c.self.inside.places ∙ sym (rw c.page_of-own.ensures at c.from-rest.ensures) ∙ c.in_ok-at.ensures.some) (c.in_ok-at-in-None.at, c.in_ok-at-in-None.place) _ c.in_ok-at-in-None.ensures.some _ (sym c.in_ok-page-in-None.ensures))
-    c.in_ok-first-in-None.first (subst IsFile c.self.view_is c.self.invariant.0) c.in_ok-first-in-None.ensures.some).same
+    c.in-None.ensures.none c.in_ok-at-in-None.at c.in-Some-get.page.now _ (next-is (get c.self.inside.pages) c.self.inside.places (page_of c.max-least.result) (c.in_ok-at.at, c.in_ok-at.place) _ (from-behind (page_of c.max-least.result) c.self.inside.places ∙ sym (rw c.page_of-own.ensures at c.from-rest.ensures) ∙ c.in_ok-at.ensures.some) (c.in_ok-at-in-None.at, c.in_ok-at-in-None.place) _ c.in_ok-at-in-None.ensures.some _ (sym c.in-Some-get.ensures))
+    c.in-Some-first_in-2.first (subst IsFile c.self.view_is c.self.invariant.0) c.in-Some-first_in-2.ensures.some).same
 
-pub returns-in_ok-first-in-None-clause-above : goal.returns-in_ok-first-in-None-clause-above
-returns-in_ok-first-in-None-clause-above c =
-    (found_second _ _ c.args.self.now (held c.self.inside.shape (pages_at (get c.self.inside.pages) c.self.inside.places) c.args.self.now c.self.view_is c.self.invariant.2 c.self.invariant.3) c.args.number c.max-least.result c.max-least.ensures c.in_ok-at.at c.in_ok-page.page.now _ (rest-is (get c.self.inside.pages) c.self.inside.places (page_of c.max-least.result) (c.in_ok-at.at, c.in_ok-at.place) _ (from-behind (page_of c.max-least.result) c.self.inside.places ∙ sym (rw c.page_of-own.ensures at c.from-rest.ensures) ∙ c.in_ok-at.ensures.some) _ (sym c.in_ok-page.ensures)) c.if-at-own.from
+pub returns-in-Some-first_in-2-clause-above : goal.returns-in-Some-first_in-2-clause-above
+returns-in-Some-first_in-2-clause-above c =
+    (found_second _ _ c.args.self.now (held c.self.inside.shape (pages_at (get c.self.inside.pages) c.self.inside.places) c.args.self.now c.self.view_is c.self.invariant.2 c.self.invariant.3) c.args.number c.max-least.result c.max-least.ensures c.in_ok-at.at c.in-Some.page.now _ (rest-is (get c.self.inside.pages) c.self.inside.places (page_of c.max-least.result) (c.in_ok-at.at, c.in_ok-at.place) _ (from-behind (page_of c.max-least.result) c.self.inside.places ∙ sym (rw c.page_of-own.ensures at c.from-rest.ensures) ∙ c.in_ok-at.ensures.some) _ (sym c.in-Some.ensures)) c.if-at-own.from
     (elim c.if-at-own.branch [
       | then-at-own w ↦ (λ own. w.from-is ∙ w.cell_of-from.ensures.same, λ other. absurd (other (sym (w.if-at-own.true ∙ c.page_of-own.ensures))))
       | else-at-own w ↦ (λ own. absurd (w.if-at-own.false (sym (c.page_of-own.ensures ∙ own))), λ other. w.from-is)
     ])
-    c.in-None.ensures.none c.in_ok-at-in-None.at c.in_ok-page-in-None.page.now _ (next-is (get c.self.inside.pages) c.self.inside.places (page_of c.max-least.result) (c.in_ok-at.at, c.in_ok-at.place) _ (from-behind (page_of c.max-least.result) c.self.inside.places ∙ sym (rw c.page_of-own.ensures at c.from-rest.ensures) ∙ c.in_ok-at.ensures.some) (c.in_ok-at-in-None.at, c.in_ok-at-in-None.place) _ c.in_ok-at-in-None.ensures.some _ (sym c.in_ok-page-in-None.ensures))
-    c.in_ok-first-in-None.first (subst IsFile c.self.view_is c.self.invariant.0) c.in_ok-first-in-None.ensures.some).above
+    c.in-None.ensures.none c.in_ok-at-in-None.at c.in-Some-get.page.now _ (next-is (get c.self.inside.pages) c.self.inside.places (page_of c.max-least.result) (c.in_ok-at.at, c.in_ok-at.place) _ (from-behind (page_of c.max-least.result) c.self.inside.places ∙ sym (rw c.page_of-own.ensures at c.from-rest.ensures) ∙ c.in_ok-at.ensures.some) (c.in_ok-at-in-None.at, c.in_ok-at-in-None.place) _ c.in_ok-at-in-None.ensures.some _ (sym c.in-Some-get.ensures))
+    c.in-Some-first_in-2.first (subst IsFile c.self.view_is c.self.invariant.0) c.in-Some-first_in-2.ensures.some).above
 
-pub returns-in_ok-first-in-None-clause-within : goal.returns-in_ok-first-in-None-clause-within
-returns-in_ok-first-in-None-clause-within c =
-    (found_second _ _ c.args.self.now (held c.self.inside.shape (pages_at (get c.self.inside.pages) c.self.inside.places) c.args.self.now c.self.view_is c.self.invariant.2 c.self.invariant.3) c.args.number c.max-least.result c.max-least.ensures c.in_ok-at.at c.in_ok-page.page.now _ (rest-is (get c.self.inside.pages) c.self.inside.places (page_of c.max-least.result) (c.in_ok-at.at, c.in_ok-at.place) _ (from-behind (page_of c.max-least.result) c.self.inside.places ∙ sym (rw c.page_of-own.ensures at c.from-rest.ensures) ∙ c.in_ok-at.ensures.some) _ (sym c.in_ok-page.ensures)) c.if-at-own.from
+pub returns-in-Some-first_in-2-clause-within : goal.returns-in-Some-first_in-2-clause-within
+returns-in-Some-first_in-2-clause-within c =
+    (found_second _ _ c.args.self.now (held c.self.inside.shape (pages_at (get c.self.inside.pages) c.self.inside.places) c.args.self.now c.self.view_is c.self.invariant.2 c.self.invariant.3) c.args.number c.max-least.result c.max-least.ensures c.in_ok-at.at c.in-Some.page.now _ (rest-is (get c.self.inside.pages) c.self.inside.places (page_of c.max-least.result) (c.in_ok-at.at, c.in_ok-at.place) _ (from-behind (page_of c.max-least.result) c.self.inside.places ∙ sym (rw c.page_of-own.ensures at c.from-rest.ensures) ∙ c.in_ok-at.ensures.some) _ (sym c.in-Some.ensures)) c.if-at-own.from
     (elim c.if-at-own.branch [
       | then-at-own w ↦ (λ own. w.from-is ∙ w.cell_of-from.ensures.same, λ other. absurd (other (sym (w.if-at-own.true ∙ c.page_of-own.ensures))))
       | else-at-own w ↦ (λ own. absurd (w.if-at-own.false (sym (c.page_of-own.ensures ∙ own))), λ other. w.from-is)
     ])
-    c.in-None.ensures.none c.in_ok-at-in-None.at c.in_ok-page-in-None.page.now _ (next-is (get c.self.inside.pages) c.self.inside.places (page_of c.max-least.result) (c.in_ok-at.at, c.in_ok-at.place) _ (from-behind (page_of c.max-least.result) c.self.inside.places ∙ sym (rw c.page_of-own.ensures at c.from-rest.ensures) ∙ c.in_ok-at.ensures.some) (c.in_ok-at-in-None.at, c.in_ok-at-in-None.place) _ c.in_ok-at-in-None.ensures.some _ (sym c.in_ok-page-in-None.ensures))
-    c.in_ok-first-in-None.first (subst IsFile c.self.view_is c.self.invariant.0) c.in_ok-first-in-None.ensures.some).within
+    c.in-None.ensures.none c.in_ok-at-in-None.at c.in-Some-get.page.now _ (next-is (get c.self.inside.pages) c.self.inside.places (page_of c.max-least.result) (c.in_ok-at.at, c.in_ok-at.place) _ (from-behind (page_of c.max-least.result) c.self.inside.places ∙ sym (rw c.page_of-own.ensures at c.from-rest.ensures) ∙ c.in_ok-at.ensures.some) (c.in_ok-at-in-None.at, c.in_ok-at-in-None.place) _ c.in_ok-at-in-None.ensures.some _ (sym c.in-Some-get.ensures))
+    c.in-Some-first_in-2.first (subst IsFile c.self.view_is c.self.invariant.0) c.in-Some-first_in-2.ensures.some).within
 
-pub returns-in-Some-clause-short : goal.returns-in-Some-clause-short
-returns-in-Some-clause-short c = record_fits c.args.self.now c.in-Some.first (subst IsFile c.self.view_is c.self.invariant.0)
+pub returns-in-Some-first_in-clause-short : goal.returns-in-Some-first_in-clause-short
+returns-in-Some-first_in-clause-short c = record_fits c.args.self.now c.in-Some-first_in.first (subst IsFile c.self.view_is c.self.invariant.0)
 
-pub returns-in_ok-first-in-None-clause-short : goal.returns-in_ok-first-in-None-clause-short
-returns-in_ok-first-in-None-clause-short c = record_fits c.args.self.now c.in_ok-first-in-None.first (subst IsFile c.self.view_is c.self.invariant.0)
+pub returns-in-Some-first_in-2-clause-short : goal.returns-in-Some-first_in-2-clause-short
+returns-in-Some-first_in-2-clause-short c = record_fits c.args.self.now c.in-Some-first_in-2.first (subst IsFile c.self.view_is c.self.invariant.0)
