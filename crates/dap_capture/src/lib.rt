@@ -10,12 +10,3 @@ mod steps;
 
 pub use commands::schedule;
 pub use laws::schedules_have_one_text;
-
-#[cfg(test)]
-mod device_tests;
-#[cfg(test)]
-mod engines;
-#[cfg(test)]
-mod schedule_tests;
-#[cfg(test)]
-mod tests;

@@ -1,5 +1,5 @@
 //! The three engines, with an input and a text for each.
-use crate::schedule;
+use dap_capture::schedule;
 use dap_listing::{CaptureFault, Outcome, messages, show};
 use std::alloc::Global;
 use std::io::{Read, Write};

@@ -1,6 +1,5 @@
 //! Rows of schedules.
-use crate::engines::{Engine, GREETING, GREETING_PLAYED, gives};
-use crate::orders::read_order;
+use crate::engines::{Engine, GREETING, GREETING_PLAYED, gives, run};
 use dap_listing::{CaptureFault, Outcome};
 use dap_text::push_report;
 use dap_world::{Ending, Numbered, Octets, Report};
@@ -142,7 +141,6 @@ const EVENTS: &[&[u8]] = &[
 
 /// Lines that say none.
 const NO_EVENTS: &[&[u8]] = &[
-    b"",
     b"ask",
     b"ask ",
     b"ask Hello",
@@ -218,14 +216,23 @@ fn tells_bad_lines(rt: HostRuntime) {
     }
 }
 
+/// What a schedule of a setup and this line comes to.
+fn behind_setup(alloc: Global, line: &[u8]) -> Result<Result<Outcome, CaptureFault>, AllocError> {
+    let mut lines = Vec::from_slice(alloc, b"setup 512 8 1024 1024\n")?;
+    lines.extend_from_slice(line)?;
+    let mut reader = lines.as_slice();
+    Ok(run(alloc, Engine::Run, &mut reader, &mut Vec::new(alloc)))
+}
+
 #[test]
-fn reads_events(rt: HostRuntime) {
+fn reads_events(rt: HostRuntime) -> Result<(), Fail> {
     for line in EVENTS {
-        assert!(&rt; read_order(line).is_some());
+        assert!(&rt; behind_setup(rt.alloc(), line)?.is_ok());
     }
     for line in NO_EVENTS {
-        assert!(&rt; read_order(line).is_none());
+        assert!(&rt; behind_setup(rt.alloc(), line)? == Err(CaptureFault::BadLine(2)));
     }
+    Ok(())
 }
 
 /// Prints a report, and wants the text.
