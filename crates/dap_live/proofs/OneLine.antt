@@ -83,10 +83,10 @@ either_fits (Some order) other h k = h
 form_fits : (name : List ℕ) (next : Words → Option Order) → ((words : Words) → Fits (next words)) → (words : Words) → Fits (word name next words)
 form_fits name next h [] = tt
 form_fits name next h (w ∷ words) = if_fits (is w name) (next words) (h words)
-    where
-      if_fits : (b : Bool) (o : Option Order) → Fits o → Fits (if b then o else None)
-      if_fits true o k = k
-      if_fits false o k = tt
+  where
+    if_fits : (b : Bool) (o : Option Order) → Fits o → Fits (if b then o else None)
+    if_fits true o k = k
+    if_fits false o k = tt
 
 -- forms that all are such
 AllFit : List (Words → Option Order) → Type 0
@@ -114,7 +114,7 @@ between_fits local remote = all_fit
     (ends (order.New (Between local remote)) ∷ field long (λ segment. ends (order.New (Cut local remote segment))) ∷ [])
     (also _ _ (λ words. ends_fit (order.New (Between local remote)) words tt)
     (also _ _ (field_fits long (λ segment. ends (order.New (Cut local remote segment)))
-        (λ w segment read more. ends_fit (order.New (Cut local remote segment)) more tt))
+    (λ w segment read more. ends_fit (order.New (Cut local remote segment)) more tt))
     none_fit))
 
 anew_fits : (words : Words) → Fits (anew_of words)
@@ -122,7 +122,7 @@ anew_fits = all_fit
     (ends (order.New Same) ∷ field address_of (λ local. field address_of (λ remote. between_of local remote)) ∷ [])
     (also _ _ (λ words. ends_fit (order.New Same) words tt)
     (also _ _ (field_fits address_of (λ local. field address_of (λ remote. between_of local remote))
-        (λ w local read. field_fits address_of (λ remote. between_of local remote) (λ v remote read'. between_fits local remote)))
+    (λ w local read. field_fits address_of (λ remote. between_of local remote) (λ v remote read'. between_fits local remote)))
     none_fit))
 
 map_fits : {X : Type 0} (of : X → Order) → ((x : X) → Fits (Some (of x))) → (o : Option X) → Fits (option_map of o)
