@@ -264,6 +264,21 @@ impl LinkEnd {
             → IsOk result × (self.new ≡ self.old) }
     {
         self.check_messages(messages)?;
+        self.send_checked(messages)
+    }
+
+    /// The same of an end that hasn't failed, and of messages that `check_messages` lets through: neither is looked
+    /// at again. Refused for want of memory alone, with nothing changed (own).
+    pub fn send_checked(&mut self, messages: &[Vec<u8>]) -> Result<(), LinkFault>
+        requires works { self.old.failed ≡ false }
+        requires may { MayQueueAll self.old (map (λ v. v.items) messages.now) }
+        ensures ok { OnOk result
+            (self.new ≡ queued_link self.old (cut self.old.seg_size (map (λ v. v.items) messages.now))) }
+        ensures stands { StandsStill self.old self.new }
+        ensures sends { OnOk result (SendsMore self.old self.new (map (λ v. v.items) messages.now)) }
+        ensures err { IfErr result (λ e. (e ≡ NoMemory) × (self.new ≡ self.old)) }
+        ensures empty { messages.now ≡ [] → IsOk result × (self.new ≡ self.old) }
+    {
         let before = self.queue.len();
         match queue_all(self.alloc, &mut self.queue, self.setup.seg_size, messages) {
             Ok(()) => Ok(()),
