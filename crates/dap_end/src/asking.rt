@@ -5,7 +5,7 @@ ghost use Rattle.dap_msg.specs.Exchange.{least_buffer};
 ghost use Rattle.dap_msg.specs.Blocked.{bodies};
 ghost use Rattle.nsp_link.specs.Limits.{largest_limit};
 ghost use Rattle.nsp_link.specs.Link.{IsSetup, SetupFault, MaySend, IsSpelling};
-ghost use Rattle.nsp_link.specs.Sending.{NextFault, SendAllFault, WritesSent, ack_packet_of};
+ghost use Rattle.nsp_link.specs.Sending.{NextFault, MayQueueAll, SendAllFault, WritesSent, ack_packet_of};
 ghost use Rattle.nsp_link.specs.declared.fault.LinkFault.TheVariants.{Failed, NoSuchSegment, MessageTooLong};
 ghost use Rattle.nsp_link.specs.declared.fault.LinkFault.TheVariants as fault;
 ghost use Rattle.dap_accessing.specs.Asked.{messages_of};
@@ -287,6 +287,16 @@ impl AskingEnd {
         self.port.post()
     }
 
+    /// The same of messages that the link takes, as [`nsp_link::LinkEnd::check_messages`] tells: they aren't looked at
+    /// again. Refused for want of memory alone, with nothing changed. Own.
+    pub fn post_checked(&mut self) -> Result<usize, LinkFault>
+        requires { MayQueueAll self.old.port.link self.old.port.outbox }
+        ensures ok { IfOk result (λ n. HandedAll self.old self.new n) }
+        ensures err { IfErr result (λ f. (self.new ≡ self.old) × (f ≡ fault.NoMemory)) }
+    {
+        self.port.post_checked()
+    }
+
     /// The packet of the next segment that was never sent, or none where none waits or the window is full, as
     /// [`nsp_link::LinkEnd::next_packet`] writes it (NSP 4.0.0, data segment message).
     pub fn emit(&mut self) -> Result<Option<Vec<u8>>, LinkFault>
@@ -299,6 +309,19 @@ impl AskingEnd {
         ensures still { HasStill self.old self.new }
     {
         self.port.emit()
+    }
+
+    /// The same of an end whose link runs and has one to send, as [`nsp_link::LinkEnd::may_send`] tells: neither is looked
+    /// at again. Refused for want of memory alone, with nothing changed. Own.
+    pub fn write_next(&mut self) -> Result<Vec<u8>, LinkFault>
+        requires works { self.old.port.link.failed ≡ false }
+        requires may { MaySend self.old.port.link }
+        ensures rest { self.new ≡ record self.old { port = self.new.port } }
+        ensures wrote { IfOk result (λ v. WroteNext self.old.port self.new.port v.items) }
+        ensures err { IfErr result (λ f. (self.new ≡ self.old) × (f ≡ fault.NoMemory)) }
+        ensures still { HasStill self.old self.new }
+    {
+        self.port.write_next()
     }
 
     /// The packet of a segment that was sent and isn't acknowledged, again: the oldest is at place 0, as

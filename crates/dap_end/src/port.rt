@@ -99,10 +99,11 @@ impl Port {
     }
 
     // The packet of the next segment, of a link that runs and lets it be sent.
-    fn write_next(&mut self) -> Result<Vec<u8>, LinkFault>
+    pub(crate) fn write_next(&mut self) -> Result<Vec<u8>, LinkFault>
         requires works { self.old.link.failed ≡ false }
         requires may { MaySend self.old.link }
         ensures wrote { IfOk result (λ v. WroteNext self.old self.new v.items) }
+        ensures sent { (n : ℕ) × (self.new ≡ sent_more self.old n) }
         ensures err { IfErr result (λ f. (self.new ≡ self.old) × (f ≡ NoMemory)) }
         ensures kept { IsPort self.old → IsPort self.new }
     {
@@ -195,13 +196,28 @@ impl Port {
         ensures short { self.old.link.max_message ≡ largest_limit
             → IfErr result (λ f. f ≢ MessageTooLong) }
     {
+        match self.link.check_messages(&self.outbox) {
+            Ok(()) => self.post_checked(),
+            Err(fault) => Err(fault),
+        }
+    }
+
+    // Hands over all that waits, which the link takes.
+    pub(crate) fn post_checked(&mut self) -> Result<usize, LinkFault>
+        requires kept { IsPort self.old }
+        requires may { MayQueueAll self.old.link self.old.outbox }
+        ensures ok { IfOk result (λ n. (self.new ≡ posted self.old)
+            × (n ≡ length self.old.outbox)) }
+        ensures kept { IsPort self.new }
+        ensures err { IfErr result (λ f. (self.new ≡ self.old) × (f ≡ NoMemory)) }
+    {
         let count = self.outbox.len();
-        match self.link.send_all(&self.outbox) {
+        match self.link.send_checked(&self.outbox) {
             Ok(()) => {
                 self.outbox.clear();
                 Ok(count)
             }
-            Err(fault) => Err(fault),
+            Err(_) => Err(LinkFault::NoMemory),
         }
     }
 }

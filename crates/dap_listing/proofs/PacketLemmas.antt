@@ -1,36 +1,20 @@
 -- What is read of packets that are decoded only in front of a payload.
-use Rattle.std.proofs.Common.{◌≡◌, ◌⊎◌, ◌<◌, ◌≤◌, ◌+◌, ◌-◌, ◌*◌, ℕ, List, [], length, take, drop, get_or, refl, ap, sym, ◌∙◌, arith, inl, inr}
+use Rattle.std.proofs.Common.{◌≡◌, ◌<◌, ◌≤◌, ◌+◌, ◌-◌, ◌*◌, ℕ, List, length, take, drop, get_or, Result, Ok, Err, refl, ap, sym, subst, ◌∙◌, arith}
 use Rattle.std.proofs.lemmas.List.{ext_get_or, length-drop, take_all, get_or-take, get_or-drop}
-use Rattle.nsp_seg.specs.Packets.{PacketValue, SegmentValue, segment, data_ack, Spells}
-use Rattle.nsp_seg.proofs.ForCallers.{carrying, other_payload, spells-one}
-use Rattle.dap_listing.specs.Packets.{segment_line}
-use Rattle.dap_listing.specs.Captured.{AreDecoded, Spell, bytes_of}
-use Rattle.dap_listing.specs.Inner.Decoding.{IsSegmentFront}
+use Rattle.nsp_seg.specs.Packets.{SegmentValue, segment, Spells}
+use Rattle.nsp_seg.specs.declared.packet.SegFault.{SegFault}
+use Rattle.nsp_seg.proofs.ForCallers.{carrying, other_payload}
+use Rattle.dap_listing.specs.Packets.{IsSeen, segment_line}
+use Rattle.dap_listing.specs.Captured.{AreDecoded, Spell, bytes_of, carried_value, seen_value}
+use Rattle.dap_listing.specs.declared.packet.Captured.{Captured}
+use Rattle.dap_listing.specs.declared.packet.Captured.TheVariants.{Segment, DataAck}
+use Rattle.dap_listing.specs.Inner.Decoding.{IsFront, IsTold}
 use Rattle.dap_listing.proofs.DigitLemmas.{count_of, part}
 use Rattle.dap_listing.proofs.ItemLemmas.{same_part}
 
-payload_of : PacketValue → List ℕ
-payload_of (segment s) = s.payload
-payload_of (data_ack a) = []
-
--- a segment is decoded up to its payload
-pub up_to_payload : (room : List ℕ) (known : ℕ) (s : SegmentValue) → (known ≡ length room) ⊎ IsSegmentFront room known → Spells (segment s) room
-    → length room ≤ known + length s.payload
-unfolding payload_of
-up_to_payload room known s (inl all) spells = omega (arith, all)
-up_to_payload room known s (inr front) spells =
-    let same : s.payload ≡ front.0.payload = ap payload_of (spells-one (segment s) (segment front.0) room spells front.1) in
-    omega (arith, front.2, ap length same)
-
--- what is no segment is decoded as a whole
-pub all_decoded : (digits room : List ℕ) (known : ℕ) → Spell digits (length room) → AreDecoded digits 0 known room
-    → (known ≡ length room) ⊎ IsSegmentFront room known → ((s : SegmentValue) → Spells (segment s) room → ⊥) → room ≡ bytes_of digits
-all_decoded digits room known spell decoded (inl all) none =
-    ext_get_or 0 room (bytes_of digits) (sym (count_of digits (length room) spell)) (λ i below. decoded i (omega arith) (omega (arith, below, all)))
-all_decoded digits room known spell decoded (inr front) none = absurd (none front.0 front.1)
-
-pub no_segment : (room : List ℕ) (p : PacketValue) → ((s : SegmentValue) → p ≡ segment s → ⊥) → Spells p room → (s : SegmentValue) → Spells (segment s) room → ⊥
-no_segment room p other spells s these = other s (spells-one p (segment s) room spells these)
+all_decoded : (digits room : List ℕ) → Spell digits (length room) → AreDecoded digits 0 (length room) room → room ≡ bytes_of digits
+all_decoded digits room spell decoded =
+    ext_get_or 0 room (bytes_of digits) (sym (count_of digits (length room) spell)) (λ i below. decoded i (omega arith) below)
 
 -- the digits from a byte on
 pub rest_of : (digits : List ℕ) (count head : ℕ) → Spell digits count → head ≤ count
@@ -64,3 +48,26 @@ segment_is digits room known head s spell decoded reached spells at =
     let long : length bytes ≡ length room = count_of digits (length room) spell in
     let same : take o.0 bytes ≡ take o.0 room = sym (same_part room bytes 0 o.0 (sym long) (λ i low high. decoded i low (omega (arith, high, o.1, reached)))) in
     (rw start at (o.2 bytes same), same_line s (drop head bytes) (omega (arith, length-drop head bytes, long, o.1, start)))
+
+pub all_told : (n : ℕ) (seen : Result Captured SegFault) → IsTold n n seen
+all_told n (Ok (Segment c)) = omega arith
+all_told n (Ok (DataAck dst src ack1 ack2)) = refl
+all_told n (Err fault) = refl
+
+-- what is read of bytes that are decoded so far is what the digits spell
+pub told : (digits room : List ℕ) (known : ℕ) (seen : Result Captured SegFault) → Spell digits (length room) → AreDecoded digits 0 known room
+    → IsTold known (length room) seen → IsFront digits room seen → IsSeen (seen_value seen) (bytes_of digits)
+told digits room known (Ok (Segment c)) spell decoded reached front =
+    let s : SegmentValue = record (carried_value c) { payload = front.0 } in
+    let o = other_payload s room front.1 in
+    let head : ℕ = length room - length front.0 in
+    let rest = rest_of digits (length room) head spell (omega arith) in
+    let same : take (length digits - 2 * head) (drop (2 * head) digits) ≡ c.payload.now =
+    take_all (length digits - 2 * head) (drop (2 * head) digits) (omega (arith, length-drop (2 * head) digits)) ∙ sym front.2 in
+    let far : length room ≤ known + length front.0 = omega (arith, reached, ap length (sym front.2), length-drop (2 * head) digits, spell.1, o.1) in
+    let bytes : bytes_of c.payload.now ≡ drop head (bytes_of digits) = ap bytes_of (sym same) ∙ rest.1 in
+    rw bytes (segment_is digits room known head s spell decoded far front.1 refl).0
+told digits room known (Ok (DataAck dst src ack1 ack2)) spell decoded all front =
+    rw (all_decoded digits room spell (subst (λ (n : ℕ). AreDecoded digits 0 n room) all decoded)) at front
+told digits room known (Err fault) spell decoded all front =
+    rw (all_decoded digits room spell (subst (λ (n : ℕ). AreDecoded digits 0 n room) all decoded)) at front

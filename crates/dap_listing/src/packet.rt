@@ -1,11 +1,11 @@
 //! The lines of a packet.
 
-ghost use Rattle.std.specs.Prelude.{◌≡◌, ◌≤◌, ◌/◌, ◌⊎◌, ◌++◌, ◌∷◌, [], ℕ, List, Ok, OnOk, Some, codes, length};
+ghost use Rattle.std.specs.Prelude.{◌≡◌, ◌≤◌, ◌/◌, ◌⊎◌, ◌++◌, ◌∷◌, [], ℕ, List, Ok, OnOk, Some, codes, length, true};
 ghost use Rattle.std.specs.List.{concat};
 ghost use Rattle.dap_text.specs.Text.{word_text};
 ghost use Rattle.dap_text.specs.Adding.{Adds, AddsSome};
 ghost use Rattle.dap_listing.specs.Captured.{AreDecoded, HasDigits, Spell, bytes_of, carried_value, seen_value};
-ghost use Rattle.dap_listing.specs.Inner.Decoding.{IsBehind, IsSegmentFront};
+ghost use Rattle.dap_listing.specs.Inner.Decoding.{IsBehind, IsFront, IsTold};
 ghost use Rattle.dap_listing.specs.Packets.{IsPacketText, IsSeen, SegmentMessages, ack_line, ack_text, acks_text, mark_text, seen_line, segment_line};
 
 use crate::decode::{FRONT, decode_to};
@@ -140,35 +140,11 @@ fn push_ack(
     push_str(text, "\n")
 }
 
-/// Decodes as many bytes as it takes to tell which packet they are, and answers how many.
-fn decode_front(digits: &[u8], bytes: &mut [u8]) -> usize
-    requires { Spell digits.now (length bytes.old) }
-    ensures size { length bytes.new ≡ length bytes.old }
-    ensures within { result ≤ length bytes.new }
-    ensures decoded { AreDecoded digits.now 0 result bytes.new }
-    ensures enough { (result ≡ length bytes.new) ⊎ IsSegmentFront bytes.new result }
+/// What the bytes are, of which a payload needs no decoding: its digits stand for it.
+fn seen_of<'a>(digits: &'a [u8], bytes: &[u8]) -> Result<Captured<'a>, SegFault>
+    requires { Spell digits.now (length bytes.now) }
+    ensures { IsFront digits.now bytes.now result }
 {
-    let known = decode_to(digits, bytes, 0, FRONT);
-    if known == bytes.len() {
-        return known;
-    }
-    match decode_packet(bytes) {
-        Ok(Packet::Segment { payload, .. }) if bytes.len() - payload.len() <= known => known,
-        _ => decode_to(digits, bytes, known, bytes.len()),
-    }
-}
-
-/// What the bytes of the digits are, and how many in front are decoded: all up to a payload, at least.
-fn see<'a>(digits: &'a [u8], bytes: &mut [u8]) -> (Result<Captured<'a>, SegFault>, usize)
-    requires { Spell digits.now (length bytes.old) }
-    ensures size { length bytes.new ≡ length bytes.old }
-    ensures within { result.1 ≤ length bytes.new }
-    ensures decoded { AreDecoded digits.now 0 result.1 bytes.new }
-    ensures seen { IsSeen (seen_value result.0) (bytes_of digits.now) }
-    ensures payload { HasDigits result.0 }
-    ensures behind { IsBehind digits.now result.1 result.0 }
-{
-    let known = decode_front(digits, bytes);
     match decode_packet(bytes) {
         Ok(
             Packet::Segment {
@@ -183,8 +159,7 @@ fn see<'a>(digits: &'a [u8], bytes: &mut [u8]) -> (Result<Captured<'a>, SegFault
             },
         ) => {
             let head = bytes.len() - payload.len();
-            let payload = &digits[2 * head..];
-            let segment = Carried {
+            Ok(Captured::Segment(Carried {
                 first,
                 last,
                 dst,
@@ -192,9 +167,8 @@ fn see<'a>(digits: &'a [u8], bytes: &mut [u8]) -> (Result<Captured<'a>, SegFault
                 ack1,
                 ack2,
                 number,
-                payload,
-            };
-            (Ok(Captured::Segment(segment)), known)
+                payload: &digits[2 * head..],
+            }))
         }
         Ok(
             Packet::DataAck {
@@ -203,17 +177,44 @@ fn see<'a>(digits: &'a [u8], bytes: &mut [u8]) -> (Result<Captured<'a>, SegFault
                 ack1,
                 ack2,
             },
-        ) => {
-            let ack = Captured::DataAck {
-                dst,
-                src,
-                ack1,
-                ack2,
-            };
-            (Ok(ack), known)
-        }
-        Err(fault) => (Err(fault), known),
+        ) => Ok(Captured::DataAck {
+            dst,
+            src,
+            ack1,
+            ack2,
+        }),
+        Err(fault) => Err(fault),
     }
+}
+
+/// Whether so many bytes in front, of all, tell what was captured: they reach up to a payload, or to the end.
+fn is_told(seen: &Result<Captured<'_>, SegFault>, known: usize, all: usize) -> bool
+    requires { known ≤ all }
+    ensures { result ≡ true → IsTold known all seen.now }
+{
+    match seen {
+        Ok(Captured::Segment(line)) => all - known <= line.payload.len() / 2,
+        _ => known == all,
+    }
+}
+
+/// What the bytes of the digits are, and how many in front are decoded: all up to a payload, at least.
+fn see<'a>(digits: &'a [u8], bytes: &mut [u8]) -> (Result<Captured<'a>, SegFault>, usize)
+    requires { Spell digits.now (length bytes.old) }
+    ensures size { length bytes.new ≡ length bytes.old }
+    ensures within { result.1 ≤ length bytes.new }
+    ensures decoded { AreDecoded digits.now 0 result.1 bytes.new }
+    ensures seen { IsSeen (seen_value result.0) (bytes_of digits.now) }
+    ensures payload { HasDigits result.0 }
+    ensures behind { IsBehind digits.now result.1 result.0 }
+{
+    let known = decode_to(digits, bytes, 0, FRONT);
+    let seen = seen_of(digits, bytes);
+    if is_told(&seen, known, bytes.len()) {
+        return (seen, known);
+    }
+    let known = decode_to(digits, bytes, known, bytes.len());
+    (seen_of(digits, bytes), known)
 }
 
 /// What the bytes are that the hex digits spell (NSP 4.0.0, data segment and data acknowledgement messages). The room is

@@ -267,11 +267,10 @@ impl LinkEnd {
         self.send_checked(messages)
     }
 
-    /// The same of an end that hasn't failed, and of messages that `check_messages` lets through: neither is looked
-    /// at again. Refused for want of memory alone, with nothing changed (own).
+    /// The same of messages that `check_messages` lets through: they aren't looked at again. Refused for want of memory
+    /// alone, with nothing changed (own).
     pub fn send_checked(&mut self, messages: &[Vec<u8>]) -> Result<(), LinkFault>
-        requires works { self.old.failed ≡ false }
-        requires may { MayQueueAll self.old (map (λ v. v.items) messages.now) }
+        requires { MayQueueAll self.old (map (λ v. v.items) messages.now) }
         ensures ok { OnOk result
             (self.new ≡ queued_link self.old (cut self.old.seg_size (map (λ v. v.items) messages.now))) }
         ensures stands { StandsStill self.old self.new }

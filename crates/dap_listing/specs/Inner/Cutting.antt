@@ -1,5 +1,5 @@
 -- Lines that are taken off the front of bytes behind which others may follow.
-use Rattle.std.specs.Prelude.{◌≡◌, ◌-◌, ◌++◌, ◌∷◌, ◌==◌, ℕ, Bool, true, List, [], drop, length, None}
+use Rattle.std.specs.Prelude.{◌≡◌, ◌++◌, ◌∷◌, ◌==◌, ℕ, Bool, true, List, [], None}
 use Rattle.std.specs.List.{position}
 use Rattle.std.specs.Str.Lines.{lines}
 use Rattle.dap_listing.specs.Listing.{captures, faults_from, limit_of, Capture, CaptureLines}

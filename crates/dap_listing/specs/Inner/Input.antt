@@ -3,7 +3,7 @@ use Rattle.std.specs.Prelude.{ℕ, List, ◌<◌, ◌≤◌, ◌+◌, length, Op
 use Rattle.std.specs.Io.KnownBytes.{Consumes}
 use Rattle.dap_listing.specs.Gives.{input_limit}
 use Rattle.dap_listing.specs.declared.fault.CaptureFault.{CaptureFault}
-use Rattle.dap_listing.specs.declared.fault.CaptureFault.TheVariants.{TooLarge, ReadFailed, NoMemory}
+use Rattle.dap_listing.specs.declared.fault.CaptureFault.TheVariants.{TooLarge, ReadFailed}
 
 -- a front of the known bytes is taken, behind so many that were taken before
 unfoldable pub TakesBehind : ℕ → Option (List ℕ) → Option (List ℕ) → Type 0
