@@ -208,8 +208,10 @@ impl Port {
         requires may { MayQueueAll self.old.link self.old.outbox }
         ensures ok { IfOk result (λ n. (self.new ≡ posted self.old)
             × (n ≡ length self.old.outbox)) }
+        ensures may { OnOk result (MayQueueAll self.old.link self.old.outbox) }
         ensures kept { IsPort self.new }
         ensures err { IfErr result (λ f. (self.new ≡ self.old) × (f ≡ NoMemory)) }
+        ensures some { OnErr result (self.old.outbox ≢ []) }
     {
         let count = self.outbox.len();
         match self.link.send_checked(&self.outbox) {
