@@ -10,7 +10,8 @@ use Rattle.dap_accessing.specs.Told.{Hearing, Reports, Waits, Unexpected, hear, 
 use Rattle.dap_accessing.specs.Phase.{IsNoneDue, IsAdmissible}
 use Rattle.dap_accessing.proofs.ForCallers.{Stays, stays, told_by, Told-told_by}
 use Rattle.dap_accessing.proofs.ForCallers.{due_by, due-due_by, each_told}
-use Rattle.dap_world.specs.Agreement.{answers_to, AreAdmissible, NothingUnexpected}
+use Rattle.dap_world.specs.Agreement.{answers_to, AreAdmissible}
+use Rattle.dap_world.specs.Inner.Agreement.{NothingUnexpected}
 
 no_place_by : (r : Request) (rs : List Request) (answers : List Item) (answer : Item) (first : Hearing) → Stays first (hear r (answers ++ answer ∷ [])) (answer ∷ [])
     → length (told_by rs first) ≡ suc (length rs) → ((rest : List Item) → length (Told rs rest) ≡ length rs → due_after rs (rest ++ answer ∷ []) ≡ Wrong)

@@ -25,7 +25,8 @@ use Rattle.dap_accessing.specs.declared.fault.AskFault.TheVariants as ask_fault
 use Rattle.dap_accessing.specs.Calls.{AskRefused}
 use Rattle.dap_accessing.proofs.ForCallers.{asked_one}
 use Rattle.dap_world.specs.Inner.Within.{AreWithin}
-use Rattle.dap_world.specs.Agreement.{AgreeAt, AreAdmissible, IsBufsiz, NextWithin, answers_to, items_of, reports_of}
+use Rattle.dap_world.specs.Agreement.{AreAdmissible, IsBufsiz, answers_to, items_of, reports_of}
+use Rattle.dap_world.specs.Inner.Agreement.{AgreeAt, NextWithin}
 use Rattle.dap_accessed.specs.Served.{AllAtMost}
 use Rattle.dap_world.specs.declared.event.Event.TheVariants as event
 use Rattle.dap_world.specs.declared.event.Step.{Step}

@@ -17,7 +17,8 @@ use Rattle.dap_accessing.specs.declared.request.Request.TheVariants as request
 use Rattle.dap_accessing.specs.declared.request.By.TheVariants as by
 use Rattle.dap_accessing.specs.Asked.{Asked, messages_of, unnumbered_record}
 use Rattle.dap_world.specs.Inner.Within.{AreWithin}
-use Rattle.dap_world.specs.Agreement.{AnswersWithin, IsBufsiz, items_of}
+use Rattle.dap_world.specs.Agreement.{IsBufsiz, items_of}
+use Rattle.dap_world.specs.Inner.Agreement.{AnswersWithin}
 use Rattle.dap_world.proofs.Within.{answers-within}
 
 alone : (m : Message) (limit : ℕ) → length (canon m) ≤ limit → length (joined (m ∷ [])) ≤ limit

@@ -1,4 +1,5 @@
 -- What only the contracts of private functions cite, and proofs: nobody has to believe it.
+pub mod Agreement
 pub mod Parts
 pub mod Settling
 pub mod Setups

@@ -195,6 +195,7 @@ fn keep(reports: &mut Vec<Report>, heard: Heard) -> Step
 
 // A writes its next segment.
 fn emit_a(end: &mut AskingEnd, wire: &mut Vec<Wired>) -> Result<Step, WorldFault>
+    requires { end.old.port.link.failed ≡ false }
     ensures rest { end.new ≡ record end.old { port = end.new.port } }
     ensures ok { IfOk result (λ answer. MaySend end.old.port.link
         × WroteOne end.old.port.link wire.old.items wire.new.items
@@ -204,21 +205,17 @@ fn emit_a(end: &mut AskingEnd, wire: &mut Vec<Wired>) -> Result<Step, WorldFault
         × (wire.new.items ≡ wire.old.items) × EmitFault end.old.port.link f) }
     ensures still { HasStill end.old end.new }
 {
-    match next_number(end.link(), wire) {
-        Ok(number) => {
-            let acks = end.link().received_count();
-            match end.emit() {
-                Ok(Some(packet)) => Ok(put(wire, packet, Some(number), acks)),
-                Ok(None) => Err(WorldFault::NothingToDo),
-                Err(_) => Err(WorldFault::NoMemory),
-            }
-        }
-        Err(fault) => Err(fault),
+    let number = next_number(end.link(), wire)?;
+    let acks = end.link().received_count();
+    match end.write_next() {
+        Ok(packet) => Ok(put(wire, packet, Some(number), acks)),
+        Err(_) => Err(WorldFault::NoMemory),
     }
 }
 
 // B writes its next segment.
 fn emit_b(end: &mut ServingEnd, wire: &mut Vec<Wired>) -> Result<Step, WorldFault>
+    requires { end.old.port.link.failed ≡ false }
     ensures rest { end.new ≡ record end.old { port = end.new.port } }
     ensures ok { IfOk result (λ answer. MaySend end.old.port.link
         × WroteOne end.old.port.link wire.old.items wire.new.items
@@ -228,16 +225,11 @@ fn emit_b(end: &mut ServingEnd, wire: &mut Vec<Wired>) -> Result<Step, WorldFaul
         × (wire.new.items ≡ wire.old.items) × EmitFault end.old.port.link f) }
     ensures still { IsStill end.old end.new }
 {
-    match next_number(end.link(), wire) {
-        Ok(number) => {
-            let acks = end.link().received_count();
-            match end.emit() {
-                Ok(Some(packet)) => Ok(put(wire, packet, Some(number), acks)),
-                Ok(None) => Err(WorldFault::NothingToDo),
-                Err(_) => Err(WorldFault::NoMemory),
-            }
-        }
-        Err(fault) => Err(fault),
+    let number = next_number(end.link(), wire)?;
+    let acks = end.link().received_count();
+    match end.write_next() {
+        Ok(packet) => Ok(put(wire, packet, Some(number), acks)),
+        Err(_) => Err(WorldFault::NoMemory),
     }
 }
 
@@ -293,10 +285,8 @@ fn post_a(
         × (bodies sent.new.items ≡ bodies sent.old.items)) }
     ensures err { IfErr result (PostFault end.old.port.link end.old.port.outbox) }
 {
-    match may_post(end.link(), end.waiting()) {
-        Ok(()) => hand_over(alloc, end, posted, sent),
-        Err(fault) => Err(fault),
-    }
+    may_post(end.link(), end.waiting())?;
+    hand_over(alloc, end, posted, sent)
 }
 
 fn hand_over(
@@ -306,6 +296,7 @@ fn hand_over(
     sent: &mut Vec<Vec<u8>>,
 ) -> Result<Step, WorldFault>
     requires some { 0 < length end.old.port.outbox }
+    requires may { MayQueueAll end.old.port.link end.old.port.outbox }
     requires few { posted.old ≤ most_segments }
     ensures ok { IfOk result (λ answer. PostedSo end.old.port.outbox posted.old posted.new answer) }
     ensures handed { OnOk result (asking.HandedAll end.old end.new
@@ -318,9 +309,8 @@ fn hand_over(
 {
     let mut more = split_all(alloc, end.waiting())?;
     sent.reserve(more.len())?;
-    let count = end.waiting().len();
-    match end.post() {
-        Ok(_) => {
+    match end.post_checked() {
+        Ok(count) => {
             *posted += count;
             sent.append(&mut more).unwrap();
             Ok(Step::Posted(count))
@@ -340,17 +330,12 @@ fn post_b(end: &mut ServingEnd, posted: &mut usize) -> Result<Step, WorldFault>
     ensures same { OnErr result ((end.new ≡ end.old) × (posted.new ≡ posted.old)) }
     ensures err { IfErr result (PostFault end.old.port.link end.old.port.outbox) }
 {
-    match may_post(end.link(), end.waiting()) {
-        Ok(()) => {
-            let count = end.waiting().len();
-            match end.post() {
-                Ok(_) => {
-                    *posted += count;
-                    Ok(Step::Posted(count))
-                }
-                Err(_) => Err(WorldFault::NoMemory),
-            }
+    may_post(end.link(), end.waiting())?;
+    match end.post_checked() {
+        Ok(count) => {
+            *posted += count;
+            Ok(Step::Posted(count))
         }
-        Err(fault) => Err(fault),
+        Err(_) => Err(WorldFault::NoMemory),
     }
 }

@@ -16,9 +16,8 @@ pub use dap_accessed::FileTable;
 pub use dap_accessing::{AskFault, By, Ending, How, Numbered, Octets, OctetsList, Report, Request};
 pub use event::{End, Event, Step, WorldFault};
 pub use laws::{
-    admissible_requests_grow, answers_keep_to_the_limit, both_ends_agree,
     each_request_has_one_report, events_are_decided, every_run_keeps_the_headline,
-    no_answer_is_unexpected, none_due_is_all_read, numbers_stay_apart, requests_keep_to_the_limit,
+    numbers_stay_apart,
 };
 pub use nsp_link::{Got, LinkEnd, LinkFault};
 pub use nsp_seg::SegFault;

@@ -34,10 +34,8 @@ fn write_both<W: Write>(first: &[u8], second: &[u8], writer: &mut W) -> Result<(
     ensures front { WritesFront (W.contents writer.old) (W.contents writer.new)
         (first.now ++ second.now) }
 {
-    match write_text(first, writer) {
-        Ok(()) => write_text(second, writer),
-        Err(fault) => Err(fault),
-    }
+    write_text(first, writer)?;
+    write_text(second, writer)
 }
 
 /// Writes the last line of an answer.
@@ -48,10 +46,8 @@ fn write_waits<W: Write>(waits: usize, writer: &mut W) -> Result<(), TalkFault>
     ensures front { WritesFront (W.contents writer.old) (W.contents writer.new) (waits_text waits) }
 {
     let mut digits = Buffer::new();
-    match write_text(b"waits ", writer) {
-        Ok(()) => write_both(digits.format(waits).as_bytes(), b"\n", writer),
-        Err(fault) => Err(fault),
-    }
+    write_text(b"waits ", writer)?;
+    write_both(digits.format(waits).as_bytes(), b"\n", writer)
 }
 
 /// The line of a refusal.
@@ -73,10 +69,8 @@ fn write_ending<W: Write>(became: Became, waits: usize, writer: &mut W) -> Resul
     ensures front { WritesFront (W.contents writer.old) (W.contents writer.new)
         (ending_of became waits) }
 {
-    match write_text(refusal_line(became), writer) {
-        Ok(()) => write_waits(waits, writer),
-        Err(fault) => Err(fault),
-    }
+    write_text(refusal_line(became), writer)?;
+    write_waits(waits, writer)
 }
 
 /// Writes an answer.
@@ -92,10 +86,8 @@ fn write_parts<W: Write>(
     ensures front { WritesFront (W.contents writer.old) (W.contents writer.new)
         (text.now ++ ending_of became waits) }
 {
-    match write_text(text, writer) {
-        Ok(()) => write_ending(became, waits, writer),
-        Err(fault) => Err(fault),
-    }
+    write_text(text, writer)?;
+    write_ending(became, waits, writer)
 }
 
 /// Flushes behind what was written.
@@ -122,8 +114,6 @@ pub(crate) fn write_answer<W: Write>(
     ensures front { WritesFront (W.contents writer.old) (W.contents writer.new)
         (text.now ++ ending_of became waits) }
 {
-    match write_parts(text, became, waits, writer) {
-        Ok(()) => flush(writer),
-        Err(fault) => Err(fault),
-    }
+    write_parts(text, became, waits, writer)?;
+    flush(writer)
 }

@@ -140,10 +140,8 @@ fn say<E: Answers, W: Write, F: Write>(
         Some(became) => became,
     };
     tell_bad(became, number, error_writer);
-    match write_answer(text, became, end.waits(), writer) {
-        Ok(()) => Ok(Some(became)),
-        Err(fault) => Err(fault),
-    }
+    write_answer(text, became, end.waits(), writer)?;
+    Ok(Some(became))
 }
 
 /// What one turn of a conversation came to.
@@ -178,10 +176,8 @@ fn answer_next<E: Answers, R: BufRead, W: Write, F: Write>(
     if line.is_over() {
         return Ok(Next::Over);
     }
-    match say(end, line, number, text, writer, error_writer) {
-        Ok(became) => Ok(Next::Line(became)),
-        Err(fault) => Err(fault),
-    }
+    let became = say(end, line, number, text, writer, error_writer)?;
+    Ok(Next::Line(became))
 }
 
 /// Whether a line was bad.

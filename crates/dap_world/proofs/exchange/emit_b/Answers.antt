@@ -3,11 +3,11 @@ use Rattle.nsp_link.specs.Link.{LinkValue}
 use Rattle.dap_world.proofs.Put.{wrote_put}
 use Rattle.dap_world.proofs.exchange.emit_b.Goals as goal
 
-pub returns-in-Ok-Some-clause-ok : goal.returns-in-Ok-Some-clause-ok
-returns-in-Ok-Some-clause-ok c =
-    let next = rw c.in-Ok-Some.field-0-is at c.in-Ok-Some.ensures.wrote in
-    let number = c.in-Ok.ensures.ok.1 ∙ ap (λ (v : LinkValue). v.sent + 1) c.link.ensures in (
+pub returns-in-Ok-clause-ok : goal.returns-in-Ok-clause-ok
+returns-in-Ok-clause-ok c =
+    let next = c.in-Ok.ensures.wrote in
+    let number = c.in_ok-number.ensures.ok.1 ∙ ap (λ (v : LinkValue). v.sent + 1) c.link.ensures in (
       next.may,
       wrote_put c.args.end.now.port.link c.args.wire.now.items c.next_number.new.wire.items c.put.new.wire.items _ _ c.put.result c.next_number.ensures.same c.put.ensures.wire c.put.ensures.place
-          (ap (λ (n : ℕ). Some n) number) (c.received_count-acks.ensures.value ∙ ap (λ (v : LinkValue). v.received) c.link-in-Ok.ensures) next.writes,
+          (ap (λ (n : ℕ). Some n) number) (c.received_count-acks.ensures.value ∙ ap (λ (v : LinkValue). v.received) c.link-2.ensures) next.writes,
     )

@@ -4,8 +4,8 @@ use Rattle.std.specs.Fmt.{decimal}
 use Rattle.std.proofs.lemmas.Result.{on_ok_weaker}
 use Rattle.linewise.proofs.output.write_waits.Goals as goal
 
-pub returns-in-Ok-clause-front : goal.returns-in-Ok-clause-front
-returns-in-Ok-clause-front g c = rw (c.as_bytes.ensures.value, c.format.ensures.text) at (front_behind _ _ _ (codes "waits ") _ c.in-Ok.ensures.whole c.write_both.ensures.front)
+pub returns-clause-front : goal.returns-clause-front
+returns-clause-front g c = rw (c.as_bytes.ensures.value, c.format.ensures.text) at (front_behind _ _ _ (codes "waits ") _ c.in_ok-write_text.ensures.whole c.write_both.ensures.front)
 
-pub returns-in-Err-clause-front : goal.returns-in-Err-clause-front
-returns-in-Err-clause-front g c = front_of_first _ _ (codes "waits ") (decimal c.args.waits ++ codes "\n") c.in-Err.ensures.front
+pub returns-in_err-write_text-clause-front : goal.returns-in_err-write_text-clause-front
+returns-in_err-write_text-clause-front g c = front_of_first _ _ (codes "waits ") (decimal c.args.waits ++ codes "\n") c.in_err-write_text.ensures.front

@@ -1,6 +1,13 @@
+use Rattle.dap_world.specs.declared.event.End.TheVariants.{A, B}
 use Rattle.dap_world.specs.Inner.WorldView.{parts_of}
-use Rattle.dap_world.proofs.Wrote.{emitted_a, emitted_b}
+use Rattle.dap_world.proofs.Wrote.{emitted_a, emitted_b, is_running}
 use Rattle.dap_world.proofs.world.World.emit.Goals as goal
+
+pub emit_a-requires : goal.emit_a-requires
+emit_a-requires c = is_running (parts_of c.self.inside) A c.self.invariant
+
+pub emit_b-requires : goal.emit_b-requires
+emit_b-requires c = is_running (parts_of c.self.inside) B c.self.invariant
 
 pub invariant_of-self : goal.invariant_of-self
 invariant_of-self c =

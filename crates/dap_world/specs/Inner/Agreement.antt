@@ -1,0 +1,60 @@
+-- How the two ends of an exchange without a network stand to each other.
+use Rattle.std.specs.Prelude.{ℕ, ◌≡◌, ◌≢◌, List, [], ◌∷◌, ◌++◌, map, None, true}
+use Rattle.dap_msg.specs.Blocked.{Blocked, all_joined}
+use Rattle.dap_msg.specs.Exchange.{least_buffer}
+use Rattle.dap_msg.specs.Items.{Item, Whole}
+use Rattle.dap_accessed.specs.Standing as at
+use Rattle.dap_accessed.specs.Standing.{Place}
+use Rattle.dap_accessed.specs.Groups.{added, limit_for, stands_after}
+use Rattle.dap_accessed.specs.Served.{AllAtMost}
+use Rattle.dap_accessing.specs.Request.{Request}
+use Rattle.dap_accessing.specs.declared.phase.Phase.{Phase}
+use Rattle.dap_accessing.specs.declared.phase.Phase.TheVariants.{Fresh, Ready, Opened, Connected, Stopped}
+use Rattle.dap_accessing.specs.Asked.{messages_of}
+use Rattle.dap_accessing.specs.Told.{is_unexpected}
+use Rattle.dap_accessing.specs.Phase.{IsAdmissible, phase_after, limit_after}
+use Rattle.dap_world.specs.Agreement.{answers_to, items_of, reports_of}
+
+-- a request is admissible after these and the answers to them
+abbrev pub IsNext : (own_a own_b : ℕ) → List Request → Request → Type 0
+IsNext own_a own_b requests request = IsAdmissible own_a requests (map Whole (answers_to own_a own_b requests)) request
+
+-- The phase of the accessing end is that of the accessed end's place, and after Hello each end takes for the other's
+-- limit what the other has.
+abbrev pub AreLimits : (own_a own_b : ℕ) → (limit_b limit_a : ℕ) → Type 0
+AreLimits own_a own_b limit_b limit_a = (limit_b ≡ own_a) × (limit_a ≡ own_b)
+
+abbrev pub AgreeAt : (own_a own_b : ℕ) → Phase → Place → (limit_b limit_a : ℕ) → Type 0
+AgreeAt own_a own_b Fresh at.Fresh limit_b limit_a = limit_b ≡ least_buffer
+AgreeAt own_a own_b Ready at.Ready limit_b limit_a = AreLimits own_a own_b limit_b limit_a
+AgreeAt own_a own_b Opened (at.Opened _) limit_b limit_a = AreLimits own_a own_b limit_b limit_a
+AgreeAt own_a own_b Connected (at.Connected _ _) limit_b limit_a = AreLimits own_a own_b limit_b limit_a
+AgreeAt own_a own_b Stopped (at.Stopped _ _) limit_b limit_a = AreLimits own_a own_b limit_b limit_a
+AgreeAt own_a own_b _ _ limit_b limit_a = ⊥
+
+-- the two ends agree after these requests, and the accessed end is not inside a group
+pub record Agree (own_a own_b : ℕ) (requests : List Request) : Type 0 where
+  pub whole : (stands_after own_b [] (items_of own_a requests)).begun ≡ None
+  pub places :
+      let s = (stands_after own_b [] (items_of own_a requests)).standing in
+      let reports = reports_of own_a own_b requests in
+      AgreeAt own_a own_b (phase_after reports) s.place s.limit (limit_after reports)
+
+-- no answer so far, and not the next one, is unexpected
+abbrev pub NothingUnexpected : (own_a own_b : ℕ) → List Request → Type 0
+NothingUnexpected own_a own_b requests =
+    (front back : List Item) (answer : Item) → front ++ answer ∷ back ≡ map Whole (answers_to own_a own_b requests)
+    → is_unexpected requests front answer ≢ true
+
+-- none of the NSP messages of one request more that is admissible is longer than the accessed end takes
+abbrev pub NextWithin : (own_a own_b : ℕ) → List Request → Type 0
+NextWithin own_a own_b requests =
+    (request : Request) → IsNext own_a own_b requests request
+    → AllAtMost own_b (all_joined (Blocked (limit_after (reports_of own_a own_b requests)) (messages_of own_a request)))
+
+-- whatever part of the messages the accessed end has served, none of the NSP messages with its answers to the next one
+-- is longer than the accessing end takes
+abbrev pub AnswersWithin : (own_a own_b : ℕ) → List Request → Type 0
+AnswersWithin own_a own_b requests =
+    (front back : List Item) (item : Item) → front ++ item ∷ back ≡ items_of own_a requests
+    → AllAtMost own_a (all_joined (Blocked (limit_for own_b [] front) (added own_b [] front item)))
