@@ -140,8 +140,10 @@ fn say<E: Answers, W: Write, F: Write>(
         Some(became) => became,
     };
     tell_bad(became, number, error_writer);
-    write_answer(text, became, end.waits(), writer)?;
-    Ok(Some(became))
+    match write_answer(text, became, end.waits(), writer) {
+        Ok(()) => Ok(Some(became)),
+        Err(fault) => Err(fault),
+    }
 }
 
 /// What one turn of a conversation came to.
