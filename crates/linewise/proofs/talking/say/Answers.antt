@@ -9,17 +9,17 @@ pub returns-in-None-clause-said : goal.returns-in-None-clause-said
 returns-in-None-clause-said g c = λ raw holds.
     ([], record { text = c.answer_read.new.text.items; answers = c.in-None.ensures raw holds; says = refl }, Appends-nil _)
 
-pub returns-clause-said : goal.returns-clause-said
-returns-clause-said g c = λ raw holds. (
+pub returns-in-Ok-clause-said : goal.returns-in-Ok-clause-said
+returns-in-Ok-clause-said g c = λ raw holds. (
   _,
   record { text = c.answer_read.new.text.items; answers = c.in-Some.ensures raw holds; says = refl },
-  rw (c.deref.ensures.value, c.waits.ensures) at c.in_ok-write_answer.ensures.whole,
+  rw (c.deref.ensures.value, c.waits.ensures) at c.in-Ok.ensures.whole,
 )
 
-pub returns-in_err-write_answer-clause-broken : goal.returns-in_err-write_answer-clause-broken
-returns-in_err-write_answer-clause-broken g c = λ raw holds. (
+pub returns-in-Err-clause-broken : goal.returns-in-Err-clause-broken
+returns-in-Err-clause-broken g c = λ raw holds. (
   Some c.in-Some.became,
   _,
   record { text = c.answer_read.new.text.items; answers = c.in-Some.ensures raw holds; says = refl },
-  rw (c.deref.ensures.value, c.waits.ensures) at c.in_err-write_answer.ensures.front,
+  rw (c.deref.ensures.value, c.waits.ensures) at c.in-Err.ensures.front,
 )
