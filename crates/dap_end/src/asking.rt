@@ -97,10 +97,8 @@ impl AskingEnd {
         ensures err { IfErr result (λ f. (self.new ≡ self.old)
             × AskRefused request.now self.old.accessing f) }
     {
-        match self.check(request) {
-            Ok(()) => self.ask_checked(request),
-            Err(fault) => Err(fault),
-        }
+        self.check(request)?;
+        self.ask_checked(request)
     }
 
     /// Whether `ask` would take the request, memory aside; refused as there. It takes no memory. Own.
@@ -224,10 +222,8 @@ impl AskingEnd {
         ensures err { IfErr result (GoOnFault self.old self.new (bodies out.old.items)
             (bodies out.new.items) reports.old.items reports.new.items) }
     {
-        match self.hear_all(reports) {
-            Ok(()) => ended(self.port.emit_all(out)),
-            Err(fault) => Err(fault),
-        }
+        self.hear_all(reports)?;
+        ended(self.port.emit_all(out))
     }
 
     /// Takes a packet in, and tells what became of it; reads all that came, hands over what waits, and writes all segments
@@ -268,10 +264,8 @@ impl AskingEnd {
         ensures err { IfErr result (AnswerFault self.old self.new got (bodies out.old.items)
             (bodies out.new.items) reports.old.items reports.new.items) }
     {
-        match self.hear_all(reports) {
-            Ok(()) => ended(self.port.answer(got, out)),
-            Err(fault) => Err(fault),
-        }
+        self.hear_all(reports)?;
+        ended(self.port.answer(got, out))
     }
 
     /// Hands all that waits to the link, and tells how many NSP messages these are (own). Refused, with nothing changed:

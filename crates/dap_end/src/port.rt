@@ -154,10 +154,8 @@ impl Port {
         ensures kept { IsPort self.new }
     {
         let before = out.len();
-        match self.emit_all(out) {
-            Ok(()) => self.acknowledge(got, out.len() - before, out),
-            Err(fault) => Err(fault),
-        }
+        self.emit_all(out)?;
+        self.acknowledge(got, out.len() - before, out)
     }
 
     // Writes one acknowledgement, where a segment came and none was written.
@@ -196,10 +194,8 @@ impl Port {
         ensures short { self.old.link.max_message ≡ largest_limit
             → IfErr result (λ f. f ≢ MessageTooLong) }
     {
-        match self.link.check_messages(&self.outbox) {
-            Ok(()) => self.post_checked(),
-            Err(fault) => Err(fault),
-        }
+        self.link.check_messages(&self.outbox)?;
+        self.post_checked()
     }
 
     // Hands over all that waits, which the link takes.

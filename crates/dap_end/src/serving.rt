@@ -242,10 +242,8 @@ impl ServingEnd {
         ensures err { IfErr result (GoOnFault self.old self.new (bodies out.old.items)
             (bodies out.new.items)) }
     {
-        match self.serve_all() {
-            Ok(()) => self.port.emit_all(out),
-            Err(fault) => Err(fault),
-        }
+        self.serve_all()?;
+        self.port.emit_all(out)
     }
 
     /// Takes a packet in, and tells what became of it; serves all that came, hands each group of answers to the link, and
@@ -276,10 +274,8 @@ impl ServingEnd {
         ensures err { IfErr result (ServedPart self.old self.new got (bodies out.old.items)
             (bodies out.new.items)) }
     {
-        match self.serve_all() {
-            Ok(()) => self.port.answer(got, out),
-            Err(fault) => Err(fault),
-        }
+        self.serve_all()?;
+        self.port.answer(got, out)
     }
 
     /// The packet of a segment that was sent and isn't acknowledged, again: the oldest is at place 0, as
