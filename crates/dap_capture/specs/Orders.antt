@@ -5,7 +5,7 @@ use Rattle.dap_world.specs.declared.event.End.TheVariants.{A, B}
 use Rattle.dap_world.specs.declared.event.Event.{Event}
 use Rattle.dap_world.specs.declared.event.Event.TheVariants as event
 use Rattle.dap_world.specs.declared.setup.WorldSetup.{WorldSetup}
-use Rattle.dap_text.specs.Requests.{wish_of}
+use Rattle.dap_text.specs.Requests.{request_of}
 use Rattle.dap_text.specs.Words.{Words, ends, field, is, long, one_of, short, word, words_of}
 
 -- an end
@@ -23,7 +23,7 @@ end_and_number event = field end_of (λ end. field long (λ number. ends (event 
 -- the first word, and those after it
 abbrev pub event_words : Words → Option Event
 event_words = one_of (
-    word (codes "ask") (λ words. option_map event.Ask (wish_of words))
+    word (codes "ask") (λ words. option_map event.Ask (request_of words))
     ∷ word (codes "post") (one_end event.Post)
     ∷ word (codes "emit") (one_end event.Emit)
     ∷ word (codes "resend") (end_and_number event.Resend)

@@ -5,7 +5,7 @@ mod commands;
 mod laws;
 mod orders;
 mod play;
-mod said;
+mod meaningful;
 mod steps;
 
 pub use commands::schedule;

@@ -10,7 +10,7 @@ ghost use Rattle.dap_listing.specs.Gives.{IsOfLine};
 ghost use Rattle.dap_capture.specs.Schedules.{event_fault, events_of, said, schedule_faults};
 
 use crate::orders::{Order, read_order, read_setup};
-use crate::said::Said;
+use crate::meaningful::MeaningfulLines;
 use crate::steps::{push_event, push_refusal, refusal_word};
 use dap_listing::{CaptureFault, INPUT_LIMIT, Outcome};
 use dap_text::push_files;
@@ -18,7 +18,7 @@ use dap_world::{Event, World, WorldFault};
 use std::alloc::Global;
 
 /// Whether the lines are events, or else the first fault.
-fn check_orders<'a>(mut lines: Said<'a>) -> Result<(), CaptureFault>
+fn check_orders<'a>(mut lines: MeaningfulLines<'a>) -> Result<(), CaptureFault>
     ensures faults { TellsFirst result (filter_map event_fault lines.entry) }
     ensures of_line { IfErr result IsOfLine }
 {
@@ -37,7 +37,7 @@ fn check_schedule(input: &[u8]) -> Result<(), CaptureFault>
     ensures faults { TellsFirst result (schedule_faults (said input.now)) }
     ensures of_line { IfErr result IsOfLine }
 {
-    let mut lines = Said::of(input);
+    let mut lines = MeaningfulLines::of(input);
     let Some((first, setup)) = lines.next() else {
         return Ok(());
     };
@@ -94,7 +94,7 @@ fn play_order<'a>(
 fn play_events<'a>(
     alloc: Global,
     world: &mut World,
-    mut lines: Said<'a>,
+    mut lines: MeaningfulLines<'a>,
 ) -> Result<(Outcome, Vec<u8>), CaptureFault>
     requires short { length lines ≤ INPUT_LIMIT + 1 }
     ensures played { IfOk result
@@ -127,7 +127,7 @@ fn play_lines(alloc: Global, input: &[u8]) -> Result<(Outcome, Vec<u8>), Capture
         (λ played. Played (said input.now) played.0 played.1.items) }
     ensures faults { TellsFirstOrWants result (schedule_faults (said input.now)) }
 {
-    let mut lines = Said::of(input);
+    let mut lines = MeaningfulLines::of(input);
     let Some((at, first)) = lines.next() else {
         return Ok((Outcome::Good, Vec::new(alloc)));
     };

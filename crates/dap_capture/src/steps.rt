@@ -37,7 +37,7 @@ pub(crate) fn refusal_word(fault: WorldFault) -> Option<&'static str>
 }
 
 /// The end that writes a packet in this event.
-fn writer(event: &Event) -> Option<End>
+fn writing_end(event: &Event) -> Option<End>
     ensures { result ≡ writer_of event.now }
 {
     match event {
@@ -88,7 +88,7 @@ fn push_step(text: &mut Vec<u8>, world: &World, event: &Event, step: Step) -> Re
         Step::Asked(count) => push_number(text, "asked ", count),
         Step::Posted(count) => push_number(text, "posted ", count),
         Step::Packet(place) => {
-            let Some(end) = writer(event) else {
+            let Some(end) = writing_end(event) else {
                 unreachable!()
             };
             push_packet(text, world, end, place)

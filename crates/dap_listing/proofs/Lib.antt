@@ -1,6 +1,6 @@
 pub mod ForCallers
 pub mod InputLemmas
-pub mod CourseLemmas
+pub mod ProgressLemmas
 pub mod DecodeLemmas
 pub mod DigitLemmas
 pub mod HexTextLemmas

@@ -1,6 +1,6 @@
 -- What only the contracts of private functions cite, and proofs: nobody has to believe it.
 pub mod Adding
-pub mod Course
+pub mod Progress
 pub mod Cutting
 pub mod Input
 pub mod Lines

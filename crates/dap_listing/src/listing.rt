@@ -6,7 +6,7 @@ ghost use Rattle.dap_listing.specs.Inner.Adding.{AddsCapture};
 ghost use Rattle.dap_text.specs.Adding.{AddsSome};
 ghost use Rattle.dap_listing.specs.Inner.Cutting.{FaultsGoOn, HasNoEnd, IsFirstFault, ListingGoesOn};
 ghost use Rattle.dap_listing.specs.Captured.{Spell, bytes_of};
-ghost use Rattle.dap_listing.specs.Inner.Course.{IsInputFault, IsWhole, TextGives};
+ghost use Rattle.dap_listing.specs.Inner.Progress.{IsInputFault, IsWhole, TextGives};
 ghost use Rattle.dap_listing.specs.declared.fault.CaptureFault.TheVariants.{NoMemory, WriteFailed};
 ghost use Rattle.dap_text.specs.Words.{is_hex_text as is_spelled};
 ghost use Rattle.dap_listing.specs.Lines.{IsEnd, captured, digits_line, line_of, skipped};
@@ -142,7 +142,7 @@ fn push_capture(
 
 /// A listing as far as it came.
 #[derive(Drop)]
-struct Course {
+struct Progress {
     text: Vec<u8>,
     /// The number of the next capture.
     number: usize,
@@ -156,13 +156,13 @@ struct Course {
 /// without its end, unless the bytes are the last. The room is for the bytes of a line.
 fn list_cut<'a>(
     listed: Listed,
-    course: &mut Course,
+    progress: &mut Progress,
     bytes: &'a [u8],
     is_last: bool,
     room: &mut [u8],
 ) -> Result<&'a [u8], CaptureFault>
-    requires lines { course.old.at + length bytes.now < 2 ^ 32 }
-    requires captures { course.old.number + length bytes.now < 2 ^ 32 }
+    requires lines { progress.old.at + length bytes.now < 2 ^ 32 }
+    requires captures { progress.old.number + length bytes.now < 2 ^ 32 }
     requires room { length room.old ≡ limit_of listed }
     ensures room { length room.new ≡ length room.old }
     ensures left { IfOk result (λ left. IsEnd bytes.now left.now) }
@@ -170,36 +170,36 @@ fn list_cut<'a>(
     ensures last { IfOk result (λ left. is_last ≡ true → left.now ≡ []) }
     ensures rest { IfOk result (λ left. HasNoEnd left.now) }
     ensures lines { IfOk result
-        (λ left. course.new.at + length left.now ≤ course.old.at + length bytes.now) }
+        (λ left. progress.new.at + length left.now ≤ progress.old.at + length bytes.now) }
     ensures captures { IfOk result
-        (λ left. course.new.number + length left.now ≤ course.old.number + length bytes.now) }
+        (λ left. progress.new.number + length left.now ≤ progress.old.number + length bytes.now) }
     ensures clean { IfOk result (λ left. FaultsGoOn (limit_of listed) is_last
-        course.old.at bytes.now course.new.at left.now) }
+        progress.old.at bytes.now progress.new.at left.now) }
     ensures listed { IfOk result (λ left. ListingGoesOn listed is_last
-        course.old.number bytes.now course.old.text.items
-        course.new.number left.now course.new.text.items) }
+        progress.old.number bytes.now progress.old.text.items
+        progress.new.number left.now progress.new.text.items) }
     ensures fault { IfErr result (λ fault. (fault ≡ NoMemory)
-        ⊎ IsFirstFault (limit_of listed) is_last course.old.at bytes.now fault) }
-    ensures at { OnErr result (course.new.at ≡ course.old.at) }
-    ensures number { OnErr result (course.new.number ≡ course.old.number) }
-    ensures wants { course.new.wants ≡ course.old.wants }
+        ⊎ IsFirstFault (limit_of listed) is_last progress.old.at bytes.now fault) }
+    ensures at { OnErr result (progress.new.at ≡ progress.old.at) }
+    ensures number { OnErr result (progress.new.number ≡ progress.old.number) }
+    ensures wants { progress.new.wants ≡ progress.old.wants }
 {
-    let mut number = course.number;
-    let mut at = course.at;
+    let mut number = progress.number;
+    let mut at = progress.at;
     let mut rest = bytes;
     while let Some((line, after)) = cut_line(rest, is_last) {
         match read_line(at, line, listed.limit())? {
             None => {}
             Some((direction, digits)) => {
-                push_capture(listed, &mut course.text, number, direction, digits, room)?;
+                push_capture(listed, &mut progress.text, number, direction, digits, room)?;
                 number += 1;
             }
         }
         at += 1;
         rest = after;
     }
-    course.number = number;
-    course.at = at;
+    progress.number = number;
+    progress.at = at;
     Ok(rest)
 }
 
@@ -234,38 +234,38 @@ fn check_cut<'a>(
 /// how many bytes are left.
 fn take_lines(
     listed: Listed,
-    course: &mut Course,
+    progress: &mut Progress,
     bytes: &[u8],
     is_last: bool,
     room: &mut [u8],
 ) -> Result<usize, CaptureFault>
-    requires lines { course.old.at + length bytes.now < 2 ^ 32 }
-    requires captures { course.old.number + length bytes.now < 2 ^ 32 }
-    requires room { course.old.wants ≡ false → length room.old ≡ limit_of listed }
+    requires lines { progress.old.at + length bytes.now < 2 ^ 32 }
+    requires captures { progress.old.number + length bytes.now < 2 ^ 32 }
+    requires room { progress.old.wants ≡ false → length room.old ≡ limit_of listed }
     ensures room { length room.new ≡ length room.old }
     ensures short { IfOk result (λ left. left ≤ length bytes.now) }
     ensures last { IfOk result (λ left. is_last ≡ true → left ≡ 0) }
     ensures rest { IfOk result (λ left. HasNoEnd (drop (length bytes.now - left) bytes.now)) }
-    ensures lines { IfOk result (λ left. course.new.at + left ≤ course.old.at + length bytes.now) }
+    ensures lines { IfOk result (λ left. progress.new.at + left ≤ progress.old.at + length bytes.now) }
     ensures captures { IfOk result
-        (λ left. course.new.number + left ≤ course.old.number + length bytes.now) }
+        (λ left. progress.new.number + left ≤ progress.old.number + length bytes.now) }
     ensures clean { IfOk result (λ left. FaultsGoOn (limit_of listed) is_last
-        course.old.at bytes.now course.new.at (drop (length bytes.now - left) bytes.now)) }
-    ensures wanted { OnOk result (course.new.wants ≡ false → course.old.wants ≡ false) }
-    ensures listed { IfOk result (λ left. course.new.wants ≡ false → ListingGoesOn listed is_last
-        course.old.number bytes.now course.old.text.items
-        course.new.number (drop (length bytes.now - left) bytes.now) course.new.text.items) }
+        progress.old.at bytes.now progress.new.at (drop (length bytes.now - left) bytes.now)) }
+    ensures wanted { OnOk result (progress.new.wants ≡ false → progress.old.wants ≡ false) }
+    ensures listed { IfOk result (λ left. progress.new.wants ≡ false → ListingGoesOn listed is_last
+        progress.old.number bytes.now progress.old.text.items
+        progress.new.number (drop (length bytes.now - left) bytes.now) progress.new.text.items) }
     ensures fault { IfErr result
-        (IsFirstFault (limit_of listed) is_last course.old.at bytes.now) }
+        (IsFirstFault (limit_of listed) is_last progress.old.at bytes.now) }
 {
-    if !course.wants {
-        match list_cut(listed, course, bytes, is_last, room) {
+    if !progress.wants {
+        match list_cut(listed, progress, bytes, is_last, room) {
             Ok(left) => return Ok(left.len()),
             Err(fault @ (CaptureFault::BadLine(_) | CaptureFault::TooLarge)) => return Err(fault),
-            Err(_) => course.wants = true,
+            Err(_) => progress.wants = true,
         }
     }
-    let left = check_cut(listed, &mut course.at, bytes, is_last)?;
+    let left = check_cut(listed, &mut progress.at, bytes, is_last)?;
     Ok(left.len())
 }
 
@@ -282,13 +282,13 @@ fn keep_end(bytes: &mut Vec<u8>, left: usize)
 /// Reads an input to its end and lists what was captured. Lines are listed as they come, so that no more of the
 /// input is kept than a line that has no end yet. A line at fault is told also where memory was wanting before
 /// it for a line's bytes or for the text.
-fn read_course<R: Read>(
+fn list_as_read<R: Read>(
     listed: Listed,
     alloc: Global,
     reader: &mut R,
-) -> Result<Course, CaptureFault>
+) -> Result<Progress, CaptureFault>
     ensures whole { IfOk result
-        (λ course. IfSome (R.remaining reader.old) (λ input. IsWhole listed input course)) }
+        (λ progress. IfSome (R.remaining reader.old) (λ input. IsWhole listed input progress)) }
     ensures fault { IfErr result
         (λ fault. IfSome (R.remaining reader.old) (λ input. IsInputFault listed input fault)) }
     ensures taken { TakesWithinLimit (R.remaining reader.old) (R.remaining reader.new) }
@@ -300,7 +300,7 @@ fn read_course<R: Read>(
         Ok(room) => (room, false),
         Err(_) => (Vec::new(alloc), true),
     };
-    let mut course = Course {
+    let mut progress = Progress {
         text: Vec::new(alloc),
         number: 1,
         at: 1,
@@ -314,7 +314,7 @@ fn read_course<R: Read>(
         if !is_last && find_byte(b'\n', &chunk[..came]).is_none() {
             continue;
         }
-        match take_lines(listed, &mut course, &bytes, is_last, &mut room) {
+        match take_lines(listed, &mut progress, &bytes, is_last, &mut room) {
             Ok(left) => keep_end(&mut bytes, left),
             Err(fault) => {
                 skip_unread(reader, &mut chunk, &mut count, is_last)?;
@@ -322,7 +322,7 @@ fn read_course<R: Read>(
             }
         }
         if is_last {
-            return Ok(course);
+            return Ok(progress);
         }
     }
 }
@@ -338,9 +338,9 @@ pub(crate) fn list_input<R: Read>(
     ensures taken { TakesWithinLimit (R.remaining reader.old) (R.remaining reader.new) }
     ensures unwritten { IfErr result (λ fault. fault ≢ WriteFailed) }
 {
-    let course = read_course(listed, alloc, reader)?;
-    if course.wants {
+    let progress = list_as_read(listed, alloc, reader)?;
+    if progress.wants {
         return Err(CaptureFault::NoMemory);
     }
-    Ok(course.text)
+    Ok(progress.text)
 }

@@ -23,7 +23,7 @@ use Rattle.dap_end.specs.declared.fault.TakeFault.TheVariants as take
 use Rattle.dap_end.specs.Wanting.{is_want, took_wanting}
 use Rattle.dap_text.specs.Words.{Words, decoded, ends, field, goes_on, hex_of, is, is_hex_text, long, one_of, word, words_of}
 use Rattle.dap_text.specs.Filed.{file_of, record_of}
-use Rattle.dap_text.specs.Requests.{wish_of}
+use Rattle.dap_text.specs.Requests.{request_of}
 use Rattle.linewise.specs.declared.talking.Became.{Became}
 use Rattle.linewise.specs.declared.talking.Became.TheVariants.{Done, BadLine, NoMemory}
 use Rattle.linewise.proofs.ForCallers.{OneAnswer}
@@ -138,7 +138,7 @@ forms_fit line =
     (also _ _ (form_fits (codes "files") (ends order.Files) (λ words. ends_fit order.Files words tt))
     (also _ _ (form_fits (codes "file") (λ words. option_map order.File (file_of line)) (λ words. map_fits order.File (λ file. tt) (file_of line)))
     (also _ _ (form_fits [] (λ words. option_map order.Record (record_of line)) (λ words. map_fits order.Record (λ r. tt) (record_of line)))
-    (also _ _ (form_fits (codes "ask") (λ words. option_map order.Ask (wish_of words)) (λ words. map_fits order.Ask (λ request. tt) (wish_of words)))
+    (also _ _ (form_fits (codes "ask") (λ words. option_map order.Ask (request_of words)) (λ words. map_fits order.Ask (λ request. tt) (request_of words)))
     none_fit)))))))
 
 pub line_fits : (line : List ℕ) → Fits (order_of line)

@@ -5,7 +5,7 @@ use Rattle.hex.specs.declared.error.FromHexError.{FromHexError}
 use Rattle.nsp_link.specs.declared.link.LinkSetup.{LinkSetup}
 use Rattle.dap_text.specs.Words.{Words, ends, field, hex_of, long, one_of, word, words_of}
 use Rattle.dap_text.specs.Filed.{file_of, record_of}
-use Rattle.dap_text.specs.Requests.{wish_of}
+use Rattle.dap_text.specs.Requests.{request_of}
 use Rattle.dap_live.specs.declared.orders.Anew.{Anew}
 use Rattle.dap_live.specs.declared.orders.Anew.TheVariants.{Same, Between, Cut}
 use Rattle.dap_live.specs.declared.orders.Order.{Order}
@@ -48,7 +48,7 @@ order_forms line =
     ∷ word (codes "files") (ends order.Files)
     ∷ word (codes "file") (λ words. option_map order.File (file_of line))
     ∷ word [] (λ words. option_map order.Record (record_of line))
-    ∷ word (codes "ask") (λ words. option_map order.Ask (wish_of words))
+    ∷ word (codes "ask") (λ words. option_map order.Ask (request_of words))
     ∷ []
 
 -- what a line says

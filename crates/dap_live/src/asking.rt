@@ -19,7 +19,7 @@ use crate::texts::{
 };
 use dap_accessing::{AskFault, Report, Request};
 use dap_end::{AskingEnd, EndFault, TakeFault};
-use dap_text::{Text, Wish, push_number, push_str};
+use dap_text::{Text, RequestText, push_number, push_str};
 use linewise::{Answers, Became};
 use nsp_link::{Got, LinkFault, LinkSetup};
 use std::alloc::{AllocError, Global};
@@ -268,17 +268,17 @@ fn ask_request(
 }
 
 /// Asks what the words say.
-fn ask(asking: &mut Asking, wish: &Wish<'_>, text: &mut Vec<u8>) -> Result<Came, AllocError>
+fn ask(asking: &mut Asking, asked: &RequestText<'_>, text: &mut Vec<u8>) -> Result<Came, AllocError>
     requires { text.old.items ≡ [] }
-    ensures ok { IfOk result (Asks asking.old.end.port.link.failed asking.old wish.now asking.new
+    ensures ok { IfOk result (Asks asking.old.end.port.link.failed asking.old asked.now asking.new
         text.new.items) }
     ensures err { OnErr result ((asking.new ≡ asking.old) ⊎ ((said : List ℕ) × (came : TheCame)
-        × Asks asking.old.end.port.link.failed asking.old wish.now asking.new said came)) }
+        × Asks asking.old.end.port.link.failed asking.old asked.now asking.new said came)) }
 {
     if asking.end.link().has_failed() {
         return Ok(Came::Untold(push_link_refusal(text, LinkFault::Failed)?));
     }
-    let request = wish.to_request(asking.alloc)?;
+    let request = asked.to_request(asking.alloc)?;
     ask_request(asking, &request, text)
 }
 
@@ -307,7 +307,7 @@ fn act(asking: &mut Asking, order: Order<'_>, text: &mut Vec<u8>) -> Result<Came
 {
     match order {
         Order::Packet(digits) => take_packet(asking, &digits, text),
-        Order::Ask(wish) => ask(asking, &wish, text),
+        Order::Ask(asked) => ask(asking, &asked, text),
         Order::Resend => resend(asking, text),
         Order::Ack => Ok(Came::Untold(say_ack(asking.end.link(), text)?)),
         Order::New(anew) => renew(asking, anew, text),

@@ -5,8 +5,8 @@ ghost use Rattle.dap_live.specs.Orders.{address_of, anew_of, between_of, order_o
 ghost use Rattle.dap_text.specs.Words.{ends};
 
 use dap_text::{
-    FileLine, RecordLine, Text, Wish, Words, is, read_file_line, read_hex, read_number,
-    read_record_line, read_wish,
+    FileLine, RecordLine, Text, RequestText, Words, is, read_file_line, read_hex, read_number,
+    read_record_line, read_request,
 };
 use nsp_link::LinkSetup;
 
@@ -30,7 +30,7 @@ pub(crate) enum Order<'a> {
     Files,
     File(FileLine<'a>),
     Record(RecordLine<'a>),
-    Ask(Wish<'a>),
+    Ask(RequestText<'a>),
 }
 
 /// `HEX`
@@ -105,7 +105,7 @@ pub(crate) fn read_order(line: &[u8]) -> Option<Order<'_>>
         word if is(word, "files") => read_plain(words, Order::Files),
         word if is(word, "file") => Some(Order::File(read_file_line(line)?)),
         word if is(word, "") => Some(Order::Record(read_record_line(line)?)),
-        word if is(word, "ask") => Some(Order::Ask(read_wish(words)?)),
+        word if is(word, "ask") => Some(Order::Ask(read_request(words)?)),
         _ => None,
     }
 }

@@ -48,8 +48,8 @@ continue_of = one_of (
     ∷ [])
 
 -- the first word, and those after it
-abbrev pub wish_of : Words → Option Request
-wish_of = one_of (
+abbrev pub request_of : Words → Option Request
+request_of = one_of (
     word (codes "hello") (ends request.Hello)
     ∷ word (codes "create") create_of
     ∷ word (codes "open") open_of

@@ -16,7 +16,7 @@ pub use bytes::{find_byte, is_hex_text};
 pub use filed::{FileLine, RecordLine, read_file_line, read_record_line};
 pub use laws::{files_are_read_back, records_are_read_back};
 pub use reports::push_report;
-pub use requests::{Wish, read_wish};
+pub use requests::{RequestText, read_request};
 pub use tables::push_files;
 pub use text::{push_decimal, push_hex, push_image, push_number, push_str, push_word};
 pub use words::{Text, Texts, Words, is, read_hex, read_number};

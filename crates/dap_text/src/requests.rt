@@ -1,29 +1,29 @@
 //! The request that words say.
 
 ghost use Rattle.std.specs.Prelude.{◌≡◌};
-ghost use Rattle.dap_text.specs.Requests.{continue_of, create_of, get_of, open_of, put_of, update_of, wish_of};
+ghost use Rattle.dap_text.specs.Requests.{continue_of, create_of, get_of, open_of, put_of, update_of, request_of};
 ghost use Rattle.dap_text.specs.Words.{ends};
 
 use crate::words::{Text, Texts, Words, is, read_number, read_text, read_texts};
 use dap_accessing::{By, How, Octets, OctetsList, Request};
 
 /// A request whose names and bodies are still the digits of a line. Contracts see the request. Own.
-pub type Wish<'a> = Request<Octets<Text<'a>>, OctetsList<Texts<'a>>>;
+pub type RequestText<'a> = Request<Octets<Text<'a>>, OctetsList<Texts<'a>>>;
 
 /// The greatest FAC.
 const ACCESS_MOST: u32 = 15;
 
 /// A request without a word of its own.
-fn read_plain<'a>(words: Words<'a>, wish: Wish<'a>) -> Option<Wish<'a>>
-    ensures { result ≡ ends wish.entry words.entry }
+fn read_plain<'a>(words: Words<'a>, request: RequestText<'a>) -> Option<RequestText<'a>>
+    ensures { result ≡ ends request.entry words.entry }
 {
     words.end()?;
-    Some(wish)
+    Some(request)
 }
 
 /// `NAME ORG RFM MRS MRN FAC`
 #[tactic(auto, using(crate::proofs::RequestLemmas::ends_none))]
-fn read_create<'a>(mut words: Words<'a>) -> Option<Wish<'a>>
+fn read_create<'a>(mut words: Words<'a>) -> Option<RequestText<'a>>
     ensures { result ≡ create_of words.entry }
 {
     let name = Octets(read_text(words.next()?)?);
@@ -33,7 +33,7 @@ fn read_create<'a>(mut words: Words<'a>) -> Option<Wish<'a>>
     let mrn = read_number(words.next()?, u32::MAX)?;
     let fac = read_number(words.next()?, ACCESS_MOST)?;
     words.end()?;
-    Some(Wish::Create {
+    Some(RequestText::Create {
         name,
         org,
         rfm,
@@ -44,21 +44,21 @@ fn read_create<'a>(mut words: Words<'a>) -> Option<Wish<'a>>
 }
 
 /// `NAME FAC`
-fn read_open<'a>(mut words: Words<'a>) -> Option<Wish<'a>>
+fn read_open<'a>(mut words: Words<'a>) -> Option<RequestText<'a>>
     ensures { result ≡ open_of words.entry }
 {
     let name = Octets(read_text(words.next()?)?);
     let fac = read_number(words.next()?, ACCESS_MOST)?;
     words.end()?;
-    Some(Wish::OpenFile { name, fac })
+    Some(RequestText::OpenFile { name, fac })
 }
 
 /// Nothing, or `key N`, or `rfa N`
-fn read_get<'a>(mut words: Words<'a>) -> Option<Wish<'a>>
+fn read_get<'a>(mut words: Words<'a>) -> Option<RequestText<'a>>
     ensures { result ≡ get_of words.entry }
 {
     let Some(word) = words.next() else {
-        return Some(Wish::Get(By::Next));
+        return Some(RequestText::Get(By::Next));
     };
     let by = match word {
         b"key" => By::Key(read_number(words.next()?, u32::MAX)?),
@@ -66,11 +66,11 @@ fn read_get<'a>(mut words: Words<'a>) -> Option<Wish<'a>>
         _ => return None,
     };
     words.end()?;
-    Some(Wish::Get(by))
+    Some(RequestText::Get(by))
 }
 
 /// `BODY`, or `key N BODY`
-fn read_put<'a>(mut words: Words<'a>) -> Option<Wish<'a>>
+fn read_put<'a>(mut words: Words<'a>) -> Option<RequestText<'a>>
     ensures { result ≡ put_of words.entry }
 {
     match words.next()? {
@@ -78,27 +78,27 @@ fn read_put<'a>(mut words: Words<'a>) -> Option<Wish<'a>>
             let key = Some(read_number(words.next()?, u32::MAX)?);
             let body = Octets(read_text(words.next()?)?);
             words.end()?;
-            Some(Wish::Put { key, body })
+            Some(RequestText::Put { key, body })
         }
         word => {
             let body = Octets(read_text(word)?);
             words.end()?;
-            Some(Wish::Put { key: None, body })
+            Some(RequestText::Put { key: None, body })
         }
     }
 }
 
 /// `BODY`
-fn read_update<'a>(mut words: Words<'a>) -> Option<Wish<'a>>
+fn read_update<'a>(mut words: Words<'a>) -> Option<RequestText<'a>>
     ensures { result ≡ update_of words.entry }
 {
     let body = Octets(read_text(words.next()?)?);
     words.end()?;
-    Some(Wish::Update { body })
+    Some(RequestText::Update { body })
 }
 
 /// `again`, `skip` or `abort`
-fn read_continue<'a>(mut words: Words<'a>) -> Option<Wish<'a>>
+fn read_continue<'a>(mut words: Words<'a>) -> Option<RequestText<'a>>
     ensures { result ≡ continue_of words.entry }
 {
     let how = match words.next()? {
@@ -108,28 +108,28 @@ fn read_continue<'a>(mut words: Words<'a>) -> Option<Wish<'a>>
         _ => return None,
     };
     words.end()?;
-    Some(Wish::Continue(how))
+    Some(RequestText::Continue(how))
 }
 
 /// The request that words say, as behind `ask` in a schedule, or None where they say none. It takes no memory. Own.
-pub fn read_wish<'a>(mut words: Words<'a>) -> Option<Wish<'a>>
-    ensures { result ≡ wish_of words.entry }
+pub fn read_request<'a>(mut words: Words<'a>) -> Option<RequestText<'a>>
+    ensures { result ≡ request_of words.entry }
 {
     match words.next()? {
-        word if is(word, "hello") => read_plain(words, Wish::Hello),
+        word if is(word, "hello") => read_plain(words, RequestText::Hello),
         word if is(word, "create") => read_create(words),
         word if is(word, "open") => read_open(words),
-        word if is(word, "connect") => read_plain(words, Wish::Connect),
+        word if is(word, "connect") => read_plain(words, RequestText::Connect),
         word if is(word, "get") => read_get(words),
         word if is(word, "put") => read_put(words),
         word if is(word, "update") => read_update(words),
-        word if is(word, "delete") => read_plain(words, Wish::Delete),
-        word if is(word, "rewind") => read_plain(words, Wish::Rewind),
-        word if is(word, "fetch") => read_plain(words, Wish::Fetch),
-        word if is(word, "store") => Some(Wish::Store(OctetsList(read_texts(words)?))),
+        word if is(word, "delete") => read_plain(words, RequestText::Delete),
+        word if is(word, "rewind") => read_plain(words, RequestText::Rewind),
+        word if is(word, "fetch") => read_plain(words, RequestText::Fetch),
+        word if is(word, "store") => Some(RequestText::Store(OctetsList(read_texts(words)?))),
         word if is(word, "continue") => read_continue(words),
-        word if is(word, "close") => read_plain(words, Wish::Close),
-        word if is(word, "purge") => read_plain(words, Wish::Purge),
+        word if is(word, "close") => read_plain(words, RequestText::Close),
+        word if is(word, "purge") => read_plain(words, RequestText::Purge),
         _ => None,
     }
 }

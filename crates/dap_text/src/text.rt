@@ -37,9 +37,8 @@ pub fn push_number<I: Integer>(text: &mut Vec<u8>, word: &str, number: I) -> Res
 fn word_digits(number: u16) -> [u8; 4]
     ensures { result ≡ word_text number }
 {
-    let bytes = [(number / 256) as u8, (number % 256) as u8];
     let mut digits = [0; 4];
-    let Ok(()) = hex::encode_to_slice(bytes, &mut digits) else {
+    let Ok(()) = hex::encode_to_slice(number.to_be_bytes(), &mut digits) else {
         unreachable!()
     };
     digits

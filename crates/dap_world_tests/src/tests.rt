@@ -10,7 +10,7 @@ mod rows;
 mod scripts;
 
 use calls::{acknowledgement, apply, begin, count_unacked, direct, finish, run, taken, written};
-use dap_text::{Words, push_hex, push_report, read_number, read_wish};
+use dap_text::{Words, push_hex, push_report, read_number, read_request};
 use dap_world::{
     End, Event, Got, RecordFile, Report, Request, Step, World, WorldFault, WorldSetup,
 };
@@ -96,8 +96,8 @@ fn parts(words: &str) -> (&str, &str, u32) {
 /// The request that words say.
 fn request(alloc: Global, words: &str) -> Result<Request, WorldFault> {
     let line = spelled(alloc, words)?;
-    match read_wish(Words::of(&line)) {
-        Some(wish) => Ok(wish.to_request(alloc)?),
+    match read_request(Words::of(&line)) {
+        Some(asked) => Ok(asked.to_request(alloc)?),
         None => Err(WorldFault::BadSetup),
     }
 }

@@ -2,13 +2,13 @@
 
 use crate::growing::Trouble;
 use dap_accessing::Request;
-use dap_text::{Words, read_wish};
+use dap_text::{Words, read_request};
 use std::alloc::Global;
 
 /// The request that words say.
 pub fn request(alloc: Global, words: &str) -> Result<Request, Trouble> {
-    match read_wish(Words::of(words.as_bytes())) {
-        Some(wish) => Ok(wish.to_request(alloc)?),
+    match read_request(Words::of(words.as_bytes())) {
+        Some(asked) => Ok(asked.to_request(alloc)?),
         None => Err(Trouble::Wrong),
     }
 }

@@ -31,7 +31,7 @@ loop-line-preserved c =
             left = end_of_end c.args.bytes.now before.rest.now after before.invariant.left c.in-Some.ensures.end (omega (arith, shorter)) before.invariant.short;
             short = omega (arith, shorter, before.invariant.short);
             clean = λ follow may. before.invariant.clean follow may ∙ faults_after limit before.at (before.rest.now ++ follow) line (after ++ follow) (cut follow may) (ap (fault_of_line before.at) says);
-            listing = λ start all follow may given. rw (w.course-is, w.number-is) (skipped_more c.args.listed limit start all (before.rest.now ++ follow) line (after ++ follow) before.course.text.items before.number (cut follow may) says (before.invariant.listing start all follow may given));
+            listing = λ start all follow may given. rw (w.progress-is, w.number-is) (skipped_more c.args.listed limit start all (before.rest.now ++ follow) line (after ++ follow) before.progress.text.items before.number (cut follow may) says (before.invariant.listing start all follow may given));
           }
       | in-Some-2+in_ok-push_capture-in-Some-2 w ↦
           let digits = w.in-Some-2.digits.now in
@@ -49,6 +49,6 @@ loop-line-preserved c =
             left = end_of_end c.args.bytes.now before.rest.now after before.invariant.left c.in-Some.ensures.end (omega (arith, shorter)) before.invariant.short;
             short = omega (arith, shorter, before.invariant.short);
             clean = λ follow may. before.invariant.clean follow may ∙ faults_after limit before.at (before.rest.now ++ follow) line (after ++ follow) (cut follow may) (ap (fault_of_line before.at) says);
-            listing = λ start all follow may given. rw (w.course-is, w.number-is) (captured_more c.args.listed limit start all (before.rest.now ++ follow) line (after ++ follow) before.course.text.items w.push_capture.new.text.items direction digits (bytes_of digits) pushed.0 before.number (cut follow may) (sym says) (decoded digits _ (spells digits hex)) pushed.1 pushed.2 (before.invariant.listing start all follow may given));
+            listing = λ start all follow may given. rw (w.progress-is, w.number-is) (captured_more c.args.listed limit start all (before.rest.now ++ follow) line (after ++ follow) before.progress.text.items w.push_capture.new.text.items direction digits (bytes_of digits) pushed.0 before.number (cut follow may) (sym says) (decoded digits _ (spells digits hex)) pushed.1 pushed.2 (before.invariant.listing start all follow may given));
           }
     ]

@@ -6,16 +6,16 @@ use Rattle.dap_listing.proofs.listing.list_cut.Given as goal
 
 abbrev pub invariant-loop-line : goal.invariant-loop-line
 invariant-loop-line l = record {
-  counted : l.number + length l.rest ≤ l.initial.course.number + length l.bytes;
-  at_counted : l.at + length l.rest ≤ l.initial.course.at + length l.bytes;
-  at_same : l.course.at ≡ l.initial.course.at;
-  number_same : l.course.number ≡ l.initial.course.number;
-  wants_same : l.course.wants ≡ l.initial.course.wants;
+  counted : l.number + length l.rest ≤ l.initial.progress.number + length l.bytes;
+  at_counted : l.at + length l.rest ≤ l.initial.progress.at + length l.bytes;
+  at_same : l.progress.at ≡ l.initial.progress.at;
+  number_same : l.progress.number ≡ l.initial.progress.number;
+  wants_same : l.progress.wants ≡ l.initial.progress.wants;
   room : length l.room ≡ limit_of l.listed;
   left : IsEnd l.bytes l.rest;
   short : length l.rest ≤ length l.bytes;
-  clean : FaultsGoOn (limit_of l.listed) l.is_last l.initial.course.at l.bytes l.at l.rest;
-  listing : ListingGoesOn l.listed l.is_last l.initial.course.number l.bytes l.initial.course.text.items l.number l.rest l.course.text.items;
+  clean : FaultsGoOn (limit_of l.listed) l.is_last l.initial.progress.at l.bytes l.at l.rest;
+  listing : ListingGoesOn l.listed l.is_last l.initial.progress.number l.bytes l.initial.progress.text.items l.number l.rest l.progress.text.items;
 }
 
 abbrev pub decreases-loop-line : goal.decreases-loop-line

@@ -6,26 +6,26 @@ use Rattle.dap_listing.specs.Listing.{CaptureLines, IsListing, captures, limit_o
 use Rattle.dap_listing.specs.declared.fault.Outcome.TheVariants.{Good}
 use Rattle.dap_listing.specs.declared.fault.CaptureFault.{CaptureFault}
 use Rattle.dap_listing.specs.declared.fault.CaptureFault.TheVariants.{BadLine, TooLarge, ReadFailed, WriteFailed, NoMemory}
-use Rattle.dap_listing.specs.declared.listing.Course.{Course}
+use Rattle.dap_listing.specs.declared.listing.Progress.{Progress}
 use Rattle.dap_listing.specs.declared.listing.Listed.{Listed}
 
 -- the listing of an input, of which the rest is still to be listed
-pub record IsUnderWay (listed : Listed) (input rest : List ℕ) (course : Course) : Type 0 where
-  pub faults : line_faults (limit_of listed) input ≡ faults_from (limit_of listed) course.at rest
-  pub listing : course.wants ≡ false → (more : List ℕ) → CaptureLines listed course.number (captures (limit_of listed) rest) more
-      → CaptureLines listed 1 (captures (limit_of listed) input) (course.text.items ++ more)
+pub record IsUnderWay (listed : Listed) (input rest : List ℕ) (progress : Progress) : Type 0 where
+  pub faults : line_faults (limit_of listed) input ≡ faults_from (limit_of listed) progress.at rest
+  pub listing : progress.wants ≡ false → (more : List ℕ) → CaptureLines listed progress.number (captures (limit_of listed) rest) more
+      → CaptureLines listed 1 (captures (limit_of listed) input) (progress.text.items ++ more)
 
 -- the same of a known input of which so many bytes were read, and these of them are not listed
-abbrev pub StandsAt : Listed → ℕ → Option (List ℕ) → Option (List ℕ) → List ℕ → Course → Type 0
-StandsAt listed count (Some input) (Some unread) bytes course =
-    (length input ≡ count + length unread) × IsUnderWay listed input (bytes ++ unread) course
-StandsAt listed count (Some input) None bytes course = ⊥
-StandsAt listed count None unread bytes course = ⊤
+abbrev pub StandsAt : Listed → ℕ → Option (List ℕ) → Option (List ℕ) → List ℕ → Progress → Type 0
+StandsAt listed count (Some input) (Some unread) bytes progress =
+    (length input ≡ count + length unread) × IsUnderWay listed input (bytes ++ unread) progress
+StandsAt listed count (Some input) None bytes progress = ⊥
+StandsAt listed count None unread bytes progress = ⊤
 
 -- The input was read to its end. No line is at fault, and the text is the listing, unless memory was wanting for it.
-abbrev pub IsWhole : Listed → List ℕ → Course → Type 0
-IsWhole listed input course =
-    IsTextOf (line_faults (limit_of listed) input) (λ text. course.wants ≡ false → IsListing listed input Good text) input course.text.items
+abbrev pub IsWhole : Listed → List ℕ → Progress → Type 0
+IsWhole listed input progress =
+    IsTextOf (line_faults (limit_of listed) input) (λ text. progress.wants ≡ false → IsListing listed input Good text) input progress.text.items
 
 -- a fault that is told of an input
 abbrev pub IsInputFault : Listed → List ℕ → CaptureFault → Type 0

@@ -9,7 +9,7 @@ use std::marker::Model;
 
 /// The first line that says something, behind its number, and what stands after it. The first of
 /// all lines has the number.
-fn next_said(number: usize, bytes: &[u8]) -> Option<(usize, &[u8], &[u8])>
+fn next_meaningful(number: usize, bytes: &[u8]) -> Option<(usize, &[u8], &[u8])>
     requires { number + length bytes.now ≤ INPUT_LIMIT + 1 }
     ensures said { MatchOption result (said_from number bytes.now ≡ [])
         (λ found. said_from number bytes.now
@@ -30,12 +30,12 @@ fn next_said(number: usize, bytes: &[u8]) -> Option<(usize, &[u8], &[u8])>
 
 /// The lines that say something, from a place of the input on, each behind its number.
 #[derive(Drop)]
-pub(crate) struct Said<'a> {
+pub(crate) struct MeaningfulLines<'a> {
     number: usize,
     rest: &'a [u8],
 }
 
-impl<'a> Model for Said<'a> {
+impl<'a> Model for MeaningfulLines<'a> {
     ghost use Rattle.std.specs.Prelude.{List, ◌+◌, ◌≤◌, length};
     ghost use Rattle.dap_capture.specs.Schedules.{Numbered, said_from};
 
@@ -46,7 +46,7 @@ impl<'a> Model for Said<'a> {
     ghost invariant = { λ s. s.number + length s.rest.now ≤ 16777217 };
 }
 
-impl<'a> Said<'a> {
+impl<'a> MeaningfulLines<'a> {
     ghost use Rattle.std.specs.Prelude.{◌≡◌, ◌≤◌, ◌+◌, ◌∷◌, [], length, MatchOption};
     ghost use Rattle.dap_capture.specs.Schedules.{said};
 
@@ -56,7 +56,7 @@ impl<'a> Said<'a> {
         ensures said { result ≡ said input.now }
         ensures short { length result ≤ length input.now + 1 }
     {
-        Said {
+        MeaningfulLines {
             number: 1,
             rest: input,
         }
@@ -67,7 +67,7 @@ impl<'a> Said<'a> {
         ensures { MatchOption result ((self.old ≡ []) × (self.new ≡ []))
             (λ found. self.old ≡ (found.0, found.1.now) ∷ self.new) }
     {
-        let (number, line, after) = next_said(self.number, self.rest)?;
+        let (number, line, after) = next_meaningful(self.number, self.rest)?;
         self.number = number + 1;
         self.rest = after;
         Some((number, line))
