@@ -8,7 +8,7 @@ use Rattle.std.proofs.lemmas.List.{map-append}
 use Rattle.std.proofs.Common.{◌++◌, [], ◌∷◌, append_assoc, ◌==◌}
 use Rattle.std.proofs.lemmas.List.FromFn.{map-range_with_len_more, length-map-range_with_len}
 use Rattle.std.specs.List.{range_with_len}
-use Rattle.nsp_link.specs.declared.segment.Segment.{Segment}
+use Rattle.nsp_link.specs.Inner.Pieces.{Segment}
 use Rattle.nsp_link.specs.Inner.Pieces.{piece, pieces}
 use Rattle.nsp_link.specs.Cutting.{Piece, count_of, piece_at, cut_message}
 

@@ -3,7 +3,7 @@
 ghost use Rattle.std.specs.Prelude.{◌≡◌, ◌<◌, ◌≤◌, [], ◌∷◌, ◌++◌, ◌+◌, ℕ, Some, None, false, IfOk, IfSome, MatchOption, is_none, length, drop, replicate, slice_get, slice_set};
 ghost use Rattle.nsp_link.specs.Inner.Pieces.{held_from, held_piece, leading};
 
-use crate::segment::Held;
+use crate::piece::Held;
 use circular_buffer::HeapCircularBuffer;
 use std::alloc::{AllocError, Global};
 
