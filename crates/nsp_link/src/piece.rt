@@ -1,10 +1,9 @@
 //! Pieces of messages: what segments carry.
 
-ghost use Rattle.std.specs.Prelude.{◌≡◌, IfOk};
+ghost use Rattle.std.specs.Prelude.{◌≡◌};
 ghost use Rattle.nsp_link.specs.Inner.Pieces.{held_piece, lent_piece};
 
 use bytes::Bytes;
-use std::alloc::{AllocError, Global};
 
 /// A piece of a message: whether it is the first and the last one, and its bytes, however they are kept.
 #[derive(Drop)]
@@ -19,19 +18,6 @@ pub(crate) type Segment = Piece<Bytes>;
 
 /// An early piece that waits for those before it.
 pub(crate) type Held = Piece<Vec<u8>>;
-
-impl Piece<&[u8]> {
-    /// The same piece, with its bytes copied.
-    pub(crate) fn to_held(&self, alloc: Global) -> Result<Held, AllocError>
-        ensures { IfOk result (λ h. held_piece h ≡ lent_piece self.now) }
-    {
-        Ok(Piece {
-            first: self.first,
-            last: self.last,
-            payload: Vec::from_slice(alloc, self.payload)?,
-        })
-    }
-}
 
 impl Piece<Vec<u8>> {
     /// The same piece, with its bytes lent.

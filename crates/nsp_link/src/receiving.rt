@@ -167,12 +167,12 @@ impl LinkEnd {
         };
         let ahead = usize::from(number.ahead_of(Seq12::of(self.acked)));
         if ahead >= usize::from(HALF_ROUND) {
-            return Ok(0);
+            Ok(0)
+        } else if ahead > unacked {
+            Err(LinkFault::BadSequence)
+        } else {
+            Ok(ahead)
         }
-        if ahead > unacked {
-            return Err(LinkFault::BadSequence);
-        }
-        Ok(ahead)
     }
 
     /// Drops the oldest segments, which are acknowledged.
@@ -209,7 +209,12 @@ impl LinkEnd {
             × Keeps self.old (self.old.received + 1 + place) × (self.new ≡ self.old)) }
     {
         if is_free(&self.held, place) {
-            let held = piece.to_held(self.alloc)?;
+            let payload = Vec::from_slice(self.alloc, piece.payload)?;
+            let held = Piece {
+                payload,
+                first: piece.first,
+                last: piece.last,
+            };
             fill(&mut self.held, place, held);
             self.early += 1;
         }
@@ -221,10 +226,7 @@ impl LinkEnd {
 fn ends_link(fault: LinkFault) -> bool
     ensures { result ≡ is_end fault }
 {
-    match fault {
-        LinkFault::BadSequence | LinkFault::MessageTooLong => true,
-        _ => false,
-    }
+    matches!(fault, LinkFault::BadSequence | LinkFault::MessageTooLong)
 }
 
 /// Drops so many from the front.

@@ -34,18 +34,13 @@ impl LinkEnd {
         if message.len() > self.setup.max_message {
             return Err(LinkFault::MessageTooLong);
         }
-        let count = segment_count(self.setup.seg_size, message.len());
+        let size = self.setup.seg_size;
+        let count = segment_count(size, message.len());
         if self.room() < count as u64 {
             return Err(LinkFault::Exhausted);
         }
         let before = self.queue.len();
-        match queue_message(
-            self.alloc,
-            &mut self.queue,
-            self.setup.seg_size,
-            count,
-            message,
-        ) {
+        match queue_message(self.alloc, &mut self.queue, size, count, message) {
             Ok(()) => Ok(()),
             Err(_) => {
                 self.queue.truncate(before);
@@ -89,12 +84,8 @@ impl LinkEnd {
         if self.failed {
             return Err(LinkFault::Failed);
         }
-        check_all(
-            self.setup.seg_size,
-            self.setup.max_message,
-            self.room(),
-            messages,
-        )
+        let setup = &self.setup;
+        check_all(setup.seg_size, setup.max_message, self.room(), messages)
     }
 
     /// How many segments may still be queued.

@@ -1,4 +1,4 @@
-use Rattle.std.proofs.Common.{◌≡◌, ◌+◌, ◌∙◌, List, length, ap, arith, refl, subst, sym, Some, None, Option}
+use Rattle.std.proofs.Common.{◌≡◌, ◌+◌, ◌∙◌, ℕ, List, length, ap, arith, refl, subst, sym, Some, None, Option}
 use Rattle.std.specs.Prelude.{slice_get}
 use Rattle.std.proofs.lemmas.Option.{slice_get_within}
 use Rattle.std.proofs.lemmas.List.{length-set}
@@ -12,8 +12,8 @@ use Rattle.nsp_link.proofs.Keeping.{kept_filled, kept_there, kept_beyond, keeps_
 use Rattle.nsp_link.proofs.Placing.{if_err_and}
 use Rattle.nsp_link.proofs.link.LinkEnd.keep.Goals as goal
 
-pub returns-in_err-held-clause-err : goal.returns-in_err-held-clause-err
-returns-in_err-held-clause-err c =
+pub returns-in_err-payload-clause-err : goal.returns-in_err-payload-clause-err
+returns-in_err-payload-clause-err c =
     let items = c.self.inside.held.items in
     let at = is_free_read items c.args.place c.is_free.result c.is_free.ensures c.if-is_free.true in
     let v = link_view c.self.inside in
@@ -32,7 +32,7 @@ invariant_of-self c =
     let long : length c.fill.new.ring.items ≡ c.self.inside.setup.window = ap length c.fill.ensures.items ∙ length-set items c.args.place _ ∙ c.self.invariant.places in
     let at = is_free_read items c.args.place c.is_free.result c.is_free.ensures c.if-is_free.true in
     let put = ap (λ (xs : List (Option Held)). length (held_from (r + 1) xs)) c.fill.ensures.items in
-    let h = c.in_ok-held.held in
+    let h : Held = record { first = c.args.piece.now.first; last = c.args.piece.now.last; payload = c.in_ok-payload.payload } in
     let filled = length-held_put (r + 1) c.args.place items h at in
     let front : slice_get c.fill.new.ring.items 0 ≡ Some None = ap (λ (xs : List (Option Held)). slice_get xs 0) c.fill.ensures.items ∙ slice_get-set_other items c.args.place 0 _ (λ e. omega (arith, c.requires)) ∙ c.self.invariant.free in
     record {
@@ -56,14 +56,14 @@ invariant_of-self c =
       counted = omega (arith, c.self.invariant.counted, put, filled);
     }
 
-pub returns-in_ok-held-clause-ok : goal.returns-in_ok-held-clause-ok
-returns-in_ok-held-clause-ok c =
+pub returns-in_ok-payload-clause-ok : goal.returns-in_ok-payload-clause-ok
+returns-in_ok-payload-clause-ok c =
     let items = c.self.inside.held.items in
     let v = link_view c.self.inside in
     let at = is_free_read items c.args.place c.is_free.result c.is_free.ensures c.if-is_free.true in
-    let h = c.in_ok-held.held in
+    let h : Held = record { first = c.args.piece.now.first; last = c.args.piece.now.last; payload = c.in_ok-payload.payload } in
     let p = lent_piece c.args.piece.now in
-    let filled = kept_filled v items refl c.args.place c.self.invariant.places h p at c.in_ok-held.ensures in
+    let filled = kept_filled v items refl c.args.place c.self.invariant.places h p at (ap (λ (bytes : List ℕ). record p { payload = bytes }) c.in_ok-payload.ensures.items) in
     ap (λ (xs : List (Option Held)). record v { held = held_from (v.received + 1) xs }) c.fill.ensures.items ∙ filled
     ∙ ap (λ (w : LinkValue). kept w (w.received + 1 + c.args.place) p) c.self.view_is
 
