@@ -1,10 +1,9 @@
 -- What is written is a segment of the messages sent.
-use Rattle.std.proofs.Common.{◌≡◌, ℕ, true, false, cond, ◌+◌, ◌-◌, ◌<◌, ◌≤◌, List, [], ◌∷◌, ◌++◌, length, get_or, Option, Some, None, refl, sym, ap, ◌∙◌, arith}
+use Rattle.std.proofs.Common.{◌≡◌, ℕ, true, false, cond, ◌+◌, ◌-◌, ◌<◌, ◌≤◌, List, [], length, get_or, Option, Some, None, refl, sym, ap, ◌∙◌, arith}
 use Rattle.std.specs.Prelude.{slice_get}
-use Rattle.std.proofs.lemmas.Grind.{flat_map-append}
-use Rattle.std.proofs.lemmas.List.{length-drop, get_or-drop, length-append, drop-append-le, drop-drop, append-nil}
+use Rattle.std.proofs.lemmas.List.{length-drop, get_or-drop, drop-drop}
 use Rattle.std.proofs.lemmas.Option.{slice_get-get_or}
-use Rattle.nsp_link.specs.Cutting.{Piece, cut, cut_message}
+use Rattle.nsp_link.specs.Cutting.{Piece, cut}
 use Rattle.nsp_link.specs.Link.{LinkValue, Sends, Writes}
 use Rattle.std.proofs.Common.{Result, Ok, Err, inl, inr}
 use Rattle.std.proofs.lemmas.Bool.{cases_lt, lt-ltb, le-ltb}
@@ -15,7 +14,7 @@ use Rattle.nsp_link.specs.declared.link.Got.{Got}
 use Rattle.nsp_link.specs.declared.link.Got.TheVariants.{Accepted, Repeat, Early, AckOnly}
 use Rattle.nsp_link.specs.Link.{IsLink, failed_link, first_ack, piece_of}
 use Rattle.nsp_link.specs.Receiving.{forgotten, newly_acked, Acknowledges, TakesSegment, RefusesSegment, Received, kept, stopped, is_end, early_number}
-use Rattle.nsp_link.specs.Sending.{WritesQueued, segment_packet, queued_link}
+use Rattle.nsp_link.specs.Sending.{WritesQueued, segment_packet}
 
 pub writes_segment : (v : LinkValue) (messages : List (List ℕ)) (bytes : List ℕ) (place : ℕ) → place < length v.queue
     → WritesQueued v place (v.acked + 1 + place) bytes → Sends v messages → Writes v messages (Some (v.acked + 1 + place)) v.received bytes
@@ -29,17 +28,6 @@ writes_segment v messages bytes place lt spelled sends =
     let back : (v.acked + 1 + place) - 1 ≡ v.acked + place = omega arith in
     let there : slice_get pieces ((v.acked + 1 + place) - 1) ≡ Some p = rw back (slice_get-get_or pieces (v.acked + place) d long ∙ ap (λ (q : Piece). Some q) same) in
     (segment_packet v p (v.acked + 1 + place), (p, omega arith, there, refl), (spelled p at).0, (spelled p at).1)
-
--- one message more is sent
-pub sends_more : (v : LinkValue) (messages : List (List ℕ)) (message : List ℕ) → Sends v messages → Sends (queued_link v (cut_message v.seg_size message)) (messages ++ message ∷ [])
-unfolding cut
-sends_more v messages message sends =
-    let more = cut_message v.seg_size message in
-    let joined : cut v.seg_size (messages ++ message ∷ []) ≡ cut v.seg_size messages ++ more = rw (flat_map-append (cut_message v.seg_size) messages (message ∷ []), append-nil) refl in
-    record {
-      queue = rw (joined, drop-append-le v.acked (cut v.seg_size messages) more sends.acked, sends.queue) refl;
-      acked = rw joined (omega (arith, length-append (cut v.seg_size messages) more, sends.acked));
-    }
 
 -- what is acknowledged is forgotten
 pub sends_forgotten : (v : LinkValue) (messages : List (List ℕ)) (count : ℕ) → count ≤ length v.queue → Sends v messages → Sends (forgotten v count) messages

@@ -6,7 +6,7 @@ ghost use Rattle.nsp_link.specs.declared.fault.LinkFault.TheVariants.{Failed, No
 ghost use Rattle.nsp_link.specs.Cutting.{cut, cut_message};
 ghost use Rattle.nsp_link.specs.Limits.{most_segments};
 ghost use Rattle.nsp_link.specs.Link.{SendsStill, SendsMore, StandsStill, MaySend, Writes, IsSpelling, acknowledging};
-ghost use Rattle.nsp_link.specs.Sending.{WritesQueued, WritesSent, WritesNext, NextFault, ack_packet_of, queued_link, SendFault, SendAllFault, MayQueue, MayQueueAll};
+ghost use Rattle.nsp_link.specs.Sending.{WritesQueued, WritesSent, WritesNext, NextFault, ack_packet_of, queued_link, SendAllFault, MayQueueAll};
 
 use crate::cutting::{check_all, queue_all, queue_message, segment_count};
 use crate::fault::LinkFault;
@@ -15,6 +15,7 @@ use crate::link::LinkEnd;
 use nsp_seg::{AckField, Packet, Seq12, encode_packet};
 
 impl LinkEnd {
+    #[tactic(auto, using(crate::proofs::Counts::one_message))]
     /// Queues the segments of a message: one for each `seg_size` bytes or part of that, and one of no bytes
     /// for an empty message (NSP 4.0.0, data segment message). Refused, with nothing changed: `Failed`;
     /// `MessageTooLong`, above `max_message`; `Exhausted`, where this end would have had more than 2^40
@@ -22,11 +23,11 @@ impl LinkEnd {
     pub fn send(&mut self, message: &[u8]) -> Result<(), LinkFault>
         ensures ok { OnOk result
             (self.new ≡ queued_link self.old (cut_message self.old.seg_size message.now)) }
-        ensures fits { OnOk result (MayQueue self.old (length message.now)) }
+        ensures fits { OnOk result (MayQueueAll self.old (message.now ∷ [])) }
         ensures stands { StandsStill self.old self.new }
         ensures sends { OnOk result (SendsMore self.old self.new (message.now ∷ [])) }
         ensures err { IfErr result
-            (λ e. SendFault self.old (length message.now) e × (self.new ≡ self.old)) }
+            (λ e. SendAllFault self.old (message.now ∷ []) e × (self.new ≡ self.old)) }
     {
         if self.failed {
             return Err(LinkFault::Failed);
