@@ -4,9 +4,10 @@ ghost use Rattle.std.specs.Prelude.{◌≡◌, ◌+◌, ◌<◌, ◌≤◌, ◌+
 ghost use Rattle.nsp_seg.specs.declared.packet.SegFault.{SegFault};
 ghost use Rattle.nsp_seg.specs.Packets.{Spells, view, PacketValue, HasFault};
 ghost use Rattle.nsp_link.specs.declared.fault.LinkFault.TheVariants.{BadSequence, Failed, NoMemory, WrongLink, Malformed};
+ghost use Rattle.nsp_link.specs.declared.link.Got.TheVariants.{Accepted};
 ghost use Rattle.nsp_link.specs.Coming.{AllFit, RefusesAll};
-ghost use Rattle.nsp_link.specs.Link.{Stands, SendsStill, HandsOut, Keeps, coming, first_ack, plain_ack};
-ghost use Rattle.nsp_link.specs.Receiving.{newly_acked, forgotten, run, closed, kept, is_end, stopped, Received, ReceivedBytes, ReceivedDue, UnrefusedDue};
+ghost use Rattle.nsp_link.specs.Link.{Stands, SendsStill, HandsOut, Keeps, coming, got_of, first_ack, plain_ack};
+ghost use Rattle.nsp_link.specs.Receiving.{newly_acked, forgotten, run, segment_of, taking_in, is_end, stopped, NotTaken, Received, ReceivedBytes, ReceivedDue, UnrefusedDue};
 ghost use Rattle.nsp_link.specs.Inner.Pieces.{lent_piece};
 
 use crate::fault::LinkFault;
@@ -125,16 +126,7 @@ impl LinkEnd {
                     last,
                     payload,
                 };
-                let ahead = number.ahead_of(Seq12::of(self.incoming.received + 1));
-                let got = if ahead == 0 {
-                    self.take_next(&piece)?;
-                    Got::Accepted
-                } else if ahead < HALF_ROUND {
-                    self.keep(usize::from(ahead), &piece)?;
-                    Got::Early
-                } else {
-                    Got::Repeat
-                };
+                let got = self.take_segment(number, &piece)?;
                 self.forget(count);
                 Ok(got)
             }
@@ -184,11 +176,35 @@ impl LinkEnd {
         self.acked += count as u64;
     }
 
+    /// Takes in a segment from the other end; where it is refused, nothing changes.
+    fn take_segment(&mut self, number: Seq12, piece: &Piece<&[u8]>) -> Result<Got, LinkFault>
+        ensures got { IfOk result
+            (λ got. got ≡ got_of self.old.received (Some (segment_of self.old number))) }
+        ensures fit { IfOk result (λ got. got ≡ Accepted
+            → AllFit self.old.max_message (coming self.old) (run self.old (lent_piece piece.now))) }
+        ensures taken { OnOk result (self.new
+            ≡ taking_in self.old (segment_of self.old number) (lent_piece piece.now)) }
+        ensures err { IfErr result (λ e. (self.new ≡ self.old)
+            × NotTaken self.old (segment_of self.old number) (lent_piece piece.now) e) }
+    {
+        let ahead = number.ahead_of(Seq12::of(self.incoming.received + 1));
+        if ahead == 0 {
+            self.take_next(piece)?;
+            Ok(Got::Accepted)
+        } else if ahead < HALF_ROUND {
+            self.keep(usize::from(ahead), piece)?;
+            Ok(Got::Early)
+        } else {
+            Ok(Got::Repeat)
+        }
+    }
+
     /// Takes in the next segment and all that follow it, or none of them.
     fn take_next(&mut self, piece: &Piece<&[u8]>) -> Result<(), LinkFault>
         ensures ok { OnOk result (AllFit self.old.max_message (coming self.old)
             (run self.old (lent_piece piece.now))) }
-        ensures closed { OnOk result (self.new ≡ closed self.old (lent_piece piece.now)) }
+        ensures taken { OnOk result
+            (self.new ≡ taking_in self.old (self.old.received + 1) (lent_piece piece.now)) }
         ensures err { IfErr result (λ e. RefusesAll self.old.max_message (coming self.old)
             (run self.old (lent_piece piece.now)) e × (self.new ≡ self.old)) }
     {
@@ -204,7 +220,7 @@ impl LinkEnd {
     fn keep(&mut self, place: usize, piece: &Piece<&[u8]>) -> Result<(), LinkFault>
         requires { 0 < place }
         ensures ok { OnOk result (self.new
-            ≡ kept self.old (self.old.received + 1 + place) (lent_piece piece.now)) }
+            ≡ taking_in self.old (self.old.received + 1 + place) (lent_piece piece.now)) }
         ensures err { IfErr result (λ e. (e ≡ NoMemory)
             × Keeps self.old (self.old.received + 1 + place) × (self.new ≡ self.old)) }
     {

@@ -3,13 +3,13 @@ use Rattle.std.specs.Prelude.{slice_get, unwrap_or}
 use Rattle.nsp_link.specs.Coming.{Coming, AllFit, RefusesAll}
 use Rattle.nsp_link.specs.Link.{LinkValue, coming}
 use Rattle.nsp_link.specs.Inner.Pieces.{Held, lent_piece, held_from, leading, run_in, coming_of}
-use Rattle.nsp_link.specs.Receiving.{run, closed, coming_link}
+use Rattle.nsp_link.specs.Receiving.{run, taking_in}
 use Rattle.nsp_link.specs.Inner.View.{link_view}
 use Rattle.nsp_link.proofs.Taking.{received-all}
 use Rattle.nsp_link.proofs.Held.{ring_fewer, ring_free, ring_long, held_end, length-ring_closed, follows_held}
 use Rattle.nsp_link.proofs.Runs.{fit_short}
 use Rattle.nsp_link.proofs.Placing.{if_err_and}
-use Rattle.nsp_link.proofs.Keeping.{run_fit, run_refuses, closed_is}
+use Rattle.nsp_link.proofs.Keeping.{run_fit, run_refuses, closed_is, coming_link}
 use Rattle.nsp_link.proofs.link.LinkEnd.take_next.Goals as goal
 
 pub advance-requires-clause-some : goal.advance-requires-clause-some
@@ -54,15 +54,15 @@ returns-clause-ok c =
     let fit = run_fit v c.self.inside.held.items refl c.self.invariant.free p v.max_message c.in_ok-count.ensures.fit in
     subst (λ (w : LinkValue). AllFit w.max_message (coming w) (run w p)) c.self.view_is fit
 
-pub returns-clause-closed : goal.returns-clause-closed
-returns-clause-closed c =
+pub returns-clause-taken : goal.returns-clause-taken
+returns-clause-taken c =
     let items = c.self.inside.held.items in
     let v = link_view c.self.inside in
     let p = lent_piece c.args.piece.now in
     let is = c.in_ok-count.ensures.taken in
     let on : c.take_run.new.incoming.received ≡ v.received + c.in_ok-count.count = ap (λ (x : Coming). x.received) is ∙ received-all (coming v) (p ∷ leading (drop 1 items)) ∙ omega (arith, c.in_ok-count.ensures.count) in
     closed_is v items refl c.self.invariant.free p (coming_of c.take_run.new.incoming) c.in_ok-count.count c.advance.new.ring.items is c.in_ok-count.ensures.count on c.advance.ensures.items
-    ∙ ap (λ (w : LinkValue). closed w p) c.self.view_is
+    ∙ ap (λ (w : LinkValue). taking_in w (w.received + 1) p) c.self.view_is
 
 pub returns-in_err-count-clause-err : goal.returns-in_err-count-clause-err
 returns-in_err-count-clause-err c =
