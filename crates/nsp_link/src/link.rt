@@ -156,10 +156,7 @@ impl LinkEnd {
     pub fn peek_message(&self) -> Option<&[u8]>
         ensures { option_copied result ≡ slice_get self.now.inbox 0 }
     {
-        match self.incoming.inbox.front() {
-            None => None,
-            Some(body) => Some(body.as_slice()),
-        }
+        self.incoming.inbox.front().map(Vec::as_slice)
     }
 
     /// The early segments that are held: fewer than the window (own). It takes no memory.

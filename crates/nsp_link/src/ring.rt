@@ -40,10 +40,7 @@ pub(crate) fn is_free(ring: &Ring, place: usize) -> bool
     ensures { MatchOption (slice_get ring.now.items place) (result ≡ false)
         (λ o. result ≡ is_none o) }
 {
-    match ring.get(place) {
-        Some(slot) => slot.is_none(),
-        None => false,
-    }
+    ring.get(place).is_some_and(Option::is_none)
 }
 
 /// The front places leave, and free ones come behind the last.
