@@ -1,14 +1,14 @@
 -- What an end that serves did, through its calls; and that it did nothing before a segment came.
 use Rattle.std.proofs.Common.{◌≡◌, ℕ, ◌<◌, arith, refl, sym, ◌∙◌, subst, ap, Bool, true, false, List, [], ◌∷◌, ◌++◌, length, inl, inr}
-use Rattle.std.specs.Prelude.{◌⊎◌, ◌==◌, Result, Ok, Err, nat_lt, if◌then◌else◌}
-use Rattle.nsp_seg.specs.Packets.{PacketValue, SegmentValue, segment, data_ack}
+use Rattle.std.specs.Prelude.{◌⊎◌, ◌+◌, ◌==◌, ◌&&◌, drop, Result, Ok, Err, nat_lt, if◌then◌else◌}
+use Rattle.nsp_seg.specs.Packets.{PacketValue, segment, data_ack}
 use Rattle.nsp_link.specs.declared.link.Got.{Got}
-use Rattle.nsp_link.specs.declared.link.Got.TheVariants.{Accepted, Repeat, Early, AckOnly}
 use Rattle.nsp_link.specs.declared.fault.LinkFault.{LinkFault}
 use Rattle.nsp_link.specs.Cutting.{Piece}
-use Rattle.nsp_link.specs.Holding.{inserted}
+use Rattle.nsp_link.specs.Coming.{Coming, taken_all}
+use Rattle.nsp_link.specs.Holding.{inserted, following}
 use Rattle.nsp_link.specs.Link.{LinkValue, coming, piece_of, failed_link}
-use Rattle.nsp_link.specs.Receiving.{Received, TakesSegment, run, closed, is_end, ReceivedBytes, Receives}
+use Rattle.nsp_link.specs.Receiving.{Received, run, segment_of, taking_in, is_end, ReceivedBytes, Receives}
 use Rattle.dap_end.specs.declared.fault.EndFault.TheVariants as end_fault
 use Rattle.dap_end.specs.declared.fault.TakeFault.{TakeFault}
 use Rattle.dap_end.specs.declared.fault.TakeFault.TheVariants as take_fault
@@ -41,35 +41,23 @@ inserted_some k p (h ∷ held) =
       | false ↦ elim (k == h.0) as (λ b. 0 < length (if b then h ∷ held else h ∷ inserted k p held)) [ true ↦ omega arith | false ↦ omega arith ]
     ]
 
-closed_comes : (v : LinkValue) (p : Piece) → Comes v (closed v p)
-closed_comes v p = inl (inl (omega (arith, taken_count (coming v) (run v p))))
+in_by : (v : LinkValue) (k : ℕ) (p : Piece) (next near : Bool) → let c : Coming = if next then taken_all (coming v) (run v p) else coming v in
+    Comes v (record v { received = c.received; partial = c.partial; inbox = c.inbox; held = if next then drop (length (following k v.held)) v.held else (if near then inserted k p v.held else v.held) })
+in_by v k p true near = inl (inl (omega (arith, taken_count (coming v) (run v p))))
+in_by v k p false true = inl (inr (inserted_some k p v.held))
+in_by v k p false false = stays v
 
-kept_comes : (v : LinkValue) (k : ℕ) (p : Piece) (near : Bool) → Comes v (if near then record v { held = inserted k p v.held } else v)
-kept_comes v k p true = inl (inr (inserted_some k p v.held))
-kept_comes v k p false = stays v
+in_comes : (v : LinkValue) (k : ℕ) (p : Piece) → Comes v (taking_in v k p)
+in_comes v k p = in_by v k p (k == v.received + 1) (nat_lt v.received k && nat_lt k (v.received + 1 + v.window))
 
 stopped_comes : (v : LinkValue) (ends : Bool) → Comes v (if ends then failed_link v else v)
 stopped_comes v true = inr (refl, refl, refl)
 stopped_comes v false = stays v
 
-takes_comes : (old mid : LinkValue) (s : SegmentValue) (got : Got) → TakesSegment old s got mid → Comes old mid
-takes_comes old mid s Accepted h = along old mid _ h.2 (closed_comes old (piece_of s))
-takes_comes old mid s Early h = along old mid _ h.2 (kept_comes old _ (piece_of s) _)
-takes_comes old mid s Repeat h = along old mid old h.1 (stays old)
-takes_comes old mid s AckOnly h = absurd h
-
 received_comes : (old new : LinkValue) (p : PacketValue) (r : Result Got LinkFault) → Received old p r new → Comes old new
-received_comes old new (segment s) (Ok got) h =
-    let mid = h.1 in
-    let there : Comes old mid.0 = takes_comes old mid.0 s got mid.1 in
-    along old new _ mid.2.2 there
-received_comes old new (data_ack s) (Ok got) h = along old new _ h.2.2 (inr (refl, refl, refl))
-received_comes old new (segment s) (Err e) (inl h) = along old new old h.2 (stays old)
-received_comes old new (segment s) (Err e) (inr (_, inl h)) = along old new _ h.2 (stopped_comes old true)
-received_comes old new (segment s) (Err e) (inr (_, inr (inl h))) = along old new _ h.2.1 (stopped_comes old (is_end e))
-received_comes old new (segment s) (Err e) (inr (_, inr (inr h))) = along old new old h.4 (stays old)
-received_comes old new (data_ack s) (Err e) (inl h) = along old new old h.2 (stays old)
-received_comes old new (data_ack s) (Err e) (inr h) = along old new _ h.3 (stopped_comes old true)
+received_comes old new (segment s) (Ok got) (_, (_, _, acks)) = along old new _ acks.2 (in_comes old (segment_of old s.number) (piece_of s))
+received_comes old new (data_ack s) (Ok got) (_, (_, acks)) = along old new _ acks.2 (inr (refl, refl, refl))
+received_comes old new p (Err e) (_, left) = along old new _ left (stopped_comes old (is_end e))
 
 bytes_come : (old new : LinkValue) (bytes : List ℕ) (r : Result Got LinkFault) → ReceivedBytes old new bytes r → Comes old new
 bytes_come old new bytes r (inl h) = along old new old h.3 (stays old)

@@ -1,19 +1,20 @@
 -- A packet is refused for one reason, and one that is taken isn't refused.
 use Rattle.std.proofs.Common.{◌≡◌, ℕ, ◌+◌, ◌≤◌, arith, refl, sym, ◌∙◌, subst, ap, Bool, true, false, List, [], ◌∷◌, length, inl, inr}
-use Rattle.std.specs.Prelude.{◌≢◌, Option, Result, Ok, Err}
+use Rattle.std.specs.Prelude.{◌≢◌, ◌==◌, ◌⊎◌, Option, Some, Result, Ok, Err}
+use Rattle.std.proofs.lemmas.Bool.{eq-eqb}
 use Rattle.dap_fields.specs.Spelling.{AreBytes}
 use Rattle.nsp_seg.specs.declared.packet.SegFault.{SegFault}
-use Rattle.nsp_seg.specs.Packets.{PacketValue, SegmentValue, segment, data_ack}
+use Rattle.nsp_seg.specs.Packets.{PacketValue, segment, data_ack}
 use Rattle.nsp_seg.proofs.ForCallers.{spells-one, spells-apart, fault-one}
 use Rattle.nsp_link.specs.declared.link.Got.{Got}
-use Rattle.nsp_link.specs.declared.link.Got.TheVariants.{Accepted, Repeat, Early, AckOnly}
+use Rattle.nsp_link.specs.declared.link.Got.TheVariants.{Accepted}
 use Rattle.nsp_link.specs.declared.fault.LinkFault.{LinkFault}
-use Rattle.nsp_link.specs.declared.fault.LinkFault.TheVariants.{Malformed, BadSequence, MessageTooLong, Exhausted, NoMemory}
+use Rattle.nsp_link.specs.declared.fault.LinkFault.TheVariants.{Malformed, WrongLink, BadSequence, MessageTooLong, Exhausted, NoMemory}
 use Rattle.nsp_link.specs.Cutting.{Piece}
 use Rattle.nsp_link.specs.Limits.{most_segments}
 use Rattle.nsp_link.specs.Coming.{Coming, taken, taken_all, FitsBehind, AllFit, Misfits, MisfitsOne, RefusesAll}
-use Rattle.nsp_link.specs.Link.{LinkValue, coming, first_ack, piece_of}
-use Rattle.nsp_link.specs.Receiving.{Received, TakesSegment, RefusesSegment, Acknowledges, forgotten, run, stopped, ReceivedBytes, Receives}
+use Rattle.nsp_link.specs.Link.{LinkValue, IsBetween, coming, first_ack, got_of, piece_of}
+use Rattle.nsp_link.specs.Receiving.{Received, Refuses, Acknowledges, segment_of, taking_in, forgotten, run, stopped, ReceivedBytes, Receives}
 
 -- ---- Segments that follow one another.
 
@@ -80,71 +81,54 @@ taken_apart limit c ps e ne a few b = absurd b
 
 -- ---- One packet.
 
--- neither an acknowledgement of what was never sent nor a segment that isn't taken, where it was
-segment_apart : (old mid one two : LinkValue) (s : SegmentValue) (g : Got) (e : LinkFault) → e ≢ NoMemory → one.received ≤ most_segments
-    → TakesSegment old s g mid → Acknowledges old (first_ack s.ack1 s.ack2) mid one → RefusesSegment old s e two → ⊥
-segment_apart old mid one two s g e ne few t a (inl h) = let none : ⊥ = (let both = sym h.0 ∙ a.1 in cc) in none
-segment_apart old mid one two s Accepted e ne few t a (inr (inl h)) =
-    let count : one.received ≡ mid.received = ap (λ (v : LinkValue). v.received) a.2 in
-    let all : mid.received ≡ (taken_all (coming old) (run old (piece_of s))).received = ap (λ (v : LinkValue). v.received) t.2 in
-    taken_apart old.max_message (coming old) (run old (piece_of s)) e ne t.1 (subst (λ (n : ℕ). n ≤ most_segments) (count ∙ all) few) h.2.0
-segment_apart old mid one two s Early e ne few t a (inr (inl h)) = omega (arith, t.0, h.1)
-segment_apart old mid one two s Repeat e ne few t a (inr (inl h)) = omega (arith, t.0, h.1)
-segment_apart old mid one two s AckOnly e ne few t a (inr (inl h)) = absurd t
-segment_apart old mid one two s g e ne few t a (inr (inr h)) = ne h.3
-
-refused_same : (old one two : LinkValue) (s : SegmentValue) (e f : LinkFault) → e ≢ NoMemory → f ≢ NoMemory → RefusesSegment old s e one → RefusesSegment old s f two → (e ≡ f) × (one ≡ two)
-refused_same old one two s e f ne nf (inl a) (inl b) = (a.1 ∙ sym b.1, a.2 ∙ sym b.2)
-refused_same old one two s e f ne nf (inl a) (inr (inl b)) = let none : ⊥ = (let both = sym a.0 ∙ b.0.1 in cc) in absurd none
-refused_same old one two s e f ne nf (inl a) (inr (inr b)) = absurd (nf b.3)
-refused_same old one two s e f ne nf (inr (inl a)) (inl b) = let none : ⊥ = (let both = sym b.0 ∙ a.0.1 in cc) in absurd none
-refused_same old one two s e f ne nf (inr (inl a)) (inr (inl b)) =
-    let same = refuses_one old.max_message (coming old) (run old (piece_of s)) e f ne nf a.2.0 b.2.0 in
-    (same, a.2.1 ∙ ap (λ (x : LinkFault). stopped x old) same ∙ sym b.2.1)
-refused_same old one two s e f ne nf (inr (inl a)) (inr (inr b)) = absurd (nf b.3)
-refused_same old one two s e f ne nf (inr (inr a)) b = absurd (ne a.3)
-
-takes_one : (old one two : LinkValue) (s : SegmentValue) (g h : Got) → TakesSegment old s g one → TakesSegment old s h two → (g ≡ h) × (one ≡ two)
-takes_one old one two s Accepted Accepted a b = (refl, a.2 ∙ sym b.2)
-takes_one old one two s Accepted Early a b = absurd (omega (arith, a.0, b.0))
-takes_one old one two s Accepted Repeat a b = absurd (omega (arith, a.0, b.0))
-takes_one old one two s Accepted AckOnly a b = absurd b
-takes_one old one two s Early Accepted a b = absurd (omega (arith, a.0, b.0))
-takes_one old one two s Early Early a b = (refl, a.2 ∙ sym b.2)
-takes_one old one two s Early Repeat a b = absurd (omega (arith, a.1, b.0))
-takes_one old one two s Early AckOnly a b = absurd b
-takes_one old one two s Repeat Accepted a b = absurd (omega (arith, a.0, b.0))
-takes_one old one two s Repeat Early a b = absurd (omega (arith, a.0, b.1))
-takes_one old one two s Repeat Repeat a b = (refl, a.1 ∙ sym b.1)
-takes_one old one two s Repeat AckOnly a b = absurd b
-takes_one old one two s AckOnly h a b = absurd a
-
-acks_one : (old mid other one two : LinkValue) (number : Option ℕ) → mid ≡ other → Acknowledges old number mid one → Acknowledges old number other two → one ≡ two
-acks_one old mid other one two number same a b =
+acks_one : (old mid one two : LinkValue) (number : Option ℕ) → Acknowledges old number mid one → Acknowledges old number mid two → one ≡ two
+acks_one old mid one two number a b =
     let counts : a.0 ≡ b.0 = (let both = sym a.1 ∙ b.1 in cc) in
-    a.2 ∙ ap (λ (v : LinkValue). forgotten v a.0) same ∙ ap (forgotten other) counts ∙ sym b.2
+    a.2 ∙ ap (forgotten mid) counts ∙ sym b.2
 
 received_one : (old one two : LinkValue) (p : PacketValue) (g h : Got) → Received old p (Ok g) one → Received old p (Ok h) two → (g ≡ h) × (one ≡ two)
-received_one old one two (segment s) g h a b =
-    let t = takes_one old a.1.0 b.1.0 s g h a.1.1 b.1.1 in (t.0, acks_one old a.1.0 b.1.0 one two _ t.1 a.1.2 b.1.2)
-received_one old one two (data_ack s) g h a b = (a.1 ∙ sym b.1, acks_one old old old one two _ refl a.2 b.2)
+received_one old one two (segment s) g h (_, (a, _, acks)) (_, (b, _, others)) =
+    (a ∙ sym b, acks_one old (taking_in old (segment_of old s.number) (piece_of s)) one two (first_ack s.ack1 s.ack2) acks others)
+received_one old one two (data_ack s) g h (_, (a, acks)) (_, (b, others)) = (a ∙ sym b, acks_one old old one two (first_ack (Some s.ack1) s.ack2) acks others)
+
+-- the next segment and those that follow it aren't refused where they were taken
+next_apart : (old one : LinkValue) (k : ℕ) (p : Piece) (g : Got) (e : LinkFault) (count : ℕ) → e ≢ NoMemory → one.received ≤ most_segments → k ≡ old.received + 1
+    → g ≡ got_of old.received (Some k) → (g ≡ Accepted → AllFit old.max_message (coming old) (run old p)) → one ≡ forgotten (taking_in old k p) count → RefusesAll old.max_message (coming old) (run old p) e → ⊥
+next_apart old one k p g e count ne few next same fits left out =
+    let test : (k == old.received + 1) ≡ true = eq-eqb k (old.received + 1) next in
+    let got : got_of old.received (Some k) ≡ Accepted = rw test refl in
+    let all : (taking_in old k p).received ≡ (taken_all (coming old) (run old p)).received = rw test refl in
+    taken_apart old.max_message (coming old) (run old p) e ne (fits (same ∙ got)) (subst (λ (n : ℕ). n ≤ most_segments) (ap (λ (v : LinkValue). v.received) left ∙ all) few) out
 
 -- a packet that was taken isn't refused
 taken_or_not : (old one two : LinkValue) (p : PacketValue) (g : Got) (e : LinkFault) → e ≢ NoMemory → one.received ≤ most_segments → Received old p (Ok g) one → Received old p (Err e) two → ⊥
-taken_or_not old one two (segment s) g e ne few a (inl b) = b.0 a.0
-taken_or_not old one two (segment s) g e ne few a (inr b) = segment_apart old a.1.0 one two s g e ne few a.1.1 a.1.2 b.1
-taken_or_not old one two (data_ack s) g e ne few a (inl b) = b.0 a.0
-taken_or_not old one two (data_ack s) g e ne few a (inr b) = let none : ⊥ = (let both = sym b.1 ∙ a.2.1 in cc) in none
+taken_or_not old one two (segment s) g e ne few a (inl (out, _), _) = out a.0
+taken_or_not old one two (segment s) g e ne few (_, (_, _, acks)) (inr (_, inl (none, _)), _) = let none-is : ⊥ = (let both = sym none ∙ acks.1 in cc) in none-is
+taken_or_not old one two (segment s) g e ne few (_, (same, fits, acks)) (inr (_, inr (_, inl (next, out))), _) =
+    next_apart old one (segment_of old s.number) (piece_of s) g e acks.0 ne few next same fits acks.2 out
+taken_or_not old one two (segment s) g e ne few a (inr (_, inr (_, inr (_, memory))), _) = ne memory
+taken_or_not old one two (data_ack s) g e ne few a (inl (out, _), _) = out a.0
+taken_or_not old one two (data_ack s) g e ne few (_, (_, acks)) (inr (_, (none, _)), _) = let none-is : ⊥ = (let both = sym none ∙ acks.1 in cc) in none-is
+
+refuses_same : (old : LinkValue) (p : PacketValue) (e f : LinkFault) → e ≢ NoMemory → f ≢ NoMemory → Refuses old p e → Refuses old p f → e ≡ f
+refuses_same old (segment s) e f ne nf (inl a) (inl b) = a.1 ∙ sym b.1
+refuses_same old (segment s) e f ne nf (inl a) (inr (believed, _)) = let none : ⊥ = (let both = sym a.0 ∙ believed.1 in cc) in absurd none
+refuses_same old (segment s) e f ne nf (inr (believed, _)) (inl b) = let none : ⊥ = (let both = sym b.0 ∙ believed.1 in cc) in absurd none
+refuses_same old (segment s) e f ne nf (inr (_, inl a)) (inr (_, inl b)) = refuses_one old.max_message (coming old) (run old (piece_of s)) e f ne nf a.1 b.1
+refuses_same old (segment s) e f ne nf (inr (_, inl a)) (inr (_, inr b)) = absurd (nf b.1)
+refuses_same old (segment s) e f ne nf (inr (_, inr a)) (inr b) = absurd (ne a.1)
+refuses_same old (data_ack s) e f ne nf a b = a.1 ∙ sym b.1
 
 not_taken : (old one two : LinkValue) (p : PacketValue) (e f : LinkFault) → e ≢ NoMemory → f ≢ NoMemory → Received old p (Err e) one → Received old p (Err f) two → (e ≡ f) × (one ≡ two)
-not_taken old one two (segment s) e f ne nf (inl a) (inl b) = (a.1 ∙ sym b.1, a.2 ∙ sym b.2)
-not_taken old one two (segment s) e f ne nf (inl a) (inr b) = absurd (a.0 b.0)
-not_taken old one two (segment s) e f ne nf (inr a) (inl b) = absurd (b.0 a.0)
-not_taken old one two (segment s) e f ne nf (inr a) (inr b) = refused_same old one two s e f ne nf a.1 b.1
-not_taken old one two (data_ack s) e f ne nf (inl a) (inl b) = (a.1 ∙ sym b.1, a.2 ∙ sym b.2)
-not_taken old one two (data_ack s) e f ne nf (inl a) (inr b) = absurd (a.0 b.0)
-not_taken old one two (data_ack s) e f ne nf (inr a) (inl b) = absurd (b.0 a.0)
-not_taken old one two (data_ack s) e f ne nf (inr a) (inr b) = (a.2 ∙ sym b.2, a.3 ∙ sym b.3)
+not_taken old one two p e f ne nf (out, left) (also, right) =
+    let same : e ≡ f = reason out also in
+    (same, left ∙ ap (λ (x : LinkFault). stopped x old) same ∙ sym right)
+  where
+    reason : (((IsBetween old.remote old.local p → ⊥) × (e ≡ WrongLink)) ⊎ (IsBetween old.remote old.local p × Refuses old p e)) → (((IsBetween old.remote old.local p → ⊥) × (f ≡ WrongLink)) ⊎ (IsBetween old.remote old.local p × Refuses old p f)) → e ≡ f
+    reason (inl a) (inl b) = a.1 ∙ sym b.1
+    reason (inl a) (inr b) = absurd (a.0 b.0)
+    reason (inr a) (inl b) = absurd (b.0 a.0)
+    reason (inr a) (inr b) = refuses_same old p e f ne nf a.1 b.1
 
 abbrev got_by : Got → Result Got LinkFault
 got_by got = Ok got

@@ -1,16 +1,14 @@
 -- What taking a packet in leaves as it was.
 use Rattle.std.proofs.Common.{◌≡◌, ℕ, arith, refl, sym, ◌∙◌, subst, ap, append_assoc, true, false, List, [], ◌∷◌, ◌++◌, inl, inr}
-use Rattle.std.specs.Prelude.{Bool, Result, Ok, Err, if◌then◌else◌}
+use Rattle.std.specs.Prelude.{Bool, ◌+◌, ◌==◌, Result, Ok, Err, if◌then◌else◌}
 use Rattle.std.proofs.lemmas.List.{append-nil}
-use Rattle.nsp_seg.specs.Packets.{PacketValue, SegmentValue, segment, data_ack}
+use Rattle.nsp_seg.specs.Packets.{PacketValue, segment, data_ack}
 use Rattle.nsp_link.specs.declared.link.Got.{Got}
-use Rattle.nsp_link.specs.declared.link.Got.TheVariants.{Accepted, Repeat, Early, AckOnly}
 use Rattle.nsp_link.specs.declared.fault.LinkFault.{LinkFault}
 use Rattle.nsp_link.specs.Cutting.{Piece}
 use Rattle.nsp_link.specs.Coming.{Coming, taken, taken_all, body_with}
-use Rattle.nsp_link.specs.Holding.{inserted}
 use Rattle.nsp_link.specs.Link.{LinkValue, coming, piece_of, failed_link}
-use Rattle.nsp_link.specs.Receiving.{Received, TakesSegment, run, closed, is_end, forgotten, ReceivedBytes, Receives}
+use Rattle.nsp_link.specs.Receiving.{Received, run, segment_of, taking_in, is_end, forgotten, ReceivedBytes, Receives}
 use Rattle.dap_msg.specs.Items.{IsPlace}
 use Rattle.dap_end.specs.Ports.{PortValue, oldest, with_link}
 use Rattle.dap_end.specs.Inner.Kept.{IsPort}
@@ -41,12 +39,12 @@ taken_more c (p ∷ ps) =
     let rest = taken_more (taken c p) ps in
     (one.0 ++ rest.0, rest.1 ∙ ap (λ (l : List (List ℕ)). l ++ rest.0) one.1 ∙ append_assoc c.inbox one.0 rest.0)
 
-closed_grown : (v : LinkValue) (p : Piece) → Grown v (closed v p)
-closed_grown v p = let m = taken_more (coming v) (run v p) in record { more = m.0; inbox = m.1; local = refl; remote = refl; size = refl }
+taken_by : (v : LinkValue) (p : Piece) (next : Bool) → (more : List (List ℕ)) × ((if next then taken_all (coming v) (run v p) else coming v).inbox ≡ v.inbox ++ more)
+taken_by v p true = taken_more (coming v) (run v p)
+taken_by v p false = ([], sym (append-nil v.inbox))
 
-kept_by : (v : LinkValue) (k : ℕ) (p : Piece) (near : Bool) → Grown v (if near then record v { held = inserted k p v.held } else v)
-kept_by v k p true = record { more = []; inbox = sym (append-nil v.inbox); local = refl; remote = refl; size = refl }
-kept_by v k p false = same v
+in_grown : (v : LinkValue) (k : ℕ) (p : Piece) → Grown v (taking_in v k p)
+in_grown v k p = let m = taken_by v p (k == v.received + 1) in record { more = m.0; inbox = m.1; local = refl; remote = refl; size = refl }
 
 stopped_by : (v : LinkValue) (ends : Bool) → Grown v (if ends then failed_link v else v)
 stopped_by v true = record { more = []; inbox = sym (append-nil v.inbox); local = refl; remote = refl; size = refl }
@@ -55,23 +53,12 @@ stopped_by v false = same v
 forgotten_grown : (old mid : LinkValue) (count : ℕ) → Grown old mid → Grown old (forgotten mid count)
 forgotten_grown old mid count g = record { more = g.more; inbox = g.inbox; local = g.local; remote = g.remote; size = g.size }
 
-takes : (old mid : LinkValue) (s : SegmentValue) (got : Got) → TakesSegment old s got mid → Grown old mid
-takes old mid s Accepted h = along old mid _ h.2 (closed_grown old (piece_of s))
-takes old mid s Early h = along old mid _ h.2 (kept_by old _ (piece_of s) _)
-takes old mid s Repeat h = along old mid old h.1 (same old)
-takes old mid s AckOnly h = absurd h
-
 received : (old new : LinkValue) (p : PacketValue) (r : Result Got LinkFault) → Received old p r new → Grown old new
-received old new (segment s) (Ok got) h =
-    let mid = h.1 in
-    along old new _ mid.2.2 (forgotten_grown old mid.0 mid.2.0 (takes old mid.0 s got mid.1))
-received old new (data_ack s) (Ok got) h = along old new _ h.2.2 (forgotten_grown old old h.2.0 (same old))
-received old new (segment s) (Err e) (inl h) = along old new old h.2 (same old)
-received old new (segment s) (Err e) (inr (_, inl h)) = along old new _ h.2 (stopped_by old true)
-received old new (segment s) (Err e) (inr (_, inr (inl h))) = along old new _ h.2.1 (stopped_by old (is_end e))
-received old new (segment s) (Err e) (inr (_, inr (inr h))) = along old new old h.4 (same old)
-received old new (data_ack s) (Err e) (inl h) = along old new old h.2 (same old)
-received old new (data_ack s) (Err e) (inr h) = along old new _ h.3 (stopped_by old true)
+received old new (segment s) (Ok got) (_, (_, _, acks)) =
+    let mid = taking_in old (segment_of old s.number) (piece_of s) in
+    along old new _ acks.2 (forgotten_grown old mid acks.0 (in_grown old (segment_of old s.number) (piece_of s)))
+received old new (data_ack s) (Ok got) (_, (_, acks)) = along old new _ acks.2 (forgotten_grown old old acks.0 (same old))
+received old new p (Err e) (_, left) = along old new _ left (stopped_by old (is_end e))
 
 from_bytes : (old new : LinkValue) (bytes : List ℕ) (r : Result Got LinkFault) → ReceivedBytes old new bytes r → Grown old new
 from_bytes old new bytes r (inl h) = along old new old h.3 (same old)

@@ -1,16 +1,17 @@
 -- How many segments a message has, and where they begin.
-use Rattle.std.proofs.Common.{◌≡◌, ℕ, zero, suc, ◌+◌, ◌-◌, ◌*◌, ◌<◌, ◌≤◌, min, List, length, take, drop, map, refl, arith}
+use Rattle.std.proofs.Common.{◌≡◌, ℕ, zero, suc, ◌+◌, ◌-◌, ◌*◌, ◌<◌, ◌≤◌, min, List, length, take, drop, map, refl, arith, ap, ◌∙◌, append_assoc, ◌++◌, [], ◌∷◌, ◌==◌}
 use Rattle.std.proofs.Math.Nat.{mul-le-mul_right}
 use Rattle.std.proofs.lemmas.Grind.{div_ceil_times}
-use Rattle.std.proofs.lemmas.List.{take_min, length-drop}
+use Rattle.std.proofs.lemmas.List.{take_min, length-drop, append-nil, map-append}
 use Rattle.std.specs.Int.{div_ceil}
-use Rattle.std.proofs.lemmas.List.{map-append}
-use Rattle.std.proofs.Common.{◌++◌, [], ◌∷◌, append_assoc, ◌==◌}
 use Rattle.std.proofs.lemmas.List.FromFn.{map-range_with_len_more, length-map-range_with_len}
+use Rattle.std.proofs.lemmas.List.Elements.{All-cons, All-nil}
+use Rattle.nsp_link.specs.Link.{LinkValue}
+use Rattle.nsp_link.specs.Sending.{AreShort}
 use Rattle.std.specs.List.{range_with_len}
-use Rattle.nsp_link.specs.declared.segment.Segment.{Segment}
+use Rattle.nsp_link.specs.Inner.Pieces.{Segment}
 use Rattle.nsp_link.specs.Inner.Pieces.{piece, pieces}
-use Rattle.nsp_link.specs.Cutting.{Piece, count_of, piece_at, cut_message}
+use Rattle.nsp_link.specs.Cutting.{Piece, count_of, piece_at, cut_message, cut}
 
 -- each segment begins within the message
 pub starts_within : (size len i : ℕ) → 0 < size → i < count_of size len → i * size ≤ len
@@ -44,5 +45,19 @@ piece_is size message i count s counted first last payload = rw (first, last, pa
 pub length-cut_message : (size : ℕ) (message : List ℕ) → length (cut_message size message) ≡ count_of size (length message)
 unfolding cut_message
 length-cut_message size message = length-map-range_with_len (piece_at size message) 0 (count_of size (length message))
+
+-- one message alone
+pub cut-one : (size : ℕ) (message : List ℕ) → cut size (message ∷ []) ≡ cut_message size message
+unfolding cut
+cut-one size message = append-nil (cut_message size message)
+
+pub length-cut-one : (size : ℕ) (message : List ℕ) → length (cut size (message ∷ [])) ≡ count_of size (length message)
+length-cut-one size message = ap length (cut-one size message) ∙ length-cut_message size message
+
+pub one_short : (v : LinkValue) (message : List ℕ) → length message ≤ v.max_message → AreShort v (message ∷ [])
+one_short v message le = All-cons (λ (m : List ℕ). length m ≤ v.max_message) message [] le (All-nil (λ (m : List ℕ). length m ≤ v.max_message))
+
+-- one message alone
+pub ruleset one_message = (length-cut-one, one_short)
 
 pub ruleset counts = (starts_within, piece_payload)

@@ -5,7 +5,7 @@ use Rattle.std.specs.List.{AllByRecursion}
 use Rattle.std.specs.Option.{option_copied}
 use Rattle.std.proofs.lemmas.Bool.{cases_eq, cases_lt, eq-eqb, ne_eqb, lt-ltb, le-ltb}
 use Rattle.std.proofs.lemmas.List.{length-append, length-drop, length-replicate, drop-append-le, drop-drop, replicate-append-replicate}
-use Rattle.nsp_link.specs.declared.segment.Held.{Held}
+use Rattle.nsp_link.specs.Inner.Pieces.{Held}
 use Rattle.nsp_link.specs.Cutting.{Piece}
 use Rattle.nsp_link.specs.Holding.{AreHeld, following, inserted, Lacks}
 use Rattle.nsp_link.specs.Inner.Pieces.{held_from, held_piece, leading}

@@ -4,7 +4,7 @@ use Rattle.std.specs.declared.vec.Vec.{Vec}
 use Rattle.std.specs.declared.alloc.Global.{Global}
 use Rattle.std.proofs.lemmas.List.{take-map, get_or-map, length-map, take-take, length-take}
 use Rattle.std.proofs.lemmas.List.Folds.{length-flat_map-take}
-use Rattle.nsp_link.specs.declared.segment.Segment.{Segment}
+use Rattle.nsp_link.specs.Inner.Pieces.{Segment}
 use Rattle.nsp_link.specs.Cutting.{count_of, cut, cut_message}
 use Rattle.nsp_link.specs.Inner.Pieces.{bodies}
 use Rattle.nsp_link.proofs.Counts.{length-cut_message}

@@ -1,21 +1,19 @@
 -- What is written is a segment of the messages sent.
-use Rattle.std.proofs.Common.{◌≡◌, ℕ, true, false, cond, ◌+◌, ◌-◌, ◌<◌, ◌≤◌, List, [], ◌∷◌, ◌++◌, length, get_or, Option, Some, None, refl, sym, ap, ◌∙◌, arith}
+use Rattle.std.proofs.Common.{◌≡◌, ℕ, true, false, cond, ◌+◌, ◌-◌, ◌<◌, ◌≤◌, List, [], length, get_or, Option, Some, None, refl, sym, ap, ◌∙◌, arith}
 use Rattle.std.specs.Prelude.{slice_get}
-use Rattle.std.proofs.lemmas.Grind.{flat_map-append}
-use Rattle.std.proofs.lemmas.List.{length-drop, get_or-drop, length-append, drop-append-le, drop-drop, append-nil}
+use Rattle.std.proofs.lemmas.List.{length-drop, get_or-drop, drop-drop}
 use Rattle.std.proofs.lemmas.Option.{slice_get-get_or}
-use Rattle.nsp_link.specs.Cutting.{Piece, cut, cut_message}
+use Rattle.nsp_link.specs.Cutting.{Piece, cut}
 use Rattle.nsp_link.specs.Link.{LinkValue, Sends, Writes}
 use Rattle.std.proofs.Common.{Result, Ok, Err, inl, inr}
 use Rattle.std.proofs.lemmas.Bool.{cases_lt, lt-ltb, le-ltb}
 use Rattle.nsp_seg.specs.Numbers.{residue}
-use Rattle.nsp_seg.specs.Packets.{PacketValue, SegmentValue, segment, data_ack}
+use Rattle.nsp_seg.specs.Packets.{PacketValue, segment, data_ack}
 use Rattle.nsp_link.specs.declared.fault.LinkFault.{LinkFault}
 use Rattle.nsp_link.specs.declared.link.Got.{Got}
-use Rattle.nsp_link.specs.declared.link.Got.TheVariants.{Accepted, Repeat, Early, AckOnly}
 use Rattle.nsp_link.specs.Link.{IsLink, failed_link, first_ack, piece_of}
-use Rattle.nsp_link.specs.Receiving.{forgotten, newly_acked, Acknowledges, TakesSegment, RefusesSegment, Received, kept, stopped, is_end, early_number}
-use Rattle.nsp_link.specs.Sending.{WritesQueued, segment_packet, queued_link}
+use Rattle.nsp_link.specs.Receiving.{forgotten, newly_acked, Acknowledges, Received, segment_of, taking_in, stopped, is_end}
+use Rattle.nsp_link.specs.Sending.{WritesQueued, segment_packet}
 
 pub writes_segment : (v : LinkValue) (messages : List (List ℕ)) (bytes : List ℕ) (place : ℕ) → place < length v.queue
     → WritesQueued v place (v.acked + 1 + place) bytes → Sends v messages → Writes v messages (Some (v.acked + 1 + place)) v.received bytes
@@ -29,17 +27,6 @@ writes_segment v messages bytes place lt spelled sends =
     let back : (v.acked + 1 + place) - 1 ≡ v.acked + place = omega arith in
     let there : slice_get pieces ((v.acked + 1 + place) - 1) ≡ Some p = rw back (slice_get-get_or pieces (v.acked + place) d long ∙ ap (λ (q : Piece). Some q) same) in
     (segment_packet v p (v.acked + 1 + place), (p, omega arith, there, refl), (spelled p at).0, (spelled p at).1)
-
--- one message more is sent
-pub sends_more : (v : LinkValue) (messages : List (List ℕ)) (message : List ℕ) → Sends v messages → Sends (queued_link v (cut_message v.seg_size message)) (messages ++ message ∷ [])
-unfolding cut
-sends_more v messages message sends =
-    let more = cut_message v.seg_size message in
-    let joined : cut v.seg_size (messages ++ message ∷ []) ≡ cut v.seg_size messages ++ more = rw (flat_map-append (cut_message v.seg_size) messages (message ∷ []), append-nil) refl in
-    record {
-      queue = rw (joined, drop-append-le v.acked (cut v.seg_size messages) more sends.acked, sends.queue) refl;
-      acked = rw joined (omega (arith, length-append (cut v.seg_size messages) more, sends.acked));
-    }
 
 -- what is acknowledged is forgotten
 pub sends_forgotten : (v : LinkValue) (messages : List (List ℕ)) (count : ℕ) → count ≤ length v.queue → Sends v messages → Sends (forgotten v count) messages
@@ -73,39 +60,14 @@ sends_acked old mid new number messages link queue acked size acks sends =
 sends_failed : (v : LinkValue) (messages : List (List ℕ)) → Sends v messages → Sends (failed_link v) messages
 sends_failed v messages sends = record { queue = sends.queue; acked = sends.acked }
 
--- what sending reads stays where an early segment is kept
-sends_kept : (v : LinkValue) (k : ℕ) (p : Piece) → ((kept v k p).queue ≡ v.queue) × ((kept v k p).acked ≡ v.acked) × ((kept v k p).seg_size ≡ v.seg_size)
-sends_kept v k p = elim (cases_lt k (v.received + 1 + v.window)) [
-  | inl lt ↦ rw (lt-ltb k (v.received + 1 + v.window) lt) (refl, refl, refl)
-  | inr le ↦ rw (le-ltb k (v.received + 1 + v.window) le) (refl, refl, refl)
-]
-
-sends_taken : (old new : LinkValue) (s : SegmentValue) (mid : LinkValue) (got : Got) (number : Option ℕ) (messages : List (List ℕ)) → IsLink old → TakesSegment old s got mid → Acknowledges old number mid new → Sends old messages → Sends new messages
-sends_taken old new s mid Accepted number messages link takes acks sends =
-    sends_acked old mid new number messages link (ap (λ (v : LinkValue). v.queue) takes.2) (ap (λ (v : LinkValue). v.acked) takes.2) (ap (λ (v : LinkValue). v.seg_size) takes.2) acks sends
-sends_taken old new s mid Early number messages link takes acks sends =
-    let same = sends_kept old (early_number old s.number) (piece_of s) in
-    sends_acked old mid new number messages link (ap (λ (v : LinkValue). v.queue) takes.2 ∙ same.0) (ap (λ (v : LinkValue). v.acked) takes.2 ∙ same.1) (ap (λ (v : LinkValue). v.seg_size) takes.2 ∙ same.2) acks sends
-sends_taken old new s mid Repeat number messages link takes acks sends =
-    sends_acked old mid new number messages link (ap (λ (v : LinkValue). v.queue) takes.1) (ap (λ (v : LinkValue). v.acked) takes.1) (ap (λ (v : LinkValue). v.seg_size) takes.1) acks sends
-sends_taken old new s mid AckOnly number messages link takes acks sends = absurd takes
-
 sends_stopped : (v : LinkValue) (e : LinkFault) (messages : List (List ℕ)) → Sends v messages → Sends (stopped e v) messages
 sends_stopped v e messages sends = elim (is_end e) as (λ b. Sends (cond b (failed_link v) v) messages) [
   | true ↦ sends_failed v messages sends
   | false ↦ sends
 ]
 
-sends_refused : (old new : LinkValue) (s : SegmentValue) (e : LinkFault) (messages : List (List ℕ)) → RefusesSegment old s e new → Sends old messages → Sends new messages
-sends_refused old new s e messages (inl out) sends = rw out.2 (sends_failed old messages sends)
-sends_refused old new s e messages (inr (inl out)) sends = rw out.2.1 (sends_stopped old e messages sends)
-sends_refused old new s e messages (inr (inr out)) sends = rw out.4 sends
-
 -- whatever comes, the messages sent stay
 pub sends_received : (old new : LinkValue) (p : PacketValue) (r : Result Got LinkFault) (messages : List (List ℕ)) → IsLink old → Received old p r new → Sends old messages → Sends new messages
-sends_received old new (segment s) (Ok got) messages link rec sends = sends_taken old new s rec.1.0 got (first_ack s.ack1 s.ack2) messages link rec.1.1 rec.1.2 sends
-sends_received old new (segment s) (Err e) messages link (inl out) sends = rw out.2 sends
-sends_received old new (segment s) (Err e) messages link (inr out) sends = sends_refused old new s e messages out.1 sends
-sends_received old new (data_ack s) (Ok got) messages link rec sends = sends_acked old old new (first_ack (Some s.ack1) s.ack2) messages link refl refl refl rec.2 sends
-sends_received old new (data_ack s) (Err e) messages link (inl out) sends = rw out.2 sends
-sends_received old new (data_ack s) (Err e) messages link (inr out) sends = rw out.3 (sends_failed old messages sends)
+sends_received old new (segment s) (Ok got) messages link (_, (_, _, acks)) sends = sends_acked old (taking_in old (segment_of old s.number) (piece_of s)) new (first_ack s.ack1 s.ack2) messages link refl refl refl acks sends
+sends_received old new (data_ack s) (Ok got) messages link (_, (_, acks)) sends = sends_acked old old new (first_ack (Some s.ack1) s.ack2) messages link refl refl refl acks sends
+sends_received old new p (Err e) messages link (_, left) sends = rw left (sends_stopped old e messages sends)

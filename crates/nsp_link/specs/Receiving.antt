@@ -1,17 +1,17 @@
 -- What receiving computes, by the numbers that a packet shows.
-use Rattle.std.specs.Prelude.{◌≡◌, ℕ, ◌+◌, ◌-◌, ◌<◌, ◌≤◌, Bool, true, false, List, ◌∷◌, ◌⊎◌, length, drop, Result, Ok, Err, Option, Some, None, IfSome, IsOk, MatchResult, nat_lt, if◌then◌else◌}
+use Rattle.std.specs.Prelude.{◌≡◌, ℕ, ◌+◌, ◌-◌, ◌≤◌, Bool, true, false, List, ◌∷◌, ◌⊎◌, drop, Result, Ok, Err, Option, Some, None, IfSome, IsOk, MatchResult, nat_lt, ◌==◌, if◌then◌else◌}
 use Rattle.nsp_seg.specs.Numbers.{residue}
 use Rattle.nsp_link.specs.declared.fault.LinkFault.{LinkFault}
 use Rattle.nsp_link.specs.declared.fault.LinkFault.TheVariants.{WrongLink, BadSequence, MessageTooLong, NoMemory, Failed, Malformed}
 use Rattle.nsp_seg.specs.declared.packet.SegFault.{SegFault}
-use Rattle.nsp_seg.specs.Packets.{PacketValue, SegmentValue, segment, data_ack, Spells, HasFault}
+use Rattle.nsp_seg.specs.Packets.{PacketValue, segment, data_ack, Spells, HasFault}
 use Rattle.nsp_link.specs.declared.link.Got.{Got}
-use Rattle.nsp_link.specs.declared.link.Got.TheVariants.{Accepted, Repeat, Early, AckOnly}
+use Rattle.nsp_link.specs.declared.link.Got.TheVariants.{Accepted, AckOnly}
 use Rattle.nsp_link.specs.Cutting.{Piece}
-use Rattle.nsp_link.specs.Coming.{Coming, taken_all, AllFit, RefusesAll}
-use Rattle.nsp_link.specs.Holding.{following, inserted}
+use Rattle.nsp_link.specs.Coming.{taken_all, AllFit, RefusesAll}
+use Rattle.nsp_link.specs.Holding.{following}
 use Rattle.nsp_link.specs.Limits.{most_segments}
-use Rattle.nsp_link.specs.Link.{LinkValue, IsDue, MayRefuse, got_of, Delivered, Stands, SendsStill, coming, failed_link, first_ack, piece_of, IsBetween, Keeps}
+use Rattle.nsp_link.specs.Link.{LinkValue, IsDue, MayRefuse, got_of, held_after, Delivered, Stands, SendsStill, coming, failed_link, first_ack, piece_of, IsBetween, Keeps}
 
 -- How many segments a field acknowledges anew: 0 where its number is 2,048 or more ahead, which is old, and nothing where
 -- it is less far ahead, and of a segment never sent.
@@ -25,16 +25,17 @@ newly_acked v (Some n) =
 abbrev pub run : LinkValue → Piece → List Piece
 run v p = p ∷ following (v.received + 1) v.held
 
-abbrev pub coming_link : LinkValue → Coming → List (ℕ × Piece) → LinkValue
-coming_link v c held = record v { received = c.received; partial = c.partial; inbox = c.inbox; held = held }
+-- the segment for which a number stands: less than 2,048 ahead of the one that is wanted next, or behind it
+abbrev pub segment_of : LinkValue → ℕ → ℕ
+segment_of v number =
+    let ahead = residue (number + 4096 - residue (v.received + 1)) in
+    if nat_lt ahead 2048 then v.received + 1 + ahead else v.received + 1 + ahead - 4096
 
--- an end that took in its next segment with all that follow it
-abbrev pub closed : LinkValue → Piece → LinkValue
-closed v p = coming_link v (taken_all (coming v) (run v p)) (drop (length (following (v.received + 1) v.held)) v.held)
-
--- an end that keeps the k-th segment, which is early, where that is within the window
-abbrev pub kept : LinkValue → ℕ → Piece → LinkValue
-kept v k p = if nat_lt k (v.received + 1 + v.window) then record v { held = inserted k p v.held } else v
+-- an end that took in the k-th segment: the next one with all that follow it, or an early one that it keeps
+abbrev pub taking_in : LinkValue → ℕ → Piece → LinkValue
+taking_in v k p =
+    let c = if k == v.received + 1 then taken_all (coming v) (run v p) else coming v in
+    record v { received = c.received; partial = c.partial; inbox = c.inbox; held = held_after v (Some k) p }
 
 -- the refusals that show that the two ends have lost each other
 abbrev pub is_end : LinkFault → Bool
@@ -46,30 +47,9 @@ is_end _ = false
 abbrev pub stopped : LinkFault → LinkValue → LinkValue
 stopped e v = if is_end e then failed_link v else v
 
--- why the next segment and those that follow it are not taken, none of them, and what is left
-abbrev pub NotTaken : LinkValue → Piece → LinkFault → LinkValue → Type 0
-NotTaken old p e new = RefusesAll old.max_message (coming old) (run old p) e × (new ≡ stopped e old)
-
 -- an end whose oldest segments are acknowledged
 abbrev pub forgotten : LinkValue → ℕ → LinkValue
 forgotten v count = record v { acked = v.acked + count; queue = drop count v.queue }
-
--- how far a number is ahead of the one that is wanted next, going round at 4,096
-abbrev pub ahead_of_next : LinkValue → ℕ → ℕ
-ahead_of_next v number = residue (number + 4096 - residue (v.received + 1))
-
--- the number for which an early one stands
-abbrev pub early_number : LinkValue → ℕ → ℕ
-early_number v number = v.received + 1 + ahead_of_next v number
-
--- what becomes of a segment that isn't refused
-abbrev pub TakesSegment : LinkValue → SegmentValue → Got → LinkValue → Type 0
-TakesSegment old s Accepted new =
-    (ahead_of_next old s.number ≡ 0) × AllFit old.max_message (coming old) (run old (piece_of s)) × (new ≡ closed old (piece_of s))
-TakesSegment old s Early new =
-    (0 < ahead_of_next old s.number) × (ahead_of_next old s.number < 2048) × (new ≡ kept old (early_number old s.number) (piece_of s))
-TakesSegment old s Repeat new = (2048 ≤ ahead_of_next old s.number) × (new ≡ old)
-TakesSegment old s AckOnly new = ⊥
 
 -- what an acknowledgement takes from an end
 abbrev pub Acknowledges : LinkValue → Option ℕ → LinkValue → LinkValue → Type 0
@@ -79,28 +59,34 @@ Acknowledges old number mid new = (count : ℕ) × (newly_acked old number ≡ S
 abbrev pub Believes : LinkValue → Option ℕ → Type 0
 Believes v number = (count : ℕ) × (newly_acked v number ≡ Some count)
 
--- why a segment from the other end is refused: its acknowledgement comes before the segment itself
-abbrev pub RefusesSegment : LinkValue → SegmentValue → LinkFault → LinkValue → Type 0
-RefusesSegment old s e new =
-    ((newly_acked old (first_ack s.ack1 s.ack2) ≡ None) × (e ≡ BadSequence) × (new ≡ failed_link old))
-    ⊎ (Believes old (first_ack s.ack1 s.ack2) × (ahead_of_next old s.number ≡ 0) × NotTaken old (piece_of s) e new)
-    ⊎ (Believes old (first_ack s.ack1 s.ack2) × Keeps old (early_number old s.number) × (ahead_of_next old s.number < 2048)
-    × (e ≡ NoMemory) × (new ≡ old))
+abbrev pub ack_of : PacketValue → Option ℕ
+ack_of (segment s) = first_ack s.ack1 s.ack2
+ack_of (data_ack s) = first_ack (Some s.ack1) s.ack2
+
+-- why the k-th segment isn't taken: the next one and those that follow it, or an early one, for want of memory alone
+abbrev pub NotTaken : LinkValue → ℕ → Piece → LinkFault → Type 0
+NotTaken v k p e = ((k ≡ v.received + 1) × RefusesAll v.max_message (coming v) (run v p) e) ⊎ (Keeps v k × (e ≡ NoMemory))
+
+-- why a packet from the other end is refused: its acknowledgement comes before its segment
+abbrev pub Refuses : LinkValue → PacketValue → LinkFault → Type 0
+Refuses v (segment s) e =
+    ((newly_acked v (ack_of (segment s)) ≡ None) × (e ≡ BadSequence))
+    ⊎ (Believes v (ack_of (segment s)) × NotTaken v (segment_of v s.number) (piece_of s) e)
+Refuses v (data_ack s) e = (newly_acked v (ack_of (data_ack s)) ≡ None) × (e ≡ BadSequence)
+
+-- how a packet from the other end is answered, and what the end is afterwards
+abbrev pub Takes : LinkValue → PacketValue → Got → LinkValue → Type 0
+Takes old (segment s) got new =
+    let k = segment_of old s.number in
+    (got ≡ got_of old.received (Some k)) × (got ≡ Accepted → AllFit old.max_message (coming old) (run old (piece_of s)))
+    × Acknowledges old (ack_of (segment s)) (taking_in old k (piece_of s)) new
+Takes old (data_ack s) got new = (got ≡ AckOnly) × Acknowledges old (ack_of (data_ack s)) old new
 
 -- What an end that hasn't failed does with any packet: what it answers, and what it is afterwards.
 abbrev pub Received : LinkValue → PacketValue → Result Got LinkFault → LinkValue → Type 0
-Received old (segment s) (Ok got) new =
-    IsBetween old.remote old.local (segment s)
-    × ((mid : LinkValue) × TakesSegment old s got mid × Acknowledges old (first_ack s.ack1 s.ack2) mid new)
-Received old (data_ack s) (Ok got) new =
-    IsBetween old.remote old.local (data_ack s) × (got ≡ AckOnly) × Acknowledges old (first_ack (Some s.ack1) s.ack2) old new
-Received old (segment s) (Err e) new =
-    ((IsBetween old.remote old.local (segment s) → ⊥) × (e ≡ WrongLink) × (new ≡ old))
-    ⊎ (IsBetween old.remote old.local (segment s) × RefusesSegment old s e new)
-Received old (data_ack s) (Err e) new =
-    ((IsBetween old.remote old.local (data_ack s) → ⊥) × (e ≡ WrongLink) × (new ≡ old))
-    ⊎ (IsBetween old.remote old.local (data_ack s) × (newly_acked old (first_ack (Some s.ack1) s.ack2) ≡ None)
-    × (e ≡ BadSequence) × (new ≡ failed_link old))
+Received old p (Ok got) new = IsBetween old.remote old.local p × Takes old p got new
+Received old p (Err e) new =
+    (((IsBetween old.remote old.local p → ⊥) × (e ≡ WrongLink)) ⊎ (IsBetween old.remote old.local p × Refuses old p e)) × (new ≡ stopped e old)
 
 -- ---- What an end does with any bytes.
 

@@ -3,7 +3,7 @@ use Rattle.std.specs.Prelude.{◌≡◌, ◌⊎◌, ℕ, ◌+◌, ◌-◌, ◌<�
 use Rattle.nsp_seg.specs.Packets.{PacketValue}
 use Rattle.nsp_link.specs.declared.fault.LinkFault.{LinkFault}
 use Rattle.nsp_link.specs.declared.fault.LinkFault.TheVariants.{MessageTooLong, Failed, Exhausted, NoMemory}
-use Rattle.nsp_link.specs.Cutting.{Piece, count_of, cut}
+use Rattle.nsp_link.specs.Cutting.{Piece, cut}
 use Rattle.nsp_link.specs.Limits.{most_segments}
 use Rattle.nsp_link.specs.Link.{LinkValue, MaySend, Sends, Writes, IsSpelling, written_segment, written_ack}
 
@@ -35,19 +35,6 @@ WritesSent v k bytes = (messages : List (List ℕ)) → Sends v messages → Wri
 -- an end with more segments queued
 abbrev pub queued_link : LinkValue → List Piece → LinkValue
 queued_link v pieces = record v { queue = v.queue ++ pieces }
-
--- a message of len bytes may be sent
-abbrev pub MayQueue : LinkValue → ℕ → Type 0
-MayQueue v len = (v.failed ≡ false) × (len ≤ v.max_message) × (v.acked + length v.queue + count_of v.seg_size len ≤ most_segments)
-
--- why a message of len bytes isn't sent, in the order of the tests
-abbrev pub SendFault : LinkValue → ℕ → LinkFault → Type 0
-SendFault v len Failed = IsTrue v.failed
-SendFault v len MessageTooLong = (v.failed ≡ false) × (v.max_message < len)
-SendFault v len Exhausted =
-    (v.failed ≡ false) × (len ≤ v.max_message) × (most_segments < v.acked + length v.queue + count_of v.seg_size len)
-SendFault v len NoMemory = MayQueue v len
-SendFault v len _ = ⊥
 
 -- every message is short enough for this end
 abbrev pub AreShort : LinkValue → List (List ℕ) → Type 0

@@ -6,8 +6,10 @@ mod fault;
 mod incoming;
 mod laws;
 mod link;
+mod piece;
+mod receiving;
 mod ring;
-mod segment;
+mod sending;
 
 pub use fault::LinkFault;
 pub use laws::{distances_separate, held_by_number, messages_only_grow};

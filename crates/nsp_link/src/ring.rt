@@ -3,7 +3,7 @@
 ghost use Rattle.std.specs.Prelude.{◌≡◌, ◌<◌, ◌≤◌, [], ◌∷◌, ◌++◌, ◌+◌, ℕ, Some, None, false, IfOk, IfSome, MatchOption, is_none, length, drop, replicate, slice_get, slice_set};
 ghost use Rattle.nsp_link.specs.Inner.Pieces.{held_from, held_piece, leading};
 
-use crate::segment::Held;
+use crate::piece::Held;
 use circular_buffer::HeapCircularBuffer;
 use std::alloc::{AllocError, Global};
 
@@ -40,10 +40,7 @@ pub(crate) fn is_free(ring: &Ring, place: usize) -> bool
     ensures { MatchOption (slice_get ring.now.items place) (result ≡ false)
         (λ o. result ≡ is_none o) }
 {
-    match ring.get(place) {
-        Some(slot) => slot.is_none(),
-        None => false,
-    }
+    ring.get(place).is_some_and(Option::is_none)
 }
 
 /// The front places leave, and free ones come behind the last.

@@ -1,7 +1,7 @@
 use Rattle.std.proofs.Common.{◌≡◌, ◌+◌, length, drop, refl, ap, arith, subst}
 use Rattle.nsp_link.specs.Cutting.{Piece}
 use Rattle.nsp_link.specs.Coming.{Coming, FitsBehind, taken, Misfits}
-use Rattle.nsp_link.specs.Inner.Pieces.{coming_of, leading, held_piece, run_in, IsBegun}
+use Rattle.nsp_link.specs.Inner.Pieces.{coming_of, leading, held_piece, lent_piece, run_in, IsBegun}
 use Rattle.nsp_link.proofs.Placing.{if_err_and}
 use Rattle.nsp_link.proofs.Runs.{looked_first, looked_more, looked_all, misfits_first, misfits_more}
 use Rattle.nsp_link.proofs.incoming.check_run.Goals as goal
@@ -9,7 +9,7 @@ use Rattle.nsp_link.proofs.incoming.check_run.Goals as goal
 pub returns-in_err-begun-clause-err : goal.returns-in_err-begun-clause-err
 returns-in_err-begun-clause-err c =
     let start = coming_of c.args.incoming.now in
-    let p : Piece = record { first = c.args.first; last = c.args.last; payload = c.args.payload.now } in
+    let p : Piece = lent_piece c.args.piece.now in
     let out = c.in_err-begun.ensures.err start c.begun_len.ensures in
     if_err_and c.from_residual.result _ _ c.from_residual.ensures.1
     (λ e is. misfits_first c.args.limit start p (leading (drop 1 c.args.ring.now.items)) e (rw is out))
@@ -17,7 +17,7 @@ returns-in_err-begun-clause-err c =
 pub loop-held-init : goal.loop-held-init
 loop-held-init c =
     let start = coming_of c.args.incoming.now in
-    let p : Piece = record { first = c.args.first; last = c.args.last; payload = c.args.payload.now } in
+    let p : Piece = lent_piece c.args.piece.now in
     let ok = c.in_ok-begun.ensures.ok start c.begun_len.ensures in
     record {
       count = refl;
@@ -33,9 +33,9 @@ returns-in_err-begun-2-clause-err c =
     let h = c.in-Some.held.now in
     let items = c.args.ring.now.items in
     let start = coming_of c.args.incoming.now in
-    let piece-is : (record { first = h.first; last = h.last; payload = c.deref.result.now }) ≡ held_piece h = rw c.deref.ensures.value refl in
+    let piece-is : lent_piece c.lent.result ≡ held_piece h = c.lent.ensures in
     let out = λ (now : Coming) (is : IsBegun c.loop-held.begun now). subst (λ (p : Piece). Misfits c.args.limit now p c.in_err-begun-2.field-0.0) piece-is (c.in_err-begun-2.ensures.err now is) in
-    let all = misfits_more c.args.limit start (run_in c.args.first c.args.last c.args.payload.now items) c.loop-held.begun (leading (drop c.loop-held.count items)) (leading (drop (c.loop-held.count + 1) items)) (held_piece h) c.in_err-begun-2.field-0.0
+    let all = misfits_more c.args.limit start (run_in (lent_piece c.args.piece.now) items) c.loop-held.begun (leading (drop c.loop-held.count items)) (leading (drop (c.loop-held.count + 1) items)) (held_piece h) c.in_err-begun-2.field-0.0
     c.in-Some.ensures.leads out c.loop-held.invariant.looked in
     if_err_and c.from_residual-in_err-begun-2.result _ _ c.from_residual-in_err-begun-2.ensures.1 (λ e is. rw is all)
 
@@ -50,12 +50,12 @@ loop-held-preserved c =
     let h = c.in-Some.held.now in
     let items = c.args.ring.now.items in
     let start = coming_of c.args.incoming.now in
-    let piece-is : (record { first = h.first; last = h.last; payload = c.deref.result.now }) ≡ held_piece h = rw c.deref.ensures.value refl in
+    let piece-is : lent_piece c.lent.result ≡ held_piece h = c.lent.ensures in
     let ok = λ (now : Coming) (is : IsBegun c.loop-held.begun now). subst (λ (p : Piece). FitsBehind c.args.limit now p × IsBegun c.in_ok-begun-2.begun (taken now p)) piece-is (c.in_ok-begun-2.ensures.ok now is) in
     record {
       count = omega (arith, ap length c.in-Some.ensures.leads, c.loop-held.invariant.count);
       short = c.in_ok-begun-2.ensures.short;
-      looked = looked_more c.args.limit start (run_in c.args.first c.args.last c.args.payload.now items) c.loop-held.begun c.in_ok-begun-2.begun (leading (drop c.loop-held.count items)) (leading (drop (c.loop-held.count + 1) items)) (held_piece h)
+      looked = looked_more c.args.limit start (run_in (lent_piece c.args.piece.now) items) c.loop-held.begun c.in_ok-begun-2.begun (leading (drop c.loop-held.count items)) (leading (drop (c.loop-held.count + 1) items)) (held_piece h)
           c.in-Some.ensures.leads ok c.loop-held.invariant.looked;
     }
 

@@ -1,6 +1,6 @@
-use Rattle.std.proofs.Common.{◌≡◌, ◌+◌, length, drop, sym, ap, ◌∙◌, arith, true}
+use Rattle.std.proofs.Common.{◌≡◌, ◌+◌, length, drop, sym, ap, ◌∙◌, arith}
 use Rattle.nsp_link.specs.Coming.{Coming, taken, taken_all}
-use Rattle.nsp_link.specs.Inner.Pieces.{coming_of, leading, held_piece, run_in}
+use Rattle.nsp_link.specs.Inner.Pieces.{coming_of, leading, held_piece, lent_piece, run_in}
 use Rattle.nsp_link.proofs.Runs.{taken_more, none_taken}
 use Rattle.nsp_link.proofs.incoming.gather.Goals as goal
 
@@ -9,8 +9,8 @@ unfolding taken_all
 loop-held-init c =
     let ok = c.in_ok-take.ensures.ok in
     record {
-      few = omega (arith, c.requires.few, ap (λ (x : Coming). x.received) (ok true), ap (λ (x : Coming). x.received) c.emptied-aside.ensures);
-      taken = λ first. rw (ok first) (ap (λ (x : Coming). taken_all x (run_in first c.args.last c.args.payload.now c.args.ring.now.items)) c.emptied-aside.ensures);
+      few = omega (arith, c.requires.few, ap (λ (x : Coming). x.received) ok, ap (λ (x : Coming). x.received) c.emptied-aside.ensures);
+      taken = rw ok (ap (λ (x : Coming). taken_all x (run_in (lent_piece c.args.piece.now) c.args.ring.now.items)) c.emptied-aside.ensures);
     }
 
 pub take-requires-in-Some : goal.take-requires-in-Some
@@ -28,11 +28,11 @@ loop-held-preserved c =
     let items = c.args.ring.now.items in
     let now = coming_of c.loop-held.aside in
     let leads = c.in-Some.ensures.leads in
-    let is : coming_of c.take-in-Some.new.incoming ≡ taken now (held_piece h) = rw (← c.deref.ensures.value) (c.in_ok-take-2.ensures.ok h.first) in
+    let is : coming_of c.take-in-Some.new.incoming ≡ taken now (held_piece h) = c.in_ok-take-2.ensures.ok ∙ ap (taken now) c.lent.ensures in
     record {
       few = omega (arith, ap length leads, c.loop-held.invariant.few, ap (λ (x : Coming). x.received) is);
-      taken = λ first. rw is (sym (taken_more now (leading (drop c.loop-held.place items)) (leading (drop (c.loop-held.place + 1) items)) (held_piece h) leads) ∙ c.loop-held.invariant.taken first);
+      taken = rw is (sym (taken_more now (leading (drop c.loop-held.place items)) (leading (drop (c.loop-held.place + 1) items)) (held_piece h) leads) ∙ c.loop-held.invariant.taken);
     }
 
 pub returns : goal.returns
-returns c = λ first. sym (none_taken (coming_of c.loop-held.aside) (leading (drop c.loop-held.place c.args.ring.now.items)) c.in_default.ensures.leads) ∙ c.loop-held.invariant.taken first
+returns c = sym (none_taken (coming_of c.loop-held.aside) (leading (drop c.loop-held.place c.args.ring.now.items)) c.in_default.ensures.leads) ∙ c.loop-held.invariant.taken

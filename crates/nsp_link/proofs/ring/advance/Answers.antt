@@ -1,6 +1,6 @@
 use Rattle.std.proofs.Common.{◌≡◌, ap, ◌∙◌, arith, length, List, ◌<◌, ℕ, Option}
 use Rattle.circular_buffer.specs.Buffer.{Buffer}
-use Rattle.nsp_link.specs.declared.segment.Held.{Held}
+use Rattle.nsp_link.specs.Inner.Pieces.{Held}
 use Rattle.nsp_link.proofs.Held.{ring_step}
 use Rattle.nsp_link.proofs.ring.advance.Goals as goal
 

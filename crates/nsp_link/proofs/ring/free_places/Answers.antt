@@ -1,5 +1,5 @@
 use Rattle.std.proofs.Common.{ap, ◌∙◌, List, Option}
-use Rattle.nsp_link.specs.declared.segment.Held.{Held}
+use Rattle.nsp_link.specs.Inner.Pieces.{Held}
 use Rattle.nsp_link.specs.Inner.Pieces.{held_from}
 use Rattle.nsp_link.proofs.Held.{held_free}
 use Rattle.nsp_link.proofs.ring.free_places.Goals as goal

@@ -3,11 +3,9 @@ use Rattle.std.specs.Prelude.{slice_get}
 use Rattle.std.proofs.lemmas.Option.{slice_get_within}
 use Rattle.std.proofs.lemmas.List.{length-set}
 use Rattle.circular_buffer.proofs.Places.{slice_get-set_other}
-use Rattle.nsp_link.specs.declared.segment.Held.{Held}
-use Rattle.nsp_link.specs.Cutting.{Piece}
 use Rattle.nsp_link.specs.Link.{LinkValue, Keeps}
-use Rattle.nsp_link.specs.Inner.Pieces.{held_from}
-use Rattle.nsp_link.specs.Receiving.{kept}
+use Rattle.nsp_link.specs.Inner.Pieces.{Held, lent_piece, held_from}
+use Rattle.nsp_link.specs.Receiving.{taking_in}
 use Rattle.nsp_link.specs.Inner.View.{link_view}
 use Rattle.nsp_link.proofs.Held.{is_free_read, is_taken_read, beyond, there, held_end, held_few, length-held_put}
 use Rattle.nsp_link.proofs.Keeping.{kept_filled, kept_there, kept_beyond, keeps_free}
@@ -19,7 +17,7 @@ returns-in_err-payload-clause-err c =
     let items = c.self.inside.held.items in
     let at = is_free_read items c.args.place c.is_free.result c.is_free.ensures c.if-is_free.true in
     let v = link_view c.self.inside in
-    let keeps = keeps_free v items refl c.args.place c.self.invariant.places c.requires at in
+    let keeps = keeps_free v items refl c.args.place c.requires c.self.invariant.places at in
     let now-keeps : Keeps c.args.self.now (c.args.self.now.received + 1 + c.args.place) = subst (λ (w : LinkValue). Keeps w (w.received + 1 + c.args.place)) c.self.view_is keeps in
     if_err_and c.from_residual.result _ _ c.from_residual.ensures.1 (λ e is. (is, now-keeps, refl))
 
@@ -34,7 +32,7 @@ invariant_of-self c =
     let long : length c.fill.new.ring.items ≡ c.self.inside.setup.window = ap length c.fill.ensures.items ∙ length-set items c.args.place _ ∙ c.self.invariant.places in
     let at = is_free_read items c.args.place c.is_free.result c.is_free.ensures c.if-is_free.true in
     let put = ap (λ (xs : List (Option Held)). length (held_from (r + 1) xs)) c.fill.ensures.items in
-    let h : Held = record { first = c.args.first; last = c.args.last; payload = c.in_ok-payload.payload } in
+    let h : Held = record { first = c.args.piece.now.first; last = c.args.piece.now.last; payload = c.in_ok-payload.payload } in
     let filled = length-held_put (r + 1) c.args.place items h at in
     let front : slice_get c.fill.new.ring.items 0 ≡ Some None = ap (λ (xs : List (Option Held)). slice_get xs 0) c.fill.ensures.items ∙ slice_get-set_other items c.args.place 0 _ (λ e. omega (arith, c.requires)) ∙ c.self.invariant.free in
     record {
@@ -63,23 +61,22 @@ returns-in_ok-payload-clause-ok c =
     let items = c.self.inside.held.items in
     let v = link_view c.self.inside in
     let at = is_free_read items c.args.place c.is_free.result c.is_free.ensures c.if-is_free.true in
-    let h : Held = record { first = c.args.first; last = c.args.last; payload = c.in_ok-payload.payload } in
-    let p : Piece = record { first = c.args.first; last = c.args.last; payload = c.args.payload.now } in
-    let same = ap (λ (bytes : List ℕ). let q : Piece = record { first = c.args.first; last = c.args.last; payload = bytes } in q) c.in_ok-payload.ensures.items in
-    let filled = kept_filled v items refl c.args.place c.self.invariant.places h p at same in
+    let h : Held = record { first = c.args.piece.now.first; last = c.args.piece.now.last; payload = c.in_ok-payload.payload } in
+    let p = lent_piece c.args.piece.now in
+    let filled = kept_filled v items refl c.args.place c.requires c.self.invariant.places h p at (ap (λ (bytes : List ℕ). record p { payload = bytes }) c.in_ok-payload.ensures.items) in
     ap (λ (xs : List (Option Held)). record v { held = held_from (v.received + 1) xs }) c.fill.ensures.items ∙ filled
-    ∙ ap (λ (w : LinkValue). kept w (w.received + 1 + c.args.place) p) c.self.view_is
+    ∙ ap (λ (w : LinkValue). taking_in w (w.received + 1 + c.args.place) p) c.self.view_is
 
 pub returns-else-is_free-clause-ok : goal.returns-else-is_free-clause-ok
 returns-else-is_free-clause-ok c =
     let items = c.self.inside.held.items in
     let v = link_view c.self.inside in
-    let p : Piece = record { first = c.args.first; last = c.args.last; payload = c.args.payload.now } in
-    let same : v ≡ kept v (v.received + 1 + c.args.place) p = elim (is_taken_read items c.args.place c.is_free.result c.is_free.ensures c.if-is_free.false) [
-      | beyond at ↦ kept_beyond v items refl c.args.place c.self.invariant.places p at
-      | there h at ↦ kept_there v items refl c.args.place c.self.invariant.places h p at
+    let p = lent_piece c.args.piece.now in
+    let same : v ≡ taking_in v (v.received + 1 + c.args.place) p = elim (is_taken_read items c.args.place c.is_free.result c.is_free.ensures c.if-is_free.false) [
+      | beyond at ↦ kept_beyond v items refl c.args.place c.requires c.self.invariant.places p at
+      | there h at ↦ kept_there v items refl c.args.place c.requires c.self.invariant.places h p at
     ] in
-    sym c.self.view_is ∙ same ∙ ap (λ (w : LinkValue). kept w (w.received + 1 + c.args.place) p) c.self.view_is
+    sym c.self.view_is ∙ same ∙ ap (λ (w : LinkValue). taking_in w (w.received + 1 + c.args.place) p) c.self.view_is
 
 pub overflow_add-self : goal.overflow_add-self
 overflow_add-self c =

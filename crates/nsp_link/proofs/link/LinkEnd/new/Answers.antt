@@ -1,5 +1,5 @@
 use Rattle.std.proofs.Common.{◌+◌, ap, arith, length, List, sym, refl}
-use Rattle.nsp_link.specs.declared.segment.Segment.{Segment}
+use Rattle.nsp_link.specs.Inner.Pieces.{Segment}
 use Rattle.nsp_link.specs.Inner.Pieces.{pieces}
 use Rattle.nsp_link.specs.Link.{IsSetup}
 use Rattle.nsp_link.proofs.Held.{held_end}

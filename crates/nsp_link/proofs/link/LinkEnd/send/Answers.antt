@@ -1,11 +1,11 @@
-use Rattle.std.proofs.Common.{◌≡◌, ◌+◌, ◌++◌, length, ◌∙◌, ap, arith, subst, sym}
+use Rattle.std.proofs.Common.{◌≡◌, ◌+◌, ◌++◌, length, ◌∙◌, ap, arith, subst, sym, [], ◌∷◌}
 use Rattle.std.proofs.lemmas.List.{length-append, length-map}
 use Rattle.nsp_link.specs.Cutting.{cut_message}
 use Rattle.nsp_link.specs.Link.{LinkValue, Sends}
 use Rattle.nsp_link.specs.Inner.View.{link_view}
 use Rattle.nsp_link.specs.Inner.Pieces.{piece, pieces}
-use Rattle.nsp_link.proofs.Writing.{sends_more}
-use Rattle.nsp_link.proofs.Counts.{length-cut_message}
+use Rattle.nsp_link.proofs.Growing.{sends_all}
+use Rattle.nsp_link.proofs.Counts.{length-cut_message, cut-one}
 use Rattle.nsp_link.proofs.link.LinkEnd.send.Goals as goal
 
 pub invariant_of-self : goal.invariant_of-self
@@ -40,5 +40,6 @@ invariant_of-self c =
 pub returns-in-Ok-clause-sends : goal.returns-in-Ok-clause-sends
 returns-in-Ok-clause-sends c = λ messages sends.
     let before = subst (λ (v : LinkValue). Sends v messages) (sym c.self.view_is) sends in
-    let queued : pieces c.queue_message.new.queue.items ≡ pieces c.self.inside.queue.items ++ cut_message c.self.inside.setup.seg_size c.args.message.now = c.in-Ok.ensures.ok in
-    rw queued (sends_more (link_view c.self.inside) messages c.args.message.now before)
+    let size = c.self.inside.setup.seg_size in
+    let queued : pieces c.queue_message.new.queue.items ≡ pieces c.self.inside.queue.items ++ cut_message size c.args.message.now = c.in-Ok.ensures.ok in
+    rw (queued, ← cut-one size c.args.message.now) (sends_all (link_view c.self.inside) messages (c.args.message.now ∷ []) before)

@@ -1,32 +1,31 @@
 use Rattle.std.proofs.Common.{◌≡◌, ◌+◌, ◌≤◌, ◌∙◌, [], ◌∷◌, List, length, drop, ap, arith, refl, subst, sym, Some, None, Option}
 use Rattle.std.specs.Prelude.{slice_get, unwrap_or}
-use Rattle.nsp_link.specs.declared.segment.Held.{Held}
-use Rattle.nsp_link.specs.Cutting.{Piece}
 use Rattle.nsp_link.specs.Coming.{Coming, AllFit, RefusesAll}
-use Rattle.nsp_link.specs.Link.{LinkValue, coming, failed_link}
-use Rattle.nsp_link.specs.Inner.Pieces.{held_from, leading, run_in, coming_of}
-use Rattle.nsp_link.specs.Receiving.{run, closed, coming_link}
+use Rattle.nsp_link.specs.Link.{LinkValue, coming}
+use Rattle.nsp_link.specs.Inner.Pieces.{Held, lent_piece, held_from, leading, run_in, coming_of}
+use Rattle.nsp_link.specs.Receiving.{run, taking_in}
 use Rattle.nsp_link.specs.Inner.View.{link_view}
 use Rattle.nsp_link.proofs.Taking.{received-all}
 use Rattle.nsp_link.proofs.Held.{ring_fewer, ring_free, ring_long, held_end, length-ring_closed, follows_held}
 use Rattle.nsp_link.proofs.Runs.{fit_short}
-use Rattle.nsp_link.proofs.Keeping.{run_fit, run_refuses, closed_is}
+use Rattle.nsp_link.proofs.Placing.{if_err_and}
+use Rattle.nsp_link.proofs.Keeping.{run_fit, run_refuses, closed_is, coming_link}
 use Rattle.nsp_link.proofs.link.LinkEnd.take_next.Goals as goal
 
 pub advance-requires-clause-some : goal.advance-requires-clause-some
-advance-requires-clause-some c = ring_fewer c.in-Ok.count c.self.inside.held.items c.self.invariant.free c.in-Ok.ensures.count
+advance-requires-clause-some c = ring_fewer c.in_ok-count.count c.self.inside.held.items c.self.invariant.free c.in_ok-count.ensures.count
 
-pub invariant_of-self : goal.invariant_of-self
-invariant_of-self c =
+pub invariant_of-self-2 : goal.invariant_of-self-2
+invariant_of-self-2 c =
     let items = c.self.inside.held.items in
     let link = c.self.invariant.link in
-    let m = c.in-Ok.count in
+    let m = c.in_ok-count.count in
     let r = c.take_run.new.incoming.received in
-    let le = ring_fewer m items c.self.invariant.free c.in-Ok.ensures.count in
+    let le = ring_fewer m items c.self.invariant.free c.in_ok-count.ensures.count in
     let long : length c.advance.new.ring.items ≡ c.self.inside.setup.window = ap length c.advance.ensures.items ∙ ring_long m items le ∙ c.self.invariant.places in
-    let front : slice_get c.advance.new.ring.items 0 ≡ Some None = ap (λ (xs : List (Option Held)). slice_get xs 0) c.advance.ensures.items ∙ ring_free m items c.self.invariant.free c.in-Ok.ensures.count in
-    let on = ap (λ (x : Coming). x.received) c.in-Ok.ensures.taken ∙ received-all (coming (link_view c.self.inside)) (_ ∷ leading (drop 1 items)) in
-    let left : length (held_from (r + 1) c.advance.new.ring.items) + length (leading (drop 1 items)) ≡ length (held_from (c.self.inside.incoming.received + 1) items) = ap (λ (xs : List (Option Held)). length (held_from (r + 1) xs) + length (leading (drop 1 items))) c.advance.ensures.items ∙ length-ring_closed (c.self.inside.incoming.received + 1) (r + 1) m items c.self.invariant.free c.in-Ok.ensures.count in
+    let front : slice_get c.advance.new.ring.items 0 ≡ Some None = ap (λ (xs : List (Option Held)). slice_get xs 0) c.advance.ensures.items ∙ ring_free m items c.self.invariant.free c.in_ok-count.ensures.count in
+    let on = ap (λ (x : Coming). x.received) c.in_ok-count.ensures.taken ∙ received-all (coming (link_view c.self.inside)) (_ ∷ leading (drop 1 items)) in
+    let left : length (held_from (r + 1) c.advance.new.ring.items) + length (leading (drop 1 items)) ≡ length (held_from (c.self.inside.incoming.received + 1) items) = ap (λ (xs : List (Option Held)). length (held_from (r + 1) xs) + length (leading (drop 1 items))) c.advance.ensures.items ∙ length-ring_closed (c.self.inside.incoming.received + 1) (r + 1) m items c.self.invariant.free c.in_ok-count.ensures.count in
     record {
       link = record {
         size = link.size;
@@ -38,54 +37,43 @@ invariant_of-self c =
         within = link.within;
         queued = link.queued;
         few_sent = link.few_sent;
-        few_taken = c.in-Ok.ensures.within;
-        partial = subst (λ (x : Coming). length (unwrap_or x.partial []) ≤ c.self.inside.setup.max_message) (sym c.in-Ok.ensures.taken) (fit_short c.self.inside.setup.max_message (coming (link_view c.self.inside)) (run_in c.args.first c.args.last c.args.payload.now items) c.in-Ok.ensures.fit link.partial);
+        few_taken = c.in_ok-count.ensures.within;
+        partial = subst (λ (x : Coming). length (unwrap_or x.partial []) ≤ c.self.inside.setup.max_message) (sym c.in_ok-count.ensures.taken) (fit_short c.self.inside.setup.max_message (coming (link_view c.self.inside)) (run_in (lent_piece c.args.piece.now) items) c.in_ok-count.ensures.fit link.partial);
         held = held_end (r + 1) (r + 1 + c.self.inside.setup.window) c.advance.new.ring.items front (omega (arith, long));
       };
       places = long;
       capacity = c.advance.ensures.capacity ∙ c.self.invariant.capacity;
       free = front;
-      counted = omega (arith, c.self.invariant.counted, left, c.in-Ok.ensures.count, on);
+      counted = omega (arith, c.self.invariant.counted, left, c.in_ok-count.ensures.count, on);
     }
 
-pub returns-in-Ok-clause-ok : goal.returns-in-Ok-clause-ok
-returns-in-Ok-clause-ok c =
+pub returns-clause-ok : goal.returns-clause-ok
+returns-clause-ok c =
     let v = link_view c.self.inside in
-    let p : Piece = record { first = c.args.first; last = c.args.last; payload = c.args.payload.now } in
-    let fit = run_fit v c.self.inside.held.items refl c.self.invariant.free p v.max_message c.in-Ok.ensures.fit in
+    let p = lent_piece c.args.piece.now in
+    let fit = run_fit v c.self.inside.held.items refl c.self.invariant.free p v.max_message c.in_ok-count.ensures.fit in
     subst (λ (w : LinkValue). AllFit w.max_message (coming w) (run w p)) c.self.view_is fit
 
-pub returns-in-Ok-clause-closed : goal.returns-in-Ok-clause-closed
-returns-in-Ok-clause-closed c =
+pub returns-clause-taken : goal.returns-clause-taken
+returns-clause-taken c =
     let items = c.self.inside.held.items in
     let v = link_view c.self.inside in
-    let p : Piece = record { first = c.args.first; last = c.args.last; payload = c.args.payload.now } in
-    let is = c.in-Ok.ensures.taken in
-    let on : c.take_run.new.incoming.received ≡ v.received + c.in-Ok.count = ap (λ (x : Coming). x.received) is ∙ received-all (coming v) (p ∷ leading (drop 1 items)) ∙ omega (arith, c.in-Ok.ensures.count) in
-    closed_is v items refl c.self.invariant.free p (coming_of c.take_run.new.incoming) c.in-Ok.count c.advance.new.ring.items is c.in-Ok.ensures.count on c.advance.ensures.items
-    ∙ ap (λ (w : LinkValue). closed w p) c.self.view_is
+    let p = lent_piece c.args.piece.now in
+    let is = c.in_ok-count.ensures.taken in
+    let on : c.take_run.new.incoming.received ≡ v.received + c.in_ok-count.count = ap (λ (x : Coming). x.received) is ∙ received-all (coming v) (p ∷ leading (drop 1 items)) ∙ omega (arith, c.in_ok-count.ensures.count) in
+    closed_is v items refl c.self.invariant.free p (coming_of c.take_run.new.incoming) c.in_ok-count.count c.advance.new.ring.items is c.in_ok-count.ensures.count on c.advance.ensures.items
+    ∙ ap (λ (w : LinkValue). taking_in w (w.received + 1) p) c.self.view_is
 
-pub returns-then-ends_link-clause-err : goal.returns-then-ends_link-clause-err
-returns-then-ends_link-clause-err c =
+pub returns-in_err-count-clause-err : goal.returns-in_err-count-clause-err
+returns-in_err-count-clause-err c =
     let items = c.self.inside.held.items in
     let v = link_view c.self.inside in
-    let p : Piece = record { first = c.args.first; last = c.args.last; payload = c.args.payload.now } in
-    let out = run_refuses v items refl c.self.invariant.free p v.max_message c.in-Err.fault c.in-Err.ensures.err in
-    let test = sym c.ends_link.ensures ∙ c.if-ends_link.true in
-    let same : coming_link (failed_link v) (coming_of c.take_run.new.incoming) (held_from (c.take_run.new.incoming.received + 1) items) ≡ failed_link v = ap (λ (x : Coming). coming_link (failed_link v) x (held_from (x.received + 1) items)) c.in-Err.ensures.unchanged in
-    (subst (λ (w : LinkValue). RefusesAll w.max_message (coming w) (run w p) c.in-Err.fault) c.self.view_is out, rw test (same ∙ ap failed_link c.self.view_is))
+    let p = lent_piece c.args.piece.now in
+    let same : coming_link v (coming_of c.take_run.new.incoming) (held_from (c.take_run.new.incoming.received + 1) items) ≡ v = ap (λ (x : Coming). coming_link v x (held_from (x.received + 1) items)) c.in_err-count.ensures.unchanged in
+    if_err_and c.from_residual.result _ _ c.from_residual.ensures.1
+    (λ e is. (subst (λ (w : LinkValue). RefusesAll w.max_message (coming w) (run w p) e) c.self.view_is (run_refuses v items refl c.self.invariant.free p v.max_message e (rw is c.in_err-count.ensures.err)), same ∙ c.self.view_is))
 
-pub returns-else-ends_link-clause-err : goal.returns-else-ends_link-clause-err
-returns-else-ends_link-clause-err c =
-    let items = c.self.inside.held.items in
-    let v = link_view c.self.inside in
-    let p : Piece = record { first = c.args.first; last = c.args.last; payload = c.args.payload.now } in
-    let out = run_refuses v items refl c.self.invariant.free p v.max_message c.in-Err.fault c.in-Err.ensures.err in
-    let test = sym c.ends_link.ensures ∙ c.if-ends_link.false in
-    let same : coming_link v (coming_of c.take_run.new.incoming) (held_from (c.take_run.new.incoming.received + 1) items) ≡ v = ap (λ (x : Coming). coming_link v x (held_from (x.received + 1) items)) c.in-Err.ensures.unchanged in
-    (subst (λ (w : LinkValue). RefusesAll w.max_message (coming w) (run w p) c.in-Err.fault) c.self.view_is out, rw test (same ∙ c.self.view_is))
-
-pub overflow_sub-self-in-Ok : goal.overflow_sub-self-in-Ok
-overflow_sub-self-in-Ok c =
+pub overflow_sub-self-2 : goal.overflow_sub-self-2
+overflow_sub-self-2 c =
     let some = follows_held (c.self.inside.incoming.received + 1) c.self.inside.held.items c.self.invariant.free in
-    omega (arith, some, c.self.invariant.counted, c.in-Ok.ensures.count)
+    omega (arith, some, c.self.invariant.counted, c.in_ok-count.ensures.count)

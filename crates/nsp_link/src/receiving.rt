@@ -1,0 +1,266 @@
+//! Receiving: packets that come, the segments that they carry, and what they acknowledge.
+
+ghost use Rattle.std.specs.Prelude.{◌≡◌, ◌+◌, ◌<◌, ◌≤◌, ◌++◌, [], ◌∷◌, length, drop, Ok, Err, Some, None, IfOk, IfErr, OnOk, OnErr, IsTrue, MatchOption, MatchResult, ℕ, List, false};
+ghost use Rattle.nsp_seg.specs.declared.packet.SegFault.{SegFault};
+ghost use Rattle.nsp_seg.specs.Packets.{Spells, view, PacketValue, HasFault};
+ghost use Rattle.nsp_link.specs.declared.fault.LinkFault.TheVariants.{BadSequence, Failed, NoMemory, WrongLink, Malformed};
+ghost use Rattle.nsp_link.specs.declared.link.Got.TheVariants.{Accepted};
+ghost use Rattle.nsp_link.specs.Coming.{AllFit, RefusesAll};
+ghost use Rattle.nsp_link.specs.Link.{Stands, SendsStill, HandsOut, Keeps, coming, got_of, first_ack, plain_ack};
+ghost use Rattle.nsp_link.specs.Receiving.{newly_acked, forgotten, run, segment_of, taking_in, is_end, stopped, NotTaken, Received, ReceivedBytes, ReceivedDue, UnrefusedDue};
+ghost use Rattle.nsp_link.specs.Inner.Pieces.{lent_piece};
+
+use crate::fault::LinkFault;
+use crate::incoming::take_run;
+use crate::link::{Got, LinkEnd};
+use crate::piece::{Piece, Segment};
+use crate::ring::{advance, fill, is_free};
+use nsp_seg::{AckField, Packet, Seq12, decode_packet};
+use std::collections::VecDeque;
+
+/// A number that is so far ahead of another, or farther, is behind it: half of the 4,096 numbers (NSP 4.0.0,
+/// segment numbers).
+const HALF_ROUND: u16 = 2048;
+
+impl LinkEnd {
+    /// The oldest whole message, which leaves (own). It takes no memory.
+    pub fn take_message(&mut self) -> Option<Vec<u8>>
+        ensures value { MatchOption result ((self.old.inbox ≡ []) × (self.new ≡ self.old))
+            (λ m. HandsOut self.old self.new m.items) }
+        ensures stands { (size : ℕ) (messages given : List (List ℕ))
+            → Stands self.old size messages given
+            → MatchOption result (Stands self.new size messages given)
+            (λ m. Stands self.new size messages (given ++ m.items ∷ [])) }
+        ensures sends { SendsStill self.old self.new }
+    {
+        self.incoming.inbox.pop_front()
+    }
+
+    /// Takes a packet from the other end (NSP 4.0.0, data segment message and data acknowledgement message).
+    /// Its first acknowledgement field with qualifier 0 counts and no other (own); a number that is 2,048 or
+    /// more ahead of the last one acknowledged, modulo 4,096, is behind it, and acknowledges nothing. An early
+    /// segment is held where its distance from the next one is below the window, the first copy of it; the
+    /// segment that closes the gap is taken with all that follow it without a hole, or none of them is (own).
+    ///
+    /// Refused, in this order: `Failed`; `Malformed`; `WrongLink`, where it isn't from the other end to this
+    /// one; `BadSequence`, where it acknowledges what wasn't sent; of the next segment, or of the first at
+    /// fault of those that follow it, `BadSequence`, where a first mark stands elsewhere than in front of a
+    /// message, or `MessageTooLong`, above `max_message`; `Exhausted`, where all of these would be more than
+    /// 2^40 segments; `NoMemory`. After `BadSequence` and `MessageTooLong` nothing of the packet was taken
+    /// and every later call that can refuse answers `Failed`; every other refusal changes nothing.
+    pub fn receive(&mut self, packet: &[u8]) -> Result<Got, LinkFault>
+        ensures failed { IsTrue self.old.failed → (result ≡ Err Failed) × (self.new ≡ self.old) }
+        // Any packet, by the numbers that it shows.
+        ensures any { self.old.failed ≡ false → (p : PacketValue) → Spells p packet.now
+            → Received self.old p result self.new }
+        // All bytes: they are malformed, which changes nothing, or they are a packet.
+        ensures whole { self.old.failed ≡ false
+            → ReceivedBytes self.old self.new packet.now result }
+        // Bytes at fault are malformed with that fault, and these alone; this changes nothing.
+        ensures fault_found { self.old.failed ≡ false → (f : SegFault) → HasFault f packet.now
+            → (result ≡ Err (Malformed f)) × (self.new ≡ self.old) }
+        ensures malformed { (f : SegFault) → result ≡ Err (Malformed f)
+            → HasFault f packet.now × (self.new ≡ self.old) }
+        // The messages sent stay those that were sent.
+        ensures sends { SendsStill self.old self.new }
+        // A packet that is due, by the counts for which its numbers stand.
+        ensures due { ReceivedDue self.old self.new packet.now result }
+        // One that only acknowledges, or whose segment was taken before, is never refused.
+        ensures unrefused { UnrefusedDue self.old packet.now result }
+    {
+        if self.failed {
+            return Err(LinkFault::Failed);
+        }
+        match decode_packet(packet) {
+            Ok(packet) => self.receive_packet(&packet),
+            Err(fault) => Err(LinkFault::Malformed(fault)),
+        }
+    }
+
+    /// Takes in a packet that was read. A fault which shows that the two ends have lost each other ends the link.
+    fn receive_packet(&mut self, packet: &Packet<'_>) -> Result<Got, LinkFault>
+        ensures { Received self.old (view packet.now) result self.new }
+    {
+        let result = self.take_packet(packet);
+        if let Err(fault) = result
+            && ends_link(fault)
+        {
+            self.failed = true;
+        }
+        result
+    }
+
+    /// Takes in a packet that was read; where it is refused, nothing changes.
+    fn take_packet(&mut self, packet: &Packet<'_>) -> Result<Got, LinkFault>
+        ensures ok { IfOk result (λ got. Received self.old (view packet.now) (Ok got) self.new) }
+        ensures err { IfErr result
+            (λ e. Received self.old (view packet.now) (Err e) (stopped e self.old)) }
+        ensures unchanged { OnErr result (self.new ≡ self.old) }
+    {
+        match *packet {
+            Packet::DataAck {
+                dst,
+                src,
+                ack1,
+                ack2,
+            } => {
+                self.check_address(dst, src)?;
+                let count = self.believe(Some(ack1), ack2)?;
+                self.forget(count);
+                Ok(Got::AckOnly)
+            }
+            Packet::Segment {
+                first,
+                last,
+                dst,
+                src,
+                ack1,
+                ack2,
+                number,
+                payload,
+            } => {
+                self.check_address(dst, src)?;
+                let count = self.believe(ack1, ack2)?;
+                let piece = Piece {
+                    first,
+                    last,
+                    payload,
+                };
+                let got = self.take_segment(number, &piece)?;
+                self.forget(count);
+                Ok(got)
+            }
+        }
+    }
+
+    /// Whether a packet is from the other end to this one.
+    fn check_address(&self, dst: u16, src: u16) -> Result<(), LinkFault>
+        ensures { MatchResult result (λ _. (src ≡ self.now.remote) × (dst ≡ self.now.local))
+            (λ e. (e ≡ WrongLink) × ((src ≡ self.now.remote) × (dst ≡ self.now.local) → ⊥)) }
+    {
+        if src == self.setup.remote && dst == self.setup.local {
+            Ok(())
+        } else {
+            Err(LinkFault::WrongLink)
+        }
+    }
+
+    /// How many segments the first plain field acknowledges anew.
+    fn believe(&self, ack1: Option<AckField>, ack2: Option<AckField>) -> Result<usize, LinkFault>
+        ensures ok { IfOk result
+            (λ count. newly_acked self.now (first_ack ack1 ack2) ≡ Some count) }
+        ensures sent { IfOk result (λ count. self.now.acked + count ≤ self.now.sent) }
+        ensures err { IfErr result
+            (λ e. (e ≡ BadSequence) × (newly_acked self.now (first_ack ack1 ack2) ≡ None)) }
+    {
+        let unacked = self.unacked();
+        let Some(number) = plain_number(ack1).or(plain_number(ack2)) else {
+            return Ok(0);
+        };
+        let ahead = usize::from(number.ahead_of(Seq12::of(self.acked)));
+        if ahead >= usize::from(HALF_ROUND) {
+            Ok(0)
+        } else if ahead > unacked {
+            Err(LinkFault::BadSequence)
+        } else {
+            Ok(ahead)
+        }
+    }
+
+    /// Drops the oldest segments, which are acknowledged.
+    fn forget(&mut self, count: usize)
+        requires { self.old.acked + count ≤ self.old.sent }
+        ensures { self.new ≡ forgotten self.old count }
+    {
+        drop_front(&mut self.queue, count);
+        self.acked += count as u64;
+    }
+
+    /// Takes in a segment from the other end; where it is refused, nothing changes.
+    fn take_segment(&mut self, number: Seq12, piece: &Piece<&[u8]>) -> Result<Got, LinkFault>
+        ensures got { IfOk result
+            (λ got. got ≡ got_of self.old.received (Some (segment_of self.old number))) }
+        ensures fit { IfOk result (λ got. got ≡ Accepted
+            → AllFit self.old.max_message (coming self.old) (run self.old (lent_piece piece.now))) }
+        ensures taken { OnOk result (self.new
+            ≡ taking_in self.old (segment_of self.old number) (lent_piece piece.now)) }
+        ensures err { IfErr result (λ e. (self.new ≡ self.old)
+            × NotTaken self.old (segment_of self.old number) (lent_piece piece.now) e) }
+    {
+        let ahead = number.ahead_of(Seq12::of(self.incoming.received + 1));
+        if ahead == 0 {
+            self.take_next(piece)?;
+            Ok(Got::Accepted)
+        } else if ahead < HALF_ROUND {
+            self.keep(usize::from(ahead), piece)?;
+            Ok(Got::Early)
+        } else {
+            Ok(Got::Repeat)
+        }
+    }
+
+    /// Takes in the next segment and all that follow it, or none of them.
+    fn take_next(&mut self, piece: &Piece<&[u8]>) -> Result<(), LinkFault>
+        ensures ok { OnOk result (AllFit self.old.max_message (coming self.old)
+            (run self.old (lent_piece piece.now))) }
+        ensures taken { OnOk result
+            (self.new ≡ taking_in self.old (self.old.received + 1) (lent_piece piece.now)) }
+        ensures err { IfErr result (λ e. RefusesAll self.old.max_message (coming self.old)
+            (run self.old (lent_piece piece.now)) e × (self.new ≡ self.old)) }
+    {
+        let limit = self.setup.max_message;
+        let count = take_run(self.alloc, limit, &mut self.incoming, piece, &self.held)?;
+        advance(&mut self.held, count);
+        self.early -= count - 1;
+        Ok(())
+    }
+
+    /// Keeps an early segment, so many numbers after the next one, unless it is beyond the window or there
+    /// already.
+    fn keep(&mut self, place: usize, piece: &Piece<&[u8]>) -> Result<(), LinkFault>
+        requires { 0 < place }
+        ensures ok { OnOk result (self.new
+            ≡ taking_in self.old (self.old.received + 1 + place) (lent_piece piece.now)) }
+        ensures err { IfErr result (λ e. (e ≡ NoMemory)
+            × Keeps self.old (self.old.received + 1 + place) × (self.new ≡ self.old)) }
+    {
+        if is_free(&self.held, place) {
+            let payload = Vec::from_slice(self.alloc, piece.payload)?;
+            let held = Piece {
+                payload,
+                first: piece.first,
+                last: piece.last,
+            };
+            fill(&mut self.held, place, held);
+            self.early += 1;
+        }
+        Ok(())
+    }
+}
+
+/// Whether the two ends have lost each other.
+fn ends_link(fault: LinkFault) -> bool
+    ensures { result ≡ is_end fault }
+{
+    matches!(fault, LinkFault::BadSequence | LinkFault::MessageTooLong)
+}
+
+/// Drops so many from the front.
+fn drop_front(queue: &mut VecDeque<Segment>, count: usize)
+    requires { count ≤ length queue.old.items }
+    ensures { queue.new.items ≡ drop count queue.old.items }
+{
+    for _ in 0..count {
+        let _ = queue.pop_front();
+    }
+}
+
+/// The number of a field that acknowledges segments of this subchannel.
+fn plain_number(ack: Option<AckField>) -> Option<Seq12>
+    ensures { result ≡ plain_ack ack }
+{
+    match ack {
+        Some(field) if field.qual == 0 => Some(field.number),
+        _ => None,
+    }
+}

@@ -1,0 +1,250 @@
+//! Sending: messages queued as segments, and the packets that an end writes.
+
+ghost use Rattle.std.specs.Prelude.{◌≡◌, ◌≢◌, ◌+◌, ◌-◌, ◌<◌, ◌≤◌, [], ◌∷◌, length, map, Ok, Some, None, IfOk, IfErr, IfSome, OnOk, IsOk, IsTrue, IsErrOf, ℕ, List, false, true};
+ghost use Rattle.nsp_seg.specs.Packets.{IsWritable, view};
+ghost use Rattle.nsp_link.specs.declared.fault.LinkFault.TheVariants.{Failed, NoMemory, NoSuchSegment};
+ghost use Rattle.nsp_link.specs.Cutting.{cut, cut_message};
+ghost use Rattle.nsp_link.specs.Limits.{most_segments};
+ghost use Rattle.nsp_link.specs.Link.{SendsStill, SendsMore, StandsStill, MaySend, Writes, IsSpelling, acknowledging};
+ghost use Rattle.nsp_link.specs.Sending.{WritesQueued, WritesSent, WritesNext, NextFault, ack_packet_of, queued_link, SendAllFault, MayQueueAll};
+
+use crate::cutting::{check_all, queue_all, queue_message, segment_count};
+use crate::fault::LinkFault;
+use crate::incoming::MOST_SEGMENTS;
+use crate::link::LinkEnd;
+use nsp_seg::{AckField, Packet, Seq12, encode_packet};
+
+impl LinkEnd {
+    #[tactic(auto, using(crate::proofs::Counts::one_message))]
+    /// Queues the segments of a message: one for each `seg_size` bytes or part of that, and one of no bytes
+    /// for an empty message (NSP 4.0.0, data segment message). Refused, with nothing changed: `Failed`;
+    /// `MessageTooLong`, above `max_message`; `Exhausted`, where this end would have had more than 2^40
+    /// segments; `NoMemory`.
+    pub fn send(&mut self, message: &[u8]) -> Result<(), LinkFault>
+        ensures ok { OnOk result
+            (self.new ≡ queued_link self.old (cut_message self.old.seg_size message.now)) }
+        ensures fits { OnOk result (MayQueueAll self.old (message.now ∷ [])) }
+        ensures stands { StandsStill self.old self.new }
+        ensures sends { OnOk result (SendsMore self.old self.new (message.now ∷ [])) }
+        ensures err { IfErr result
+            (λ e. SendAllFault self.old (message.now ∷ []) e × (self.new ≡ self.old)) }
+    {
+        if self.failed {
+            return Err(LinkFault::Failed);
+        }
+        if message.len() > self.setup.max_message {
+            return Err(LinkFault::MessageTooLong);
+        }
+        let size = self.setup.seg_size;
+        let count = segment_count(size, message.len());
+        if self.room() < count as u64 {
+            return Err(LinkFault::Exhausted);
+        }
+        let before = self.queue.len();
+        match queue_message(self.alloc, &mut self.queue, size, count, message) {
+            Ok(()) => Ok(()),
+            Err(_) => {
+                self.queue.truncate(before);
+                Err(LinkFault::NoMemory)
+            }
+        }
+    }
+
+    /// Queues the segments of all messages, or of none (NSP 4.0.0, data segment message; all or none is own).
+    /// Refused as `send` is, where any message is too long or all their segments are too many; an empty
+    /// list is queued without memory.
+    pub fn send_all(&mut self, messages: &[Vec<u8>]) -> Result<(), LinkFault>
+        ensures ok { OnOk result
+            (self.new ≡ queued_link self.old (cut self.old.seg_size (map (λ v. v.items) messages.now))) }
+        ensures fits { OnOk result (MayQueueAll self.old (map (λ v. v.items) messages.now)) }
+        ensures stands { StandsStill self.old self.new }
+        ensures sends { OnOk result (SendsMore self.old self.new (map (λ v. v.items) messages.now)) }
+        ensures err { IfErr result
+            (λ e. SendAllFault self.old (map (λ v. v.items) messages.now) e × (self.new ≡ self.old)) }
+        ensures empty { self.old.failed ≡ false → messages.now ≡ []
+            → IsOk result × (self.new ≡ self.old) }
+    {
+        self.check_messages(messages)?;
+        self.send_checked(messages)
+    }
+
+    /// The same of messages that `check_messages` lets through: they aren't looked at again. Refused for want of memory
+    /// alone, with nothing changed (own).
+    pub fn send_checked(&mut self, messages: &[Vec<u8>]) -> Result<(), LinkFault>
+        requires { MayQueueAll self.old (map (λ v. v.items) messages.now) }
+        ensures ok { OnOk result
+            (self.new ≡ queued_link self.old (cut self.old.seg_size (map (λ v. v.items) messages.now))) }
+        ensures stands { StandsStill self.old self.new }
+        ensures sends { OnOk result (SendsMore self.old self.new (map (λ v. v.items) messages.now)) }
+        ensures err { IfErr result (λ e. (e ≡ NoMemory) × (self.new ≡ self.old)) }
+        ensures empty { messages.now ≡ [] → IsOk result × (self.new ≡ self.old) }
+    {
+        let before = self.queue.len();
+        match queue_all(self.alloc, &mut self.queue, self.setup.seg_size, messages) {
+            Ok(()) => Ok(()),
+            Err(_) => {
+                self.queue.truncate(before);
+                Err(LinkFault::NoMemory)
+            }
+        }
+    }
+
+    /// Whether `send_all` would take the messages, memory aside; refused as there (own). It takes no memory.
+    pub fn check_messages(&self, messages: &[Vec<u8>]) -> Result<(), LinkFault>
+        ensures ok { OnOk result (MayQueueAll self.now (map (λ v. v.items) messages.now)) }
+        ensures empty { self.now.failed ≡ false → messages.now ≡ [] → IsOk result }
+        ensures err { IfErr result
+            (λ e. (e ≢ NoMemory) × SendAllFault self.now (map (λ v. v.items) messages.now) e) }
+    {
+        if self.failed {
+            return Err(LinkFault::Failed);
+        }
+        let setup = &self.setup;
+        check_all(setup.seg_size, setup.max_message, self.room(), messages)
+    }
+
+    /// How many segments may still be queued.
+    fn room(&self) -> u64
+        ensures { self.now.acked + length self.now.queue + result ≡ most_segments }
+    {
+        MOST_SEGMENTS - self.acked - (self.queue.len() as u64)
+    }
+
+    /// Whether a segment that was never sent waits and the window has room, so that `next_packet` writes one,
+    /// unless the end has failed (own). It takes no memory.
+    pub fn may_send(&self) -> bool
+        ensures yes { result ≡ true → MaySend self.now }
+        ensures no { result ≡ false → MaySend self.now → ⊥ }
+    {
+        let place = self.unacked();
+        place < self.queue.len() && place < self.setup.window
+    }
+
+    /// The bytes of the segment at this place of the queue.
+    fn segment_at(&self, place: usize) -> Result<Vec<u8>, LinkFault>
+        requires { place < length self.now.queue }
+        ensures ok { IfOk result
+            (λ v. WritesQueued self.now place (self.now.acked + 1 + place) v.items) }
+        ensures carries { IfOk result
+            (λ v. WritesSent self.now (Some (self.now.acked + 1 + place)) v.items) }
+        ensures err { IfErr result (λ e. e ≡ NoMemory) }
+    {
+        let segment = &self.queue[place];
+        let packet = Packet::Segment {
+            first: segment.first,
+            last: segment.last,
+            dst: self.setup.remote,
+            src: self.setup.local,
+            ack1: Some(self.acknowledgement()),
+            ack2: None,
+            number: Seq12::of(self.acked + 1 + place as u64),
+            payload: &segment.payload,
+        };
+        self.written(&packet)
+    }
+
+    /// What every packet acknowledges.
+    fn acknowledgement(&self) -> AckField
+        ensures { result ≡ acknowledging self.now.received }
+    {
+        AckField {
+            qual: 0,
+            number: Seq12::of(self.incoming.received),
+        }
+    }
+
+    /// The packet as it is spelled.
+    fn written(&self, packet: &Packet<'_>) -> Result<Vec<u8>, LinkFault>
+        requires { IsWritable (view packet.now) }
+        ensures ok { IfOk result (λ v. IsSpelling (view packet.now) v.items) }
+        ensures err { IfErr result (λ e. e ≡ NoMemory) }
+    {
+        let mut out = Vec::new(self.alloc);
+        encode_packet(packet, &mut out).map_err(|_| LinkFault::NoMemory)?;
+        Ok(out)
+    }
+
+    /// The packet of the next segment that was never sent, or none where none waits or the window is full
+    /// (NSP 4.0.0, data segment message). It acknowledges all segments that were taken. Refused, with nothing
+    /// changed: `Failed`; `NoMemory`, where there is one to send.
+    pub fn next_packet(&mut self) -> Result<Option<Vec<u8>>, LinkFault>
+        ensures nothing { result ≡ Ok None → (self.new ≡ self.old) × (MaySend self.old → ⊥) }
+        ensures segment { IfOk result (λ o. IfSome o
+            (λ v. WritesNext self.old self.new v.items)) }
+        ensures carries { IfOk result (λ o. IfSome o
+            (λ v. WritesSent self.old (Some (self.old.sent + 1)) v.items)) }
+        ensures sends { SendsStill self.old self.new }
+        ensures stands { StandsStill self.old self.new }
+        ensures err { IfErr result (λ e. (self.new ≡ self.old) × NextFault self.old e) }
+        ensures failed { IsTrue self.old.failed → IsErrOf result Failed }
+    {
+        if self.failed {
+            return Err(LinkFault::Failed);
+        }
+        if !self.may_send() {
+            return Ok(None);
+        }
+        let packet = self.write_next()?;
+        Ok(Some(packet))
+    }
+
+    /// The same of an end that hasn't failed, and of a segment of which `may_send` tells: neither is looked
+    /// at again. Refused for want of memory alone, with nothing changed (own).
+    pub fn write_next(&mut self) -> Result<Vec<u8>, LinkFault>
+        requires works { self.old.failed ≡ false }
+        requires may { MaySend self.old }
+        ensures segment { IfOk result (λ v. WritesNext self.old self.new v.items) }
+        ensures carries { IfOk result (λ v. WritesSent self.old (Some (self.old.sent + 1)) v.items) }
+        ensures sends { SendsStill self.old self.new }
+        ensures stands { StandsStill self.old self.new }
+        ensures err { IfErr result (λ e. (self.new ≡ self.old) × (e ≡ NoMemory)) }
+    {
+        let packet = self.segment_at(self.unacked())?;
+        self.sent += 1;
+        Ok(packet)
+    }
+
+    /// The packet of a segment that was sent and isn't acknowledged, again: the oldest is at place 0
+    /// (NSP 4.0.0, data segment message). Refused: `Failed`; `NoSuchSegment`, from `unacked()` on;
+    /// `NoMemory`.
+    pub fn resend(&self, place: usize) -> Result<Vec<u8>, LinkFault>
+        ensures segment { IfOk result (λ v. (place < self.now.sent - self.now.acked)
+            × WritesQueued self.now place (self.now.acked + 1 + place) v.items) }
+        ensures carries { IfOk result
+            (λ v. WritesSent self.now (Some (self.now.acked + 1 + place)) v.items) }
+        ensures failed { IsTrue self.now.failed → IsErrOf result Failed }
+        ensures missing { self.now.failed ≡ false → self.now.sent - self.now.acked ≤ place
+            → IsErrOf result NoSuchSegment }
+        ensures memory { self.now.failed ≡ false → place < self.now.sent - self.now.acked
+            → IfErr result (λ e. e ≡ NoMemory) }
+    {
+        if self.failed {
+            return Err(LinkFault::Failed);
+        }
+        if place >= self.unacked() {
+            return Err(LinkFault::NoSuchSegment);
+        }
+        self.segment_at(place)
+    }
+
+    /// A packet that only acknowledges all segments that were taken, and none that is held (NSP 4.0.0, data
+    /// acknowledgement message). Refused: `Failed`; `NoMemory`.
+    pub fn ack_packet(&self) -> Result<Vec<u8>, LinkFault>
+        ensures ack { IfOk result (λ v. IsSpelling (ack_packet_of self.now) v.items) }
+        ensures carries { IfOk result (λ v. (messages : List (List ℕ))
+            → Writes self.now messages None self.now.received v.items) }
+        ensures failed { IsTrue self.now.failed → IsErrOf result Failed }
+        ensures memory { self.now.failed ≡ false → IfErr result (λ e. e ≡ NoMemory) }
+    {
+        if self.failed {
+            return Err(LinkFault::Failed);
+        }
+        let packet = Packet::DataAck {
+            dst: self.setup.remote,
+            src: self.setup.local,
+            ack1: self.acknowledgement(),
+            ack2: None,
+        };
+        self.written(&packet)
+    }
+}
