@@ -122,7 +122,7 @@ fn refused_access<'a>(reason: Reason) -> Answer<'a>
 {
     Answer::Reason {
         code: ACCESS_REFUSED,
-        reason: reason.number(),
+        reason: [reason.number()],
     }
 }
 

@@ -190,7 +190,14 @@ impl Accessed {
             self.phase = Phase::Connected(opened, without_current(stream));
             return Ok(answers);
         }
-        let answers = one(self.alloc, self.limit, Answer::Record { number, body })?;
+        let answers = one(
+            self.alloc,
+            self.limit,
+            Answer::Record {
+                number: number.to_le_bytes(),
+                body,
+            },
+        )?;
         self.phase = Phase::Connected(opened, after);
         Ok(answers)
     }

@@ -106,7 +106,7 @@ pub(crate) fn refused<'a>(refusal: Refusal) -> Answer<'a>
         Refusal::EndOfFile => Answer::Status(END_OF_FILE),
         _ => Answer::Reason {
             code: RECORD_REFUSED,
-            reason: reason_number(refusal),
+            reason: [reason_number(refusal)],
         },
     }
 }
@@ -119,8 +119,8 @@ pub(crate) fn store_refused<'a>(refusal: Refusal, ordinal: u32) -> Answer<'a>
     match refusal {
         Refusal::EndOfFile => Answer::Status(END_OF_FILE),
         _ => Answer::StoreRefusal {
-            reason: reason_number(refusal),
-            ordinal,
+            reason: [reason_number(refusal)],
+            ordinal: ordinal.to_le_bytes(),
         },
     }
 }
@@ -131,7 +131,7 @@ pub(crate) fn settled<'a>(reply: Result<u32, Refusal>) -> Answer<'a>
     ensures short { IsShort result }
 {
     match reply {
-        Ok(number) => Answer::Done(number),
+        Ok(number) => Answer::Done(number.to_le_bytes()),
         Err(refusal) => refused(refusal),
     }
 }

@@ -196,7 +196,10 @@ impl Accessed {
             append(
                 self.alloc,
                 self.limit,
-                Answer::Record { number, body },
+                Answer::Record {
+                    number: number.to_le_bytes(),
+                    body,
+                },
                 &mut answers,
             )?;
             next = number + 1;
