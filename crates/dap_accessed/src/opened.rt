@@ -14,7 +14,7 @@ use crate::answers::{Answer, Room, one, too_large};
 use crate::fault::NoMemory;
 use crate::measuring::filedata_len;
 use crate::phase::{OpenFile, Phase};
-use crate::refusing::{key_for, pick_for, refused, settled, wants_memory, without_current};
+use crate::refusing::{key_for, pick_for, refused, settled, without_current};
 use crate::verbs::{Verb, verb_of};
 use dap_msg::codes::{
     CMPFUNC_CLOSE, CMPFUNC_END_OF_STREAM, CMPFUNC_PURGE, CMPFUNC_SKIP, SUCCESS, TYPE_COMPLETE,
@@ -248,10 +248,7 @@ impl Accessed {
         };
         let room = Room::new(self.alloc)?;
         let mut after = stream;
-        let reply = self.files.put(opened.at, &mut after, key, body);
-        if wants_memory(reply) {
-            return Err(NoMemory);
-        }
+        let reply = self.files.put(opened.at, &mut after, key, body)?;
         self.phase = Phase::Connected(opened, after);
         Ok(room.fill(self.limit, settled(reply)))
     }
@@ -269,10 +266,7 @@ impl Accessed {
     {
         let room = Room::new(self.alloc)?;
         let mut after = stream;
-        let reply = self.files.update(opened.at, &mut after, body);
-        if wants_memory(reply) {
-            return Err(NoMemory);
-        }
+        let reply = self.files.update(opened.at, &mut after, body)?;
         self.phase = Phase::Connected(opened, after);
         Ok(room.fill(self.limit, settled(reply)))
     }

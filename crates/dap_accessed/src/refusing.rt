@@ -4,7 +4,6 @@ ghost use Rattle.std.specs.Prelude.{◌≡◌, []};
 ghost use Rattle.dap_msg.specs.Message.{seen_control};
 ghost use Rattle.dap_msg.specs.Exchange.{four_bytes};
 ghost use Rattle.rec_file.specs.AnyFiles.{any_value};
-ghost use Rattle.rec_file.specs.Acts.{is_no_memory};
 ghost use Rattle.dap_accessed.specs.Replies.{reason_of, record_status, refusal_status};
 ghost use Rattle.dap_accessed.specs.Records.{get_pick, key_of, put_key, uncurrent};
 ghost use Rattle.dap_accessed.specs.Inner.Written.{IsShort, message_of};
@@ -133,15 +132,5 @@ pub(crate) fn settled<'a>(reply: Result<u32, Refusal>) -> Answer<'a>
     match reply {
         Ok(number) => Answer::Done(number.to_le_bytes()),
         Err(refusal) => refused(refusal),
-    }
-}
-
-/// Whether memory was wanting.
-pub(crate) fn wants_memory(reply: Result<u32, Refusal>) -> bool
-    ensures { result ≡ is_no_memory reply }
-{
-    match reply {
-        Ok(_) => false,
-        Err(refusal) => refusal == Refusal::NoMemory,
     }
 }

@@ -16,7 +16,7 @@ use crate::answers::{Answer, Room, append, too_large};
 use crate::fault::NoMemory;
 use crate::measuring::filedata_len;
 use crate::phase::{OpenFile, Phase};
-use crate::refusing::{store_refused, wants_memory};
+use crate::refusing::store_refused;
 use dap_msg::Message;
 use dap_msg::codes::{
     CONFUNC_ABORT, CONFUNC_AGAIN, CONFUNC_RESUME, CONFUNC_SKIP, END_OF_FILE, TYPE_CONTINUE,
@@ -99,10 +99,7 @@ impl Accessed {
     {
         let room = Room::new(self.alloc)?;
         let mut after = stream;
-        let reply = self.files.put(opened.at, &mut after, None, body);
-        if wants_memory(reply) {
-            return Err(NoMemory);
-        }
+        let reply = self.files.put(opened.at, &mut after, None, body)?;
         let ordinal = ordinal.saturating_add(1);
         match reply {
             Ok(_) => {
