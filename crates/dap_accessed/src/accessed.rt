@@ -126,7 +126,7 @@ fn refused_access<'a>(reason: Reason) -> Answer<'a>
     }
 }
 
-// The answer to a message that has no place in this phase.
+/// The answer to a message that has no place in this phase.
 fn misplaced<'a>(phase: Phase, message: &Message<'_>) -> Answer<'a>
     ensures message { message_of result ≡ misplaced phase (seen message.now) }
     ensures short { IsShort result }
@@ -326,12 +326,12 @@ impl Accessed {
             → is_silent self.old.phase item ≡ true → IsOk result }
     {
         let (item, next) = item_at(nsp_message, at);
-        self.serve_read(item, next)
+        self.serve_item(item, next)
     }
 
     /// The same of what was read already: the message or fault that `item_at` answered, and the place
     /// behind it. Own.
-    pub fn serve_read(&mut self, item: Item<'_>, next: usize) -> Result<Served, NoMemory>
+    pub fn serve_item(&mut self, item: Item<'_>, next: usize) -> Result<Served, NoMemory>
         requires { ItemFits (seen_item item) }
         ensures serves { (bytes : List ℕ) (at : ℕ) → ItemAt bytes at (seen_item item.entry) next
             → IfOk result (Serves bytes at self.old self.new) }
@@ -340,11 +340,11 @@ impl Accessed {
         ensures unrefused { is_silent self.old.phase (seen_item item.entry) ≡ true → IsOk result }
     {
         let _ = &self.limit;
-        let answers = self.serve_item(item)?;
+        let answers = self.answer_item(item)?;
         Ok(Served { answers, next })
     }
 
-    fn serve_item(&mut self, item: Item<'_>) -> Result<Vec<Vec<u8>>, NoMemory>
+    fn answer_item(&mut self, item: Item<'_>) -> Result<Vec<Vec<u8>>, NoMemory>
         requires { ItemFits (seen_item item) }
         ensures ok { Makes (move self.old (seen_item item.entry)) self.old self.new result }
         ensures err { OnErr result (self.new ≡ self.old) }
@@ -360,7 +360,7 @@ impl Accessed {
         }
     }
 
-    // Answers an item that has no place: it ends a group of two, and changes nothing else.
+    /// Answers an item that has no place: it ends a group of two, and changes nothing else.
     fn refuse_item(&mut self, answer: Answer<'_>) -> Result<Vec<Vec<u8>>, NoMemory>
         requires { IsShort answer }
         ensures ok { Makes (refuses_item self.old (message_of answer.entry))
@@ -372,7 +372,7 @@ impl Accessed {
         Ok(answers)
     }
 
-    // The answers to a message, or none where it has no place.
+    /// The answers to a message, or none where it has no place.
     fn serve_message(&mut self, message: Message<'_>) -> Result<Option<Vec<Vec<u8>>>, NoMemory>
         requires { FieldsFit (seen message) }
         ensures takes { Takes self.old.phase (seen message.entry) self.old self.new result }

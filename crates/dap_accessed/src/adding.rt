@@ -76,7 +76,7 @@ impl Accessed {
         self.files.add_record(count - 1, number, body)
     }
 
-    // Whether the end waits for the peer's Config.
+    /// Whether the end waits for the peer's Config.
     fn is_fresh(&self) -> bool
         ensures yes { result ≡ true → self.now.phase ≡ phases.Fresh }
         ensures no { result ≡ false → self.now.phase ≡ phases.Fresh → ⊥ }
@@ -88,7 +88,7 @@ impl Accessed {
     }
 }
 
-// Stores a record under its number. In a sequential file each number up to the highest has a record.
+/// Stores a record under its number. In a sequential file each number up to the highest has a record.
 pub(crate) fn add_record(file: &mut AnyFile, number: u32, body: &[u8]) -> Result<(), AddFault>
     ensures { Stores number body.now (any_value file.old) (any_value file.new) result }
 {
@@ -108,7 +108,7 @@ pub(crate) fn add_record(file: &mut AnyFile, number: u32, body: &[u8]) -> Result
     }
 }
 
-// In a sequential file a record would leave a gap before it.
+/// In a sequential file a record would leave a gap before it.
 fn leaves_gap(file: &AnyFile, number: u32) -> bool
     ensures { result ≡ leaves_gap (any_value file.now) number }
 {

@@ -13,7 +13,7 @@ use dap_msg::codes::{
     CMPFUNC_RESPONSE, ORG_RELATIVE, ORG_SEQUENTIAL, RECORD_REFUSED, RFM_FIXED, RFM_VARIABLE,
     Reason, SUCCESS,
 };
-use dap_msg::{Attributes, LEAST_BUFFER, Message, append_message, encode};
+use dap_msg::{Attributes, LEAST_BUFFER, Message, append_message, encode, encoded_len};
 use rec_file::{Format, Org, Shape};
 use std::alloc::Global;
 use std::marker::Model;
@@ -134,6 +134,17 @@ fn record<'a>(number: &'a [u8], body: &'a [u8]) -> Message<'a>
         recnum: number,
         payload: body,
     }
+}
+
+/// How many bytes the Filedata of a record has, with its number in 4 bytes.
+pub(crate) fn filedata_len(body: &[u8]) -> usize
+    requires { length body.now ≤ longest_record }
+    ensures { result ≡ file_data_size 4 (length body.now) }
+{
+    encoded_len(&Message::Filedata {
+        recnum: &[0; 4],
+        payload: body,
+    })
 }
 
 impl<'a> Answer<'a> {

@@ -4,24 +4,31 @@ ghost use Rattle.std.specs.Prelude.{◌≡◌, ◌≢◌, ◌<◌, length, IsOk,
 ghost use Rattle.dap_msg.specs.Codes.{cmpfunc};
 ghost use Rattle.dap_msg.specs.Items.{Whole};
 ghost use Rattle.dap_msg.specs.Message.{Control as TheControl, seen, seen_control};
-ghost use Rattle.dap_accessed.specs.Records.{Putting, Updating, verb_of};
+ghost use Rattle.dap_accessed.specs.Records.{Putting, Updating, uncurrent, verb_of};
 ghost use Rattle.dap_accessed.specs.Served.{begins_only, is_silent};
 ghost use Rattle.dap_accessed.specs.Inner.Moves.{Completes, CompletesStream, Makes, Takes, changes, deletes, gets, refuses};
 ghost use Rattle.dap_accessed.specs.declared.phase.Phase.TheVariants as phases;
 
 use crate::accessed::Accessed;
-use crate::answers::{Answer, Room, one, too_large};
+use crate::answers::{Answer, Room, filedata_len, one, too_large};
 use crate::fault::NoMemory;
-use crate::measuring::filedata_len;
 use crate::phase::{OpenFile, Phase};
-use crate::refusing::{key_for, pick_for, refused, settled, without_current};
-use crate::verbs::{Verb, verb_of};
+use crate::refusing::{refused, settled};
+use crate::verbs::{Verb, key_for, pick_for, verb_of};
 use dap_msg::codes::{
     CMPFUNC_CLOSE, CMPFUNC_END_OF_STREAM, CMPFUNC_PURGE, CMPFUNC_SKIP, SUCCESS, TYPE_COMPLETE,
     invalid, unsupported,
 };
 use dap_msg::{Control, Message};
 use rec_file::{Refusal, Stream};
+
+/// The stream with no current record.
+fn without_current(mut stream: Stream) -> Stream
+    ensures { result ≡ uncurrent stream }
+{
+    stream.forget();
+    stream
+}
 
 impl Accessed {
     pub(crate) fn serve_opened(

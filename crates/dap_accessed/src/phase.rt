@@ -40,7 +40,7 @@ pub enum Phase {
 }
 
 impl Phase {
-    // The phase behind an item that is refused: a group of two ends.
+    /// The phase behind an item that is refused: a group of two ends.
     pub(crate) fn behind(self) -> Phase
         ensures { result ≡ phase_behind self }
     {

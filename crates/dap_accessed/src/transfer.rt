@@ -12,9 +12,8 @@ ghost use Rattle.dap_accessed.specs.Served.{is_silent};
 ghost use Rattle.dap_accessed.specs.declared.phase.Phase.TheVariants as phases;
 
 use crate::accessed::Accessed;
-use crate::answers::{Answer, Room, append, too_large};
+use crate::answers::{Answer, Room, append, filedata_len, too_large};
 use crate::fault::NoMemory;
-use crate::measuring::filedata_len;
 use crate::phase::{OpenFile, Phase};
 use crate::refusing::store_refused;
 use dap_msg::Message;
@@ -34,7 +33,7 @@ fn at_number(mut stream: Stream, number: u32) -> Stream
     stream
 }
 
-// The answer to a Continue Transfer that asks for nothing that is done here.
+/// The answer to a Continue Transfer that asks for nothing that is done here.
 fn refused_continuation<'a>(func: u8) -> Answer<'a>
     ensures message { message_of result ≡ continue_refused func }
     ensures short { IsShort result }
@@ -134,7 +133,7 @@ impl Accessed {
         }
     }
 
-    // A Continue Transfer after a fetch that stopped.
+    /// A Continue Transfer after a fetch that stopped.
     fn go_on(
         &mut self,
         opened: OpenFile,
