@@ -6,7 +6,9 @@ ghost use Rattle.dap_msg.specs.Items.{Whole};
 ghost use Rattle.dap_msg.specs.Message.{Control as TheControl, seen, seen_control};
 ghost use Rattle.dap_accessed.specs.Records.{Putting, Updating, uncurrent, verb_of};
 ghost use Rattle.dap_accessed.specs.Served.{begins_only, is_silent};
-ghost use Rattle.dap_accessed.specs.Inner.Moves.{Completes, CompletesStream, Makes, Takes, changes, deletes, gets, refuses};
+ghost use Rattle.dap_accessed.specs.Inner.Moves.{Completes, Makes, Takes, changes, deletes, gets, refuses, scene_in};
+ghost use Rattle.dap_accessed.specs.Accesses.{end_stream};
+ghost use Rattle.dap_accessed.specs.Standing.{Effect};
 ghost use Rattle.dap_accessed.specs.declared.phase.Phase.TheVariants as phases;
 
 use crate::accessed::Accessed;
@@ -65,7 +67,7 @@ impl Accessed {
     pub(crate) fn complete(&mut self, opened: OpenFile, func: u8) -> Result<Vec<Vec<u8>>, NoMemory>
         requires there { opened.at < length self.old.files }
         requires other { func ≢ cmpfunc.end_of_stream }
-        ensures ok { Completes func opened self.old self.new result }
+        ensures ok { (ends : Effect) → Completes func opened ends self.old self.new result }
         ensures err { OnErr result (self.new ≡ self.old) }
     {
         match func {
@@ -94,7 +96,8 @@ impl Accessed {
         func: u8,
     ) -> Result<Vec<Vec<u8>>, NoMemory>
         requires { opened.at < length self.old.files }
-        ensures ok { CompletesStream func opened self.old self.new result }
+        ensures ok { Completes func opened (end_stream (scene_in self.old) opened)
+            self.old self.new result }
         ensures err { OnErr result (self.new ≡ self.old) }
     {
         if func == CMPFUNC_END_OF_STREAM {

@@ -94,18 +94,17 @@ turns (Begins begun) p memory place item = begins p (phase_within begun.change b
 abbrev pub between : Present → Memory → Place → Item → Move
 between p memory place item = turns (turn_of (scene_in p) memory place item) p memory place item
 
--- the second item of a group of two
-abbrev pub within : Present → Change → OpenFile → StreamVal → Item → Move
-within p change opened stream item =
-    settles p (plain_memory p.kept) (effect_with change (scene_in p) opened stream item)
+-- a group that is over, outside a Store
+abbrev pub does : Present → Effect → Move
+does p effect = settles p (plain_memory p.kept) effect
 
 abbrev pub move_in : Phase → Present → Item → Move
 move_in phases.Fresh p item = between p (plain_memory p.kept) Fresh item
 move_in phases.Ready p item = between p (plain_memory p.kept) Ready item
 move_in (phases.Opened opened) p item = between p (plain_memory p.kept) (Opened opened) item
 move_in (phases.Connected opened stream) p item = between p (plain_memory p.kept) (Connected opened stream) item
-move_in (phases.PutDue opened stream key) p item = within p (Putting key) opened stream item
-move_in (phases.UpdateDue opened stream) p item = within p Updating opened stream item
+move_in (phases.PutDue opened stream key) p item = does p (effect_with (Putting key) (scene_in p) opened stream item)
+move_in (phases.UpdateDue opened stream) p item = does p (effect_with Updating (scene_in p) opened stream item)
 move_in (phases.Storing opened stream ordinal) p item =
     between p (store_memory p.kept false ordinal) (Store opened stream) item
 move_in (phases.Dropping opened stream ordinal) p item =
@@ -162,10 +161,6 @@ store_phase dropping opened stream ordinal =
 abbrev pub Makes : Move → (old new : Present) → Result (Vec (Vec ℕ)) NoMemory → Type 0
 Makes step old new result = IfOk result (Moves old step new)
 
--- a group that is over, outside a Store
-abbrev pub does : Present → Effect → Move
-does p effect = settles p (plain_memory p.kept) effect
-
 -- an Access, which uses up the attributes that were kept
 abbrev pub accesses : Present → Effect → Move
 accesses p effect = settles p (plain_memory (asked_shape no_attributes)) effect
@@ -212,17 +207,11 @@ refuses p opened stream refusal = does p (refused (scene_in p) opened stream ref
 abbrev pub fetches : Present → OpenFile → StreamVal → Move
 fetches p opened stream = does p (fetch (scene_in p) opened stream)
 
--- a completion in any place in which this file is open, whatever the end of a stream does there
-abbrev pub Completes : (func : ℕ) → OpenFile → (old new : Present) → Result (Vec (Vec ℕ)) NoMemory → Type 0
-Completes func opened old new result =
-    IfOk result (λ answers. (place : Place) (memory : Memory) (ends : Effect) → old.phase ≡ phase_at place memory
-    → memory.shape ≡ old.kept → Moves old (settles old memory (complete func (scene_in old) opened place ends)) new answers)
-
--- and where a stream is there
-abbrev pub CompletesStream : (func : ℕ) → OpenFile → (old new : Present) → Result (Vec (Vec ℕ)) NoMemory → Type 0
-CompletesStream func opened old new result =
+-- a completion in any place in which this file is open, if the end of a stream has this effect there
+abbrev pub Completes : (func : ℕ) → OpenFile → (ends : Effect) → (old new : Present) → Result (Vec (Vec ℕ)) NoMemory → Type 0
+Completes func opened ends old new result =
     IfOk result (λ answers. (place : Place) (memory : Memory) → old.phase ≡ phase_at place memory → memory.shape ≡ old.kept
-    → Moves old (settles old memory (complete func (scene_in old) opened place (end_stream (scene_in old) opened))) new answers)
+    → Moves old (settles old memory (complete func (scene_in old) opened place ends)) new answers)
 
 -- the phase behind a fetch
 abbrev pub fetched_phase : Present → OpenFile → StreamVal → Phase

@@ -6,4 +6,4 @@ use Rattle.dap_accessed.proofs.accessed.Accessed.serve_opened.Goals as goal
 pub returns-in_ok-complete-in-Accomp-clause-takes : goal.returns-in_ok-complete-in-Accomp-clause-takes
 returns-in_ok-complete-in-Accomp-clause-takes c =
     rw c.in-Accomp.is
-    (c.in_ok-complete-in-Accomp.ensures.ok (Opened c.args.opened) (plain_memory c.args.self.now.kept) _ c.requires.phase refl)
+    (c.in_ok-complete-in-Accomp.ensures.ok _ (Opened c.args.opened) (plain_memory c.args.self.now.kept) c.requires.phase refl)
