@@ -48,6 +48,7 @@ pub(crate) fn too_large<'a>() -> Answer<'a>
     }
 }
 
+#[tactic(auto, using(dap_msg::proofs::ForCallers::answers_fit))]
 fn status<'a>(code: u16, rfa: &'a [u8], recnum: &'a [u8], stv: &'a [u8]) -> Message<'a>
     requires rfa { length rfa.now ≤ 4 }
     requires recnum { length recnum.now ≤ 4 }
@@ -83,6 +84,7 @@ fn format_code(format: Format) -> u8
 }
 
 /// The Attributes of a file, with its MRN in these four bytes.
+#[tactic(auto, using(dap_msg::proofs::ForCallers::answers_fit, crate::proofs::Writing::org_small, crate::proofs::Writing::format_small))]
 fn attributes(shape: Shape, mrn: &[u8]) -> Message<'_>
     requires { mrn.now ≡ four_bytes shape.mrn }
     ensures same { seen result ≡ attributes_for shape }
@@ -98,31 +100,8 @@ fn attributes(shape: Shape, mrn: &[u8]) -> Message<'_>
     })
 }
 
-fn config<'a>(bufsiz: u16) -> Message<'a>
-    ensures same { seen result ≡ config_of bufsiz }
-    ensures fits { Fits (config_of bufsiz) }
-    ensures short { IsAtMost least_buffer (config_of bufsiz) }
-{
-    Message::config_of(bufsiz)
-}
-
-fn complete<'a>() -> Message<'a>
-    ensures same { seen result ≡ completed }
-    ensures fits { Fits completed }
-    ensures short { IsAtMost least_buffer completed }
-{
-    Message::complete_with(CMPFUNC_RESPONSE)
-}
-
-fn acknowledge<'a>() -> Message<'a>
-    ensures same { seen result ≡ Ack }
-    ensures fits { Fits Ack }
-    ensures short { IsAtMost least_buffer Ack }
-{
-    Message::Ack
-}
-
 /// A record, with its number in these four bytes.
+#[tactic(auto, using(dap_msg::proofs::ForCallers::file_data_measured))]
 fn record<'a>(number: &'a [u8], body: &'a [u8]) -> Message<'a>
     requires four { length number.now ≡ 4 }
     requires short { length body.now ≤ longest_record }
@@ -137,6 +116,7 @@ fn record<'a>(number: &'a [u8], body: &'a [u8]) -> Message<'a>
 }
 
 /// How many bytes the Filedata of a record has, with its number in 4 bytes.
+#[tactic(auto, using(dap_msg::proofs::ForCallers::file_data_measured))]
 pub(crate) fn filedata_len(body: &[u8]) -> usize
     requires { length body.now ≤ longest_record }
     ensures { result ≡ file_data_size 4 (length body.now) }
@@ -148,6 +128,7 @@ pub(crate) fn filedata_len(body: &[u8]) -> usize
 }
 
 impl<'a> Answer<'a> {
+    #[tactic(auto, using(dap_msg::proofs::ForCallers::answers_fit))]
     fn message(&self) -> Message<'_>
         requires { IsWritable self.now }
         ensures same { seen result ≡ message_of self.now }
@@ -155,10 +136,10 @@ impl<'a> Answer<'a> {
         ensures within { IsAtMost (most_bytes self.now) (message_of self.now) }
     {
         match self {
-            Answer::Config(bufsiz) => config(*bufsiz),
+            Answer::Config(bufsiz) => Message::config_of(*bufsiz),
             Answer::Attributes(shape, mrn) => attributes(*shape, mrn),
-            Answer::Ack => acknowledge(),
-            Answer::Complete => complete(),
+            Answer::Ack => Message::Ack,
+            Answer::Complete => Message::complete_with(CMPFUNC_RESPONSE),
             Answer::Status(code) => status(*code, &[], &[], &[]),
             Answer::Reason { code, reason } => status(*code, &[], &[], reason),
             Answer::StoreRefusal { reason, ordinal } => {
