@@ -1,5 +1,5 @@
 -- The files of a table by their names, and what an operation on one makes of the table.
-use Rattle.std.proofs.Common.{◌≡◌, ℕ, ◌<◌, List, length, map, sym, subst, ◌∙◌}
+use Rattle.std.proofs.Common.{◌≡◌, ℕ, ◌<◌, List, length, map, sym, subst}
 use Rattle.std.specs.Prelude.{Bool, Result, Ok, Err, IfOk, OnErr, MatchBool, Some, slice_get, true, false}
 use Rattle.std.specs.Map.{values_of}
 use Rattle.std.specs.Global.{Vec}

@@ -1,15 +1,13 @@
 -- The file that is open is in the table, and what a Store does.
-use Rattle.std.proofs.Common.{◌≡◌, ℕ, ◌<◌, Bool, true, false, length, refl, ap, arith, Result, Ok, Err, IfOk}
+use Rattle.std.proofs.Common.{◌≡◌, ℕ, Bool, true, false, refl, Result, Ok, Err, IfOk}
 use Rattle.dap_msg.specs.Items.{Item, Whole}
 use Rattle.dap_msg.specs.Message.{Accomp, Completion}
-use Rattle.rec_file.specs.Files.{FileVal}
 use Rattle.rec_file.specs.Acts.{StreamVal}
 use Rattle.dap_accessed.specs.declared.phase.OpenFile.{OpenFile}
-use Rattle.dap_accessed.specs.Standing.{Files, Store, with_file}
+use Rattle.dap_accessed.specs.Standing.{Store}
 use Rattle.dap_accessed.specs.Accesses.{complete, end_stream}
 use Rattle.dap_accessed.specs.Present.{Present}
 use Rattle.dap_accessed.specs.Inner.Moves.{between, move_in, scene_in, settles, store_memory, store_phase}
-use Rattle.dap_accessed.proofs.Tables.{length-with}
 
 pub if_ok : {A E : Type 0} {P Q : A → Type 0} (r : Result A E) → IfOk r P → ((a : A) → P a → Q a) → IfOk r Q
 if_ok (Ok a) h f = f a h

@@ -14,10 +14,10 @@ use Rattle.dap_accessed.specs.declared.fault.NoMemory.{NoMemory}
 use Rattle.dap_accessed.specs.declared.phase.OpenFile.{OpenFile}
 use Rattle.dap_accessed.specs.declared.phase.Phase.{Phase}
 use Rattle.dap_accessed.specs.declared.phase.Phase.TheVariants as phases
-use Rattle.dap_accessed.specs.Standing.{Files, place_of, the_file, enters, Place, Scene, Effect, Fresh, Ready, Opened, Connected, Store, Stopped}
+use Rattle.dap_accessed.specs.Standing.{Files, place_of, the_file, Place, Scene, Effect, Fresh, Ready, Opened, Connected, Store, Stopped}
 use Rattle.dap_msg.specs.Exchange.{no_attributes}
 use Rattle.dap_accessed.specs.Past.{Memory, asked_shape, next_ordinal}
-use Rattle.dap_accessed.specs.Accesses.{refuse_access, open_file, create_file, complete, end_stream}
+use Rattle.dap_accessed.specs.Accesses.{refuse_access, open_file, create_file, complete}
 use Rattle.dap_accessed.specs.Replies.{bare_status, sync_status}
 use Rattle.dap_accessed.specs.Served.{is_silent}
 use Rattle.dap_accessed.specs.Records.{verb_of, Change, Putting, Updating, changed, get_pick, record_got, refused, settled}
