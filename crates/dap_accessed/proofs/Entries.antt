@@ -1,6 +1,6 @@
 -- The files of a table by their names, and what an operation on one makes of the table.
-use Rattle.std.proofs.Common.{◌≡◌, ℕ, ◌<◌, List, length, map, sym, subst, ◌∙◌}
-use Rattle.std.specs.Prelude.{Result, Some, slice_get, true}
+use Rattle.std.proofs.Common.{◌≡◌, ℕ, ◌<◌, List, length, map, sym, subst}
+use Rattle.std.specs.Prelude.{Bool, Result, Ok, Err, IfOk, OnErr, MatchBool, Some, slice_get, true, false}
 use Rattle.std.specs.Map.{values_of}
 use Rattle.std.specs.Global.{Vec}
 use Rattle.indexmap.specs.IndexMap.{set_value_at}
@@ -8,7 +8,8 @@ use Rattle.rec_file.specs.declared.refusals.Refusal.{Refusal}
 use Rattle.rec_file.specs.declared.any.AnyFile.{AnyFile}
 use Rattle.rec_file.specs.AnyFiles.{any_value}
 use Rattle.rec_file.specs.Files.{FileVal}
-use Rattle.rec_file.specs.Acts.{Operation, StreamVal, Acts, is_no_memory}
+use Rattle.rec_file.specs.Acts.{Operation, StreamVal, Acts, IsOutcome, LacksMemory, act, is_no_memory}
+use Rattle.dap_accessed.specs.declared.fault.NoMemory.{NoMemory}
 use Rattle.dap_accessed.specs.Standing.{Files, file_at, with_file}
 use Rattle.dap_accessed.proofs.Tables.{others, there, was, unchanged, view as view_by}
 
@@ -36,8 +37,16 @@ module _ (es : List Entry) (at : ℕ) (old_file file : AnyFile) (files : Files) 
       let new_is : file_at at table ≡ any_value file = there name_of any_value es at old_file file files seen within found in
       subst (λ (old : FileVal). Did old (file_at at table)) old_is (subst (λ (new : FileVal). Did (any_value old_file) new) (sym new_is) did)
 
-  pub acts : (op : Operation) (before after : StreamVal) (r : Result ℕ Refusal) → Acts op (any_value old_file) before (any_value file) after r → Acts op (file_at at files) before (file_at at table) after r
-  acts op before after r did = done (λ old new. Acts op old before new after r) did
+  -- with the reply of the operation, and what is made of it where want of memory is apart
+  module _ (op : Operation) (before after : StreamVal) (reply : Result ℕ Refusal) where
+    pub acts : (r : Result (Result ℕ Refusal) NoMemory) → Acts op (any_value old_file) before (any_value file) after reply
+        → IfOk r (λ same. (same ≡ reply) × (is_no_memory reply ≡ false)) → IfOk r (λ same. IsOutcome (act op (file_at at files) before) (file_at at table) after same)
+    acts (Err e) did h = tt
+    acts (Ok same) did h =
+        done (λ old new. IsOutcome (act op old before) new after same)
+        (subst (λ (r : Result ℕ Refusal). IsOutcome (act op (any_value old_file) before) (any_value file) after r) (sym h.0)
+        (subst (λ (b : Bool). MatchBool b (LacksMemory (act op (any_value old_file) before) (any_value old_file) before (any_value file) after) (IsOutcome (act op (any_value old_file) before) (any_value file) after reply)) h.1 did))
 
-  pub stays : (op : Operation) (before after : StreamVal) (r : Result ℕ Refusal) → Acts op (any_value old_file) before (any_value file) after r → is_no_memory r ≡ true → table ≡ files
-  stays op before after r did lacks = unchanged op at files table before after r others_stay (acts op before after r did) lacks
+    pub stays : (r : Result (Result ℕ Refusal) NoMemory) → Acts op (any_value old_file) before (any_value file) after reply → OnErr r (is_no_memory reply ≡ true) → OnErr r (table ≡ files)
+    stays (Ok same) did h = tt
+    stays (Err e) did h = unchanged op at files table before after reply others_stay (done (λ old new. Acts op old before new after reply) did) h

@@ -17,14 +17,12 @@ use Rattle.dap_accessed.specs.Records.{Change, Putting, Updating}
 use Rattle.dap_accessed.specs.Exchange.{Begun, Turn, Does, Begins, turn_of, effect_with}
 use Rattle.dap_accessed.specs.Groups.{Grouped, over, scene_of, turn_at, added, stands_after}
 use Rattle.dap_accessed.specs.Present.{Present, present_of, phase_at, StandsAfter}
-use Rattle.dap_accessed.specs.Inner.Moves.{Move, move, move_in, between, turns, settles, remembers, plain_memory, store_memory, scene_in, drops_next, ordinal_next}
+use Rattle.dap_accessed.specs.Inner.Moves.{Move, move, move_in, between, turns, settles, remembers, plain_memory, store_memory, store_phase, scene_in, drops_next, ordinal_next}
 use Rattle.dap_accessed.proofs.OneMore.{next_group, next_answers, one_more, answers_of}
 use Rattle.dap_accessed.proofs.Cuts.{present-more, added-is}
+use Rattle.dap_accessed.proofs.Opens.{store-moves}
 
 -- ---- What counts of the past after a group.
-
-abbrev store_phase : (dropping : Bool) → OpenFile → StreamVal → ℕ → Phase
-store_phase dropping o s ordinal = if dropping then phases.Dropping o s ordinal else phases.Storing o s ordinal
 
 module _ (past : List Group) where
   abbrev group_of : Place → Item → List Message → Group
@@ -163,10 +161,6 @@ module _ (own : ℕ) (files : Files) (limit : ℕ) (past : List Group) where
 
   follows : (place : Place) (item : Item) → Follows place item (between (kept_at place) (looked_back place past) place item)
   follows place item = turned place item (turn_at own (at place) item)
-
-  store-moves : (d : Bool) (o : OpenFile) (s : StreamVal) (n : ℕ) (p : Present) (item : Item) → move_in (store_phase d o s n) p item ≡ between p (store_memory p.kept d n) (Store o s) item
-  store-moves true o s n p item = refl
-  store-moves false o s n p item = refl
 
   pub one-follows : (place : Place) (item : Item) → Follows place item (move (kept_at place) item)
   one-follows Fresh item = follows Fresh item

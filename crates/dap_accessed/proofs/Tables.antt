@@ -1,5 +1,5 @@
 -- A map from names to files, seen as a file table.
-use Rattle.std.proofs.Common.{◌≡◌, ℕ, zero, suc, ◌+◌, ◌<◌, Bool, true, false, not, cond, ◌++◌, List, [], ◌∷◌, length, map, get_or, set, Option, Some, None, refl, ap, sym, subst, ◌∙◌, arith}
+use Rattle.std.proofs.Common.{◌≡◌, ℕ, zero, suc, ◌+◌, ◌<◌, Bool, true, false, not, cond, ◌++◌, List, [], ◌∷◌, length, map, Option, Some, None, refl, ap, sym, subst, ◌∙◌, arith}
 use Rattle.std.specs.Prelude.{is_some, nat_lt, slice_get}
 use Rattle.std.specs.List.{position, prefix_len, remove}
 use Rattle.std.specs.Map.{keys_of, values_of, lookup}

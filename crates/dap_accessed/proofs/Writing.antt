@@ -72,7 +72,7 @@ answered_more limit messages m old new f h before e =
 
 pub short_most : (a : Answer) → IsShort a → most_bytes a ≤ least_buffer
 short_most (answer.Config bufsiz) s = lit≤ tt
-short_most (answer.Attributes shape) s = lit≤ tt
+short_most (answer.Attributes shape mrn) s = lit≤ tt
 short_most answer.Ack s = lit≤ tt
 short_most answer.Complete s = lit≤ tt
 short_most (answer.Status code) s = lit≤ tt

@@ -1,8 +1,8 @@
 -- Files and records that an end is given before the peer's Config was served.
-use Rattle.std.specs.Prelude.{ℕ, ◌≡◌, ◌+◌, ◌-◌, ◌<◌, Bool, true, not, ◌&&◌, ◌||◌, nat_lt, List, [], ◌∷◌, ◌++◌, length, Option, Some, None, Result, Ok, Err}
+use Rattle.std.specs.Prelude.{ℕ, ◌≡◌, ◌+◌, ◌-◌, ◌<◌, Bool, not, ◌&&◌, ◌||◌, nat_lt, List, [], ◌∷◌, ◌++◌, length, Some, None}
 use Rattle.rec_file.specs.declared.shapes.Shape.{Shape}
 use Rattle.rec_file.specs.declared.refusals.Refusal.{Refusal}
-use Rattle.rec_file.specs.declared.refusals.Refusal.TheVariants.{BadLength, NumberOutOfRange, RecordExists, NoMemory}
+use Rattle.rec_file.specs.declared.refusals.Refusal.TheVariants.{BadLength, NumberOutOfRange, RecordExists}
 use Rattle.rec_file.specs.Shapes.{is_seq, allows_length}
 use Rattle.rec_file.specs.Files.{FileVal, highest_of, stored}
 use Rattle.rec_file.specs.Acts.{out_of_range, is_free, first_refusal}

@@ -2,21 +2,19 @@
 
 ghost use Rattle.std.specs.Prelude.{◌≡◌, ◌≤◌, ◌<◌, ℕ, List, [], ◌∷◌, length, IfOk, IsOk, IfSome, IsTrue, OnErr, true};
 ghost use Rattle.dap_msg.specs.Exchange.{greatest_message, least_buffer};
-ghost use Rattle.dap_msg.specs.Items.{IsPlace, Item as TheItem, ItemAt, ItemFits, seen_item};
+ghost use Rattle.dap_msg.specs.Items.{IsPlace, Item as TheItem, ItemAt, ItemFits, Whole, seen_item};
 ghost use Rattle.dap_msg.specs.Canon.{FieldsFit};
-ghost use Rattle.dap_msg.specs.Message.{Attrib, seen, seen_attributes, seen_control};
+ghost use Rattle.dap_msg.specs.Message.{Attrib, seen, seen_attributes};
 ghost use Rattle.dap_msg.specs.Codes.{status_code_for};
 ghost use Rattle.rec_file.specs.Shapes.{is_shape};
-ghost use Rattle.dap_accessed.specs.Exchange.{control_status};
 ghost use Rattle.dap_accessed.specs.Groups.{After};
-ghost use Rattle.dap_accessed.specs.Records.{verb_of};
 ghost use Rattle.dap_accessed.specs.Accesses.{fac_or, rights_of};
-ghost use Rattle.dap_accessed.specs.Replies.{bare_status, refused_access, sync_status};
+ghost use Rattle.dap_accessed.specs.Replies.{bare_status, refused_access};
 ghost use Rattle.dap_accessed.specs.Past.{asked_shape};
 ghost use Rattle.dap_accessed.specs.Present.{StandsAfter};
 ghost use Rattle.dap_accessed.specs.Served.{Serves, is_silent};
-ghost use Rattle.dap_accessed.specs.Standing.{Files, Fresh, Ready};
-ghost use Rattle.dap_accessed.specs.Inner.Moves.{Makes, creates, move, opens, opens_nothing, plainly};
+ghost use Rattle.dap_accessed.specs.Standing.{Files};
+ghost use Rattle.dap_accessed.specs.Inner.Moves.{Makes, Takes, creates, misplaced, move, opens, opens_by, opens_nothing, refuses_item};
 ghost use Rattle.dap_accessed.specs.Inner.Written.{Answered, IsShort, message_of};
 ghost use Rattle.dap_accessed.specs.declared.phase.Phase.TheVariants as phases;
 
@@ -31,8 +29,8 @@ use dap_msg::codes::{
     RFM_VARIABLE, Reason, TYPE_ACCESS, TYPE_CONFIGURATION, TYPE_CONTROL, invalid, unsupported,
 };
 use dap_msg::{
-    Attributes, Control, FileAccess, Item, LEAST_BUFFER, Message, MsgFault, is_too_small, item_at,
-    limit_of, number_of, status_for,
+    Attributes, FileAccess, Item, LEAST_BUFFER, Message, MsgFault, is_too_small, item_at, limit_of,
+    number_of, status_for,
 };
 use rec_file::{Format, Org, RecordFile, Rights, Shape};
 use std::alloc::Global;
@@ -124,31 +122,32 @@ fn refused_access<'a>(reason: Reason) -> Answer<'a>
 {
     Answer::Reason {
         code: ACCESS_REFUSED,
-        reason: reason.number(),
+        reason: [reason.number()],
     }
 }
 
-/// The answer to a message that has no place here.
-pub(crate) fn out_of_place<'a>(message: &Message<'_>) -> Answer<'a>
-    ensures message { message_of result ≡ sync_status (seen message.now) }
+/// The answer to a message that has no place in this phase.
+fn misplaced<'a>(phase: Phase, message: &Message<'_>) -> Answer<'a>
+    ensures message { message_of result ≡ misplaced phase (seen message.now) }
     ensures short { IsShort result }
 {
-    Answer::Status(codes::out_of_place(message.number()))
-}
-
-/// The answer to a Control that has no place here.
-pub(crate) fn misplaced<'a>(control: &Control<'_>) -> Answer<'a>
-    ensures message { message_of result ≡ control_status (verb_of (seen_control control.now)) }
-    ensures short { IsShort result }
-{
-    match verb_of(control) {
-        Verb::Unknown => Answer::Status(unsupported(TYPE_CONTROL)),
-        _ => Answer::Status(codes::out_of_place(TYPE_CONTROL)),
+    let code = codes::out_of_place(message.number());
+    match phase {
+        Phase::Fresh | Phase::Ready | Phase::PutDue(..) | Phase::UpdateDue(..) => {
+            Answer::Status(code)
+        }
+        _ => match message {
+            Message::Control(control) => match verb_of(control) {
+                Verb::Unknown => Answer::Status(unsupported(TYPE_CONTROL)),
+                _ => Answer::Status(code),
+            },
+            _ => Answer::Status(code),
+        },
     }
 }
 
 /// The answer to bytes of which no message can be read.
-pub(crate) fn malformed<'a>(fault: MsgFault) -> Answer<'a>
+fn malformed<'a>(fault: MsgFault) -> Answer<'a>
     ensures message { message_of result ≡ bare_status (status_code_for fault.message_type) }
     ensures short { IsShort result }
 {
@@ -199,57 +198,61 @@ impl Accessed {
         Vec::new(self.alloc)
     }
 
-    fn serve_fresh(&mut self, item: Item<'_>) -> Result<Vec<Vec<u8>>, NoMemory>
+    fn serve_fresh(&mut self, message: Message<'_>) -> Result<Option<Vec<Vec<u8>>>, NoMemory>
         requires { self.old.phase ≡ phases.Fresh }
-        ensures ok { Makes (plainly self.old Fresh (seen_item item.entry))
-            self.old self.new result }
+        ensures takes { Takes phases.Fresh (seen message.entry) self.old self.new result }
         ensures err { OnErr result (self.new ≡ self.old) }
-        ensures silent { is_silent self.old.phase (seen_item item.entry) ≡ true → IsOk result }
+        ensures silent { is_silent self.old.phase (Whole (seen message.entry)) ≡ true
+            → IsOk result }
     {
-        match item {
-            Item::Whole(Message::Config { bufsiz, .. }) => {
+        match message {
+            Message::Config { bufsiz, .. } => {
                 if is_too_small(bufsiz) {
-                    return self.one(Answer::Status(invalid(TYPE_CONFIGURATION)));
+                    return Ok(Some(self.one(Answer::Status(invalid(TYPE_CONFIGURATION)))?));
                 }
                 let answers = self.one(Answer::Config(self.bufsiz))?;
                 self.limit = limit_of(bufsiz);
                 self.phase = Phase::Ready;
-                Ok(answers)
+                Ok(Some(answers))
             }
-            Item::Whole(Message::Other { .. }) => Ok(self.none()),
-            Item::Whole(message) => self.one(out_of_place(&message)),
-            Item::Malformed(fault) => self.one(malformed(fault)),
+            Message::Other { .. } => Ok(Some(self.none())),
+            _ => Ok(None),
         }
     }
 
-    fn serve_ready(&mut self, item: Item<'_>) -> Result<Vec<Vec<u8>>, NoMemory>
+    fn serve_ready(&mut self, message: Message<'_>) -> Result<Option<Vec<Vec<u8>>>, NoMemory>
         requires phase { self.old.phase ≡ phases.Ready }
-        requires fields { ItemFits (seen_item item) }
-        ensures ok { Makes (plainly self.old Ready (seen_item item.entry))
-            self.old self.new result }
+        requires fields { FieldsFit (seen message) }
+        ensures takes { Takes phases.Ready (seen message.entry) self.old self.new result }
         ensures err { OnErr result (self.new ≡ self.old) }
-        ensures silent { is_silent self.old.phase (seen_item item.entry) ≡ true → IsOk result }
+        ensures silent { is_silent self.old.phase (Whole (seen message.entry)) ≡ true
+            → IsOk result }
     {
-        match item {
-            Item::Whole(Message::Attrib(attributes)) => {
+        match message {
+            Message::Attrib(attributes) => {
                 self.kept = shape_for(&attributes);
-                Ok(self.none())
+                Ok(Some(self.none()))
             }
-            Item::Whole(
-                Message::Access {
-                    func,
-                    name,
-                    fac,
-                    ..
-                },
-            ) => match func {
-                ACCFUNC_OPEN => self.open(name, fac),
-                ACCFUNC_CREATE => self.create(name, fac),
-                _ => self.refuse_access(Answer::Status(unsupported(TYPE_ACCESS))),
-            },
-            Item::Whole(Message::Other { .. }) => Ok(self.none()),
-            Item::Whole(message) => self.one(out_of_place(&message)),
-            Item::Malformed(fault) => self.one(malformed(fault)),
+            Message::Access {
+                func,
+                name,
+                fac,
+                ..
+            } => Ok(Some(self.access(func, name, fac)?)),
+            Message::Other { .. } => Ok(Some(self.none())),
+            _ => Ok(None),
+        }
+    }
+
+    fn access(&mut self, func: u8, name: &[u8], fac: u32) -> Result<Vec<Vec<u8>>, NoMemory>
+        requires { self.old.phase ≡ phases.Ready }
+        ensures ok { Makes (opens_by func self.old name.now fac) self.old self.new result }
+        ensures err { OnErr result (self.new ≡ self.old) }
+    {
+        match func {
+            ACCFUNC_OPEN => self.open(name, fac),
+            ACCFUNC_CREATE => self.create(name, fac),
+            _ => self.refuse_access(Answer::Status(unsupported(TYPE_ACCESS))),
         }
     }
 
@@ -323,12 +326,12 @@ impl Accessed {
             → is_silent self.old.phase item ≡ true → IsOk result }
     {
         let (item, next) = item_at(nsp_message, at);
-        self.serve_read(item, next)
+        self.serve_item(item, next)
     }
 
     /// The same of what was read already: the message or fault that `item_at` answered, and the place
     /// behind it. Own.
-    pub fn serve_read(&mut self, item: Item<'_>, next: usize) -> Result<Served, NoMemory>
+    pub fn serve_item(&mut self, item: Item<'_>, next: usize) -> Result<Served, NoMemory>
         requires { ItemFits (seen_item item) }
         ensures serves { (bytes : List ℕ) (at : ℕ) → ItemAt bytes at (seen_item item.entry) next
             → IfOk result (Serves bytes at self.old self.new) }
@@ -337,31 +340,71 @@ impl Accessed {
         ensures unrefused { is_silent self.old.phase (seen_item item.entry) ≡ true → IsOk result }
     {
         let _ = &self.limit;
-        let answers = self.serve_item(item)?;
+        let answers = self.answer_item(item)?;
         Ok(Served { answers, next })
     }
 
-    fn serve_item(&mut self, item: Item<'_>) -> Result<Vec<Vec<u8>>, NoMemory>
+    fn answer_item(&mut self, item: Item<'_>) -> Result<Vec<Vec<u8>>, NoMemory>
         requires { ItemFits (seen_item item) }
         ensures ok { Makes (move self.old (seen_item item.entry)) self.old self.new result }
         ensures err { OnErr result (self.new ≡ self.old) }
         ensures silent { is_silent self.old.phase (seen_item item.entry) ≡ true → IsOk result }
     {
+        let message = match item {
+            Item::Whole(message) => message,
+            Item::Malformed(fault) => return self.refuse_item(malformed(fault)),
+        };
+        match self.serve_message(message)? {
+            Some(answers) => Ok(answers),
+            None => self.refuse_item(misplaced(self.phase, &message)),
+        }
+    }
+
+    /// Answers an item that has no place: it ends a group of two, and changes nothing else.
+    fn refuse_item(&mut self, answer: Answer<'_>) -> Result<Vec<Vec<u8>>, NoMemory>
+        requires { IsShort answer }
+        ensures ok { Makes (refuses_item self.old (message_of answer.entry))
+            self.old self.new result }
+        ensures err { OnErr result (self.new ≡ self.old) }
+    {
+        let answers = self.one(answer)?;
+        self.phase = self.phase.behind();
+        Ok(answers)
+    }
+
+    /// The answers to a message, or none where it has no place.
+    fn serve_message(&mut self, message: Message<'_>) -> Result<Option<Vec<Vec<u8>>>, NoMemory>
+        requires { FieldsFit (seen message) }
+        ensures takes { Takes self.old.phase (seen message.entry) self.old self.new result }
+        ensures err { OnErr result (self.new ≡ self.old) }
+        ensures silent { is_silent self.old.phase (Whole (seen message.entry)) ≡ true
+            → IsOk result }
+    {
         let phase = self.phase;
         match phase {
-            Phase::Fresh => self.serve_fresh(item),
-            Phase::Ready => self.serve_ready(item),
-            Phase::Opened(opened) => self.serve_opened(opened, item),
-            Phase::Connected(opened, stream) => self.serve_connected(opened, stream, item),
-            Phase::PutDue(opened, stream, key) => self.serve_put_due(opened, stream, key, item),
-            Phase::UpdateDue(opened, stream) => self.serve_update_due(opened, stream, item),
+            Phase::Fresh => self.serve_fresh(message),
+            Phase::Ready => self.serve_ready(message),
+            Phase::Opened(opened) => self.serve_opened(opened, message),
+            Phase::Connected(opened, stream) => self.serve_connected(opened, stream, message),
+            Phase::PutDue(opened, stream, key) => match message {
+                Message::Filedata { payload, .. } => {
+                    Ok(Some(self.put(opened, stream, key, payload)?))
+                }
+                _ => Ok(None),
+            },
+            Phase::UpdateDue(opened, stream) => match message {
+                Message::Filedata { payload, .. } => {
+                    Ok(Some(self.update(opened, stream, payload)?))
+                }
+                _ => Ok(None),
+            },
             Phase::Storing(opened, stream, ordinal) => {
-                self.serve_storing(opened, stream, ordinal, item)
+                self.serve_store(false, opened, stream, ordinal, message)
             }
             Phase::Dropping(opened, stream, ordinal) => {
-                self.serve_dropping(opened, stream, ordinal, item)
+                self.serve_store(true, opened, stream, ordinal, message)
             }
-            Phase::Stopped(opened, stream) => self.serve_stopped(opened, stream, item),
+            Phase::Stopped(opened, stream) => self.serve_stopped(opened, stream, message),
         }
     }
 }

@@ -1,13 +1,11 @@
 //! Files that the end is given, for one link after another.
 
-ghost use Rattle.std.specs.Prelude.{◌≡◌, ◌∷◌, ◌++◌, [], ℕ, length, IsTrue, IfErr, OnOk, OnErr, MatchResult, None, Some, true, false};
+ghost use Rattle.std.specs.Prelude.{◌≡◌, ◌∷◌, ◌++◌, [], ℕ, length, IsTrue, IfErr, OnOk, OnErr, true, false};
 ghost use Rattle.rec_file.specs.Shapes.{is_shape};
 ghost use Rattle.rec_file.specs.AnyFiles.{any_value};
-ghost use Rattle.rec_file.specs.Files.{IsFile};
-ghost use Rattle.rec_file.specs.Acts.{first_refusal};
 ghost use Rattle.dap_accessed.specs.Standing.{Files};
 ghost use Rattle.dap_accessed.specs.Present.{StandsAfter};
-ghost use Rattle.dap_accessed.specs.Adding.{MayAdd, AddRefused, with_new_file, MayAddRecord, RecordRefused, with_record, record_refusals, leaves_gap};
+ghost use Rattle.dap_accessed.specs.Adding.{MayAdd, AddRefused, with_new_file, MayAddRecord, RecordRefused, with_record, leaves_gap};
 ghost use Rattle.dap_accessed.specs.Inner.Storing.{Stores};
 ghost use Rattle.dap_accessed.specs.declared.phase.Phase.TheVariants as phases;
 
@@ -78,7 +76,7 @@ impl Accessed {
         self.files.add_record(count - 1, number, body)
     }
 
-    // Whether the end waits for the peer's Config.
+    /// Whether the end waits for the peer's Config.
     fn is_fresh(&self) -> bool
         ensures yes { result ≡ true → self.now.phase ≡ phases.Fresh }
         ensures no { result ≡ false → self.now.phase ≡ phases.Fresh → ⊥ }
@@ -90,40 +88,27 @@ impl Accessed {
     }
 }
 
-// Stores a record under its number.
+/// Stores a record under its number. In a sequential file each number up to the highest has a record.
 pub(crate) fn add_record(file: &mut AnyFile, number: u32, body: &[u8]) -> Result<(), AddFault>
     ensures { Stores number body.now (any_value file.old) (any_value file.new) result }
 {
-    match check_record(file, number, body) {
-        Ok(()) => match file.place(number, body)? {
-            true => Ok(()),
-            false => unreachable!(),
-        },
-        Err(refusal) => Err(AddFault::Record(refusal)),
-    }
-}
-
-// Whether a record may be stored under its number.
-fn check_record(file: &AnyFile, number: u32, body: &[u8]) -> Result<(), Refusal>
-    ensures why { MatchResult result
-        (λ _. first_refusal (record_refusals (any_value file.now) number body.now) ≡ None)
-        (λ r. first_refusal (record_refusals (any_value file.now) number body.now) ≡ Some r) }
-    ensures file { IsFile (any_value file.now) }
-{
     let shape = file.shape();
     if !shape.allows(body.len()) {
-        return Err(Refusal::BadLength);
+        return Err(AddFault::Record(Refusal::BadLength));
     }
     if number == 0 || number > shape.limit() || leaves_gap(file, number) {
-        return Err(Refusal::NumberOutOfRange);
+        return Err(AddFault::Record(Refusal::NumberOutOfRange));
     }
-    match file.lookup(number) {
-        None => Ok(()),
-        Some(_) => Err(Refusal::RecordExists),
+    if shape.is_sequential() && number <= file.highest() {
+        return Err(AddFault::Record(Refusal::RecordExists));
+    }
+    match file.place(number, body)? {
+        true => Ok(()),
+        false => Err(AddFault::Record(Refusal::RecordExists)),
     }
 }
 
-// In a sequential file a record would leave a gap before it.
+/// In a sequential file a record would leave a gap before it.
 fn leaves_gap(file: &AnyFile, number: u32) -> bool
     ensures { result ≡ leaves_gap (any_value file.now) number }
 {

@@ -6,57 +6,35 @@ ghost use Rattle.dap_msg.specs.Canon.{Fits, file_data_size};
 ghost use Rattle.dap_msg.specs.Exchange.{config_of, four_bytes, least_buffer};
 ghost use Rattle.rec_file.specs.Limits.{longest_record};
 ghost use Rattle.dap_accessed.specs.Replies.{attributes_for, completed, format_number, opened_with, org_number, status, too_large};
-ghost use Rattle.dap_accessed.specs.Inner.Written.{AddsAnswer, Answered, FitsIn, IsAtMost, IsShort, IsWritable, message_of, most_bytes, number_in, reason_in};
+ghost use Rattle.dap_accessed.specs.Inner.Written.{AddsAnswer, Answered, FitsIn, IsAtMost, IsShort, IsWritable, message_of, most_bytes};
 
 use crate::fault::NoMemory;
 use dap_msg::codes::{
     CMPFUNC_RESPONSE, ORG_RELATIVE, ORG_SEQUENTIAL, RECORD_REFUSED, RFM_FIXED, RFM_VARIABLE,
     Reason, SUCCESS,
 };
-use dap_msg::{Attributes, LEAST_BUFFER, Message, append_message, encode};
+use dap_msg::{Attributes, LEAST_BUFFER, Message, append_message, encode, encoded_len};
 use rec_file::{Format, Org, Shape};
 use std::alloc::Global;
 use std::marker::Model;
 
-/// An answer before it is written.
+/// An answer before it is written, with the bytes of its numbers.
 #[derive(Clone, Copy)]
 pub(crate) enum Answer<'a> {
     /// The Config of an end with this BUFSIZ in bytes.
     Config(u16),
-    /// The Attributes of a file.
-    Attributes(Shape),
+    /// The Attributes of a file, and its MRN.
+    Attributes(Shape, [u8; 4]),
     Ack,
     Complete,
     /// A Status with a code alone.
     Status(u16),
-    Reason { code: u16, reason: u8 },
+    Reason { code: u16, reason: [u8; 1] },
     /// The refusal of a Filedata of a Store.
-    StoreRefusal { reason: u8, ordinal: u32 },
+    StoreRefusal { reason: [u8; 1], ordinal: [u8; 4] },
     /// The operation on the record of this number is done.
-    Done(u32),
-    Record { number: u32, body: &'a [u8] },
-}
-
-/// The number that the answer's message has in four bytes, 0 where it has none.
-fn number_in(answer: &Answer<'_>) -> u32
-    ensures { result ≡ number_in answer.now }
-{
-    match answer {
-        Answer::Attributes(shape) => shape.mrn,
-        Answer::StoreRefusal { ordinal, .. } => *ordinal,
-        Answer::Done(number) | Answer::Record { number, .. } => *number,
-        _ => 0,
-    }
-}
-
-/// Its reason, 0 where it has none.
-fn reason_in(answer: &Answer<'_>) -> u8
-    ensures { result ≡ reason_in answer.now }
-{
-    match answer {
-        Answer::Reason { reason, .. } | Answer::StoreRefusal { reason, .. } => *reason,
-        _ => 0,
-    }
+    Done([u8; 4]),
+    Record { number: [u8; 4], body: &'a [u8] },
 }
 
 /// The refusal of a record that is longer than the peer takes.
@@ -66,10 +44,11 @@ pub(crate) fn too_large<'a>() -> Answer<'a>
 {
     Answer::Reason {
         code: RECORD_REFUSED,
-        reason: Reason::TooLargeForBuffer.number(),
+        reason: [Reason::TooLargeForBuffer.number()],
     }
 }
 
+#[tactic(auto, using(dap_msg::proofs::ForCallers::answers_fit))]
 fn status<'a>(code: u16, rfa: &'a [u8], recnum: &'a [u8], stv: &'a [u8]) -> Message<'a>
     requires rfa { length rfa.now ≤ 4 }
     requires recnum { length recnum.now ≤ 4 }
@@ -105,6 +84,7 @@ fn format_code(format: Format) -> u8
 }
 
 /// The Attributes of a file, with its MRN in these four bytes.
+#[tactic(auto, using(dap_msg::proofs::ForCallers::answers_fit, crate::proofs::Writing::org_small, crate::proofs::Writing::format_small))]
 fn attributes(shape: Shape, mrn: &[u8]) -> Message<'_>
     requires { mrn.now ≡ four_bytes shape.mrn }
     ensures same { seen result ≡ attributes_for shape }
@@ -120,31 +100,8 @@ fn attributes(shape: Shape, mrn: &[u8]) -> Message<'_>
     })
 }
 
-fn config<'a>(bufsiz: u16) -> Message<'a>
-    ensures same { seen result ≡ config_of bufsiz }
-    ensures fits { Fits (config_of bufsiz) }
-    ensures short { IsAtMost least_buffer (config_of bufsiz) }
-{
-    Message::config_of(bufsiz)
-}
-
-fn complete<'a>() -> Message<'a>
-    ensures same { seen result ≡ completed }
-    ensures fits { Fits completed }
-    ensures short { IsAtMost least_buffer completed }
-{
-    Message::complete_with(CMPFUNC_RESPONSE)
-}
-
-fn acknowledge<'a>() -> Message<'a>
-    ensures same { seen result ≡ Ack }
-    ensures fits { Fits Ack }
-    ensures short { IsAtMost least_buffer Ack }
-{
-    Message::Ack
-}
-
 /// A record, with its number in these four bytes.
+#[tactic(auto, using(dap_msg::proofs::ForCallers::file_data_measured))]
 fn record<'a>(number: &'a [u8], body: &'a [u8]) -> Message<'a>
     requires four { length number.now ≡ 4 }
     requires short { length body.now ≤ longest_record }
@@ -158,25 +115,39 @@ fn record<'a>(number: &'a [u8], body: &'a [u8]) -> Message<'a>
     }
 }
 
-/// The message of an answer, with its number in these four bytes and its reason in this one.
-fn message<'a>(answer: Answer<'a>, number: &'a [u8], reason: &'a [u8]) -> Message<'a>
-    requires writable { IsWritable answer }
-    requires number { number.now ≡ four_bytes (number_in answer) }
-    requires reason { reason.now ≡ reason_in answer ∷ [] }
-    ensures same { seen result ≡ message_of answer.entry }
-    ensures fits { Fits (message_of answer.entry) }
-    ensures within { IsAtMost (most_bytes answer.entry) (message_of answer.entry) }
+/// How many bytes the Filedata of a record has, with its number in 4 bytes.
+#[tactic(auto, using(dap_msg::proofs::ForCallers::file_data_measured))]
+pub(crate) fn filedata_len(body: &[u8]) -> usize
+    requires { length body.now ≤ longest_record }
+    ensures { result ≡ file_data_size 4 (length body.now) }
 {
-    match answer {
-        Answer::Config(bufsiz) => config(bufsiz),
-        Answer::Attributes(shape) => attributes(shape, number),
-        Answer::Ack => acknowledge(),
-        Answer::Complete => complete(),
-        Answer::Status(code) => status(code, &[], &[], &[]),
-        Answer::Reason { code, .. } => status(code, &[], &[], reason),
-        Answer::StoreRefusal { .. } => status(RECORD_REFUSED, &[], number, reason),
-        Answer::Done(_) => status(SUCCESS, number, number, &[]),
-        Answer::Record { body, .. } => record(number, body),
+    encoded_len(&Message::Filedata {
+        recnum: &[0; 4],
+        payload: body,
+    })
+}
+
+impl<'a> Answer<'a> {
+    #[tactic(auto, using(dap_msg::proofs::ForCallers::answers_fit))]
+    fn message(&self) -> Message<'_>
+        requires { IsWritable self.now }
+        ensures same { seen result ≡ message_of self.now }
+        ensures fits { Fits (message_of self.now) }
+        ensures within { IsAtMost (most_bytes self.now) (message_of self.now) }
+    {
+        match self {
+            Answer::Config(bufsiz) => Message::config_of(*bufsiz),
+            Answer::Attributes(shape, mrn) => attributes(*shape, mrn),
+            Answer::Ack => Message::Ack,
+            Answer::Complete => Message::complete_with(CMPFUNC_RESPONSE),
+            Answer::Status(code) => status(*code, &[], &[], &[]),
+            Answer::Reason { code, reason } => status(*code, &[], &[], reason),
+            Answer::StoreRefusal { reason, ordinal } => {
+                status(RECORD_REFUSED, &[], ordinal, reason)
+            }
+            Answer::Done(number) => status(SUCCESS, number, number, &[]),
+            Answer::Record { number, body } => record(number, body),
+        }
     }
 }
 
@@ -200,10 +171,7 @@ pub(crate) fn append(
     requires { FitsIn limit answer }
     ensures { AddsAnswer limit (message_of answer.entry) answers.old answers.new result }
 {
-    let number = number_in(&answer).to_le_bytes();
-    let reason = [reason_in(&answer)];
-    let message = message(answer, &number, &reason);
-    append_message(alloc, answers, &message, usize::from(limit))?;
+    append_message(alloc, answers, &answer.message(), usize::from(limit))?;
     Ok(())
 }
 
@@ -213,7 +181,12 @@ pub(crate) fn opening(alloc: Global, limit: u16, shape: Shape) -> Result<Vec<Vec
     ensures { IfOk result (Answered limit (opened_with shape)) }
 {
     let mut answers = Vec::new(alloc);
-    append(alloc, limit, Answer::Attributes(shape), &mut answers)?;
+    append(
+        alloc,
+        limit,
+        Answer::Attributes(shape, shape.mrn.to_le_bytes()),
+        &mut answers,
+    )?;
     append(alloc, limit, Answer::Ack, &mut answers)?;
     Ok(answers)
 }
@@ -254,9 +227,7 @@ impl Room {
             mut answers,
             mut bytes,
         } = self;
-        let number = number_in(&answer).to_le_bytes();
-        let reason = [reason_in(&answer)];
-        let _written = encode(&message(answer, &number, &reason), &mut bytes);
+        let _written = encode(&answer.message(), &mut bytes);
         answers.push_reserved(bytes);
         answers
     }

@@ -7,7 +7,6 @@ mod adding;
 mod answers;
 mod fault;
 mod laws;
-mod measuring;
 mod opened;
 mod phase;
 mod refusing;

@@ -1,5 +1,8 @@
 //! Where the accessed end stands between two messages.
 
+ghost use Rattle.std.specs.Prelude.{◌≡◌};
+ghost use Rattle.dap_accessed.specs.Inner.Moves.{phase_behind};
+
 use rec_file::{Refusal, Rights, Stream};
 
 /// The file that an Access opened (DAP 5.6.0, Access message).
@@ -34,4 +37,18 @@ pub enum Phase {
     Dropping(OpenFile, Stream, u32),
     /// A Continue Transfer, after a record that was too large.
     Stopped(OpenFile, Stream),
+}
+
+impl Phase {
+    /// The phase behind an item that is refused: a group of two ends.
+    pub(crate) fn behind(self) -> Phase
+        ensures { result ≡ phase_behind self }
+    {
+        match self {
+            Phase::PutDue(opened, stream, _) | Phase::UpdateDue(opened, stream) => {
+                Phase::Connected(opened, stream)
+            }
+            _ => self,
+        }
+    }
 }

@@ -1,83 +1,13 @@
-//! What is refused of a GET or a PUT before its key is a number, and the answers to refusals.
+//! The answers to operations that change a file, and to refusals.
 
 ghost use Rattle.std.specs.Prelude.{◌≡◌, []};
-ghost use Rattle.dap_msg.specs.Message.{seen_control};
 ghost use Rattle.dap_msg.specs.Exchange.{four_bytes};
-ghost use Rattle.rec_file.specs.AnyFiles.{any_value};
-ghost use Rattle.rec_file.specs.Acts.{is_no_memory};
 ghost use Rattle.dap_accessed.specs.Replies.{reason_of, record_status, refusal_status};
-ghost use Rattle.dap_accessed.specs.Records.{get_pick, key_of, put_key, uncurrent};
 ghost use Rattle.dap_accessed.specs.Inner.Written.{IsShort, message_of};
 
 use crate::answers::Answer;
-use dap_msg::Control;
-use dap_msg::codes::{END_OF_FILE, RAC_ADDRESS, RAC_KEYED, RAC_SEQUENTIAL, RECORD_REFUSED, Reason};
-use rec_file::{AnyFile, Pick, RecordFile, Refusal, Stream, key_number};
-
-/// The number that KEY spells.
-fn key(control: &Control<'_>) -> Result<u32, Refusal>
-    ensures { result ≡ key_of (seen_control control.now) }
-{
-    match control.key {
-        Some(image) => key_number(image),
-        None => Err(Refusal::BadKey),
-    }
-}
-
-/// The record that a GET is for.
-pub(crate) fn pick_for(
-    file: &AnyFile,
-    stream: Stream,
-    control: &Control<'_>,
-) -> Result<Pick, Refusal>
-    ensures { result ≡ get_pick (any_value file.now) stream (seen_control control.now) }
-{
-    if !stream.rights().get {
-        return Err(Refusal::NotPermitted);
-    }
-    match control.rac.unwrap_or(RAC_SEQUENTIAL) {
-        RAC_SEQUENTIAL => Ok(Pick::Next),
-        RAC_KEYED => {
-            if file.shape().is_sequential() {
-                return Err(Refusal::BadAccessMode);
-            }
-            Ok(Pick::Key(key(control)?))
-        }
-        RAC_ADDRESS => Ok(Pick::Rfa(key(control)?)),
-        _ => Err(Refusal::BadAccessMode),
-    }
-}
-
-/// The key of a PUT.
-pub(crate) fn key_for(
-    file: &AnyFile,
-    stream: Stream,
-    control: &Control<'_>,
-) -> Result<Option<u32>, Refusal>
-    ensures { result ≡ put_key (any_value file.now) stream (seen_control control.now) }
-{
-    if !stream.rights().put {
-        return Err(Refusal::NotPermitted);
-    }
-    match control.rac.unwrap_or(RAC_SEQUENTIAL) {
-        RAC_SEQUENTIAL => Ok(None),
-        RAC_KEYED => {
-            if file.shape().is_sequential() {
-                return Err(Refusal::BadAccessMode);
-            }
-            Ok(Some(key(control)?))
-        }
-        _ => Err(Refusal::BadAccessMode),
-    }
-}
-
-/// The stream with no current record.
-pub(crate) fn without_current(mut stream: Stream) -> Stream
-    ensures { result ≡ uncurrent stream }
-{
-    stream.forget();
-    stream
-}
+use dap_msg::codes::{END_OF_FILE, RECORD_REFUSED, Reason};
+use rec_file::Refusal;
 
 /// The number of a reason, 0 where the refusal has none.
 fn reason_number(refusal: Refusal) -> u8
@@ -106,7 +36,7 @@ pub(crate) fn refused<'a>(refusal: Refusal) -> Answer<'a>
         Refusal::EndOfFile => Answer::Status(END_OF_FILE),
         _ => Answer::Reason {
             code: RECORD_REFUSED,
-            reason: reason_number(refusal),
+            reason: [reason_number(refusal)],
         },
     }
 }
@@ -119,8 +49,8 @@ pub(crate) fn store_refused<'a>(refusal: Refusal, ordinal: u32) -> Answer<'a>
     match refusal {
         Refusal::EndOfFile => Answer::Status(END_OF_FILE),
         _ => Answer::StoreRefusal {
-            reason: reason_number(refusal),
-            ordinal,
+            reason: [reason_number(refusal)],
+            ordinal: ordinal.to_le_bytes(),
         },
     }
 }
@@ -131,17 +61,7 @@ pub(crate) fn settled<'a>(reply: Result<u32, Refusal>) -> Answer<'a>
     ensures short { IsShort result }
 {
     match reply {
-        Ok(number) => Answer::Done(number),
+        Ok(number) => Answer::Done(number.to_le_bytes()),
         Err(refusal) => refused(refusal),
-    }
-}
-
-/// Whether memory was wanting.
-pub(crate) fn wants_memory(reply: Result<u32, Refusal>) -> bool
-    ensures { result ≡ is_no_memory reply }
-{
-    match reply {
-        Ok(_) => false,
-        Err(refusal) => refusal == Refusal::NoMemory,
     }
 }

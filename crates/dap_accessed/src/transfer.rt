@@ -1,26 +1,26 @@
-//! File transfers: all records to the peer, or records from it until the stream ends. The line
-//! `let _ = &self.phase` lets a proof see what every end keeps.
+//! File transfers: all records to the peer, or records from it until the stream ends.
 
-ghost use Rattle.std.specs.Prelude.{◌≡◌, ◌≤◌, ◌<◌, ◌+◌, length, IfOk, IsOk, OnErr, false, true};
-ghost use Rattle.dap_msg.specs.Items.{seen_item};
-ghost use Rattle.dap_accessed.specs.Inner.Moves.{HasFetched, IsOpenIn, Makes, fetched_phase, fetches, in_store, plainly, stores};
+ghost use Rattle.std.specs.Prelude.{◌≡◌, ◌≤◌, ◌<◌, ◌+◌, length, IfOk, IsOk, OnErr, true};
+ghost use Rattle.dap_msg.specs.Items.{Whole};
+ghost use Rattle.dap_msg.specs.Message.{seen};
+ghost use Rattle.dap_accessed.specs.Inner.Moves.{HasFetched, IsOpenIn, Makes, Takes, does, fetched_phase, fetches, scene_in, store_phase, stores};
+ghost use Rattle.dap_accessed.specs.Inner.Written.{IsShort, message_of};
+ghost use Rattle.dap_accessed.specs.Transfers.{continue_fetch, continue_refused};
 ghost use Rattle.rec_file.specs.Limits.{greatest_number};
 ghost use Rattle.dap_accessed.specs.Records.{at_number};
 ghost use Rattle.dap_accessed.specs.Served.{is_silent};
-ghost use Rattle.dap_accessed.specs.Standing.{Stopped};
 ghost use Rattle.dap_accessed.specs.declared.phase.Phase.TheVariants as phases;
 
-use crate::accessed::{Accessed, malformed, misplaced, out_of_place};
-use crate::answers::{Answer, Room, append, too_large};
+use crate::accessed::Accessed;
+use crate::answers::{Answer, Room, append, filedata_len, too_large};
 use crate::fault::NoMemory;
-use crate::measuring::filedata_len;
 use crate::phase::{OpenFile, Phase};
-use crate::refusing::{store_refused, wants_memory};
+use crate::refusing::store_refused;
+use dap_msg::Message;
 use dap_msg::codes::{
     CONFUNC_ABORT, CONFUNC_AGAIN, CONFUNC_RESUME, CONFUNC_SKIP, END_OF_FILE, TYPE_CONTINUE,
     invalid, unsupported,
 };
-use dap_msg::{Item, Message};
 use rec_file::{Stream, first_record};
 
 /// The stream at another number, with no current record.
@@ -33,29 +33,53 @@ fn at_number(mut stream: Stream, number: u32) -> Stream
     stream
 }
 
+/// The answer to a Continue Transfer that asks for nothing that is done here.
+fn refused_continuation<'a>(func: u8) -> Answer<'a>
+    ensures message { message_of result ≡ continue_refused func }
+    ensures short { IsShort result }
+{
+    match func {
+        CONFUNC_RESUME => Answer::Status(unsupported(TYPE_CONTINUE)),
+        _ => Answer::Status(invalid(TYPE_CONTINUE)),
+    }
+}
+
 impl Accessed {
-    pub(crate) fn serve_storing(
+    pub(crate) fn serve_store(
         &mut self,
+        dropping: bool,
         opened: OpenFile,
         stream: Stream,
         ordinal: u32,
-        item: Item<'_>,
-    ) -> Result<Vec<Vec<u8>>, NoMemory>
-        requires { self.old.phase ≡ phases.Storing opened stream ordinal }
-        ensures ok { Makes (in_store false self.old opened stream ordinal (seen_item item.entry))
-            self.old self.new result }
+        message: Message<'_>,
+    ) -> Result<Option<Vec<Vec<u8>>>, NoMemory>
+        requires phase { self.old.phase ≡ store_phase dropping opened stream ordinal }
+        requires there { opened.at < length self.old.files }
+        ensures takes { Takes (store_phase dropping opened stream ordinal) (seen message.entry) self.old self.new result }
         ensures err { OnErr result (self.new ≡ self.old) }
-        ensures silent { is_silent self.old.phase (seen_item item.entry) ≡ true → IsOk result }
+        ensures silent { is_silent self.old.phase (Whole (seen message.entry)) ≡ true
+            → IsOk result }
     {
-        let _ = &self.phase;
-        match item {
-            Item::Whole(Message::Filedata { payload, .. }) => {
-                self.store(opened, stream, ordinal, payload)
+        match message {
+            Message::Filedata { payload, .. } => {
+                if dropping {
+                    self.phase = Phase::Dropping(opened, stream, ordinal.saturating_add(1));
+                    return Ok(Some(self.none()));
+                }
+                Ok(Some(self.store(opened, stream, ordinal, payload)?))
             }
-            Item::Whole(Message::Control(control)) => self.one(misplaced(&control)),
-            Item::Whole(Message::Accomp { func, .. }) => self.complete_stream(opened, func),
-            Item::Whole(message) => self.one(out_of_place(&message)),
-            Item::Malformed(fault) => self.one(malformed(fault)),
+            Message::Contran { func } => {
+                if !dropping {
+                    return Ok(None);
+                }
+                if func != CONFUNC_SKIP {
+                    return Ok(Some(self.one(refused_continuation(func))?));
+                }
+                self.phase = Phase::Storing(opened, stream, ordinal);
+                Ok(Some(self.none()))
+            }
+            Message::Accomp { func, .. } => Ok(Some(self.complete_stream(opened, func)?)),
+            _ => Ok(None),
         }
     }
 
@@ -74,10 +98,7 @@ impl Accessed {
     {
         let room = Room::new(self.alloc)?;
         let mut after = stream;
-        let reply = self.files.put(opened.at, &mut after, None, body);
-        if wants_memory(reply) {
-            return Err(NoMemory);
-        }
+        let reply = self.files.put(opened.at, &mut after, None, body)?;
         let ordinal = ordinal.saturating_add(1);
         match reply {
             Ok(_) => {
@@ -91,69 +112,50 @@ impl Accessed {
         }
     }
 
-    pub(crate) fn serve_dropping(
-        &mut self,
-        opened: OpenFile,
-        stream: Stream,
-        ordinal: u32,
-        item: Item<'_>,
-    ) -> Result<Vec<Vec<u8>>, NoMemory>
-        requires { self.old.phase ≡ phases.Dropping opened stream ordinal }
-        ensures ok { Makes (in_store true self.old opened stream ordinal (seen_item item.entry))
-            self.old self.new result }
-        ensures err { OnErr result (self.new ≡ self.old) }
-        ensures silent { is_silent self.old.phase (seen_item item.entry) ≡ true → IsOk result }
-    {
-        let _ = &self.phase;
-        match item {
-            Item::Whole(Message::Filedata { .. }) => {
-                self.phase = Phase::Dropping(opened, stream, ordinal.saturating_add(1));
-                Ok(self.none())
-            }
-            Item::Whole(Message::Contran { func }) => match func {
-                CONFUNC_SKIP => {
-                    self.phase = Phase::Storing(opened, stream, ordinal);
-                    Ok(self.none())
-                }
-                CONFUNC_RESUME => self.one(Answer::Status(unsupported(TYPE_CONTINUE))),
-                _ => self.one(Answer::Status(invalid(TYPE_CONTINUE))),
-            },
-            Item::Whole(Message::Control(control)) => self.one(misplaced(&control)),
-            Item::Whole(Message::Accomp { func, .. }) => self.complete_stream(opened, func),
-            Item::Whole(message) => self.one(out_of_place(&message)),
-            Item::Malformed(fault) => self.one(malformed(fault)),
-        }
-    }
-
     pub(crate) fn serve_stopped(
         &mut self,
         opened: OpenFile,
         stream: Stream,
-        item: Item<'_>,
+        message: Message<'_>,
+    ) -> Result<Option<Vec<Vec<u8>>>, NoMemory>
+        requires phase { self.old.phase ≡ phases.Stopped opened stream }
+        requires there { opened.at < length self.old.files }
+        requires next { stream.next ≤ greatest_number }
+        ensures takes { Takes (phases.Stopped opened stream) (seen message.entry) self.old self.new result }
+        ensures err { OnErr result (self.new ≡ self.old) }
+        ensures silent { is_silent self.old.phase (Whole (seen message.entry)) ≡ true
+            → IsOk result }
+    {
+        match message {
+            Message::Contran { func } => Ok(Some(self.go_on(opened, stream, func)?)),
+            Message::Accomp { func, .. } => Ok(Some(self.complete_stream(opened, func)?)),
+            _ => Ok(None),
+        }
+    }
+
+    /// A Continue Transfer after a fetch that stopped.
+    fn go_on(
+        &mut self,
+        opened: OpenFile,
+        stream: Stream,
+        func: u8,
     ) -> Result<Vec<Vec<u8>>, NoMemory>
-        requires { self.old.phase ≡ phases.Stopped opened stream }
-        ensures ok { Makes (plainly self.old (Stopped opened stream) (seen_item item.entry))
+        requires phase { self.old.phase ≡ phases.Stopped opened stream }
+        requires there { opened.at < length self.old.files }
+        requires next { stream.next ≤ greatest_number }
+        ensures ok { Makes (does self.old (continue_fetch func (scene_in self.old) opened stream))
             self.old self.new result }
         ensures err { OnErr result (self.new ≡ self.old) }
-        ensures silent { is_silent self.old.phase (seen_item item.entry) ≡ true → IsOk result }
     {
-        let _ = &self.phase;
-        match item {
-            Item::Whole(Message::Contran { func }) => match func {
-                CONFUNC_AGAIN => self.fetch(opened, stream),
-                CONFUNC_SKIP => self.fetch(opened, at_number(stream, stream.next() + 1)),
-                CONFUNC_ABORT => {
-                    let answers = self.one(Answer::Status(END_OF_FILE))?;
-                    self.phase = Phase::Connected(opened, stream);
-                    Ok(answers)
-                }
-                CONFUNC_RESUME => self.one(Answer::Status(unsupported(TYPE_CONTINUE))),
-                _ => self.one(Answer::Status(invalid(TYPE_CONTINUE))),
-            },
-            Item::Whole(Message::Control(control)) => self.one(misplaced(&control)),
-            Item::Whole(Message::Accomp { func, .. }) => self.complete_stream(opened, func),
-            Item::Whole(message) => self.one(out_of_place(&message)),
-            Item::Malformed(fault) => self.one(malformed(fault)),
+        match func {
+            CONFUNC_AGAIN => self.fetch(opened, stream),
+            CONFUNC_SKIP => self.fetch(opened, at_number(stream, stream.next() + 1)),
+            CONFUNC_ABORT => {
+                let answers = self.one(Answer::Status(END_OF_FILE))?;
+                self.phase = Phase::Connected(opened, stream);
+                Ok(answers)
+            }
+            _ => self.one(refused_continuation(func)),
         }
     }
 
@@ -190,7 +192,10 @@ impl Accessed {
             append(
                 self.alloc,
                 self.limit,
-                Answer::Record { number, body },
+                Answer::Record {
+                    number: number.to_le_bytes(),
+                    body,
+                },
                 &mut answers,
             )?;
             next = number + 1;

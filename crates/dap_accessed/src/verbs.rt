@@ -1,14 +1,16 @@
-//! What a Control asks for.
+//! What a Control asks for, and what is refused of a GET or a PUT before its key is a number.
 
 ghost use Rattle.std.specs.Prelude.{◌≡◌};
 ghost use Rattle.dap_msg.specs.Message.{seen_control};
-ghost use Rattle.dap_accessed.specs.Records.{verb_of};
+ghost use Rattle.rec_file.specs.AnyFiles.{any_value};
+ghost use Rattle.dap_accessed.specs.Records.{get_pick, key_of, put_key, verb_of};
 
 use dap_msg::Control;
 use dap_msg::codes::{
     CTLFUNC_CONNECT, CTLFUNC_DELETE, CTLFUNC_GET, CTLFUNC_PUT, CTLFUNC_REWIND, CTLFUNC_UPDATE,
-    RAC_SEQUENTIAL, RAC_WHOLE_FILE,
+    RAC_ADDRESS, RAC_KEYED, RAC_SEQUENTIAL, RAC_WHOLE_FILE,
 };
+use rec_file::{AnyFile, Pick, RecordFile, Refusal, Stream, key_number};
 
 /// What a Control asks for (DAP 5.6.0, Control message, CTLFUNC and RAC).
 #[derive(Clone, Copy, PartialEq, Eq, Debug)]
@@ -48,5 +50,62 @@ pub(crate) fn verb_of(control: &Control<'_>) -> Verb
         CTLFUNC_DELETE => Verb::Delete,
         CTLFUNC_REWIND => Verb::Rewind,
         _ => Verb::Unknown,
+    }
+}
+
+/// The number that KEY spells.
+fn key(control: &Control<'_>) -> Result<u32, Refusal>
+    ensures { result ≡ key_of (seen_control control.now) }
+{
+    match control.key {
+        Some(image) => key_number(image),
+        None => Err(Refusal::BadKey),
+    }
+}
+
+/// The record that a GET is for.
+pub(crate) fn pick_for(
+    file: &AnyFile,
+    stream: Stream,
+    control: &Control<'_>,
+) -> Result<Pick, Refusal>
+    ensures { result ≡ get_pick (any_value file.now) stream (seen_control control.now) }
+{
+    if !stream.rights().get {
+        return Err(Refusal::NotPermitted);
+    }
+    match control.rac.unwrap_or(RAC_SEQUENTIAL) {
+        RAC_SEQUENTIAL => Ok(Pick::Next),
+        RAC_KEYED => {
+            if file.shape().is_sequential() {
+                return Err(Refusal::BadAccessMode);
+            }
+            Ok(Pick::Key(key(control)?))
+        }
+        RAC_ADDRESS => Ok(Pick::Rfa(key(control)?)),
+        _ => Err(Refusal::BadAccessMode),
+    }
+}
+
+/// The key of a PUT.
+pub(crate) fn key_for(
+    file: &AnyFile,
+    stream: Stream,
+    control: &Control<'_>,
+) -> Result<Option<u32>, Refusal>
+    ensures { result ≡ put_key (any_value file.now) stream (seen_control control.now) }
+{
+    if !stream.rights().put {
+        return Err(Refusal::NotPermitted);
+    }
+    match control.rac.unwrap_or(RAC_SEQUENTIAL) {
+        RAC_SEQUENTIAL => Ok(None),
+        RAC_KEYED => {
+            if file.shape().is_sequential() {
+                return Err(Refusal::BadAccessMode);
+            }
+            Ok(Some(key(control)?))
+        }
+        _ => Err(Refusal::BadAccessMode),
     }
 }

@@ -341,7 +341,7 @@ fn serve_next(port: &mut Port, accessed: &mut Accessed) -> Result<Option<usize>,
     };
     let (item, next) = item_at(message, place);
     let at_end = is_end(message, next);
-    let Ok(served) = accessed.serve_read(item, next) else {
+    let Ok(served) = accessed.serve_item(item, next) else {
         return Err(NoMemory);
     };
     let answered = served.answers.len();

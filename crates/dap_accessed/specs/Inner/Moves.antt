@@ -1,5 +1,5 @@
 -- What an item does to what an end keeps, and its answers.
-use Rattle.std.specs.Prelude.{ℕ, ◌≡◌, ◌<◌, ◌≤◌, Bool, true, false, not, ◌==◌, nat_lt, List, [], ◌∷◌, length, Option, IfSome, IsTrue, Result, IfOk}
+use Rattle.std.specs.Prelude.{ℕ, ◌≡◌, ◌<◌, ◌≤◌, Bool, true, false, not, ◌==◌, nat_lt, List, [], ◌∷◌, length, Option, IfSome, IsTrue, Result, IfOk, MatchOption, if◌then◌else◌}
 use Rattle.std.specs.Global.{Vec}
 use Rattle.dap_msg.specs.Codes as codes
 use Rattle.dap_msg.specs.Message.{Message, Attrib, Access, Control, Contran, Filedata, ControlFields}
@@ -14,14 +14,15 @@ use Rattle.dap_accessed.specs.declared.fault.NoMemory.{NoMemory}
 use Rattle.dap_accessed.specs.declared.phase.OpenFile.{OpenFile}
 use Rattle.dap_accessed.specs.declared.phase.Phase.{Phase}
 use Rattle.dap_accessed.specs.declared.phase.Phase.TheVariants as phases
-use Rattle.dap_accessed.specs.declared.verbs.Verb.{Verb}
-use Rattle.dap_accessed.specs.Standing.{Files, place_of, the_file, enters, Place, Scene, Effect, Fresh, Ready, Opened, Connected, Store, Stopped}
+use Rattle.dap_accessed.specs.Standing.{Files, place_of, the_file, Place, Scene, Effect, Fresh, Ready, Opened, Connected, Store, Stopped}
 use Rattle.dap_msg.specs.Exchange.{no_attributes}
 use Rattle.dap_accessed.specs.Past.{Memory, asked_shape, next_ordinal}
-use Rattle.dap_accessed.specs.Accesses.{refuse_access, open_file, create_file, complete, end_stream}
-use Rattle.dap_accessed.specs.Records.{Change, Putting, Updating, changed, get_pick, record_got, refused, settled}
+use Rattle.dap_accessed.specs.Accesses.{refuse_access, open_file, create_file, complete}
+use Rattle.dap_accessed.specs.Replies.{bare_status, sync_status}
+use Rattle.dap_accessed.specs.Served.{is_silent}
+use Rattle.dap_accessed.specs.Records.{verb_of, Change, Putting, Updating, changed, get_pick, record_got, refused, settled}
 use Rattle.dap_accessed.specs.Transfers.{fetch, store_one}
-use Rattle.dap_accessed.specs.Exchange.{Turn, Does, Begins, control_connected, turn_of, effect_with}
+use Rattle.dap_accessed.specs.Exchange.{Turn, Does, Begins, control_status, turn_of, effect_with}
 use Rattle.dap_accessed.specs.Present.{Present, phase_at, phase_within}
 use Rattle.dap_accessed.specs.Inner.Written.{Answered}
 
@@ -93,24 +94,17 @@ turns (Begins begun) p memory place item = begins p (phase_within begun.change b
 abbrev pub between : Present → Memory → Place → Item → Move
 between p memory place item = turns (turn_of (scene_in p) memory place item) p memory place item
 
--- the second item of a group of two
-abbrev pub within : Present → Change → OpenFile → StreamVal → Item → Move
-within p change opened stream item =
-    settles p (plain_memory p.kept) (effect_with change (scene_in p) opened stream item)
-
--- a Control in Connected
-abbrev pub control_move : Verb → Present → OpenFile → StreamVal → ControlFields → Move
-control_move verb p opened stream control =
-    turns (control_connected verb (scene_in p) opened stream control) p
-    (plain_memory p.kept) (Connected opened stream) (Whole (Control control))
+-- a group that is over, outside a Store
+abbrev pub does : Present → Effect → Move
+does p effect = settles p (plain_memory p.kept) effect
 
 abbrev pub move_in : Phase → Present → Item → Move
 move_in phases.Fresh p item = between p (plain_memory p.kept) Fresh item
 move_in phases.Ready p item = between p (plain_memory p.kept) Ready item
 move_in (phases.Opened opened) p item = between p (plain_memory p.kept) (Opened opened) item
 move_in (phases.Connected opened stream) p item = between p (plain_memory p.kept) (Connected opened stream) item
-move_in (phases.PutDue opened stream key) p item = within p (Putting key) opened stream item
-move_in (phases.UpdateDue opened stream) p item = within p Updating opened stream item
+move_in (phases.PutDue opened stream key) p item = does p (effect_with (Putting key) (scene_in p) opened stream item)
+move_in (phases.UpdateDue opened stream) p item = does p (effect_with Updating (scene_in p) opened stream item)
 move_in (phases.Storing opened stream ordinal) p item =
     between p (store_memory p.kept false ordinal) (Store opened stream) item
 move_in (phases.Dropping opened stream ordinal) p item =
@@ -125,15 +119,47 @@ pub record Moves (old : Present) (step : Move) (new : Present) (answers : Vec (V
   pub present : new ≡ step.present
   pub answered : Answered old.limit step.answers answers
 
+-- ---- A message that has no place.
+
+-- only where a file is open, and no record is due, a Control that this end doesn't know has a Status of its own
+abbrev pub misplaced : Phase → Message → Message
+misplaced (phases.Opened opened) (Control c) = control_status (verb_of c)
+misplaced (phases.Connected opened stream) (Control c) = control_status (verb_of c)
+misplaced (phases.Storing opened stream ordinal) (Control c) = control_status (verb_of c)
+misplaced (phases.Dropping opened stream ordinal) (Control c) = control_status (verb_of c)
+misplaced (phases.Stopped opened stream) (Control c) = control_status (verb_of c)
+misplaced phase message = sync_status message
+
+-- an item that is refused ends a group of two
+abbrev pub phase_behind : Phase → Phase
+phase_behind (phases.PutDue opened stream key) = phases.Connected opened stream
+phase_behind (phases.UpdateDue opened stream) = phases.Connected opened stream
+phase_behind phase = phase
+
+-- and changes nothing else
+abbrev pub refuses_item : Present → Message → Move
+refuses_item p status = record { present = record p { phase = phase_behind p.phase }; answers = status ∷ [] }
+
+-- The message has no place in this phase: it is refused, and has an answer.
+pub record HasNoPlace (phase : Phase) (p : Present) (m : Message) : Type 0 where
+  pub refused : move_in phase p (Whole m) ≡ record { present = record p { phase = phase_behind phase }; answers = misplaced phase m ∷ [] }
+  pub answered : is_silent phase (Whole m) ≡ false
+
 -- ---- The words of the contracts.
+
+-- where the call answers, the message was served so in this phase, or it has no place, and nothing has moved
+abbrev pub Takes : Phase → Message → (old new : Present) → Result (Option (Vec (Vec ℕ))) NoMemory → Type 0
+Takes phase m old new result =
+    IfOk result (λ taken. MatchOption taken ((new ≡ old) × HasNoPlace phase old m) (λ answers. Moves old (move_in phase old (Whole m)) new answers))
+
+-- the phase of a Store, which may drop what comes
+abbrev pub store_phase : (dropping : Bool) → OpenFile → StreamVal → ℕ → Phase
+store_phase dropping opened stream ordinal =
+    if dropping then phases.Dropping opened stream ordinal else phases.Storing opened stream ordinal
 
 -- where the call answers, the end moved so
 abbrev pub Makes : Move → (old new : Present) → Result (Vec (Vec ℕ)) NoMemory → Type 0
 Makes step old new result = IfOk result (Moves old step new)
-
--- a group that is over, outside a Store
-abbrev pub does : Present → Effect → Move
-does p effect = settles p (plain_memory p.kept) effect
 
 -- an Access, which uses up the attributes that were kept
 abbrev pub accesses : Present → Effect → Move
@@ -148,14 +174,12 @@ opens p name fac = accesses p (open_file (scene_in p) fac (place_of name p.files
 abbrev pub creates : Present → (name : List ℕ) → (fac : ℕ) → Move
 creates p name fac = accesses p (create_file (scene_in p) name fac (place_of name p.files) p.kept)
 
--- an item outside a Store
-abbrev pub plainly : Present → Place → Item → Move
-plainly p place item = between p (plain_memory p.kept) place item
-
--- an item in a Store, which may drop what comes
-abbrev pub in_store : (dropping : Bool) → Present → OpenFile → StreamVal → (ordinal : ℕ) → Item → Move
-in_store dropping p opened stream ordinal item =
-    between p (store_memory p.kept dropping ordinal) (Store opened stream) item
+-- by ACCFUNC
+abbrev pub opens_by : (func : ℕ) → Present → (name : List ℕ) → (fac : ℕ) → Move
+opens_by func p name fac =
+    if func == codes.accfunc.opening then opens p name fac
+    else if func == codes.accfunc.creating then creates p name fac
+    else opens_nothing p (bare_status (codes.unsupported codes.types.access))
 
 -- a Filedata that a Store doesn't drop
 abbrev pub stores : Present → OpenFile → StreamVal → (ordinal : ℕ) → (body : List ℕ) → Move
@@ -177,27 +201,17 @@ deletes p opened stream =
 abbrev pub changes : Present → Change → OpenFile → StreamVal → (body : List ℕ) → Move
 changes p change opened stream body = does p (changed change (scene_in p) opened stream body)
 
--- a group of two without its operation
-abbrev pub drops : Present → OpenFile → StreamVal → Message → Move
-drops p opened stream status = does p (enters (scene_in p) (Connected opened stream) (status ∷ []))
-
 abbrev pub refuses : Present → OpenFile → StreamVal → Refusal → Move
 refuses p opened stream refusal = does p (refused (scene_in p) opened stream refusal)
 
 abbrev pub fetches : Present → OpenFile → StreamVal → Move
 fetches p opened stream = does p (fetch (scene_in p) opened stream)
 
--- a completion in any place in which this file is open, whatever the end of a stream does there
-abbrev pub Completes : (func : ℕ) → OpenFile → (old new : Present) → Result (Vec (Vec ℕ)) NoMemory → Type 0
-Completes func opened old new result =
-    IfOk result (λ answers. (place : Place) (memory : Memory) (ends : Effect) → old.phase ≡ phase_at place memory
-    → memory.shape ≡ old.kept → Moves old (settles old memory (complete func (scene_in old) opened place ends)) new answers)
-
--- and where a stream is there
-abbrev pub CompletesStream : (func : ℕ) → OpenFile → (old new : Present) → Result (Vec (Vec ℕ)) NoMemory → Type 0
-CompletesStream func opened old new result =
+-- a completion in any place in which this file is open, if the end of a stream has this effect there
+abbrev pub Completes : (func : ℕ) → OpenFile → (ends : Effect) → (old new : Present) → Result (Vec (Vec ℕ)) NoMemory → Type 0
+Completes func opened ends old new result =
     IfOk result (λ answers. (place : Place) (memory : Memory) → old.phase ≡ phase_at place memory → memory.shape ≡ old.kept
-    → Moves old (settles old memory (complete func (scene_in old) opened place (end_stream (scene_in old) opened))) new answers)
+    → Moves old (settles old memory (complete func (scene_in old) opened place ends)) new answers)
 
 -- the phase behind a fetch
 abbrev pub fetched_phase : Present → OpenFile → StreamVal → Phase

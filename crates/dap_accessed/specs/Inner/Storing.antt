@@ -1,5 +1,5 @@
 -- A record that is stored in a file under its number.
-use Rattle.std.specs.Prelude.{ℕ, ◌≡◌, List, Option, Some, Result, Ok, Err}
+use Rattle.std.specs.Prelude.{ℕ, ◌≡◌, List, Some, Result, Ok, Err}
 use Rattle.rec_file.specs.Files.{FileVal, stored}
 use Rattle.rec_file.specs.Acts.{first_refusal}
 use Rattle.dap_accessed.specs.declared.fault.AddFault.{AddFault}

@@ -3,50 +3,38 @@ use Rattle.std.specs.Prelude.{ℕ, ◌≡◌, ◌≤◌, List, [], ◌∷◌, �
 use Rattle.std.specs.Global.{Vec}
 use Rattle.std.specs.Vec.{vec_capacity}
 use Rattle.dap_msg.specs.Codes as codes
-use Rattle.dap_msg.specs.Message.{Message, Ack}
+use Rattle.dap_msg.specs.Message.{Message, Ack, Filedata}
 use Rattle.dap_msg.specs.Canon.{canon, file_data_size}
-use Rattle.dap_msg.specs.Exchange.{four_bytes, config_of, record_of, least_buffer}
+use Rattle.dap_msg.specs.Exchange.{four_bytes, config_of, least_buffer}
 use Rattle.dap_msg.specs.Blocked.{Blocked, all_joined, bodies, AllFit}
 use Rattle.rec_file.specs.Limits.{longest_record}
 use Rattle.dap_accessed.specs.declared.answers.Answer.{Answer}
 use Rattle.dap_accessed.specs.declared.answers.Answer.TheVariants as answer
 use Rattle.dap_accessed.specs.declared.fault.NoMemory.{NoMemory}
-use Rattle.dap_accessed.specs.Replies.{attributes_for, completed, bare_status, reason_status, done_status}
+use Rattle.dap_accessed.specs.Replies.{attributes_for, completed, status, bare_status}
 use Rattle.dap_accessed.specs.Served.{AllAtMost}
 
 abbrev pub message_of : Answer → Message
 message_of (answer.Config bufsiz) = config_of bufsiz
-message_of (answer.Attributes shape) = attributes_for shape
+message_of (answer.Attributes shape mrn) = attributes_for shape
 message_of answer.Ack = Ack
 message_of answer.Complete = completed
 message_of (answer.Status code) = bare_status code
-message_of (answer.Reason code reason) = reason_status code reason []
-message_of (answer.StoreRefusal reason ordinal) = reason_status codes.stscode.record_refused reason (four_bytes ordinal)
-message_of (answer.Done number) = done_status number
-message_of (answer.Record number body) = record_of number body.now
+message_of (answer.Reason code reason) = status code [] [] reason
+message_of (answer.StoreRefusal reason ordinal) = status codes.stscode.record_refused [] ordinal reason
+message_of (answer.Done number) = status codes.stscode.success number number []
+message_of (answer.Record number body) = Filedata number body.now
 
--- the number that an answer's message has in 4 bytes, and its reason
-abbrev pub number_in : Answer → ℕ
-number_in (answer.Attributes shape) = shape.mrn
-number_in (answer.StoreRefusal reason ordinal) = ordinal
-number_in (answer.Done number) = number
-number_in (answer.Record number body) = number
-number_in _ = 0
-
-abbrev pub reason_in : Answer → ℕ
-reason_in (answer.Reason code reason) = reason
-reason_in (answer.StoreRefusal reason ordinal) = reason
-reason_in _ = 0
+-- its bytes are those of its numbers, and a record is one that a file may have
+abbrev pub IsWritable : Answer → Type 0
+IsWritable (answer.Attributes shape mrn) = mrn ≡ four_bytes shape.mrn
+IsWritable (answer.Record number body) = length body.now ≤ longest_record
+IsWritable _ = Unit {0}
 
 -- every answer but a record is short
 abbrev pub IsShort : Answer → Type 0
 IsShort (answer.Record number body) = ⊥
-IsShort _ = Unit {0}
-
--- a record is one that a file may have
-abbrev pub IsWritable : Answer → Type 0
-IsWritable (answer.Record number body) = length body.now ≤ longest_record
-IsWritable _ = Unit {0}
+IsShort a = IsWritable a
 
 -- its message has no more bytes than these
 abbrev pub most_bytes : Answer → ℕ

@@ -10,8 +10,8 @@ pub returns : goal.returns
 returns c =
     λ messages before.
     let m = message_of c.args.answer in
-    let most : length (canon m) ≤ most_bytes c.args.answer = c.message-message.ensures.within in
-    answered_more c.args.limit messages m c.args.answers.now c.append_message.new.list c.message-message.ensures.fits (omega (arith, most, c.requires.1)) before
+    let most : length (canon m) ≤ most_bytes c.args.answer = c.message.ensures.within in
+    answered_more c.args.limit messages m c.args.answers.now c.append_message.new.list c.message.ensures.fits (omega (arith, most, c.requires.1)) before
     (c.in_ok-append_message.ensures
-    ∙ ap (λ (n : ℕ). one_more n (bodies c.args.answers.now.items) (canon (seen c.message-message.result))) c.from.ensures
-    ∙ ap (λ (m : Message). one_more c.args.limit (bodies c.args.answers.now.items) (canon m)) c.message-message.ensures.same)
+    ∙ ap (λ (n : ℕ). one_more n (bodies c.args.answers.now.items) (canon (seen c.message.result))) c.from.ensures
+    ∙ ap (λ (m : Message). one_more c.args.limit (bodies c.args.answers.now.items) (canon m)) c.message.ensures.same)

@@ -16,7 +16,7 @@ returns-clause-ok c =
     let goes = gone_is (record (port_view c.port.inside) { outbox = bodies c.in-Ok.served.answers.items }) c.go_on.new.self bytes waits.0 c.item_at-next.result.1 c.is_end-at_end.result c.is_end-at_end.ensures.end waits.1 (c.go_on.ensures.going, c.go_on.ensures.ends) in
     let serves = c.in-Ok.ensures.serves bytes c.port.inside.place c.item_at-next.ensures.exact in
     rw (← c.port.view_is)
-    (served_one (serving_of (port_view c.port.inside) c.args.accessed.now) bytes waits.0 waits.1 c.is_end-at_end.ensures.bytes c.serve_read.new.self c.in-Ok.served c.go_on.new.self c.item_at-next.result.1 c.len-answered.result
+    (served_one (serving_of (port_view c.port.inside) c.args.accessed.now) bytes waits.0 waits.1 c.is_end-at_end.ensures.bytes c.serve_item.new.self c.in-Ok.served c.go_on.new.self c.item_at-next.result.1 c.len-answered.result
     (no_length (bodies c.port.inside.outbox.items) (length-map c.port.inside.outbox.items _ ∙ idle))
     (place_there (port_view c.port.inside) bytes waits.0 waits.1 (subst IsPort (sym c.port.view_is) c.requires))
     serves c.in-Ok.ensures.next c.item_at-next.ensures.within c.item_at-next.ensures.further

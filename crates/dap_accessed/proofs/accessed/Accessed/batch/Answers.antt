@@ -1,4 +1,4 @@
-use Rattle.std.proofs.Common.{ℕ, ap, sym, subst, ◌≡◌, [], ◌∷◌, ◌++◌, ◌+◌, ◌≤◌, arith, map, length}
+use Rattle.std.proofs.Common.{ℕ, List, ap, sym, subst, ◌≡◌, [], ◌∷◌, ◌++◌, ◌+◌, ◌≤◌, arith, map, length}
 use Rattle.std.proofs.Common.{◌∙◌, ◌<◌}
 use Rattle.std.proofs.lemmas.Bool.{le-leb, lt-leb}
 use Rattle.dap_accessed.specs.declared.phase.Phase.TheVariants as phases
@@ -10,7 +10,7 @@ use Rattle.dap_accessed.specs.Inner.Moves.{plain_memory, scene_in}
 use Rattle.rec_file.specs.AnyFiles.{any_value}
 use Rattle.rec_file.specs.Files.{records_from}
 use Rattle.dap_msg.specs.Canon.{file_data_size}
-use Rattle.dap_msg.specs.Message.{Message}
+use Rattle.dap_msg.specs.Message.{Message, Filedata}
 use Rattle.dap_accessed.specs.Present.{Present}
 use Rattle.dap_accessed.specs.Inner.Written.{Answered}
 use Rattle.dap_accessed.specs.Records.{filedata_of}
@@ -26,12 +26,13 @@ loop-number-init c =
 pub loop-number-preserved : goal.loop-number-preserved
 loop-number-preserved c =
     let limit : c.self.inside.limit ≡ c.args.self.now.limit = ap (λ (p : Present). p.limit) c.self.view_is in
+    let given = c.loop-number.invariant.given in
     let fits : file_data_size 4 (length c.in-Some.body.now) ≤ c.args.self.now.limit = omega (arith, c.if-filedata_len-from.false, c.filedata_len.ensures, c.from.ensures, limit) in
     goes_on c.args.self.now.limit (any_value c.file-file.result.now) c.args.stream.next c.loop-number.next c.loop-number.answers c.append-in-Some.new.answers
     (c.in-Some.number, c.in-Some.body.now) c.loop-number.invariant c.in-Some.ensures.some (le-leb _ _ fits) c.in-Some.ensures.within
-    (subst (λ (l : ℕ). Answered l (map filedata_of c.loop-number.invariant.given ++ filedata_of (c.in-Some.number, c.in-Some.body.now) ∷ []) c.append-in-Some.new.answers) limit
-    (c.in_ok-append-2.ensures (map filedata_of c.loop-number.invariant.given)
-    (subst (λ (l : ℕ). Answered l (map filedata_of c.loop-number.invariant.given) c.loop-number.answers) (sym limit) c.loop-number.invariant.answered)))
+    (subst (λ (l : ℕ). Answered l (map filedata_of given ++ filedata_of (c.in-Some.number, c.in-Some.body.now) ∷ []) c.append-in-Some.new.answers) limit
+    (subst (λ (n : List ℕ). Answered c.self.inside.limit (map filedata_of given ++ Filedata n c.in-Some.body.now ∷ []) c.append-in-Some.new.answers) c.to_le_bytes.ensures
+    (c.in_ok-append-2.ensures (map filedata_of given) (subst (λ (l : ℕ). Answered l (map filedata_of given) c.loop-number.answers) (sym limit) c.loop-number.invariant.answered))))
 
 pub at_number-requires-clause-above : goal.at_number-requires-clause-above
 at_number-requires-clause-above c =

@@ -1,13 +1,12 @@
-use Rattle.std.proofs.Common.{◌≡◌, ap, map, sym, ◌∙◌, List, ℕ, [], ◌∷◌, ◌++◌, nat_eq}
+use Rattle.std.proofs.Common.{◌≡◌, ap, map, sym, ◌∙◌, List, ℕ, [], ◌∷◌, ◌++◌}
 use Rattle.std.specs.Global.{Vec}
 use Rattle.std.specs.Prelude.{None, bytes_eq}
 use Rattle.std.specs.List.{position}
 use Rattle.std.proofs.lemmas.Cmp.{nat_list_eq_equiv}
 use Rattle.rec_file.specs.Files.{FileVal}
 use Rattle.rec_file.specs.AnyFiles.{any_value}
-use Rattle.indexmap.specs.IndexMap.{get}
 use Rattle.indexmap.proofs.CallerLemmas.{insert_entry-new}
-use Rattle.dap_accessed.specs.Standing.{Files, new_file, place_of}
+use Rattle.dap_accessed.specs.Standing.{Files, place_of}
 use Rattle.dap_accessed.proofs.Entries.{Entry, view}
 use Rattle.dap_accessed.proofs.Tables.{absent, position-alike, map-last}
 use Rattle.dap_accessed.proofs.table.FileTable.make.Goals as goal

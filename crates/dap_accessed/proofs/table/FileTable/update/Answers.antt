@@ -1,4 +1,6 @@
+use Rattle.std.proofs.Common.{ap, ◌∙◌, length}
 use Rattle.rec_file.specs.Acts.{update_record}
+use Rattle.dap_accessed.proofs.Tables.{length-with}
 use Rattle.dap_accessed.proofs.Entries.{others_stay, acts, stays}
 use Rattle.dap_accessed.proofs.table.FileTable.update.Goals as goal
 
@@ -9,9 +11,12 @@ returns-clause-others c =
 pub returns-clause-acts : goal.returns-clause-acts
 returns-clause-acts c =
     acts c.self.inside.files.entries c.args.at c.index_mut-file.result.now c.update.new.file c.args.self.now c.self.view_is c.requires c.index_mut-file.ensures.value
-    (update_record c.args.body.now) c.args.stream.now c.update.new.self c.update.result c.update.ensures
+    (update_record c.args.body.now) c.args.stream.now c.update.new.self c.update.result c.or_no_memory.result c.update.ensures c.or_no_memory.ensures.ok
 
-pub returns-clause-no_memory : goal.returns-clause-no_memory
-returns-clause-no_memory c = λ lacks.
+pub returns-clause-err : goal.returns-clause-err
+returns-clause-err c =
     stays c.self.inside.files.entries c.args.at c.index_mut-file.result.now c.update.new.file c.args.self.now c.self.view_is c.requires c.index_mut-file.ensures.value
-    (update_record c.args.body.now) c.args.stream.now c.update.new.self c.update.result c.update.ensures lacks
+    (update_record c.args.body.now) c.args.stream.now c.update.new.self c.update.result c.or_no_memory.result c.update.ensures c.or_no_memory.ensures.err
+
+pub returns-clause-same_length : goal.returns-clause-same_length
+returns-clause-same_length c = ap length (returns-clause-others c) ∙ length-with _ _ _

@@ -3,7 +3,7 @@ use Rattle.dap_msg.specs.Items.{seen_item}
 use Rattle.dap_msg.specs.Blocked.{Blocked, all_joined, AllFit}
 use Rattle.dap_accessed.proofs.StepIs.{stands-more, answers-are, same-own}
 use Rattle.dap_accessed.specs.Present.{Present}
-use Rattle.dap_accessed.proofs.accessed.Accessed.serve_read.Goals as goal
+use Rattle.dap_accessed.proofs.accessed.Accessed.serve_item.Goals as goal
 
 pub returns-clause-serves : goal.returns-clause-serves
 returns-clause-serves c bytes at there =
@@ -13,7 +13,7 @@ returns-clause-serves c bytes at there =
     record {
       item = item;
       reads = there;
-      stands = stands-more old c.serve_item.new.self item moves.present;
+      stands = stands-more old c.answer_item.new.self item moves.present;
       answers = λ first items h. moves.answered.bytes ∙ ap (λ l. all_joined (Blocked old.limit l)) (answers-are old item first items h);
       fits = λ first items h. subst AllFit (answers-are old item first items h) moves.answered.fits;
       within = moves.answered.within;
