@@ -6,11 +6,13 @@ usage: capture.py BYTES KIND [messages]
 typical: acknowledgements, and data segments with 20 to 500 bytes of records, attributes and statuses,
 in turns that a fixed generator chooses, so that each run writes the same capture. short: of all these
 the shortest alone, acknowledgements, or statuses where messages are wanted. long: packets of 258 bytes
-alone, each with a record. With the word messages it writes the NSP messages in place of the packets.
+alone, each with a record. controls: GETs by the number of a record. With the word messages it writes the NSP
+messages in place of the packets.
 """
 import sys
 
 ATTRIBUTES = bytes.fromhex("02020ba604100200000400000300060200")
+CONTROL = bytes.fromhex("0402080103010401000000")
 STATUS = bytes.fromhex("09020d00100401000000040100000000")
 
 
@@ -51,10 +53,17 @@ def long(choose):
         yield record(choose, 245)
 
 
+def controls():
+    while True:
+        yield CONTROL
+
+
 def payloads(kind, choose, messages):
     """The NSP messages of a kind, and None for each acknowledgement."""
     if kind == "typical":
         return typical(choose)
+    if kind == "controls":
+        return controls()
     return long(choose) if kind == "long" else short(choose, messages)
 
 

@@ -1,12 +1,13 @@
 #!/usr/bin/env python3
 """Writes a schedule to the standard output, in which each packet arrives once and in order.
 
-usage: schedules.py window EVENTS | scattered PUTS | sparse PUTS
+usage: schedules.py window EVENTS | scattered PUTS | sparse PUTS | store RECORDS
 
 window: about so many events over a window of 8 segments of 64 bytes. Records of up to 440 bytes are put
 into a sequential file; all segments of a record are written before the first is delivered.
 scattered: so many puts by number into a relative file of so many records, in no order, of records of 30 bytes.
 sparse: the same, into a file without a bound, spread over all numbers that it may have.
+store: so many records of a byte by one request, which is asked and handed to the link.
 """
 import sys
 
@@ -76,8 +77,17 @@ def sparse(count):
     return keyed(0, [1 + next(choose) % 2147483647 for _ in range(count)])
 
 
+def store(count):
+    schedule = Schedule("setup 1400 8 4096 4096")
+    schedule.ask("hello")
+    schedule.ask("create 46 0 2 0 0 1", messages=2, answers=2)
+    schedule.ask("connect")
+    schedule.say("ask store" + " 00" * count, "post a")
+    return schedule
+
+
 def main():
-    make = {"window": window, "scattered": scattered, "sparse": sparse}[sys.argv[1]]
+    make = {"window": window, "scattered": scattered, "sparse": sparse, "store": store}[sys.argv[1]]
     print("\n".join(make(int(sys.argv[2])).lines))
 
 

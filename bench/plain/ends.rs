@@ -5,12 +5,54 @@ use crate::text::Text;
 use std::collections::BTreeMap;
 
 /// A request.
-pub enum Request<'a> {
+pub enum Request {
     Hello,
     Create { name: Vec<u8>, org: u8, rfm: u8, mrs: u16, mrn: u32, fac: u8 },
     Connect,
-    Put { key: Option<u32>, body: &'a [u8] },
+    Put { key: Option<u32>, body: Vec<u8> },
+    Store(Vec<Vec<u8>>),
     Close,
+}
+
+/// What came of a request.
+#[derive(Clone, Copy)]
+pub enum Report {
+    Ready(u16),
+    Opened(u8, u8, u16, u32),
+    Connected,
+    Done(u32),
+    Refused(u16, u8),
+    Closed,
+}
+
+impl Report {
+    fn say(self, text: &mut Text) {
+        match self {
+            Report::Ready(bufsiz) => {
+                text.word("report ready ");
+                text.number(bufsiz);
+            }
+            Report::Opened(org, rfm, mrs, mrn) => {
+                text.word("report opened");
+                for number in [u32::from(org), u32::from(rfm), u32::from(mrs), mrn] {
+                    text.byte(b' ');
+                    text.number(number);
+                }
+            }
+            Report::Connected => text.word("report connected"),
+            Report::Done(number) => {
+                text.word("report done ");
+                text.number(number);
+            }
+            Report::Refused(code, reason) => {
+                text.word("report refused ");
+                text.four_digits(code);
+                text.byte(b' ');
+                text.number(reason);
+            }
+            Report::Closed => text.word("report closed"),
+        }
+    }
 }
 
 /// What is due.
@@ -22,6 +64,7 @@ enum Due {
     Opened,
     Connected,
     Done,
+    Stored,
     Closed,
 }
 
@@ -40,7 +83,11 @@ pub struct Asking {
     limit: usize,
     phase: Phase,
     due: Due,
-    opened: String,
+    opened: Report,
+    /// The messages that wait, and those that were handed to the link.
+    waiting: Vec<Vec<u8>>,
+    pub sent: Vec<Vec<u8>>,
+    pub reports: Vec<Report>,
 }
 
 fn message(kind: u8, operand: &[u8]) -> Vec<u8> {
@@ -83,12 +130,12 @@ fn limit_of(bufsiz: u16) -> usize {
 }
 
 /// Puts messages into as few NSP messages as the limit lets; how many.
-fn wait(outbox: &mut Vec<Vec<u8>>, limit: usize, messages: impl IntoIterator<Item = Vec<u8>>) -> usize {
+fn wait(outbox: &mut Vec<Vec<u8>>, limit: usize, messages: &[Vec<u8>]) -> usize {
     let before = outbox.len();
-    for message in messages {
+    for message in messages.iter().filter(|message| !message.is_empty()) {
         match outbox[before..].last_mut() {
-            Some(last) if last.len() + message.len() <= limit => last.extend_from_slice(&message),
-            _ => outbox.push(message),
+            Some(last) if last.len() + message.len() <= limit => last.extend_from_slice(message),
+            _ => outbox.push(message.clone()),
         }
     }
     outbox.len() - before
@@ -96,8 +143,15 @@ fn wait(outbox: &mut Vec<Vec<u8>>, limit: usize, messages: impl IntoIterator<Ite
 
 impl Asking {
     pub fn new(link: Link, own: u16) -> Asking {
-        let (phase, due, opened) = (Phase::Fresh, Due::Nothing, String::new());
-        Asking { link, own, limit: 4096, phase, due, opened }
+        let (phase, due, opened) = (Phase::Fresh, Due::Nothing, Report::Closed);
+        let (waiting, sent, reports) = (Vec::new(), Vec::new(), Vec::new());
+        Asking { link, own, limit: 4096, phase, due, opened, waiting, sent, reports }
+    }
+
+    pub fn post(&mut self) -> Result<usize, Word> {
+        let count = self.link.post()?;
+        self.sent.append(&mut self.waiting);
+        Ok(count)
     }
 
     pub fn ask(&mut self, request: &Request) -> Result<usize, Word> {
@@ -109,33 +163,40 @@ impl Asking {
             Request::Create { .. } => (Phase::Ready, Due::Attributes),
             Request::Connect => (Phase::Opened, Due::Connected),
             Request::Put { .. } => (Phase::Connected, Due::Done),
+            Request::Store(_) => (Phase::Connected, Due::Stored),
             Request::Close => (Phase::Connected, Due::Closed),
         };
         if phase != self.phase {
             return Err("ask-phase");
         }
-        let messages = match request {
-            Request::Hello => [config(self.own), Vec::new()],
+        let before = self.waiting.len();
+        match request {
+            Request::Hello => self.waiting.push(config(self.own)),
             Request::Create { name, org, rfm, mrs, mrn, fac } => {
                 let mut operand = vec![2, 0, name.len() as u8];
                 operand.extend_from_slice(name);
                 operand.extend_from_slice(&[*fac, 0, 0, 0]);
-                [attributes(*org, *rfm, *mrs, *mrn), message(3, &operand)]
+                self.waiting.extend([attributes(*org, *rfm, *mrs, *mrn), message(3, &operand)]);
             }
-            Request::Connect => [message(4, &[2, 0]), Vec::new()],
-            Request::Put { key: None, body } => [message(4, &[4, 1, 0]), filedata(body)],
+            Request::Connect => self.waiting.push(message(4, &[2, 0])),
+            Request::Put { key: None, body } => self.waiting.extend([message(4, &[4, 1, 0]), filedata(body)]),
             Request::Put { key: Some(key), body } => {
                 let [a, b, c, d] = key.to_le_bytes();
-                [message(4, &[4, 3, 1, 4, a, b, c, d]), filedata(body)]
+                self.waiting.extend([message(4, &[4, 3, 1, 4, a, b, c, d]), filedata(body)]);
             }
-            Request::Close => [message(7, &[1, 0]), Vec::new()],
-        };
-        if messages.iter().any(|message| message.len() > self.limit) {
+            Request::Store(bodies) => {
+                self.waiting.push(message(4, &[4, 1, 3]));
+                self.waiting.extend(bodies.iter().map(|body| filedata(body)));
+                self.waiting.push(message(7, &[4, 0]));
+            }
+            Request::Close => self.waiting.push(message(7, &[1, 0])),
+        }
+        if self.waiting[before..].iter().any(|message| message.len() > self.limit) {
+            self.waiting.truncate(before);
             return Err("ask-too-large");
         }
         self.due = due;
-        let some = messages.into_iter().filter(|message| !message.is_empty());
-        Ok(wait(&mut self.link.outbox, self.limit, some))
+        Ok(wait(&mut self.link.outbox, self.limit, &self.waiting[before..]))
     }
 
     /// Reads an answer, and says what came of it.
@@ -145,48 +206,49 @@ impl Asking {
         let (kind, mut fields) = rest.message();
         let handled = before - rest.0.len();
         let due = std::mem::replace(&mut self.due, Due::Nothing);
-        match (due, kind) {
+        let report = match (due, kind) {
             (Due::Ready, 1) => {
                 let bufsiz = fields.number(2) as u16;
                 self.limit = limit_of(bufsiz);
                 self.phase = Phase::Ready;
-                text.word("report ready ");
-                text.number(bufsiz);
+                Some(Report::Ready(bufsiz))
             }
             (Due::Attributes, 2) => {
                 fields.take(2);
-                let (org, rfm, mrs) = (fields.byte(), fields.byte(), fields.number(2));
-                let mrn = Fields(fields.image()).number(4);
-                self.opened = format!("report opened {org} {rfm} {mrs} {mrn}");
+                let (org, rfm, mrs) = (fields.byte(), fields.byte(), fields.number(2) as u16);
+                self.opened = Report::Opened(org, rfm, mrs, Fields(fields.image()).number(4));
                 self.due = Due::Opened;
-                text.word("read");
+                None
             }
             (Due::Opened, 6) => {
                 self.phase = Phase::Opened;
-                text.word(&self.opened);
+                Some(self.opened)
             }
             (Due::Connected, 6) => {
                 self.phase = Phase::Connected;
-                text.word("report connected");
+                Some(Report::Connected)
             }
             (Due::Done, 9) => {
                 let code = fields.number(2);
                 let (_rfa, number, reason) = (fields.image(), fields.image(), fields.image());
-                if code >> 12 == 1 {
-                    text.word("report done ");
-                    text.number(Fields(number).number(number.len()));
+                Some(if code >> 12 == 1 {
+                    Report::Done(Fields(number).number(number.len()))
                 } else {
-                    text.word("report refused ");
-                    text.four_digits(code as u16);
-                    text.byte(b' ');
-                    text.number(if reason.len() == 1 { reason[0] } else { 0 });
-                }
+                    Report::Refused(code as u16, if reason.len() == 1 { reason[0] } else { 0 })
+                })
             }
             (Due::Closed, 7) => {
                 self.phase = Phase::Ready;
-                text.word("report closed");
+                Some(Report::Closed)
             }
             _ => panic!("an answer that no benchmark has: {kind}"),
+        };
+        match report {
+            Some(report) => {
+                report.say(text);
+                self.reports.push(report);
+            }
+            None => text.word("read"),
         }
         self.link.handled(handled);
         Ok(())
@@ -359,7 +421,6 @@ impl Serving {
             _ => panic!("a message that no benchmark has: {kind}"),
         };
         self.link.handled(handled);
-        let some = answers.into_iter().filter(|message| !message.is_empty());
-        Ok(wait(&mut self.link.outbox, self.limit, some))
+        Ok(wait(&mut self.link.outbox, self.limit, &answers))
     }
 }

@@ -16,6 +16,7 @@ enum Event<'a> {
     Create(&'a [u8], [u32; 5]),
     Connect,
     Put(Option<u32>, &'a [u8]),
+    Store(Words<'a>),
     Close,
     Post(End),
     Emit(End),
@@ -27,6 +28,7 @@ enum Event<'a> {
 }
 
 /// The words of a line that are left.
+#[derive(Clone, Copy)]
 struct Words<'a>(Option<&'a [u8]>);
 
 impl<'a> Words<'a> {
@@ -86,9 +88,23 @@ fn read_ask<'a>(words: &mut Words<'a>) -> Option<Event<'a>> {
             b"key" => Event::Put(Some(words.number(u32::MAX)?), checked(words.next()?)?),
             word => Event::Put(None, checked(word)?),
         },
+        b"store" => {
+            let bodies = *words;
+            while words.0.is_some() {
+                checked(words.next()?)?;
+            }
+            Event::Store(bodies)
+        }
         b"close" => Event::Close,
         _ => return None,
     })
+}
+
+/// The bytes that the digits of a name or of a record spell.
+fn decoded(digits: &[u8]) -> Vec<u8> {
+    let mut bytes = Vec::with_capacity(digits.len() / 2);
+    decode(digits, &mut bytes);
+    bytes
 }
 
 fn read_event(line: &[u8]) -> Option<Event<'_>> {
@@ -123,10 +139,11 @@ fn said(input: &[u8]) -> impl Iterator<Item = (usize, &[u8])> {
     (1..).map_while(move |number| Some((number, next_line(&mut rest)?))).filter(|(_, line)| !matches!(line, [] | [b'#', ..]))
 }
 
+/// Both ends, and the requests that were asked.
 struct World {
     a: Asking,
     b: Serving,
-    bytes: Vec<u8>,
+    requests: Vec<Request>,
 }
 
 impl World {
@@ -147,8 +164,9 @@ impl World {
         text.hex(&self.link(end).wire[place].packet);
     }
 
-    fn ask(&mut self, text: &mut Text, request: &Request) -> Result<(), Word> {
-        let count = self.a.ask(request)?;
+    fn ask(&mut self, text: &mut Text, request: Request) -> Result<(), Word> {
+        let count = self.a.ask(&request)?;
+        self.requests.push(request);
         text.word("asked ");
         text.number(count as u64);
         Ok(())
@@ -157,25 +175,23 @@ impl World {
     /// An event, and what came of it.
     fn apply(&mut self, text: &mut Text, event: &Event) -> Result<(), Word> {
         match *event {
-            Event::Hello => self.ask(text, &Request::Hello)?,
+            Event::Hello => self.ask(text, Request::Hello)?,
             Event::Create(name, [org, rfm, mrs, mrn, fac]) => {
-                let mut bytes = Vec::new();
-                decode(name, &mut bytes);
                 let (org, rfm, mrs, fac) = (org as u8, rfm as u8, mrs as u16, fac as u8);
-                self.ask(text, &Request::Create { name: bytes, org, rfm, mrs, mrn, fac })?;
+                self.ask(text, Request::Create { name: decoded(name), org, rfm, mrs, mrn, fac })?;
             }
-            Event::Connect => self.ask(text, &Request::Connect)?,
-            Event::Put(key, body) => {
-                let mut bytes = std::mem::take(&mut self.bytes);
-                bytes.clear();
-                decode(body, &mut bytes);
-                let asked = self.ask(text, &Request::Put { key, body: &bytes });
-                self.bytes = bytes;
-                asked?;
+            Event::Connect => self.ask(text, Request::Connect)?,
+            Event::Put(key, body) => self.ask(text, Request::Put { key, body: decoded(body) })?,
+            Event::Store(mut bodies) => {
+                let bodies = std::iter::from_fn(|| bodies.next().map(decoded));
+                self.ask(text, Request::Store(bodies.collect()))?;
             }
-            Event::Close => self.ask(text, &Request::Close)?,
+            Event::Close => self.ask(text, Request::Close)?,
             Event::Post(end) => {
-                let count = self.link(end).post()?;
+                let count = match end {
+                    End::A => self.a.post()?,
+                    End::B => self.b.link.post()?,
+                };
                 text.word("posted ");
                 text.number(count as u64);
             }
@@ -226,7 +242,7 @@ pub fn play(input: &[u8]) -> Result<(Vec<u8>, i32), Fault> {
     let (size, window) = (size as usize, window as usize);
     let a = Asking::new(Link::new(0x0101, 0x0202, size, window), own_a as u16);
     let b = Serving::new(Link::new(0x0202, 0x0101, size, window), own_b as u16);
-    let mut world = World { a, b, bytes: Vec::new() };
+    let mut world = World { a, b, requests: Vec::new() };
     let mut status = 0;
     for (number, (place, line)) in (1u64..).zip(lines) {
         let event = read_event(line).ok_or(Fault::BadLine(place))?;
