@@ -42,12 +42,12 @@ use std::marker::Model;
 #[derive(Drop)]
 pub struct Accessed {
     pub(crate) alloc: Global,
-    // The BUFSIZ of its own Config.
+    /// The BUFSIZ of its own Config.
     bufsiz: u16,
-    // How long a message the peer takes.
+    /// How long a message the peer takes.
     pub(crate) limit: u16,
     pub(crate) files: FileTable,
-    // The shape that an Access would give a new file.
+    /// The shape that an Access would give a new file.
     pub(crate) kept: Option<Shape>,
     pub(crate) phase: Phase,
 }

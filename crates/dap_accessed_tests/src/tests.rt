@@ -44,7 +44,7 @@ const SEQUENTIAL: &[u8] = &[2, 2, 0x0b, 0xa6, 4, 0, 2, 0, 0, 4, 0, 0, 0, 0];
 /// One whose records have 5 bytes at the most.
 const FIVE: &[u8] = &[2, 2, 0x0b, 0xa6, 4, 0, 2, 5, 0, 4, 0, 0, 0, 0];
 
-// The same attributes and an Acknowledge, as they answer an Access.
+/// The same attributes and an Acknowledge, as they answer an Access.
 const OPENED_RELATIVE: &[u8] = &[2, 2, 0x0b, 0xa6, 4, 0x10, 2, 0, 0, 4, 3, 0, 0, 0, 6, 2, 0];
 
 const OPENED_UNBOUNDED: &[u8] = &[2, 2, 0x0b, 0xa6, 4, 0x10, 2, 0, 0, 4, 0, 0, 0, 0, 6, 2, 0];
@@ -53,7 +53,7 @@ const OPENED_SEQUENTIAL: &[u8] = &[2, 2, 0x0b, 0xa6, 4, 0, 2, 0, 0, 4, 0, 0, 0, 
 
 const OPENED_FIVE: &[u8] = &[2, 2, 0x0b, 0xa6, 4, 0, 2, 5, 0, 4, 0, 0, 0, 0, 6, 2, 0];
 
-// An Access that makes the file `F`, by its FAC.
+/// An Access that makes the file `F`, by its FAC.
 const MAKE_0: &[u8] = &[3, 2, 8, 2, 0, 1, 0x46, 0, 0, 0, 0];
 
 const MAKE_1: &[u8] = &[3, 2, 8, 2, 0, 1, 0x46, 1, 0, 0, 0];
@@ -68,7 +68,7 @@ const MAKE_15: &[u8] = &[3, 2, 8, 2, 0, 1, 0x46, 15, 0, 0, 0];
 
 const MAKE_16: &[u8] = &[3, 2, 8, 2, 0, 1, 0x46, 16, 0, 0, 0];
 
-// An Access that opens the file `F`, by its FAC.
+/// An Access that opens the file `F`, by its FAC.
 const OPEN_0: &[u8] = &[3, 2, 8, 1, 0, 1, 0x46, 0, 0, 0, 0];
 
 const OPEN_1: &[u8] = &[3, 2, 8, 1, 0, 1, 0x46, 1, 0, 0, 0];
@@ -107,7 +107,7 @@ const DELETE: &[u8] = &[4, 2, 3, 5, 1, 0];
 
 const REWIND: &[u8] = &[4, 2, 3, 6, 1, 0];
 
-// A GET by its KEY, in 4 bytes, with RAC 1, and with RAC 2.
+/// A GET by its KEY, in 4 bytes, with RAC 1, and with RAC 2.
 const GET_0: &[u8] = &[4, 2, 8, 1, 3, 1, 4, 0, 0, 0, 0];
 
 const GET_1: &[u8] = &[4, 2, 8, 1, 3, 1, 4, 1, 0, 0, 0];
@@ -124,7 +124,7 @@ const GET_FROM_2: &[u8] = &[4, 2, 8, 1, 3, 2, 4, 2, 0, 0, 0];
 
 const GET_FROM_4: &[u8] = &[4, 2, 8, 1, 3, 2, 4, 4, 0, 0, 0];
 
-// A PUT by its KEY, in 4 bytes, with RAC 1.
+/// A PUT by its KEY, in 4 bytes, with RAC 1.
 const PUT_0: &[u8] = &[4, 2, 8, 4, 3, 1, 4, 0, 0, 0, 0];
 
 const PUT_1: &[u8] = &[4, 2, 8, 4, 3, 1, 4, 1, 0, 0, 0];
@@ -141,7 +141,7 @@ const PUT_7: &[u8] = &[4, 2, 8, 4, 3, 1, 4, 7, 0, 0, 0];
 
 const PUT_9: &[u8] = &[4, 2, 8, 4, 3, 1, 4, 9, 0, 0, 0];
 
-// A Filedata without a number: a letter, six `B`, ten of a byte, 200 `L`.
+/// A Filedata without a number: a letter, six `B`, ten of a byte, 200 `L`.
 const DATA_A: &[u8] = &[8, 2, 2, 0, 0x41];
 
 const DATA_B: &[u8] = &[8, 2, 2, 0, 0x42];
@@ -167,7 +167,7 @@ const ACKNOWLEDGE: &[u8] = &[6, 2, 0];
 /// An Acknowledge whose flags are bad.
 const BAD_FLAGS: &[u8] = &[6, 8];
 
-// A Continue Transfer.
+/// A Continue Transfer.
 const TRY_AGAIN: &[u8] = &[5, 2, 1, 1];
 
 const SKIP: &[u8] = &[5, 2, 1, 2];
@@ -186,7 +186,7 @@ const END_STREAM: &[u8] = &[7, 2, 2, 4, 0];
 
 // ---- Answers.
 
-// The success of an operation on a record.
+/// The success of an operation on a record.
 const DONE_1: &[u8] = &[9, 2, 0x0d, 0, 0x10, 4, 1, 0, 0, 0, 4, 1, 0, 0, 0, 0];
 
 const DONE_2: &[u8] = &[9, 2, 0x0d, 0, 0x10, 4, 2, 0, 0, 0, 4, 2, 0, 0, 0, 0];
@@ -203,7 +203,7 @@ const DONE_9: &[u8] = &[9, 2, 0x0d, 0, 0x10, 4, 9, 0, 0, 0, 4, 9, 0, 0, 0, 0];
 /// That of a REWIND.
 const REWOUND: &[u8] = &[9, 2, 5, 0, 0x10, 0, 0, 0];
 
-// The record `A`, `B` or `C` under a number.
+/// The record `A`, `B` or `C` under a number.
 const FOUND_1_A: &[u8] = &[8, 2, 6, 4, 1, 0, 0, 0, 0x41];
 
 const FOUND_1_B: &[u8] = &[8, 2, 6, 4, 1, 0, 0, 0, 0x42];
@@ -227,7 +227,7 @@ const FILE_EXISTS: &[u8] = &[9, 2, 6, 0, 0x40, 0, 0, 1, 1];
 /// The attributes are bad.
 const BAD_ATTRIBUTES: &[u8] = &[9, 2, 6, 0, 0x40, 0, 0, 1, 11];
 
-// The refusal of an operation on a record, by its reason.
+/// The refusal of an operation on a record, by its reason.
 const NOT_PERMITTED: &[u8] = &[9, 2, 6, 0, 0x50, 0, 0, 1, 2];
 
 const NO_CURRENT: &[u8] = &[9, 2, 6, 0, 0x50, 0, 0, 1, 3];
@@ -248,7 +248,7 @@ const TOO_LARGE: &[u8] = &[9, 2, 6, 0, 0x50, 0, 0, 1, 10];
 
 const BAD_KEY: &[u8] = &[9, 2, 6, 0, 0x50, 0, 0, 1, 12];
 
-// A message of a type that has no place, by the type.
+/// A message of a type that has no place, by the type.
 const MISPLACED_CONFIG: &[u8] = &[9, 2, 5, 1, 0xA0, 0, 0, 0];
 
 const MISPLACED_ATTRIBUTES: &[u8] = &[9, 2, 5, 2, 0xA0, 0, 0, 0];
@@ -267,7 +267,7 @@ const MISPLACED_DATA: &[u8] = &[9, 2, 5, 8, 0xA0, 0, 0, 0];
 
 const MISPLACED_STATUS: &[u8] = &[9, 2, 5, 9, 0xA0, 0, 0, 0];
 
-// A field that says what is unknown, or what is not served.
+/// A field that says what is unknown, or what is not served.
 const UNKNOWN_ACCESS: &[u8] = &[9, 2, 5, 0xC0, 0x20, 0, 0, 0];
 
 const UNKNOWN_CONTROL: &[u8] = &[9, 2, 5, 0, 0x21, 0, 0, 0];
@@ -362,7 +362,7 @@ const ON_FIVE_1: Script = &[
     (MAKE_1, OPENED_FIVE),
     (CONNECT, ACKNOWLEDGE),
 ];
-// The same, whose peer has BUFSIZ 64.
+/// The same, whose peer has BUFSIZ 64.
 const SMALL_ON_SEQUENTIAL_1: Script = &[
     (SMALL_CONFIG, CONFIG),
     (SEQUENTIAL, NOTHING),

@@ -160,7 +160,7 @@ impl AskingEnd {
         }
     }
 
-    // Reads the next answer, which came.
+    /// Reads the next answer, which came.
     fn read_there(&mut self) -> Result<Option<Report>, ReadFault>
         requires { 0 < length self.old.port.link.inbox }
         ensures ok { IfOk result (λ report. ReadOne self.old self.new report) }
@@ -191,7 +191,7 @@ impl AskingEnd {
         }
     }
 
-    // Reads all that came, and hands over what waits.
+    /// Reads all that came, and hands over what waits.
     fn hear_all(&mut self, reports: &mut Vec<Report>) -> Result<(), EndFault>
         ensures ok { OnOk result (HeardAll self.old self.new reports.old.items
             reports.new.items) }
@@ -252,7 +252,7 @@ impl AskingEnd {
         }
     }
 
-    // Reads all that came, and writes what answers it.
+    /// Reads all that came, and writes what answers it.
     fn answer(
         &mut self,
         got: Got,
@@ -360,7 +360,7 @@ impl AskingEnd {
     }
 }
 
-// How a call ends that ends as its link does.
+/// How a call ends that ends as its link does.
 fn ended(done: Result<(), LinkFault>) -> Result<(), EndFault>
     ensures { Ended done result }
 {
@@ -370,7 +370,7 @@ fn ended(done: Result<(), LinkFault>) -> Result<(), EndFault>
     }
 }
 
-// An NSP message that came is left; it is of bytes.
+/// An NSP message that came is left; it is of bytes.
 fn is_left(message: &[u8]) -> bool
     ensures yes { result ≡ true }
     ensures bytes { AreBytes message.now }
@@ -379,7 +379,7 @@ fn is_left(message: &[u8]) -> bool
     true
 }
 
-// Adds the report, for which there is room.
+/// Adds the report, for which there is room.
 fn keep(reports: &mut Vec<Report>, report: Option<Report>)
     requires { vec_len reports.old < vec_capacity reports.old }
     ensures { reports.new.items ≡ reports.old.items ++ option_to_list report }
@@ -389,7 +389,7 @@ fn keep(reports: &mut Vec<Report>, report: Option<Report>)
     }
 }
 
-// How many messages a request has at most.
+/// How many messages a request has at most.
 fn most_messages(request: &Request) -> usize
     ensures { (own : ℕ) → length (messages_of own request.now) ≤ result }
 {
@@ -399,7 +399,7 @@ fn most_messages(request: &Request) -> usize
     }
 }
 
-// Asks a request that was checked: its messages wait.
+/// Asks a request that was checked: its messages wait.
 fn ask_next(
     port: &mut Port,
     accessing: &mut Accessing,
@@ -422,7 +422,7 @@ fn ask_next(
     Ok(count)
 }
 
-// Reads the next answer of the oldest NSP message that came.
+/// Reads the next answer of the oldest NSP message that came.
 fn read_next(port: &mut Port, accessing: &mut Accessing) -> Result<Option<Report>, ReadFault>
     requires kept { IsPort port.old }
     requires some { 0 < length port.old.link.inbox }

@@ -21,9 +21,9 @@ use std::marker::Model;
 #[derive(Drop)]
 pub(crate) struct Port {
     pub(crate) link: LinkEnd,
-    // The NSP messages that wait.
+    /// The NSP messages that wait.
     pub(crate) outbox: Vec<Vec<u8>>,
-    // Where the next DAP message begins in the oldest NSP message that came.
+    /// Where the next DAP message begins in the oldest NSP message that came.
     pub(crate) place: usize,
 }
 
@@ -50,7 +50,7 @@ impl Port {
         })
     }
 
-    // Takes a packet in.
+    /// Takes a packet in.
     pub(crate) fn receive(&mut self, packet: &[u8]) -> Result<Got, LinkFault>
         ensures rest { self.new ≡ with_link self.old self.new.link }
         ensures receives { Receives self.old.link self.new.link packet.now result }
@@ -61,7 +61,7 @@ impl Port {
         received
     }
 
-    // Whether a segment came, and was taken or is held.
+    /// Whether a segment came, and was taken or is held.
     pub(crate) fn has_come(&self) -> bool
         ensures yes { result ≡ true → HasCome self.now }
         ensures no { result ≡ false → HasCome self.now → ⊥ }
@@ -69,7 +69,7 @@ impl Port {
         self.link.received_count() > 0 || self.link.held_count() > 0
     }
 
-    // The next DAP message of the oldest NSP message was handled; it was the last one where so said.
+    /// The next DAP message of the oldest NSP message was handled; it was the last one where so said.
     pub(crate) fn go_on(&mut self, last: bool, next: usize)
         ensures going { last ≡ false → self.new ≡ record self.old { place = next } }
         ensures ends { last ≡ true → (bytes : List ℕ) (later : List (List ℕ))
@@ -87,7 +87,7 @@ impl Port {
         }
     }
 
-    // The packet of the next segment that was never sent.
+    /// The packet of the next segment that was never sent.
     pub(crate) fn emit(&mut self) -> Result<Option<Vec<u8>>, LinkFault>
         ensures nothing { result ≡ Ok None → (self.new ≡ self.old) × (MaySend self.old.link → ⊥) }
         ensures wrote { IfOk result (λ o. IfSome o (λ v. WroteNext self.old self.new v.items)) }
@@ -98,7 +98,7 @@ impl Port {
         self.link.next_packet()
     }
 
-    // The packet of the next segment, of a link that runs and lets it be sent.
+    /// The packet of the next segment, of a link that runs and lets it be sent.
     pub(crate) fn write_next(&mut self) -> Result<Vec<u8>, LinkFault>
         requires works { self.old.link.failed ≡ false }
         requires may { MaySend self.old.link }
@@ -110,7 +110,7 @@ impl Port {
         self.link.write_next()
     }
 
-    // Whether no segment that was never sent may be written.
+    /// Whether no segment that was never sent may be written.
     fn is_full(&self) -> bool
         ensures link { IsLink self.now.link }
         ensures yes { result ≡ true → IsFull self.now.link }
@@ -120,7 +120,7 @@ impl Port {
         !self.link.may_send()
     }
 
-    // Writes all segments that were never sent, as far as the window allows.
+    /// Writes all segments that were never sent, as far as the window allows.
     pub(crate) fn emit_all(&mut self, out: &mut Vec<Vec<u8>>) -> Result<(), LinkFault>
         requires kept { IsPort self.old }
         requires works { self.old.link.failed ≡ false }
@@ -143,7 +143,7 @@ impl Port {
         }
     }
 
-    // Writes all segments, or where none is and one came, one acknowledgement.
+    /// Writes all segments, or where none is and one came, one acknowledgement.
     pub(crate) fn answer(&mut self, got: Got, out: &mut Vec<Vec<u8>>) -> Result<(), LinkFault>
         requires kept { IsPort self.old }
         requires works { self.old.link.failed ≡ false }
@@ -158,7 +158,7 @@ impl Port {
         self.acknowledge(got, out.len() - before, out)
     }
 
-    // Writes one acknowledgement, where a segment came and none was written.
+    /// Writes one acknowledgement, where a segment came and none was written.
     fn acknowledge(&self, got: Got, written: usize, out: &mut Vec<Vec<u8>>) -> Result<(), LinkFault>
         requires { self.now.link.failed ≡ false }
         ensures ok { OnOk result (Acknowledged self.now (wants_ack got written)
@@ -182,7 +182,7 @@ impl Port {
         }
     }
 
-    // Hands over all that waits.
+    /// Hands over all that waits.
     pub(crate) fn post(&mut self) -> Result<usize, LinkFault>
         requires { IsPort self.old }
         ensures ok { IfOk result (λ n. (self.new ≡ posted self.old)
@@ -198,7 +198,7 @@ impl Port {
         self.post_checked()
     }
 
-    // Hands over all that waits, which the link takes.
+    /// Hands over all that waits, which the link takes.
     pub(crate) fn post_checked(&mut self) -> Result<usize, LinkFault>
         requires kept { IsPort self.old }
         requires may { MayQueueAll self.old.link self.old.outbox }
@@ -220,7 +220,7 @@ impl Port {
     }
 }
 
-// Whether a place in an NSP message is its end.
+/// Whether a place in an NSP message is its end.
 pub(crate) fn is_end(message: &[u8], place: usize) -> bool
     ensures end { result ≡ (place == length message.now) }
     ensures bytes { AreBytes message.now }
@@ -228,7 +228,7 @@ pub(crate) fn is_end(message: &[u8], place: usize) -> bool
     place == message.len()
 }
 
-// Whether one acknowledgement is written.
+/// Whether one acknowledgement is written.
 fn wants_ack(got: Got, written: usize) -> bool
     ensures { result ≡ wants_ack got written }
 {

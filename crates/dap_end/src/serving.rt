@@ -267,7 +267,7 @@ impl ServingEnd {
         }
     }
 
-    // Serves all that came, and writes what answers it.
+    /// Serves all that came, and writes what answers it.
     fn answer(&mut self, got: Got, out: &mut Vec<Vec<u8>>) -> Result<(), LinkFault>
         ensures ok { OnOk result (ServedAndAnswered self.old self.new got (bodies out.old.items)
             (bodies out.new.items)) }
@@ -320,7 +320,7 @@ impl ServingEnd {
     }
 }
 
-// Serves the next DAP message of the oldest NSP message that came.
+/// Serves the next DAP message of the oldest NSP message that came.
 fn serve_next(port: &mut Port, accessed: &mut Accessed) -> Result<Option<usize>, NoMemory>
     requires { IsPort port.old }
     ensures ok { IfOk result (λ o. MatchOption o

@@ -177,7 +177,7 @@ fn is_emitted(written: Result<Option<Vec<u8>>, LinkFault>, wanted: Option<Bytes>
     }
 }
 
-// A relative file of variable records with the numbers 1 to 3.
+/// A relative file of variable records with the numbers 1 to 3.
 fn is_added(end: &mut ServingEnd, name: Bytes, wanted: Result<(), AddFault>) -> bool {
     let Some(shape) = Shape::check(16, 2, 0, 3) else {
         return false;

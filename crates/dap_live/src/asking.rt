@@ -19,7 +19,7 @@ use crate::texts::{
 };
 use dap_accessing::{AskFault, Report, Request};
 use dap_end::{AskingEnd, EndFault, TakeFault};
-use dap_text::{Text, RequestText, push_number, push_str};
+use dap_text::{RequestText, Text, push_number, push_str};
 use linewise::{Answers, Became};
 use nsp_link::{Got, LinkFault, LinkSetup};
 use std::alloc::{AllocError, Global};
@@ -30,7 +30,7 @@ pub struct Asking {
     alloc: Global,
     end: AskingEnd,
     setup: LinkSetup,
-    // The reports that wait to be told: more than those of one line only where memory was refused.
+    /// The reports that wait to be told: more than those of one line only where memory was refused.
     reports: Vec<Report>,
 }
 

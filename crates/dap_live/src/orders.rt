@@ -5,7 +5,7 @@ ghost use Rattle.dap_live.specs.Orders.{address_of, anew_of, between_of, order_o
 ghost use Rattle.dap_text.specs.Words.{ends};
 
 use dap_text::{
-    FileLine, RecordLine, Text, RequestText, Words, is, read_file_line, read_hex, read_number,
+    FileLine, RecordLine, RequestText, Text, Words, is, read_file_line, read_hex, read_number,
     read_record_line, read_request,
 };
 use nsp_link::LinkSetup;

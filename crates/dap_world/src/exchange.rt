@@ -29,14 +29,14 @@ use std::alloc::Global;
 impl World {
     ghost use Rattle.dap_world.specs.Runs.{Went};
 
-    // Asks.
+    /// Asks.
     pub(crate) fn ask(&mut self, request: &Request) -> Result<Step, WorldFault>
         ensures { Went self.old (Event.Ask request.now) result self.new }
     {
         ask_next(self.alloc, &mut self.asking, &mut self.requests, request)
     }
 
-    // Serves the next message.
+    /// Serves the next message.
     pub(crate) fn serve(&mut self) -> Result<Step, WorldFault>
         ensures { Went self.old Event.Serve result self.new }
     {
@@ -50,7 +50,7 @@ impl World {
         }
     }
 
-    // Reads the next answer.
+    /// Reads the next answer.
     pub(crate) fn read(&mut self) -> Result<Step, WorldFault>
         ensures { Went self.old Event.Read result self.new }
     {
@@ -69,7 +69,7 @@ impl World {
         }
     }
 
-    // Hands over what waits.
+    /// Hands over what waits.
     pub(crate) fn post(&mut self, end: End) -> Result<Step, WorldFault>
         ensures { Went self.old (Event.Post end) result self.new }
     {
@@ -84,7 +84,7 @@ impl World {
         }
     }
 
-    // Writes the next segment.
+    /// Writes the next segment.
     pub(crate) fn emit(&mut self, end: End) -> Result<Step, WorldFault>
         ensures { Went self.old (Event.Emit end) result self.new }
     {
@@ -94,7 +94,7 @@ impl World {
         }
     }
 
-    // Writes a segment again.
+    /// Writes a segment again.
     pub(crate) fn resend(&mut self, end: End, place: usize) -> Result<Step, WorldFault>
         ensures { Went self.old (Event.Resend end place) result self.new }
     {
@@ -110,7 +110,7 @@ impl World {
         }
     }
 
-    // Writes an acknowledgement.
+    /// Writes an acknowledgement.
     pub(crate) fn ack(&mut self, end: End) -> Result<Step, WorldFault>
         ensures { Went self.old (Event.Ack end) result self.new }
     {
@@ -126,7 +126,7 @@ impl World {
         }
     }
 
-    // Gives an end a packet of the other.
+    /// Gives an end a packet of the other.
     pub(crate) fn deliver(&mut self, end: End, j: usize) -> Result<Step, WorldFault>
         ensures { Went self.old (Event.Deliver end j) result self.new }
     {
@@ -137,7 +137,7 @@ impl World {
     }
 }
 
-// Asks a request of A.
+/// Asks a request of A.
 fn ask_next(
     alloc: Global,
     end: &mut AskingEnd,
@@ -155,7 +155,7 @@ fn ask_next(
     }
 }
 
-// Asks a request that is refused for want of memory alone.
+/// Asks a request that is refused for want of memory alone.
 fn ask_checked(
     alloc: Global,
     end: &mut AskingEnd,
@@ -179,7 +179,7 @@ fn ask_checked(
     }
 }
 
-// Adds the report that was read, for which there is room.
+/// Adds the report that was read, for which there is room.
 fn keep(reports: &mut Vec<Report>, heard: Heard) -> Step
     requires { vec_len reports.old < vec_capacity reports.old }
     ensures { KeptSo heard reports.old.items reports.new.items result }
@@ -193,7 +193,7 @@ fn keep(reports: &mut Vec<Report>, heard: Heard) -> Step
     }
 }
 
-// A writes its next segment.
+/// A writes its next segment.
 fn emit_a(end: &mut AskingEnd, wire: &mut Vec<Wired>) -> Result<Step, WorldFault>
     requires { end.old.port.link.failed ≡ false }
     ensures rest { end.new ≡ record end.old { port = end.new.port } }
@@ -213,7 +213,7 @@ fn emit_a(end: &mut AskingEnd, wire: &mut Vec<Wired>) -> Result<Step, WorldFault
     }
 }
 
-// B writes its next segment.
+/// B writes its next segment.
 fn emit_b(end: &mut ServingEnd, wire: &mut Vec<Wired>) -> Result<Step, WorldFault>
     requires { end.old.port.link.failed ≡ false }
     ensures rest { end.new ≡ record end.old { port = end.new.port } }
@@ -233,7 +233,7 @@ fn emit_b(end: &mut ServingEnd, wire: &mut Vec<Wired>) -> Result<Step, WorldFaul
     }
 }
 
-// A gets the j-th packet of the wire.
+/// A gets the j-th packet of the wire.
 fn deliver_a(end: &mut AskingEnd, wire: &[Wired], j: usize) -> Result<Step, WorldFault>
     ensures rest { end.new ≡ record end.old { port = with_link end.old.port end.new.port.link } }
     ensures comes { Delivery end.old.port.link end.new.port.link wire.now j result }
@@ -245,7 +245,7 @@ fn deliver_a(end: &mut AskingEnd, wire: &[Wired], j: usize) -> Result<Step, Worl
     }
 }
 
-// B gets the j-th packet of the wire.
+/// B gets the j-th packet of the wire.
 fn deliver_b(end: &mut ServingEnd, wire: &[Wired], j: usize) -> Result<Step, WorldFault>
     ensures rest { end.new ≡ record end.old { port = with_link end.old.port end.new.port.link } }
     ensures comes { Delivery end.old.port.link end.new.port.link wire.now j result }
@@ -266,7 +266,7 @@ fn delivered(got: Result<Got, LinkFault>) -> Result<Step, WorldFault>
     }
 }
 
-// A hands over what waits; the DAP messages in it are sent.
+/// A hands over what waits; the DAP messages in it are sent.
 fn post_a(
     alloc: Global,
     end: &mut AskingEnd,
@@ -319,7 +319,7 @@ fn hand_over(
     }
 }
 
-// B hands over what waits.
+/// B hands over what waits.
 fn post_b(end: &mut ServingEnd, posted: &mut usize) -> Result<Step, WorldFault>
     requires running { end.old.port.link.failed ≡ false }
     requires short { AreShort end.old.port.link.max_message end.old.port.outbox }

@@ -8,7 +8,7 @@ impl WorldFault {
     ghost use Rattle.std.specs.Prelude.{◌≡◌, true, false};
     ghost use Rattle.dap_world.specs.declared.event.WorldFault.TheVariants.{NothingToDo};
 
-    // Whether there was nothing to do.
+    /// Whether there was nothing to do.
     fn is_nothing(&self) -> bool
         ensures yes { result ≡ true → self.now ≡ NothingToDo }
         ensures no { result ≡ false → self.now ≡ NothingToDo → ⊥ }
@@ -30,7 +30,7 @@ impl World {
     ghost use Rattle.dap_world.specs.declared.event.End.TheVariants.{A, B};
     ghost use Rattle.dap_world.specs.declared.event.WorldFault.TheVariants.{NoMemory};
 
-    // Messages are few, at most one request has no report yet, and each answer had its place.
+    /// Messages are few, at most one request has no report yet, and each answer had its place.
     fn few(&self)
         ensures served { self.now.served < 2 ^ 56 }
         ensures read { self.now.read < 2 ^ 56 }
@@ -41,7 +41,7 @@ impl World {
         let _ = &self.read;
     }
 
-    // Writes the next segment, delivers it, and has it acknowledged.
+    /// Writes the next segment, delivers it, and has it acknowledged.
     fn send_one(&mut self, end: End) -> Result<(), WorldFault>
         requires world { IsWorld self.old }
         requires settled { unacked self.old end ≡ 0 }
@@ -66,7 +66,7 @@ impl World {
         }
     }
 
-    // Brings every segment of an end to the other; how many events that were.
+    /// Brings every segment of an end to the other; how many events that were.
     fn send_every(&mut self, end: End) -> Result<usize, WorldFault>
         requires world { IsWorld self.old }
         requires settled { unacked self.old end ≡ 0 }
@@ -88,7 +88,7 @@ impl World {
         }
     }
 
-    // Hands over what waits at an end, if anything does; how many events that was.
+    /// Hands over what waits at an end, if anything does; how many events that was.
     fn post_waiting(&mut self, end: End) -> Result<usize, WorldFault>
         requires world { IsWorld self.old }
         requires due { IsPostDue self.old end }
@@ -107,7 +107,7 @@ impl World {
         }
     }
 
-    // Hands over what waits at an end, and brings all to the other.
+    /// Hands over what waits at an end, and brings all to the other.
     fn send_waiting(&mut self, end: End) -> Result<usize, WorldFault>
         requires world { IsWorld self.old }
         requires due { IsPostDue self.old end }
@@ -125,7 +125,7 @@ impl World {
         }
     }
 
-    // Serves every message, and brings its answers to A.
+    /// Serves every message, and brings its answers to A.
     fn serve_every(&mut self) -> Result<usize, WorldFault>
         requires world { IsWorld self.old }
         requires empty { AreEmpty self.old }
@@ -150,7 +150,7 @@ impl World {
         Ok(count)
     }
 
-    // Reads every answer that came; how many.
+    /// Reads every answer that came; how many.
     fn read_every(&mut self) -> Result<usize, WorldFault>
         requires { IsWorld self.old }
         ensures ok { IfOk result (λ n. ReadEvery self.old self.new n × IsWorld self.new) }
@@ -171,7 +171,7 @@ impl World {
         }
     }
 
-    // Settles both ends.
+    /// Settles both ends.
     fn settle_both(&mut self) -> Result<usize, WorldFault>
         requires { IsWorld self.old }
         ensures ok { IfOk result (λ n. SettledBoth self.old self.new n × IsWorld self.new) }
@@ -192,7 +192,7 @@ impl World {
         }
     }
 
-    // Brings what waits at both ends to the other.
+    /// Brings what waits at both ends to the other.
     fn send_both(&mut self) -> Result<usize, WorldFault>
         requires world { IsWorld self.old }
         requires a { unacked self.old A ≡ 0 }
@@ -211,7 +211,7 @@ impl World {
         }
     }
 
-    // Settles both ends, brings what waits to the other, serves all, and reads all.
+    /// Settles both ends, brings what waits to the other, serves all, and reads all.
     fn finish_all(&mut self) -> Result<usize, WorldFault>
         requires { IsWorld self.old }
         ensures ok { IfOk result (λ n. Finished self.old self.new n) }
@@ -262,7 +262,7 @@ impl World {
         result
     }
 
-    // Each request to its report, in turn.
+    /// Each request to its report, in turn.
     fn direct_all(&mut self, requests: &[Request]) -> Result<(), (usize, WorldFault)>
         requires world { IsWorld self.old }
         requires fresh { IsFresh self.old }

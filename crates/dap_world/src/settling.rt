@@ -13,7 +13,7 @@ impl World {
     ghost use Rattle.dap_world.specs.declared.event.End.{End};
     ghost use Rattle.dap_world.specs.declared.event.WorldFault.TheVariants.{NoMemory};
 
-    // Writes the first segments of an end that aren't acknowledged again, in order.
+    /// Writes the first segments of an end that aren't acknowledged again, in order.
     fn resend_all(&mut self, end: End, count: usize) -> Result<(), WorldFault>
         requires world { IsWorld self.old }
         requires few { count ≤ unacked self.old end }
@@ -31,7 +31,7 @@ impl World {
         Ok(())
     }
 
-    // Gives the other end these packets, in order.
+    /// Gives the other end these packets, in order.
     fn deliver_all(&mut self, end: End, first: usize, last: usize) -> Result<(), WorldFault>
         requires world { IsWorld self.old }
         requires order { first ≤ last }
@@ -51,7 +51,7 @@ impl World {
         Ok(())
     }
 
-    // The other end, which took all segments, acknowledges them.
+    /// The other end, which took all segments, acknowledges them.
     pub(crate) fn acknowledge(&mut self, end: End) -> Result<(), WorldFault>
         requires world { IsWorld self.old }
         requires taken { (end_of self.old end).sent ≤ (end_of self.old (other end)).taken }

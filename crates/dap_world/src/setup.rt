@@ -30,7 +30,7 @@ pub struct WorldSetup {
     pub bufsiz_b: u16,
 }
 
-// The address of an end.
+/// The address of an end.
 fn address(end: End) -> u16
     ensures { result ≡ address_of end }
 {
@@ -52,7 +52,7 @@ fn link_setup(setup: &WorldSetup, end: End) -> LinkSetup
     }
 }
 
-// Why there is no end of these limits.
+/// Why there is no end of these limits.
 fn no_end(fault: LinkFault) -> WorldFault
     ensures memory { fault ≡ link_fault.NoMemory → result ≡ NoMemory }
     ensures setup { (fault ≡ link_fault.NoMemory → ⊥) → result ≡ BadSetup }

@@ -27,7 +27,7 @@ pub struct Wired {
     pub acks: u64,
 }
 
-// Puts a packet on the wire, which has the room.
+/// Puts a packet on the wire, which has the room.
 pub(crate) fn put(wire: &mut Vec<Wired>, packet: Vec<u8>, segment: Option<u64>, acks: u64) -> Step
     requires { vec_len wire.old < vec_capacity wire.old }
     ensures place { result ≡ step.Packet (length wire.old.items) }
@@ -46,7 +46,7 @@ pub(crate) fn put(wire: &mut Vec<Wired>, packet: Vec<u8>, segment: Option<u64>, 
     Step::Packet(place)
 }
 
-// The number of the next segment, for which the wire has room.
+/// The number of the next segment, for which the wire has room.
 pub(crate) fn next_number(link: &LinkEnd, wire: &mut Vec<Wired>) -> Result<u64, WorldFault>
     ensures ok { IfOk result (λ k. MaySend link.now × (k ≡ link.now.sent + 1)) }
     ensures room { OnOk result (vec_len wire.new < vec_capacity wire.new) }
@@ -60,7 +60,7 @@ pub(crate) fn next_number(link: &LinkEnd, wire: &mut Vec<Wired>) -> Result<u64, 
     Ok(link.sent_count() + 1)
 }
 
-// Puts a segment on the wire that was written again.
+/// Puts a segment on the wire that was written again.
 pub(crate) fn again(
     link: &LinkEnd,
     wire: &mut Vec<Wired>,
@@ -89,7 +89,7 @@ pub(crate) fn again(
     Ok(put(wire, packet, segment, link.received_count()))
 }
 
-// Puts an acknowledgement on the wire that was written.
+/// Puts an acknowledgement on the wire that was written.
 pub(crate) fn acknowledge(
     link: &LinkEnd,
     wire: &mut Vec<Wired>,
@@ -107,7 +107,7 @@ pub(crate) fn acknowledge(
     Ok(put(wire, packet, None, link.received_count()))
 }
 
-// A count is more than 2,047 behind another.
+/// A count is more than 2,047 behind another.
 fn is_stale(number: u64, now: u64) -> bool
     ensures { result ≡ is_old number now }
 {
@@ -124,7 +124,7 @@ fn is_stale_segment(segment: Option<u64>, taken: u64) -> bool
     }
 }
 
-// The segment or the acknowledgement is more than 2,047 old.
+/// The segment or the acknowledgement is more than 2,047 old.
 fn is_stale_wired(wired: &Wired, taken: u64, acked: u64) -> bool
     requires { taken ≤ most_segments }
     ensures { result ≡ (is_old_segment taken wired.now.segment || is_old wired.now.acks acked) }
@@ -134,7 +134,7 @@ fn is_stale_wired(wired: &Wired, taken: u64, acked: u64) -> bool
     stale_segment || stale_ack
 }
 
-// The packet at a place of the wire, which isn't stale at the link to which it goes.
+/// The packet at a place of the wire, which isn't stale at the link to which it goes.
 pub(crate) fn due<'a>(link: &LinkEnd, wire: &'a [Wired], j: usize) -> Result<&'a Wired, WorldFault>
     ensures ok { IfOk result (λ w. (slice_get wire.now j ≡ Some w.now)
         × (is_old_wired link.now w.now ≡ false)) }
@@ -151,7 +151,7 @@ pub(crate) fn due<'a>(link: &LinkEnd, wire: &'a [Wired], j: usize) -> Result<&'a
     }
 }
 
-// Whether what waits may be handed over.
+/// Whether what waits may be handed over.
 pub(crate) fn may_post(link: &LinkEnd, waiting: &[Vec<u8>]) -> Result<(), WorldFault>
     requires running { link.now.failed ≡ false }
     requires short { AreShort link.now.max_message (bodies waiting.now) }

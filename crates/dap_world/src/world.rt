@@ -15,17 +15,17 @@ pub struct World {
     pub(crate) alloc: Global,
     pub(crate) asking: AskingEnd,
     pub(crate) serving: ServingEnd,
-    // The packets that each end wrote, and how many NSP messages it handed to its link.
+    /// The packets that each end wrote, and how many NSP messages it handed to its link.
     pub(crate) wire_a: Vec<Wired>,
     pub(crate) wire_b: Vec<Wired>,
     pub(crate) posted_a: usize,
     pub(crate) posted_b: usize,
     pub(crate) requests: Vec<Request>,
-    // The DAP messages that A handed to its link, and how many of them B served.
+    /// The DAP messages that A handed to its link, and how many of them B served.
     pub(crate) sent: Vec<Vec<u8>>,
     pub(crate) served: usize,
     pub(crate) reports: Vec<Report>,
-    // The answers that A read.
+    /// The answers that A read.
     pub(crate) read: u64,
 }
 
@@ -77,7 +77,7 @@ impl World {
         result
     }
 
-    // Whether an end has a segment that it may write.
+    /// Whether an end has a segment that it may write.
     pub(crate) fn may_emit(&self, end: End) -> bool
         ensures yes { result ≡ true → MayEmit self.now end }
         ensures no { result ≡ false → MayEmit self.now end → ⊥ }
@@ -88,14 +88,14 @@ impl World {
         }
     }
 
-    // What is true of every world.
+    /// What is true of every world.
     pub(crate) fn sound(&self)
         ensures { IsWorld self.now }
     {
         let _ = &self.read;
     }
 
-    // One event, after which the same is true.
+    /// One event, after which the same is true.
     pub(crate) fn step(&mut self, event: &Event) -> Result<Step, WorldFault>
         ensures went { Went self.old event.now result self.new }
         ensures world { IsWorld self.new }

@@ -11,7 +11,7 @@ use crate::packet::{
 use crate::seq12::Seq12;
 use byteorder::{ByteOrder, LittleEndian};
 
-// The two-byte number in front, which stands at the offset `at` of the packet, and what follows it.
+/// The two-byte number in front, which stands at the offset `at` of the packet, and what follows it.
 fn take_word(bytes: &[u8], at: usize) -> Result<(u16, &[u8]), SegFault>
     ensures { Gives (λ x. (x.0, x.1.now)) result (word_at at bytes.now) }
 {
@@ -22,7 +22,7 @@ fn take_word(bytes: &[u8], at: usize) -> Result<(u16, &[u8]), SegFault>
     Ok((LittleEndian::read_u16(front), rest))
 }
 
-// The acknowledgement field that a number with its high bit set is.
+/// The acknowledgement field that a number with its high bit set is.
 fn ack_field(word: u16) -> Option<AckField>
     ensures { result ≡ ack_of word }
 {
@@ -35,8 +35,8 @@ fn ack_field(word: u16) -> Option<AckField>
     })
 }
 
-// The acknowledgement fields, the number with its free bits, and the payload, which begin at offset 5
-// of a segment.
+/// The acknowledgement fields, the number with its free bits, and the payload, which begin at offset 5
+/// of a segment.
 type Tail<'a> = (Option<AckField>, Option<AckField>, u16, &'a [u8]);
 
 #[tactic(auto, unfolding(crate::specs::Inner::Reading::tail_of))]
@@ -80,7 +80,7 @@ fn segment(flag: u8, bytes: &[u8]) -> Result<Packet<'_>, SegFault>
     })
 }
 
-// What follows the first field of an acknowledgement, from offset 7 on.
+/// What follows the first field of an acknowledgement, from offset 7 on.
 #[tactic(auto, unfolding(crate::specs::Inner::Reading::second_of))]
 fn second_ack(bytes: &[u8]) -> Result<Option<AckField>, SegFault>
     ensures { Gives (λ a. a) result (second_of bytes.now) }

@@ -8,7 +8,7 @@ ghost use Rattle.nsp_seg.specs.declared.packet.SegFault.TheVariants.{NoMemory};
 use crate::packet::{ACK_FIELD, AckField, DATA_ACK, FIRST, LAST, Packet, QUAL_UNIT, SegFault};
 use byteorder::{ByteOrder, LittleEndian};
 
-// Appends a two-byte number, for which there is room.
+/// Appends a two-byte number, for which there is room.
 fn put_word(out: &mut Vec<u8>, word: u16)
     requires { vec_len out.old + 2 ≤ vec_capacity out.old }
     ensures items { out.new.items ≡ out.old.items ++ little_bytes 2 word }

@@ -71,7 +71,7 @@ fn acknowledgement_both_ways(rt: HostRuntime) -> Result<(), Fail> {
     Ok(())
 }
 
-// The fault that these bytes have, if they have one.
+/// The fault that these bytes have, if they have one.
 fn fault_of(bytes: &[u8]) -> Option<SegFault> {
     match decode_packet(bytes) {
         Ok(_) => None,

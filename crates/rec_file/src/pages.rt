@@ -31,9 +31,9 @@ pub(crate) fn cell_of(number: u32) -> usize
 /// 64 cells, each with a record or none.
 #[derive(Drop)]
 pub(crate) struct Page {
-    // Bit k is set exactly where cell k is occupied.
+    /// Bit k is set exactly where cell k is occupied.
     mask: u64,
-    // The records of the occupied cells, in the order of the cells. A single one stands in the page itself.
+    /// The records of the occupied cells, in the order of the cells. A single one stands in the page itself.
     bodies: SmallVec<Vec<u8>, 1>,
 }
 
@@ -105,7 +105,7 @@ impl Page {
         self.mask &= !(1u64 << at);
     }
 
-    // How many cells below this one are occupied: the place of its record.
+    /// How many cells below this one are occupied: the place of its record.
     fn rank(&self, at: usize) -> usize
         requires { at < 64 }
         ensures { result ≡ occupied_below self.now at }

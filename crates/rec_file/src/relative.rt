@@ -78,7 +78,7 @@ impl RelFile {
         self.pages.len()
     }
 
-    // The lowest occupied number from this one on, and its page.
+    /// The lowest occupied number from this one on, and its page.
     fn spot_from(&self, number: u32) -> Option<(u32, &Page)>
         ensures none { IfNone result (lowest_from self.now.records number ≡ None) }
         ensures lowest { IfSome result (λ s. lowest_from self.now.records number ≡ Some s.0) }

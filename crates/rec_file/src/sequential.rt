@@ -85,7 +85,7 @@ impl RecordFile for SeqFile {
         Ok(true)
     }
 
-    // No file is sequential and relative.
+    /// No file is sequential and relative.
     fn remove(&mut self, _number: u32) -> bool {
         let _ = &self.shape;
         unreachable!()

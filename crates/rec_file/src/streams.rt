@@ -142,7 +142,7 @@ impl Stream {
         }
     }
 
-    // The record that a get finds, behind its number.
+    /// The record that a get finds, behind its number.
     fn found<'a, F: RecordFile>(&self, file: &'a F, pick: Pick) -> Result<(u32, &'a [u8]), Refusal>
         ensures refused { IfErr result (λ refusal.
             (act (get_record pick) (F.value file.now) self.now).reply ≡ Err refusal) }
@@ -211,7 +211,7 @@ impl Stream {
         }
     }
 
-    // The number that a put gives, where it is free.
+    /// The number that a put gives, where it is free.
     fn put_number<F: RecordFile>(
         &self,
         file: &F,
@@ -278,7 +278,7 @@ impl Stream {
         }
     }
 
-    // The number that an update is about, where it is occupied.
+    /// The number that an update is about, where it is occupied.
     fn updated_number<F: RecordFile>(&self, file: &F, body: &[u8]) -> Result<u32, Refusal>
         ensures refused { IfErr result (λ refusal.
             (act (update_record body.now) (F.value file.now) self.now).reply ≡ Err refusal) }

@@ -63,10 +63,10 @@ enum Call {
     Tell,
 }
 
-// Calls, each with its answer. Those that need no file have the number here from which the stream then reads.
+/// Calls, each with its answer. Those that need no file have the number here from which the stream then reads.
 type Script = &'static [(Call, Result<u32, Refusal>)];
 
-// Each call of the script has its answer.
+/// Each call of the script has its answer.
 fn play<F: RecordFile>(
     rt: &impl Abort,
     file: &mut F,
@@ -85,7 +85,7 @@ fn play<F: RecordFile>(
     }
 }
 
-// The number from which the stream reads, after a call that needs no file.
+/// The number from which the stream reads, after a call that needs no file.
 fn moved(stream: &mut Stream, call: Call) -> u32 {
     match call {
         Call::Rewind => stream.rewind(),
@@ -192,7 +192,7 @@ const FOUR_PUTS: Script = &[
     (Call::Put(Some(1), b""), Ok(1)),
 ];
 
-// Numbers, and the first record from each on.
+/// Numbers, and the first record from each on.
 const FIRSTS: &[(u32, Option<u32>)] = &[
     (0, Some(1)),
     (1, Some(1)),
@@ -203,7 +203,7 @@ const FIRSTS: &[(u32, Option<u32>)] = &[
     (4294967295, None),
 ];
 
-// The record of a number is there, and is removed.
+/// The record of a number is there, and is removed.
 fn removes(rt: &impl Abort, file: &mut RelFile, number: u32) {
     assert!(rt; !file.shape().is_sequential());
     assert!(rt; file.remove(number));
@@ -259,7 +259,7 @@ const SEQUENTIAL_REFUSALS: Script = &[
     (Call::Get(Pick::Next), Ok(2)),
 ];
 
-// Of a sequential file no put can be out of range: 2,147,483,647 records would come first.
+/// Of a sequential file no put can be out of range: 2,147,483,647 records would come first.
 fn sequential_refusals<F: RecordFile>(rt: &impl Abort, file: &mut F) {
     play(rt, file, &mut Stream::new(ALL), SEQUENTIAL_REFUSALS);
     assert!(rt; holds(file, 1, b"xy"));
@@ -276,7 +276,7 @@ const NOT_PERMITTED: Script = &[
     (Call::Delete, Err(Refusal::NotPermitted)),
 ];
 
-// Each call lacks its right, though other conditions of a refusal hold too.
+/// Each call lacks its right, though other conditions of a refusal hold too.
 fn not_permitted<F: RecordFile>(rt: &impl Abort, file: &mut F) {
     play(rt, file, &mut Stream::new(NONE), NOT_PERMITTED);
 }
@@ -342,7 +342,7 @@ const REMOVED: Script = &[
 
 const REMOVED_AGAIN: Script = &[(Call::Delete, Err(Refusal::NoCurrent))];
 
-// What another stream removes is current no more.
+/// What another stream removes is current no more.
 fn two_streams<F: RecordFile>(rt: &impl Abort, file: &mut F) {
     let mut first = Stream::new(ALL);
     let mut second = Stream::new(ALL);
@@ -405,7 +405,7 @@ fn a_stream_at_its_end(rt: HostRuntime) {
     );
 }
 
-// ORG, RFM, MRS and MRN, and the shape that they name: whether it is sequential, and its limits.
+/// ORG, RFM, MRS and MRN, and the shape that they name: whether it is sequential, and its limits.
 const SHAPES: &[(u8, u8, u16, u64, Option<(bool, u16, u32)>)] = &[
     (0, 1, 1, 0, Some((true, 1, 0))),
     (0, 2, 0, 2147483647, Some((true, 0, 0))),
@@ -454,14 +454,14 @@ fn keys_of_one_to_four_bytes(rt: HostRuntime) {
     }
 }
 
-// Records by their numbers, as the standard library keeps them.
+/// Records by their numbers, as the standard library keeps them.
 type Map = BTreeMap<u32, &'static [u8]>;
 
 fn first_of(map: &Map, from: u32) -> Option<u32> {
     map.range(from..).next().map(|(number, _)| *number)
 }
 
-// What a pick of the map answers, where a stream reads from `next`.
+/// What a pick of the map answers, where a stream reads from `next`.
 fn picked(map: &Map, pick: Pick, next: u32) -> Result<u32, Refusal> {
     match pick {
         Pick::Next => first_of(map, next).ok_or(Refusal::EndOfFile),
@@ -475,7 +475,7 @@ fn picked(map: &Map, pick: Pick, next: u32) -> Result<u32, Refusal> {
     }
 }
 
-// How many pages the records of the map take.
+/// How many pages the records of the map take.
 fn count_pages(map: &Map) -> usize {
     let mut count = 0usize;
     let mut page = None;
@@ -499,7 +499,7 @@ fn same_records(rt: &impl Abort, pages: &RelFile, map: &Map) {
     assert_eq!(rt; pages.page_count(), count_pages(map));
 }
 
-// The pages answer as a map does to a long script of scattered numbers.
+/// The pages answer as a map does to a long script of scattered numbers.
 #[test]
 fn pages_answer_as_a_map(rt: HostRuntime) -> Result<(), Fail> {
     let mut pages = RelFile::new(rt.alloc(), RELATIVE);

@@ -53,7 +53,7 @@ fn serves_at_last(rt: &impl Abort, end: &mut Accessed, message: &[u8], answer: &
     }
 }
 
-// All that grows here grows in `serve`, so any one growth may be refused.
+/// All that grows here grows in `serve`, so any one growth may be refused.
 #[test]
 fn one_record_and_one_status_where_memory_is_refused(rt: HostRuntime) {
     let mut end = Accessed::new(rt.alloc(), 1024);
