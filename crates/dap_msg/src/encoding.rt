@@ -1,14 +1,16 @@
 //! Messages as bytes.
 
-ghost use Rattle.std.specs.Prelude.{ℕ, ◌≡◌, ◌≤◌, ◌<◌, ◌+◌, ◌^◌, ◌++◌, length, OnOk, OnErr, IsErr, IsOk, option_copied, vec_len, vec_capacity};
+ghost use Rattle.std.specs.Prelude.{ℕ, ◌≡◌, ◌≤◌, ◌<◌, ◌+◌, ◌^◌, ◌++◌, length, OnOk, OnErr, IsErr, IsOk, is_some, map, vec_len, vec_capacity};
 ghost use Rattle.dap_fields.specs.Writing.{shortest};
 ghost use Rattle.dap_msg.specs.Message.{Attrib, configuration_of, Control as ControlOf, seen, seen_attributes, seen_control};
 ghost use Rattle.dap_msg.specs.Grammar as kinds;
 ghost use Rattle.dap_msg.specs.Canon.{canon, Fits, FieldsFit, FitsOption, operand_bytes, header_bytes, option_bytes, bits_of, attribute_bits};
 ghost use Rattle.dap_msg.specs.Written.{AppendsMessage};
-ghost use Rattle.dap_msg.specs.Inner.Fields.{bytes_of, fields_bytes, message_bytes, CanWrite, CanWriteAll, status_of, completion_of, access_of};
+ghost use Rattle.dap_msg.specs.Inner.Fields.{bytes_of, fields_bytes, message_bytes, is_there, CanWrite, CanWriteAll, status_of, completion_of, access_of};
 
 use crate::fault::{FaultKind, MsgFault};
+use crate::kind::Kind;
+use crate::menu::{self, Optional};
 use crate::message::{Attributes, Control, Message};
 use dap_fields::{write_ex, write_image, write_u8, write_u16};
 
@@ -164,81 +166,52 @@ fn write_message(number: u8, fields: &[Field], out: &mut Vec<u8>) -> Result<(), 
     Ok(())
 }
 
-fn byte_or_absent<'a>(value: Option<u8>) -> Field<'a>
-    ensures bytes { bytes_of result ≡ option_bytes kinds.Byte value }
+/// The field of a menu.
+#[inline(always)]
+fn option_field<'a, T, K: Kind<'a, T>>(field: Optional<K>, value: Option<T>) -> Field<'a>
+    requires known { K.is_known field.1 }
+    requires fits { FitsOption (K.kind field.1) (K.seen_option field.1 value) }
+    ensures bytes { bytes_of result
+        ≡ option_bytes (K.kind field.1) (K.seen_option field.1 value) }
     ensures can { CanWrite result }
+    ensures there { is_there result ≡ is_some (K.seen_option field.1 value) }
 {
     match value {
-        Some(value) => Field::Byte(value),
+        Some(value) => field.1.field(value),
         None => Field::Absent,
     }
 }
 
-fn word_or_absent<'a>(value: Option<u16>) -> Field<'a>
-    ensures bytes { bytes_of result ≡ option_bytes kinds.Word value }
-    ensures can { CanWrite result }
+fn is_there(field: Field) -> bool
+    ensures { result ≡ is_there field.entry }
 {
-    match value {
-        Some(value) => Field::Word(value),
-        None => Field::Absent,
-    }
-}
-
-fn image_or_absent(value: Option<&[u8]>) -> Field<'_>
-    requires { FitsOption (kinds.Image 255) (option_copied value) }
-    ensures bytes { bytes_of result ≡ option_bytes (kinds.Image 255) (option_copied value.entry) }
-    ensures can { CanWrite result }
-{
-    match value {
-        Some(value) => Field::Image(value),
-        None => Field::Absent,
-    }
-}
-
-fn extensible_u16_or_absent<'a>(value: Option<u16>) -> Field<'a>
-    ensures bytes { bytes_of result ≡ option_bytes (kinds.Extensible 2) value }
-    ensures can { CanWrite result }
-{
-    match value {
-        Some(value) => Field::Extensible(u128::from(value)),
-        None => Field::Absent,
-    }
-}
-
-fn extensible_u32_or_absent<'a>(value: Option<u32>) -> Field<'a>
-    ensures bytes { bytes_of result ≡ option_bytes (kinds.Extensible 4) value }
-    ensures can { CanWrite result }
-{
-    match value {
-        Some(value) => Field::Extensible(u128::from(value)),
-        None => Field::Absent,
-    }
-}
-
-fn extensible_u64_or_absent<'a>(value: Option<u64>) -> Field<'a>
-    ensures bytes { bytes_of result ≡ option_bytes (kinds.Extensible 9) value }
-    ensures can { CanWrite result }
-{
-    match value {
-        Some(value) => Field::Extensible(u128::from(value)),
-        None => Field::Absent,
-    }
+    !matches!(field, Field::Absent)
 }
 
 /// The menu of fields of which these are there, the first at bit 0.
 #[inline(always)]
-fn menu_bits(there: &[bool]) -> u64
-    requires { length there.now ≤ 63 }
-    ensures exact { result ≡ bits_of there.now }
-    ensures small { result < 2 ^ length there.now }
+fn menu_bits(fields: &[Field]) -> u64
+    requires { length fields.now ≤ 63 }
+    ensures exact { result ≡ bits_of (map is_there fields.now) }
+    ensures small { result < 2 ^ length fields.now }
 {
     let mut bits = 0;
-    let mut at = there.len();
+    let mut at = fields.len();
     'fields: while at > 0 {
         at -= 1;
-        bits = u64::from(there[at]) + 2 * bits;
+        bits = u64::from(is_there(fields[at])) + 2 * bits;
     }
     bits
+}
+
+/// The field of their menu.
+#[inline(always)]
+fn menu_field<'a>(fields: &[Field]) -> Field<'a>
+    requires { length fields.now ≤ 63 }
+    ensures bytes { bytes_of result ≡ shortest (bits_of (map is_there fields.now)) }
+    ensures can { CanWrite result }
+{
+    Field::Extensible(u128::from(menu_bits(fields)))
 }
 
 fn status_fields<'a>(code: u16, rfa: &'a [u8], recnum: &'a [u8], stv: &'a [u8]) -> [Field<'a>; 4]
@@ -263,7 +236,10 @@ fn completion_fields<'a>(func: u8, fop: u64, check: Option<u16>) -> [Field<'a>; 
     [
         Field::Byte(func),
         Field::Extensible(u128::from(fop)),
-        word_or_absent(check),
+        match check {
+            Some(check) => Field::Word(check),
+            None => Field::Absent,
+        },
     ]
 }
 
@@ -328,53 +304,18 @@ fn control_fields(here: Control<'_>) -> [Field<'_>; 8]
     ensures bytes { fields_bytes result ≡ operand_bytes (ControlOf (seen_control here.entry)) }
     ensures can { CanWriteAll result }
 {
-    let bits = menu_bits(&[
-        here.rac.is_some(),
-        here.key.is_some(),
-        here.krf.is_some(),
-        here.rop.is_some(),
-        here.hsh.is_some(),
-        here.display.is_some(),
-    ]);
-    [
+    let mut fields = [
         Field::Byte(here.func),
-        Field::Extensible(u128::from(bits)),
-        byte_or_absent(here.rac),
-        image_or_absent(here.key),
-        byte_or_absent(here.krf),
-        extensible_u64_or_absent(here.rop),
-        image_or_absent(here.hsh),
-        extensible_u32_or_absent(here.display),
-    ]
-}
-
-/// The menu of an Attributes message.
-fn attribute_menu(here: Attributes<'_>) -> u64
-    ensures { result ≡ attribute_bits (seen_attributes here.entry) }
-{
-    menu_bits(&[
-        here.datatype.is_some(),
-        here.org.is_some(),
-        here.rfm.is_some(),
-        here.rat.is_some(),
-        here.bls.is_some(),
-        here.mrs.is_some(),
-        here.alq.is_some(),
-        here.bks.is_some(),
-        here.fsz.is_some(),
-        here.mrn.is_some(),
-        here.runsys.is_some(),
-        here.deq.is_some(),
-        here.fop.is_some(),
-        here.bsz.is_some(),
-        here.dev.is_some(),
-        here.sdc.is_some(),
-        here.lrl.is_some(),
-        here.hbk.is_some(),
-        here.ebk.is_some(),
-        here.ffb.is_some(),
-        here.sbn.is_some(),
-    ])
+        Field::Absent,
+        option_field(menu::RAC, here.rac),
+        option_field(menu::KEY, here.key),
+        option_field(menu::KRF, here.krf),
+        option_field(menu::ROP, here.rop),
+        option_field(menu::HSH, here.hsh),
+        option_field(menu::DISPLAY, here.display),
+    ];
+    fields[1] = menu_field(&fields[2..]);
+    fields
 }
 
 fn attributes_fields(here: Attributes<'_>) -> [Field<'_>; 22]
@@ -382,30 +323,32 @@ fn attributes_fields(here: Attributes<'_>) -> [Field<'_>; 22]
     ensures bytes { fields_bytes result ≡ operand_bytes (Attrib (seen_attributes here.entry)) }
     ensures can { CanWriteAll result }
 {
-    [
-        Field::Extensible(u128::from(attribute_menu(here))),
-        extensible_u16_or_absent(here.datatype),
-        byte_or_absent(here.org),
-        byte_or_absent(here.rfm),
-        extensible_u32_or_absent(here.rat),
-        word_or_absent(here.bls),
-        word_or_absent(here.mrs),
-        image_or_absent(here.alq),
-        byte_or_absent(here.bks),
-        byte_or_absent(here.fsz),
-        image_or_absent(here.mrn),
-        image_or_absent(here.runsys),
-        word_or_absent(here.deq),
-        extensible_u64_or_absent(here.fop),
-        byte_or_absent(here.bsz),
-        extensible_u64_or_absent(here.dev),
-        extensible_u64_or_absent(here.sdc),
-        word_or_absent(here.lrl),
-        image_or_absent(here.hbk),
-        image_or_absent(here.ebk),
-        word_or_absent(here.ffb),
-        image_or_absent(here.sbn),
-    ]
+    let mut fields = [
+        Field::Absent,
+        option_field(menu::DATATYPE, here.datatype),
+        option_field(menu::ORG, here.org),
+        option_field(menu::RFM, here.rfm),
+        option_field(menu::RAT, here.rat),
+        option_field(menu::BLS, here.bls),
+        option_field(menu::MRS, here.mrs),
+        option_field(menu::ALQ, here.alq),
+        option_field(menu::BKS, here.bks),
+        option_field(menu::FSZ, here.fsz),
+        option_field(menu::MRN, here.mrn),
+        option_field(menu::RUNSYS, here.runsys),
+        option_field(menu::DEQ, here.deq),
+        option_field(menu::FOP, here.fop),
+        option_field(menu::BSZ, here.bsz),
+        option_field(menu::DEV, here.dev),
+        option_field(menu::SDC, here.sdc),
+        option_field(menu::LRL, here.lrl),
+        option_field(menu::HBK, here.hbk),
+        option_field(menu::EBK, here.ebk),
+        option_field(menu::FFB, here.ffb),
+        option_field(menu::SBN, here.sbn),
+    ];
+    fields[0] = menu_field(&fields[1..]);
+    fields
 }
 
 /// What is made of the fields of the message's operand, which are in order.

@@ -1,5 +1,5 @@
 -- The fields that the encoder writes, one after another.
-use Rattle.std.specs.Prelude.{ℕ, ◌<◌, ◌≤◌, ◌^◌, List, [], ◌∷◌, ◌++◌, length, Option}
+use Rattle.std.specs.Prelude.{ℕ, ◌<◌, ◌≤◌, ◌^◌, List, [], ◌∷◌, ◌++◌, length, Option, Bool, true, false}
 use Rattle.dap_fields.specs.Writing.{shortest}
 use Rattle.dap_msg.specs.declared.encoding.Field.{Field}
 use Rattle.dap_msg.specs.declared.encoding.Field.TheVariants.{Absent, Byte, Word, Extensible, Image, Rest}
@@ -14,6 +14,10 @@ bytes_of (Word v) = field_bytes kinds.Word v
 bytes_of (Extensible v) = shortest v
 bytes_of (Image image) = length image.now ∷ image.now
 bytes_of (Rest bytes) = bytes.now
+
+abbrev pub is_there : Field → Bool
+is_there Absent = false
+is_there _ = true
 
 abbrev pub fields_bytes : List Field → List ℕ
 fields_bytes [] = []
