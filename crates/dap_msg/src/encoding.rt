@@ -2,13 +2,14 @@
 
 ghost use Rattle.std.specs.Prelude.{ℕ, ◌≡◌, ◌≤◌, ◌<◌, ◌+◌, ◌^◌, ◌++◌, length, OnOk, OnErr, IsErr, IsOk, is_some, map, vec_len, vec_capacity};
 ghost use Rattle.dap_fields.specs.Writing.{shortest};
-ghost use Rattle.dap_msg.specs.Message.{Attrib, configuration_of, Control as ControlOf, seen, seen_attributes, seen_control};
+ghost use Rattle.dap_msg.specs.Message.{Attrib, Control as ControlOf, seen, seen_attributes, seen_control};
 ghost use Rattle.dap_msg.specs.Grammar as kinds;
 ghost use Rattle.dap_msg.specs.Canon.{canon, Fits, FieldsFit, FitsOption, operand_bytes, header_bytes, option_bytes, bits_of, attribute_bits};
 ghost use Rattle.dap_msg.specs.Written.{AppendsMessage};
-ghost use Rattle.dap_msg.specs.Inner.Fields.{bytes_of, fields_bytes, message_bytes, is_there, CanWrite, CanWriteAll, status_of, completion_of, access_of};
+ghost use Rattle.dap_msg.specs.Inner.Fields.{bytes_of, fields_bytes, message_bytes, is_there, CanWrite, CanWriteAll, completion_of};
 
 use crate::fault::{FaultKind, MsgFault};
+use crate::header::HeaderFlags;
 use crate::kind::Kind;
 use crate::menu::{self, Optional};
 use crate::message::{Attributes, Control, Message};
@@ -100,9 +101,9 @@ fn fields_len(fields: &[Field]) -> usize
 }
 
 /// FLAGS where LENGTH follows, and where LEN256 follows too.
-const WITH_LENGTH: u8 = 2;
+const WITH_LENGTH: u8 = HeaderFlags::LENGTH.0;
 
-const WITH_BOTH_LENGTHS: u8 = 6;
+const WITH_BOTH_LENGTHS: u8 = HeaderFlags::LENGTH.0 | HeaderFlags::HIGH_LENGTH.0;
 
 /// Appends a header, for which there is room.
 fn put_header(number: u8, len: usize, out: &mut Vec<u8>)
@@ -114,7 +115,7 @@ fn put_header(number: u8, len: usize, out: &mut Vec<u8>)
     if len < 256 {
         put_rest(&[number, WITH_LENGTH, len as u8], out);
     } else {
-        let (low, high) = ((len % 256) as u8, (len / 256) as u8);
+        let [low, high] = (len as u16).to_le_bytes();
         put_rest(&[number, WITH_BOTH_LENGTHS, low, high], out);
     }
 }
@@ -147,7 +148,7 @@ fn fields_message_len(fields: &[Field]) -> usize
 
 /// Appends a message of these fields. Where there is no memory nothing is changed.
 #[inline(always)]
-fn write_message(number: u8, fields: &[Field], out: &mut Vec<u8>) -> Result<(), MsgFault>
+fn write_message(fields: &[Field], number: u8, out: &mut Vec<u8>) -> Result<(), MsgFault>
     requires fit { CanWriteAll fields.now }
     requires small { length (fields_bytes fields.now) < 2 ^ 16 }
     ensures appends { AppendsMessage (message_bytes number fields.now) out.old out.new result }
@@ -214,20 +215,6 @@ fn menu_field<'a>(fields: &[Field]) -> Field<'a>
     Field::Extensible(u128::from(menu_bits(fields)))
 }
 
-fn status_fields<'a>(code: u16, rfa: &'a [u8], recnum: &'a [u8], stv: &'a [u8]) -> [Field<'a>; 4]
-    requires { FieldsFit (status_of code rfa.now recnum.now stv.now) }
-    ensures bytes { fields_bytes result
-        ≡ operand_bytes (status_of code rfa.now recnum.now stv.now) }
-    ensures can { CanWriteAll result }
-{
-    [
-        Field::Word(code),
-        Field::Image(rfa),
-        Field::Image(recnum),
-        Field::Image(stv),
-    ]
-}
-
 fn completion_fields<'a>(func: u8, fop: u64, check: Option<u16>) -> [Field<'a>; 3]
     requires { FieldsFit (completion_of func fop check) }
     ensures bytes { fields_bytes result ≡ operand_bytes (completion_of func fop check) }
@@ -240,61 +227,6 @@ fn completion_fields<'a>(func: u8, fop: u64, check: Option<u16>) -> [Field<'a>; 
             Some(check) => Field::Word(check),
             None => Field::Absent,
         },
-    ]
-}
-
-fn configuration_fields<'a>(
-    bufsiz: u16,
-    ostype: u8,
-    filesys: u8,
-    vernum: u8,
-    econum: u8,
-    usrnum: u8,
-    softver: u8,
-    usrsoft: u8,
-    syscap: u128,
-) -> [Field<'a>; 9]
-    requires { FieldsFit (configuration_of bufsiz ostype filesys vernum econum usrnum softver
-        usrsoft syscap) }
-    ensures bytes { fields_bytes result ≡ operand_bytes (configuration_of bufsiz ostype filesys
-        vernum econum usrnum softver usrsoft syscap) }
-    ensures can { CanWriteAll result }
-{
-    [
-        Field::Word(bufsiz),
-        Field::Byte(ostype),
-        Field::Byte(filesys),
-        Field::Byte(vernum),
-        Field::Byte(econum),
-        Field::Byte(usrnum),
-        Field::Byte(softver),
-        Field::Byte(usrsoft),
-        Field::Extensible(syscap),
-    ]
-}
-
-fn access_fields<'a>(
-    func: u8,
-    opt: u64,
-    name: &'a [u8],
-    fac: u32,
-    shr: u32,
-    display: u32,
-    password: &'a [u8],
-) -> [Field<'a>; 7]
-    requires { FieldsFit (access_of func opt name.now fac shr display password.now) }
-    ensures bytes { fields_bytes result
-        ≡ operand_bytes (access_of func opt name.now fac shr display password.now) }
-    ensures can { CanWriteAll result }
-{
-    [
-        Field::Byte(func),
-        Field::Extensible(u128::from(opt)),
-        Field::Image(name),
-        Field::Extensible(u128::from(fac)),
-        Field::Extensible(u128::from(shr)),
-        Field::Extensible(u128::from(display)),
-        Field::Image(password),
     ]
 }
 
@@ -353,7 +285,7 @@ fn attributes_fields(here: Attributes<'_>) -> [Field<'_>; 22]
 
 /// What is made of the fields of the message's operand, which are in order.
 macro_rules! with_fields {
-    ($message:expr, $fields:ident => $made:expr) => {
+    ($message:expr, $make:ident $(, $more:expr)*) => {
         match *$message {
             Message::Config {
                 bufsiz,
@@ -366,15 +298,20 @@ macro_rules! with_fields {
                 usrsoft,
                 syscap,
             } => {
-                let $fields = &configuration_fields(
-                    bufsiz, ostype, filesys, vernum, econum, usrnum, softver, usrsoft, syscap,
-                );
-                $made
+                let fields = &[
+                    Field::Word(bufsiz),
+                    Field::Byte(ostype),
+                    Field::Byte(filesys),
+                    Field::Byte(vernum),
+                    Field::Byte(econum),
+                    Field::Byte(usrnum),
+                    Field::Byte(softver),
+                    Field::Byte(usrsoft),
+                    Field::Extensible(syscap),
+                ];
+                $make(fields $(, $more)*)
             }
-            Message::Attrib(attributes) => {
-                let $fields = &attributes_fields(attributes);
-                $made
-            }
+            Message::Attrib(attributes) => $make(&attributes_fields(attributes) $(, $more)*),
             Message::Access {
                 func,
                 opt,
@@ -384,28 +321,25 @@ macro_rules! with_fields {
                 display,
                 password,
             } => {
-                let $fields = &access_fields(func, opt, name, fac, shr, display, password);
-                $made
+                let fields = &[
+                    Field::Byte(func),
+                    Field::Extensible(u128::from(opt)),
+                    Field::Image(name),
+                    Field::Extensible(u128::from(fac)),
+                    Field::Extensible(u128::from(shr)),
+                    Field::Extensible(u128::from(display)),
+                    Field::Image(password),
+                ];
+                $make(fields $(, $more)*)
             }
-            Message::Control(control) => {
-                let $fields = &control_fields(control);
-                $made
-            }
-            Message::Contran { func } => {
-                let $fields = &[Field::Byte(func)];
-                $made
-            }
-            Message::Ack => {
-                let $fields = &[];
-                $made
-            }
+            Message::Control(control) => $make(&control_fields(control) $(, $more)*),
+            Message::Contran { func } => $make(&[Field::Byte(func)] $(, $more)*),
+            Message::Ack => $make(&[] $(, $more)*),
             Message::Accomp { func, fop, check } => {
-                let $fields = &completion_fields(func, fop, check);
-                $made
+                $make(&completion_fields(func, fop, check) $(, $more)*)
             }
             Message::Filedata { recnum, payload } => {
-                let $fields = &[Field::Image(recnum), Field::Rest(payload)];
-                $made
+                $make(&[Field::Image(recnum), Field::Rest(payload)] $(, $more)*)
             }
             Message::Status {
                 code,
@@ -413,13 +347,15 @@ macro_rules! with_fields {
                 recnum,
                 stv,
             } => {
-                let $fields = &status_fields(code, rfa, recnum, stv);
-                $made
+                let fields = &[
+                    Field::Word(code),
+                    Field::Image(rfa),
+                    Field::Image(recnum),
+                    Field::Image(stv),
+                ];
+                $make(fields $(, $more)*)
             }
-            Message::Other { body, .. } => {
-                let $fields = &[Field::Rest(body)];
-                $made
-            }
+            Message::Other { body, .. } => $make(&[Field::Rest(body)] $(, $more)*),
         }
     };
 }
@@ -432,7 +368,7 @@ fn encode_here(message: &Message<'_>, out: &mut Vec<u8>) -> Result<(), MsgFault>
     ensures appends { AppendsMessage (canon (seen message.now)) out.old out.new result }
     ensures capacity { vec_capacity out.old ≤ vec_capacity out.new }
 {
-    with_fields!(message, fields => write_message(message.number(), fields, out))
+    with_fields!(message, write_message, message.number(), out)
 }
 
 /// The same. A call clears the room for the fields of all messages that it may meet: so those with the most fields are
@@ -472,5 +408,5 @@ pub fn encoded_len(message: &Message<'_>) -> usize
     requires { Fits (seen message.now) }
     ensures { result ≡ length (canon (seen message.now)) }
 {
-    with_fields!(message, fields => fields_message_len(fields))
+    with_fields!(message, fields_message_len)
 }

@@ -11,8 +11,8 @@ ghost use Rattle.dap_msg.specs.Canon.{field_bytes, FitsField};
 
 use crate::encoding::Field;
 use crate::fault::Fault;
-use crate::reading::{byte, extensible, image, word};
-use dap_fields::ex_fits;
+use crate::reading::fault;
+use dap_fields::{ex_fits, read_ex, read_image, read_u8, read_u16};
 
 /// A kind of field with values of `T`.
 pub(crate) trait Kind<'a, T>: Copy {
@@ -66,7 +66,10 @@ impl<'a> Kind<'a, u8> for Byte {
 
     #[inline(always)]
     fn read(self, bytes: &'a [u8]) -> Result<(u8, &'a [u8]), Fault> {
-        byte(bytes)
+        match read_u8(bytes) {
+            Ok((value, len)) => Ok((value, &bytes[len..])),
+            Err(e) => Err(fault(e, bytes)),
+        }
     }
 
     #[inline(always)]
@@ -99,7 +102,10 @@ impl<'a> Kind<'a, u16> for Word {
 
     #[inline(always)]
     fn read(self, bytes: &'a [u8]) -> Result<(u16, &'a [u8]), Fault> {
-        word(bytes)
+        match read_u16(bytes) {
+            Ok((value, len)) => Ok((value, &bytes[len..])),
+            Err(e) => Err(fault(e, bytes)),
+        }
     }
 
     #[inline(always)]
@@ -132,7 +138,10 @@ impl<'a> Kind<'a, &'a [u8]> for Image {
 
     #[inline(always)]
     fn read(self, bytes: &'a [u8]) -> Result<(&'a [u8], &'a [u8]), Fault> {
-        image(bytes, self.0)
+        match read_image(bytes, self.0) {
+            Ok((value, len)) => Ok((value, &bytes[len..])),
+            Err(e) => Err(fault(e, bytes)),
+        }
     }
 
     #[inline(always)]
@@ -187,8 +196,10 @@ impl<'a, N: Number> Kind<'a, N> for Extensible {
 
     #[inline(always)]
     fn read(self, bytes: &'a [u8]) -> Result<(N, &'a [u8]), Fault> {
-        let (value, rest) = extensible(bytes, self.0)?;
-        Ok((N::of(value), rest))
+        match read_ex(bytes, self.0) {
+            Ok((value, len)) => Ok((N::of(value), &bytes[len..])),
+            Err(e) => Err(fault(e, bytes)),
+        }
     }
 
     #[inline(always)]

@@ -4,7 +4,7 @@ use Rattle.dap_fields.specs.Writing.{shortest}
 use Rattle.dap_msg.specs.declared.encoding.Field.{Field}
 use Rattle.dap_msg.specs.declared.encoding.Field.TheVariants.{Absent, Byte, Word, Extensible, Image, Rest}
 use Rattle.dap_msg.specs.Grammar as kinds
-use Rattle.dap_msg.specs.Message.{Message, Access, Accomp, Status}
+use Rattle.dap_msg.specs.Message.{Message, Accomp}
 use Rattle.dap_msg.specs.Canon.{field_bytes, header_bytes}
 
 abbrev pub bytes_of : Field → List ℕ
@@ -39,14 +39,5 @@ abbrev pub CanWriteAll : List Field → Type 0
 CanWriteAll [] = Unit {0}
 CanWriteAll (field ∷ fields) = CanWrite field × CanWriteAll fields
 
--- ---- Messages by their fields.
-
-abbrev pub access_of : (func opt : ℕ) → List ℕ → (fac shr display : ℕ) → List ℕ → Message
-access_of func opt name fac shr display password =
-    Access (record { func = func; opt = opt; name = name; fac = fac; shr = shr; display = display; password = password })
-
 abbrev pub completion_of : (func fop : ℕ) → Option ℕ → Message
 completion_of func fop check = Accomp (record { func = func; fop = fop; check = check })
-
-abbrev pub status_of : ℕ → (rfa recnum stv : List ℕ) → Message
-status_of code rfa recnum stv = Status (record { code = code; rfa = rfa; recnum = recnum; stv = stv })
