@@ -8,7 +8,7 @@ ghost use Rattle.dap_msg.specs.Canon.{canon, Fits, FieldsFit, FitsOption, operan
 ghost use Rattle.dap_msg.specs.Written.{AppendsMessage};
 ghost use Rattle.dap_msg.specs.Inner.Fields.{bytes_of, fields_bytes, message_bytes, is_there, CanWrite, CanWriteAll, completion_of};
 
-use crate::fault::{FaultKind, MsgFault};
+use crate::fault::MsgFault;
 use crate::header::HeaderFlags;
 use crate::kind::Kind;
 use crate::menu::{self, Optional};
@@ -155,13 +155,7 @@ fn write_message(fields: &[Field], number: u8, out: &mut Vec<u8>) -> Result<(), 
     ensures capacity { vec_capacity out.old ≤ vec_capacity out.new }
 {
     let len = fields_len(fields);
-    if out.reserve(message_len(len)).is_err() {
-        return Err(MsgFault {
-            kind: FaultKind::NoMemory,
-            message_type: 0,
-            offset: 0,
-        });
-    }
+    out.reserve(message_len(len))?;
     put_header(number, len, out);
     put_all(fields, out);
     Ok(())
