@@ -3,7 +3,10 @@ use Rattle.std.proofs.Common.{◌≡◌, ℕ, suc, ◌+◌, ◌-◌, ◌*◌, �
 use Rattle.std.proofs.Math.Nat.{pow-le-pow_right, pow-succ'}
 use Rattle.std.proofs.lemmas.List.{at_drop_more}
 use Rattle.std.specs.Int.{from_bool}
+use Rattle.std.specs.Prelude.{map}
+use Rattle.dap_msg.specs.declared.encoding.Field.{Field}
 use Rattle.dap_msg.specs.Canon.{bits_of}
+use Rattle.dap_msg.specs.Inner.Fields.{is_there}
 
 -- fewer than 63 flags are less than half of what 64 bits hold
 pub half_fits : (bits n : ℕ) → n ≤ 62 → bits < 2 ^ n → bits < 2 ^ 62
@@ -26,8 +29,9 @@ pub flag_small : (there : Bool) → from_bool there ≤ 1
 flag_small true = omega arith
 flag_small false = omega arith
 
-pub next_flag : (there : List Bool) (at : ℕ) → 0 < at → at ≤ length there
-    → from_bool (slice_index_or there (at - 1) false) + 2 * bits_of (drop at there) ≡ bits_of (drop (at - 1) there)
-next_flag there at pos le =
+pub next_flag : (fields : List Field) (at : ℕ) (d : Field) → 0 < at → at ≤ length fields
+    → from_bool (is_there (slice_index_or fields (at - 1) d)) + 2 * bits_of (map is_there (drop at fields))
+    ≡ bits_of (map is_there (drop (at - 1) fields))
+next_flag fields at d pos le =
     let e : at - 1 + 1 ≡ at = omega arith in
-    rw (flag_is (slice_index_or there (at - 1) false)) (sym (rw e at (at_drop_more bits_of there (at - 1) false (omega arith))))
+    rw (flag_is (is_there (slice_index_or fields (at - 1) d))) (sym (rw e at (at_drop_more (λ l. bits_of (map is_there l)) fields (at - 1) d (omega arith))))

@@ -1,14 +1,17 @@
 //! Messages as bytes.
 
-ghost use Rattle.std.specs.Prelude.{ℕ, ◌≡◌, ◌≤◌, ◌<◌, ◌+◌, ◌^◌, ◌++◌, length, OnOk, OnErr, IsErr, IsOk, option_copied, vec_len, vec_capacity};
+ghost use Rattle.std.specs.Prelude.{ℕ, ◌≡◌, ◌≤◌, ◌<◌, ◌+◌, ◌^◌, ◌++◌, length, OnOk, OnErr, IsErr, IsOk, is_some, map, vec_len, vec_capacity};
 ghost use Rattle.dap_fields.specs.Writing.{shortest};
-ghost use Rattle.dap_msg.specs.Message.{Attrib, configuration_of, Control as ControlOf, seen, seen_attributes, seen_control};
+ghost use Rattle.dap_msg.specs.Message.{Attrib, Control as ControlOf, seen, seen_attributes, seen_control};
 ghost use Rattle.dap_msg.specs.Grammar as kinds;
 ghost use Rattle.dap_msg.specs.Canon.{canon, Fits, FieldsFit, FitsOption, operand_bytes, header_bytes, option_bytes, bits_of, attribute_bits};
 ghost use Rattle.dap_msg.specs.Written.{AppendsMessage};
-ghost use Rattle.dap_msg.specs.Inner.Fields.{bytes_of, fields_bytes, message_bytes, CanWrite, CanWriteAll, status_of, completion_of, access_of};
+ghost use Rattle.dap_msg.specs.Inner.Fields.{bytes_of, fields_bytes, message_bytes, is_there, CanWrite, CanWriteAll, completion_of};
 
-use crate::fault::{FaultKind, MsgFault};
+use crate::fault::MsgFault;
+use crate::header::HeaderFlags;
+use crate::kind::Kind;
+use crate::menu::{self, Optional};
 use crate::message::{Attributes, Control, Message};
 use dap_fields::{write_ex, write_image, write_u8, write_u16};
 
@@ -98,9 +101,9 @@ fn fields_len(fields: &[Field]) -> usize
 }
 
 /// FLAGS where LENGTH follows, and where LEN256 follows too.
-const WITH_LENGTH: u8 = 2;
+const WITH_LENGTH: u8 = HeaderFlags::LENGTH.0;
 
-const WITH_BOTH_LENGTHS: u8 = 6;
+const WITH_BOTH_LENGTHS: u8 = HeaderFlags::LENGTH.0 | HeaderFlags::HIGH_LENGTH.0;
 
 /// Appends a header, for which there is room.
 fn put_header(number: u8, len: usize, out: &mut Vec<u8>)
@@ -112,7 +115,7 @@ fn put_header(number: u8, len: usize, out: &mut Vec<u8>)
     if len < 256 {
         put_rest(&[number, WITH_LENGTH, len as u8], out);
     } else {
-        let (low, high) = ((len % 256) as u8, (len / 256) as u8);
+        let [low, high] = (len as u16).to_le_bytes();
         put_rest(&[number, WITH_BOTH_LENGTHS, low, high], out);
     }
 }
@@ -145,114 +148,65 @@ fn fields_message_len(fields: &[Field]) -> usize
 
 /// Appends a message of these fields. Where there is no memory nothing is changed.
 #[inline(always)]
-fn write_message(number: u8, fields: &[Field], out: &mut Vec<u8>) -> Result<(), MsgFault>
+fn write_message(fields: &[Field], number: u8, out: &mut Vec<u8>) -> Result<(), MsgFault>
     requires fit { CanWriteAll fields.now }
     requires small { length (fields_bytes fields.now) < 2 ^ 16 }
     ensures appends { AppendsMessage (message_bytes number fields.now) out.old out.new result }
     ensures capacity { vec_capacity out.old ≤ vec_capacity out.new }
 {
     let len = fields_len(fields);
-    if out.reserve(message_len(len)).is_err() {
-        return Err(MsgFault {
-            kind: FaultKind::NoMemory,
-            message_type: 0,
-            offset: 0,
-        });
-    }
+    out.reserve(message_len(len))?;
     put_header(number, len, out);
     put_all(fields, out);
     Ok(())
 }
 
-fn byte_or_absent<'a>(value: Option<u8>) -> Field<'a>
-    ensures bytes { bytes_of result ≡ option_bytes kinds.Byte value }
+/// The field of a menu.
+#[inline(always)]
+fn option_field<'a, T, K: Kind<'a, T>>(field: Optional<K>, value: Option<T>) -> Field<'a>
+    requires known { K.is_known field.1 }
+    requires fits { FitsOption (K.kind field.1) (K.seen_option field.1 value) }
+    ensures bytes { bytes_of result
+        ≡ option_bytes (K.kind field.1) (K.seen_option field.1 value) }
     ensures can { CanWrite result }
+    ensures there { is_there result ≡ is_some (K.seen_option field.1 value) }
 {
     match value {
-        Some(value) => Field::Byte(value),
+        Some(value) => field.1.field(value),
         None => Field::Absent,
     }
 }
 
-fn word_or_absent<'a>(value: Option<u16>) -> Field<'a>
-    ensures bytes { bytes_of result ≡ option_bytes kinds.Word value }
-    ensures can { CanWrite result }
+fn is_there(field: Field) -> bool
+    ensures { result ≡ is_there field.entry }
 {
-    match value {
-        Some(value) => Field::Word(value),
-        None => Field::Absent,
-    }
-}
-
-fn image_or_absent(value: Option<&[u8]>) -> Field<'_>
-    requires { FitsOption (kinds.Image 255) (option_copied value) }
-    ensures bytes { bytes_of result ≡ option_bytes (kinds.Image 255) (option_copied value.entry) }
-    ensures can { CanWrite result }
-{
-    match value {
-        Some(value) => Field::Image(value),
-        None => Field::Absent,
-    }
-}
-
-fn extensible_u16_or_absent<'a>(value: Option<u16>) -> Field<'a>
-    ensures bytes { bytes_of result ≡ option_bytes (kinds.Extensible 2) value }
-    ensures can { CanWrite result }
-{
-    match value {
-        Some(value) => Field::Extensible(u128::from(value)),
-        None => Field::Absent,
-    }
-}
-
-fn extensible_u32_or_absent<'a>(value: Option<u32>) -> Field<'a>
-    ensures bytes { bytes_of result ≡ option_bytes (kinds.Extensible 4) value }
-    ensures can { CanWrite result }
-{
-    match value {
-        Some(value) => Field::Extensible(u128::from(value)),
-        None => Field::Absent,
-    }
-}
-
-fn extensible_u64_or_absent<'a>(value: Option<u64>) -> Field<'a>
-    ensures bytes { bytes_of result ≡ option_bytes (kinds.Extensible 9) value }
-    ensures can { CanWrite result }
-{
-    match value {
-        Some(value) => Field::Extensible(u128::from(value)),
-        None => Field::Absent,
-    }
+    !matches!(field, Field::Absent)
 }
 
 /// The menu of fields of which these are there, the first at bit 0.
 #[inline(always)]
-fn menu_bits(there: &[bool]) -> u64
-    requires { length there.now ≤ 63 }
-    ensures exact { result ≡ bits_of there.now }
-    ensures small { result < 2 ^ length there.now }
+fn menu_bits(fields: &[Field]) -> u64
+    requires { length fields.now ≤ 63 }
+    ensures exact { result ≡ bits_of (map is_there fields.now) }
+    ensures small { result < 2 ^ length fields.now }
 {
     let mut bits = 0;
-    let mut at = there.len();
+    let mut at = fields.len();
     'fields: while at > 0 {
         at -= 1;
-        bits = u64::from(there[at]) + 2 * bits;
+        bits = u64::from(is_there(fields[at])) + 2 * bits;
     }
     bits
 }
 
-fn status_fields<'a>(code: u16, rfa: &'a [u8], recnum: &'a [u8], stv: &'a [u8]) -> [Field<'a>; 4]
-    requires { FieldsFit (status_of code rfa.now recnum.now stv.now) }
-    ensures bytes { fields_bytes result
-        ≡ operand_bytes (status_of code rfa.now recnum.now stv.now) }
-    ensures can { CanWriteAll result }
+/// The field of their menu.
+#[inline(always)]
+fn menu_field<'a>(fields: &[Field]) -> Field<'a>
+    requires { length fields.now ≤ 63 }
+    ensures bytes { bytes_of result ≡ shortest (bits_of (map is_there fields.now)) }
+    ensures can { CanWrite result }
 {
-    [
-        Field::Word(code),
-        Field::Image(rfa),
-        Field::Image(recnum),
-        Field::Image(stv),
-    ]
+    Field::Extensible(u128::from(menu_bits(fields)))
 }
 
 fn completion_fields<'a>(func: u8, fop: u64, check: Option<u16>) -> [Field<'a>; 3]
@@ -263,62 +217,10 @@ fn completion_fields<'a>(func: u8, fop: u64, check: Option<u16>) -> [Field<'a>; 
     [
         Field::Byte(func),
         Field::Extensible(u128::from(fop)),
-        word_or_absent(check),
-    ]
-}
-
-fn configuration_fields<'a>(
-    bufsiz: u16,
-    ostype: u8,
-    filesys: u8,
-    vernum: u8,
-    econum: u8,
-    usrnum: u8,
-    softver: u8,
-    usrsoft: u8,
-    syscap: u128,
-) -> [Field<'a>; 9]
-    requires { FieldsFit (configuration_of bufsiz ostype filesys vernum econum usrnum softver
-        usrsoft syscap) }
-    ensures bytes { fields_bytes result ≡ operand_bytes (configuration_of bufsiz ostype filesys
-        vernum econum usrnum softver usrsoft syscap) }
-    ensures can { CanWriteAll result }
-{
-    [
-        Field::Word(bufsiz),
-        Field::Byte(ostype),
-        Field::Byte(filesys),
-        Field::Byte(vernum),
-        Field::Byte(econum),
-        Field::Byte(usrnum),
-        Field::Byte(softver),
-        Field::Byte(usrsoft),
-        Field::Extensible(syscap),
-    ]
-}
-
-fn access_fields<'a>(
-    func: u8,
-    opt: u64,
-    name: &'a [u8],
-    fac: u32,
-    shr: u32,
-    display: u32,
-    password: &'a [u8],
-) -> [Field<'a>; 7]
-    requires { FieldsFit (access_of func opt name.now fac shr display password.now) }
-    ensures bytes { fields_bytes result
-        ≡ operand_bytes (access_of func opt name.now fac shr display password.now) }
-    ensures can { CanWriteAll result }
-{
-    [
-        Field::Byte(func),
-        Field::Extensible(u128::from(opt)),
-        Field::Image(name),
-        Field::Extensible(u128::from(fac)),
-        Field::Extensible(u128::from(shr)),
-        Field::Extensible(u128::from(display)),
-        Field::Image(password),
+        match check {
+            Some(check) => Field::Word(check),
+            None => Field::Absent,
+        },
     ]
 }
 
@@ -328,53 +230,18 @@ fn control_fields(here: Control<'_>) -> [Field<'_>; 8]
     ensures bytes { fields_bytes result ≡ operand_bytes (ControlOf (seen_control here.entry)) }
     ensures can { CanWriteAll result }
 {
-    let bits = menu_bits(&[
-        here.rac.is_some(),
-        here.key.is_some(),
-        here.krf.is_some(),
-        here.rop.is_some(),
-        here.hsh.is_some(),
-        here.display.is_some(),
-    ]);
-    [
+    let mut fields = [
         Field::Byte(here.func),
-        Field::Extensible(u128::from(bits)),
-        byte_or_absent(here.rac),
-        image_or_absent(here.key),
-        byte_or_absent(here.krf),
-        extensible_u64_or_absent(here.rop),
-        image_or_absent(here.hsh),
-        extensible_u32_or_absent(here.display),
-    ]
-}
-
-/// The menu of an Attributes message.
-fn attribute_menu(here: Attributes<'_>) -> u64
-    ensures { result ≡ attribute_bits (seen_attributes here.entry) }
-{
-    menu_bits(&[
-        here.datatype.is_some(),
-        here.org.is_some(),
-        here.rfm.is_some(),
-        here.rat.is_some(),
-        here.bls.is_some(),
-        here.mrs.is_some(),
-        here.alq.is_some(),
-        here.bks.is_some(),
-        here.fsz.is_some(),
-        here.mrn.is_some(),
-        here.runsys.is_some(),
-        here.deq.is_some(),
-        here.fop.is_some(),
-        here.bsz.is_some(),
-        here.dev.is_some(),
-        here.sdc.is_some(),
-        here.lrl.is_some(),
-        here.hbk.is_some(),
-        here.ebk.is_some(),
-        here.ffb.is_some(),
-        here.sbn.is_some(),
-    ])
+        Field::Absent,
+        option_field(menu::RAC, here.rac),
+        option_field(menu::KEY, here.key),
+        option_field(menu::KRF, here.krf),
+        option_field(menu::ROP, here.rop),
+        option_field(menu::HSH, here.hsh),
+        option_field(menu::DISPLAY, here.display),
+    ];
+    fields[1] = menu_field(&fields[2..]);
+    fields
 }
 
 fn attributes_fields(here: Attributes<'_>) -> [Field<'_>; 22]
@@ -382,35 +249,37 @@ fn attributes_fields(here: Attributes<'_>) -> [Field<'_>; 22]
     ensures bytes { fields_bytes result ≡ operand_bytes (Attrib (seen_attributes here.entry)) }
     ensures can { CanWriteAll result }
 {
-    [
-        Field::Extensible(u128::from(attribute_menu(here))),
-        extensible_u16_or_absent(here.datatype),
-        byte_or_absent(here.org),
-        byte_or_absent(here.rfm),
-        extensible_u32_or_absent(here.rat),
-        word_or_absent(here.bls),
-        word_or_absent(here.mrs),
-        image_or_absent(here.alq),
-        byte_or_absent(here.bks),
-        byte_or_absent(here.fsz),
-        image_or_absent(here.mrn),
-        image_or_absent(here.runsys),
-        word_or_absent(here.deq),
-        extensible_u64_or_absent(here.fop),
-        byte_or_absent(here.bsz),
-        extensible_u64_or_absent(here.dev),
-        extensible_u64_or_absent(here.sdc),
-        word_or_absent(here.lrl),
-        image_or_absent(here.hbk),
-        image_or_absent(here.ebk),
-        word_or_absent(here.ffb),
-        image_or_absent(here.sbn),
-    ]
+    let mut fields = [
+        Field::Absent,
+        option_field(menu::DATATYPE, here.datatype),
+        option_field(menu::ORG, here.org),
+        option_field(menu::RFM, here.rfm),
+        option_field(menu::RAT, here.rat),
+        option_field(menu::BLS, here.bls),
+        option_field(menu::MRS, here.mrs),
+        option_field(menu::ALQ, here.alq),
+        option_field(menu::BKS, here.bks),
+        option_field(menu::FSZ, here.fsz),
+        option_field(menu::MRN, here.mrn),
+        option_field(menu::RUNSYS, here.runsys),
+        option_field(menu::DEQ, here.deq),
+        option_field(menu::FOP, here.fop),
+        option_field(menu::BSZ, here.bsz),
+        option_field(menu::DEV, here.dev),
+        option_field(menu::SDC, here.sdc),
+        option_field(menu::LRL, here.lrl),
+        option_field(menu::HBK, here.hbk),
+        option_field(menu::EBK, here.ebk),
+        option_field(menu::FFB, here.ffb),
+        option_field(menu::SBN, here.sbn),
+    ];
+    fields[0] = menu_field(&fields[1..]);
+    fields
 }
 
 /// What is made of the fields of the message's operand, which are in order.
 macro_rules! with_fields {
-    ($message:expr, $fields:ident => $made:expr) => {
+    ($message:expr, $make:ident $(, $more:expr)*) => {
         match *$message {
             Message::Config {
                 bufsiz,
@@ -423,15 +292,20 @@ macro_rules! with_fields {
                 usrsoft,
                 syscap,
             } => {
-                let $fields = &configuration_fields(
-                    bufsiz, ostype, filesys, vernum, econum, usrnum, softver, usrsoft, syscap,
-                );
-                $made
+                let fields = &[
+                    Field::Word(bufsiz),
+                    Field::Byte(ostype),
+                    Field::Byte(filesys),
+                    Field::Byte(vernum),
+                    Field::Byte(econum),
+                    Field::Byte(usrnum),
+                    Field::Byte(softver),
+                    Field::Byte(usrsoft),
+                    Field::Extensible(syscap),
+                ];
+                $make(fields $(, $more)*)
             }
-            Message::Attrib(attributes) => {
-                let $fields = &attributes_fields(attributes);
-                $made
-            }
+            Message::Attrib(attributes) => $make(&attributes_fields(attributes) $(, $more)*),
             Message::Access {
                 func,
                 opt,
@@ -441,28 +315,25 @@ macro_rules! with_fields {
                 display,
                 password,
             } => {
-                let $fields = &access_fields(func, opt, name, fac, shr, display, password);
-                $made
+                let fields = &[
+                    Field::Byte(func),
+                    Field::Extensible(u128::from(opt)),
+                    Field::Image(name),
+                    Field::Extensible(u128::from(fac)),
+                    Field::Extensible(u128::from(shr)),
+                    Field::Extensible(u128::from(display)),
+                    Field::Image(password),
+                ];
+                $make(fields $(, $more)*)
             }
-            Message::Control(control) => {
-                let $fields = &control_fields(control);
-                $made
-            }
-            Message::Contran { func } => {
-                let $fields = &[Field::Byte(func)];
-                $made
-            }
-            Message::Ack => {
-                let $fields = &[];
-                $made
-            }
+            Message::Control(control) => $make(&control_fields(control) $(, $more)*),
+            Message::Contran { func } => $make(&[Field::Byte(func)] $(, $more)*),
+            Message::Ack => $make(&[] $(, $more)*),
             Message::Accomp { func, fop, check } => {
-                let $fields = &completion_fields(func, fop, check);
-                $made
+                $make(&completion_fields(func, fop, check) $(, $more)*)
             }
             Message::Filedata { recnum, payload } => {
-                let $fields = &[Field::Image(recnum), Field::Rest(payload)];
-                $made
+                $make(&[Field::Image(recnum), Field::Rest(payload)] $(, $more)*)
             }
             Message::Status {
                 code,
@@ -470,13 +341,15 @@ macro_rules! with_fields {
                 recnum,
                 stv,
             } => {
-                let $fields = &status_fields(code, rfa, recnum, stv);
-                $made
+                let fields = &[
+                    Field::Word(code),
+                    Field::Image(rfa),
+                    Field::Image(recnum),
+                    Field::Image(stv),
+                ];
+                $make(fields $(, $more)*)
             }
-            Message::Other { body, .. } => {
-                let $fields = &[Field::Rest(body)];
-                $made
-            }
+            Message::Other { body, .. } => $make(&[Field::Rest(body)] $(, $more)*),
         }
     };
 }
@@ -489,7 +362,7 @@ fn encode_here(message: &Message<'_>, out: &mut Vec<u8>) -> Result<(), MsgFault>
     ensures appends { AppendsMessage (canon (seen message.now)) out.old out.new result }
     ensures capacity { vec_capacity out.old ≤ vec_capacity out.new }
 {
-    with_fields!(message, fields => write_message(message.number(), fields, out))
+    with_fields!(message, write_message, message.number(), out)
 }
 
 /// The same. A call clears the room for the fields of all messages that it may meet: so those with the most fields are
@@ -529,5 +402,5 @@ pub fn encoded_len(message: &Message<'_>) -> usize
     requires { Fits (seen message.now) }
     ensures { result ≡ length (canon (seen message.now)) }
 {
-    with_fields!(message, fields => fields_message_len(fields))
+    with_fields!(message, fields_message_len)
 }

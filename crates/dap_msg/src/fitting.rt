@@ -1,54 +1,21 @@
 //! Whether a message has a spelling.
 
-ghost use Rattle.std.specs.Prelude.{◌<◌, ◌^◌, ◌↔◌, length, IsTrue, option_copied};
+ghost use Rattle.std.specs.Prelude.{◌<◌, ◌^◌, ◌↔◌, length, IsTrue};
 ghost use Rattle.dap_msg.specs.Message.{Attrib, Control as ControlOf, seen, seen_attributes, seen_control};
-ghost use Rattle.dap_msg.specs.Grammar as kinds;
-ghost use Rattle.dap_msg.specs.Canon.{Fits, FieldsFit, FitsField, FitsOption, operand_bytes};
+ghost use Rattle.dap_msg.specs.Canon.{Fits, FieldsFit, FitsOption, operand_bytes};
 
 use crate::codes::{GREATEST_TYPE, TYPE_STATUS};
+use crate::field;
+use crate::kind::Kind;
+use crate::menu::{self, Optional};
 use crate::message::{Attributes, Control, Message};
-use crate::width;
-use dap_fields::ex_fits;
 
-/// Whether a number has a spelling of at most `max` bytes.
-fn number_fits(value: u128, max: usize) -> bool
-    ensures { IsTrue result ↔ FitsField (kinds.Extensible max) value }
-{
-    ex_fits(value, max)
-}
-
-fn option_u16_fits(value: Option<u16>, max: usize) -> bool
-    ensures { IsTrue result ↔ FitsOption (kinds.Extensible max) value }
+/// Whether a field of a menu fits, where it is there.
+fn option_fits<'a, T, K: Kind<'a, T>>(field: Optional<K>, value: Option<T>) -> bool
+    ensures { IsTrue result ↔ FitsOption (K.kind field.1) (K.seen_option field.1 value) }
 {
     match value {
-        Some(value) => number_fits(u128::from(value), max),
-        None => true,
-    }
-}
-
-fn option_u32_fits(value: Option<u32>, max: usize) -> bool
-    ensures { IsTrue result ↔ FitsOption (kinds.Extensible max) value }
-{
-    match value {
-        Some(value) => number_fits(u128::from(value), max),
-        None => true,
-    }
-}
-
-fn option_u64_fits(value: Option<u64>, max: usize) -> bool
-    ensures { IsTrue result ↔ FitsOption (kinds.Extensible max) value }
-{
-    match value {
-        Some(value) => number_fits(u128::from(value), max),
-        None => true,
-    }
-}
-
-fn option_image_fits(value: Option<&[u8]>, max: usize) -> bool
-    ensures { IsTrue result ↔ FitsOption (kinds.Image max) (option_copied value.entry) }
-{
-    match value {
-        Some(value) => value.len() <= max,
+        Some(value) => field.1.fits(value),
         None => true,
     }
 }
@@ -56,26 +23,26 @@ fn option_image_fits(value: Option<&[u8]>, max: usize) -> bool
 fn attributes_fit(here: Attributes<'_>) -> bool
     ensures { IsTrue result ↔ FieldsFit (Attrib (seen_attributes here.entry)) }
 {
-    option_u16_fits(here.datatype, width::DATATYPE)
-        && option_u32_fits(here.rat, width::RAT)
-        && option_image_fits(here.alq, width::ALQ)
-        && option_image_fits(here.mrn, width::MRN)
-        && option_image_fits(here.runsys, width::RUNSYS)
-        && option_u64_fits(here.fop, width::FOP)
-        && option_u64_fits(here.dev, width::DEV)
-        && option_u64_fits(here.sdc, width::SDC)
-        && option_image_fits(here.hbk, width::HBK)
-        && option_image_fits(here.ebk, width::EBK)
-        && option_image_fits(here.sbn, width::SBN)
+    option_fits(menu::DATATYPE, here.datatype)
+        && option_fits(menu::RAT, here.rat)
+        && option_fits(menu::ALQ, here.alq)
+        && option_fits(menu::MRN, here.mrn)
+        && option_fits(menu::RUNSYS, here.runsys)
+        && option_fits(menu::FOP, here.fop)
+        && option_fits(menu::DEV, here.dev)
+        && option_fits(menu::SDC, here.sdc)
+        && option_fits(menu::HBK, here.hbk)
+        && option_fits(menu::EBK, here.ebk)
+        && option_fits(menu::SBN, here.sbn)
 }
 
 fn control_fits(here: Control<'_>) -> bool
     ensures { IsTrue result ↔ FieldsFit (ControlOf (seen_control here.entry)) }
 {
-    option_image_fits(here.key, width::KEY)
-        && option_u64_fits(here.rop, width::ROP)
-        && option_image_fits(here.hsh, width::HSH)
-        && option_u32_fits(here.display, width::DISPLAY)
+    option_fits(menu::KEY, here.key)
+        && option_fits(menu::ROP, here.rop)
+        && option_fits(menu::HSH, here.hsh)
+        && option_fits(menu::DISPLAY, here.display)
 }
 
 /// Whether each value fits its field. Those that fill their type need no test.
@@ -83,7 +50,7 @@ fn fields_fit(message: Message<'_>) -> bool
     ensures { IsTrue result ↔ FieldsFit (seen message.entry) }
 {
     match message {
-        Message::Config { syscap, .. } => number_fits(syscap, width::SYSCAP),
+        Message::Config { syscap, .. } => field::SYSCAP.fits(syscap),
         Message::Attrib(here) => attributes_fit(here),
         Message::Access {
             opt,
@@ -94,24 +61,24 @@ fn fields_fit(message: Message<'_>) -> bool
             password,
             ..
         } => {
-            number_fits(u128::from(opt), width::ACCOPT)
-                && name.len() <= width::FILESPEC
-                && number_fits(u128::from(fac), width::FAC)
-                && number_fits(u128::from(shr), width::SHR)
-                && number_fits(u128::from(display), width::DISPLAY)
-                && password.len() <= width::PASSWORD
+            field::ACCOPT.fits(opt)
+                && field::FILESPEC.fits(name)
+                && field::FAC.fits(fac)
+                && field::SHR.fits(shr)
+                && field::DISPLAY.fits(display)
+                && field::PASSWORD.fits(password)
         }
         Message::Control(here) => control_fits(here),
         Message::Contran { .. } => true,
         Message::Ack => true,
-        Message::Accomp { fop, .. } => number_fits(u128::from(fop), width::FOP),
-        Message::Filedata { recnum, .. } => recnum.len() <= width::RECNUM,
+        Message::Accomp { fop, .. } => field::FOP.fits(fop),
+        Message::Filedata { recnum, .. } => field::RECNUM.fits(recnum),
         Message::Status {
             rfa,
             recnum,
             stv,
             ..
-        } => rfa.len() <= width::RFA && recnum.len() <= width::RECNUM && stv.len() <= width::STV,
+        } => field::RFA.fits(rfa) && field::RECNUM.fits(recnum) && field::STV.fits(stv),
         Message::Other { number, .. } => number > TYPE_STATUS && number <= GREATEST_TYPE,
     }
 }

@@ -7,13 +7,10 @@ ghost use Rattle.dap_msg.specs.Inner.Attributes.{later_attributes};
 ghost use Rattle.dap_msg.specs.Inner.Reading.{read, Gives};
 
 use crate::fault::Fault;
+use crate::kind::{Byte, Kind, Word};
 use crate::message::{Attributes, Control, Message};
-use crate::reading::{
-    byte, extensible, extensible_u64, image, image_or_empty, is_set, menu_of, optional_byte,
-    optional_image, optional_u16, optional_u32, optional_u64, optional_word, u32_or_zero,
-    u64_or_zero, word, word_unless_end,
-};
-use crate::{menu, width};
+use crate::reading::{menu_of, option_of, or_else, unless_end};
+use crate::{field, menu};
 
 #[tactic(auto, unfolding(crate::specs::Formats::acknowledge))]
 #[inline(always)]
@@ -29,10 +26,10 @@ pub(crate) fn read_acknowledge(operand: &[u8]) -> Result<Message<'_>, Fault>
 pub(crate) fn read_status(operand: &[u8]) -> Result<Message<'_>, Fault>
     ensures { Gives (λ m. (seen m, [])) result (read status operand.now) }
 {
-    let (code, rest) = word(operand)?;
-    let (rfa, rest) = image_or_empty(rest, width::RFA)?;
-    let (recnum, rest) = image_or_empty(rest, width::RECNUM)?;
-    let (stv, _ignored) = image_or_empty(rest, width::STV)?;
+    let (code, rest) = Word.read(operand)?;
+    let (rfa, rest) = or_else(field::RFA, rest, &[])?;
+    let (recnum, rest) = or_else(field::RECNUM, rest, &[])?;
+    let (stv, _ignored) = or_else(field::STV, rest, &[])?;
     Ok(Message::Status {
         code,
         rfa,
@@ -46,14 +43,14 @@ pub(crate) fn read_status(operand: &[u8]) -> Result<Message<'_>, Fault>
 pub(crate) fn read_control(operand: &[u8]) -> Result<Message<'_>, Fault>
     ensures { Gives (λ m. (seen m, [])) result (read control operand.now) }
 {
-    let (func, rest) = byte(operand)?;
-    let (bits, rest) = menu_of(rest, width::CTLMENU, menu::CONTROL)?;
-    let (rac, rest) = optional_byte(is_set(bits, menu::RAC), rest)?;
-    let (key, rest) = optional_image(is_set(bits, menu::KEY), rest, width::KEY)?;
-    let (krf, rest) = optional_byte(is_set(bits, menu::KRF), rest)?;
-    let (rop, rest) = optional_u64(is_set(bits, menu::ROP), rest, width::ROP)?;
-    let (hsh, rest) = optional_image(is_set(bits, menu::HSH), rest, width::HSH)?;
-    let (display, _ignored) = optional_u32(is_set(bits, menu::DISPLAY), rest, width::DISPLAY)?;
+    let (func, rest) = Byte.read(operand)?;
+    let (bits, rest) = menu_of(menu::CTLMENU, rest)?;
+    let (rac, rest) = option_of(bits, menu::RAC, rest)?;
+    let (key, rest) = option_of(bits, menu::KEY, rest)?;
+    let (krf, rest) = option_of(bits, menu::KRF, rest)?;
+    let (rop, rest) = option_of(bits, menu::ROP, rest)?;
+    let (hsh, rest) = option_of(bits, menu::HSH, rest)?;
+    let (display, _ignored) = option_of(bits, menu::DISPLAY, rest)?;
     Ok(Message::Control(Control {
         func,
         rac,
@@ -70,17 +67,17 @@ pub(crate) fn read_control(operand: &[u8]) -> Result<Message<'_>, Fault>
 pub(crate) fn read_attributes(operand: &[u8]) -> Result<Message<'_>, Fault>
     ensures { Gives (λ m. (seen m, [])) result (read attributes operand.now) }
 {
-    let (bits, rest) = menu_of(operand, width::ATTMENU, menu::ATTRIBUTES)?;
-    let (datatype, rest) = optional_u16(is_set(bits, menu::DATATYPE), rest, width::DATATYPE)?;
-    let (org, rest) = optional_byte(is_set(bits, menu::ORG), rest)?;
-    let (rfm, rest) = optional_byte(is_set(bits, menu::RFM), rest)?;
-    let (rat, rest) = optional_u32(is_set(bits, menu::RAT), rest, width::RAT)?;
-    let (bls, rest) = optional_word(is_set(bits, menu::BLS), rest)?;
-    let (mrs, rest) = optional_word(is_set(bits, menu::MRS), rest)?;
-    let (alq, rest) = optional_image(is_set(bits, menu::ALQ), rest, width::ALQ)?;
-    let (bks, rest) = optional_byte(is_set(bits, menu::BKS), rest)?;
-    let (fsz, rest) = optional_byte(is_set(bits, menu::FSZ), rest)?;
-    let (mrn, rest) = optional_image(is_set(bits, menu::MRN), rest, width::MRN)?;
+    let (bits, rest) = menu_of(menu::ATTMENU, operand)?;
+    let (datatype, rest) = option_of(bits, menu::DATATYPE, rest)?;
+    let (org, rest) = option_of(bits, menu::ORG, rest)?;
+    let (rfm, rest) = option_of(bits, menu::RFM, rest)?;
+    let (rat, rest) = option_of(bits, menu::RAT, rest)?;
+    let (bls, rest) = option_of(bits, menu::BLS, rest)?;
+    let (mrs, rest) = option_of(bits, menu::MRS, rest)?;
+    let (alq, rest) = option_of(bits, menu::ALQ, rest)?;
+    let (bks, rest) = option_of(bits, menu::BKS, rest)?;
+    let (fsz, rest) = option_of(bits, menu::FSZ, rest)?;
+    let (mrn, rest) = option_of(bits, menu::MRN, rest)?;
     let first = Attributes {
         datatype,
         org,
@@ -108,17 +105,17 @@ fn read_later_attributes<'a>(
     ensures { Gives (λ m. (seen m, [])) result
         (read (later_attributes bits (seen_attributes first.entry)) operand.now) }
 {
-    let (runsys, rest) = optional_image(is_set(bits, menu::RUNSYS), operand, width::RUNSYS)?;
-    let (deq, rest) = optional_word(is_set(bits, menu::DEQ), rest)?;
-    let (fop, rest) = optional_u64(is_set(bits, menu::FOP), rest, width::FOP)?;
-    let (bsz, rest) = optional_byte(is_set(bits, menu::BSZ), rest)?;
-    let (dev, rest) = optional_u64(is_set(bits, menu::DEV), rest, width::DEV)?;
-    let (sdc, rest) = optional_u64(is_set(bits, menu::SDC), rest, width::SDC)?;
-    let (lrl, rest) = optional_word(is_set(bits, menu::LRL), rest)?;
-    let (hbk, rest) = optional_image(is_set(bits, menu::HBK), rest, width::HBK)?;
-    let (ebk, rest) = optional_image(is_set(bits, menu::EBK), rest, width::EBK)?;
-    let (ffb, rest) = optional_word(is_set(bits, menu::FFB), rest)?;
-    let (sbn, _ignored) = optional_image(is_set(bits, menu::SBN), rest, width::SBN)?;
+    let (runsys, rest) = option_of(bits, menu::RUNSYS, operand)?;
+    let (deq, rest) = option_of(bits, menu::DEQ, rest)?;
+    let (fop, rest) = option_of(bits, menu::FOP, rest)?;
+    let (bsz, rest) = option_of(bits, menu::BSZ, rest)?;
+    let (dev, rest) = option_of(bits, menu::DEV, rest)?;
+    let (sdc, rest) = option_of(bits, menu::SDC, rest)?;
+    let (lrl, rest) = option_of(bits, menu::LRL, rest)?;
+    let (hbk, rest) = option_of(bits, menu::HBK, rest)?;
+    let (ebk, rest) = option_of(bits, menu::EBK, rest)?;
+    let (ffb, rest) = option_of(bits, menu::FFB, rest)?;
+    let (sbn, _ignored) = option_of(bits, menu::SBN, rest)?;
     Ok(Message::Attrib(Attributes {
         runsys,
         deq,
@@ -140,15 +137,15 @@ fn read_later_attributes<'a>(
 pub(crate) fn read_configuration(operand: &[u8]) -> Result<Message<'_>, Fault>
     ensures { Gives (λ m. (seen m, [])) result (read configuration operand.now) }
 {
-    let (bufsiz, rest) = word(operand)?;
-    let (ostype, rest) = byte(rest)?;
-    let (filesys, rest) = byte(rest)?;
-    let (vernum, rest) = byte(rest)?;
-    let (econum, rest) = byte(rest)?;
-    let (usrnum, rest) = byte(rest)?;
-    let (softver, rest) = byte(rest)?;
-    let (usrsoft, rest) = byte(rest)?;
-    let (syscap, _ignored) = extensible(rest, width::SYSCAP)?;
+    let (bufsiz, rest) = Word.read(operand)?;
+    let (ostype, rest) = Byte.read(rest)?;
+    let (filesys, rest) = Byte.read(rest)?;
+    let (vernum, rest) = Byte.read(rest)?;
+    let (econum, rest) = Byte.read(rest)?;
+    let (usrnum, rest) = Byte.read(rest)?;
+    let (softver, rest) = Byte.read(rest)?;
+    let (usrsoft, rest) = Byte.read(rest)?;
+    let (syscap, _ignored) = field::SYSCAP.read(rest)?;
     Ok(Message::Config {
         bufsiz,
         ostype,
@@ -167,13 +164,13 @@ pub(crate) fn read_configuration(operand: &[u8]) -> Result<Message<'_>, Fault>
 pub(crate) fn read_access(operand: &[u8]) -> Result<Message<'_>, Fault>
     ensures { Gives (λ m. (seen m, [])) result (read access operand.now) }
 {
-    let (func, rest) = byte(operand)?;
-    let (opt, rest) = extensible_u64(rest, width::ACCOPT)?;
-    let (name, rest) = image(rest, width::FILESPEC)?;
-    let (fac, rest) = u32_or_zero(rest, width::FAC)?;
-    let (shr, rest) = u32_or_zero(rest, width::SHR)?;
-    let (display, rest) = u32_or_zero(rest, width::DISPLAY)?;
-    let (password, _ignored) = image_or_empty(rest, width::PASSWORD)?;
+    let (func, rest) = Byte.read(operand)?;
+    let (opt, rest) = field::ACCOPT.read(rest)?;
+    let (name, rest) = field::FILESPEC.read(rest)?;
+    let (fac, rest) = or_else(field::FAC, rest, 0)?;
+    let (shr, rest) = or_else(field::SHR, rest, 0)?;
+    let (display, rest) = or_else(field::DISPLAY, rest, 0)?;
+    let (password, _ignored) = or_else(field::PASSWORD, rest, &[])?;
     Ok(Message::Access {
         func,
         opt,
@@ -190,7 +187,7 @@ pub(crate) fn read_access(operand: &[u8]) -> Result<Message<'_>, Fault>
 pub(crate) fn read_continuation(operand: &[u8]) -> Result<Message<'_>, Fault>
     ensures { Gives (λ m. (seen m, [])) result (read continuation operand.now) }
 {
-    let (func, _ignored) = byte(operand)?;
+    let (func, _ignored) = Byte.read(operand)?;
     Ok(Message::Contran { func })
 }
 
@@ -199,9 +196,9 @@ pub(crate) fn read_continuation(operand: &[u8]) -> Result<Message<'_>, Fault>
 pub(crate) fn read_completion(operand: &[u8]) -> Result<Message<'_>, Fault>
     ensures { Gives (λ m. (seen m, [])) result (read completion operand.now) }
 {
-    let (func, rest) = byte(operand)?;
-    let (fop, rest) = u64_or_zero(rest, width::FOP)?;
-    let (check, _ignored) = word_unless_end(rest)?;
+    let (func, rest) = Byte.read(operand)?;
+    let (fop, rest) = or_else(field::FOP, rest, 0)?;
+    let (check, _ignored) = unless_end(rest, Word)?;
     Ok(Message::Accomp { func, fop, check })
 }
 
@@ -210,7 +207,7 @@ pub(crate) fn read_completion(operand: &[u8]) -> Result<Message<'_>, Fault>
 pub(crate) fn read_file_data(operand: &[u8]) -> Result<Message<'_>, Fault>
     ensures { Gives (λ m. (seen m, [])) result (read file_data operand.now) }
 {
-    let (recnum, payload) = image(operand, width::RECNUM)?;
+    let (recnum, payload) = field::RECNUM.read(operand)?;
     Ok(Message::Filedata { recnum, payload })
 }
 

@@ -1,61 +1,70 @@
-//! Which bit of a menu says that a field is there (DAP 5.6.0, Attributes and Control messages).
+//! The menus, and the fields that they tell (DAP 5.6.0, Attributes and Control messages).
 
-/// The bits of ATTMENU that have a field, and these.
-pub(crate) const ATTRIBUTES: u32 = 21;
+use crate::field;
+use crate::kind::{Byte, Extensible, Image, Word};
 
-pub(crate) const DATATYPE: u32 = 0;
+/// A menu, and how many fields it tells, one by each of its bits.
+#[derive(Clone, Copy)]
+pub(crate) struct Menu(pub Extensible, pub u32);
 
-pub(crate) const ORG: u32 = 1;
+/// A field that is there where this bit of the menu is set.
+#[derive(Clone, Copy)]
+pub(crate) struct Optional<K>(pub u32, pub K);
 
-pub(crate) const RFM: u32 = 2;
+pub(crate) const ATTMENU: Menu = Menu(Extensible(6), 21);
 
-pub(crate) const RAT: u32 = 3;
+pub(crate) const DATATYPE: Optional<Extensible> = Optional(0, Extensible(2));
 
-pub(crate) const BLS: u32 = 4;
+pub(crate) const ORG: Optional<Byte> = Optional(1, Byte);
 
-pub(crate) const MRS: u32 = 5;
+pub(crate) const RFM: Optional<Byte> = Optional(2, Byte);
 
-pub(crate) const ALQ: u32 = 6;
+pub(crate) const RAT: Optional<Extensible> = Optional(3, Extensible(3));
 
-pub(crate) const BKS: u32 = 7;
+pub(crate) const BLS: Optional<Word> = Optional(4, Word);
 
-pub(crate) const FSZ: u32 = 8;
+pub(crate) const MRS: Optional<Word> = Optional(5, Word);
 
-pub(crate) const MRN: u32 = 9;
+pub(crate) const ALQ: Optional<Image> = Optional(6, Image(5));
 
-pub(crate) const RUNSYS: u32 = 10;
+pub(crate) const BKS: Optional<Byte> = Optional(7, Byte);
 
-pub(crate) const DEQ: u32 = 11;
+pub(crate) const FSZ: Optional<Byte> = Optional(8, Byte);
 
-pub(crate) const FOP: u32 = 12;
+pub(crate) const MRN: Optional<Image> = Optional(9, Image(5));
 
-pub(crate) const BSZ: u32 = 13;
+pub(crate) const RUNSYS: Optional<Image> = Optional(10, Image(40));
 
-pub(crate) const DEV: u32 = 14;
+pub(crate) const DEQ: Optional<Word> = Optional(11, Word);
 
-pub(crate) const SDC: u32 = 15;
+pub(crate) const FOP: Optional<Extensible> = Optional(12, field::FOP);
 
-pub(crate) const LRL: u32 = 16;
+pub(crate) const BSZ: Optional<Byte> = Optional(13, Byte);
 
-pub(crate) const HBK: u32 = 17;
+pub(crate) const DEV: Optional<Extensible> = Optional(14, Extensible(6));
 
-pub(crate) const EBK: u32 = 18;
+pub(crate) const SDC: Optional<Extensible> = Optional(15, Extensible(6));
 
-pub(crate) const FFB: u32 = 19;
+pub(crate) const LRL: Optional<Word> = Optional(16, Word);
 
-pub(crate) const SBN: u32 = 20;
+pub(crate) const HBK: Optional<Image> = Optional(17, Image(5));
 
-/// The bits of CTLMENU that have a field, and these.
-pub(crate) const CONTROL: u32 = 6;
+pub(crate) const EBK: Optional<Image> = Optional(18, Image(5));
 
-pub(crate) const RAC: u32 = 0;
+pub(crate) const FFB: Optional<Word> = Optional(19, Word);
 
-pub(crate) const KEY: u32 = 1;
+pub(crate) const SBN: Optional<Image> = Optional(20, Image(5));
 
-pub(crate) const KRF: u32 = 2;
+pub(crate) const CTLMENU: Menu = Menu(Extensible(4), 6);
 
-pub(crate) const ROP: u32 = 3;
+pub(crate) const RAC: Optional<Byte> = Optional(0, Byte);
 
-pub(crate) const HSH: u32 = 4;
+pub(crate) const KEY: Optional<Image> = Optional(1, Image(255));
 
-pub(crate) const DISPLAY: u32 = 5;
+pub(crate) const KRF: Optional<Byte> = Optional(2, Byte);
+
+pub(crate) const ROP: Optional<Extensible> = Optional(3, Extensible(6));
+
+pub(crate) const HSH: Optional<Image> = Optional(4, Image(5));
+
+pub(crate) const DISPLAY: Optional<Extensible> = Optional(5, field::DISPLAY);

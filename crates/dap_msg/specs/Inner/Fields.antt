@@ -1,10 +1,10 @@
 -- The fields that the encoder writes, one after another.
-use Rattle.std.specs.Prelude.{ℕ, ◌<◌, ◌≤◌, ◌^◌, List, [], ◌∷◌, ◌++◌, length, Option}
+use Rattle.std.specs.Prelude.{ℕ, ◌<◌, ◌≤◌, ◌^◌, List, [], ◌∷◌, ◌++◌, length, Option, Bool, true, false}
 use Rattle.dap_fields.specs.Writing.{shortest}
 use Rattle.dap_msg.specs.declared.encoding.Field.{Field}
 use Rattle.dap_msg.specs.declared.encoding.Field.TheVariants.{Absent, Byte, Word, Extensible, Image, Rest}
 use Rattle.dap_msg.specs.Grammar as kinds
-use Rattle.dap_msg.specs.Message.{Message, Access, Accomp, Status}
+use Rattle.dap_msg.specs.Message.{Message, Accomp}
 use Rattle.dap_msg.specs.Canon.{field_bytes, header_bytes}
 
 abbrev pub bytes_of : Field → List ℕ
@@ -14,6 +14,10 @@ bytes_of (Word v) = field_bytes kinds.Word v
 bytes_of (Extensible v) = shortest v
 bytes_of (Image image) = length image.now ∷ image.now
 bytes_of (Rest bytes) = bytes.now
+
+abbrev pub is_there : Field → Bool
+is_there Absent = false
+is_there _ = true
 
 abbrev pub fields_bytes : List Field → List ℕ
 fields_bytes [] = []
@@ -35,14 +39,5 @@ abbrev pub CanWriteAll : List Field → Type 0
 CanWriteAll [] = Unit {0}
 CanWriteAll (field ∷ fields) = CanWrite field × CanWriteAll fields
 
--- ---- Messages by their fields.
-
-abbrev pub access_of : (func opt : ℕ) → List ℕ → (fac shr display : ℕ) → List ℕ → Message
-access_of func opt name fac shr display password =
-    Access (record { func = func; opt = opt; name = name; fac = fac; shr = shr; display = display; password = password })
-
 abbrev pub completion_of : (func fop : ℕ) → Option ℕ → Message
 completion_of func fop check = Accomp (record { func = func; fop = fop; check = check })
-
-abbrev pub status_of : ℕ → (rfa recnum stv : List ℕ) → Message
-status_of code rfa recnum stv = Status (record { code = code; rfa = rfa; recnum = recnum; stv = stv })

@@ -1,7 +1,7 @@
 use Rattle.std.proofs.Common.{arith}
 use Rattle.dap_msg.specs.Grammar.{Word}
 use Rattle.dap_msg.proofs.Fields.{field_ok, field_err}
-use Rattle.dap_msg.proofs.reading.word.Goals as goal
+use Rattle.dap_msg.proofs.kind.WordKindU16.read.Goals as goal
 
 pub returns-in-Ok : goal.returns-in-Ok
 returns-in-Ok c = field_ok Word c.args.bytes.now c.in-Ok.value c.in-Ok.len c.in-Ok.ensures.exact
