@@ -112,8 +112,8 @@ taken_or_not old one two (data_ack s) g e ne few (_, (_, acks)) (inr (_, (none, 
 
 refuses_same : (old : LinkValue) (p : PacketValue) (e f : LinkFault) → e ≢ NoMemory → f ≢ NoMemory → Refuses old p e → Refuses old p f → e ≡ f
 refuses_same old (segment s) e f ne nf (inl a) (inl b) = a.1 ∙ sym b.1
-refuses_same old (segment s) e f ne nf (inl a) (inr (believed, _)) = let none : ⊥ = (let both = sym a.0 ∙ believed.1 in cc) in absurd none
-refuses_same old (segment s) e f ne nf (inr (believed, _)) (inl b) = let none : ⊥ = (let both = sym b.0 ∙ believed.1 in cc) in absurd none
+refuses_same old (segment s) e f ne nf (inl a) (inr (believed, _)) = absurd (believed a.0)
+refuses_same old (segment s) e f ne nf (inr (believed, _)) (inl b) = absurd (believed b.0)
 refuses_same old (segment s) e f ne nf (inr (_, inl a)) (inr (_, inl b)) = refuses_one old.max_message (coming old) (run old (piece_of s)) e f ne nf a.1 b.1
 refuses_same old (segment s) e f ne nf (inr (_, inl a)) (inr (_, inr b)) = absurd (nf b.1)
 refuses_same old (segment s) e f ne nf (inr (_, inr a)) (inr b) = absurd (ne a.1)

@@ -1,5 +1,5 @@
 -- What receiving computes, by the numbers that a packet shows.
-use Rattle.std.specs.Prelude.{◌≡◌, ℕ, ◌+◌, ◌-◌, ◌≤◌, Bool, true, false, List, ◌∷◌, ◌⊎◌, drop, Result, Ok, Err, Option, Some, None, IfSome, IsOk, MatchResult, nat_lt, ◌==◌, if◌then◌else◌}
+use Rattle.std.specs.Prelude.{◌≡◌, ◌≢◌, ℕ, ◌+◌, ◌-◌, ◌≤◌, Bool, true, false, List, ◌∷◌, ◌⊎◌, drop, Result, Ok, Err, Option, Some, None, IfSome, IsOk, MatchResult, nat_lt, ◌==◌, if◌then◌else◌}
 use Rattle.nsp_seg.specs.Numbers.{residue}
 use Rattle.nsp_link.specs.declared.fault.LinkFault.{LinkFault}
 use Rattle.nsp_link.specs.declared.fault.LinkFault.TheVariants.{WrongLink, BadSequence, MessageTooLong, NoMemory, Failed, Malformed}
@@ -55,14 +55,6 @@ forgotten v count = record v { acked = v.acked + count; queue = drop count v.que
 abbrev pub Acknowledges : LinkValue → Option ℕ → LinkValue → LinkValue → Type 0
 Acknowledges old number mid new = (count : ℕ) × (newly_acked old number ≡ Some count) × (new ≡ forgotten mid count)
 
--- an acknowledgement that an end believes: it is old, or speaks of no segment that wasn't sent
-abbrev pub Believes : LinkValue → Option ℕ → Type 0
-Believes v number = (count : ℕ) × (newly_acked v number ≡ Some count)
-
-abbrev pub ack_of : PacketValue → Option ℕ
-ack_of (segment s) = first_ack s.ack1 s.ack2
-ack_of (data_ack s) = first_ack (Some s.ack1) s.ack2
-
 -- why the k-th segment isn't taken: the next one and those that follow it, or an early one, for want of memory alone
 abbrev pub NotTaken : LinkValue → ℕ → Piece → LinkFault → Type 0
 NotTaken v k p e = ((k ≡ v.received + 1) × RefusesAll v.max_message (coming v) (run v p) e) ⊎ (Keeps v k × (e ≡ NoMemory))
@@ -70,17 +62,17 @@ NotTaken v k p e = ((k ≡ v.received + 1) × RefusesAll v.max_message (coming v
 -- why a packet from the other end is refused: its acknowledgement comes before its segment
 abbrev pub Refuses : LinkValue → PacketValue → LinkFault → Type 0
 Refuses v (segment s) e =
-    ((newly_acked v (ack_of (segment s)) ≡ None) × (e ≡ BadSequence))
-    ⊎ (Believes v (ack_of (segment s)) × NotTaken v (segment_of v s.number) (piece_of s) e)
-Refuses v (data_ack s) e = (newly_acked v (ack_of (data_ack s)) ≡ None) × (e ≡ BadSequence)
+    ((newly_acked v (first_ack s.ack1 s.ack2) ≡ None) × (e ≡ BadSequence))
+    ⊎ ((newly_acked v (first_ack s.ack1 s.ack2) ≢ None) × NotTaken v (segment_of v s.number) (piece_of s) e)
+Refuses v (data_ack s) e = (newly_acked v (first_ack (Some s.ack1) s.ack2) ≡ None) × (e ≡ BadSequence)
 
 -- how a packet from the other end is answered, and what the end is afterwards
 abbrev pub Takes : LinkValue → PacketValue → Got → LinkValue → Type 0
 Takes old (segment s) got new =
     let k = segment_of old s.number in
     (got ≡ got_of old.received (Some k)) × (got ≡ Accepted → AllFit old.max_message (coming old) (run old (piece_of s)))
-    × Acknowledges old (ack_of (segment s)) (taking_in old k (piece_of s)) new
-Takes old (data_ack s) got new = (got ≡ AckOnly) × Acknowledges old (ack_of (data_ack s)) old new
+    × Acknowledges old (first_ack s.ack1 s.ack2) (taking_in old k (piece_of s)) new
+Takes old (data_ack s) got new = (got ≡ AckOnly) × Acknowledges old (first_ack (Some s.ack1) s.ack2) old new
 
 -- What an end that hasn't failed does with any packet: what it answers, and what it is afterwards.
 abbrev pub Received : LinkValue → PacketValue → Result Got LinkFault → LinkValue → Type 0
