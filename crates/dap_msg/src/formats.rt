@@ -1,6 +1,6 @@
 //! The operands of the messages.
 
-ghost use Rattle.std.specs.Prelude.{◌≡◌, [], List};
+ghost use Rattle.std.specs.Prelude.{[]};
 ghost use Rattle.dap_msg.specs.Message.{seen, seen_attributes};
 ghost use Rattle.dap_msg.specs.Formats.{access, acknowledge, attributes, completion, configuration, continuation, control, file_data, other, status};
 ghost use Rattle.dap_msg.specs.Inner.Attributes.{later_attributes};

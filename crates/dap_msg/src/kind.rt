@@ -1,6 +1,6 @@
-//! The kinds of fields: how each is read.
+//! The kinds of fields: how the fields of each are read, written and tested.
 
-ghost use Rattle.std.specs.Prelude.{◌≡◌, ◌≤◌, ◌<◌, ◌^◌, IfOk, ℕ, Option, Some, None, option_copied, refl, ◌↔◌, IsTrue, true};
+ghost use Rattle.std.specs.Prelude.{◌≡◌, ◌≤◌, ◌<◌, ◌^◌, ℕ, Option, Some, None, option_copied, refl, ◌↔◌, IsTrue, true};
 ghost use Rattle.std.proofs.Common.{lit≤};
 ghost use Rattle.dap_msg.specs.Grammar as kinds;
 ghost use Rattle.dap_msg.specs.Grammar.{ValueOf};
