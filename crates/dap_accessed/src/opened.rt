@@ -142,8 +142,8 @@ impl Accessed {
         requires phase { self.old.phase ≡ phases.Connected opened stream }
         requires there { opened.at < length self.old.files }
         requires verb { verb ≡ verb_of (seen_control control) }
-        ensures takes { Takes (phases.Connected opened stream) (TheControl (seen_control control.entry))
-            self.old self.new result }
+        ensures takes { Takes (phases.Connected opened stream)
+            (TheControl (seen_control control.entry)) self.old self.new result }
         ensures err { OnErr result (self.new ≡ self.old) }
         ensures silent { begins_only verb ≡ true → IsOk result }
     {
