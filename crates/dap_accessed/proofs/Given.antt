@@ -3,15 +3,14 @@ use Rattle.std.proofs.Common.{◌≡◌, ℕ, ◌+◌, ◌<◌, ◌≤◌, Bool,
 use Rattle.std.specs.Prelude.{◌&&◌, ◌||◌, nat_lt, is_none, is_some, IsSome, Option, Result, Ok, Err, OnErr}
 use Rattle.std.specs.FinMap.{get}
 use Rattle.std.proofs.lemmas.Bool.{cases_lt, lt-ltb}
-use Rattle.rec_file.specs.Shapes.{is_seq, is_shape, limit_of, allows_length}
+use Rattle.rec_file.specs.Shapes.{is_seq, limit_of, allows_length}
 use Rattle.rec_file.specs.Files.{FileVal, IsFile, highest_of, stored}
 use Rattle.rec_file.specs.Acts.{out_of_range, is_free}
-use Rattle.rec_file.specs.declared.shapes.Shape.{Shape}
 use Rattle.rec_file.proofs.ForCallers.{IsFile-placed}
 use Rattle.dap_accessed.specs.declared.fault.AddFault.{AddFault}
-use Rattle.dap_accessed.specs.Standing.{Files, place_of, file_at, with_file}
+use Rattle.dap_accessed.specs.Standing.{Files, file_at, with_file}
 use Rattle.dap_accessed.specs.Sound.{AreFiles}
-use Rattle.dap_accessed.specs.Adding.{leaves_gap, MayStore, newest, with_new_file, with_record}
+use Rattle.dap_accessed.specs.Adding.{leaves_gap, MayStore, newest, with_record}
 use Rattle.dap_accessed.specs.Inner.Storing.{Stores}
 use Rattle.dap_accessed.proofs.Tables.{with-same}
 use Rattle.dap_accessed.proofs.Kept.{passed, neither, un_not, in_range}
