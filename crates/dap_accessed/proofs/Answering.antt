@@ -286,8 +286,8 @@ module _ (own : ℕ) (small : own < 2 ^ 16) (first : Files) (good : AreFiles fir
   one-sends : (s : Standing) (b : Option Begun) (item : Item) → IsSound (record { standing = s; begun = b }) → HasShortType item → AreSendable s.limit (answers_after own s b item)
   one-sends s None item h t =
       let h = h.standing in
-      of-item (scene_of own s) small h.files h.least (looked_back s.place s.past) (good-memory s.place s.past) s.place h.opened item t
-  one-sends s (Some b) item h t = with-second (scene_of own s) small h.standing.files h.standing.least b.opened h.begun b.change b.stream item t
+      of-item (scene_of own s) small h.files.files h.least (looked_back s.place s.past) (good-memory s.place s.past) s.place h.opened item t
+  one-sends s (Some b) item h t = with-second (scene_of own s) small h.standing.files.files h.standing.least b.opened h.begun b.change b.stream item t
 
   -- what one item more adds may be sent
   pub added-sends : (items : List Item) (item : Item) → HasShortType item → AreSendable (stands_after own first items).standing.limit (added own first items item)

@@ -3,19 +3,18 @@ use Rattle.std.proofs.Common.{◌≡◌, ℕ, ◌+◌, ◌<◌, ◌≤◌, Bool,
 use Rattle.std.specs.Prelude.{◌&&◌, ◌||◌, nat_lt, is_none, is_some, IsSome, Option, Result, Ok, Err, OnErr}
 use Rattle.std.specs.FinMap.{get}
 use Rattle.std.proofs.lemmas.Bool.{cases_lt, lt-ltb}
-use Rattle.rec_file.specs.Shapes.{is_seq, is_shape, limit_of, allows_length}
+use Rattle.rec_file.specs.Shapes.{is_seq, limit_of, allows_length}
 use Rattle.rec_file.specs.Files.{FileVal, IsFile, highest_of, stored}
 use Rattle.rec_file.specs.Acts.{out_of_range, is_free}
-use Rattle.rec_file.specs.declared.shapes.Shape.{Shape}
-use Rattle.rec_file.proofs.ForCallers.{IsFile-empty, IsFile-placed}
+use Rattle.rec_file.proofs.ForCallers.{IsFile-placed}
 use Rattle.dap_accessed.specs.declared.fault.AddFault.{AddFault}
-use Rattle.dap_accessed.specs.Standing.{Files, place_of, file_at, with_file}
+use Rattle.dap_accessed.specs.Standing.{Files, file_at, with_file}
 use Rattle.dap_accessed.specs.Sound.{AreFiles}
-use Rattle.dap_accessed.specs.Adding.{leaves_gap, MayStore, newest, with_new_file, with_record}
+use Rattle.dap_accessed.specs.Adding.{leaves_gap, MayStore, newest, with_record}
 use Rattle.dap_accessed.specs.Inner.Storing.{Stores}
 use Rattle.dap_accessed.proofs.Tables.{with-same}
 use Rattle.dap_accessed.proofs.Kept.{passed, neither, un_not, in_range}
-use Rattle.dap_accessed.proofs.SoundTables.{file-there, all-with, distinct-with, all-more, distinct-more, new-name}
+use Rattle.dap_accessed.proofs.SoundTables.{file-there, files-with}
 
 -- what is true of a record that isn't refused
 pub record Storable (file : FileVal) (n : ℕ) (body : List ℕ) : Type 0 where
@@ -66,16 +65,9 @@ stored-file file n body h may = let s = storable file n body h may in IsFile-pla
 
 -- ---- Tables.
 
-pub file-given : (files : Files) (name : List ℕ) (shape : Shape) → AreFiles files → IsTrue (is_shape shape) → place_of name files ≡ None → AreFiles (with_new_file name shape files)
-file-given files name shape h good none =
-    record { files = all-more files _ h.files (IsFile-empty shape good); distinct = distinct-more files _ h.distinct (new-name name files none) }
-
 pub record-given : (files : Files) (n : ℕ) (body : List ℕ) → AreFiles files → 0 < length files → MayStore (file_at (newest files) files) n body → AreFiles (with_record n body files)
 record-given files n body h some may =
-    record {
-      files = all-with files (newest files) _ h.files (stored-file _ n body (file-there files (newest files) h.files (omega arith)) may);
-      distinct = distinct-with files (newest files) _ h.distinct;
-    }
+    files-with files (newest files) _ h (stored-file _ n body (file-there files (newest files) h.files (omega arith)) may)
 
 -- where the record isn't stored, the table is as it was
 pub table-same : (n : ℕ) (body : List ℕ) (at : ℕ) (old new : Files) (r : Result (Unit {0}) AddFault) → new ≡ with_file at (file_at at new) old → Stores n body (file_at at old) (file_at at new) r → OnErr r (new ≡ old)

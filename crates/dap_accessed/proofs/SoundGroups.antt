@@ -22,7 +22,6 @@ use Rattle.rec_file.specs.Shapes.{is_shape, has_length, kept_mrn, org_of_code, f
 use Rattle.std.specs.Prelude.{unwrap_or}
 use Rattle.rec_file.specs.Files.{FileVal, IsFile, records_from}
 use Rattle.rec_file.specs.Acts.{Operation, StreamVal, act, get_record, put_record, update_record, delete_record}
-use Rattle.rec_file.proofs.ForCallers.{IsFile-empty}
 use Rattle.dap_accessed.specs.declared.phase.OpenFile.{OpenFile}
 use Rattle.dap_accessed.specs.declared.verbs.Verb.{Verb}
 use Rattle.dap_accessed.specs.declared.verbs.Verb.TheVariants as verbs
@@ -39,11 +38,11 @@ use Rattle.dap_accessed.specs.Transfers.{fetch, fetch_ends, continue_fetch, stor
 use Rattle.dap_msg.specs.Exchange.{is_too_small}
 use Rattle.dap_accessed.specs.Exchange.{Begun, Turn, Does, Begins, control_opened, control_connected, turn_in, turn_of, effect_with}
 use Rattle.dap_accessed.specs.Groups.{scene_of, turn_at, after_two}
-use Rattle.dap_accessed.specs.Sound.{AreFiles, AreDistinct, IsOpenAt, IsSoundAt, IsSound}
+use Rattle.dap_accessed.specs.Sound.{AreFiles, IsOpenAt, IsSoundAt, IsSound}
 use Rattle.dap_accessed.proofs.OneMore.{next_group, more_after}
 use Rattle.dap_accessed.proofs.Tables.{length-with}
 use Rattle.dap_accessed.proofs.Kept.{act-keeps, both}
-use Rattle.dap_accessed.proofs.SoundTables.{AllFiles, file-there, all-with, distinct-with, all-without, distinct-without, all-more, distinct-more, new-name}
+use Rattle.dap_accessed.proofs.SoundTables.{file-there, files-with, files-more, all-without, distinct-without}
 
 -- ---- Shapes, limits and places.
 
@@ -100,24 +99,23 @@ abbrev IsSoundTurn : Scene → Turn → Type 0
 IsSoundTurn scene (Does e) = IsSoundAt e.files e.limit e.place
 IsSoundTurn scene (Begins b) = b.opened.at < length scene.files
 
-module _ (scene : Scene) (files : AllFiles scene.files) (distinct : AreDistinct scene.files) (least : 64 ≤ scene.limit) (most : scene.limit ≤ greatest_message) where
+module _ (scene : Scene) (files : AreFiles scene.files) (least : 64 ≤ scene.limit) (most : scene.limit ≤ greatest_message) where
   abbrev Leaves : Effect → Type 0
   Leaves e = IsSoundAt e.files e.limit e.place
 
   entering : (place : Place) → IsOpenAt scene.files place → IsSoundAt scene.files scene.limit place
-  entering place h = record { files = files; distinct = distinct; opened = h; least = least; most = most }
+  entering place h = record { files = files; opened = h; least = least; most = most }
 
   -- an operation on the open file
   acted : (op : Operation) (o : OpenFile) (s : StreamVal) → o.at < length scene.files → IsFile (act op (the_file scene.files o) s).file
-  acted op o s h = act-keeps op (the_file scene.files o) s (file-there scene.files o.at files h)
+  acted op o s h = act-keeps op (the_file scene.files o) s (file-there scene.files o.at files.files h)
 
   changing : (op : Operation) (o : OpenFile) (s : StreamVal) (place : Place) (h : o.at < length scene.files)
       → IsOpenAt (with_file o.at (act op (the_file scene.files o) s).file scene.files) place
       → IsSoundAt (with_file o.at (act op (the_file scene.files o) s).file scene.files) scene.limit place
   changing op o s place h there =
       record {
-        files = all-with scene.files o.at (act op (the_file scene.files o) s).file files (acted op o s h);
-        distinct = distinct-with scene.files o.at (act op (the_file scene.files o) s).file distinct;
+        files = files-with scene.files o.at _ files (acted op o s h);
         opened = there;
         least = least;
         most = most;
@@ -141,8 +139,7 @@ module _ (scene : Scene) (files : AllFiles scene.files) (distinct : AreDistinct 
   creating name fac None None e g = entering Ready tt
   creating name fac None (Some shape) e good =
       record {
-        files = all-more scene.files (name, record { shape = shape; records = map.empty }) files (IsFile-empty shape good);
-        distinct = distinct-more scene.files (name, record { shape = shape; records = map.empty }) distinct (new-name name scene.files e);
+        files = files-more scene.files name shape files good e;
         opened = omega (arith, length-append scene.files ((name, record { shape = shape; records = map.empty }) ∷ []));
         least = least;
         most = most;
@@ -158,7 +155,7 @@ module _ (scene : Scene) (files : AllFiles scene.files) (distinct : AreDistinct 
       (either (a.func == codes.accfunc.creating) _ _ (creating a.name a.fac (place_of a.name scene.files) shape refl g) (entering Ready tt))
 
   purging : (o : OpenFile) (new : Bool) → IsSoundAt (if new then without_file o.at scene.files else scene.files) scene.limit Ready
-  purging o true = record { files = all-without scene.files o.at files; distinct = distinct-without scene.files o.at distinct; opened = tt; least = least; most = most }
+  purging o true = record { files = record { files = all-without scene.files o.at files.files; distinct = distinct-without scene.files o.at files.distinct }; opened = tt; least = least; most = most }
   purging o false = entering Ready tt
 
   completed-soundly : (func : ℕ) (o : OpenFile) (place : Place) (ends : Effect) → IsOpenAt scene.files place → Leaves ends → Leaves (complete func scene o place ends)
@@ -228,7 +225,7 @@ module _ (scene : Scene) (files : AllFiles scene.files) (distinct : AreDistinct 
   configuring : (small : Bool) (bufsiz : ℕ) → is_too_small bufsiz ≡ small → Leaves (if small then enters scene Fresh (bare_status (codes.invalid codes.types.config) ∷ []) else enters (record scene { limit = limit_of bufsiz }) Ready (config_of scene.own ∷ []))
   configuring true bufsiz e = entering Fresh tt
   configuring false bufsiz e =
-      record { files = files; distinct = distinct; opened = tt; least = limit-least bufsiz e; most = limit-most bufsiz }
+      record { files = files; opened = tt; least = limit-least bufsiz e; most = limit-most bufsiz }
 
   of-message : (memory : Memory) → Good memory.shape → (place : Place) → IsOpenAt scene.files place → (m : Message) → IsSoundTurn scene (turn_in scene memory place m)
   of-message memory g Fresh h (Config c) = configuring (is_too_small c.bufsiz) c.bufsiz refl
@@ -259,14 +256,14 @@ module _ (scene : Scene) (files : AllFiles scene.files) (distinct : AreDistinct 
 -- ---- Every list of items.
 
 pub start-sound : (first : Files) → AreFiles first → IsSound (record { standing = start first; begun = None })
-start-sound first good = record { standing = record { files = good.files; distinct = good.distinct; opened = tt; least = lit≤ tt; most = lit≤ tt }; begun = tt }
+start-sound first good = record { standing = record { files = good; opened = tt; least = lit≤ tt; most = lit≤ tt }; begun = tt }
 
 one-sound : (own : ℕ) (s : Standing) (item : Item) → IsSoundAt s.files s.limit s.place → IsSoundTurn (scene_of own s) (turn_at own s item)
 one-sound own s item h =
-    of-item (scene_of own s) h.files h.distinct h.least h.most (looked_back s.place s.past) (good-memory s.place s.past) s.place h.opened item
+    of-item (scene_of own s) h.files h.least h.most (looked_back s.place s.past) (good-memory s.place s.past) s.place h.opened item
 
 two-sound : (own : ℕ) (s : Standing) (b : Begun) (item : Item) → IsSoundAt s.files s.limit s.place → b.opened.at < length s.files → let t = after_two own s b item in IsSoundAt t.files t.limit t.place
-two-sound own s b item h there = of-second (scene_of own s) h.files h.distinct h.least h.most b.change b.opened b.stream item there
+two-sound own s b item h there = of-second (scene_of own s) h.files h.least h.most b.change b.opened b.stream item there
 
 next-sound : (own : ℕ) (s : Standing) (item : Item) (t : Turn) → IsSoundAt s.files s.limit s.place → IsSoundTurn (scene_of own s) t → IsSound (next_group s item t)
 next-sound own s item (Does e) h sound = record { standing = sound; begun = tt }

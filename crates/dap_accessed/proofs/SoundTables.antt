@@ -1,13 +1,16 @@
 -- What a change of the table keeps.
 use Rattle.std.proofs.Common.{◌≡◌, ℕ, zero, suc, ◌+◌, ◌<◌, ◌≤◌, not, cond, List, [], ◌∷◌, ◌++◌, length, Some, None, ap, sym, inl, inr, arith}
-use Rattle.std.specs.Prelude.{bytes_eq, ◌≢◌}
+use Rattle.std.specs.Prelude.{bytes_eq, ◌≢◌, IsTrue}
 use Rattle.std.specs.List.{prefix_len, AllByRecursion}
 use Rattle.std.proofs.lemmas.Bool.{cases_Bool, cases_lt, lt-ltb}
 use Rattle.std.proofs.lemmas.Bool.Decides.{not_from_Decides}
 use Rattle.std.proofs.lemmas.Slice.Eq.{bytes_eq-Decides}
+use Rattle.rec_file.specs.declared.shapes.Shape.{Shape}
+use Rattle.rec_file.specs.Shapes.{is_shape}
 use Rattle.rec_file.specs.Files.{FileVal, IsFile}
-use Rattle.dap_accessed.specs.Standing.{Files, place_of, file_at, with_file, without_file}
-use Rattle.dap_accessed.specs.Sound.{AreDistinct}
+use Rattle.rec_file.proofs.ForCallers.{IsFile-empty}
+use Rattle.dap_accessed.specs.Standing.{Files, new_file, place_of, file_at, with_file, without_file}
+use Rattle.dap_accessed.specs.Sound.{AreDistinct, AreFiles}
 
 abbrev pub AllFiles : Files → Type 0
 AllFiles files = AllByRecursion (λ f. IsFile f.1) files
@@ -23,7 +26,7 @@ file-there (f ∷ files) (suc at) h lt = file-there files at h.1 (omega arith)
 
 -- ---- Another file in the place of one.
 
-pub all-with : (files : Files) (at : ℕ) (file : FileVal) → AllFiles files → IsFile file → AllFiles (with_file at file files)
+all-with : (files : Files) (at : ℕ) (file : FileVal) → AllFiles files → IsFile file → AllFiles (with_file at file files)
 all-with [] at file h k = tt
 all-with (f ∷ files) zero file h k = (k, h.1)
 all-with (f ∷ files) (suc at) file h k = (h.0, all-with files at file h.1 k)
@@ -33,7 +36,7 @@ none-with name [] at file h = tt
 none-with name (f ∷ files) zero file h = h
 none-with name (f ∷ files) (suc at) file h = (h.0, none-with name files at file h.1)
 
-pub distinct-with : (files : Files) (at : ℕ) (file : FileVal) → AreDistinct files → AreDistinct (with_file at file files)
+distinct-with : (files : Files) (at : ℕ) (file : FileVal) → AreDistinct files → AreDistinct (with_file at file files)
 distinct-with [] at file h = tt
 distinct-with (f ∷ files) zero file h = h
 distinct-with (f ∷ files) (suc at) file h = (none-with f.0 files at file h.0, distinct-with files at file h.1)
@@ -60,7 +63,7 @@ distinct-without (f ∷ files) (suc at) h = (none-without f.0 files at h.0, dist
 
 -- ---- A file more, of a new name.
 
-pub all-more : (files : Files) (f : List ℕ × FileVal) → AllFiles files → IsFile f.1 → AllFiles (files ++ f ∷ [])
+all-more : (files : Files) (f : List ℕ × FileVal) → AllFiles files → IsFile f.1 → AllFiles (files ++ f ∷ [])
 all-more [] f h k = (k, tt)
 all-more (e ∷ files) f h k = (h.0, all-more files f h.1 k)
 
@@ -68,7 +71,7 @@ none-more : (name : List ℕ) (files : Files) (f : List ℕ × FileVal) → HasN
 none-more name [] f h new = (new, tt)
 none-more name (e ∷ files) f h new = (h.0, none-more name files f h.1 new)
 
-pub distinct-more : (files : Files) (f : List ℕ × FileVal) → AreDistinct files → HasNone f.0 files → AreDistinct (files ++ f ∷ [])
+distinct-more : (files : Files) (f : List ℕ × FileVal) → AreDistinct files → HasNone f.0 files → AreDistinct (files ++ f ∷ [])
 distinct-more [] f h new = (tt, tt)
 distinct-more (e ∷ files) f h new = (none-more e.0 files f h.0 (λ same. new.0 (sym same)), distinct-more files f h.1 new.1)
 
@@ -85,10 +88,19 @@ all-other name (f ∷ files) h =
       )
     ]
 
-pub new-name : (name : List ℕ) (files : Files) → place_of name files ≡ None → HasNone name files
+new-name : (name : List ℕ) (files : Files) → place_of name files ≡ None → HasNone name files
 new-name name files none =
     let n = prefix_len (λ (f : List ℕ × FileVal). not (bytes_eq f.0 name)) files in
     elim (cases_lt n (length files)) [
       | inl lt ↦ absurd (let e = ap (λ b. cond b (Some n) None) (lt-ltb n (length files) lt) in cc)
       | inr le ↦ all-other name files le
     ]
+
+-- ---- Files with different names, each of which obeys its shape.
+
+pub files-with : (files : Files) (at : ℕ) (file : FileVal) → AreFiles files → IsFile file → AreFiles (with_file at file files)
+files-with files at file h k = record { files = all-with files at file h.files k; distinct = distinct-with files at file h.distinct }
+
+pub files-more : (files : Files) (name : List ℕ) (shape : Shape) → AreFiles files → IsTrue (is_shape shape) → place_of name files ≡ None → AreFiles (files ++ (name, new_file shape) ∷ [])
+files-more files name shape h good none =
+    record { files = all-more files _ h.files (IsFile-empty shape good); distinct = distinct-more files _ h.distinct (new-name name files none) }

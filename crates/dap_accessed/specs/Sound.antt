@@ -20,20 +20,18 @@ IsOpenAt files (Connected opened stream) = opened.at < length files
 IsOpenAt files (Store opened stream) = opened.at < length files
 IsOpenAt files (Stopped opened stream) = opened.at < length files
 
-pub record IsSoundAt (table : Files) (limit : ℕ) (place : Place) : Type 0 where
-  -- each obeys its shape, which is one that the check gives
-  pub files : AllByRecursion (λ f. IsFile f.1) table
-  pub distinct : AreDistinct table
-  pub opened : IsOpenAt table place
-  -- what a peer takes is not less than the least, and not more than any end takes
-  pub least : least_buffer ≤ limit
-  pub most : limit ≤ greatest_message
-
 -- files that an end may have at first
 pub record AreFiles (table : Files) : Type 0 where
   -- each obeys its shape, which is one that the check gives
   pub files : AllByRecursion (λ f. IsFile f.1) table
   pub distinct : AreDistinct table
+
+pub record IsSoundAt (table : Files) (limit : ℕ) (place : Place) : Type 0 where
+  pub files : AreFiles table
+  pub opened : IsOpenAt table place
+  -- what a peer takes is not less than the least, and not more than any end takes
+  pub least : least_buffer ≤ limit
+  pub most : limit ≤ greatest_message
 
 -- also inside a group of two
 pub record IsSound (c : Grouped) : Type 0 where

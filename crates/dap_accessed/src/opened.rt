@@ -117,7 +117,8 @@ impl Accessed {
     ) -> Result<Option<Vec<Vec<u8>>>, NoMemory>
         requires phase { self.old.phase ≡ phases.Connected opened stream }
         requires there { opened.at < length self.old.files }
-        ensures takes { Takes (phases.Connected opened stream) (seen message.entry) self.old self.new result }
+        ensures takes { Takes (phases.Connected opened stream) (seen message.entry)
+            self.old self.new result }
         ensures err { OnErr result (self.new ≡ self.old) }
         ensures silent { is_silent self.old.phase (Whole (seen message.entry)) ≡ true
             → IsOk result }
@@ -141,7 +142,8 @@ impl Accessed {
         requires phase { self.old.phase ≡ phases.Connected opened stream }
         requires there { opened.at < length self.old.files }
         requires verb { verb ≡ verb_of (seen_control control) }
-        ensures takes { Takes (phases.Connected opened stream) (TheControl (seen_control control.entry)) self.old self.new result }
+        ensures takes { Takes (phases.Connected opened stream)
+            (TheControl (seen_control control.entry)) self.old self.new result }
         ensures err { OnErr result (self.new ≡ self.old) }
         ensures silent { begins_only verb ≡ true → IsOk result }
     {

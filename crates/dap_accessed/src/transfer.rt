@@ -55,7 +55,8 @@ impl Accessed {
     ) -> Result<Option<Vec<Vec<u8>>>, NoMemory>
         requires phase { self.old.phase ≡ store_phase dropping opened stream ordinal }
         requires there { opened.at < length self.old.files }
-        ensures takes { Takes (store_phase dropping opened stream ordinal) (seen message.entry) self.old self.new result }
+        ensures takes { Takes (store_phase dropping opened stream ordinal) (seen message.entry)
+            self.old self.new result }
         ensures err { OnErr result (self.new ≡ self.old) }
         ensures silent { is_silent self.old.phase (Whole (seen message.entry)) ≡ true
             → IsOk result }
@@ -121,7 +122,8 @@ impl Accessed {
         requires phase { self.old.phase ≡ phases.Stopped opened stream }
         requires there { opened.at < length self.old.files }
         requires next { stream.next ≤ greatest_number }
-        ensures takes { Takes (phases.Stopped opened stream) (seen message.entry) self.old self.new result }
+        ensures takes { Takes (phases.Stopped opened stream) (seen message.entry)
+            self.old self.new result }
         ensures err { OnErr result (self.new ≡ self.old) }
         ensures silent { is_silent self.old.phase (Whole (seen message.entry)) ≡ true
             → IsOk result }

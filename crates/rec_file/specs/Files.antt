@@ -1,10 +1,8 @@
 -- A record file as a value: a shape, and a finite map from numbers to records.
-use Rattle.std.specs.Prelude.{ℕ, ◌≤◌, nat_le, List, [], ◌∷◌, length, filter, slice_get, Option, IsSome, IsTrue, IfSome, refl}
+use Rattle.std.specs.Prelude.{ℕ, ◌≤◌, nat_le, List, [], ◌∷◌, length, filter, slice_get, Option, IsSome, IsTrue, IfSome}
 use Rattle.std.specs.Ordering.{nat_cmp}
-use Rattle.std.specs.FinMap.{FinMap, get, keys, entries, insert, remove, code}
-use Rattle.std.specs.Coded.{Coded, code_by, coded×, coded_ℕ, coded_list}
+use Rattle.std.specs.FinMap.{FinMap, get, keys, entries, insert, remove}
 use Rattle.rec_file.specs.declared.shapes.Shape.{Shape}
-use Rattle.rec_file.specs.contracts.shapes.Shape as shape_type
 use Rattle.rec_file.specs.Shapes.{is_shape, is_seq, limit_of, allows_length}
 
 -- records by their numbers
@@ -49,8 +47,3 @@ stored file n body = record file { records = insert file.records n body }
 -- the file with nothing under n
 abbrev pub removed : FileVal → ℕ → FileVal
 removed file n = record file { records = remove file.records n }
-
--- a file is stored as its shape and its entries
-abbrev pub file_code : Coded FileVal
-file_code =
-    code_by (Shape × Records) (coded× shape_type.the_row.coded (code coded_ℕ (coded_list coded_ℕ))) (λ f. (f.shape, f.records)) (λ p. record { shape = p.0; records = p.1 }) (λ _. refl)

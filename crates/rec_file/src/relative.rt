@@ -39,7 +39,8 @@ impl Model for RelFile {
     ghost use Rattle.slab.specs.Slab.{get, slab_len};
     ghost use Rattle.rec_file.specs.Shapes.{is_seq};
     ghost use Rattle.rec_file.specs.Inner.Pages.{paged_file, pages_at, HaveOwnPlaces, IsPage};
-    ghost use Rattle.rec_file.specs.Files.{FileVal, IsFile, file_code};
+    ghost use Rattle.rec_file.specs.Files.{FileVal, IsFile};
+    ghost use Rattle.rec_file.specs.Inner.Stored.{file_code};
 
     ghost Value = { FileVal };
 

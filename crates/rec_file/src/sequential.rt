@@ -20,7 +20,8 @@ impl Model for SeqFile {
     ghost use Rattle.std.specs.Prelude.{◌≡◌, List, ℕ, map, true};
     ghost use Rattle.rec_file.specs.Shapes.{is_seq};
     ghost use Rattle.rec_file.specs.Inner.Numbered.{sequential_file};
-    ghost use Rattle.rec_file.specs.Files.{FileVal, IsFile, file_code};
+    ghost use Rattle.rec_file.specs.Files.{FileVal, IsFile};
+    ghost use Rattle.rec_file.specs.Inner.Stored.{file_code};
 
     ghost Value = { FileVal };
 

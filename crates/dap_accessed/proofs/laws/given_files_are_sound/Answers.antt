@@ -1,8 +1,9 @@
-use Rattle.dap_accessed.proofs.Given.{file-given, record-given}
+use Rattle.dap_accessed.proofs.Given.{record-given}
+use Rattle.dap_accessed.proofs.SoundTables.{files-more}
 use Rattle.dap_accessed.proofs.laws.given_files_are_sound.Goals as goal
 
 pub returns-clause-file : goal.returns-clause-file
-returns-clause-file c = λ files name shape h good none. file-given files name shape h good none
+returns-clause-file c = λ files name shape h good none. files-more files name shape h good none
 
 pub returns-clause-record : goal.returns-clause-record
 returns-clause-record c = λ files n body h some may. record-given files n body h some may
