@@ -11,7 +11,7 @@ use Rattle.dap_msg.specs.Codes as codes
 use Rattle.dap_msg.specs.Message.{Message, Config, Attrib, Access, Control, Contran, Ack, Accomp, Filedata, Other, AccessFields, ControlFields}
 use Rattle.dap_msg.specs.Canon.{type_number as type_of}
 use Rattle.dap_msg.specs.Inner.Answers.{IsShortAnswer}
-use Rattle.dap_msg.specs.Exchange.{four_bytes, least_buffer}
+use Rattle.dap_msg.specs.BothEnds.{four_bytes, least_buffer}
 use Rattle.dap_msg.specs.Items.{Item, Whole, Malformed, IsRead}
 use Rattle.dap_msg.specs.Blocked.{AllFit}
 use Rattle.dap_msg.specs.Sendable.{IsSendable, AreSendable}
@@ -31,7 +31,7 @@ use Rattle.dap_accessed.specs.declared.verbs.Verb.TheVariants as verbs
 use Rattle.std.specs.Prelude.{◌==◌, take_while, drop}
 use Rattle.std.specs.List.{prefix_len, AllByRecursion}
 use Rattle.std.proofs.lemmas.List.Sums.{take_while-cons}
-use Rattle.dap_msg.specs.Exchange.{config_of, limit_of}
+use Rattle.dap_msg.specs.BothEnds.{config_of, limit_of}
 use Rattle.dap_accessed.specs.Standing.{Files, enters}
 use Rattle.dap_accessed.specs.Standing.{place_of, file_at, the_file, Place, Fresh, Ready, Opened, Connected, Store, Stopped, Standing, Scene, Effect}
 use Rattle.dap_accessed.specs.Past.{Memory, looked_back, next_ordinal}
@@ -39,8 +39,8 @@ use Rattle.dap_accessed.specs.Replies.{bare_status, reason_status, sync_status, 
 use Rattle.dap_accessed.specs.Accesses.{open_file, create_file, access_file, complete}
 use Rattle.dap_accessed.specs.Records.{at_number, uncurrent, verb_of, get_pick, got, record_got, Change, Putting, Updating, changed, fits_limit, filedata_of}
 use Rattle.dap_accessed.specs.Transfers.{fetch, fetch_ends, continue_refused, continue_fetch, store_one, stored_answers, continue_store}
-use Rattle.dap_msg.specs.Exchange.{is_too_small}
-use Rattle.dap_accessed.specs.Exchange.{Begun, Turn, control_status, control_opened, control_connected, turn_in, turn_of, effect_with}
+use Rattle.dap_msg.specs.BothEnds.{is_too_small}
+use Rattle.dap_accessed.specs.Effects.{Begun, Turn, control_status, control_opened, control_connected, turn_in, turn_of, effect_with}
 use Rattle.dap_accessed.specs.Groups.{Answers, scene_of, stands_after, added}
 use Rattle.dap_accessed.specs.Sound.{AreFiles, IsOpenAt, IsSound}
 use Rattle.dap_accessed.proofs.Kept.{both}

@@ -3,7 +3,7 @@ use Rattle.std.proofs.Common.{ℕ, List, [], Option, Some, None}
 use Rattle.dap_msg.specs.Message.{Message}
 use Rattle.dap_msg.specs.Items.{Item}
 use Rattle.dap_accessed.specs.Standing.{Standing}
-use Rattle.dap_accessed.specs.Exchange.{Begun, Turn, Does, Begins, effect_with}
+use Rattle.dap_accessed.specs.Effects.{Begun, Turn, Does, Begins, effect_with}
 use Rattle.dap_accessed.specs.Groups.{Grouped, scene_of, turn_at, over, after_two}
 
 -- ---- Where an end stands then.

@@ -3,7 +3,7 @@ use Rattle.std.proofs.Common.{◌≡◌, ℕ, ◌+◌, ◌<◌, ◌≤◌, Bool,
 use Rattle.std.specs.Prelude.{IfSome, IsTrue, if◌then◌else◌}
 use Rattle.std.specs.FinMap as map
 use Rattle.dap_msg.specs.Message.{Message, Config, Access, Control, Contran, Accomp, Filedata, AccessFields, ControlFields}
-use Rattle.dap_msg.specs.Exchange.{limit_of, greatest_message, number_of}
+use Rattle.dap_msg.specs.BothEnds.{limit_of, greatest_message, number_of}
 use Rattle.dap_msg.specs.Items.{Item, Whole, Malformed}
 use Rattle.rec_file.specs.declared.shapes.Shape.{Shape}
 use Rattle.rec_file.specs.declared.refusals.Refusal.{Refusal}
@@ -28,15 +28,15 @@ use Rattle.dap_accessed.specs.declared.verbs.Verb.TheVariants as verbs
 use Rattle.std.specs.Prelude.{◌==◌, take_while, drop}
 use Rattle.std.specs.List.{prefix_len}
 use Rattle.dap_msg.specs.Codes as codes
-use Rattle.dap_msg.specs.Exchange.{config_of}
+use Rattle.dap_msg.specs.BothEnds.{config_of}
 use Rattle.dap_accessed.specs.Replies.{bare_status}
 use Rattle.dap_accessed.specs.Standing.{Files, place_of, with_file, without_file, the_file, Place, Fresh, Ready, Opened, Connected, Store, Stopped, Group, Standing, Scene, Effect, start, enters}
 use Rattle.dap_accessed.specs.Past.{Memory, looked_back, asked_shape, kept_attributes}
 use Rattle.dap_accessed.specs.Accesses.{open_file, create_file, access_file, complete}
 use Rattle.dap_accessed.specs.Records.{at_number, verb_of, get_pick, got, record_got, settled, Change, Putting, Updating, changed, fits_limit}
 use Rattle.dap_accessed.specs.Transfers.{fetch, fetch_ends, continue_fetch, store_one}
-use Rattle.dap_msg.specs.Exchange.{is_too_small}
-use Rattle.dap_accessed.specs.Exchange.{Begun, Turn, Does, Begins, control_opened, control_connected, turn_in, turn_of, effect_with}
+use Rattle.dap_msg.specs.BothEnds.{is_too_small}
+use Rattle.dap_accessed.specs.Effects.{Begun, Turn, Does, Begins, control_opened, control_connected, turn_in, turn_of, effect_with}
 use Rattle.dap_accessed.specs.Groups.{scene_of, turn_at, after_two}
 use Rattle.dap_accessed.specs.Sound.{AreFiles, IsOpenAt, IsSoundAt, IsSound}
 use Rattle.dap_accessed.proofs.OneMore.{next_group, more_after}

@@ -6,7 +6,7 @@ use Rattle.dap_msg.specs.declared.fault.MsgFault.{MsgFault}
 use Rattle.dap_msg.specs.Message.{Message}
 use Rattle.dap_msg.specs.Canon.{canon, Fits}
 use Rattle.dap_msg.specs.Written.{AppendsMessage}
-use Rattle.dap_msg.specs.Exchange.{least_buffer}
+use Rattle.dap_msg.specs.BothEnds.{least_buffer}
 use Rattle.dap_msg.specs.Blocked.{bodies, one_more, AllFit}
 use Rattle.dap_msg.proofs.ForCallers.{Blocked-more}
 use Rattle.std.proofs.Common.{inl, inr}

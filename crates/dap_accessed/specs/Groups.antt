@@ -5,7 +5,7 @@ use Rattle.dap_msg.specs.Message.{Message}
 use Rattle.dap_msg.specs.Items.{Item}
 use Rattle.dap_accessed.specs.Standing.{Files, Place, Connected, Group, Standing, Scene, Effect, start}
 use Rattle.dap_accessed.specs.Past.{looked_back}
-use Rattle.dap_accessed.specs.Exchange.{Begun, Turn, Does, Begins, turn_of, effect_with}
+use Rattle.dap_accessed.specs.Effects.{Begun, Turn, Does, Begins, turn_of, effect_with}
 
 -- what a group finds that is served now
 abbrev pub scene_of : ℕ → Standing → Scene

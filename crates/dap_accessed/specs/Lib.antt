@@ -4,7 +4,7 @@ pub mod Past
 pub mod Accesses
 pub mod Records
 pub mod Transfers
-pub mod Exchange
+pub mod Effects
 pub mod Groups
 pub mod Present
 pub mod Served

@@ -2,7 +2,7 @@
 use Rattle.std.specs.Prelude.{ℕ, ◌+◌, Bool, true, false, not, ◌&&◌, nat_lt, ◌==◌, if◌then◌else◌, min, List, [], length, filter, filter_map, slice_get, take_while, Option, Some, None, unwrap_or}
 use Rattle.std.specs.List.{list_any}
 use Rattle.dap_msg.specs.Codes as codes
-use Rattle.dap_msg.specs.Exchange.{no_attributes, number_of}
+use Rattle.dap_msg.specs.BothEnds.{no_attributes, number_of}
 use Rattle.dap_msg.specs.Message.{Attrib, Access, Contran, Filedata, Attributes}
 use Rattle.dap_msg.specs.Items.{Item, Whole}
 use Rattle.rec_file.specs.declared.shapes.Shape.{Shape}

@@ -9,7 +9,7 @@ use Rattle.dap_accessed.specs.declared.phase.Phase.TheVariants as phases
 use Rattle.dap_accessed.specs.Standing.{Files, Place, Standing, Fresh, Ready, Opened, Connected, Store, Stopped}
 use Rattle.dap_accessed.specs.Past.{Memory, looked_back, kept_attributes, asked_shape}
 use Rattle.dap_accessed.specs.Records.{Change, Putting, Updating}
-use Rattle.dap_accessed.specs.Exchange.{Begun}
+use Rattle.dap_accessed.specs.Effects.{Begun}
 use Rattle.dap_accessed.specs.Groups.{Grouped, stands_after}
 
 pub record Present : Type 0 where

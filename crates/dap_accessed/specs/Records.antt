@@ -5,7 +5,7 @@ use Rattle.std.specs.FinMap as map
 use Rattle.dap_msg.specs.Codes as codes
 use Rattle.dap_msg.specs.Message.{Message, ControlFields}
 use Rattle.dap_msg.specs.Canon.{file_data_size}
-use Rattle.dap_msg.specs.Exchange.{record_of}
+use Rattle.dap_msg.specs.BothEnds.{record_of}
 use Rattle.rec_file.specs.declared.picks.Rights.{Rights}
 use Rattle.rec_file.specs.declared.picks.Pick.{Pick}
 use Rattle.rec_file.specs.declared.picks.Pick.TheVariants.{Next, Key, Rfa}

@@ -5,7 +5,7 @@ use Rattle.dap_msg.specs.Codes as codes
 use Rattle.dap_msg.specs.Message.{Attrib, Control, Contran, Filedata, Other}
 use Rattle.dap_msg.specs.Items.{Item, Whole, ItemAt}
 use Rattle.dap_msg.specs.Blocked.{Blocked, all_joined, bodies, AllFit}
-use Rattle.dap_msg.specs.Exchange.{greatest_message}
+use Rattle.dap_msg.specs.BothEnds.{greatest_message}
 use Rattle.dap_accessed.specs.declared.phase.Phase.{Phase}
 use Rattle.dap_accessed.specs.declared.phase.Phase.TheVariants as phases
 use Rattle.dap_accessed.specs.declared.served.Served.{Served}

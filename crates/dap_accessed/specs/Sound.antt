@@ -1,7 +1,7 @@
 -- What holds of an end after any items.
 use Rattle.std.specs.Prelude.{◌≢◌, ℕ, ◌<◌, ◌≤◌, [], ◌∷◌, length, IfSome}
 use Rattle.std.specs.List.{AllByRecursion}
-use Rattle.dap_msg.specs.Exchange.{greatest_message, least_buffer}
+use Rattle.dap_msg.specs.BothEnds.{greatest_message, least_buffer}
 use Rattle.rec_file.specs.Files.{IsFile}
 use Rattle.dap_accessed.specs.Standing.{Files, Place, Fresh, Ready, Opened, Connected, Store, Stopped}
 use Rattle.dap_accessed.specs.Groups.{Grouped}

@@ -2,7 +2,7 @@
 use Rattle.std.specs.Prelude.{ℕ, List, [], get_or, set, Option, bytes_eq}
 use Rattle.std.specs.List.{position, remove}
 use Rattle.std.specs.FinMap as map
-use Rattle.dap_msg.specs.Exchange.{least_buffer}
+use Rattle.dap_msg.specs.BothEnds.{least_buffer}
 use Rattle.dap_msg.specs.Message.{Message}
 use Rattle.dap_msg.specs.Items.{Item}
 use Rattle.rec_file.specs.declared.shapes.Shape.{Shape}

@@ -1,7 +1,7 @@
 //! The accessed end.
 
 ghost use Rattle.std.specs.Prelude.{◌≡◌, ◌≤◌, ◌<◌, ℕ, List, [], ◌∷◌, length, IfOk, IsOk, IfSome, IsTrue, OnErr, true};
-ghost use Rattle.dap_msg.specs.Exchange.{greatest_message, least_buffer};
+ghost use Rattle.dap_msg.specs.BothEnds.{greatest_message, least_buffer};
 ghost use Rattle.dap_msg.specs.Items.{IsPlace, Item as TheItem, ItemAt, ItemFits, Whole, seen_item};
 ghost use Rattle.dap_msg.specs.Canon.{FieldsFit};
 ghost use Rattle.dap_msg.specs.Message.{Attrib, seen, seen_attributes};

@@ -3,7 +3,7 @@
 ghost use Rattle.std.specs.Prelude.{◌≡◌, ◌≤◌, [], ◌∷◌, IfOk, length};
 ghost use Rattle.dap_msg.specs.Message.{Ack, Filedata, seen};
 ghost use Rattle.dap_msg.specs.Canon.{Fits, file_data_size};
-ghost use Rattle.dap_msg.specs.Exchange.{config_of, four_bytes, least_buffer};
+ghost use Rattle.dap_msg.specs.BothEnds.{config_of, four_bytes, least_buffer};
 ghost use Rattle.rec_file.specs.Limits.{longest_record};
 ghost use Rattle.dap_accessed.specs.Replies.{attributes_for, completed, format_number, opened_with, org_number, status, too_large};
 ghost use Rattle.dap_accessed.specs.Inner.Written.{AddsAnswer, Answered, FitsIn, IsAtMost, IsShort, IsWritable, message_of, most_bytes};
@@ -200,7 +200,7 @@ pub(crate) struct Room {
 
 impl Model for Room {
     ghost use Rattle.std.specs.Prelude.{Bool, true};
-    ghost use Rattle.dap_msg.specs.Exchange.{least_buffer};
+    ghost use Rattle.dap_msg.specs.BothEnds.{least_buffer};
     ghost use Rattle.dap_accessed.specs.Inner.Written.{IsEmptyFor};
 
     ghost Value = { Bool };

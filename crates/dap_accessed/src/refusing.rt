@@ -1,7 +1,7 @@
 //! The answers to operations that change a file, and to refusals.
 
 ghost use Rattle.std.specs.Prelude.{◌≡◌, []};
-ghost use Rattle.dap_msg.specs.Exchange.{four_bytes};
+ghost use Rattle.dap_msg.specs.BothEnds.{four_bytes};
 ghost use Rattle.dap_accessed.specs.Replies.{reason_of, record_status, refusal_status};
 ghost use Rattle.dap_accessed.specs.Inner.Written.{IsShort, message_of};
 

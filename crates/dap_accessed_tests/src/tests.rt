@@ -23,8 +23,8 @@ type Script = &'static [(&'static [u8], &'static [u8])];
 /// is then seen of the end.
 type Steps = &'static [(usize, &'static [u8], Seen)];
 
-/// The parts of an exchange, and what is seen of the end behind each.
-type Exchange = &'static [(Script, Seen)];
+/// The parts of a session, and what is seen of the end behind each.
+type Session = &'static [(Script, Seen)];
 
 // ---- Messages, in their canonical spelling.
 
@@ -426,7 +426,7 @@ enum Stage {
     Stopped,
 }
 
-/// What is seen of an end between two parts of an exchange.
+/// What is seen of an end between two parts of a session.
 #[derive(Clone, Copy)]
 enum Seen {
     /// It is not looked at.
@@ -515,8 +515,8 @@ fn look(rt: &impl Abort, end: &Accessed, seen: Seen) {
     }
 }
 
-/// The exchange of a new end with BUFSIZ 1,024.
-fn exchange(rt: &(impl AllocGlobal + Abort), parts: &[(Script, Seen)]) -> Accessed {
+/// The session of a new end with BUFSIZ 1,024.
+fn session(rt: &(impl AllocGlobal + Abort), parts: &[(Script, Seen)]) -> Accessed {
     let mut end = Accessed::new(rt.alloc(), 1024);
     for (script, seen) in parts {
         play(rt, &mut end, script);

@@ -2,7 +2,7 @@
 use Rattle.std.proofs.Common.{◌≡◌, ℕ, refl, ap, subst, sym, inl, List, [], ◌∷◌, ◌++◌}
 use Rattle.dap_msg.specs.Message.{Filedata}
 use Rattle.dap_msg.specs.Items.{Whole}
-use Rattle.dap_msg.specs.Exchange.{number_of}
+use Rattle.dap_msg.specs.BothEnds.{number_of}
 use Rattle.dap_accessing.specs.declared.pending.Pending.TheVariants as pending
 use Rattle.dap_accessing.specs.declared.pending.Heard.{Heard}
 use Rattle.dap_accessing.specs.declared.pending.Heard.TheVariants as heard

@@ -5,7 +5,7 @@ use Rattle.std.specs.List.{prefix_len}
 use Rattle.std.proofs.lemmas.List.Sums.{take_while-cons}
 use Rattle.dap_msg.specs.Message.{Filedata, Status, StatusFields}
 use Rattle.dap_msg.specs.Items.{Item, Whole}
-use Rattle.dap_msg.specs.Exchange.{number_of}
+use Rattle.dap_msg.specs.BothEnds.{number_of}
 use Rattle.dap_accessing.specs.Told.{behind, is_record, record_in, records_in_front, is_status, status_in, statuses_in_front}
 
 pub behind-more : (test : Item → Bool) (item : Item) (rest : List Item) → test item ≡ true → behind test (item ∷ rest) ≡ behind test rest

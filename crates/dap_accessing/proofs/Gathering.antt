@@ -6,7 +6,7 @@ use Rattle.std.proofs.lemmas.List.{append-nil}
 use Rattle.dap_msg.specs.Message.{Attrib, Accomp, Filedata, Status, StatusFields, Other}
 use Rattle.dap_msg.specs.Items.{Item, Whole}
 use Rattle.dap_msg.specs.Codes.{is_success}
-use Rattle.dap_msg.specs.Exchange.{number_of}
+use Rattle.dap_msg.specs.BothEnds.{number_of}
 use Rattle.rec_file.specs.Limits.{greatest_number}
 use Rattle.dap_accessing.specs.Request.{Request}
 use Rattle.dap_accessing.specs.declared.request.Request.TheVariants.{Hello, Create, OpenFile, Connect, Get, Put, Update, Delete, Rewind, Fetch, Store, Continue, Close, Purge}

@@ -5,7 +5,7 @@ use Rattle.std.specs.Prelude.{nat_le, ◌==◌, Option, Some, if◌then◌else�
 use Rattle.dap_msg.specs.Message.{Config, Attrib, Ack, Accomp, Filedata, Status, Other, StatusFields}
 use Rattle.dap_msg.specs.Items.{Item, Whole}
 use Rattle.dap_msg.specs.Codes.{cmpfunc, stscode}
-use Rattle.dap_msg.specs.Exchange.{number_of, is_too_small}
+use Rattle.dap_msg.specs.BothEnds.{number_of, is_too_small}
 use Rattle.rec_file.specs.Limits.{greatest_number}
 use Rattle.dap_accessing.specs.Request.{Request}
 use Rattle.dap_accessing.specs.declared.report.Report.{Report}

@@ -2,7 +2,7 @@
 use Rattle.std.specs.Prelude.{ℕ, List, [], ◌∷◌, ◌++◌, map, Option, Some, None}
 use Rattle.dap_msg.specs.Message.{Message, Attrib, Access, Control, Contran, Filedata}
 use Rattle.dap_msg.specs.Codes as codes
-use Rattle.dap_msg.specs.Exchange.{four_bytes, config_of, complete_with, no_attributes}
+use Rattle.dap_msg.specs.BothEnds.{four_bytes, config_of, complete_with, no_attributes}
 use Rattle.dap_accessing.specs.declared.request.By.{By}
 use Rattle.dap_accessing.specs.declared.request.By.TheVariants.{Next, Key, Rfa}
 use Rattle.dap_accessing.specs.declared.request.How.{How}

@@ -3,7 +3,7 @@ use Rattle.std.specs.Prelude.{ℕ, ◌≡◌, ◌≤◌, Bool, true, false, List
 use Rattle.dap_msg.specs.Items.{Item, ItemAt}
 use Rattle.dap_msg.specs.Blocked.{Blocked, all_joined}
 use Rattle.dap_msg.specs.Sendable.{AreSendable}
-use Rattle.dap_msg.specs.Exchange.{greatest_message}
+use Rattle.dap_msg.specs.BothEnds.{greatest_message}
 use Rattle.dap_accessing.specs.Request.{Request}
 use Rattle.dap_accessing.specs.declared.fault.AskFault.{AskFault}
 use Rattle.dap_accessing.specs.declared.fault.AskFault.TheVariants as ask_fault

@@ -1,7 +1,7 @@
 -- The phase and the peer's limit follow from the reports; which requests may be asked follows from these.
 use Rattle.std.specs.Prelude.{◌≡◌, ℕ, Bool, true, false, List, fold}
 use Rattle.dap_msg.specs.Items.{Item}
-use Rattle.dap_msg.specs.Exchange.{limit_of, greatest_message}
+use Rattle.dap_msg.specs.BothEnds.{limit_of, greatest_message}
 use Rattle.dap_msg.specs.Sendable.{AreSendable}
 use Rattle.dap_accessing.specs.Request.{Request}
 use Rattle.dap_accessing.specs.declared.request.Request.TheVariants.{Hello, Create, OpenFile, Connect, Get, Put, Update, Delete, Rewind, Fetch, Store, Continue, Close, Purge}

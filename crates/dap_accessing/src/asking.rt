@@ -2,7 +2,7 @@
 
 ghost use Rattle.std.specs.Prelude.{◌≡◌, ◌↔◌, IsTrue, IfOk, option_copied};
 ghost use Rattle.dap_msg.specs.Message.{seen};
-ghost use Rattle.dap_msg.specs.Exchange.{four_bytes};
+ghost use Rattle.dap_msg.specs.BothEnds.{four_bytes};
 ghost use Rattle.dap_msg.specs.Blocked.{AddsOne};
 ghost use Rattle.dap_msg.specs.Canon.{canon, Fits};
 ghost use Rattle.dap_accessing.specs.Asked as asked;

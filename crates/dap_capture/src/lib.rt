@@ -3,9 +3,9 @@
 
 mod commands;
 mod laws;
+mod meaningful;
 mod orders;
 mod play;
-mod meaningful;
 mod steps;
 
 pub use commands::schedule;

@@ -9,8 +9,8 @@ ghost use Rattle.dap_capture.specs.Played.{Played, Plays};
 ghost use Rattle.dap_listing.specs.Gives.{IsOfLine};
 ghost use Rattle.dap_capture.specs.Schedules.{event_fault, events_of, said, schedule_faults};
 
-use crate::orders::{Order, read_order, read_setup};
 use crate::meaningful::MeaningfulLines;
+use crate::orders::{Order, read_order, read_setup};
 use crate::steps::{push_event, push_refusal, refusal_word};
 use dap_listing::{CaptureFault, INPUT_LIMIT, Outcome};
 use dap_text::push_files;

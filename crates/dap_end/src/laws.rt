@@ -77,11 +77,11 @@ pub fn calls_are_runs()
         → serving.WentOn old new out all → AreCalls old (GoesOn ∷ []) new out all }
     ensures halted { (old new : ServingValue) (out all : List (List ℕ)) (f : TheFault)
         → serving.GoOnFault old new out all f → AreCalls old (GoesOn ∷ []) new out all }
-    ensures take { (old new : ServingValue) (bytes : List ℕ) (got : TheGot) (out all : List (List ℕ))
-        → serving.TookAll old new bytes got out all
+    ensures take { (old new : ServingValue) (bytes : List ℕ) (got : TheGot)
+        (out all : List (List ℕ)) → serving.TookAll old new bytes got out all
         → (events : List ServingEvent) × AreCalls old (Came bytes ∷ events) new out all }
-    ensures part { (old new : ServingValue) (bytes : List ℕ) (got : TheGot) (out all : List (List ℕ))
-        (f : TheFault) → serving.TookPart old new bytes got out all f
+    ensures part { (old new : ServingValue) (bytes : List ℕ) (got : TheGot)
+        (out all : List (List ℕ)) (f : TheFault) → serving.TookPart old new bytes got out all f
         → AreCalls old (Came bytes ∷ GoesOn ∷ []) new out all }
     ensures refused { (old new : ServingValue) (bytes : List ℕ) (out all : List (List ℕ))
         (f : TheFault) → serving.Refused old new bytes out all f
@@ -113,15 +113,15 @@ pub fn asking_calls_are_runs()
           segment = None;
           acks = v.port.link.received;
         } ∷ []) }
-    ensures go_on { (old new : AskingValue) (out all : List (List ℕ)) (before after : List TheReport)
-        → asking.WentOn old new out all before after
+    ensures go_on { (old new : AskingValue) (out all : List (List ℕ))
+        (before after : List TheReport) → asking.WentOn old new out all before after
         → AreAskingCalls old (hearing.GoesOn ∷ []) new out all before after }
     ensures take { (old new : AskingValue) (bytes : List ℕ) (got : TheGot) (out all : List (List ℕ))
         (before after : List TheReport) → asking.TookAll old new bytes got out all before after
         → (events : List AskingEvent)
         × AreAskingCalls old (hearing.Came bytes ∷ events) new out all before after }
-    ensures halted { (old new : AskingValue) (out all : List (List ℕ)) (before after : List TheReport)
-        (f : TheEndFault) → asking.GoOnFault old new out all before after f
+    ensures halted { (old new : AskingValue) (out all : List (List ℕ))
+        (before after : List TheReport) (f : TheEndFault) → asking.GoOnFault old new out all before after f
         → f ≢ end_fault.Read read_fault.Unexpected
         → AreAskingCalls old (hearing.GoesOn ∷ []) new out all before after }
     ensures part { (old new : AskingValue) (bytes : List ℕ) (got : TheGot) (out all : List (List ℕ))

@@ -1,7 +1,7 @@
 //! The end that serves.
 
 ghost use Rattle.std.specs.Prelude.{◌≡◌, ◌≢◌, ◌≤◌, ◌<◌, ◌+◌, ◌-◌, ◌++◌, ◌∷◌, ℕ, [], Ok, Some, None, false, IfOk, IfErr, IfSome, OnOk, OnErr, IsErrOf, IsTrue, MatchOption};
-ghost use Rattle.dap_msg.specs.Exchange.{least_buffer};
+ghost use Rattle.dap_msg.specs.BothEnds.{least_buffer};
 ghost use Rattle.dap_msg.specs.Blocked.{bodies};
 ghost use Rattle.rec_file.specs.Shapes.{is_shape};
 ghost use Rattle.nsp_link.specs.Limits.{largest_limit};

@@ -246,7 +246,8 @@ fn take_lines(
     ensures short { IfOk result (λ left. left ≤ length bytes.now) }
     ensures last { IfOk result (λ left. is_last ≡ true → left ≡ 0) }
     ensures rest { IfOk result (λ left. HasNoEnd (drop (length bytes.now - left) bytes.now)) }
-    ensures lines { IfOk result (λ left. progress.new.at + left ≤ progress.old.at + length bytes.now) }
+    ensures lines { IfOk result
+        (λ left. progress.new.at + left ≤ progress.old.at + length bytes.now) }
     ensures captures { IfOk result
         (λ left. progress.new.number + left ≤ progress.old.number + length bytes.now) }
     ensures clean { IfOk result (λ left. FaultsGoOn (limit_of listed) is_last

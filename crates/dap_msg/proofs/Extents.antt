@@ -6,7 +6,7 @@ use Rattle.std.proofs.lemmas.List.{length-append}
 use Rattle.dap_fields.specs.Writing.{groups}
 use Rattle.dap_msg.specs.Message.{Message, StatusFields, Ack, Filedata, Status}
 use Rattle.dap_msg.specs.Canon.{canon, type_number, header_bytes, operand_bytes, header_size, file_data_size, FieldsFit, Fits}
-use Rattle.dap_msg.specs.Exchange.{config_of, complete_with, attributes_of, record_of}
+use Rattle.dap_msg.specs.BothEnds.{config_of, complete_with, attributes_of, record_of}
 use Rattle.dap_msg.specs.Inner.Answers.{IsShortAnswer, AnswersFit}
 use Rattle.dap_msg.proofs.Sizes.{IsPlainMessage, plain_short}
 

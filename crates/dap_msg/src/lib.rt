@@ -6,10 +6,10 @@
 #![tactic(auto)]
 
 mod blocking;
+mod both_ends;
 pub mod codes;
 mod decoding;
 mod encoding;
-mod exchange;
 mod fault;
 mod field;
 mod file_access;
@@ -25,11 +25,11 @@ mod reading;
 mod status;
 
 pub use blocking::{append_blocked, append_message, blocks_in_steps};
-pub use decoding::decode;
-pub use encoding::{encode, encoded_len};
-pub use exchange::{
+pub use both_ends::{
     GREATEST_MESSAGE, LEAST_BUFFER, is_too_small, limit_of, names_the_limits, number_of,
 };
+pub use decoding::decode;
+pub use encoding::{encode, encoded_len};
 pub use fault::{FaultKind, MsgFault};
 pub use file_access::FileAccess;
 pub use fitting::fits;

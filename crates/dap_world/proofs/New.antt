@@ -5,7 +5,7 @@ use Rattle.dap_accessing.specs.Present as accessing
 use Rattle.nsp_link.specs.declared.link.LinkSetup.{LinkSetup}
 use Rattle.nsp_link.proofs.ForCallers.{stands_new, sends_new}
 use Rattle.dap_world.specs.declared.setup.WorldSetup.{WorldSetup}
-use Rattle.dap_msg.specs.Exchange.{least_buffer}
+use Rattle.dap_msg.specs.BothEnds.{least_buffer}
 use Rattle.nsp_link.specs.Link.{IsSetup}
 use Rattle.dap_world.specs.declared.side.Wired.{Wired}
 use Rattle.dap_world.specs.declared.event.End.{End}

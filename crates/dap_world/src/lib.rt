@@ -2,8 +2,8 @@
 //! over their definitions (own; the exchange is that of DAP 5.6.0, message sequences).
 #![tactic(auto)]
 
+mod calls;
 mod event;
-mod exchange;
 mod finishing;
 mod laws;
 mod settling;

@@ -20,7 +20,7 @@ use Rattle.live_cli.specs.declared.words.Role.{Role}
 use Rattle.live_cli.specs.declared.words.Role.TheVariants.{Serve, Ask}
 use Rattle.live_cli.specs.declared.words.Task.{Task}
 use Rattle.live_cli.specs.declared.words.Task.TheVariants.{End, Follow}
-use Rattle.dap_msg.specs.Exchange.{least_buffer}
+use Rattle.dap_msg.specs.BothEnds.{least_buffer}
 
 -- how the link is set up
 abbrev pub setup_of : Options → LinkSetup

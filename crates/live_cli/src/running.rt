@@ -4,7 +4,7 @@ ghost use Rattle.std.specs.Prelude.{◌≡◌, ◌≢◌, ◌≤◌, ◌⊎◌, 
 ghost use Rattle.std.specs.Io.KnownBytes.{Keeps};
 ghost use Rattle.clap.specs.Words.{fault_of};
 ghost use Rattle.cli_faults.specs.Mistakes.{AreMistakes};
-ghost use Rattle.dap_msg.specs.Exchange.{least_buffer};
+ghost use Rattle.dap_msg.specs.BothEnds.{least_buffer};
 ghost use Rattle.live_cli.specs.declared.words.Task.{Task as TheTask};
 ghost use Rattle.live_cli.specs.declared.words.Role.TheVariants as role;
 ghost use Rattle.live_cli.specs.declared.words.Role.{Role as TheRole};
@@ -59,7 +59,8 @@ fn converse<A: Answers, R: BufRead, W: Write, E: Write>(
     writer: &mut W,
     error_writer: &mut E,
 ) -> u8
-    ensures { IfSome (R.remaining reader.old) (λ input. AnswersAll A.answered A.waiting end.old input
+    ensures { IfSome (R.remaining reader.old)
+        (λ input. AnswersAll A.answered A.waiting end.old input
         (W.contents writer.old) (W.contents writer.new) result) }
 {
     match talk(alloc, end, reader, writer, error_writer) {

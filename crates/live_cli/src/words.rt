@@ -3,7 +3,7 @@
 ghost use Rattle.std.specs.Prelude.{◌≡◌, ◌≤◌, false, IfErr, IfOk, IfSome, Some, codes, map, option_map, pos, string_bytes};
 ghost use Rattle.clap.specs.Words.{FailsBy, app_of, fault_of, first_of, found_of, kind_of, new_app, rows_of, rule_of};
 ghost use Rattle.clap.specs.declared.builder.value_parser.ValueParser.TheVariants as parser;
-ghost use Rattle.dap_msg.specs.Exchange.{greatest_message, least_buffer};
+ghost use Rattle.dap_msg.specs.BothEnds.{greatest_message, least_buffer};
 ghost use Rattle.nsp_link.specs.Limits.{largest_segment, largest_window};
 ghost use Rattle.clap.specs.declared.builder.command.Command.TheViews.{out-Command};
 ghost use Rattle.dap_text.specs.Words.{short};
@@ -100,7 +100,8 @@ fn with_addresses<'a>(
     command: Command<'a>,
     usual: &Usual,
 ) -> Result<Command<'a>, Error>
-    ensures added { IfOk result (HasAddresses command.entry usual.now.local.now usual.now.remote.now) }
+    ensures added { IfOk result
+        (HasAddresses command.entry usual.now.local.now usual.now.remote.now) }
     ensures memory { IfErr result (λ error. kind_of error ≡ ErrorKind.OutOfMemory) }
 {
     let local = option(
@@ -190,7 +191,8 @@ fn with_limits<'a>(alloc: Global, command: Command<'a>) -> Result<Command<'a>, E
 
 /// The command line of an end.
 fn end_command<'a>(alloc: Global, usual: &Usual) -> Result<Command<'a>, Error>
-    ensures line { IfOk result (IsEndLine usual.now.name.now usual.now.local.now usual.now.remote.now) }
+    ensures line { IfOk result
+        (IsEndLine usual.now.name.now usual.now.local.now usual.now.remote.now) }
     ensures memory { IfErr result (λ error. kind_of error ≡ ErrorKind.OutOfMemory) }
 {
     let command = Command::new(alloc, usual.name)
@@ -255,7 +257,8 @@ pub enum Task {
 
 /// The value of an option.
 fn text_in<'a>(matches: &ArgMatches<'a>, name: &str) -> Option<&'a str>
-    ensures { option_map (λ text. text.now) result ≡ first_of name.now (rows_of (found_of matches.now)) }
+    ensures { option_map (λ text. text.now) result
+        ≡ first_of name.now (rows_of (found_of matches.now)) }
 {
     matches.get_str(name)
 }

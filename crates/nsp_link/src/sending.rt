@@ -54,13 +54,14 @@ impl LinkEnd {
     /// Refused as `send` is, where any message is too long or all their segments are too many; an empty
     /// list is queued without memory.
     pub fn send_all(&mut self, messages: &[Vec<u8>]) -> Result<(), LinkFault>
-        ensures ok { OnOk result
-            (self.new ≡ queued_link self.old (cut self.old.seg_size (map (λ v. v.items) messages.now))) }
+        ensures ok { OnOk result (self.new
+            ≡ queued_link self.old (cut self.old.seg_size (map (λ v. v.items) messages.now))) }
         ensures fits { OnOk result (MayQueueAll self.old (map (λ v. v.items) messages.now)) }
         ensures stands { StandsStill self.old self.new }
-        ensures sends { OnOk result (SendsMore self.old self.new (map (λ v. v.items) messages.now)) }
-        ensures err { IfErr result
-            (λ e. SendAllFault self.old (map (λ v. v.items) messages.now) e × (self.new ≡ self.old)) }
+        ensures sends { OnOk result
+            (SendsMore self.old self.new (map (λ v. v.items) messages.now)) }
+        ensures err { IfErr result (λ e. SendAllFault self.old (map (λ v. v.items) messages.now) e
+            × (self.new ≡ self.old)) }
         ensures empty { self.old.failed ≡ false → messages.now ≡ []
             → IsOk result × (self.new ≡ self.old) }
     {
@@ -72,10 +73,11 @@ impl LinkEnd {
     /// alone, with nothing changed (own).
     pub fn send_checked(&mut self, messages: &[Vec<u8>]) -> Result<(), LinkFault>
         requires { MayQueueAll self.old (map (λ v. v.items) messages.now) }
-        ensures ok { OnOk result
-            (self.new ≡ queued_link self.old (cut self.old.seg_size (map (λ v. v.items) messages.now))) }
+        ensures ok { OnOk result (self.new
+            ≡ queued_link self.old (cut self.old.seg_size (map (λ v. v.items) messages.now))) }
         ensures stands { StandsStill self.old self.new }
-        ensures sends { OnOk result (SendsMore self.old self.new (map (λ v. v.items) messages.now)) }
+        ensures sends { OnOk result
+            (SendsMore self.old self.new (map (λ v. v.items) messages.now)) }
         ensures err { IfErr result (λ e. (e ≡ NoMemory) × (self.new ≡ self.old)) }
         ensures empty { messages.now ≡ [] → IsOk result × (self.new ≡ self.old) }
     {
@@ -194,7 +196,8 @@ impl LinkEnd {
         requires works { self.old.failed ≡ false }
         requires may { MaySend self.old }
         ensures segment { IfOk result (λ v. WritesNext self.old self.new v.items) }
-        ensures carries { IfOk result (λ v. WritesSent self.old (Some (self.old.sent + 1)) v.items) }
+        ensures carries { IfOk result
+            (λ v. WritesSent self.old (Some (self.old.sent + 1)) v.items) }
         ensures sends { SendsStill self.old self.new }
         ensures stands { StandsStill self.old self.new }
         ensures err { IfErr result (λ e. (self.new ≡ self.old) × (e ≡ NoMemory)) }

@@ -14,8 +14,8 @@ pub fn packets_are_exact()
     ensures one { (p q : PacketValue) (bytes : List ℕ) → Spells p bytes → Spells q bytes → p ≡ q }
     ensures one_fault { (f g : SegFault) (bytes : List ℕ) → ((i : ℕ) → slice_index bytes i < 256)
         → HasFault f bytes → HasFault g bytes → f ≡ g }
-    ensures apart { (p : PacketValue) (f : SegFault) (bytes : List ℕ) → ((i : ℕ) → slice_index bytes i < 256)
-        → Spells p bytes → HasFault f bytes → ⊥ }
+    ensures apart { (p : PacketValue) (f : SegFault) (bytes : List ℕ)
+        → ((i : ℕ) → slice_index bytes i < 256) → Spells p bytes → HasFault f bytes → ⊥ }
     ensures written { (p : PacketValue) → FitsFields p → Spells p (spelling p) }
     ensures read_back { (p q : PacketValue) → FitsFields p → Spells q (spelling p) → q ≡ p }
 {}

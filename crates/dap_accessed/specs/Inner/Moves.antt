@@ -4,7 +4,7 @@ use Rattle.std.specs.Global.{Vec}
 use Rattle.dap_msg.specs.Codes as codes
 use Rattle.dap_msg.specs.Message.{Message, Attrib, Access, Control, Contran, Filedata, ControlFields}
 use Rattle.dap_msg.specs.Items.{Item, Whole}
-use Rattle.dap_msg.specs.Exchange.{least_buffer}
+use Rattle.dap_msg.specs.BothEnds.{least_buffer}
 use Rattle.rec_file.specs.declared.shapes.Shape.{Shape}
 use Rattle.rec_file.specs.Limits.{greatest_number}
 use Rattle.rec_file.specs.Shapes.{is_shape}
@@ -15,14 +15,14 @@ use Rattle.dap_accessed.specs.declared.phase.OpenFile.{OpenFile}
 use Rattle.dap_accessed.specs.declared.phase.Phase.{Phase}
 use Rattle.dap_accessed.specs.declared.phase.Phase.TheVariants as phases
 use Rattle.dap_accessed.specs.Standing.{Files, place_of, the_file, Place, Scene, Effect, Fresh, Ready, Opened, Connected, Store, Stopped}
-use Rattle.dap_msg.specs.Exchange.{no_attributes}
+use Rattle.dap_msg.specs.BothEnds.{no_attributes}
 use Rattle.dap_accessed.specs.Past.{Memory, asked_shape, next_ordinal}
 use Rattle.dap_accessed.specs.Accesses.{refuse_access, open_file, create_file, complete}
 use Rattle.dap_accessed.specs.Replies.{bare_status, sync_status}
 use Rattle.dap_accessed.specs.Served.{is_silent}
 use Rattle.dap_accessed.specs.Records.{verb_of, Change, Putting, Updating, changed, get_pick, record_got, refused, settled}
 use Rattle.dap_accessed.specs.Transfers.{fetch, store_one}
-use Rattle.dap_accessed.specs.Exchange.{Turn, Does, Begins, control_status, turn_of, effect_with}
+use Rattle.dap_accessed.specs.Effects.{Turn, Does, Begins, control_status, turn_of, effect_with}
 use Rattle.dap_accessed.specs.Present.{Present, phase_at, phase_within}
 use Rattle.dap_accessed.specs.Inner.Written.{Answered}
 

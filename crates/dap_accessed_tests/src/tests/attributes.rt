@@ -18,7 +18,7 @@ const MAKE_G: &[u8] = &[3, 2, 8, 2, 0, 1, 0x47, 1, 0, 0, 0];
 /// The attributes that are taken where none are said are those of a sequential file.
 const OPENED_PLAIN: &[u8] = OPENED_SEQUENTIAL;
 
-const REPLACED: Exchange = &[(
+const REPLACED: Session = &[(
     &[
         (CONFIG, CONFIG),
         (RELATIVE, NOTHING),
@@ -41,7 +41,7 @@ const REPLACED: Exchange = &[(
     Seen::Nothing,
 )];
 
-const USED_UP: Exchange = &[
+const USED_UP: Session = &[
     // By an Access that makes a file.
     (
         &[
@@ -96,7 +96,7 @@ const USED_UP: Exchange = &[
     ),
 ];
 
-const KEPT: Exchange = &[(
+const KEPT: Session = &[(
     &[
         (CONFIG, CONFIG),
         (RELATIVE, NOTHING),
@@ -113,7 +113,7 @@ const KEPT: Exchange = &[(
     Seen::Nothing,
 )];
 
-const NOT_KEPT: Exchange = &[(
+const NOT_KEPT: Session = &[(
     &[
         (FIVE, MISPLACED_ATTRIBUTES),
         (CONFIG, CONFIG),
@@ -125,10 +125,10 @@ const NOT_KEPT: Exchange = &[(
 
 #[test]
 fn kept_replaced_and_used_up(rt: HostRuntime) {
-    exchange(&rt, REPLACED);
-    exchange(&rt, USED_UP);
-    exchange(&rt, KEPT);
-    exchange(&rt, NOT_KEPT);
+    session(&rt, REPLACED);
+    session(&rt, USED_UP);
+    session(&rt, KEPT);
+    session(&rt, NOT_KEPT);
 }
 
 const OPENED_FIXED: &[u8] = &[2, 2, 0x0b, 0xa6, 4, 0, 1, 5, 0, 4, 0, 0, 0, 0, 6, 2, 0];

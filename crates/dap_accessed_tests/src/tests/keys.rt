@@ -46,16 +46,16 @@ const PUTS_WITHOUT_MODE: &[&[u8]] = &[
     &[4, 2, 9, 4, 3, 4, 5, 1, 0, 0, 0, 0],
 ];
 
-const RELATIVE_START: Exchange = &[(ON_RELATIVE_3, Seen::Nothing)];
+const RELATIVE_START: Session = &[(ON_RELATIVE_3, Seen::Nothing)];
 
-const SEQUENTIAL_START: Exchange = &[(ON_SEQUENTIAL_3, Seen::Nothing)];
+const SEQUENTIAL_START: Session = &[(ON_SEQUENTIAL_3, Seen::Nothing)];
 
-const PUTS_ALONE: Exchange = &[(ON_RELATIVE_1, Seen::Nothing)];
+const PUTS_ALONE: Session = &[(ON_RELATIVE_1, Seen::Nothing)];
 
-const GETS_ALONE: Exchange = &[(ON_RELATIVE_2, Seen::Nothing)];
+const GETS_ALONE: Session = &[(ON_RELATIVE_2, Seen::Nothing)];
 
 /// A start, Controls, and how each is refused: a PUT is at its Filedata.
-const NO_NUMBER: &[(Exchange, &[&[u8]], &[u8])] = &[
+const NO_NUMBER: &[(Session, &[&[u8]], &[u8])] = &[
     (RELATIVE_START, GETS_BY_KEY, BAD_KEY),
     (RELATIVE_START, GETS_FROM_KEY, BAD_KEY),
     (RELATIVE_START, GETS_WITHOUT_MODE, BAD_MODE),
@@ -77,7 +77,7 @@ const NO_NUMBER: &[(Exchange, &[&[u8]], &[u8])] = &[
 #[test]
 fn that_spell_no_number(rt: HostRuntime) {
     for (start, controls, refusal) in NO_NUMBER {
-        let mut end = exchange(&rt, start);
+        let mut end = session(&rt, start);
         for control in *controls {
             if control.get(3) == Some(&4) {
                 says(&rt, &mut end, control, NOTHING);
@@ -90,7 +90,7 @@ fn that_spell_no_number(rt: HostRuntime) {
     }
 }
 
-const OF_ONE_TO_FOUR_BYTES: Exchange = &[
+const OF_ONE_TO_FOUR_BYTES: Session = &[
     (ON_UNBOUNDED_3, Seen::Nothing),
     (
         &[
@@ -120,7 +120,7 @@ const OF_ONE_TO_FOUR_BYTES: Exchange = &[
 ];
 
 /// A KEY of 9 with RAC 0, and with RAC 3.
-const NOT_LOOKED_AT: Exchange = &[
+const NOT_LOOKED_AT: Session = &[
     (ON_RELATIVE_15, Seen::Nothing),
     (
         &[
@@ -142,6 +142,6 @@ const NOT_LOOKED_AT: Exchange = &[
 
 #[test]
 fn of_one_to_four_bytes_or_not_looked_at(rt: HostRuntime) {
-    exchange(&rt, OF_ONE_TO_FOUR_BYTES);
-    exchange(&rt, NOT_LOOKED_AT);
+    session(&rt, OF_ONE_TO_FOUR_BYTES);
+    session(&rt, NOT_LOOKED_AT);
 }

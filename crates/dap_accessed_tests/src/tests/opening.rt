@@ -2,7 +2,7 @@
 
 use super::*;
 
-const OTHER_SYSTEM: Exchange = &[(
+const OTHER_SYSTEM: Session = &[(
     &[(&[1, 2, 11, 0, 2, 4, 1, 7, 2, 9, 8, 6, 0x85, 1], CONFIG)],
     Seen::Nothing,
 )];
@@ -50,11 +50,11 @@ fn the_buffer_of_the_end(rt: HostRuntime) {
 
 #[test]
 fn a_peer_of_another_system(rt: HostRuntime) {
-    exchange(&rt, OTHER_SYSTEM);
+    session(&rt, OTHER_SYSTEM);
 }
 
 /// Accesses to `F` with an unknown function; to open what isn't there; to make what is there.
-const REFUSED: Exchange = &[
+const REFUSED: Session = &[
     (&[(CONFIG, CONFIG)], Seen::Nothing),
     (
         &[(&[3, 2, 8, 0, 0, 1, 0x46, 7, 0, 0, 0], UNKNOWN_ACCESS)],
@@ -96,7 +96,7 @@ const REFUSED: Exchange = &[
 const MAKE_WITHOUT_NAME: &[u8] = &[3, 2, 7, 2, 0, 0, 7, 0, 0, 0];
 
 /// The empty name, a name of a zero, and a longer one that begins so.
-const NAMES: Exchange = &[
+const NAMES: Session = &[
     (
         &[
             (CONFIG, CONFIG),
@@ -134,12 +134,12 @@ const NAMES: Exchange = &[
 
 #[test]
 fn accesses_that_are_refused_and_names(rt: HostRuntime) {
-    exchange(&rt, REFUSED);
-    exchange(&rt, NAMES);
+    session(&rt, REFUSED);
+    session(&rt, NAMES);
 }
 
 /// A relative file that has the record `A` under 1.
-const THERE: Exchange = &[
+const THERE: Session = &[
     (ON_RELATIVE_1, Seen::Nothing),
     (
         &[(PUT, NOTHING), (DATA_A, DONE_1), (CLOSE, COMPLETED)],
@@ -292,10 +292,10 @@ const OF_MAKE: &[(&[u8], &[&[u8]])] = &[
     ),
 ];
 
-const BEFORE_MAKE: Exchange = &[(&[(CONFIG, CONFIG), (RELATIVE, NOTHING)], Seen::Nothing)];
+const BEFORE_MAKE: Session = &[(&[(CONFIG, CONFIG), (RELATIVE, NOTHING)], Seen::Nothing)];
 
 /// An Access that ends before its FAC.
-const NO_FAC: Exchange = &[(
+const NO_FAC: Session = &[(
     &[
         (CONFIG, CONFIG),
         (RELATIVE, NOTHING),
@@ -311,12 +311,12 @@ const NO_FAC: Exchange = &[(
 /// Serves these messages behind each Access, all by a new end with this start.
 fn gives_rights(
     rt: &(impl AllocGlobal + Abort),
-    start: Exchange,
+    start: Session,
     messages: &[&[u8]],
     cases: &[(&[u8], &[&[u8]])],
 ) {
     for (access, answers) in cases {
-        let mut end = exchange(rt, start);
+        let mut end = session(rt, start);
         says(rt, &mut end, access, OPENED_RELATIVE);
         assert_eq!(rt; messages.len(), answers.len());
         for (message, answer) in messages.iter().zip(*answers) {
@@ -329,5 +329,5 @@ fn gives_rights(
 fn rights(rt: HostRuntime) {
     gives_rights(&rt, THERE, ASKED_OF_OPEN, OF_OPEN);
     gives_rights(&rt, BEFORE_MAKE, ASKED_OF_MAKE, OF_MAKE);
-    exchange(&rt, NO_FAC);
+    session(&rt, NO_FAC);
 }

@@ -10,7 +10,7 @@ const TWO: Script = &[
     (DATA_C, DONE_3),
 ];
 
-const GETS: Exchange = &[
+const GETS: Session = &[
     (ON_RELATIVE_15, Seen::Nothing),
     (TWO, Seen::Nothing),
     (
@@ -38,7 +38,7 @@ const GETS: Exchange = &[
     ),
 ];
 
-const SEQUENTIAL_GETS: Exchange = &[
+const SEQUENTIAL_GETS: Session = &[
     (ON_SEQUENTIAL_3, Seen::Nothing),
     (
         &[
@@ -52,7 +52,7 @@ const SEQUENTIAL_GETS: Exchange = &[
     ),
 ];
 
-const PUTS: Exchange = &[
+const PUTS: Session = &[
     (ON_RELATIVE_15, Seen::Nothing),
     (TWO, Seen::Nothing),
     (
@@ -91,7 +91,7 @@ const PUTS: Exchange = &[
     ),
 ];
 
-const SEQUENTIAL_PUTS: Exchange = &[
+const SEQUENTIAL_PUTS: Session = &[
     (ON_SEQUENTIAL_3, Seen::Nothing),
     (&[(PUT_1, NOTHING), (DATA_A, BAD_MODE)], Seen::Has(&[])),
     // The second record is empty.
@@ -108,14 +108,14 @@ const SEQUENTIAL_PUTS: Exchange = &[
 
 #[test]
 fn gets_and_puts_by_each_access_mode(rt: HostRuntime) {
-    exchange(&rt, GETS);
-    exchange(&rt, SEQUENTIAL_GETS);
-    exchange(&rt, PUTS);
-    exchange(&rt, SEQUENTIAL_PUTS);
+    session(&rt, GETS);
+    session(&rt, SEQUENTIAL_GETS);
+    session(&rt, PUTS);
+    session(&rt, SEQUENTIAL_PUTS);
 }
 
 /// Fields that are not looked at.
-const BESIDES: Exchange = &[
+const BESIDES: Session = &[
     (ON_RELATIVE_15, Seen::Nothing),
     (TWO, Seen::Nothing),
     (
@@ -148,7 +148,7 @@ const BESIDES: Exchange = &[
     ),
 ];
 
-const CURRENT: Exchange = &[
+const CURRENT: Session = &[
     (ON_RELATIVE_15, Seen::Nothing),
     (TWO, Seen::Nothing),
     (
@@ -188,7 +188,7 @@ const CURRENT: Exchange = &[
     ),
 ];
 
-const SEQUENTIAL_DELETE: Exchange = &[
+const SEQUENTIAL_DELETE: Session = &[
     (ON_SEQUENTIAL_15, Seen::Nothing),
     (
         &[
@@ -201,7 +201,7 @@ const SEQUENTIAL_DELETE: Exchange = &[
     ),
 ];
 
-const LARGE: Exchange = &[
+const LARGE: Session = &[
     (SMALL_ON_UNBOUNDED_7, Seen::Nothing),
     (
         &[
@@ -229,8 +229,8 @@ const LARGE: Exchange = &[
 
 #[test]
 fn what_is_current_too_large_or_not_looked_at(rt: HostRuntime) {
-    exchange(&rt, BESIDES);
-    exchange(&rt, CURRENT);
-    exchange(&rt, SEQUENTIAL_DELETE);
-    exchange(&rt, LARGE);
+    session(&rt, BESIDES);
+    session(&rt, CURRENT);
+    session(&rt, SEQUENTIAL_DELETE);
+    session(&rt, LARGE);
 }

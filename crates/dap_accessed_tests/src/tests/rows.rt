@@ -2,7 +2,7 @@
 
 use super::*;
 
-const ONE_RECORD: Exchange = &[
+const ONE_RECORD: Session = &[
     (ON_RELATIVE_7, Seen::Nothing),
     (
         &[
@@ -21,7 +21,7 @@ const ONE_RECORD: Exchange = &[
 
 #[test]
 fn a_relative_file(rt: HostRuntime) {
-    let end = exchange(&rt, ONE_RECORD);
+    let end = session(&rt, ONE_RECORD);
     assert_eq!(rt; end.files().find(b"f"), None);
 }
 
@@ -71,15 +71,15 @@ const GET_THEN_ACKNOWLEDGE: Steps = &[
     (9, MISPLACED_ACKNOWLEDGE, Seen::Nothing),
 ];
 
-const TO_PUT: Exchange = &[(ON_SEQUENTIAL_1, Seen::Nothing)];
+const TO_PUT: Session = &[(ON_SEQUENTIAL_1, Seen::Nothing)];
 
-const TO_GET: Exchange = &[(ON_SEQUENTIAL_2, Seen::Nothing)];
+const TO_GET: Session = &[(ON_SEQUENTIAL_2, Seen::Nothing)];
 
 #[test]
 fn two_messages_in_one_nsp_message(rt: HostRuntime) {
-    let mut puts = exchange(&rt, TO_PUT);
+    let mut puts = session(&rt, TO_PUT);
     serve_all(&rt, &mut puts, PUT_AND_DATA, PUT_THEN_DATA);
-    let mut gets = exchange(&rt, TO_GET);
+    let mut gets = session(&rt, TO_GET);
     serve_all(&rt, &mut gets, GET_AND_ACKNOWLEDGE, GET_THEN_ACKNOWLEDGE);
 }
 
@@ -110,7 +110,7 @@ const LARGE_RECORD: Script = &[
     ),
 ];
 
-const SKIPPED: Exchange = &[
+const SKIPPED: Session = &[
     (SMALL_ON_SEQUENTIAL_3, Seen::Nothing),
     (LARGE_RECORD, Seen::Nothing),
     (&[(TRY_AGAIN, TOO_LARGE)], Seen::Nothing),
@@ -127,7 +127,7 @@ const SKIPPED: Exchange = &[
     (&[(GET, ENDED)], Seen::Nothing),
 ];
 
-const GIVEN_UP: Exchange = &[
+const GIVEN_UP: Session = &[
     (SMALL_ON_SEQUENTIAL_3, Seen::Nothing),
     (LARGE_RECORD, Seen::Nothing),
     (&[(ABORT, ENDED)], Seen::Nothing),
@@ -141,14 +141,14 @@ const STORED_TWO: Script = &[
     (DATA_SIX, &[9, 2, 0x0a, 0, 0x50, 0, 4, 2, 0, 0, 0, 1, 7]),
 ];
 
-const REFUSED: Exchange = &[
+const REFUSED: Session = &[
     (ON_FIVE_1, Seen::Nothing),
     (STORED_TWO, Seen::Nothing),
     (&[(DATA_C, NOTHING), (END_STREAM, COMPLETED)], Seen::Nothing),
     (&[], Seen::Has(&[(1, b"A")])),
 ];
 
-const TAKEN_UP_AGAIN: Exchange = &[
+const TAKEN_UP_AGAIN: Session = &[
     (ON_FIVE_1, Seen::Nothing),
     (STORED_TWO, Seen::Nothing),
     (
@@ -157,7 +157,7 @@ const TAKEN_UP_AGAIN: Exchange = &[
     ),
 ];
 
-const DROPPED: Exchange = &[
+const DROPPED: Session = &[
     (ON_SEQUENTIAL_1, Seen::Nothing),
     (
         &[
@@ -169,7 +169,7 @@ const DROPPED: Exchange = &[
     ),
 ];
 
-const UPDATED: Exchange = &[
+const UPDATED: Session = &[
     (ON_SEQUENTIAL_1, Seen::Nothing),
     (
         &[
@@ -199,24 +199,24 @@ const UPDATED: Exchange = &[
 
 #[test]
 fn refused_stores_a_dropped_put_and_an_update(rt: HostRuntime) {
-    exchange(&rt, REFUSED);
-    exchange(&rt, TAKEN_UP_AGAIN);
-    exchange(&rt, DROPPED);
-    exchange(&rt, UPDATED);
+    session(&rt, REFUSED);
+    session(&rt, TAKEN_UP_AGAIN);
+    session(&rt, DROPPED);
+    session(&rt, UPDATED);
 }
 
-const READY: Exchange = &[
+const READY: Session = &[
     (&[(CONFIG, CONFIG)], Seen::Nothing),
     (&[(BAD_FLAGS, WRONG_FLAGS)], Seen::Nothing),
 ];
 
-const PUT_DUE: Exchange = &[
+const PUT_DUE: Session = &[
     (ON_SEQUENTIAL_1, Seen::Nothing),
     (&[(PUT, NOTHING), (BAD_FLAGS, WRONG_FLAGS)], Seen::Nothing),
     (&[(DATA_A, MISPLACED_DATA)], Seen::Has(&[])),
 ];
 
-const UNKNOWN: Exchange = &[(
+const UNKNOWN: Session = &[(
     &[
         (CONFIG, CONFIG),
         (SEQUENTIAL, NOTHING),
@@ -228,9 +228,9 @@ const UNKNOWN: Exchange = &[(
 
 #[test]
 fn bad_flags_and_an_unknown_control(rt: HostRuntime) {
-    exchange(&rt, READY);
-    exchange(&rt, PUT_DUE);
-    exchange(&rt, UNKNOWN);
+    session(&rt, READY);
+    session(&rt, PUT_DUE);
+    session(&rt, UNKNOWN);
 }
 
 const FOUR_PUTS: Script = &[
@@ -244,7 +244,7 @@ const FOUR_PUTS: Script = &[
     (DATA_TEN_4, DONE_4),
 ];
 
-const FOUR_RECORDS: Exchange = &[
+const FOUR_RECORDS: Session = &[
     (SMALL_ON_SEQUENTIAL_3, Seen::Nothing),
     (FOUR_PUTS, Seen::Nothing),
 ];
@@ -258,8 +258,8 @@ const FOUR_FETCHED: &[&[u8]] = &[
 
 #[test]
 fn fetches_that_skip_are_given_up_or_take_two_nsp_messages(rt: HostRuntime) {
-    exchange(&rt, SKIPPED);
-    exchange(&rt, GIVEN_UP);
-    let mut end = exchange(&rt, FOUR_RECORDS);
+    session(&rt, SKIPPED);
+    session(&rt, GIVEN_UP);
+    let mut end = session(&rt, FOUR_RECORDS);
     gives(&rt, &mut end, FETCH, FOUR_FETCHED);
 }

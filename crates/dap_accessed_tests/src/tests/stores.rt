@@ -3,7 +3,7 @@
 use super::*;
 
 /// The ordinals count what was refused and what was dropped.
-const ORDINALS: Exchange = &[
+const ORDINALS: Session = &[
     (ON_FIVE_1, Seen::Nothing),
     (
         &[
@@ -48,7 +48,7 @@ const ORDINALS: Exchange = &[
     ),
 ];
 
-const IN_A_RELATIVE_FILE: Exchange = &[
+const IN_A_RELATIVE_FILE: Session = &[
     (ON_RELATIVE_3, Seen::Nothing),
     (
         &[
@@ -75,7 +75,7 @@ const IN_A_RELATIVE_FILE: Exchange = &[
     ),
 ];
 
-const WITHOUT_THE_RIGHT: Exchange = &[
+const WITHOUT_THE_RIGHT: Session = &[
     (ON_SEQUENTIAL_2, Seen::Nothing),
     (&[(STORE, NOTHING)], Seen::Nothing),
     (
@@ -88,7 +88,7 @@ const WITHOUT_THE_RIGHT: Exchange = &[
     ),
 ];
 
-const START: Exchange = &[(ON_FIVE_1, Seen::Nothing)];
+const START: Session = &[(ON_FIVE_1, Seen::Nothing)];
 
 const ALL: &[u8] = &[
     4, 2, 3, 4, 1, 3, 8, 2, 2, 0, 0x41, 8, 2, 7, 0, 0x42, 0x42, 0x42, 0x42, 0x42, 0x42, 8, 2, 2, 0,
@@ -109,10 +109,10 @@ const ALL_STEPS: Steps = &[
 
 #[test]
 fn with_refusals(rt: HostRuntime) {
-    exchange(&rt, ORDINALS);
-    exchange(&rt, IN_A_RELATIVE_FILE);
-    exchange(&rt, WITHOUT_THE_RIGHT);
+    session(&rt, ORDINALS);
+    session(&rt, IN_A_RELATIVE_FILE);
+    session(&rt, WITHOUT_THE_RIGHT);
     // All messages of a Store in one NSP message.
-    let mut end = exchange(&rt, START);
+    let mut end = session(&rt, START);
     serve_all(&rt, &mut end, ALL, ALL_STEPS);
 }

@@ -4,7 +4,7 @@ use super::places::{Cases, brought, each_alone};
 use super::*;
 
 /// Plays these parts; the files may have to stay.
-fn plays_on(rt: &impl Abort, end: &mut Accessed, parts: Exchange, stay: bool) {
+fn plays_on(rt: &impl Abort, end: &mut Accessed, parts: Session, stay: bool) {
     let before = held(end);
     for (script, seen) in parts {
         play(rt, end, script);
@@ -14,7 +14,7 @@ fn plays_on(rt: &impl Abort, end: &mut Accessed, parts: Exchange, stay: bool) {
 }
 
 /// Plays these parts from each of these phases.
-fn from_each(rt: &(impl AllocGlobal + Abort), stages: &[Stage], parts: Exchange, stay: bool) {
+fn from_each(rt: &(impl AllocGlobal + Abort), stages: &[Stage], parts: Session, stay: bool) {
     for from in stages {
         plays_on(rt, &mut brought(rt, *from), parts, stay);
     }
@@ -28,7 +28,7 @@ const OPEN: &[Stage] = &[
     Stage::Stopped,
 ];
 
-const CLOSED: Exchange = &[
+const CLOSED: Session = &[
     (&[(CLOSE, COMPLETED)], Seen::Nothing),
     (&[(CLOSE, MISPLACED_COMPLETE)], Seen::Nothing),
 ];
@@ -40,7 +40,7 @@ const STREAMING: &[Stage] = &[
     Stage::Stopped,
 ];
 
-const STREAM_ENDED: Exchange = &[
+const STREAM_ENDED: Session = &[
     (&[(END_STREAM, COMPLETED)], Seen::Nothing),
     (&[(CONNECT, ACKNOWLEDGE)], Seen::Nothing),
     (&[(GET, FOUND_1_A)], Seen::Nothing),
@@ -90,12 +90,12 @@ const OF_A_NEW_FILE: &[Stage] = &[
     Stage::Stopped,
 ];
 
-const PURGED: Exchange = &[
+const PURGED: Session = &[
     (&[(PURGE, COMPLETED)], Seen::Holds(0, 0)),
     (&[(OPEN_2, FILE_NOT_FOUND)], Seen::Nothing),
 ];
 
-const PURGED_WHILE_DROPPING: Exchange = &[
+const PURGED_WHILE_DROPPING: Session = &[
     (ON_SEQUENTIAL_2, Seen::Nothing),
     (
         &[
@@ -110,7 +110,7 @@ const PURGED_WHILE_DROPPING: Exchange = &[
 /// The phase of a file that was there before this access.
 const OF_AN_OLD_FILE: &[Stage] = &[Stage::Dropping];
 
-const NOT_PURGED: Exchange = &[
+const NOT_PURGED: Session = &[
     (&[(PURGE, COMPLETED)], Seen::Nothing),
     (&[], Seen::Has(&[(1, b"A")])),
     (
@@ -122,7 +122,7 @@ const NOT_PURGED: Exchange = &[
 #[test]
 fn a_purge_of_a_file_that_was_made_or_was_there(rt: HostRuntime) {
     from_each(&rt, OF_A_NEW_FILE, PURGED, false);
-    exchange(&rt, PURGED_WHILE_DROPPING);
+    session(&rt, PURGED_WHILE_DROPPING);
     from_each(&rt, OF_AN_OLD_FILE, NOT_PURGED, true);
 }
 
@@ -132,7 +132,7 @@ const MAKE_H: &[u8] = &[3, 2, 8, 2, 0, 1, 0x48, 1, 0, 0, 0];
 
 const OPEN_G: &[u8] = &[3, 2, 8, 1, 0, 1, 0x47, 1, 0, 0, 0];
 
-const PURGED_AMONG_OTHERS: Exchange = &[
+const PURGED_AMONG_OTHERS: Session = &[
     (
         &[
             (CLOSE, COMPLETED),

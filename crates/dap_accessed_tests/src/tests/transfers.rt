@@ -2,7 +2,7 @@
 
 use super::*;
 
-const OVER_THE_BORDERS_OF_PAGES: Exchange = &[
+const OVER_THE_BORDERS_OF_PAGES: Session = &[
     (SMALL_ON_UNBOUNDED_3, Seen::Nothing),
     (
         &[
@@ -36,7 +36,7 @@ const OVER_THE_BORDERS_OF_PAGES: Exchange = &[
     (&[(FETCH, ENDED)], Seen::Nothing),
 ];
 
-const FROM_WHERE_THE_STREAM_IS: Exchange = &[
+const FROM_WHERE_THE_STREAM_IS: Session = &[
     (SMALL_ON_UNBOUNDED_15, Seen::Nothing),
     (
         &[
@@ -61,12 +61,12 @@ const FROM_WHERE_THE_STREAM_IS: Exchange = &[
     ),
 ];
 
-const WITHOUT_RECORDS: Exchange = &[
+const WITHOUT_RECORDS: Session = &[
     (SMALL_ON_SEQUENTIAL_3, Seen::Nothing),
     (&[(FETCH, ENDED)], Seen::Nothing),
 ];
 
-const WITHOUT_THE_RIGHT: Exchange = &[
+const WITHOUT_THE_RIGHT: Session = &[
     (SMALL_ON_SEQUENTIAL_1, Seen::Nothing),
     (
         &[(PUT, NOTHING), (DATA_LARGE, DONE_1), (FETCH, NOT_PERMITTED)],
@@ -74,7 +74,7 @@ const WITHOUT_THE_RIGHT: Exchange = &[
     ),
 ];
 
-const STOPPED: Exchange = &[
+const STOPPED: Session = &[
     (SMALL_ON_UNBOUNDED_15, Seen::Nothing),
     (
         &[
@@ -108,9 +108,9 @@ const STOPPED: Exchange = &[
 
 #[test]
 fn to_the_end_or_stopped_more_than_once(rt: HostRuntime) {
-    exchange(&rt, OVER_THE_BORDERS_OF_PAGES);
-    exchange(&rt, FROM_WHERE_THE_STREAM_IS);
-    exchange(&rt, WITHOUT_RECORDS);
-    exchange(&rt, WITHOUT_THE_RIGHT);
-    exchange(&rt, STOPPED);
+    session(&rt, OVER_THE_BORDERS_OF_PAGES);
+    session(&rt, FROM_WHERE_THE_STREAM_IS);
+    session(&rt, WITHOUT_RECORDS);
+    session(&rt, WITHOUT_THE_RIGHT);
+    session(&rt, STOPPED);
 }

@@ -1,7 +1,7 @@
 //! Scripts of what is asked and heard, and how an end follows them.
 
 ghost use Rattle.std.specs.Prelude.{◌≤◌};
-ghost use Rattle.dap_msg.specs.Exchange.{greatest_message};
+ghost use Rattle.dap_msg.specs.BothEnds.{greatest_message};
 
 use dap_accessing::{
     Accessing, AskFault, By, Ending, How, Numbered, Octets, OctetsList, ReadFault, Report, Request,

@@ -2,7 +2,7 @@
 use Rattle.std.specs.Prelude.{ℕ, ◌^◌, ◌<◌, ◌≤◌, List, length}
 use Rattle.dap_msg.specs.Message.{Message, StatusFields, Ack, Status}
 use Rattle.dap_msg.specs.Canon.{canon, Fits}
-use Rattle.dap_msg.specs.Exchange.{config_of, complete_with, attributes_of, record_of, least_buffer}
+use Rattle.dap_msg.specs.BothEnds.{config_of, complete_with, attributes_of, record_of, least_buffer}
 
 -- the message has a spelling, and that is short
 pub record IsShortAnswer (m : Message) : Type 0 where

@@ -1,7 +1,7 @@
 -- How the two ends of an exchange without a network stand to each other.
 use Rattle.std.specs.Prelude.{ℕ, ◌≡◌, ◌≢◌, List, [], ◌∷◌, ◌++◌, map, None, true}
 use Rattle.dap_msg.specs.Blocked.{Blocked, all_joined}
-use Rattle.dap_msg.specs.Exchange.{least_buffer}
+use Rattle.dap_msg.specs.BothEnds.{least_buffer}
 use Rattle.dap_msg.specs.Items.{Item, Whole}
 use Rattle.dap_accessed.specs.Standing as at
 use Rattle.dap_accessed.specs.Standing.{Place}

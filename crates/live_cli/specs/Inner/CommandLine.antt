@@ -3,7 +3,7 @@ use Rattle.std.specs.Prelude.{◌≡◌, ◌∷◌, true, false, codes}
 use Rattle.clap.specs.declared.builder.command.Command.{Command}
 use Rattle.clap.specs.declared.builder.command.Command.TheViews.{out-Command}
 use Rattle.clap.specs.Words.{App, Text, app_of, with_rule}
-use Rattle.dap_msg.specs.Exchange.{greatest_message, least_buffer}
+use Rattle.dap_msg.specs.BothEnds.{greatest_message, least_buffer}
 use Rattle.nsp_link.specs.Limits.{largest_segment, largest_window}
 use Rattle.live_cli.specs.Words.{daplive, end_line, number, option}
 

@@ -1,7 +1,7 @@
 use Rattle.std.proofs.Common.{[], ◌∷◌, ap, sym, subst, List, ℕ}
 use Rattle.std.specs.Global.{Vec}
 use Rattle.dap_msg.specs.Blocked.{bodies}
-use Rattle.dap_msg.specs.Exchange.{four_bytes}
+use Rattle.dap_msg.specs.BothEnds.{four_bytes}
 use Rattle.dap_accessed.specs.Served.{AllAtMost}
 use Rattle.dap_accessed.specs.Inner.Written.{message_of}
 use Rattle.dap_accessed.specs.declared.answers.Answer.TheVariants as answer

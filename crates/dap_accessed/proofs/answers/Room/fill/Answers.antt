@@ -1,7 +1,7 @@
 use Rattle.std.proofs.Common.{◌∷◌, ◌++◌, [], ap, ◌∙◌, subst, List, ℕ, arith, length, ◌≤◌}
 use Rattle.std.specs.Global.{Vec}
 use Rattle.dap_msg.specs.Canon.{canon}
-use Rattle.dap_msg.specs.Exchange.{least_buffer}
+use Rattle.dap_msg.specs.BothEnds.{least_buffer}
 use Rattle.dap_msg.specs.Message.{Message}
 use Rattle.dap_msg.specs.Blocked.{bodies}
 use Rattle.dap_msg.specs.Written.{AppendsMessage}

@@ -1,7 +1,7 @@
 use Rattle.std.proofs.Common.{ℕ, ◌+◌, ◌∙◌, Some, ap}
 use Rattle.nsp_link.specs.Link.{LinkValue}
 use Rattle.dap_world.proofs.Put.{wrote_put}
-use Rattle.dap_world.proofs.exchange.emit_a.Goals as goal
+use Rattle.dap_world.proofs.calls.emit_b.Goals as goal
 
 pub returns-in-Ok-clause-ok : goal.returns-in-Ok-clause-ok
 returns-in-Ok-clause-ok c =

@@ -2,7 +2,7 @@
 
 ghost use Rattle.std.specs.Prelude.{◌≡◌, ◌≤◌, ◌<◌, ◌^◌, length};
 ghost use Rattle.dap_msg.specs.Message.{seen, seen_attributes};
-ghost use Rattle.dap_msg.specs.Exchange as exchange;
+ghost use Rattle.dap_msg.specs.BothEnds as both;
 
 use crate::message::{Attributes, Message};
 
@@ -23,13 +23,13 @@ const ECONUM: u8 = 6;
 
 /// A law: the limits are those that the definitions name (own).
 pub fn names_the_limits()
-    ensures greatest { GREATEST_MESSAGE ≡ exchange.greatest_message }
-    ensures least { LEAST_BUFFER ≡ exchange.least_buffer }
+    ensures greatest { GREATEST_MESSAGE ≡ both.greatest_message }
+    ensures least { LEAST_BUFFER ≡ both.least_buffer }
 {}
 
 /// Whether a BUFSIZ, in bytes, is too small for the exchange: 1 to 63 (own). Takes no memory.
 pub fn is_too_small(bufsiz: u16) -> bool
-    ensures { result ≡ exchange.is_too_small bufsiz }
+    ensures { result ≡ both.is_too_small bufsiz }
 {
     bufsiz > 0 && bufsiz < LEAST_BUFFER
 }
@@ -37,7 +37,7 @@ pub fn is_too_small(bufsiz: u16) -> bool
 /// How long a message, in bytes, an end takes that has this BUFSIZ: as long as any where that is 0 (DAP 5.6.0,
 /// Configuration message). Takes no memory.
 pub fn limit_of(bufsiz: u16) -> u16
-    ensures { result ≡ exchange.limit_of bufsiz }
+    ensures { result ≡ both.limit_of bufsiz }
 {
     if bufsiz == 0 {
         GREATEST_MESSAGE
@@ -50,7 +50,7 @@ pub fn limit_of(bufsiz: u16) -> u16
 /// message format notation, an image field). Takes no memory.
 pub fn number_of(image: &[u8]) -> u64
     requires { length image.now ≤ 8 }
-    ensures exact { result ≡ exchange.number_of image.now }
+    ensures exact { result ≡ both.number_of image.now }
     ensures small { result < 256 ^ length image.now }
 {
     dap_fields::number_of(image)
@@ -59,7 +59,7 @@ pub fn number_of(image: &[u8]) -> u64
 impl<'a> Attributes<'a> {
     /// Attributes with no field (DAP 5.6.0, Attributes message). Takes no memory.
     pub fn none() -> Attributes<'a>
-        ensures { seen_attributes result ≡ exchange.no_attributes }
+        ensures { seen_attributes result ≡ both.no_attributes }
     {
         Attributes {
             datatype: None,
@@ -91,7 +91,7 @@ impl<'a> Message<'a> {
     /// The Config that each end sends, with its BUFSIZ in bytes (DAP 5.6.0, Configuration message; its values are
     /// own). Takes no memory.
     pub fn config_of(bufsiz: u16) -> Message<'a>
-        ensures { seen result ≡ exchange.config_of bufsiz }
+        ensures { seen result ≡ both.config_of bufsiz }
     {
         Message::Config {
             bufsiz,
@@ -108,7 +108,7 @@ impl<'a> Message<'a> {
 
     /// An Access Complete with this CMPFUNC and nothing else (DAP 5.6.0, Access Complete message). Takes no memory.
     pub fn complete_with(func: u8) -> Message<'a>
-        ensures { seen result ≡ exchange.complete_with func }
+        ensures { seen result ≡ both.complete_with func }
     {
         Message::Accomp {
             func,

@@ -2,7 +2,7 @@ use Rattle.std.proofs.Common.{◌≡◌, ◌++◌, [], rules, ap, ◌∙◌, sub
 use Rattle.std.proofs.lemmas.List.{map-append}
 use Rattle.dap_msg.specs.Blocked.{bodies}
 use Rattle.dap_world.specs.Inner.Splitting.{SplitsAll}
-use Rattle.dap_world.proofs.exchange.hand_over.Goals as goal
+use Rattle.dap_world.proofs.calls.hand_over.Goals as goal
 
 pub returns-in-Ok-clause-sent : goal.returns-in-Ok-clause-sent
 returns-in-Ok-clause-sent c =

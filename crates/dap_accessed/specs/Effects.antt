@@ -3,7 +3,7 @@
 use Rattle.std.specs.Prelude.{if◌then◌else◌, [], ◌∷◌, Option}
 use Rattle.dap_msg.specs.Codes as codes
 use Rattle.dap_msg.specs.Message.{Message, Config, Attrib, Access, Control, Contran, Ack, Accomp, Filedata, Other, ControlFields}
-use Rattle.dap_msg.specs.Exchange.{limit_of, config_of, is_too_small}
+use Rattle.dap_msg.specs.BothEnds.{limit_of, config_of, is_too_small}
 use Rattle.dap_msg.specs.Items.{Item, Whole, Malformed}
 use Rattle.rec_file.specs.declared.refusals.Refusal.TheVariants.{NotPermitted}
 use Rattle.rec_file.specs.declared.shapes.Shape.{Shape}

@@ -2,7 +2,7 @@ use Rattle.std.proofs.Common.{◌≡◌, ℕ, List, refl, subst, inl, inr, false
 use Rattle.nsp_link.specs.Link.{LinkValue}
 use Rattle.nsp_link.specs.Receiving.{Receives}
 use Rattle.dap_world.specs.Inner.Ways.{NotDue, is_old_wired}
-use Rattle.dap_world.proofs.exchange.deliver_b.Goals as goal
+use Rattle.dap_world.proofs.calls.deliver_a.Goals as goal
 
 pub returns-in-Ok-clause-comes : goal.returns-in-Ok-clause-comes
 returns-in-Ok-clause-comes c =
