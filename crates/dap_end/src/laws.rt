@@ -121,7 +121,8 @@ pub fn asking_calls_are_runs()
         → (events : List AskingEvent)
         × AreAskingCalls old (hearing.Came bytes ∷ events) new out all before after }
     ensures halted { (old new : AskingValue) (out all : List (List ℕ))
-        (before after : List TheReport) (f : TheEndFault) → asking.GoOnFault old new out all before after f
+        (before after : List TheReport) (f : TheEndFault)
+        → asking.GoOnFault old new out all before after f
         → f ≢ end_fault.Read read_fault.Unexpected
         → AreAskingCalls old (hearing.GoesOn ∷ []) new out all before after }
     ensures part { (old new : AskingValue) (bytes : List ℕ) (got : TheGot) (out all : List (List ℕ))

@@ -281,8 +281,8 @@ impl ServingEnd {
     /// The packet of a segment that was sent and isn't acknowledged, again: the oldest is at place 0, as
     /// [`nsp_link::LinkEnd::resend`] writes it (NSP 4.0.0, data segment message).
     pub fn resend(&self, place: usize) -> Result<Vec<u8>, LinkFault>
-        ensures wrote { IfOk result
-            (λ v. WritesSent self.now.port.link (Some (self.now.port.link.acked + 1 + place)) v.items) }
+        ensures wrote { IfOk result (λ v. WritesSent self.now.port.link
+            (Some (self.now.port.link.acked + 1 + place)) v.items) }
         ensures failed { IsTrue self.now.port.link.failed → IsErrOf result Failed }
         ensures missing { self.now.port.link.failed ≡ false
             → self.now.port.link.sent - self.now.port.link.acked ≤ place

@@ -248,7 +248,8 @@ fn push_answers(
     packets: &Vec<Vec<u8>>,
 ) -> Result<(), AllocError>
     ensures { OnOk result (Adds text.old text.new
-        (got_line got ++ (reports_text reports.now.items ++ packets_text (bodies packets.now.items)))) }
+        (got_line got ++ (reports_text reports.now.items
+        ++ packets_text (bodies packets.now.items)))) }
 {
     push_got(text, got)?;
     push_reports(text, reports)?;
