@@ -5,7 +5,8 @@ use Rattle.std.specs.Fmt.{decimal}
 use Rattle.hex.specs.Hex.{decode_of}
 use Rattle.dap_text.specs.Text.{line_feed, word_text}
 use Rattle.dap_listing.specs.Gives.{Gives}
-use Rattle.dap_listing.specs.Listing.{Capture, arrow_text, captures, heading, packet_limit, line_faults}
+use Rattle.dap_listing.specs.Listing.{arrow_text, captures, heading, packet_limit, line_faults}
+use Rattle.dap_listing.specs.Lines.{Capture}
 use Rattle.dap_listing.specs.Messages.{IsMessagesText}
 use Rattle.dap_listing.specs.Packets.{IsSeen, Seen, seen_line}
 use Rattle.dap_listing.specs.declared.fault.CaptureFault.{CaptureFault}

@@ -1,11 +1,13 @@
 -- The lines of what was captured from a place of the input on.
-use Rattle.std.proofs.Common.{◌≡◌, ◌+◌, ◌++◌, ℕ, List, ◌∷◌, ap, ◌∙◌, refl, Ok, None}
+use Rattle.std.proofs.Common.{◌≡◌, ◌+◌, ◌++◌, ℕ, List, ◌∷◌, ap, ◌∙◌, refl, Ok, Some, None}
 use Rattle.std.specs.List.{filter_map, enumerate_from}
 use Rattle.std.specs.Str.Lines.{lines}
 use Rattle.std.proofs.lemmas.List.{append_assoc}
 use Rattle.hex.specs.Hex.{decode_of}
-use Rattle.dap_listing.specs.Lines.{captured, skipped, line_of}
-use Rattle.dap_listing.specs.Listing.{Capture, CaptureLines, IsCapturedText, capture_of_line, captures, fault_of_line, heading, one_more, faults_from}
+use Rattle.dap_listing.specs.Lines.{Capture, line_of}
+use Rattle.dap_listing.specs.Listing.{CaptureLines, IsCapturedText, captures, heading, one_more, faults_from}
+use Rattle.dap_listing.specs.Inner.Lines.{fault_of_line}
+use Rattle.std.specs.Result.{result_unwrap_or}
 use Rattle.dap_listing.specs.declared.lines.Direction.{Direction}
 use Rattle.dap_listing.specs.declared.listing.Listed.{Listed}
 use Rattle.dap_listing.specs.declared.fault.CaptureFault.{CaptureFault}
@@ -14,15 +16,15 @@ faults_of : ℕ → ℕ → List (List ℕ) → List CaptureFault
 faults_of limit number parts = filter_map (λ (place, line). fault_of_line place (line_of limit line)) (enumerate_from number parts)
 
 captures_of : ℕ → List (List ℕ) → List Capture
-captures_of limit = filter_map (λ line. capture_of_line (line_of limit line))
+captures_of limit = filter_map (λ line. result_unwrap_or (line_of limit line) None)
 
 captured_first : (limit : ℕ) (rest line after : List ℕ) (direction : Direction) (digits : List ℕ) → lines rest ≡ line ∷ lines after
-    → captured direction digits ≡ line_of limit line → captures limit rest ≡ (direction, digits) ∷ captures limit after
+    → Ok (Some (direction, digits)) ≡ line_of limit line → captures limit rest ≡ (direction, digits) ∷ captures limit after
 unfolding captures_of
 captured_first limit rest line after direction digits cut says = ap (captures_of limit) cut ∙ rw (← says) refl
 
 pub captured_more : (listed : Listed) (limit start : ℕ) (all : List Capture) (rest line after text new : List ℕ) (direction : Direction) (digits bytes said : List ℕ) (number : ℕ)
-    → lines rest ≡ line ∷ lines after → captured direction digits ≡ line_of limit line
+    → lines rest ≡ line ∷ lines after → Ok (Some (direction, digits)) ≡ line_of limit line
     → decode_of digits ≡ Ok bytes → IsCapturedText listed bytes said → new ≡ text ++ (heading number direction ++ said)
     → ((more : List ℕ) → CaptureLines listed number (captures limit rest) more → CaptureLines listed start all (text ++ more))
     → (more : List ℕ) → CaptureLines listed (number + 1) (captures limit after) more → CaptureLines listed start all (new ++ more)
@@ -32,7 +34,7 @@ captured_more listed limit start all rest line after text new direction digits b
     rw (appended, append_assoc text (heading number direction ++ said) more) whole
 
 pub skipped_more : (listed : Listed) (limit start : ℕ) (all : List Capture) (rest line after text : List ℕ) (number : ℕ)
-    → lines rest ≡ line ∷ lines after → line_of limit line ≡ skipped
+    → lines rest ≡ line ∷ lines after → line_of limit line ≡ Ok None
     → ((more : List ℕ) → CaptureLines listed number (captures limit rest) more → CaptureLines listed start all (text ++ more))
     → (more : List ℕ) → CaptureLines listed number (captures limit after) more → CaptureLines listed start all (text ++ more)
 unfolding captures_of

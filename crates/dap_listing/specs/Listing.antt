@@ -1,10 +1,11 @@
 -- The listing of a capture: of packets, or of NSP messages.
-use Rattle.std.specs.Prelude.{◌≡◌, ℕ, ◌+◌, List, [], ◌∷◌, ◌++◌, length, codes, Option, Some, None, Result, Ok}
+use Rattle.std.specs.Prelude.{◌≡◌, ℕ, ◌+◌, List, [], ◌∷◌, ◌++◌, length, codes, Option, None, option_map, Result, Ok}
 use Rattle.std.specs.List.{concat, filter_map, enumerate_from}
 use Rattle.std.specs.Fmt.{decimal}
+use Rattle.std.specs.Result.{result_err, result_unwrap_or}
 use Rattle.std.specs.Str.Lines.{lines}
 use Rattle.hex.specs.Hex.{decode_of}
-use Rattle.dap_listing.specs.Lines.{CaptureLine, captured, malformed, too_long, line_of}
+use Rattle.dap_listing.specs.Lines.{Capture, line_of}
 use Rattle.dap_listing.specs.Packets.{IsPacketText}
 use Rattle.dap_text.specs.Text.{line_feed}
 use Rattle.dap_listing.specs.Messages.{IsMessagesText}
@@ -16,34 +17,19 @@ use Rattle.dap_listing.specs.declared.lines.Direction.TheVariants.{Right, Left}
 use Rattle.dap_listing.specs.declared.fault.Outcome.{Outcome}
 use Rattle.dap_listing.specs.declared.fault.Outcome.TheVariants.{Good, Stopped}
 use Rattle.dap_listing.specs.declared.fault.CaptureFault.{CaptureFault}
-use Rattle.dap_listing.specs.declared.fault.CaptureFault.TheVariants.{BadLine, TooLarge}
-
--- what is wrong with the line of a number
-abbrev pub fault_of_line : ℕ → CaptureLine → Option CaptureFault
-fault_of_line number malformed = Some (BadLine number)
-fault_of_line number too_long = Some TooLarge
-fault_of_line number _ = None
 
 -- the faults of the lines in order, of which the first has the number
 abbrev pub faults_from : ℕ → ℕ → List ℕ → List CaptureFault
 faults_from limit number bytes =
-    filter_map (λ (place, line). fault_of_line place (line_of limit line)) (enumerate_from number (lines bytes))
+    filter_map (λ (place, line). option_map (λ fault. fault place) (result_err (line_of limit line))) (enumerate_from number (lines bytes))
 
 -- those of an input
 abbrev pub line_faults : ℕ → List ℕ → List CaptureFault
 line_faults limit input = faults_from limit 1 input
 
--- the direction of captured bytes and their hex digits
-abbrev pub Capture : Type 0
-Capture = Direction × List ℕ
-
-abbrev pub capture_of_line : CaptureLine → Option Capture
-capture_of_line (captured direction digits) = Some (direction, digits)
-capture_of_line _ = None
-
 -- what was captured, in order
 abbrev pub captures : ℕ → List ℕ → List Capture
-captures limit input = filter_map (λ line. capture_of_line (line_of limit line)) (lines input)
+captures limit input = filter_map (λ line. result_unwrap_or (line_of limit line) None) (lines input)
 
 abbrev pub arrow_text : Direction → List ℕ
 arrow_text Right = codes ">"

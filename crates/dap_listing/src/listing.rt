@@ -1,6 +1,6 @@
 //! The listing of an input: of packets, or of NSP messages.
 
-ghost use Rattle.std.specs.Prelude.{◌≡◌, ◌≢◌, ◌≤◌, ◌<◌, ◌+◌, ◌-◌, ◌⊎◌, [], drop, OnErr, IfSome, ◌*◌, ◌^◌, Some, true, false, IfErr, IfOk, MatchOption, None, OnOk, length};
+ghost use Rattle.std.specs.Prelude.{◌≡◌, ◌≢◌, ◌≤◌, ◌<◌, ◌+◌, ◌-◌, ◌⊎◌, [], drop, OnErr, IfSome, ◌*◌, ◌^◌, Some, true, false, IfErr, IfOk, None, OnOk, Ok, length, option_map};
 ghost use Rattle.dap_listing.specs.Gives.{TakesWithinLimit};
 ghost use Rattle.dap_listing.specs.Inner.Adding.{AddsCapture};
 ghost use Rattle.dap_text.specs.Adding.{AddsSome};
@@ -9,8 +9,9 @@ ghost use Rattle.dap_listing.specs.Captured.{Spell, bytes_of};
 ghost use Rattle.dap_listing.specs.Inner.Progress.{IsInputFault, IsWhole, TextGives};
 ghost use Rattle.dap_listing.specs.declared.fault.CaptureFault.TheVariants.{NoMemory, WriteFailed};
 ghost use Rattle.dap_text.specs.Words.{is_hex_text as is_spelled};
-ghost use Rattle.dap_listing.specs.Lines.{IsEnd, captured, digits_line, line_of, skipped};
-ghost use Rattle.dap_listing.specs.Listing.{IsCapturedText, IsMessageText, fault_of_line, limit_of};
+ghost use Rattle.dap_listing.specs.Lines.{IsEnd, digits_line, line_of};
+ghost use Rattle.dap_listing.specs.Listing.{IsCapturedText, IsMessageText, limit_of};
+ghost use Rattle.dap_listing.specs.Inner.Lines.{fault_of_line};
 
 use crate::CaptureFault;
 use crate::captures::{PACKET_LIMIT, push_heading};
@@ -47,7 +48,7 @@ impl Listed {
 fn check_digits(number: usize, digits: &[u8], limit: usize) -> Result<(), CaptureFault>
     requires { limit < 2 ^ 32 }
     ensures good { OnOk result ((direction : Direction)
-        → digits_line limit direction digits.now ≡ captured direction digits.now) }
+        → digits_line limit direction digits.now ≡ Ok (Some (direction, digits.now))) }
     ensures hex { OnOk result (is_spelled digits.now ≡ true) }
     ensures short { OnOk result (length digits.now ≤ 2 * limit) }
     ensures fault { IfErr result (λ fault. (direction : Direction)
@@ -69,12 +70,11 @@ pub(crate) fn read_line(
     limit: usize,
 ) -> Result<Option<(Direction, &[u8])>, CaptureFault>
     requires { limit < 2 ^ 32 }
-    ensures says { IfOk result (λ read. MatchOption read (line_of limit line.now ≡ skipped)
-        (λ has. line_of limit line.now ≡ captured has.0 has.1.now)) }
+    ensures says { IfOk result (λ read.
+        line_of limit line.now ≡ Ok (option_map (λ has. (has.0, has.1.now)) read)) }
     ensures hex { IfOk result
         (λ read. IfSome read (λ has. is_spelled has.1.now ≡ true)) }
     ensures short { IfOk result (λ read. IfSome read (λ has. length has.1.now ≤ 2 * limit)) }
-    ensures good { OnOk result (fault_of_line number (line_of limit line.now) ≡ None) }
     ensures fault { IfErr result
         (λ fault. fault_of_line number (line_of limit line.now) ≡ Some fault) }
 {

@@ -2,7 +2,8 @@
 use Rattle.std.specs.Prelude.{◌≡◌, ◌++◌, ◌∷◌, ◌==◌, ℕ, Bool, true, List, [], None}
 use Rattle.std.specs.List.{position}
 use Rattle.std.specs.Str.Lines.{lines}
-use Rattle.dap_listing.specs.Listing.{captures, faults_from, limit_of, Capture, CaptureLines}
+use Rattle.dap_listing.specs.Listing.{captures, faults_from, limit_of, CaptureLines}
+use Rattle.dap_listing.specs.Lines.{Capture}
 use Rattle.dap_listing.specs.Gives.{IsFirst}
 use Rattle.dap_listing.specs.declared.fault.CaptureFault.{CaptureFault}
 use Rattle.dap_listing.specs.declared.listing.Listed.{Listed}

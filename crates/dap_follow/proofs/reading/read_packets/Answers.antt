@@ -1,7 +1,8 @@
 use Rattle.std.proofs.Common.{arith, rules, ◌/◌, ◌++◌, ◌∷◌, [], List, length, length-append, refl, sym, ap, ◌∙◌}
 use Rattle.std.proofs.lemmas.List.{append_assoc}
 use Rattle.dap_listing.specs.Captured.{bytes_of}
-use Rattle.dap_listing.specs.Listing.{Capture, captures, packet_limit}
+use Rattle.dap_listing.specs.Listing.{captures, packet_limit}
+use Rattle.dap_listing.specs.Lines.{Capture}
 use Rattle.dap_listing.proofs.ForCallers.{decoded}
 use Rattle.dap_follow.specs.Following.{no_more}
 use Rattle.dap_follow.proofs.ReadingLemmas.{seen_more}

@@ -1,5 +1,6 @@
 use Rattle.std.proofs.Common.{◌≡◌, ◌≤◌, ◌+◌, ◌++◌, List, length, vec_len}
-use Rattle.dap_listing.specs.Listing.{Capture, captures, faults_from, line_faults, packet_limit}
+use Rattle.dap_listing.specs.Listing.{captures, faults_from, line_faults, packet_limit}
+use Rattle.dap_listing.specs.Lines.{Capture}
 use Rattle.dap_follow.specs.Streams.{Packet}
 use Rattle.dap_follow.specs.Following.{AreSeen}
 use Rattle.dap_follow.specs.Inner.Reading.{Reads}

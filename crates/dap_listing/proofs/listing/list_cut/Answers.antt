@@ -1,7 +1,8 @@
-use Rattle.std.proofs.Common.{rules, arith, true, ◌≡◌, ◌++◌, ap, sym, ◌∙◌}
-use Rattle.dap_listing.specs.Lines.{captured, line_of, skipped}
+use Rattle.std.proofs.Common.{rules, arith, true, Ok, Some, None, ◌≡◌, ◌++◌, ap, sym, ◌∙◌}
+use Rattle.dap_listing.specs.Lines.{line_of}
 use Rattle.dap_text.specs.Words.{is_hex_text}
-use Rattle.dap_listing.specs.Listing.{fault_of_line, limit_of}
+use Rattle.dap_listing.specs.Listing.{limit_of}
+use Rattle.dap_listing.specs.Inner.Lines.{fault_of_line}
 use Rattle.dap_listing.specs.Captured.{bytes_of}
 use Rattle.dap_listing.proofs.HexTextLemmas.{spells}
 use Rattle.dap_listing.proofs.DigitLemmas.{decoded}
@@ -20,7 +21,7 @@ loop-line-preserved c =
     let cut = c.in-Some.ensures.first.0 in
     elim c.match-branch-2.branch [
       | in-None w ↦
-          let says : line_of limit line ≡ skipped = rw (w.in-None.is, c.limit.ensures) at c.in_ok-read_line.ensures.says in
+          let says : line_of limit line ≡ Ok None = rw (w.in-None.is, c.limit.ensures) at c.in_ok-read_line.ensures.says in
           record {
             counted = omega (arith, w.number-is, shorter, before.invariant.counted);
             at_counted = omega (arith, shorter, before.invariant.at_counted);
@@ -36,7 +37,7 @@ loop-line-preserved c =
       | in-Some-2+in_ok-push_capture-in-Some-2 w ↦
           let digits = w.in-Some-2.digits.now in
           let direction = w.in-Some-2.direction in
-          let says : line_of limit line ≡ captured direction digits = rw (w.in-Some-2.is, c.limit.ensures) at c.in_ok-read_line.ensures.says in
+          let says : line_of limit line ≡ Ok (Some (direction, digits)) = rw (w.in-Some-2.is, c.limit.ensures) at c.in_ok-read_line.ensures.says in
           let hex : is_hex_text digits ≡ true = rw w.in-Some-2.is at c.in_ok-read_line.ensures.hex in
           let pushed = w.in_ok-push_capture-in-Some-2.ensures.added in
           record {
