@@ -7,8 +7,8 @@ pub use Rattle.dap_accessed.proofs.Cuts.{cut-more}
 pub use Rattle.dap_accessed.proofs.Cuts.{Answers-more}
 -- after any items the files are files, and the open one is there
 pub use Rattle.dap_accessed.proofs.SoundLists.{all-sound}
--- a file of a table of files is a file
-pub use Rattle.dap_accessed.proofs.SoundTables.{AllFiles, file-there}
+-- a file of a table of files is a file; no files are files
+pub use Rattle.dap_accessed.proofs.SoundTables.{AllFiles, file-there, no-files}
 -- the shape that attributes ask for is one that the check gives
 pub use Rattle.dap_accessed.proofs.SoundGroups.{good-shape}
 -- the place of a name is within the table

@@ -6,6 +6,8 @@ pub mod Fetching
 pub mod OneMore
 pub mod Cuts
 pub mod StepIs
+pub mod Silent
+pub mod Freshness
 pub mod Kept
 pub mod SoundTables
 pub mod SoundGroups

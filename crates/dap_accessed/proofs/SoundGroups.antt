@@ -26,11 +26,11 @@ use Rattle.dap_accessed.specs.declared.phase.OpenFile.{OpenFile}
 use Rattle.dap_accessed.specs.declared.verbs.Verb.{Verb}
 use Rattle.dap_accessed.specs.declared.verbs.Verb.TheVariants as verbs
 use Rattle.std.specs.Prelude.{◌==◌, take_while, drop}
-use Rattle.std.specs.List.{prefix_len}
+use Rattle.std.specs.List.{prefix_len, remove}
 use Rattle.dap_msg.specs.Codes as codes
 use Rattle.dap_msg.specs.BothEnds.{config_of}
 use Rattle.dap_accessed.specs.Replies.{bare_status}
-use Rattle.dap_accessed.specs.Standing.{Files, place_of, with_file, without_file, the_file, Place, Fresh, Ready, Opened, Connected, Store, Stopped, Group, Standing, Scene, Effect, start, enters}
+use Rattle.dap_accessed.specs.Standing.{Files, place_of, with_file, the_file, Place, Fresh, Ready, Opened, Connected, Store, Stopped, Group, Standing, Scene, Effect, start, enters}
 use Rattle.dap_accessed.specs.Past.{Memory, looked_back, asked_shape, kept_attributes}
 use Rattle.dap_accessed.specs.Accesses.{open_file, create_file, access_file, complete}
 use Rattle.dap_accessed.specs.Records.{at_number, verb_of, get_pick, got, record_got, settled, Change, Putting, Updating, changed, fits_limit}
@@ -154,7 +154,7 @@ module _ (scene : Scene) (files : AreFiles scene.files) (least : 64 ≤ scene.li
       either (a.func == codes.accfunc.opening) _ _ (opening a.fac a.name (place_of a.name scene.files) (place-within a.name scene.files))
       (either (a.func == codes.accfunc.creating) _ _ (creating a.name a.fac (place_of a.name scene.files) shape refl g) (entering Ready tt))
 
-  purging : (o : OpenFile) (new : Bool) → IsSoundAt (if new then without_file o.at scene.files else scene.files) scene.limit Ready
+  purging : (o : OpenFile) (new : Bool) → IsSoundAt (if new then remove scene.files o.at else scene.files) scene.limit Ready
   purging o true = record { files = record { files = all-without scene.files o.at files.files; distinct = distinct-without scene.files o.at files.distinct }; opened = tt; least = least; most = most }
   purging o false = entering Ready tt
 

@@ -1,23 +1,33 @@
 -- What a change of the table keeps.
-use Rattle.std.proofs.Common.{◌≡◌, ℕ, zero, suc, ◌+◌, ◌<◌, ◌≤◌, not, cond, List, [], ◌∷◌, ◌++◌, length, Some, None, ap, sym, inl, inr, arith}
-use Rattle.std.specs.Prelude.{bytes_eq, ◌≢◌, IsTrue}
-use Rattle.std.specs.List.{prefix_len, AllByRecursion}
+use Rattle.std.proofs.Common.{◌≡◌, ℕ, zero, suc, ◌+◌, ◌<◌, ◌≤◌, not, cond, List, [], ◌∷◌, ◌++◌, length, Some, None, ap, inl, inr, arith}
+use Rattle.std.specs.Prelude.{bytes_eq, false, IsTrue}
+use Rattle.std.specs.List.{prefix_len, AllByRecursion, IsDistinct, remove}
 use Rattle.std.proofs.lemmas.Bool.{cases_Bool, cases_lt, lt-ltb}
-use Rattle.std.proofs.lemmas.Bool.Decides.{not_from_Decides}
-use Rattle.std.proofs.lemmas.Slice.Eq.{bytes_eq-Decides}
 use Rattle.rec_file.specs.declared.shapes.Shape.{Shape}
 use Rattle.rec_file.specs.Shapes.{is_shape}
 use Rattle.rec_file.specs.Files.{FileVal, IsFile}
 use Rattle.rec_file.proofs.ForCallers.{IsFile-empty}
-use Rattle.dap_accessed.specs.Standing.{Files, new_file, place_of, file_at, with_file, without_file}
-use Rattle.dap_accessed.specs.Sound.{AreDistinct, AreFiles}
+use Rattle.dap_accessed.specs.Standing.{Files, new_file, place_of, file_at, with_file}
+use Rattle.dap_accessed.specs.Sound.{AreFiles}
 
 abbrev pub AllFiles : Files → Type 0
 AllFiles files = AllByRecursion (λ f. IsFile f.1) files
 
+abbrev AreDistinct : Files → Type 0
+AreDistinct files = IsDistinct (λ (f g : List ℕ × FileVal). bytes_eq f.0 g.0) files
+
+-- this name is that of no file
+abbrev IsNone : List ℕ → Files → Type 0
+IsNone name files = AllByRecursion (λ f. bytes_eq name f.0 ≡ false) files
+
 -- no file has this name
 abbrev HasNone : List ℕ → Files → Type 0
-HasNone name files = AllByRecursion (λ f. f.0 ≢ name) files
+HasNone name files = AllByRecursion (λ f. bytes_eq f.0 name ≡ false) files
+
+-- there are no files
+pub no-files : AreFiles []
+unfolding IsDistinct
+no-files = record { files = tt; distinct = tt }
 
 pub file-there : (files : Files) (at : ℕ) → AllFiles files → at < length files → IsFile (file_at at files)
 file-there [] at h lt = absurd (omega arith)
@@ -31,31 +41,33 @@ all-with [] at file h k = tt
 all-with (f ∷ files) zero file h k = (k, h.1)
 all-with (f ∷ files) (suc at) file h k = (h.0, all-with files at file h.1 k)
 
-none-with : (name : List ℕ) (files : Files) (at : ℕ) (file : FileVal) → HasNone name files → HasNone name (with_file at file files)
+none-with : (name : List ℕ) (files : Files) (at : ℕ) (file : FileVal) → IsNone name files → IsNone name (with_file at file files)
 none-with name [] at file h = tt
 none-with name (f ∷ files) zero file h = h
 none-with name (f ∷ files) (suc at) file h = (h.0, none-with name files at file h.1)
 
 distinct-with : (files : Files) (at : ℕ) (file : FileVal) → AreDistinct files → AreDistinct (with_file at file files)
+unfolding IsDistinct
 distinct-with [] at file h = tt
 distinct-with (f ∷ files) zero file h = h
 distinct-with (f ∷ files) (suc at) file h = (none-with f.0 files at file h.0, distinct-with files at file h.1)
 
 -- ---- A file less.
 
-pub all-without : (files : Files) (at : ℕ) → AllFiles files → AllFiles (without_file at files)
+pub all-without : (files : Files) (at : ℕ) → AllFiles files → AllFiles (remove files at)
 all-without [] zero h = tt
 all-without [] (suc at) h = tt
 all-without (f ∷ files) zero h = h.1
 all-without (f ∷ files) (suc at) h = (h.0, all-without files at h.1)
 
-none-without : (name : List ℕ) (files : Files) (at : ℕ) → HasNone name files → HasNone name (without_file at files)
+none-without : (name : List ℕ) (files : Files) (at : ℕ) → IsNone name files → IsNone name (remove files at)
 none-without name [] zero h = tt
 none-without name [] (suc at) h = tt
 none-without name (f ∷ files) zero h = h.1
 none-without name (f ∷ files) (suc at) h = (h.0, none-without name files at h.1)
 
-pub distinct-without : (files : Files) (at : ℕ) → AreDistinct files → AreDistinct (without_file at files)
+pub distinct-without : (files : Files) (at : ℕ) → AreDistinct files → AreDistinct (remove files at)
+unfolding IsDistinct
 distinct-without [] zero h = tt
 distinct-without [] (suc at) h = tt
 distinct-without (f ∷ files) zero h = h.1
@@ -67,13 +79,14 @@ all-more : (files : Files) (f : List ℕ × FileVal) → AllFiles files → IsFi
 all-more [] f h k = (k, tt)
 all-more (e ∷ files) f h k = (h.0, all-more files f h.1 k)
 
-none-more : (name : List ℕ) (files : Files) (f : List ℕ × FileVal) → HasNone name files → f.0 ≢ name → HasNone name (files ++ f ∷ [])
+none-more : (name : List ℕ) (files : Files) (f : List ℕ × FileVal) → IsNone name files → bytes_eq name f.0 ≡ false → IsNone name (files ++ f ∷ [])
 none-more name [] f h new = (new, tt)
 none-more name (e ∷ files) f h new = (h.0, none-more name files f h.1 new)
 
 distinct-more : (files : Files) (f : List ℕ × FileVal) → AreDistinct files → HasNone f.0 files → AreDistinct (files ++ f ∷ [])
+unfolding IsDistinct
 distinct-more [] f h new = (tt, tt)
-distinct-more (e ∷ files) f h new = (none-more e.0 files f h.0 (λ same. new.0 (sym same)), distinct-more files f h.1 new.1)
+distinct-more (e ∷ files) f h new = (none-more e.0 files f h.0 new.0, distinct-more files f h.1 new.1)
 
 -- ---- A name that is not found is new.
 
@@ -83,7 +96,7 @@ all-other name (f ∷ files) h =
     elim (cases_Bool (bytes_eq f.0 name)) [
       | inl same ↦ absurd (let e = ap (λ b. cond (not b) (1 + prefix_len (λ (f : List ℕ × FileVal). not (bytes_eq f.0 name)) files) 0) same in omega (arith, e, h))
       | inr other ↦ (
-        not_from_Decides (bytes_eq f.0 name) (bytes_eq-Decides f.0 name) other,
+        other,
         all-other name files (let e = ap (λ b. cond (not b) (1 + prefix_len (λ (f : List ℕ × FileVal). not (bytes_eq f.0 name)) files) 0) other in omega (arith, e, h)),
       )
     ]

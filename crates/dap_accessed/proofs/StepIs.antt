@@ -16,7 +16,7 @@ use Rattle.dap_accessed.specs.Past.{Memory, looked_back, asked_shape, kept_attri
 use Rattle.dap_accessed.specs.Records.{Change, Putting, Updating}
 use Rattle.dap_accessed.specs.Effects.{Begun, Turn, Does, Begins, turn_of, effect_with}
 use Rattle.dap_accessed.specs.Groups.{Grouped, over, scene_of, turn_at, added, stands_after}
-use Rattle.dap_accessed.specs.Present.{Present, present_of, phase_at, StandsAfter}
+use Rattle.dap_accessed.specs.Inner.Present.{Present, present_of, phase_at, StandsAfter}
 use Rattle.dap_accessed.specs.Inner.Moves.{Move, move, move_in, between, turns, settles, remembers, plain_memory, store_memory, store_phase, scene_in, drops_next, ordinal_next}
 use Rattle.dap_accessed.proofs.OneMore.{next_group, next_answers, one_more, answers_of}
 use Rattle.dap_accessed.proofs.Cuts.{present-more, added-is}

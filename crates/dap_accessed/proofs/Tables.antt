@@ -10,7 +10,7 @@ use Rattle.indexmap.specs.IndexMap.{set_value_at}
 use Rattle.rec_file.specs.declared.refusals.Refusal.{Refusal}
 use Rattle.rec_file.specs.Acts.{Operation, StreamVal, Acts, act, is_no_memory, LacksMemory, IsOutcome}
 use Rattle.rec_file.specs.Files.{FileVal}
-use Rattle.dap_accessed.specs.Standing.{Files, file_at, name_at, with_file, without_file}
+use Rattle.dap_accessed.specs.Standing.{Files, file_at, name_at, with_file}
 
 -- where two tests answer alike at every element of two lists of one length, the first that passes has one place
 prefix_len-alike : {X Y Z : Type 0} (f : X → Y) (g : X → Z) (p : Y → Bool) (q : Z → Bool) → ((x : X) → p (f x) ≡ q (g x))
@@ -58,7 +58,7 @@ module _ {K V : Type 0} (name : K → List ℕ) (file : V → FileVal) where
   with_file-map (e ∷ es) zero w = refl
   with_file-map (e ∷ es) (suc i) w = ap (λ (l : Files). view e ∷ l) (with_file-map es i w)
 
-  pub without-map : (es : List (K × V)) (i : ℕ) → map view (remove es i) ≡ without_file i (map view es)
+  pub without-map : (es : List (K × V)) (i : ℕ) → map view (remove es i) ≡ remove (map view es) i
   without-map [] zero = refl
   without-map [] (suc i) = refl
   without-map (e ∷ es) zero = refl

@@ -1,12 +1,13 @@
 -- Opening and making files, and what ends an access (DAP 5.6.0, Access and Access Complete messages).
 use Rattle.std.specs.Prelude.{ℕ, true, false, ◌==◌, if◌then◌else◌, List, [], ◌∷◌, ◌++◌, length, Option, Some, None}
+use Rattle.std.specs.List.{remove}
 use Rattle.dap_msg.specs.Codes as codes
 use Rattle.dap_msg.specs.declared.codes.Reason.TheVariants.{FileExists, BadAttributes}
 use Rattle.dap_msg.specs.Message.{Message, AccessFields}
 use Rattle.rec_file.specs.declared.shapes.Shape.{Shape}
 use Rattle.rec_file.specs.declared.picks.Rights.{Rights}
 use Rattle.dap_accessed.specs.declared.phase.OpenFile.{OpenFile}
-use Rattle.dap_accessed.specs.Standing.{Files, new_file, place_of, file_at, without_file, Place, Ready, Opened, Scene, Effect, enters, leaves}
+use Rattle.dap_accessed.specs.Standing.{Files, new_file, place_of, file_at, Place, Ready, Opened, Scene, Effect, enters, leaves}
 use Rattle.dap_accessed.specs.Replies.{bare_status, refused_access, opened_with, completed}
 
 abbrev pub rights_of : ℕ → Rights
@@ -52,7 +53,7 @@ access_file scene access shape =
 
 -- the files after a purge: one that this Access made is removed
 abbrev pub purged : OpenFile → Files → Files
-purged opened files = if opened.is_new then without_file opened.at files else files
+purged opened files = if opened.is_new then remove files opened.at else files
 
 -- by CMPFUNC, in a place in which a file is open; what the end of a stream does is given, since it depends on the place
 abbrev pub complete : (func : ℕ) → Scene → OpenFile → Place → (end_of_stream : Effect) → Effect

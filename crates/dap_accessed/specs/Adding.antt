@@ -1,5 +1,5 @@
 -- Files and records that an end is given before the peer's Config was served.
-use Rattle.std.specs.Prelude.{ℕ, ◌≡◌, ◌+◌, ◌-◌, ◌<◌, Bool, not, ◌&&◌, ◌||◌, nat_lt, List, [], ◌∷◌, ◌++◌, length, Some, None}
+use Rattle.std.specs.Prelude.{ℕ, ◌≡◌, ◌≢◌, ◌+◌, ◌-◌, ◌<◌, Bool, not, ◌&&◌, ◌||◌, nat_lt, List, [], ◌∷◌, ◌++◌, length, Some, None}
 use Rattle.rec_file.specs.declared.shapes.Shape.{Shape}
 use Rattle.rec_file.specs.declared.refusals.Refusal.{Refusal}
 use Rattle.rec_file.specs.declared.refusals.Refusal.TheVariants.{BadLength, NumberOutOfRange, RecordExists}
@@ -8,9 +8,18 @@ use Rattle.rec_file.specs.Files.{FileVal, highest_of, stored}
 use Rattle.rec_file.specs.Acts.{out_of_range, is_free, first_refusal}
 use Rattle.dap_accessed.specs.declared.fault.AddFault.{AddFault}
 use Rattle.dap_accessed.specs.declared.fault.AddFault.TheVariants as fault
-use Rattle.dap_accessed.specs.declared.phase.Phase.TheVariants as phases
-use Rattle.dap_accessed.specs.Standing.{Files, place_of, new_file, file_at, with_file}
-use Rattle.dap_accessed.specs.Present.{Present}
+use Rattle.dap_msg.specs.Items.{Item}
+use Rattle.dap_accessed.specs.Standing.{Files, place_of, new_file, file_at, with_file, Fresh}
+use Rattle.dap_accessed.specs.Groups.{stands_after}
+use Rattle.dap_accessed.specs.Present.{Present, StandsAfter}
+
+-- No Config was served, whatever items the end stands after.
+pub record IsFresh (p : Present) : Type 0 where
+  pub is : (first : Files) (items : List Item) → StandsAfter first items p → (stands_after p.own first items).standing.place ≡ Fresh
+
+-- One was.
+pub record IsLate (p : Present) : Type 0 where
+  pub isnt : (first : Files) (items : List Item) → StandsAfter first items p → (stands_after p.own first items).standing.place ≢ Fresh
 
 -- ---- A file.
 
@@ -20,12 +29,12 @@ with_new_file name shape files = files ++ (name, new_file shape) ∷ []
 
 -- no Config was served, and no file has this name
 abbrev pub MayAdd : Present → List ℕ → Type 0
-MayAdd p name = (p.phase ≡ phases.Fresh) × (place_of name p.files ≡ None)
+MayAdd p name = IsFresh p × (place_of name p.files ≡ None)
 
 -- why it isn't added, in the order of the tests
 abbrev pub AddRefused : Present → List ℕ → AddFault → Type 0
-AddRefused p name fault.Busy = p.phase ≡ phases.Fresh → ⊥
-AddRefused p name fault.FileExists = (p.phase ≡ phases.Fresh) × (place_of name p.files ≡ None → ⊥)
+AddRefused p name fault.Busy = IsLate p
+AddRefused p name fault.FileExists = IsFresh p × (place_of name p.files ≡ None → ⊥)
 AddRefused p name fault.NoMemory = MayAdd p name
 AddRefused p name _ = ⊥
 
@@ -55,13 +64,13 @@ with_record n body files = with_file (newest files) (stored (file_at (newest fil
 -- no Config was served, there is a file, and it takes the record
 abbrev pub MayAddRecord : Present → ℕ → List ℕ → Type 0
 MayAddRecord p n body =
-    (p.phase ≡ phases.Fresh) × (0 < length p.files) × MayStore (file_at (newest p.files) p.files) n body
+    IsFresh p × (0 < length p.files) × MayStore (file_at (newest p.files) p.files) n body
 
 abbrev pub RecordRefused : Present → ℕ → List ℕ → AddFault → Type 0
-RecordRefused p n body fault.Busy = p.phase ≡ phases.Fresh → ⊥
-RecordRefused p n body fault.NoFile = (p.phase ≡ phases.Fresh) × (p.files ≡ [])
+RecordRefused p n body fault.Busy = IsLate p
+RecordRefused p n body fault.NoFile = IsFresh p × (p.files ≡ [])
 RecordRefused p n body (fault.Record why) =
-    (p.phase ≡ phases.Fresh) × (0 < length p.files)
+    IsFresh p × (0 < length p.files)
     × (first_refusal (record_refusals (file_at (newest p.files) p.files) n body) ≡ Some why)
 RecordRefused p n body fault.NoMemory = MayAddRecord p n body
 RecordRefused p n body _ = ⊥

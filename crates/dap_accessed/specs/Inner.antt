@@ -1,4 +1,5 @@
 -- What only the contracts of private functions cite, and proofs: nobody has to believe it.
+pub mod Present
 pub mod Stored
 pub mod Tables
 pub mod Written

@@ -1,15 +1,10 @@
 -- What holds of an end after any items.
-use Rattle.std.specs.Prelude.{◌≢◌, ℕ, ◌<◌, ◌≤◌, [], ◌∷◌, length, IfSome}
-use Rattle.std.specs.List.{AllByRecursion}
+use Rattle.std.specs.Prelude.{ℕ, ◌<◌, ◌≤◌, length, IfSome, bytes_eq}
+use Rattle.std.specs.List.{AllByRecursion, IsDistinct}
 use Rattle.dap_msg.specs.BothEnds.{greatest_message, least_buffer}
 use Rattle.rec_file.specs.Files.{IsFile}
 use Rattle.dap_accessed.specs.Standing.{Files, Place, Fresh, Ready, Opened, Connected, Store, Stopped}
 use Rattle.dap_accessed.specs.Groups.{Grouped}
-
--- no two files have the same name
-abbrev pub AreDistinct : Files → Type 0
-AreDistinct [] = Unit {0}
-AreDistinct (f ∷ files) = AllByRecursion (λ other. other.0 ≢ f.0) files × AreDistinct files
 
 -- the file that is open is in the table
 abbrev pub IsOpenAt : Files → Place → Type 0
@@ -24,7 +19,8 @@ IsOpenAt files (Stopped opened stream) = opened.at < length files
 pub record AreFiles (table : Files) : Type 0 where
   -- each obeys its shape, which is one that the check gives
   pub files : AllByRecursion (λ f. IsFile f.1) table
-  pub distinct : AreDistinct table
+  -- no two have the same name
+  pub distinct : IsDistinct (λ f g. bytes_eq f.0 g.0) table
 
 pub record IsSoundAt (table : Files) (limit : ℕ) (place : Place) : Type 0 where
   pub files : AreFiles table

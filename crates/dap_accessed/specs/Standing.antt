@@ -1,6 +1,6 @@
 -- Where the accessed end stands between two groups of messages.
 use Rattle.std.specs.Prelude.{ℕ, List, [], get_or, set, Option, bytes_eq}
-use Rattle.std.specs.List.{position, remove}
+use Rattle.std.specs.List.{position}
 use Rattle.std.specs.FinMap as map
 use Rattle.dap_msg.specs.BothEnds.{least_buffer}
 use Rattle.dap_msg.specs.Message.{Message}
@@ -38,9 +38,6 @@ file_at n files = (get_or files n ([], new_file plain_shape)).1
 -- the files with another one at a place
 abbrev pub with_file : ℕ → FileVal → Files → Files
 with_file n file files = set files n (name_at n files, file)
-
-abbrev pub without_file : ℕ → Files → Files
-without_file n files = remove files n
 
 -- the file that is open
 abbrev pub the_file : Files → OpenFile → FileVal

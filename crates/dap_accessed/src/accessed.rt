@@ -3,7 +3,8 @@
 ghost use Rattle.std.specs.Prelude.{◌≡◌, ◌≤◌, ◌<◌, ℕ, List, [], ◌∷◌, length, IfOk, IsOk, IfSome, IsTrue, OnErr, true};
 ghost use Rattle.dap_msg.specs.BothEnds.{greatest_message, least_buffer};
 ghost use Rattle.dap_msg.specs.Items.{IsPlace, Item as TheItem, ItemAt, ItemFits, Whole, seen_item};
-ghost use Rattle.dap_msg.specs.Canon.{FieldsFit};
+ghost use Rattle.dap_msg.specs.Decoding.{IsSpelled};
+ghost use Rattle.dap_msg.specs.Inner.Fitting.{FieldsFit};
 ghost use Rattle.dap_msg.specs.Message.{Attrib, seen, seen_attributes};
 ghost use Rattle.dap_msg.specs.Codes.{status_code_for};
 ghost use Rattle.rec_file.specs.Shapes.{is_shape};
@@ -12,9 +13,9 @@ ghost use Rattle.dap_accessed.specs.Accesses.{fac_or, rights_of};
 ghost use Rattle.dap_accessed.specs.Replies.{bare_status, refused_access};
 ghost use Rattle.dap_accessed.specs.Past.{asked_shape};
 ghost use Rattle.dap_accessed.specs.Present.{StandsAfter};
-ghost use Rattle.dap_accessed.specs.Served.{Serves, is_silent};
+ghost use Rattle.dap_accessed.specs.Served.{IsSilent, Serves};
 ghost use Rattle.dap_accessed.specs.Standing.{Files};
-ghost use Rattle.dap_accessed.specs.Inner.Moves.{Makes, Takes, creates, misplaced, move, opens, opens_by, opens_nothing, refuses_item};
+ghost use Rattle.dap_accessed.specs.Inner.Moves.{Makes, Takes, creates, is_silent, misplaced, move, opens, opens_by, opens_nothing, refuses_item};
 ghost use Rattle.dap_accessed.specs.Inner.Written.{Answered, IsShort, message_of};
 ghost use Rattle.dap_accessed.specs.declared.phase.Phase.TheVariants as phases;
 
@@ -222,7 +223,7 @@ impl Accessed {
 
     fn serve_ready(&mut self, message: Message<'_>) -> Result<Option<Vec<Vec<u8>>>, NoMemory>
         requires phase { self.old.phase ≡ phases.Ready }
-        requires fields { FieldsFit (seen message) }
+        requires spelled { IsSpelled (seen message) }
         ensures takes { Takes phases.Ready (seen message.entry) self.old self.new result }
         ensures err { OnErr result (self.new ≡ self.old) }
         ensures silent { is_silent self.old.phase (Whole (seen message.entry)) ≡ true
@@ -322,8 +323,9 @@ impl Accessed {
         ensures within { IfOk result (λ served. served.next ≤ length nsp_message.now) }
         ensures further { at < length nsp_message.now → IfOk result (λ served. at < served.next) }
         ensures no_memory { OnErr result (self.new ≡ self.old) }
-        ensures unrefused { (item : TheItem) (next : ℕ) → ItemAt nsp_message.now at item next
-            → is_silent self.old.phase item ≡ true → IsOk result }
+        ensures unrefused { (first : Files) (items : List TheItem) (item : TheItem) (next : ℕ)
+            → StandsAfter first items self.old → ItemAt nsp_message.now at item next
+            → IsSilent self.old.own first items item → IsOk result }
     {
         let (item, next) = item_at(nsp_message, at);
         self.serve_item(item, next)
@@ -337,7 +339,9 @@ impl Accessed {
             → IfOk result (Serves bytes at self.old self.new) }
         ensures next { IfOk result (λ served. served.next ≡ next) }
         ensures no_memory { OnErr result (self.new ≡ self.old) }
-        ensures unrefused { is_silent self.old.phase (seen_item item.entry) ≡ true → IsOk result }
+        ensures unrefused { (first : Files) (items : List TheItem)
+            → StandsAfter first items self.old
+            → IsSilent self.old.own first items (seen_item item.entry) → IsOk result }
     {
         let _ = &self.limit;
         let answers = self.answer_item(item)?;
@@ -374,7 +378,7 @@ impl Accessed {
 
     /// The answers to a message, or none where it has no place.
     fn serve_message(&mut self, message: Message<'_>) -> Result<Option<Vec<Vec<u8>>>, NoMemory>
-        requires { FieldsFit (seen message) }
+        requires { IsSpelled (seen message) }
         ensures takes { Takes self.old.phase (seen message.entry) self.old self.new result }
         ensures err { OnErr result (self.new ≡ self.old) }
         ensures silent { is_silent self.old.phase (Whole (seen message.entry)) ≡ true

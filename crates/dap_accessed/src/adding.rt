@@ -5,9 +5,8 @@ ghost use Rattle.rec_file.specs.Shapes.{is_shape};
 ghost use Rattle.rec_file.specs.AnyFiles.{any_value};
 ghost use Rattle.dap_accessed.specs.Standing.{Files};
 ghost use Rattle.dap_accessed.specs.Present.{StandsAfter};
-ghost use Rattle.dap_accessed.specs.Adding.{MayAdd, AddRefused, with_new_file, MayAddRecord, RecordRefused, with_record, leaves_gap};
+ghost use Rattle.dap_accessed.specs.Adding.{IsFresh, IsLate, MayAdd, AddRefused, with_new_file, MayAddRecord, RecordRefused, with_record, leaves_gap};
 ghost use Rattle.dap_accessed.specs.Inner.Storing.{Stores};
-ghost use Rattle.dap_accessed.specs.declared.phase.Phase.TheVariants as phases;
 
 use crate::accessed::{Accessed, PLAIN};
 use crate::fault::AddFault;
@@ -78,8 +77,8 @@ impl Accessed {
 
     /// Whether the end waits for the peer's Config.
     fn is_fresh(&self) -> bool
-        ensures yes { result ≡ true → self.now.phase ≡ phases.Fresh }
-        ensures no { result ≡ false → self.now.phase ≡ phases.Fresh → ⊥ }
+        ensures yes { result ≡ true → IsFresh self.now }
+        ensures no { result ≡ false → IsLate self.now }
     {
         match self.phase {
             Phase::Fresh => true,

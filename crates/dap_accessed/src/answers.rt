@@ -101,7 +101,7 @@ fn attributes(shape: Shape, mrn: &[u8]) -> Message<'_>
 }
 
 /// A record, with its number in these four bytes.
-#[tactic(auto, using(dap_msg::proofs::ForCallers::file_data_measured))]
+#[tactic(auto, using(dap_msg::proofs::ForCallers::file_data_measured, dap_msg::proofs::ForCallers::file_data_fits))]
 fn record<'a>(number: &'a [u8], body: &'a [u8]) -> Message<'a>
     requires four { length number.now ≡ 4 }
     requires short { length body.now ≤ longest_record }
@@ -116,7 +116,7 @@ fn record<'a>(number: &'a [u8], body: &'a [u8]) -> Message<'a>
 }
 
 /// How many bytes the Filedata of a record has, with its number in 4 bytes.
-#[tactic(auto, using(dap_msg::proofs::ForCallers::file_data_measured))]
+#[tactic(auto, using(dap_msg::proofs::ForCallers::file_data_measured, dap_msg::proofs::ForCallers::file_data_fits))]
 pub(crate) fn filedata_len(body: &[u8]) -> usize
     requires { length body.now ≤ longest_record }
     ensures { result ≡ file_data_size 4 (length body.now) }

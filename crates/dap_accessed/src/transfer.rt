@@ -3,12 +3,11 @@
 ghost use Rattle.std.specs.Prelude.{◌≡◌, ◌≤◌, ◌<◌, ◌+◌, length, IfOk, IsOk, OnErr, true};
 ghost use Rattle.dap_msg.specs.Items.{Whole};
 ghost use Rattle.dap_msg.specs.Message.{seen};
-ghost use Rattle.dap_accessed.specs.Inner.Moves.{HasFetched, IsOpenIn, Makes, Takes, does, fetched_phase, fetches, scene_in, store_phase, stores};
+ghost use Rattle.dap_accessed.specs.Inner.Moves.{HasFetched, IsOpenIn, Makes, Takes, does, fetched_phase, fetches, is_silent, scene_in, store_phase, stores};
 ghost use Rattle.dap_accessed.specs.Inner.Written.{IsShort, message_of};
 ghost use Rattle.dap_accessed.specs.Transfers.{continue_fetch, continue_refused};
 ghost use Rattle.rec_file.specs.Limits.{greatest_number};
 ghost use Rattle.dap_accessed.specs.Records.{at_number};
-ghost use Rattle.dap_accessed.specs.Served.{is_silent};
 ghost use Rattle.dap_accessed.specs.declared.phase.Phase.TheVariants as phases;
 
 use crate::accessed::Accessed;

@@ -11,7 +11,7 @@ use Rattle.dap_accessing.specs.Request.{Request}
 use Rattle.dap_accessing.specs.declared.report.Report.{Report}
 use Rattle.dap_accessing.specs.declared.report.Report.TheVariants as report
 use Rattle.dap_msg.specs.Codes.{is_success}
-use Rattle.dap_accessing.specs.Told.{Hearing, Reports, Waits, Unexpected, refusal, hear, hear_config, hear_ack, opened_as, hear_record, hear_done, ending_of, reason_in, told_of, hear_closed, Told}
+use Rattle.dap_accessing.specs.Told.{Hearing, Reports, Waits, Unexpected, refusal, hear, hear_config, hear_ack, opened_as, hear_record, hear_done, ending_of, reason_in, told_of, hear_closed, Told, Due, AnswersDue, Wrong, due_after}
 use Rattle.dap_accessing.specs.declared.pending.Pending.{Pending}
 use Rattle.dap_accessing.specs.declared.pending.Pending.TheVariants as pending
 use Rattle.dap_accessing.specs.Inner.Hears.{pending_of}
@@ -130,7 +130,7 @@ told_by requests Unexpected = []
 
 pub Told-told_by : (request : Request) (requests : List Request) (answers : List Item) → Told (request ∷ requests) answers ≡ told_by requests (hear request answers)
 Told-told_by request requests answers =
-    elim (hear request answers) as (λ (h : Hearing). ◌≡◌ {A = List Report} (elim h [ Reports done rest ↦ done ∷ Told requests rest | Waits ↦ [] | Unexpected ↦ [] ]) (told_by requests h)) [
+    elim (hear request answers) as (λ (h : Hearing). ◌≡◌ {A = List Report} (let all : List Report × Due = elim h [ Reports done rest ↦ (done ∷ Told requests rest, due_after requests rest) | Waits ↦ ([], AnswersDue request answers) | Unexpected ↦ ([], Wrong) ] in all.0) (told_by requests h)) [
       | Reports done rest ↦ refl
       | Waits ↦ refl
       | Unexpected ↦ refl

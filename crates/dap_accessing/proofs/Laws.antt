@@ -14,9 +14,10 @@ use Rattle.dap_accessing.specs.declared.phase.Phase.TheVariants.{Fresh}
 use Rattle.dap_msg.specs.Sendable.{AreSendable}
 use Rattle.dap_accessing.specs.Phase.{phase_next, phase_after, limit_next, limit_after, IsNoneDue, phase_fits, IsRefused}
 use Rattle.dap_accessing.specs.Inner.Hears.{pending_of, HasNoPlace, HasPlace, Takes}
-use Rattle.dap_accessing.specs.Present.{Present, StandsAfter, FitsDue}
+use Rattle.dap_accessing.specs.Inner.Present.{Present, StandsAfter, FitsDue}
 use Rattle.dap_accessing.specs.Inner.Gathers.{gather}
-use Rattle.dap_accessing.specs.Calls.{IsAdmittedBy, MayAsk, Asks, Reads, ReadRefused}
+use Rattle.dap_accessing.specs.Calls.{IsAdmittedBy, Asks, Reads, ReadRefused}
+use Rattle.dap_accessing.specs.Inner.MayAsk.{MayAsk}
 use Rattle.dap_msg.specs.Blocked.{Blocked, all_joined}
 use Rattle.dap_accessing.specs.Asked.{messages_of}
 use Rattle.dap_accessing.specs.declared.fault.AskFault.TheVariants as fault
@@ -35,7 +36,7 @@ due_by request requests answers Unexpected = Wrong
 
 pub due-due_by : (request : Request) (requests : List Request) (answers : List Item) → due_after (request ∷ requests) answers ≡ due_by request requests answers (hear request answers)
 due-due_by request requests answers =
-    elim (hear request answers) as (λ (h : Hearing). ◌≡◌ {A = Due} (elim h [ Reports done rest ↦ due_after requests rest | Waits ↦ AnswersDue request answers | Unexpected ↦ Wrong ]) (due_by request requests answers h)) [
+    elim (hear request answers) as (λ (h : Hearing). ◌≡◌ {A = Due} (let all : List Report × Due = elim h [ Reports done rest ↦ (done ∷ Told requests rest, due_after requests rest) | Waits ↦ ([], AnswersDue request answers) | Unexpected ↦ ([], Wrong) ] in all.1) (due_by request requests answers h)) [
       | Reports done rest ↦ refl
       | Waits ↦ refl
       | Unexpected ↦ refl
@@ -392,8 +393,12 @@ pub asks_of : (request : Request) (old : Present) (p : Pending) (messages : List
 asks_of request old p messages may spelled e =
     record {
       works = may.works;
-      spelled = spelled;
       admissible = admit request old may;
+      limit = old.limit;
+      is_limit = λ requests answers s. s.limit;
+      most = may.most;
+      sendable = may.sendable;
+      spelled = spelled;
       stands = λ requests answers s. subst (λ q. StandsAfter (requests ++ request ∷ []) answers (record old { pending = Some q })) (sym e) (stands_asked request old may.none_due requests answers s);
       told = λ requests answers s. (asked_one requests answers request (nothing_due old may.none_due requests answers s)).told;
     }

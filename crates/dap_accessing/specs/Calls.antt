@@ -1,5 +1,5 @@
 -- What `ask` and `read` come to.
-use Rattle.std.specs.Prelude.{ℕ, ◌≡◌, ◌≤◌, Bool, true, false, List, [], ◌∷◌, ◌++◌, None, option_to_list}
+use Rattle.std.specs.Prelude.{ℕ, ◌≡◌, ◌≤◌, Bool, true, false, List, [], ◌∷◌, ◌++◌, option_to_list}
 use Rattle.dap_msg.specs.Items.{Item, ItemAt}
 use Rattle.dap_msg.specs.Blocked.{Blocked, all_joined}
 use Rattle.dap_msg.specs.Sendable.{AreSendable}
@@ -12,7 +12,7 @@ use Rattle.dap_accessing.specs.declared.fault.ReadFault.{ReadFault}
 use Rattle.dap_accessing.specs.declared.fault.ReadFault.TheVariants as read_fault
 use Rattle.dap_accessing.specs.Asked.{messages_of}
 use Rattle.dap_accessing.specs.Told.{Told, is_unexpected}
-use Rattle.dap_accessing.specs.Phase.{phase_fits, IsAdmissible, IsRefused}
+use Rattle.dap_accessing.specs.Phase.{limit_after, IsAdmissible, IsRefused}
 use Rattle.dap_accessing.specs.Present.{Present, StandsAfter}
 
 -- the request is admissible, whatever requests and answers the end stands after
@@ -20,19 +20,16 @@ abbrev pub IsAdmittedBy : Present → Request → Type 0
 IsAdmittedBy old request =
     (requests : List Request) (answers : List Item) → StandsAfter requests answers old → IsAdmissible old.own requests answers request
 
--- the end may ask the request as it stands: the request is admissible by what the end keeps
-pub record MayAsk (old : Present) (request : Request) : Type 0 where
-  pub works : old.failed ≡ false
-  pub none_due : old.pending ≡ None
-  pub in_phase : phase_fits old.phase request ≡ true
-  pub sendable : AreSendable old.limit (messages_of old.own request)
-  pub most : old.limit ≤ greatest_message
-
--- The request is asked: it was admissible, these NSP messages are its messages, blocked, and the end stands as after it too.
+-- The request is asked: it was admissible, these NSP messages are its messages, joined as far as the peer's limit goes, and
+-- the end stands as after it too.
 pub record Asks (request : Request) (old new : Present) (messages : List (List ℕ)) : Type 0 where
   pub works : old.failed ≡ false
-  pub spelled : messages ≡ all_joined (Blocked old.limit (messages_of old.own request))
   pub admissible : IsAdmittedBy old request
+  pub limit : ℕ
+  pub is_limit : (requests : List Request) (answers : List Item) → StandsAfter requests answers old → limit ≡ limit_after (Told requests answers)
+  pub most : limit ≤ greatest_message
+  pub sendable : AreSendable limit (messages_of old.own request)
+  pub spelled : messages ≡ all_joined (Blocked limit (messages_of old.own request))
   pub stands : (requests : List Request) (answers : List Item) → StandsAfter requests answers old → StandsAfter (requests ++ request ∷ []) answers new
   -- asking alone tells nothing more
   pub told : (requests : List Request) (answers : List Item) → StandsAfter requests answers old →

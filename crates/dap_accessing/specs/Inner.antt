@@ -1,4 +1,6 @@
 -- What only the contracts of private functions cite, and proofs: nobody has to believe it.
+pub mod Present
+pub mod MayAsk
 pub mod Gathers
 pub mod Hears
 pub mod Outgoing

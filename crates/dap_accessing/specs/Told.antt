@@ -181,31 +181,27 @@ hear (Continue _) answers = hear_batch answers
 hear Close answers = hear_closed answers
 hear Purge answers = hear_closed answers
 
--- the reports, one for each request whose answers are complete
-abbrev pub Told : List Request → List Item → List Report
-Told [] answers = []
-Told (request ∷ requests) answers =
-    elim (hear request answers) [
-      | Reports done rest ↦ done ∷ Told requests rest
-      | Waits ↦ []
-      | Unexpected ↦ []
-    ]
-
 -- What is due after requests and answers: nothing; more answers to a request, after these; or an answer had no place.
 pub data Due : Type 0 where
   NothingDue : Due
   AnswersDue : Request → (so_far : List Item) → Due
   Wrong : Due
 
-abbrev pub due_after : List Request → List Item → Due
-due_after [] [] = NothingDue
-due_after [] (answer ∷ answers) = Wrong
-due_after (request ∷ requests) answers =
+-- the reports, one for each request whose answers are complete, and what is due then
+abbrev pub hear_all : List Request → List Item → List Report × Due
+hear_all [] answers = ([], elim answers [ [] ↦ NothingDue | _ ∷ _ ↦ Wrong ])
+hear_all (request ∷ requests) answers =
     elim (hear request answers) [
-      | Reports done rest ↦ due_after requests rest
-      | Waits ↦ AnswersDue request answers
-      | Unexpected ↦ Wrong
+      | Reports done rest ↦ let later = hear_all requests rest in (done ∷ later.0, later.1)
+      | Waits ↦ ([], AnswersDue request answers)
+      | Unexpected ↦ ([], Wrong)
     ]
+
+abbrev pub Told : List Request → List Item → List Report
+Told requests answers = (hear_all requests answers).0
+
+abbrev pub due_after : List Request → List Item → Due
+due_after requests answers = (hear_all requests answers).1
 
 -- an answer has no place after these requests and answers
 abbrev pub is_unexpected : List Request → List Item → Item → Bool

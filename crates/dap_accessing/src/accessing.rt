@@ -9,8 +9,11 @@ ghost use Rattle.dap_msg.specs.Blocked.{bodies};
 ghost use Rattle.dap_accessing.specs.Inner.Hears.{HasShortNumbers, Takes};
 ghost use Rattle.dap_accessing.specs.Present.{Present, StandsAfter};
 ghost use Rattle.dap_msg.specs.Items.{IsPlace};
-ghost use Rattle.dap_accessing.specs.Calls.{Asks, AskRefused, IsAdmittedBy, MayAsk, Reads, ReadRefused};
+ghost use Rattle.dap_accessing.specs.Calls.{Asks, AskRefused, IsAdmittedBy, Reads, ReadRefused};
+ghost use Rattle.dap_accessing.specs.Inner.MayAsk.{MayAsk};
 ghost use Rattle.dap_accessing.specs.Told.{Told};
+ghost use Rattle.dap_accessing.specs.Asked.{messages_of};
+ghost use Rattle.dap_accessing.specs.Inner.Outgoing.{outgoing_messages};
 ghost use Rattle.dap_accessing.specs.Request.{Request as TheRequest};
 ghost use Rattle.dap_accessing.specs.declared.report.Report.{Report as TheReport};
 
@@ -92,8 +95,10 @@ impl Accessing {
         ensures unchanged { OnErr result (self.new ≡ self.old) }
         ensures own { self.new.own ≡ self.old.own }
     {
-        self.check(request)?;
-        self.ask_checked(request)
+        let number = carried_number(request).to_le_bytes();
+        let outgoing = Outgoing::of(self.bufsiz, request, &number);
+        self.admit(request, &outgoing)?;
+        self.send(request, &outgoing)
     }
 
     /// The same of a request that `check` lets through. It isn't looked at again, and refused for
@@ -107,7 +112,19 @@ impl Accessing {
         ensures own { self.new.own ≡ self.old.own }
     {
         let number = carried_number(request).to_le_bytes();
-        let outgoing = Outgoing::of(self.bufsiz, request, &number);
+        self.send(request, &Outgoing::of(self.bufsiz, request, &number))
+    }
+
+    /// Asks a request, whose messages these are.
+    fn send(&mut self, request: &Request, outgoing: &Outgoing<'_>) -> Result<Vec<Vec<u8>>, AskFault>
+        requires same { outgoing_messages outgoing.now ≡ messages_of self.old.own request.now }
+        requires may { MayAsk self.old request.now }
+        ensures asks { IfOk result
+            (λ messages. Asks request.now self.old self.new (bodies messages.items)) }
+        ensures refused { IfErr result (λ f. f ≡ NoMemory) }
+        ensures unchanged { OnErr result (self.new ≡ self.old) }
+        ensures own { self.new.own ≡ self.old.own }
+    {
         let Ok(messages) = outgoing.blocked(self.alloc, self.limit) else {
             return Err(AskFault::NoMemory);
         };
@@ -122,6 +139,18 @@ impl Accessing {
         ensures may { OnOk result (MayAsk self.now request.now) }
         ensures refused { IfErr result (λ f. (f ≢ NoMemory) × AskRefused request.now self.now f) }
     {
+        let number = carried_number(request).to_le_bytes();
+        self.admit(request, &Outgoing::of(self.bufsiz, request, &number))
+    }
+
+    /// Whether a request is admissible, whose messages these are.
+    fn admit(&self, request: &Request, outgoing: &Outgoing<'_>) -> Result<(), AskFault>
+        requires { outgoing_messages outgoing.now ≡ messages_of self.now.own request.now }
+        ensures works { OnOk result (self.now.failed ≡ false) }
+        ensures admissible { OnOk result (IsAdmittedBy self.now request.now) }
+        ensures may { OnOk result (MayAsk self.now request.now) }
+        ensures refused { IfErr result (λ f. (f ≢ NoMemory) × AskRefused request.now self.now f) }
+    {
         if self.failed {
             return Err(AskFault::Failed);
         }
@@ -131,8 +160,7 @@ impl Accessing {
         if !self.phase.fits(request) {
             return Err(AskFault::WrongPhase);
         }
-        let number = carried_number(request).to_le_bytes();
-        if !Outgoing::of(self.bufsiz, request, &number).is_sendable(self.limit) {
+        if !outgoing.is_sendable(self.limit) {
             return Err(AskFault::TooLarge);
         }
         Ok(())
@@ -206,9 +234,12 @@ pub fn reports_grow()
         × (Told requests (answers ++ more) ≡ Told requests answers ++ reports) }
 {}
 
-/// What an end keeps follows from the requests and answers that it stands after, and from its own buffer. Own.
+/// What an end keeps follows from the requests and answers that it stands after, and from its own buffer; and it
+/// works. Own.
 pub fn standing_is_one()
-    ensures { (requests : List TheRequest) (answers : List TheItem) (one two : Present)
+    ensures one { (requests : List TheRequest) (answers : List TheItem) (one two : Present)
         → StandsAfter requests answers one → StandsAfter requests answers two
         → one.own ≡ two.own → one ≡ two }
+    ensures works { (requests : List TheRequest) (answers : List TheItem) (end : Present)
+        → StandsAfter requests answers end → end.failed ≡ false }
 {}

@@ -8,13 +8,11 @@ use Rattle.dap_world.specs.declared.event.End.{End}
 use Rattle.dap_world.specs.declared.event.Event.{Event}
 use Rattle.dap_world.specs.declared.event.Step.{Step}
 use Rattle.dap_world.specs.declared.event.Step.TheVariants as step
-use Rattle.dap_world.specs.declared.event.WorldFault.{WorldFault}
 use Rattle.dap_world.specs.declared.setup.WorldSetup.{WorldSetup}
 use Rattle.dap_world.specs.Machine.{State, Sending, files_of, fresh}
 use Rattle.dap_world.specs.Setups.{IsWorldSetup}
 use Rattle.dap_world.specs.Wires.{IsOnWire}
 use Rattle.dap_world.proofs.ForCallers.{no_step, one_on_wire, one_reason, one_step}
-use Rattle.dap_capture.specs.Orders.{setup_of}
 use Rattle.dap_text.specs.Reports.{report_text}
 use Rattle.dap_capture.specs.Schedules.{Numbered, events_of, said}
 use Rattle.dap_text.specs.Tables.{files_text}
@@ -37,14 +35,13 @@ same_setup : (a b : WorldSetup) (x : _) → x ≡ Some a → x ≡ Some b → b 
 same_setup a b x e f = cc
 
 one_packet : (s : State) (end : End) (place : ℕ) (a b : List ℕ) → IsPacketWritten s end place a → IsPacketWritten s end place b → a ≡ b
-one_packet s end place a b one two =
-    let sending = same_sending one.packet.sending two.packet.sending _ one.packet.written two.packet.written in
-    let bytes = one_on_wire s end one.packet.sending one.bytes two.bytes one.packet.packet (subst (λ (p : Sending). IsOnWire s end p two.bytes) sending two.packet.packet) in
-    one.printed ∙ ap (λ (x : List ℕ). concat (codes "packet " ∷ end_text end ∷ codes " " ∷ decimal place ∷ codes " " ∷ encode_lower x ∷ [])) bytes ∙ sym two.printed
+one_packet s end place a b (sending, at, bytes, packet, printed) (sending', at', bytes', packet', printed') =
+    let same = one_on_wire s end sending bytes bytes' packet (subst (λ (p : Sending). IsOnWire s end p bytes') (same_sending sending sending' _ at at') packet') in
+    printed ∙ ap (λ (x : List ℕ). concat (codes "packet " ∷ end_text end ∷ codes " " ∷ decimal place ∷ codes " " ∷ encode_lower x ∷ [])) same ∙ sym printed'
 
 one_report : (s : State) (a b : List ℕ) → IsReported s a → IsReported s b → a ≡ b
-one_report s a b one two =
-    one.printed ∙ ap (λ (r : Report). codes "report " ++ report_text r) (same_report one.report two.report _ one.newest two.newest) ∙ sym two.printed
+one_report s a b (report, newest, printed) (report', newest', printed') =
+    printed ∙ ap (λ (r : Report). codes "report " ++ report_text r) (same_report report report' _ newest newest') ∙ sym printed'
 
 one_answer : (s : State) (e : Event) (answer : Step) (a b : List ℕ) → IsStepText s e answer a → IsStepText s e answer b → a ≡ b
 one_answer s e (step.Asked count) a b one two = one ∙ sym two

@@ -2,3 +2,4 @@
 pub mod Checking
 pub mod Playing
 pub mod Orders
+pub mod Schedules

@@ -20,9 +20,9 @@ one_end event = field end_of (λ end. ends (event end))
 abbrev pub end_and_number : (End → ℕ → Event) → Words → Option Event
 end_and_number event = field end_of (λ end. field long (λ number. ends (event end number)))
 
--- the first word, and those after it
-abbrev pub event_words : Words → Option Event
-event_words = one_of (
+-- the event that a line says, by its first word and those after it
+abbrev pub event_of : List ℕ → Option Event
+event_of line = one_of (
     word (codes "ask") (λ words. option_map event.Ask (request_of words))
     ∷ word (codes "post") (one_end event.Post)
     ∷ word (codes "emit") (one_end event.Emit)
@@ -31,18 +31,10 @@ event_words = one_of (
     ∷ word (codes "deliver") (end_and_number event.Deliver)
     ∷ word (codes "serve") (ends event.Serve)
     ∷ word (codes "read") (ends event.Read)
-    ∷ [])
+    ∷ []) (words_of line)
 
--- the event that a line says
-abbrev pub event_of : List ℕ → Option Event
-event_of line = event_words (words_of line)
-
--- SEG WINDOW BUFA BUFB
-abbrev pub sizes_of : Words → Option WorldSetup
-sizes_of =
-    field long (λ seg_size. field long (λ window. field short (λ bufsiz_a. field short (λ bufsiz_b.
-    ends (record { seg_size = seg_size; window = window; bufsiz_a = bufsiz_a; bufsiz_b = bufsiz_b })))))
-
--- the setup that a line says: `setup`, and the sizes
+-- the setup that a line says: setup SEG WINDOW BUFA BUFB
 abbrev pub setup_of : List ℕ → Option WorldSetup
-setup_of line = word (codes "setup") sizes_of (words_of line)
+setup_of line =
+    word (codes "setup") (field long (λ seg_size. field long (λ window. field short (λ bufsiz_a. field short (λ bufsiz_b.
+    ends (record { seg_size = seg_size; window = window; bufsiz_a = bufsiz_a; bufsiz_b = bufsiz_b })))))) (words_of line)

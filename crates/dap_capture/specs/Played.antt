@@ -39,24 +39,16 @@ abbrev pub end_text : End → List ℕ
 end_text A = codes "a"
 end_text B = codes "b"
 
--- these are the bytes of the packet at a place of an end's wire
-pub record IsPacketAt (s : State) (end : End) (place : ℕ) (bytes : List ℕ) : Type 0 where
-  pub sending : Sending
-  pub written : slice_get (end_of s end).wire place ≡ Some sending
-  pub packet : IsOnWire s end sending bytes
-
 -- the packet at a place of an end's wire, in hex
-pub record IsPacketWritten (s : State) (end : End) (place : ℕ) (text : List ℕ) : Type 0 where
-  pub bytes : List ℕ
-  pub packet : IsPacketAt s end place bytes
-  pub printed :
-      text ≡ concat (codes "packet " ∷ end_text end ∷ codes " " ∷ decimal place ∷ codes " " ∷ encode_lower bytes ∷ [])
+abbrev pub IsPacketWritten : State → End → (place : ℕ) → (text : List ℕ) → Type 0
+IsPacketWritten s end place text =
+    (sending : Sending) × (slice_get (end_of s end).wire place ≡ Some sending) × (bytes : List ℕ) × IsOnWire s end sending bytes
+    × (text ≡ concat (codes "packet " ∷ end_text end ∷ codes " " ∷ decimal place ∷ codes " " ∷ encode_lower bytes ∷ []))
 
 -- the newest report
-pub record IsReported (s : State) (text : List ℕ) : Type 0 where
-  pub report : Report
-  pub newest : slice_get (reported s) (length (reported s) - 1) ≡ Some report
-  pub printed : text ≡ codes "report " ++ report_text report
+abbrev pub IsReported : State → (text : List ℕ) → Type 0
+IsReported s text =
+    (report : Report) × (slice_get (reported s) (length (reported s) - 1) ≡ Some report) × (text ≡ codes "report " ++ report_text report)
 
 -- what is printed of an event that came to this step and left this state
 abbrev pub IsStepText : State → Event → Step → List ℕ → Type 0

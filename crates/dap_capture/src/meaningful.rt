@@ -1,7 +1,7 @@
 //! The lines of a schedule that say something.
 
 ghost use Rattle.std.specs.Prelude.{◌≡◌, ◌≤◌, ◌+◌, ◌∷◌, [], length, IfSome, MatchOption};
-ghost use Rattle.dap_capture.specs.Schedules.{said, said_from};
+ghost use Rattle.dap_capture.specs.Inner.Schedules.{said_from};
 
 use dap_listing::{INPUT_LIMIT, next_line};
 use linewise::is_skipped;
@@ -37,7 +37,8 @@ pub(crate) struct MeaningfulLines<'a> {
 
 impl<'a> Model for MeaningfulLines<'a> {
     ghost use Rattle.std.specs.Prelude.{List, ◌+◌, ◌≤◌, length};
-    ghost use Rattle.dap_capture.specs.Schedules.{Numbered, said_from};
+    ghost use Rattle.dap_capture.specs.Inner.Schedules.{said_from};
+    ghost use Rattle.dap_capture.specs.Schedules.{Numbered};
 
     ghost Value = { List Numbered };
 

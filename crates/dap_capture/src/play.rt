@@ -1,7 +1,8 @@
 //! Playing a schedule.
 
-ghost use Rattle.std.specs.Prelude.{◌≡◌, ◌≤◌, ◌+◌, [], IfErr, IfOk, IsSome, MatchResult, length, slice_get};
+ghost use Rattle.std.specs.Prelude.{◌≡◌, ◌≤◌, ◌+◌, IfErr, IfOk, length};
 ghost use Rattle.std.specs.List.{filter_map};
+ghost use Rattle.dap_world.specs.Runs.{Went};
 ghost use Rattle.dap_capture.specs.Inner.Checking.{TellsFirst, TellsFirstOrWants, TellsFirstThenWants};
 ghost use Rattle.dap_capture.specs.Inner.Orders.{event_of_order};
 ghost use Rattle.dap_capture.specs.Inner.Playing.{PlaysOne};
@@ -14,7 +15,7 @@ use crate::orders::{Order, read_order, read_setup};
 use crate::steps::{push_event, push_refusal, refusal_word};
 use dap_listing::{CaptureFault, INPUT_LIMIT, Outcome};
 use dap_text::push_files;
-use dap_world::{Event, World, WorldFault};
+use dap_world::{Event, Step, World, WorldFault};
 use std::alloc::Global;
 
 /// Whether the lines are events, or else the first fault.
@@ -47,33 +48,17 @@ fn check_schedule(input: &[u8]) -> Result<(), CaptureFault>
     check_orders(lines)
 }
 
-/// Plays an event and appends its line. It is stopped where the event is refused.
-fn play_event(
-    text: &mut Vec<u8>,
-    number: usize,
-    world: &mut World,
-    event: &Event,
-) -> Result<Outcome, CaptureFault>
-    ensures plays { IfOk result (PlaysOne number event.now world.old world.new
-        text.old.items text.new.items) }
-    ensures fault { IfErr result (λ fault. fault ≡ CaptureFault.NoMemory) }
+/// The event happens; a request is given away.
+fn happen(world: &mut World, event: Event) -> Result<Step, WorldFault>
+    ensures { Went world.old event result world.new }
 {
-    match world.apply(event) {
-        Ok(step) => {
-            push_event(text, number, world, event, step)?;
-            Ok(Outcome::Good)
-        }
-        Err(fault) => {
-            let Some(word) = refusal_word(fault) else {
-                return Err(CaptureFault::NoMemory);
-            };
-            push_refusal(text, number, word)?;
-            Ok(Outcome::Stopped)
-        }
+    match event {
+        Event::Ask(request) => world.ask(request),
+        other => world.apply(&other),
     }
 }
 
-/// Plays the event that a line says.
+/// Plays the event that a line says and appends its line. It is stopped where the event is refused.
 fn play_order<'a>(
     alloc: Global,
     text: &mut Vec<u8>,
@@ -86,7 +71,19 @@ fn play_order<'a>(
     ensures fault { IfErr result (λ fault. fault ≡ CaptureFault.NoMemory) }
 {
     let event = order.to_event(alloc)?;
-    play_event(text, number, world, &event)
+    match happen(world, event) {
+        Ok(step) => {
+            push_event(text, number, world, order, step)?;
+            Ok(Outcome::Good)
+        }
+        Err(fault) => {
+            let Some(word) = refusal_word(fault) else {
+                return Err(CaptureFault::NoMemory);
+            };
+            push_refusal(text, number, word)?;
+            Ok(Outcome::Stopped)
+        }
+    }
 }
 
 /// Plays the events of lines, up to the first that is refused, and answers what they came to and

@@ -1,15 +1,18 @@
 //! What a schedule prints of its events.
 
-ghost use Rattle.std.specs.Prelude.{◌≡◌, ◌<◌, ◌++◌, ℕ, List, OnOk, None, codes, length, option_copied};
+ghost use Rattle.std.specs.Prelude.{◌≡◌, ◌<◌, OnOk, length, option_copied};
 ghost use Rattle.dap_world.specs.Machine.{reported, end_of};
-ghost use Rattle.dap_world.specs.Runs.{NamedIsThere, writer_of};
+ghost use Rattle.dap_world.specs.Inner.Naming.{NamedIsThere};
+ghost use Rattle.dap_world.specs.Runs.{writer_of};
 ghost use Rattle.dap_text.specs.Adding.{Adds};
 ghost use Rattle.dap_text.specs.Adding.{AddsSome};
-ghost use Rattle.dap_capture.specs.Inner.Playing.{AddsStep};
-ghost use Rattle.dap_capture.specs.Played.{IsPacketAt, IsPacketWritten, IsReported, IsStepText, end_text, refusal_line, refusal_text};
+ghost use Rattle.dap_capture.specs.Inner.Orders.{event_of_order};
+ghost use Rattle.dap_capture.specs.Inner.Playing.{AddsStep, IsPacketAt};
+ghost use Rattle.dap_capture.specs.Played.{IsPacketWritten, IsReported, IsStepText, end_text, refusal_line, refusal_text};
 
+use crate::orders::Order;
 use dap_text::{ask_word, got_word, push_decimal, push_hex, push_number, push_report, push_str};
-use dap_world::{End, Event, Step, World, WorldFault};
+use dap_world::{End, Step, World, WorldFault};
 use std::alloc::AllocError;
 
 /// The word for an end.
@@ -36,12 +39,12 @@ pub(crate) fn refusal_word(fault: WorldFault) -> Option<&'static str>
     }
 }
 
-/// The end that writes a packet in this event.
-fn writing_end(event: &Event) -> Option<End>
-    ensures { result ≡ writer_of event.now }
+/// The end that writes a packet in the event of this order.
+fn writing_end<'a>(order: &Order<'a>) -> Option<End>
+    ensures { result ≡ writer_of (event_of_order order.now) }
 {
-    match event {
-        Event::Emit(end) | Event::Resend(end, _) | Event::Ack(end) => Some(*end),
+    match order {
+        Order::Emit(end) | Order::Resend(end, _) | Order::Ack(end) => Some(*end),
         _ => None,
     }
 }
@@ -80,15 +83,21 @@ fn push_newest(text: &mut Vec<u8>, world: &World) -> Result<(), AllocError>
 }
 
 /// Appends what a step says.
-fn push_step(text: &mut Vec<u8>, world: &World, event: &Event, step: Step) -> Result<(), AllocError>
-    requires { NamedIsThere event.now step world.now }
-    ensures { OnOk result (AddsSome text.old text.new (IsStepText world.now event.now step)) }
+fn push_step<'a>(
+    text: &mut Vec<u8>,
+    world: &World,
+    order: &Order<'a>,
+    step: Step,
+) -> Result<(), AllocError>
+    requires { NamedIsThere (event_of_order order.now) step world.now }
+    ensures { OnOk result (AddsSome text.old text.new
+        (IsStepText world.now (event_of_order order.now) step)) }
 {
     match step {
         Step::Asked(count) => push_number(text, "asked ", count),
         Step::Posted(count) => push_number(text, "posted ", count),
         Step::Packet(place) => {
-            let Some(end) = writing_end(event) else {
+            let Some(end) = writing_end(order) else {
                 unreachable!()
             };
             push_packet(text, world, end, place)
@@ -101,19 +110,20 @@ fn push_step(text: &mut Vec<u8>, world: &World, event: &Event, step: Step) -> Re
 }
 
 /// Appends the line of an event that came to a step.
-pub(crate) fn push_event(
+pub(crate) fn push_event<'a>(
     text: &mut Vec<u8>,
     number: usize,
     world: &World,
-    event: &Event,
+    order: &Order<'a>,
     step: Step,
 ) -> Result<(), AllocError>
-    requires { NamedIsThere event.now step world.now }
-    ensures { OnOk result (AddsStep number world.now event.now step text.old text.new) }
+    requires { NamedIsThere (event_of_order order.now) step world.now }
+    ensures { OnOk result
+        (AddsStep number world.now (event_of_order order.now) step text.old text.new) }
 {
     push_decimal(text, number)?;
     push_str(text, " ")?;
-    push_step(text, world, event, step)?;
+    push_step(text, world, order, step)?;
     push_str(text, "\n")
 }
 

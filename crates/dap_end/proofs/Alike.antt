@@ -3,6 +3,7 @@ use Rattle.std.proofs.Common.{◌≡◌, ◌≢◌, ℕ, refl, sym, ◌∙◌, s
 use Rattle.std.specs.Prelude.{Option, Some, None, Result, Ok, Err, option_to_list}
 use Rattle.dap_fields.specs.Spelling.{AreBytes}
 use Rattle.dap_msg.specs.Items.{Item, ItemAt}
+use Rattle.dap_msg.specs.Blocked.{Blocked, all_joined}
 use Rattle.dap_msg.proofs.ForCallers.{one_item}
 use Rattle.nsp_link.specs.declared.link.Got.{Got}
 use Rattle.nsp_link.specs.declared.fault.LinkFault.{LinkFault}
@@ -16,7 +17,8 @@ use Rattle.dap_accessing.specs.declared.pending.Pending.{Pending}
 use Rattle.dap_accessing.specs.declared.fault.ReadFault.{ReadFault}
 use Rattle.dap_accessing.specs.declared.fault.ReadFault.TheVariants as read_fault
 use Rattle.dap_accessing.specs.Told.{Told, Due, NothingDue, AnswersDue, Wrong, due_after, is_unexpected}
-use Rattle.dap_accessing.specs.Present.{Present, StandsAfter, FitsDue}
+use Rattle.dap_accessing.specs.Asked.{messages_of}
+use Rattle.dap_accessing.specs.Inner.Present.{Present, StandsAfter, FitsDue}
 use Rattle.dap_accessing.proofs.ForCallers.{one_present}
 use Rattle.dap_end.specs.declared.fault.EndFault.{EndFault}
 use Rattle.dap_end.specs.declared.fault.EndFault.TheVariants as end_fault
@@ -35,8 +37,9 @@ use Rattle.dap_end.proofs.Refusing.{receives_same}
 
 pub asking_one : (past : AskingPast) (request : Request) (old one two : AskingValue) (n m : ℕ) → HasAsked past old → AskedOne request old one n → AskedOne request old two m → (one ≡ two) × (n ≡ m)
 asking_one past request old one two n m h a b =
-    let messages : a.messages ≡ b.messages = a.asks.spelled ∙ sym b.asks.spelled in
-    let now = asked_one past old.accessing.own old.accessing.limit request in
+    let limit : a.asks.limit ≡ b.asks.limit = a.asks.is_limit past.requests past.answers h.asking ∙ sym (b.asks.is_limit past.requests past.answers h.asking) in
+    let messages : a.messages ≡ b.messages = a.asks.spelled ∙ ap (λ (n : ℕ). all_joined (Blocked n (messages_of old.accessing.own request))) limit ∙ sym b.asks.spelled in
+    let now = asked_one past old.accessing.own request in
     let present : one.accessing ≡ two.accessing = one_present now.requests now.answers one.accessing two.accessing (a.past past h).asking (b.past past h).asking (a.own ∙ sym b.own) in
     let port : one.port ≡ two.port = a.port ∙ ap (λ (l : List (List ℕ)). record old.port { outbox = old.port.outbox ++ l }) messages ∙ sym b.port in (
       ap (λ (p : PortValue). record one { port = p }) port ∙ ap (λ (x : Present). record two { accessing = x }) present,

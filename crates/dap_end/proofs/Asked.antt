@@ -23,6 +23,7 @@ use Rattle.dap_accessing.specs.declared.report.Report.{Report}
 use Rattle.dap_accessing.specs.declared.fault.ReadStep.{ReadStep}
 use Rattle.dap_accessing.specs.Asked.{Asked, messages_of}
 use Rattle.dap_accessing.specs.Told.{Told}
+use Rattle.dap_accessing.specs.Phase.{limit_after}
 use Rattle.dap_accessing.specs.Present.{Present}
 use Rattle.dap_accessing.specs.Calls.{Asks, Reads}
 use Rattle.dap_end.specs.declared.fault.EndFault.{EndFault}
@@ -111,20 +112,22 @@ asks_one request old after messages outbox n asks own is count =
       own = own;
       port = ap (λ (l : List (List ℕ)). record old.port { outbox = l }) is;
       count = count;
-      past = λ past h. (let block = Blocked old.accessing.limit (messages_of old.accessing.own request) in record {
-        asking = asks.stands past.requests past.answers h.asking;
-        gone = h.gone;
-        sends = h.sends;
-        messages = in_append past.asked block ∙ ap (λ (l : List Message). messages_in past.asked ++ l) (messages_in-Blocked old.accessing.limit (messages_of old.accessing.own request))
-            ∙ ap (λ (l : List Message). l ++ messages_of old.accessing.own request) h.messages
-            ∙ sym (Asked-more old.accessing.own past.requests request) ∙ ap (λ (k : ℕ). Asked k (past.requests ++ request ∷ [])) (sym own);
-        waiting = ap (λ (l : List (List ℕ)). past.handed ++ l) is ∙ sym (append_assoc past.handed old.port.outbox messages)
-            ∙ ap (λ (l : List (List ℕ)). l ++ messages) h.waiting ∙ ap (λ (l : List (List ℕ)). all_joined past.asked ++ l) asks.spelled ∙ sym (map-append joined past.asked block);
-        fit =
-            subst AllFit (sym (in_append past.asked block ∙ ap (λ (l : List Message). messages_in past.asked ++ l) (messages_in-Blocked old.accessing.limit (messages_of old.accessing.own request))))
-            (fit-both (messages_in past.asked) (messages_of old.accessing.own request) h.fit (sendable-fit _ (messages_of old.accessing.own request) (asks.admissible past.requests past.answers h.asking).2));
-        full = full-both past.asked block h.full (full-blocked old.accessing.limit (messages_of old.accessing.own request));
-      });
+      past = λ past h. (let limit = limit_after (Told past.requests past.answers) in
+          let block = Blocked limit (messages_of old.accessing.own request) in
+          let is_limit : asks.limit ≡ limit = asks.is_limit past.requests past.answers h.asking in record {
+            asking = asks.stands past.requests past.answers h.asking;
+            gone = h.gone;
+            sends = h.sends;
+            messages = in_append past.asked block ∙ ap (λ (l : List Message). messages_in past.asked ++ l) (messages_in-Blocked limit (messages_of old.accessing.own request))
+                ∙ ap (λ (l : List Message). l ++ messages_of old.accessing.own request) h.messages
+                ∙ sym (Asked-more old.accessing.own past.requests request) ∙ ap (λ (k : ℕ). Asked k (past.requests ++ request ∷ [])) (sym own);
+            waiting = ap (λ (l : List (List ℕ)). past.handed ++ l) is ∙ sym (append_assoc past.handed old.port.outbox messages)
+                ∙ ap (λ (l : List (List ℕ)). l ++ messages) h.waiting ∙ ap (λ (l : List (List ℕ)). all_joined past.asked ++ l) (asks.spelled ∙ ap (λ (n : ℕ). all_joined (Blocked n (messages_of old.accessing.own request))) is_limit) ∙ sym (map-append joined past.asked block);
+            fit =
+                subst AllFit (sym (in_append past.asked block ∙ ap (λ (l : List Message). messages_in past.asked ++ l) (messages_in-Blocked limit (messages_of old.accessing.own request))))
+                (fit-both (messages_in past.asked) (messages_of old.accessing.own request) h.fit (sendable-fit _ (messages_of old.accessing.own request) (asks.admissible past.requests past.answers h.asking).2));
+            full = full-both past.asked block h.full (full-blocked limit (messages_of old.accessing.own request));
+          });
     }
 
 -- none of its NSP messages is longer than an end takes
@@ -158,12 +161,13 @@ unfolding AreWithin
 sendable-within limit [] h = tt
 sendable-within limit (m ∷ messages) h = (h.0.1, sendable-within limit messages h.1)
 
-pub asks_short : (request : Request) (old after : Present) (messages : List (List ℕ)) → Asks request old after messages → AreSendable old.limit (messages_of old.own request) → old.limit ≤ 65535 → AreShort messages
-asks_short request old after messages asks sendable most =
+pub asks_short : (request : Request) (old after : Present) (messages : List (List ℕ)) → Asks request old after messages → AreShort messages
+asks_short request old after messages asks =
+    let limit = asks.limit in
     subst AreShort (sym asks.spelled)
-    (all_short old.limit (all_joined (Blocked old.limit (messages_of old.own request))) most
-    (packets-within old.limit (Blocked old.limit (messages_of old.own request)) (within_limit old.limit (messages_of old.own request))
-    (subst (AreWithin old.limit) (sym (messages_in-Blocked old.limit (messages_of old.own request))) (sendable-within old.limit (messages_of old.own request) sendable))))
+    (all_short limit (all_joined (Blocked limit (messages_of old.own request))) asks.most
+    (packets-within limit (Blocked limit (messages_of old.own request)) (within_limit limit (messages_of old.own request))
+    (subst (AreWithin limit) (sym (messages_in-Blocked limit (messages_of old.own request))) (sendable-within limit (messages_of old.own request) asks.sendable))))
 
 pub port_asks : (p : PortValue) (messages outbox : List (List ℕ)) → IsPort p → AreShort messages → outbox ≡ p.outbox ++ messages → IsPort (record p { outbox = outbox })
 port_asks p messages outbox h short is =

@@ -14,7 +14,7 @@ use Rattle.nsp_link.specs.Link.{LinkValue, Sends, IsSpelling}
 use Rattle.nsp_link.specs.Sending.{MayQueueAll, SendAllFault, ack_packet_of}
 use Rattle.nsp_link.proofs.ForCallers.{written_one}
 use Rattle.dap_accessed.specs.Standing.{Files}
-use Rattle.dap_accessed.specs.Present.{Present, present_of}
+use Rattle.dap_accessed.specs.Inner.Present.{Present, present_of}
 use Rattle.dap_accessed.specs.Groups.{stands_after}
 use Rattle.dap_end.specs.declared.fault.EndFault.TheVariants as end_fault
 use Rattle.dap_end.specs.declared.fault.TakeFault.{TakeFault}

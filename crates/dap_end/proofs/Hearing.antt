@@ -99,7 +99,7 @@ step_so requests reports more wrote ws old new (Came bytes) s t =
 step_so requests reports more wrote ws old new (Asks request) s t =
     let a = s.1 in
     record {
-      past = asked_one t.past old.accessing.own old.accessing.limit request;
+      past = asked_one t.past old.accessing.own request;
       is = a.past t.past t.is;
       asked = ap (λ (l : List Request). l ++ request ∷ []) t.asked;
       told = ap (λ (l : List Report). reports ++ l) s.2 ∙ append-nil reports ∙ t.told ∙ sym (a.asks.told t.past.requests t.past.answers t.is.asking);
@@ -172,7 +172,7 @@ step_listens size messages more ws old new (Came bytes) f s t =
     subst (Listens size messages) (sym s.3)
     (record { past = t.past; is = still_received old s.1 g s.2.sends t.past t.is; stands = then_stands old.port.link s.1 size messages t.past.given bytes s.0 f t.stands s.2 })
 step_listens size messages more ws old new (Asks request) f s t =
-    record { past = asked_one t.past old.accessing.own old.accessing.limit request; is = s.1.past t.past t.is; stands = asked_stands old size messages t.past.given new request s.0 s.1 t.stands }
+    record { past = asked_one t.past old.accessing.own request; is = s.1.past t.past t.is; stands = asked_stands old size messages t.past.given new request s.0 s.1 t.stands }
 step_listens size messages more ws old new GoesOn f s t =
     let m = read_grows old s.0 more s.3 in
     let g = m.past t.past t.is in

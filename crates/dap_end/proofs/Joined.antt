@@ -390,7 +390,7 @@ asks first old new (asking.Asks request) s j =
     let a = t.1 in
     subst (IsLinked first) (sym s.4)
     (record {
-      asked = asked_one j.asked old.a.accessing.own old.a.accessing.limit request;
+      asked = asked_one j.asked old.a.accessing.own request;
       asking = a.past j.asked j.asking;
       served = j.served;
       serving = j.serving;

@@ -85,7 +85,7 @@ module _ (old : ServingValue) (bytes : List ℕ) (later : List (List ℕ)) (inbo
       → (past : Past) → IsAfter past old
       → IsAfter (served past bytes serves.item s.next) (serving_of (record (gone_on old.port bytes later s.next) { outbox = bodies s.answers.items }) after)
   past_one after s serves idle within past h =
-      let limit : old.accessed.limit ≡ limit_for old.accessed.own past.first past.items = ap (λ (p : Present). p.limit) h.serving in
+      let limit : serves.limit ≡ limit_for old.accessed.own past.first past.items = serves.is_limit past.first past.items h.serving in
       let block : List NspMessage = answer_to old.accessed.own past.first past.items serves.item in
       record {
         serving = serves.stands past.first past.items h.serving;

@@ -15,6 +15,7 @@ use Rattle.dap_accessing.specs.declared.fault.ReadFault.{ReadFault}
 use Rattle.dap_accessing.specs.declared.fault.ReadFault.TheVariants as read_fault
 use Rattle.dap_accessing.specs.Asked.{Asked, messages_of}
 use Rattle.dap_accessing.specs.Told.{Told}
+use Rattle.dap_accessing.specs.Phase.{limit_after}
 use Rattle.dap_accessing.specs.Present.{Present, StandsAfter}
 use Rattle.dap_accessing.specs.Calls.{Asks, ReadRefused}
 use Rattle.dap_end.specs.declared.asking.Heard.{Heard}
@@ -66,9 +67,12 @@ HasStill old new = (past : AskingPast) → HasAsked past old → HasAsked past n
 -- ---- Asking.
 
 -- one request more, with its messages joined as far as the peer's limit goes
-abbrev pub asked_one : AskingPast → (own limit : ℕ) → Request → AskingPast
-asked_one past own limit request =
-    record past { requests = past.requests ++ request ∷ []; asked = past.asked ++ Blocked limit (messages_of own request) }
+abbrev pub asked_one : AskingPast → (own : ℕ) → Request → AskingPast
+asked_one past own request =
+    record past {
+      requests = past.requests ++ request ∷ [];
+      asked = past.asked ++ Blocked (limit_after (Told past.requests past.answers)) (messages_of own request);
+    }
 
 -- The request was asked: its messages wait, so many NSP messages.
 pub record AskedOne (request : Request) (old new : AskingValue) (n : ℕ) : Type 0 where
@@ -77,7 +81,7 @@ pub record AskedOne (request : Request) (old new : AskingValue) (n : ℕ) : Type
   pub own : new.accessing.own ≡ old.accessing.own
   pub port : new.port ≡ record old.port { outbox = old.port.outbox ++ messages }
   pub count : n ≡ length messages
-  pub past : (past : AskingPast) → HasAsked past old → HasAsked (asked_one past old.accessing.own old.accessing.limit request) new
+  pub past : (past : AskingPast) → HasAsked past old → HasAsked (asked_one past old.accessing.own request) new
 
 -- all that waited was handed to the link
 pub record HandedAll (old new : AskingValue) (n : ℕ) : Type 0 where

@@ -9,7 +9,8 @@ ghost use Rattle.nsp_link.specs.Sending.{NextFault, MayQueueAll, SendAllFault, W
 ghost use Rattle.nsp_link.specs.declared.fault.LinkFault.TheVariants.{Failed, NoSuchSegment, MessageTooLong};
 ghost use Rattle.nsp_link.specs.declared.fault.LinkFault.TheVariants as fault;
 ghost use Rattle.dap_accessing.specs.Asked.{messages_of};
-ghost use Rattle.dap_accessing.specs.Calls.{AskRefused, IsAdmittedBy, MayAsk};
+ghost use Rattle.dap_accessing.specs.Calls.{AskRefused, IsAdmittedBy};
+ghost use Rattle.dap_accessing.specs.Inner.MayAsk.{MayAsk};
 ghost use Rattle.dap_accessing.specs.declared.fault.AskFault.TheVariants as ask_fault;
 ghost use Rattle.dap_fields.specs.Spelling.{AreBytes};
 ghost use Rattle.dap_end.specs.Ports.{new_port, oldest};

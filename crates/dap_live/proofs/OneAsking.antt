@@ -34,8 +34,8 @@ use Rattle.dap_live.specs.declared.orders.Order.{Order}
 use Rattle.dap_live.specs.declared.orders.Order.TheVariants as order
 use Rattle.dap_live.specs.Orders.{order_of, setup_anew}
 use Rattle.dap_live.specs.Sending.{AllAgain, SaysAck, has_message, is_left, waits_of}
-use Rattle.dap_live.specs.Texts.{ask_became, ask_refusal, link_became, link_line, packets_text, reports_text, taken_became, taken_text}
-use Rattle.dap_live.specs.Asking.{TakesPacket, GoesOn, GoesOnIf, Resends, ResendsRunning, AsksIt, AsksNot, AsksRunning, Asks, Renewed, Renews, OnEnd, Does, DoesAll, DoesOrder, Ends, answered, waiting, came_by, front_text, gone_became, gone_text, goes_on}
+use Rattle.dap_live.specs.Texts.{ask_refusal, link_refusal, packets_text, reports_text, taken_said}
+use Rattle.dap_live.specs.Asking.{TakesPacket, GoesOn, GoesOnIf, Resends, ResendsRunning, AsksIt, AsksNot, AsksRunning, Asks, Renewed, Renews, OnEnd, Does, DoesAll, DoesOrder, Ends, answered, waiting, came_by, front_text, gone_said, goes_on}
 use Rattle.dap_live.specs.OneText.{AreSameAsking}
 use Rattle.dap_live.proofs.OneLine.{Fits, line_fits, all_again, ack_one, end_wants, taken_wants, setup_apart, setup_one, one_answer}
 
@@ -68,23 +68,25 @@ on_end old other one two said more m n same x y h =
 packet_one : (old other one two : Asking) (bytes said more : List ℕ) (m n : Came) → AreBytes bytes → AreSameAsking old other → outcome m ≢ NoMemory → outcome n ≢ NoMemory
     → TakesPacket old bytes one said m → TakesPacket other bytes two more n → Two one two said more m n
 packet_one old other one two bytes said more m n fits same nm nn x y =
-    let wx = taken_wants x.taken (λ e. nm (ap outcome x.ends ∙ outcome_by x.taken (taken_became x.taken) ∙ e)) in
-    let wy = taken_wants y.taken (λ e. nn (ap outcome y.ends ∙ outcome_by y.taken (taken_became y.taken) ∙ e)) in
+    let wx = taken_wants x.taken one.reports.items x.packets (λ e. nm (ap outcome x.ends ∙ outcome_by x.taken _ ∙ e)) in
+    let wy = taken_wants y.taken two.reports.items y.packets (λ e. nn (ap outcome y.ends ∙ outcome_by y.taken _ ∙ e)) in
     let there : Takes other.end two.end bytes [] y.packets old.reports.items two.reports.items y.taken =
     subst (λ (l : List Report). Takes other.end two.end bytes [] y.packets l two.reports.items y.taken) (sym same.2) y.took in
     let t = taking_alike old.end other.end one.end two.end bytes x.taken y.taken [] x.packets y.packets old.reports.items one.reports.items two.reports.items fits same.3 same.0 wx wy x.took there in
+    let same_said : taken_said x.taken one.reports.items x.packets ≡ taken_said y.taken two.reports.items y.packets =
+    ap (λ (r : Result Got TakeFault). taken_said r one.reports.items x.packets) t.1 ∙ ap (taken_said y.taken one.reports.items) t.2
+    ∙ ap (λ (l : List Report). taken_said y.taken l y.packets) t.3 in
     on_end old other one two said more m n same x.rest y.rest (
       t.0,
       t.3,
-      x.says ∙ ap (λ (r : Result Got TakeFault). taken_text r one.reports.items x.packets) t.1 ∙ ap (λ (l : List (List ℕ)). taken_text y.taken one.reports.items l) t.2
-          ∙ ap (λ (l : List Report). taken_text y.taken l y.packets) t.3 ∙ sym y.says,
-      x.ends ∙ ap (λ (r : Result Got TakeFault). came_by r (taken_became r)) t.1 ∙ sym y.ends,
+      x.says ∙ ap (λ k. k.0) same_said ∙ sym y.says,
+      x.ends ∙ ap (λ (r : Result Got TakeFault). came_by r (taken_said x.taken one.reports.items x.packets).1) t.1 ∙ ap (λ k. came_by y.taken k.1) same_said ∙ sym y.ends,
       t.4,
     )
 
 -- ---- Going on.
 
-gone_wants : (r : Result (Unit {0}) EndFault) → gone_became r ≢ NoMemory → went_wanting r ≡ false
+gone_wants : (r : Result (Unit {0}) EndFault) → (gone_said r).1 ≢ NoMemory → went_wanting r ≡ false
 gone_wants (Ok done) want = refl
 gone_wants (Err f) want = end_wants f want
 
@@ -96,10 +98,10 @@ going_same old other before front said more one two m n d like nm nn x y =
     let t = going_alike old other one.end two.end [] x.packets y.packets before one.reports.items two.reports.items x.gone y.gone d like wx wy x.went y.went in (
       t.0,
       t.3,
-      x.says ∙ ap (λ (r : Result (Unit {0}) EndFault). front ++ (reports_text one.reports.items ++ (packets_text x.packets ++ gone_text r))) t.1
-          ∙ ap (λ (l : List (List ℕ)). front ++ (reports_text one.reports.items ++ (packets_text l ++ gone_text y.gone))) t.2
-          ∙ ap (λ (l : List Report). front ++ (reports_text l ++ (packets_text y.packets ++ gone_text y.gone))) t.3 ∙ sym y.says,
-      x.ends ∙ ap (λ (r : Result (Unit {0}) EndFault). Told (gone_became r)) t.1 ∙ sym y.ends,
+      x.says ∙ ap (λ (r : Result (Unit {0}) EndFault). front ++ (reports_text one.reports.items ++ (packets_text x.packets ++ (gone_said r).0))) t.1
+          ∙ ap (λ (l : List (List ℕ)). front ++ (reports_text one.reports.items ++ (packets_text l ++ (gone_said y.gone).0))) t.2
+          ∙ ap (λ (l : List Report). front ++ (reports_text l ++ (packets_text y.packets ++ (gone_said y.gone).0))) t.3 ∙ sym y.says,
+      x.ends ∙ ap (λ (r : Result (Unit {0}) EndFault). Told ((gone_said r).1)) t.1 ∙ sym y.ends,
       t.4,
     )
 
@@ -185,8 +187,8 @@ not_want old request new text m ask.Failed want h e = (let apart : ⊥ = cc in a
 not_want old request new text m ask.WrongPhase want h e = (let apart : ⊥ = cc in apart)
 not_want old request new text m ask.TooLarge want h e = (let apart : ⊥ = cc in apart)
 
-said_why : (old other one two : Asking) (said more : List ℕ) (m n : Came) (f : AskFault) → AreSameAsking old other → (one ≡ old) × (said ≡ ask_refusal f) × (m ≡ Untold (ask_became f))
-    → (two ≡ other) × (more ≡ ask_refusal f) × (n ≡ Untold (ask_became f)) → Two one two said more m n
+said_why : (old other one two : Asking) (said more : List ℕ) (m n : Came) (f : AskFault) → AreSameAsking old other → (one ≡ old) × (said ≡ (ask_refusal f).0) × (m ≡ Untold (ask_refusal f).1)
+    → (two ≡ other) × (more ≡ (ask_refusal f).0) × (n ≡ Untold (ask_refusal f).1) → Two one two said more m n
 said_why old other one two said more m n f same x y = (stay old other one two same x.0 y.0, x.1 ∙ sym y.1, x.2 ∙ sym y.2)
 
 not_one : (old other one two : Asking) (request : Request) (said more : List ℕ) (m n : Came) (f : AskFault) → AreSameAsking old other → OnEnd old one → OnEnd other two → outcome m ≢ NoMemory → outcome n ≢ NoMemory
@@ -272,7 +274,7 @@ renew_one old other one two anew said more m n same nm nn (inr x) (inl y) =
 renew_one old other one two anew said more m n same nm nn (inr x) (inr y) =
     let setup : setup_anew old.setup anew ≡ setup_anew other.setup anew = ap (λ (s : LinkSetup). setup_anew s anew) same.1 in
     let f = setup_one (setup_anew other.setup anew) x.0 y.0 (λ e. nm (ap outcome x.4 ∙ e)) (λ e. nn (ap outcome y.4 ∙ e)) (subst (λ (s : LinkSetup). SetupFault s x.0) setup x.1) y.1 in
-    (stay old other one two same x.2 y.2, x.3 ∙ ap link_line f ∙ sym y.3, x.4 ∙ ap (λ k. Untold (link_became k)) f ∙ sym y.4)
+    (stay old other one two same x.2 y.2, x.3 ∙ ap (λ k. (link_refusal k).0) f ∙ sym y.3, x.4 ∙ ap (λ k. Untold ((link_refusal k).1)) f ∙ sym y.4)
 
 -- ---- A line.
 

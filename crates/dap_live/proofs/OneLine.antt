@@ -1,7 +1,8 @@
 -- What both ends say to a line is one text.
 use Rattle.std.proofs.Common.{◌≡◌, ◌≢◌, ℕ, ◌+◌, ◌<◌, ◌≤◌, ◌%◌, ◌==◌, arith, refl, sym, ◌∙◌, subst, ap, true, false, true≢false, List, [], ◌∷◌, length, inl, inr}
 use Rattle.std.specs.Prelude.{Bool, Option, Some, None, Result, Ok, Err, codes, option_map, if◌then◌else◌}
-use Rattle.std.specs.Option.{option_or}
+use Rattle.std.specs.Option.{option_and_then, option_or}
+use Rattle.std.specs.Result.{result_ok}
 use Rattle.hex.specs.Hex.{IsBytes as AreBytes}
 use Rattle.hex.specs.Hex.{decode_of, decode_pairs}
 use Rattle.hex.specs.declared.error.FromHexError.{FromHexError}
@@ -21,7 +22,7 @@ use Rattle.dap_end.specs.declared.fault.EndFault.TheVariants as end
 use Rattle.dap_end.specs.declared.fault.TakeFault.{TakeFault}
 use Rattle.dap_end.specs.declared.fault.TakeFault.TheVariants as take
 use Rattle.dap_end.specs.Wanting.{is_want, took_wanting}
-use Rattle.dap_text.specs.Words.{Words, decoded, ends, field, goes_on, hex_of, is, is_hex_text, long, one_of, word, words_of}
+use Rattle.dap_text.specs.Words.{Words, ends, field, hex_of, is, is_hex_text, long, one_of, word, words_of}
 use Rattle.dap_text.specs.Filed.{file_of, record_of}
 use Rattle.dap_text.specs.Requests.{request_of}
 use Rattle.linewise.specs.declared.talking.Became.{Became}
@@ -33,7 +34,8 @@ use Rattle.dap_live.specs.declared.orders.Order.{Order}
 use Rattle.dap_live.specs.declared.orders.Order.TheVariants as order
 use Rattle.dap_live.specs.Orders.{address_of, anew_of, between_of, order_forms, order_of, packet_of}
 use Rattle.dap_live.specs.Sending.{AreAgain, AllAgain, SaysAck, UnlessFailed}
-use Rattle.dap_live.specs.Texts.{end_became, link_became, packet_text, taken_became}
+use Rattle.dap_accessing.specs.declared.report.Report.{Report}
+use Rattle.dap_live.specs.Texts.{end_refusal, link_refusal, packet_text, taken_said}
 
 -- ---- A packet's line says bytes.
 
@@ -41,15 +43,15 @@ abbrev HexFits : Option (List ℕ) → Type 0
 HexFits None = Unit {0}
 HexFits (Some bytes) = AreBytes bytes
 
-pairs_fit : (word : List ℕ) (r : Result (List ℕ) FromHexError) → decode_pairs 0 word ≡ r → HexFits (decoded r)
+pairs_fit : (word : List ℕ) (r : Result (List ℕ) FromHexError) → decode_pairs 0 word ≡ r → HexFits (result_ok r)
 pairs_fit word (Ok bytes) e = (decode_pairs-ok 0 word bytes e).2
 pairs_fit word (Err f) e = tt
 
-decoded_fits : (word : List ℕ) (odd : Bool) → HexFits (decoded (if odd then Err OddLength else decode_pairs 0 word))
+decoded_fits : (word : List ℕ) (odd : Bool) → HexFits (result_ok (if odd then Err OddLength else decode_pairs 0 word))
 decoded_fits word true = tt
 decoded_fits word false = pairs_fit word (decode_pairs 0 word) refl
 
-test_fits : (word : List ℕ) (good : Bool) → HexFits (if good then decoded (decode_of word) else None)
+test_fits : (word : List ℕ) (good : Bool) → HexFits (if good then result_ok (decode_of word) else None)
 test_fits word true = decoded_fits word (length word % 2 == 1)
 test_fits word false = tt
 
@@ -66,7 +68,7 @@ ends_fit order [] h = h
 ends_fit order (w ∷ words) h = tt
 
 next_fits : {X : Type 0} (next : X → Words → Option Order) (o : Option X) (words : Words)
-    → ((x : X) → o ≡ Some x → (more : Words) → Fits (next x more)) → Fits (goes_on next o words)
+    → ((x : X) → o ≡ Some x → (more : Words) → Fits (next x more)) → Fits (option_and_then (λ x. next x words) o)
 next_fits next None words h = tt
 next_fits next (Some x) words h = h x refl words
 
@@ -170,32 +172,32 @@ ack_one link xs ys a b = ack_by link.failed link xs ys a b
 
 -- ---- Where no memory is wanting.
 
-pub link_want : (f : LinkFault) → link_became f ≢ NoMemory → f ≢ fault.NoMemory
-link_want f want e = want (ap link_became e)
+pub link_want : (f : LinkFault) → (link_refusal f).1 ≢ NoMemory → f ≢ fault.NoMemory
+link_want f want e = want (ap (λ k. (link_refusal k).1) e)
 
-link_wants : (f : LinkFault) → link_became f ≢ NoMemory → is_want (end.Link f) ≡ false
+link_wants : (f : LinkFault) → (link_refusal f).1 ≢ NoMemory → is_want (end.Link f) ≡ false
 link_wants fault.NoMemory want = absurd (want refl)
 link_wants f want = refl
 
-pub end_wants : (f : EndFault) → end_became f ≢ NoMemory → is_want f ≡ false
+pub end_wants : (f : EndFault) → (end_refusal f).1 ≢ NoMemory → is_want f ≡ false
 end_wants (end.Link f) want = link_wants f want
 end_wants (end.Read read.NoMemory) want = absurd (want refl)
 end_wants (end.Read f) want = refl
 
-pub taken_wants : (r : Result Got TakeFault) → taken_became r ≢ NoMemory → took_wanting r ≡ false
-taken_wants (Ok got) want = refl
-taken_wants (Err (take.Refused f)) want = link_wants f want
-taken_wants (Err (take.Unfinished got f)) want = end_wants f want
+pub taken_wants : (r : Result Got TakeFault) (reports : List Report) (packets : List (List ℕ)) → (taken_said r reports packets).1 ≢ NoMemory → took_wanting r ≡ false
+taken_wants (Ok got) reports packets want = refl
+taken_wants (Err (take.Refused f)) reports packets want = link_wants f want
+taken_wants (Err (take.Unfinished got f)) reports packets want = end_wants f want
 
 -- a setup is good or bad
-pub setup_apart : (s : LinkSetup) (f : LinkFault) → link_became f ≢ NoMemory → IsSetup s → SetupFault s f → ⊥
+pub setup_apart : (s : LinkSetup) (f : LinkFault) → (link_refusal f).1 ≢ NoMemory → IsSetup s → SetupFault s f → ⊥
 setup_apart s f want good (inl bad) = bad.1 good
-setup_apart s f want good (inr none) = want (ap link_became none.0)
+setup_apart s f want good (inr none) = want (ap (λ k. (link_refusal k).1) none.0)
 
-pub setup_one : (s : LinkSetup) (f g : LinkFault) → link_became f ≢ NoMemory → link_became g ≢ NoMemory → SetupFault s f → SetupFault s g → f ≡ g
+pub setup_one : (s : LinkSetup) (f g : LinkFault) → (link_refusal f).1 ≢ NoMemory → (link_refusal g).1 ≢ NoMemory → SetupFault s f → SetupFault s g → f ≡ g
 setup_one s f g nf ng (inl a) (inl b) = a.0 ∙ sym b.0
-setup_one s f g nf ng (inl a) (inr b) = absurd (ng (ap link_became b.0))
-setup_one s f g nf ng (inr a) b = absurd (nf (ap link_became a.0))
+setup_one s f g nf ng (inl a) (inr b) = absurd (ng (ap (λ k. (link_refusal k).1) b.0))
+setup_one s f g nf ng (inr a) b = absurd (nf (ap (λ k. (link_refusal k).1) a.0))
 
 -- ---- Lines.
 

@@ -13,9 +13,9 @@ use Rattle.rec_file.specs.Shapes.{checked_shape}
 use Rattle.dap_accessed.specs.declared.fault.AddFault.{AddFault}
 use Rattle.dap_accessed.specs.declared.fault.AddFault.TheVariants as add
 use Rattle.dap_accessed.specs.Standing.{Files}
-use Rattle.dap_accessed.specs.Present.{Present, present_of}
+use Rattle.dap_accessed.specs.Inner.Present.{Present, present_of}
 use Rattle.dap_accessed.specs.Groups.{stands_after}
-use Rattle.dap_accessed.specs.Adding.{MayAdd, MayAddRecord}
+use Rattle.dap_accessed.specs.Adding.{IsFresh, IsLate, MayAdd, MayAddRecord}
 use Rattle.dap_end.specs.declared.fault.TakeFault.{TakeFault}
 use Rattle.dap_end.specs.Ports.{PortValue, HasCome, new_port}
 use Rattle.dap_end.specs.Serving.{ServingValue, Past, IsAfter, NotAdded, NotStored, nothing_yet}
@@ -33,8 +33,8 @@ use Rattle.dap_live.specs.declared.orders.Order.{Order}
 use Rattle.dap_live.specs.declared.orders.Order.TheVariants as order
 use Rattle.dap_live.specs.Orders.{order_of, setup_anew}
 use Rattle.dap_live.specs.Sending.{SaysAck, is_left, waits_of}
-use Rattle.dap_live.specs.Texts.{add_became, add_refusal, link_became, link_line, packets_text, taken_became, taken_text}
-use Rattle.dap_live.specs.Serving.{TakesPacket, GoesOn, GoesOnIf, Resends, Renewed, Renews, Added, AddsShaped, AddsFile, AddsRecord, OnEnd, Does, DoesOrder, answered, waiting, gone_became, gone_text}
+use Rattle.dap_live.specs.Texts.{add_refusal, link_refusal, packets_text, taken_said}
+use Rattle.dap_live.specs.Serving.{TakesPacket, GoesOn, GoesOnIf, Resends, Renewed, Renews, Added, AddsShaped, AddsFile, AddsRecord, OnEnd, Does, DoesOrder, answered, waiting, gone_said}
 use Rattle.dap_live.specs.OneText.{HasServed, AreSameServing}
 use Rattle.dap_live.proofs.OneLine.{Fits, line_fits, all_again, ack_one, taken_wants, setup_apart, setup_one, one_answer}
 
@@ -47,26 +47,28 @@ One one two said more b c = (one ≡ two) × (said ≡ more) × (b ≡ c) × Has
 packet_one : (end one two : ServingValue) (bytes said more : List ℕ) (b c : Became) → AreBytes bytes → HasServed end → b ≢ NoMemory → c ≢ NoMemory
     → TakesPacket end bytes one said b → TakesPacket end bytes two more c → One one two said more b c
 packet_one end one two bytes said more b c fits k nb nc x y =
-    let t = taking_one k.0 end one two bytes x.taken y.taken [] x.packets y.packets fits k.1 (taken_wants x.taken (λ e. nb (x.ends ∙ e))) (taken_wants y.taken (λ e. nc (y.ends ∙ e))) x.took y.took in (
+    let said : x.taken ≡ y.taken → x.packets ≡ y.packets → taken_said x.taken [] x.packets ≡ taken_said y.taken [] y.packets =
+    λ r l. ap (λ (r : Result Got TakeFault). taken_said r [] x.packets) r ∙ ap (taken_said y.taken []) l in
+    let t = taking_one k.0 end one two bytes x.taken y.taken [] x.packets y.packets fits k.1 (taken_wants x.taken [] x.packets (λ e. nb (x.ends ∙ e))) (taken_wants y.taken [] y.packets (λ e. nc (y.ends ∙ e))) x.took y.took in (
       t.0,
-      x.says ∙ ap (λ (r : Result Got TakeFault). taken_text r [] x.packets) t.1 ∙ ap (λ (l : List (List ℕ)). taken_text y.taken [] l) t.2 ∙ sym y.says,
-      x.ends ∙ ap taken_became t.1 ∙ sym y.ends,
+      x.says ∙ ap (λ k. k.0) (said t.1 t.2) ∙ sym y.says,
+      x.ends ∙ ap (λ k. k.1) (said t.1 t.2) ∙ sym y.ends,
       taking_known end one bytes [] x.packets x.taken x.took k,
     )
 
 -- ---- Going on.
 
-gone_want : (r : Result (Unit {0}) LinkFault) → gone_became r ≢ NoMemory → r ≢ Err fault.NoMemory
-gone_want r want e = want (ap gone_became e)
+gone_want : (r : Result (Unit {0}) LinkFault) → (gone_said r).1 ≢ NoMemory → r ≢ Err fault.NoMemory
+gone_want r want e = want (ap (λ k. (gone_said k).1) e)
 
 going_same : (end one two : ServingValue) (front said more : List ℕ) (b c : Became) → HasServed end → b ≢ NoMemory → c ≢ NoMemory
     → GoesOn end front one said b → GoesOn end front two more c → One one two said more b c
 going_same end one two front said more b c k nb nc x y =
     let t = going_one k.0 end one two [] x.packets y.packets x.gone y.gone k.1 (gone_want x.gone (λ e. nb (x.ends ∙ e))) (gone_want y.gone (λ e. nc (y.ends ∙ e))) x.went y.went in (
       t.0,
-      x.says ∙ ap (λ (r : Result (Unit {0}) LinkFault). front ++ (packets_text x.packets ++ gone_text r)) t.1
-          ∙ ap (λ (l : List (List ℕ)). front ++ (packets_text l ++ gone_text y.gone)) t.2 ∙ sym y.says,
-      x.ends ∙ ap gone_became t.1 ∙ sym y.ends,
+      x.says ∙ ap (λ (r : Result (Unit {0}) LinkFault). front ++ (packets_text x.packets ++ (gone_said r).0)) t.1
+          ∙ ap (λ (l : List (List ℕ)). front ++ (packets_text l ++ (gone_said y.gone).0)) t.2 ∙ sym y.says,
+      x.ends ∙ ap (λ k. (gone_said k).1) t.1 ∙ sym y.ends,
       going_known end one [] x.packets x.gone x.went k,
     )
 
@@ -121,7 +123,7 @@ renew_one old other one two anew said more b c same nb nc (inr x) (inl y) =
 renew_one old other one two anew said more b c same nb nc (inr x) (inr y) =
     let setup : setup_anew old.setup anew ≡ setup_anew other.setup anew = ap (λ (s : LinkSetup). setup_anew s anew) same.1 in
     let f = setup_one (setup_anew other.setup anew) x.0 y.0 (λ e. nb (x.4 ∙ e)) (λ e. nc (y.4 ∙ e)) (subst (λ (s : LinkSetup). SetupFault s x.0) setup x.1) y.1 in
-    (stay old other one two same x.2 y.2, x.3 ∙ ap link_line f ∙ sym y.3, x.4 ∙ ap link_became f ∙ sym y.4)
+    (stay old other one two same x.2 y.2, x.3 ∙ ap (λ k. (link_refusal k).0) f ∙ sym y.3, x.4 ∙ ap (λ k. (link_refusal k).1) f ∙ sym y.4)
 
 -- ---- Files that it is given.
 
@@ -138,42 +140,46 @@ added_one end one two said more b c (past, h, inr none) files x y =
       new_known one.accessed.files one after (ap (λ (p : PortValue). p.link.inbox) x.port ∙ none.1),
     )
 
-add_want : (f : AddFault) → add_became f ≢ NoMemory → f ≢ add.NoMemory
-add_want f want e = want (ap add_became e)
+add_want : (f : AddFault) → (add_refusal f).1 ≢ NoMemory → f ≢ add.NoMemory
+add_want f want e = want (ap (λ k. (add_refusal k).1) e)
 
-why_one : (end one two : ServingValue) (said more : List ℕ) (b c : Became) (f g : AddFault) → HasServed end → f ≡ g → (one ≡ end) × (said ≡ add_refusal f) × (b ≡ add_became f)
-    → (two ≡ end) × (more ≡ add_refusal g) × (c ≡ add_became g) → One one two said more b c
+why_one : (end one two : ServingValue) (said more : List ℕ) (b c : Became) (f g : AddFault) → HasServed end → f ≡ g → (one ≡ end) × (said ≡ (add_refusal f).0) × (b ≡ (add_refusal f).1)
+    → (two ≡ end) × (more ≡ (add_refusal g).0) × (c ≡ (add_refusal g).1) → One one two said more b c
 why_one end one two said more b c f g k e x y =
-    (x.0 ∙ sym y.0, x.1 ∙ ap add_refusal e ∙ sym y.1, x.2 ∙ ap add_became e ∙ sym y.2, subst HasServed (sym x.0) k)
+    (x.0 ∙ sym y.0, x.1 ∙ ap (λ k. (add_refusal k).0) e ∙ sym y.1, x.2 ∙ ap (λ k. (add_refusal k).1) e ∙ sym y.2, subst HasServed (sym x.0) k)
 
-file_apart : (end : ServingValue) (name : List ℕ) (f : AddFault) → f ≢ add.NoMemory → (HasCome end.port → ⊥) → MayAdd end.accessed name → NotAdded end name f → ⊥
-file_apart end name add.Busy want idle may (inl came) = idle came
-file_apart end name add.Busy want idle may (inr late) = late may.0
-file_apart end name add.FileExists want idle may h = h.1.1 may.1
-file_apart end name add.NoMemory want idle may h = want refl
-file_apart end name f want idle may h = absurd h.1
+-- no Config was served, or one was
+apart : (end : ServingValue) → HasServed end → IsFresh end.accessed → IsLate end.accessed → ⊥
+apart end k fresh late = late.isnt k.0.first k.0.items k.1.serving (fresh.is k.0.first k.0.items k.1.serving)
 
-file_why : (end : ServingValue) (name : List ℕ) (f g : AddFault) → f ≢ add.NoMemory → g ≢ add.NoMemory → NotAdded end name f → NotAdded end name g → f ≡ g
-file_why end name add.Busy add.Busy nf ng x y = refl
-file_why end name add.Busy add.FileExists nf ng (inl came) y = absurd (y.0 came)
-file_why end name add.Busy add.FileExists nf ng (inr late) y = absurd (late y.1.0)
-file_why end name add.Busy add.NoMemory nf ng x y = absurd (ng refl)
-file_why end name add.Busy g nf ng x y = absurd y.1
-file_why end name add.FileExists add.Busy nf ng x (inl came) = absurd (x.0 came)
-file_why end name add.FileExists add.Busy nf ng x (inr late) = absurd (late x.1.0)
-file_why end name add.FileExists add.FileExists nf ng x y = refl
-file_why end name add.FileExists add.NoMemory nf ng x y = absurd (ng refl)
-file_why end name add.FileExists g nf ng x y = absurd y.1
-file_why end name add.NoMemory g nf ng x y = absurd (nf refl)
-file_why end name f g nf ng x y = absurd x.1
+file_apart : (end : ServingValue) (name : List ℕ) (f : AddFault) → HasServed end → f ≢ add.NoMemory → (HasCome end.port → ⊥) → MayAdd end.accessed name → NotAdded end name f → ⊥
+file_apart end name add.Busy k want idle may (inl came) = idle came
+file_apart end name add.Busy k want idle may (inr late) = apart end k may.0 late
+file_apart end name add.FileExists k want idle may h = h.1.1 may.1
+file_apart end name add.NoMemory k want idle may h = want refl
+file_apart end name f k want idle may h = absurd h.1
+
+file_why : (end : ServingValue) (name : List ℕ) (f g : AddFault) → HasServed end → f ≢ add.NoMemory → g ≢ add.NoMemory → NotAdded end name f → NotAdded end name g → f ≡ g
+file_why end name add.Busy add.Busy k nf ng x y = refl
+file_why end name add.Busy add.FileExists k nf ng (inl came) y = absurd (y.0 came)
+file_why end name add.Busy add.FileExists k nf ng (inr late) y = absurd (apart end k y.1.0 late)
+file_why end name add.Busy add.NoMemory k nf ng x y = absurd (ng refl)
+file_why end name add.Busy g k nf ng x y = absurd y.1
+file_why end name add.FileExists add.Busy k nf ng x (inl came) = absurd (x.0 came)
+file_why end name add.FileExists add.Busy k nf ng x (inr late) = absurd (apart end k x.1.0 late)
+file_why end name add.FileExists add.FileExists k nf ng x y = refl
+file_why end name add.FileExists add.NoMemory k nf ng x y = absurd (ng refl)
+file_why end name add.FileExists g k nf ng x y = absurd y.1
+file_why end name add.NoMemory g k nf ng x y = absurd (nf refl)
+file_why end name f g k nf ng x y = absurd x.1
 
 shaped_one : (end one two : ServingValue) (name : List ℕ) (shape : Shape) (said more : List ℕ) (b c : Became) → HasServed end → b ≢ NoMemory → c ≢ NoMemory → AddsShaped end name shape one said b
     → AddsShaped end name shape two more c → One one two said more b c
 shaped_one end one two name shape said more b c k nb nc (inl x) (inl y) = added_one end one two said more b c k (x.1 ∙ sym y.1) x.2 y.2
-shaped_one end one two name shape said more b c k nb nc (inl x) (inr y) = absurd (file_apart end name y.0 (add_want y.0 (λ e. nc (y.4 ∙ e))) x.2.idle x.0 y.1)
-shaped_one end one two name shape said more b c k nb nc (inr x) (inl y) = absurd (file_apart end name x.0 (add_want x.0 (λ e. nb (x.4 ∙ e))) y.2.idle y.0 x.1)
+shaped_one end one two name shape said more b c k nb nc (inl x) (inr y) = absurd (file_apart end name y.0 k (add_want y.0 (λ e. nc (y.4 ∙ e))) x.2.idle x.0 y.1)
+shaped_one end one two name shape said more b c k nb nc (inr x) (inl y) = absurd (file_apart end name x.0 k (add_want x.0 (λ e. nb (x.4 ∙ e))) y.2.idle y.0 x.1)
 shaped_one end one two name shape said more b c k nb nc (inr x) (inr y) =
-    let f = file_why end name x.0 y.0 (add_want x.0 (λ e. nb (x.4 ∙ e))) (add_want y.0 (λ e. nc (y.4 ∙ e))) x.1 y.1 in
+    let f = file_why end name x.0 y.0 k (add_want x.0 (λ e. nb (x.4 ∙ e))) (add_want y.0 (λ e. nc (y.4 ∙ e))) x.1 y.1 in
     why_one end one two said more b c x.0 y.0 k f (x.2, x.3, x.4) (y.2, y.3, y.4)
 
 file_by : (o : Option Shape) (end one two : ServingValue) (name said more why : List ℕ) (b c : Became) → HasServed end → b ≢ NoMemory → c ≢ NoMemory
@@ -195,44 +201,44 @@ two_why o v w e f = (let both = sym e ∙ f in cc)
 none_why : (o : Option Refusal) (v : Refusal) → o ≡ None → o ≡ Some v → ⊥
 none_why o v e f = (let both = sym e ∙ f in cc)
 
-record_apart : (end : ServingValue) (n : ℕ) (body : List ℕ) (f : AddFault) → f ≢ add.NoMemory → (HasCome end.port → ⊥) → MayAddRecord end.accessed n body → NotStored end n body f → ⊥
-record_apart end n body add.Busy want idle may (inl came) = idle came
-record_apart end n body add.Busy want idle may (inr late) = late may.0
-record_apart end n body add.NoFile want idle may h = no_file end.accessed.files may.1 h.1.1
-record_apart end n body (add.Record why) want idle may h = none_why _ why may.2 h.1.2
-record_apart end n body add.NoMemory want idle may h = want refl
-record_apart end n body f want idle may h = absurd h.1
+record_apart : (end : ServingValue) (n : ℕ) (body : List ℕ) (f : AddFault) → HasServed end → f ≢ add.NoMemory → (HasCome end.port → ⊥) → MayAddRecord end.accessed n body → NotStored end n body f → ⊥
+record_apart end n body add.Busy k want idle may (inl came) = idle came
+record_apart end n body add.Busy k want idle may (inr late) = apart end k may.0 late
+record_apart end n body add.NoFile k want idle may h = no_file end.accessed.files may.1 h.1.1
+record_apart end n body (add.Record why) k want idle may h = none_why _ why may.2 h.1.2
+record_apart end n body add.NoMemory k want idle may h = want refl
+record_apart end n body f k want idle may h = absurd h.1
 
-record_why : (end : ServingValue) (n : ℕ) (body : List ℕ) (f g : AddFault) → f ≢ add.NoMemory → g ≢ add.NoMemory → NotStored end n body f → NotStored end n body g → f ≡ g
-record_why end n body add.Busy add.Busy nf ng x y = refl
-record_why end n body add.Busy add.NoFile nf ng (inl came) y = absurd (y.0 came)
-record_why end n body add.Busy add.NoFile nf ng (inr late) y = absurd (late y.1.0)
-record_why end n body add.Busy (add.Record w) nf ng (inl came) y = absurd (y.0 came)
-record_why end n body add.Busy (add.Record w) nf ng (inr late) y = absurd (late y.1.0)
-record_why end n body add.Busy add.NoMemory nf ng x y = absurd (ng refl)
-record_why end n body add.Busy g nf ng x y = absurd y.1
-record_why end n body add.NoFile add.Busy nf ng x (inl came) = absurd (x.0 came)
-record_why end n body add.NoFile add.Busy nf ng x (inr late) = absurd (late x.1.0)
-record_why end n body add.NoFile add.NoFile nf ng x y = refl
-record_why end n body add.NoFile (add.Record w) nf ng x y = absurd (no_file end.accessed.files y.1.1 x.1.1)
-record_why end n body add.NoFile add.NoMemory nf ng x y = absurd (ng refl)
-record_why end n body add.NoFile g nf ng x y = absurd y.1
-record_why end n body (add.Record v) add.Busy nf ng x (inl came) = absurd (x.0 came)
-record_why end n body (add.Record v) add.Busy nf ng x (inr late) = absurd (late x.1.0)
-record_why end n body (add.Record v) add.NoFile nf ng x y = absurd (no_file end.accessed.files x.1.1 y.1.1)
-record_why end n body (add.Record v) (add.Record w) nf ng x y = ap (λ (r : Refusal). add.Record r) (two_why _ v w x.1.2 y.1.2)
-record_why end n body (add.Record v) add.NoMemory nf ng x y = absurd (ng refl)
-record_why end n body (add.Record v) g nf ng x y = absurd y.1
-record_why end n body add.NoMemory g nf ng x y = absurd (nf refl)
-record_why end n body f g nf ng x y = absurd x.1
+record_why : (end : ServingValue) (n : ℕ) (body : List ℕ) (f g : AddFault) → HasServed end → f ≢ add.NoMemory → g ≢ add.NoMemory → NotStored end n body f → NotStored end n body g → f ≡ g
+record_why end n body add.Busy add.Busy k nf ng x y = refl
+record_why end n body add.Busy add.NoFile k nf ng (inl came) y = absurd (y.0 came)
+record_why end n body add.Busy add.NoFile k nf ng (inr late) y = absurd (apart end k y.1.0 late)
+record_why end n body add.Busy (add.Record w) k nf ng (inl came) y = absurd (y.0 came)
+record_why end n body add.Busy (add.Record w) k nf ng (inr late) y = absurd (apart end k y.1.0 late)
+record_why end n body add.Busy add.NoMemory k nf ng x y = absurd (ng refl)
+record_why end n body add.Busy g k nf ng x y = absurd y.1
+record_why end n body add.NoFile add.Busy k nf ng x (inl came) = absurd (x.0 came)
+record_why end n body add.NoFile add.Busy k nf ng x (inr late) = absurd (apart end k x.1.0 late)
+record_why end n body add.NoFile add.NoFile k nf ng x y = refl
+record_why end n body add.NoFile (add.Record w) k nf ng x y = absurd (no_file end.accessed.files y.1.1 x.1.1)
+record_why end n body add.NoFile add.NoMemory k nf ng x y = absurd (ng refl)
+record_why end n body add.NoFile g k nf ng x y = absurd y.1
+record_why end n body (add.Record v) add.Busy k nf ng x (inl came) = absurd (x.0 came)
+record_why end n body (add.Record v) add.Busy k nf ng x (inr late) = absurd (apart end k x.1.0 late)
+record_why end n body (add.Record v) add.NoFile k nf ng x y = absurd (no_file end.accessed.files x.1.1 y.1.1)
+record_why end n body (add.Record v) (add.Record w) k nf ng x y = ap (λ (r : Refusal). add.Record r) (two_why _ v w x.1.2 y.1.2)
+record_why end n body (add.Record v) add.NoMemory k nf ng x y = absurd (ng refl)
+record_why end n body (add.Record v) g k nf ng x y = absurd y.1
+record_why end n body add.NoMemory g k nf ng x y = absurd (nf refl)
+record_why end n body f g k nf ng x y = absurd x.1
 
 record_one : (end one two : ServingValue) (r : RecordLine) (said more : List ℕ) (b c : Became) → HasServed end → b ≢ NoMemory → c ≢ NoMemory → AddsRecord end r one said b → AddsRecord end r two more c
     → One one two said more b c
 record_one end one two r said more b c k nb nc (inl x) (inl y) = added_one end one two said more b c k (x.1 ∙ sym y.1) x.2 y.2
-record_one end one two r said more b c k nb nc (inl x) (inr y) = absurd (record_apart end r.number r.body y.0 (add_want y.0 (λ e. nc (y.4 ∙ e))) x.2.idle x.0 y.1)
-record_one end one two r said more b c k nb nc (inr x) (inl y) = absurd (record_apart end r.number r.body x.0 (add_want x.0 (λ e. nb (x.4 ∙ e))) y.2.idle y.0 x.1)
+record_one end one two r said more b c k nb nc (inl x) (inr y) = absurd (record_apart end r.number r.body y.0 k (add_want y.0 (λ e. nc (y.4 ∙ e))) x.2.idle x.0 y.1)
+record_one end one two r said more b c k nb nc (inr x) (inl y) = absurd (record_apart end r.number r.body x.0 k (add_want x.0 (λ e. nb (x.4 ∙ e))) y.2.idle y.0 x.1)
 record_one end one two r said more b c k nb nc (inr x) (inr y) =
-    let f = record_why end r.number r.body x.0 y.0 (add_want x.0 (λ e. nb (x.4 ∙ e))) (add_want y.0 (λ e. nc (y.4 ∙ e))) x.1 y.1 in
+    let f = record_why end r.number r.body x.0 y.0 k (add_want x.0 (λ e. nb (x.4 ∙ e))) (add_want y.0 (λ e. nc (y.4 ∙ e))) x.1 y.1 in
     why_one end one two said more b c x.0 y.0 k f (x.2, x.3, x.4) (y.2, y.3, y.4)
 
 -- ---- A line.

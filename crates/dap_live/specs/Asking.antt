@@ -30,7 +30,7 @@ use Rattle.dap_live.specs.declared.asking.Front.{Front}
 use Rattle.dap_live.specs.declared.asking.Front.TheVariants.{Asked}
 use Rattle.dap_live.specs.declared.asking.Front.TheVariants as front
 use Rattle.dap_text.specs.Text.{line_feed}
-use Rattle.dap_live.specs.Texts.{ask_became, ask_refusal, end_became, end_refusal, link_became, link_line, packets_text, refused_line, reports_text, taken_became, taken_text}
+use Rattle.dap_live.specs.Texts.{Said, ask_refusal, end_refusal, link_refusal, packets_text, refused_line, reports_text, taken_said}
 
 -- only the end moved, and reports came
 abbrev pub OnEnd : Asking → Asking → Type 0
@@ -48,8 +48,8 @@ pub record TakesPacket (old : Asking) (bytes : List ℕ) (new : Asking) (text : 
   pub taken : Result Got TakeFault
   pub packets : List (List ℕ)
   pub took : Takes old.end new.end bytes [] packets old.reports.items new.reports.items taken
-  pub says : text ≡ taken_text taken new.reports.items packets
-  pub ends : came ≡ came_by taken (taken_became taken)
+  pub says : text ≡ (taken_said taken new.reports.items packets).0
+  pub ends : came ≡ came_by taken (taken_said taken new.reports.items packets).1
 
 -- ---- A request.
 
@@ -57,21 +57,17 @@ abbrev pub front_text : Front → List ℕ
 front_text (Asked count) = concat (codes "asked " ∷ decimal count ∷ line_feed ∷ [])
 front_text front.Busy = refused_line (codes "ask-busy")
 
-abbrev pub gone_text : Result (Unit {0}) EndFault → List ℕ
-gone_text (Ok done) = []
-gone_text (Err f) = end_refusal f
-
-abbrev pub gone_became : Result (Unit {0}) EndFault → Became
-gone_became (Ok done) = Done
-gone_became (Err f) = end_became f
+abbrev pub gone_said : Result (Unit {0}) EndFault → Said
+gone_said (Ok done) = ([], Done)
+gone_said (Err f) = end_refusal f
 
 -- This is said first, and then what going on comes to.
 pub record GoesOn (old : AskingValue) (before : List Report) (front : List ℕ) (new : Asking) (text : List ℕ) (came : Came) : Type 0 where
   pub gone : Result (Unit {0}) EndFault
   pub packets : List (List ℕ)
   pub went : Went old new.end [] packets before new.reports.items gone
-  pub says : text ≡ front ++ (reports_text new.reports.items ++ (packets_text packets ++ gone_text gone))
-  pub ends : came ≡ Told (gone_became gone)
+  pub says : text ≡ front ++ (reports_text new.reports.items ++ (packets_text packets ++ (gone_said gone).0))
+  pub ends : came ≡ Told (gone_said gone).1
 
 -- The end would do something by going on, memory aside. What came is read before what waits is handed over, and an end that
 -- an unexpected answer failed does nothing more.
@@ -91,7 +87,7 @@ ResendsRunning old new text came = OnEnd old new × ((packets : List (List ℕ))
 
 -- nothing is sent on a link that has failed
 abbrev pub Resends : (failed : Bool) → Asking → Asking → List ℕ → Came → Type 0
-Resends true old new text came = (new ≡ old) × (text ≡ link_line Failed) × (came ≡ Untold Done)
+Resends true old new text came = (new ≡ old) × (text ≡ (link_refusal Failed).0) × (came ≡ Untold Done)
 Resends false old new text came = ResendsRunning old new text came
 
 -- it was asked, and its messages are on their way
@@ -102,7 +98,7 @@ AsksIt old request new text came =
 -- It wasn't. Where a report is due still, what is on its way goes on.
 abbrev pub AsksNot : Asking → Request → Asking → List ℕ → Came → AskFault → Type 0
 AsksNot old request new text came Busy = GoesOn old.end old.reports.items (front_text front.Busy) new text came
-AsksNot old request new text came f = (new ≡ old) × (text ≡ ask_refusal f) × (came ≡ Untold (ask_became f))
+AsksNot old request new text came f = (new ≡ old) × (text ≡ (ask_refusal f).0) × (came ≡ Untold (ask_refusal f).1)
 
 abbrev pub AsksRunning : Asking → Request → Asking → List ℕ → Came → Type 0
 AsksRunning old request new text came = OnEnd old new × (AsksIt old request new text came
@@ -110,7 +106,7 @@ AsksRunning old request new text came = OnEnd old new × (AsksIt old request new
 
 -- nothing is asked on a link that has failed
 abbrev pub Asks : Bool → Asking → Request → Asking → List ℕ → Came → Type 0
-Asks true old request new text came = (new ≡ old) × (text ≡ link_line Failed) × (came ≡ Untold Done)
+Asks true old request new text came = (new ≡ old) × (text ≡ (link_refusal Failed).0) × (came ≡ Untold Done)
 Asks false old request new text came = AsksRunning old request new text came
 
 -- ---- A new link.
@@ -127,7 +123,7 @@ pub record Renewed (old : Asking) (anew : Anew) (new : Asking) : Type 0 where
 abbrev pub Renews : Asking → Anew → Asking → List ℕ → Came → Type 0
 Renews old anew new text came =
     (Renewed old anew new × (text ≡ []) × (came ≡ Untold Done))
-    ⊎ ((f : LinkFault) × SetupFault (setup_anew old.setup anew) f × (new ≡ old) × (text ≡ link_line f) × (came ≡ Untold (link_became f)))
+    ⊎ ((f : LinkFault) × SetupFault (setup_anew old.setup anew) f × (new ≡ old) × (text ≡ (link_refusal f).0) × (came ≡ Untold (link_refusal f).1))
 
 -- ---- A line.
 

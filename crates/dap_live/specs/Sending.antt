@@ -6,7 +6,7 @@ use Rattle.nsp_link.specs.Limits.{most_segments}
 use Rattle.nsp_link.specs.Link.{LinkValue, IsSpelling}
 use Rattle.nsp_link.specs.Sending.{WritesSent, ack_packet_of}
 use Rattle.nsp_link.specs.declared.fault.LinkFault.TheVariants.{Failed}
-use Rattle.dap_live.specs.Texts.{link_line, packet_text}
+use Rattle.dap_live.specs.Texts.{link_refusal, packet_text}
 
 -- a segment waits that was never sent, and the window has room
 abbrev pub may_send : LinkValue → Bool
@@ -43,7 +43,7 @@ AllAgain link packets = AreAgain link 0 packets × (length packets ≡ link.sent
 
 -- what a link says where it has failed, or else
 abbrev pub UnlessFailed : Bool → List ℕ → (List ℕ → Type 0) → Type 0
-UnlessFailed true text Says = text ≡ link_line Failed
+UnlessFailed true text Says = text ≡ (link_refusal Failed).0
 UnlessFailed false text Says = Says text
 
 -- the line of an acknowledgement

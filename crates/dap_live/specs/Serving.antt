@@ -25,7 +25,7 @@ use Rattle.dap_live.specs.declared.orders.Order.{Order}
 use Rattle.dap_live.specs.declared.orders.Order.TheVariants as order
 use Rattle.dap_live.specs.Orders.{order_of, setup_anew}
 use Rattle.dap_live.specs.Sending.{AllAgain, SaysAck, is_left, waits_of}
-use Rattle.dap_live.specs.Texts.{add_became, add_refusal, link_became, link_line, packets_text, status_line, taken_became, taken_text}
+use Rattle.dap_live.specs.Texts.{Said, add_refusal, link_refusal, packets_text, status_line, taken_said}
 
 -- ---- A packet.
 
@@ -33,26 +33,22 @@ pub record TakesPacket (old : ServingValue) (bytes : List ℕ) (new : ServingVal
   pub taken : Result Got TakeFault
   pub packets : List (List ℕ)
   pub took : Takes old new bytes [] packets taken
-  pub says : text ≡ taken_text taken [] packets
-  pub ends : became ≡ taken_became taken
+  pub says : text ≡ (taken_said taken [] packets).0
+  pub ends : became ≡ (taken_said taken [] packets).1
 
 -- ---- Going on.
 
-abbrev pub gone_text : Result (Unit {0}) LinkFault → List ℕ
-gone_text (Ok done) = []
-gone_text (Err f) = link_line f
-
-abbrev pub gone_became : Result (Unit {0}) LinkFault → Became
-gone_became (Ok done) = Done
-gone_became (Err f) = link_became f
+abbrev pub gone_said : Result (Unit {0}) LinkFault → Said
+gone_said (Ok done) = ([], Done)
+gone_said (Err f) = link_refusal f
 
 -- This is said first, and then what going on comes to.
 pub record GoesOn (old : ServingValue) (front : List ℕ) (new : ServingValue) (text : List ℕ) (became : Became) : Type 0 where
   pub gone : Result (Unit {0}) LinkFault
   pub packets : List (List ℕ)
   pub went : Went old new [] packets gone
-  pub says : text ≡ front ++ (packets_text packets ++ gone_text gone)
-  pub ends : became ≡ gone_became gone
+  pub says : text ≡ front ++ (packets_text packets ++ (gone_said gone).0)
+  pub ends : became ≡ (gone_said gone).1
 
 -- only where something is left
 abbrev pub GoesOnIf : (left : Bool) → ServingValue → List ℕ → ServingValue → List ℕ → Became → Type 0
@@ -66,7 +62,7 @@ ResendsRunning old new text became = (packets : List (List ℕ)) × AllAgain old
 
 -- nothing is sent on a link that has failed
 abbrev pub Resends : (failed : Bool) → ServingValue → ServingValue → List ℕ → Became → Type 0
-Resends true old new text became = (new ≡ old) × (text ≡ link_line Failed) × (became ≡ Done)
+Resends true old new text became = (new ≡ old) × (text ≡ (link_refusal Failed).0) × (became ≡ Done)
 Resends false old new text became = ResendsRunning old new text became
 
 -- ---- A new link.
@@ -82,14 +78,14 @@ pub record Renewed (old : Serving) (anew : Anew) (new : Serving) : Type 0 where
 abbrev pub Renews : Serving → Anew → Serving → List ℕ → Became → Type 0
 Renews old anew new text became =
     (Renewed old anew new × (text ≡ []) × (became ≡ Done))
-    ⊎ ((f : LinkFault) × SetupFault (setup_anew old.setup anew) f × (new ≡ old) × (text ≡ link_line f) × (became ≡ link_became f))
+    ⊎ ((f : LinkFault) × SetupFault (setup_anew old.setup anew) f × (new ≡ old) × (text ≡ (link_refusal f).0) × (became ≡ (link_refusal f).1))
 
 -- ---- Files that it is given.
 
 -- nothing was added, and this is why
 abbrev pub SaysWhy : (AddFault → Type 0) → ServingValue → ServingValue → List ℕ → Became → Type 0
 SaysWhy Why old new text became =
-    (f : AddFault) × Why f × (new ≡ old) × (text ≡ add_refusal f) × (became ≡ add_became f)
+    (f : AddFault) × Why f × (new ≡ old) × (text ≡ (add_refusal f).0) × (became ≡ (add_refusal f).1)
 
 -- one was added, and no packet moved
 pub record Added (old new : ServingValue) (text : List ℕ) (became : Became) : Type 0 where

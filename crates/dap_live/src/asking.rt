@@ -9,7 +9,7 @@ ghost use Rattle.dap_end.specs.Asking.{GoesOn as Went, HasAsked, Takes, nothing_
 ghost use Rattle.dap_text.specs.Adding.{Adds};
 ghost use Rattle.dap_live.specs.declared.asking.Came.{Came as TheCame};
 ghost use Rattle.dap_live.specs.Texts.{packets_text, reports_text};
-ghost use Rattle.dap_live.specs.Asking.{Asks, AsksRunning, Does, DoesOrder, Ends, GoesOn, GoesOnIf, OnEnd, Reaches, Renews, Resends, ResendsRunning, TakesPacket, came_by, front_text, gone_became, gone_text, goes_on as goes_on_by, is_behind as is_behind_by};
+ghost use Rattle.dap_live.specs.Asking.{Asks, AsksRunning, Does, DoesOrder, Ends, GoesOn, GoesOnIf, OnEnd, Reaches, Renews, Resends, ResendsRunning, TakesPacket, came_by, front_text, gone_said, goes_on as goes_on_by, is_behind as is_behind_by};
 
 use crate::orders::{Anew, Order, read_order, set_up};
 use crate::sending::{has_message, is_left, push_again, say_ack, waits};
@@ -132,8 +132,8 @@ fn push_gone(
     packets: &Vec<Vec<u8>>,
 ) -> Result<Came, AllocError>
     ensures text { OnOk result (Adds text.old text.new (reports_text reports.now.items
-        ++ (packets_text (bodies packets.now.items) ++ gone_text gone))) }
-    ensures came { IfOk result (λ came. came ≡ Came.Told (gone_became gone)) }
+        ++ (packets_text (bodies packets.now.items) ++ (gone_said gone).0))) }
+    ensures came { IfOk result (λ came. came ≡ Came.Told (gone_said gone).1) }
 {
     push_reports(text, reports)?;
     push_packets(text, packets)?;

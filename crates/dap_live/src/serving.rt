@@ -13,7 +13,8 @@ ghost use Rattle.rec_file.specs.Shapes.{is_shape};
 ghost use Rattle.linewise.specs.declared.talking.Became.{Became as TheBecame};
 ghost use Rattle.dap_live.specs.Sending.{is_left as is_left_of};
 ghost use Rattle.dap_live.specs.Texts.{packets_text};
-ghost use Rattle.dap_live.specs.Serving.{AddsFile, AddsRecord, AddsShaped, Does, DoesOrder, GoesOn, GoesOnIf, Reaches, Renews, Resends, ResendsRunning, TakesPacket, gone_became, gone_text};
+ghost use Rattle.dap_live.specs.Inner.Saying.{AddsSaid};
+ghost use Rattle.dap_live.specs.Serving.{AddsFile, AddsRecord, AddsShaped, Does, DoesOrder, GoesOn, GoesOnIf, Reaches, Renews, Resends, ResendsRunning, TakesPacket, gone_said};
 
 use crate::orders::{Anew, Order, read_order, set_up};
 use crate::sending::{is_left, push_again, say_ack, waits};
@@ -92,9 +93,8 @@ fn push_gone(
     gone: Result<(), LinkFault>,
     packets: &Vec<Vec<u8>>,
 ) -> Result<Became, AllocError>
-    ensures text { OnOk result (Adds text.old text.new
-        (packets_text (bodies packets.now.items) ++ gone_text gone)) }
-    ensures became { IfOk result (λ became. became ≡ gone_became gone) }
+    ensures { IfOk result (AddsSaid text.old text.new
+        (packets_text (bodies packets.now.items) ++ (gone_said gone).0, (gone_said gone).1)) }
 {
     push_packets(text, packets)?;
     match gone {

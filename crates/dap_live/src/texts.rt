@@ -5,7 +5,8 @@ ghost use Rattle.dap_msg.specs.Blocked.{bodies};
 ghost use Rattle.dap_accessed.specs.Replies.{reason_of};
 ghost use Rattle.nsp_link.specs.declared.fault.LinkFault.TheVariants as fault;
 ghost use Rattle.dap_text.specs.Adding.{Adds};
-ghost use Rattle.dap_live.specs.Texts.{add_became, add_refusal, ask_became, ask_refusal, end_became, end_refusal, got_line, link_became, link_line, packet_text, packets_text, read_became, read_refusal, refused_line, reports_text, report_line, status_line, taken_became, taken_text};
+ghost use Rattle.dap_live.specs.Texts.{add_refusal, ask_refusal, end_refusal, got_line, link_refusal, packet_text, packets_text, read_refusal, refused, refused_line, reports_text, report_line, status_line, taken_said};
+ghost use Rattle.dap_live.specs.Inner.Saying.{AddsSaid};
 
 use dap_accessed::AddFault;
 use dap_accessing::{AskFault, ReadFault, Report};
@@ -75,80 +76,54 @@ pub(crate) fn push_refused(text: &mut Vec<u8>, word: &str) -> Result<(), AllocEr
     push_str(text, "\n")
 }
 
-fn push_malformed(text: &mut Vec<u8>, why: SegFault) -> Result<(), AllocError>
-    ensures { OnOk result (Adds text.old text.new (link_line (fault.Malformed why))) }
+/// Says that something is refused, by its word.
+fn refuse(text: &mut Vec<u8>, word: &str) -> Result<Became, AllocError>
+    ensures { IfOk result (AddsSaid text.old text.new (refused word.now)) }
+{
+    push_refused(text, word)?;
+    Ok(Became::Done)
+}
+
+/// Says that bytes are no packet.
+fn refuse_malformed(text: &mut Vec<u8>, why: SegFault) -> Result<Became, AllocError>
+    ensures { IfOk result (AddsSaid text.old text.new (link_refusal (fault.Malformed why))) }
 {
     push_str(text, "refused ")?;
-    push_packet_fault(text, why)
-}
-
-/// The line of what a link refuses; want of memory has none here.
-fn push_link_line(text: &mut Vec<u8>, fault: LinkFault) -> Result<(), AllocError>
-    ensures { OnOk result (Adds text.old text.new (link_line fault)) }
-{
-    match fault {
-        LinkFault::NoMemory => Ok(()),
-        LinkFault::Malformed(why) => push_malformed(text, why),
-        LinkFault::BadSetup => push_refused(text, "bad-setup"),
-        LinkFault::WrongLink => push_refused(text, "wrong-link"),
-        LinkFault::BadSequence => push_refused(text, "bad-sequence"),
-        LinkFault::MessageTooLong => push_refused(text, "message-too-long"),
-        LinkFault::Failed => push_refused(text, "failed"),
-        LinkFault::Exhausted => push_refused(text, "exhausted"),
-        LinkFault::NoSuchSegment => push_refused(text, "nothing-to-do"),
-    }
-}
-
-fn link_becomes(fault: LinkFault) -> Became
-    ensures { result ≡ link_became fault }
-{
-    match fault {
-        LinkFault::NoMemory => Became::NoMemory,
-        _ => Became::Done,
-    }
+    push_packet_fault(text, why)?;
+    Ok(Became::Done)
 }
 
 /// Says what a link refuses.
 pub(crate) fn push_link_refusal(text: &mut Vec<u8>, fault: LinkFault) -> Result<Became, AllocError>
-    ensures text { OnOk result (Adds text.old text.new (link_line fault)) }
-    ensures became { IfOk result (λ became. became ≡ link_became fault) }
-{
-    push_link_line(text, fault)?;
-    Ok(link_becomes(fault))
-}
-
-fn push_read_line(text: &mut Vec<u8>, fault: ReadFault) -> Result<(), AllocError>
-    ensures { OnOk result (Adds text.old text.new (read_refusal fault)) }
+    ensures { IfOk result (AddsSaid text.old text.new (link_refusal fault)) }
 {
     match fault {
-        ReadFault::NoMemory => Ok(()),
-        ReadFault::Failed => push_refused(text, "ask-failed"),
-        ReadFault::Unexpected => push_refused(text, "unexpected-answer"),
-    }
-}
-
-fn read_becomes(fault: ReadFault) -> Became
-    ensures { result ≡ read_became fault }
-{
-    match fault {
-        ReadFault::NoMemory => Became::NoMemory,
-        _ => Became::Done,
+        LinkFault::NoMemory => Ok(Became::NoMemory),
+        LinkFault::Malformed(why) => refuse_malformed(text, why),
+        LinkFault::BadSetup => refuse(text, "bad-setup"),
+        LinkFault::WrongLink => refuse(text, "wrong-link"),
+        LinkFault::BadSequence => refuse(text, "bad-sequence"),
+        LinkFault::MessageTooLong => refuse(text, "message-too-long"),
+        LinkFault::Failed => refuse(text, "failed"),
+        LinkFault::Exhausted => refuse(text, "exhausted"),
+        LinkFault::NoSuchSegment => refuse(text, "nothing-to-do"),
     }
 }
 
 /// Says why an answer isn't read.
 fn push_read_refusal(text: &mut Vec<u8>, fault: ReadFault) -> Result<Became, AllocError>
-    ensures text { OnOk result (Adds text.old text.new (read_refusal fault)) }
-    ensures became { IfOk result (λ became. became ≡ read_became fault) }
+    ensures { IfOk result (AddsSaid text.old text.new (read_refusal fault)) }
 {
-    push_read_line(text, fault)?;
-    Ok(read_becomes(fault))
+    match fault {
+        ReadFault::NoMemory => Ok(Became::NoMemory),
+        ReadFault::Failed => refuse(text, "ask-failed"),
+        ReadFault::Unexpected => refuse(text, "unexpected-answer"),
+    }
 }
 
 /// Says why an end didn't do all that there was to do.
 pub(crate) fn push_end_refusal(text: &mut Vec<u8>, fault: EndFault) -> Result<Became, AllocError>
-    ensures text { OnOk result (Adds text.old text.new (end_refusal fault)) }
-    ensures became { IfOk result (λ became. became ≡ end_became fault) }
+    ensures { IfOk result (AddsSaid text.old text.new (end_refusal fault)) }
 {
     match fault {
         EndFault::Link(fault) => push_link_refusal(text, fault),
@@ -156,31 +131,14 @@ pub(crate) fn push_end_refusal(text: &mut Vec<u8>, fault: EndFault) -> Result<Be
     }
 }
 
-fn push_ask_line(text: &mut Vec<u8>, fault: AskFault) -> Result<(), AllocError>
-    ensures { OnOk result (Adds text.old text.new (ask_refusal fault)) }
-{
-    match ask_word(fault) {
-        None => Ok(()),
-        Some(word) => push_refused(text, word),
-    }
-}
-
-fn ask_becomes(fault: AskFault) -> Became
-    ensures { result ≡ ask_became fault }
-{
-    match fault {
-        AskFault::NoMemory => Became::NoMemory,
-        _ => Became::Done,
-    }
-}
-
 /// Says why a request isn't asked.
 pub(crate) fn push_ask_refusal(text: &mut Vec<u8>, fault: AskFault) -> Result<Became, AllocError>
-    ensures text { OnOk result (Adds text.old text.new (ask_refusal fault)) }
-    ensures became { IfOk result (λ became. became ≡ ask_became fault) }
+    ensures { IfOk result (AddsSaid text.old text.new (ask_refusal fault)) }
 {
-    push_ask_line(text, fault)?;
-    Ok(ask_becomes(fault))
+    match ask_word(fault) {
+        None => Ok(Became::NoMemory),
+        Some(word) => refuse(text, word),
+    }
 }
 
 /// The line of a refusal by a code and a reason.
@@ -210,34 +168,25 @@ fn reason_number(refusal: Refusal) -> u8
     }
 }
 
-fn push_add_line(text: &mut Vec<u8>, fault: AddFault) -> Result<(), AllocError>
-    ensures { OnOk result (Adds text.old text.new (add_refusal fault)) }
+/// Says that nothing is added, by a code and a reason.
+fn refuse_by(text: &mut Vec<u8>, code: u16, reason: u8) -> Result<Became, AllocError>
+    ensures { IfOk result (AddsSaid text.old text.new (status_line code reason, Became.Done)) }
 {
-    match fault {
-        AddFault::NoMemory => Ok(()),
-        AddFault::Busy => push_refused(text, "busy"),
-        AddFault::FileExists => push_status(text, ACCESS_REFUSED, Reason::FileExists.number()),
-        AddFault::NoFile => push_status(text, FILE_NOT_FOUND, 0),
-        AddFault::Record(why) => push_status(text, RECORD_REFUSED, reason_number(why)),
-    }
-}
-
-fn add_becomes(fault: AddFault) -> Became
-    ensures { result ≡ add_became fault }
-{
-    match fault {
-        AddFault::NoMemory => Became::NoMemory,
-        _ => Became::Done,
-    }
+    push_status(text, code, reason)?;
+    Ok(Became::Done)
 }
 
 /// Says why a file or a record isn't added.
 pub(crate) fn push_add_refusal(text: &mut Vec<u8>, fault: AddFault) -> Result<Became, AllocError>
-    ensures text { OnOk result (Adds text.old text.new (add_refusal fault)) }
-    ensures became { IfOk result (λ became. became ≡ add_became fault) }
+    ensures { IfOk result (AddsSaid text.old text.new (add_refusal fault)) }
 {
-    push_add_line(text, fault)?;
-    Ok(add_becomes(fault))
+    match fault {
+        AddFault::NoMemory => Ok(Became::NoMemory),
+        AddFault::Busy => refuse(text, "busy"),
+        AddFault::FileExists => refuse_by(text, ACCESS_REFUSED, Reason::FileExists.number()),
+        AddFault::NoFile => refuse_by(text, FILE_NOT_FOUND, 0),
+        AddFault::Record(why) => refuse_by(text, RECORD_REFUSED, reason_number(why)),
+    }
 }
 
 /// What became of a packet that was taken in, the reports and the packets to send.
@@ -263,9 +212,8 @@ pub(crate) fn push_taken(
     reports: &Vec<Report>,
     packets: &Vec<Vec<u8>>,
 ) -> Result<Became, AllocError>
-    ensures text { OnOk result (Adds text.old text.new
-        (taken_text taken reports.now.items (bodies packets.now.items))) }
-    ensures became { IfOk result (λ became. became ≡ taken_became taken) }
+    ensures { IfOk result (AddsSaid text.old text.new
+        (taken_said taken reports.now.items (bodies packets.now.items))) }
 {
     match taken {
         Ok(got) => {

@@ -16,7 +16,8 @@ use Rattle.dap_msg.specs.declared.fault.Fault.{Fault}
 use Rattle.dap_msg.specs.Laws.{IsReadBack}
 use Rattle.dap_msg.specs.Inner.Whole.{message_at}
 use Rattle.dap_msg.proofs.Messages.{ok_only}
-use Rattle.dap_msg.specs.Canon.{field_bytes, option_bytes, bits_of, attribute_bits, control_bits, type_number, header_bytes, operand_bytes, canon, FitsField, FitsOption, FieldsFit, Fits}
+use Rattle.dap_msg.specs.Canon.{field_bytes, option_bytes, bits_of, attribute_bits, control_bits, type_number, header_bytes, operand_bytes, canon, Fits}
+use Rattle.dap_msg.specs.Inner.Fitting.{FitsField, FitsOption, FieldsFit, KeepsLimits}
 
 -- ---- Fields.
 
@@ -619,30 +620,37 @@ with_header : (m : Message) (n : ℕ) (bytes : List ℕ) → 0 < n → n < 17 �
 with_header m n bytes some lt small s =
     elim (cases_lt (length bytes) 256) [
       | inl one ↦ rw (lt-ltb (length bytes) 256 one) (record {
-        head = record { number = n; flags = 2; low = Some (length bytes); high = None };
-        front = n ∷ 2 ∷ length bytes ∷ [];
-        body = bytes;
-        joined = refl;
-        header = header_short n (length bytes) some lt one bytes;
+        start = record {
+          head = record { number = n; flags = 2; low = Some (length bytes); high = None };
+          front = n ∷ 2 ∷ length bytes ∷ [];
+          rest = bytes;
+          joined = refl;
+          header = header_short n (length bytes) some lt one bytes;
+        };
         operand = s;
         extent = (refl, refl);
       })
       | inr two ↦ rw (le-ltb (length bytes) 256 two) (record {
-        head = record { number = n; flags = 6; low = Some (length bytes % 256); high = Some (length bytes / 256) };
-        front = n ∷ 6 ∷ (length bytes % 256) ∷ (length bytes / 256) ∷ [];
-        body = bytes;
-        joined = refl;
-        header = header_long n (length bytes % 256) (length bytes / 256) some lt (omega arith) (omega arith) bytes;
+        start = record {
+          head = record { number = n; flags = 6; low = Some (length bytes % 256); high = Some (length bytes / 256) };
+          front = n ∷ 6 ∷ (length bytes % 256) ∷ (length bytes / 256) ∷ [];
+          rest = bytes;
+          joined = refl;
+          header = header_long n (length bytes % 256) (length bytes / 256) some lt (omega arith) (omega arith) bytes;
+        };
         operand = s;
         extent = (omega arith, refl);
       })
     ]
 
-pub canon_spells : (m : Message) → Fits m → SpellsMessage m (canon m) true
+pub canon_spells : (m : Message) → KeepsLimits m → SpellsMessage m (canon m) true
 unfolding canon
 canon_spells m h =
     let n = number_fits m h.fields in
     with_header m (type_number m) (operand_bytes m) n.0 n.1 h.length (operand_spelled m h.fields)
+
+pub closed_spelling : (m : Message) → KeepsLimits m → Fits m
+closed_spelling m h = record { bytes = canon m; spelled = canon_spells m h }
 
 abbrev done : Message × ℕ → Result (Message × ℕ) Fault
 done x = Ok x
@@ -653,7 +661,7 @@ done_is a b e = cc
 take_whole : (a b : List ℕ) → take (length a) (a ++ b) ≡ a
 take_whole a b = take_at a b (length a) refl
 
-pub reads_back : (m : Message) → Fits m → IsReadBack m
+pub reads_back : (m : Message) → KeepsLimits m → IsReadBack m
 reads_back m h =
     let s = canon_spells m h in (
       s,

@@ -5,9 +5,11 @@ use Rattle.std.proofs.lemmas.Bool.{cases_lt, lt-ltb, le-ltb}
 use Rattle.std.proofs.lemmas.List.{length-append}
 use Rattle.dap_fields.specs.Writing.{groups}
 use Rattle.dap_msg.specs.Message.{Message, StatusFields, Ack, Filedata, Status}
-use Rattle.dap_msg.specs.Canon.{canon, type_number, header_bytes, operand_bytes, header_size, file_data_size, FieldsFit, Fits}
-use Rattle.dap_msg.specs.BothEnds.{config_of, complete_with, attributes_of, record_of}
+use Rattle.dap_msg.specs.Canon.{canon, type_number, header_bytes, operand_bytes, header_size, file_data_size, Fits}
+use Rattle.dap_msg.specs.Inner.Fitting.{FieldsFit}
+use Rattle.dap_msg.specs.BothEnds.{config_of, complete_with, attributes_of}
 use Rattle.dap_msg.specs.Inner.Answers.{IsShortAnswer, AnswersFit}
+use Rattle.dap_msg.proofs.Canonical.{closed_spelling}
 use Rattle.dap_msg.proofs.Sizes.{IsPlainMessage, plain_short}
 
 header_length : (number len : ℕ) → length (header_bytes number len) ≡ header_size len
@@ -39,7 +41,7 @@ header_short len =
 
 short_answer_of : (m : Message) → FieldsFit m → IsPlainMessage m → length (operand_bytes m) ≤ 60 → IsShortAnswer m
 short_answer_of m fields plain short = record {
-  fits = record { fields = fields; length = plain_short m fields plain };
+  fits = closed_spelling m (record { fields = fields; length = plain_short m fields plain });
   short = omega (arith, canon_length m, header_short (length (operand_bytes m)));
 }
 
@@ -61,11 +63,9 @@ status_short s c r n v =
     short_answer_of (Status s) (omega arith, omega arith, omega arith, omega arith) tt
     (omega (arith, length-append s.rfa ((length s.recnum ∷ s.recnum) ++ ((length s.stv ∷ s.stv) ++ [])), length-append s.recnum ((length s.stv ∷ s.stv) ++ []), length-append s.stv []))
 
-record_fits : (number : ℕ) (body : List ℕ) → length body ≤ 32767 → Fits (record_of number body)
-record_fits number body short = record {
-  fields = lit≤ tt;
-  length = omega (arith, file_data_operand (little_bytes 4 number) body);
-}
+pub file_data_fits : (recnum payload : List ℕ) → length recnum ≤ 8 → length payload ≤ 65526 → Fits (Filedata recnum payload)
+file_data_fits recnum payload small short =
+    closed_spelling (Filedata recnum payload) (record { fields = small; length = omega (arith, file_data_operand recnum payload) })
 
 pub answers_fit : AnswersFit
 answers_fit = record {
@@ -74,5 +74,5 @@ answers_fit = record {
   ack = short_answer_of Ack tt tt (lit≤ tt);
   complete = complete_short;
   status = status_short;
-  filedata = record_fits;
+  filedata = λ number body short. file_data_fits (little_bytes 4 number) body (lit≤ tt) (omega arith);
 }

@@ -127,8 +127,8 @@ calm_operand n =
 
 fault_calm : (bytes : List ℕ) (kind : FaultKind) (offset : ℕ) → IsFault bytes kind offset → kind ≢ NoMemory
 fault_calm bytes kind offset (inl h) = grammar_calm header bytes kind offset calm_header h
-fault_calm bytes kind offset (inr (inl h)) = λ e. truncated (sym h.kind_is ∙ e)
-fault_calm bytes kind offset (inr (inr h)) = grammar_calm (operand h.head.number) h.body kind h.within (calm_operand h.head.number) h.fault
+fault_calm bytes kind offset (inr (s, inl h)) = λ e. truncated (sym h.kind_is ∙ e)
+fault_calm bytes kind offset (inr (s, inr h)) = grammar_calm (operand s.head.number) h.body kind h.within (calm_operand s.head.number) h.fault
 
 pub never_no_memory : (bytes : List ℕ) (result : Result (LentMessage × ℕ) MsgFault) → IsDecoded bytes (seen_answer result) → IfErr result (λ f. f.kind ≢ NoMemory)
 never_no_memory bytes (Ok x) a = tt

@@ -12,6 +12,8 @@ pub use Rattle.dap_msg.proofs.Places.{are_items}
 pub use Rattle.dap_msg.proofs.Places.{read_in_place}
 -- the answers of both ends have spellings, and all but records have short ones
 pub use Rattle.dap_msg.proofs.Extents.{answers_fit}
+-- a Filedata has a spelling
+pub use Rattle.dap_msg.proofs.Extents.{file_data_fits}
 -- the length of a Filedata's spelling
 pub use Rattle.dap_msg.proofs.Extents.{file_data_measured}
 -- one message more, in the last NSP message or in a new one
@@ -20,6 +22,8 @@ pub use Rattle.dap_msg.proofs.BlockedLaws.{Blocked-more}
 pub use Rattle.dap_msg.proofs.BlockedLaws.{messages_in-Blocked}
 -- none of several messages is longer than the limit
 pub use Rattle.dap_msg.proofs.BlockedLaws.{within_limit}
+-- the values of a message that was read fit their fields
+pub use Rattle.dap_msg.proofs.Values.{fields_fit}
 -- the type of a message that was read is one byte
 pub use Rattle.dap_msg.proofs.Types.{type_short}
 -- a record's bytes may be any others

@@ -19,8 +19,8 @@ AreBytes-drop at bytes fits = AreBytes-back (take at bytes) (drop at bytes) (sub
 -- a message has at least its type and its flags
 pub stands_some : (m : Message) (n : ℕ) (bytes : List ℕ) → StandsInFront m n bytes → 2 ≤ n
 stands_some m n bytes h =
-    let s = h.spelled in
-    omega (arith, ap length s.joined, length-append s.front s.body, length-take n bytes, h.there, (header_room s.head s.front s.body s.header).fixed)
+    let s = h.spelled.start in
+    omega (arith, ap length s.joined, length-append s.front s.rest, length-take n bytes, h.there, (header_room s.head s.front s.rest s.header).fixed)
 
 pub fault_within : (bytes : List ℕ) (f : MsgFault) → AreBytes bytes → IsDecoded bytes (Err f) → f.offset ≤ length bytes
 fault_within bytes f fits h = (fault_only bytes f.kind f.offset fits h.0).0

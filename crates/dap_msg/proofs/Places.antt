@@ -14,6 +14,7 @@ use Rattle.dap_msg.specs.Items.{Item, Whole, Malformed, ItemAt, ItemsFrom}
 use Rattle.dap_msg.specs.Laws.{IsReadInPlace, AreItems, HasItems}
 use Rattle.dap_msg.proofs.Messages.{exact}
 use Rattle.dap_msg.proofs.Canonical.{canon_spells}
+use Rattle.dap_msg.proofs.Values.{limits}
 use Rattle.dap_msg.proofs.Listing.{AreBytes-drop, stands_some, one_item}
 
 -- ---- What was written.
@@ -22,7 +23,7 @@ stands : (m : Message) → Fits m → (after : List ℕ) → StandsInFront m (le
 stands m fits after = record {
   closed = true;
   there = omega (arith, length-append (canon m) after);
-  spelled = subst (λ (x : List ℕ). SpellsMessage m x true) (sym (take_at (canon m) after (length (canon m)) refl)) (canon_spells m fits);
+  spelled = subst (λ (x : List ℕ). SpellsMessage m x true) (sym (take_at (canon m) after (length (canon m)) refl)) (canon_spells m (limits m fits));
   open_is_all = λ t. absurd cc;
 }
 

@@ -75,8 +75,8 @@ pub other_record : (recnum payload one : List ℕ) (n : ℕ) → StandsInFront (
     → (start : ℕ) × (start + length payload ≡ n)
     × ((two : List ℕ) → length two ≡ length one → take start two ≡ take start one → StandsInFront (Filedata recnum (drop start (take n two))) n two)
 other_record recnum payload one n h =
-    let s = h.spelled in
-    let o = open_operand s.head.number recnum payload s.body s.operand in
+    let s = h.spelled.start in
+    let o = open_operand s.head.number recnum payload s.rest h.spelled.operand in
     let head : List ℕ = s.front ++ o.0 in
     let start : ℕ = length head in
     let whole : take n one ≡ head ++ payload = s.joined ∙ ap (λ (b : List ℕ). s.front ++ b) o.1 ∙ sym (append_assoc s.front o.0 payload) in
@@ -92,17 +92,13 @@ other_record recnum payload one n h =
           let joined : take n two ≡ s.front ++ (o.0 ++ body) =
           sym (take-append-drop start (take n two)) ∙ ap (λ (f : List ℕ). f ++ body) front ∙ append_assoc s.front o.0 body in
           let equal : length body ≡ length payload = omega (arith, length-drop start (take n two), resized, size) in
-          let lengths : length (o.0 ++ body) ≡ length s.body = omega (arith, length-append o.0 body, length-append o.0 payload, ap length o.1, equal) in record {
+          let lengths : length (o.0 ++ body) ≡ length s.rest = omega (arith, length-append o.0 body, length-append o.0 payload, ap length o.1, equal) in record {
             closed = h.closed;
             there = omega (arith, h.there, long);
             spelled = record {
-              head = s.head;
-              front = s.front;
-              body = o.0 ++ body;
-              joined = joined;
-              header = header_any s.head s.front s.body (o.0 ++ body) s.header;
+              start = record { head = s.head; front = s.front; rest = o.0 ++ body; joined = joined; header = header_any s.head s.front s.rest (o.0 ++ body) s.header };
               operand = o.2 body;
-              extent = same_extent (length_of s.head.low s.head.high) s.body (o.0 ++ body) h.closed lengths s.extent;
+              extent = same_extent (length_of s.head.low s.head.high) s.rest (o.0 ++ body) h.closed lengths h.spelled.extent;
             };
             open_is_all = λ not_closed. h.open_is_all not_closed ∙ sym long;
           },

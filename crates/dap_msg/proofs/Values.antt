@@ -11,9 +11,10 @@ use Rattle.dap_msg.specs.Codes.{greatest_type}
 use Rattle.dap_msg.specs.Grammar.{Kind, Byte, Word, Extensible, Image, ValueOf, SpellsField, Part, Must, When, OrElse, UnlessEnd, Remainder, PartValue, SpellsPart, Grammar, Done, Next, Spells}
 use Rattle.dap_msg.specs.Message.{Header, Message, Config, Attrib, Access, Control, Contran, Ack, Accomp, Filedata, Status, Other, seen, length_of}
 use Rattle.dap_msg.specs.Formats.{refuses_type, header, configuration, attributes, access, control, continuation, acknowledge, completion, file_data, status, other, operand}
-use Rattle.dap_msg.specs.Decoding.{HasLength, SpellsMessage, IsDecoded}
+use Rattle.dap_msg.specs.Decoding.{HasLength, SpellsMessage, IsDecoded, IsSpelled}
 use Rattle.dap_msg.specs.Answer.{seen_answer}
-use Rattle.dap_msg.specs.Canon.{FitsField, FitsOption, FieldsFit, Fits, operand_bytes}
+use Rattle.dap_msg.specs.Canon.{Fits, operand_bytes}
+use Rattle.dap_msg.specs.Inner.Fitting.{FitsField, FitsOption, FieldsFit, KeepsLimits}
 use Rattle.dap_msg.proofs.Sizes.{plain_short}
 use Rattle.dap_msg.proofs.Extents.{file_data_operand}
 
@@ -163,19 +164,26 @@ operand_short (Status a) n f c lt = plain_short (Status a) f tt
 
 -- the fields of a message that bytes spell fit
 pub spelled_fields : (m : Message) (bytes : List ℕ) (closed : Bool) → SpellsMessage m bytes closed → FieldsFit m
-spelled_fields m bytes closed s =
-    let h = header_fits s.head s.front s.body s.header in
-    (holds (operand s.head.number) ValuesFit m s.body [] 0 (yields s.head.number h.some h.known) s.operand).0
+spelled_fields m bytes closed o =
+    let s = o.start in
+    let h = header_fits s.head s.front s.rest s.header in
+    (holds (operand s.head.number) ValuesFit m s.rest [] 0 (yields s.head.number h.some h.known) o.operand).0
 
--- a message with a closed spelling fits
-pub closed_fits : (m : Message) (bytes : List ℕ) → SpellsMessage m bytes true → Fits m
-closed_fits m bytes s =
-    let h = header_fits s.head s.front s.body s.header in
-    let v = holds (operand s.head.number) ValuesFit m s.body [] 0 (yields s.head.number h.some h.known) s.operand in
-    let short = short_body (length_of s.head.low s.head.high) s.body (λ n e. length_below s.head.low s.head.high n h.low h.high e) s.extent in
-    record { fields = v.0; length = operand_short m (0 + length s.body) v.0 v.1 (omega (arith, short)) }
+-- the same of one that was read
+pub fields_fit : (m : Message) → IsSpelled m → FieldsFit m
+fields_fit m (bytes, closed, s) = spelled_fields m bytes closed s
 
--- the fields of a message that was read fit
-pub read_fits : (bytes : List ℕ) (result : Result (LentMessage × ℕ) MsgFault) → IsDecoded bytes (seen_answer result) → IfOk result (λ x. FieldsFit (seen x.0))
-read_fits bytes (Ok x) a = spelled_fields (seen x.0) (take x.1 bytes) a.closed a.spelled
-read_fits bytes (Err f) a = tt
+-- a message with a closed spelling keeps the limits
+pub limits : (m : Message) → Fits m → KeepsLimits m
+limits m f =
+    let o = f.spelled in
+    let s = o.start in
+    let h = header_fits s.head s.front s.rest s.header in
+    let v = holds (operand s.head.number) ValuesFit m s.rest [] 0 (yields s.head.number h.some h.known) o.operand in
+    let short = short_body (length_of s.head.low s.head.high) s.rest (λ n e. length_below s.head.low s.head.high n h.low h.high e) o.extent in
+    record { fields = v.0; length = operand_short m (0 + length s.rest) v.0 v.1 (omega (arith, short)) }
+
+-- a message that was read is one that some bytes are
+pub read_spelled : (bytes : List ℕ) (result : Result (LentMessage × ℕ) MsgFault) → IsDecoded bytes (seen_answer result) → IfOk result (λ x. IsSpelled (seen x.0))
+read_spelled bytes (Ok x) a = (take x.1 bytes, a.closed, a.spelled)
+read_spelled bytes (Err f) a = tt

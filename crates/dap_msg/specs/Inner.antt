@@ -2,5 +2,6 @@
 pub mod Answers
 pub mod Attributes
 pub mod Fields
+pub mod Fitting
 pub mod Reading
 pub mod Whole

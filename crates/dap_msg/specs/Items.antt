@@ -4,8 +4,7 @@ use Rattle.dap_msg.specs.declared.fault.MsgFault.{MsgFault}
 use Rattle.dap_msg.specs.declared.items.Item.{Item as LentItem}
 use Rattle.dap_msg.specs.declared.items.Item.TheVariants as lent
 use Rattle.dap_msg.specs.Message.{Message, seen}
-use Rattle.dap_msg.specs.Decoding.{StandsInFront, IsFault, type_in_front}
-use Rattle.dap_msg.specs.Canon.{FieldsFit}
+use Rattle.dap_msg.specs.Decoding.{IsSpelled, StandsInFront, IsFault, type_in_front}
 
 -- A message; or the rest of the NSP message, of which no message can be read, with its first fault. The fault's
 -- offset is counted from the start of the NSP message.
@@ -43,7 +42,7 @@ ItemsFrom bytes at (item ∷ second ∷ more) =
 abbrev pub Items : List ℕ → List Item → Type 0
 Items bytes items = ItemsFrom bytes 0 items
 
--- the values of the message that was read fit their fields
+-- a message is one that some bytes are
 abbrev pub ItemFits : Item → Type 0
-ItemFits (Whole m) = FieldsFit m
+ItemFits (Whole m) = IsSpelled m
 ItemFits (Malformed fault) = Unit {0}

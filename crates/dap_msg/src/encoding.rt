@@ -3,9 +3,10 @@
 ghost use Rattle.std.specs.Prelude.{ℕ, ◌≡◌, ◌≤◌, ◌<◌, ◌+◌, ◌^◌, ◌++◌, length, is_some, map, vec_len, vec_capacity};
 ghost use Rattle.dap_fields.specs.Writing.{shortest};
 ghost use Rattle.dap_msg.specs.Message.{Attrib, Control as ControlOf, seen, seen_attributes, seen_control};
-ghost use Rattle.dap_msg.specs.Canon.{canon, Fits, FieldsFit, FitsOption, operand_bytes, header_bytes, option_bytes, bits_of};
+ghost use Rattle.dap_msg.specs.Canon.{canon, Fits, operand_bytes, header_bytes, option_bytes, bits_of};
 ghost use Rattle.dap_msg.specs.Written.{AppendsMessage};
 ghost use Rattle.dap_msg.specs.Inner.Fields.{bytes_of, fields_bytes, message_bytes, is_there, CanWrite, CanWriteAll, completion_of};
+ghost use Rattle.dap_msg.specs.Inner.Fitting.{FieldsFit, FitsOption, KeepsLimits};
 
 use crate::fault::MsgFault;
 use crate::header::HeaderFlags;
@@ -134,15 +135,6 @@ fn message_len(len: usize) -> usize
     ensures { (number : ℕ) → result ≡ length (header_bytes number len) + len }
 {
     if len < 256 { len + 3 } else { len + 4 }
-}
-
-/// The bytes of a message of these fields.
-fn fields_message_len(fields: &[Field]) -> usize
-    requires fit { CanWriteAll fields.now }
-    requires small { length (fields_bytes fields.now) < 2 ^ 16 }
-    ensures { (number : ℕ) → result ≡ length (message_bytes number fields.now) }
-{
-    message_len(fields_len(fields))
 }
 
 /// Appends a message of these fields. Where there is no memory nothing is changed.
@@ -357,7 +349,7 @@ macro_rules! with_fields {
 #[tactic(auto, unfolding(crate::specs::Canon::canon))]
 #[inline(always)]
 fn encode_here(message: &Message<'_>, out: &mut Vec<u8>) -> Result<(), MsgFault>
-    requires { Fits (seen message.now) }
+    requires { KeepsLimits (seen message.now) }
     ensures appends { AppendsMessage (canon (seen message.now)) out.old out.new result }
     ensures capacity { vec_capacity out.old ≤ vec_capacity out.new }
 {
@@ -368,7 +360,7 @@ fn encode_here(message: &Message<'_>, out: &mut Vec<u8>) -> Result<(), MsgFault>
 /// written apart.
 #[inline(never)]
 fn encode_apart(message: &Message<'_>, out: &mut Vec<u8>) -> Result<(), MsgFault>
-    requires { Fits (seen message.now) }
+    requires { KeepsLimits (seen message.now) }
     ensures appends { AppendsMessage (canon (seen message.now)) out.old out.new result }
     ensures capacity { vec_capacity out.old ≤ vec_capacity out.new }
 {
@@ -394,12 +386,19 @@ pub fn encode(message: &Message<'_>, out: &mut Vec<u8>) -> Result<(), MsgFault>
     }
 }
 
+/// The bytes of the operand.
+fn operand_len(message: &Message<'_>) -> usize
+    requires { KeepsLimits (seen message.now) }
+    ensures { result ≡ length (operand_bytes (seen message.now)) }
+{
+    with_fields!(message, fields_len)
+}
+
 /// The number of bytes that [`encode`] appends for a message that fits (own; DAP 5.6.0, message formats). Takes no
 /// memory.
-#[tactic(auto, unfolding(crate::specs::Canon::canon))]
 pub fn encoded_len(message: &Message<'_>) -> usize
     requires { Fits (seen message.now) }
     ensures { result ≡ length (canon (seen message.now)) }
 {
-    with_fields!(message, fields_message_len)
+    message_len(operand_len(message))
 }

@@ -7,7 +7,8 @@ ghost use Rattle.dap_msg.specs.Grammar.{ValueOf};
 ghost use Rattle.dap_msg.specs.Formats.{must};
 ghost use Rattle.dap_msg.specs.Inner.Reading.{part_at, Gives};
 ghost use Rattle.dap_msg.specs.Inner.Fields.{bytes_of, CanWrite, is_there};
-ghost use Rattle.dap_msg.specs.Canon.{field_bytes, FitsField};
+ghost use Rattle.dap_msg.specs.Canon.{field_bytes};
+ghost use Rattle.dap_msg.specs.Inner.Fitting.{FitsField};
 
 use crate::encoding::Field;
 use crate::fault::Fault;
@@ -64,7 +65,6 @@ impl<'a> Kind<'a, u8> for Byte {
 
     ghost some = { λ k v. refl };
 
-    #[inline(always)]
     fn read(self, bytes: &'a [u8]) -> Result<(u8, &'a [u8]), Fault> {
         match read_u8(bytes) {
             Ok((value, len)) => Ok((value, &bytes[len..])),
@@ -100,7 +100,6 @@ impl<'a> Kind<'a, u16> for Word {
 
     ghost some = { λ k v. refl };
 
-    #[inline(always)]
     fn read(self, bytes: &'a [u8]) -> Result<(u16, &'a [u8]), Fault> {
         match read_u16(bytes) {
             Ok((value, len)) => Ok((value, &bytes[len..])),
@@ -136,7 +135,6 @@ impl<'a> Kind<'a, &'a [u8]> for Image {
 
     ghost some = { λ k v. refl };
 
-    #[inline(always)]
     fn read(self, bytes: &'a [u8]) -> Result<(&'a [u8], &'a [u8]), Fault> {
         match read_image(bytes, self.0) {
             Ok((value, len)) => Ok((value, &bytes[len..])),
@@ -194,7 +192,6 @@ impl<'a, N: Number> Kind<'a, N> for Extensible {
 
     ghost some = { λ k n. N.some n };
 
-    #[inline(always)]
     fn read(self, bytes: &'a [u8]) -> Result<(N, &'a [u8]), Fault> {
         match read_ex(bytes, self.0) {
             Ok((value, len)) => Ok((N::of(value), &bytes[len..])),

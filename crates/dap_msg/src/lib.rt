@@ -35,8 +35,7 @@ pub use file_access::FileAccess;
 pub use fitting::fits;
 pub use items::{Item, item_at};
 pub use laws::{
-    fits_what_is_spelled, has_items, lists_messages, measures_file_data, one_item_stands,
-    reads_back, reads_in_place,
+    has_items, lists_messages, measures_file_data, one_item_stands, reads_back, reads_in_place,
 };
 pub use message::{Attributes, Control, Message};
 pub use status::{StatusCode, status_for};

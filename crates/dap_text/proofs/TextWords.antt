@@ -1,12 +1,13 @@
 -- What a word stands for.
 use Rattle.std.proofs.Common.{◌≡◌, ◌<◌, ◌≤◌, ◌+◌, ◌*◌, ◌-◌, ℕ, Bool, true, false, List, [], ◌∷◌, ◌++◌, length, take, drop, Option, Some, None, IsSome, refl, sym, ap, ◌∙◌, subst, arith, cond}
-use Rattle.std.specs.Prelude.{unwrap_or, bytes_eq, codes, get_or}
-use Rattle.std.specs.List.{fold}
+use Rattle.std.specs.Prelude.{unwrap_or, bytes_eq, codes, get_or, nat_le, ◌&&◌}
+use Rattle.std.specs.Char.{is_ascii_digit}
+use Rattle.std.specs.List.{fold, list_all}
 use Rattle.dap_text.specs.Words.{is_hex_text}
 use Rattle.std.proofs.lemmas.List.{take-append-drop}
 use Rattle.std.proofs.lemmas.List.Sums.{fold_more}
 use Rattle.std.proofs.lemmas.Bool.Decides.{nat_tests}
-use Rattle.dap_text.specs.Words.{text_of, decimal_value, at_most, decimal_of}
+use Rattle.dap_text.specs.Words.{text_of, decimal_value, decimal_of}
 use Rattle.dap_text.proofs.HexTextLemmas.{hex_decodes}
 
 either : (b : Bool) (hex : List ℕ) (bytes : Option (List ℕ)) → bytes ≡ Some hex → (all : List ℕ) × (cond b (Some []) bytes ≡ Some all)
@@ -35,13 +36,12 @@ pub value_grows : (front back : List ℕ) (number : ℕ) → fold (λ n d. 10 * 
 value_grows [] back number = grows back number
 value_grows (digit ∷ front) back number = value_grows front back (10 * number + (digit - 48))
 
-past : (b : Bool) (most value : ℕ) → most < value → cond b (at_most most value) None ≡ None
-past true most value more = grind (arith, nat_tests)
-past false most value more = refl
+past : (a b c : Bool) (most value : ℕ) → most < value → cond (a && b && c && nat_le value most) (Some value) None ≡ None
+past a b c most value more = grind (arith, nat_tests)
 
 pub too_great : (word : List ℕ) (i most number d : ℕ) → i < length word → number ≡ decimal_value (take i word) → most < 10 * number + (get_or word i d - 48)
     → decimal_of most word ≡ None
 too_great word i most number d inside so_far more =
     let one : decimal_value (take (i + 1) word) ≡ 10 * number + (get_or word i d - 48) = fold_more (λ n b. 10 * n + (b - 48)) 0 word i d inside ∙ ap (λ n. 10 * n + (get_or word i d - 48)) (sym so_far) in
     let all : decimal_value (take (i + 1) word) ≤ decimal_value word = subst (λ ds. decimal_value (take (i + 1) word) ≤ decimal_value ds) (take-append-drop (i + 1) word) (value_grows (take (i + 1) word) (drop (i + 1) word) 0) in
-    past _ most (decimal_value word) (omega (arith, one, all, more))
+    past (nat_le 1 (length word)) (nat_le (length word) 10) (list_all is_ascii_digit word) most (decimal_value word) (omega (arith, one, all, more))

@@ -1,10 +1,10 @@
 -- The words of a line, and what a word says.
-use Rattle.std.specs.Prelude.{ℕ, Bool, ◌+◌, ◌-◌, ◌*◌, ◌%◌, ◌==◌, ◌&&◌, nat_le, List, [], ◌∷◌, length, codes, bytes_eq, if◌then◌else◌, Option, Some, None, Result, Ok, Err}
-use Rattle.std.specs.Option.{option_or}
+use Rattle.std.specs.Prelude.{ℕ, Bool, ◌+◌, ◌-◌, ◌*◌, ◌%◌, ◌==◌, ◌&&◌, nat_le, List, [], ◌∷◌, length, codes, bytes_eq, if◌then◌else◌, Option, Some, None}
+use Rattle.std.specs.Option.{option_and_then, option_map, option_or, option_zip}
+use Rattle.std.specs.Result.{result_ok}
 use Rattle.std.specs.List.{slice_split, list_all, fold}
 use Rattle.std.specs.Char.{is_ascii_digit, is_ascii_hexdigit}
 use Rattle.hex.specs.Hex.{decode_of}
-use Rattle.hex.specs.declared.error.FromHexError.{FromHexError}
 
 -- the words of a line: one space stands between two of them
 abbrev pub words_of : List ℕ → List (List ℕ)
@@ -14,19 +14,11 @@ words_of line = slice_split (λ byte. byte == 32) line
 abbrev pub decimal_value : List ℕ → ℕ
 decimal_value digits = fold (λ number digit. 10 * number + (digit - 48)) 0 digits
 
-abbrev pub at_most : ℕ → ℕ → Option ℕ
-at_most most number = if nat_le number most then Some number else None
-
 -- a number of 1 to 10 decimal digits, at most so much
 abbrev pub decimal_of : ℕ → List ℕ → Option ℕ
 decimal_of most word =
-    if nat_le 1 (length word) && nat_le (length word) 10 && list_all is_ascii_digit word
-    then at_most most (decimal_value word)
-    else None
-
-abbrev pub decoded : Result (List ℕ) FromHexError → Option (List ℕ)
-decoded (Ok bytes) = Some bytes
-decoded (Err error) = None
+    if nat_le 1 (length word) && nat_le (length word) 10 && list_all is_ascii_digit word && nat_le (decimal_value word) most
+    then Some (decimal_value word) else None
 
 -- an even number of hex digits, of either case, and at least two
 abbrev pub is_hex_text : List ℕ → Bool
@@ -34,21 +26,16 @@ is_hex_text digits = nat_le 2 (length digits) && (length digits % 2 == 0 && list
 
 -- bytes, by such digits
 abbrev pub hex_of : List ℕ → Option (List ℕ)
-hex_of word = if is_hex_text word then decoded (decode_of word) else None
+hex_of word = if is_hex_text word then result_ok (decode_of word) else None
 
 -- the same, and `-` where there are none
 abbrev pub text_of : List ℕ → Option (List ℕ)
 text_of word = if bytes_eq word (codes "-") then Some [] else hex_of word
 
-abbrev pub with_text : Option (List ℕ) → Option (List (List ℕ)) → Option (List (List ℕ))
-with_text None others = None
-with_text (Some bytes) None = None
-with_text (Some bytes) (Some others) = Some (bytes ∷ others)
-
 -- words that all are such
 abbrev pub texts_of : List (List ℕ) → Option (List (List ℕ))
 texts_of [] = Some []
-texts_of (word ∷ words) = with_text (text_of word) (texts_of words)
+texts_of (word ∷ words) = option_map (λ p. p.0 ∷ p.1) (option_zip (text_of word) (texts_of words))
 
 -- ---- Reading words one by one.
 
@@ -65,11 +52,6 @@ abbrev pub ends : {X : Type 0} → X → Words → Option X
 ends x [] = Some x
 ends x (word ∷ words) = None
 
--- what is read of a word goes on over the words after it
-abbrev pub goes_on : {X Y : Type 0} → (X → Words → Option Y) → Option X → Words → Option Y
-goes_on next None words = None
-goes_on next (Some x) words = next x words
-
 -- the first word is this one, and then what follows
 abbrev pub word : {X : Type 0} → List ℕ → (Words → Option X) → Words → Option X
 word name next [] = None
@@ -78,7 +60,7 @@ word name next (w ∷ words) = if is w name then next words else None
 -- a word is read, and then what follows
 abbrev pub field : {X Y : Type 0} → (List ℕ → Option X) → (X → Words → Option Y) → Words → Option Y
 field read next [] = None
-field read next (word ∷ words) = goes_on next (read word) words
+field read next (word ∷ words) = option_and_then (λ x. next x words) (read word)
 
 -- the first of the forms in which the words say something
 abbrev pub one_of : {X : Type 0} → List (Words → Option X) → Words → Option X

@@ -3,7 +3,8 @@
 ghost use Rattle.std.specs.Prelude.{◌≡◌, ◌++◌, IfOk, OnOk};
 ghost use Rattle.std.specs.List.{flat_map};
 ghost use Rattle.dap_text.specs.Adding.{Adds};
-ghost use Rattle.dap_text.specs.Reports.{ending_text, numbered_text, refused_text, report_text, stored_text};
+ghost use Rattle.dap_text.specs.Reports.{ending_text, numbered_text, refused_text, report_text};
+ghost use Rattle.dap_accessing.specs.declared.report.Report.TheVariants as report;
 
 use crate::text::{push_image, push_number, push_str, push_word};
 use dap_accessing::{Ending, Octets, Report};
@@ -41,7 +42,7 @@ fn push_records(text: &mut Vec<u8>, records: &[(u64, Octets)]) -> Result<(), All
 
 /// Appends what a Store came to.
 fn push_stored(text: &mut Vec<u8>, kept: Option<(u16, u8, u64)>) -> Result<(), AllocError>
-    ensures { OnOk result (Adds text.old text.new (stored_text kept)) }
+    ensures { OnOk result (Adds text.old text.new (report_text (report.Stored kept))) }
 {
     match kept {
         None => push_str(text, "stored"),

@@ -5,7 +5,7 @@ ghost use Rattle.std.specs.FinMap.{entries};
 ghost use Rattle.std.specs.List.{flat_map};
 ghost use Rattle.rec_file.specs.AnyFiles.{any_value};
 ghost use Rattle.dap_text.specs.Adding.{Adds};
-ghost use Rattle.dap_text.specs.Tables.{file_line, file_text, files_text, format_text, org_text, record_line, records_text};
+ghost use Rattle.dap_text.specs.Tables.{file_line, file_text, files_text, format_text, org_text, record_line};
 
 use crate::text::{push_image, push_number, push_str};
 use dap_accessed::FileTable;
@@ -64,7 +64,8 @@ fn push_record(text: &mut Vec<u8>, number: u32, body: &[u8]) -> Result<(), Alloc
 /// Appends the lines of a file's records, in the order of their numbers. The next record is found before the line of one
 /// is written, so that the processor fetches it meanwhile.
 fn push_records(text: &mut Vec<u8>, file: &AnyFile) -> Result<(), AllocError>
-    ensures { OnOk result (Adds text.old text.new (records_text (any_value file.now))) }
+    ensures { OnOk result (Adds text.old text.new
+        (flat_map record_line (entries (any_value file.now).records))) }
 {
     let mut next = first_record(file, 0);
     while let Some((number, body)) = next {

@@ -4,9 +4,10 @@ use Rattle.std.specs.Prelude.{Option, Some, None, IfSome}
 use Rattle.nsp_seg.specs.Numbers.{residue}
 use Rattle.nsp_link.specs.Separation.{IsSegmentNear, IsAckNear}
 use Rattle.dap_world.specs.declared.event.End.{End}
-use Rattle.dap_world.specs.Machine.{State, Sending, end_of, other, is_old, is_old_segment, IsDue}
+use Rattle.dap_world.specs.Machine.{State, Sending, end_of, other, is_old, IsDue}
 use Rattle.dap_world.specs.Runs.{IsReached}
 use Rattle.dap_world.specs.Separation.{InOrder, AreApart}
+use Rattle.dap_world.specs.Inner.Ways.{is_old_segment}
 use Rattle.dap_world.specs.Inner.Worlds.{IsWorld, WasSent}
 use Rattle.dap_world.proofs.Arriving.{young_segment, young_ack, neither}
 use Rattle.dap_world.proofs.Kept.{runs_sound, back, direction, true_of}

@@ -7,7 +7,8 @@ use Rattle.nsp_link.specs.Limits.{largest_window, most_segments}
 use Rattle.nsp_link.specs.Link.{LinkValue, IsBetween, IsDue, taken_after}
 use Rattle.nsp_link.specs.Cutting.{cut}
 use Rattle.nsp_link.proofs.ForCallers.{written_spells}
-use Rattle.dap_world.specs.Machine.{is_old, is_old_segment}
+use Rattle.dap_world.specs.Machine.{is_old}
+use Rattle.dap_world.specs.Inner.Ways.{is_old_segment}
 use Rattle.dap_world.specs.declared.side.Wired.{Wired}
 use Rattle.dap_world.specs.Inner.Sides.{SideValue}
 use Rattle.dap_world.specs.Inner.Ways.{IsWay, is_old_wired}

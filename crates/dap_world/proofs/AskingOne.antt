@@ -195,12 +195,12 @@ asked_step p r v n requests h o told =
     let stood = h.asking.1.asking in
     let m = o.asks.admissible p.requests read stood in
     let outbox = p.a.outbox ++ o.messages in
-    let spelled : o.messages ≡ all_joined (asking_of (state_of p) r) = o.asks.spelled ∙ ap (λ (l : ℕ). all_joined (Blocked l (messages_of p.accessing.own r))) stood.limit in
+    let spelled : o.messages ≡ all_joined (asking_of (state_of p) r) = o.asks.spelled ∙ ap (λ (l : ℕ). all_joined (Blocked l (messages_of p.accessing.own r))) (o.asks.is_limit p.requests read stood) in
     let more_is : o.messages ≡ all_joined (Blocked p.accessed.own (messages_of p.accessing.own r)) = spelled ∙ ap all_joined (asking_is (state_of p) r h.world m) in
     let own : v.accessing ≡ record v.accessing { own = p.accessing.own } = ap (λ (k : ℕ). record v.accessing { own = k }) o.own in
     let q = q_of p h r m outbox v.accessing in
     let past = record h.asking.0 { requests = p.requests; answers = read } in
-    let now = record h.asking.0 { requests = p.requests ++ r ∷ []; asked = h.asking.0.asked ++ Blocked p.accessing.limit (messages_of p.accessing.own r); answers = read } in
+    let now = record h.asking.0 { requests = p.requests ++ r ∷ []; asked = h.asking.0.asked ++ Blocked (limit_after (Told p.requests read)) (messages_of p.accessing.own r); answers = read } in
     let asking : IsAskedAll (asking_end q) (p.requests ++ r ∷ []) read = (
       now,
       subst (λ (port : PortValue). HasAsked now (record { port = port; accessing = record v.accessing { own = p.accessing.own } })) o.port

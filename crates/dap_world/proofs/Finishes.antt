@@ -174,7 +174,6 @@ module _ (old s1 s2 s3 : State) (n1 n2 n3 : ℕ) (h : IsWorld old) (a : SettledB
           c.done.served,
           c.done.read,
         );
-        nothing = ran_still old new (((n1 + n2) + n3) + n4) ran;
         only = λ f.
             let one = still_two f in
             let two = still_three f in

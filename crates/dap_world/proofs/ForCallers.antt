@@ -8,6 +8,8 @@ use Rattle.dap_world.specs.Machine.{State, Sending, other, end_of}
 use Rattle.dap_world.specs.Wires.{IsOnWire, address_of}
 -- an event has one step at the most, or one reason why it has none
 pub use Rattle.dap_world.proofs.Deciding.{no_step, one_reason, one_step}
+-- what an answer names is there
+pub use Rattle.dap_world.proofs.Naming.{named}
 
 -- one packet stands at a place of a wire
 pub one_on_wire : (s : State) (end : End) (sending : Sending) (a b : List ℕ) → IsOnWire s end sending a → IsOnWire s end sending b → a ≡ b

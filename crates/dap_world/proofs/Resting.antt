@@ -66,17 +66,12 @@ sends_nothing old new h =
     record { seg_size = seg_size; window = window; own_a = own_a; own_b = own_b; requests = requests; a = a; b = b; served = served; read = read } in
     let a = moved_is old.a new.a (h.same.waiting A) (h.same.handed A) (h.sent A) in
     let b = moved_is old.b new.b (h.same.waiting B) (h.same.handed B) (h.sent B) in
-    record {
-      rest =
-          ap (λ x. at x new.window new.own_a new.own_b new.requests new.a new.b new.served new.read) h.same.seg_size
-          ∙ ap (λ x. at old.seg_size x new.own_a new.own_b new.requests new.a new.b new.served new.read) h.same.window
-          ∙ ap (λ x. at old.seg_size old.window x new.own_b new.requests new.a new.b new.served new.read) h.same.own_a
-          ∙ ap (λ x. at old.seg_size old.window old.own_a x new.requests new.a new.b new.served new.read) h.same.own_b
-          ∙ ap (λ x. at old.seg_size old.window old.own_a old.own_b x new.a new.b new.served new.read) h.same.requests
-          ∙ ap (λ x. at old.seg_size old.window old.own_a old.own_b old.requests x new.b new.served new.read) a
-          ∙ ap (λ x. at old.seg_size old.window old.own_a old.own_b old.requests (moved old.a new.a) x new.served new.read) b
-          ∙ ap (λ x. at old.seg_size old.window old.own_a old.own_b old.requests (moved old.a new.a) (moved old.b new.b) x new.read) h.same.served
-          ∙ ap (λ x. at old.seg_size old.window old.own_a old.own_b old.requests (moved old.a new.a) (moved old.b new.b) old.served x) h.same.read;
-      taken = h.same.taken;
-      acked = h.same.acked;
-    }
+    ap (λ x. at x new.window new.own_a new.own_b new.requests new.a new.b new.served new.read) h.same.seg_size
+    ∙ ap (λ x. at old.seg_size x new.own_a new.own_b new.requests new.a new.b new.served new.read) h.same.window
+    ∙ ap (λ x. at old.seg_size old.window x new.own_b new.requests new.a new.b new.served new.read) h.same.own_a
+    ∙ ap (λ x. at old.seg_size old.window old.own_a x new.requests new.a new.b new.served new.read) h.same.own_b
+    ∙ ap (λ x. at old.seg_size old.window old.own_a old.own_b x new.a new.b new.served new.read) h.same.requests
+    ∙ ap (λ x. at old.seg_size old.window old.own_a old.own_b old.requests x new.b new.served new.read) a
+    ∙ ap (λ x. at old.seg_size old.window old.own_a old.own_b old.requests (moved old.a new.a) x new.served new.read) b
+    ∙ ap (λ x. at old.seg_size old.window old.own_a old.own_b old.requests (moved old.a new.a) (moved old.b new.b) x new.read) h.same.served
+    ∙ ap (λ x. at old.seg_size old.window old.own_a old.own_b old.requests (moved old.a new.a) (moved old.b new.b) old.served x) h.same.read

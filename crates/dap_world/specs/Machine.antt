@@ -1,5 +1,6 @@
 -- The two ends and the network between them, as a machine over events. Numbers are whole numbers, without a modulus.
 use Rattle.std.specs.Prelude.{ℕ, ◌≡◌, ◌+◌, ◌-◌, ◌≤◌, ◌<◌, max, Bool, true, false, ◌&&◌, ◌||◌, nat_lt, nat_le, ◌==◌, if◌then◌else◌, List, [], ◌∷◌, ◌++◌, length, map, take, slice_get, Option, Some, None, ◌⊎◌}
+use Rattle.std.specs.Option.{option_map_or}
 use Rattle.dap_msg.specs.Message.{Message}
 use Rattle.dap_msg.specs.Items.{Item, Whole}
 use Rattle.dap_msg.specs.Blocked.{NspMessage, joined, Blocked, messages_in}
@@ -155,12 +156,9 @@ delivered keep e p =
 abbrev pub is_old : ℕ → ℕ → Bool
 is_old number now = nat_lt (number + greatest_age) now
 
-abbrev pub is_old_segment : ℕ → Option ℕ → Bool
-is_old_segment taken None = false
-is_old_segment taken (Some k) = is_old k (taken + 1)
-
+-- the segment is, behind the next one that the end takes, or the acknowledgement, behind those that came to it
 abbrev pub is_stale : EndState → Sending → Bool
-is_stale e p = is_old_segment e.taken p.segment || is_old p.acks e.acked
+is_stale e p = option_map_or (λ k. is_old k (e.taken + 1)) p.segment false || is_old p.acks e.acked
 
 -- the answers to one message more, joined as far as the limit of A goes that B knows
 abbrev pub answering : State → Message → List NspMessage

@@ -1,5 +1,5 @@
 -- What one event comes to, and several.
-use Rattle.std.specs.Prelude.{◌≡◌, ◌≤◌, ◌<◌, ℕ, List, [], ◌∷◌, length, take, slice_get, Option, Some, None, IfSome, Result, Ok, Err, false}
+use Rattle.std.specs.Prelude.{◌≡◌, ◌≤◌, ℕ, List, [], ◌∷◌, take, slice_get, Option, Some, None, IfSome, Result, Ok, Err, false}
 use Rattle.dap_msg.specs.Blocked.{all_joined}
 use Rattle.nsp_link.specs.Link.{LinkValue, Sends}
 use Rattle.nsp_link.specs.Holding.{numbers}
@@ -10,7 +10,7 @@ use Rattle.dap_world.specs.declared.event.Step.{Step}
 use Rattle.dap_world.specs.declared.event.Step.TheVariants as step
 use Rattle.dap_world.specs.declared.event.WorldFault.{WorldFault}
 use Rattle.dap_world.specs.declared.event.WorldFault.TheVariants as fault
-use Rattle.dap_world.specs.Machine.{State, Sending, Steps, StepsFreely, Refuses, fresh, end_of, other, reported, IsDue}
+use Rattle.dap_world.specs.Machine.{State, Sending, Steps, StepsFreely, Refuses, fresh, end_of, other, IsDue}
 use Rattle.dap_world.specs.Setups.{IsWorldSetup}
 use Rattle.dap_world.specs.Wires.{address_of}
 use Rattle.dap_world.specs.declared.setup.WorldSetup.{WorldSetup}
@@ -41,12 +41,6 @@ writer_of (event.Emit end) = Some end
 writer_of (event.Resend end _) = Some end
 writer_of (event.Ack end) = Some end
 writer_of _ = None
-
--- What an answer names is there: the packet stands at its place of the writer's wire, and there is a newest report.
-abbrev pub NamedIsThere : Event → Step → State → Type 0
-NamedIsThere e (step.Packet place) s = (end : End) × (writer_of e ≡ Some end) × (place < length (end_of s end).wire)
-NamedIsThere e step.Reported s = 0 < length (reported s)
-NamedIsThere e _ s = Unit {0}
 
 -- the events may lead from old to new by such steps, none refused
 abbrev pub RunsBy : (State → Event → Step → State → Type 0) → State → List Event → State → Type 0

@@ -42,11 +42,9 @@ unacked s end = (end_of s end).sent - (end_of s end).acked
 abbrev pub moved : (old new : EndState) → EndState
 moved old new = record old { acked = new.acked; taken = new.taken; held = new.held; wire = new.wire }
 
--- nothing else moved, so that no segment more was sent, and no count went back
-pub record SendsNothing (old new : State) : Type 0 where
-  pub rest : new ≡ record old { a = moved old.a new.a; b = moved old.b new.b }
-  pub taken : (end : End) → (end_of old end).taken ≤ (end_of new end).taken
-  pub acked : (end : End) → (end_of old end).acked ≤ (end_of new end).acked
+-- nothing else moved, so that no segment more was sent
+abbrev pub SendsNothing : (old new : State) → Type 0
+SendsNothing old new = new ≡ record old { a = moved old.a new.a; b = moved old.b new.b }
 
 -- ---- One end is settled.
 
@@ -72,7 +70,8 @@ pub record IsFinished (s : State) : Type 0 where
   pub served : taken_of s ≡ sent_by s.a
   pub read : answers_read s ≡ map Whole (Answers s.own_b [] (map Whole (taken_of s)))
 
--- All that the requests ask was sent and served, the files are those after it, and every request has its report.
+-- All that the requests ask was sent and served, the files are those after it, and every request has its report. The
+-- files and the number of reports follow from the others; a caller is spared the proof.
 pub record AllTold (s : State) : Type 0 where
   pub sent : sent_by s.a ≡ Asked s.own_a s.requests
   pub taken : taken_of s ≡ Asked s.own_a s.requests
@@ -94,7 +93,6 @@ pub record Finished (old new : State) (n : ℕ) : Type 0 where
   pub told : AllTold new
   -- both ends are settled, what waits is handed over, and each segment and each message takes so many events
   pub bound : n ≤ 4 * old.window + 6 + 4 * sent_between old new + 2 * handled_between old new
-  pub nothing : n ≡ 0 → new ≡ old
   pub only : IsFinished old → n ≡ 0
 
 -- What waits at an end is due to be handed over: all that was sent is acknowledged, and at B's turn A has nothing left.

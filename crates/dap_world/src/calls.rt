@@ -5,7 +5,7 @@ ghost use Rattle.dap_msg.specs.Blocked.{bodies};
 ghost use Rattle.nsp_link.specs.Limits.{most_segments};
 ghost use Rattle.nsp_link.specs.Link.{MaySend};
 ghost use Rattle.nsp_link.specs.Sending.{MayQueueAll};
-ghost use Rattle.dap_accessing.specs.Calls.{MayAsk};
+ghost use Rattle.dap_accessing.specs.Inner.MayAsk.{MayAsk};
 ghost use Rattle.dap_end.specs.Ports.{with_link};
 ghost use Rattle.dap_end.specs.Writing.{sent_more};
 ghost use Rattle.dap_end.specs.Serving as serving;
@@ -29,11 +29,18 @@ use std::alloc::Global;
 impl World {
     ghost use Rattle.dap_world.specs.Runs.{Went};
 
-    /// Asks.
-    pub(crate) fn ask(&mut self, request: &Request) -> Result<Step, WorldFault>
+    /// Asks a copy of a request.
+    pub(crate) fn ask_copy(&mut self, request: &Request) -> Result<Step, WorldFault>
         ensures { Went self.old (Event.Ask request.now) result self.new }
     {
-        ask_next(self.alloc, &mut self.asking, &mut self.requests, request)
+        copy_and_ask(self.alloc, &mut self.asking, &mut self.requests, request)
+    }
+
+    /// Asks a request that the ledger gets.
+    pub(crate) fn ask_owned(&mut self, request: Request) -> Result<Step, WorldFault>
+        ensures { Went self.old (Event.Ask request) result self.new }
+    {
+        ask_next(&mut self.asking, &mut self.requests, request)
     }
 
     /// Serves the next message.
@@ -137,8 +144,8 @@ impl World {
     }
 }
 
-/// Asks a request of A.
-fn ask_next(
+/// Asks a copy of a request of A.
+fn copy_and_ask(
     alloc: Global,
     end: &mut AskingEnd,
     requests: &mut Vec<Request>,
@@ -150,29 +157,44 @@ fn ask_next(
         × (requests.new.items ≡ requests.old.items) × AskFaultOf request.now end.old.accessing f) }
 {
     match end.check(request) {
-        Ok(()) => ask_checked(alloc, end, requests, request),
+        Ok(()) => ask_checked(end, requests, request.copy(alloc)?),
+        Err(fault) => Err(WorldFault::Ask(fault)),
+    }
+}
+
+/// Asks a request of A.
+fn ask_next(
+    end: &mut AskingEnd,
+    requests: &mut Vec<Request>,
+    request: Request,
+) -> Result<Step, WorldFault>
+    ensures ok { IfOk result (λ answer. AskedSo request end.old end.new answer) }
+    ensures told { OnOk result (requests.new.items ≡ requests.old.items ++ request ∷ []) }
+    ensures err { IfErr result (λ f. (end.new ≡ end.old)
+        × (requests.new.items ≡ requests.old.items) × AskFaultOf request end.old.accessing f) }
+{
+    match end.check(&request) {
+        Ok(()) => ask_checked(end, requests, request),
         Err(fault) => Err(WorldFault::Ask(fault)),
     }
 }
 
 /// Asks a request that is refused for want of memory alone.
 fn ask_checked(
-    alloc: Global,
     end: &mut AskingEnd,
     requests: &mut Vec<Request>,
-    request: &Request,
+    request: Request,
 ) -> Result<Step, WorldFault>
-    requires { MayAsk end.old.accessing request.now }
-    ensures ok { IfOk result (λ answer. AskedSo request.now end.old end.new answer) }
-    ensures told { OnOk result (requests.new.items ≡ requests.old.items ++ request.now ∷ []) }
+    requires { MayAsk end.old.accessing request }
+    ensures ok { IfOk result (λ answer. AskedSo request end.old end.new answer) }
+    ensures told { OnOk result (requests.new.items ≡ requests.old.items ++ request ∷ []) }
     ensures err { IfErr result (λ f. (end.new ≡ end.old)
         × (requests.new.items ≡ requests.old.items) × (f ≡ NoMemory)) }
 {
-    let copy = request.copy(alloc)?;
     requests.reserve(1)?;
-    match end.ask_checked(request) {
+    match end.ask_checked(&request) {
         Ok(count) => {
-            requests.push_reserved(copy);
+            requests.push_reserved(request);
             Ok(Step::Asked(count))
         }
         Err(_) => Err(WorldFault::NoMemory),

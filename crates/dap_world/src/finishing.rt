@@ -274,7 +274,7 @@ impl World {
     {
         for (place, request) in requests.iter().enumerate() {
             self.few();
-            match self.ask(request) {
+            match self.ask_copy(request) {
                 Ok(_step) => self.sound(),
                 Err(fault) => return Err((place, fault)),
             }

@@ -7,9 +7,9 @@ ghost use Rattle.nsp_link.specs.Link.{MaySend, IsSpelling};
 ghost use Rattle.nsp_link.specs.Sending.{WritesSent, MayQueueAll, ack_packet_of};
 ghost use Rattle.nsp_link.specs.declared.fault.LinkFault.TheVariants.{NoSuchSegment};
 ghost use Rattle.nsp_link.specs.declared.fault.LinkFault.TheVariants as link_fault;
-ghost use Rattle.dap_world.specs.Machine.{is_old, is_old_segment};
+ghost use Rattle.dap_world.specs.Machine.{is_old};
 ghost use Rattle.dap_world.specs.Inner.Sides.{AreShort, EmitFault, PostFault, ResendFault, WroteOne};
-ghost use Rattle.dap_world.specs.Inner.Ways.{NotDue, is_old_wired};
+ghost use Rattle.dap_world.specs.Inner.Ways.{NotDue, is_old_segment, is_old_wired};
 ghost use Rattle.dap_world.specs.declared.event.WorldFault.TheVariants.{NoMemory};
 ghost use Rattle.dap_world.specs.declared.event.Step.TheVariants as step;
 

@@ -42,10 +42,10 @@ impl Model for World {
 }
 
 impl World {
-    ghost use Rattle.std.specs.Prelude.{◌≡◌, IfOk, OnOk, IfErr, map, true, false};
+    ghost use Rattle.std.specs.Prelude.{◌≡◌, OnOk, IfErr, map, true, false};
     ghost use Rattle.dap_msg.specs.Canon.{canon};
     ghost use Rattle.dap_world.specs.Machine.{MayEmit, files_of, reported, end_of, sent_by, taken_of};
-    ghost use Rattle.dap_world.specs.Runs.{NamedIsThere, IsLinkOf, Runs, StopsAt, Went};
+    ghost use Rattle.dap_world.specs.Runs.{IsLinkOf, Runs, StopsAt, Went};
     ghost use Rattle.dap_world.specs.Inner.Worlds.{IsWorld};
     ghost use Rattle.dap_world.specs.Wires.{AreWired};
     ghost use Rattle.dap_world.specs.Headline.{HeadlineOf};
@@ -54,7 +54,7 @@ impl World {
         ensures { Went self.old event.now result self.new }
     {
         match event {
-            Event::Ask(request) => self.ask(request),
+            Event::Ask(request) => self.ask_copy(request),
             Event::Post(end) => self.post(*end),
             Event::Emit(end) => self.emit(*end),
             Event::Resend(end, place) => self.resend(*end, *place),
@@ -69,10 +69,20 @@ impl World {
     /// nothing.
     pub fn apply(&mut self, event: &Event) -> Result<Step, WorldFault>
         ensures went { Went self.old event.now result self.new }
-        ensures answers { IfOk result (λ step. NamedIsThere event.now step self.new) }
         ensures headline { HeadlineOf self.new }
     {
         let result = self.happen(event);
+        let _ = &self.read;
+        result
+    }
+
+    /// Asks a request, as its event does, but makes no copy of it: it goes into the ledger (own). Refused as
+    /// there; a refusal changes nothing, and drops the request.
+    pub fn ask(&mut self, request: Request) -> Result<Step, WorldFault>
+        ensures went { Went self.old (Event.Ask request) result self.new }
+        ensures headline { HeadlineOf self.new }
+    {
+        let result = self.ask_owned(request);
         let _ = &self.read;
         result
     }

@@ -9,7 +9,9 @@ mod refused;
 mod rows;
 mod scripts;
 
-use calls::{acknowledgement, apply, begin, count_unacked, direct, finish, run, taken, written};
+use calls::{
+    acknowledgement, apply, ask, begin, count_unacked, direct, finish, run, taken, written,
+};
 use dap_text::{Words, push_hex, push_report, read_number, read_request};
 use dap_world::{
     End, Event, Got, RecordFile, Report, Request, Step, World, WorldFault, WorldSetup,
@@ -218,7 +220,7 @@ fn turn(
     reads: usize,
 ) -> Result<(), WorldFault> {
     let (asked, answered) = (written(world, End::A), written(world, End::B));
-    happen(alloc, world, Do::Ask(words))?;
+    ask(world, request(alloc, words)?)?;
     apply(world, &Event::Post(End::A))?;
     apply(world, &Event::Emit(End::A))?;
     apply(world, &Event::Deliver(End::B, asked))?;

@@ -13,6 +13,8 @@ use std::io::Write;
 #[derive(Clone, Copy, Drop)]
 pub enum Act {
     Ask(&'static str),
+    /// A request is asked by itself, and not as an event.
+    Give(&'static str),
     Post(End),
     Emit(End),
     Resend(End, usize),
@@ -46,13 +48,13 @@ const CREATE: &[Act] = &[Act::Ask("create 46 0 2 0 0 3")];
 
 const CONNECT: &[Act] = &[Act::Ask("connect")];
 
-const PUT_TEN: &[Act] = &[Act::Ask("put 61616161616161616161")];
+const PUT_TEN: &[Act] = &[Act::Give("put 61616161616161616161")];
 
 /// A record of 200 bytes.
 const LONG: &str =
     "put 6262626262626262626262626262626262626262626262626262626262626262626262626262626262626262626262626262626262626262626262626262626262626262626262626262626262626262626262626262626262626262626262626262626262626262626262626262626262626262626262626262626262626262626262626262626262626262626262626262626262626262626262626262626262626262626262626262626262626262626262626262626262626262626262626262626262626262";
 
-const PUT_LONG: &[Act] = &[Act::Ask(LONG)];
+const PUT_LONG: &[Act] = &[Act::Give(LONG)];
 
 /// Acknowledged before it is served; its answer is lost, written again, and comes twice.
 const PUT_LOST: &[Act] = &[
@@ -227,6 +229,10 @@ fn happen(alloc: Global, world: &mut World, act: Act) -> Result<Option<Step>, Tr
     let ran = match act {
         Act::Settle(end) => world.settle(end),
         Act::Finish => world.finish(),
+        Act::Give(words) => {
+            let step = world.ask(request(alloc, words)?)?;
+            return Ok(Some(step));
+        }
         act => {
             let event = event(alloc, world, act)?;
             let step = world.apply(&event)?;

@@ -1,5 +1,5 @@
 -- What a tree of groups answers, and what it is after each edit.
-use Rattle.std.proofs.Common.{◌≡◌, ℕ, ◌≢◌, ◌+◌, ◌<◌, ◌≤◌, ◌&&◌, ◌++◌, cond, eqb, Bool, true, false, List, [], ◌∷◌, length, get_or, slice_get, arith, Option, Some, None, IsSome, is_some, option_map, refl, sym, ap, subst, ◌∙◌, inl, inr}
+use Rattle.std.proofs.Common.{◌≡◌, ℕ, ◌≢◌, ◌+◌, ◌<◌, ◌≤◌, ◌&&◌, ◌++◌, cond, eqb, Bool, true, false, List, [], ◌∷◌, length, get_or, slice_get, arith, Option, Some, None, IfSome, IsSome, is_some, option_map, refl, sym, ap, subst, ◌∙◌, inl, inr}
 use Rattle.std.specs.Global.{Vec}
 use Rattle.std.specs.Ordering.{nat_cmp, is_le, match_ordering}
 use Rattle.std.specs.declared.cmp.Ordering.TheVariants.{Less, Equal, Greater}
@@ -8,12 +8,14 @@ use Rattle.std.specs.BTreeMap.{is_at, insert_entry}
 use Rattle.std.specs.FinMap.{is_sorted}
 use Rattle.std.proofs.lemmas.List.{length-map}
 use Rattle.std.proofs.lemmas.Option.{same_Some}
+use Rattle.slab.specs.Slab.{Slab, get}
+use Rattle.rec_file.specs.Inner.Pages.{Cells, page_cell}
 use Rattle.rec_file.specs.Inner.Sorted.{IsGapFor}
-use Rattle.rec_file.specs.Inner.Places.{group_of, listed, bare, HavePages, IsGroup, AreGroups, AreOf, IsLastPlace, place_of, places_from, with_place}
+use Rattle.rec_file.specs.Inner.Places.{group_of, listed, bare, HavePages, IsGroup, AreGroups, AreOf, IsLastPlace, Clears, Emptied, place_of, places_from, with_place}
 use Rattle.rec_file.proofs.Rising.{at, IsRising, same_or_not, at_first, at_tail}
 use Rattle.rec_file.proofs.Keyed.{lookup_is_at, behind, at-written, is_there, is_elsewhere, value_at, all-written, all-inserted, all-removed, rising-written, rising-inserted, rising-removed}
 use Rattle.rec_file.proofs.Gaps.{numbers, ordered, at-gap, at-place, number_at}
-use Rattle.rec_file.proofs.PlacesLaws.{yes, no, from-listed, rest_of, rising-of, sorted-of, rising-listed, at-listed, in_group, group-at, group-inserted, group-removed, are-written, are-inserted, are-removed, put-in-group, put-new-group, take-in-group, take-none, drop-empty}
+use Rattle.rec_file.proofs.PlacesLaws.{yes, no, from-listed, rest_of, rising-of, sorted-of, rising-listed, at-listed, in_group, group-at, group-inserted, group-removed, are-written, are-inserted, are-removed, put-in-group, put-new-group, take-in-group, drop-empty}
 
 pub no_items : {A : Type 0} (l : List A) → length l ≤ 0 → l ≡ []
 no_items [] h = refl
@@ -214,11 +216,11 @@ module _ (es : Kept) (holds : Holds es) (m : List (ℕ × ℕ)) (view : listed (
         ap listed (ap bare made ∙ bare-written (is_at (nat_cmp (group_of p))) es w ∙ ap (set_value (is_at (nat_cmp (group_of p))) gs) less) ∙ take-in-group gs r holds.are p v.items (here p v is)
         ∙ ap (remove_entry (is_at (nat_cmp p))) view
 
-    pub take-some : w.items ≢ [] → (listed (bare es') ≡ remove_entry (is_at (nat_cmp p)) m) × Holds es'
+    take-some : w.items ≢ [] → (listed (bare es') ≡ remove_entry (is_at (nat_cmp p)) m) × Holds es'
     take-some some = (less-listed, holds-written p v is w es' made its-group some)
 
     -- and the group, where that was its last
-    pub take-last : (es'' : Kept) → es'' ≡ remove_entry (is_at (nat_cmp (group_of p))) es' → w.items ≡ [] → (listed (bare es'') ≡ remove_entry (is_at (nat_cmp p)) m) × Holds es''
+    take-last : (es'' : Kept) → es'' ≡ remove_entry (is_at (nat_cmp (group_of p))) es' → w.items ≡ [] → (listed (bare es'') ≡ remove_entry (is_at (nat_cmp p)) m) × Holds es''
     take-last es'' dropped none =
         let t = is_at (nat_cmp (group_of p)) in
         let made' : bare es' ≡ set_value t gs w.items = ap bare made ∙ bare-written t es w in
@@ -235,9 +237,31 @@ module _ (es : Kept) (holds : Holds es) (m : List (ℕ × ℕ)) (view : listed (
           },
         )
 
-  pub take-nothing : (p : ℕ) → lookup (is_at (nat_cmp (group_of p))) es ≡ None → m ≡ remove_entry (is_at (nat_cmp p)) m
-  take-nothing p none =
-      sym view ∙ take-none gs r holds.are p (at-bare es (group_of p) ∙ ap (option_map (λ v. v.items)) (sym (lookup_is_at es (group_of p)) ∙ none)) ∙ ap (remove_entry (is_at (nat_cmp p))) view
+  -- a cell of a page is emptied
+  module _ (p : ℕ) (v : Vec (ℕ × ℕ)) (is : lookup (is_at (nat_cmp (group_of p))) es ≡ Some v) (w : Vec (ℕ × ℕ)) (es' : Kept)
+      (made : es' ≡ set_value (is_at (nat_cmp (group_of p))) es w) (pages pages' : Slab Cells) (k : ℕ) where
+    abbrev its-page : Emptied v.items pages p k → Emptied m pages p k
+    its-page e = record { place = e.place; has = sym (get-some p v is) ∙ e.has; cells = e.cells; there = e.there; occupied = e.occupied }
+
+    pub clear-some : (b : Bool) → Clears v.items w.items pages pages' p k b → w.items ≢ [] → Clears m (listed (bare es')) pages pages' p k b × Holds es'
+    clear-some true (e, inl stays) some =
+        let kept = put-same p v is w es' made stays.places in
+        ((its-page e, inl (record { others = stays.others; places = kept.0; written = stays.written })), kept.1)
+    clear-some true (e, inr goes) some =
+        let less = take-some p v is w es' made goes.places some in
+        ((its-page e, inr (record { none = goes.none; places = less.0; free = goes.free; fewer = goes.fewer })), less.1)
+    clear-some false (none, same, pages_same) some =
+        let kept = put-same p v is w es' made same in
+        ((subst (λ o. IfSome o (λ i. page_cell (get pages i) k ≡ None)) (get-some p v is) none, kept.0, pages_same), kept.1)
+
+    -- the group was its page alone
+    pub clear-last : (es'' : Kept) → es'' ≡ remove_entry (is_at (nat_cmp (group_of p))) es' → w.items ≡ [] → (b : Bool) → Clears v.items w.items pages pages' p k b
+        → Clears m (listed (bare es'')) pages pages' p k b × Holds es''
+    clear-last es'' dropped last true (e, inl stays) = absurd (value_at Some_page gs (group_of p) v.items holds.have (here p v is) (sym stays.places ∙ last))
+    clear-last es'' dropped last true (e, inr goes) =
+        let less = take-last p v is w es' made goes.places es'' dropped last in
+        ((its-page e, inr (record { none = goes.none; places = less.0; free = goes.free; fewer = goes.fewer })), less.1)
+    clear-last es'' dropped last false (none, same, pages_same) = absurd (value_at Some_page gs (group_of p) v.items holds.have (here p v is) (sym same ∙ last))
 
   -- the last page is the last of the last group
   module _ (g : ℕ) (v : Vec (ℕ × ℕ)) (is : lookup (is_at (nat_cmp g)) es ≡ Some v) (above : (j : ℕ) → g < j → at es j ≡ None) where

@@ -197,7 +197,7 @@ page-written s es p i old new made own is there same =
     let u = Updates-with_value s i new (ap is_some there) in
     written (get s) (get (with_value s i new)) i u.others new es p u.changed own (sym (lookup_is_at es p) ∙ is) ∙ ap (set_value (is_at (nat_cmp p)) (pages_at (get s) es)) same
 
-with-same : {T : Type 0} (s : Slab T) (i : ℕ) (v : T) → get s i ≡ Some v → with_value s i v ≡ s
+pub with-same : {T : Type 0} (s : Slab T) (i : ℕ) (v : T) → get s i ≡ Some v → with_value s i v ≡ s
 with-same s i v is = ap (λ slots. record s { slots = slots }) (ap (set s.slots i) (sym is) ∙ set-get_or s.slots i None)
 
 -- a page written back changes nothing

@@ -242,17 +242,6 @@ module _ (gs : Groups) (r : IsRising gs) (are : AreGroups gs) where
       (λ q. at-listed gs' r' are' q ∙ ap (λ o. in_group o q) (at-written gs (group_of p) new (subst IsSome (sym is) refl) (group_of q))
       ∙ less_here p es is q ∙ sym (at-removed (listed gs) p whole q ∙ ap (cond (eqb q p) None) (at-listed gs r are q)))
 
-  -- nothing to take where there is no group
-  pub take-none : (p : ℕ) → at gs (group_of p) ≡ None → listed gs ≡ remove_entry (is_at (nat_cmp p)) (listed gs)
-  take-none p is = same-entries (listed gs) (remove_entry (is_at (nat_cmp p)) (listed gs)) whole (rising-removed (is_at (nat_cmp p)) (listed gs) whole)
-      (λ q. here q ∙ sym (at-removed (listed gs) p whole q))
-    where
-      here : (q : ℕ) → at (listed gs) q ≡ cond (eqb q p) None (at (listed gs) q)
-      here q = elim (same_or_not q p) [
-        | inl same ↦ at-listed gs r are q ∙ ap (λ o. in_group o q) (ap (λ n. at gs (group_of n)) same ∙ is) ∙ sym (ap (λ b. cond b None (at (listed gs) q)) (yes q p same))
-        | inr other ↦ sym (ap (λ b. cond b None (at (listed gs) q)) (no q p other))
-      ]
-
 -- a group without pages gives nothing
 pub drop-empty : (gs : Groups) (g : ℕ) → at gs g ≡ Some [] → listed (remove_entry (is_at (nat_cmp g)) gs) ≡ listed gs
 drop-empty [] g is = refl

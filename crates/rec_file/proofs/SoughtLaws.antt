@@ -63,15 +63,6 @@ module _ (es : List (ℕ × ℕ)) (sorted : is_sorted nat_cmp es ≡ true) (p i 
         (λ q. at-insert es p i j gap q ∙ sym (at-inserted es p j q))
         ∙ ap (λ o. cond (is_some o) es (insert_entry nat_cmp es p j)) gap-place
 
-    pub taken-gap : es ≡ remove_entry (is_at (nat_cmp p)) es
-    taken-gap = same-entries es (remove_entry (is_at (nat_cmp p)) es) r (rising-removed (is_at (nat_cmp p)) es r) (λ q. here q ∙ sym (at-removed es p r q))
-      where
-        here : (q : ℕ) → at es q ≡ cond (eqb q p) None (at es q)
-        here q = elim (same_or_not q p) [
-          | inl same ↦ ap (at es) same ∙ at-gap es p i gap ∙ sym (ap (λ b. cond b None (at es q)) (let t : eqb q p ≡ true = grind (arith, nat_tests) in t))
-          | inr other ↦ sym (ap (λ b. cond b None (at es q)) (let t : eqb q p ≡ false = grind (arith, nat_tests) in t))
-        ]
-
 -- smaller numbers before a place, and none from it on
 record Parts (ns : List ℕ) (p i : ℕ) : Type 0 where
   in_range : i ≤ length ns

@@ -1,12 +1,10 @@
 //! Where the pages of a relative file stand.
-ghost use Rattle.std.specs.Prelude.{◌≡◌, ◌≤◌, ◌<◌, ℕ, [], ◌∷◌, length, map, slice_index, true, None, IfOk, IfErr, IfSome, IfNone, OnErr, OnOk};
-ghost use Rattle.std.specs.Map.{remove_entry};
-ghost use Rattle.std.specs.BTreeMap.{is_at};
+ghost use Rattle.std.specs.Prelude.{◌≡◌, ◌≤◌, ◌<◌, ℕ, [], ◌∷◌, length, map, slice_index, true, None, IfOk, IfErr, IfSome, IfNone, IsSome, OnErr, OnOk};
 ghost use Rattle.std.specs.Ordering.{nat_cmp};
 ghost use Rattle.std.specs.FinMap.{is_sorted};
 ghost use Rattle.rec_file.specs.Inner.Sorted.{IsGapFor, IsInOrder, IsPlaceOf};
-ghost use Rattle.slab.specs.Slab.{HasRoomFor};
-ghost use Rattle.rec_file.specs.Inner.Places.{place_of, places_from, with_place, had_of, IsBegunWith, IsLastPlace};
+ghost use Rattle.slab.specs.Slab.{get, HasRoomFor};
+ghost use Rattle.rec_file.specs.Inner.Places.{place_of, places_from, with_place, had_of, Clears, IsBegunWith, IsLastPlace};
 
 use crate::pages::Page;
 use crate::sorted::search;
@@ -146,14 +144,29 @@ fn put_in(
     }
 }
 
-/// Takes a page out of its group.
-fn take_from(group: &mut Vec<(u32, u32)>, page: u32)
-    requires { is_sorted nat_cmp group.old.items ≡ true }
-    ensures { group.new.items ≡ remove_entry (is_at (nat_cmp page)) group.old.items }
+/// Empties a cell of a page of the group, where it is occupied; a page that has no record then goes. Whether it was.
+fn clear_in(group: &mut Vec<(u32, u32)>, page: u32, cell: usize, pages: &mut Slab<Page>) -> bool
+    requires sorted { is_sorted nat_cmp group.old.items ≡ true }
+    requires within { cell < 64 }
+    requires stands { IfSome (place_of group.old.items page) (λ i. IsSome (get pages.old i)) }
+    ensures { Clears group.old.items group.new.items pages.old pages.new page cell result }
 {
-    if let Ok(at) = seek(group, page) {
+    let Ok(at) = seek(group, page) else {
+        return false;
+    };
+    let place = group[at].1 as usize;
+    let Some(kept) = pages.get_mut(place) else {
+        unreachable!();
+    };
+    if kept.get(cell).is_none() {
+        return false;
+    }
+    kept.clear(cell);
+    if kept.is_empty() {
+        let _ = pages.try_remove(place);
         let _ = group.remove(at);
     }
+    true
 }
 
 /// The pages of a group from one on.
@@ -213,18 +226,22 @@ impl Places {
         Ok(Put::Begun(record))
     }
 
-    /// Takes a page out, where it has a place. It takes no memory.
-    pub(crate) fn remove(&mut self, page: u32)
-        ensures { self.new ≡ remove_entry (is_at (nat_cmp page)) self.old }
+    /// Empties a cell of a page, where it is occupied; a page that has no record then goes. Whether it was. It takes no
+    /// memory.
+    pub(crate) fn clear(&mut self, page: u32, cell: usize, pages: &mut Slab<Page>) -> bool
+        requires within { cell < 64 }
+        requires stands { IfSome (place_of self.old page) (λ i. IsSome (get pages.old i)) }
+        ensures { Clears self.old self.new pages.old pages.new page cell result }
     {
         let own = page / GROUP;
         let Some(group) = self.groups.get_mut(&own) else {
-            return;
+            return false;
         };
-        take_from(group, page);
+        let cleared = clear_in(group, page, cell, pages);
         if group.as_slice().is_empty() {
             self.groups.remove(&own);
         }
+        cleared
     }
 
     /// The last page, and its place.

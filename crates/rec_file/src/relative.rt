@@ -231,27 +231,10 @@ impl RecordFile for RelFile {
     }
 
     fn remove(&mut self, number: u32) -> bool {
-        let places = &self.places;
+        let places = &mut self.places;
         if number == 0 {
             return false;
         }
-        let at = page_of(number);
-        let Some(place) = places.get(at) else {
-            return false;
-        };
-        let place = place as usize;
-        let Some(page) = self.pages.get_mut(place) else {
-            unreachable!();
-        };
-        let cell = cell_of(number);
-        if page.get(cell).is_none() {
-            return false;
-        }
-        page.clear(cell);
-        if page.is_empty() {
-            let _ = self.pages.try_remove(place);
-            self.places.remove(at);
-        }
-        true
+        places.clear(page_of(number), cell_of(number), &mut self.pages)
     }
 }

@@ -2,7 +2,7 @@
 use Rattle.std.specs.Prelude.{ℕ, ◌≡◌, ◌<◌, ◌≤◌, Bool, true, false, not, ◌==◌, nat_lt, List, [], ◌∷◌, length, Option, IfSome, IsTrue, Result, IfOk, MatchOption, if◌then◌else◌}
 use Rattle.std.specs.Global.{Vec}
 use Rattle.dap_msg.specs.Codes as codes
-use Rattle.dap_msg.specs.Message.{Message, Attrib, Access, Control, Contran, Filedata, ControlFields}
+use Rattle.dap_msg.specs.Message.{Message, Attrib, Access, Control, Contran, Filedata, Other, ControlFields}
 use Rattle.dap_msg.specs.Items.{Item, Whole}
 use Rattle.dap_msg.specs.BothEnds.{least_buffer}
 use Rattle.rec_file.specs.declared.shapes.Shape.{Shape}
@@ -14,16 +14,17 @@ use Rattle.dap_accessed.specs.declared.fault.NoMemory.{NoMemory}
 use Rattle.dap_accessed.specs.declared.phase.OpenFile.{OpenFile}
 use Rattle.dap_accessed.specs.declared.phase.Phase.{Phase}
 use Rattle.dap_accessed.specs.declared.phase.Phase.TheVariants as phases
+use Rattle.dap_accessed.specs.declared.verbs.Verb.{Verb}
+use Rattle.dap_accessed.specs.declared.verbs.Verb.TheVariants as verbs
 use Rattle.dap_accessed.specs.Standing.{Files, place_of, the_file, Place, Scene, Effect, Fresh, Ready, Opened, Connected, Store, Stopped}
 use Rattle.dap_msg.specs.BothEnds.{no_attributes}
 use Rattle.dap_accessed.specs.Past.{Memory, asked_shape, next_ordinal}
 use Rattle.dap_accessed.specs.Accesses.{refuse_access, open_file, create_file, complete}
 use Rattle.dap_accessed.specs.Replies.{bare_status, sync_status}
-use Rattle.dap_accessed.specs.Served.{is_silent}
 use Rattle.dap_accessed.specs.Records.{verb_of, Change, Putting, Updating, changed, get_pick, record_got, refused, settled}
 use Rattle.dap_accessed.specs.Transfers.{fetch, store_one}
 use Rattle.dap_accessed.specs.Effects.{Turn, Does, Begins, control_status, turn_of, effect_with}
-use Rattle.dap_accessed.specs.Present.{Present, phase_at, phase_within}
+use Rattle.dap_accessed.specs.Inner.Present.{Present, phase_at, phase_within}
 use Rattle.dap_accessed.specs.Inner.Written.{Answered}
 
 -- what an item leaves, and its answers
@@ -118,6 +119,25 @@ move p item = move_in p.phase p item
 pub record Moves (old : Present) (step : Move) (new : Present) (answers : Vec (Vec ℕ)) : Type 0 where
   pub present : new ≡ step.present
   pub answered : Answered old.limit step.answers answers
+
+-- ---- What takes no memory.
+
+-- a Control that has no answer
+abbrev pub begins_only : Verb → Bool
+begins_only verbs.Put = true
+begins_only verbs.Update = true
+begins_only verbs.Store = true
+begins_only verb = false
+
+-- an item that has no answer and stores no record
+abbrev pub is_silent : Phase → Item → Bool
+is_silent phases.Fresh (Whole (Other _ _)) = true
+is_silent phases.Ready (Whole (Other _ _)) = true
+is_silent phases.Ready (Whole (Attrib _)) = true
+is_silent (phases.Connected opened stream) (Whole (Control control)) = begins_only (verb_of control)
+is_silent (phases.Dropping opened stream ordinal) (Whole (Filedata _ _)) = true
+is_silent (phases.Dropping opened stream ordinal) (Whole (Contran func)) = func == codes.confunc.skip
+is_silent _ _ = false
 
 -- ---- A message that has no place.
 

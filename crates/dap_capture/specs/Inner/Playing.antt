@@ -1,14 +1,22 @@
 -- What the program does of one event.
-use Rattle.std.specs.Prelude.{◌≡◌, ℕ, List, ◌++◌, Some}
+use Rattle.std.specs.Prelude.{◌≡◌, ℕ, List, ◌++◌, Some, slice_get}
 use Rattle.std.specs.Global.{Vec}
+use Rattle.dap_world.specs.declared.event.End.{End}
 use Rattle.dap_world.specs.declared.event.Event.{Event}
 use Rattle.dap_world.specs.declared.event.Step.{Step}
 use Rattle.dap_world.specs.declared.event.WorldFault.{WorldFault}
-use Rattle.dap_world.specs.Machine.{State, Steps, Refuses}
+use Rattle.dap_world.specs.Machine.{State, Sending, Steps, Refuses, end_of}
+use Rattle.dap_world.specs.Wires.{IsOnWire}
 use Rattle.dap_listing.specs.declared.fault.Outcome.{Outcome}
 use Rattle.dap_listing.specs.declared.fault.Outcome.TheVariants.{Good, Stopped}
 use Rattle.dap_text.specs.Adding.{Adds}
 use Rattle.dap_capture.specs.Played.{IsStepText, event_line, refusal_line, refusal_text}
+
+-- these are the bytes of the packet at a place of an end's wire
+pub record IsPacketAt (s : State) (end : End) (place : ℕ) (bytes : List ℕ) : Type 0 where
+  pub sending : Sending
+  pub written : slice_get (end_of s end).wire place ≡ Some sending
+  pub packet : IsOnWire s end sending bytes
 
 -- The line of an event that came to this step is added.
 abbrev pub AddsStep : ℕ → State → Event → Step → Vec ℕ → Vec ℕ → Type 0

@@ -1,13 +1,14 @@
 -- What one end sends, and the link of the other end that takes it.
-use Rattle.std.specs.Prelude.{◌≡◌, ◌⊎◌, ℕ, ◌≤◌, ◌<◌, Bool, true, false, ◌||◌, List, length, Some, None, Result, Ok, Err, slice_get}
+use Rattle.std.specs.Prelude.{◌≡◌, ◌⊎◌, ℕ, ◌+◌, ◌≤◌, ◌<◌, Bool, true, false, ◌||◌, List, length, Option, Some, None, Result, Ok, Err, slice_get}
 use Rattle.std.specs.List.{AllByRecursion}
+use Rattle.std.specs.Option.{option_map_or}
 use Rattle.nsp_link.specs.Cutting.{cut}
 use Rattle.nsp_link.specs.Limits.{most_segments}
 use Rattle.nsp_link.specs.Link.{LinkValue, Sends, Stands, Writes}
 use Rattle.nsp_link.specs.declared.link.Got.{Got}
 use Rattle.nsp_link.specs.declared.fault.LinkFault.{LinkFault}
 use Rattle.nsp_link.specs.Receiving.{Receives}
-use Rattle.dap_world.specs.Machine.{is_old, is_old_segment}
+use Rattle.dap_world.specs.Machine.{is_old}
 use Rattle.dap_world.specs.Inner.Sides.{SideValue, AreShort}
 use Rattle.dap_world.specs.declared.side.Wired.{Wired}
 use Rattle.dap_world.specs.declared.event.Step.{Step}
@@ -27,6 +28,9 @@ pub record IsWay (from : SideValue) (to : LinkValue) (messages given : List (Lis
   pub short : AreShort to.max_message messages
   pub few : length (cut from.link.seg_size messages) ≤ most_segments
   pub wire : AllByRecursion (λ w. Writes from.link messages w.segment w.acks w.packet.items) from.wire
+
+abbrev pub is_old_segment : ℕ → Option ℕ → Bool
+is_old_segment taken segment = option_map_or (λ k. is_old k (taken + 1)) segment false
 
 abbrev pub is_old_wired : LinkValue → Wired → Bool
 is_old_wired v w = is_old_segment v.received w.segment || is_old w.acks v.acked

@@ -12,6 +12,10 @@ pub(crate) fn apply(world: &mut World, event: &Event) -> Result<Step, WorldFault
     world.apply(event)
 }
 
+pub(crate) fn ask(world: &mut World, request: Request) -> Result<Step, WorldFault> {
+    world.ask(request)
+}
+
 /// What requests over a clean network come to. They need a world where nothing has happened.
 pub(crate) fn direct(world: &mut World, requests: &[Request]) -> Result<(), (usize, WorldFault)> {
     if !world.is_fresh() {

@@ -1,11 +1,13 @@
 -- The places of pages in groups by the pages' numbers.
-use Rattle.std.specs.Prelude.{◌≡◌, ◌≢◌, ◌<◌, ℕ, ◌/◌, ◌++◌, List, [], ◌∷◌, true, Option, Some, None, is_some, map, if◌then◌else◌}
+use Rattle.std.specs.Prelude.{◌≡◌, ◌≢◌, ◌<◌, ◌⊎◌, ℕ, ◌+◌, ◌/◌, ◌++◌, Bool, true, false, List, [], ◌∷◌, Option, Some, None, IfSome, IsSome, is_some, map, slice_set, if◌then◌else◌}
 use Rattle.std.specs.List.{filter, AllByRecursion}
 use Rattle.std.specs.Global.{Vec}
-use Rattle.std.specs.Map.{lookup}
+use Rattle.std.specs.Map.{lookup, remove_entry}
 use Rattle.std.specs.BTreeMap.{is_at, insert_entry}
 use Rattle.std.specs.Ordering.{nat_cmp, is_le}
 use Rattle.std.specs.FinMap.{is_sorted}
+use Rattle.slab.specs.Slab.{Slab, Updates, get, slab_len, with_value}
+use Rattle.rec_file.specs.Inner.Pages.{Cells, cell, page_cell}
 use Rattle.rec_file.specs.declared.places.Put.{Put}
 use Rattle.rec_file.specs.declared.places.Put.TheVariants.{Kept, Begun}
 
@@ -66,3 +68,33 @@ places_from page es = filter (λ e. is_le (nat_cmp page e.0)) es
 pub record IsLastPlace (es : List (ℕ × ℕ)) (e : ℕ × ℕ) : Type 0 where
   pub here : place_of es e.0 ≡ Some e.1
   pub none_above : (page : ℕ) → e.0 < page → place_of es page ≡ None
+
+-- ---- A record less.
+
+-- a page whose cell was emptied, and the place of the page
+pub record Emptied (es : List (ℕ × ℕ)) (pages : Slab Cells) (page k : ℕ) : Type 0 where
+  pub place : ℕ
+  pub has : place_of es page ≡ Some place
+  pub cells : Cells
+  pub there : get pages place ≡ Some cells
+  pub occupied : IsSome (cell cells k)
+
+-- it has other records, and stays
+pub record Stays (es es' : List (ℕ × ℕ)) (pages pages' : Slab Cells) (page k : ℕ) (e : Emptied es pages page k) : Type 0 where
+  pub others : ((j : ℕ) → cell (slice_set e.cells k None) j ≡ None) → ⊥
+  pub places : es' ≡ es
+  pub written : pages' ≡ with_value pages e.place (slice_set e.cells k None)
+
+-- it has none, and goes
+pub record Goes (es es' : List (ℕ × ℕ)) (pages pages' : Slab Cells) (page k : ℕ) (e : Emptied es pages page k) : Type 0 where
+  pub none : (j : ℕ) → cell (slice_set e.cells k None) j ≡ None
+  pub places : es' ≡ remove_entry (is_at (nat_cmp page)) es
+  pub free : Updates (with_value pages e.place (slice_set e.cells k None)) pages' e.place None
+  pub fewer : slab_len pages' + 1 ≡ slab_len (with_value pages e.place (slice_set e.cells k None))
+
+-- a cell of a page was emptied, or there was no record
+abbrev pub Clears : (es es' : List (ℕ × ℕ)) (pages pages' : Slab Cells) (page k : ℕ) → Bool → Type 0
+Clears es es' pages pages' page k true =
+    (e : Emptied es pages page k) × (Stays es es' pages pages' page k e ⊎ Goes es es' pages pages' page k e)
+Clears es es' pages pages' page k false =
+    IfSome (place_of es page) (λ i. page_cell (get pages i) k ≡ None) × (es' ≡ es) × (pages' ≡ pages)

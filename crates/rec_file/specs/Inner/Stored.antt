@@ -1,5 +1,5 @@
 -- How a file is stored.
-use Rattle.std.specs.Prelude.{ℕ, List, refl}
+use Rattle.std.specs.Prelude.{refl}
 use Rattle.std.specs.FinMap.{code}
 use Rattle.std.specs.Coded.{Coded, code_by, coded×, coded_ℕ, coded_list}
 use Rattle.rec_file.specs.declared.shapes.Shape.{Shape}

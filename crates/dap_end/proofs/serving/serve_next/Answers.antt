@@ -30,4 +30,4 @@ returns-clause-kept c =
     let serves = c.in-Ok.ensures.serves bytes c.port.inside.place c.item_at-next.ensures.exact in
     let goes = gone_is (record (port_view c.port.inside) { outbox = bodies c.in-Ok.served.answers.items }) c.go_on.new.self bytes waits.0 c.item_at-next.result.1 c.is_end-at_end.result c.is_end-at_end.ensures.end waits.1 (c.go_on.ensures.going, c.go_on.ensures.ends) in
     subst IsPort (sym goes)
-    (port_goes (port_view c.port.inside) bytes waits.0 (bodies c.in-Ok.served.answers.items) c.item_at-next.result.1 c.args.accessed.now.limit waits.1 kept c.item_at-next.ensures.within serves.limit serves.within)
+    (port_goes (port_view c.port.inside) bytes waits.0 (bodies c.in-Ok.served.answers.items) c.item_at-next.result.1 serves.limit waits.1 kept c.item_at-next.ensures.within serves.most serves.within)

@@ -1,6 +1,6 @@
 use Rattle.std.proofs.Common.{refl, inr}
 use Rattle.dap_msg.specs.Blocked.{bodies}
-use Rattle.dap_live.specs.Texts.{taken_became, taken_text}
+use Rattle.dap_live.specs.Texts.{taken_said}
 use Rattle.dap_live.specs.Asking.{came_by}
 use Rattle.dap_live.proofs.ResultLemmas.{err_always}
 use Rattle.dap_live.proofs.asking.take_packet.Goals as goal
@@ -11,8 +11,8 @@ returns-in_err-became-clause-err c =
     let taken = c.take-taken.result in
     let packets = bodies c.take-taken.new.packets.items in
     err_always c.from_residual-in_err-became.result (inr (
-      taken_text taken c.take-taken.new.reports.items packets,
-      came_by taken (taken_became taken),
+      (taken_said taken c.take-taken.new.reports.items packets).0,
+      came_by taken (taken_said taken c.take-taken.new.reports.items packets).1,
       record {
         rest = refl;
         taken = taken;

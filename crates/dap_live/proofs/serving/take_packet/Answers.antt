@@ -1,6 +1,6 @@
 use Rattle.std.proofs.Common.{refl, inr, []}
 use Rattle.dap_msg.specs.Blocked.{bodies}
-use Rattle.dap_live.specs.Texts.{taken_became, taken_text}
+use Rattle.dap_live.specs.Texts.{taken_said}
 use Rattle.dap_live.proofs.ResultLemmas.{err_always}
 use Rattle.dap_live.proofs.serving.take_packet.Goals as goal
 
@@ -10,8 +10,8 @@ returns-clause-err c =
     let taken = c.take-taken.result in
     let packets = bodies c.take-taken.new.packets.items in
     err_always c.push_taken.result (inr (
-      taken_text taken [] packets,
-      taken_became taken,
+      (taken_said taken [] packets).0,
+      (taken_said taken [] packets).1,
       record {
         taken = taken;
         packets = packets;

@@ -2,7 +2,8 @@ use Rattle.std.proofs.Common.{rules, ◌<◌, ◌^◌, length, ◌≡◌, ℕ, r
 use Rattle.dap_msg.specs.declared.message.Message.{Message}
 use Rattle.dap_msg.specs.declared.message.Message.TheVariants.{Config, Attrib, Access, Control, Contran, Ack, Accomp, Filedata, Status, Other}
 use Rattle.dap_msg.specs.Message.{seen}
-use Rattle.dap_msg.specs.Canon.{FieldsFit, operand_bytes}
+use Rattle.dap_msg.specs.Canon.{operand_bytes}
+use Rattle.dap_msg.specs.Inner.Fitting.{FieldsFit}
 use Rattle.dap_msg.proofs.Sizes.{plain_short}
 use Rattle.dap_msg.proofs.fitting.operand_fits.Goals as goal
 

@@ -2,7 +2,8 @@ use Rattle.std.proofs.Common.{◌≡◌, ◌≤◌, ◌<◌, ℕ, List, Some, Op
 use Rattle.std.specs.Prelude.{◌||◌, nat_lt, slice_get}
 use Rattle.nsp_link.specs.Link.{LinkValue}
 use Rattle.std.proofs.lemmas.Option.{slice_get-get_or, slice_get_past}
-use Rattle.dap_world.specs.Machine.{is_old, is_old_segment}
+use Rattle.dap_world.specs.Machine.{is_old}
+use Rattle.dap_world.specs.Inner.Ways.{is_old_segment}
 use Rattle.dap_world.specs.declared.side.Wired.{Wired}
 use Rattle.dap_world.proofs.side.due.Goals as goal
 

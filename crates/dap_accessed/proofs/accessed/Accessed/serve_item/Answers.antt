@@ -2,6 +2,7 @@ use Rattle.std.proofs.Common.{ap, ◌∙◌, subst, arith}
 use Rattle.dap_msg.specs.Items.{seen_item}
 use Rattle.dap_msg.specs.Blocked.{Blocked, all_joined, AllFit}
 use Rattle.dap_accessed.proofs.StepIs.{stands-more, answers-are, same-own}
+use Rattle.dap_accessed.proofs.Silent.{silent-is}
 use Rattle.dap_accessed.specs.Present.{Present}
 use Rattle.dap_accessed.proofs.accessed.Accessed.serve_item.Goals as goal
 
@@ -17,6 +18,11 @@ returns-clause-serves c bytes at there =
       answers = λ first items h. moves.answered.bytes ∙ ap (λ l. all_joined (Blocked old.limit l)) (answers-are old item first items h);
       fits = λ first items h. subst AllFit (answers-are old item first items h) moves.answered.fits;
       within = moves.answered.within;
-      limit = (let same = ap (λ (p : Present). p.limit) c.self.view_is in omega (arith, same));
+      limit = old.limit;
+      is_limit = λ first items h. ap (λ (p : Present). p.limit) h;
+      most = (let same = ap (λ (p : Present). p.limit) c.self.view_is in omega (arith, same));
       same_own = ap (λ (p : Present). p.own) moves.present ∙ same-own old item;
     }
+
+pub returns-in_err-answers-clause-unrefused : goal.returns-in_err-answers-clause-unrefused
+returns-in_err-answers-clause-unrefused c = λ first items h none. (let taken = c.in_err-answers.ensures.silent (silent-is c.args.self.now first items (seen_item c.args.item) h none) in cc)

@@ -1,22 +1,7 @@
-use Rattle.std.proofs.Common.{◌∙◌, ap, sym, subst}
-use Rattle.std.specs.Prelude.{Some}
-use Rattle.dap_msg.specs.Blocked.{bodies, Blocked, all_joined}
-use Rattle.dap_msg.specs.Sendable.{AreSendable}
+use Rattle.std.proofs.Common.{◌∙◌, ap}
+use Rattle.dap_accessing.specs.Asked.{messages_of}
 use Rattle.dap_accessing.specs.Present.{Present}
-use Rattle.dap_accessing.specs.Calls.{Asks, MayAsk}
-use Rattle.dap_accessing.specs.contracts.accessing.Accessing.{the_view}
-use Rattle.dap_accessing.proofs.Laws.{asks_of}
 use Rattle.dap_accessing.proofs.accessing.Accessing.ask_checked.Goals as goal
 
-pub blocked-requires : goal.blocked-requires
-blocked-requires c =
-    let may : MayAsk (the_view c.self.inside) c.args.request.now = subst (λ (v : Present). MayAsk v c.args.request.now) (sym c.self.view_is) c.requires in
-    subst (λ l. AreSendable c.self.inside.limit l) (sym c.of-outgoing.ensures) may.sendable
-
-pub returns-clause-asks : goal.returns-clause-asks
-returns-clause-asks c =
-    let may : MayAsk (the_view c.self.inside) c.args.request.now = subst (λ (v : Present). MayAsk v c.args.request.now) (sym c.self.view_is) c.requires in
-    subst (λ (v : Present). Asks c.args.request.now v (record (the_view c.self.inside) { pending = Some c.of.result }) (bodies c.in-Ok.messages.items)) c.self.view_is
-    (asks_of c.args.request.now (the_view c.self.inside) c.of.result (bodies c.in-Ok.messages.items) may
-    (c.in-Ok.ensures ∙ ap (λ l. all_joined (Blocked c.self.inside.limit l)) c.of-outgoing.ensures)
-    c.of.ensures)
+pub send-requires-clause-same : goal.send-requires-clause-same
+send-requires-clause-same c = c.of.ensures ∙ ap (λ (v : Present). messages_of v.own c.args.request.now) c.send.view_is

@@ -2,6 +2,7 @@ use Rattle.std.proofs.Common.{◌∙◌, ap, sym, subst, refl, true}
 use Rattle.dap_msg.specs.Items.{ItemAt, ItemFits, seen_item}
 use Rattle.dap_msg.specs.Message.{seen}
 use Rattle.dap_accessing.specs.Present.{Present}
+use Rattle.dap_msg.proofs.ForCallers.{fields_fit}
 use Rattle.dap_accessing.proofs.Numbers.{short_numbers}
 use Rattle.dap_accessing.proofs.Laws.{taken_read, taken_refused, rest_refused}
 use Rattle.dap_accessing.proofs.accessing.Accessing.read.Goals as goal
@@ -23,5 +24,5 @@ returns-in-Ok-clause-reads c =
 
 pub take-requires : goal.take-requires
 take-requires c = record {
-  short = short_numbers (seen c.in-Whole.message) (subst (λ i. ItemFits (seen_item i)) c.in-Whole.is c.item_at-next.ensures.fields);
+  short = short_numbers (seen c.in-Whole.message) (fields_fit (seen c.in-Whole.message) (subst (λ i. ItemFits (seen_item i)) c.in-Whole.is c.item_at-next.ensures.fields));
 }

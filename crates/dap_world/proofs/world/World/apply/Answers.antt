@@ -2,11 +2,7 @@ use Rattle.std.proofs.Common.{subst}
 use Rattle.dap_world.specs.Machine.{State}
 use Rattle.dap_world.specs.Headline.{HeadlineOf}
 use Rattle.dap_world.proofs.Kept.{headline_of}
-use Rattle.dap_world.proofs.Naming.{named}
 use Rattle.dap_world.proofs.world.World.apply.Goals as goal
 
 pub returns-clause-headline : goal.returns-clause-headline
 returns-clause-headline c = subst (λ (s : State). HeadlineOf s) c.self.view_is (headline_of _ c.self.invariant.world)
-
-pub returns-clause-answers : goal.returns-clause-answers
-returns-clause-answers c = named _ _ c.args.event.now c.happen-result.result c.happen-result.ensures

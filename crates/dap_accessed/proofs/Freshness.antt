@@ -1,0 +1,75 @@
+-- An end is fresh where no Config was served.
+use Rattle.std.proofs.Common.{◌≡◌, ℕ, Bool, true, false, List, [], ◌∷◌, ◌++◌, Option, Some, None, refl, ap, sym, subst, ◌∙◌, append_assoc}
+use Rattle.std.specs.Prelude.{if◌then◌else◌}
+use Rattle.std.proofs.lemmas.List.{append-nil}
+use Rattle.dap_msg.specs.Items.{Item, Whole, Malformed}
+use Rattle.rec_file.specs.Acts.{StreamVal}
+use Rattle.dap_accessed.specs.declared.phase.OpenFile.{OpenFile}
+use Rattle.dap_accessed.specs.declared.phase.Phase.TheVariants as phases
+use Rattle.dap_accessed.specs.Standing.{Files, Place, Standing, Scene, Fresh, Ready, Opened, Connected, Store, Stopped, start}
+use Rattle.dap_accessed.specs.Past.{Memory, looked_back}
+use Rattle.dap_accessed.specs.Records.{Change, Putting, Updating}
+use Rattle.dap_accessed.specs.Effects.{Begun, Turn, Does, Begins, turn_of}
+use Rattle.dap_accessed.specs.Groups.{Grouped, scene_of, turn_at, stands_after}
+use Rattle.dap_accessed.specs.Inner.Present.{Present, phase_at, phase_within, phase_of}
+use Rattle.dap_accessed.specs.Adding.{IsFresh, IsLate}
+use Rattle.dap_accessed.proofs.OneMore.{next_group, more_after}
+use Rattle.dap_accessed.proofs.Cuts.{cut-more}
+
+-- ---- The phase tells the place.
+
+store-late : (d : Bool) (o : OpenFile) (s : StreamVal) (n : ℕ) → (if d then phases.Dropping o s n else phases.Storing o s n) ≡ phases.Fresh → ⊥
+store-late true o s n e = cc
+store-late false o s n e = cc
+
+place-fresh : (place : Place) (memory : Memory) → phase_at place memory ≡ phases.Fresh → place ≡ Fresh
+place-fresh Fresh memory e = refl
+place-fresh Ready memory e = cc
+place-fresh (Opened o) memory e = cc
+place-fresh (Connected o s) memory e = cc
+place-fresh (Store o s) memory e = absurd (store-late memory.dropping o s memory.ordinal e)
+place-fresh (Stopped o s) memory e = cc
+
+within-late : (change : Change) (o : OpenFile) (s : StreamVal) → phase_within change o s ≡ phases.Fresh → ⊥
+within-late (Putting key) o s e = cc
+within-late Updating o s e = cc
+
+group-fresh : (s : Standing) (b : Option Begun) → phase_of s b ≡ phases.Fresh → s.place ≡ Fresh
+group-fresh s None e = place-fresh s.place (looked_back s.place s.past) e
+group-fresh s (Some b) e = absurd (within-late b.change b.opened b.stream e)
+
+pub is-fresh : (p : Present) → p.phase ≡ phases.Fresh → IsFresh p
+is-fresh p e = record { is = λ first items h. (let c = stands_after p.own first items in group-fresh c.standing c.begun (ap (λ (q : Present). q.phase) (sym h) ∙ e)) }
+
+-- ---- Before a Config no group is begun.
+
+abbrev IsWhole : Grouped → Type 0
+IsWhole c = c.standing.place ≡ Fresh → c.begun ≡ None
+
+does : (scene : Scene) (memory : Memory) (item : Item) (begun : Begun) → turn_of scene memory Fresh item ≡ Begins begun → ⊥
+does scene memory (Malformed fault) begun e = cc
+does scene memory (Whole message) begun e = cc
+
+whole-by : (own : ℕ) (s : Standing) (item : Item) (t : Turn) → turn_at own s item ≡ t → IsWhole (next_group s item t)
+whole-by own s item (Does effect) e = λ at. refl
+whole-by own s item (Begins begun) e = λ at.
+    absurd (does (scene_of own s) (looked_back s.place s.past) item begun (ap (λ (p : Place). turn_of (scene_of own s) (looked_back s.place s.past) p item) (sym at) ∙ e))
+
+whole-one : (own : ℕ) (s : Standing) (b : Option Begun) (item : Item) → IsWhole (more_after own s b item)
+whole-one own s None item = whole-by own s item (turn_at own s item) refl
+whole-one own s (Some b) item = λ at. refl
+
+whole-on : (own : ℕ) (first : Files) (before more : List Item) → IsWhole (stands_after own first before) → IsWhole (stands_after own first (before ++ more))
+whole-on own first before [] h = subst (λ (l : List Item). IsWhole (stands_after own first l)) (sym (append-nil before)) h
+whole-on own first before (item ∷ more) h =
+    let c = stands_after own first before in
+    let one : IsWhole (stands_after own first (before ++ item ∷ [])) = subst IsWhole (sym (cut-more own (start first) before item)) (whole-one own c.standing c.begun item) in
+    subst (λ (l : List Item). IsWhole (stands_after own first l)) (append_assoc before (item ∷ []) more) (whole-on own first (before ++ item ∷ []) more one)
+
+fresh-phase : (s : Standing) (b : Option Begun) → s.place ≡ Fresh → b ≡ None → phase_of s b ≡ phases.Fresh
+fresh-phase s b at none = rw (none, at) refl
+
+pub is-late : (p : Present) → (p.phase ≡ phases.Fresh → ⊥) → IsLate p
+is-late p late = record {
+  isnt = λ first items h at. (let c = stands_after p.own first items in late (ap (λ (q : Present). q.phase) h ∙ fresh-phase c.standing c.begun at (whole-on p.own first [] items (λ e. refl) at)));
+}

@@ -1,0 +1,16 @@
+-- What `check` finds, and `ask_checked` needs.
+use Rattle.std.specs.Prelude.{◌≡◌, ◌≤◌, true, false, None}
+use Rattle.dap_msg.specs.Sendable.{AreSendable}
+use Rattle.dap_msg.specs.BothEnds.{greatest_message}
+use Rattle.dap_accessing.specs.Request.{Request}
+use Rattle.dap_accessing.specs.Asked.{messages_of}
+use Rattle.dap_accessing.specs.Phase.{phase_fits}
+use Rattle.dap_accessing.specs.Present.{Present}
+
+-- the end may ask the request as it stands: the request is admissible by what the end keeps
+pub record MayAsk (old : Present) (request : Request) : Type 0 where
+  pub works : old.failed ≡ false
+  pub none_due : old.pending ≡ None
+  pub in_phase : phase_fits old.phase request ≡ true
+  pub sendable : AreSendable old.limit (messages_of old.own request)
+  pub most : old.limit ≤ greatest_message
