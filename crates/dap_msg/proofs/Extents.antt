@@ -6,7 +6,7 @@ use Rattle.std.proofs.lemmas.List.{length-append}
 use Rattle.dap_fields.specs.Writing.{groups}
 use Rattle.dap_msg.specs.Message.{Message, StatusFields, Ack, Filedata, Status}
 use Rattle.dap_msg.specs.Canon.{canon, type_number, header_bytes, operand_bytes, header_size, file_data_size, Fits}
-use Rattle.dap_msg.specs.Inner.Fitting.{FieldsFit}
+use Rattle.dap_msg.specs.Inner.Fitting.{KeepsLimits, FieldsFit}
 use Rattle.dap_msg.specs.BothEnds.{config_of, complete_with, attributes_of}
 use Rattle.dap_msg.specs.Inner.Answers.{IsShortAnswer, AnswersFit}
 use Rattle.dap_msg.proofs.Canonical.{closed_spelling}
@@ -38,6 +38,19 @@ header_short len =
       | inl lt ↦ rw (lt-ltb len 256 lt) (lit≤ tt)
       | inr le ↦ rw (le-ltb len 256 le) (lit≤ tt)
     ]
+
+header_some : (len : ℕ) → 3 ≤ header_size len
+header_some len =
+    elim (cases_lt len 256) [
+      | inl lt ↦ rw (lt-ltb len 256 lt) (lit≤ tt)
+      | inr le ↦ rw (le-ltb len 256 le) (lit≤ tt)
+    ]
+
+pub message_some : (m : Message) → 0 < length (canon m)
+message_some m = omega (arith, canon_length m, header_some (length (operand_bytes m)))
+
+pub message_short : (m : Message) → KeepsLimits m → length (canon m) ≤ 65539
+message_short m k = omega (arith, canon_length m, header_short (length (operand_bytes m)), k.length)
 
 short_answer_of : (m : Message) → FieldsFit m → IsPlainMessage m → length (operand_bytes m) ≤ 60 → IsShortAnswer m
 short_answer_of m fields plain short = record {

@@ -5,7 +5,7 @@ ghost use Rattle.dap_fields.specs.Writing.{shortest};
 ghost use Rattle.dap_msg.specs.Message.{Attrib, Control as ControlOf, seen, seen_attributes, seen_control};
 ghost use Rattle.dap_msg.specs.Canon.{canon, Fits, operand_bytes, header_bytes, option_bytes, bits_of};
 ghost use Rattle.dap_msg.specs.Written.{AppendsMessage};
-ghost use Rattle.dap_msg.specs.Inner.Fields.{bytes_of, fields_bytes, message_bytes, is_there, CanWrite, CanWriteAll, completion_of};
+ghost use Rattle.dap_msg.specs.Inner.Fields.{AppendsWithin, bytes_of, fields_bytes, message_bytes, is_there, CanWrite, CanWriteAll, completion_of};
 ghost use Rattle.dap_msg.specs.Inner.Fitting.{FieldsFit, FitsOption, KeepsLimits};
 
 use crate::fault::MsgFault;
@@ -137,19 +137,28 @@ fn message_len(len: usize) -> usize
     if len < 256 { len + 3 } else { len + 4 }
 }
 
-/// Appends a message of these fields. Where there is no memory nothing is changed.
+/// Appends a message of these fields, where it has at most so many bytes: whether it has. Where there is no memory
+/// nothing is changed.
 #[inline(always)]
-fn write_message(fields: &[Field], number: u8, out: &mut Vec<u8>) -> Result<(), MsgFault>
+fn write_message(
+    fields: &[Field],
+    number: u8,
+    most: usize,
+    out: &mut Vec<u8>,
+) -> Result<bool, MsgFault>
     requires fit { CanWriteAll fields.now }
     requires small { length (fields_bytes fields.now) < 2 ^ 16 }
-    ensures appends { AppendsMessage (message_bytes number fields.now) out.old out.new result }
+    ensures appends { AppendsWithin most (message_bytes number fields.now) out.old out.new result }
     ensures capacity { vec_capacity out.old ≤ vec_capacity out.new }
 {
     let len = fields_len(fields);
+    if message_len(len) > most {
+        return Ok(false);
+    }
     out.reserve(message_len(len))?;
     put_header(number, len, out);
     put_all(fields, out);
-    Ok(())
+    Ok(true)
 }
 
 /// The field of a menu.
@@ -345,26 +354,44 @@ macro_rules! with_fields {
     };
 }
 
-/// Appends a message as [`encode`] does.
+/// Appends a message as [`encode_within`] does.
 #[tactic(auto, unfolding(crate::specs::Canon::canon))]
 #[inline(always)]
-fn encode_here(message: &Message<'_>, out: &mut Vec<u8>) -> Result<(), MsgFault>
+fn encode_here(message: &Message<'_>, most: usize, out: &mut Vec<u8>) -> Result<bool, MsgFault>
     requires { KeepsLimits (seen message.now) }
-    ensures appends { AppendsMessage (canon (seen message.now)) out.old out.new result }
+    ensures appends { AppendsWithin most (canon (seen message.now)) out.old out.new result }
     ensures capacity { vec_capacity out.old ≤ vec_capacity out.new }
 {
-    with_fields!(message, write_message, message.number(), out)
+    with_fields!(message, write_message, message.number(), most, out)
 }
 
 /// The same. A call clears the room for the fields of all messages that it may meet: so those with the most fields are
 /// written apart.
 #[inline(never)]
-fn encode_apart(message: &Message<'_>, out: &mut Vec<u8>) -> Result<(), MsgFault>
+fn encode_apart(message: &Message<'_>, most: usize, out: &mut Vec<u8>) -> Result<bool, MsgFault>
     requires { KeepsLimits (seen message.now) }
-    ensures appends { AppendsMessage (canon (seen message.now)) out.old out.new result }
+    ensures appends { AppendsWithin most (canon (seen message.now)) out.old out.new result }
     ensures capacity { vec_capacity out.old ≤ vec_capacity out.new }
 {
-    encode_here(message, out)
+    encode_here(message, most, out)
+}
+
+/// Appends the message as [`encode`] does, where that takes at most so many bytes: whether it does.
+pub(crate) fn encode_within(
+    message: &Message<'_>,
+    most: usize,
+    out: &mut Vec<u8>,
+) -> Result<bool, MsgFault>
+    requires { KeepsLimits (seen message.now) }
+    ensures appends { AppendsWithin most (canon (seen message.now)) out.old out.new result }
+    ensures capacity { vec_capacity out.old ≤ vec_capacity out.new }
+{
+    match message {
+        Message::Config { .. } | Message::Attrib(_) | Message::Access { .. } => {
+            encode_apart(message, most, out)
+        }
+        _ => encode_here(message, most, out),
+    }
 }
 
 /// Appends the canonical spelling of a message: LENGTH always, LEN256 exactly where the operand has 256 bytes or
@@ -378,11 +405,9 @@ pub fn encode(message: &Message<'_>, out: &mut Vec<u8>) -> Result<(), MsgFault>
     ensures appends { AppendsMessage (canon (seen message.now)) out.old out.new result }
     ensures capacity { vec_capacity out.old ≤ vec_capacity out.new }
 {
-    match message {
-        Message::Config { .. } | Message::Attrib(_) | Message::Access { .. } => {
-            encode_apart(message, out)
-        }
-        _ => encode_here(message, out),
+    match encode_within(message, usize::MAX, out) {
+        Ok(_) => Ok(()),
+        Err(fault) => Err(fault),
     }
 }
 

@@ -2,6 +2,7 @@
 
 use dap_msg::{Message, MsgFault, append_blocked, append_message, fits};
 use std::alloc::Global;
+use std::process::Abort;
 use std::test::Fail;
 
 /// A limit, messages that are appended one after the other, and the NSP messages that they make.
@@ -67,18 +68,18 @@ fn messages_are_joined(rt: HostRuntime) -> Result<(), Fail> {
 }
 
 /// Acknowledges that are written in their places, each with its limit.
-fn written(alloc: Global, limits: &[usize]) -> Result<Vec<Vec<u8>>, MsgFault> {
-    let mut list = Vec::new(alloc);
+fn written(rt: &(impl AllocGlobal + Abort), limits: &[usize]) -> Result<Vec<Vec<u8>>, MsgFault> {
+    assert!(rt; fits(&Message::Ack));
+    let mut list = Vec::new(rt.alloc());
     for limit in limits {
-        append_message(alloc, &mut list, &Message::Ack, *limit)?;
+        append_message(rt.alloc(), &mut list, &Message::Ack, *limit)?;
     }
     Ok(list)
 }
 
 #[test]
 fn messages_are_written_in_place(rt: HostRuntime) -> Result<(), Fail> {
-    assert!(rt; fits(&Message::Ack));
-    let list = written(rt.alloc(), &[10, 10, 3])?;
+    let list = written(&rt, &[10, 10, 3])?;
     assert!(rt; are(&list, &[&[6, 2, 0, 6, 2, 0], ACKNOWLEDGE]));
     Ok(())
 }

@@ -1,9 +1,20 @@
+use Rattle.std.proofs.Common.{◌≡◌, ◌≤◌, ◌++◌, ℕ, true, false, List, length, Ok, arith}
+use Rattle.std.specs.Global.{Vec}
+use Rattle.dap_msg.specs.Canon.{canon}
+use Rattle.dap_msg.specs.Inner.Fields.{AppendsWithin}
 use Rattle.dap_msg.specs.Message.{seen}
+use Rattle.dap_msg.proofs.Extents.{message_short}
 use Rattle.dap_msg.proofs.Values.{limits}
 use Rattle.dap_msg.proofs.encoding.encode.Goals as goal
 
-pub encode_here-requires : goal.encode_here-requires
-encode_here-requires c = limits (seen c.args.message.now) c.requires
+-- a message that has room enough is appended
+fits_in : (most : ℕ) (bytes : List ℕ) (old new : Vec ℕ) (b : _) → length bytes ≤ most → AppendsWithin most bytes old new (Ok b) → new.items ≡ old.items ++ bytes
+fits_in most bytes old new true le is = is.1
+fits_in most bytes old new false le is = absurd (omega (arith, le, is.0))
 
-pub encode_apart-requires : goal.encode_apart-requires
-encode_apart-requires c = limits (seen c.args.message.now) c.requires
+pub encode_within-requires : goal.encode_within-requires
+encode_within-requires c = limits (seen c.args.message.now) c.requires
+
+pub returns-in-Ok-clause-appends : goal.returns-in-Ok-clause-appends
+returns-in-Ok-clause-appends c =
+    fits_in _ (canon (seen c.args.message.now)) c.args.out.now c.encode_within.new.out _ (omega (arith, message_short (seen c.args.message.now) (limits (seen c.args.message.now) c.requires))) c.in-Ok.ensures.appends
