@@ -12,7 +12,7 @@ use Rattle.std.proofs.lemmas.Bool.Decides.{nat_tests}
 use Rattle.rec_file.specs.declared.shapes.Shape.{Shape}
 use Rattle.rec_file.specs.Limits.{greatest_number}
 use Rattle.rec_file.specs.Files.{FileVal, IsFile, lowest_from, highest_of, stored, removed}
-use Rattle.rec_file.specs.Inner.Pages.{Cells, cell, paged, put_entry, paged_file, page_cell, cell_of, IsPage, IsFirstIn, IsLastIn, empty_cells, last_page}
+use Rattle.rec_file.specs.Inner.Pages.{Cells, cell, paged, put_entry, paged_file, page_cell, cell_of, IsPage, IsFirstIn, IsLastIn, empty_cells, last_page, IsSpot}
 use Rattle.rec_file.specs.Pages.{page_of}
 use Rattle.rec_file.proofs.Rising.{at, AllAbove, IsRising, rising_from_sorted, sorted_from_rising, find_is_at, same_or_not, at_first, at_tail, at_below}
 use Rattle.rec_file.proofs.RecordsLaws.{lowest_from_some, lowest_from_none, highest_of_some, highest_of_none}
@@ -137,13 +137,6 @@ none_above {X} ps p greatest j lt = by (at ps j) refl
 pub none_kept : {X : Type 0} (ps : List X) → (0 < length ps → ⊥) → ps ≡ []
 none_kept [] h = refl
 none_kept (p ∷ ps) h = absurd (h (omega arith))
-
--- the lowest number from one on, and the page where it stands
-pub record IsSpot (f : FileVal) (n m : ℕ) (cells : Cells) : Type 0 where
-  pub above : 1 ≤ m
-  pub lowest : lowest_from f.records n ≡ Some m
-  pub same : cell cells (cell_of m) ≡ get f.records m
-  pub within : m ≤ greatest_number
 
 module _ (s : Shape) (ps : List (ℕ × Cells)) (f : FileVal) (h : HoldsFile s ps f) where
   r : IsRising ps

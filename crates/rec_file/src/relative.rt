@@ -9,8 +9,8 @@ ghost use Rattle.slab.specs.Slab.{get, slab_len};
 ghost use Rattle.rec_file.specs.Shapes.{is_shape, is_seq};
 ghost use Rattle.rec_file.specs.Pages.{occupied_pages};
 ghost use Rattle.rec_file.specs.Files.{lowest_from};
-ghost use Rattle.rec_file.specs.Limits.{greatest_number, longest_record};
-ghost use Rattle.rec_file.specs.Inner.Pages.{cell as cell_in, cell_of as cell_at, pages_at, page_cell, put_entry, HaveOwnPlaces, IsPage};
+ghost use Rattle.rec_file.specs.Limits.{longest_record};
+ghost use Rattle.rec_file.specs.Inner.Pages.{pages_at, page_cell, put_entry, HaveOwnPlaces, IsPage, IsSpot};
 
 use crate::files::RecordFile;
 use crate::pages::{Page, cell_of, first_in, last_in, page_of};
@@ -32,7 +32,7 @@ pub struct RelFile {
 }
 
 impl Model for RelFile {
-    ghost use Rattle.std.specs.Prelude.{◌≡◌, List, ℕ, map, length, false, true};
+    ghost use Rattle.std.specs.Prelude.{◌≡◌, map, length, false, true};
     ghost use Rattle.std.specs.List.{AllByRecursion};
     ghost use Rattle.std.specs.Ordering.{nat_cmp};
     ghost use Rattle.std.specs.FinMap.{is_sorted};
@@ -82,11 +82,7 @@ impl RelFile {
     /// The lowest occupied number from this one on, and its page.
     fn spot_from(&self, number: u32) -> Option<(u32, &Page)>
         ensures none { IfNone result (lowest_from self.now.records number ≡ None) }
-        ensures lowest { IfSome result (λ s. lowest_from self.now.records number ≡ Some s.0) }
-        ensures same { IfSome result
-            (λ s. cell_in s.1.now (cell_at s.0) ≡ map.get self.now.records s.0) }
-        ensures above { IfSome result (λ s. 1 ≤ s.0) }
-        ensures within { IfSome result (λ s. s.0 ≤ greatest_number) }
+        ensures spot { IfSome result (λ s. IsSpot self.now number s.0 s.1.now) }
         ensures short { IfSome result (λ s. IfSome (map.get self.now.records s.0)
             (λ body. length body ≤ longest_record)) }
     {

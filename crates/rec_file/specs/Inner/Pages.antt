@@ -6,10 +6,10 @@ use Rattle.std.specs.Option.{unwrap_or}
 use Rattle.std.specs.Ordering.{nat_cmp}
 use Rattle.std.specs.List.{filter_map}
 use Rattle.std.specs.Int.{bit_at}
-use Rattle.std.specs.FinMap.{from_entries}
+use Rattle.std.specs.FinMap.{from_entries, get}
 use Rattle.rec_file.specs.declared.shapes.Shape.{Shape}
 use Rattle.rec_file.specs.Limits.{greatest_number}
-use Rattle.rec_file.specs.Files.{FileVal}
+use Rattle.rec_file.specs.Files.{FileVal, lowest_from}
 use Rattle.rec_file.specs.Pages.{page_of}
 
 -- the cells of a page, each with a record or none
@@ -120,3 +120,10 @@ empty_cells = replicate 64 None
 abbrev pub put_entry : List (ℕ × Cells) → ℕ → ℕ → List ℕ → List (ℕ × Cells)
 put_entry pages at k body =
     insert_entry nat_cmp pages at (slice_set (unwrap_or (lookup (is_at (nat_cmp at)) pages) empty_cells) k (Some body))
+
+-- the lowest number from one on, and the page where it stands
+pub record IsSpot (f : FileVal) (n m : ℕ) (cells : Cells) : Type 0 where
+  pub above : 1 ≤ m
+  pub lowest : lowest_from f.records n ≡ Some m
+  pub same : cell cells (cell_of m) ≡ get f.records m
+  pub within : m ≤ greatest_number

@@ -22,41 +22,14 @@ pub first_in-requires-clause-page : goal.first_in-requires-clause-page
 first_in-requires-clause-page c =
     first_fits _ _ c.args.self.now (held c.self.inside.shape (pages_at (get c.self.inside.pages) c.self.inside.places) c.args.self.now c.self.view_is c.self.invariant.2 c.self.invariant.3) c.args.number c.max-least.result c.max-least.ensures c.in_ok-at.at c.in-Some.page.now _ (rest-is (get c.self.inside.pages) c.self.inside.places (page_of c.max-least.result) (c.in_ok-at.at, c.in_ok-at.place) _ (from-behind (page_of c.max-least.result) c.self.inside.places ∙ sym (rw c.page_of-own.ensures at c.from-rest.ensures) ∙ c.in_ok-at.ensures.some) _ (sym c.in-Some.ensures)) (subst IsFile c.self.view_is c.self.invariant.0)
 
-pub returns-in-Some-first_in-clause-lowest : goal.returns-in-Some-first_in-clause-lowest
-returns-in-Some-first_in-clause-lowest c =
-    (found_first _ _ c.args.self.now (held c.self.inside.shape (pages_at (get c.self.inside.pages) c.self.inside.places) c.args.self.now c.self.view_is c.self.invariant.2 c.self.invariant.3) c.args.number c.max-least.result c.max-least.ensures c.in_ok-at.at c.in-Some.page.now _ (rest-is (get c.self.inside.pages) c.self.inside.places (page_of c.max-least.result) (c.in_ok-at.at, c.in_ok-at.place) _ (from-behind (page_of c.max-least.result) c.self.inside.places ∙ sym (rw c.page_of-own.ensures at c.from-rest.ensures) ∙ c.in_ok-at.ensures.some) _ (sym c.in-Some.ensures)) c.if-at-own.from c.in-Some-first_in.first
+pub returns-in-Some-first_in-clause-spot : goal.returns-in-Some-first_in-clause-spot
+returns-in-Some-first_in-clause-spot c =
+    found_first _ _ c.args.self.now (held c.self.inside.shape (pages_at (get c.self.inside.pages) c.self.inside.places) c.args.self.now c.self.view_is c.self.invariant.2 c.self.invariant.3) c.args.number c.max-least.result c.max-least.ensures c.in_ok-at.at c.in-Some.page.now _ (rest-is (get c.self.inside.pages) c.self.inside.places (page_of c.max-least.result) (c.in_ok-at.at, c.in_ok-at.place) _ (from-behind (page_of c.max-least.result) c.self.inside.places ∙ sym (rw c.page_of-own.ensures at c.from-rest.ensures) ∙ c.in_ok-at.ensures.some) _ (sym c.in-Some.ensures)) c.if-at-own.from c.in-Some-first_in.first
     (elim c.if-at-own.branch [
       | then-at-own w ↦ (λ own. w.from-is ∙ w.cell_of-from.ensures.same, λ other. absurd (other (sym (w.if-at-own.true ∙ c.page_of-own.ensures))))
       | else-at-own w ↦ (λ own. absurd (w.if-at-own.false (sym (c.page_of-own.ensures ∙ own))), λ other. w.from-is)
     ])
-    (subst IsFile c.self.view_is c.self.invariant.0) c.in-Some-first_in.ensures.some).lowest
-
-pub returns-in-Some-first_in-clause-same : goal.returns-in-Some-first_in-clause-same
-returns-in-Some-first_in-clause-same c =
-    (found_first _ _ c.args.self.now (held c.self.inside.shape (pages_at (get c.self.inside.pages) c.self.inside.places) c.args.self.now c.self.view_is c.self.invariant.2 c.self.invariant.3) c.args.number c.max-least.result c.max-least.ensures c.in_ok-at.at c.in-Some.page.now _ (rest-is (get c.self.inside.pages) c.self.inside.places (page_of c.max-least.result) (c.in_ok-at.at, c.in_ok-at.place) _ (from-behind (page_of c.max-least.result) c.self.inside.places ∙ sym (rw c.page_of-own.ensures at c.from-rest.ensures) ∙ c.in_ok-at.ensures.some) _ (sym c.in-Some.ensures)) c.if-at-own.from c.in-Some-first_in.first
-    (elim c.if-at-own.branch [
-      | then-at-own w ↦ (λ own. w.from-is ∙ w.cell_of-from.ensures.same, λ other. absurd (other (sym (w.if-at-own.true ∙ c.page_of-own.ensures))))
-      | else-at-own w ↦ (λ own. absurd (w.if-at-own.false (sym (c.page_of-own.ensures ∙ own))), λ other. w.from-is)
-    ])
-    (subst IsFile c.self.view_is c.self.invariant.0) c.in-Some-first_in.ensures.some).same
-
-pub returns-in-Some-first_in-clause-above : goal.returns-in-Some-first_in-clause-above
-returns-in-Some-first_in-clause-above c =
-    (found_first _ _ c.args.self.now (held c.self.inside.shape (pages_at (get c.self.inside.pages) c.self.inside.places) c.args.self.now c.self.view_is c.self.invariant.2 c.self.invariant.3) c.args.number c.max-least.result c.max-least.ensures c.in_ok-at.at c.in-Some.page.now _ (rest-is (get c.self.inside.pages) c.self.inside.places (page_of c.max-least.result) (c.in_ok-at.at, c.in_ok-at.place) _ (from-behind (page_of c.max-least.result) c.self.inside.places ∙ sym (rw c.page_of-own.ensures at c.from-rest.ensures) ∙ c.in_ok-at.ensures.some) _ (sym c.in-Some.ensures)) c.if-at-own.from c.in-Some-first_in.first
-    (elim c.if-at-own.branch [
-      | then-at-own w ↦ (λ own. w.from-is ∙ w.cell_of-from.ensures.same, λ other. absurd (other (sym (w.if-at-own.true ∙ c.page_of-own.ensures))))
-      | else-at-own w ↦ (λ own. absurd (w.if-at-own.false (sym (c.page_of-own.ensures ∙ own))), λ other. w.from-is)
-    ])
-    (subst IsFile c.self.view_is c.self.invariant.0) c.in-Some-first_in.ensures.some).above
-
-pub returns-in-Some-first_in-clause-within : goal.returns-in-Some-first_in-clause-within
-returns-in-Some-first_in-clause-within c =
-    (found_first _ _ c.args.self.now (held c.self.inside.shape (pages_at (get c.self.inside.pages) c.self.inside.places) c.args.self.now c.self.view_is c.self.invariant.2 c.self.invariant.3) c.args.number c.max-least.result c.max-least.ensures c.in_ok-at.at c.in-Some.page.now _ (rest-is (get c.self.inside.pages) c.self.inside.places (page_of c.max-least.result) (c.in_ok-at.at, c.in_ok-at.place) _ (from-behind (page_of c.max-least.result) c.self.inside.places ∙ sym (rw c.page_of-own.ensures at c.from-rest.ensures) ∙ c.in_ok-at.ensures.some) _ (sym c.in-Some.ensures)) c.if-at-own.from c.in-Some-first_in.first
-    (elim c.if-at-own.branch [
-      | then-at-own w ↦ (λ own. w.from-is ∙ w.cell_of-from.ensures.same, λ other. absurd (other (sym (w.if-at-own.true ∙ c.page_of-own.ensures))))
-      | else-at-own w ↦ (λ own. absurd (w.if-at-own.false (sym (c.page_of-own.ensures ∙ own))), λ other. w.from-is)
-    ])
-    (subst IsFile c.self.view_is c.self.invariant.0) c.in-Some-first_in.ensures.some).within
+    (subst IsFile c.self.view_is c.self.invariant.0) c.in-Some-first_in.ensures.some
 
 pub returns-in_err-at-in-None-clause-none : goal.returns-in_err-at-in-None-clause-none
 returns-in_err-at-in-None-clause-none c =
@@ -89,45 +62,15 @@ unreachable-requires-in_default-first_in c =
     ])
     c.in-None.ensures.none c.in_ok-at-in-None.at c.in-Some-get.page.now _ (next-is (get c.self.inside.pages) c.self.inside.places (page_of c.max-least.result) (c.in_ok-at.at, c.in_ok-at.place) _ (from-behind (page_of c.max-least.result) c.self.inside.places ∙ sym (rw c.page_of-own.ensures at c.from-rest.ensures) ∙ c.in_ok-at.ensures.some) (c.in_ok-at-in-None.at, c.in_ok-at-in-None.place) _ c.in_ok-at-in-None.ensures.some _ (sym c.in-Some-get.ensures)) c.in_default-first_in.ensures.none
 
-pub returns-in-Some-first_in-2-clause-lowest : goal.returns-in-Some-first_in-2-clause-lowest
-returns-in-Some-first_in-2-clause-lowest c =
-    (found_second _ _ c.args.self.now (held c.self.inside.shape (pages_at (get c.self.inside.pages) c.self.inside.places) c.args.self.now c.self.view_is c.self.invariant.2 c.self.invariant.3) c.args.number c.max-least.result c.max-least.ensures c.in_ok-at.at c.in-Some.page.now _ (rest-is (get c.self.inside.pages) c.self.inside.places (page_of c.max-least.result) (c.in_ok-at.at, c.in_ok-at.place) _ (from-behind (page_of c.max-least.result) c.self.inside.places ∙ sym (rw c.page_of-own.ensures at c.from-rest.ensures) ∙ c.in_ok-at.ensures.some) _ (sym c.in-Some.ensures)) c.if-at-own.from
+pub returns-in-Some-first_in-2-clause-spot : goal.returns-in-Some-first_in-2-clause-spot
+returns-in-Some-first_in-2-clause-spot c =
+    found_second _ _ c.args.self.now (held c.self.inside.shape (pages_at (get c.self.inside.pages) c.self.inside.places) c.args.self.now c.self.view_is c.self.invariant.2 c.self.invariant.3) c.args.number c.max-least.result c.max-least.ensures c.in_ok-at.at c.in-Some.page.now _ (rest-is (get c.self.inside.pages) c.self.inside.places (page_of c.max-least.result) (c.in_ok-at.at, c.in_ok-at.place) _ (from-behind (page_of c.max-least.result) c.self.inside.places ∙ sym (rw c.page_of-own.ensures at c.from-rest.ensures) ∙ c.in_ok-at.ensures.some) _ (sym c.in-Some.ensures)) c.if-at-own.from
     (elim c.if-at-own.branch [
       | then-at-own w ↦ (λ own. w.from-is ∙ w.cell_of-from.ensures.same, λ other. absurd (other (sym (w.if-at-own.true ∙ c.page_of-own.ensures))))
       | else-at-own w ↦ (λ own. absurd (w.if-at-own.false (sym (c.page_of-own.ensures ∙ own))), λ other. w.from-is)
     ])
     c.in-None.ensures.none c.in_ok-at-in-None.at c.in-Some-get.page.now _ (next-is (get c.self.inside.pages) c.self.inside.places (page_of c.max-least.result) (c.in_ok-at.at, c.in_ok-at.place) _ (from-behind (page_of c.max-least.result) c.self.inside.places ∙ sym (rw c.page_of-own.ensures at c.from-rest.ensures) ∙ c.in_ok-at.ensures.some) (c.in_ok-at-in-None.at, c.in_ok-at-in-None.place) _ c.in_ok-at-in-None.ensures.some _ (sym c.in-Some-get.ensures))
-    c.in-Some-first_in-2.first (subst IsFile c.self.view_is c.self.invariant.0) c.in-Some-first_in-2.ensures.some).lowest
-
-pub returns-in-Some-first_in-2-clause-same : goal.returns-in-Some-first_in-2-clause-same
-returns-in-Some-first_in-2-clause-same c =
-    (found_second _ _ c.args.self.now (held c.self.inside.shape (pages_at (get c.self.inside.pages) c.self.inside.places) c.args.self.now c.self.view_is c.self.invariant.2 c.self.invariant.3) c.args.number c.max-least.result c.max-least.ensures c.in_ok-at.at c.in-Some.page.now _ (rest-is (get c.self.inside.pages) c.self.inside.places (page_of c.max-least.result) (c.in_ok-at.at, c.in_ok-at.place) _ (from-behind (page_of c.max-least.result) c.self.inside.places ∙ sym (rw c.page_of-own.ensures at c.from-rest.ensures) ∙ c.in_ok-at.ensures.some) _ (sym c.in-Some.ensures)) c.if-at-own.from
-    (elim c.if-at-own.branch [
-      | then-at-own w ↦ (λ own. w.from-is ∙ w.cell_of-from.ensures.same, λ other. absurd (other (sym (w.if-at-own.true ∙ c.page_of-own.ensures))))
-      | else-at-own w ↦ (λ own. absurd (w.if-at-own.false (sym (c.page_of-own.ensures ∙ own))), λ other. w.from-is)
-    ])
-    c.in-None.ensures.none c.in_ok-at-in-None.at c.in-Some-get.page.now _ (next-is (get c.self.inside.pages) c.self.inside.places (page_of c.max-least.result) (c.in_ok-at.at, c.in_ok-at.place) _ (from-behind (page_of c.max-least.result) c.self.inside.places ∙ sym (rw c.page_of-own.ensures at c.from-rest.ensures) ∙ c.in_ok-at.ensures.some) (c.in_ok-at-in-None.at, c.in_ok-at-in-None.place) _ c.in_ok-at-in-None.ensures.some _ (sym c.in-Some-get.ensures))
-    c.in-Some-first_in-2.first (subst IsFile c.self.view_is c.self.invariant.0) c.in-Some-first_in-2.ensures.some).same
-
-pub returns-in-Some-first_in-2-clause-above : goal.returns-in-Some-first_in-2-clause-above
-returns-in-Some-first_in-2-clause-above c =
-    (found_second _ _ c.args.self.now (held c.self.inside.shape (pages_at (get c.self.inside.pages) c.self.inside.places) c.args.self.now c.self.view_is c.self.invariant.2 c.self.invariant.3) c.args.number c.max-least.result c.max-least.ensures c.in_ok-at.at c.in-Some.page.now _ (rest-is (get c.self.inside.pages) c.self.inside.places (page_of c.max-least.result) (c.in_ok-at.at, c.in_ok-at.place) _ (from-behind (page_of c.max-least.result) c.self.inside.places ∙ sym (rw c.page_of-own.ensures at c.from-rest.ensures) ∙ c.in_ok-at.ensures.some) _ (sym c.in-Some.ensures)) c.if-at-own.from
-    (elim c.if-at-own.branch [
-      | then-at-own w ↦ (λ own. w.from-is ∙ w.cell_of-from.ensures.same, λ other. absurd (other (sym (w.if-at-own.true ∙ c.page_of-own.ensures))))
-      | else-at-own w ↦ (λ own. absurd (w.if-at-own.false (sym (c.page_of-own.ensures ∙ own))), λ other. w.from-is)
-    ])
-    c.in-None.ensures.none c.in_ok-at-in-None.at c.in-Some-get.page.now _ (next-is (get c.self.inside.pages) c.self.inside.places (page_of c.max-least.result) (c.in_ok-at.at, c.in_ok-at.place) _ (from-behind (page_of c.max-least.result) c.self.inside.places ∙ sym (rw c.page_of-own.ensures at c.from-rest.ensures) ∙ c.in_ok-at.ensures.some) (c.in_ok-at-in-None.at, c.in_ok-at-in-None.place) _ c.in_ok-at-in-None.ensures.some _ (sym c.in-Some-get.ensures))
-    c.in-Some-first_in-2.first (subst IsFile c.self.view_is c.self.invariant.0) c.in-Some-first_in-2.ensures.some).above
-
-pub returns-in-Some-first_in-2-clause-within : goal.returns-in-Some-first_in-2-clause-within
-returns-in-Some-first_in-2-clause-within c =
-    (found_second _ _ c.args.self.now (held c.self.inside.shape (pages_at (get c.self.inside.pages) c.self.inside.places) c.args.self.now c.self.view_is c.self.invariant.2 c.self.invariant.3) c.args.number c.max-least.result c.max-least.ensures c.in_ok-at.at c.in-Some.page.now _ (rest-is (get c.self.inside.pages) c.self.inside.places (page_of c.max-least.result) (c.in_ok-at.at, c.in_ok-at.place) _ (from-behind (page_of c.max-least.result) c.self.inside.places ∙ sym (rw c.page_of-own.ensures at c.from-rest.ensures) ∙ c.in_ok-at.ensures.some) _ (sym c.in-Some.ensures)) c.if-at-own.from
-    (elim c.if-at-own.branch [
-      | then-at-own w ↦ (λ own. w.from-is ∙ w.cell_of-from.ensures.same, λ other. absurd (other (sym (w.if-at-own.true ∙ c.page_of-own.ensures))))
-      | else-at-own w ↦ (λ own. absurd (w.if-at-own.false (sym (c.page_of-own.ensures ∙ own))), λ other. w.from-is)
-    ])
-    c.in-None.ensures.none c.in_ok-at-in-None.at c.in-Some-get.page.now _ (next-is (get c.self.inside.pages) c.self.inside.places (page_of c.max-least.result) (c.in_ok-at.at, c.in_ok-at.place) _ (from-behind (page_of c.max-least.result) c.self.inside.places ∙ sym (rw c.page_of-own.ensures at c.from-rest.ensures) ∙ c.in_ok-at.ensures.some) (c.in_ok-at-in-None.at, c.in_ok-at-in-None.place) _ c.in_ok-at-in-None.ensures.some _ (sym c.in-Some-get.ensures))
-    c.in-Some-first_in-2.first (subst IsFile c.self.view_is c.self.invariant.0) c.in-Some-first_in-2.ensures.some).within
+    c.in-Some-first_in-2.first (subst IsFile c.self.view_is c.self.invariant.0) c.in-Some-first_in-2.ensures.some
 
 pub returns-in-Some-first_in-clause-short : goal.returns-in-Some-first_in-clause-short
 returns-in-Some-first_in-clause-short c = record_fits c.args.self.now c.in-Some-first_in.first (subst IsFile c.self.view_is c.self.invariant.0)
