@@ -1,6 +1,7 @@
 -- What was read of a capture, packet after packet.
 use Rattle.std.proofs.Common.{◌≡◌, ◌+◌, ◌++◌, ℕ, List, [], ◌∷◌, length, suc, map, None, Ok, refl, sym, ap, ◌∙◌, add-zero, arith}
 use Rattle.std.specs.Global.{Vec}
+use Rattle.std.specs.List.{AllZip}
 use Rattle.std.proofs.lemmas.List.{map-append, length-map}
 use Rattle.hex.specs.Hex.{decode_of}
 use Rattle.dap_listing.specs.Listing.{heading}
@@ -8,7 +9,7 @@ use Rattle.dap_listing.specs.Lines.{Capture}
 use Rattle.dap_listing.specs.Packets.{IsSeen, Seen, seen_line}
 use Rattle.dap_listing.specs.declared.lines.Direction.{Direction}
 use Rattle.dap_follow.specs.Streams.{Packet, came_as, stream_of}
-use Rattle.dap_follow.specs.Following.{AreSeen, no_more, one_more}
+use Rattle.dap_follow.specs.Following.{IsCaptured}
 use Rattle.dap_follow.specs.Inner.Keeping.{KeepsAll}
 use Rattle.dap_follow.specs.Inner.Reading.{Reads, line_texts}
 use Rattle.dap_follow.specs.declared.reading.Reading.{Reading}
@@ -45,7 +46,9 @@ aside_fault packets way seen old new reads of_none none same = rw same (keeps_as
 
 -- ---- the packets of captures
 
-pub seen_more : (captures : List Capture) (packets : List Packet) (way : Direction) (digits bytes : List ℕ) (seen : Seen) → AreSeen captures packets
-    → decode_of digits ≡ Ok bytes → IsSeen seen bytes → AreSeen (captures ++ (way, digits) ∷ []) (packets ++ (way, seen) ∷ [])
-seen_more captures packets way digits bytes seen no_more decoded is = one_more bytes decoded is no_more
-seen_more captures packets way digits bytes seen (one_more b d i rest) decoded is = one_more b d i (seen_more _ _ way digits bytes seen rest decoded is)
+pub seen_more : (captures : List Capture) (packets : List Packet) (way : Direction) (digits bytes : List ℕ) (seen : Seen) → AllZip IsCaptured captures packets
+    → decode_of digits ≡ Ok bytes → IsSeen seen bytes → AllZip IsCaptured (captures ++ (way, digits) ∷ []) (packets ++ (way, seen) ∷ [])
+seen_more [] [] way digits bytes seen all decoded is = ((refl, (bytes, decoded, is)), tt)
+seen_more [] (p ∷ packets) way digits bytes seen all decoded is = absurd all
+seen_more (c ∷ captures) [] way digits bytes seen all decoded is = absurd all
+seen_more (c ∷ captures) (p ∷ packets) way digits bytes seen all decoded is = (all.0, seen_more captures packets way digits bytes seen all.1 decoded is)

@@ -2,7 +2,7 @@
 use Rattle.std.proofs.Common.{◌≡◌, ◌<◌, ◌≤◌, ◌+◌, ◌++◌, ℕ, zero, suc, List, [], ◌∷◌, length, take, drop, get_or, map, Some, None, add-one, refl, sym, ap, ◌∙◌, subst, arith}
 use Rattle.std.specs.Global.{Vec}
 use Rattle.std.specs.Prelude.{slice_get}
-use Rattle.std.specs.List.{AllByRecursion, flat_map}
+use Rattle.std.specs.List.{AllByRecursion, AllZip, flat_map}
 use Rattle.std.specs.List.Sorted.{IsStrictlySortedBy}
 use Rattle.std.specs.Ordering.{nat_cmp}
 use Rattle.std.specs.declared.cmp.Ordering.TheVariants.{Less}
@@ -14,10 +14,9 @@ use Rattle.std.proofs.lemmas.List.{append_assoc, append-nil, map-append, take_al
 use Rattle.std.proofs.lemmas.Map.Keys.{IsStrictlyIncreasing-from_sorted}
 use Rattle.dap_listing.specs.Listing.{heading}
 use Rattle.dap_listing.specs.Packets.{seen_line}
-use Rattle.dap_follow.specs.Streams.{AreOrdered, ArePlaced, Came, IsOrdered, Packet, came_in, first_place, no_more, one_more}
+use Rattle.dap_follow.specs.Streams.{ArePlaced, Came, IsOrdered, Packet, came_in, first_place}
 use Rattle.dap_follow.specs.Joined.{Message, messages, pieces}
-use Rattle.dap_follow.specs.Following.{ArePacketLines, all_rest_lines, rest_lines}
-use Rattle.dap_follow.specs.Following as follows
+use Rattle.dap_follow.specs.Following.{ArePacketLines, all_rest_lines, rest_lines, no_more, one_more}
 use Rattle.dap_follow.specs.Inner.Keeping.{KeepsEach, KeepsStream}
 use Rattle.dap_follow.specs.Inner.Listing.{UnderAll, values}
 use Rattle.dap_follow.specs.Inner.Placing.{Rises}
@@ -94,11 +93,11 @@ is_ordered packets s p k = record {
   same = k.keeps.same;
 }
 
-pub are_ordered : (packets : List Packet) (keys : List Stream) (places : List Places) → KeepsEach packets keys places → AreOrdered packets keys (ordered_of places)
-are_ordered packets [] [] each = no_more
+pub are_ordered : (packets : List Packet) (keys : List Stream) (places : List Places) → KeepsEach packets keys places → AllZip (λ stream. IsOrdered (came_in stream packets)) keys (ordered_of places)
+are_ordered packets [] [] each = tt
 are_ordered packets [] (p ∷ places) each = absurd each
 are_ordered packets (s ∷ keys) [] each = absurd each
-are_ordered packets (s ∷ keys) (p ∷ places) each = one_more (is_ordered packets s p each.0) (are_ordered packets keys places each.1)
+are_ordered packets (s ∷ keys) (p ∷ places) each = (is_ordered packets s p each.0, are_ordered packets keys places each.1)
 
 -- ---- the lines of all packets
 
@@ -113,7 +112,7 @@ same_parts a b xs ys e = ((let first : a ≡ b = cc in first), (let rest : xs �
 
 pub packet_lines : (all : List Message) (n : ℕ) (packets : List Packet) (olds news : List (Vec ℕ)) → map (λ (v : Vec ℕ). v.items) olds ≡ line_texts n packets → UnderAll all n olds news
     → ArePacketLines all n packets (texts_of news)
-packet_lines all n [] [] [] are under = follows.no_more
+packet_lines all n [] [] [] are under = no_more
 packet_lines all n [] [] (v ∷ news) are under = absurd under
 packet_lines all n [] (o ∷ olds) news are under = absurd (cons_nil _ _ are)
 packet_lines all n (p ∷ packets) [] news are under = absurd (nil_cons _ _ are)
@@ -123,7 +122,7 @@ packet_lines all n (p ∷ packets) (o ∷ olds) (v ∷ news) are under =
     let here = under.0 in
     let text : v.items ≡ heading n p.0 ++ seen_line p.1 ++ here.0 = here.2 ∙ ap (λ (l : List ℕ). l ++ here.0) parts.0 in
     subst (λ (l : List ℕ). ArePacketLines all n (p ∷ packets) (l ++ texts_of news)) (sym text)
-    (follows.one_more here.0 (texts_of news) here.1 (packet_lines all (n + 1) packets olds news parts.1 under.1))
+    (one_more here.0 (texts_of news) here.1 (packet_lines all (n + 1) packets olds news parts.1 under.1))
 
 pub key_there : (packets : List Packet) (i : ℕ) (keys : List Stream) (places : List Places) → KeepsEach packets keys places → i < length places → slice_get keys i ≡ None → ⊥
 key_there packets i [] [] each below none = absurd (omega arith)

@@ -1,6 +1,6 @@
 -- The listing of a capture with its messages joined. Own.
 use Rattle.std.specs.Prelude.{◌≡◌, ℕ, ◌+◌, ◌-◌, ◌%◌, ◌==◌, nat_lt, List, [], ◌∷◌, ◌++◌, length, codes, if◌then◌else◌, Option, Result, Ok}
-use Rattle.std.specs.List.{concat, filter, flat_map}
+use Rattle.std.specs.List.{AllZip, concat, filter, flat_map}
 use Rattle.std.specs.Fmt.{decimal}
 use Rattle.hex.specs.Hex.{decode_of}
 use Rattle.dap_text.specs.Text.{line_feed, word_text}
@@ -8,20 +8,18 @@ use Rattle.dap_listing.specs.Gives.{Gives}
 use Rattle.dap_listing.specs.Listing.{arrow_text, captures, heading, packet_limit, line_faults}
 use Rattle.dap_listing.specs.Lines.{Capture}
 use Rattle.dap_listing.specs.Messages.{IsMessagesText}
-use Rattle.dap_listing.specs.Packets.{IsSeen, Seen, seen_line}
+use Rattle.dap_listing.specs.Packets.{IsSeen, seen_line}
 use Rattle.dap_listing.specs.declared.fault.CaptureFault.{CaptureFault}
 use Rattle.dap_listing.specs.declared.fault.Outcome.{Outcome}
 use Rattle.dap_listing.specs.declared.fault.Outcome.TheVariants.{Good, Stopped}
-use Rattle.dap_follow.specs.Streams.{AreOrdered, Packet, Placed, streams}
+use Rattle.dap_follow.specs.Streams.{IsOrdered, Packet, Placed, came_in, streams}
 use Rattle.dap_follow.specs.Joined.{Message, Piece, is_message, messages, payload, pieces, tail}
 use Rattle.dap_follow.specs.declared.streams.Stream.{Stream}
 
--- the captured packets
-pub data AreSeen : List Capture → List Packet → Type 0 where
-  no_more : AreSeen [] []
-  one_more : {capture : Capture} {captures : List Capture} {seen : Seen} {packets : List Packet} (bytes : List ℕ)
-      → decode_of capture.1 ≡ Ok bytes → IsSeen seen bytes → AreSeen captures packets
-      → AreSeen (capture ∷ captures) ((capture.0, seen) ∷ packets)
+-- what was captured is this
+abbrev pub IsCaptured : Capture → Packet → Type 0
+IsCaptured capture packet =
+    (packet.0 ≡ capture.0) × ((bytes : List ℕ) × (decode_of capture.1 ≡ Ok bytes) × IsSeen packet.1 bytes)
 
 -- ` seg=A..B`: the numbers of two places
 abbrev pub range_text : ℕ → ℕ → List ℕ
@@ -80,8 +78,8 @@ pub record IsFollowed (captured : List Capture) (text : List ℕ) : Type 0 where
   pub packets : List Packet
   pub ordered : List (List Placed)
   pub lines : List ℕ
-  pub are_seen : AreSeen captured packets
-  pub are_ordered : AreOrdered packets (streams packets) ordered
+  pub are_seen : AllZip IsCaptured captured packets
+  pub are_ordered : AllZip (λ stream. IsOrdered (came_in stream packets)) (streams packets) ordered
   pub are_lines : ArePacketLines (flat_map messages ordered) 1 packets lines
   pub joined : text ≡ lines ++ all_rest_lines (streams packets) ordered
 

@@ -86,10 +86,3 @@ pub record IsOrdered (came : List Came) (ordered : List Placed) : Type 0 where
   pub are_placed : ArePlaced (first_place came) came placed
   pub ascending : IsStrictlyIncreasing (map (λ s. s.place) ordered)
   pub same : (place : ℕ) → at place ordered ≡ at place placed
-
--- those of each stream
-pub data AreOrdered (packets : List Packet) : List Stream → List (List Placed) → Type 0 where
-  no_more : AreOrdered packets [] []
-  one_more : {stream : Stream} {others : List Stream} {ordered : List Placed} {rest : List (List Placed)}
-      → IsOrdered (came_in stream packets) ordered → AreOrdered packets others rest
-      → AreOrdered packets (stream ∷ others) (ordered ∷ rest)

@@ -1,5 +1,5 @@
 -- The lines of a packet, after its number and direction.
-use Rattle.std.specs.Prelude.{◌≡◌, ℕ, Bool, true, false, List, [], ◌∷◌, ◌++◌, length, codes, Option, Some, None, Result, Ok, Err}
+use Rattle.std.specs.Prelude.{◌≡◌, ◌&&◌, MatchBool, ℕ, Bool, true, false, List, [], ◌∷◌, ◌++◌, length, codes, Option, Some, None, Result, Ok, Err}
 use Rattle.std.specs.List.{concat}
 use Rattle.std.specs.Fmt.{decimal}
 use Rattle.nsp_seg.specs.Packets.{PacketValue, SegmentValue, AckValue, segment, data_ack, Spells, HasFault}
@@ -49,14 +49,11 @@ seen_line (Err fault) = fault_line fault
 
 -- the messages of a segment are listed where it holds a whole NSP message
 abbrev pub SegmentMessages : Bool → Bool → List ℕ → List ℕ → Type 0
-SegmentMessages true true payload lines = IsMessagesText payload lines
-SegmentMessages true false payload lines = lines ≡ []
-SegmentMessages false last payload lines = lines ≡ []
+SegmentMessages first last payload lines = MatchBool (first && last) (IsMessagesText payload lines) (lines ≡ [])
 
 abbrev pub SeenMessages : Seen → List ℕ → Type 0
 SeenMessages (Ok (segment s)) lines = SegmentMessages s.first s.last s.payload lines
-SeenMessages (Ok (data_ack a)) lines = lines ≡ []
-SeenMessages (Err fault) lines = lines ≡ []
+SeenMessages _ lines = lines ≡ []
 
 -- the line of what the bytes are, and those of its messages
 pub record IsPacketText (bytes text : List ℕ) : Type 0 where

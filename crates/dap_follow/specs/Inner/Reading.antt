@@ -1,5 +1,6 @@
 -- What was read of a capture.
 use Rattle.std.specs.Prelude.{◌≡◌, ◌+◌, ◌<◌, ◌^◌, ◌⊎◌, ℕ, List, [], ◌∷◌, ◌++◌, length, map}
+use Rattle.std.specs.List.{AllZip}
 use Rattle.dap_listing.specs.Captured.{bytes_of}
 use Rattle.dap_listing.specs.Gives.{IsFirst}
 use Rattle.dap_listing.specs.Listing.{captures, heading, packet_limit, line_faults}
@@ -8,7 +9,7 @@ use Rattle.dap_listing.specs.declared.fault.CaptureFault.{CaptureFault}
 use Rattle.dap_listing.specs.declared.fault.CaptureFault.TheVariants.{NoMemory}
 use Rattle.dap_listing.specs.declared.lines.Direction.{Direction}
 use Rattle.dap_follow.specs.Streams.{Packet}
-use Rattle.dap_follow.specs.Following.{AreSeen}
+use Rattle.dap_follow.specs.Following.{IsCaptured}
 use Rattle.dap_follow.specs.Inner.Keeping.{KeepsAll}
 use Rattle.dap_follow.specs.declared.reading.Reading.{Reading}
 
@@ -34,7 +35,7 @@ ReadsMore way digits old new =
 -- all packets of an input without a fault were read
 pub record ReadsAll (input : List ℕ) (r : Reading) : Type 0 where
   pub packets : List Packet
-  pub are_seen : AreSeen (captures packet_limit input) packets
+  pub are_seen : AllZip IsCaptured (captures packet_limit input) packets
   pub clean : line_faults packet_limit input ≡ []
   pub reads : Reads packets r
 

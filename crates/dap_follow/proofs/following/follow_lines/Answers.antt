@@ -1,8 +1,8 @@
 use Rattle.std.proofs.Common.{arith, take, drop, ◌≡◌, ◌++◌, length, ℕ, List, sym, ap, ◌∙◌, subst}
 use Rattle.std.proofs.Math.Seq.{take-append_seam}
-use Rattle.std.specs.List.{flat_map}
+use Rattle.std.specs.List.{AllZip, flat_map}
 use Rattle.std.specs.Global.{Vec}
-use Rattle.dap_follow.specs.Streams.{AreOrdered, streams}
+use Rattle.dap_follow.specs.Streams.{IsOrdered, came_in, streams}
 use Rattle.dap_follow.specs.Joined.{messages}
 use Rattle.dap_follow.specs.Following.{all_rest_lines}
 use Rattle.dap_follow.specs.Inner.Keeping.{KeepsEach}
@@ -27,8 +27,8 @@ returns-clause-whole c =
     let listed = c.in_ok-rest.ensures in
     let names : streams all.packets ≡ r.streams.names.keys = sym all.reads.streams.names in
     let each : KeepsEach all.packets r.streams.names.keys places = subst (λ (keys : List Stream). KeepsEach all.packets keys places) names all.reads.streams.each in
-    let ordered : AreOrdered all.packets (streams all.packets) (ordered_of places) =
-    subst (λ (keys : List Stream). AreOrdered all.packets keys (ordered_of places)) (sym names) (are_ordered all.packets r.streams.names.keys places each) in
+    let ordered : AllZip (λ stream. IsOrdered (came_in stream all.packets)) (streams all.packets) (ordered_of places) =
+    subst (λ (keys : List Stream). AllZip (λ stream. IsOrdered (came_in stream all.packets)) keys (ordered_of places)) (sym names) (are_ordered all.packets r.streams.names.keys places each) in
     let under : UnderAll (flat_map messages (ordered_of places)) 1 r.lines.items c.list_streams.new.lines =
     subst (λ (olds : List (Vec ℕ)). UnderAll (flat_map messages (ordered_of places)) 1 olds c.list_streams.new.lines) c.deref_mut.ensures.value listed.under in
     let left : c.in_ok-rest.rest.items ≡ all_rest_lines (streams all.packets) (ordered_of places) =

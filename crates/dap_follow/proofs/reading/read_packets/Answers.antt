@@ -4,7 +4,6 @@ use Rattle.dap_listing.specs.Captured.{bytes_of}
 use Rattle.dap_listing.specs.Listing.{captures, packet_limit}
 use Rattle.dap_listing.specs.Lines.{Capture}
 use Rattle.dap_listing.proofs.ForCallers.{decoded}
-use Rattle.dap_follow.specs.Following.{no_more}
 use Rattle.dap_follow.proofs.ReadingLemmas.{seen_more}
 use Rattle.dap_follow.proofs.reading.read_packets.Goals as goal
 
@@ -12,7 +11,7 @@ pub loop-reading-init : goal.loop-reading-init
 loop-reading-init c = record {
   room = search rules;
   lines = omega arith;
-  so_far = ([], [], no_more, refl, c.new-reading.ensures, omega arith);
+  so_far = ([], [], tt, refl, c.new-reading.ensures, omega arith);
   clean = refl;
 }
 
