@@ -1,6 +1,6 @@
 -- What a format says of each of its values holds of what it spells. So a message with a closed spelling fits.
 use Rattle.std.proofs.Common.{◌≡◌, ℕ, ◌+◌, ◌*◌, ◌^◌, ◌<◌, ◌≤◌, ◌==◌, ◌&&◌, List, [], ◌∷◌, ◌++◌, length, take, true, false, Bool, eqb, refl, sym, ap, subst, arith, inl, inr, lit≤, lit<, length-append}
-use Rattle.std.specs.Prelude.{Option, Some, None, Result, Ok, Err, IfOk, if◌then◌else◌, nat_lt, nat_le}
+use Rattle.std.specs.Prelude.{Option, Some, None, Result, Ok, Err, IfOk, ◌↔◌, if◌then◌else◌, nat_lt, nat_le}
 use Rattle.std.proofs.Math.Nat.{pow-succ', pow-le-pow_right}
 use Rattle.std.proofs.lemmas.Bool.Decides.{nat_tests}
 use Rattle.dap_fields.specs.Spelling.{groups_value, AreGroups, ExValue}
@@ -11,10 +11,11 @@ use Rattle.dap_msg.specs.Codes.{greatest_type}
 use Rattle.dap_msg.specs.Grammar.{Kind, Byte, Word, Extensible, Image, ValueOf, SpellsField, Part, Must, When, OrElse, UnlessEnd, Remainder, PartValue, SpellsPart, Grammar, Done, Next, Spells}
 use Rattle.dap_msg.specs.Message.{Header, Message, Config, Attrib, Access, Control, Contran, Ack, Accomp, Filedata, Status, Other, seen, length_of}
 use Rattle.dap_msg.specs.Formats.{refuses_type, header, configuration, attributes, access, control, continuation, acknowledge, completion, file_data, status, other, operand}
-use Rattle.dap_msg.specs.Decoding.{HasLength, SpellsMessage, IsDecoded, IsSpelled}
+use Rattle.dap_msg.specs.Decoding.{HasLength, IsDecoded, IsSpelled}
 use Rattle.dap_msg.specs.Answer.{seen_answer}
 use Rattle.dap_msg.specs.Canon.{Fits, operand_bytes}
 use Rattle.dap_msg.specs.Inner.Fitting.{FitsField, FitsOption, FieldsFit, KeepsLimits}
+use Rattle.dap_msg.proofs.Canonical.{open_spelling}
 use Rattle.dap_msg.proofs.Sizes.{plain_short}
 use Rattle.dap_msg.proofs.Extents.{file_data_operand}
 
@@ -163,15 +164,15 @@ operand_short (Accomp a) n f c lt = plain_short (Accomp a) f tt
 operand_short (Status a) n f c lt = plain_short (Status a) f tt
 
 -- the fields of a message that bytes spell fit
-pub spelled_fields : (m : Message) (bytes : List ℕ) (closed : Bool) → SpellsMessage m bytes closed → FieldsFit m
-spelled_fields m bytes closed o =
+pub fields_fit : (m : Message) → IsSpelled m → FieldsFit m
+fields_fit m (bytes, closed, o) =
     let s = o.start in
     let h = header_fits s.head s.front s.rest s.header in
     (holds (operand s.head.number) ValuesFit m s.rest [] 0 (yields s.head.number h.some h.known) o.operand).0
 
--- the same of one that was read
-pub fields_fit : (m : Message) → IsSpelled m → FieldsFit m
-fields_fit m (bytes, closed, s) = spelled_fields m bytes closed s
+-- some bytes are the message exactly where its values fit their fields
+pub spelled_fields : (m : Message) → IsSpelled m ↔ FieldsFit m
+spelled_fields m = (fields_fit m, open_spelling m)
 
 -- a message with a closed spelling keeps the limits
 pub limits : (m : Message) → Fits m → KeepsLimits m
