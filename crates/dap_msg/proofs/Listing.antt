@@ -48,21 +48,15 @@ same_message m k n l e = let p : ◌≡◌ {A = Message × ℕ} (m, n) (k, l) = 
 abbrev fault_of : FaultKind → ℕ → ℕ → MsgFault
 fault_of kind message_type offset = record { kind = kind; message_type = message_type; offset = offset }
 
-abbrev refused : MsgFault → Result (Message × ℕ) MsgFault
-refused f = Err f
-
-same_fault : (f g : MsgFault) → refused f ≡ refused g → f ≡ g
-same_fault f g e = cc
-
 moved : (f g : MsgFault) (at i j : ℕ) → f.offset ≡ at + i → g.offset ≡ at + j
     → told_fault f.kind f.message_type i ≡ told_fault g.kind g.message_type j → f ≡ g
 moved f g at i j a b e =
-    let p = same_fault _ _ e in
+    let p : fault_of f.kind f.message_type i ≡ fault_of g.kind g.message_type j = cc in
     let k : f.kind ≡ g.kind = ap (λ (x : MsgFault). x.kind) p in
     let t : f.message_type ≡ g.message_type = ap (λ (x : MsgFault). x.message_type) p in
-    let o : i ≡ j = ap (λ (x : MsgFault). x.offset) p in
-    let s : f.offset ≡ g.offset = omega (arith, a, b, o) in
-    ap (λ (x : FaultKind). fault_of x f.message_type f.offset) k ∙ ap (λ (x : ℕ). fault_of g.kind x f.offset) t ∙ ap (λ (x : ℕ). fault_of g.kind g.message_type x) s
+    let o : f.offset ≡ g.offset = omega (arith, a, b, ap (λ (x : MsgFault). x.offset) p) in
+    let all : fault_of f.kind f.message_type f.offset ≡ fault_of g.kind g.message_type g.offset = cc in
+    all
 
 pub one_item : (bytes : List ℕ) (at : ℕ) (item other : Item) (next after : ℕ) → AreBytes bytes → ItemAt bytes at item next → ItemAt bytes at other after → (other ≡ item) × (after ≡ next)
 one_item bytes at (Whole m) (Whole k) next after fits h o =

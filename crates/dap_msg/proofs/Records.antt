@@ -29,19 +29,11 @@ IsOpen g =
 open_others : (g : Grammar Message) → IsOfOthers g → IsOpen g
 open_others g others recnum payload bytes s = absurd (no_record g recnum payload bytes [] others s)
 
-recnum_of : Message → List ℕ
-recnum_of (Filedata recnum payload) = recnum
-recnum_of _ = []
-
-payload_of : Message → List ℕ
-payload_of (Filedata recnum payload) = payload
-payload_of _ = []
-
 open_file_data : IsOpen file_data
-unfolding file_data recnum_of payload_of
+unfolding file_data
 open_file_data recnum payload bytes (recnum', front, back, joined, image, (payload', rest, none, split, remainder, (done, end))) =
-    let recnums : recnum ≡ recnum' = ap recnum_of done in
-    let payloads : payload ≡ payload' = ap payload_of done in
+    let recnums : recnum ≡ recnum' = cc in
+    let payloads : payload ≡ payload' = cc in
     let all : back ≡ payload = split ∙ ap (λ (n : List ℕ). rest ++ n) end ∙ append-nil rest ∙ remainder.0 ∙ sym payloads in (
       front,
       joined ∙ ap (λ (b : List ℕ). front ++ b) all,

@@ -152,16 +152,7 @@ short_body (Some n) body f h = omega (arith, h.0, f n refl)
 -- ---- Messages.
 
 operand_short : (m : Message) (n : ℕ) → FieldsFit m → IsCarried m n → n < 2 ^ 16 → length (operand_bytes m) < 2 ^ 16
-operand_short (Filedata recnum payload) n f c lt = omega (arith, file_data_operand recnum payload, c)
-operand_short (Other number body) n f c lt = omega (arith, length-append body [], c)
-operand_short (Config a) n f c lt = plain_short (Config a) f tt
-operand_short (Attrib a) n f c lt = plain_short (Attrib a) f tt
-operand_short (Access a) n f c lt = plain_short (Access a) f tt
-operand_short (Control a) n f c lt = plain_short (Control a) f tt
-operand_short (Contran a) n f c lt = plain_short (Contran a) f tt
-operand_short Ack n f c lt = plain_short Ack f tt
-operand_short (Accomp a) n f c lt = plain_short (Accomp a) f tt
-operand_short (Status a) n f c lt = plain_short (Status a) f tt
+operand_short m n f c lt = grind (arith, plain_short, file_data_operand, length-append, f, c)
 
 -- the fields of a message that bytes spell fit
 pub fields_fit : (m : Message) → IsSpelled m → FieldsFit m
