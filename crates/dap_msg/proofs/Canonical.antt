@@ -12,7 +12,7 @@ use Rattle.dap_fields.proofs.ForCallers.{groups_spell}
 use Rattle.dap_msg.specs.Grammar.{Kind, Byte, Word, Extensible, Image, ValueOf, SpellsField, Part, Must, When, OrElse, UnlessEnd, Remainder, PartValue, SpellsPart, Grammar, Next, Done, Spells}
 use Rattle.dap_msg.specs.Message.{Attributes, ControlFields, Message, Config, Attrib, Access, Control, Contran, Ack, Accomp, Filedata, Status, Other, length_of}
 use Rattle.dap_msg.specs.Formats.{any, has, menu, optional, refuses_type, refuses_flags, refuses_stream, header, operand, configuration, attributes, access, control, continuation, acknowledge, completion, file_data, status, other}
-use Rattle.dap_msg.specs.Decoding.{HasLength, SpellsMessage, IsSpelled}
+use Rattle.dap_msg.specs.Decoding.{HasLength, SpellsMessage, StandsInFront, IsSpelled}
 use Rattle.dap_msg.specs.declared.fault.FaultKind.{FaultKind}
 use Rattle.dap_msg.specs.Laws.{IsReadBack}
 use Rattle.dap_msg.specs.Inner.Whole.{message_at}
@@ -254,22 +254,20 @@ open_spelling m h = (front (type_number m) None None ++ operand_bytes m, false, 
 pub closed_spelling : (m : Message) → KeepsLimits m → Fits m
 closed_spelling m h = record { bytes = canon m; spelled = canon_spells m h }
 
-take_whole : (a b : List ℕ) → take (length a) (a ++ b) ≡ a
-take_whole a b = take_at a b (length a) refl
+pub canon_stands : (m : Message) → KeepsLimits m → (after : List ℕ) → StandsInFront m (length (canon m)) (canon m ++ after)
+canon_stands m h after = record {
+  closed = true;
+  there = omega (arith, length-append (canon m) after);
+  spelled = subst (λ (x : List ℕ). SpellsMessage m x true) (sym (take_at (canon m) after (length (canon m)) refl)) (canon_spells m h);
+  open_is_all = λ t. absurd cc;
+}
 
 pub reads_back : (m : Message) → KeepsLimits m → IsReadBack m
-reads_back m h =
-    let s = canon_spells m h in (
-      s,
-      λ more other n le o.
-          let bytes = canon m ++ more in
-          let one : message_at bytes ≡ Ok (m, length (canon m)) = ok_only bytes m (length (canon m)) (record {
-            closed = true;
-            there = omega (arith, length-append (canon m) more);
-            spelled = subst (λ (x : List ℕ). SpellsMessage m x true) (sym (take_whole (canon m) more)) s;
-            open_is_all = λ t. absurd cc;
-          }) in
-          let two : message_at bytes ≡ Ok (other, n) = ok_only bytes other n (record { closed = true; there = le; spelled = o; open_is_all = λ t. absurd cc }) in
-          let both : ◌≡◌ {A = Message × ℕ} (other, n) (m, length (canon m)) = cc in
-          (ap (λ x. x.1) both, ap (λ x. x.0) both),
-    )
+reads_back m h = (
+  canon_spells m h,
+  λ more other n le o.
+      let one : message_at (canon m ++ more) ≡ Ok (m, length (canon m)) = ok_only (canon m ++ more) m (length (canon m)) (canon_stands m h more) in
+      let two : message_at (canon m ++ more) ≡ Ok (other, n) = ok_only (canon m ++ more) other n (record { closed = true; there = le; spelled = o; open_is_all = λ t. absurd cc }) in
+      let both : ◌≡◌ {A = Message × ℕ} (other, n) (m, length (canon m)) = cc in
+      (ap (λ x. x.1) both, ap (λ x. x.0) both),
+)
