@@ -1,4 +1,5 @@
 -- Blocking goes one message at a time, and loses none.
+use Rattle.std.proofs.lemmas.Grind.{flat_map-append}
 use Rattle.std.proofs.lemmas.Bool.Decides.{nat_tests}
 use Rattle.std.proofs.Common.{◌≡◌, ℕ, ◌≤◌, refl, sym, ◌∙◌, true, false, ap, append_assoc, List, [], ◌∷◌, ◌++◌, length, arith, inl, inr}
 use Rattle.std.specs.Prelude.{nat_le, if◌then◌else◌}
@@ -10,8 +11,7 @@ use Rattle.dap_msg.specs.Canon.{canon}
 use Rattle.dap_msg.specs.Blocked.{NspMessage, joined, blocked_after, Blocked, all_joined, one_more, messages_in, IsWithin, AllWithin}
 
 joined-append : (a b : List Message) → joined (a ++ b) ≡ joined a ++ joined b
-joined-append [] b = refl
-joined-append (m ∷ a) b = ap (λ l. canon m ++ l) (joined-append a b) ∙ sym (append_assoc (canon m) (joined a) (joined b))
+joined-append a b = flat_map-append canon a b
 
 pub joined-one : (a : NspMessage) (m : Message) → joined (a ++ m ∷ []) ≡ joined a ++ canon m
 joined-one a m = joined-append a (m ∷ []) ∙ ap (λ l. joined a ++ l) (append-nil (canon m))

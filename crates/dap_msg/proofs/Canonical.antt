@@ -42,8 +42,7 @@ field_spelled (Image max) v room h = record { short = h; spelled = refl }
 
 bits_below : (flags : List Bool) → bits_of flags < 2 ^ length flags
 bits_below [] = omega arith
-bits_below (true ∷ flags) = omega (arith, bits_below flags, pow-succ' 2 (length flags))
-bits_below (false ∷ flags) = omega (arith, bits_below flags, pow-succ' 2 (length flags))
+bits_below (b ∷ flags) = grind (arith, bits_below flags, pow-succ' 2 (length flags))
 
 lowest : (b : Bool) (x : ℕ) → eqb ((cond b 1 0 + 2 * x) / 2 ^ 0 % 2) 1 ≡ b
 lowest b x = grind arith
@@ -94,9 +93,8 @@ absent false k refuses e = record { spelled = refl }
 
 when : {rest : List ℕ} (test : Bool) (k : Kind) (o : Option (ValueOf k)) → test ≡ is_some o → has_room k ≡ true → FitsOption k o → SpelledPart (When test k any) o (option_bytes k o) rest
 when true k (Some v) e room h = record { spelled = (field_spelled k v room h, refl) }
-when true k None e room h = absurd cc
-when false k (Some v) e room h = absurd cc
 when false k None e room h = absent false k any refl
+when test k o e room h = absurd cc
 
 optional_field : {rest : List ℕ} (flags : List Bool) (i : ℕ) (k : Kind) (o : Option (ValueOf k)) → get_or flags i false ≡ is_some o → has_room k ≡ true → FitsOption k o → SpelledPart (optional (bits_of flags) i k) o (option_bytes k o) rest
 optional_field flags i k o e room h = when (has (bits_of flags) i) k o (bit_is flags i ∙ e) room h
@@ -118,7 +116,7 @@ apart : (n k : ℕ) → k < n → eqb n k ≡ false
 apart n k lt = grind arith
 
 other_operand : (n : ℕ) → 10 ≤ n → operand n ≡ other n
-other_operand n le = rw (apart n 1 (omega arith), apart n 2 (omega arith), apart n 3 (omega arith), apart n 4 (omega arith), apart n 5 (omega arith), apart n 6 (omega arith), apart n 7 (omega arith), apart n 8 (omega arith), apart n 9 (omega arith)) refl
+other_operand n le = grind (arith, nat_tests, le)
 
 operand_spelled : (m : Message) → FieldsFit m → Spelled (operand (type_number m)) m (operand_bytes m) []
 unfolding configuration attributes access control continuation acknowledge completion file_data status other

@@ -22,16 +22,13 @@ stands_some m n bytes h =
     let s = h.spelled.start in
     omega (arith, ap length s.joined, length-append s.front s.rest, length-take n bytes, h.there, (header_room s.head s.front s.rest s.header).fixed)
 
-pub fault_within : (bytes : List ℕ) (f : MsgFault) → AreBytes bytes → IsDecoded bytes (Err f) → f.offset ≤ length bytes
-fault_within bytes f fits h = (fault_only bytes f.kind f.offset fits h.0).0
-
 pub some_read : (bytes : List ℕ) (result : Result (LentMessage × ℕ) MsgFault) → IsDecoded bytes (seen_answer result) → IfOk result (λ x. 2 ≤ x.1)
 some_read bytes (Ok x) h = stands_some (seen x.0) x.1 bytes h
 some_read bytes (Err f) h = tt
 
 pub fault_told : (bytes : List ℕ) (result : Result (LentMessage × ℕ) MsgFault) → AreBytes bytes → IsDecoded bytes (seen_answer result) → IfErr result (λ f. f.offset ≤ length bytes)
 fault_told bytes (Ok x) fits h = tt
-fault_told bytes (Err f) fits h = fault_within bytes f fits h
+fault_told bytes (Err f) fits h = (fault_only bytes f.kind f.offset fits h.0).0
 
 same_answer : (bytes : List ℕ) (a b : Result (Message × ℕ) MsgFault) → AreBytes bytes → IsDecoded bytes a → IsDecoded bytes b → a ≡ b
 same_answer bytes a b fits h k = only bytes fits a h ∙ sym (only bytes fits b k)

@@ -58,8 +58,7 @@ open_operand n =
     (either (n == 9) _ _ (open_others status (λ _ _ _ _ _. tt)) (open_others (other n) (λ _. tt))))))))))
 
 same_extent : (o : Option ℕ) (body changed : List ℕ) (closed : Bool) → length changed ≡ length body → HasLength o body closed → HasLength o changed closed
-same_extent None body changed closed same extent = extent
-same_extent (Some n) body changed closed same extent = (same ∙ extent.0, extent.1)
+same_extent o body changed closed same extent = grind (arith, same, extent)
 
 -- A record is the last of its message. Bytes that begin as the message does up to the record, and go on for as long,
 -- begin with such a message of the record that stands there.

@@ -94,9 +94,6 @@ either : (b : Bool) (g h : Grammar Message) → (b ≡ true → Yields g ValuesF
 either true g h y z = y refl
 either false g h y z = z refl
 
-past_nine : (n : ℕ) → 0 < n → eqb n 1 ≡ false → eqb n 2 ≡ false → eqb n 3 ≡ false → eqb n 4 ≡ false → eqb n 5 ≡ false → eqb n 6 ≡ false → eqb n 7 ≡ false → eqb n 8 ≡ false → eqb n 9 ≡ false → 9 < n
-past_nine n some a b c d e f g h i = grind (arith, nat_tests, some, a, b, c, d, e, f, g, h, i)
-
 yields : (number : ℕ) → 0 < number → number ≤ 16 → Yields (operand number) ValuesFit 0
 unfolding configuration attributes access control continuation acknowledge completion file_data status other
 yields number some le =
@@ -109,18 +106,12 @@ yields number some le =
     either (number == 7) _ _ (λ _ _ _ a _ _ b _ _ c _ _ _. ((a.0, b (lit< tt), c), tt)) (λ n7.
     either (number == 8) _ _ (λ _ recnum m a payload n b. (a.0, omega (arith, a.1, b))) (λ n8.
     either (number == 9) _ _ (λ _ _ _ a _ _ b _ _ c _ _ d _ _ _. ((a.0, b (lit≤ tt), c (lit≤ tt), d (lit≤ tt)), tt)) (λ n9 body len a.
-    ((past_nine number some n1 n2 n3 n4 n5 n6 n7 n8 n9, le), omega (arith, a)))))))))))
+    ((grind (arith, nat_tests, some, n1, n2, n3, n4, n5, n6, n7, n8, n9), le), omega (arith, a)))))))))))
 
 -- ---- Headers.
 
-accepted : (b : Bool) → (if b then None else Some UnknownType) ≡ None → b ≡ true
-accepted true e = refl
-accepted false e = absurd cc
-
 known_type : (n : ℕ) → refuses_type n ≡ None → (0 < n) × (n ≤ 16)
-known_type n e =
-    let t : (nat_lt 0 n && nat_le n greatest_type) ≡ true = accepted (nat_lt 0 n && nat_le n greatest_type) e in
-    grind (arith, nat_tests, t)
+known_type n e = grind (arith, nat_tests, e)
 
 pub record HeaderFits (h : Header) : Type 0 where
   pub some : 0 < h.number
@@ -141,13 +132,10 @@ header_fits h front rest (number, f1, b1, j1, p1, (flags, f2, b2, j2, p2, (strea
     }
 
 length_below : (low high : Option ℕ) (n : ℕ) → FitsOption Byte low → FitsOption Byte high → length_of low high ≡ Some n → n < 2 ^ 16
-length_below None high n l h e = absurd cc
-length_below (Some v) None n l h e = let p : v ≡ n = cc in omega (arith, l, p)
-length_below (Some v) (Some w) n l h e = let p : v + 256 * w ≡ n = cc in omega (arith, l, h, p)
+length_below low high n l h e = grind (arith, l, h, e)
 
 short_body : (o : Option ℕ) (body : List ℕ) → ((n : ℕ) → o ≡ Some n → n < 2 ^ 16) → HasLength o body true → length body < 2 ^ 16
-short_body None body f h = absurd cc
-short_body (Some n) body f h = omega (arith, h.0, f n refl)
+short_body o body f h = grind (arith, f, h)
 
 -- ---- Messages.
 

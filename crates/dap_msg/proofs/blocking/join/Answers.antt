@@ -9,9 +9,6 @@ use Rattle.dap_msg.proofs.Extents.{message_some}
 use Rattle.dap_msg.proofs.Values.{limits}
 use Rattle.dap_msg.proofs.blocking.join.Goals as goal
 
-some_left : (v : Vec (Vec ℕ)) (b : Bool) → b ≡ (vec_len v == 0) → b ≡ false → 0 < vec_len v
-some_left v b is full = grind (arith, nat_tests, is, full)
-
 pub encode_within-requires : goal.encode_within-requires
 encode_within-requires c = limits (seen c.args.message.now) c.requires
 
@@ -21,7 +18,7 @@ returns-then-is_empty-clause-room c =
 
 pub returns : goal.returns
 returns c =
-    let last : length c.args.list.now.items ≡ suc (c.len-at.result - 1) = omega (arith, c.len-at.ensures, c.args.list.now.ok.0, some_left c.args.list.now c.is_empty.result c.is_empty.ensures c.if-is_empty.false) in
+    let last : length c.args.list.now.items ≡ suc (c.len-at.result - 1) = grind (arith, nat_tests, c.len-at.ensures, c.args.list.now.ok.0, c.is_empty.ensures, c.if-is_empty.false) in
     let most = c.saturating_sub-most.ensures ∙ ap (λ k. c.args.limit - k) c.len.ensures in
     let h = joined_within c.args.limit c.args.list.now (with_item c.args.list.now (c.len-at.result - 1) c.encode_within.new.out) (c.len-at.result - 1) c.index_mut-last.result.now c.encode_within.new.out
     (canon (seen c.args.message.now)) c.saturating_sub-most.result c.encode_within.result refl last c.index_mut-last.ensures.value most (message_some (seen c.args.message.now)) c.encode_within.ensures.appends in

@@ -14,9 +14,7 @@ pub bounds-fields-at : goal.bounds-fields-at
 bounds-fields-at c = omega (arith, c.fields.invariant.0, c.fields-test.true)
 
 pub overflow_mul-bits : goal.overflow_mul-bits
-overflow_mul-bits c =
-    let small = half_fits c.fields.bits (length c.args.fields.now - c.fields.at) (omega (arith, c.requires, c.fields-test.true)) c.fields.invariant.2 in
-    omega (arith, small)
+overflow_mul-bits c = omega (arith, half_fits c.fields.bits (length c.args.fields.now - c.fields.at) (omega (arith, c.requires, c.fields-test.true)) c.fields.invariant.2)
 
 pub overflow_add-bits : goal.overflow_add-bits
 overflow_add-bits c =
