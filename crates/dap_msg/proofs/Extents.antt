@@ -1,8 +1,7 @@
 -- How long the spellings are that are written.
 use Rattle.std.proofs.lemmas.Bool.Decides.{nat_tests}
-use Rattle.std.proofs.Common.{◌≡◌, ℕ, ◌+◌, ◌^◌, ◌<◌, ◌≤◌, List, [], ◌∷◌, ◌++◌, length, refl, arith, lit≤, lit<, inl, inr}
+use Rattle.std.proofs.Common.{◌≡◌, ℕ, ◌+◌, ◌^◌, ◌<◌, ◌≤◌, List, [], ◌∷◌, ◌++◌, length, refl, arith, lit≤, lit<}
 use Rattle.dap_fields.specs.Spelling.{little_bytes}
-use Rattle.std.proofs.lemmas.Bool.{cases_lt, lt-ltb, le-ltb}
 use Rattle.std.proofs.lemmas.List.{length-append}
 use Rattle.dap_fields.specs.Writing.{groups}
 use Rattle.dap_msg.specs.Message.{Message, StatusFields, Ack, Filedata, Status}

@@ -1,5 +1,5 @@
 -- A record's bytes may be any others: what stands before them says nothing of them but how many they are.
-use Rattle.std.proofs.Common.{◌≡◌, ◌==◌, if◌then◌else◌, ℕ, ◌+◌, Bool, true, false, List, [], ◌++◌, length, take, drop, Option, Some, None, refl, sym, ap, subst, ◌∙◌, append_assoc, arith}
+use Rattle.std.proofs.Common.{◌≡◌, ◌==◌, if◌then◌else◌, ℕ, ◌+◌, Bool, true, false, List, [], ◌++◌, length, take, drop, Option, refl, sym, ap, subst, ◌∙◌, append_assoc, arith}
 use Rattle.std.proofs.lemmas.List.{append-nil, length-append, length-take-le, length-drop, take_at, take-append-drop, take-take}
 use Rattle.dap_msg.specs.Decoding.{HasLength, StandsInFront}
 use Rattle.dap_msg.specs.Formats.{operand, configuration, attributes, access, control, continuation, acknowledge, completion, file_data, status, other}

@@ -1,12 +1,11 @@
 -- How long the operand of a message is whose values fit.
 use Rattle.std.proofs.lemmas.Bool.Decides.{nat_tests}
-use Rattle.std.proofs.Common.{ℕ, zero, suc, ◌+◌, ◌*◌, ◌/◌, ◌^◌, ◌<◌, ◌≤◌, List, [], ◌∷◌, length, length-append, arith, rules, lit≤, lit<, inl, inr, Option, Some, None}
+use Rattle.std.proofs.Common.{ℕ, zero, suc, ◌+◌, ◌*◌, ◌/◌, ◌^◌, ◌<◌, ◌≤◌, List, [], ◌∷◌, length, length-append, arith, rules, lit≤, Option, Some, None}
 use Rattle.std.specs.List.{concat}
-use Rattle.std.proofs.lemmas.Bool.{cases_lt, lt-ltb, le-ltb}
 use Rattle.dap_fields.specs.Writing.{groups}
 use Rattle.dap_msg.specs.Grammar.{Kind, Byte, Word, Extensible, Image, ValueOf}
-use Rattle.dap_msg.specs.Message.{Completion, Message, Config, Attrib, Access, Control, Contran, Ack, Accomp, Filedata, Status, Other}
-use Rattle.dap_msg.specs.Canon.{field_bytes, option_bytes, operand_fields, operand_bytes, attribute_bits, control_bits}
+use Rattle.dap_msg.specs.Message.{Message, Config, Attrib, Access, Control, Contran, Ack, Accomp, Filedata, Status, Other}
+use Rattle.dap_msg.specs.Canon.{field_bytes, option_bytes, operand_fields, operand_bytes}
 use Rattle.dap_msg.specs.Inner.Fitting.{FitsField, FitsOption, FieldsFit}
 
 groups_short : (n v : ℕ) → length (groups n v) ≤ n

@@ -1,15 +1,13 @@
 -- What a format says of each of its values holds of what it spells. So a message with a closed spelling fits.
-use Rattle.std.proofs.Common.{◌≡◌, ℕ, ◌+◌, ◌*◌, ◌^◌, ◌<◌, ◌≤◌, ◌==◌, ◌&&◌, List, [], ◌∷◌, ◌++◌, length, take, true, false, Bool, eqb, refl, sym, ap, subst, arith, inl, inr, lit≤, lit<, length-append}
-use Rattle.std.specs.Prelude.{Option, Some, None, Result, Ok, Err, IfOk, ◌↔◌, if◌then◌else◌, nat_lt, nat_le}
+use Rattle.std.proofs.Common.{◌≡◌, ℕ, ◌+◌, ◌^◌, ◌<◌, ◌≤◌, ◌==◌, List, [], ◌∷◌, ◌++◌, length, take, true, false, Bool, refl, sym, ap, subst, arith, inl, inr, lit≤, lit<, length-append}
+use Rattle.std.specs.Prelude.{Option, Some, None, Result, Ok, Err, IfOk, ◌↔◌, if◌then◌else◌}
 use Rattle.std.proofs.Math.Nat.{pow-succ', pow-le-pow_right}
 use Rattle.std.proofs.lemmas.Bool.Decides.{nat_tests}
 use Rattle.dap_fields.specs.Spelling.{groups_value, AreGroups, ExValue}
-use Rattle.dap_msg.specs.declared.fault.FaultKind.TheVariants.{UnknownType}
 use Rattle.dap_msg.specs.declared.fault.MsgFault.{MsgFault}
 use Rattle.dap_msg.specs.declared.message.Message.{Message as LentMessage}
-use Rattle.dap_msg.specs.Codes.{greatest_type}
 use Rattle.dap_msg.specs.Grammar.{Kind, Byte, Word, Extensible, Image, ValueOf, SpellsField, Part, Must, When, OrElse, UnlessEnd, Remainder, PartValue, SpellsPart, Grammar, Done, Next, Spells}
-use Rattle.dap_msg.specs.Message.{Header, Message, Config, Attrib, Access, Control, Contran, Ack, Accomp, Filedata, Status, Other, seen, length_of}
+use Rattle.dap_msg.specs.Message.{Header, Message, Filedata, Other, seen, length_of}
 use Rattle.dap_msg.specs.Formats.{refuses_type, header, configuration, attributes, access, control, continuation, acknowledge, completion, file_data, status, other, operand}
 use Rattle.dap_msg.specs.Decoding.{HasLength, IsDecoded, IsSpelled}
 use Rattle.dap_msg.specs.Answer.{seen_answer}

@@ -1,7 +1,6 @@
-use Rattle.std.proofs.Common.{◌≡◌, ◌∙◌, ◌-◌, ◌≤◌, ◌<◌, ◌==◌, ℕ, suc, Bool, false, length, arith, refl, ap}
+use Rattle.std.proofs.Common.{◌≡◌, ◌∙◌, ◌-◌, ◌≤◌, suc, length, arith, refl, ap}
 use Rattle.std.proofs.lemmas.Bool.Decides.{nat_tests}
-use Rattle.std.specs.Global.{Vec}
-use Rattle.std.specs.Vec.{vec_len, with_item}
+use Rattle.std.specs.Vec.{with_item}
 use Rattle.dap_msg.specs.Message.{seen}
 use Rattle.dap_msg.specs.Canon.{canon}
 use Rattle.dap_msg.proofs.Blocks.{joined_within, none_there}

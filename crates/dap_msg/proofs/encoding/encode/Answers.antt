@@ -1,4 +1,4 @@
-use Rattle.std.proofs.Common.{◌≡◌, ◌≤◌, ◌++◌, ℕ, true, false, List, length, Ok, arith}
+use Rattle.std.proofs.Common.{◌≡◌, ◌≤◌, ◌++◌, ℕ, List, length, Ok, arith}
 use Rattle.std.specs.Global.{Vec}
 use Rattle.dap_msg.specs.Canon.{canon}
 use Rattle.dap_msg.specs.Inner.Fields.{AppendsWithin}

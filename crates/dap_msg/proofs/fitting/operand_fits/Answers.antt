@@ -1,9 +1,7 @@
-use Rattle.std.proofs.Common.{rules, ◌<◌, ◌^◌, length, arith, ◌≡◌, ℕ, refl, List, Bor}
+use Rattle.std.proofs.Common.{rules, arith, ◌≡◌, ℕ, List, Bor}
 use Rattle.dap_msg.specs.declared.message.Message.{Message}
-use Rattle.dap_msg.specs.declared.message.Message.TheVariants.{Config, Attrib, Access, Control, Contran, Ack, Accomp, Filedata, Status, Other}
+use Rattle.dap_msg.specs.declared.message.Message.TheVariants.{Filedata, Other}
 use Rattle.dap_msg.specs.Message.{seen}
-use Rattle.dap_msg.specs.Canon.{operand_bytes}
-use Rattle.dap_msg.specs.Inner.Fitting.{FieldsFit}
 use Rattle.dap_msg.proofs.Sizes.{IsPlainMessage, plain_short}
 use Rattle.dap_msg.proofs.fitting.operand_fits.Goals as goal
 
