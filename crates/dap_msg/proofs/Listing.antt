@@ -33,17 +33,17 @@ fault_told bytes (Err f) fits h = (fault_only bytes f.kind f.offset fits h.0).0
 same_answer : (bytes : List ℕ) (a b : Result (Message × ℕ) MsgFault) → AreBytes bytes → IsDecoded bytes a → IsDecoded bytes b → a ≡ b
 same_answer bytes a b fits h k = only bytes fits a h ∙ sym (only bytes fits b k)
 
+abbrev fault_of : FaultKind → ℕ → ℕ → MsgFault
+fault_of kind message_type offset = record { kind = kind; message_type = message_type; offset = offset }
+
 abbrev told_fault : FaultKind → ℕ → ℕ → Result (Message × ℕ) MsgFault
-told_fault kind message_type offset = Err (record { kind = kind; message_type = message_type; offset = offset })
+told_fault kind message_type offset = Err (fault_of kind message_type offset)
 
 abbrev told_message : Message → ℕ → Result (Message × ℕ) MsgFault
 told_message m n = Ok (m, n)
 
 same_message : (m k : Message) (n l : ℕ) → told_message m n ≡ told_message k l → (m ≡ k) × (n ≡ l)
 same_message m k n l e = let p : ◌≡◌ {A = Message × ℕ} (m, n) (k, l) = cc in (ap (λ (x : Message × ℕ). x.0) p, ap (λ (x : Message × ℕ). x.1) p)
-
-abbrev fault_of : FaultKind → ℕ → ℕ → MsgFault
-fault_of kind message_type offset = record { kind = kind; message_type = message_type; offset = offset }
 
 moved : (f g : MsgFault) (at i j : ℕ) → f.offset ≡ at + i → g.offset ≡ at + j
     → told_fault f.kind f.message_type i ≡ told_fault g.kind g.message_type j → f ≡ g

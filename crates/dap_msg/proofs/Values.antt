@@ -9,7 +9,7 @@ use Rattle.dap_msg.specs.declared.message.Message.{Message as LentMessage}
 use Rattle.dap_msg.specs.Grammar.{Kind, Byte, Word, Extensible, Image, ValueOf, SpellsField, Part, Must, When, OrElse, UnlessEnd, Remainder, PartValue, SpellsPart, Grammar, Done, Next, Spells}
 use Rattle.dap_msg.specs.Message.{Header, Message, Filedata, Other, seen, length_of}
 use Rattle.dap_msg.specs.Formats.{refuses_type, header, configuration, attributes, access, control, continuation, acknowledge, completion, file_data, status, other, operand}
-use Rattle.dap_msg.specs.Decoding.{HasLength, IsDecoded, IsSpelled}
+use Rattle.dap_msg.specs.Decoding.{HasLength, SpellsMessage, IsDecoded, IsSpelled}
 use Rattle.dap_msg.specs.Answer.{seen_answer}
 use Rattle.dap_msg.specs.Canon.{Fits, operand_bytes}
 use Rattle.dap_msg.specs.Inner.Fitting.{FitsField, FitsOption, FieldsFit, KeepsLimits}
@@ -121,31 +121,24 @@ header_fits : (h : Header) (front rest : List ℕ) → Spells header h front res
 unfolding header
 header_fits h front rest (number, f1, b1, j1, p1, (flags, f2, b2, j2, p2, (stream, f3, b3, j3, p3, (low, f4, b4, j4, p4, (high, f5, b5, j5, p5, (done, end)))))) =
     let k = known_type number p1.1 in
-    let n : number ≡ h.number = sym (ap (λ x. x.number) done) in
-    record {
-      some = omega (arith, n, k.0);
-      known = omega (arith, n, k.1);
-      low = subst (FitsOption Byte) (sym (ap (λ x. x.low) done)) (part_fits (When _ Byte _) low f4 _ p4);
-      high = subst (FitsOption Byte) (sym (ap (λ x. x.high) done)) (part_fits (When _ Byte _) high f5 _ p5);
-    }
+    subst HeaderFits (sym done) (record { some = k.0; known = k.1; low = part_fits (When _ Byte _) low f4 _ p4; high = part_fits (When _ Byte _) high f5 _ p5 })
 
-length_below : (low high : Option ℕ) (n : ℕ) → FitsOption Byte low → FitsOption Byte high → length_of low high ≡ Some n → n < 2 ^ 16
-length_below low high n l h e = grind (arith, l, h, e)
-
-short_body : (o : Option ℕ) (body : List ℕ) → ((n : ℕ) → o ≡ Some n → n < 2 ^ 16) → HasLength o body true → length body < 2 ^ 16
-short_body o body f h = grind (arith, f, h)
+short_body : (low high : Option ℕ) (body : List ℕ) → FitsOption Byte low → FitsOption Byte high → HasLength (length_of low high) body true → length body < 2 ^ 16
+short_body low high body l h e = grind (arith, l, h, e)
 
 -- ---- Messages.
 
 operand_short : (m : Message) (n : ℕ) → FieldsFit m → IsCarried m n → n < 2 ^ 16 → length (operand_bytes m) < 2 ^ 16
 operand_short m n f c lt = grind (arith, plain_short, file_data_operand, length-append, f, c)
 
+values : (m : Message) (bytes : List ℕ) (closed : Bool) (o : SpellsMessage m bytes closed) → HeaderFits o.start.head × ValuesFit m (0 + length o.start.rest)
+values m bytes closed o =
+    let h = header_fits o.start.head o.start.front o.start.rest o.start.header in
+    (h, holds (operand o.start.head.number) ValuesFit m o.start.rest [] 0 (yields o.start.head.number h.some h.known) o.operand)
+
 -- the fields of a message that bytes spell fit
 pub fields_fit : (m : Message) → IsSpelled m → FieldsFit m
-fields_fit m (bytes, closed, o) =
-    let s = o.start in
-    let h = header_fits s.head s.front s.rest s.header in
-    (holds (operand s.head.number) ValuesFit m s.rest [] 0 (yields s.head.number h.some h.known) o.operand).0
+fields_fit m (bytes, closed, o) = (values m bytes closed o).1.0
 
 -- some bytes are the message exactly where its values fit their fields
 pub spelled_fields : (m : Message) → IsSpelled m ↔ FieldsFit m
@@ -154,12 +147,10 @@ spelled_fields m = (fields_fit m, open_spelling m)
 -- a message with a closed spelling keeps the limits
 pub limits : (m : Message) → Fits m → KeepsLimits m
 limits m f =
-    let o = f.spelled in
-    let s = o.start in
-    let h = header_fits s.head s.front s.rest s.header in
-    let v = holds (operand s.head.number) ValuesFit m s.rest [] 0 (yields s.head.number h.some h.known) o.operand in
-    let short = short_body (length_of s.head.low s.head.high) s.rest (λ n e. length_below s.head.low s.head.high n h.low h.high e) o.extent in
-    record { fields = v.0; length = operand_short m (0 + length s.rest) v.0 v.1 (omega (arith, short)) }
+    let v = values m f.bytes true f.spelled in
+    let s = f.spelled.start in
+    let short = short_body s.head.low s.head.high s.rest v.0.low v.0.high f.spelled.extent in
+    record { fields = v.1.0; length = operand_short m (0 + length s.rest) v.1.0 v.1.1 (omega (arith, short)) }
 
 -- a message that was read is one that some bytes are
 pub read_spelled : (bytes : List ℕ) (result : Result (LentMessage × ℕ) MsgFault) → IsDecoded bytes (seen_answer result) → IfOk result (λ x. IsSpelled (seen x.0))
