@@ -1,8 +1,5 @@
-use Rattle.std.proofs.Common.{◌≡◌, ◌-◌, ◌≤◌, length, sym, ap, arith}
+use Rattle.std.proofs.Common.{◌-◌, length, arith}
 use Rattle.std.proofs.lemmas.List.{drop_all}
-use Rattle.std.specs.Prelude.{map}
-use Rattle.dap_msg.specs.Canon.{bits_of}
-use Rattle.dap_msg.specs.Inner.Fields.{is_there}
 use Rattle.dap_msg.specs.declared.encoding.Field.TheVariants.{Absent}
 use Rattle.dap_msg.proofs.Menus.{half_fits, none_yet, one_more, next_flag, flag_small}
 use Rattle.dap_msg.proofs.encoding.menu_bits.Goals as goal
