@@ -57,12 +57,15 @@ bit_is (b ∷ flags) (suc i) = ap (λ v. eqb v 1) (bit_at-suc (cond b 1 0 + 2 * 
 
 -- ---- Parts, and formats of them.
 
+-- the bytes are the part with the value v, where the rest follows
 record SpelledPart (p : Part) (v : PartValue p) (bytes rest : List ℕ) : Type 0 where
   spelled : SpellsPart p v bytes rest
 
+-- the bytes are the format with the value x, where the rest follows
 record Spelled {A : Type 0} (g : Grammar A) (x : A) (bytes rest : List ℕ) : Type 0 where
   spelled : Spells g x bytes rest
 
+-- a part, and the format behind it
 infixr 5 ◌▷◌
 ◌▷◌ : {A : Type 0} {p : Part} {v : PartValue p} {g : PartValue p → Grammar A} {x : A} {front back rest : List ℕ}
     → SpelledPart p v front (back ++ rest) → Spelled (g v) x back rest → Spelled (Next p g) x (front ++ back) rest
@@ -111,9 +114,6 @@ attribute_flags a = is_some a.datatype ∷ is_some a.org ∷ is_some a.rfm ∷ i
 
 abbrev control_flags : ControlFields → List Bool
 control_flags c = is_some c.rac ∷ is_some c.key ∷ is_some c.krf ∷ is_some c.rop ∷ is_some c.hsh ∷ is_some c.display ∷ []
-
-apart : (n k : ℕ) → k < n → eqb n k ≡ false
-apart n k lt = grind arith
 
 other_operand : (n : ℕ) → 10 ≤ n → operand n ≡ other n
 other_operand n le = grind (arith, nat_tests, le)
