@@ -1,27 +1,22 @@
 -- Blocking goes one message at a time, and loses none.
-use Rattle.std.proofs.Common.{◌≡◌, ℕ, ◌≤◌, refl, sym, ◌∙◌, true, false, ap, append_assoc, List, [], ◌∷◌, ◌++◌, length, inl, inr}
-use Rattle.std.specs.Prelude.{nat_le, if◌then◌else◌}
+use Rattle.std.proofs.Common.{◌≡◌, ℕ, ◌≤◌, refl, sym, ◌∙◌, ap, append_assoc, List, [], ◌∷◌, ◌++◌, length, arith}
+use Rattle.std.proofs.lemmas.Grind.{flat_map-append}
+use Rattle.std.proofs.lemmas.Bool.Decides.{nat_tests}
 use Rattle.std.specs.List.{concat}
-use Rattle.std.proofs.lemmas.Bool.{cases_lt, lt-leb, le-leb}
 use Rattle.std.proofs.lemmas.List.{append-nil}
 use Rattle.dap_msg.specs.Message.{Message}
 use Rattle.dap_msg.specs.Canon.{canon}
 use Rattle.dap_msg.specs.Blocked.{NspMessage, joined, blocked_after, Blocked, all_joined, one_more, messages_in, IsWithin, AllWithin}
 
 joined-append : (a b : List Message) → joined (a ++ b) ≡ joined a ++ joined b
-joined-append [] b = refl
-joined-append (m ∷ a) b = ap (λ l. canon m ++ l) (joined-append a b) ∙ sym (append_assoc (canon m) (joined a) (joined b))
+joined-append a b = flat_map-append canon a b
 
 pub joined-one : (a : NspMessage) (m : Message) → joined (a ++ m ∷ []) ≡ joined a ++ canon m
 joined-one a m = joined-append a (m ∷ []) ∙ ap (λ l. joined a ++ l) (append-nil (canon m))
 
 messages_in-after : (limit : ℕ) (last : NspMessage) (messages : List Message) → messages_in (blocked_after limit last messages) ≡ last ++ messages
 messages_in-after limit last [] = refl
-messages_in-after limit last (m ∷ messages) =
-    elim (nat_le (length (joined (last ++ m ∷ []))) limit) as (λ b. messages_in (if b then blocked_after limit (last ++ m ∷ []) messages else last ∷ blocked_after limit (m ∷ []) messages) ≡ last ++ m ∷ messages) [
-      | true ↦ messages_in-after limit (last ++ m ∷ []) messages ∙ append_assoc last (m ∷ []) messages
-      | false ↦ ap (λ l. last ++ l) (messages_in-after limit (m ∷ []) messages)
-    ]
+messages_in-after limit last (m ∷ messages) = grind (arith, append_assoc, messages_in-after limit (last ++ m ∷ []) messages, messages_in-after limit (m ∷ []) messages)
 
 pub messages_in-Blocked : (limit : ℕ) (messages : List Message) → messages_in (Blocked limit messages) ≡ messages
 messages_in-Blocked limit [] = refl
@@ -32,33 +27,15 @@ past-first : (limit : ℕ) (first : List ℕ) (last : NspMessage) (messages : Li
     → one_more limit (first ∷ all_joined (blocked_after limit last messages)) m ≡ first ∷ one_more limit (all_joined (blocked_after limit last messages)) m
 unfolding one_more
 past-first limit first last [] m = refl
-past-first limit first last (n ∷ messages) m =
-    elim (nat_le (length (joined (last ++ n ∷ []))) limit) as (λ b.
-    one_more limit (first ∷ all_joined (if b then blocked_after limit (last ++ n ∷ []) messages else last ∷ blocked_after limit (n ∷ []) messages)) m
-    ≡ first ∷ one_more limit (all_joined (if b then blocked_after limit (last ++ n ∷ []) messages else last ∷ blocked_after limit (n ∷ []) messages)) m) [
-      | true ↦ past-first limit first (last ++ n ∷ []) messages m
-      | false ↦ refl
-    ]
+past-first limit first last (n ∷ messages) m = grind (arith, past-first limit first (last ++ n ∷ []) messages m)
 
 last-more : (limit : ℕ) (last : NspMessage) (m : Message) → all_joined (blocked_after limit last (m ∷ [])) ≡ one_more limit (joined last ∷ []) (canon m)
 unfolding one_more
-last-more limit last m =
-    rw (joined-one last m) (
-    elim (nat_le (length (joined last ++ canon m)) limit) as (λ b.
-    all_joined (if b then (last ++ m ∷ []) ∷ [] else last ∷ (m ∷ []) ∷ []) ≡ (if b then (joined last ++ canon m) ∷ [] else joined last ∷ canon m ∷ [])) [
-      | true ↦ ap (λ l. l ∷ []) (joined-one last m)
-      | false ↦ ap (λ l. joined last ∷ l ∷ []) (append-nil (canon m))
-    ])
+last-more limit last m = grind (arith, joined-one last m, append-nil)
 
 blocked_after-more : (limit : ℕ) (last : NspMessage) (messages : List Message) (m : Message) → all_joined (blocked_after limit last (messages ++ m ∷ [])) ≡ one_more limit (all_joined (blocked_after limit last messages)) (canon m)
 blocked_after-more limit last [] m = last-more limit last m
-blocked_after-more limit last (n ∷ messages) m =
-    elim (nat_le (length (joined (last ++ n ∷ []))) limit) as (λ b.
-    all_joined (if b then blocked_after limit (last ++ n ∷ []) (messages ++ m ∷ []) else last ∷ blocked_after limit (n ∷ []) (messages ++ m ∷ []))
-    ≡ one_more limit (all_joined (if b then blocked_after limit (last ++ n ∷ []) messages else last ∷ blocked_after limit (n ∷ []) messages)) (canon m)) [
-      | true ↦ blocked_after-more limit (last ++ n ∷ []) messages m
-      | false ↦ ap (λ l. joined last ∷ l) (blocked_after-more limit (n ∷ []) messages m) ∙ sym (past-first limit (joined last) (n ∷ []) messages (canon m))
-    ]
+blocked_after-more limit last (n ∷ messages) m = grind (arith, blocked_after-more limit (last ++ n ∷ []) messages m, blocked_after-more limit (n ∷ []) messages m, past-first limit (joined last) (n ∷ []) messages (canon m))
 
 pub Blocked-more : (limit : ℕ) (messages : List Message) (m : Message) → all_joined (Blocked limit (messages ++ m ∷ [])) ≡ one_more limit (all_joined (Blocked limit messages)) (canon m)
 unfolding one_more
@@ -78,11 +55,7 @@ one_joined limit (a ∷ b ∷ last) m le = le
 
 within_after : (limit : ℕ) (last : NspMessage) (messages : List Message) → IsWithin limit last → AllWithin limit (blocked_after limit last messages)
 within_after limit last [] h = (h, tt)
-within_after limit last (m ∷ messages) h =
-    elim (cases_lt limit (length (joined (last ++ m ∷ [])))) [
-      | inl lt ↦ rw (lt-leb (length (joined (last ++ m ∷ []))) limit lt) (h, within_after limit (m ∷ []) messages tt)
-      | inr le ↦ rw (le-leb (length (joined (last ++ m ∷ []))) limit le) (within_after limit (last ++ m ∷ []) messages (one_joined limit last m le))
-    ]
+within_after limit last (m ∷ messages) h = grind (arith, nat_tests, h, within_after limit (m ∷ []) messages tt, one_joined limit last m, within_after limit (last ++ m ∷ []) messages)
 
 pub within_limit : (limit : ℕ) (messages : List Message) → AllWithin limit (Blocked limit messages)
 within_limit limit [] = tt

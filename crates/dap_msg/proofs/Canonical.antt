@@ -1,679 +1,271 @@
 -- The written spelling is a spelling.
-use Rattle.std.proofs.Common.{◌≡◌, ℕ, zero, suc, ◌+◌, ◌*◌, ◌/◌, ◌%◌, ◌^◌, ◌<◌, ◌≤◌, Bool, true, false, cond, eqb, List, [], ◌∷◌, ◌++◌, length, get_or, take, Option, Some, None, Result, Ok, refl, sym, ap, subst, ◌∙◌, lit≤, arith, inl, inr}
-use Rattle.std.specs.Prelude.{is_some}
+use Rattle.std.proofs.Common.{◌≡◌, ℕ, zero, suc, ◌+◌, ◌*◌, ◌/◌, ◌%◌, ◌^◌, ◌<◌, ◌≤◌, Bool, true, false, cond, eqb, List, [], ◌∷◌, ◌++◌, length, get_or, Option, Some, None, Ok, refl, sym, ap, subst, ◌∙◌, lit≤, arith, inl, inr}
+use Rattle.std.specs.Prelude.{is_some, not, nat_lt, nat_le, ◌&&◌, ◌||◌}
+use Rattle.std.proofs.lemmas.Bool.Decides.{nat_tests}
 use Rattle.std.proofs.lemmas.Bool.{cases_lt, lt-ltb, le-ltb, le-leb}
 use Rattle.std.proofs.lemmas.List.{length-append, take_at}
 use Rattle.std.proofs.lemmas.Nat.Bits.{bit_at-suc, bit_at-zero}
 use Rattle.std.proofs.Math.Nat.{pow-succ'}
 use Rattle.dap_fields.specs.Spelling.{FixedValue}
-use Rattle.dap_fields.specs.Writing.{shortest}
+use Rattle.dap_fields.specs.Writing.{groups, shortest}
 use Rattle.dap_fields.proofs.ForCallers.{groups_spell}
-use Rattle.dap_msg.specs.Grammar.{Kind, Byte, Word, Extensible, Image, ValueOf, SpellsField, When, OrElse, UnlessEnd, SpellsPart, Spells}
-use Rattle.dap_msg.specs.Message.{Configuration, Attributes, AccessFields, ControlFields, Completion, StatusFields, Message, Config, Attrib, Access, Control, Contran, Ack, Accomp, Filedata, Status, Other}
-use Rattle.dap_msg.specs.Formats.{any, has, refuses_bits, header, operand, configuration, attributes, access, control, continuation, acknowledge, completion, file_data, status, other}
-use Rattle.dap_msg.specs.Decoding.{SpellsMessage}
-use Rattle.dap_msg.specs.declared.fault.Fault.{Fault}
+use Rattle.dap_msg.specs.Grammar.{Kind, Byte, Word, Extensible, Image, ValueOf, SpellsField, Part, Must, When, OrElse, UnlessEnd, Remainder, PartValue, SpellsPart, Grammar, Next, Done, Spells}
+use Rattle.dap_msg.specs.Message.{Attributes, ControlFields, Message, Config, Attrib, Access, Control, Contran, Ack, Accomp, Filedata, Status, Other, length_of}
+use Rattle.dap_msg.specs.Formats.{any, has, menu, optional, refuses_type, refuses_flags, refuses_stream, header, operand, configuration, attributes, access, control, continuation, acknowledge, completion, file_data, status, other}
+use Rattle.dap_msg.specs.Decoding.{HasLength, SpellsMessage, StandsInFront, IsSpelled}
+use Rattle.dap_msg.specs.declared.fault.FaultKind.{FaultKind}
 use Rattle.dap_msg.specs.Laws.{IsReadBack}
 use Rattle.dap_msg.specs.Inner.Whole.{message_at}
 use Rattle.dap_msg.proofs.Messages.{ok_only}
-use Rattle.dap_msg.specs.Canon.{field_bytes, option_bytes, bits_of, attribute_bits, control_bits, type_number, header_bytes, operand_bytes, canon, Fits}
+use Rattle.dap_msg.specs.Canon.{field_bytes, option_bytes, bits_of, type_number, operand_bytes, canon, Fits}
 use Rattle.dap_msg.specs.Inner.Fitting.{FitsField, FitsOption, FieldsFit, KeepsLimits}
 
 -- ---- Fields.
 
 -- the kinds that have a written spelling of every value
-abbrev pub FitsKind : Kind → Type 0
-FitsKind Byte = Unit {0}
-FitsKind Word = Unit {0}
-FitsKind (Extensible max) = (0 < max) × (max ≤ 12)
-FitsKind (Image max) = Unit {0}
+abbrev has_room : Kind → Bool
+has_room (Extensible max) = nat_lt 0 max && nat_le max 12
+has_room k = true
 
 byte_spelled : (n : ℕ) → n < 256 → FixedValue 1 n (n ∷ [])
-byte_spelled n lt = record { fits = lt; spelled = (let e : n ≡ n % 256 = omega arith in ap (λ x. x ∷ []) e) }
+byte_spelled n lt = record { fits = lt; spelled = grind arith }
 
-pub field_spelled : (k : Kind) (v : ValueOf k) → FitsKind k → FitsField k v → SpellsField k v (field_bytes k v)
-field_spelled Byte v fits h = byte_spelled v h
-field_spelled Word v fits h = record { fits = h; spelled = refl }
-field_spelled (Extensible max) v fits h = groups_spell max 12 v h fits.1 fits.0
-field_spelled (Image max) v fits h = record { short = h; spelled = refl }
-
-when_spelled : (test : Bool) (k : Kind) (o : Option (ValueOf k)) (rest : List ℕ) → test ≡ is_some o → FitsKind k → FitsOption k o → SpellsPart (When test k any) o (option_bytes k o) rest
-when_spelled true k (Some v) rest e fits h = (field_spelled k v fits h, refl)
-when_spelled true k None rest e fits h = absurd cc
-when_spelled false k (Some v) rest e fits h = absurd cc
-when_spelled false k None rest e fits h = refl
-
-unless_spelled : (k : Kind) (o : Option (ValueOf k)) (rest : List ℕ) → rest ≡ [] → FitsKind k → FitsOption k o → SpellsPart (UnlessEnd k any) o (option_bytes k o) rest
-unless_spelled k (Some v) rest e fits h = (field_spelled k v fits h, refl)
-unless_spelled k None rest e fits h = (refl, e)
+field_spelled : (k : Kind) (v : ValueOf k) → has_room k ≡ true → FitsField k v → SpellsField k v (field_bytes k v)
+field_spelled Byte v room h = byte_spelled v h
+field_spelled Word v room h = record { fits = h; spelled = refl }
+field_spelled (Extensible max) v room h =
+    let some : (0 < max) × (max ≤ 12) = grind (arith, nat_tests, room) in
+    groups_spell max 12 v h some.1 some.0
+field_spelled (Image max) v room h = record { short = h; spelled = refl }
 
 -- ---- Menus.
 
 bits_below : (flags : List Bool) → bits_of flags < 2 ^ length flags
 bits_below [] = omega arith
-bits_below (true ∷ flags) = omega (arith, bits_below flags, pow-succ' 2 (length flags))
-bits_below (false ∷ flags) = omega (arith, bits_below flags, pow-succ' 2 (length flags))
+bits_below (b ∷ flags) = grind (arith, bits_below flags, pow-succ' 2 (length flags))
 
 lowest : (b : Bool) (x : ℕ) → eqb ((cond b 1 0 + 2 * x) / 2 ^ 0 % 2) 1 ≡ b
-lowest true x = let e : (1 + 2 * x) / 2 ^ 0 % 2 ≡ 1 = omega arith in rw e refl
-lowest false x = let e : (0 + 2 * x) / 2 ^ 0 % 2 ≡ 0 = omega arith in rw e refl
+lowest b x = grind arith
 
 above : (b : Bool) (x : ℕ) → (cond b 1 0 + 2 * x) / 2 ≡ x
-above true x = omega arith
-above false x = omega arith
+above b x = grind arith
 
-none_set : (i : ℕ) → has 0 i ≡ false
-none_set i = ap (λ v. eqb v 1) (bit_at-zero i)
-
-pub bit_is : (flags : List Bool) (i : ℕ) → has (bits_of flags) i ≡ get_or flags i false
-bit_is [] i = none_set i
+bit_is : (flags : List Bool) (i : ℕ) → has (bits_of flags) i ≡ get_or flags i false
+bit_is [] i = ap (λ v. eqb v 1) (bit_at-zero i)
 bit_is (b ∷ flags) zero = lowest b (bits_of flags)
 bit_is (b ∷ flags) (suc i) = ap (λ v. eqb v 1) (bit_at-suc (cond b 1 0 + 2 * bits_of flags) i) ∙ ap (λ v. has v i) (above b (bits_of flags)) ∙ bit_is flags i
 
-pub menu_spelled : (max n : ℕ) (flags : List Bool) → length flags ≡ n → 0 < max → max ≤ 12 → 2 ^ n ≤ 128 ^ max → (rest : List ℕ) → SpellsPart (OrElse (Extensible max) 0 (refuses_bits n)) (bits_of flags) (shortest (bits_of flags)) rest
-menu_spelled max n flags len some short le rest =
-    let below : bits_of flags < 2 ^ n = subst (λ k. bits_of flags < 2 ^ k) len (bits_below flags) in
-    inl (field_spelled (Extensible max) (bits_of flags) (some, short) (omega arith), rw (lt-ltb (bits_of flags) (2 ^ n) below) refl)
+-- ---- Parts, and formats of them.
 
-spelled_configuration : (c : Configuration) → FieldsFit (Config c) → Spells configuration (Config c) (operand_bytes (Config c)) []
-unfolding configuration
-spelled_configuration c h = (
-  c.bufsiz,
-  (field_bytes Word c.bufsiz),
-  _,
-  refl,
-  (field_spelled Word c.bufsiz tt h.0, refl),
-  (
-    c.ostype,
-    (field_bytes Byte c.ostype),
-    _,
-    refl,
-    (field_spelled Byte c.ostype tt h.1, refl),
-    (
-      c.filesys,
-      (field_bytes Byte c.filesys),
-      _,
-      refl,
-      (field_spelled Byte c.filesys tt h.2, refl),
-      (
-        c.vernum,
-        (field_bytes Byte c.vernum),
-        _,
-        refl,
-        (field_spelled Byte c.vernum tt h.3, refl),
-        (
-          c.econum,
-          (field_bytes Byte c.econum),
-          _,
-          refl,
-          (field_spelled Byte c.econum tt h.4, refl),
-          (
-            c.usrnum,
-            (field_bytes Byte c.usrnum),
-            _,
-            refl,
-            (field_spelled Byte c.usrnum tt h.5, refl),
-            (
-              c.softver,
-              (field_bytes Byte c.softver),
-              _,
-              refl,
-              (field_spelled Byte c.softver tt h.6, refl),
-              (
-                c.usrsoft,
-                (field_bytes Byte c.usrsoft),
-                _,
-                refl,
-                (field_spelled Byte c.usrsoft tt h.7, refl),
-                (
-                  c.syscap,
-                  (field_bytes (Extensible 12) c.syscap),
-                  _,
-                  refl,
-                  (field_spelled (Extensible 12) c.syscap (omega arith, omega arith) h.8, refl),
-                  ([], [], [], refl, (refl, refl), (refl, refl)),
-                ),
-              ),
-            ),
-          ),
-        ),
-      ),
-    ),
-  ),
-)
+-- the bytes are the part with the value v, where the rest follows
+record SpelledPart (p : Part) (v : PartValue p) (bytes rest : List ℕ) : Type 0 where
+  spelled : SpellsPart p v bytes rest
 
-abbrev flags_of : Attributes → List Bool
-flags_of a = is_some a.datatype ∷ is_some a.org ∷ is_some a.rfm ∷ is_some a.rat ∷ is_some a.bls ∷ is_some a.mrs ∷ is_some a.alq ∷ is_some a.bks ∷ is_some a.fsz ∷ is_some a.mrn ∷ is_some a.runsys ∷ is_some a.deq ∷ is_some a.fop ∷ is_some a.bsz ∷ is_some a.dev ∷ is_some a.sdc ∷ is_some a.lrl ∷ is_some a.hbk ∷ is_some a.ebk ∷ is_some a.ffb ∷ is_some a.sbn ∷ []
+-- the bytes are the format with the value x, where the rest follows
+record Spelled {A : Type 0} (g : Grammar A) (x : A) (bytes rest : List ℕ) : Type 0 where
+  spelled : Spells g x bytes rest
 
-spelled_attributes : (a : Attributes) → FieldsFit (Attrib a) → Spells attributes (Attrib a) (operand_bytes (Attrib a)) []
-unfolding attributes
-spelled_attributes a h = (
-  (attribute_bits a),
-  (field_bytes (Extensible 6) (attribute_bits a)),
-  _,
-  refl,
-  (menu_spelled 6 21 (flags_of a) refl (omega arith) (omega arith) (lit≤ tt) _),
-  (
-    a.datatype,
-    (option_bytes (Extensible 2) a.datatype),
-    _,
-    refl,
-    (when_spelled _ (Extensible 2) a.datatype _ (bit_is (flags_of a) 0) (omega arith, omega arith) h.0),
-    (
-      a.org,
-      (option_bytes Byte a.org),
-      _,
-      refl,
-      (when_spelled _ Byte a.org _ (bit_is (flags_of a) 1) tt h.1),
-      (
-        a.rfm,
-        (option_bytes Byte a.rfm),
-        _,
-        refl,
-        (when_spelled _ Byte a.rfm _ (bit_is (flags_of a) 2) tt h.2),
-        (
-          a.rat,
-          (option_bytes (Extensible 3) a.rat),
-          _,
-          refl,
-          (when_spelled _ (Extensible 3) a.rat _ (bit_is (flags_of a) 3) (omega arith, omega arith) h.3),
-          (
-            a.bls,
-            (option_bytes Word a.bls),
-            _,
-            refl,
-            (when_spelled _ Word a.bls _ (bit_is (flags_of a) 4) tt h.4),
-            (
-              a.mrs,
-              (option_bytes Word a.mrs),
-              _,
-              refl,
-              (when_spelled _ Word a.mrs _ (bit_is (flags_of a) 5) tt h.5),
-              (
-                a.alq,
-                (option_bytes (Image 5) a.alq),
-                _,
-                refl,
-                (when_spelled _ (Image 5) a.alq _ (bit_is (flags_of a) 6) tt h.6),
-                (
-                  a.bks,
-                  (option_bytes Byte a.bks),
-                  _,
-                  refl,
-                  (when_spelled _ Byte a.bks _ (bit_is (flags_of a) 7) tt h.7),
-                  (
-                    a.fsz,
-                    (option_bytes Byte a.fsz),
-                    _,
-                    refl,
-                    (when_spelled _ Byte a.fsz _ (bit_is (flags_of a) 8) tt h.8),
-                    (
-                      a.mrn,
-                      (option_bytes (Image 5) a.mrn),
-                      _,
-                      refl,
-                      (when_spelled _ (Image 5) a.mrn _ (bit_is (flags_of a) 9) tt h.9),
-                      (
-                        a.runsys,
-                        (option_bytes (Image 40) a.runsys),
-                        _,
-                        refl,
-                        (when_spelled _ (Image 40) a.runsys _ (bit_is (flags_of a) 10) tt h.10),
-                        (
-                          a.deq,
-                          (option_bytes Word a.deq),
-                          _,
-                          refl,
-                          (when_spelled _ Word a.deq _ (bit_is (flags_of a) 11) tt h.11),
-                          (
-                            a.fop,
-                            (option_bytes (Extensible 6) a.fop),
-                            _,
-                            refl,
-                            (when_spelled _ (Extensible 6) a.fop _ (bit_is (flags_of a) 12) (omega arith, omega arith) h.12),
-                            (
-                              a.bsz,
-                              (option_bytes Byte a.bsz),
-                              _,
-                              refl,
-                              (when_spelled _ Byte a.bsz _ (bit_is (flags_of a) 13) tt h.13),
-                              (
-                                a.dev,
-                                (option_bytes (Extensible 6) a.dev),
-                                _,
-                                refl,
-                                (when_spelled _ (Extensible 6) a.dev _ (bit_is (flags_of a) 14) (omega arith, omega arith) h.14),
-                                (
-                                  a.sdc,
-                                  (option_bytes (Extensible 6) a.sdc),
-                                  _,
-                                  refl,
-                                  (when_spelled _ (Extensible 6) a.sdc _ (bit_is (flags_of a) 15) (omega arith, omega arith) h.15),
-                                  (
-                                    a.lrl,
-                                    (option_bytes Word a.lrl),
-                                    _,
-                                    refl,
-                                    (when_spelled _ Word a.lrl _ (bit_is (flags_of a) 16) tt h.16),
-                                    (
-                                      a.hbk,
-                                      (option_bytes (Image 5) a.hbk),
-                                      _,
-                                      refl,
-                                      (when_spelled _ (Image 5) a.hbk _ (bit_is (flags_of a) 17) tt h.17),
-                                      (
-                                        a.ebk,
-                                        (option_bytes (Image 5) a.ebk),
-                                        _,
-                                        refl,
-                                        (when_spelled _ (Image 5) a.ebk _ (bit_is (flags_of a) 18) tt h.18),
-                                        (
-                                          a.ffb,
-                                          (option_bytes Word a.ffb),
-                                          _,
-                                          refl,
-                                          (when_spelled _ Word a.ffb _ (bit_is (flags_of a) 19) tt h.19),
-                                          (
-                                            a.sbn,
-                                            (option_bytes (Image 5) a.sbn),
-                                            _,
-                                            refl,
-                                            (when_spelled _ (Image 5) a.sbn _ (bit_is (flags_of a) 20) tt h.20),
-                                            ([], [], [], refl, (refl, refl), (refl, refl)),
-                                          ),
-                                        ),
-                                      ),
-                                    ),
-                                  ),
-                                ),
-                              ),
-                            ),
-                          ),
-                        ),
-                      ),
-                    ),
-                  ),
-                ),
-              ),
-            ),
-          ),
-        ),
-      ),
-    ),
-  ),
-)
+-- a part, and the format behind it
+infixr 5 ◌▷◌
+◌▷◌ : {A : Type 0} {p : Part} {v : PartValue p} {g : PartValue p → Grammar A} {x : A} {front back rest : List ℕ}
+    → SpelledPart p v front (back ++ rest) → Spelled (g v) x back rest → Spelled (Next p g) x (front ++ back) rest
+part ▷ more = record { spelled = (_, _, _, refl, part.spelled, more.spelled) }
 
-spelled_access : (a : AccessFields) → FieldsFit (Access a) → Spells access (Access a) (operand_bytes (Access a)) []
-unfolding access
-spelled_access a h = (
-  a.func,
-  (field_bytes Byte a.func),
-  _,
-  refl,
-  (field_spelled Byte a.func tt h.0, refl),
-  (
-    a.opt,
-    (field_bytes (Extensible 5) a.opt),
-    _,
-    refl,
-    (field_spelled (Extensible 5) a.opt (omega arith, omega arith) h.1, refl),
-    (
-      a.name,
-      (field_bytes (Image 255) a.name),
-      _,
-      refl,
-      (field_spelled (Image 255) a.name tt h.2, refl),
-      (
-        a.fac,
-        (field_bytes (Extensible 3) a.fac),
-        _,
-        refl,
-        (inl (field_spelled (Extensible 3) a.fac (omega arith, omega arith) h.3, refl)),
-        (
-          a.shr,
-          (field_bytes (Extensible 3) a.shr),
-          _,
-          refl,
-          (inl (field_spelled (Extensible 3) a.shr (omega arith, omega arith) h.4, refl)),
-          (
-            a.display,
-            (field_bytes (Extensible 4) a.display),
-            _,
-            refl,
-            (inl (field_spelled (Extensible 4) a.display (omega arith, omega arith) h.5, refl)),
-            (
-              a.password,
-              (field_bytes (Image 40) a.password),
-              _,
-              refl,
-              (inl (field_spelled (Image 40) a.password tt h.6, refl)),
-              ([], [], [], refl, (refl, refl), (refl, refl)),
-            ),
-          ),
-        ),
-      ),
-    ),
-  ),
-)
+done : {A : Type 0} {rest : List ℕ} (x : A) → Spelled (Done x) x [] rest
+done x = record { spelled = (refl, refl) }
+
+remainder : (bytes : List ℕ) → SpelledPart Remainder bytes bytes []
+remainder bytes = record { spelled = (refl, refl) }
+
+must : {rest : List ℕ} (k : Kind) (refuses : ValueOf k → Option FaultKind) (v : ValueOf k) → has_room k ≡ true → FitsField k v → refuses v ≡ None → SpelledPart (Must k refuses) v (field_bytes k v) rest
+must k refuses v room h e = record { spelled = (field_spelled k v room h, e) }
+
+field : {rest : List ℕ} (k : Kind) (v : ValueOf k) → has_room k ≡ true → FitsField k v → SpelledPart (Must k any) v (field_bytes k v) rest
+field k v room h = must k any v room h refl
+
+or_default : {rest : List ℕ} (k : Kind) (default v : ValueOf k) → has_room k ≡ true → FitsField k v → SpelledPart (OrElse k default any) v (field_bytes k v) rest
+or_default k default v room h = record { spelled = inl (field_spelled k v room h, refl) }
+
+unless_end : (k : Kind) (o : Option (ValueOf k)) → has_room k ≡ true → FitsOption k o → SpelledPart (UnlessEnd k any) o (option_bytes k o) []
+unless_end k (Some v) room h = record { spelled = (field_spelled k v room h, refl) }
+unless_end k None room h = record { spelled = (refl, refl) }
+
+absent : {rest : List ℕ} (test : Bool) (k : Kind) (refuses : ValueOf k → Option FaultKind) → test ≡ false → SpelledPart (When test k refuses) None [] rest
+absent true k refuses e = absurd cc
+absent false k refuses e = record { spelled = refl }
+
+when : {rest : List ℕ} (test : Bool) (k : Kind) (o : Option (ValueOf k)) → test ≡ is_some o → has_room k ≡ true → FitsOption k o → SpelledPart (When test k any) o (option_bytes k o) rest
+when true k (Some v) e room h = record { spelled = (field_spelled k v room h, refl) }
+when false k None e room h = absent false k any refl
+when test k o e room h = absurd cc
+
+optional_field : {rest : List ℕ} (flags : List Bool) (i : ℕ) (k : Kind) (o : Option (ValueOf k)) → get_or flags i false ≡ is_some o → has_room k ≡ true → FitsOption k o → SpelledPart (optional (bits_of flags) i k) o (option_bytes k o) rest
+optional_field flags i k o e room h = when (has (bits_of flags) i) k o (bit_is flags i ∙ e) room h
+
+bits : {rest : List ℕ} (max : ℕ) (flags : List Bool) → has_room (Extensible max) ≡ true → 2 ^ length flags ≤ 128 ^ max → SpelledPart (menu max (length flags)) (bits_of flags) (shortest (bits_of flags)) rest
+bits max flags room le =
+    let below = bits_below flags in
+    record { spelled = inl (field_spelled (Extensible max) (bits_of flags) room (omega arith), rw (lt-ltb (bits_of flags) (2 ^ length flags) below) refl) }
+
+-- ---- Operands.
+
+abbrev attribute_flags : Attributes → List Bool
+attribute_flags a = is_some a.datatype ∷ is_some a.org ∷ is_some a.rfm ∷ is_some a.rat ∷ is_some a.bls ∷ is_some a.mrs ∷ is_some a.alq ∷ is_some a.bks ∷ is_some a.fsz ∷ is_some a.mrn ∷ is_some a.runsys ∷ is_some a.deq ∷ is_some a.fop ∷ is_some a.bsz ∷ is_some a.dev ∷ is_some a.sdc ∷ is_some a.lrl ∷ is_some a.hbk ∷ is_some a.ebk ∷ is_some a.ffb ∷ is_some a.sbn ∷ []
 
 abbrev control_flags : ControlFields → List Bool
 control_flags c = is_some c.rac ∷ is_some c.key ∷ is_some c.krf ∷ is_some c.rop ∷ is_some c.hsh ∷ is_some c.display ∷ []
 
-spelled_control : (c : ControlFields) → FieldsFit (Control c) → Spells control (Control c) (operand_bytes (Control c)) []
-unfolding control
-spelled_control c h = (
-  c.func,
-  (field_bytes Byte c.func),
-  _,
-  refl,
-  (field_spelled Byte c.func tt h.0, refl),
-  (
-    (control_bits c),
-    (field_bytes (Extensible 4) (control_bits c)),
-    _,
-    refl,
-    (menu_spelled 4 6 (control_flags c) refl (omega arith) (omega arith) (lit≤ tt) _),
-    (
-      c.rac,
-      (option_bytes Byte c.rac),
-      _,
-      refl,
-      (when_spelled _ Byte c.rac _ (bit_is (control_flags c) 0) tt h.1),
-      (
-        c.key,
-        (option_bytes (Image 255) c.key),
-        _,
-        refl,
-        (when_spelled _ (Image 255) c.key _ (bit_is (control_flags c) 1) tt h.2),
-        (
-          c.krf,
-          (option_bytes Byte c.krf),
-          _,
-          refl,
-          (when_spelled _ Byte c.krf _ (bit_is (control_flags c) 2) tt h.3),
-          (
-            c.rop,
-            (option_bytes (Extensible 6) c.rop),
-            _,
-            refl,
-            (when_spelled _ (Extensible 6) c.rop _ (bit_is (control_flags c) 3) (omega arith, omega arith) h.4),
-            (
-              c.hsh,
-              (option_bytes (Image 5) c.hsh),
-              _,
-              refl,
-              (when_spelled _ (Image 5) c.hsh _ (bit_is (control_flags c) 4) tt h.5),
-              (
-                c.display,
-                (option_bytes (Extensible 4) c.display),
-                _,
-                refl,
-                (when_spelled _ (Extensible 4) c.display _ (bit_is (control_flags c) 5) (omega arith, omega arith) h.6),
-                ([], [], [], refl, (refl, refl), (refl, refl)),
-              ),
-            ),
-          ),
-        ),
-      ),
-    ),
-  ),
-)
-
-spelled_continuation : (func : ℕ) → FieldsFit (Contran func) → Spells continuation (Contran func) (operand_bytes (Contran func)) []
-unfolding continuation
-spelled_continuation func h = (
-  func,
-  (field_bytes Byte func),
-  _,
-  refl,
-  (field_spelled Byte func tt h, refl),
-  ([], [], [], refl, (refl, refl), (refl, refl)),
-)
-
-spelled_acknowledge : Spells acknowledge Ack (operand_bytes Ack) []
-unfolding acknowledge
-spelled_acknowledge = ([], [], [], refl, (refl, refl), (refl, refl))
-
-spelled_completion : (c : Completion) → FieldsFit (Accomp c) → Spells completion (Accomp c) (operand_bytes (Accomp c)) []
-unfolding completion
-spelled_completion c h = (
-  c.func,
-  (field_bytes Byte c.func),
-  _,
-  refl,
-  (field_spelled Byte c.func tt h.0, refl),
-  (
-    c.fop,
-    (field_bytes (Extensible 6) c.fop),
-    _,
-    refl,
-    (inl (field_spelled (Extensible 6) c.fop (omega arith, omega arith) h.1, refl)),
-    (
-      c.check,
-      (option_bytes Word c.check),
-      _,
-      refl,
-      (unless_spelled Word c.check _ refl tt h.2),
-      ([], [], [], refl, (refl, refl), (refl, refl)),
-    ),
-  ),
-)
-
-spelled_file_data : (recnum payload : List ℕ) → FieldsFit (Filedata recnum payload) → Spells file_data (Filedata recnum payload) (operand_bytes (Filedata recnum payload)) []
-unfolding file_data
-spelled_file_data recnum payload h = (
-  recnum,
-  field_bytes (Image 8) recnum,
-  payload ++ [],
-  refl,
-  (field_spelled (Image 8) recnum tt h, refl),
-  (payload, payload, [], refl, (refl, refl), (refl, refl)),
-)
-
-spelled_status : (s : StatusFields) → FieldsFit (Status s) → Spells status (Status s) (operand_bytes (Status s)) []
-unfolding status
-spelled_status s h = (
-  s.code,
-  (field_bytes Word s.code),
-  _,
-  refl,
-  (field_spelled Word s.code tt h.0, refl),
-  (
-    s.rfa,
-    (field_bytes (Image 8) s.rfa),
-    _,
-    refl,
-    (inl (field_spelled (Image 8) s.rfa tt h.1, refl)),
-    (
-      s.recnum,
-      (field_bytes (Image 8) s.recnum),
-      _,
-      refl,
-      (inl (field_spelled (Image 8) s.recnum tt h.2, refl)),
-      (
-        s.stv,
-        (field_bytes (Image 8) s.stv),
-        _,
-        refl,
-        (inl (field_spelled (Image 8) s.stv tt h.3, refl)),
-        ([], [], [], refl, (refl, refl), (refl, refl)),
-      ),
-    ),
-  ),
-)
-
-spelled_other : (n : ℕ) (body : List ℕ) → Spells (other n) (Other n body) (operand_bytes (Other n body)) []
-unfolding other
-spelled_other n body = (body, body, [], refl, (refl, refl), (refl, refl))
-
-apart : (n k : ℕ) → k < n → eqb n k ≡ false
-apart n k lt = grind arith
-
 other_operand : (n : ℕ) → 10 ≤ n → operand n ≡ other n
-other_operand n le = rw (apart n 1 (omega arith), apart n 2 (omega arith), apart n 3 (omega arith), apart n 4 (omega arith), apart n 5 (omega arith), apart n 6 (omega arith), apart n 7 (omega arith), apart n 8 (omega arith), apart n 9 (omega arith)) refl
+other_operand n le = grind (arith, nat_tests, le)
 
-operand_spelled : (m : Message) → FieldsFit m → Spells (operand (type_number m)) m (operand_bytes m) []
-operand_spelled (Config c) h = spelled_configuration c h
-operand_spelled (Attrib a) h = spelled_attributes a h
-operand_spelled (Access a) h = spelled_access a h
-operand_spelled (Control c) h = spelled_control c h
-operand_spelled (Contran func) h = spelled_continuation func h
-operand_spelled Ack h = spelled_acknowledge
-operand_spelled (Accomp c) h = spelled_completion c h
-operand_spelled (Filedata recnum payload) h = spelled_file_data recnum payload h
-operand_spelled (Status s) h = spelled_status s h
-operand_spelled (Other n body) h = subst (λ g. Spells g (Other n body) (operand_bytes (Other n body)) []) (sym (other_operand n h.0)) (spelled_other n body)
+operand_spelled : (m : Message) → FieldsFit m → Spelled (operand (type_number m)) m (operand_bytes m) []
+unfolding configuration attributes access control continuation acknowledge completion file_data status other
+operand_spelled (Config c) h =
+    field Word c.bufsiz refl h.0
+    ▷ field Byte c.ostype refl h.1
+    ▷ field Byte c.filesys refl h.2
+    ▷ field Byte c.vernum refl h.3
+    ▷ field Byte c.econum refl h.4
+    ▷ field Byte c.usrnum refl h.5
+    ▷ field Byte c.softver refl h.6
+    ▷ field Byte c.usrsoft refl h.7
+    ▷ field (Extensible 12) c.syscap refl h.8
+    ▷ remainder [] ▷ done (Config c)
+operand_spelled (Attrib a) h =
+    bits 6 (attribute_flags a) refl (lit≤ tt)
+    ▷ optional_field (attribute_flags a) 0 (Extensible 2) a.datatype refl refl h.0
+    ▷ optional_field (attribute_flags a) 1 Byte a.org refl refl h.1
+    ▷ optional_field (attribute_flags a) 2 Byte a.rfm refl refl h.2
+    ▷ optional_field (attribute_flags a) 3 (Extensible 3) a.rat refl refl h.3
+    ▷ optional_field (attribute_flags a) 4 Word a.bls refl refl h.4
+    ▷ optional_field (attribute_flags a) 5 Word a.mrs refl refl h.5
+    ▷ optional_field (attribute_flags a) 6 (Image 5) a.alq refl refl h.6
+    ▷ optional_field (attribute_flags a) 7 Byte a.bks refl refl h.7
+    ▷ optional_field (attribute_flags a) 8 Byte a.fsz refl refl h.8
+    ▷ optional_field (attribute_flags a) 9 (Image 5) a.mrn refl refl h.9
+    ▷ optional_field (attribute_flags a) 10 (Image 40) a.runsys refl refl h.10
+    ▷ optional_field (attribute_flags a) 11 Word a.deq refl refl h.11
+    ▷ optional_field (attribute_flags a) 12 (Extensible 6) a.fop refl refl h.12
+    ▷ optional_field (attribute_flags a) 13 Byte a.bsz refl refl h.13
+    ▷ optional_field (attribute_flags a) 14 (Extensible 6) a.dev refl refl h.14
+    ▷ optional_field (attribute_flags a) 15 (Extensible 6) a.sdc refl refl h.15
+    ▷ optional_field (attribute_flags a) 16 Word a.lrl refl refl h.16
+    ▷ optional_field (attribute_flags a) 17 (Image 5) a.hbk refl refl h.17
+    ▷ optional_field (attribute_flags a) 18 (Image 5) a.ebk refl refl h.18
+    ▷ optional_field (attribute_flags a) 19 Word a.ffb refl refl h.19
+    ▷ optional_field (attribute_flags a) 20 (Image 5) a.sbn refl refl h.20
+    ▷ remainder [] ▷ done (Attrib a)
+operand_spelled (Access a) h =
+    field Byte a.func refl h.0
+    ▷ field (Extensible 5) a.opt refl h.1
+    ▷ field (Image 255) a.name refl h.2
+    ▷ or_default (Extensible 3) 0 a.fac refl h.3
+    ▷ or_default (Extensible 3) 0 a.shr refl h.4
+    ▷ or_default (Extensible 4) 0 a.display refl h.5
+    ▷ or_default (Image 40) [] a.password refl h.6
+    ▷ remainder [] ▷ done (Access a)
+operand_spelled (Control c) h =
+    field Byte c.func refl h.0
+    ▷ bits 4 (control_flags c) refl (lit≤ tt)
+    ▷ optional_field (control_flags c) 0 Byte c.rac refl refl h.1
+    ▷ optional_field (control_flags c) 1 (Image 255) c.key refl refl h.2
+    ▷ optional_field (control_flags c) 2 Byte c.krf refl refl h.3
+    ▷ optional_field (control_flags c) 3 (Extensible 6) c.rop refl refl h.4
+    ▷ optional_field (control_flags c) 4 (Image 5) c.hsh refl refl h.5
+    ▷ optional_field (control_flags c) 5 (Extensible 4) c.display refl refl h.6
+    ▷ remainder [] ▷ done (Control c)
+operand_spelled (Contran func) h = field Byte func refl h ▷ remainder [] ▷ done (Contran func)
+operand_spelled Ack h = remainder [] ▷ done Ack
+operand_spelled (Accomp c) h =
+    field Byte c.func refl h.0
+    ▷ or_default (Extensible 6) 0 c.fop refl h.1
+    ▷ unless_end Word c.check refl h.2
+    ▷ remainder [] ▷ done (Accomp c)
+operand_spelled (Filedata recnum payload) h = field (Image 8) recnum refl h ▷ remainder payload ▷ done (Filedata recnum payload)
+operand_spelled (Status s) h =
+    field Word s.code refl h.0
+    ▷ or_default (Image 8) [] s.rfa refl h.1
+    ▷ or_default (Image 8) [] s.recnum refl h.2
+    ▷ or_default (Image 8) [] s.stv refl h.3
+    ▷ remainder [] ▷ done (Status s)
+operand_spelled (Other n body) h = subst (λ g. Spelled g (Other n body) (operand_bytes (Other n body)) []) (sym (other_operand n h.0)) (remainder body ▷ done (Other n body))
 
 -- ---- Headers and whole messages.
 
-header_short : (n len : ℕ) → 0 < n → n < 17 → len < 256 → (rest : List ℕ) → Spells header (record { number = n; flags = 2; low = Some len; high = None }) (n ∷ 2 ∷ len ∷ []) rest
-unfolding header
-header_short n len some lt small rest = (
-  n,
-  n ∷ [],
-  2 ∷ len ∷ [],
-  refl,
-  (byte_spelled n (omega arith), rw (lt-ltb 0 n some, le-leb n 16 (omega arith)) refl),
-  (
-    2,
-    2 ∷ [],
-    len ∷ [],
-    refl,
-    (record { groups = omega arith; short = omega arith; value = refl }, refl),
-    (
-      None,
-      [],
-      len ∷ [],
-      refl,
-      refl,
-      (
-        Some len,
-        len ∷ [],
-        [],
-        refl,
-        (byte_spelled len small, refl),
-        (
-          None,
-          [],
-          [],
-          refl,
-          refl,
-          (refl, refl),
-        ),
-      ),
-    ),
-  ),
-)
-
-header_long : (n low high : ℕ) → 0 < n → n < 17 → low < 256 → high < 256 → (rest : List ℕ) → Spells header (record { number = n; flags = 6; low = Some low; high = Some high }) (n ∷ 6 ∷ low ∷ high ∷ []) rest
-unfolding header
-header_long n low high some lt small below rest = (
-  n,
-  n ∷ [],
-  6 ∷ low ∷ high ∷ [],
-  refl,
-  (byte_spelled n (omega arith), rw (lt-ltb 0 n some, le-leb n 16 (omega arith)) refl),
-  (
-    6,
-    6 ∷ [],
-    low ∷ high ∷ [],
-    refl,
-    (record { groups = omega arith; short = omega arith; value = refl }, refl),
-    (
-      None,
-      [],
-      low ∷ high ∷ [],
-      refl,
-      refl,
-      (
-        Some low,
-        low ∷ [],
-        high ∷ [],
-        refl,
-        (byte_spelled low small, refl),
-        (
-          Some high,
-          high ∷ [],
-          [],
-          refl,
-          (byte_spelled high below, refl),
-          (refl, refl),
-        ),
-      ),
-    ),
-  ),
-)
-
 pub number_fits : (m : Message) → FieldsFit m → (0 < type_number m) × (type_number m < 17)
-number_fits (Config c) h = (omega arith, omega arith)
-number_fits (Attrib a) h = (omega arith, omega arith)
-number_fits (Access a) h = (omega arith, omega arith)
-number_fits (Control c) h = (omega arith, omega arith)
-number_fits (Contran func) h = (omega arith, omega arith)
-number_fits Ack h = (omega arith, omega arith)
-number_fits (Accomp c) h = (omega arith, omega arith)
-number_fits (Filedata recnum payload) h = (omega arith, omega arith)
-number_fits (Status s) h = (omega arith, omega arith)
-number_fits (Other n body) h = (omega (arith, h.0), omega (arith, h.1))
+number_fits m h = grind arith
 
-with_header : (m : Message) (n : ℕ) (bytes : List ℕ) → 0 < n → n < 17 → length bytes < 2 ^ 16 → Spells (operand n) m bytes [] → SpellsMessage m (header_bytes n (length bytes) ++ bytes) true
-with_header m n bytes some lt small s =
-    elim (cases_lt (length bytes) 256) [
-      | inl one ↦ rw (lt-ltb (length bytes) 256 one) (record {
-        start = record {
-          head = record { number = n; flags = 2; low = Some (length bytes); high = None };
-          front = n ∷ 2 ∷ length bytes ∷ [];
-          rest = bytes;
-          joined = refl;
-          header = header_short n (length bytes) some lt one bytes;
-        };
-        operand = s;
-        extent = (refl, refl);
-      })
-      | inr two ↦ rw (le-ltb (length bytes) 256 two) (record {
-        start = record {
-          head = record { number = n; flags = 6; low = Some (length bytes % 256); high = Some (length bytes / 256) };
-          front = n ∷ 6 ∷ (length bytes % 256) ∷ (length bytes / 256) ∷ [];
-          rest = bytes;
-          joined = refl;
-          header = header_long n (length bytes % 256) (length bytes / 256) some lt (omega arith) (omega arith) bytes;
-        };
-        operand = s;
-        extent = (omega arith, refl);
-      })
-    ]
+-- Whether there is a stream, a LENGTH and a LEN256.
+abbrev header_flags : Option ℕ → Option ℕ → List Bool
+header_flags low high = false ∷ is_some low ∷ is_some high ∷ []
+
+abbrev front : (number : ℕ) → Option ℕ → Option ℕ → List ℕ
+front number low high = number ∷ (shortest (bits_of (header_flags low high)) ++ (option_bytes Byte low ++ (option_bytes Byte high ++ [])))
+
+known_flags : (low high : Option ℕ) → (is_some low || not (is_some high)) ≡ true → refuses_flags (bits_of (header_flags low high)) ≡ None
+known_flags low high e =
+    let flags = header_flags low high in
+    rw (lt-ltb (bits_of flags) 8 (bits_below flags), bit_is flags 1, bit_is flags 2, e) refl
+
+header_spelled : (n : ℕ) (low high : Option ℕ) → 0 < n → n < 17 → (is_some low || not (is_some high)) ≡ true → FitsOption Byte low → FitsOption Byte high → (rest : List ℕ)
+    → Spelled header (record { number = n; flags = bits_of (header_flags low high); low = low; high = high }) (front n low high) rest
+unfolding header
+header_spelled n low high some lt e l h rest =
+    let flags = header_flags low high in
+    must Byte refuses_type n refl (omega arith) (rw (lt-ltb 0 n some, le-leb n 16 (omega arith)) refl)
+    ▷ must (Extensible 5) refuses_flags (bits_of flags) refl (omega (arith, bits_below flags)) (known_flags low high e)
+    ▷ absent (has (bits_of flags) 0) Byte refuses_stream (bit_is flags 0)
+    ▷ optional_field flags 1 Byte low refl refl l
+    ▷ optional_field flags 2 Byte high refl refl h
+    ▷ done _
+
+-- a message whose header has these bytes of the operand's length
+with_header : (m : Message) (low high : Option ℕ) (closed : Bool) → FieldsFit m → (is_some low || not (is_some high)) ≡ true → FitsOption Byte low → FitsOption Byte high
+    → HasLength (length_of low high) (operand_bytes m) closed → SpellsMessage m (front (type_number m) low high ++ operand_bytes m) closed
+with_header m low high closed h e l r extent =
+    let n = number_fits m h in
+    record {
+      start = record {
+        head = record { number = type_number m; flags = bits_of (header_flags low high); low = low; high = high };
+        front = front (type_number m) low high;
+        rest = operand_bytes m;
+        joined = refl;
+        header = (header_spelled (type_number m) low high n.0 n.1 e l r (operand_bytes m)).spelled;
+      };
+      operand = (operand_spelled m h).spelled;
+      extent = extent;
+    }
 
 pub canon_spells : (m : Message) → KeepsLimits m → SpellsMessage m (canon m) true
-unfolding canon
+unfolding canon groups
 canon_spells m h =
-    let n = number_fits m h.fields in
-    with_header m (type_number m) (operand_bytes m) n.0 n.1 h.length (operand_spelled m h.fields)
+    let len = length (operand_bytes m) in
+    elim (cases_lt len 256) [
+      | inl one ↦ rw (lt-ltb len 256 one) (with_header m (Some len) None true h.fields refl one tt (refl, refl))
+      | inr two ↦ rw (le-ltb len 256 two) (with_header m (Some (len % 256)) (Some (len / 256)) true h.fields refl (omega arith) (omega (arith, h.length)) (omega arith, refl))
+    ]
+
+-- A message whose values fit their fields has a spelling with no LENGTH, however long its operand is.
+pub open_spelling : (m : Message) → FieldsFit m → IsSpelled m
+open_spelling m h = (front (type_number m) None None ++ operand_bytes m, false, with_header m None None false h refl tt tt refl)
 
 pub closed_spelling : (m : Message) → KeepsLimits m → Fits m
 closed_spelling m h = record { bytes = canon m; spelled = canon_spells m h }
 
-abbrev done : Message × ℕ → Result (Message × ℕ) Fault
-done x = Ok x
-
-done_is : (a b : Message × ℕ) → done a ≡ done b → a ≡ b
-done_is a b e = cc
-
-take_whole : (a b : List ℕ) → take (length a) (a ++ b) ≡ a
-take_whole a b = take_at a b (length a) refl
+pub canon_stands : (m : Message) → KeepsLimits m → (after : List ℕ) → StandsInFront m (length (canon m)) (canon m ++ after)
+canon_stands m h after = record {
+  closed = true;
+  there = omega (arith, length-append (canon m) after);
+  spelled = subst (λ (x : List ℕ). SpellsMessage m x true) (sym (take_at (canon m) after (length (canon m)) refl)) (canon_spells m h);
+  open_is_all = λ t. absurd cc;
+}
 
 pub reads_back : (m : Message) → KeepsLimits m → IsReadBack m
-reads_back m h =
-    let s = canon_spells m h in (
-      s,
-      λ more other n le o.
-          let bytes = canon m ++ more in
-          let one : message_at bytes ≡ Ok (m, length (canon m)) = ok_only bytes m (length (canon m)) (record {
-            closed = true;
-            there = omega (arith, length-append (canon m) more);
-            spelled = subst (λ (x : List ℕ). SpellsMessage m x true) (sym (take_whole (canon m) more)) s;
-            open_is_all = λ t. absurd cc;
-          }) in
-          let two : message_at bytes ≡ Ok (other, n) = ok_only bytes other n (record { closed = true; there = le; spelled = o; open_is_all = λ t. absurd cc }) in
-          let both = done_is (other, n) (m, length (canon m)) (sym two ∙ one) in
-          (ap (λ (x : Message × ℕ). x.1) both, ap (λ (x : Message × ℕ). x.0) both),
-    )
+reads_back m h = (
+  canon_spells m h,
+  λ more other n le o.
+      let one : message_at (canon m ++ more) ≡ Ok (m, length (canon m)) = ok_only (canon m ++ more) m (length (canon m)) (canon_stands m h more) in
+      let two : message_at (canon m ++ more) ≡ Ok (other, n) = ok_only (canon m ++ more) other n (record { closed = true; there = le; spelled = o; open_is_all = λ t. absurd cc }) in
+      let both : ◌≡◌ {A = Message × ℕ} (other, n) (m, length (canon m)) = cc in
+      (ap (λ x. x.1) both, ap (λ x. x.0) both),
+)

@@ -1,7 +1,7 @@
 -- How long the spellings are that are written.
-use Rattle.std.proofs.Common.{◌≡◌, ℕ, ◌+◌, ◌^◌, ◌<◌, ◌≤◌, List, [], ◌∷◌, ◌++◌, length, refl, arith, lit≤, lit<, inl, inr}
+use Rattle.std.proofs.Common.{◌≡◌, ℕ, ◌+◌, ◌^◌, ◌<◌, ◌≤◌, List, [], ◌∷◌, ◌++◌, length, refl, arith, lit≤, lit<}
+use Rattle.std.proofs.lemmas.Bool.Decides.{nat_tests}
 use Rattle.dap_fields.specs.Spelling.{little_bytes}
-use Rattle.std.proofs.lemmas.Bool.{cases_lt, lt-ltb, le-ltb}
 use Rattle.std.proofs.lemmas.List.{length-append}
 use Rattle.dap_fields.specs.Writing.{groups}
 use Rattle.dap_msg.specs.Message.{Message, StatusFields, Ack, Filedata, Status}
@@ -13,11 +13,7 @@ use Rattle.dap_msg.proofs.Canonical.{closed_spelling}
 use Rattle.dap_msg.proofs.Sizes.{IsPlainMessage, plain_short}
 
 header_length : (number len : ℕ) → length (header_bytes number len) ≡ header_size len
-header_length number len =
-    elim (cases_lt len 256) [
-      | inl lt ↦ rw (lt-ltb len 256 lt) refl
-      | inr le ↦ rw (le-ltb len 256 le) refl
-    ]
+header_length number len = grind (arith, nat_tests)
 
 pub canon_length : (m : Message) → length (canon m) ≡ header_size (length (operand_bytes m)) + length (operand_bytes m)
 unfolding canon
@@ -32,30 +28,19 @@ file_data_measured recnum payload = rw (canon_length (Filedata recnum payload), 
 
 -- ---- Answers.
 
-header_short : (len : ℕ) → header_size len ≤ 4
-header_short len =
-    elim (cases_lt len 256) [
-      | inl lt ↦ rw (lt-ltb len 256 lt) (lit≤ tt)
-      | inr le ↦ rw (le-ltb len 256 le) (lit≤ tt)
-    ]
-
-header_some : (len : ℕ) → 3 ≤ header_size len
-header_some len =
-    elim (cases_lt len 256) [
-      | inl lt ↦ rw (lt-ltb len 256 lt) (lit≤ tt)
-      | inr le ↦ rw (le-ltb len 256 le) (lit≤ tt)
-    ]
+header_extent : (len : ℕ) → (3 ≤ header_size len) × (header_size len ≤ 4)
+header_extent len = grind (arith, nat_tests)
 
 pub message_some : (m : Message) → 0 < length (canon m)
-message_some m = omega (arith, canon_length m, header_some (length (operand_bytes m)))
+message_some m = omega (arith, canon_length m, (header_extent (length (operand_bytes m))).0)
 
 pub message_short : (m : Message) → KeepsLimits m → length (canon m) ≤ 65539
-message_short m k = omega (arith, canon_length m, header_short (length (operand_bytes m)), k.length)
+message_short m k = omega (arith, canon_length m, (header_extent (length (operand_bytes m))).1, k.length)
 
 short_answer_of : (m : Message) → FieldsFit m → IsPlainMessage m → length (operand_bytes m) ≤ 60 → IsShortAnswer m
 short_answer_of m fields plain short = record {
   fits = closed_spelling m (record { fields = fields; length = plain_short m fields plain });
-  short = omega (arith, canon_length m, header_short (length (operand_bytes m)));
+  short = omega (arith, canon_length m, (header_extent (length (operand_bytes m))).1);
 }
 
 config_short : (bufsiz : ℕ) → bufsiz < 2 ^ 16 → IsShortAnswer (config_of bufsiz)

@@ -24,6 +24,10 @@ pub use Rattle.dap_msg.proofs.BlockedLaws.{messages_in-Blocked}
 pub use Rattle.dap_msg.proofs.BlockedLaws.{within_limit}
 -- the values of a message that was read fit their fields
 pub use Rattle.dap_msg.proofs.Values.{fields_fit}
+-- those whose values fit have a spelling, and no others
+pub use Rattle.dap_msg.proofs.Values.{spelled_fields}
+-- a spelling without LENGTH, of a message whose values fit
+pub use Rattle.dap_msg.proofs.Canonical.{open_spelling}
 -- the type of a message that was read is one byte
 pub use Rattle.dap_msg.proofs.Types.{type_short}
 -- a record's bytes may be any others

@@ -22,22 +22,22 @@ stands_some m n bytes h =
     let s = h.spelled.start in
     omega (arith, ap length s.joined, length-append s.front s.rest, length-take n bytes, h.there, (header_room s.head s.front s.rest s.header).fixed)
 
-pub fault_within : (bytes : List ℕ) (f : MsgFault) → AreBytes bytes → IsDecoded bytes (Err f) → f.offset ≤ length bytes
-fault_within bytes f fits h = (fault_only bytes f.kind f.offset fits h.0).0
-
 pub some_read : (bytes : List ℕ) (result : Result (LentMessage × ℕ) MsgFault) → IsDecoded bytes (seen_answer result) → IfOk result (λ x. 2 ≤ x.1)
 some_read bytes (Ok x) h = stands_some (seen x.0) x.1 bytes h
 some_read bytes (Err f) h = tt
 
 pub fault_told : (bytes : List ℕ) (result : Result (LentMessage × ℕ) MsgFault) → AreBytes bytes → IsDecoded bytes (seen_answer result) → IfErr result (λ f. f.offset ≤ length bytes)
 fault_told bytes (Ok x) fits h = tt
-fault_told bytes (Err f) fits h = fault_within bytes f fits h
+fault_told bytes (Err f) fits h = (fault_only bytes f.kind f.offset fits h.0).0
 
 same_answer : (bytes : List ℕ) (a b : Result (Message × ℕ) MsgFault) → AreBytes bytes → IsDecoded bytes a → IsDecoded bytes b → a ≡ b
 same_answer bytes a b fits h k = only bytes fits a h ∙ sym (only bytes fits b k)
 
+abbrev fault_of : FaultKind → ℕ → ℕ → MsgFault
+fault_of kind message_type offset = record { kind = kind; message_type = message_type; offset = offset }
+
 abbrev told_fault : FaultKind → ℕ → ℕ → Result (Message × ℕ) MsgFault
-told_fault kind message_type offset = Err (record { kind = kind; message_type = message_type; offset = offset })
+told_fault kind message_type offset = Err (fault_of kind message_type offset)
 
 abbrev told_message : Message → ℕ → Result (Message × ℕ) MsgFault
 told_message m n = Ok (m, n)
@@ -45,24 +45,15 @@ told_message m n = Ok (m, n)
 same_message : (m k : Message) (n l : ℕ) → told_message m n ≡ told_message k l → (m ≡ k) × (n ≡ l)
 same_message m k n l e = let p : ◌≡◌ {A = Message × ℕ} (m, n) (k, l) = cc in (ap (λ (x : Message × ℕ). x.0) p, ap (λ (x : Message × ℕ). x.1) p)
 
-abbrev fault_of : FaultKind → ℕ → ℕ → MsgFault
-fault_of kind message_type offset = record { kind = kind; message_type = message_type; offset = offset }
-
-abbrev refused : MsgFault → Result (Message × ℕ) MsgFault
-refused f = Err f
-
-same_fault : (f g : MsgFault) → refused f ≡ refused g → f ≡ g
-same_fault f g e = cc
-
 moved : (f g : MsgFault) (at i j : ℕ) → f.offset ≡ at + i → g.offset ≡ at + j
     → told_fault f.kind f.message_type i ≡ told_fault g.kind g.message_type j → f ≡ g
 moved f g at i j a b e =
-    let p = same_fault _ _ e in
+    let p : fault_of f.kind f.message_type i ≡ fault_of g.kind g.message_type j = cc in
     let k : f.kind ≡ g.kind = ap (λ (x : MsgFault). x.kind) p in
     let t : f.message_type ≡ g.message_type = ap (λ (x : MsgFault). x.message_type) p in
-    let o : i ≡ j = ap (λ (x : MsgFault). x.offset) p in
-    let s : f.offset ≡ g.offset = omega (arith, a, b, o) in
-    ap (λ (x : FaultKind). fault_of x f.message_type f.offset) k ∙ ap (λ (x : ℕ). fault_of g.kind x f.offset) t ∙ ap (λ (x : ℕ). fault_of g.kind g.message_type x) s
+    let o : f.offset ≡ g.offset = omega (arith, a, b, ap (λ (x : MsgFault). x.offset) p) in
+    let all : fault_of f.kind f.message_type f.offset ≡ fault_of g.kind g.message_type g.offset = cc in
+    all
 
 pub one_item : (bytes : List ℕ) (at : ℕ) (item other : Item) (next after : ℕ) → AreBytes bytes → ItemAt bytes at item next → ItemAt bytes at other after → (other ≡ item) × (after ≡ next)
 one_item bytes at (Whole m) (Whole k) next after fits h o =

@@ -1,52 +1,42 @@
 -- The items of an NSP message.
-use Rattle.std.proofs.Common.{◌≡◌, ◌≢◌, ℕ, zero, suc, ◌+◌, ◌-◌, ◌<◌, ◌≤◌, true, List, [], ◌∷◌, ◌++◌, length, drop, Result, Ok, Err, refl, sym, ap, subst, ◌∙◌, append_assoc, arith, inl, inr}
+use Rattle.std.proofs.Common.{◌≡◌, ◌≢◌, ℕ, zero, suc, ◌+◌, ◌-◌, ◌<◌, ◌≤◌, List, [], ◌∷◌, ◌++◌, length, drop, Result, Ok, Err, refl, sym, ap, subst, ◌∙◌, append_assoc, arith, inl, inr}
 use Rattle.std.specs.Prelude.{map}
 use Rattle.std.proofs.lemmas.Bool.{cases_lt}
-use Rattle.std.proofs.lemmas.List.{take_at, drop_at, length-append, length-drop}
+use Rattle.std.proofs.lemmas.List.{drop_at, length-append, length-drop}
 use Rattle.dap_fields.specs.Spelling.{AreBytes}
 use Rattle.dap_msg.specs.declared.fault.MsgFault.{MsgFault}
 use Rattle.dap_msg.specs.Message.{Message}
-use Rattle.dap_msg.specs.Decoding.{SpellsMessage, StandsInFront, IsDecoded}
+use Rattle.dap_msg.specs.Decoding.{StandsInFront, IsDecoded}
 use Rattle.dap_msg.specs.Inner.Whole.{message_at, told}
 use Rattle.dap_msg.specs.Canon.{canon, Fits}
 use Rattle.dap_msg.specs.Blocked.{joined, AllFit}
 use Rattle.dap_msg.specs.Items.{Item, Whole, Malformed, ItemAt, ItemsFrom}
 use Rattle.dap_msg.specs.Laws.{IsReadInPlace, AreItems, HasItems}
 use Rattle.dap_msg.proofs.Messages.{exact}
-use Rattle.dap_msg.proofs.Canonical.{canon_spells}
+use Rattle.dap_msg.proofs.Canonical.{canon_stands}
 use Rattle.dap_msg.proofs.Values.{limits}
 use Rattle.dap_msg.proofs.Listing.{AreBytes-drop, stands_some, one_item}
 
 -- ---- What was written.
 
-stands : (m : Message) → Fits m → (after : List ℕ) → StandsInFront m (length (canon m)) (canon m ++ after)
-stands m fits after = record {
-  closed = true;
-  there = omega (arith, length-append (canon m) after);
-  spelled = subst (λ (x : List ℕ). SpellsMessage m x true) (sym (take_at (canon m) after (length (canon m)) refl)) (canon_spells m (limits m fits));
-  open_is_all = λ t. absurd cc;
-}
+placed : (m : Message) → Fits m → (before after : List ℕ) (next : ℕ) → next ≡ length before + length (canon m) → ItemAt (before ++ (canon m ++ after)) (length before) (Whole m) next
+placed m fits before after next e =
+    let stands = canon_stands m (limits m fits) after in
+    (length (canon m), subst (λ (b : List ℕ). StandsInFront m (length (canon m)) b) (sym (drop_at before (canon m ++ after) (length before) refl)) stands, e)
 
 pub read_in_place : (m : Message) → Fits m → IsReadInPlace m
-read_in_place m fits = λ before after.
-    (length (canon m), subst (λ (b : List ℕ). StandsInFront m (length (canon m)) b) (sym (drop_at before (canon m ++ after) (length before) refl)) (stands m fits after), refl)
+read_in_place m fits = λ before after. placed m fits before after (length before + length (canon m)) refl
 
 listed_from : (before : List ℕ) (m : Message) (messages : List Message) → AllFit (m ∷ messages) → ItemsFrom (before ++ joined (m ∷ messages)) (length before) (map (λ x. Whole x) (m ∷ messages))
-listed_from before m [] fit =
-    let end : length before + length (canon m) ≡ length (before ++ (canon m ++ [])) = omega (arith, length-append before (canon m ++ []), length-append (canon m) []) in
-    subst (λ (n : ℕ). ItemAt (before ++ (canon m ++ [])) (length before) (Whole m) n) end (read_in_place m fit.0 before [])
+listed_from before m [] fit = placed m fit.0 before [] _ (omega (arith, length-append before (canon m ++ []), length-append (canon m) []))
 listed_from before m (second ∷ more) fit =
     let after = joined (second ∷ more) in
-    let some : 2 ≤ length (canon second) = stands_some second (length (canon second)) (canon second ++ []) (stands second fit.1.0 []) in
-    let len : length (before ++ (canon m ++ after)) ≡ length before + (length (canon m) + (length (canon second) + length (joined more))) =
-    omega (arith, length-append before (canon m ++ after), length-append (canon m) after, length-append (canon second) (joined more)) in
-    let rest = listed_from (before ++ canon m) second more fit.1 in
-    let next : length (before ++ canon m) ≡ length before + length (canon m) = length-append before (canon m) in
-    let moved = subst (λ (b : List ℕ). ItemsFrom b (length (before ++ canon m)) (map (λ x. Whole x) (second ∷ more))) (append_assoc before (canon m) after) rest in (
-      length before + length (canon m),
-      omega (arith, len, some),
-      read_in_place m fit.0 before after,
-      subst (λ (n : ℕ). ItemsFrom (before ++ (canon m ++ after)) n (map (λ x. Whole x) (second ∷ more))) next moved,
+    let some : 2 ≤ length (canon second) = stands_some second _ _ (canon_stands second (limits second fit.1.0) []) in
+    let next : length (before ++ canon m) ≡ length before + length (canon m) = length-append before (canon m) in (
+      length (before ++ canon m),
+      omega (arith, next, some, length-append before (canon m ++ after), length-append (canon m) after, length-append (canon second) (joined more)),
+      placed m fit.0 before after _ next,
+      subst (λ (b : List ℕ). ItemsFrom b (length (before ++ canon m)) (map (λ x. Whole x) (second ∷ more))) (append_assoc before (canon m) after) (listed_from (before ++ canon m) second more fit.1),
     )
 
 pub are_items : (messages : List Message) → AllFit messages → messages ≢ [] → AreItems messages
@@ -88,11 +78,8 @@ in_front : (bytes : List ℕ) (at next : ℕ) (item : Item) → next < length by
 in_front bytes at next item lt h [] rest = absurd rest
 in_front bytes at next item lt h (second ∷ more) rest = (next, lt, h, rest)
 
-some_items : (n : ℕ) (bytes : List ℕ) (at : ℕ) → AreBytes bytes → at ≤ length bytes → length bytes - at ≤ n → (items : List Item) × ItemsFrom bytes at items
-some_items zero bytes at fits le room =
-    let i = next_item bytes at fits le in
-    let end : i.next ≡ length bytes = omega (arith, i.within, i.after) in
-    (i.item ∷ [], subst (λ (k : ℕ). ItemAt bytes at i.item k) end i.stands)
+some_items : (n : ℕ) (bytes : List ℕ) (at : ℕ) → AreBytes bytes → at ≤ length bytes → length bytes - at < n → (items : List Item) × ItemsFrom bytes at items
+some_items zero bytes at fits le room = absurd (omega arith)
 some_items (suc n) bytes at fits le room =
     let i = next_item bytes at fits le in
     elim (cases_lt i.next (length bytes)) [
@@ -119,5 +106,5 @@ same_items bytes at (a ∷ c ∷ items) (b ∷ d ∷ others) fits h o =
 
 pub have_items : (bytes : List ℕ) → AreBytes bytes → HasItems bytes
 have_items bytes fits =
-    let all = some_items (length bytes) bytes 0 fits (omega arith) (omega arith) in
+    let all = some_items (suc (length bytes)) bytes 0 fits (omega arith) (omega arith) in
     record { items = all.0; listed = all.1; only = λ others o. same_items bytes 0 all.0 others fits all.1 o }

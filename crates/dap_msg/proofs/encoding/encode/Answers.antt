@@ -1,4 +1,4 @@
-use Rattle.std.proofs.Common.{◌≡◌, ◌≤◌, ◌++◌, ℕ, true, false, List, length, Ok, arith}
+use Rattle.std.proofs.Common.{◌≡◌, ◌≤◌, ◌++◌, ℕ, List, length, Ok, arith}
 use Rattle.std.specs.Global.{Vec}
 use Rattle.dap_msg.specs.Canon.{canon}
 use Rattle.dap_msg.specs.Inner.Fields.{AppendsWithin}
@@ -9,8 +9,7 @@ use Rattle.dap_msg.proofs.encoding.encode.Goals as goal
 
 -- a message that has room enough is appended
 fits_in : (most : ℕ) (bytes : List ℕ) (old new : Vec ℕ) (b : _) → length bytes ≤ most → AppendsWithin most bytes old new (Ok b) → new.items ≡ old.items ++ bytes
-fits_in most bytes old new true le is = is.1
-fits_in most bytes old new false le is = absurd (omega (arith, le, is.0))
+fits_in most bytes old new b le is = grind (arith, le, is)
 
 pub encode_within-requires : goal.encode_within-requires
 encode_within-requires c = limits (seen c.args.message.now) c.requires

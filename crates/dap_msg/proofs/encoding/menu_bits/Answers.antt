@@ -1,28 +1,22 @@
-use Rattle.std.proofs.Common.{◌≡◌, ◌-◌, ◌≤◌, length, sym, ap, arith}
+use Rattle.std.proofs.Common.{◌-◌, length, arith}
 use Rattle.std.proofs.lemmas.List.{drop_all}
-use Rattle.std.specs.Prelude.{map}
-use Rattle.dap_msg.specs.Canon.{bits_of}
-use Rattle.dap_msg.specs.Inner.Fields.{is_there}
 use Rattle.dap_msg.specs.declared.encoding.Field.TheVariants.{Absent}
 use Rattle.dap_msg.proofs.Menus.{half_fits, none_yet, one_more, next_flag, flag_small}
 use Rattle.dap_msg.proofs.encoding.menu_bits.Goals as goal
 
 pub fields-init : goal.fields-init
-fields-init c = (omega arith, sym (ap (λ l. bits_of (map is_there l)) (drop_all (length c.args.fields.now) c.args.fields.now (omega arith))), none_yet (length c.args.fields.now))
+fields-init c = grind (arith, drop_all, none_yet)
 
 pub bounds-fields-at : goal.bounds-fields-at
 bounds-fields-at c = omega (arith, c.fields.invariant.0, c.fields-test.true)
 
 pub overflow_mul-bits : goal.overflow_mul-bits
-overflow_mul-bits c =
-    let small = half_fits c.fields.bits (length c.args.fields.now - c.fields.at) (omega (arith, c.requires, c.fields-test.true)) c.fields.invariant.2 in
-    omega (arith, small)
+overflow_mul-bits c = omega (arith, half_fits c.fields.bits (length c.args.fields.now - c.fields.at) (omega (arith, c.requires, c.fields-test.true)) c.fields.invariant.2)
 
 pub overflow_add-bits : goal.overflow_add-bits
 overflow_add-bits c =
     let small = half_fits c.fields.bits (length c.args.fields.now - c.fields.at) (omega (arith, c.requires, c.fields-test.true)) c.fields.invariant.2 in
-    let flag : c.from.result ≤ 1 = rw c.from.ensures (flag_small c.is_there.result) in
-    omega (arith, small, flag)
+    grind (arith, small, flag_small, c.from.ensures)
 
 pub fields-preserved : goal.fields-preserved
 fields-preserved c =
@@ -33,11 +27,7 @@ fields-preserved c =
     )
 
 pub returns-clause-exact : goal.returns-clause-exact
-returns-clause-exact c =
-    let none : c.fields.at ≡ 0 = omega (arith, c.fields-test.false) in
-    rw none at c.fields.invariant.1
+returns-clause-exact c = grind (arith, c.fields.invariant.1, c.fields-test.false)
 
 pub returns-clause-small : goal.returns-clause-small
-returns-clause-small c =
-    let all : length c.args.fields.now - c.fields.at ≡ length c.args.fields.now = omega (arith, c.fields-test.false) in
-    rw all at c.fields.invariant.2
+returns-clause-small c = grind (arith, c.fields.invariant.2, c.fields-test.false)
