@@ -1,35 +1,34 @@
 //! The operands of the messages.
 
-ghost use Rattle.std.specs.Prelude.{[]};
 ghost use Rattle.dap_msg.specs.Message.{seen, seen_attributes};
 ghost use Rattle.dap_msg.specs.Formats.{access, acknowledge, attributes, completion, configuration, continuation, control, file_data, other, status};
 ghost use Rattle.dap_msg.specs.Inner.Attributes.{later_attributes};
-ghost use Rattle.dap_msg.specs.Inner.Reading.{read, Gives};
+ghost use Rattle.dap_msg.specs.Inner.Reading.{place, value_at, Gives};
 
 use crate::fault::Fault;
-use crate::kind::{Byte, Kind, Word};
+use crate::kind::{Byte, Word};
 use crate::message::{Attributes, Control, Message};
-use crate::reading::{menu_of, option_of, or_else, unless_end};
+use crate::reading::Cursor;
 use crate::{field, menu};
 
 #[tactic(auto, unfolding(crate::specs::Formats::acknowledge))]
 #[inline(always)]
-pub(crate) fn read_acknowledge(operand: &[u8]) -> Result<Message<'_>, Fault>
-    ensures { Gives (λ m. (seen m, [])) result (read acknowledge operand.now) }
+pub(crate) fn read_acknowledge(cursor: Cursor<'_>) -> Result<Message<'_>, Fault>
+    ensures { Gives seen result (value_at acknowledge (place cursor.entry)) }
 {
-    let _ignored = operand;
+    let _ignored = cursor;
     Ok(Message::Ack)
 }
 
 #[tactic(auto, unfolding(crate::specs::Formats::status))]
 #[inline(always)]
-pub(crate) fn read_status(operand: &[u8]) -> Result<Message<'_>, Fault>
-    ensures { Gives (λ m. (seen m, [])) result (read status operand.now) }
+pub(crate) fn read_status(mut cursor: Cursor<'_>) -> Result<Message<'_>, Fault>
+    ensures { Gives seen result (value_at status (place cursor.entry)) }
 {
-    let (code, rest) = Word.read(operand)?;
-    let (rfa, rest) = or_else(field::RFA, rest, &[])?;
-    let (recnum, rest) = or_else(field::RECNUM, rest, &[])?;
-    let (stv, _ignored) = or_else(field::STV, rest, &[])?;
+    let code = cursor.read(Word)?;
+    let rfa = cursor.or_else(field::RFA, &[])?;
+    let recnum = cursor.or_else(field::RECNUM, &[])?;
+    let stv = cursor.or_else(field::STV, &[])?;
     Ok(Message::Status {
         code,
         rfa,
@@ -40,17 +39,17 @@ pub(crate) fn read_status(operand: &[u8]) -> Result<Message<'_>, Fault>
 
 #[tactic(auto, unfolding(crate::specs::Formats::control))]
 #[inline(always)]
-pub(crate) fn read_control(operand: &[u8]) -> Result<Message<'_>, Fault>
-    ensures { Gives (λ m. (seen m, [])) result (read control operand.now) }
+pub(crate) fn read_control(mut cursor: Cursor<'_>) -> Result<Message<'_>, Fault>
+    ensures { Gives seen result (value_at control (place cursor.entry)) }
 {
-    let (func, rest) = Byte.read(operand)?;
-    let (bits, rest) = menu_of(menu::CTLMENU, rest)?;
-    let (rac, rest) = option_of(bits, menu::RAC, rest)?;
-    let (key, rest) = option_of(bits, menu::KEY, rest)?;
-    let (krf, rest) = option_of(bits, menu::KRF, rest)?;
-    let (rop, rest) = option_of(bits, menu::ROP, rest)?;
-    let (hsh, rest) = option_of(bits, menu::HSH, rest)?;
-    let (display, _ignored) = option_of(bits, menu::DISPLAY, rest)?;
+    let func = cursor.read(Byte)?;
+    let bits = cursor.menu_of(menu::CTLMENU)?;
+    let rac = cursor.option_of(bits, menu::RAC)?;
+    let key = cursor.option_of(bits, menu::KEY)?;
+    let krf = cursor.option_of(bits, menu::KRF)?;
+    let rop = cursor.option_of(bits, menu::ROP)?;
+    let hsh = cursor.option_of(bits, menu::HSH)?;
+    let display = cursor.option_of(bits, menu::DISPLAY)?;
     Ok(Message::Control(Control {
         func,
         rac,
@@ -64,20 +63,20 @@ pub(crate) fn read_control(operand: &[u8]) -> Result<Message<'_>, Fault>
 
 #[tactic(auto, unfolding(crate::specs::Formats::attributes, crate::specs::Inner::Attributes::later_attributes))]
 #[inline(always)]
-pub(crate) fn read_attributes(operand: &[u8]) -> Result<Message<'_>, Fault>
-    ensures { Gives (λ m. (seen m, [])) result (read attributes operand.now) }
+pub(crate) fn read_attributes(mut cursor: Cursor<'_>) -> Result<Message<'_>, Fault>
+    ensures { Gives seen result (value_at attributes (place cursor.entry)) }
 {
-    let (bits, rest) = menu_of(menu::ATTMENU, operand)?;
-    let (datatype, rest) = option_of(bits, menu::DATATYPE, rest)?;
-    let (org, rest) = option_of(bits, menu::ORG, rest)?;
-    let (rfm, rest) = option_of(bits, menu::RFM, rest)?;
-    let (rat, rest) = option_of(bits, menu::RAT, rest)?;
-    let (bls, rest) = option_of(bits, menu::BLS, rest)?;
-    let (mrs, rest) = option_of(bits, menu::MRS, rest)?;
-    let (alq, rest) = option_of(bits, menu::ALQ, rest)?;
-    let (bks, rest) = option_of(bits, menu::BKS, rest)?;
-    let (fsz, rest) = option_of(bits, menu::FSZ, rest)?;
-    let (mrn, rest) = option_of(bits, menu::MRN, rest)?;
+    let bits = cursor.menu_of(menu::ATTMENU)?;
+    let datatype = cursor.option_of(bits, menu::DATATYPE)?;
+    let org = cursor.option_of(bits, menu::ORG)?;
+    let rfm = cursor.option_of(bits, menu::RFM)?;
+    let rat = cursor.option_of(bits, menu::RAT)?;
+    let bls = cursor.option_of(bits, menu::BLS)?;
+    let mrs = cursor.option_of(bits, menu::MRS)?;
+    let alq = cursor.option_of(bits, menu::ALQ)?;
+    let bks = cursor.option_of(bits, menu::BKS)?;
+    let fsz = cursor.option_of(bits, menu::FSZ)?;
+    let mrn = cursor.option_of(bits, menu::MRN)?;
     let first = Attributes {
         datatype,
         org,
@@ -91,7 +90,7 @@ pub(crate) fn read_attributes(operand: &[u8]) -> Result<Message<'_>, Fault>
         mrn,
         ..Attributes::none()
     };
-    read_later_attributes(bits, first, rest)
+    read_later_attributes(bits, first, cursor)
 }
 
 /// The later attributes, from the runtime system on, behind these.
@@ -100,22 +99,22 @@ pub(crate) fn read_attributes(operand: &[u8]) -> Result<Message<'_>, Fault>
 fn read_later_attributes<'a>(
     bits: u64,
     first: Attributes<'a>,
-    operand: &'a [u8],
+    mut cursor: Cursor<'a>,
 ) -> Result<Message<'a>, Fault>
-    ensures { Gives (λ m. (seen m, [])) result
-        (read (later_attributes bits (seen_attributes first.entry)) operand.now) }
+    ensures { Gives seen result
+        (value_at (later_attributes bits (seen_attributes first.entry)) (place cursor.entry)) }
 {
-    let (runsys, rest) = option_of(bits, menu::RUNSYS, operand)?;
-    let (deq, rest) = option_of(bits, menu::DEQ, rest)?;
-    let (fop, rest) = option_of(bits, menu::FOP, rest)?;
-    let (bsz, rest) = option_of(bits, menu::BSZ, rest)?;
-    let (dev, rest) = option_of(bits, menu::DEV, rest)?;
-    let (sdc, rest) = option_of(bits, menu::SDC, rest)?;
-    let (lrl, rest) = option_of(bits, menu::LRL, rest)?;
-    let (hbk, rest) = option_of(bits, menu::HBK, rest)?;
-    let (ebk, rest) = option_of(bits, menu::EBK, rest)?;
-    let (ffb, rest) = option_of(bits, menu::FFB, rest)?;
-    let (sbn, _ignored) = option_of(bits, menu::SBN, rest)?;
+    let runsys = cursor.option_of(bits, menu::RUNSYS)?;
+    let deq = cursor.option_of(bits, menu::DEQ)?;
+    let fop = cursor.option_of(bits, menu::FOP)?;
+    let bsz = cursor.option_of(bits, menu::BSZ)?;
+    let dev = cursor.option_of(bits, menu::DEV)?;
+    let sdc = cursor.option_of(bits, menu::SDC)?;
+    let lrl = cursor.option_of(bits, menu::LRL)?;
+    let hbk = cursor.option_of(bits, menu::HBK)?;
+    let ebk = cursor.option_of(bits, menu::EBK)?;
+    let ffb = cursor.option_of(bits, menu::FFB)?;
+    let sbn = cursor.option_of(bits, menu::SBN)?;
     Ok(Message::Attrib(Attributes {
         runsys,
         deq,
@@ -134,18 +133,18 @@ fn read_later_attributes<'a>(
 
 #[tactic(auto, unfolding(crate::specs::Formats::configuration))]
 #[inline(always)]
-pub(crate) fn read_configuration(operand: &[u8]) -> Result<Message<'_>, Fault>
-    ensures { Gives (λ m. (seen m, [])) result (read configuration operand.now) }
+pub(crate) fn read_configuration(mut cursor: Cursor<'_>) -> Result<Message<'_>, Fault>
+    ensures { Gives seen result (value_at configuration (place cursor.entry)) }
 {
-    let (bufsiz, rest) = Word.read(operand)?;
-    let (ostype, rest) = Byte.read(rest)?;
-    let (filesys, rest) = Byte.read(rest)?;
-    let (vernum, rest) = Byte.read(rest)?;
-    let (econum, rest) = Byte.read(rest)?;
-    let (usrnum, rest) = Byte.read(rest)?;
-    let (softver, rest) = Byte.read(rest)?;
-    let (usrsoft, rest) = Byte.read(rest)?;
-    let (syscap, _ignored) = field::SYSCAP.read(rest)?;
+    let bufsiz = cursor.read(Word)?;
+    let ostype = cursor.read(Byte)?;
+    let filesys = cursor.read(Byte)?;
+    let vernum = cursor.read(Byte)?;
+    let econum = cursor.read(Byte)?;
+    let usrnum = cursor.read(Byte)?;
+    let softver = cursor.read(Byte)?;
+    let usrsoft = cursor.read(Byte)?;
+    let syscap = cursor.read(field::SYSCAP)?;
     Ok(Message::Config {
         bufsiz,
         ostype,
@@ -161,16 +160,16 @@ pub(crate) fn read_configuration(operand: &[u8]) -> Result<Message<'_>, Fault>
 
 #[tactic(auto, unfolding(crate::specs::Formats::access))]
 #[inline(always)]
-pub(crate) fn read_access(operand: &[u8]) -> Result<Message<'_>, Fault>
-    ensures { Gives (λ m. (seen m, [])) result (read access operand.now) }
+pub(crate) fn read_access(mut cursor: Cursor<'_>) -> Result<Message<'_>, Fault>
+    ensures { Gives seen result (value_at access (place cursor.entry)) }
 {
-    let (func, rest) = Byte.read(operand)?;
-    let (opt, rest) = field::ACCOPT.read(rest)?;
-    let (name, rest) = field::FILESPEC.read(rest)?;
-    let (fac, rest) = or_else(field::FAC, rest, 0)?;
-    let (shr, rest) = or_else(field::SHR, rest, 0)?;
-    let (display, rest) = or_else(field::DISPLAY, rest, 0)?;
-    let (password, _ignored) = or_else(field::PASSWORD, rest, &[])?;
+    let func = cursor.read(Byte)?;
+    let opt = cursor.read(field::ACCOPT)?;
+    let name = cursor.read(field::FILESPEC)?;
+    let fac = cursor.or_else(field::FAC, 0)?;
+    let shr = cursor.or_else(field::SHR, 0)?;
+    let display = cursor.or_else(field::DISPLAY, 0)?;
+    let password = cursor.or_else(field::PASSWORD, &[])?;
     Ok(Message::Access {
         func,
         opt,
@@ -184,40 +183,43 @@ pub(crate) fn read_access(operand: &[u8]) -> Result<Message<'_>, Fault>
 
 #[tactic(auto, unfolding(crate::specs::Formats::continuation))]
 #[inline(always)]
-pub(crate) fn read_continuation(operand: &[u8]) -> Result<Message<'_>, Fault>
-    ensures { Gives (λ m. (seen m, [])) result (read continuation operand.now) }
+pub(crate) fn read_continuation(mut cursor: Cursor<'_>) -> Result<Message<'_>, Fault>
+    ensures { Gives seen result (value_at continuation (place cursor.entry)) }
 {
-    let (func, _ignored) = Byte.read(operand)?;
+    let func = cursor.read(Byte)?;
     Ok(Message::Contran { func })
 }
 
 #[tactic(auto, unfolding(crate::specs::Formats::completion))]
 #[inline(always)]
-pub(crate) fn read_completion(operand: &[u8]) -> Result<Message<'_>, Fault>
-    ensures { Gives (λ m. (seen m, [])) result (read completion operand.now) }
+pub(crate) fn read_completion(mut cursor: Cursor<'_>) -> Result<Message<'_>, Fault>
+    ensures { Gives seen result (value_at completion (place cursor.entry)) }
 {
-    let (func, rest) = Byte.read(operand)?;
-    let (fop, rest) = or_else(field::FOP, rest, 0)?;
-    let (check, _ignored) = unless_end(rest, Word)?;
+    let func = cursor.read(Byte)?;
+    let fop = cursor.or_else(field::FOP, 0)?;
+    let check = cursor.unless_end(Word)?;
     Ok(Message::Accomp { func, fop, check })
 }
 
 #[tactic(auto, unfolding(crate::specs::Formats::file_data))]
 #[inline(always)]
-pub(crate) fn read_file_data(operand: &[u8]) -> Result<Message<'_>, Fault>
-    ensures { Gives (λ m. (seen m, [])) result (read file_data operand.now) }
+pub(crate) fn read_file_data(mut cursor: Cursor<'_>) -> Result<Message<'_>, Fault>
+    ensures { Gives seen result (value_at file_data (place cursor.entry)) }
 {
-    let (recnum, payload) = field::RECNUM.read(operand)?;
-    Ok(Message::Filedata { recnum, payload })
+    let recnum = cursor.read(field::RECNUM)?;
+    Ok(Message::Filedata {
+        recnum,
+        payload: cursor.rest,
+    })
 }
 
 #[tactic(auto, unfolding(crate::specs::Formats::other))]
 #[inline(always)]
-pub(crate) fn read_other(number: u8, operand: &[u8]) -> Result<Message<'_>, Fault>
-    ensures { Gives (λ m. (seen m, [])) result (read (other number) operand.now) }
+pub(crate) fn read_other(number: u8, cursor: Cursor<'_>) -> Result<Message<'_>, Fault>
+    ensures { Gives seen result (value_at (other number) (place cursor.entry)) }
 {
     Ok(Message::Other {
         number,
-        body: operand,
+        body: cursor.rest,
     })
 }

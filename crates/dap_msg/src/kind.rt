@@ -1,19 +1,16 @@
 //! The kinds of fields: how the fields of each are read, written and tested.
 
-ghost use Rattle.std.specs.Prelude.{◌≡◌, ◌≤◌, ◌<◌, ◌^◌, ℕ, Option, Some, None, option_copied, refl, ◌↔◌, IsTrue, true};
+ghost use Rattle.std.specs.Prelude.{◌≡◌, ◌≤◌, ◌<◌, ◌^◌, ℕ, Option, Some, None, option_copied, length, IfOk, refl, ◌↔◌, IsTrue, true};
 ghost use Rattle.std.proofs.Common.{lit≤};
 ghost use Rattle.dap_msg.specs.Grammar as kinds;
 ghost use Rattle.dap_msg.specs.Grammar.{ValueOf};
-ghost use Rattle.dap_msg.specs.Formats.{must};
-ghost use Rattle.dap_msg.specs.Inner.Reading.{part_at, Gives};
+ghost use Rattle.dap_msg.specs.Inner.Reading.{field_at, Gives};
 ghost use Rattle.dap_msg.specs.Inner.Fields.{bytes_of, CanWrite, is_there};
 ghost use Rattle.dap_msg.specs.Canon.{field_bytes};
 ghost use Rattle.dap_msg.specs.Inner.Fitting.{FitsField};
 
 use crate::encoding::Field;
-use crate::fault::Fault;
-use crate::reading::fault;
-use dap_fields::{ex_fits, read_ex, read_image, read_u8, read_u16};
+use dap_fields::{FieldFault, ex_fits, read_ex, read_image, read_u8, read_u16};
 
 /// A kind of field with values of `T`.
 pub(crate) trait Kind<'a, T>: Copy {
@@ -25,11 +22,12 @@ pub(crate) trait Kind<'a, T>: Copy {
 
     ghost seen_option: { (k : Self) → Option T → Option (ValueOf (kind k)) };
 
-    /// The field in front, and the bytes after it.
-    fn read(self, bytes: &'a [u8]) -> Result<(T, &'a [u8]), Fault>
+    /// The field in front, and the number of its bytes.
+    fn read(self, bytes: &'a [u8]) -> Result<(T, usize), FieldFault>
         requires { is_known self }
-        ensures { Gives (λ x. (seen self x.0, x.1.now)) result
-            (part_at (must (kind self)) bytes.now) };
+        ensures exact { Gives (λ x. (seen self x.0, x.1)) result
+            (field_at (kind self) bytes.now) }
+        ensures there { IfOk result (λ x. x.1 ≤ length bytes.now) };
 
     /// The field of a value that fits.
     fn field(self, value: T) -> Field<'a>
@@ -65,11 +63,8 @@ impl<'a> Kind<'a, u8> for Byte {
 
     ghost some = { λ k v. refl };
 
-    fn read(self, bytes: &'a [u8]) -> Result<(u8, &'a [u8]), Fault> {
-        match read_u8(bytes) {
-            Ok((value, len)) => Ok((value, &bytes[len..])),
-            Err(e) => Err(fault(e, bytes)),
-        }
+    fn read(self, bytes: &'a [u8]) -> Result<(u8, usize), FieldFault> {
+        read_u8(bytes)
     }
 
     #[inline(always)]
@@ -100,11 +95,8 @@ impl<'a> Kind<'a, u16> for Word {
 
     ghost some = { λ k v. refl };
 
-    fn read(self, bytes: &'a [u8]) -> Result<(u16, &'a [u8]), Fault> {
-        match read_u16(bytes) {
-            Ok((value, len)) => Ok((value, &bytes[len..])),
-            Err(e) => Err(fault(e, bytes)),
-        }
+    fn read(self, bytes: &'a [u8]) -> Result<(u16, usize), FieldFault> {
+        read_u16(bytes)
     }
 
     #[inline(always)]
@@ -135,11 +127,8 @@ impl<'a> Kind<'a, &'a [u8]> for Image {
 
     ghost some = { λ k v. refl };
 
-    fn read(self, bytes: &'a [u8]) -> Result<(&'a [u8], &'a [u8]), Fault> {
-        match read_image(bytes, self.0) {
-            Ok((value, len)) => Ok((value, &bytes[len..])),
-            Err(e) => Err(fault(e, bytes)),
-        }
+    fn read(self, bytes: &'a [u8]) -> Result<(&'a [u8], usize), FieldFault> {
+        read_image(bytes, self.0)
     }
 
     #[inline(always)]
@@ -192,10 +181,10 @@ impl<'a, N: Number> Kind<'a, N> for Extensible {
 
     ghost some = { λ k n. N.some n };
 
-    fn read(self, bytes: &'a [u8]) -> Result<(N, &'a [u8]), Fault> {
+    fn read(self, bytes: &'a [u8]) -> Result<(N, usize), FieldFault> {
         match read_ex(bytes, self.0) {
-            Ok((value, len)) => Ok((N::of(value), &bytes[len..])),
-            Err(e) => Err(fault(e, bytes)),
+            Ok((value, len)) => Ok((N::of(value), len)),
+            Err(fault) => Err(fault),
         }
     }
 

@@ -1,10 +1,7 @@
 use Rattle.std.proofs.Common.{arith}
 use Rattle.dap_msg.specs.Grammar.{Image}
-use Rattle.dap_msg.proofs.Fields.{field_ok, field_err}
+use Rattle.dap_msg.proofs.Fields.{field_given}
 use Rattle.dap_msg.proofs.kind.ImageKindRefSliceU8.read.Goals as goal
 
-pub returns-in-Ok : goal.returns-in-Ok
-returns-in-Ok c = field_ok (Image c.args.self.0) c.args.bytes.now c.in-Ok.value.now c.in-Ok.len c.in-Ok.ensures.exact
-
-pub returns-in-Err : goal.returns-in-Err
-returns-in-Err c = field_err (Image c.args.self.0) c.args.bytes.now c.in-Err.e c.fault.result (λ i. omega (arith, c.type_inv.bytes i)) c.in-Err.ensures.exact c.fault.ensures
+pub returns-clause-exact : goal.returns-clause-exact
+returns-clause-exact c = field_given (Image c.args.self.0) (λ image. image.now) _ c.read_image.result (λ i. omega (arith, c.type_inv.bytes i)) c.read_image.ensures.only

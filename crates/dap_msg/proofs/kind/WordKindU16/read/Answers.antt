@@ -1,10 +1,7 @@
-use Rattle.std.proofs.Common.{arith}
+use Rattle.std.proofs.Common.{◌∙◌, arith}
 use Rattle.dap_msg.specs.Grammar.{Word}
-use Rattle.dap_msg.proofs.Fields.{field_ok, field_err}
+use Rattle.dap_msg.proofs.Fields.{field_given, seen_same}
 use Rattle.dap_msg.proofs.kind.WordKindU16.read.Goals as goal
 
-pub returns-in-Ok : goal.returns-in-Ok
-returns-in-Ok c = field_ok Word c.args.bytes.now c.in-Ok.value c.in-Ok.len c.in-Ok.ensures.exact
-
-pub returns-in-Err : goal.returns-in-Err
-returns-in-Err c = field_err Word c.args.bytes.now c.in-Err.e c.fault.result (λ i. omega (arith, c.type_inv.bytes i)) c.in-Err.ensures.exact c.fault.ensures
+pub returns-clause-exact : goal.returns-clause-exact
+returns-clause-exact c = field_given Word (λ v. v) _ c.read_u16.result (λ i. omega (arith, c.type_inv.bytes i)) (λ other o. c.read_u16.ensures.only other o ∙ seen_same _)
