@@ -7,8 +7,7 @@ use Rattle.dap_msg.specs.Blocked.{Blocked, all_joined}
 use Rattle.dap_msg.proofs.ForCallers.{one_item}
 use Rattle.nsp_link.specs.declared.link.Got.{Got}
 use Rattle.nsp_link.specs.declared.fault.LinkFault.{LinkFault}
-use Rattle.nsp_link.specs.declared.fault.LinkFault.TheVariants as fault
-use Rattle.nsp_link.specs.Link.{LinkValue, Sends}
+use Rattle.nsp_link.specs.Link.{Sends}
 use Rattle.nsp_link.specs.Sending.{MayQueueAll, SendAllFault}
 use Rattle.nsp_link.proofs.ForCallers.{sends_all}
 use Rattle.dap_accessing.specs.Request.{Request}
@@ -23,15 +22,12 @@ use Rattle.dap_accessing.proofs.ForCallers.{one_present}
 use Rattle.dap_end.specs.declared.fault.EndFault.{EndFault}
 use Rattle.dap_end.specs.declared.fault.EndFault.TheVariants as end_fault
 use Rattle.dap_end.specs.declared.fault.TakeFault.{TakeFault}
-use Rattle.dap_end.specs.declared.fault.TakeFault.TheVariants as take_fault
 use Rattle.dap_end.specs.Ports.{PortValue, gone_on, posted}
-use Rattle.nsp_link.specs.Receiving.{Receives}
-use Rattle.dap_end.specs.Writing.{WroteAll, AnsweredAll, IsFull, sent_more}
-use Rattle.dap_end.specs.Asking.{AskingValue, AskingPast, HasAsked, HasStill, AskedOne, HandedAll, ReadOne, ReadNone, ReadOn, begins, goes, ReadAll, ReadPart, ReadsAll, HeardAll, HearFault, HeardIn, AnswerFault, WentOn, GoOnFault, GoesOn, TookAll, TookPart, Refused, Takes, AreAlike, HasDone, received, read_one, asked_one}
+use Rattle.dap_end.specs.Asking.{AskingValue, AskingPast, HasAsked, HasStill, AskedOne, HandedAll, ReadOne, ReadNone, ReadOn, begins, goes, ReadAll, ReadPart, ReadsAll, HeardAll, HearFault, GoesOn, Takes, asks, AreAlike, HasDone, read_one, asked_one}
 use Rattle.dap_end.specs.Wanting.{is_want, went_wanting, took_wanting}
 use Rattle.dap_end.proofs.Asked.{read_grows}
-use Rattle.dap_end.proofs.Determined.{may_or_not, refused_one, all_wrote, answered_one, no_next, ok_apart, ok_same, err_same}
-use Rattle.dap_end.proofs.Refusing.{receives_same}
+use Rattle.dap_end.proofs.Determined.{may_or_not, refused_one, no_next}
+use Rattle.dap_end.proofs.Turning.{DoAlike, no_want, went_same, took_same}
 
 -- ---- Asking.
 
@@ -169,9 +165,6 @@ abbrev Hears : (old new : AskingValue) → (before reports : List Report) → Re
 Hears old new before reports (Ok done) = HeardAll old new before reports
 Hears old new before reports (Err f) = HearFault old new before reports f
 
-no_link_want : (f : LinkFault) → is_want (end_fault.Link f) ≡ false → f ≢ fault.NoMemory
-no_link_want f e k = true≢false (sym (ap (λ (x : LinkFault). is_want (end_fault.Link x)) k) ∙ e)
-
 no_read_want : (f : ReadFault) → is_want (end_fault.Read f) ≡ false → f ≢ read_fault.NoMemory
 no_read_want f e k = true≢false (sym (ap (λ (x : ReadFault). is_want (end_fault.Read x)) k) ∙ e)
 
@@ -207,7 +200,7 @@ empty_apart old other one mid two before xs ys f d like want ra none rb n =
 heard_apart : (old other one two : AskingValue) (before xs ys : List Report) (f : EndFault) → HasDone old → AreAlike old other → is_want f ≡ false → HeardAll old one before xs → HearFault other two before ys f → ⊥
 heard_apart old other one two before xs ys (end_fault.Link f) d like want a b =
     let t = read_alike old other a.heard two before xs ys d like a.read b.read (λ p. stops_empty a.heard a.done) (λ p. stops_empty two b.done) in
-    may_or_not two.port.link two.port.outbox f (no_link_want f want) (subst (λ (p : PortValue). MayQueueAll p.link p.outbox) t.0.0 a.handed.may) b.refused
+    may_or_not two.port.link two.port.outbox f (no_want f want) (subst (λ (p : PortValue). MayQueueAll p.link p.outbox) t.0.0 a.handed.may) b.refused
 heard_apart old other one two before xs ys (end_fault.Read f) d like want a b =
     let u = unread other two before ys f (no_read_want f want) b in
     empty_apart old other a.heard u.0 two before xs ys f d like (no_read_want f want) a.read a.done u.1 u.2
@@ -264,7 +257,7 @@ stopped_alike : (old other one two : AskingValue) (before xs ys : List Report) (
     → AreAlike one two × (f ≡ g) × (xs ≡ ys) × HasDone one
 stopped_alike old other one two before xs ys (end_fault.Link f) (end_fault.Link g) d like nf ng a b =
     let t = read_alike old other one two before xs ys d like a.read b.read (λ p. stops_empty one a.done) (λ p. stops_empty two b.done) in
-    let same = refused_one two.port.link two.port.outbox f g (no_link_want f nf) (no_link_want g ng) (subst (λ (p : PortValue). SendAllFault p.link p.outbox f) t.0.0 a.refused) b.refused in
+    let same = refused_one two.port.link two.port.outbox f g (no_want f nf) (no_want g ng) (subst (λ (p : PortValue). SendAllFault p.link p.outbox f) t.0.0 a.refused) b.refused in
     (t.0, ap (λ (x : LinkFault). end_fault.Link x) same, t.1, t.2)
 stopped_alike old other one two before xs ys (end_fault.Link f) (end_fault.Read g) d like nf ng a b =
     let u = unread other two before ys g (no_read_want g ng) b in
@@ -276,148 +269,30 @@ stopped_alike old other one two before xs ys (end_fault.Read f) (end_fault.Read 
     let t = unread_alike old other one two before xs ys f g d like (no_read_want f nf) (no_read_want g ng) a b in
     (t.0, ap (λ (x : ReadFault). end_fault.Read x) t.1, t.2, t.3)
 
--- ---- Writing.
+-- ---- Going on, and taking.
 
-still_done : (v new : AskingValue) (n : ℕ) → HasStill v new → new ≡ record v { port = new.port } → new.port ≡ sent_more v.port n → HasDone v → HasDone new
-still_done v new n still rest sent (inl d) = inl (d.0, still d.0 d.1)
-still_done v new n still rest sent (inr d) =
-    let here : HasDone (record v { port = sent_more v.port n }) = inr (d.0, (d.1.0, record { queue = d.1.1.queue; acked = d.1.1.acked })) in
-    subst HasDone (sym (rest ∙ ap (λ (p : PortValue). record v { port = p }) sent)) here
+stays_done : (old new : AskingValue) (port : PortValue) → HasDone old → new ≡ record old { port = port } → HasStill old new → ((handed : List (List ℕ)) → Sends old.port.link handed → Sends new.port.link handed) → HasDone new
+stays_done old new port (inl d) rest still sends = inl (d.0, still d.0 d.1)
+stays_done old new port (inr d) rest still sends = inr (ap (λ (v : AskingValue). v.accessing.failed) rest ∙ d.0, (d.1.0, sends d.1.0 d.1.1))
 
--- both ends wrote from one port
-rest_alike : (heard other one two : AskingValue) → AreAlike heard other → one ≡ record heard { port = one.port } → two ≡ record other { port = two.port } → one.port ≡ two.port → AreAlike one two
-rest_alike heard other one two like ra rb e =
-    subst (λ (v : AskingValue). AreAlike v two) (sym ra) (subst (λ (v : AskingValue). AreAlike (record heard { port = one.port }) v) (sym rb) (alike_port heard other one.port two.port like e))
-
-went_alike : (old other one two : AskingValue) (out xs ys : List (List ℕ)) (before rs ss : List Report) → HasDone old → AreAlike old other → WentOn old one out xs before rs → WentOn other two out ys before ss → IsFull one.port.link → IsFull two.port.link
-    → AreAlike one two × (xs ≡ ys) × (rs ≡ ss) × HasDone one
-went_alike old other one two out xs ys before rs ss d like a b fa fb =
-    let t = heard_alike old other a.heard b.heard before rs ss d like a.hears b.hears in
-    let sent = has_sent a.heard t.2 in
-    let wb : WroteAll a.heard.port two.port out ys = subst (λ (p : PortValue). WroteAll p two.port out ys) (sym t.0.0) b.wrote in
-    let w = all_wrote a.heard.port one.port two.port sent.0 out xs ys sent.1 a.wrote wb fa fb in
-    (rest_alike a.heard b.heard one two t.0 a.rest b.rest w.0, w.1, t.1, still_done a.heard one _ a.still a.rest a.wrote.2.sent t.2)
-
-abbrev failed_by : EndFault → Result (Unit {0}) EndFault
-failed_by f = Err f
-
-went_apart : (old other one two : AskingValue) (out xs ys : List (List ℕ)) (before rs ss : List Report) (f : EndFault) → HasDone old → AreAlike old other → is_want f ≡ false → WentOn old one out xs before rs → GoOnFault other two out ys before ss f → ⊥
-went_apart old other one two out xs ys before rs ss f d like want a (inl b) = heard_apart old other a.heard two before rs ss f d like want a.hears b.0
-went_apart old other one two out xs ys before rs ss f d like want a (inr b) = true≢false (sym (ap is_want b.0) ∙ want)
-
-halted_alike : (old other one two : AskingValue) (out xs ys : List (List ℕ)) (before rs ss : List Report) (f g : EndFault) → HasDone old → AreAlike old other → is_want f ≡ false → is_want g ≡ false → GoOnFault old one out xs before rs f
-    → GoOnFault other two out ys before ss g → AreAlike one two × (f ≡ g) × (xs ≡ ys) × (rs ≡ ss) × HasDone one
-halted_alike old other one two out xs ys before rs ss f g d like nf ng (inl a) (inl b) =
-    let t = stopped_alike old other one two before rs ss f g d like nf ng a.0 b.0 in (t.0, t.1, a.1 ∙ sym b.1, t.2, t.3)
-halted_alike old other one two out xs ys before rs ss f g d like nf ng (inl a) (inr b) = absurd (true≢false (sym (ap is_want b.0) ∙ ng))
-halted_alike old other one two out xs ys before rs ss f g d like nf ng (inr a) b = absurd (true≢false (sym (ap is_want a.0) ∙ nf))
+asks_alike : (before rs ss : List Report) → DoAlike (asks before rs) (asks before ss) AreAlike HasDone (rs ≡ ss)
+asks_alike before rs ss =
+    record {
+      port = λ a b like. like.0;
+      moved = λ a b p q like same. alike_port a b p q like same;
+      sends = has_sent;
+      stays = λ old new p d rest still sends. stays_done old new p d rest still sends;
+      does = λ old other one two d like a b. heard_alike old other one two before rs ss d like a b;
+      stops = λ old other one two f g d like nf ng a b. stopped_alike old other one two before rs ss f g d like nf ng a b;
+      apart = λ old other one two f d like n a b. heard_apart old other one two before rs ss f d like n a b;
+      apart_back = λ old other one two f d like n a b. heard_apart other old two one before ss rs f (alike_done old other like d) (alike_back old other like) n b a;
+      quiet = λ a b. a ∙ sym b;
+    }
 
 pub going_alike : (old other one two : AskingValue) (out xs ys : List (List ℕ)) (before rs ss : List Report) (r s : Result (Unit {0}) EndFault) → HasDone old → AreAlike old other → went_wanting r ≡ false → went_wanting s ≡ false
     → GoesOn old one out xs before rs r → GoesOn other two out ys before ss s → AreAlike one two × (r ≡ s) × (xs ≡ ys) × (rs ≡ ss) × HasDone one
-going_alike old other one two out xs ys before rs ss (Ok u) (Ok w) d like nr ns a b =
-    let t = went_alike old other one two out xs ys before rs ss d like a.0 b.0 a.1 b.1 in (t.0, refl, t.1, t.2, t.3)
-going_alike old other one two out xs ys before rs ss (Ok u) (Err g) d like nr ns a b = absurd (went_apart old other one two out xs ys before rs ss g d like ns a.0 b)
-going_alike old other one two out xs ys before rs ss (Err f) (Ok w) d like nr ns a b =
-    absurd (went_apart other old two one out ys xs before ss rs f (alike_done old other like d) (alike_back old other like) nr b.0 a)
-going_alike old other one two out xs ys before rs ss (Err f) (Err g) d like nr ns a b =
-    let t = halted_alike old other one two out xs ys before rs ss f g d like nr ns a b in (t.0, ap failed_by t.1, t.2, t.3, t.4)
-
--- ---- Taking.
-
-abbrev took : Got → Result Got TakeFault
-took got = Ok got
-
-abbrev refused : LinkFault → Result Got TakeFault
-refused f = Err (take_fault.Refused f)
-
-abbrev unfinished : Got → EndFault → Result Got TakeFault
-unfinished got f = Err (take_fault.Unfinished got f)
-
-in_done : (old : AskingValue) (link : LinkValue) (bytes : List ℕ) (got : Got) → HeardIn old bytes got link → HasDone old → HasDone (received old link)
-in_done old link bytes got t (inl d) = inl (d.0, t.still d.0 d.1)
-in_done old link bytes got t (inr d) = inr (d.0, (d.1.0, t.receives.sends d.1.0 d.1.1))
-
--- a packet that both took in
-in_alike : (old other : AskingValue) (a b : LinkValue) (bytes : List ℕ) (g h : Got) → AreBytes bytes → AreAlike old other → Receives old.port.link a bytes (Ok g) → Receives other.port.link b bytes (Ok h)
-    → (g ≡ h) × AreAlike (received old a) (received other b)
-in_alike old other a b bytes g h fits like ra rb =
-    let rc : Receives old.port.link b bytes (Ok h) = subst (λ (p : PortValue). Receives p.link b bytes (Ok h)) (sym like.0) rb in
-    let r = receives_same old.port.link a b bytes (Ok g) (Ok h) fits (ok_apart g fault.NoMemory) (ok_apart h fault.NoMemory) ra rc in (
-      ok_same g h r.0,
-      alike_port old other _ _ like (ap (λ (l : LinkValue). record old.port { link = l }) r.1 ∙ ap (λ (p : PortValue). record p { link = b }) like.0),
-    )
-
-in_apart : (old other : AskingValue) (a b : LinkValue) (bytes : List ℕ) (g : Got) (f : LinkFault) → AreBytes bytes → AreAlike old other → f ≢ fault.NoMemory → Receives old.port.link a bytes (Ok g) → Receives other.port.link b bytes (Err f) → ⊥
-in_apart old other a b bytes g f fits like want ra rb =
-    let rc : Receives old.port.link b bytes (Err f) = subst (λ (p : PortValue). Receives p.link b bytes (Err f)) (sym like.0) rb in
-    ok_apart g f ((receives_same old.port.link a b bytes (Ok g) (Err f) fits (ok_apart g fault.NoMemory) (λ k. want (err_same f fault.NoMemory k)) ra rc).0)
-
-taken_alike : (old other one two : AskingValue) (bytes : List ℕ) (g h : Got) (out xs ys : List (List ℕ)) (before rs ss : List Report) → AreBytes bytes → HasDone old → AreAlike old other → TookAll old one bytes g out xs before rs
-    → TookAll other two bytes h out ys before ss → AreAlike one two × (g ≡ h) × (xs ≡ ys) × (rs ≡ ss) × HasDone one
-taken_alike old other one two bytes g h out xs ys before rs ss fits d like a b =
-    let i = in_alike old other a.link b.link bytes g h fits like a.took.receives b.took.receives in
-    let wa = a.all_done in
-    let wb = b.all_done in
-    let t = heard_alike (received old a.link) (received other b.link) wa.heard wb.heard before rs ss (in_done old a.link bytes g a.took d) i.1 wa.hears wb.hears in
-    let sent = has_sent wa.heard t.2 in
-    let ab : AnsweredAll wa.heard.port two.port g out ys =
-    subst (λ (x : Got). AnsweredAll wa.heard.port two.port x out ys) (sym i.0) (subst (λ (p : PortValue). AnsweredAll p two.port h out ys) (sym t.0.0) wb.answered) in
-    let w = answered_one wa.heard.port one.port two.port sent.0 g out xs ys sent.1 wa.answered ab in
-    (rest_alike wa.heard wb.heard one two t.0 wa.rest wb.rest w.0, i.0, w.1, t.1, still_done wa.heard one _ wa.still wa.rest wa.answered.2.wrote.sent t.2)
-
-fault_in : (mid new : AskingValue) (got : Got) (out all : List (List ℕ)) (before reports : List Report) (f : EndFault) → is_want f ≡ false → AnswerFault mid new got out all before reports f → HearFault mid new before reports f × (all ≡ out)
-fault_in mid new got out all before reports f want (inl h) = h
-fault_in mid new got out all before reports f want (inr h) =
-    absurd (true≢false (sym (ap is_want (h.1 ∙ ap (λ (x : LinkFault). end_fault.Link x) h.2.part.memory)) ∙ want))
-
-taken_apart : (old other one two : AskingValue) (bytes : List ℕ) (g h : Got) (f : EndFault) (out xs ys : List (List ℕ)) (before rs ss : List Report) → AreBytes bytes → HasDone old → AreAlike old other → is_want f ≡ false
-    → TookAll old one bytes g out xs before rs → TookPart other two bytes h out ys before ss f → ⊥
-taken_apart old other one two bytes g h f out xs ys before rs ss fits d like want a b =
-    let i = in_alike old other a.link b.link bytes g h fits like a.took.receives b.took.receives in
-    let p = fault_in (received other b.link) two h out ys before ss f want b.why in
-    heard_apart (received old a.link) (received other b.link) a.all_done.heard two before rs ss f (in_done old a.link bytes g a.took d) i.1 want a.all_done.hears p.0
-
-part_alike : (old other one two : AskingValue) (bytes : List ℕ) (g h : Got) (e f : EndFault) (out xs ys : List (List ℕ)) (before rs ss : List Report) → AreBytes bytes → HasDone old → AreAlike old other → is_want e ≡ false → is_want f ≡ false
-    → TookPart old one bytes g out xs before rs e → TookPart other two bytes h out ys before ss f → AreAlike one two × (unfinished g e ≡ unfinished h f) × (xs ≡ ys) × (rs ≡ ss) × HasDone one
-part_alike old other one two bytes g h e f out xs ys before rs ss fits d like ne nf a b =
-    let i = in_alike old other a.link b.link bytes g h fits like a.took.receives b.took.receives in
-    let pa = fault_in (received old a.link) one g out xs before rs e ne a.why in
-    let pb = fault_in (received other b.link) two h out ys before ss f nf b.why in
-    let t = stopped_alike (received old a.link) (received other b.link) one two before rs ss e f (in_done old a.link bytes g a.took d) i.1 ne nf pa.0 pb.0 in
-    (t.0, ap (λ (x : Got). unfinished x e) i.0 ∙ ap (unfinished h) t.1, pa.1 ∙ sym pb.1, t.2, t.3)
-
-none_done : (old new : AskingValue) (bytes : List ℕ) (f : LinkFault) → Refused old new bytes f → HasDone old → HasDone new
-none_done old new bytes f r (inl d) = inl (d.0, r.still d.0 d.1)
-none_done old new bytes f r (inr d) = subst HasDone (sym r.new_is) (inr (d.0, (d.1.0, r.receives.sends d.1.0 d.1.1)))
-
-none_alike : (old other one two : AskingValue) (bytes : List ℕ) (f g : LinkFault) → AreBytes bytes → HasDone old → AreAlike old other → f ≢ fault.NoMemory → g ≢ fault.NoMemory → Refused old one bytes f → Refused other two bytes g
-    → AreAlike one two × (refused f ≡ refused g) × HasDone one
-none_alike old other one two bytes f g fits d like nf ng a b =
-    let rc : Receives old.port.link b.link bytes (Err g) = subst (λ (p : PortValue). Receives p.link b.link bytes (Err g)) (sym like.0) b.receives in
-    let r = receives_same old.port.link a.link b.link bytes (Err f) (Err g) fits (λ k. nf (err_same f fault.NoMemory k)) (λ k. ng (err_same g fault.NoMemory k)) a.receives rc in
-    let there = alike_port old other _ _ like (ap (λ (l : LinkValue). record old.port { link = l }) r.1 ∙ ap (λ (p : PortValue). record p { link = b.link }) like.0) in (
-      subst (λ (v : AskingValue). AreAlike v two) (sym a.new_is) (subst (λ (v : AskingValue). AreAlike (received old a.link) v) (sym b.new_is) there),
-      ap refused (err_same f g r.0),
-      none_done old one bytes f a d,
-    )
+going_alike old other one two out xs ys before rs ss r s d like nr ns a b = went_same _ _ _ _ _ (asks_alike before rs ss) old other one two out xs ys r s d like nr ns a b
 
 pub taking_alike : (old other one two : AskingValue) (bytes : List ℕ) (r s : Result Got TakeFault) (out xs ys : List (List ℕ)) (before rs ss : List Report) → AreBytes bytes → HasDone old → AreAlike old other → took_wanting r ≡ false → took_wanting s ≡ false
     → Takes old one bytes out xs before rs r → Takes other two bytes out ys before ss s → AreAlike one two × (r ≡ s) × (xs ≡ ys) × (rs ≡ ss) × HasDone one
-taking_alike old other one two bytes (Ok g) (Ok h) out xs ys before rs ss fits d like nr ns a b =
-    let t = taken_alike old other one two bytes g h out xs ys before rs ss fits d like a b in (t.0, ap took t.1, t.2, t.3, t.4)
-taking_alike old other one two bytes (Ok g) (Err (take_fault.Refused f)) out xs ys before rs ss fits d like nr ns a b =
-    absurd (in_apart old other a.link b.0.link bytes g f fits like (no_link_want f ns) a.took.receives b.0.receives)
-taking_alike old other one two bytes (Ok g) (Err (take_fault.Unfinished h f)) out xs ys before rs ss fits d like nr ns a b =
-    absurd (taken_apart old other one two bytes g h f out xs ys before rs ss fits d like ns a b)
-taking_alike old other one two bytes (Err (take_fault.Refused f)) (Ok h) out xs ys before rs ss fits d like nr ns a b =
-    absurd (in_apart other old b.link a.0.link bytes h f fits (alike_back old other like) (no_link_want f nr) b.took.receives a.0.receives)
-taking_alike old other one two bytes (Err (take_fault.Refused f)) (Err (take_fault.Refused g)) out xs ys before rs ss fits d like nr ns a b =
-    let t = none_alike old other one two bytes f g fits d like (no_link_want f nr) (no_link_want g ns) a.0 b.0 in (t.0, t.1, a.1 ∙ sym b.1, a.2 ∙ sym b.2, t.2)
-taking_alike old other one two bytes (Err (take_fault.Refused f)) (Err (take_fault.Unfinished h g)) out xs ys before rs ss fits d like nr ns a b =
-    absurd (in_apart other old b.link a.0.link bytes h f fits (alike_back old other like) (no_link_want f nr) b.took.receives a.0.receives)
-taking_alike old other one two bytes (Err (take_fault.Unfinished g f)) (Ok h) out xs ys before rs ss fits d like nr ns a b =
-    absurd (taken_apart other old two one bytes h g f out ys xs before ss rs fits (alike_done old other like d) (alike_back old other like) nr b a)
-taking_alike old other one two bytes (Err (take_fault.Unfinished g f)) (Err (take_fault.Refused e)) out xs ys before rs ss fits d like nr ns a b =
-    absurd (in_apart old other a.link b.0.link bytes g e fits like (no_link_want e ns) a.took.receives b.0.receives)
-taking_alike old other one two bytes (Err (take_fault.Unfinished g f)) (Err (take_fault.Unfinished h e)) out xs ys before rs ss fits d like nr ns a b =
-    part_alike old other one two bytes g h f e out xs ys before rs ss fits d like nr ns a b
+taking_alike old other one two bytes r s out xs ys before rs ss fits d like nr ns a b = took_same _ _ _ _ _ (asks_alike before rs ss) old other one two bytes out xs ys r s fits d like nr ns a b

@@ -1,6 +1,6 @@
 -- What the calls of an asking end leave of what it did.
 use Rattle.std.proofs.Common.{◌≡◌, inl, inr, eq-eqb, ◌-◌, ℕ, ◌+◌, ◌<◌, ◌≤◌, arith, refl, sym, ◌∙◌, subst, ap, append_assoc, true, false, List, [], ◌∷◌, ◌++◌, length}
-use Rattle.std.specs.Prelude.{◌==◌, Option, Result, Ok, Err, IfOk, OnOk, IfErr, nat_le, if◌then◌else◌, option_to_list}
+use Rattle.std.specs.Prelude.{◌==◌, Option, Result, Ok, Err, IfOk, OnOk, nat_le, if◌then◌else◌, option_to_list}
 use Rattle.std.proofs.lemmas.Bool.{cases_eq, ne_eqb}
 use Rattle.std.proofs.lemmas.List.{append-nil, map-append}
 use Rattle.std.proofs.lemmas.List.Elements.{All-append}
@@ -11,10 +11,8 @@ use Rattle.dap_msg.specs.Items.{Item, IsPlace}
 use Rattle.dap_msg.specs.Sendable.{AreSendable}
 use Rattle.dap_msg.specs.Blocked.{NspMessage, joined, Blocked, blocked_after, all_joined, messages_in, AllFit, AllWithin, IsWithin}
 use Rattle.dap_msg.proofs.ForCallers.{messages_in-Blocked, within_limit}
-use Rattle.nsp_link.specs.declared.link.Got.{Got}
 use Rattle.nsp_link.specs.declared.fault.LinkFault.{LinkFault}
-use Rattle.nsp_link.specs.declared.fault.LinkFault.TheVariants as fault
-use Rattle.nsp_link.specs.Link.{LinkValue, SendsStill, Stands, MaySend}
+use Rattle.nsp_link.specs.Link.{LinkValue, SendsStill, Stands}
 use Rattle.nsp_link.specs.Sending.{MayQueueAll, SendAllFault}
 use Rattle.nsp_link.proofs.ForCallers.{sends_all}
 use Rattle.dap_accessed.specs.Served.{AllAtMost}
@@ -26,13 +24,10 @@ use Rattle.dap_accessing.specs.Told.{Told}
 use Rattle.dap_accessing.specs.Phase.{limit_after}
 use Rattle.dap_accessing.specs.Present.{Present}
 use Rattle.dap_accessing.specs.Calls.{Asks, Reads}
-use Rattle.dap_end.specs.declared.fault.EndFault.{EndFault}
-use Rattle.dap_end.specs.declared.fault.EndFault.TheVariants as end_fault
 use Rattle.dap_end.specs.Ports.{PortValue, with_link, posted, gone_on}
-use Rattle.dap_end.specs.Writing.{sent_more, WroteAll, AnsweredAll, AnsweredPart}
+use Rattle.dap_end.specs.Writing.{sent_more}
 use Rattle.dap_end.specs.Going.{GoneThrough, given_then}
-use Rattle.dap_end.specs.Asking.{AskingValue, AskingPast, AreFull, HasAsked, HasStill, AskedOne, HandedAll, ReadOne, ReadOn, begins, goes, ReadAll, HeardAll, HeardOnly, WentOn, GoOnFault, HeardIn, HeardAndWrote, AnswerFault, TookAll, TookPart, received, read_one}
-use Rattle.dap_end.specs.Inner.Answered.{Ended}
+use Rattle.dap_end.specs.Asking.{AskingValue, AskingPast, AreFull, HasAsked, HasStill, AskedOne, HandedAll, ReadOne, ReadOn, begins, goes, ReadAll, HeardOnly, read_one}
 use Rattle.dap_end.specs.Inner.Kept.{IsPort, AreShort}
 use Rattle.dap_end.specs.Inner.AskingView.{asking_of}
 use Rattle.dap_end.proofs.Taking.{Grown}
@@ -347,53 +342,3 @@ works_after old new n h = ap (λ (v : AskingValue). v.port.link.failed) h.posted
 pub heard_only : (old heard new : AskingValue) (before reports : List Report) (f : LinkFault) → ReadAll old heard before reports → heard.port.link.inbox ≡ [] → (new ≡ heard) × SendAllFault heard.port.link heard.port.outbox f → HeardOnly old new before reports f
 heard_only old heard new before reports f read done h =
     subst (λ (v : AskingValue). HeardOnly old v before reports f) (sym h.0) (record { read = read; done = done; refused = h.1 })
-
-module _ (old heard : AskingValue) (port : PortValue) (out all : List (List ℕ)) (before reports : List Report) (hears : HeardAll old heard before reports) where
-  pub went_on : WroteAll heard.port port out all → WentOn old (asking_of port heard.accessing) out all before reports
-  went_on w = record { heard = heard; hears = hears; rest = refl; still = still_sent heard port _ w.2.sent; wrote = w }
-
-pub went_part : (old heard : AskingValue) (port : PortValue) (out all : List (List ℕ)) (before reports : List Report) (f : LinkFault) → HeardAll old heard before reports → WroteAll heard.port port out all → (f ≡ fault.NoMemory) × MaySend port.link
-    → GoOnFault old (asking_of port heard.accessing) out all before reports (end_fault.Link f)
-went_part old heard port out all before reports f hears w h = inr (ap (λ (g : LinkFault). end_fault.Link g) h.0, went_on old heard port out all before reports hears w, h.1)
-
-pub answered : (old heard : AskingValue) (port : PortValue) (got : Got) (out all : List (List ℕ)) (before reports : List Report) → HeardAll old heard before reports → AnsweredAll heard.port port got out all
-    → HeardAndWrote old (asking_of port heard.accessing) got out all before reports
-answered old heard port got out all before reports hears a = record { heard = heard; hears = hears; rest = refl; still = still_sent heard port _ a.2.wrote.sent; answered = a }
-
-pub answered_part : (old heard : AskingValue) (port : PortValue) (got : Got) (out all : List (List ℕ)) (before reports : List Report) (f : LinkFault) → HeardAll old heard before reports → AnsweredPart heard.port port got out all f
-    → AnswerFault old (asking_of port heard.accessing) got out all before reports (end_fault.Link f)
-answered_part old heard port got out all before reports f hears a =
-    inr (f, refl, record { heard = heard; hears = hears; rest = refl; still = still_sent heard port _ a.wrote.sent; part = a })
-
--- a call that ends as its link does
-pub ended_ok : (P : Type 0) (r : Result (Unit {0}) LinkFault) (s : Result (Unit {0}) EndFault) → Ended r s → OnOk r P → OnOk s P
-ended_ok P (Ok u) s e h = subst (λ (x : Result (Unit {0}) EndFault). OnOk x P) (sym e) h
-ended_ok P (Err f) s e h = subst (λ (x : Result (Unit {0}) EndFault). OnOk x P) (sym e) tt
-
-pub ended_err : (Q : EndFault → Type 0) (r : Result (Unit {0}) LinkFault) (s : Result (Unit {0}) EndFault) → Ended r s → IfErr r (λ f. Q (end_fault.Link f)) → IfErr s Q
-ended_err Q (Ok u) s e h = subst (λ (x : Result (Unit {0}) EndFault). IfErr x Q) (sym e) tt
-ended_err Q (Err f) s e h = subst (λ (x : Result (Unit {0}) EndFault). IfErr x Q) (sym e) h
-
-pub on_ok : (P Q : Type 0) (r : Result (Unit {0}) LinkFault) → (P → Q) → OnOk r P → OnOk r Q
-on_ok P Q (Ok u) to h = to h
-on_ok P Q (Err f) to h = tt
-
-pub if_ok : (P : Type 0) (r : Result (Unit {0}) LinkFault) → P → OnOk r P
-if_ok P (Ok u) h = h
-if_ok P (Err f) h = tt
-
-pub if_err : (P Q : LinkFault → Type 0) (r : Result (Unit {0}) LinkFault) → ((f : LinkFault) → P f → Q f) → IfErr r P → IfErr r Q
-if_err P Q (Ok u) to h = tt
-if_err P Q (Err f) to h = to f h
-
--- ---- Taking.
-
-pub took_all : (old mid new : AskingValue) (bytes : List ℕ) (got : Got) (out all : List (List ℕ)) (before reports : List Report) → mid ≡ received old mid.port.link → HeardIn old bytes got mid.port.link
-    → HeardAndWrote mid new got out all before reports → TookAll old new bytes got out all before reports
-took_all old mid new bytes got out all before reports rest took h =
-    record { link = mid.port.link; took = took; all_done = subst (λ (v : AskingValue). HeardAndWrote v new got out all before reports) rest h }
-
-pub took_part : (old mid new : AskingValue) (bytes : List ℕ) (got : Got) (out all : List (List ℕ)) (before reports : List Report) (f : EndFault) → mid ≡ received old mid.port.link → HeardIn old bytes got mid.port.link
-    → AnswerFault mid new got out all before reports f → TookPart old new bytes got out all before reports f
-took_part old mid new bytes got out all before reports f rest took h =
-    record { link = mid.port.link; took = took; why = subst (λ (v : AskingValue). AnswerFault v new got out all before reports f) rest h }

@@ -4,7 +4,7 @@ use Rattle.std.specs.Prelude.{Bool, Option, Some, None, Result, Ok, Err, option_
 use Rattle.std.proofs.lemmas.List.{append-nil, map-append}
 use Rattle.nsp_link.specs.declared.link.Got.{Got}
 use Rattle.nsp_link.specs.declared.fault.LinkFault.{LinkFault}
-use Rattle.nsp_link.specs.Link.{LinkValue, IsSpelling}
+use Rattle.nsp_link.specs.Link.{IsSpelling}
 use Rattle.nsp_link.specs.Sending.{WritesSent, ack_packet_of}
 use Rattle.dap_accessing.specs.Request.{Request}
 use Rattle.dap_accessing.specs.declared.report.Report.{Report}
@@ -14,9 +14,9 @@ use Rattle.dap_accessing.specs.Present.{Present}
 use Rattle.dap_end.specs.declared.fault.EndFault.{EndFault}
 use Rattle.dap_end.specs.declared.fault.EndFault.TheVariants as end_fault
 use Rattle.dap_end.specs.Ports.{PortValue}
-use Rattle.nsp_link.specs.Receiving.{Receives}
-use Rattle.dap_end.specs.Writing.{wants_ack, WroteNext, WroteMore}
-use Rattle.dap_end.specs.Asking.{AskingValue, AskedOne, HandedAll, ReadOne, begins, goes as reads_first, ReadAll, HeardAll, WentOn, GoOnFault, HearFault, AnswerFault, ReadNone, ReadPart, TookAll, TookPart, Refused, received}
+use Rattle.dap_end.specs.Writing.{wants_ack, WroteNext, WroteMore, WroteAll}
+use Rattle.dap_end.specs.Asking.{AskingValue, AskedOne, HandedAll, ReadOne, begins, goes as reads_first, ReadAll, HeardAll, HearFault, ReadNone, ReadPart, asks}
+use Rattle.dap_end.specs.Turns.{WroteThen, WentOn, TookIn, TookThen}
 use Rattle.dap_end.specs.Headline.{Written, numbered, bytes_of}
 use Rattle.dap_end.specs.Hearing.{AskingEvent, Came, Asks, GoesOn, Again, Acks, AskingStepped, AskingRuns, AreAskingCalls}
 use Rattle.dap_end.proofs.Packets.{ack_written}
@@ -56,12 +56,12 @@ goes old heard new before after packets h w rest = (h.heard, heard, packets, h.r
 behind : (out all packets : List (List ℕ)) (k a : ℕ) → all ≡ out ++ packets → all ≡ out ++ bytes_of (numbered k a packets)
 behind out all packets k a e = e ∙ ap (λ (l : List (List ℕ)). out ++ l) (sym (numbered_bytes k a packets))
 
-pub going_is : (old new : AskingValue) (out all : List (List ℕ)) (before after : List Report) → WentOn old new out all before after → AreAskingCalls old (GoesOn ∷ []) new out all before after
+pub going_is : (old new : AskingValue) (out all : List (List ℕ)) (before after : List Report) → WroteThen (asks before after) (λ p q. WroteAll p q out all) old new → AreAskingCalls old (GoesOn ∷ []) new out all before after
 going_is old new out all before after w =
-    (w.hears.read.0, _, one_event old new GoesOn _ _ (goes old w.heard new before after w.wrote.0 w.hears w.wrote.2 w.rest), behind out all w.wrote.0 _ _ w.wrote.1, w.hears.read.1)
+    (w.done.read.0, _, one_event old new GoesOn _ _ (goes old w.mid new before after w.wrote.0 w.done w.wrote.2 w.rest), behind out all w.wrote.0 _ _ w.wrote.1, w.done.read.1)
 
-came : (old : AskingValue) (link : LinkValue) (bytes : List ℕ) (r : Result Got LinkFault) → Receives old.port.link link bytes r → AskingStepped old (Came bytes) (received old link) [] []
-came old link bytes r h = (r, link, h, refl, refl, refl)
+came : (old new : AskingValue) (bytes : List ℕ) (before after : List Report) (r : Result Got LinkFault) → TookIn (asks before after) old new bytes r → AskingStepped old (Came bytes) new [] []
+came old new bytes before after r t = (r, new.port.link, t.receives, t.rest, refl, refl)
 
 took_by : (old mid new : AskingValue) (bytes : List ℕ) (events : List AskingEvent) (out all : List (List ℕ)) (before after : List Report) → AskingStepped old (Came bytes) mid [] [] → AreAskingCalls mid events new out all before after
     → AreAskingCalls old (Came bytes ∷ events) new out all before after
@@ -89,16 +89,15 @@ answered_is old heard new got out all packets written before after true h rest w
       ),
     )
 
-pub taking_is : (old new : AskingValue) (bytes : List ℕ) (got : Got) (out all : List (List ℕ)) (before after : List Report) → TookAll old new bytes got out all before after
+pub taking_is : (old new : AskingValue) (bytes : List ℕ) (got : Got) (out all : List (List ℕ)) (before after : List Report) → TookThen (asks before after) old new bytes got out all (Ok tt)
     → (events : List AskingEvent) × AreAskingCalls old (Came bytes ∷ events) new out all before after
-taking_is old new bytes got out all before after t =
-    let d = t.all_done in
-    let a = d.answered in
-    let r = answered_is (received old t.link) d.heard new got out all a.0 a.2.written before after (wants_ack got (length a.2.written)) d.hears d.rest a.2.wrote a.1 refl a.2.quiet a.2.acks in
-    (r.0, took_by old (received old t.link) new bytes r.0 out all before after (came old t.link bytes (Ok got) t.took.receives) r.1)
+taking_is old new bytes got out all before after (mid, t, w) =
+    let a = w.wrote in
+    let r = answered_is mid w.mid new got out all a.0 a.2.written before after (wants_ack got (length a.2.written)) w.done w.rest a.2.wrote a.1 refl a.2.quiet a.2.acks in
+    (r.0, took_by old mid new bytes r.0 out all before after (came old mid bytes before after (Ok got) t) r.1)
 
-pub refusing_is : (old new : AskingValue) (bytes : List ℕ) (f : LinkFault) → Refused old new bytes f → AskingRuns old (Came bytes ∷ []) new [] []
-refusing_is old new bytes f r = one_event old new (Came bytes) [] [] (Err f, r.link, r.receives, r.new_is, refl, refl)
+pub refusing_is : (old new : AskingValue) (bytes : List ℕ) (before after : List Report) (f : LinkFault) → TookIn (asks before after) old new bytes (Err f) → AskingRuns old (Came bytes ∷ []) new [] []
+refusing_is old new bytes before after f t = one_event old new (Came bytes) [] [] (came old new bytes before after (Err f) t)
 
 -- ---- Calls that didn't do all.
 
@@ -124,18 +123,17 @@ read_only : (old new : AskingValue) (out all : List (List ℕ)) (before after : 
 read_only old new out all before after r same =
     (r.0, [], one_event old new GoesOn r.0 [] (new, new, [], r.2, inl refl, wrote_nothing new.port, refl, refl), same ∙ sym (append-nil out), r.1)
 
-pub halting_is : (old new : AskingValue) (out all : List (List ℕ)) (before after : List Report) (f : EndFault) → GoOnFault old new out all before after f → f ≢ end_fault.Read read_fault.Unexpected → AreAskingCalls old (GoesOn ∷ []) new out all before after
-halting_is old new out all before after f (inl h) other = read_only old new out all before after (heard_part old new before after f h.0 other) h.1
-halting_is old new out all before after f (inr h) other = going_is old new out all before after h.1
-
-answer_part : (old new : AskingValue) (got : Got) (out all : List (List ℕ)) (before after : List Report) (f : EndFault) → AnswerFault old new got out all before after f → f ≢ end_fault.Read read_fault.Unexpected
+pub halting_is : (old new : AskingValue) (out all : List (List ℕ)) (before after : List Report) (f : EndFault) → WentOn (asks before after) old new out all (Err f) → f ≢ end_fault.Read read_fault.Unexpected
     → AreAskingCalls old (GoesOn ∷ []) new out all before after
-answer_part old new got out all before after f (inl h) other = read_only old new out all before after (heard_part old new before after f h.0 other) h.1
-answer_part old new got out all before after f (inr h) other =
-    let p = h.2 in
-    (p.hears.read.0, _, one_event old new GoesOn _ _ (goes old p.heard new before after p.part.packets p.hears p.part.wrote p.rest), behind out all p.part.packets _ _ p.part.behind, p.hears.read.1)
+halting_is old new out all before after f (inl h) other = read_only old new out all before after (heard_part old new before after f h.0 other) h.1
+halting_is old new out all before after f (inr h) other =
+    let w = h.1 in going_is old new out all before after (record { mid = w.mid; done = w.done; rest = w.rest; still = w.still; wrote = w.wrote.0 })
 
-pub unfinished_is : (old new : AskingValue) (bytes : List ℕ) (got : Got) (out all : List (List ℕ)) (before after : List Report) (f : EndFault) → TookPart old new bytes got out all before after f → f ≢ end_fault.Read read_fault.Unexpected
+pub unfinished_is : (old new : AskingValue) (bytes : List ℕ) (got : Got) (out all : List (List ℕ)) (before after : List Report) (f : EndFault) → TookThen (asks before after) old new bytes got out all (Err f) → f ≢ end_fault.Read read_fault.Unexpected
     → AreAskingCalls old (Came bytes ∷ GoesOn ∷ []) new out all before after
-unfinished_is old new bytes got out all before after f t other =
-    took_by old (received old t.link) new bytes (GoesOn ∷ []) out all before after (came old t.link bytes (Ok got) t.took.receives) (answer_part (received old t.link) new got out all before after f t.why other)
+unfinished_is old new bytes got out all before after f (mid, t, inl h) other =
+    took_by old mid new bytes (GoesOn ∷ []) out all before after (came old mid bytes before after (Ok got) t) (read_only mid new out all before after (heard_part mid new before after f h.0 other) h.1)
+unfinished_is old new bytes got out all before after f (mid, t, inr h) other =
+    let w = h.1 in
+    took_by old mid new bytes (GoesOn ∷ []) out all before after (came old mid bytes before after (Ok got) t)
+    (going_is mid new out all before after (record { mid = w.mid; done = w.done; rest = w.rest; still = w.still; wrote = (w.wrote.packets, w.wrote.behind, w.wrote.wrote) }))

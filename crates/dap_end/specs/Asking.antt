@@ -4,11 +4,10 @@ use Rattle.std.specs.List.{AllByRecursion}
 use Rattle.dap_fields.specs.Spelling.{AreBytes}
 use Rattle.dap_msg.specs.Items.{Item, ItemAt, IsPlace}
 use Rattle.dap_msg.specs.Blocked.{NspMessage, Blocked, all_joined, messages_in, AllFit}
-use Rattle.nsp_link.specs.Link.{LinkValue, Sends, Stands, MaySend}
+use Rattle.nsp_link.specs.Link.{Sends, Stands}
 use Rattle.nsp_link.specs.Sending.{MayQueueAll, SendAllFault}
 use Rattle.nsp_link.specs.declared.link.Got.{Got}
 use Rattle.nsp_link.specs.declared.fault.LinkFault.{LinkFault}
-use Rattle.nsp_link.specs.declared.fault.LinkFault.TheVariants as fault
 use Rattle.dap_accessing.specs.Request.{Request}
 use Rattle.dap_accessing.specs.declared.report.Report.{Report}
 use Rattle.dap_accessing.specs.declared.fault.ReadFault.{ReadFault}
@@ -23,11 +22,9 @@ use Rattle.dap_end.specs.declared.asking.Heard.TheVariants as heard
 use Rattle.dap_end.specs.declared.fault.EndFault.{EndFault}
 use Rattle.dap_end.specs.declared.fault.EndFault.TheVariants as end_fault
 use Rattle.dap_end.specs.declared.fault.TakeFault.{TakeFault}
-use Rattle.dap_end.specs.declared.fault.TakeFault.TheVariants as take_fault
-use Rattle.dap_end.specs.Ports.{PortValue, with_link, gone_on, posted}
+use Rattle.dap_end.specs.Ports.{PortValue, gone_on, posted}
 use Rattle.dap_end.specs.Going.{GoneThrough, given_then}
-use Rattle.nsp_link.specs.Receiving.{Receives}
-use Rattle.dap_end.specs.Writing.{WroteAll, AnsweredAll, AnsweredPart, IsFull}
+use Rattle.dap_end.specs.Turns.{EndOf, WentOn, Took}
 
 pub record AskingValue : Type 0 where
   pub port : PortValue
@@ -147,7 +144,11 @@ ReadPart old new before all f =
     ((f ≡ read_fault.NoMemory) × ReadAll old new before all × (0 < length new.port.link.inbox))
     ⊎ ((mid : AskingValue) × ReadAll old mid before all × ReadNone mid new f)
 
--- ---- Going on.
+abbrev pub ReadsAll : (old new : AskingValue) → (before reports : List Report) → Result (Unit {0}) ReadFault → Type 0
+ReadsAll old new before reports (Ok done) = ReadAll old new before reports × (new.port.link.inbox ≡ [])
+ReadsAll old new before reports (Err f) = ReadPart old new before reports f
+
+-- ---- Going on, and taking.
 
 -- All that came was read, and what waited was handed over.
 pub record HeardAll (old new : AskingValue) (before reports : List Report) : Type 0 where
@@ -168,89 +169,22 @@ abbrev pub HearFault : (old new : AskingValue) → (before reports : List Report
 HearFault old new before reports (end_fault.Link f) = HeardOnly old new before reports f
 HearFault old new before reports (end_fault.Read f) = ReadPart old new before reports f
 
--- All was read and handed over, and then segments were written.
-pub record WentOn (old new : AskingValue) (out all : List (List ℕ)) (before reports : List Report) : Type 0 where
-  pub heard : AskingValue
-  pub hears : HeardAll old heard before reports
-  pub rest : new ≡ record heard { port = new.port }
-  pub still : HasStill heard new
-  pub wrote : WroteAll heard.port new.port out all
-
--- why not all is done, and what is done then
-abbrev pub GoOnFault : (old new : AskingValue) → (out all : List (List ℕ)) → (before reports : List Report) → EndFault → Type 0
-GoOnFault old new out all before reports f =
-    (HearFault old new before reports f × (all ≡ out))
-    ⊎ ((f ≡ end_fault.Link fault.NoMemory) × WentOn old new out all before reports × MaySend new.port.link)
-
--- ---- Taking.
-
-abbrev pub received : AskingValue → LinkValue → AskingValue
-received v link = record v { port = with_link v.port link }
-
--- the packet was taken in so
-pub record HeardIn (old : AskingValue) (bytes : List ℕ) (got : Got) (link : LinkValue) : Type 0 where
-  pub receives : Receives old.port.link link bytes (Ok got)
-  pub still : HasStill old (received old link)
-
--- All that came was read, and what waited was handed over; the segments that the window allows were written, or where none
--- was and one came, one acknowledgement.
-pub record HeardAndWrote (old new : AskingValue) (got : Got) (out all : List (List ℕ)) (before reports : List Report) : Type 0 where
-  pub heard : AskingValue
-  pub hears : HeardAll old heard before reports
-  pub rest : new ≡ record heard { port = new.port }
-  pub still : HasStill heard new
-  pub answered : AnsweredAll heard.port new.port got out all
-
--- the same, and then memory was wanting for a packet
-pub record WrotePart (old new : AskingValue) (got : Got) (out all : List (List ℕ)) (before reports : List Report) (f : LinkFault) : Type 0 where
-  pub heard : AskingValue
-  pub hears : HeardAll old heard before reports
-  pub rest : new ≡ record heard { port = new.port }
-  pub still : HasStill heard new
-  pub part : AnsweredPart heard.port new.port got out all f
-
--- why not all is read, handed over and written, and what is done then
-abbrev pub AnswerFault : (old new : AskingValue) → Got → (out all : List (List ℕ)) → (before reports : List Report) → EndFault → Type 0
-AnswerFault old new got out all before reports f =
-    (HearFault old new before reports f × (all ≡ out))
-    ⊎ ((g : LinkFault) × (f ≡ end_fault.Link g) × WrotePart old new got out all before reports g)
-
--- the packet was taken in, and answered
-pub record TookAll (old new : AskingValue) (bytes : List ℕ) (got : Got) (out all : List (List ℕ)) (before reports : List Report) : Type 0 where
-  pub link : LinkValue
-  pub took : HeardIn old bytes got link
-  pub all_done : HeardAndWrote (received old link) new got out all before reports
-
--- it was taken in, and not all was done
-pub record TookPart (old new : AskingValue) (bytes : List ℕ) (got : Got) (out all : List (List ℕ)) (before reports : List Report) (f : EndFault) : Type 0 where
-  pub link : LinkValue
-  pub took : HeardIn old bytes got link
-  pub why : AnswerFault (received old link) new got out all before reports f
-
--- It was refused, and nothing of it was taken.
-pub record Refused (old new : AskingValue) (bytes : List ℕ) (f : LinkFault) : Type 0 where
-  pub link : LinkValue
-  pub receives : Receives old.port.link link bytes (Err f)
-  pub still : HasStill old new
-  pub new_is : new ≡ received old link
-
-abbrev pub NotTaken : (old new : AskingValue) → (bytes : List ℕ) → (out all : List (List ℕ)) → (before reports : List Report) → TakeFault → Type 0
-NotTaken old new bytes out all before reports (take_fault.Refused f) = Refused old new bytes f × (all ≡ out) × (reports ≡ before)
-NotTaken old new bytes out all before reports (take_fault.Unfinished got f) = TookPart old new bytes got out all before reports f
-
--- ---- What the calls come to, done or refused.
-
-abbrev pub ReadsAll : (old new : AskingValue) → (before reports : List Report) → Result (Unit {0}) ReadFault → Type 0
-ReadsAll old new before reports (Ok done) = ReadAll old new before reports × (new.port.link.inbox ≡ [])
-ReadsAll old new before reports (Err f) = ReadPart old new before reports f
+abbrev pub asks : (before reports : List Report) → EndOf AskingValue
+asks before reports =
+    record {
+      port = λ v. v.port;
+      with_port = λ v port. record v { port = port };
+      still = HasStill;
+      does = λ old new. HeardAll old new before reports;
+      stops = λ old new f. HearFault old new before reports f;
+      quiet = reports ≡ before;
+    }
 
 abbrev pub GoesOn : (old new : AskingValue) → (out all : List (List ℕ)) → (before reports : List Report) → Result (Unit {0}) EndFault → Type 0
-GoesOn old new out all before reports (Ok done) = WentOn old new out all before reports × IsFull new.port.link
-GoesOn old new out all before reports (Err f) = GoOnFault old new out all before reports f
+GoesOn old new out all before reports result = WentOn (asks before reports) old new out all result
 
 abbrev pub Takes : (old new : AskingValue) → (bytes : List ℕ) → (out all : List (List ℕ)) → (before reports : List Report) → Result Got TakeFault → Type 0
-Takes old new bytes out all before reports (Ok got) = TookAll old new bytes got out all before reports
-Takes old new bytes out all before reports (Err f) = NotTaken old new bytes out all before reports f
+Takes old new bytes out all before reports result = Took (asks before reports) old new bytes out all result
 
 -- ---- Ends that do the same from now on.
 

@@ -1,6 +1,6 @@
 //! Laws over the definitions alone. Each function does nothing: its contract is the law.
 
-ghost use Rattle.std.specs.Prelude.{◌≡◌, ◌≢◌, ◌+◌, ◌-◌, ◌<◌, ℕ, List, [], ◌∷◌, ◌++◌, Option, Some, None, Result, Err, false, option_to_list};
+ghost use Rattle.std.specs.Prelude.{◌≡◌, ◌≢◌, ◌+◌, ◌-◌, ◌<◌, ℕ, List, [], ◌∷◌, ◌++◌, Option, Some, None, Result, Ok, Err, false, option_to_list};
 ghost use Rattle.dap_fields.specs.Spelling.{AreBytes};
 ghost use Rattle.nsp_link.specs.declared.link.LinkSetup.{LinkSetup as TheSetup};
 ghost use Rattle.nsp_link.specs.declared.link.Got.{Got as TheGot};
@@ -19,12 +19,13 @@ ghost use Rattle.dap_end.specs.declared.fault.TakeFault.{TakeFault as TheTakeFau
 ghost use Rattle.dap_end.specs.Ports.{PortValue, new_port};
 ghost use Rattle.dap_end.specs.Going.{AreFrontOf};
 ghost use Rattle.dap_end.specs.Serving.{ServingValue, Past, IsAfter, ServedOne, PostedAll, nothing_yet};
-ghost use Rattle.dap_end.specs.Writing.{WroteNext};
+ghost use Rattle.dap_end.specs.Writing.{WroteNext, WroteAll};
+ghost use Rattle.dap_end.specs.Turns.{WroteThen, WentOn, TookIn, TookThen};
 ghost use Rattle.dap_end.specs.Taking as serving;
-ghost use Rattle.dap_end.specs.Taking.{with_port};
+ghost use Rattle.dap_end.specs.Taking.{serves, with_port};
 ghost use Rattle.dap_end.specs.Wanting.{took_wanting, went_wanting};
 ghost use Rattle.dap_end.specs.Asking as asking;
-ghost use Rattle.dap_end.specs.Asking.{AreAlike, AskingValue, AskingPast, HasAsked, HasDone, AskedOne, HandedAll, ReadOne, nothing_asked};
+ghost use Rattle.dap_end.specs.Asking.{asks, AreAlike, AskingValue, AskingPast, HasAsked, HasDone, AskedOne, HandedAll, ReadOne, nothing_asked};
 ghost use Rattle.dap_end.specs.Headline.{Written, ServingEvent, Came, GoesOn, Again, Acks, Runs, RunsFrom, AreCalls, Promises, numbered};
 ghost use Rattle.dap_end.specs.Hearing as hearing;
 ghost use Rattle.dap_end.specs.Hearing.{AskingEvent, AskingRuns, AskingRunsFrom, AreAskingCalls, AskingPromises, requests_in};
@@ -74,18 +75,19 @@ pub fn calls_are_runs()
           acks = v.port.link.received;
         } ∷ []) }
     ensures go_on { (old new : ServingValue) (out all : List (List ℕ))
-        → serving.WentOn old new out all → AreCalls old (GoesOn ∷ []) new out all }
-    ensures halted { (old new : ServingValue) (out all : List (List ℕ)) (f : TheFault)
-        → serving.GoOnFault old new out all f → AreCalls old (GoesOn ∷ []) new out all }
+        → WroteThen serves (λ p q. WroteAll p q out all) old new
+        → AreCalls old (GoesOn ∷ []) new out all }
+    ensures halted { (old new : ServingValue) (out all : List (List ℕ)) (f : TheEndFault)
+        → WentOn serves old new out all (Err f) → AreCalls old (GoesOn ∷ []) new out all }
     ensures take { (old new : ServingValue) (bytes : List ℕ) (got : TheGot)
-        (out all : List (List ℕ)) → serving.TookAll old new bytes got out all
+        (out all : List (List ℕ)) → TookThen serves old new bytes got out all (Ok tt)
         → (events : List ServingEvent) × AreCalls old (Came bytes ∷ events) new out all }
     ensures part { (old new : ServingValue) (bytes : List ℕ) (got : TheGot)
-        (out all : List (List ℕ)) (f : TheFault) → serving.TookPart old new bytes got out all f
+        (out all : List (List ℕ)) (f : TheEndFault)
+        → TookThen serves old new bytes got out all (Err f)
         → AreCalls old (Came bytes ∷ GoesOn ∷ []) new out all }
-    ensures refused { (old new : ServingValue) (bytes : List ℕ) (out all : List (List ℕ))
-        (f : TheFault) → serving.Refused old new bytes out all f
-        → AreCalls old (Came bytes ∷ []) new out all }
+    ensures refused { (old new : ServingValue) (bytes : List ℕ) (f : TheFault)
+        → TookIn serves old new bytes (Err f) → Runs old (Came bytes ∷ []) new [] }
 {}
 
 /// Each call of an end that asks is a run, but one in which an answer has no place. Own.
@@ -114,24 +116,28 @@ pub fn asking_calls_are_runs()
           acks = v.port.link.received;
         } ∷ []) }
     ensures go_on { (old new : AskingValue) (out all : List (List ℕ))
-        (before after : List TheReport) → asking.WentOn old new out all before after
+        (before after : List TheReport)
+        → WroteThen (asks before after) (λ p q. WroteAll p q out all) old new
         → AreAskingCalls old (hearing.GoesOn ∷ []) new out all before after }
     ensures take { (old new : AskingValue) (bytes : List ℕ) (got : TheGot) (out all : List (List ℕ))
-        (before after : List TheReport) → asking.TookAll old new bytes got out all before after
+        (before after : List TheReport)
+        → TookThen (asks before after) old new bytes got out all (Ok tt)
         → (events : List AskingEvent)
         × AreAskingCalls old (hearing.Came bytes ∷ events) new out all before after }
     ensures halted { (old new : AskingValue) (out all : List (List ℕ))
         (before after : List TheReport) (f : TheEndFault)
-        → asking.GoOnFault old new out all before after f
+        → WentOn (asks before after) old new out all (Err f)
         → f ≢ end_fault.Read read_fault.Unexpected
         → AreAskingCalls old (hearing.GoesOn ∷ []) new out all before after }
     ensures part { (old new : AskingValue) (bytes : List ℕ) (got : TheGot) (out all : List (List ℕ))
         (before after : List TheReport) (f : TheEndFault)
-        → asking.TookPart old new bytes got out all before after f
+        → TookThen (asks before after) old new bytes got out all (Err f)
         → f ≢ end_fault.Read read_fault.Unexpected
         → AreAskingCalls old (hearing.Came bytes ∷ hearing.GoesOn ∷ []) new out all before after }
-    ensures refused { (old new : AskingValue) (bytes : List ℕ) (f : TheFault)
-        → asking.Refused old new bytes f → AskingRuns old (hearing.Came bytes ∷ []) new [] [] }
+    ensures refused { (old new : AskingValue) (bytes : List ℕ)
+        (before after : List TheReport) (f : TheFault)
+        → TookIn (asks before after) old new bytes (Err f)
+        → AskingRuns old (hearing.Came bytes ∷ []) new [] [] }
 {}
 
 /// Whatever an end that serves is called to do by itself leaves one end, and writes one list of packets, by what the end did
