@@ -161,10 +161,6 @@ read_alike old other one two before xs ys (inr d) like ra rb sa sb =
 
 -- ---- Reading all, and handing over.
 
-abbrev Hears : (old new : AskingValue) → (before reports : List Report) → Result (Unit {0}) EndFault → Type 0
-Hears old new before reports (Ok done) = HeardAll old new before reports
-Hears old new before reports (Err f) = HearFault old new before reports f
-
 no_read_want : (f : ReadFault) → is_want (end_fault.Read f) ≡ false → f ≢ read_fault.NoMemory
 no_read_want f e k = true≢false (sym (ap (λ (x : ReadFault). is_want (end_fault.Read x)) k) ∙ e)
 
@@ -183,11 +179,11 @@ handed_done v new n h (inr d) =
 
 heard_alike : (old other one two : AskingValue) (before xs ys : List Report) → HasDone old → AreAlike old other → HeardAll old one before xs → HeardAll other two before ys → AreAlike one two × (xs ≡ ys) × HasDone one
 heard_alike old other one two before xs ys d like a b =
-    let t = read_alike old other a.heard b.heard before xs ys d like a.read b.read (λ p. stops_empty a.heard a.done) (λ p. stops_empty b.heard b.done) in
-    let there = alike_port a.heard b.heard (posted a.heard.port) (posted b.heard.port) t.0 (ap posted t.0.0) in (
-      subst (λ (v : AskingValue). AreAlike v two) (sym a.handed.posted) (subst (λ (v : AskingValue). AreAlike (record a.heard { port = posted a.heard.port }) v) (sym b.handed.posted) there),
+    let t = read_alike old other a.0 b.0 before xs ys d like a.2.0 b.2.0 (λ p. stops_empty a.0 a.2.1) (λ p. stops_empty b.0 b.2.1) in
+    let there = alike_port a.0 b.0 (posted a.0.port) (posted b.0.port) t.0 (ap posted t.0.0) in (
+      subst (λ (v : AskingValue). AreAlike v two) (sym a.3.posted) (subst (λ (v : AskingValue). AreAlike (record a.0 { port = posted a.0.port }) v) (sym b.3.posted) there),
       t.1,
-      handed_done a.heard one a.count a.handed t.2,
+      handed_done a.0 one a.1 a.3 t.2,
     )
 
 -- all that came was read, or reading stopped
@@ -199,11 +195,11 @@ empty_apart old other one mid two before xs ys f d like want ra none rb n =
 
 heard_apart : (old other one two : AskingValue) (before xs ys : List Report) (f : EndFault) → HasDone old → AreAlike old other → is_want f ≡ false → HeardAll old one before xs → HearFault other two before ys f → ⊥
 heard_apart old other one two before xs ys (end_fault.Link f) d like want a b =
-    let t = read_alike old other a.heard two before xs ys d like a.read b.read (λ p. stops_empty a.heard a.done) (λ p. stops_empty two b.done) in
-    may_or_not two.port.link two.port.outbox f (no_want f want) (subst (λ (p : PortValue). MayQueueAll p.link p.outbox) t.0.0 a.handed.may) b.refused
+    let t = read_alike old other a.0 two before xs ys d like a.2.0 b.0.0 (λ p. stops_empty a.0 a.2.1) (λ p. stops_empty two b.0.1) in
+    may_or_not two.port.link two.port.outbox f (no_want f want) (subst (λ (p : PortValue). MayQueueAll p.link p.outbox) t.0.0 a.3.may) b.1
 heard_apart old other one two before xs ys (end_fault.Read f) d like want a b =
     let u = unread other two before ys f (no_read_want f want) b in
-    empty_apart old other a.heard u.0 two before xs ys f d like (no_read_want f want) a.read a.done u.1 u.2
+    empty_apart old other a.0 u.0 two before xs ys f d like (no_read_want f want) a.2.0 a.2.1 u.1 u.2
 
 left_alike : (a b one two : AskingValue) (f g : ReadFault) → f ≢ read_fault.NoMemory → g ≢ read_fault.NoMemory → AreAlike a b → HasDone a → ReadNone a one f → ReadNone b two g → AreAlike one two × (f ≡ g) × HasDone one
 left_alike a b one two read_fault.Failed read_fault.Failed nf ng like d x y =
@@ -256,15 +252,15 @@ reading_alike old other one two before xs ys (Err f) (Err g) d like nr ns a b =
 stopped_alike : (old other one two : AskingValue) (before xs ys : List Report) (f g : EndFault) → HasDone old → AreAlike old other → is_want f ≡ false → is_want g ≡ false → HearFault old one before xs f → HearFault other two before ys g
     → AreAlike one two × (f ≡ g) × (xs ≡ ys) × HasDone one
 stopped_alike old other one two before xs ys (end_fault.Link f) (end_fault.Link g) d like nf ng a b =
-    let t = read_alike old other one two before xs ys d like a.read b.read (λ p. stops_empty one a.done) (λ p. stops_empty two b.done) in
-    let same = refused_one two.port.link two.port.outbox f g (no_want f nf) (no_want g ng) (subst (λ (p : PortValue). SendAllFault p.link p.outbox f) t.0.0 a.refused) b.refused in
+    let t = read_alike old other one two before xs ys d like a.0.0 b.0.0 (λ p. stops_empty one a.0.1) (λ p. stops_empty two b.0.1) in
+    let same = refused_one two.port.link two.port.outbox f g (no_want f nf) (no_want g ng) (subst (λ (p : PortValue). SendAllFault p.link p.outbox f) t.0.0 a.1) b.1 in
     (t.0, ap (λ (x : LinkFault). end_fault.Link x) same, t.1, t.2)
 stopped_alike old other one two before xs ys (end_fault.Link f) (end_fault.Read g) d like nf ng a b =
     let u = unread other two before ys g (no_read_want g ng) b in
-    absurd (empty_apart old other one u.0 two before xs ys g d like (no_read_want g ng) a.read a.done u.1 u.2)
+    absurd (empty_apart old other one u.0 two before xs ys g d like (no_read_want g ng) a.0.0 a.0.1 u.1 u.2)
 stopped_alike old other one two before xs ys (end_fault.Read f) (end_fault.Link g) d like nf ng a b =
     let u = unread old one before xs f (no_read_want f nf) a in
-    absurd (empty_apart other old two u.0 one before ys xs f (alike_done old other like d) (alike_back old other like) (no_read_want f nf) b.read b.done u.1 u.2)
+    absurd (empty_apart other old two u.0 one before ys xs f (alike_done old other like d) (alike_back old other like) (no_read_want f nf) b.0.0 b.0.1 u.1 u.2)
 stopped_alike old other one two before xs ys (end_fault.Read f) (end_fault.Read g) d like nf ng a b =
     let t = unread_alike old other one two before xs ys f g d like (no_read_want f nf) (no_read_want g ng) a b in
     (t.0, ap (λ (x : ReadFault). end_fault.Read x) t.1, t.2, t.3)

@@ -24,10 +24,11 @@ use Rattle.dap_accessing.specs.Told.{Told}
 use Rattle.dap_accessing.specs.Phase.{limit_after}
 use Rattle.dap_accessing.specs.Present.{Present}
 use Rattle.dap_accessing.specs.Calls.{Asks, Reads}
+use Rattle.dap_end.specs.declared.fault.EndFault.TheVariants as end_fault
 use Rattle.dap_end.specs.Ports.{PortValue, with_link, posted, gone_on}
 use Rattle.dap_end.specs.Writing.{sent_more}
 use Rattle.dap_end.specs.Going.{GoneThrough, given_then}
-use Rattle.dap_end.specs.Asking.{AskingValue, AskingPast, AreFull, HasAsked, HasStill, AskedOne, HandedAll, ReadOne, ReadOn, begins, goes, ReadAll, HeardOnly, read_one}
+use Rattle.dap_end.specs.Asking.{AskingValue, AskingPast, AreFull, HasAsked, HasStill, AskedOne, HandedAll, ReadOne, ReadOn, begins, goes, ReadAll, HearFault, read_one}
 use Rattle.dap_end.specs.Inner.Kept.{IsPort, AreShort}
 use Rattle.dap_end.specs.Inner.AskingView.{asking_of}
 use Rattle.dap_end.proofs.Taking.{Grown}
@@ -339,6 +340,6 @@ still_sent v port n e =
 pub works_after : (old new : AskingValue) (n : ℕ) → HandedAll old new n → new.port.link.failed ≡ false
 works_after old new n h = ap (λ (v : AskingValue). v.port.link.failed) h.posted ∙ h.may.0
 
-pub heard_only : (old heard new : AskingValue) (before reports : List Report) (f : LinkFault) → ReadAll old heard before reports → heard.port.link.inbox ≡ [] → (new ≡ heard) × SendAllFault heard.port.link heard.port.outbox f → HeardOnly old new before reports f
+pub heard_only : (old heard new : AskingValue) (before reports : List Report) (f : LinkFault) → ReadAll old heard before reports → heard.port.link.inbox ≡ [] → (new ≡ heard) × SendAllFault heard.port.link heard.port.outbox f → HearFault old new before reports (end_fault.Link f)
 heard_only old heard new before reports f read done h =
-    subst (λ (v : AskingValue). HeardOnly old v before reports f) (sym h.0) (record { read = read; done = done; refused = h.1 })
+    subst (λ (v : AskingValue). HearFault old v before reports (end_fault.Link f)) (sym h.0) ((read, done), h.1)

@@ -7,7 +7,6 @@ use Rattle.dap_msg.specs.Blocked.{NspMessage, Blocked, all_joined, messages_in, 
 use Rattle.nsp_link.specs.Link.{Sends, Stands}
 use Rattle.nsp_link.specs.Sending.{MayQueueAll, SendAllFault}
 use Rattle.nsp_link.specs.declared.link.Got.{Got}
-use Rattle.nsp_link.specs.declared.fault.LinkFault.{LinkFault}
 use Rattle.dap_accessing.specs.Request.{Request}
 use Rattle.dap_accessing.specs.declared.report.Report.{Report}
 use Rattle.dap_accessing.specs.declared.fault.ReadFault.{ReadFault}
@@ -151,22 +150,14 @@ ReadsAll old new before reports (Err f) = ReadPart old new before reports f
 -- ---- Going on, and taking.
 
 -- All that came was read, and what waited was handed over.
-pub record HeardAll (old new : AskingValue) (before reports : List Report) : Type 0 where
-  pub heard : AskingValue
-  pub read : ReadAll old heard before reports
-  pub done : heard.port.link.inbox ≡ []
-  pub count : ℕ
-  pub handed : HandedAll heard new count
+abbrev pub HeardAll : (old new : AskingValue) → (before reports : List Report) → Type 0
+HeardAll old new before reports =
+    (heard : AskingValue) × (count : ℕ) × ReadsAll old heard before reports (Ok tt) × HandedAll heard new count
 
--- All was read, and then what waits wasn't handed over.
-pub record HeardOnly (old new : AskingValue) (before reports : List Report) (f : LinkFault) : Type 0 where
-  pub read : ReadAll old new before reports
-  pub done : new.port.link.inbox ≡ []
-  pub refused : SendAllFault new.port.link new.port.outbox f
-
--- why not all is read and handed over, and what is done then
+-- why not, and what is done then: all was read, and what waits isn't handed over, or not all was read
 abbrev pub HearFault : (old new : AskingValue) → (before reports : List Report) → EndFault → Type 0
-HearFault old new before reports (end_fault.Link f) = HeardOnly old new before reports f
+HearFault old new before reports (end_fault.Link f) =
+    ReadsAll old new before reports (Ok tt) × SendAllFault new.port.link new.port.outbox f
 HearFault old new before reports (end_fault.Read f) = ReadPart old new before reports f
 
 abbrev pub asks : (before reports : List Report) → EndOf AskingValue

@@ -26,16 +26,15 @@ ghost use Rattle.dap_end.specs.Taking.{serves, with_port};
 ghost use Rattle.dap_end.specs.Wanting.{took_wanting, went_wanting};
 ghost use Rattle.dap_end.specs.Asking as asking;
 ghost use Rattle.dap_end.specs.Asking.{asks, AreAlike, AskingValue, AskingPast, HasAsked, HasDone, AskedOne, HandedAll, ReadOne, nothing_asked};
-ghost use Rattle.dap_end.specs.Headline.{Written, ServingEvent, Came, GoesOn, Again, Acks, Runs, RunsFrom, AreCalls, Promises, numbered};
-ghost use Rattle.dap_end.specs.Hearing as hearing;
-ghost use Rattle.dap_end.specs.Hearing.{AskingEvent, AskingRuns, AskingRunsFrom, AreAskingCalls, AskingPromises, requests_in};
+ghost use Rattle.dap_end.specs.Headline.{Written, EndEvent, Came, GoesOn, Again, Acks, Runs, RunsFrom, AreCalls, Promises, numbered};
+ghost use Rattle.dap_end.specs.Hearing.{AskingEvent, Asks, By, AskingRuns, AskingRunsFrom, AreAskingCalls, AskingPromises, requests_in};
 ghost use Rattle.dap_end.specs.Joined.{Pair, PairEvent, PairRuns, AreOpposite, AreNew, PairHeadline};
 
 /// Whatever bytes come to an end that served nothing yet, and whatever it was called to do, there is a list of items that it
 /// served: its files are those after them, what it handed to its link is a front of the answers to them, and each packet
 /// that it wrote carries its segment of that. Own.
 pub fn every_run_is_served()
-    ensures { (first : Files) (events : List ServingEvent) (old new : ServingValue)
+    ensures { (first : Files) (events : List EndEvent) (old new : ServingValue)
         (wrote : List Written) → IsAfter (nothing_yet first) old → Runs old events new wrote
         → (past : Past) × IsAfter past new × (past.first ≡ first) × Promises past new wrote }
 {}
@@ -44,7 +43,7 @@ pub fn every_run_is_served()
 /// end served is a front of the items in them, each once and in order. Own.
 pub fn a_peer_is_served_in_order()
     ensures { (setup : TheSetup) (first : Files) (size : ℕ) (messages : List (List ℕ))
-        (events : List ServingEvent) (old new : ServingValue)
+        (events : List EndEvent) (old new : ServingValue)
         → old.port ≡ new_port setup → IsAfter (nothing_yet first) old
         → RunsFrom size messages old events new
         → (past : Past) × IsAfter past new × (past.first ≡ first)
@@ -81,7 +80,7 @@ pub fn calls_are_runs()
         → WentOn serves old new out all (Err f) → AreCalls old (GoesOn ∷ []) new out all }
     ensures take { (old new : ServingValue) (bytes : List ℕ) (got : TheGot)
         (out all : List (List ℕ)) → TookThen serves old new bytes got out all (Ok tt)
-        → (events : List ServingEvent) × AreCalls old (Came bytes ∷ events) new out all }
+        → (events : List EndEvent) × AreCalls old (Came bytes ∷ events) new out all }
     ensures part { (old new : ServingValue) (bytes : List ℕ) (got : TheGot)
         (out all : List (List ℕ)) (f : TheEndFault)
         → TookThen serves old new bytes got out all (Err f)
@@ -93,24 +92,24 @@ pub fn calls_are_runs()
 /// Each call of an end that asks is a run, but one in which an answer has no place. Own.
 pub fn asking_calls_are_runs()
     ensures ask { (old new : AskingValue) (request : TheRequest) (n : ℕ)
-        → AskedOne request old new n → AskingRuns old (hearing.Asks request ∷ []) new [] [] }
+        → AskedOne request old new n → AskingRuns old (Asks request ∷ []) new [] [] }
     ensures read { (old new : AskingValue) (report : Option TheReport) → ReadOne old new report
-        → AskingRuns old (hearing.GoesOn ∷ []) new (option_to_list report) [] }
+        → AskingRuns old (By GoesOn ∷ []) new (option_to_list report) [] }
     ensures post { (old new : AskingValue) (n : ℕ) → HandedAll old new n
-        → AskingRuns old (hearing.GoesOn ∷ []) new [] [] }
+        → AskingRuns old (By GoesOn ∷ []) new [] [] }
     ensures emit { (old new : AskingValue) (bytes : List ℕ) → new ≡ record old { port = new.port }
-        → WroteNext old.port new.port bytes → AskingRuns old (hearing.GoesOn ∷ []) new []
+        → WroteNext old.port new.port bytes → AskingRuns old (By GoesOn ∷ []) new []
         (numbered (old.port.link.sent + 1) old.port.link.received (bytes ∷ [])) }
     ensures resend { (v : AskingValue) (i : ℕ) (bytes : List ℕ)
         → i < v.port.link.sent - v.port.link.acked
         → WritesSent v.port.link (Some (v.port.link.acked + 1 + i)) bytes
-        → AskingRuns v (hearing.Again i ∷ []) v [] (record {
+        → AskingRuns v (By (Again i) ∷ []) v [] (record {
           bytes = bytes;
           segment = Some (v.port.link.acked + 1 + i);
           acks = v.port.link.received;
         } ∷ []) }
     ensures ack { (v : AskingValue) (bytes : List ℕ) → IsSpelling (ack_packet_of v.port.link) bytes
-        → AskingRuns v (hearing.Acks ∷ []) v [] (record {
+        → AskingRuns v (By Acks ∷ []) v [] (record {
           bytes = bytes;
           segment = None;
           acks = v.port.link.received;
@@ -118,26 +117,26 @@ pub fn asking_calls_are_runs()
     ensures go_on { (old new : AskingValue) (out all : List (List ℕ))
         (before after : List TheReport)
         → WroteThen (asks before after) (λ p q. WroteAll p q out all) old new
-        → AreAskingCalls old (hearing.GoesOn ∷ []) new out all before after }
+        → AreAskingCalls old (By GoesOn ∷ []) new out all before after }
     ensures take { (old new : AskingValue) (bytes : List ℕ) (got : TheGot) (out all : List (List ℕ))
         (before after : List TheReport)
         → TookThen (asks before after) old new bytes got out all (Ok tt)
         → (events : List AskingEvent)
-        × AreAskingCalls old (hearing.Came bytes ∷ events) new out all before after }
+        × AreAskingCalls old (By (Came bytes) ∷ events) new out all before after }
     ensures halted { (old new : AskingValue) (out all : List (List ℕ))
         (before after : List TheReport) (f : TheEndFault)
         → WentOn (asks before after) old new out all (Err f)
         → f ≢ end_fault.Read read_fault.Unexpected
-        → AreAskingCalls old (hearing.GoesOn ∷ []) new out all before after }
+        → AreAskingCalls old (By GoesOn ∷ []) new out all before after }
     ensures part { (old new : AskingValue) (bytes : List ℕ) (got : TheGot) (out all : List (List ℕ))
         (before after : List TheReport) (f : TheEndFault)
         → TookThen (asks before after) old new bytes got out all (Err f)
         → f ≢ end_fault.Read read_fault.Unexpected
-        → AreAskingCalls old (hearing.Came bytes ∷ hearing.GoesOn ∷ []) new out all before after }
+        → AreAskingCalls old (By (Came bytes) ∷ By GoesOn ∷ []) new out all before after }
     ensures refused { (old new : AskingValue) (bytes : List ℕ)
         (before after : List TheReport) (f : TheFault)
         → TookIn (asks before after) old new bytes (Err f)
-        → AskingRuns old (hearing.Came bytes ∷ []) new [] [] }
+        → AskingRuns old (By (Came bytes) ∷ []) new [] [] }
 {}
 
 /// Whatever an end that serves is called to do by itself leaves one end, and writes one list of packets, by what the end did
