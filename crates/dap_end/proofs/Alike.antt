@@ -56,16 +56,16 @@ back_of (x ∷ front) xs ys e = back_of front xs ys (let tails : front ++ xs ≡
 
 pub reading_one : (past : AskingPast) (old one two : AskingValue) (r s : Option Report) → HasAsked past old → ReadOne old one r → ReadOne old two s → (one ≡ two) × (r ≡ s)
 reading_one past old one two r s h a b =
-    let bytes : b.bytes ≡ a.bytes = (let both = sym b.came ∙ a.came in cc) in
-    let later : b.later ≡ a.later = (let both = sym b.came ∙ a.came in cc) in
-    let same = one_item a.bytes old.port.place a.item b.item a.next b.next a.fits a.reads (subst (λ (l : List ℕ). ItemAt l old.port.place b.item b.next) bytes b.reads) in
-    let answers : past.answers ++ b.item ∷ [] ≡ past.answers ++ a.item ∷ [] = ap (λ (i : Item). past.answers ++ i ∷ []) same.0 in
+    let bytes : b.one.bytes ≡ a.one.bytes = (let both = sym b.one.came ∙ a.one.came in cc) in
+    let later : b.one.later ≡ a.one.later = (let both = sym b.one.came ∙ a.one.came in cc) in
+    let same = one_item a.one.bytes old.port.place a.one.item b.one.item a.one.next b.one.next a.one.fits a.one.reads (subst (λ (l : List ℕ). ItemAt l old.port.place b.one.item b.one.next) bytes b.one.reads) in
+    let answers : past.answers ++ b.one.item ∷ [] ≡ past.answers ++ a.one.item ∷ [] = ap (λ (i : Item). past.answers ++ i ∷ []) same.0 in
     let present : one.accessing ≡ two.accessing =
-    one_present past.requests (past.answers ++ a.item ∷ []) one.accessing two.accessing (a.past past h).asking (subst (λ (l : List Item). StandsAfter past.requests l two.accessing) answers (b.past past h).asking) (a.own ∙ sym b.own) in
+    one_present past.requests (past.answers ++ a.one.item ∷ []) one.accessing two.accessing (a.past past h).asking (subst (λ (l : List Item). StandsAfter past.requests l two.accessing) answers (b.past past h).asking) (a.own ∙ sym b.own) in
     let port : one.port ≡ two.port =
-    a.port ∙ ap (λ (k : ℕ). gone_on old.port a.bytes a.later k) (sym same.1)
-    ∙ ap (λ (l : List ℕ). gone_on old.port l a.later b.next) (sym bytes)
-    ∙ ap (λ (l : List (List ℕ)). gone_on old.port b.bytes l b.next) (sym later)
+    a.port ∙ ap (λ (k : ℕ). gone_on old.port a.one.bytes a.one.later k) (sym same.1)
+    ∙ ap (λ (l : List ℕ). gone_on old.port l a.one.later b.one.next) (sym bytes)
+    ∙ ap (λ (l : List (List ℕ)). gone_on old.port b.one.bytes l b.one.next) (sym later)
     ∙ sym b.port in
     let told : option_to_list r ≡ option_to_list s =
     back_of (Told past.requests past.answers) (option_to_list r) (option_to_list s) (sym (a.told past h) ∙ ap (Told past.requests) (sym answers) ∙ b.told past h) in (
@@ -108,7 +108,7 @@ reads_once past old one two rs ss h begins (goes n s more y other js) a b = absu
 reads_once past old one two rs ss h (goes m r more x on is) begins a b = absurd (b m r x)
 reads_once past old one two rs ss h (goes m r more x on is) (goes n s rest y other js) a b =
     let same = reading_one past old m n r s h x y in
-    let next = reads_once (read_one past x.bytes x.item x.next) m one two more rest (x.past past h) on (subst (λ (v : AskingValue). ReadOn v two rest) (sym same.0) other) a b in
+    let next = reads_once (read_one past x.one.bytes x.one.item x.one.next) m one two more rest (x.past past h) on (subst (λ (v : AskingValue). ReadOn v two rest) (sym same.0) other) a b in
     (next.0, is ∙ ap (λ (l : List Report). option_to_list r ++ l) next.1 ∙ ap (λ (o : Option Report). option_to_list o ++ rest) same.1 ∙ sym js)
 
 -- an end that failed reads nothing
@@ -120,7 +120,7 @@ read_past : (past : AskingPast) (old new : AskingValue) (rs : List Report) → H
 read_past past old new rs h on = let g = (read_grows old new rs on).past past h in (g.0, g.1.is)
 
 stops_empty : (v : AskingValue) → v.port.link.inbox ≡ [] → Stops v
-stops_empty v none = λ next report r. no_next r.bytes r.later (sym none ∙ r.came)
+stops_empty v none = λ next report r. no_next r.one.bytes r.one.later (sym none ∙ r.one.came)
 
 not_wrong : (d : Due) (p : Option Pending) → elim d [ NothingDue ↦ false | AnswersDue request so_far ↦ false | Wrong ↦ true ] ≡ true → FitsDue d p → ⊥
 not_wrong NothingDue p e h = true≢false (sym e)
@@ -132,11 +132,11 @@ not_wrong Wrong (Some p) e h = h
 no_place : (past : AskingPast) (v new next : AskingValue) (report : Option Report) → HasAsked past v → ReadNone v new read_fault.Unexpected → ReadOne v next report → ⊥
 no_place past v new next report h n r =
     let there = n.refused.2 in
-    let bytes : n.bytes ≡ r.bytes = (let both = sym n.came ∙ r.came in cc) in
-    let same = one_item r.bytes v.port.place r.item there.0 r.next there.1 r.fits r.reads (subst (λ (l : List ℕ). ItemAt l v.port.place there.0 there.1) bytes there.2) in
-    let unexpected : is_unexpected past.requests past.answers r.item ≡ true =
+    let bytes : n.bytes ≡ r.one.bytes = (let both = sym n.came ∙ r.one.came in cc) in
+    let same = one_item r.one.bytes v.port.place r.one.item there.0 r.one.next there.1 r.one.fits r.one.reads (subst (λ (l : List ℕ). ItemAt l v.port.place there.0 there.1) bytes there.2) in
+    let unexpected : is_unexpected past.requests past.answers r.one.item ≡ true =
     subst (λ (i : Item). is_unexpected past.requests past.answers i ≡ true) same.0 (there.3 past.requests past.answers h.asking) in
-    not_wrong (due_after past.requests (past.answers ++ r.item ∷ [])) next.accessing.pending unexpected (r.past past h).asking.pending
+    not_wrong (due_after past.requests (past.answers ++ r.one.item ∷ [])) next.accessing.pending unexpected (r.past past h).asking.pending
 
 stops_unread : (v new : AskingValue) (f : ReadFault) → f ≢ read_fault.NoMemory → ReadNone v new f → ((past : AskingPast) × HasAsked past v) → Stops v
 stops_unread v new read_fault.Failed want n p = λ next report r. true≢false (sym n.refused.0 ∙ r.works)

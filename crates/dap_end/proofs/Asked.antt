@@ -190,16 +190,7 @@ pub reads_one : (old : AskingValue) (bytes : List ℕ) (later : List (List ℕ))
 reads_one old bytes later fits after port step inbox place r within onward own is =
     record {
       works = r.works;
-      bytes = bytes;
-      later = later;
-      came = inbox;
-      fits = fits;
-      item = r.answer;
-      next = step.next;
-      reads = r.reads;
-      place = place;
-      goes = onward;
-      within = within;
+      one = record { bytes = bytes; later = later; came = inbox; fits = fits; item = r.answer; next = step.next; reads = r.reads; place = place; goes = onward; within = within };
       port = is;
       own = own;
       past = λ past h. subst (λ (p : PortValue). HasAsked (read_one past bytes r.answer step.next) (asking_of p after)) (sym is) (record {
@@ -212,8 +203,6 @@ reads_one old bytes later fits after port step inbox place r within onward own i
         full = h.full;
       });
       told = λ past h. r.told past.requests past.answers h.asking;
-      given = λ size messages past h. subst (λ (p : PortValue). Stands p.link size messages (read_one past bytes r.answer step.next).given) (sym is)
-          (port_given old.port bytes later step.next size messages past.given inbox h);
     }
 
 pub some_first : (inbox : List (List ℕ)) → 0 < length inbox → (bytes : List ℕ) × (later : List (List ℕ)) × (inbox ≡ bytes ∷ later)
@@ -274,32 +263,33 @@ split_given given inbox later bytes next came =
       | inr inside ↦ rw (ne_eqb next (length bytes) inside) refl
     ]
 
-read_grew : (a b c : AskingValue) (report : Option Report) (told : List Report) (past : AskingPast) (now : AskingPast) → HasRead past now a b told → (r : ReadOne b c report) → HasRead past (read_one now r.bytes r.item r.next) a c (told ++ option_to_list report)
+read_grew : (a b c : AskingValue) (report : Option Report) (told : List Report) (past : AskingPast) (now : AskingPast) → HasRead past now a b told → (r : ReadOne b c report) → HasRead past (read_one now r.one.bytes r.one.item r.one.next) a c (told ++ option_to_list report)
 read_grew a b c report told past now g r =
-    let link : c.port.link ≡ record b.port.link { inbox = if r.next == length r.bytes then r.later else b.port.link.inbox } = ap (λ (p : PortValue). p.link) r.port in
+    let link : c.port.link ≡ record b.port.link { inbox = if r.one.next == length r.one.bytes then r.one.later else b.port.link.inbox } = ap (λ (p : PortValue). p.link) r.port in
     record {
       is = r.past now g.is;
       requests = g.requests;
       asked = g.asked;
       handed = g.handed;
-      answers = (g.answers.0 ++ r.item ∷ [], ap (λ (l : List Item). l ++ r.item ∷ []) g.answers.1 ∙ append_assoc past.answers g.answers.0 (r.item ∷ []));
-      told = ap (λ (l : List Request). Told l (now.answers ++ r.item ∷ [])) (sym g.requests) ∙ r.told now g.is
+      answers = (g.answers.0 ++ r.one.item ∷ [], ap (λ (l : List Item). l ++ r.one.item ∷ []) g.answers.1 ∙ append_assoc past.answers g.answers.0 (r.one.item ∷ []));
+      told = ap (λ (l : List Request). Told l (now.answers ++ r.one.item ∷ [])) (sym g.requests) ∙ r.told now g.is
           ∙ ap (λ (l : List Request). Told l now.answers ++ option_to_list report) g.requests
           ∙ ap (λ (l : List Report). l ++ option_to_list report) g.told ∙ append_assoc (Told past.requests past.answers) told (option_to_list report);
-      given = subst (λ (l : LinkValue). given_then now.given r.bytes r.next ++ l.inbox ≡ now.given ++ b.port.link.inbox) (sym link)
-          (split_given now.given b.port.link.inbox r.later r.bytes r.next r.came) ∙ g.given;
-      stands = λ size messages s. r.given size messages now (g.stands size messages s);
+      given = subst (λ (l : LinkValue). given_then now.given r.one.bytes r.one.next ++ l.inbox ≡ now.given ++ b.port.link.inbox) (sym link)
+          (split_given now.given b.port.link.inbox r.one.later r.one.bytes r.one.next r.one.came) ∙ g.given;
+      stands = λ size messages s. subst (λ (l : LinkValue). Stands l size messages (read_one now r.one.bytes r.one.item r.one.next).given) (sym link)
+          (port_given b.port r.one.bytes r.one.later r.one.next size messages now.given r.one.came (g.stands size messages s));
     }
 
 read_then : (a b c : AskingValue) (told : List Report) (report : Option Report) → ReadMore a b told → ReadOne b c report → ReadMore a c (told ++ option_to_list report)
 read_then a b c told report m r =
-    let link : c.port.link ≡ record b.port.link { inbox = if r.next == length r.bytes then r.later else b.port.link.inbox } = ap (λ (p : PortValue). p.link) r.port in
+    let link : c.port.link ≡ record b.port.link { inbox = if r.one.next == length r.one.bytes then r.one.later else b.port.link.inbox } = ap (λ (p : PortValue). p.link) r.port in
     let here : c.port.link ≡ record b.port.link { inbox = c.port.link.inbox } = subst (λ (l : LinkValue). l ≡ record b.port.link { inbox = l.inbox }) (sym link) refl in
     record {
       link = here ∙ ap (λ (l : LinkValue). record l { inbox = c.port.link.inbox }) m.link;
       outbox = ap (λ (p : PortValue). p.outbox) r.port ∙ m.outbox;
       own = r.own ∙ m.own;
-      past = λ past h. (let g = m.past past h in (read_one g.0 r.bytes r.item r.next, read_grew a b c report told past g.0 g.1 r));
+      past = λ past h. (let g = m.past past h in (read_one g.0 r.one.bytes r.one.item r.one.next, read_grew a b c report told past g.0 g.1 r));
     }
 
 read_behind : (a b c : AskingValue) (told more all : List Report) → ReadMore a b told → ReadOn b c more → all ≡ told ++ more → ReadMore a c all
@@ -327,7 +317,7 @@ read_more a b c report before all new m r is = (
 pub read_falls : (old new : AskingValue) (report : Option Report) → ReadOne old new report → work new.port.link.inbox - new.port.place < work old.port.link.inbox - old.port.place
 read_falls old new report r =
     subst (λ (p : PortValue). work p.link.inbox - p.place < work old.port.link.inbox - old.port.place) (sym r.port)
-    (less_left old.port.link.inbox r.later r.bytes old.port.place r.next r.came r.place r.goes r.within)
+    (less_left old.port.link.inbox r.one.later r.one.bytes old.port.place r.one.next r.one.came r.one.place r.one.goes r.one.within)
 
 pub still_sent : (v : AskingValue) (port : PortValue) (n : ℕ) → port ≡ sent_more v.port n → HasStill v (record v { port = port })
 still_sent v port n e =

@@ -44,21 +44,21 @@ outbox_one first handed xs ys items more own other same e a b =
 
 pub serving_one : (past : Past) (old one two : ServingValue) (n m : ℕ) → IsAfter past old → ServedOne old one n → ServedOne old two m → (one ≡ two) × (n ≡ m)
 serving_one past old one two n m h a b =
-    let bytes : b.bytes ≡ a.bytes = (let both = sym b.came ∙ a.came in cc) in
-    let later : b.later ≡ a.later = (let both = sym b.came ∙ a.came in cc) in
-    let same = one_item a.bytes old.port.place a.item b.item a.next b.next a.fits a.reads (subst (λ (l : List ℕ). ItemAt l old.port.place b.item b.next) bytes b.reads) in
-    let items : past.items ++ a.item ∷ [] ≡ past.items ++ b.item ∷ [] = ap (λ (i : Item). past.items ++ i ∷ []) (sym same.0) in
+    let bytes : b.one.bytes ≡ a.one.bytes = (let both = sym b.one.came ∙ a.one.came in cc) in
+    let later : b.one.later ≡ a.one.later = (let both = sym b.one.came ∙ a.one.came in cc) in
+    let same = one_item a.one.bytes old.port.place a.one.item b.one.item a.one.next b.one.next a.one.fits a.one.reads (subst (λ (l : List ℕ). ItemAt l old.port.place b.one.item b.one.next) bytes b.one.reads) in
+    let items : past.items ++ a.one.item ∷ [] ≡ past.items ++ b.one.item ∷ [] = ap (λ (i : Item). past.items ++ i ∷ []) (sym same.0) in
     let own : one.accessed.own ≡ two.accessed.own = a.own ∙ sym b.own in
     let ha = a.past past h in
     let hb = b.past past h in
-    let accessed : one.accessed ≡ two.accessed = present_one past.first (past.items ++ a.item ∷ []) (past.items ++ b.item ∷ []) one.accessed two.accessed items own ha.serving hb.serving in
+    let accessed : one.accessed ≡ two.accessed = present_one past.first (past.items ++ a.one.item ∷ []) (past.items ++ b.one.item ∷ []) one.accessed two.accessed items own ha.serving hb.serving in
     let outbox : one.port.outbox ≡ two.port.outbox =
-    outbox_one past.first past.handed one.port.outbox two.port.outbox (past.items ++ a.item ∷ []) (past.items ++ b.item ∷ []) one.accessed.own two.accessed.own items own ha.answers hb.answers in
+    outbox_one past.first past.handed one.port.outbox two.port.outbox (past.items ++ a.one.item ∷ []) (past.items ++ b.one.item ∷ []) one.accessed.own two.accessed.own items own ha.answers hb.answers in
     let port : one.port ≡ two.port =
-    a.port ∙ ap (λ (l : List (List ℕ)). record (gone_on old.port a.bytes a.later a.next) { outbox = l }) outbox
-    ∙ ap (λ (k : ℕ). record (gone_on old.port a.bytes a.later k) { outbox = two.port.outbox }) (sym same.1)
-    ∙ ap (λ (l : List ℕ). record (gone_on old.port l a.later b.next) { outbox = two.port.outbox }) (sym bytes)
-    ∙ ap (λ (l : List (List ℕ)). record (gone_on old.port b.bytes l b.next) { outbox = two.port.outbox }) (sym later)
+    a.port ∙ ap (λ (l : List (List ℕ)). record (gone_on old.port a.one.bytes a.one.later a.one.next) { outbox = l }) outbox
+    ∙ ap (λ (k : ℕ). record (gone_on old.port a.one.bytes a.one.later k) { outbox = two.port.outbox }) (sym same.1)
+    ∙ ap (λ (l : List ℕ). record (gone_on old.port l a.one.later b.one.next) { outbox = two.port.outbox }) (sym bytes)
+    ∙ ap (λ (l : List (List ℕ)). record (gone_on old.port b.one.bytes l b.one.next) { outbox = two.port.outbox }) (sym later)
     ∙ sym b.port in
     (ap (with_port one) port ∙ ap (λ (x : Present). record two { accessed = x }) accessed, a.count ∙ ap length outbox ∙ sym b.count)
 
@@ -81,14 +81,14 @@ serves_once past old one two h (goes p m k n x y on) (goes q l j i z w other) a 
     let now = record past { handed = past.handed ++ old.port.outbox } in
     let after = x.past past h in
     let same = serving_one now p m l n i after y (subst (λ (v : ServingValue). ServedOne v l i) posted w) in
-    serves_once (served now y.bytes y.item y.next) m one two (y.past now after) on (subst (λ (v : ServingValue). ServedOn v two) (sym same.0) other) a b
+    serves_once (served now y.one.bytes y.one.item y.one.next) m one two (y.past now after) on (subst (λ (v : ServingValue). ServedOn v two) (sym same.0) other) a b
 
 pub no_next : (bytes : List ℕ) (later : List (List ℕ)) → [] ≡ bytes ∷ later → ⊥
 no_next bytes later e = cc
 
 -- nothing that came is left
 stops_empty : (v : ServingValue) → v.port.link.inbox ≡ [] → Stops v
-stops_empty v none = λ posted mid k n x y. no_next y.bytes y.later (sym (ap (λ (w : ServingValue). w.port.link.inbox) x.posted ∙ none) ∙ y.came)
+stops_empty v none = λ posted mid k n x y. no_next y.one.bytes y.one.later (sym (ap (λ (w : ServingValue). w.port.link.inbox) x.posted ∙ none) ∙ y.one.came)
 
 running : (b : Bool) → IsTrue b → b ≡ false → ⊥
 running b t e = true≢false (sym t ∙ e)

@@ -96,8 +96,8 @@ posted_known v new n p (past, h, inr none) =
 
 served_known : (v new : ServingValue) (n : ℕ) → ServedOne v new n → IsKnown v → IsKnown new
 served_known v new n s (past, h, inl came) =
-    (served past s.bytes s.item s.next, s.past past h, inl (subst (λ (p : PortValue). HasCome p) (sym s.port) came))
-served_known v new n s (past, h, inr none) = absurd (no_next s.bytes s.later (sym none.1 ∙ s.came))
+    (served past s.one.bytes s.one.item s.one.next, s.past past h, inl (subst (λ (p : PortValue). HasCome p) (sym s.port) came))
+served_known v new n s (past, h, inr none) = absurd (no_next s.one.bytes s.one.later (sym none.1 ∙ s.one.came))
 
 on_known : (a b : ServingValue) → ServedOn a b → IsKnown a → IsKnown b
 on_known a b begins k = k

@@ -7,7 +7,7 @@ use Rattle.std.proofs.lemmas.List.Elements.{All-append}
 use Rattle.dap_msg.specs.Items.{Item, IsPlace}
 use Rattle.nsp_link.specs.declared.fault.LinkFault.{LinkFault}
 use Rattle.nsp_link.specs.declared.fault.LinkFault.TheVariants as fault
-use Rattle.nsp_link.specs.Link.{LinkValue, MaySend}
+use Rattle.nsp_link.specs.Link.{LinkValue, Stands, MaySend}
 use Rattle.nsp_link.specs.Sending.{AreShort}
 use Rattle.dap_end.specs.declared.fault.EndFault.{EndFault}
 use Rattle.dap_end.specs.declared.fault.EndFault.TheVariants as end_fault
@@ -15,6 +15,7 @@ use Rattle.dap_end.specs.Ports.{PortValue, posted}
 use Rattle.dap_end.specs.Serving.{ServingValue, Past, IsAfter, ServedOne, PostedAll, MayServe, IsStill, served}
 use Rattle.dap_end.specs.Writing.{sent_more, IsFull, WroteAll}
 use Rattle.dap_end.specs.Taking.{SameCounts, Grew, ServedMore, ServedOn, begins, goes, ServedUp, IsServed, ServeFault, serves, GoesOn, with_port}
+use Rattle.dap_end.proofs.ServingOne.{port_given}
 use Rattle.dap_end.proofs.Turning.{went_by}
 
 -- ---- Serving and handing over.
@@ -82,20 +83,21 @@ split_given given inbox later bytes next came =
 
 pub more_served : (old new : ServingValue) (n : ℕ) → ServedOne old new n → ServedMore old new
 more_served old new n s =
-    let link : new.port.link ≡ record old.port.link { inbox = if s.next == length s.bytes then s.later else old.port.link.inbox } = ap (λ (p : PortValue). p.link) s.port in
+    let link : new.port.link ≡ record old.port.link { inbox = if s.one.next == length s.one.bytes then s.one.later else old.port.link.inbox } = ap (λ (p : PortValue). p.link) s.port in
     record {
       link = subst (SameCounts old.port.link) (sym link) refl;
       own = s.own;
       past = λ past h. (
-        served past s.bytes s.item s.next,
+        served past s.one.bytes s.one.item s.one.next,
         record {
           is = s.past past h;
           first = refl;
-          items = (s.item ∷ [], refl);
+          items = (s.one.item ∷ [], refl);
           handed = ([], sym (append-nil past.handed), none_short old.port.link);
-          given = subst (λ (l : LinkValue). (served past s.bytes s.item s.next).given ++ l.inbox ≡ past.given ++ old.port.link.inbox) (sym link)
-              (split_given past.given old.port.link.inbox s.later s.bytes s.next s.came);
-          stands = λ size messages t. s.given size messages past t;
+          given = subst (λ (l : LinkValue). (served past s.one.bytes s.one.item s.one.next).given ++ l.inbox ≡ past.given ++ old.port.link.inbox) (sym link)
+              (split_given past.given old.port.link.inbox s.one.later s.one.bytes s.one.next s.one.came);
+          stands = λ size messages t. subst (λ (l : LinkValue). Stands l size messages (served past s.one.bytes s.one.item s.one.next).given) (sym link)
+              (port_given old.port s.one.bytes s.one.later s.one.next size messages past.given s.one.came t);
         },
       );
     }
@@ -160,7 +162,7 @@ less_left inbox later bytes place next came at onward within =
 pub falls : (old new : ServingValue) (n : ℕ) → ServedOne old new n → left new < left old
 falls old new n s =
     subst (λ (p : PortValue). work p.link.inbox - p.place < left old) (sym s.port)
-    (less_left old.port.link.inbox s.later s.bytes old.port.place s.next s.came s.place s.goes s.within)
+    (less_left old.port.link.inbox s.one.later s.one.bytes old.port.place s.one.next s.one.came s.one.place s.one.goes s.one.within)
 
 -- ---- Writing.
 

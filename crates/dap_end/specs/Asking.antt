@@ -1,10 +1,9 @@
 -- The end that asks, before any peer.
-use Rattle.std.specs.Prelude.{◌≡◌, ◌≢◌, ◌⊎◌, ℕ, ◌<◌, ◌≤◌, Result, Ok, Err, List, [], ◌∷◌, ◌++◌, length, true, false, Option, Some, None, option_to_list}
+use Rattle.std.specs.Prelude.{◌≡◌, ◌≢◌, ◌⊎◌, ℕ, ◌<◌, Result, Ok, Err, List, [], ◌∷◌, ◌++◌, length, true, false, Option, Some, None, option_to_list}
 use Rattle.std.specs.List.{AllByRecursion}
-use Rattle.dap_fields.specs.Spelling.{AreBytes}
-use Rattle.dap_msg.specs.Items.{Item, ItemAt, IsPlace}
+use Rattle.dap_msg.specs.Items.{Item}
 use Rattle.dap_msg.specs.Blocked.{NspMessage, Blocked, all_joined, messages_in, AllFit}
-use Rattle.nsp_link.specs.Link.{Sends, Stands}
+use Rattle.nsp_link.specs.Link.{Sends}
 use Rattle.nsp_link.specs.Sending.{MayQueueAll, SendAllFault}
 use Rattle.nsp_link.specs.declared.link.Got.{Got}
 use Rattle.dap_accessing.specs.Request.{Request}
@@ -22,7 +21,7 @@ use Rattle.dap_end.specs.declared.fault.EndFault.{EndFault}
 use Rattle.dap_end.specs.declared.fault.EndFault.TheVariants as end_fault
 use Rattle.dap_end.specs.declared.fault.TakeFault.{TakeFault}
 use Rattle.dap_end.specs.Ports.{PortValue, gone_on, posted}
-use Rattle.dap_end.specs.Going.{GoneThrough, given_then}
+use Rattle.dap_end.specs.Going.{GoneThrough, given_then, NextItem}
 use Rattle.dap_end.specs.Turns.{EndOf, WentOn, Took}
 
 pub record AskingValue : Type 0 where
@@ -94,23 +93,11 @@ read_one past bytes item next = record past { given = given_then past.given byte
 -- The next item of the oldest NSP message was read; it had its place, and the report is the one that it adds.
 pub record ReadOne (old new : AskingValue) (report : Option Report) : Type 0 where
   pub works : old.accessing.failed ≡ false
-  pub bytes : List ℕ
-  pub later : List (List ℕ)
-  pub came : old.port.link.inbox ≡ bytes ∷ later
-  pub fits : AreBytes bytes
-  pub item : Item
-  pub next : ℕ
-  pub reads : ItemAt bytes old.port.place item next
-  pub place : IsPlace old.port.place bytes
-  pub goes : old.port.place < length bytes → old.port.place < next
-  pub within : next ≤ length bytes
-  pub port : new.port ≡ gone_on old.port bytes later next
+  pub one : NextItem old.port
+  pub port : new.port ≡ gone_on old.port one.bytes one.later one.next
   pub own : new.accessing.own ≡ old.accessing.own
-  pub past : (past : AskingPast) → HasAsked past old → HasAsked (read_one past bytes item next) new
-  pub told : (past : AskingPast) → HasAsked past old → Told past.requests (past.answers ++ item ∷ []) ≡ Told past.requests past.answers ++ option_to_list report
-  -- an NSP message that was read leaves the link
-  pub given : (size : ℕ) (messages : List (List ℕ)) (past : AskingPast)
-      → Stands old.port.link size messages past.given → Stands new.port.link size messages (read_one past bytes item next).given
+  pub past : (past : AskingPast) → HasAsked past old → HasAsked (read_one past one.bytes one.item one.next) new
+  pub told : (past : AskingPast) → HasAsked past old → Told past.requests (past.answers ++ one.item ∷ []) ≡ Told past.requests past.answers ++ option_to_list report
 
 -- why nothing was read, and what that leaves: after an answer that has no place the end has failed
 pub record ReadNone (old new : AskingValue) (f : ReadFault) : Type 0 where
