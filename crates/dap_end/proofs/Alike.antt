@@ -23,7 +23,8 @@ use Rattle.dap_end.specs.declared.fault.EndFault.{EndFault}
 use Rattle.dap_end.specs.declared.fault.EndFault.TheVariants as end_fault
 use Rattle.dap_end.specs.declared.fault.TakeFault.{TakeFault}
 use Rattle.dap_end.specs.Ports.{PortValue, gone_on, posted}
-use Rattle.dap_end.specs.Asking.{AskingValue, AskingPast, HasAsked, HasStill, AskedOne, HandedAll, ReadOne, ReadNone, ReadOn, begins, goes, ReadAll, ReadPart, ReadsAll, HeardAll, HearFault, GoesOn, Takes, asks, AreAlike, HasDone, read_one, asked_one}
+use Rattle.dap_end.specs.Asking.{AskingValue, AskingPast, HasAsked, HasStill, AskedOne, HandedAll, ReadOne, ReadNone, ReadOn, begins, goes, ReadAll, ReadPart, ReadsAll, HeardAll, HearFault, asks, AreAlike, HasDone, read_one, asked_one}
+use Rattle.dap_end.specs.Turns.{WentOn, Takes}
 use Rattle.dap_end.specs.Wanting.{is_want, went_wanting, took_wanting}
 use Rattle.dap_end.proofs.Asked.{read_grows}
 use Rattle.dap_end.proofs.Determined.{may_or_not, refused_one, no_next}
@@ -286,9 +287,9 @@ asks_alike before rs ss =
     }
 
 pub going_alike : (old other one two : AskingValue) (out xs ys : List (List ℕ)) (before rs ss : List Report) (r s : Result (Unit {0}) EndFault) → HasDone old → AreAlike old other → went_wanting r ≡ false → went_wanting s ≡ false
-    → GoesOn old one out xs before rs r → GoesOn other two out ys before ss s → AreAlike one two × (r ≡ s) × (xs ≡ ys) × (rs ≡ ss) × HasDone one
+    → WentOn (asks before rs) old one out xs r → WentOn (asks before ss) other two out ys s → AreAlike one two × (r ≡ s) × (xs ≡ ys) × (rs ≡ ss) × HasDone one
 going_alike old other one two out xs ys before rs ss r s d like nr ns a b = went_same _ _ _ _ _ (asks_alike before rs ss) old other one two out xs ys r s d like nr ns a b
 
 pub taking_alike : (old other one two : AskingValue) (bytes : List ℕ) (r s : Result Got TakeFault) (out xs ys : List (List ℕ)) (before rs ss : List Report) → AreBytes bytes → HasDone old → AreAlike old other → took_wanting r ≡ false → took_wanting s ≡ false
-    → Takes old one bytes out xs before rs r → Takes other two bytes out ys before ss s → AreAlike one two × (r ≡ s) × (xs ≡ ys) × (rs ≡ ss) × HasDone one
+    → Takes (asks before rs) old one bytes out xs r → Takes (asks before ss) other two bytes out ys s → AreAlike one two × (r ≡ s) × (xs ≡ ys) × (rs ≡ ss) × HasDone one
 taking_alike old other one two bytes r s out xs ys before rs ss fits d like nr ns a b = took_same _ _ _ _ _ (asks_alike before rs ss) old other one two bytes out xs ys r s fits d like nr ns a b

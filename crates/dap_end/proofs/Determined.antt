@@ -18,7 +18,8 @@ use Rattle.dap_end.specs.declared.fault.TakeFault.{TakeFault}
 use Rattle.dap_end.specs.Ports.{gone_on, posted}
 use Rattle.dap_end.specs.Going.{StandFrom}
 use Rattle.dap_end.specs.Serving.{ServingValue, Past, IsAfter, ServedOne, PostedAll, answers_to, served}
-use Rattle.dap_end.specs.Taking.{ServedOn, begins, goes, ServedUp, IsServed, ServeFault, ServesAll, serves, GoesOn, with_port, Takes}
+use Rattle.dap_end.specs.Taking.{ServedOn, begins, goes, ServedUp, IsServed, ServeFault, ServesAll, serves, GoesOn, with_port}
+use Rattle.dap_end.specs.Turns.{Takes}
 use Rattle.dap_end.specs.Wanting.{is_want, took_wanting}
 use Rattle.dap_msg.proofs.ForCallers.{one_item}
 use Rattle.dap_end.proofs.Proceeding.{up_grew, fault_grew}
@@ -222,6 +223,6 @@ going_one past old one two out xs ys (Err f) (Err g) h nr ns a b =
     (t.0, ap failed_by (link_same f g (failed_same (end_fault.Link f) (end_fault.Link g) t.1)), t.2)
 
 pub taking_one : (past : Past) (old one two : ServingValue) (bytes : List ℕ) (r s : Result Got TakeFault) (out xs ys : List (List ℕ)) → AreBytes bytes → IsAfter past old → took_wanting r ≡ false → took_wanting s ≡ false
-    → Takes old one bytes out xs r → Takes old two bytes out ys s → (one ≡ two) × (r ≡ s) × (xs ≡ ys)
+    → Takes serves old one bytes out xs r → Takes serves old two bytes out ys s → (one ≡ two) × (r ≡ s) × (xs ≡ ys)
 taking_one past old one two bytes r s out xs ys fits h nr ns a b =
     let t = took_same _ _ _ _ _ serves_alike old old one two bytes out xs ys r s fits (past, h) refl nr ns a b in (t.0, t.1, t.2)

@@ -16,8 +16,8 @@ use Rattle.dap_end.specs.declared.fault.TakeFault.TheVariants as take_fault
 use Rattle.dap_end.specs.Ports.{PortValue, HasCome, with_link}
 use Rattle.dap_end.specs.Writing.{sent_more}
 use Rattle.dap_end.specs.Serving.{ServingValue, Past, IsAfter, IsStill, ServedOne, PostedAll, nothing_yet, served}
-use Rattle.dap_end.specs.Turns.{WroteThen, TookIn}
-use Rattle.dap_end.specs.Taking.{ServedOn, begins, goes, ServedUp, ServeFault, serves, GoesOn, Takes, with_port}
+use Rattle.dap_end.specs.Turns.{WroteThen, TookIn, Takes}
+use Rattle.dap_end.specs.Taking.{ServedOn, begins, goes, ServedUp, ServeFault, serves, GoesOn, with_port}
 use Rattle.dap_end.proofs.Refusing.{taken_count}
 use Rattle.dap_end.proofs.Determined.{no_next}
 
@@ -132,7 +132,7 @@ in_known old new bytes r t k =
     let still : IsStill old (with_port old (with_link old.port new.port.link)) = subst (IsStill old) t.rest t.still in
     subst IsKnown (sym t.rest) (known_in old new.port.link bytes r t.receives still k)
 
-pub taking_known : (old new : ServingValue) (bytes : List ℕ) (out all : List (List ℕ)) (r : Result Got TakeFault) → Takes old new bytes out all r → IsKnown old → IsKnown new
+pub taking_known : (old new : ServingValue) (bytes : List ℕ) (out all : List (List ℕ)) (r : Result Got TakeFault) → Takes serves old new bytes out all r → IsKnown old → IsKnown new
 taking_known old new bytes out all (Ok got) t k = wrote_known t.0 new _ t.2 _ t.2.wrote.2.wrote.sent (in_known old t.0 bytes (Ok got) t.1 k)
 taking_known old new bytes out all (Err (take_fault.Refused f)) t k = in_known old new bytes (Err f) t.0 k
 taking_known old new bytes out all (Err (take_fault.Unfinished got f)) (mid, t, inl h) k = fault_known mid new f h.0 (in_known old mid bytes (Ok got) t k)

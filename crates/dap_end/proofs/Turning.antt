@@ -13,7 +13,7 @@ use Rattle.dap_end.specs.declared.fault.TakeFault.{TakeFault}
 use Rattle.dap_end.specs.declared.fault.TakeFault.TheVariants as take_fault
 use Rattle.dap_end.specs.Ports.{PortValue, with_link}
 use Rattle.dap_end.specs.Writing.{IsFull, sent_more, WroteAll, AnsweredAll, AnsweredPart}
-use Rattle.dap_end.specs.Turns.{EndOf, DidAndWrote, WentOn, Answered, TookIn, TookThen, Took}
+use Rattle.dap_end.specs.Turns.{EndOf, DidAndWrote, WentOn, Answered, TookIn, TookThen, Takes}
 use Rattle.dap_end.specs.Wanting.{is_want, went_wanting, took_wanting}
 use Rattle.dap_end.specs.Inner.Answered.{ended_by}
 use Rattle.dap_end.proofs.Writing.{all_wrote, answered_one}
@@ -169,7 +169,7 @@ module _ {V : Type 0} (e d : EndOf V) (alike : V → V → Type 0) (known : V �
       ok_apart g f (sym (in_same old other one two bytes (Err f) (Ok g) fits k like (λ e. no_want f n (err_same f fault.NoMemory e)) (ok_apart g fault.NoMemory) a b).0)
 
   pub took_same : (old other one two : V) (bytes : List ℕ) (out xs ys : List (List ℕ)) (r s : Result Got TakeFault) → AreBytes bytes → known old → alike old other → took_wanting r ≡ false → took_wanting s ≡ false
-      → Took e old one bytes out xs r → Took d other two bytes out ys s → alike one two × (r ≡ s) × (xs ≡ ys) × told × known one
+      → Takes e old one bytes out xs r → Takes d other two bytes out ys s → alike one two × (r ≡ s) × (xs ≡ ys) × told × known one
   took_same old other one two bytes out xs ys (Ok g) (Ok h) fits k like nr ns a b =
       let t = then_same old other one two bytes g h out xs ys (Ok tt) (Ok tt) fits k like refl refl a b in (t.0, ap took t.1.0, t.2, t.3, t.4)
   took_same old other one two bytes out xs ys (Ok g) (Err (take_fault.Refused f)) fits k like nr ns a b = absurd (in_apart old other a.0 two bytes g f fits k like ns a.1 b.0)

@@ -5,7 +5,6 @@ use Rattle.dap_msg.specs.Items.{Item}
 use Rattle.dap_msg.specs.Blocked.{NspMessage, Blocked, all_joined, messages_in, AllFit}
 use Rattle.nsp_link.specs.Link.{Sends}
 use Rattle.nsp_link.specs.Sending.{MayQueueAll, SendAllFault}
-use Rattle.nsp_link.specs.declared.link.Got.{Got}
 use Rattle.dap_accessing.specs.Request.{Request}
 use Rattle.dap_accessing.specs.declared.report.Report.{Report}
 use Rattle.dap_accessing.specs.declared.fault.ReadFault.{ReadFault}
@@ -19,10 +18,9 @@ use Rattle.dap_end.specs.declared.asking.Heard.{Heard}
 use Rattle.dap_end.specs.declared.asking.Heard.TheVariants as heard
 use Rattle.dap_end.specs.declared.fault.EndFault.{EndFault}
 use Rattle.dap_end.specs.declared.fault.EndFault.TheVariants as end_fault
-use Rattle.dap_end.specs.declared.fault.TakeFault.{TakeFault}
 use Rattle.dap_end.specs.Ports.{PortValue, gone_on, posted}
 use Rattle.dap_end.specs.Going.{GoneThrough, given_then, NextItem}
-use Rattle.dap_end.specs.Turns.{EndOf, WentOn, Took}
+use Rattle.dap_end.specs.Turns.{EndOf}
 
 pub record AskingValue : Type 0 where
   pub port : PortValue
@@ -157,12 +155,6 @@ asks before reports =
       stops = λ old new f. HearFault old new before reports f;
       quiet = reports ≡ before;
     }
-
-abbrev pub GoesOn : (old new : AskingValue) → (out all : List (List ℕ)) → (before reports : List Report) → Result (Unit {0}) EndFault → Type 0
-GoesOn old new out all before reports result = WentOn (asks before reports) old new out all result
-
-abbrev pub Takes : (old new : AskingValue) → (bytes : List ℕ) → (out all : List (List ℕ)) → (before reports : List Report) → Result Got TakeFault → Type 0
-Takes old new bytes out all before reports result = Took (asks before reports) old new bytes out all result
 
 -- ---- Ends that do the same from now on.
 

@@ -49,7 +49,7 @@ pub data EndEvent : Type 0 where
   Again : ℕ → EndEvent
   Acks : EndEvent
 
--- what each leaves of either end, and the packets that it writes
+-- what each leaves of either end, and the packets that it writes, where the end does so by itself before it writes
 abbrev pub EndStepped : {V : Type 0} → EndOf V → (does : V → V → Type 0) → (old : V) → EndEvent → (new : V) → List Written → Type 0
 EndStepped end does old (Came bytes) new wrote =
     (result : Result Got LinkFault) × (link : LinkValue) × Receives (end.port old).link link bytes result
@@ -63,7 +63,7 @@ EndStepped end does old (Again i) new wrote =
 EndStepped end does old Acks new wrote =
     (w : Written) × WroteOne (end.port old).link None w × (new ≡ old) × (wrote ≡ w ∷ []) × end.quiet
 
--- so of a packet that came
+-- this is so of a packet that came
 abbrev pub IfCame : EndEvent → (List ℕ → Type 0) → Type 0
 IfCame (Came bytes) P = P bytes
 IfCame _ P = Unit {0}

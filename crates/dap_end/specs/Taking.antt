@@ -1,16 +1,14 @@
 -- Taking a packet in, and doing at once all that it lets the end that serves do.
 use Rattle.std.specs.Prelude.{◌≡◌, ◌⊎◌, ℕ, List, [], ◌++◌, Result, Ok, Err}
 use Rattle.dap_msg.specs.Items.{Item}
-use Rattle.nsp_link.specs.declared.link.Got.{Got}
 use Rattle.nsp_link.specs.declared.fault.LinkFault.{LinkFault}
 use Rattle.nsp_link.specs.declared.fault.LinkFault.TheVariants as fault
 use Rattle.nsp_link.specs.Link.{LinkValue, Stands}
 use Rattle.nsp_link.specs.Sending.{AreShort, SendAllFault}
 use Rattle.dap_end.specs.declared.fault.EndFault.{EndFault}
 use Rattle.dap_end.specs.declared.fault.EndFault.TheVariants as end_fault
-use Rattle.dap_end.specs.declared.fault.TakeFault.{TakeFault}
 use Rattle.dap_end.specs.Ports.{PortValue}
-use Rattle.dap_end.specs.Turns.{EndOf, WentOn, Took}
+use Rattle.dap_end.specs.Turns.{EndOf, WentOn}
 use Rattle.dap_end.specs.Serving.{ServingValue, Past, IsAfter, IsStill, MayServe, PostedAll, ServedOne}
 
 -- ---- Serving all.
@@ -71,7 +69,7 @@ serves =
       port = λ v. v.port;
       with_port = with_port;
       still = IsStill;
-      does = λ old new. ServedUp old new × IsServed new;
+      does = λ old new. ServesAll old new (Ok tt);
       stops = ServeFault;
       quiet = Unit {0};
     }
@@ -79,6 +77,3 @@ serves =
 abbrev pub GoesOn : (old new : ServingValue) → (out all : List (List ℕ)) → Result (Unit {0}) LinkFault → Type 0
 GoesOn old new out all (Ok done) = WentOn serves old new out all (Ok tt) × IsServed new
 GoesOn old new out all (Err f) = WentOn serves old new out all (Err (end_fault.Link f))
-
-abbrev pub Takes : (old new : ServingValue) → (bytes : List ℕ) → (out all : List (List ℕ)) → Result Got TakeFault → Type 0
-Takes old new bytes out all result = Took serves old new bytes out all result

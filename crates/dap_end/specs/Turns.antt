@@ -29,7 +29,8 @@ pub record WroteThen {V : Type 0} (end : EndOf V) (writes : PortValue → PortVa
   pub still : end.still mid new
   pub wrote : writes (end.port mid) (end.port new)
 
--- All was done, and all written; or not all was done, and nothing written; or memory was wanting for a packet.
+-- All was done, and the whole was written; or not all was done, and nothing written; or memory was wanting for a packet,
+-- and a part was written.
 abbrev pub DidAndWrote : {V : Type 0} → EndOf V → (whole part : PortValue → PortValue → Type 0) → (nothing : Type 0)
     → (old new : V) → Result (Unit {0}) EndFault → Type 0
 DidAndWrote end whole part nothing old new (Ok done) = WroteThen end whole old new
@@ -58,7 +59,7 @@ TookThen {V} end old new bytes got out all result =
     (mid : V) × TookIn end old mid bytes (Ok got) × Answered end mid new got out all result
 
 -- what taking a packet comes to
-abbrev pub Took : {V : Type 0} → EndOf V → (old new : V) → (bytes : List ℕ) → (out all : List (List ℕ)) → Result Got TakeFault → Type 0
-Took end old new bytes out all (Ok got) = TookThen end old new bytes got out all (Ok tt)
-Took end old new bytes out all (Err (take_fault.Refused f)) = TookIn end old new bytes (Err f) × (all ≡ out) × end.quiet
-Took end old new bytes out all (Err (take_fault.Unfinished got f)) = TookThen end old new bytes got out all (Err f)
+abbrev pub Takes : {V : Type 0} → EndOf V → (old new : V) → (bytes : List ℕ) → (out all : List (List ℕ)) → Result Got TakeFault → Type 0
+Takes end old new bytes out all (Ok got) = TookThen end old new bytes got out all (Ok tt)
+Takes end old new bytes out all (Err (take_fault.Refused f)) = TookIn end old new bytes (Err f) × (all ≡ out) × end.quiet
+Takes end old new bytes out all (Err (take_fault.Unfinished got f)) = TookThen end old new bytes got out all (Err f)

@@ -16,8 +16,8 @@ ghost use Rattle.dap_fields.specs.Spelling.{AreBytes};
 ghost use Rattle.dap_end.specs.Ports.{new_port, oldest, with_link};
 ghost use Rattle.nsp_link.specs.Receiving.{Receives};
 ghost use Rattle.dap_end.specs.Writing.{WroteNext};
-ghost use Rattle.dap_end.specs.Asking.{HasAsked, HasStill, AskedOne, HandedAll, ReadOne, ReadNone, ReadNext, ReadAll, ReadPart, HeardAll, HearFault, GoesOn, Takes, asks, nothing_asked};
-ghost use Rattle.dap_end.specs.Turns.{Answered};
+ghost use Rattle.dap_end.specs.Asking.{HasAsked, HasStill, AskedOne, HandedAll, ReadOne, ReadNone, ReadNext, ReadAll, ReadPart, HeardAll, HearFault, asks, nothing_asked};
+ghost use Rattle.dap_end.specs.Turns.{Answered, WentOn, Takes};
 ghost use Rattle.dap_end.specs.Inner.Answered.{ended_by};
 ghost use Rattle.dap_end.specs.Inner.Kept.{IsPort};
 ghost use Rattle.dap_end.specs.Inner.AskingView.{asking_of};
@@ -220,8 +220,8 @@ impl AskingEnd {
         out: &mut Vec<Vec<u8>>,
         reports: &mut Vec<Report>,
     ) -> Result<(), EndFault>
-        ensures { GoesOn self.old self.new (bodies out.old.items) (bodies out.new.items)
-            reports.old.items reports.new.items result }
+        ensures { WentOn (asks reports.old.items reports.new.items) self.old self.new
+            (bodies out.old.items) (bodies out.new.items) result }
     {
         self.hear_all(reports)?;
         ended(self.port.emit_all(out))
@@ -239,8 +239,8 @@ impl AskingEnd {
         out: &mut Vec<Vec<u8>>,
         reports: &mut Vec<Report>,
     ) -> Result<Got, TakeFault>
-        ensures { Takes self.old self.new packet.now (bodies out.old.items)
-            (bodies out.new.items) reports.old.items reports.new.items result }
+        ensures { Takes (asks reports.old.items reports.new.items) self.old self.new packet.now
+            (bodies out.old.items) (bodies out.new.items) result }
     {
         match self.receive(packet) {
             Ok(got) => match self.answer(got, out, reports) {

@@ -20,7 +20,7 @@ ghost use Rattle.dap_end.specs.Ports.{PortValue, new_port};
 ghost use Rattle.dap_end.specs.Going.{AreFrontOf};
 ghost use Rattle.dap_end.specs.Serving.{ServingValue, Past, IsAfter, ServedOne, PostedAll, nothing_yet};
 ghost use Rattle.dap_end.specs.Writing.{WroteNext, WroteAll};
-ghost use Rattle.dap_end.specs.Turns.{WroteThen, WentOn, TookIn, TookThen};
+ghost use Rattle.dap_end.specs.Turns.{WroteThen, WentOn, TookIn, TookThen, Takes};
 ghost use Rattle.dap_end.specs.Taking as serving;
 ghost use Rattle.dap_end.specs.Taking.{serves, with_port};
 ghost use Rattle.dap_end.specs.Wanting.{took_wanting, went_wanting};
@@ -170,7 +170,7 @@ pub fn asking_is_determined()
     ensures go_on { (old other one two : AskingValue) (out xs ys : List (List ℕ))
         (before rs ss : List TheReport) (r s : Result (Unit {0}) TheEndFault) → HasDone old
         → AreAlike old other → went_wanting r ≡ false → went_wanting s ≡ false
-        → asking.GoesOn old one out xs before rs r → asking.GoesOn other two out ys before ss s
+        → WentOn (asks before rs) old one out xs r → WentOn (asks before ss) other two out ys s
         → AreAlike one two × (r ≡ s) × (xs ≡ ys) × (rs ≡ ss) × HasDone one }
 {}
 
@@ -180,14 +180,14 @@ pub fn taking_is_determined()
     ensures serving { (past : Past) (old one two : ServingValue) (bytes : List ℕ)
         (out xs ys : List (List ℕ)) (r s : Result TheGot TheTakeFault) → AreBytes bytes
         → IsAfter past old → took_wanting r ≡ false → took_wanting s ≡ false
-        → serving.Takes old one bytes out xs r → serving.Takes old two bytes out ys s
+        → Takes serves old one bytes out xs r → Takes serves old two bytes out ys s
         → (one ≡ two) × (r ≡ s) × (xs ≡ ys) }
     ensures asking { (old other one two : AskingValue) (bytes : List ℕ)
         (out xs ys : List (List ℕ)) (before rs ss : List TheReport)
         (r s : Result TheGot TheTakeFault) → AreBytes bytes → HasDone old → AreAlike old other
         → took_wanting r ≡ false → took_wanting s ≡ false
-        → asking.Takes old one bytes out xs before rs r
-        → asking.Takes other two bytes out ys before ss s
+        → Takes (asks before rs) old one bytes out xs r
+        → Takes (asks before ss) other two bytes out ys s
         → AreAlike one two × (r ≡ s) × (xs ≡ ys) × (rs ≡ ss) × HasDone one }
 {}
 

@@ -15,8 +15,8 @@ ghost use Rattle.dap_end.specs.Ports.{HasCome, new_port, with_link};
 ghost use Rattle.nsp_link.specs.Receiving.{Receives};
 ghost use Rattle.dap_end.specs.Writing.{WroteNext};
 ghost use Rattle.dap_end.specs.Serving.{Past, IsAfter, IsStill, NotAdded, NotStored, IsGiven, MayServe, ServedOne, PostedAll, nothing_yet};
-ghost use Rattle.dap_end.specs.Taking.{ServedUp, IsServed, ServeFault, GoesOn, Takes, serves, with_port};
-ghost use Rattle.dap_end.specs.Turns.{Answered};
+ghost use Rattle.dap_end.specs.Taking.{ServedUp, IsServed, ServeFault, GoesOn, serves, with_port};
+ghost use Rattle.dap_end.specs.Turns.{Answered, Takes};
 ghost use Rattle.dap_end.specs.Inner.Answered.{ended_by};
 ghost use Rattle.dap_end.specs.declared.fault.EndFault.TheVariants as end_fault;
 ghost use Rattle.dap_end.specs.Inner.Kept.{IsPort};
@@ -252,7 +252,7 @@ impl ServingEnd {
     /// Refusals: `Refused` as `receive` is, and nothing of the packet was taken; `Unfinished`, once it was taken in: `go_on`
     /// does what is left, and the same packet is answered again.
     pub fn take(&mut self, packet: &[u8], out: &mut Vec<Vec<u8>>) -> Result<Got, TakeFault>
-        ensures { Takes self.old self.new packet.now (bodies out.old.items)
+        ensures { Takes serves self.old self.new packet.now (bodies out.old.items)
             (bodies out.new.items) result }
     {
         match self.receive(packet) {
