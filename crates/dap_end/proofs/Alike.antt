@@ -7,8 +7,7 @@ use Rattle.dap_msg.specs.Blocked.{Blocked, all_joined}
 use Rattle.dap_msg.proofs.ForCallers.{one_item}
 use Rattle.nsp_link.specs.declared.link.Got.{Got}
 use Rattle.nsp_link.specs.declared.fault.LinkFault.{LinkFault}
-use Rattle.nsp_link.specs.declared.fault.LinkFault.TheVariants as fault
-use Rattle.nsp_link.specs.Link.{LinkValue, Sends}
+use Rattle.nsp_link.specs.Link.{Sends}
 use Rattle.nsp_link.specs.Sending.{MayQueueAll, SendAllFault}
 use Rattle.nsp_link.proofs.ForCallers.{sends_all}
 use Rattle.dap_accessing.specs.Request.{Request}
@@ -23,15 +22,13 @@ use Rattle.dap_accessing.proofs.ForCallers.{one_present}
 use Rattle.dap_end.specs.declared.fault.EndFault.{EndFault}
 use Rattle.dap_end.specs.declared.fault.EndFault.TheVariants as end_fault
 use Rattle.dap_end.specs.declared.fault.TakeFault.{TakeFault}
-use Rattle.dap_end.specs.declared.fault.TakeFault.TheVariants as take_fault
 use Rattle.dap_end.specs.Ports.{PortValue, gone_on, posted}
-use Rattle.nsp_link.specs.Receiving.{Receives}
-use Rattle.dap_end.specs.Writing.{WroteAll, AnsweredAll, IsFull, sent_more}
-use Rattle.dap_end.specs.Asking.{AskingValue, AskingPast, HasAsked, HasStill, AskedOne, HandedAll, ReadOne, ReadNone, ReadOn, begins, goes, ReadAll, ReadPart, ReadsAll, HeardAll, HearFault, HeardIn, AnswerFault, WentOn, GoOnFault, GoesOn, TookAll, TookPart, Refused, Takes, AreAlike, HasDone, received, read_one, asked_one}
+use Rattle.dap_end.specs.Asking.{AskingValue, AskingPast, HasAsked, HasStill, AskedOne, HandedAll, ReadOne, ReadNone, ReadOn, begins, goes, ReadAll, ReadPart, ReadsAll, HeardAll, HearFault, asks, AreAlike, HasDone, read_one, asked_one}
+use Rattle.dap_end.specs.Turns.{WentOn, Takes}
 use Rattle.dap_end.specs.Wanting.{is_want, went_wanting, took_wanting}
 use Rattle.dap_end.proofs.Asked.{read_grows}
-use Rattle.dap_end.proofs.Determined.{may_or_not, refused_one, all_wrote, answered_one, no_next, ok_apart, ok_same, err_same}
-use Rattle.dap_end.proofs.Refusing.{receives_same}
+use Rattle.dap_end.proofs.Determined.{may_or_not, refused_one, no_next}
+use Rattle.dap_end.proofs.Turning.{DoAlike, no_want, went_same, took_same}
 
 -- ---- Asking.
 
@@ -60,16 +57,16 @@ back_of (x ∷ front) xs ys e = back_of front xs ys (let tails : front ++ xs ≡
 
 pub reading_one : (past : AskingPast) (old one two : AskingValue) (r s : Option Report) → HasAsked past old → ReadOne old one r → ReadOne old two s → (one ≡ two) × (r ≡ s)
 reading_one past old one two r s h a b =
-    let bytes : b.bytes ≡ a.bytes = (let both = sym b.came ∙ a.came in cc) in
-    let later : b.later ≡ a.later = (let both = sym b.came ∙ a.came in cc) in
-    let same = one_item a.bytes old.port.place a.item b.item a.next b.next a.fits a.reads (subst (λ (l : List ℕ). ItemAt l old.port.place b.item b.next) bytes b.reads) in
-    let answers : past.answers ++ b.item ∷ [] ≡ past.answers ++ a.item ∷ [] = ap (λ (i : Item). past.answers ++ i ∷ []) same.0 in
+    let bytes : b.one.bytes ≡ a.one.bytes = (let both = sym b.one.came ∙ a.one.came in cc) in
+    let later : b.one.later ≡ a.one.later = (let both = sym b.one.came ∙ a.one.came in cc) in
+    let same = one_item a.one.bytes old.port.place a.one.item b.one.item a.one.next b.one.next a.one.fits a.one.reads (subst (λ (l : List ℕ). ItemAt l old.port.place b.one.item b.one.next) bytes b.one.reads) in
+    let answers : past.answers ++ b.one.item ∷ [] ≡ past.answers ++ a.one.item ∷ [] = ap (λ (i : Item). past.answers ++ i ∷ []) same.0 in
     let present : one.accessing ≡ two.accessing =
-    one_present past.requests (past.answers ++ a.item ∷ []) one.accessing two.accessing (a.past past h).asking (subst (λ (l : List Item). StandsAfter past.requests l two.accessing) answers (b.past past h).asking) (a.own ∙ sym b.own) in
+    one_present past.requests (past.answers ++ a.one.item ∷ []) one.accessing two.accessing (a.past past h).asking (subst (λ (l : List Item). StandsAfter past.requests l two.accessing) answers (b.past past h).asking) (a.own ∙ sym b.own) in
     let port : one.port ≡ two.port =
-    a.port ∙ ap (λ (k : ℕ). gone_on old.port a.bytes a.later k) (sym same.1)
-    ∙ ap (λ (l : List ℕ). gone_on old.port l a.later b.next) (sym bytes)
-    ∙ ap (λ (l : List (List ℕ)). gone_on old.port b.bytes l b.next) (sym later)
+    a.port ∙ ap (λ (k : ℕ). gone_on old.port a.one.bytes a.one.later k) (sym same.1)
+    ∙ ap (λ (l : List ℕ). gone_on old.port l a.one.later b.one.next) (sym bytes)
+    ∙ ap (λ (l : List (List ℕ)). gone_on old.port b.one.bytes l b.one.next) (sym later)
     ∙ sym b.port in
     let told : option_to_list r ≡ option_to_list s =
     back_of (Told past.requests past.answers) (option_to_list r) (option_to_list s) (sym (a.told past h) ∙ ap (Told past.requests) (sym answers) ∙ b.told past h) in (
@@ -112,7 +109,7 @@ reads_once past old one two rs ss h begins (goes n s more y other js) a b = absu
 reads_once past old one two rs ss h (goes m r more x on is) begins a b = absurd (b m r x)
 reads_once past old one two rs ss h (goes m r more x on is) (goes n s rest y other js) a b =
     let same = reading_one past old m n r s h x y in
-    let next = reads_once (read_one past x.bytes x.item x.next) m one two more rest (x.past past h) on (subst (λ (v : AskingValue). ReadOn v two rest) (sym same.0) other) a b in
+    let next = reads_once (read_one past x.one.bytes x.one.item x.one.next) m one two more rest (x.past past h) on (subst (λ (v : AskingValue). ReadOn v two rest) (sym same.0) other) a b in
     (next.0, is ∙ ap (λ (l : List Report). option_to_list r ++ l) next.1 ∙ ap (λ (o : Option Report). option_to_list o ++ rest) same.1 ∙ sym js)
 
 -- an end that failed reads nothing
@@ -124,7 +121,7 @@ read_past : (past : AskingPast) (old new : AskingValue) (rs : List Report) → H
 read_past past old new rs h on = let g = (read_grows old new rs on).past past h in (g.0, g.1.is)
 
 stops_empty : (v : AskingValue) → v.port.link.inbox ≡ [] → Stops v
-stops_empty v none = λ next report r. no_next r.bytes r.later (sym none ∙ r.came)
+stops_empty v none = λ next report r. no_next r.one.bytes r.one.later (sym none ∙ r.one.came)
 
 not_wrong : (d : Due) (p : Option Pending) → elim d [ NothingDue ↦ false | AnswersDue request so_far ↦ false | Wrong ↦ true ] ≡ true → FitsDue d p → ⊥
 not_wrong NothingDue p e h = true≢false (sym e)
@@ -136,11 +133,11 @@ not_wrong Wrong (Some p) e h = h
 no_place : (past : AskingPast) (v new next : AskingValue) (report : Option Report) → HasAsked past v → ReadNone v new read_fault.Unexpected → ReadOne v next report → ⊥
 no_place past v new next report h n r =
     let there = n.refused.2 in
-    let bytes : n.bytes ≡ r.bytes = (let both = sym n.came ∙ r.came in cc) in
-    let same = one_item r.bytes v.port.place r.item there.0 r.next there.1 r.fits r.reads (subst (λ (l : List ℕ). ItemAt l v.port.place there.0 there.1) bytes there.2) in
-    let unexpected : is_unexpected past.requests past.answers r.item ≡ true =
+    let bytes : n.bytes ≡ r.one.bytes = (let both = sym n.came ∙ r.one.came in cc) in
+    let same = one_item r.one.bytes v.port.place r.one.item there.0 r.one.next there.1 r.one.fits r.one.reads (subst (λ (l : List ℕ). ItemAt l v.port.place there.0 there.1) bytes there.2) in
+    let unexpected : is_unexpected past.requests past.answers r.one.item ≡ true =
     subst (λ (i : Item). is_unexpected past.requests past.answers i ≡ true) same.0 (there.3 past.requests past.answers h.asking) in
-    not_wrong (due_after past.requests (past.answers ++ r.item ∷ [])) next.accessing.pending unexpected (r.past past h).asking.pending
+    not_wrong (due_after past.requests (past.answers ++ r.one.item ∷ [])) next.accessing.pending unexpected (r.past past h).asking.pending
 
 stops_unread : (v new : AskingValue) (f : ReadFault) → f ≢ read_fault.NoMemory → ReadNone v new f → ((past : AskingPast) × HasAsked past v) → Stops v
 stops_unread v new read_fault.Failed want n p = λ next report r. true≢false (sym n.refused.0 ∙ r.works)
@@ -165,13 +162,6 @@ read_alike old other one two before xs ys (inr d) like ra rb sa sb =
 
 -- ---- Reading all, and handing over.
 
-abbrev Hears : (old new : AskingValue) → (before reports : List Report) → Result (Unit {0}) EndFault → Type 0
-Hears old new before reports (Ok done) = HeardAll old new before reports
-Hears old new before reports (Err f) = HearFault old new before reports f
-
-no_link_want : (f : LinkFault) → is_want (end_fault.Link f) ≡ false → f ≢ fault.NoMemory
-no_link_want f e k = true≢false (sym (ap (λ (x : LinkFault). is_want (end_fault.Link x)) k) ∙ e)
-
 no_read_want : (f : ReadFault) → is_want (end_fault.Read f) ≡ false → f ≢ read_fault.NoMemory
 no_read_want f e k = true≢false (sym (ap (λ (x : ReadFault). is_want (end_fault.Read x)) k) ∙ e)
 
@@ -190,11 +180,11 @@ handed_done v new n h (inr d) =
 
 heard_alike : (old other one two : AskingValue) (before xs ys : List Report) → HasDone old → AreAlike old other → HeardAll old one before xs → HeardAll other two before ys → AreAlike one two × (xs ≡ ys) × HasDone one
 heard_alike old other one two before xs ys d like a b =
-    let t = read_alike old other a.heard b.heard before xs ys d like a.read b.read (λ p. stops_empty a.heard a.done) (λ p. stops_empty b.heard b.done) in
-    let there = alike_port a.heard b.heard (posted a.heard.port) (posted b.heard.port) t.0 (ap posted t.0.0) in (
-      subst (λ (v : AskingValue). AreAlike v two) (sym a.handed.posted) (subst (λ (v : AskingValue). AreAlike (record a.heard { port = posted a.heard.port }) v) (sym b.handed.posted) there),
+    let t = read_alike old other a.0 b.0 before xs ys d like a.2.0 b.2.0 (λ p. stops_empty a.0 a.2.1) (λ p. stops_empty b.0 b.2.1) in
+    let there = alike_port a.0 b.0 (posted a.0.port) (posted b.0.port) t.0 (ap posted t.0.0) in (
+      subst (λ (v : AskingValue). AreAlike v two) (sym a.3.posted) (subst (λ (v : AskingValue). AreAlike (record a.0 { port = posted a.0.port }) v) (sym b.3.posted) there),
       t.1,
-      handed_done a.heard one a.count a.handed t.2,
+      handed_done a.0 one a.1 a.3 t.2,
     )
 
 -- all that came was read, or reading stopped
@@ -206,11 +196,11 @@ empty_apart old other one mid two before xs ys f d like want ra none rb n =
 
 heard_apart : (old other one two : AskingValue) (before xs ys : List Report) (f : EndFault) → HasDone old → AreAlike old other → is_want f ≡ false → HeardAll old one before xs → HearFault other two before ys f → ⊥
 heard_apart old other one two before xs ys (end_fault.Link f) d like want a b =
-    let t = read_alike old other a.heard two before xs ys d like a.read b.read (λ p. stops_empty a.heard a.done) (λ p. stops_empty two b.done) in
-    may_or_not two.port.link two.port.outbox f (no_link_want f want) (subst (λ (p : PortValue). MayQueueAll p.link p.outbox) t.0.0 a.handed.may) b.refused
+    let t = read_alike old other a.0 two before xs ys d like a.2.0 b.0.0 (λ p. stops_empty a.0 a.2.1) (λ p. stops_empty two b.0.1) in
+    may_or_not two.port.link two.port.outbox f (no_want f want) (subst (λ (p : PortValue). MayQueueAll p.link p.outbox) t.0.0 a.3.may) b.1
 heard_apart old other one two before xs ys (end_fault.Read f) d like want a b =
     let u = unread other two before ys f (no_read_want f want) b in
-    empty_apart old other a.heard u.0 two before xs ys f d like (no_read_want f want) a.read a.done u.1 u.2
+    empty_apart old other a.0 u.0 two before xs ys f d like (no_read_want f want) a.2.0 a.2.1 u.1 u.2
 
 left_alike : (a b one two : AskingValue) (f g : ReadFault) → f ≢ read_fault.NoMemory → g ≢ read_fault.NoMemory → AreAlike a b → HasDone a → ReadNone a one f → ReadNone b two g → AreAlike one two × (f ≡ g) × HasDone one
 left_alike a b one two read_fault.Failed read_fault.Failed nf ng like d x y =
@@ -263,161 +253,43 @@ reading_alike old other one two before xs ys (Err f) (Err g) d like nr ns a b =
 stopped_alike : (old other one two : AskingValue) (before xs ys : List Report) (f g : EndFault) → HasDone old → AreAlike old other → is_want f ≡ false → is_want g ≡ false → HearFault old one before xs f → HearFault other two before ys g
     → AreAlike one two × (f ≡ g) × (xs ≡ ys) × HasDone one
 stopped_alike old other one two before xs ys (end_fault.Link f) (end_fault.Link g) d like nf ng a b =
-    let t = read_alike old other one two before xs ys d like a.read b.read (λ p. stops_empty one a.done) (λ p. stops_empty two b.done) in
-    let same = refused_one two.port.link two.port.outbox f g (no_link_want f nf) (no_link_want g ng) (subst (λ (p : PortValue). SendAllFault p.link p.outbox f) t.0.0 a.refused) b.refused in
+    let t = read_alike old other one two before xs ys d like a.0.0 b.0.0 (λ p. stops_empty one a.0.1) (λ p. stops_empty two b.0.1) in
+    let same = refused_one two.port.link two.port.outbox f g (no_want f nf) (no_want g ng) (subst (λ (p : PortValue). SendAllFault p.link p.outbox f) t.0.0 a.1) b.1 in
     (t.0, ap (λ (x : LinkFault). end_fault.Link x) same, t.1, t.2)
 stopped_alike old other one two before xs ys (end_fault.Link f) (end_fault.Read g) d like nf ng a b =
     let u = unread other two before ys g (no_read_want g ng) b in
-    absurd (empty_apart old other one u.0 two before xs ys g d like (no_read_want g ng) a.read a.done u.1 u.2)
+    absurd (empty_apart old other one u.0 two before xs ys g d like (no_read_want g ng) a.0.0 a.0.1 u.1 u.2)
 stopped_alike old other one two before xs ys (end_fault.Read f) (end_fault.Link g) d like nf ng a b =
     let u = unread old one before xs f (no_read_want f nf) a in
-    absurd (empty_apart other old two u.0 one before ys xs f (alike_done old other like d) (alike_back old other like) (no_read_want f nf) b.read b.done u.1 u.2)
+    absurd (empty_apart other old two u.0 one before ys xs f (alike_done old other like d) (alike_back old other like) (no_read_want f nf) b.0.0 b.0.1 u.1 u.2)
 stopped_alike old other one two before xs ys (end_fault.Read f) (end_fault.Read g) d like nf ng a b =
     let t = unread_alike old other one two before xs ys f g d like (no_read_want f nf) (no_read_want g ng) a b in
     (t.0, ap (λ (x : ReadFault). end_fault.Read x) t.1, t.2, t.3)
 
--- ---- Writing.
+-- ---- Going on, and taking.
 
-still_done : (v new : AskingValue) (n : ℕ) → HasStill v new → new ≡ record v { port = new.port } → new.port ≡ sent_more v.port n → HasDone v → HasDone new
-still_done v new n still rest sent (inl d) = inl (d.0, still d.0 d.1)
-still_done v new n still rest sent (inr d) =
-    let here : HasDone (record v { port = sent_more v.port n }) = inr (d.0, (d.1.0, record { queue = d.1.1.queue; acked = d.1.1.acked })) in
-    subst HasDone (sym (rest ∙ ap (λ (p : PortValue). record v { port = p }) sent)) here
+stays_done : (old new : AskingValue) (port : PortValue) → HasDone old → new ≡ record old { port = port } → HasStill old new → ((handed : List (List ℕ)) → Sends old.port.link handed → Sends new.port.link handed) → HasDone new
+stays_done old new port (inl d) rest still sends = inl (d.0, still d.0 d.1)
+stays_done old new port (inr d) rest still sends = inr (ap (λ (v : AskingValue). v.accessing.failed) rest ∙ d.0, (d.1.0, sends d.1.0 d.1.1))
 
--- both ends wrote from one port
-rest_alike : (heard other one two : AskingValue) → AreAlike heard other → one ≡ record heard { port = one.port } → two ≡ record other { port = two.port } → one.port ≡ two.port → AreAlike one two
-rest_alike heard other one two like ra rb e =
-    subst (λ (v : AskingValue). AreAlike v two) (sym ra) (subst (λ (v : AskingValue). AreAlike (record heard { port = one.port }) v) (sym rb) (alike_port heard other one.port two.port like e))
-
-went_alike : (old other one two : AskingValue) (out xs ys : List (List ℕ)) (before rs ss : List Report) → HasDone old → AreAlike old other → WentOn old one out xs before rs → WentOn other two out ys before ss → IsFull one.port.link → IsFull two.port.link
-    → AreAlike one two × (xs ≡ ys) × (rs ≡ ss) × HasDone one
-went_alike old other one two out xs ys before rs ss d like a b fa fb =
-    let t = heard_alike old other a.heard b.heard before rs ss d like a.hears b.hears in
-    let sent = has_sent a.heard t.2 in
-    let wb : WroteAll a.heard.port two.port out ys = subst (λ (p : PortValue). WroteAll p two.port out ys) (sym t.0.0) b.wrote in
-    let w = all_wrote a.heard.port one.port two.port sent.0 out xs ys sent.1 a.wrote wb fa fb in
-    (rest_alike a.heard b.heard one two t.0 a.rest b.rest w.0, w.1, t.1, still_done a.heard one _ a.still a.rest a.wrote.2.sent t.2)
-
-abbrev failed_by : EndFault → Result (Unit {0}) EndFault
-failed_by f = Err f
-
-went_apart : (old other one two : AskingValue) (out xs ys : List (List ℕ)) (before rs ss : List Report) (f : EndFault) → HasDone old → AreAlike old other → is_want f ≡ false → WentOn old one out xs before rs → GoOnFault other two out ys before ss f → ⊥
-went_apart old other one two out xs ys before rs ss f d like want a (inl b) = heard_apart old other a.heard two before rs ss f d like want a.hears b.0
-went_apart old other one two out xs ys before rs ss f d like want a (inr b) = true≢false (sym (ap is_want b.0) ∙ want)
-
-halted_alike : (old other one two : AskingValue) (out xs ys : List (List ℕ)) (before rs ss : List Report) (f g : EndFault) → HasDone old → AreAlike old other → is_want f ≡ false → is_want g ≡ false → GoOnFault old one out xs before rs f
-    → GoOnFault other two out ys before ss g → AreAlike one two × (f ≡ g) × (xs ≡ ys) × (rs ≡ ss) × HasDone one
-halted_alike old other one two out xs ys before rs ss f g d like nf ng (inl a) (inl b) =
-    let t = stopped_alike old other one two before rs ss f g d like nf ng a.0 b.0 in (t.0, t.1, a.1 ∙ sym b.1, t.2, t.3)
-halted_alike old other one two out xs ys before rs ss f g d like nf ng (inl a) (inr b) = absurd (true≢false (sym (ap is_want b.0) ∙ ng))
-halted_alike old other one two out xs ys before rs ss f g d like nf ng (inr a) b = absurd (true≢false (sym (ap is_want a.0) ∙ nf))
+asks_alike : (before rs ss : List Report) → DoAlike (asks before rs) (asks before ss) AreAlike HasDone (rs ≡ ss)
+asks_alike before rs ss =
+    record {
+      port = λ a b like. like.0;
+      moved = λ a b p q like same. alike_port a b p q like same;
+      sends = has_sent;
+      stays = λ old new p d rest still sends. stays_done old new p d rest still sends;
+      does = λ old other one two d like a b. heard_alike old other one two before rs ss d like a b;
+      stops = λ old other one two f g d like nf ng a b. stopped_alike old other one two before rs ss f g d like nf ng a b;
+      apart = λ old other one two f d like n a b. heard_apart old other one two before rs ss f d like n a b;
+      apart_back = λ old other one two f d like n a b. heard_apart other old two one before ss rs f (alike_done old other like d) (alike_back old other like) n b a;
+      quiet = λ a b. a ∙ sym b;
+    }
 
 pub going_alike : (old other one two : AskingValue) (out xs ys : List (List ℕ)) (before rs ss : List Report) (r s : Result (Unit {0}) EndFault) → HasDone old → AreAlike old other → went_wanting r ≡ false → went_wanting s ≡ false
-    → GoesOn old one out xs before rs r → GoesOn other two out ys before ss s → AreAlike one two × (r ≡ s) × (xs ≡ ys) × (rs ≡ ss) × HasDone one
-going_alike old other one two out xs ys before rs ss (Ok u) (Ok w) d like nr ns a b =
-    let t = went_alike old other one two out xs ys before rs ss d like a.0 b.0 a.1 b.1 in (t.0, refl, t.1, t.2, t.3)
-going_alike old other one two out xs ys before rs ss (Ok u) (Err g) d like nr ns a b = absurd (went_apart old other one two out xs ys before rs ss g d like ns a.0 b)
-going_alike old other one two out xs ys before rs ss (Err f) (Ok w) d like nr ns a b =
-    absurd (went_apart other old two one out ys xs before ss rs f (alike_done old other like d) (alike_back old other like) nr b.0 a)
-going_alike old other one two out xs ys before rs ss (Err f) (Err g) d like nr ns a b =
-    let t = halted_alike old other one two out xs ys before rs ss f g d like nr ns a b in (t.0, ap failed_by t.1, t.2, t.3, t.4)
-
--- ---- Taking.
-
-abbrev took : Got → Result Got TakeFault
-took got = Ok got
-
-abbrev refused : LinkFault → Result Got TakeFault
-refused f = Err (take_fault.Refused f)
-
-abbrev unfinished : Got → EndFault → Result Got TakeFault
-unfinished got f = Err (take_fault.Unfinished got f)
-
-in_done : (old : AskingValue) (link : LinkValue) (bytes : List ℕ) (got : Got) → HeardIn old bytes got link → HasDone old → HasDone (received old link)
-in_done old link bytes got t (inl d) = inl (d.0, t.still d.0 d.1)
-in_done old link bytes got t (inr d) = inr (d.0, (d.1.0, t.receives.sends d.1.0 d.1.1))
-
--- a packet that both took in
-in_alike : (old other : AskingValue) (a b : LinkValue) (bytes : List ℕ) (g h : Got) → AreBytes bytes → AreAlike old other → Receives old.port.link a bytes (Ok g) → Receives other.port.link b bytes (Ok h)
-    → (g ≡ h) × AreAlike (received old a) (received other b)
-in_alike old other a b bytes g h fits like ra rb =
-    let rc : Receives old.port.link b bytes (Ok h) = subst (λ (p : PortValue). Receives p.link b bytes (Ok h)) (sym like.0) rb in
-    let r = receives_same old.port.link a b bytes (Ok g) (Ok h) fits (ok_apart g fault.NoMemory) (ok_apart h fault.NoMemory) ra rc in (
-      ok_same g h r.0,
-      alike_port old other _ _ like (ap (λ (l : LinkValue). record old.port { link = l }) r.1 ∙ ap (λ (p : PortValue). record p { link = b }) like.0),
-    )
-
-in_apart : (old other : AskingValue) (a b : LinkValue) (bytes : List ℕ) (g : Got) (f : LinkFault) → AreBytes bytes → AreAlike old other → f ≢ fault.NoMemory → Receives old.port.link a bytes (Ok g) → Receives other.port.link b bytes (Err f) → ⊥
-in_apart old other a b bytes g f fits like want ra rb =
-    let rc : Receives old.port.link b bytes (Err f) = subst (λ (p : PortValue). Receives p.link b bytes (Err f)) (sym like.0) rb in
-    ok_apart g f ((receives_same old.port.link a b bytes (Ok g) (Err f) fits (ok_apart g fault.NoMemory) (λ k. want (err_same f fault.NoMemory k)) ra rc).0)
-
-taken_alike : (old other one two : AskingValue) (bytes : List ℕ) (g h : Got) (out xs ys : List (List ℕ)) (before rs ss : List Report) → AreBytes bytes → HasDone old → AreAlike old other → TookAll old one bytes g out xs before rs
-    → TookAll other two bytes h out ys before ss → AreAlike one two × (g ≡ h) × (xs ≡ ys) × (rs ≡ ss) × HasDone one
-taken_alike old other one two bytes g h out xs ys before rs ss fits d like a b =
-    let i = in_alike old other a.link b.link bytes g h fits like a.took.receives b.took.receives in
-    let wa = a.all_done in
-    let wb = b.all_done in
-    let t = heard_alike (received old a.link) (received other b.link) wa.heard wb.heard before rs ss (in_done old a.link bytes g a.took d) i.1 wa.hears wb.hears in
-    let sent = has_sent wa.heard t.2 in
-    let ab : AnsweredAll wa.heard.port two.port g out ys =
-    subst (λ (x : Got). AnsweredAll wa.heard.port two.port x out ys) (sym i.0) (subst (λ (p : PortValue). AnsweredAll p two.port h out ys) (sym t.0.0) wb.answered) in
-    let w = answered_one wa.heard.port one.port two.port sent.0 g out xs ys sent.1 wa.answered ab in
-    (rest_alike wa.heard wb.heard one two t.0 wa.rest wb.rest w.0, i.0, w.1, t.1, still_done wa.heard one _ wa.still wa.rest wa.answered.2.wrote.sent t.2)
-
-fault_in : (mid new : AskingValue) (got : Got) (out all : List (List ℕ)) (before reports : List Report) (f : EndFault) → is_want f ≡ false → AnswerFault mid new got out all before reports f → HearFault mid new before reports f × (all ≡ out)
-fault_in mid new got out all before reports f want (inl h) = h
-fault_in mid new got out all before reports f want (inr h) =
-    absurd (true≢false (sym (ap is_want (h.1 ∙ ap (λ (x : LinkFault). end_fault.Link x) h.2.part.memory)) ∙ want))
-
-taken_apart : (old other one two : AskingValue) (bytes : List ℕ) (g h : Got) (f : EndFault) (out xs ys : List (List ℕ)) (before rs ss : List Report) → AreBytes bytes → HasDone old → AreAlike old other → is_want f ≡ false
-    → TookAll old one bytes g out xs before rs → TookPart other two bytes h out ys before ss f → ⊥
-taken_apart old other one two bytes g h f out xs ys before rs ss fits d like want a b =
-    let i = in_alike old other a.link b.link bytes g h fits like a.took.receives b.took.receives in
-    let p = fault_in (received other b.link) two h out ys before ss f want b.why in
-    heard_apart (received old a.link) (received other b.link) a.all_done.heard two before rs ss f (in_done old a.link bytes g a.took d) i.1 want a.all_done.hears p.0
-
-part_alike : (old other one two : AskingValue) (bytes : List ℕ) (g h : Got) (e f : EndFault) (out xs ys : List (List ℕ)) (before rs ss : List Report) → AreBytes bytes → HasDone old → AreAlike old other → is_want e ≡ false → is_want f ≡ false
-    → TookPart old one bytes g out xs before rs e → TookPart other two bytes h out ys before ss f → AreAlike one two × (unfinished g e ≡ unfinished h f) × (xs ≡ ys) × (rs ≡ ss) × HasDone one
-part_alike old other one two bytes g h e f out xs ys before rs ss fits d like ne nf a b =
-    let i = in_alike old other a.link b.link bytes g h fits like a.took.receives b.took.receives in
-    let pa = fault_in (received old a.link) one g out xs before rs e ne a.why in
-    let pb = fault_in (received other b.link) two h out ys before ss f nf b.why in
-    let t = stopped_alike (received old a.link) (received other b.link) one two before rs ss e f (in_done old a.link bytes g a.took d) i.1 ne nf pa.0 pb.0 in
-    (t.0, ap (λ (x : Got). unfinished x e) i.0 ∙ ap (unfinished h) t.1, pa.1 ∙ sym pb.1, t.2, t.3)
-
-none_done : (old new : AskingValue) (bytes : List ℕ) (f : LinkFault) → Refused old new bytes f → HasDone old → HasDone new
-none_done old new bytes f r (inl d) = inl (d.0, r.still d.0 d.1)
-none_done old new bytes f r (inr d) = subst HasDone (sym r.new_is) (inr (d.0, (d.1.0, r.receives.sends d.1.0 d.1.1)))
-
-none_alike : (old other one two : AskingValue) (bytes : List ℕ) (f g : LinkFault) → AreBytes bytes → HasDone old → AreAlike old other → f ≢ fault.NoMemory → g ≢ fault.NoMemory → Refused old one bytes f → Refused other two bytes g
-    → AreAlike one two × (refused f ≡ refused g) × HasDone one
-none_alike old other one two bytes f g fits d like nf ng a b =
-    let rc : Receives old.port.link b.link bytes (Err g) = subst (λ (p : PortValue). Receives p.link b.link bytes (Err g)) (sym like.0) b.receives in
-    let r = receives_same old.port.link a.link b.link bytes (Err f) (Err g) fits (λ k. nf (err_same f fault.NoMemory k)) (λ k. ng (err_same g fault.NoMemory k)) a.receives rc in
-    let there = alike_port old other _ _ like (ap (λ (l : LinkValue). record old.port { link = l }) r.1 ∙ ap (λ (p : PortValue). record p { link = b.link }) like.0) in (
-      subst (λ (v : AskingValue). AreAlike v two) (sym a.new_is) (subst (λ (v : AskingValue). AreAlike (received old a.link) v) (sym b.new_is) there),
-      ap refused (err_same f g r.0),
-      none_done old one bytes f a d,
-    )
+    → WentOn (asks before rs) old one out xs r → WentOn (asks before ss) other two out ys s → AreAlike one two × (r ≡ s) × (xs ≡ ys) × (rs ≡ ss) × HasDone one
+going_alike old other one two out xs ys before rs ss r s d like nr ns a b = went_same _ _ _ _ _ (asks_alike before rs ss) old other one two out xs ys r s d like nr ns a b
 
 pub taking_alike : (old other one two : AskingValue) (bytes : List ℕ) (r s : Result Got TakeFault) (out xs ys : List (List ℕ)) (before rs ss : List Report) → AreBytes bytes → HasDone old → AreAlike old other → took_wanting r ≡ false → took_wanting s ≡ false
-    → Takes old one bytes out xs before rs r → Takes other two bytes out ys before ss s → AreAlike one two × (r ≡ s) × (xs ≡ ys) × (rs ≡ ss) × HasDone one
-taking_alike old other one two bytes (Ok g) (Ok h) out xs ys before rs ss fits d like nr ns a b =
-    let t = taken_alike old other one two bytes g h out xs ys before rs ss fits d like a b in (t.0, ap took t.1, t.2, t.3, t.4)
-taking_alike old other one two bytes (Ok g) (Err (take_fault.Refused f)) out xs ys before rs ss fits d like nr ns a b =
-    absurd (in_apart old other a.link b.0.link bytes g f fits like (no_link_want f ns) a.took.receives b.0.receives)
-taking_alike old other one two bytes (Ok g) (Err (take_fault.Unfinished h f)) out xs ys before rs ss fits d like nr ns a b =
-    absurd (taken_apart old other one two bytes g h f out xs ys before rs ss fits d like ns a b)
-taking_alike old other one two bytes (Err (take_fault.Refused f)) (Ok h) out xs ys before rs ss fits d like nr ns a b =
-    absurd (in_apart other old b.link a.0.link bytes h f fits (alike_back old other like) (no_link_want f nr) b.took.receives a.0.receives)
-taking_alike old other one two bytes (Err (take_fault.Refused f)) (Err (take_fault.Refused g)) out xs ys before rs ss fits d like nr ns a b =
-    let t = none_alike old other one two bytes f g fits d like (no_link_want f nr) (no_link_want g ns) a.0 b.0 in (t.0, t.1, a.1 ∙ sym b.1, a.2 ∙ sym b.2, t.2)
-taking_alike old other one two bytes (Err (take_fault.Refused f)) (Err (take_fault.Unfinished h g)) out xs ys before rs ss fits d like nr ns a b =
-    absurd (in_apart other old b.link a.0.link bytes h f fits (alike_back old other like) (no_link_want f nr) b.took.receives a.0.receives)
-taking_alike old other one two bytes (Err (take_fault.Unfinished g f)) (Ok h) out xs ys before rs ss fits d like nr ns a b =
-    absurd (taken_apart other old two one bytes h g f out ys xs before ss rs fits (alike_done old other like d) (alike_back old other like) nr b a)
-taking_alike old other one two bytes (Err (take_fault.Unfinished g f)) (Err (take_fault.Refused e)) out xs ys before rs ss fits d like nr ns a b =
-    absurd (in_apart old other a.link b.0.link bytes g e fits like (no_link_want e ns) a.took.receives b.0.receives)
-taking_alike old other one two bytes (Err (take_fault.Unfinished g f)) (Err (take_fault.Unfinished h e)) out xs ys before rs ss fits d like nr ns a b =
-    part_alike old other one two bytes g h f e out xs ys before rs ss fits d like nr ns a b
+    → Takes (asks before rs) old one bytes out xs r → Takes (asks before ss) other two bytes out ys s → AreAlike one two × (r ≡ s) × (xs ≡ ys) × (rs ≡ ss) × HasDone one
+taking_alike old other one two bytes r s out xs ys before rs ss fits d like nr ns a b = took_same _ _ _ _ _ (asks_alike before rs ss) old other one two bytes out xs ys r s fits d like nr ns a b

@@ -1,6 +1,6 @@
 -- What the calls of an asking end leave of what it did.
 use Rattle.std.proofs.Common.{◌≡◌, inl, inr, eq-eqb, ◌-◌, ℕ, ◌+◌, ◌<◌, ◌≤◌, arith, refl, sym, ◌∙◌, subst, ap, append_assoc, true, false, List, [], ◌∷◌, ◌++◌, length}
-use Rattle.std.specs.Prelude.{◌==◌, Option, Result, Ok, Err, IfOk, OnOk, IfErr, nat_le, if◌then◌else◌, option_to_list}
+use Rattle.std.specs.Prelude.{◌==◌, Option, Result, Ok, Err, IfOk, OnOk, nat_le, if◌then◌else◌, option_to_list}
 use Rattle.std.proofs.lemmas.Bool.{cases_eq, ne_eqb}
 use Rattle.std.proofs.lemmas.List.{append-nil, map-append}
 use Rattle.std.proofs.lemmas.List.Elements.{All-append}
@@ -11,10 +11,8 @@ use Rattle.dap_msg.specs.Items.{Item, IsPlace}
 use Rattle.dap_msg.specs.Sendable.{AreSendable}
 use Rattle.dap_msg.specs.Blocked.{NspMessage, joined, Blocked, blocked_after, all_joined, messages_in, AllFit, AllWithin, IsWithin}
 use Rattle.dap_msg.proofs.ForCallers.{messages_in-Blocked, within_limit}
-use Rattle.nsp_link.specs.declared.link.Got.{Got}
 use Rattle.nsp_link.specs.declared.fault.LinkFault.{LinkFault}
-use Rattle.nsp_link.specs.declared.fault.LinkFault.TheVariants as fault
-use Rattle.nsp_link.specs.Link.{LinkValue, SendsStill, Stands, MaySend}
+use Rattle.nsp_link.specs.Link.{LinkValue, SendsStill, Stands}
 use Rattle.nsp_link.specs.Sending.{MayQueueAll, SendAllFault}
 use Rattle.nsp_link.proofs.ForCallers.{sends_all}
 use Rattle.dap_accessed.specs.Served.{AllAtMost}
@@ -26,13 +24,11 @@ use Rattle.dap_accessing.specs.Told.{Told}
 use Rattle.dap_accessing.specs.Phase.{limit_after}
 use Rattle.dap_accessing.specs.Present.{Present}
 use Rattle.dap_accessing.specs.Calls.{Asks, Reads}
-use Rattle.dap_end.specs.declared.fault.EndFault.{EndFault}
 use Rattle.dap_end.specs.declared.fault.EndFault.TheVariants as end_fault
 use Rattle.dap_end.specs.Ports.{PortValue, with_link, posted, gone_on}
-use Rattle.dap_end.specs.Writing.{sent_more, WroteAll, AnsweredAll, AnsweredPart}
+use Rattle.dap_end.specs.Writing.{sent_more}
 use Rattle.dap_end.specs.Going.{GoneThrough, given_then}
-use Rattle.dap_end.specs.Asking.{AskingValue, AskingPast, AreFull, HasAsked, HasStill, AskedOne, HandedAll, ReadOne, ReadOn, begins, goes, ReadAll, HeardAll, HeardOnly, WentOn, GoOnFault, HeardIn, HeardAndWrote, AnswerFault, TookAll, TookPart, received, read_one}
-use Rattle.dap_end.specs.Inner.Answered.{Ended}
+use Rattle.dap_end.specs.Asking.{AskingValue, AskingPast, AreFull, HasAsked, HasStill, AskedOne, HandedAll, ReadOne, ReadOn, begins, goes, ReadAll, HearFault, read_one}
 use Rattle.dap_end.specs.Inner.Kept.{IsPort, AreShort}
 use Rattle.dap_end.specs.Inner.AskingView.{asking_of}
 use Rattle.dap_end.proofs.Taking.{Grown}
@@ -194,16 +190,7 @@ pub reads_one : (old : AskingValue) (bytes : List ℕ) (later : List (List ℕ))
 reads_one old bytes later fits after port step inbox place r within onward own is =
     record {
       works = r.works;
-      bytes = bytes;
-      later = later;
-      came = inbox;
-      fits = fits;
-      item = r.answer;
-      next = step.next;
-      reads = r.reads;
-      place = place;
-      goes = onward;
-      within = within;
+      one = record { bytes = bytes; later = later; came = inbox; fits = fits; item = r.answer; next = step.next; reads = r.reads; place = place; goes = onward; within = within };
       port = is;
       own = own;
       past = λ past h. subst (λ (p : PortValue). HasAsked (read_one past bytes r.answer step.next) (asking_of p after)) (sym is) (record {
@@ -216,8 +203,6 @@ reads_one old bytes later fits after port step inbox place r within onward own i
         full = h.full;
       });
       told = λ past h. r.told past.requests past.answers h.asking;
-      given = λ size messages past h. subst (λ (p : PortValue). Stands p.link size messages (read_one past bytes r.answer step.next).given) (sym is)
-          (port_given old.port bytes later step.next size messages past.given inbox h);
     }
 
 pub some_first : (inbox : List (List ℕ)) → 0 < length inbox → (bytes : List ℕ) × (later : List (List ℕ)) × (inbox ≡ bytes ∷ later)
@@ -278,32 +263,33 @@ split_given given inbox later bytes next came =
       | inr inside ↦ rw (ne_eqb next (length bytes) inside) refl
     ]
 
-read_grew : (a b c : AskingValue) (report : Option Report) (told : List Report) (past : AskingPast) (now : AskingPast) → HasRead past now a b told → (r : ReadOne b c report) → HasRead past (read_one now r.bytes r.item r.next) a c (told ++ option_to_list report)
+read_grew : (a b c : AskingValue) (report : Option Report) (told : List Report) (past : AskingPast) (now : AskingPast) → HasRead past now a b told → (r : ReadOne b c report) → HasRead past (read_one now r.one.bytes r.one.item r.one.next) a c (told ++ option_to_list report)
 read_grew a b c report told past now g r =
-    let link : c.port.link ≡ record b.port.link { inbox = if r.next == length r.bytes then r.later else b.port.link.inbox } = ap (λ (p : PortValue). p.link) r.port in
+    let link : c.port.link ≡ record b.port.link { inbox = if r.one.next == length r.one.bytes then r.one.later else b.port.link.inbox } = ap (λ (p : PortValue). p.link) r.port in
     record {
       is = r.past now g.is;
       requests = g.requests;
       asked = g.asked;
       handed = g.handed;
-      answers = (g.answers.0 ++ r.item ∷ [], ap (λ (l : List Item). l ++ r.item ∷ []) g.answers.1 ∙ append_assoc past.answers g.answers.0 (r.item ∷ []));
-      told = ap (λ (l : List Request). Told l (now.answers ++ r.item ∷ [])) (sym g.requests) ∙ r.told now g.is
+      answers = (g.answers.0 ++ r.one.item ∷ [], ap (λ (l : List Item). l ++ r.one.item ∷ []) g.answers.1 ∙ append_assoc past.answers g.answers.0 (r.one.item ∷ []));
+      told = ap (λ (l : List Request). Told l (now.answers ++ r.one.item ∷ [])) (sym g.requests) ∙ r.told now g.is
           ∙ ap (λ (l : List Request). Told l now.answers ++ option_to_list report) g.requests
           ∙ ap (λ (l : List Report). l ++ option_to_list report) g.told ∙ append_assoc (Told past.requests past.answers) told (option_to_list report);
-      given = subst (λ (l : LinkValue). given_then now.given r.bytes r.next ++ l.inbox ≡ now.given ++ b.port.link.inbox) (sym link)
-          (split_given now.given b.port.link.inbox r.later r.bytes r.next r.came) ∙ g.given;
-      stands = λ size messages s. r.given size messages now (g.stands size messages s);
+      given = subst (λ (l : LinkValue). given_then now.given r.one.bytes r.one.next ++ l.inbox ≡ now.given ++ b.port.link.inbox) (sym link)
+          (split_given now.given b.port.link.inbox r.one.later r.one.bytes r.one.next r.one.came) ∙ g.given;
+      stands = λ size messages s. subst (λ (l : LinkValue). Stands l size messages (read_one now r.one.bytes r.one.item r.one.next).given) (sym link)
+          (port_given b.port r.one.bytes r.one.later r.one.next size messages now.given r.one.came (g.stands size messages s));
     }
 
 read_then : (a b c : AskingValue) (told : List Report) (report : Option Report) → ReadMore a b told → ReadOne b c report → ReadMore a c (told ++ option_to_list report)
 read_then a b c told report m r =
-    let link : c.port.link ≡ record b.port.link { inbox = if r.next == length r.bytes then r.later else b.port.link.inbox } = ap (λ (p : PortValue). p.link) r.port in
+    let link : c.port.link ≡ record b.port.link { inbox = if r.one.next == length r.one.bytes then r.one.later else b.port.link.inbox } = ap (λ (p : PortValue). p.link) r.port in
     let here : c.port.link ≡ record b.port.link { inbox = c.port.link.inbox } = subst (λ (l : LinkValue). l ≡ record b.port.link { inbox = l.inbox }) (sym link) refl in
     record {
       link = here ∙ ap (λ (l : LinkValue). record l { inbox = c.port.link.inbox }) m.link;
       outbox = ap (λ (p : PortValue). p.outbox) r.port ∙ m.outbox;
       own = r.own ∙ m.own;
-      past = λ past h. (let g = m.past past h in (read_one g.0 r.bytes r.item r.next, read_grew a b c report told past g.0 g.1 r));
+      past = λ past h. (let g = m.past past h in (read_one g.0 r.one.bytes r.one.item r.one.next, read_grew a b c report told past g.0 g.1 r));
     }
 
 read_behind : (a b c : AskingValue) (told more all : List Report) → ReadMore a b told → ReadOn b c more → all ≡ told ++ more → ReadMore a c all
@@ -331,7 +317,7 @@ read_more a b c report before all new m r is = (
 pub read_falls : (old new : AskingValue) (report : Option Report) → ReadOne old new report → work new.port.link.inbox - new.port.place < work old.port.link.inbox - old.port.place
 read_falls old new report r =
     subst (λ (p : PortValue). work p.link.inbox - p.place < work old.port.link.inbox - old.port.place) (sym r.port)
-    (less_left old.port.link.inbox r.later r.bytes old.port.place r.next r.came r.place r.goes r.within)
+    (less_left old.port.link.inbox r.one.later r.one.bytes old.port.place r.one.next r.one.came r.one.place r.one.goes r.one.within)
 
 pub still_sent : (v : AskingValue) (port : PortValue) (n : ℕ) → port ≡ sent_more v.port n → HasStill v (record v { port = port })
 still_sent v port n e =
@@ -344,56 +330,6 @@ still_sent v port n e =
 pub works_after : (old new : AskingValue) (n : ℕ) → HandedAll old new n → new.port.link.failed ≡ false
 works_after old new n h = ap (λ (v : AskingValue). v.port.link.failed) h.posted ∙ h.may.0
 
-pub heard_only : (old heard new : AskingValue) (before reports : List Report) (f : LinkFault) → ReadAll old heard before reports → heard.port.link.inbox ≡ [] → (new ≡ heard) × SendAllFault heard.port.link heard.port.outbox f → HeardOnly old new before reports f
+pub heard_only : (old heard new : AskingValue) (before reports : List Report) (f : LinkFault) → ReadAll old heard before reports → heard.port.link.inbox ≡ [] → (new ≡ heard) × SendAllFault heard.port.link heard.port.outbox f → HearFault old new before reports (end_fault.Link f)
 heard_only old heard new before reports f read done h =
-    subst (λ (v : AskingValue). HeardOnly old v before reports f) (sym h.0) (record { read = read; done = done; refused = h.1 })
-
-module _ (old heard : AskingValue) (port : PortValue) (out all : List (List ℕ)) (before reports : List Report) (hears : HeardAll old heard before reports) where
-  pub went_on : WroteAll heard.port port out all → WentOn old (asking_of port heard.accessing) out all before reports
-  went_on w = record { heard = heard; hears = hears; rest = refl; still = still_sent heard port _ w.2.sent; wrote = w }
-
-pub went_part : (old heard : AskingValue) (port : PortValue) (out all : List (List ℕ)) (before reports : List Report) (f : LinkFault) → HeardAll old heard before reports → WroteAll heard.port port out all → (f ≡ fault.NoMemory) × MaySend port.link
-    → GoOnFault old (asking_of port heard.accessing) out all before reports (end_fault.Link f)
-went_part old heard port out all before reports f hears w h = inr (ap (λ (g : LinkFault). end_fault.Link g) h.0, went_on old heard port out all before reports hears w, h.1)
-
-pub answered : (old heard : AskingValue) (port : PortValue) (got : Got) (out all : List (List ℕ)) (before reports : List Report) → HeardAll old heard before reports → AnsweredAll heard.port port got out all
-    → HeardAndWrote old (asking_of port heard.accessing) got out all before reports
-answered old heard port got out all before reports hears a = record { heard = heard; hears = hears; rest = refl; still = still_sent heard port _ a.2.wrote.sent; answered = a }
-
-pub answered_part : (old heard : AskingValue) (port : PortValue) (got : Got) (out all : List (List ℕ)) (before reports : List Report) (f : LinkFault) → HeardAll old heard before reports → AnsweredPart heard.port port got out all f
-    → AnswerFault old (asking_of port heard.accessing) got out all before reports (end_fault.Link f)
-answered_part old heard port got out all before reports f hears a =
-    inr (f, refl, record { heard = heard; hears = hears; rest = refl; still = still_sent heard port _ a.wrote.sent; part = a })
-
--- a call that ends as its link does
-pub ended_ok : (P : Type 0) (r : Result (Unit {0}) LinkFault) (s : Result (Unit {0}) EndFault) → Ended r s → OnOk r P → OnOk s P
-ended_ok P (Ok u) s e h = subst (λ (x : Result (Unit {0}) EndFault). OnOk x P) (sym e) h
-ended_ok P (Err f) s e h = subst (λ (x : Result (Unit {0}) EndFault). OnOk x P) (sym e) tt
-
-pub ended_err : (Q : EndFault → Type 0) (r : Result (Unit {0}) LinkFault) (s : Result (Unit {0}) EndFault) → Ended r s → IfErr r (λ f. Q (end_fault.Link f)) → IfErr s Q
-ended_err Q (Ok u) s e h = subst (λ (x : Result (Unit {0}) EndFault). IfErr x Q) (sym e) tt
-ended_err Q (Err f) s e h = subst (λ (x : Result (Unit {0}) EndFault). IfErr x Q) (sym e) h
-
-pub on_ok : (P Q : Type 0) (r : Result (Unit {0}) LinkFault) → (P → Q) → OnOk r P → OnOk r Q
-on_ok P Q (Ok u) to h = to h
-on_ok P Q (Err f) to h = tt
-
-pub if_ok : (P : Type 0) (r : Result (Unit {0}) LinkFault) → P → OnOk r P
-if_ok P (Ok u) h = h
-if_ok P (Err f) h = tt
-
-pub if_err : (P Q : LinkFault → Type 0) (r : Result (Unit {0}) LinkFault) → ((f : LinkFault) → P f → Q f) → IfErr r P → IfErr r Q
-if_err P Q (Ok u) to h = tt
-if_err P Q (Err f) to h = to f h
-
--- ---- Taking.
-
-pub took_all : (old mid new : AskingValue) (bytes : List ℕ) (got : Got) (out all : List (List ℕ)) (before reports : List Report) → mid ≡ received old mid.port.link → HeardIn old bytes got mid.port.link
-    → HeardAndWrote mid new got out all before reports → TookAll old new bytes got out all before reports
-took_all old mid new bytes got out all before reports rest took h =
-    record { link = mid.port.link; took = took; all_done = subst (λ (v : AskingValue). HeardAndWrote v new got out all before reports) rest h }
-
-pub took_part : (old mid new : AskingValue) (bytes : List ℕ) (got : Got) (out all : List (List ℕ)) (before reports : List Report) (f : EndFault) → mid ≡ received old mid.port.link → HeardIn old bytes got mid.port.link
-    → AnswerFault mid new got out all before reports f → TookPart old new bytes got out all before reports f
-took_part old mid new bytes got out all before reports f rest took h =
-    record { link = mid.port.link; took = took; why = subst (λ (v : AskingValue). AnswerFault v new got out all before reports f) rest h }
+    subst (λ (v : AskingValue). HearFault old v before reports (end_fault.Link f)) (sym h.0) ((read, done), h.1)

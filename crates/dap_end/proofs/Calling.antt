@@ -4,7 +4,7 @@ use Rattle.std.specs.Prelude.{Bool, Option, Some, None, Result, Ok, Err, option_
 use Rattle.std.proofs.lemmas.List.{append-nil, map-append}
 use Rattle.nsp_link.specs.declared.link.Got.{Got}
 use Rattle.nsp_link.specs.declared.fault.LinkFault.{LinkFault}
-use Rattle.nsp_link.specs.Link.{LinkValue, IsSpelling}
+use Rattle.nsp_link.specs.Link.{IsSpelling}
 use Rattle.nsp_link.specs.Sending.{WritesSent, ack_packet_of}
 use Rattle.dap_accessing.specs.Request.{Request}
 use Rattle.dap_accessing.specs.declared.report.Report.{Report}
@@ -14,11 +14,11 @@ use Rattle.dap_accessing.specs.Present.{Present}
 use Rattle.dap_end.specs.declared.fault.EndFault.{EndFault}
 use Rattle.dap_end.specs.declared.fault.EndFault.TheVariants as end_fault
 use Rattle.dap_end.specs.Ports.{PortValue}
-use Rattle.nsp_link.specs.Receiving.{Receives}
-use Rattle.dap_end.specs.Writing.{wants_ack, WroteNext, WroteMore}
-use Rattle.dap_end.specs.Asking.{AskingValue, AskedOne, HandedAll, ReadOne, begins, goes as reads_first, ReadAll, HeardAll, WentOn, GoOnFault, HearFault, AnswerFault, ReadNone, ReadPart, TookAll, TookPart, Refused, received}
-use Rattle.dap_end.specs.Headline.{Written, numbered, bytes_of}
-use Rattle.dap_end.specs.Hearing.{AskingEvent, Came, Asks, GoesOn, Again, Acks, AskingStepped, AskingRuns, AreAskingCalls}
+use Rattle.dap_end.specs.Writing.{wants_ack, WroteNext, WroteMore, WroteAll}
+use Rattle.dap_end.specs.Asking.{AskingValue, AskedOne, HandedAll, ReadOne, begins, goes as reads_first, ReadAll, HeardAll, HearFault, ReadNone, ReadPart, asks}
+use Rattle.dap_end.specs.Turns.{WroteThen, WentOn, TookIn, TookThen}
+use Rattle.dap_end.specs.Headline.{Written, numbered, bytes_of, Came, GoesOn, Again, Acks}
+use Rattle.dap_end.specs.Hearing.{AskingEvent, Asks, By, AskingStepped, AskingRuns, AreAskingCalls}
 use Rattle.dap_end.proofs.Packets.{ack_written}
 use Rattle.dap_end.proofs.Emitting.{wrote_nothing}
 use Rattle.dap_end.proofs.Running.{one_segment, numbered_bytes}
@@ -29,42 +29,42 @@ one_event old new event reports ws s = (new, reports, [], sym (append-nil report
 pub asking_is : (old new : AskingValue) (request : Request) (n : ℕ) → AskedOne request old new n → AskingRuns old (Asks request ∷ []) new [] []
 asking_is old new request n a = one_event old new (Asks request) [] [] (n, a, refl, refl)
 
-pub reading_is : (old new : AskingValue) (report : Option Report) → ReadOne old new report → AskingRuns old (GoesOn ∷ []) new (option_to_list report) []
+pub reading_is : (old new : AskingValue) (report : Option Report) → ReadOne old new report → AskingRuns old (By GoesOn ∷ []) new (option_to_list report) []
 reading_is old new report r =
-    one_event old new GoesOn (option_to_list report) []
-    (new, new, [], reads_first new report [] r begins (sym (append-nil (option_to_list report))), inl refl, wrote_nothing new.port, refl, refl)
+    one_event old new (By GoesOn) (option_to_list report) []
+    (new, [], (new, reads_first new report [] r begins (sym (append-nil (option_to_list report))), inl refl), wrote_nothing new.port, refl, refl)
 
-pub posting_is : (old new : AskingValue) (n : ℕ) → HandedAll old new n → AskingRuns old (GoesOn ∷ []) new [] []
-posting_is old new n h = one_event old new GoesOn [] [] (old, new, [], begins, inr (n, h), wrote_nothing new.port, refl, refl)
+pub posting_is : (old new : AskingValue) (n : ℕ) → HandedAll old new n → AskingRuns old (By GoesOn ∷ []) new [] []
+posting_is old new n h = one_event old new (By GoesOn) [] [] (new, [], (old, begins, inr (n, h)), wrote_nothing new.port, refl, refl)
 
 pub writing_is : (old new : AskingValue) (bytes : List ℕ) → new ≡ record old { port = new.port } → WroteNext old.port new.port bytes
-    → AskingRuns old (GoesOn ∷ []) new [] (numbered (old.port.link.sent + 1) old.port.link.received (bytes ∷ []))
-writing_is old new bytes rest w = one_event old new GoesOn [] _ (old, old, bytes ∷ [], begins, inl refl, one_segment old.port new.port bytes w, rest, refl)
+    → AskingRuns old (By GoesOn ∷ []) new [] (numbered (old.port.link.sent + 1) old.port.link.received (bytes ∷ []))
+writing_is old new bytes rest w = one_event old new (By GoesOn) [] _ (old, bytes ∷ [], (old, begins, inl refl), one_segment old.port new.port bytes w, rest, refl)
 
 pub again_is : (v : AskingValue) (i : ℕ) (bytes : List ℕ) → i < v.port.link.sent - v.port.link.acked → WritesSent v.port.link (Some (v.port.link.acked + 1 + i)) bytes
-    → AskingRuns v (Again i ∷ []) v [] (record { bytes = bytes; segment = Some (v.port.link.acked + 1 + i); acks = v.port.link.received } ∷ [])
-again_is v i bytes lt w = one_event v v (Again i) [] _ (record { bytes = bytes; segment = Some (v.port.link.acked + 1 + i); acks = v.port.link.received }, lt, (refl, refl, w), refl, refl, refl)
+    → AskingRuns v (By (Again i) ∷ []) v [] (record { bytes = bytes; segment = Some (v.port.link.acked + 1 + i); acks = v.port.link.received } ∷ [])
+again_is v i bytes lt w = one_event v v (By (Again i)) [] _ (record { bytes = bytes; segment = Some (v.port.link.acked + 1 + i); acks = v.port.link.received }, lt, (refl, refl, w), refl, refl, refl)
 
-pub ack_is : (v : AskingValue) (bytes : List ℕ) → IsSpelling (ack_packet_of v.port.link) bytes → AskingRuns v (Acks ∷ []) v [] (record { bytes = bytes; segment = None; acks = v.port.link.received } ∷ [])
-ack_is v bytes s = one_event v v Acks [] _ (record { bytes = bytes; segment = None; acks = v.port.link.received }, (refl, refl, ack_written v.port.link bytes s), refl, refl, refl)
+pub ack_is : (v : AskingValue) (bytes : List ℕ) → IsSpelling (ack_packet_of v.port.link) bytes → AskingRuns v (By Acks ∷ []) v [] (record { bytes = bytes; segment = None; acks = v.port.link.received } ∷ [])
+ack_is v bytes s = one_event v v (By Acks) [] _ (record { bytes = bytes; segment = None; acks = v.port.link.received }, (refl, refl, ack_written v.port.link bytes s), refl, refl, refl)
 
 -- all was read and handed over, and these segments written
 goes : (old heard new : AskingValue) (before after : List Report) (packets : List (List ℕ)) → (h : HeardAll old heard before after) → WroteMore heard.port new.port packets → new ≡ record heard { port = new.port }
-    → AskingStepped old GoesOn new h.read.0 (numbered (heard.port.link.sent + 1) heard.port.link.received packets)
-goes old heard new before after packets h w rest = (h.heard, heard, packets, h.read.2, inr (h.count, h.handed), w, rest, refl)
+    → AskingStepped old (By GoesOn) new h.2.0.0 (numbered (heard.port.link.sent + 1) heard.port.link.received packets)
+goes old heard new before after packets h w rest = (heard, packets, (h.0, h.2.0.2, inr (h.1, h.3)), w, rest, refl)
 
 behind : (out all packets : List (List ℕ)) (k a : ℕ) → all ≡ out ++ packets → all ≡ out ++ bytes_of (numbered k a packets)
 behind out all packets k a e = e ∙ ap (λ (l : List (List ℕ)). out ++ l) (sym (numbered_bytes k a packets))
 
-pub going_is : (old new : AskingValue) (out all : List (List ℕ)) (before after : List Report) → WentOn old new out all before after → AreAskingCalls old (GoesOn ∷ []) new out all before after
+pub going_is : (old new : AskingValue) (out all : List (List ℕ)) (before after : List Report) → WroteThen (asks before after) (λ p q. WroteAll p q out all) old new → AreAskingCalls old (By GoesOn ∷ []) new out all before after
 going_is old new out all before after w =
-    (w.hears.read.0, _, one_event old new GoesOn _ _ (goes old w.heard new before after w.wrote.0 w.hears w.wrote.2 w.rest), behind out all w.wrote.0 _ _ w.wrote.1, w.hears.read.1)
+    (w.done.2.0.0, _, one_event old new (By GoesOn) _ _ (goes old w.mid new before after w.wrote.0 w.done w.wrote.2 w.rest), behind out all w.wrote.0 _ _ w.wrote.1, w.done.2.0.1)
 
-came : (old : AskingValue) (link : LinkValue) (bytes : List ℕ) (r : Result Got LinkFault) → Receives old.port.link link bytes r → AskingStepped old (Came bytes) (received old link) [] []
-came old link bytes r h = (r, link, h, refl, refl, refl)
+came : (old new : AskingValue) (bytes : List ℕ) (before after : List Report) (r : Result Got LinkFault) → TookIn (asks before after) old new bytes r → AskingStepped old (By (Came bytes)) new [] []
+came old new bytes before after r t = (r, new.port.link, t.receives, t.rest, refl, refl)
 
-took_by : (old mid new : AskingValue) (bytes : List ℕ) (events : List AskingEvent) (out all : List (List ℕ)) (before after : List Report) → AskingStepped old (Came bytes) mid [] [] → AreAskingCalls mid events new out all before after
-    → AreAskingCalls old (Came bytes ∷ events) new out all before after
+took_by : (old mid new : AskingValue) (bytes : List ℕ) (events : List AskingEvent) (out all : List (List ℕ)) (before after : List Report) → AskingStepped old (By (Came bytes)) mid [] [] → AreAskingCalls mid events new out all before after
+    → AreAskingCalls old (By (Came bytes) ∷ events) new out all before after
 took_by old mid new bytes events out all before after s c = (c.0, c.1, (mid, [], c.0, refl, [], c.1, refl, s, c.2), c.3, c.4)
 
 answered_is : (old heard new : AskingValue) (got : Got) (out all packets written : List (List ℕ)) (before after : List Report) (wants : Bool) → HeardAll old heard before after → new ≡ record heard { port = new.port } → WroteMore heard.port new.port written
@@ -72,33 +72,32 @@ answered_is : (old heard new : AskingValue) (got : Got) (out all packets written
     → (wants_ack got (length written) ≡ true → (bytes : List ℕ) × (packets ≡ written ++ bytes ∷ []) × IsSpelling (ack_packet_of new.port.link) bytes)
     → (events : List AskingEvent) × AreAskingCalls old events new out all before after
 answered_is old heard new got out all packets written before after false h rest w is e quiet acks = (
-  GoesOn ∷ [],
-  (h.read.0, _, one_event old new GoesOn _ _ (goes old heard new before after written h w rest), behind out all written _ _ (is ∙ ap (λ (l : List (List ℕ)). out ++ l) (quiet e)), h.read.1),
+  By GoesOn ∷ [],
+  (h.2.0.0, _, one_event old new (By GoesOn) _ _ (goes old heard new before after written h w rest), behind out all written _ _ (is ∙ ap (λ (l : List (List ℕ)). out ++ l) (quiet e)), h.2.0.1),
 )
 answered_is old heard new got out all packets written before after true h rest w is e quiet acks =
     let a = acks e in
     let first = numbered (heard.port.link.sent + 1) heard.port.link.received written in
     let last : Written = record { bytes = a.0; segment = None; acks = new.port.link.received } in (
-      GoesOn ∷ Acks ∷ [],
+      By GoesOn ∷ By Acks ∷ [],
       (
-        h.read.0,
+        h.2.0.0,
         first ++ last ∷ [],
-        (new, h.read.0, [], sym (append-nil h.read.0), first, last ∷ [], refl, goes old heard new before after written h w rest, ack_is new a.0 a.2),
+        (new, h.2.0.0, [], sym (append-nil h.2.0.0), first, last ∷ [], refl, goes old heard new before after written h w rest, ack_is new a.0 a.2),
         is ∙ ap (λ (l : List (List ℕ)). out ++ l) (a.1 ∙ ap (λ (l : List (List ℕ)). l ++ a.0 ∷ []) (sym (numbered_bytes _ _ written)) ∙ sym (map-append (λ (w : Written). w.bytes) first (last ∷ []))),
-        h.read.1,
+        h.2.0.1,
       ),
     )
 
-pub taking_is : (old new : AskingValue) (bytes : List ℕ) (got : Got) (out all : List (List ℕ)) (before after : List Report) → TookAll old new bytes got out all before after
-    → (events : List AskingEvent) × AreAskingCalls old (Came bytes ∷ events) new out all before after
-taking_is old new bytes got out all before after t =
-    let d = t.all_done in
-    let a = d.answered in
-    let r = answered_is (received old t.link) d.heard new got out all a.0 a.2.written before after (wants_ack got (length a.2.written)) d.hears d.rest a.2.wrote a.1 refl a.2.quiet a.2.acks in
-    (r.0, took_by old (received old t.link) new bytes r.0 out all before after (came old t.link bytes (Ok got) t.took.receives) r.1)
+pub taking_is : (old new : AskingValue) (bytes : List ℕ) (got : Got) (out all : List (List ℕ)) (before after : List Report) → TookThen (asks before after) old new bytes got out all (Ok tt)
+    → (events : List AskingEvent) × AreAskingCalls old (By (Came bytes) ∷ events) new out all before after
+taking_is old new bytes got out all before after (mid, t, w) =
+    let a = w.wrote in
+    let r = answered_is mid w.mid new got out all a.0 a.2.written before after (wants_ack got (length a.2.written)) w.done w.rest a.2.wrote a.1 refl a.2.quiet a.2.acks in
+    (r.0, took_by old mid new bytes r.0 out all before after (came old mid bytes before after (Ok got) t) r.1)
 
-pub refusing_is : (old new : AskingValue) (bytes : List ℕ) (f : LinkFault) → Refused old new bytes f → AskingRuns old (Came bytes ∷ []) new [] []
-refusing_is old new bytes f r = one_event old new (Came bytes) [] [] (Err f, r.link, r.receives, r.new_is, refl, refl)
+pub refusing_is : (old new : AskingValue) (bytes : List ℕ) (before after : List Report) (f : LinkFault) → TookIn (asks before after) old new bytes (Err f) → AskingRuns old (By (Came bytes) ∷ []) new [] []
+refusing_is old new bytes before after f t = one_event old new (By (Came bytes)) [] [] (came old new bytes before after (Err f) t)
 
 -- ---- Calls that didn't do all.
 
@@ -116,26 +115,25 @@ part_read old new before after f (inl h) other = h.1
 part_read old new before after f (inr h) other = subst (λ (v : AskingValue). ReadAll old v before after) (sym (none_read h.0 new f h.2 other)) h.1
 
 heard_part : (old new : AskingValue) (before after : List Report) (f : EndFault) → HearFault old new before after f → f ≢ end_fault.Read read_fault.Unexpected → ReadAll old new before after
-heard_part old new before after (end_fault.Link f) h other = h.read
+heard_part old new before after (end_fault.Link f) h other = h.0.0
 heard_part old new before after (end_fault.Read f) h other = part_read old new before after f h (λ e. other (ap (λ (x : ReadFault). end_fault.Read x) e))
 
 -- some was read, and nothing else done
-read_only : (old new : AskingValue) (out all : List (List ℕ)) (before after : List Report) → ReadAll old new before after → all ≡ out → AreAskingCalls old (GoesOn ∷ []) new out all before after
+read_only : (old new : AskingValue) (out all : List (List ℕ)) (before after : List Report) → ReadAll old new before after → all ≡ out → AreAskingCalls old (By GoesOn ∷ []) new out all before after
 read_only old new out all before after r same =
-    (r.0, [], one_event old new GoesOn r.0 [] (new, new, [], r.2, inl refl, wrote_nothing new.port, refl, refl), same ∙ sym (append-nil out), r.1)
+    (r.0, [], one_event old new (By GoesOn) r.0 [] (new, [], (new, r.2, inl refl), wrote_nothing new.port, refl, refl), same ∙ sym (append-nil out), r.1)
 
-pub halting_is : (old new : AskingValue) (out all : List (List ℕ)) (before after : List Report) (f : EndFault) → GoOnFault old new out all before after f → f ≢ end_fault.Read read_fault.Unexpected → AreAskingCalls old (GoesOn ∷ []) new out all before after
+pub halting_is : (old new : AskingValue) (out all : List (List ℕ)) (before after : List Report) (f : EndFault) → WentOn (asks before after) old new out all (Err f) → f ≢ end_fault.Read read_fault.Unexpected
+    → AreAskingCalls old (By GoesOn ∷ []) new out all before after
 halting_is old new out all before after f (inl h) other = read_only old new out all before after (heard_part old new before after f h.0 other) h.1
-halting_is old new out all before after f (inr h) other = going_is old new out all before after h.1
+halting_is old new out all before after f (inr h) other =
+    let w = h.1 in going_is old new out all before after (record { mid = w.mid; done = w.done; rest = w.rest; still = w.still; wrote = w.wrote.0 })
 
-answer_part : (old new : AskingValue) (got : Got) (out all : List (List ℕ)) (before after : List Report) (f : EndFault) → AnswerFault old new got out all before after f → f ≢ end_fault.Read read_fault.Unexpected
-    → AreAskingCalls old (GoesOn ∷ []) new out all before after
-answer_part old new got out all before after f (inl h) other = read_only old new out all before after (heard_part old new before after f h.0 other) h.1
-answer_part old new got out all before after f (inr h) other =
-    let p = h.2 in
-    (p.hears.read.0, _, one_event old new GoesOn _ _ (goes old p.heard new before after p.part.packets p.hears p.part.wrote p.rest), behind out all p.part.packets _ _ p.part.behind, p.hears.read.1)
-
-pub unfinished_is : (old new : AskingValue) (bytes : List ℕ) (got : Got) (out all : List (List ℕ)) (before after : List Report) (f : EndFault) → TookPart old new bytes got out all before after f → f ≢ end_fault.Read read_fault.Unexpected
-    → AreAskingCalls old (Came bytes ∷ GoesOn ∷ []) new out all before after
-unfinished_is old new bytes got out all before after f t other =
-    took_by old (received old t.link) new bytes (GoesOn ∷ []) out all before after (came old t.link bytes (Ok got) t.took.receives) (answer_part (received old t.link) new got out all before after f t.why other)
+pub unfinished_is : (old new : AskingValue) (bytes : List ℕ) (got : Got) (out all : List (List ℕ)) (before after : List Report) (f : EndFault) → TookThen (asks before after) old new bytes got out all (Err f) → f ≢ end_fault.Read read_fault.Unexpected
+    → AreAskingCalls old (By (Came bytes) ∷ By GoesOn ∷ []) new out all before after
+unfinished_is old new bytes got out all before after f (mid, t, inl h) other =
+    took_by old mid new bytes (By GoesOn ∷ []) out all before after (came old mid bytes before after (Ok got) t) (read_only mid new out all before after (heard_part mid new before after f h.0 other) h.1)
+unfinished_is old new bytes got out all before after f (mid, t, inr h) other =
+    let w = h.1 in
+    took_by old mid new bytes (By GoesOn ∷ []) out all before after (came old mid bytes before after (Ok got) t)
+    (going_is mid new out all before after (record { mid = w.mid; done = w.done; rest = w.rest; still = w.still; wrote = (w.wrote.packets, w.wrote.behind, w.wrote.wrote) }))

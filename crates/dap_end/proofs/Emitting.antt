@@ -96,11 +96,11 @@ answered old new got out all after count (Ok u) w full long a = answered_by old 
 answered old new got out all after count (Err f) w full long a = tt
 
 -- memory was wanting for a segment, or for it
-pub part_emit : (old new : PortValue) (got : Got) (out all : List (List ℕ)) (f : LinkFault) → WroteAll old new out all → (f ≡ fault.NoMemory) × MaySend new.link → AnsweredPart old new got out all f
-part_emit old new got out all f w h = record { packets = w.0; behind = w.1; wrote = w.2; memory = h.0; why = inl h.1 }
+pub part_emit : (old new : PortValue) (got : Got) (out all : List (List ℕ)) (f : LinkFault) → WroteAll old new out all → (f ≡ fault.NoMemory) × MaySend new.link → (f ≡ fault.NoMemory) × AnsweredPart old new got out all
+part_emit old new got out all f w h = (h.0, record { packets = w.0; behind = w.1; wrote = w.2; why = inl h.1 })
 
 pub part_ack : (old new : PortValue) (got : Got) (out all after : List (List ℕ)) (count : ℕ) (r : Result (Unit {0}) LinkFault) → (w : WroteAll old new out all) → length w.0 ≡ count → OnErr r (wants_ack got count ≡ true)
-    → IfErr r (λ f. f ≡ fault.NoMemory) → OnErr r (after ≡ all) → IfErr r (λ f. AnsweredPart old new got out after f)
+    → IfErr r (λ f. f ≡ fault.NoMemory) → OnErr r (after ≡ all) → IfErr r (λ f. (f ≡ fault.NoMemory) × AnsweredPart old new got out after)
 part_ack old new got out all after count (Ok u) w long wants h same = tt
 part_ack old new got out all after count (Err f) w long wants h same =
-    record { packets = w.0; behind = same ∙ w.1; wrote = w.2; memory = h; why = inr (ap (wants_ack got) long ∙ wants) }
+    (h, record { packets = w.0; behind = same ∙ w.1; wrote = w.2; why = inr (ap (wants_ack got) long ∙ wants) })

@@ -10,8 +10,8 @@ use Rattle.dap_end.specs.Ports.{PortValue}
 use Rattle.dap_end.specs.Going.{AreFrontOf}
 use Rattle.dap_end.specs.Writing.{sent_more, WroteMore}
 use Rattle.dap_end.specs.Asking.{AskingValue, AskingPast, HasAsked, AskedOne, HandedAll, nothing_asked, asked_one}
-use Rattle.dap_end.specs.Headline.{Written, numbered, WroteOne, AreWrittenOf}
-use Rattle.dap_end.specs.Hearing.{AskingEvent, Came, Asks, GoesOn, Again, Acks, HandedOver, AskingStepped, AskingRuns, requests_in, AskingPromises, IsAskingEventOf, AskingRunsFrom}
+use Rattle.dap_end.specs.Headline.{Written, numbered, WroteOne, AreWrittenOf, Came, GoesOn, Again, Acks, IsFromPeer}
+use Rattle.dap_end.specs.Hearing.{AskingEvent, Asks, By, HandedOver, AskingStepped, AskingRuns, requests_in, AskingPromises, IfHeard, AskingRunsFrom}
 use Rattle.dap_end.proofs.Taking.{grown}
 use Rattle.dap_end.proofs.Asked.{ReadMore, still_received, still_sent, read_grows}
 use Rattle.dap_end.proofs.Packets.{all_written, still_written, written_on, numbered_written, one_written}
@@ -91,9 +91,9 @@ sent_so requests reports wrote ws old new packets w e is t =
 
 pub step_so : (requests : List Request) (reports more : List Report) (wrote ws : List Written) (old new : AskingValue) (event : AskingEvent) → AskingStepped old event new more ws → Asked_So requests reports wrote old
     → Asked_So (requests ++ new_requests event) (reports ++ more) (wrote ++ ws) new
-step_so requests reports more wrote ws old new (Came bytes) s t =
+step_so requests reports more wrote ws old new (By (Came bytes)) s t =
     let g = grown old.port.link s.1 bytes s.0 s.2 in
-    same_so requests reports more wrote ws new s.4 s.5
+    same_so requests reports more wrote ws new s.5 s.4
     (subst (Asked_So requests reports wrote) (sym s.3)
     (record { past = t.past; is = still_received old s.1 g s.2.sends t.past t.is; asked = t.asked; told = t.told; packets = written_on old.port.link s.1 g t.past.handed wrote t.packets }))
 step_so requests reports more wrote ws old new (Asks request) s t =
@@ -107,20 +107,17 @@ step_so requests reports more wrote ws old new (Asks request) s t =
           subst (λ (p : PortValue). AreWrittenOf p.link t.past.handed (wrote ++ ws)) (sym a.port)
           (subst (λ (l : List Written). AreWrittenOf old.port.link t.past.handed l) (sym (ap (λ (l : List Written). wrote ++ l) s.3 ∙ append-nil wrote)) t.packets);
     }
-step_so requests reports more wrote ws old new GoesOn s t =
-    let heard = heard_so requests reports more wrote old s.0 (read_grows old s.0 more s.3) t in
-    let handed = handed_so requests (reports ++ more) wrote s.0 s.1 s.4 heard in
+step_so requests reports more wrote ws old new (By GoesOn) s t =
+    let (heard, on, over) = s.2 in
+    let handed = handed_so requests (reports ++ more) wrote heard s.0 over (heard_so requests reports more wrote old heard (read_grows old heard more on) t) in
     subst (λ (l : List Request). Asked_So l (reports ++ more) (wrote ++ ws) new) (sym (append-nil requests))
-    (sent_so requests (reports ++ more) wrote ws s.1 new s.2 s.5 s.6 s.7 handed)
-step_so requests reports more wrote ws old new (Again i) s t = one_so requests reports more wrote ws old new _ s.0 s.2 s.3 s.4 s.5 t
-step_so requests reports more wrote ws old new Acks s t = one_so requests reports more wrote ws old new _ s.0 s.1 s.2 s.3 s.4 t
+    (sent_so requests (reports ++ more) wrote ws s.0 new s.1 s.3 s.4 s.5 handed)
+step_so requests reports more wrote ws old new (By (Again i)) s t = one_so requests reports more wrote ws old new _ s.0 s.2 s.3 s.5 s.4 t
+step_so requests reports more wrote ws old new (By Acks) s t = one_so requests reports more wrote ws old new _ s.0 s.1 s.2 s.4 s.3 t
 
 pub requests_of : (event : AskingEvent) (events : List AskingEvent) → new_requests event ++ requests_in events ≡ requests_in (event ∷ events)
-requests_of (Came bytes) events = refl
 requests_of (Asks request) events = refl
-requests_of GoesOn events = refl
-requests_of (Again i) events = refl
-requests_of Acks events = refl
+requests_of (By event) events = refl
 
 run_so : (events : List AskingEvent) (requests : List Request) (reports more : List Report) (wrote ws : List Written) (old new : AskingValue) → AskingRuns old events new more ws → Asked_So requests reports wrote old
     → Asked_So (requests ++ requests_in events) (reports ++ more) (wrote ++ ws) new
@@ -165,22 +162,23 @@ sent_listens size messages old new packets w e t =
     record { past = t.past; is = still_sent old (sent_more old.port (length packets)) (length packets) refl t.past t.is; stands = (record { taken = t.stands.0.taken; held = t.stands.0.held }, t.stands.1) } in
     subst (Listens size messages) (sym (e ∙ ap (λ (p : PortValue). record old { port = p }) w.sent)) here
 
-step_listens : (size : ℕ) (messages : List (List ℕ)) (more : List Report) (ws : List Written) (old new : AskingValue) (event : AskingEvent) → IsAskingEventOf old.port.link size messages event → AskingStepped old event new more ws
+step_listens : (size : ℕ) (messages : List (List ℕ)) (more : List Report) (ws : List Written) (old new : AskingValue) (event : AskingEvent) → IfHeard event (IsFromPeer old.port.link size messages) → AskingStepped old event new more ws
     → Listens size messages old → Listens size messages new
-step_listens size messages more ws old new (Came bytes) f s t =
+step_listens size messages more ws old new (By (Came bytes)) f s t =
     let g = grown old.port.link s.1 bytes s.0 s.2 in
     subst (Listens size messages) (sym s.3)
     (record { past = t.past; is = still_received old s.1 g s.2.sends t.past t.is; stands = then_stands old.port.link s.1 size messages t.past.given bytes s.0 f t.stands s.2 })
 step_listens size messages more ws old new (Asks request) f s t =
     record { past = asked_one t.past old.accessing.own request; is = s.1.past t.past t.is; stands = asked_stands old size messages t.past.given new request s.0 s.1 t.stands }
-step_listens size messages more ws old new GoesOn f s t =
-    let m = read_grows old s.0 more s.3 in
+step_listens size messages more ws old new (By GoesOn) f s t =
+    let (heard, on, over) = s.2 in
+    let m = read_grows old heard more on in
     let g = m.past t.past t.is in
-    let works : s.0.port.link.failed ≡ false = ap (λ (l : LinkValue). l.failed) m.link ∙ t.stands.1 in
-    let heard : Listens size messages s.0 = record { past = g.0; is = g.1.is; stands = (g.1.stands size messages t.stands.0, works) } in
-    sent_listens size messages s.1 new s.2 s.5 s.6 (handed_listens size messages s.0 s.1 s.4 heard)
-step_listens size messages more ws old new (Again i) f s t = subst (Listens size messages) (sym s.3) t
-step_listens size messages more ws old new Acks f s t = subst (Listens size messages) (sym s.2) t
+    let works : heard.port.link.failed ≡ false = ap (λ (l : LinkValue). l.failed) m.link ∙ t.stands.1 in
+    let here : Listens size messages heard = record { past = g.0; is = g.1.is; stands = (g.1.stands size messages t.stands.0, works) } in
+    sent_listens size messages s.0 new s.1 s.3 s.4 (handed_listens size messages heard s.0 over here)
+step_listens size messages more ws old new (By (Again i)) f s t = subst (Listens size messages) (sym s.3) t
+step_listens size messages more ws old new (By Acks) f s t = subst (Listens size messages) (sym s.2) t
 
 run_listens : (size : ℕ) (messages : List (List ℕ)) (events : List AskingEvent) (old new : AskingValue) → AskingRunsFrom size messages old events new → Listens size messages old → Listens size messages new
 run_listens size messages [] old new r t = subst (Listens size messages) (sym r) t

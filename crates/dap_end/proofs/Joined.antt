@@ -24,10 +24,8 @@ use Rattle.dap_end.specs.Writing.{AreWritten, WroteMore}
 use Rattle.dap_end.specs.Serving.{ServingValue, Past, IsAfter, answers_to, nothing_yet}
 use Rattle.dap_end.specs.Taking.{with_port}
 use Rattle.dap_end.specs.Asking.{AreFull, AskingValue, AskingPast, HasAsked, nothing_asked, asked_one}
-use Rattle.dap_end.specs.Headline as serving
-use Rattle.dap_end.specs.Headline.{Written, numbered, WroteOne, AreWrittenOf, ServingEvent, Stepped}
-use Rattle.dap_end.specs.Hearing as asking
-use Rattle.dap_end.specs.Hearing.{AskingEvent, AskingStepped, HandedOver, requests_in}
+use Rattle.dap_end.specs.Headline.{Written, numbered, WroteOne, AreWrittenOf, EndEvent, Came, GoesOn, Again, Acks}
+use Rattle.dap_end.specs.Hearing.{AskingEvent, Asks, By, HandedOver, requests_in}
 use Rattle.dap_end.specs.Joined.{Pair, AreOpposite, AreNew, PairEvent, AtA, AtB, PairStepped, PairRuns, PairHeadline}
 use Rattle.dap_end.proofs.Taking.{grown}
 use Rattle.dap_end.proofs.Afterwards.{after_received}
@@ -263,8 +261,8 @@ wrote_b first old new wrote w k one same is was e j =
     })
 
 -- each event
-serves : (first : Files) (old new : Pair) (event : ServingEvent) → PairStepped old (AtB event) new → IsLinked first old → IsLinked first new
-serves first old new (serving.Came bytes) s j =
+serves : (first : Files) (old new : Pair) (event : EndEvent) → PairStepped old (AtB event) new → IsLinked first old → IsLinked first new
+serves first old new (Came bytes) s j =
     let g = grown old.b.port.link s.2.1 bytes s.2.0 s.2.2 in
     let ways = comes old.a.port.link old.b.port.link s.2.1 j.asked.handed j.served.handed j.asked.given j.served.given old.from_a old.from_b s.1.0 s.1.1 s.2.0 j.ways s.1.2 s.1.4
     (subst (λ (x : List ℕ). Receives old.b.port.link s.2.1 x s.2.0) s.1.3 s.2.2) (written_on old.b.port.link s.2.1 g j.served.handed old.from_b j.ways.back.packets) in
@@ -281,7 +279,7 @@ serves first old new (serving.Came bytes) s j =
           subst (λ (l : List Written). AreJoined old.a.port.link new.b.port.link j.asked.handed j.served.handed j.asked.given j.served.given old.from_a l) (sym (ap (λ (l : List Written). old.from_b ++ l) s.2.4 ∙ append-nil old.from_b))
           (subst (λ (v : ServingValue). AreJoined old.a.port.link v.port.link j.asked.handed j.served.handed j.asked.given j.served.given old.from_a old.from_b) (sym s.2.3) ways);
     })
-serves first old new serving.GoesOn s j =
+serves first old new GoesOn s j =
     let t = s.2 in
     let more = t.2.past j.served j.serving in
     let now = more.0 in
@@ -302,8 +300,8 @@ serves first old new serving.GoesOn s j =
           subst (λ (l : List Written). AreJoined old.a.port.link new.b.port.link j.asked.handed now.handed j.asked.given now.given old.from_a (old.from_b ++ l)) (sym t.5)
           (swapped new.b.port.link old.a.port.link now.handed j.asked.handed now.given j.asked.given _ old.from_a ways);
     })
-serves first old new (serving.Again i) s j = wrote_b first old new s.0 s.2.0 _ s.2.2 s.2.3 s.2.4 (again_sent old.b.port.link i s.2.1) s.3 j
-serves first old new serving.Acks s j = wrote_b first old new s.0 s.2.0 _ s.2.1 s.2.2 s.2.3 tt s.3 j
+serves first old new (Again i) s j = wrote_b first old new s.0 s.2.0 _ s.2.2 s.2.3 s.2.4 (again_sent old.b.port.link i s.2.1) s.3 j
+serves first old new Acks s j = wrote_b first old new s.0 s.2.0 _ s.2.1 s.2.2 s.2.3 tt s.3 j
 
 -- ---- The end that asks is called.
 
@@ -365,7 +363,7 @@ link_trans : (a b c : LinkValue) → b ≡ record a { inbox = b.inbox } → c �
 link_trans a b c ab bc = bc ∙ ap (λ (l : LinkValue). record l { inbox = c.inbox; queue = c.queue }) ab
 
 asks : (first : Files) (old new : Pair) (event : AskingEvent) → PairStepped old (AtA event) new → IsLinked first old → IsLinked first new
-asks first old new (asking.Came bytes) s j =
+asks first old new (By (Came bytes)) s j =
     let t = s.3 in
     let g = grown old.a.port.link t.1 bytes t.0 t.2 in
     let back = swapped old.a.port.link old.b.port.link j.asked.handed j.served.handed j.asked.given j.served.given old.from_a old.from_b j.ways in
@@ -379,13 +377,13 @@ asks first old new (asking.Came bytes) s j =
       serving = j.serving;
       had = j.had;
       requests = j.requests ∙ sym (append-nil old.requests);
-      told = ap (λ (l : List Report). old.reports ++ l) t.4 ∙ append-nil old.reports ∙ j.told;
+      told = ap (λ (l : List Report). old.reports ++ l) t.5 ∙ append-nil old.reports ∙ j.told;
       ways =
-          subst (λ (l : List Written). AreJoined new.a.port.link old.b.port.link j.asked.handed j.served.handed j.asked.given j.served.given l old.from_b) (sym (ap (λ (l : List Written). old.from_a ++ l) t.5 ∙ append-nil old.from_a))
+          subst (λ (l : List Written). AreJoined new.a.port.link old.b.port.link j.asked.handed j.served.handed j.asked.given j.served.given l old.from_b) (sym (ap (λ (l : List Written). old.from_a ++ l) t.4 ∙ append-nil old.from_a))
           (subst (λ (v : AskingValue). AreJoined v.port.link old.b.port.link j.asked.handed j.served.handed j.asked.given j.served.given old.from_a old.from_b) (sym t.3)
           (swapped old.b.port.link t.1 j.served.handed j.asked.handed j.served.given j.asked.given old.from_b old.from_a ways));
     })
-asks first old new (asking.Asks request) s j =
+asks first old new (Asks request) s j =
     let t = s.3 in
     let a = t.1 in
     subst (IsLinked first) (sym s.4)
@@ -401,31 +399,32 @@ asks first old new (asking.Asks request) s j =
           subst (λ (l : List Written). AreJoined new.a.port.link old.b.port.link j.asked.handed j.served.handed j.asked.given j.served.given l old.from_b) (sym (ap (λ (l : List Written). old.from_a ++ l) t.3 ∙ append-nil old.from_a))
           (subst (λ (x : PortValue). AreJoined x.link old.b.port.link j.asked.handed j.served.handed j.asked.given j.served.given old.from_a old.from_b) (sym a.port) j.ways);
     })
-asks first old new asking.GoesOn s j =
+asks first old new (By GoesOn) s j =
     let t = s.3 in
-    let m = read_grows old.a t.0 s.0 t.3 in
+    let (heard, on, over) = t.2 in
+    let m = read_grows old.a heard s.0 on in
     let read = m.past j.asked j.asking in
     let g = read.1 in
-    let h = hands read.0 old.a t.0 t.1 g.is t.4 in
-    let limit : t.0.port.link.max_message ≡ old.a.port.link.max_message = ap (λ (l : LinkValue). l.max_message) m.link in
+    let h = hands read.0 old.a heard t.0 g.is over in
+    let limit : heard.port.link.max_message ≡ old.a.port.link.max_message = ap (λ (l : LinkValue). l.max_message) m.link in
     let short : AreShort old.a.port.link h.more = subst (λ (n : ℕ). All (λ m. length m ≤ n) h.more) limit h.short in
-    let stands : Stands t.1.port.link old.b.port.link.seg_size j.served.handed h.now.given =
-    h.same old.b.port.link.seg_size j.served.handed h.now.given (subst (λ (l : List (List ℕ)). Stands t.0.port.link old.b.port.link.seg_size j.served.handed l) (sym h.given) (g.stands old.b.port.link.seg_size j.served.handed j.ways.back.stands)) in
-    let ways = goes old.a.port.link old.b.port.link t.1.port.link new.a.port t.1.port j.asked.handed j.served.handed j.asked.given j.served.given h.more h.now.given h.now.handed old.from_a old.from_b t.2 j.ways refl
-    (link_trans old.a.port.link t.0.port.link t.1.port.link m.link h.link) t.5 (h.more_is ∙ ap (λ (l : List (List ℕ)). l ++ h.more) g.handed) short stands h.is.sends in
+    let stands : Stands t.0.port.link old.b.port.link.seg_size j.served.handed h.now.given =
+    h.same old.b.port.link.seg_size j.served.handed h.now.given (subst (λ (l : List (List ℕ)). Stands heard.port.link old.b.port.link.seg_size j.served.handed l) (sym h.given) (g.stands old.b.port.link.seg_size j.served.handed j.ways.back.stands)) in
+    let ways = goes old.a.port.link old.b.port.link t.0.port.link new.a.port t.0.port j.asked.handed j.served.handed j.asked.given j.served.given h.more h.now.given h.now.handed old.from_a old.from_b t.1 j.ways refl
+    (link_trans old.a.port.link heard.port.link t.0.port.link m.link h.link) t.3 (h.more_is ∙ ap (λ (l : List (List ℕ)). l ++ h.more) g.handed) short stands h.is.sends in
     subst (IsLinked first) (sym s.4)
     (record {
       asked = h.now;
-      asking = subst (HasAsked h.now) (sym t.6) (asked.still_sent t.1 new.a.port (length t.2) t.5.sent h.now h.is);
+      asking = subst (HasAsked h.now) (sym t.4) (asked.still_sent t.0 new.a.port (length t.1) t.3.sent h.now h.is);
       served = j.served;
       serving = j.serving;
       had = j.had;
       requests = h.requests ∙ g.requests ∙ j.requests ∙ sym (append-nil old.requests);
       told = ap (λ (l : List Report). l ++ s.0) j.told ∙ sym g.told ∙ ap (λ (l : List Request). Told l read.0.answers) (sym (h.requests ∙ g.requests)) ∙ ap (Told h.now.requests) (sym h.answers);
-      ways = subst (λ (l : List Written). AreJoined new.a.port.link old.b.port.link h.now.handed j.served.handed h.now.given j.served.given (old.from_a ++ l) old.from_b) (sym t.7) ways;
+      ways = subst (λ (l : List Written). AreJoined new.a.port.link old.b.port.link h.now.handed j.served.handed h.now.given j.served.given (old.from_a ++ l) old.from_b) (sym t.5) ways;
     })
-asks first old new (asking.Again i) s j = wrote_a first old new (asking.Again i) s.0 s.1 s.3.0 _ s.3.2 s.3.3 s.3.4 s.3.5 (again_sent old.a.port.link i s.3.1) refl s.4 j
-asks first old new asking.Acks s j = wrote_a first old new asking.Acks s.0 s.1 s.3.0 _ s.3.1 s.3.2 s.3.3 s.3.4 tt refl s.4 j
+asks first old new (By (Again i)) s j = wrote_a first old new (By (Again i)) s.0 s.1 s.3.0 _ s.3.2 s.3.3 s.3.5 s.3.4 (again_sent old.a.port.link i s.3.1) refl s.4 j
+asks first old new (By Acks) s j = wrote_a first old new (By Acks) s.0 s.1 s.3.0 _ s.3.1 s.3.2 s.3.4 s.3.3 tt refl s.4 j
 
 -- ---- All events.
 

@@ -9,13 +9,15 @@ use Rattle.nsp_link.specs.Coming.{Coming, taken_all}
 use Rattle.nsp_link.specs.Holding.{inserted, following}
 use Rattle.nsp_link.specs.Link.{LinkValue, coming, piece_of, failed_link}
 use Rattle.nsp_link.specs.Receiving.{Received, run, segment_of, taking_in, is_end, ReceivedBytes, Receives}
+use Rattle.dap_end.specs.declared.fault.EndFault.{EndFault}
 use Rattle.dap_end.specs.declared.fault.EndFault.TheVariants as end_fault
 use Rattle.dap_end.specs.declared.fault.TakeFault.{TakeFault}
 use Rattle.dap_end.specs.declared.fault.TakeFault.TheVariants as take_fault
-use Rattle.dap_end.specs.Ports.{PortValue, HasCome}
+use Rattle.dap_end.specs.Ports.{PortValue, HasCome, with_link}
 use Rattle.dap_end.specs.Writing.{sent_more}
 use Rattle.dap_end.specs.Serving.{ServingValue, Past, IsAfter, IsStill, ServedOne, PostedAll, nothing_yet, served}
-use Rattle.dap_end.specs.Taking.{ServedOn, begins, goes, ServedUp, ServeFault, WentOn, GoesOn, WrotePart, Takes, received}
+use Rattle.dap_end.specs.Turns.{WroteThen, TookIn, Takes}
+use Rattle.dap_end.specs.Taking.{ServedOn, begins, goes, ServedUp, ServeFault, serves, GoesOn, with_port}
 use Rattle.dap_end.proofs.Refusing.{taken_count}
 use Rattle.dap_end.proofs.Determined.{no_next}
 
@@ -73,13 +75,13 @@ comes_by false old new bytes r e h = bytes_come old new bytes r (h.any e)
 abbrev pub IsKnown : ServingValue → Type 0
 IsKnown v = (past : Past) × IsAfter past v × (HasCome v.port ⊎ ((past ≡ nothing_yet past.first) × (v.port.link.inbox ≡ [])))
 
-known_by : (old : ServingValue) (link : LinkValue) → Comes old.port.link link → IsStill old (received old link) → IsKnown old → IsKnown (received old link)
+known_by : (old : ServingValue) (link : LinkValue) → Comes old.port.link link → IsStill old (with_port old (with_link old.port link)) → IsKnown old → IsKnown (with_port old (with_link old.port link))
 known_by old link (inl came) still (past, h, c) = (past, still past h, inl came)
 known_by old link (inr same) still (past, h, inl (inl lt)) = (past, still past h, inl (inl (subst (λ (n : ℕ). 0 < n) (sym same.0) lt)))
 known_by old link (inr same) still (past, h, inl (inr lt)) = (past, still past h, inl (inr (subst (λ (l : List (ℕ × Piece)). 0 < length l) (sym same.1) lt)))
 known_by old link (inr same) still (past, h, inr none) = (past, still past h, inr (none.0, same.2 ∙ none.1))
 
-known_in : (old : ServingValue) (link : LinkValue) (bytes : List ℕ) (r : Result Got LinkFault) → Receives old.port.link link bytes r → IsStill old (received old link) → IsKnown old → IsKnown (received old link)
+known_in : (old : ServingValue) (link : LinkValue) (bytes : List ℕ) (r : Result Got LinkFault) → Receives old.port.link link bytes r → IsStill old (with_port old (with_link old.port link)) → IsKnown old → IsKnown (with_port old (with_link old.port link))
 known_in old link bytes r h still k = known_by old link (comes_by old.port.link.failed old.port.link link bytes r refl h) still k
 
 posted_known : (v new : ServingValue) (n : ℕ) → PostedAll v new n → IsKnown v → IsKnown new
@@ -94,8 +96,8 @@ posted_known v new n p (past, h, inr none) =
 
 served_known : (v new : ServingValue) (n : ℕ) → ServedOne v new n → IsKnown v → IsKnown new
 served_known v new n s (past, h, inl came) =
-    (served past s.bytes s.item s.next, s.past past h, inl (subst (λ (p : PortValue). HasCome p) (sym s.port) came))
-served_known v new n s (past, h, inr none) = absurd (no_next s.bytes s.later (sym none.1 ∙ s.came))
+    (served past s.one.bytes s.one.item s.one.next, s.past past h, inl (subst (λ (p : PortValue). HasCome p) (sym s.port) came))
+served_known v new n s (past, h, inr none) = absurd (no_next s.one.bytes s.one.later (sym none.1 ∙ s.one.came))
 
 on_known : (a b : ServingValue) → ServedOn a b → IsKnown a → IsKnown b
 on_known a b begins k = k
@@ -104,35 +106,37 @@ on_known a b (goes p m count n x y on) k = on_known m b on (served_known p m n y
 up_known : (a b : ServingValue) → ServedUp a b → IsKnown a → IsKnown b
 up_known a b u k = posted_known u.0 b u.1 u.3 (on_known a u.0 u.2 k)
 
-fault_known : (a b : ServingValue) (f : LinkFault) → ServeFault a b f → IsKnown a → IsKnown b
-fault_known a b f (inl h) k = on_known a b h.0 k
-fault_known a b f (inr h) k = up_known a b h.1 k
+fault_known : (a b : ServingValue) (f : EndFault) → ServeFault a b f → IsKnown a → IsKnown b
+fault_known a b (end_fault.Link f) (inl h) k = on_known a b h.0 k
+fault_known a b (end_fault.Link f) (inr h) k = up_known a b h.1 k
+fault_known a b (end_fault.Read f) h k = absurd h
 
-wrote_known : (served new : ServingValue) (n : ℕ) → IsStill served new → new.port ≡ sent_more served.port n → IsKnown served → IsKnown new
-wrote_known served new n still sent (past, h, inl came) = (past, still past h, inl (subst (λ (p : PortValue). HasCome p) (sym sent) came))
-wrote_known served new n still sent (past, h, inr none) = (past, still past h, inr (none.0, ap (λ (p : PortValue). p.link.inbox) sent ∙ none.1))
-
-went_known : (old new : ServingValue) (out all : List (List ℕ)) → WentOn old new out all → IsKnown old → IsKnown new
-went_known old new out all w k = wrote_known w.served new _ w.still w.wrote.2.sent (up_known old w.served w.more k)
+wrote_known : (old new : ServingValue) (wrote : PortValue → PortValue → Type 0) → (w : WroteThen serves wrote old new) → (n : ℕ) → new.port ≡ sent_more w.mid.port n → IsKnown old → IsKnown new
+wrote_known old new wrote w n sent k =
+    let (past, h, did) = up_known old w.mid w.done.0 k in (
+      past,
+      w.still past h,
+      elim did [
+        | inl came ↦ inl (subst (λ (p : PortValue). HasCome p) (sym sent) came)
+        | inr none ↦ inr (none.0, ap (λ (p : PortValue). p.link.inbox) sent ∙ none.1)
+      ],
+    )
 
 pub going_known : (old new : ServingValue) (out all : List (List ℕ)) (r : Result (Unit {0}) LinkFault) → GoesOn old new out all r → IsKnown old → IsKnown new
-going_known old new out all (Ok u) h k = went_known old new out all h.0 k
-going_known old new out all (Err f) (inl h) k = fault_known old new f h.0 k
-going_known old new out all (Err f) (inr h) k = went_known old new out all h.1 k
+going_known old new out all (Ok u) h k = wrote_known old new _ h.0 _ h.0.wrote.0.2.sent k
+going_known old new out all (Err f) (inl h) k = fault_known old new (end_fault.Link f) h.0 k
+going_known old new out all (Err f) (inr h) k = wrote_known old new _ h.1 _ h.1.wrote.0.2.sent k
 
-part_known : (mid new : ServingValue) (got : Got) (out all : List (List ℕ)) (f : LinkFault) → (ServeFault mid new f × (all ≡ out)) ⊎ WrotePart mid new got out all f → IsKnown mid → IsKnown new
-part_known mid new got out all f (inl h) k = fault_known mid new f h.0 k
-part_known mid new got out all f (inr h) k = wrote_known h.served new _ h.still h.part.wrote.sent (up_known mid h.served h.more k)
+in_known : (old new : ServingValue) (bytes : List ℕ) (r : Result Got LinkFault) → TookIn serves old new bytes r → IsKnown old → IsKnown new
+in_known old new bytes r t k =
+    let still : IsStill old (with_port old (with_link old.port new.port.link)) = subst (IsStill old) t.rest t.still in
+    subst IsKnown (sym t.rest) (known_in old new.port.link bytes r t.receives still k)
 
-pub taking_known : (old new : ServingValue) (bytes : List ℕ) (out all : List (List ℕ)) (r : Result Got TakeFault) → Takes old new bytes out all r → IsKnown old → IsKnown new
-taking_known old new bytes out all (Ok got) t k =
-    wrote_known t.served new _ t.still t.answered.2.wrote.sent (up_known (received old t.link) t.served t.more (known_in old t.link bytes (Ok got) t.took.receives t.took.still k))
-taking_known old new bytes out all (Err (take_fault.Refused f)) t k =
-    let still : IsStill old (received old t.link) = subst (IsStill old) t.new_is t.still in
-    subst IsKnown (sym t.new_is) (known_in old t.link bytes (Err f) t.receives still k)
-taking_known old new bytes out all (Err (take_fault.Unfinished got (end_fault.Link f))) t k =
-    part_known (received old t.link) new got out all f t.part (known_in old t.link bytes (Ok got) t.took.receives t.took.still k)
-taking_known old new bytes out all (Err (take_fault.Unfinished got (end_fault.Read f))) t k = absurd t
+pub taking_known : (old new : ServingValue) (bytes : List ℕ) (out all : List (List ℕ)) (r : Result Got TakeFault) → Takes serves old new bytes out all r → IsKnown old → IsKnown new
+taking_known old new bytes out all (Ok got) t k = wrote_known t.0 new _ t.2 _ t.2.wrote.2.wrote.sent (in_known old t.0 bytes (Ok got) t.1 k)
+taking_known old new bytes out all (Err (take_fault.Refused f)) t k = in_known old new bytes (Err f) t.0 k
+taking_known old new bytes out all (Err (take_fault.Unfinished got f)) (mid, t, inl h) k = fault_known mid new f h.0 (in_known old mid bytes (Ok got) t k)
+taking_known old new bytes out all (Err (take_fault.Unfinished got f)) (mid, t, inr h) k = wrote_known mid new _ h.1 _ h.1.wrote.wrote.sent (in_known old mid bytes (Ok got) t k)
 
 pub new_known : (first : _) (v : ServingValue) → IsAfter (nothing_yet first) v → v.port.link.inbox ≡ [] → IsKnown v
 new_known first v h none = (nothing_yet first, h, inr (refl, none))

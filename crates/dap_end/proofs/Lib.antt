@@ -13,6 +13,8 @@ pub mod Running
 pub mod Asked
 pub mod Hearing
 pub mod Refusing
+pub mod Writing
+pub mod Turning
 pub mod Determined
 pub mod Alike
 pub mod Known

@@ -5,16 +5,18 @@ use Rattle.std.proofs.lemmas.Bool.{cases_eq, ne_eqb}
 use Rattle.std.proofs.lemmas.List.{append-nil}
 use Rattle.std.proofs.lemmas.List.Elements.{All-append}
 use Rattle.dap_msg.specs.Items.{Item, IsPlace}
-use Rattle.nsp_link.specs.declared.link.Got.{Got}
 use Rattle.nsp_link.specs.declared.fault.LinkFault.{LinkFault}
 use Rattle.nsp_link.specs.declared.fault.LinkFault.TheVariants as fault
-use Rattle.nsp_link.specs.Link.{LinkValue, MaySend}
+use Rattle.nsp_link.specs.Link.{LinkValue, Stands, MaySend}
 use Rattle.nsp_link.specs.Sending.{AreShort}
+use Rattle.dap_end.specs.declared.fault.EndFault.{EndFault}
+use Rattle.dap_end.specs.declared.fault.EndFault.TheVariants as end_fault
 use Rattle.dap_end.specs.Ports.{PortValue, posted}
 use Rattle.dap_end.specs.Serving.{ServingValue, Past, IsAfter, ServedOne, PostedAll, MayServe, IsStill, served}
-use Rattle.dap_end.specs.Writing.{sent_more, IsFull, WroteAll, AnsweredAll, AnsweredPart}
-use Rattle.dap_end.specs.Taking.{SameCounts, Grew, ServedMore, ServedOn, begins, goes, ServedUp, IsServed, ServeFault, GoOnFault, WentOn, IsDone, with_port, received, TookIn, TookAll, TookPart}
-use Rattle.dap_end.specs.Inner.Answered.{ServedAndAnswered, ServedPart}
+use Rattle.dap_end.specs.Writing.{sent_more, IsFull, WroteAll}
+use Rattle.dap_end.specs.Taking.{SameCounts, Grew, ServedMore, ServedOn, begins, goes, ServedUp, IsServed, ServeFault, serves, GoesOn, with_port}
+use Rattle.dap_end.proofs.ServingOne.{port_given}
+use Rattle.dap_end.proofs.Turning.{went_by}
 
 -- ---- Serving and handing over.
 
@@ -81,20 +83,21 @@ split_given given inbox later bytes next came =
 
 pub more_served : (old new : ServingValue) (n : ℕ) → ServedOne old new n → ServedMore old new
 more_served old new n s =
-    let link : new.port.link ≡ record old.port.link { inbox = if s.next == length s.bytes then s.later else old.port.link.inbox } = ap (λ (p : PortValue). p.link) s.port in
+    let link : new.port.link ≡ record old.port.link { inbox = if s.one.next == length s.one.bytes then s.one.later else old.port.link.inbox } = ap (λ (p : PortValue). p.link) s.port in
     record {
       link = subst (SameCounts old.port.link) (sym link) refl;
       own = s.own;
       past = λ past h. (
-        served past s.bytes s.item s.next,
+        served past s.one.bytes s.one.item s.one.next,
         record {
           is = s.past past h;
           first = refl;
-          items = (s.item ∷ [], refl);
+          items = (s.one.item ∷ [], refl);
           handed = ([], sym (append-nil past.handed), none_short old.port.link);
-          given = subst (λ (l : LinkValue). (served past s.bytes s.item s.next).given ++ l.inbox ≡ past.given ++ old.port.link.inbox) (sym link)
-              (split_given past.given old.port.link.inbox s.later s.bytes s.next s.came);
-          stands = λ size messages t. s.given size messages past t;
+          given = subst (λ (l : LinkValue). (served past s.one.bytes s.one.item s.one.next).given ++ l.inbox ≡ past.given ++ old.port.link.inbox) (sym link)
+              (split_given past.given old.port.link.inbox s.one.later s.one.bytes s.one.next s.one.came);
+          stands = λ size messages t. subst (λ (l : LinkValue). Stands l size messages (served past s.one.bytes s.one.item s.one.next).given) (sym link)
+              (port_given old.port s.one.bytes s.one.later s.one.next size messages past.given s.one.came t);
         },
       );
     }
@@ -112,9 +115,10 @@ on_grew a b (goes posted mid count n p s on) = more_trans a mid b (more_trans a 
 pub up_grew : (a b : ServingValue) → ServedUp a b → ServedMore a b
 up_grew a b u = more_trans a u.0 b (on_grew a u.0 u.2) (more_posted u.0 b u.1 u.3)
 
-pub fault_grew : (a b : ServingValue) (f : LinkFault) → ServeFault a b f → ServedMore a b
-fault_grew a b f (inl h) = on_grew a b h.0
-fault_grew a b f (inr h) = up_grew a b h.1
+pub fault_grew : (a b : ServingValue) (f : EndFault) → ServeFault a b f → ServedMore a b
+fault_grew a b (end_fault.Link f) (inl h) = on_grew a b h.0
+fault_grew a b (end_fault.Link f) (inr h) = up_grew a b h.1
+fault_grew a b (end_fault.Read f) h = absurd h
 
 no_more : (v : ServingValue) (inbox : List (List ℕ)) → v.port.link.inbox ≡ inbox → v.port.outbox ≡ [] → (MayServe v → ⊥) → inbox ≡ []
 no_more v [] is idle none = refl
@@ -158,7 +162,7 @@ less_left inbox later bytes place next came at onward within =
 pub falls : (old new : ServingValue) (n : ℕ) → ServedOne old new n → left new < left old
 falls old new n s =
     subst (λ (p : PortValue). work p.link.inbox - p.place < left old) (sym s.port)
-    (less_left old.port.link.inbox s.later s.bytes old.port.place s.next s.came s.place s.goes s.within)
+    (less_left old.port.link.inbox s.one.later s.one.bytes old.port.place s.one.next s.one.came s.one.place s.one.goes s.one.within)
 
 -- ---- Writing.
 
@@ -168,49 +172,12 @@ still_sent v n = λ past h. record { serving = h.serving; gone = h.gone; sends =
 pub still_by : (v : ServingValue) (port : PortValue) (n : ℕ) → port ≡ sent_more v.port n → IsStill v (with_port v port)
 still_by v port n e = subst (λ (p : PortValue). IsStill v (with_port v p)) (sym e) (still_sent v n)
 
--- all was served, and then segments were written
-pub went_on : (old served : ServingValue) (port : PortValue) (out all : List (List ℕ)) → ServedUp old served → IsServed served → WroteAll served.port port out all → WentOn old (with_port served port) out all
-went_on old served port out all m d w =
-    record { served = served; more = m; done = d; rest = refl; still = still_by served port _ w.2.sent; wrote = w }
-
-pub served_still : (v : ServingValue) (port : PortValue) (n : ℕ) → port ≡ sent_more v.port n → IsServed v → IsServed (with_port v port)
+served_still : (v : ServingValue) (port : PortValue) (n : ℕ) → port ≡ sent_more v.port n → IsServed v → IsServed (with_port v port)
 served_still v port n e h = (ap (λ (p : PortValue). p.link.inbox) e ∙ h.0, ap (λ (p : PortValue). p.outbox) e ∙ h.1)
 
-pub done_by : (served : ServingValue) (port : PortValue) (out all : List (List ℕ)) (r : Result (Unit {0}) LinkFault) → IsServed served → WroteAll served.port port out all → OnOk r (IsFull port.link) → OnOk r (IsDone (with_port served port))
-done_by served port out all (Ok u) d w h = (served_still served port _ w.2.sent d, h)
-done_by served port out all (Err f) d w h = tt
-
-pub went_by : (old served : ServingValue) (port : PortValue) (out all : List (List ℕ)) (r : Result (Unit {0}) LinkFault) → ServedUp old served → IsServed served → WroteAll served.port port out all
-    → IfErr r (λ f. (f ≡ fault.NoMemory) × MaySend port.link) → IfErr r (λ f. GoOnFault old (with_port served port) out all f)
-went_by old served port out all (Ok u) m d w h = tt
-went_by old served port out all (Err f) m d w h = inr (h.0, went_on old served port out all m d w, h.1)
-
-pub answered_by : (old served : ServingValue) (port : PortValue) (got : Got) (out all : List (List ℕ)) (r : Result (Unit {0}) LinkFault) → ServedUp old served → IsServed served → OnOk r (AnsweredAll served.port port got out all)
-    → OnOk r (ServedAndAnswered old (with_port served port) got out all)
-answered_by old served port got out all (Ok u) m d h =
-    record { served = served; more = m; done = d; rest = refl; still = still_by served port _ h.2.wrote.sent; answered = h }
-answered_by old served port got out all (Err f) m d h = tt
-
-pub part_by : (old served : ServingValue) (port : PortValue) (got : Got) (out all : List (List ℕ)) (r : Result (Unit {0}) LinkFault) → ServedUp old served → IsServed served → IfErr r (λ f. AnsweredPart served.port port got out all f)
-    → IfErr r (λ f. ServedPart old (with_port served port) got out all f)
-part_by old served port got out all (Ok u) m d h = tt
-part_by old served port got out all (Err f) m d h = inr (record { served = served; more = m; done = d; rest = refl; still = still_by served port _ h.wrote.sent; part = h })
-
--- ---- Taking.
-
-pub took_all : (old mid new : ServingValue) (bytes : List ℕ) (got : Got) (out all : List (List ℕ)) → mid ≡ received old mid.port.link → TookIn old bytes got mid.port.link → ServedAndAnswered mid new got out all → TookAll old new bytes got out all
-took_all old mid new bytes got out all rest took h =
-    record {
-      link = mid.port.link;
-      took = took;
-      served = h.served;
-      more = subst (λ (v : ServingValue). ServedUp v h.served) rest h.more;
-      done = h.done;
-      rest = h.rest;
-      still = h.still;
-      answered = h.answered;
-    }
-
-pub took_part : (old mid new : ServingValue) (bytes : List ℕ) (got : Got) (out all : List (List ℕ)) (f : LinkFault) → mid ≡ received old mid.port.link → TookIn old bytes got mid.port.link → ServedPart mid new got out all f → TookPart old new bytes got out all f
-took_part old mid new bytes got out all f rest took h =
-    record { link = mid.port.link; took = took; part = subst (λ (v : ServingValue). ServedPart v new got out all f) rest h }
+-- all was served, and then segments were written
+pub gone_by : (old served : ServingValue) (port : PortValue) (out all : List (List ℕ)) (r : Result (Unit {0}) LinkFault) → ServedUp old served → IsServed served → WroteAll served.port port out all → OnOk r (IsFull port.link)
+    → IfErr r (λ f. (f ≡ fault.NoMemory) × MaySend port.link) → GoesOn old (with_port served port) out all r
+gone_by old served port out all (Ok u) m d w full why =
+    (went_by serves old served (with_port served port) out all (Ok u) (m, d) refl (still_by served port) w full why, served_still served port _ w.2.sent d)
+gone_by old served port out all (Err f) m d w full why = went_by serves old served (with_port served port) out all (Err f) (m, d) refl (still_by served port) w full why

@@ -1,6 +1,6 @@
 -- What a list of a serving end's calls leaves.
 use Rattle.std.proofs.Common.{◌≡◌, ℕ, ◌+◌, ◌<◌, refl, sym, ◌∙◌, subst, ap, append_assoc, true, false, List, [], ◌∷◌, ◌++◌, length, inl, inr, arith}
-use Rattle.std.specs.Prelude.{◌⊎◌, Bool, ◌-◌, Option, Some, None, Result, Ok, Err}
+use Rattle.std.specs.Prelude.{Bool, ◌-◌, Option, Some, None, Result, Ok, Err}
 use Rattle.std.proofs.lemmas.List.{append-nil, map-append}
 use Rattle.dap_msg.specs.Items.{Item}
 use Rattle.dap_msg.specs.Message.{Message}
@@ -14,13 +14,15 @@ use Rattle.dap_accessed.specs.Standing.{Files}
 use Rattle.dap_accessed.specs.Present.{Present}
 use Rattle.dap_accessed.specs.Groups.{Answers, added, limit_for}
 use Rattle.dap_accessed.proofs.ForCallers.{Answers-more}
+use Rattle.dap_end.specs.declared.fault.EndFault.{EndFault}
 use Rattle.dap_end.specs.Ports.{PortValue}
 use Rattle.nsp_link.specs.Receiving.{Receives}
 use Rattle.dap_end.specs.Going.{AreFrontOf}
-use Rattle.dap_end.specs.Writing.{IsWithin, sent_more, wants_ack, WroteNext, WroteMore}
+use Rattle.dap_end.specs.Writing.{IsWithin, sent_more, wants_ack, WroteNext, WroteMore, WroteAll}
 use Rattle.dap_end.specs.Serving.{ServingValue, Past, IsAfter, answers_to, nothing_yet, ServedOne, PostedAll}
-use Rattle.dap_end.specs.Taking.{ServedMore, with_port, received, WentOn, GoOnFault, TookAll, TookPart, WrotePart, ServeFault, Refused}
-use Rattle.dap_end.specs.Headline.{Written, numbered, bytes_of, WroteOne, ServingEvent, Came, GoesOn, Again, Acks, Stepped, Runs, AreWrittenOf, Promises, IsFromPeer, IsEventOf, RunsFrom, AreCalls}
+use Rattle.dap_end.specs.Turns.{WroteThen, WentOn, TookIn, TookThen}
+use Rattle.dap_end.specs.Taking.{ServedMore, with_port, ServeFault, serves}
+use Rattle.dap_end.specs.Headline.{Written, numbered, bytes_of, WroteOne, EndEvent, Came, GoesOn, Again, Acks, Stepped, Runs, AreWrittenOf, Promises, IsFromPeer, IfCame, RunsFrom, AreCalls}
 use Rattle.dap_end.proofs.Taking.{grown}
 use Rattle.dap_end.proofs.Afterwards.{after_received}
 use Rattle.dap_end.proofs.Fronts.{served_front}
@@ -102,7 +104,7 @@ went old served new packets first wrote ws m w e is d =
       packets = went_written old.port.link served.port.link new.port.link d.past.handed more.1.handed.0 now.handed wrote ws m.link more.1.handed.1 (sent_link served.port new.port (length packets) w.sent) d.packets after;
     }
 
-pub step : (old new : ServingValue) (event : ServingEvent) (first : Files) (wrote ws : List Written) → Stepped old event new ws → Did first old wrote → Did first new (wrote ++ ws)
+pub step : (old new : ServingValue) (event : EndEvent) (first : Files) (wrote ws : List Written) → Stepped old event new ws → Did first old wrote → Did first new (wrote ++ ws)
 step old new (Came bytes) first wrote ws t d =
     let g = grown old.port.link t.1 bytes t.0 t.2 in
     no_more first new wrote ws t.4
@@ -112,7 +114,7 @@ step old new GoesOn first wrote ws t d = went old t.0 new t.1 first wrote ws t.2
 step old new (Again i) first wrote ws t d = one_more first old new wrote ws _ t.0 t.2 t.3 t.4 d
 step old new Acks first wrote ws t d = one_more first old new wrote ws _ t.0 t.1 t.2 t.3 d
 
-pub run : (events : List ServingEvent) (old new : ServingValue) (first : Files) (wrote ws : List Written) → Runs old events new ws → Did first old wrote → Did first new (wrote ++ ws)
+pub run : (events : List EndEvent) (old new : ServingValue) (first : Files) (wrote ws : List Written) → Runs old events new ws → Did first old wrote → Did first new (wrote ++ ws)
 run [] old new first wrote ws r d = no_more first new wrote ws r.1 (subst (λ (v : ServingValue). Did first v wrote) (sym r.0) d)
 run (event ∷ events) old new first wrote ws r d =
     subst (Did first new) (append_assoc wrote r.1 r.2 ∙ ap (λ (l : List Written). wrote ++ l) (sym r.3))
@@ -172,7 +174,7 @@ went_hears old served new sent size messages first m e h =
       works = works;
     })
 
-step_hears : (old new : ServingValue) (event : ServingEvent) (ws : List Written) (size : ℕ) (messages : List (List ℕ)) (first : Files) → IsEventOf old.port.link size messages event → Stepped old event new ws → Hears size messages first old
+step_hears : (old new : ServingValue) (event : EndEvent) (ws : List Written) (size : ℕ) (messages : List (List ℕ)) (first : Files) → IfCame event (IsFromPeer old.port.link size messages) → Stepped old event new ws → Hears size messages first old
     → Hears size messages first new
 step_hears old new (Came bytes) ws size messages first f t h =
     let g = grown old.port.link t.1 bytes t.0 t.2 in
@@ -183,11 +185,11 @@ step_hears old new GoesOn ws size messages first f t h = went_hears old t.0 new 
 step_hears old new (Again i) ws size messages first f t h = subst (Hears size messages first) (sym t.3) h
 step_hears old new Acks ws size messages first f t h = subst (Hears size messages first) (sym t.2) h
 
-run_hears : (events : List ServingEvent) (old new : ServingValue) (size : ℕ) (messages : List (List ℕ)) (first : Files) → RunsFrom size messages old events new → Hears size messages first old → Hears size messages first new
+run_hears : (events : List EndEvent) (old new : ServingValue) (size : ℕ) (messages : List (List ℕ)) (first : Files) → RunsFrom size messages old events new → Hears size messages first old → Hears size messages first new
 run_hears [] old new size messages first r h = subst (Hears size messages first) (sym r) h
 run_hears (event ∷ events) old new size messages first r h = run_hears events r.0 new size messages first r.4 (step_hears old r.0 event r.1 size messages first r.2 r.3 h)
 
-pub run_from : (events : List ServingEvent) (old new : ServingValue) (size : ℕ) (messages : List (List ℕ)) (past : Past) → IsAfter past old → Stands old.port.link size messages past.given → old.port.link.failed ≡ false
+pub run_from : (events : List EndEvent) (old new : ServingValue) (size : ℕ) (messages : List (List ℕ)) (past : Past) → IsAfter past old → Stands old.port.link size messages past.given → old.port.link.failed ≡ false
     → RunsFrom size messages old events new → (now : Past) × IsAfter now new × (now.first ≡ past.first) × AreFrontOf messages now.items
 run_from events old new size messages past is stands works r =
     let h = run_hears events old new size messages past.first r (record { past = past; is = is; had = refl; stands = stands; works = works }) in
@@ -195,7 +197,7 @@ run_from events old new size messages past is stands works r =
 
 -- ---- Calls are runs.
 
-one_event : (old new : ServingValue) (event : ServingEvent) (ws : List Written) → Stepped old event new ws → Runs old (event ∷ []) new ws
+one_event : (old new : ServingValue) (event : EndEvent) (ws : List Written) → Stepped old event new ws → Runs old (event ∷ []) new ws
 one_event old new event ws s = (new, ws, [], sym (append-nil ws), s, (refl, refl))
 
 -- served and handed over, and nothing written
@@ -221,10 +223,10 @@ writing_is old new bytes rest w = one_event old new GoesOn _ (old, bytes ∷ [],
 
 pub again_is : (v : ServingValue) (i : ℕ) (bytes : List ℕ) → i < v.port.link.sent - v.port.link.acked → WritesSent v.port.link (Some (v.port.link.acked + 1 + i)) bytes
     → Runs v (Again i ∷ []) v (record { bytes = bytes; segment = Some (v.port.link.acked + 1 + i); acks = v.port.link.received } ∷ [])
-again_is v i bytes lt w = one_event v v (Again i) _ (record { bytes = bytes; segment = Some (v.port.link.acked + 1 + i); acks = v.port.link.received }, lt, (refl, refl, w), refl, refl)
+again_is v i bytes lt w = one_event v v (Again i) _ (record { bytes = bytes; segment = Some (v.port.link.acked + 1 + i); acks = v.port.link.received }, lt, (refl, refl, w), refl, refl, tt)
 
 pub ack_is : (v : ServingValue) (bytes : List ℕ) → IsSpelling (ack_packet_of v.port.link) bytes → Runs v (Acks ∷ []) v (record { bytes = bytes; segment = None; acks = v.port.link.received } ∷ [])
-ack_is v bytes s = one_event v v Acks _ (record { bytes = bytes; segment = None; acks = v.port.link.received }, (refl, refl, ack_written v.port.link bytes s), refl, refl)
+ack_is v bytes s = one_event v v Acks _ (record { bytes = bytes; segment = None; acks = v.port.link.received }, (refl, refl, ack_written v.port.link bytes s), refl, refl, tt)
 
 pub numbered_bytes : (k a : ℕ) (packets : List (List ℕ)) → bytes_of (numbered k a packets) ≡ packets
 numbered_bytes k a [] = refl
@@ -234,14 +236,14 @@ numbered_bytes k a (p ∷ packets) = ap (λ (l : List (List ℕ)). p ∷ l) (num
 behind : (out all packets : List (List ℕ)) (k a : ℕ) → all ≡ out ++ packets → all ≡ out ++ bytes_of (numbered k a packets)
 behind out all packets k a e = e ∙ ap (λ (l : List (List ℕ)). out ++ l) (sym (numbered_bytes k a packets))
 
-pub going_is : (old new : ServingValue) (out all : List (List ℕ)) → WentOn old new out all → AreCalls old (GoesOn ∷ []) new out all
+pub going_is : (old new : ServingValue) (out all : List (List ℕ)) → WroteThen serves (λ p q. WroteAll p q out all) old new → AreCalls old (GoesOn ∷ []) new out all
 going_is old new out all w =
-    (_, one_event old new GoesOn _ (w.served, w.wrote.0, up_grew old w.served w.more, w.wrote.2, w.rest, refl), behind out all w.wrote.0 _ _ w.wrote.1)
+    (_, one_event old new GoesOn _ (w.mid, w.wrote.0, up_grew old w.mid w.done.0, w.wrote.2, w.rest, refl), behind out all w.wrote.0 _ _ w.wrote.1)
 
-came : (old : ServingValue) (link : LinkValue) (bytes : List ℕ) (r : Result Got LinkFault) → Receives old.port.link link bytes r → Stepped old (Came bytes) (received old link) []
-came old link bytes r h = (r, link, h, refl, refl)
+came : (old new : ServingValue) (bytes : List ℕ) (r : Result Got LinkFault) → TookIn serves old new bytes r → Stepped old (Came bytes) new []
+came old new bytes r t = (r, new.port.link, t.receives, t.rest, refl, tt)
 
-took_by : (old mid new : ServingValue) (bytes : List ℕ) (events : List ServingEvent) (out all : List (List ℕ)) → Stepped old (Came bytes) mid [] → AreCalls mid events new out all → AreCalls old (Came bytes ∷ events) new out all
+took_by : (old mid new : ServingValue) (bytes : List ℕ) (events : List EndEvent) (out all : List (List ℕ)) → Stepped old (Came bytes) mid [] → AreCalls mid events new out all → AreCalls old (Came bytes ∷ events) new out all
 took_by old mid new bytes events out all s c = (c.0, (mid, [], c.0, refl, s, c.1), c.2)
 
 bytes_append : (xs ys : List Written) → bytes_of (xs ++ ys) ≡ bytes_of xs ++ bytes_of ys
@@ -251,7 +253,7 @@ bytes_append xs ys = map-append (λ (w : Written). w.bytes) xs ys
 answered_is : (old served new : ServingValue) (got : Got) (out all packets written : List (List ℕ)) (wants : Bool) → ServedMore old served → new ≡ with_port served new.port → WroteMore served.port new.port written → all ≡ out ++ packets
     → wants_ack got (length written) ≡ wants → (wants_ack got (length written) ≡ false → packets ≡ written)
     → (wants_ack got (length written) ≡ true → (bytes : List ℕ) × (packets ≡ written ++ bytes ∷ []) × IsSpelling (ack_packet_of new.port.link) bytes)
-    → (events : List ServingEvent) × AreCalls old events new out all
+    → (events : List EndEvent) × AreCalls old events new out all
 answered_is old served new got out all packets written false m rest w is e quiet acks = (
   GoesOn ∷ [],
   (_, one_event old new GoesOn _ (served, written, m, w, rest, refl), behind out all written _ _ (is ∙ ap (λ (l : List (List ℕ)). out ++ l) (quiet e))),
@@ -268,28 +270,26 @@ answered_is old served new got out all packets written true m rest w is e quiet 
       ),
     )
 
-pub taking_is : (old new : ServingValue) (bytes : List ℕ) (got : Got) (out all : List (List ℕ)) → TookAll old new bytes got out all → (events : List ServingEvent) × AreCalls old (Came bytes ∷ events) new out all
-taking_is old new bytes got out all t =
-    let a = t.answered in
-    let r = answered_is (received old t.link) t.served new got out all a.0 a.2.written (wants_ack got (length a.2.written)) (up_grew (received old t.link) t.served t.more) t.rest a.2.wrote a.1 refl a.2.quiet a.2.acks in
-    (r.0, took_by old (received old t.link) new bytes r.0 out all (came old t.link bytes (Ok got) t.took.receives) r.1)
+pub taking_is : (old new : ServingValue) (bytes : List ℕ) (got : Got) (out all : List (List ℕ)) → TookThen serves old new bytes got out all (Ok tt) → (events : List EndEvent) × AreCalls old (Came bytes ∷ events) new out all
+taking_is old new bytes got out all (mid, t, w) =
+    let a = w.wrote in
+    let r = answered_is mid w.mid new got out all a.0 a.2.written (wants_ack got (length a.2.written)) (up_grew mid w.mid w.done.0) w.rest a.2.wrote a.1 refl a.2.quiet a.2.acks in
+    (r.0, took_by old mid new bytes r.0 out all (came old mid bytes (Ok got) t) r.1)
 
-part_of : (old new : ServingValue) (got : Got) (out all : List (List ℕ)) (f : LinkFault) → WrotePart old new got out all f → AreCalls old (GoesOn ∷ []) new out all
-part_of old new got out all f p =
-    (_, one_event old new GoesOn _ (p.served, p.part.packets, up_grew old p.served p.more, p.part.wrote, p.rest, refl), behind out all p.part.packets _ _ p.part.behind)
+stopped_is : (old new : ServingValue) (out all : List (List ℕ)) (f : EndFault) → ServeFault old new f → all ≡ out → AreCalls old (GoesOn ∷ []) new out all
+stopped_is old new out all f h same = ([], one_event old new GoesOn [] (served_only old new (fault_grew old new f h)), same ∙ sym (append-nil out))
 
-part_by : (old new : ServingValue) (got : Got) (out all : List (List ℕ)) (f : LinkFault) → (ServeFault old new f × (all ≡ out)) ⊎ WrotePart old new got out all f → AreCalls old (GoesOn ∷ []) new out all
-part_by old new got out all f (inl h) = ([], one_event old new GoesOn [] (served_only old new (fault_grew old new f h.0)), h.1 ∙ sym (append-nil out))
-part_by old new got out all f (inr h) = part_of old new got out all f h
+pub halting_is : (old new : ServingValue) (out all : List (List ℕ)) (f : EndFault) → WentOn serves old new out all (Err f) → AreCalls old (GoesOn ∷ []) new out all
+halting_is old new out all f (inl h) = stopped_is old new out all f h.0 h.1
+halting_is old new out all f (inr h) = let w = h.1 in going_is old new out all (record { mid = w.mid; done = w.done; rest = w.rest; still = w.still; wrote = w.wrote.0 })
 
-pub halting_is : (old new : ServingValue) (out all : List (List ℕ)) (f : LinkFault) → GoOnFault old new out all f → AreCalls old (GoesOn ∷ []) new out all
-halting_is old new out all f (inl h) = ([], one_event old new GoesOn [] (served_only old new (fault_grew old new f h.0)), h.1 ∙ sym (append-nil out))
-halting_is old new out all f (inr h) = going_is old new out all h.1
+pub part_is : (old new : ServingValue) (bytes : List ℕ) (got : Got) (out all : List (List ℕ)) (f : EndFault) → TookThen serves old new bytes got out all (Err f) → AreCalls old (Came bytes ∷ GoesOn ∷ []) new out all
+part_is old new bytes got out all f (mid, t, inl h) =
+    took_by old mid new bytes (GoesOn ∷ []) out all (came old mid bytes (Ok got) t) (stopped_is mid new out all f h.0 h.1)
+part_is old new bytes got out all f (mid, t, inr h) =
+    let w = h.1 in
+    took_by old mid new bytes (GoesOn ∷ []) out all (came old mid bytes (Ok got) t)
+    (going_is mid new out all (record { mid = w.mid; done = w.done; rest = w.rest; still = w.still; wrote = (w.wrote.packets, w.wrote.behind, w.wrote.wrote) }))
 
-pub part_is : (old new : ServingValue) (bytes : List ℕ) (got : Got) (out all : List (List ℕ)) (f : LinkFault) → TookPart old new bytes got out all f → AreCalls old (Came bytes ∷ GoesOn ∷ []) new out all
-part_is old new bytes got out all f t =
-    took_by old (received old t.link) new bytes (GoesOn ∷ []) out all (came old t.link bytes (Ok got) t.took.receives) (part_by (received old t.link) new got out all f t.part)
-
-pub refusing_is : (old new : ServingValue) (bytes : List ℕ) (out all : List (List ℕ)) (f : LinkFault) → Refused old new bytes out all f → AreCalls old (Came bytes ∷ []) new out all
-refusing_is old new bytes out all f r =
-    ([], one_event old new (Came bytes) [] (Err f, r.link, r.receives, r.new_is, refl), r.none ∙ sym (append-nil out))
+pub refusing_is : (old new : ServingValue) (bytes : List ℕ) (f : LinkFault) → TookIn serves old new bytes (Err f) → Runs old (Came bytes ∷ []) new []
+refusing_is old new bytes f t = one_event old new (Came bytes) [] (came old new bytes (Err f) t)

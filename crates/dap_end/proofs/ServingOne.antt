@@ -114,21 +114,11 @@ module _ (old : ServingValue) (bytes : List ℕ) (later : List (List ℕ)) (inbo
       let le : s.next ≤ length bytes = omega arith in
       record {
         idle = idle;
-        bytes = bytes;
-        later = later;
-        came = inbox;
-        fits = fits;
-        item = serves.item;
-        next = s.next;
-        reads = serves.reads;
-        place = place;
-        goes = λ lt. (let h = goes lt in omega arith);
-        within = le;
+        one = record { bytes = bytes; later = later; came = inbox; fits = fits; item = serves.item; next = s.next; reads = serves.reads; place = place; goes = λ lt. (let h = goes lt in omega arith); within = le };
         port = to ∙ ap (λ (l : List (List ℕ)). record (gone_on old.port bytes later s.next) { outbox = l }) (sym (ap (λ (p : PortValue). p.outbox) to));
         own = serves.same_own;
         count = count ∙ ap length (sym (ap (λ (p : PortValue). p.outbox) to));
         past = λ past h. subst (λ (p : PortValue). IsAfter (served past bytes serves.item s.next) (serving_of p after)) (sym to) (past_one after s serves idle le past h);
-        given = λ size messages past h. subst (λ (p : PortValue). Stands p.link size messages (served past bytes serves.item s.next).given) (sym to) (port_given old.port bytes later s.next size messages past.given inbox h);
       }
 
 pub place_there : (p : PortValue) (bytes : List ℕ) (later : List (List ℕ)) → p.link.inbox ≡ bytes ∷ later → IsPort p → IsPlace p.place bytes

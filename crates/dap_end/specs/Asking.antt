@@ -1,14 +1,10 @@
 -- The end that asks, before any peer.
-use Rattle.std.specs.Prelude.{◌≡◌, ◌≢◌, ◌⊎◌, ℕ, ◌<◌, ◌≤◌, Result, Ok, Err, List, [], ◌∷◌, ◌++◌, length, true, false, Option, Some, None, option_to_list}
+use Rattle.std.specs.Prelude.{◌≡◌, ◌≢◌, ◌⊎◌, ℕ, ◌<◌, Result, Ok, Err, List, [], ◌∷◌, ◌++◌, length, true, false, Option, Some, None, option_to_list}
 use Rattle.std.specs.List.{AllByRecursion}
-use Rattle.dap_fields.specs.Spelling.{AreBytes}
-use Rattle.dap_msg.specs.Items.{Item, ItemAt, IsPlace}
+use Rattle.dap_msg.specs.Items.{Item}
 use Rattle.dap_msg.specs.Blocked.{NspMessage, Blocked, all_joined, messages_in, AllFit}
-use Rattle.nsp_link.specs.Link.{LinkValue, Sends, Stands, MaySend}
+use Rattle.nsp_link.specs.Link.{Sends}
 use Rattle.nsp_link.specs.Sending.{MayQueueAll, SendAllFault}
-use Rattle.nsp_link.specs.declared.link.Got.{Got}
-use Rattle.nsp_link.specs.declared.fault.LinkFault.{LinkFault}
-use Rattle.nsp_link.specs.declared.fault.LinkFault.TheVariants as fault
 use Rattle.dap_accessing.specs.Request.{Request}
 use Rattle.dap_accessing.specs.declared.report.Report.{Report}
 use Rattle.dap_accessing.specs.declared.fault.ReadFault.{ReadFault}
@@ -22,12 +18,9 @@ use Rattle.dap_end.specs.declared.asking.Heard.{Heard}
 use Rattle.dap_end.specs.declared.asking.Heard.TheVariants as heard
 use Rattle.dap_end.specs.declared.fault.EndFault.{EndFault}
 use Rattle.dap_end.specs.declared.fault.EndFault.TheVariants as end_fault
-use Rattle.dap_end.specs.declared.fault.TakeFault.{TakeFault}
-use Rattle.dap_end.specs.declared.fault.TakeFault.TheVariants as take_fault
-use Rattle.dap_end.specs.Ports.{PortValue, with_link, gone_on, posted}
-use Rattle.dap_end.specs.Going.{GoneThrough, given_then}
-use Rattle.nsp_link.specs.Receiving.{Receives}
-use Rattle.dap_end.specs.Writing.{WroteAll, AnsweredAll, AnsweredPart, IsFull}
+use Rattle.dap_end.specs.Ports.{PortValue, gone_on, posted}
+use Rattle.dap_end.specs.Going.{GoneThrough, given_then, NextItem}
+use Rattle.dap_end.specs.Turns.{EndOf}
 
 pub record AskingValue : Type 0 where
   pub port : PortValue
@@ -98,23 +91,11 @@ read_one past bytes item next = record past { given = given_then past.given byte
 -- The next item of the oldest NSP message was read; it had its place, and the report is the one that it adds.
 pub record ReadOne (old new : AskingValue) (report : Option Report) : Type 0 where
   pub works : old.accessing.failed ≡ false
-  pub bytes : List ℕ
-  pub later : List (List ℕ)
-  pub came : old.port.link.inbox ≡ bytes ∷ later
-  pub fits : AreBytes bytes
-  pub item : Item
-  pub next : ℕ
-  pub reads : ItemAt bytes old.port.place item next
-  pub place : IsPlace old.port.place bytes
-  pub goes : old.port.place < length bytes → old.port.place < next
-  pub within : next ≤ length bytes
-  pub port : new.port ≡ gone_on old.port bytes later next
+  pub one : NextItem old.port
+  pub port : new.port ≡ gone_on old.port one.bytes one.later one.next
   pub own : new.accessing.own ≡ old.accessing.own
-  pub past : (past : AskingPast) → HasAsked past old → HasAsked (read_one past bytes item next) new
-  pub told : (past : AskingPast) → HasAsked past old → Told past.requests (past.answers ++ item ∷ []) ≡ Told past.requests past.answers ++ option_to_list report
-  -- an NSP message that was read leaves the link
-  pub given : (size : ℕ) (messages : List (List ℕ)) (past : AskingPast)
-      → Stands old.port.link size messages past.given → Stands new.port.link size messages (read_one past bytes item next).given
+  pub past : (past : AskingPast) → HasAsked past old → HasAsked (read_one past one.bytes one.item one.next) new
+  pub told : (past : AskingPast) → HasAsked past old → Told past.requests (past.answers ++ one.item ∷ []) ≡ Told past.requests past.answers ++ option_to_list report
 
 -- why nothing was read, and what that leaves: after an answer that has no place the end has failed
 pub record ReadNone (old new : AskingValue) (f : ReadFault) : Type 0 where
@@ -147,110 +128,33 @@ ReadPart old new before all f =
     ((f ≡ read_fault.NoMemory) × ReadAll old new before all × (0 < length new.port.link.inbox))
     ⊎ ((mid : AskingValue) × ReadAll old mid before all × ReadNone mid new f)
 
--- ---- Going on.
-
--- All that came was read, and what waited was handed over.
-pub record HeardAll (old new : AskingValue) (before reports : List Report) : Type 0 where
-  pub heard : AskingValue
-  pub read : ReadAll old heard before reports
-  pub done : heard.port.link.inbox ≡ []
-  pub count : ℕ
-  pub handed : HandedAll heard new count
-
--- All was read, and then what waits wasn't handed over.
-pub record HeardOnly (old new : AskingValue) (before reports : List Report) (f : LinkFault) : Type 0 where
-  pub read : ReadAll old new before reports
-  pub done : new.port.link.inbox ≡ []
-  pub refused : SendAllFault new.port.link new.port.outbox f
-
--- why not all is read and handed over, and what is done then
-abbrev pub HearFault : (old new : AskingValue) → (before reports : List Report) → EndFault → Type 0
-HearFault old new before reports (end_fault.Link f) = HeardOnly old new before reports f
-HearFault old new before reports (end_fault.Read f) = ReadPart old new before reports f
-
--- All was read and handed over, and then segments were written.
-pub record WentOn (old new : AskingValue) (out all : List (List ℕ)) (before reports : List Report) : Type 0 where
-  pub heard : AskingValue
-  pub hears : HeardAll old heard before reports
-  pub rest : new ≡ record heard { port = new.port }
-  pub still : HasStill heard new
-  pub wrote : WroteAll heard.port new.port out all
-
--- why not all is done, and what is done then
-abbrev pub GoOnFault : (old new : AskingValue) → (out all : List (List ℕ)) → (before reports : List Report) → EndFault → Type 0
-GoOnFault old new out all before reports f =
-    (HearFault old new before reports f × (all ≡ out))
-    ⊎ ((f ≡ end_fault.Link fault.NoMemory) × WentOn old new out all before reports × MaySend new.port.link)
-
--- ---- Taking.
-
-abbrev pub received : AskingValue → LinkValue → AskingValue
-received v link = record v { port = with_link v.port link }
-
--- the packet was taken in so
-pub record HeardIn (old : AskingValue) (bytes : List ℕ) (got : Got) (link : LinkValue) : Type 0 where
-  pub receives : Receives old.port.link link bytes (Ok got)
-  pub still : HasStill old (received old link)
-
--- All that came was read, and what waited was handed over; the segments that the window allows were written, or where none
--- was and one came, one acknowledgement.
-pub record HeardAndWrote (old new : AskingValue) (got : Got) (out all : List (List ℕ)) (before reports : List Report) : Type 0 where
-  pub heard : AskingValue
-  pub hears : HeardAll old heard before reports
-  pub rest : new ≡ record heard { port = new.port }
-  pub still : HasStill heard new
-  pub answered : AnsweredAll heard.port new.port got out all
-
--- the same, and then memory was wanting for a packet
-pub record WrotePart (old new : AskingValue) (got : Got) (out all : List (List ℕ)) (before reports : List Report) (f : LinkFault) : Type 0 where
-  pub heard : AskingValue
-  pub hears : HeardAll old heard before reports
-  pub rest : new ≡ record heard { port = new.port }
-  pub still : HasStill heard new
-  pub part : AnsweredPart heard.port new.port got out all f
-
--- why not all is read, handed over and written, and what is done then
-abbrev pub AnswerFault : (old new : AskingValue) → Got → (out all : List (List ℕ)) → (before reports : List Report) → EndFault → Type 0
-AnswerFault old new got out all before reports f =
-    (HearFault old new before reports f × (all ≡ out))
-    ⊎ ((g : LinkFault) × (f ≡ end_fault.Link g) × WrotePart old new got out all before reports g)
-
--- the packet was taken in, and answered
-pub record TookAll (old new : AskingValue) (bytes : List ℕ) (got : Got) (out all : List (List ℕ)) (before reports : List Report) : Type 0 where
-  pub link : LinkValue
-  pub took : HeardIn old bytes got link
-  pub all_done : HeardAndWrote (received old link) new got out all before reports
-
--- it was taken in, and not all was done
-pub record TookPart (old new : AskingValue) (bytes : List ℕ) (got : Got) (out all : List (List ℕ)) (before reports : List Report) (f : EndFault) : Type 0 where
-  pub link : LinkValue
-  pub took : HeardIn old bytes got link
-  pub why : AnswerFault (received old link) new got out all before reports f
-
--- It was refused, and nothing of it was taken.
-pub record Refused (old new : AskingValue) (bytes : List ℕ) (f : LinkFault) : Type 0 where
-  pub link : LinkValue
-  pub receives : Receives old.port.link link bytes (Err f)
-  pub still : HasStill old new
-  pub new_is : new ≡ received old link
-
-abbrev pub NotTaken : (old new : AskingValue) → (bytes : List ℕ) → (out all : List (List ℕ)) → (before reports : List Report) → TakeFault → Type 0
-NotTaken old new bytes out all before reports (take_fault.Refused f) = Refused old new bytes f × (all ≡ out) × (reports ≡ before)
-NotTaken old new bytes out all before reports (take_fault.Unfinished got f) = TookPart old new bytes got out all before reports f
-
--- ---- What the calls come to, done or refused.
-
 abbrev pub ReadsAll : (old new : AskingValue) → (before reports : List Report) → Result (Unit {0}) ReadFault → Type 0
 ReadsAll old new before reports (Ok done) = ReadAll old new before reports × (new.port.link.inbox ≡ [])
 ReadsAll old new before reports (Err f) = ReadPart old new before reports f
 
-abbrev pub GoesOn : (old new : AskingValue) → (out all : List (List ℕ)) → (before reports : List Report) → Result (Unit {0}) EndFault → Type 0
-GoesOn old new out all before reports (Ok done) = WentOn old new out all before reports × IsFull new.port.link
-GoesOn old new out all before reports (Err f) = GoOnFault old new out all before reports f
+-- ---- Going on, and taking.
 
-abbrev pub Takes : (old new : AskingValue) → (bytes : List ℕ) → (out all : List (List ℕ)) → (before reports : List Report) → Result Got TakeFault → Type 0
-Takes old new bytes out all before reports (Ok got) = TookAll old new bytes got out all before reports
-Takes old new bytes out all before reports (Err f) = NotTaken old new bytes out all before reports f
+-- All that came was read, and what waited was handed over.
+abbrev pub HeardAll : (old new : AskingValue) → (before reports : List Report) → Type 0
+HeardAll old new before reports =
+    (heard : AskingValue) × (count : ℕ) × ReadsAll old heard before reports (Ok tt) × HandedAll heard new count
+
+-- why not, and what is done then: all was read, and what waits isn't handed over, or not all was read
+abbrev pub HearFault : (old new : AskingValue) → (before reports : List Report) → EndFault → Type 0
+HearFault old new before reports (end_fault.Link f) =
+    ReadsAll old new before reports (Ok tt) × SendAllFault new.port.link new.port.outbox f
+HearFault old new before reports (end_fault.Read f) = ReadPart old new before reports f
+
+abbrev pub asks : (before reports : List Report) → EndOf AskingValue
+asks before reports =
+    record {
+      port = λ v. v.port;
+      with_port = λ v port. record v { port = port };
+      still = HasStill;
+      does = λ old new. HeardAll old new before reports;
+      stops = λ old new f. HearFault old new before reports f;
+      quiet = reports ≡ before;
+    }
 
 -- ---- Ends that do the same from now on.
 

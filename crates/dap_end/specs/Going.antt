@@ -1,9 +1,9 @@
 -- The DAP messages in NSP messages, gone through one after another.
-use Rattle.std.specs.Prelude.{◌≡◌, ℕ, ◌<◌, ◌==◌, if◌then◌else◌, List, [], ◌∷◌, ◌++◌, length}
+use Rattle.std.specs.Prelude.{◌≡◌, ℕ, ◌<◌, ◌≤◌, ◌==◌, if◌then◌else◌, List, [], ◌∷◌, ◌++◌, length}
 use Rattle.std.specs.List.{AllByRecursion}
 use Rattle.dap_fields.specs.Spelling.{AreBytes}
-use Rattle.dap_msg.specs.Items.{Item, ItemAt, Items}
-use Rattle.dap_end.specs.Ports.{oldest}
+use Rattle.dap_msg.specs.Items.{Item, ItemAt, Items, IsPlace}
+use Rattle.dap_end.specs.Ports.{PortValue, oldest}
 
 -- NSP messages are of bytes
 abbrev pub AllBytes : List (List ℕ) → Type 0
@@ -39,3 +39,16 @@ AreFrontOf messages items = (all : List Item) → AreItemsOf messages all → (r
 -- the NSP messages that were gone through, once an item was handled that ends at a place
 abbrev pub given_then : List (List ℕ) → (bytes : List ℕ) → (next : ℕ) → List (List ℕ)
 given_then given bytes next = if next == length bytes then given ++ bytes ∷ [] else given
+
+-- The next item of the oldest NSP message that came: it begins at the port's place.
+pub record NextItem (p : PortValue) : Type 0 where
+  pub bytes : List ℕ
+  pub later : List (List ℕ)
+  pub came : p.link.inbox ≡ bytes ∷ later
+  pub fits : AreBytes bytes
+  pub item : Item
+  pub next : ℕ
+  pub reads : ItemAt bytes p.place item next
+  pub place : IsPlace p.place bytes
+  pub goes : p.place < length bytes → p.place < next
+  pub within : next ≤ length bytes

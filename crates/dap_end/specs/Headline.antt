@@ -14,7 +14,8 @@ use Rattle.dap_accessed.specs.Groups.{After, Answers}
 use Rattle.dap_end.specs.Ports.{with_link}
 use Rattle.nsp_link.specs.Receiving.{Receives}
 use Rattle.dap_end.specs.Serving.{ServingValue, Past, answers_to}
-use Rattle.dap_end.specs.Taking.{ServedMore, with_port}
+use Rattle.dap_end.specs.Turns.{EndOf}
+use Rattle.dap_end.specs.Taking.{ServedMore, serves}
 use Rattle.dap_end.specs.Writing.{WroteMore}
 
 -- ---- Packets.
@@ -42,35 +43,45 @@ WroteOne v k w = (w.segment ≡ k) × (w.acks ≡ v.received) × WritesSent v k 
 
 -- A packet came; the end did what it does by itself, or some of it; it wrote a segment again that isn't acknowledged, or
 -- an acknowledgement.
-pub data ServingEvent : Type 0 where
-  Came : List ℕ → ServingEvent
-  GoesOn : ServingEvent
-  Again : ℕ → ServingEvent
-  Acks : ServingEvent
+pub data EndEvent : Type 0 where
+  Came : List ℕ → EndEvent
+  GoesOn : EndEvent
+  Again : ℕ → EndEvent
+  Acks : EndEvent
 
--- what each leaves, and the packets that it writes
-abbrev pub Stepped : ServingValue → ServingEvent → ServingValue → List Written → Type 0
-Stepped old (Came bytes) new wrote =
-    (result : Result Got LinkFault) × (link : LinkValue) × Receives old.port.link link bytes result
-    × (new ≡ with_port old (with_link old.port link)) × (wrote ≡ [])
-Stepped old GoesOn new wrote =
-    (served : ServingValue) × (packets : List (List ℕ)) × ServedMore old served × WroteMore served.port new.port packets
-    × (new ≡ with_port served new.port) × (wrote ≡ numbered (served.port.link.sent + 1) served.port.link.received packets)
-Stepped old (Again i) new wrote =
-    (w : Written) × (i < old.port.link.sent - old.port.link.acked) × WroteOne old.port.link (Some (old.port.link.acked + 1 + i)) w
-    × (new ≡ old) × (wrote ≡ w ∷ [])
-Stepped old Acks new wrote =
-    (w : Written) × WroteOne old.port.link None w × (new ≡ old) × (wrote ≡ w ∷ [])
+-- what each leaves of either end, and the packets that it writes, where the end does so by itself before it writes
+abbrev pub EndStepped : {V : Type 0} → EndOf V → (does : V → V → Type 0) → (old : V) → EndEvent → (new : V) → List Written → Type 0
+EndStepped end does old (Came bytes) new wrote =
+    (result : Result Got LinkFault) × (link : LinkValue) × Receives (end.port old).link link bytes result
+    × (new ≡ end.with_port old (with_link (end.port old) link)) × (wrote ≡ []) × end.quiet
+EndStepped {V} end does old GoesOn new wrote =
+    (mid : V) × (packets : List (List ℕ)) × does old mid × WroteMore (end.port mid) (end.port new) packets × (new ≡ end.with_port mid (end.port new))
+    × (wrote ≡ numbered ((end.port mid).link.sent + 1) (end.port mid).link.received packets)
+EndStepped end does old (Again i) new wrote =
+    let v = (end.port old).link in
+    (w : Written) × (i < v.sent - v.acked) × WroteOne v (Some (v.acked + 1 + i)) w × (new ≡ old) × (wrote ≡ w ∷ []) × end.quiet
+EndStepped end does old Acks new wrote =
+    (w : Written) × WroteOne (end.port old).link None w × (new ≡ old) × (wrote ≡ w ∷ []) × end.quiet
+
+-- this is so of a packet that came
+abbrev pub IfCame : EndEvent → (List ℕ → Type 0) → Type 0
+IfCame (Came bytes) P = P bytes
+IfCame _ P = Unit {0}
+
+-- ---- The end that serves.
+
+abbrev pub Stepped : ServingValue → EndEvent → ServingValue → List Written → Type 0
+Stepped old event new wrote = EndStepped serves ServedMore old event new wrote
 
 -- one after another
-abbrev pub Runs : ServingValue → List ServingEvent → ServingValue → List Written → Type 0
+abbrev pub Runs : ServingValue → List EndEvent → ServingValue → List Written → Type 0
 Runs old [] new wrote = (new ≡ old) × (wrote ≡ [])
 Runs old (event ∷ events) new wrote =
     (mid : ServingValue) × (front : List Written) × (back : List Written) × (wrote ≡ front ++ back)
     × Stepped old event mid front × Runs mid events new back
 
 -- a call is these events: its packets stand behind those that were there
-abbrev pub AreCalls : ServingValue → List ServingEvent → ServingValue → (out all : List (List ℕ)) → Type 0
+abbrev pub AreCalls : ServingValue → List EndEvent → ServingValue → (out all : List (List ℕ)) → Type 0
 AreCalls old events new out all = (wrote : List Written) × Runs old events new wrote × (all ≡ out ++ bytes_of wrote)
 
 -- each packet carries its segment of what was handed to the link, and its count of segments taken
@@ -103,13 +114,9 @@ pub record IsFromPeer (v : LinkValue) (size : ℕ) (messages : List (List ℕ)) 
   pub near : IfSome segment (λ n. n ≤ v.received + largest_window)
   pub believable : acks ≤ v.sent
 
-abbrev pub IsEventOf : LinkValue → (size : ℕ) (messages : List (List ℕ)) → ServingEvent → Type 0
-IsEventOf v size messages (Came bytes) = IsFromPeer v size messages bytes
-IsEventOf v size messages _ = Unit {0}
-
 -- one after another, and each packet that came is from that peer
-abbrev pub RunsFrom : (size : ℕ) (messages : List (List ℕ)) → ServingValue → List ServingEvent → ServingValue → Type 0
+abbrev pub RunsFrom : (size : ℕ) (messages : List (List ℕ)) → ServingValue → List EndEvent → ServingValue → Type 0
 RunsFrom size messages old [] new = new ≡ old
 RunsFrom size messages old (event ∷ events) new =
-    (mid : ServingValue) × (wrote : List Written) × IsEventOf old.port.link size messages event × Stepped old event mid wrote
+    (mid : ServingValue) × (wrote : List Written) × IfCame event (IsFromPeer old.port.link size messages) × Stepped old event mid wrote
     × RunsFrom size messages mid events new

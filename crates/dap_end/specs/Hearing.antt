@@ -1,48 +1,31 @@
 -- What an end that asks promises over every list of its calls, whatever bytes come, up to the first answer that has no place;
 -- and what it promises where the packets are those of a peer.
-use Rattle.std.specs.Prelude.{◌≡◌, ◌⊎◌, ℕ, ◌+◌, ◌-◌, ◌<◌, List, [], ◌∷◌, ◌++◌, Result, Some, None}
+use Rattle.std.specs.Prelude.{◌≡◌, ◌⊎◌, ℕ, List, [], ◌∷◌, ◌++◌}
 use Rattle.dap_msg.specs.Blocked.{all_joined, messages_in}
-use Rattle.nsp_link.specs.declared.link.Got.{Got}
-use Rattle.nsp_link.specs.declared.fault.LinkFault.{LinkFault}
-use Rattle.nsp_link.specs.Link.{LinkValue}
 use Rattle.dap_accessing.specs.Request.{Request}
 use Rattle.dap_accessing.specs.declared.report.Report.{Report}
 use Rattle.dap_accessing.specs.Asked.{Asked}
 use Rattle.dap_accessing.specs.Told.{Told}
-use Rattle.dap_end.specs.Ports.{with_link}
-use Rattle.nsp_link.specs.Receiving.{Receives}
-use Rattle.dap_end.specs.Writing.{WroteMore}
-use Rattle.dap_end.specs.Asking.{AskingValue, AskingPast, AskedOne, HandedAll, ReadOn}
-use Rattle.dap_end.specs.Headline.{Written, numbered, bytes_of, WroteOne, AreWrittenOf, IsFromPeer}
+use Rattle.dap_end.specs.Asking.{AskingValue, AskingPast, AskedOne, HandedAll, ReadOn, asks}
+use Rattle.dap_end.specs.Headline.{Written, bytes_of, EndEvent, EndStepped, IfCame, AreWrittenOf, IsFromPeer}
 
--- A packet came; a request was asked; the end did what it does by itself, or some of it; it wrote a segment again that isn't
--- acknowledged, or an acknowledgement.
+-- A request was asked, or what happens to either end.
 pub data AskingEvent : Type 0 where
-  Came : List ℕ → AskingEvent
   Asks : Request → AskingEvent
-  GoesOn : AskingEvent
-  Again : ℕ → AskingEvent
-  Acks : AskingEvent
+  By : EndEvent → AskingEvent
 
 -- all that waited was handed over, or none
 abbrev pub HandedOver : AskingValue → AskingValue → Type 0
 HandedOver old new = (new ≡ old) ⊎ ((n : ℕ) × HandedAll old new n)
 
+-- answers were read, which told these reports, and then all that waited was handed over, or none
+abbrev pub HeardMore : List Report → AskingValue → AskingValue → Type 0
+HeardMore reports old new = (heard : AskingValue) × ReadOn old heard reports × HandedOver heard new
+
 -- what each leaves, the reports that it tells, and the packets that it writes
 abbrev pub AskingStepped : AskingValue → AskingEvent → AskingValue → List Report → List Written → Type 0
-AskingStepped old (Came bytes) new reports wrote =
-    (result : Result Got LinkFault) × (link : LinkValue) × Receives old.port.link link bytes result
-    × (new ≡ record old { port = with_link old.port link }) × (reports ≡ []) × (wrote ≡ [])
 AskingStepped old (Asks request) new reports wrote = (n : ℕ) × AskedOne request old new n × (reports ≡ []) × (wrote ≡ [])
-AskingStepped old GoesOn new reports wrote =
-    (heard : AskingValue) × (handed : AskingValue) × (packets : List (List ℕ)) × ReadOn old heard reports × HandedOver heard handed
-    × WroteMore handed.port new.port packets × (new ≡ record handed { port = new.port })
-    × (wrote ≡ numbered (handed.port.link.sent + 1) handed.port.link.received packets)
-AskingStepped old (Again i) new reports wrote =
-    (w : Written) × (i < old.port.link.sent - old.port.link.acked) × WroteOne old.port.link (Some (old.port.link.acked + 1 + i)) w
-    × (new ≡ old) × (reports ≡ []) × (wrote ≡ w ∷ [])
-AskingStepped old Acks new reports wrote =
-    (w : Written) × WroteOne old.port.link None w × (new ≡ old) × (reports ≡ []) × (wrote ≡ w ∷ [])
+AskingStepped old (By event) new reports wrote = EndStepped (asks [] reports) (HeardMore reports) old event new wrote
 
 abbrev pub AskingRuns : AskingValue → List AskingEvent → AskingValue → List Report → List Written → Type 0
 AskingRuns old [] new reports wrote = (new ≡ old) × (reports ≡ []) × (wrote ≡ [])
@@ -73,13 +56,13 @@ pub record AskingPromises (requests : List Request) (reports : List Report) (pas
 
 -- ---- A peer.
 
-abbrev pub IsAskingEventOf : LinkValue → (size : ℕ) (messages : List (List ℕ)) → AskingEvent → Type 0
-IsAskingEventOf v size messages (Came bytes) = IsFromPeer v size messages bytes
-IsAskingEventOf v size messages _ = Unit {0}
+abbrev pub IfHeard : AskingEvent → (List ℕ → Type 0) → Type 0
+IfHeard (Asks request) P = Unit {0}
+IfHeard (By event) P = IfCame event P
 
 -- the same, and each packet that came is from that peer
 abbrev pub AskingRunsFrom : (size : ℕ) (messages : List (List ℕ)) → AskingValue → List AskingEvent → AskingValue → Type 0
 AskingRunsFrom size messages old [] new = new ≡ old
 AskingRunsFrom size messages old (event ∷ events) new =
-    (mid : AskingValue) × (reports : List Report) × (wrote : List Written) × IsAskingEventOf old.port.link size messages event
+    (mid : AskingValue) × (reports : List Report) × (wrote : List Written) × IfHeard event (IsFromPeer old.port.link size messages)
     × AskingStepped old event mid reports wrote × AskingRunsFrom size messages mid events new

@@ -13,10 +13,8 @@ use Rattle.dap_accessing.specs.Told.{Told}
 use Rattle.dap_end.specs.Ports.{new_port}
 use Rattle.dap_end.specs.Serving.{ServingValue, IsAfter, nothing_yet}
 use Rattle.dap_end.specs.Asking.{AskingValue, HasAsked, nothing_asked}
-use Rattle.dap_end.specs.Headline as serving
-use Rattle.dap_end.specs.Headline.{Written, ServingEvent, Stepped}
-use Rattle.dap_end.specs.Hearing as asking
-use Rattle.dap_end.specs.Hearing.{AskingEvent, AskingStepped, requests_in}
+use Rattle.dap_end.specs.Headline.{Written, EndEvent, IfCame, Stepped}
+use Rattle.dap_end.specs.Hearing.{AskingEvent, IfHeard, AskingStepped, requests_in}
 
 -- both ends, every packet that each wrote, the requests that were asked, and the reports that were told
 pub record Pair : Type 0 where
@@ -48,25 +46,17 @@ abbrev pub IsBrought : LinkValue → List Written → List ℕ → Type 0
 IsBrought v wire bytes =
     (j : ℕ) × (w : Written) × (slice_get wire j ≡ Some w) × (bytes ≡ w.bytes) × IsTimely v w.segment w.acks
 
-abbrev pub MayComeToA : Pair → AskingEvent → Type 0
-MayComeToA p (asking.Came bytes) = IsBrought p.a.port.link p.from_b bytes
-MayComeToA p _ = Unit {0}
-
-abbrev pub MayComeToB : Pair → ServingEvent → Type 0
-MayComeToB p (serving.Came bytes) = IsBrought p.b.port.link p.from_a bytes
-MayComeToB p _ = Unit {0}
-
 pub data PairEvent : Type 0 where
   AtA : AskingEvent → PairEvent
-  AtB : ServingEvent → PairEvent
+  AtB : EndEvent → PairEvent
 
 -- one end is called
 abbrev pub PairStepped : Pair → PairEvent → Pair → Type 0
 PairStepped old (AtA event) new =
-    (reports : List Report) × (wrote : List Written) × MayComeToA old event × AskingStepped old.a event new.a reports wrote
+    (reports : List Report) × (wrote : List Written) × IfHeard event (IsBrought old.a.port.link old.from_b) × AskingStepped old.a event new.a reports wrote
     × (new ≡ record old { a = new.a; from_a = old.from_a ++ wrote; requests = old.requests ++ requests_in (event ∷ []); reports = old.reports ++ reports })
 PairStepped old (AtB event) new =
-    (wrote : List Written) × MayComeToB old event × Stepped old.b event new.b wrote
+    (wrote : List Written) × IfCame event (IsBrought old.b.port.link old.from_a) × Stepped old.b event new.b wrote
     × (new ≡ record old { b = new.b; from_b = old.from_b ++ wrote })
 
 abbrev pub PairRuns : Pair → List PairEvent → Pair → Type 0

@@ -1,6 +1,7 @@
 pub mod Ports
 pub mod Going
 pub mod Writing
+pub mod Turns
 pub mod Serving
 pub mod Taking
 pub mod Wanting

@@ -1,9 +1,8 @@
 -- The end that serves, before any peer.
-use Rattle.std.specs.Prelude.{◌≡◌, ◌⊎◌, ℕ, ◌<◌, ◌≤◌, List, [], ◌∷◌, ◌++◌, length}
-use Rattle.dap_fields.specs.Spelling.{AreBytes}
-use Rattle.dap_msg.specs.Items.{Item, ItemAt, IsPlace}
+use Rattle.std.specs.Prelude.{◌≡◌, ◌⊎◌, ℕ, ◌<◌, List, [], ◌∷◌, ◌++◌, length}
+use Rattle.dap_msg.specs.Items.{Item}
 use Rattle.dap_msg.specs.Blocked.{NspMessage, Blocked, all_joined, AllFit}
-use Rattle.nsp_link.specs.Link.{Sends, Stands}
+use Rattle.nsp_link.specs.Link.{Sends}
 use Rattle.nsp_link.specs.Sending.{MayQueueAll}
 use Rattle.dap_accessed.specs.Standing.{Files}
 use Rattle.dap_accessed.specs.Groups.{Answers, added, limit_for}
@@ -12,7 +11,7 @@ use Rattle.dap_accessed.specs.Adding.{AddRefused, RecordRefused}
 use Rattle.dap_accessed.specs.declared.fault.AddFault.{AddFault}
 use Rattle.dap_accessed.specs.declared.fault.AddFault.TheVariants as fault
 use Rattle.dap_end.specs.Ports.{PortValue, gone_on, posted, HasCome}
-use Rattle.dap_end.specs.Going.{GoneThrough, given_then}
+use Rattle.dap_end.specs.Going.{GoneThrough, given_then, NextItem}
 
 pub record ServingValue : Type 0 where
   pub port : PortValue
@@ -75,23 +74,11 @@ MayServe v = (v.port.outbox ≡ []) × (0 < length v.port.link.inbox)
 -- The next item of the oldest NSP message was served, and its answers wait.
 pub record ServedOne (old new : ServingValue) (n : ℕ) : Type 0 where
   pub idle : old.port.outbox ≡ []
-  pub bytes : List ℕ
-  pub later : List (List ℕ)
-  pub came : old.port.link.inbox ≡ bytes ∷ later
-  pub fits : AreBytes bytes
-  pub item : Item
-  pub next : ℕ
-  pub reads : ItemAt bytes old.port.place item next
-  pub place : IsPlace old.port.place bytes
-  pub goes : old.port.place < length bytes → old.port.place < next
-  pub within : next ≤ length bytes
-  pub port : new.port ≡ record (gone_on old.port bytes later next) { outbox = new.port.outbox }
+  pub one : NextItem old.port
+  pub port : new.port ≡ record (gone_on old.port one.bytes one.later one.next) { outbox = new.port.outbox }
   pub own : new.accessed.own ≡ old.accessed.own
   pub count : n ≡ length new.port.outbox
-  pub past : (past : Past) → IsAfter past old → IsAfter (served past bytes item next) new
-  -- an NSP message that was served leaves the link
-  pub given : (size : ℕ) (messages : List (List ℕ)) (past : Past)
-      → Stands old.port.link size messages past.given → Stands new.port.link size messages (served past bytes item next).given
+  pub past : (past : Past) → IsAfter past old → IsAfter (served past one.bytes one.item one.next) new
 
 -- ---- Handing over.
 

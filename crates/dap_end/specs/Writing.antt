@@ -2,8 +2,6 @@
 use Rattle.std.specs.Prelude.{◌≡◌, ◌⊎◌, ℕ, ◌+◌, ◌<◌, ◌≤◌, ◌==◌, Bool, true, false, List, [], ◌∷◌, ◌++◌, length, Some}
 use Rattle.nsp_link.specs.declared.link.Got.{Got}
 use Rattle.nsp_link.specs.declared.link.Got.TheVariants.{AckOnly}
-use Rattle.nsp_link.specs.declared.fault.LinkFault.{LinkFault}
-use Rattle.nsp_link.specs.declared.fault.LinkFault.TheVariants as fault
 use Rattle.nsp_link.specs.Link.{LinkValue, Sends, Writes, MaySend, IsSpelling}
 use Rattle.nsp_link.specs.Sending.{WritesSent, ack_packet_of}
 use Rattle.dap_end.specs.Ports.{PortValue, with_link}
@@ -62,10 +60,9 @@ pub record WroteAnswer (old new : PortValue) (got : Got) (packets : List (List �
 abbrev pub AnsweredAll : (old new : PortValue) → Got → (out all : List (List ℕ)) → Type 0
 AnsweredAll old new got out all = (packets : List (List ℕ)) × (all ≡ out ++ packets) × WroteAnswer old new got packets
 
--- Memory was refused to a segment that the window allows, or to the acknowledgement.
-pub record AnsweredPart (old new : PortValue) (got : Got) (out all : List (List ℕ)) (f : LinkFault) : Type 0 where
+-- Some of them were written, and a segment that the window allows is left, or the acknowledgement.
+pub record AnsweredPart (old new : PortValue) (got : Got) (out all : List (List ℕ)) : Type 0 where
   pub packets : List (List ℕ)
   pub behind : all ≡ out ++ packets
   pub wrote : WroteMore old new packets
-  pub memory : f ≡ fault.NoMemory
   pub why : MaySend new.link ⊎ (wants_ack got (length packets) ≡ true)

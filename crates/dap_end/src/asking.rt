@@ -13,11 +13,12 @@ ghost use Rattle.dap_accessing.specs.Calls.{AskRefused, IsAdmittedBy};
 ghost use Rattle.dap_accessing.specs.Inner.MayAsk.{MayAsk};
 ghost use Rattle.dap_accessing.specs.declared.fault.AskFault.TheVariants as ask_fault;
 ghost use Rattle.dap_fields.specs.Spelling.{AreBytes};
-ghost use Rattle.dap_end.specs.Ports.{new_port, oldest};
+ghost use Rattle.dap_end.specs.Ports.{new_port, oldest, with_link};
 ghost use Rattle.nsp_link.specs.Receiving.{Receives};
-ghost use Rattle.dap_end.specs.Writing.{WroteNext, IsFull};
-ghost use Rattle.dap_end.specs.Asking.{HasAsked, HasStill, AskedOne, HandedAll, ReadOne, ReadNone, ReadNext, ReadAll, ReadPart, HeardAll, HearFault, WentOn, GoOnFault, HeardAndWrote, AnswerFault, TookAll, NotTaken, nothing_asked, received};
-ghost use Rattle.dap_end.specs.Inner.Answered.{Ended};
+ghost use Rattle.dap_end.specs.Writing.{WroteNext};
+ghost use Rattle.dap_end.specs.Asking.{HasAsked, HasStill, AskedOne, HandedAll, ReadOne, ReadNone, ReadNext, ReadAll, ReadPart, HeardAll, HearFault, asks, nothing_asked};
+ghost use Rattle.dap_end.specs.Turns.{Answered, WentOn, Takes};
+ghost use Rattle.dap_end.specs.Inner.Answered.{ended_by};
 ghost use Rattle.dap_end.specs.Inner.Kept.{IsPort};
 ghost use Rattle.dap_end.specs.Inner.AskingView.{asking_of};
 
@@ -125,7 +126,9 @@ impl AskingEnd {
 
     /// Takes a packet in, as [`nsp_link::LinkEnd::receive`] does; nothing is read by that.
     pub fn receive(&mut self, packet: &[u8]) -> Result<Got, LinkFault>
-        ensures rest { self.new ≡ received self.old self.new.port.link }
+        ensures rest { self.new ≡ record self.old {
+          port = with_link self.old.port self.new.port.link;
+        } }
         ensures receives { Receives self.old.port.link self.new.port.link packet.now result }
         ensures still { HasStill self.old self.new }
     {
@@ -217,11 +220,8 @@ impl AskingEnd {
         out: &mut Vec<Vec<u8>>,
         reports: &mut Vec<Report>,
     ) -> Result<(), EndFault>
-        ensures ok { OnOk result (WentOn self.old self.new (bodies out.old.items)
-            (bodies out.new.items) reports.old.items reports.new.items) }
-        ensures all { OnOk result (IsFull self.new.port.link) }
-        ensures err { IfErr result (GoOnFault self.old self.new (bodies out.old.items)
-            (bodies out.new.items) reports.old.items reports.new.items) }
+        ensures { WentOn (asks reports.old.items reports.new.items) self.old self.new
+            (bodies out.old.items) (bodies out.new.items) result }
     {
         self.hear_all(reports)?;
         ended(self.port.emit_all(out))
@@ -239,10 +239,8 @@ impl AskingEnd {
         out: &mut Vec<Vec<u8>>,
         reports: &mut Vec<Report>,
     ) -> Result<Got, TakeFault>
-        ensures ok { IfOk result (λ got. TookAll self.old self.new packet.now got
-            (bodies out.old.items) (bodies out.new.items) reports.old.items reports.new.items) }
-        ensures err { IfErr result (NotTaken self.old self.new packet.now (bodies out.old.items)
-            (bodies out.new.items) reports.old.items reports.new.items) }
+        ensures { Takes (asks reports.old.items reports.new.items) self.old self.new packet.now
+            (bodies out.old.items) (bodies out.new.items) result }
     {
         match self.receive(packet) {
             Ok(got) => match self.answer(got, out, reports) {
@@ -260,10 +258,8 @@ impl AskingEnd {
         out: &mut Vec<Vec<u8>>,
         reports: &mut Vec<Report>,
     ) -> Result<(), EndFault>
-        ensures ok { OnOk result (HeardAndWrote self.old self.new got (bodies out.old.items)
-            (bodies out.new.items) reports.old.items reports.new.items) }
-        ensures err { IfErr result (AnswerFault self.old self.new got (bodies out.old.items)
-            (bodies out.new.items) reports.old.items reports.new.items) }
+        ensures { Answered (asks reports.old.items reports.new.items) self.old self.new got
+            (bodies out.old.items) (bodies out.new.items) result }
     {
         self.hear_all(reports)?;
         ended(self.port.answer(got, out))
@@ -363,7 +359,7 @@ impl AskingEnd {
 
 /// How a call ends that ends as its link does.
 fn ended(done: Result<(), LinkFault>) -> Result<(), EndFault>
-    ensures { Ended done result }
+    ensures { result ≡ ended_by done }
 {
     match done {
         Ok(()) => Ok(()),

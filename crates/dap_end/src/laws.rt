@@ -1,6 +1,6 @@
 //! Laws over the definitions alone. Each function does nothing: its contract is the law.
 
-ghost use Rattle.std.specs.Prelude.{◌≡◌, ◌≢◌, ◌+◌, ◌-◌, ◌<◌, ℕ, List, [], ◌∷◌, ◌++◌, Option, Some, None, Result, Err, false, option_to_list};
+ghost use Rattle.std.specs.Prelude.{◌≡◌, ◌≢◌, ◌+◌, ◌-◌, ◌<◌, ℕ, List, [], ◌∷◌, ◌++◌, Option, Some, None, Result, Ok, Err, false, option_to_list};
 ghost use Rattle.dap_fields.specs.Spelling.{AreBytes};
 ghost use Rattle.nsp_link.specs.declared.link.LinkSetup.{LinkSetup as TheSetup};
 ghost use Rattle.nsp_link.specs.declared.link.Got.{Got as TheGot};
@@ -19,22 +19,22 @@ ghost use Rattle.dap_end.specs.declared.fault.TakeFault.{TakeFault as TheTakeFau
 ghost use Rattle.dap_end.specs.Ports.{PortValue, new_port};
 ghost use Rattle.dap_end.specs.Going.{AreFrontOf};
 ghost use Rattle.dap_end.specs.Serving.{ServingValue, Past, IsAfter, ServedOne, PostedAll, nothing_yet};
-ghost use Rattle.dap_end.specs.Writing.{WroteNext};
+ghost use Rattle.dap_end.specs.Writing.{WroteNext, WroteAll};
+ghost use Rattle.dap_end.specs.Turns.{WroteThen, WentOn, TookIn, TookThen, Takes};
 ghost use Rattle.dap_end.specs.Taking as serving;
-ghost use Rattle.dap_end.specs.Taking.{with_port};
+ghost use Rattle.dap_end.specs.Taking.{serves, with_port};
 ghost use Rattle.dap_end.specs.Wanting.{took_wanting, went_wanting};
 ghost use Rattle.dap_end.specs.Asking as asking;
-ghost use Rattle.dap_end.specs.Asking.{AreAlike, AskingValue, AskingPast, HasAsked, HasDone, AskedOne, HandedAll, ReadOne, nothing_asked};
-ghost use Rattle.dap_end.specs.Headline.{Written, ServingEvent, Came, GoesOn, Again, Acks, Runs, RunsFrom, AreCalls, Promises, numbered};
-ghost use Rattle.dap_end.specs.Hearing as hearing;
-ghost use Rattle.dap_end.specs.Hearing.{AskingEvent, AskingRuns, AskingRunsFrom, AreAskingCalls, AskingPromises, requests_in};
+ghost use Rattle.dap_end.specs.Asking.{asks, AreAlike, AskingValue, AskingPast, HasAsked, HasDone, AskedOne, HandedAll, ReadOne, nothing_asked};
+ghost use Rattle.dap_end.specs.Headline.{Written, EndEvent, Came, GoesOn, Again, Acks, Runs, RunsFrom, AreCalls, Promises, numbered};
+ghost use Rattle.dap_end.specs.Hearing.{AskingEvent, Asks, By, AskingRuns, AskingRunsFrom, AreAskingCalls, AskingPromises, requests_in};
 ghost use Rattle.dap_end.specs.Joined.{Pair, PairEvent, PairRuns, AreOpposite, AreNew, PairHeadline};
 
 /// Whatever bytes come to an end that served nothing yet, and whatever it was called to do, there is a list of items that it
 /// served: its files are those after them, what it handed to its link is a front of the answers to them, and each packet
 /// that it wrote carries its segment of that. Own.
 pub fn every_run_is_served()
-    ensures { (first : Files) (events : List ServingEvent) (old new : ServingValue)
+    ensures { (first : Files) (events : List EndEvent) (old new : ServingValue)
         (wrote : List Written) → IsAfter (nothing_yet first) old → Runs old events new wrote
         → (past : Past) × IsAfter past new × (past.first ≡ first) × Promises past new wrote }
 {}
@@ -43,7 +43,7 @@ pub fn every_run_is_served()
 /// end served is a front of the items in them, each once and in order. Own.
 pub fn a_peer_is_served_in_order()
     ensures { (setup : TheSetup) (first : Files) (size : ℕ) (messages : List (List ℕ))
-        (events : List ServingEvent) (old new : ServingValue)
+        (events : List EndEvent) (old new : ServingValue)
         → old.port ≡ new_port setup → IsAfter (nothing_yet first) old
         → RunsFrom size messages old events new
         → (past : Past) × IsAfter past new × (past.first ≡ first)
@@ -74,64 +74,69 @@ pub fn calls_are_runs()
           acks = v.port.link.received;
         } ∷ []) }
     ensures go_on { (old new : ServingValue) (out all : List (List ℕ))
-        → serving.WentOn old new out all → AreCalls old (GoesOn ∷ []) new out all }
-    ensures halted { (old new : ServingValue) (out all : List (List ℕ)) (f : TheFault)
-        → serving.GoOnFault old new out all f → AreCalls old (GoesOn ∷ []) new out all }
+        → WroteThen serves (λ p q. WroteAll p q out all) old new
+        → AreCalls old (GoesOn ∷ []) new out all }
+    ensures halted { (old new : ServingValue) (out all : List (List ℕ)) (f : TheEndFault)
+        → WentOn serves old new out all (Err f) → AreCalls old (GoesOn ∷ []) new out all }
     ensures take { (old new : ServingValue) (bytes : List ℕ) (got : TheGot)
-        (out all : List (List ℕ)) → serving.TookAll old new bytes got out all
-        → (events : List ServingEvent) × AreCalls old (Came bytes ∷ events) new out all }
+        (out all : List (List ℕ)) → TookThen serves old new bytes got out all (Ok tt)
+        → (events : List EndEvent) × AreCalls old (Came bytes ∷ events) new out all }
     ensures part { (old new : ServingValue) (bytes : List ℕ) (got : TheGot)
-        (out all : List (List ℕ)) (f : TheFault) → serving.TookPart old new bytes got out all f
+        (out all : List (List ℕ)) (f : TheEndFault)
+        → TookThen serves old new bytes got out all (Err f)
         → AreCalls old (Came bytes ∷ GoesOn ∷ []) new out all }
-    ensures refused { (old new : ServingValue) (bytes : List ℕ) (out all : List (List ℕ))
-        (f : TheFault) → serving.Refused old new bytes out all f
-        → AreCalls old (Came bytes ∷ []) new out all }
+    ensures refused { (old new : ServingValue) (bytes : List ℕ) (f : TheFault)
+        → TookIn serves old new bytes (Err f) → Runs old (Came bytes ∷ []) new [] }
 {}
 
 /// Each call of an end that asks is a run, but one in which an answer has no place. Own.
 pub fn asking_calls_are_runs()
     ensures ask { (old new : AskingValue) (request : TheRequest) (n : ℕ)
-        → AskedOne request old new n → AskingRuns old (hearing.Asks request ∷ []) new [] [] }
+        → AskedOne request old new n → AskingRuns old (Asks request ∷ []) new [] [] }
     ensures read { (old new : AskingValue) (report : Option TheReport) → ReadOne old new report
-        → AskingRuns old (hearing.GoesOn ∷ []) new (option_to_list report) [] }
+        → AskingRuns old (By GoesOn ∷ []) new (option_to_list report) [] }
     ensures post { (old new : AskingValue) (n : ℕ) → HandedAll old new n
-        → AskingRuns old (hearing.GoesOn ∷ []) new [] [] }
+        → AskingRuns old (By GoesOn ∷ []) new [] [] }
     ensures emit { (old new : AskingValue) (bytes : List ℕ) → new ≡ record old { port = new.port }
-        → WroteNext old.port new.port bytes → AskingRuns old (hearing.GoesOn ∷ []) new []
+        → WroteNext old.port new.port bytes → AskingRuns old (By GoesOn ∷ []) new []
         (numbered (old.port.link.sent + 1) old.port.link.received (bytes ∷ [])) }
     ensures resend { (v : AskingValue) (i : ℕ) (bytes : List ℕ)
         → i < v.port.link.sent - v.port.link.acked
         → WritesSent v.port.link (Some (v.port.link.acked + 1 + i)) bytes
-        → AskingRuns v (hearing.Again i ∷ []) v [] (record {
+        → AskingRuns v (By (Again i) ∷ []) v [] (record {
           bytes = bytes;
           segment = Some (v.port.link.acked + 1 + i);
           acks = v.port.link.received;
         } ∷ []) }
     ensures ack { (v : AskingValue) (bytes : List ℕ) → IsSpelling (ack_packet_of v.port.link) bytes
-        → AskingRuns v (hearing.Acks ∷ []) v [] (record {
+        → AskingRuns v (By Acks ∷ []) v [] (record {
           bytes = bytes;
           segment = None;
           acks = v.port.link.received;
         } ∷ []) }
     ensures go_on { (old new : AskingValue) (out all : List (List ℕ))
-        (before after : List TheReport) → asking.WentOn old new out all before after
-        → AreAskingCalls old (hearing.GoesOn ∷ []) new out all before after }
+        (before after : List TheReport)
+        → WroteThen (asks before after) (λ p q. WroteAll p q out all) old new
+        → AreAskingCalls old (By GoesOn ∷ []) new out all before after }
     ensures take { (old new : AskingValue) (bytes : List ℕ) (got : TheGot) (out all : List (List ℕ))
-        (before after : List TheReport) → asking.TookAll old new bytes got out all before after
+        (before after : List TheReport)
+        → TookThen (asks before after) old new bytes got out all (Ok tt)
         → (events : List AskingEvent)
-        × AreAskingCalls old (hearing.Came bytes ∷ events) new out all before after }
+        × AreAskingCalls old (By (Came bytes) ∷ events) new out all before after }
     ensures halted { (old new : AskingValue) (out all : List (List ℕ))
         (before after : List TheReport) (f : TheEndFault)
-        → asking.GoOnFault old new out all before after f
+        → WentOn (asks before after) old new out all (Err f)
         → f ≢ end_fault.Read read_fault.Unexpected
-        → AreAskingCalls old (hearing.GoesOn ∷ []) new out all before after }
+        → AreAskingCalls old (By GoesOn ∷ []) new out all before after }
     ensures part { (old new : AskingValue) (bytes : List ℕ) (got : TheGot) (out all : List (List ℕ))
         (before after : List TheReport) (f : TheEndFault)
-        → asking.TookPart old new bytes got out all before after f
+        → TookThen (asks before after) old new bytes got out all (Err f)
         → f ≢ end_fault.Read read_fault.Unexpected
-        → AreAskingCalls old (hearing.Came bytes ∷ hearing.GoesOn ∷ []) new out all before after }
-    ensures refused { (old new : AskingValue) (bytes : List ℕ) (f : TheFault)
-        → asking.Refused old new bytes f → AskingRuns old (hearing.Came bytes ∷ []) new [] [] }
+        → AreAskingCalls old (By (Came bytes) ∷ By GoesOn ∷ []) new out all before after }
+    ensures refused { (old new : AskingValue) (bytes : List ℕ)
+        (before after : List TheReport) (f : TheFault)
+        → TookIn (asks before after) old new bytes (Err f)
+        → AskingRuns old (By (Came bytes) ∷ []) new [] [] }
 {}
 
 /// Whatever an end that serves is called to do by itself leaves one end, and writes one list of packets, by what the end did
@@ -165,7 +170,7 @@ pub fn asking_is_determined()
     ensures go_on { (old other one two : AskingValue) (out xs ys : List (List ℕ))
         (before rs ss : List TheReport) (r s : Result (Unit {0}) TheEndFault) → HasDone old
         → AreAlike old other → went_wanting r ≡ false → went_wanting s ≡ false
-        → asking.GoesOn old one out xs before rs r → asking.GoesOn other two out ys before ss s
+        → WentOn (asks before rs) old one out xs r → WentOn (asks before ss) other two out ys s
         → AreAlike one two × (r ≡ s) × (xs ≡ ys) × (rs ≡ ss) × HasDone one }
 {}
 
@@ -175,14 +180,14 @@ pub fn taking_is_determined()
     ensures serving { (past : Past) (old one two : ServingValue) (bytes : List ℕ)
         (out xs ys : List (List ℕ)) (r s : Result TheGot TheTakeFault) → AreBytes bytes
         → IsAfter past old → took_wanting r ≡ false → took_wanting s ≡ false
-        → serving.Takes old one bytes out xs r → serving.Takes old two bytes out ys s
+        → Takes serves old one bytes out xs r → Takes serves old two bytes out ys s
         → (one ≡ two) × (r ≡ s) × (xs ≡ ys) }
     ensures asking { (old other one two : AskingValue) (bytes : List ℕ)
         (out xs ys : List (List ℕ)) (before rs ss : List TheReport)
         (r s : Result TheGot TheTakeFault) → AreBytes bytes → HasDone old → AreAlike old other
         → took_wanting r ≡ false → took_wanting s ≡ false
-        → asking.Takes old one bytes out xs before rs r
-        → asking.Takes other two bytes out ys before ss s
+        → Takes (asks before rs) old one bytes out xs r
+        → Takes (asks before ss) other two bytes out ys s
         → AreAlike one two × (r ≡ s) × (xs ≡ ys) × (rs ≡ ss) × HasDone one }
 {}
 

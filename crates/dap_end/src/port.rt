@@ -149,8 +149,8 @@ impl Port {
         requires works { self.old.link.failed ≡ false }
         ensures ok { OnOk result (AnsweredAll self.old self.new got (bodies out.old.items)
             (bodies out.new.items)) }
-        ensures err { IfErr result (λ f. AnsweredPart self.old self.new got
-            (bodies out.old.items) (bodies out.new.items) f) }
+        ensures err { IfErr result (λ f. (f ≡ NoMemory) × AnsweredPart self.old self.new got
+            (bodies out.old.items) (bodies out.new.items)) }
         ensures kept { IsPort self.new }
     {
         let before = out.len();

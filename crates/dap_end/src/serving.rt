@@ -11,12 +11,14 @@ ghost use Rattle.nsp_link.specs.declared.fault.LinkFault.TheVariants.{Failed, No
 ghost use Rattle.nsp_link.specs.declared.fault.LinkFault.TheVariants as fault;
 ghost use Rattle.dap_accessed.specs.Groups.{After};
 ghost use Rattle.dap_accessed.specs.Adding.{MayAdd, MayAddRecord, with_new_file, with_record};
-ghost use Rattle.dap_end.specs.Ports.{HasCome, new_port};
+ghost use Rattle.dap_end.specs.Ports.{HasCome, new_port, with_link};
 ghost use Rattle.nsp_link.specs.Receiving.{Receives};
 ghost use Rattle.dap_end.specs.Writing.{WroteNext};
 ghost use Rattle.dap_end.specs.Serving.{Past, IsAfter, IsStill, NotAdded, NotStored, IsGiven, MayServe, ServedOne, PostedAll, nothing_yet};
-ghost use Rattle.dap_end.specs.Taking.{ServedUp, IsServed, ServeFault, GoOnFault, WentOn, IsDone, TookAll, NotTaken, with_port, received};
-ghost use Rattle.dap_end.specs.Inner.Answered.{ServedAndAnswered, ServedPart};
+ghost use Rattle.dap_end.specs.Taking.{ServedUp, IsServed, ServeFault, GoesOn, serves, with_port};
+ghost use Rattle.dap_end.specs.Turns.{Answered, Takes};
+ghost use Rattle.dap_end.specs.Inner.Answered.{ended_by};
+ghost use Rattle.dap_end.specs.declared.fault.EndFault.TheVariants as end_fault;
 ghost use Rattle.dap_end.specs.Inner.Kept.{IsPort};
 ghost use Rattle.dap_end.specs.Inner.ServingView.{serving_of};
 
@@ -143,7 +145,8 @@ impl ServingEnd {
 
     /// Takes a packet in, as [`nsp_link::LinkEnd::receive`] does; nothing is served by that.
     pub fn receive(&mut self, packet: &[u8]) -> Result<Got, LinkFault>
-        ensures rest { self.new ≡ received self.old self.new.port.link }
+        ensures rest { self.new ≡ with_port self.old
+            (with_link self.old.port self.new.port.link) }
         ensures receives { Receives self.old.port.link self.new.port.link packet.now result }
         ensures still { IsStill self.old self.new }
     {
@@ -218,7 +221,7 @@ impl ServingEnd {
         ensures ok { OnOk result (ServedUp self.old self.new) }
         ensures all { OnOk result (IsServed self.new) }
         ensures works { OnOk result (self.new.port.link.failed ≡ false) }
-        ensures err { IfErr result (ServeFault self.old self.new) }
+        ensures err { IfErr result (λ f. ServeFault self.old self.new (end_fault.Link f)) }
     {
         'messages: loop {
             match self.post() {
@@ -236,11 +239,7 @@ impl ServingEnd {
     /// as the window allows, behind the packets in `out` (own). Refused as `post` is, or for want of memory. What was done
     /// before that stays done, and the same call goes on.
     pub fn go_on(&mut self, out: &mut Vec<Vec<u8>>) -> Result<(), LinkFault>
-        ensures ok { OnOk result (WentOn self.old self.new (bodies out.old.items)
-            (bodies out.new.items)) }
-        ensures all { OnOk result (IsDone self.new) }
-        ensures err { IfErr result (GoOnFault self.old self.new (bodies out.old.items)
-            (bodies out.new.items)) }
+        ensures { GoesOn self.old self.new (bodies out.old.items) (bodies out.new.items) result }
     {
         self.serve_all()?;
         self.port.emit_all(out)
@@ -253,10 +252,8 @@ impl ServingEnd {
     /// Refusals: `Refused` as `receive` is, and nothing of the packet was taken; `Unfinished`, once it was taken in: `go_on`
     /// does what is left, and the same packet is answered again.
     pub fn take(&mut self, packet: &[u8], out: &mut Vec<Vec<u8>>) -> Result<Got, TakeFault>
-        ensures ok { IfOk result (λ got. TookAll self.old self.new packet.now got
-            (bodies out.old.items) (bodies out.new.items)) }
-        ensures err { IfErr result (NotTaken self.old self.new packet.now (bodies out.old.items)
-            (bodies out.new.items)) }
+        ensures { Takes serves self.old self.new packet.now (bodies out.old.items)
+            (bodies out.new.items) result }
     {
         match self.receive(packet) {
             Ok(got) => match self.answer(got, out) {
@@ -269,10 +266,8 @@ impl ServingEnd {
 
     /// Serves all that came, and writes what answers it.
     fn answer(&mut self, got: Got, out: &mut Vec<Vec<u8>>) -> Result<(), LinkFault>
-        ensures ok { OnOk result (ServedAndAnswered self.old self.new got (bodies out.old.items)
-            (bodies out.new.items)) }
-        ensures err { IfErr result (ServedPart self.old self.new got (bodies out.old.items)
-            (bodies out.new.items)) }
+        ensures { Answered serves self.old self.new got (bodies out.old.items)
+            (bodies out.new.items) (ended_by result) }
     {
         self.serve_all()?;
         self.port.answer(got, out)

@@ -18,7 +18,8 @@ use Rattle.dap_end.specs.declared.fault.EndFault.{EndFault}
 use Rattle.dap_end.specs.declared.fault.TakeFault.{TakeFault}
 use Rattle.dap_end.specs.declared.fault.TakeFault.TheVariants as take
 use Rattle.dap_end.specs.Ports.{PortValue, new_port}
-use Rattle.dap_end.specs.Asking.{AskingValue, AskingPast, HasAsked, AskedOne, AreAlike, HasDone, Takes, nothing_asked}
+use Rattle.dap_end.specs.Asking.{AskingValue, AskingPast, HasAsked, AskedOne, AreAlike, HasDone, asks, nothing_asked}
+use Rattle.dap_end.specs.Turns.{Takes}
 use Rattle.dap_end.specs.Wanting.{went_wanting}
 use Rattle.dap_end.proofs.ForCallers.{alike_of, alike_same, has_sent, asking_one, going_alike, taking_alike}
 use Rattle.linewise.specs.declared.talking.Became.{Became}
@@ -70,8 +71,8 @@ packet_one : (old other one two : Asking) (bytes said more : List ℕ) (m n : Ca
 packet_one old other one two bytes said more m n fits same nm nn x y =
     let wx = taken_wants x.taken one.reports.items x.packets (λ e. nm (ap outcome x.ends ∙ outcome_by x.taken _ ∙ e)) in
     let wy = taken_wants y.taken two.reports.items y.packets (λ e. nn (ap outcome y.ends ∙ outcome_by y.taken _ ∙ e)) in
-    let there : Takes other.end two.end bytes [] y.packets old.reports.items two.reports.items y.taken =
-    subst (λ (l : List Report). Takes other.end two.end bytes [] y.packets l two.reports.items y.taken) (sym same.2) y.took in
+    let there : Takes (asks old.reports.items two.reports.items) other.end two.end bytes [] y.packets y.taken =
+    subst (λ (l : List Report). Takes (asks l two.reports.items) other.end two.end bytes [] y.packets y.taken) (sym same.2) y.took in
     let t = taking_alike old.end other.end one.end two.end bytes x.taken y.taken [] x.packets y.packets old.reports.items one.reports.items two.reports.items fits same.3 same.0 wx wy x.took there in
     let same_said : taken_said x.taken one.reports.items x.packets ≡ taken_said y.taken two.reports.items y.packets =
     ap (λ (r : Result Got TakeFault). taken_said r one.reports.items x.packets) t.1 ∙ ap (taken_said y.taken one.reports.items) t.2

@@ -15,7 +15,8 @@ use Rattle.dap_end.specs.declared.fault.EndFault.{EndFault}
 use Rattle.dap_end.specs.declared.fault.TakeFault.{TakeFault}
 use Rattle.dap_end.specs.declared.fault.TakeFault.TheVariants as take
 use Rattle.dap_end.specs.Ports.{new_port}
-use Rattle.dap_end.specs.Asking.{AskingValue, AskedOne, GoesOn as Went, HasAsked, Takes, nothing_asked}
+use Rattle.dap_end.specs.Asking.{AskingValue, AskedOne, HasAsked, asks, nothing_asked}
+use Rattle.dap_end.specs.Turns.{WentOn, Takes}
 use Rattle.linewise.specs.declared.talking.Became.{Became}
 use Rattle.linewise.specs.declared.talking.Became.TheVariants.{Done, BadLine, NoMemory}
 use Rattle.dap_live.specs.declared.asking.Asking.{Asking}
@@ -47,7 +48,7 @@ pub record TakesPacket (old : Asking) (bytes : List ℕ) (new : Asking) (text : 
   pub rest : OnEnd old new
   pub taken : Result Got TakeFault
   pub packets : List (List ℕ)
-  pub took : Takes old.end new.end bytes [] packets old.reports.items new.reports.items taken
+  pub took : Takes (asks old.reports.items new.reports.items) old.end new.end bytes [] packets taken
   pub says : text ≡ (taken_said taken new.reports.items packets).0
   pub ends : came ≡ came_by taken (taken_said taken new.reports.items packets).1
 
@@ -65,7 +66,7 @@ gone_said (Err f) = end_refusal f
 pub record GoesOn (old : AskingValue) (before : List Report) (front : List ℕ) (new : Asking) (text : List ℕ) (came : Came) : Type 0 where
   pub gone : Result (Unit {0}) EndFault
   pub packets : List (List ℕ)
-  pub went : Went old new.end [] packets before new.reports.items gone
+  pub went : WentOn (asks before new.reports.items) old new.end [] packets gone
   pub says : text ≡ front ++ (reports_text new.reports.items ++ (packets_text packets ++ (gone_said gone).0))
   pub ends : came ≡ Told (gone_said gone).1
 

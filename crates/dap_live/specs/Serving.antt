@@ -13,7 +13,8 @@ use Rattle.dap_accessed.specs.declared.fault.AddFault.{AddFault}
 use Rattle.dap_end.specs.declared.fault.TakeFault.{TakeFault}
 use Rattle.dap_end.specs.Ports.{HasCome, new_port}
 use Rattle.dap_end.specs.Serving.{ServingValue, IsAfter, IsGiven, NotAdded, NotStored, nothing_yet}
-use Rattle.dap_end.specs.Taking.{GoesOn as Went, Takes}
+use Rattle.dap_end.specs.Taking.{GoesOn as Went, serves}
+use Rattle.dap_end.specs.Turns.{Takes}
 use Rattle.linewise.specs.declared.talking.Became.{Became}
 use Rattle.linewise.specs.declared.talking.Became.TheVariants.{Done, BadLine, NoMemory}
 use Rattle.dap_text.specs.declared.filed.FileLine.{FileLine}
@@ -32,7 +33,7 @@ use Rattle.dap_live.specs.Texts.{Said, add_refusal, link_refusal, packets_text, 
 pub record TakesPacket (old : ServingValue) (bytes : List ℕ) (new : ServingValue) (text : List ℕ) (became : Became) : Type 0 where
   pub taken : Result Got TakeFault
   pub packets : List (List ℕ)
-  pub took : Takes old new bytes [] packets taken
+  pub took : Takes serves old new bytes [] packets taken
   pub says : text ≡ (taken_said taken [] packets).0
   pub ends : became ≡ (taken_said taken [] packets).1
 

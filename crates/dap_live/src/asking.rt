@@ -5,7 +5,8 @@ ghost use Rattle.dap_msg.specs.BothEnds.{least_buffer};
 ghost use Rattle.dap_msg.specs.Blocked.{bodies};
 ghost use Rattle.nsp_link.specs.Link.{SetupFault};
 ghost use Rattle.dap_end.specs.Ports.{new_port};
-ghost use Rattle.dap_end.specs.Asking.{GoesOn as Went, HasAsked, Takes, nothing_asked};
+ghost use Rattle.dap_end.specs.Asking.{HasAsked, asks, nothing_asked};
+ghost use Rattle.dap_end.specs.Turns.{WentOn, Takes};
 ghost use Rattle.dap_text.specs.Adding.{Adds};
 ghost use Rattle.dap_live.specs.declared.asking.Came.{Came as TheCame};
 ghost use Rattle.dap_live.specs.Texts.{packets_text, reports_text};
@@ -77,8 +78,8 @@ fn take(
     reports: &mut Vec<Report>,
 ) -> Result<Got, TakeFault>
     requires { packets.old.items ≡ [] }
-    ensures { Takes end.old end.new bytes.now [] (bodies packets.new.items)
-        reports.old.items reports.new.items result }
+    ensures { Takes (asks reports.old.items reports.new.items) end.old end.new bytes.now []
+        (bodies packets.new.items) result }
 {
     end.take(bytes, packets, reports)
 }
@@ -118,8 +119,8 @@ fn go_on(
     reports: &mut Vec<Report>,
 ) -> Result<(), EndFault>
     requires { packets.old.items ≡ [] }
-    ensures { Went end.old end.new [] (bodies packets.new.items)
-        reports.old.items reports.new.items result }
+    ensures { WentOn (asks reports.old.items reports.new.items) end.old end.new []
+        (bodies packets.new.items) result }
 {
     end.go_on(packets, reports)
 }

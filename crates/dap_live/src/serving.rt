@@ -6,7 +6,8 @@ ghost use Rattle.dap_msg.specs.Blocked.{bodies};
 ghost use Rattle.nsp_link.specs.Link.{SetupFault};
 ghost use Rattle.dap_end.specs.Ports.{new_port};
 ghost use Rattle.dap_end.specs.Serving.{IsAfter, nothing_yet};
-ghost use Rattle.dap_end.specs.Taking.{GoesOn as Went, Takes};
+ghost use Rattle.dap_end.specs.Taking.{GoesOn as Went, serves};
+ghost use Rattle.dap_end.specs.Turns.{Takes};
 ghost use Rattle.dap_text.specs.Adding.{Adds};
 ghost use Rattle.dap_text.specs.Tables.{files_text};
 ghost use Rattle.rec_file.specs.Shapes.{is_shape};
@@ -55,7 +56,7 @@ impl Serving {
 /// Takes a packet, and goes on.
 fn take(end: &mut ServingEnd, bytes: &[u8], packets: &mut Vec<Vec<u8>>) -> Result<Got, TakeFault>
     requires { packets.old.items ≡ [] }
-    ensures { Takes end.old end.new bytes.now [] (bodies packets.new.items) result }
+    ensures { Takes serves end.old end.new bytes.now [] (bodies packets.new.items) result }
 {
     end.take(bytes, packets)
 }

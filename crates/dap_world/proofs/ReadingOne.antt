@@ -144,22 +144,22 @@ read_so : (p : Parts) (v : AskingValue) (report : Option Report) (reports : List
     → AreThen p event.Read (record (asking_parts p v p.a.posted p.a.wire) { reports = reports; read = p.read + 1 }) (Ok (told_step report))
 unfolding reported
 read_so p v report reports h o kept =
-    let x = next_answer p o.bytes o.later h o.came in
+    let x = next_answer p o.one.bytes o.one.later h o.one.came in
     let m = x.m in
-    let next = next_read p o.bytes h x in
-    let one = one_there o.bytes p.a.place o.next o.item x.begun x.more m x.fit x.bytes_are x.behind (only_item o.bytes p.a.place o.item o.next o.fits o.reads) in
-    let t = handled_side p.a o.bytes o.later o.next in
+    let next = next_read p o.one.bytes h x in
+    let one = one_there o.one.bytes p.a.place o.one.next o.one.item x.begun x.more m x.fit x.bytes_are x.behind (only_item o.one.bytes p.a.place o.one.item o.one.next o.one.fits o.one.reads) in
+    let t = handled_side p.a o.one.bytes o.one.later o.one.next in
     let own : v.accessing ≡ record v.accessing { own = p.accessing.own } = ap (λ (k : ℕ). record v.accessing { own = k }) o.own in
     let q = record p { a = t; accessing = record v.accessing { own = p.accessing.own }; reports = reports; read = p.read + 1 } in
     let old = answers_read (state_of p) in
-    let same : old ++ o.item ∷ [] ≡ answers_read (read_one (state_of p)) = ap (λ (i : Item). old ++ i ∷ []) (sym one.0) ∙ sym (read-more p m h next) in
+    let same : old ++ o.one.item ∷ [] ≡ answers_read (read_one (state_of p)) = ap (λ (i : Item). old ++ i ∷ []) (sym one.0) ∙ sym (read-more p m h next) in
     let past = record h.asking.0 { requests = p.requests; answers = old } in
-    let now = record h.asking.0 { given = given_then h.asking.0.given o.bytes o.next } in
+    let now = record h.asking.0 { given = given_then h.asking.0.given o.one.bytes o.one.next } in
     let asking : IsAskedAll (asking_end q) p.requests (answers_read (read_one (state_of p))) =
     subst (λ (l : List Item). IsAskedAll (asking_end q) p.requests l) same (
       now,
-      subst (λ (port : PortValue). HasAsked (record now { requests = p.requests; answers = old ++ o.item ∷ [] }) (record { port = port; accessing = record v.accessing { own = p.accessing.own } })) o.port
-          (subst (λ (y : accessing.Present). HasAsked (record now { requests = p.requests; answers = old ++ o.item ∷ [] }) (record { port = v.port; accessing = y })) own (o.past past h.asking.1)),
+      subst (λ (port : PortValue). HasAsked (record now { requests = p.requests; answers = old ++ o.one.item ∷ [] }) (record { port = port; accessing = record v.accessing { own = p.accessing.own } })) o.port
+          (subst (λ (y : accessing.Present). HasAsked (record now { requests = p.requests; answers = old ++ o.one.item ∷ [] }) (record { port = v.port; accessing = y })) own (o.past past h.asking.1)),
     ) in
     let adds : reported (read_one (state_of p)) ≡ reported (state_of p) ++ option_to_list report = ap (Told p.requests) (sym same) ∙ o.told past h.asking.1 in
     let parts : AreParts q =
@@ -170,7 +170,7 @@ read_so p v report reports h o kept =
       limit_b = h.limit_b;
       most = h.most;
       from_a = told_moved p.a p.b (asks p) p.served t.link.inbox t.place h.from_a;
-      from_b = handled_one p.b p.a (answers p) p.read o.bytes o.later o.next h.from_b x o.came one.1;
+      from_b = handled_one p.b p.a (answers p) p.read o.one.bytes o.one.later o.one.next h.from_b x o.one.came one.1;
       sent_is = h.sent_is;
       reports_is = kept ∙ ap (λ (l : List Report). l ++ option_to_list report) h.reports_is ∙ sym adds;
       asking = asking;

@@ -222,7 +222,7 @@ pub not_served : (p : Parts) (v : ServingValue) (f : WorldFault) → AreParts p 
 not_served p v f h same went = subst (λ (x : ServingValue). AreThen p event.Serve (serving_parts p x p.b.posted p.b.wire) (Err f)) (sym same) (h, went)
 
 -- what B did, once it served one more
-module _ (p : Parts) (v : ServingValue) (n : ℕ) (h : AreParts p) (o : ServedOne (serving_end p) v n) (m : Message) (is : Whole m ≡ o.item) where
+module _ (p : Parts) (v : ServingValue) (n : ℕ) (h : AreParts p) (o : ServedOne (serving_end p) v n) (m : Message) (is : Whole m ≡ o.one.item) where
   abbrev taken : List Item
   taken = map Whole (taken_of (state_of p))
 
@@ -230,7 +230,7 @@ module _ (p : Parts) (v : ServingValue) (n : ℕ) (h : AreParts p) (o : ServedOn
   past = record h.serving.0 { first = []; items = map Whole (taken_of (state_of p)) }
 
   abbrev now : Past
-  now = served past o.bytes (Whole m) o.next
+  now = served past o.one.bytes (Whole m) o.one.next
 
   own_is : v.accessed ≡ record v.accessed { own = p.accessed.own }
   own_is = ap (λ (k : ℕ). record v.accessed { own = k }) o.own
@@ -238,7 +238,7 @@ module _ (p : Parts) (v : ServingValue) (n : ℕ) (h : AreParts p) (o : ServedOn
   is_after : IsAfter now (record { port = v.port; accessed = record v.accessed { own = p.accessed.own } })
   is_after =
       subst (λ (x : accessed.Present). IsAfter now (record { port = v.port; accessed = x })) own_is
-      (subst (λ (i : Item). IsAfter (served past o.bytes i o.next) v) (sym is) (o.past past h.serving.1))
+      (subst (λ (i : Item). IsAfter (served past o.one.bytes i o.one.next) v) (sym is) (o.past past h.serving.1))
 
   -- what waits is its answers
   outbox_is : v.port.outbox ≡ all_joined (answer_to p.accessed.own [] taken (Whole m))
@@ -260,17 +260,17 @@ pub served_step : (p : Parts) (v : ServingValue) (n : ℕ) → AreParts p → Se
     → AreThen p event.Serve (record (serving_parts p v p.b.posted p.b.wire) { served = p.served + 1 }) (Ok (step.Served n))
 unfolding Steps
 served_step p v n h o =
-    let x = next_of p o.bytes o.later h o.came in
+    let x = next_of p o.one.bytes o.one.later h o.one.came in
     let m = x.m in
-    let one = one_there o.bytes p.b.place o.next o.item x.begun x.more m x.fit x.bytes_are x.behind (only_item o.bytes p.b.place o.item o.next o.fits o.reads) in
-    let t = handled_side p.b o.bytes o.later o.next in
+    let one = one_there o.one.bytes p.b.place o.one.next o.one.item x.begun x.more m x.fit x.bytes_are x.behind (only_item o.one.bytes p.b.place o.one.item o.one.next o.one.fits o.one.reads) in
+    let t = handled_side p.b o.one.bytes o.one.later o.one.next in
     let outbox = v.port.outbox in
     let own = own_is p v n h o m one.0 in
     let is = outbox_is p v n h o m one.0 in
     let q = q_of p h m x.next o.idle t.link.inbox t.place outbox v.accessed in
     let serving : IsServedAll (serving_end q) (map Whole (taken_of (state_of p)) ++ Whole m ∷ []) =
     (now p v n h o m one.0, subst (λ (port : PortValue). IsAfter (now p v n h o m one.0) (record { port = port; accessed = record v.accessed { own = p.accessed.own } })) o.port (is_after p v n h o m one.0)) in
-    let parts : AreParts q = parts_served p h m x.next o.idle o.bytes o.later outbox o.next v.accessed x refl o.came one.1 is (added_fit p v n h o m one.0) serving in
+    let parts : AreParts q = parts_served p h m x.next o.idle o.one.bytes o.one.later outbox o.one.next v.accessed x refl o.one.came one.1 is (added_fit p v n h o m one.0) serving in
     let count : length (answering (state_of p) m) ≡ n = sym (length-map (answering (state_of p) m) joined) ∙ ap length (sym is) ∙ sym o.count in
     let went : Steps (state_of p) event.Serve (step.Served n) (state_of q) =
     subst (λ (y : State). Steps (state_of p) event.Serve (step.Served n) y) (sym (state_served p h m x.next o.idle t.link.inbox t.place outbox v.accessed))

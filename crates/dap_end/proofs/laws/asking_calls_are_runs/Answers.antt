@@ -26,7 +26,7 @@ pub returns-clause-take : goal.returns-clause-take
 returns-clause-take c = λ old new bytes got out all before after t. taking_is old new bytes got out all before after t
 
 pub returns-clause-refused : goal.returns-clause-refused
-returns-clause-refused c = λ old new bytes f r. refusing_is old new bytes f r
+returns-clause-refused c = λ old new bytes before after f r. refusing_is old new bytes before after f r
 
 pub returns-clause-halted : goal.returns-clause-halted
 returns-clause-halted c = λ old new out all before after f h other. halting_is old new out all before after f h other

@@ -29,4 +29,4 @@ pub returns-clause-part : goal.returns-clause-part
 returns-clause-part c = λ old new bytes got out all f t. part_is old new bytes got out all f t
 
 pub returns-clause-refused : goal.returns-clause-refused
-returns-clause-refused c = λ old new bytes out all f r. refusing_is old new bytes out all f r
+returns-clause-refused c = λ old new bytes f r. refusing_is old new bytes f r

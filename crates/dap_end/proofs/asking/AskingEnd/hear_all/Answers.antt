@@ -3,7 +3,7 @@ use Rattle.dap_end.proofs.asking.AskingEnd.hear_all.Goals as goal
 
 pub returns-in-Ok-post-clause-ok : goal.returns-in-Ok-post-clause-ok
 returns-in-Ok-post-clause-ok c =
-    record { heard = c.read_all.new.self; read = c.in-Ok.ensures.ok; done = c.in-Ok.ensures.all; count = _; handed = c.in-Ok-post.ensures.ok }
+    (c.read_all.new.self, _, (c.in-Ok.ensures.ok, c.in-Ok.ensures.all), c.in-Ok-post.ensures.ok)
 
 pub returns-in-Ok-post-clause-works : goal.returns-in-Ok-post-clause-works
 returns-in-Ok-post-clause-works c = works_after c.read_all.new.self c.post.new.self _ c.in-Ok-post.ensures.ok

@@ -1,15 +1,9 @@
-use Rattle.std.proofs.Common.{subst}
-use Rattle.dap_msg.specs.Blocked.{bodies}
-use Rattle.dap_end.specs.Asking.{HasStill}
-use Rattle.dap_end.proofs.Asked.{took_all, took_part}
 use Rattle.dap_end.proofs.asking.AskingEnd.take.Goals as goal
 
-pub returns-in-Ok-answer-clause-ok : goal.returns-in-Ok-answer-clause-ok
-returns-in-Ok-answer-clause-ok c =
-    took_all c.args.self.now c.receive.new.self c.answer.new.self c.args.packet.now c.in-Ok.got (bodies c.args.out.now.items) (bodies c.answer.new.out.items) c.args.reports.now.items c.answer.new.reports.items c.receive.ensures.rest
-    (record { receives = c.in-Ok.ensures.receives; still = subst (HasStill c.args.self.now) c.receive.ensures.rest c.receive.ensures.still }) c.in-Ok-answer.ensures.ok
+pub returns-in-Ok-answer : goal.returns-in-Ok-answer
+returns-in-Ok-answer c =
+    (c.receive.new.self, record { receives = c.in-Ok.ensures.receives; rest = c.receive.ensures.rest; still = c.receive.ensures.still }, c.in-Ok-answer.ensures)
 
-pub returns-in-Err-answer-clause-err : goal.returns-in-Err-answer-clause-err
-returns-in-Err-answer-clause-err c =
-    took_part c.args.self.now c.receive.new.self c.answer.new.self c.args.packet.now c.in-Ok.got (bodies c.args.out.now.items) (bodies c.answer.new.out.items) c.args.reports.now.items c.answer.new.reports.items c.in-Err-answer.fault c.receive.ensures.rest
-    (record { receives = c.in-Ok.ensures.receives; still = subst (HasStill c.args.self.now) c.receive.ensures.rest c.receive.ensures.still }) c.in-Err-answer.ensures.err
+pub returns-in-Err-answer : goal.returns-in-Err-answer
+returns-in-Err-answer c =
+    (c.receive.new.self, record { receives = c.in-Ok.ensures.receives; rest = c.receive.ensures.rest; still = c.receive.ensures.still }, c.in-Err-answer.ensures)

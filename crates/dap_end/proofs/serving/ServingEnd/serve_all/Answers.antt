@@ -1,5 +1,6 @@
 use Rattle.std.proofs.Common.{sym, subst, ap, ◌∙◌, inl, inr, refl}
 use Rattle.nsp_link.specs.declared.fault.LinkFault.TheVariants.{NoMemory}
+use Rattle.dap_end.specs.declared.fault.EndFault.TheVariants as end_fault
 use Rattle.dap_end.specs.Serving.{ServingValue}
 use Rattle.dap_end.specs.Taking.{ServedUp, ServeFault, begins}
 use Rattle.dap_end.proofs.Proceeding.{on_more, works_here}
@@ -26,9 +27,9 @@ messages-preserved c =
 pub returns-in-Err-serve-clause-err : goal.returns-in-Err-serve-clause-err
 returns-in-Err-serve-clause-err c =
     let none = c.in-Err-serve.ensures.no_memory in
-    subst (λ (v : ServingValue). ServeFault c.args.self.now v NoMemory) (sym none.0) (inr (refl, (c.messages.self, _, c.messages.invariant, c.in-Ok.ensures.ok), none.1))
+    subst (λ (v : ServingValue). ServeFault c.args.self.now v (end_fault.Link NoMemory)) (sym none.0) (inr (refl, (c.messages.self, _, c.messages.invariant, c.in-Ok.ensures.ok), none.1))
 
 pub returns-in-Err-clause-err : goal.returns-in-Err-clause-err
 returns-in-Err-clause-err c =
     let refused = c.in-Err.ensures.err in
-    subst (λ (v : ServingValue). ServeFault c.args.self.now v c.in-Err.fault) (sym refused.0) (inl (c.messages.invariant, refused.1))
+    subst (λ (v : ServingValue). ServeFault c.args.self.now v (end_fault.Link c.in-Err.fault)) (sym refused.0) (inl (c.messages.invariant, refused.1))

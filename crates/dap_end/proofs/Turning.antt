@@ -1,0 +1,188 @@
+-- What both ends do alike: how it comes about, and that it follows from what the end did and what came, want of memory aside.
+use Rattle.std.proofs.Common.{◌≡◌, ◌≢◌, ℕ, refl, sym, ◌∙◌, subst, ap, false, true≢false, List, inl, inr}
+use Rattle.std.specs.Prelude.{Result, Ok, Err, OnOk, IfErr}
+use Rattle.dap_fields.specs.Spelling.{AreBytes}
+use Rattle.nsp_link.specs.declared.link.Got.{Got}
+use Rattle.nsp_link.specs.declared.fault.LinkFault.{LinkFault}
+use Rattle.nsp_link.specs.declared.fault.LinkFault.TheVariants as fault
+use Rattle.nsp_link.specs.Link.{Sends, MaySend}
+use Rattle.nsp_link.specs.Receiving.{Receives}
+use Rattle.dap_end.specs.declared.fault.EndFault.{EndFault}
+use Rattle.dap_end.specs.declared.fault.EndFault.TheVariants as end_fault
+use Rattle.dap_end.specs.declared.fault.TakeFault.{TakeFault}
+use Rattle.dap_end.specs.declared.fault.TakeFault.TheVariants as take_fault
+use Rattle.dap_end.specs.Ports.{PortValue, with_link}
+use Rattle.dap_end.specs.Writing.{IsFull, sent_more, WroteAll, AnsweredAll, AnsweredPart}
+use Rattle.dap_end.specs.Turns.{EndOf, DidAndWrote, WentOn, Answered, TookIn, TookThen, Takes}
+use Rattle.dap_end.specs.Wanting.{is_want, went_wanting, took_wanting}
+use Rattle.dap_end.specs.Inner.Answered.{ended_by}
+use Rattle.dap_end.proofs.Writing.{all_wrote, answered_one}
+use Rattle.dap_end.proofs.Refusing.{receives_same}
+
+-- ---- How it comes about.
+
+abbrev linked : LinkFault → EndFault
+linked f = end_fault.Link f
+
+-- what only packets were written of stays
+abbrev pub StaysSent : {V : Type 0} → EndOf V → V → V → Type 0
+StaysSent end mid new = (n : ℕ) → end.port new ≡ sent_more (end.port mid) n → end.still mid new
+
+pub went_by : {V : Type 0} (end : EndOf V) (old mid new : V) (out all : List (List ℕ)) (r : Result (Unit {0}) LinkFault) → end.does old mid → new ≡ end.with_port mid (end.port new) → StaysSent end mid new
+    → WroteAll (end.port mid) (end.port new) out all → OnOk r (IsFull (end.port new).link) → IfErr r (λ f. (f ≡ fault.NoMemory) × MaySend (end.port new).link) → WentOn end old new out all (ended_by r)
+went_by end old mid new out all (Ok u) done rest still w full why = record { mid = mid; done = done; rest = rest; still = still _ w.2.sent; wrote = (w, full) }
+went_by end old mid new out all (Err f) done rest still w full why = inr (ap linked why.0, record { mid = mid; done = done; rest = rest; still = still _ w.2.sent; wrote = (w, why.1) })
+
+pub answered_by : {V : Type 0} (end : EndOf V) (old mid new : V) (got : Got) (out all : List (List ℕ)) (r : Result (Unit {0}) LinkFault) → end.does old mid → new ≡ end.with_port mid (end.port new) → StaysSent end mid new
+    → OnOk r (AnsweredAll (end.port mid) (end.port new) got out all) → IfErr r (λ f. (f ≡ fault.NoMemory) × AnsweredPart (end.port mid) (end.port new) got out all) → Answered end old new got out all (ended_by r)
+answered_by end old mid new got out all (Ok u) done rest still w why = record { mid = mid; done = done; rest = rest; still = still _ w.2.wrote.sent; wrote = w }
+answered_by end old mid new got out all (Err f) done rest still w why = inr (ap linked why.0, record { mid = mid; done = done; rest = rest; still = still _ why.1.wrote.sent; wrote = why.1 })
+
+-- ---- Results.
+
+abbrev got_by : Got → Result Got LinkFault
+got_by got = Ok got
+
+abbrev not_got : LinkFault → Result Got LinkFault
+not_got f = Err f
+
+ok_apart : (g : Got) (f : LinkFault) → got_by g ≡ not_got f → ⊥
+ok_apart g f e = cc
+
+ok_same : (g h : Got) → got_by g ≡ got_by h → g ≡ h
+ok_same g h e = cc
+
+err_same : (f g : LinkFault) → not_got f ≡ not_got g → f ≡ g
+err_same f g e = cc
+
+abbrev done_by : Result (Unit {0}) EndFault
+done_by = Ok tt
+
+abbrev failed_by : EndFault → Result (Unit {0}) EndFault
+failed_by f = Err f
+
+pub did_apart : (f : EndFault) → done_by ≡ failed_by f → ⊥
+did_apart f e = cc
+
+pub failed_same : (f g : EndFault) → failed_by f ≡ failed_by g → f ≡ g
+failed_same f g e = cc
+
+abbrev took : Got → Result Got TakeFault
+took got = Ok got
+
+abbrev refused : LinkFault → Result Got TakeFault
+refused f = Err (take_fault.Refused f)
+
+abbrev unfinished : Got → EndFault → Result Got TakeFault
+unfinished got f = Err (take_fault.Unfinished got f)
+
+-- what is no want isn't this
+pub no_want : (f : LinkFault) → is_want (end_fault.Link f) ≡ false → f ≢ fault.NoMemory
+no_want f e k = true≢false (sym (ap (λ (x : LinkFault). is_want (end_fault.Link x)) k) ∙ e)
+
+pub wants_none : (f : LinkFault) → f ≢ fault.NoMemory → is_want (end_fault.Link f) ≡ false
+wants_none fault.NoMemory n = absurd (n refl)
+wants_none f n = refl
+
+-- ---- It is determined.
+
+-- Two ends that are alike do alike: all of it, or they stop alike.
+pub record DoAlike {V : Type 0} (e d : EndOf V) (alike : V → V → Type 0) (known : V → Type 0) (told : Type 0) : Type 0 where
+  pub port : (a b : V) → alike a b → e.port a ≡ d.port b
+  pub moved : (a b : V) (p q : PortValue) → alike a b → p ≡ q → alike (e.with_port a p) (d.with_port b q)
+  pub sends : (v : V) → known v → (handed : List (List ℕ)) × Sends (e.port v).link handed
+  pub stays : (old new : V) (p : PortValue) → known old → new ≡ e.with_port old p → e.still old new → ((handed : List (List ℕ)) → Sends (e.port old).link handed → Sends (e.port new).link handed) → known new
+  pub does : (old other one two : V) → known old → alike old other → e.does old one → d.does other two → alike one two × told × known one
+  pub stops : (old other one two : V) (f g : EndFault) → known old → alike old other → is_want f ≡ false → is_want g ≡ false → e.stops old one f → d.stops other two g → alike one two × (f ≡ g) × told × known one
+  pub apart : (old other one two : V) (f : EndFault) → known old → alike old other → is_want f ≡ false → e.does old one → d.stops other two f → ⊥
+  pub apart_back : (old other one two : V) (f : EndFault) → known old → alike old other → is_want f ≡ false → e.stops old one f → d.does other two → ⊥
+  pub quiet : e.quiet → d.quiet → told
+
+sent_sends : (p q : PortValue) (n : ℕ) (handed : List (List ℕ)) → q ≡ sent_more p n → Sends p.link handed → Sends q.link handed
+sent_sends p q n handed e s = subst (λ (x : PortValue). Sends x.link handed) (sym e) (record { queue = s.queue; acked = s.acked })
+
+abbrev Relation : Type 1
+Relation = PortValue → PortValue → Type 0
+
+module _ {V : Type 0} (e d : EndOf V) (alike : V → V → Type 0) (known : V → Type 0) (told : Type 0) (by : DoAlike e d alike known told) where
+  moved_to : (a b one two : V) (p q : PortValue) → alike a b → one ≡ e.with_port a p → two ≡ d.with_port b q → p ≡ q → alike one two
+  moved_to a b one two p q like ra rb same =
+      subst (λ (v : V). alike v two) (sym ra) (subst (λ (v : V). alike (e.with_port a p) v) (sym rb) (by.moved a b p q like same))
+
+  did_same : (whole part as_whole as_part : Relation) (out xs ys : List (List ℕ)) → ((p one two : PortValue) (handed : List (List ℕ)) → Sends p.link handed → whole p one → as_whole p two → (one ≡ two) × (xs ≡ ys))
+      → ((p q : PortValue) → whole p q → (n : ℕ) × (q ≡ sent_more p n)) → (old other one two : V) (r s : Result (Unit {0}) EndFault) → known old → alike old other → went_wanting r ≡ false → went_wanting s ≡ false
+      → DidAndWrote e whole part (xs ≡ out) old one r → DidAndWrote d as_whole as_part (ys ≡ out) other two s → alike one two × (r ≡ s) × (xs ≡ ys) × told × known one
+  did_same whole part as_whole as_part out xs ys same count old other one two (Ok u) (Ok w) k like nr ns a b =
+      let t = by.does old other a.mid b.mid k like a.done b.done in
+      let sent = by.sends a.mid t.2 in
+      let wb : as_whole (e.port a.mid) (d.port two) = subst (λ (p : PortValue). as_whole p (d.port two)) (sym (by.port a.mid b.mid t.0)) b.wrote in
+      let w = same (e.port a.mid) (e.port one) (d.port two) sent.0 sent.1 a.wrote wb in
+      let n = count (e.port a.mid) (e.port one) a.wrote in (
+        moved_to a.mid b.mid one two _ _ t.0 a.rest b.rest w.0,
+        refl,
+        w.1,
+        t.1,
+        by.stays a.mid one _ t.2 a.rest a.still (λ handed s. sent_sends (e.port a.mid) (e.port one) n.0 handed n.1 s),
+      )
+  did_same whole part as_whole as_part out xs ys same count old other one two (Ok u) (Err g) k like nr ns a (inl b) = absurd (by.apart old other a.mid two g k like ns a.done b.0)
+  did_same whole part as_whole as_part out xs ys same count old other one two (Ok u) (Err g) k like nr ns a (inr b) = absurd (true≢false (sym (ap is_want b.0) ∙ ns))
+  did_same whole part as_whole as_part out xs ys same count old other one two (Err f) (Ok w) k like nr ns (inl a) b = absurd (by.apart_back old other one b.mid f k like nr a.0 b.done)
+  did_same whole part as_whole as_part out xs ys same count old other one two (Err f) (Ok w) k like nr ns (inr a) b = absurd (true≢false (sym (ap is_want a.0) ∙ nr))
+  did_same whole part as_whole as_part out xs ys same count old other one two (Err f) (Err g) k like nr ns (inl a) (inl b) =
+      let t = by.stops old other one two f g k like nr ns a.0 b.0 in (t.0, ap failed_by t.1, a.1 ∙ sym b.1, t.2, t.3)
+  did_same whole part as_whole as_part out xs ys same count old other one two (Err f) (Err g) k like nr ns (inl a) (inr b) = absurd (true≢false (sym (ap is_want b.0) ∙ ns))
+  did_same whole part as_whole as_part out xs ys same count old other one two (Err f) (Err g) k like nr ns (inr a) b = absurd (true≢false (sym (ap is_want a.0) ∙ nr))
+
+  pub went_same : (old other one two : V) (out xs ys : List (List ℕ)) (r s : Result (Unit {0}) EndFault) → known old → alike old other → went_wanting r ≡ false → went_wanting s ≡ false
+      → WentOn e old one out xs r → WentOn d other two out ys s → alike one two × (r ≡ s) × (xs ≡ ys) × told × known one
+  went_same old other one two out xs ys r s k like nr ns a b =
+      did_same _ _ _ _ out xs ys (λ p one two handed sends w v. all_wrote p one two handed out xs ys sends w.0 v.0 w.1 v.1) (λ p q w. (_, w.0.2.sent)) old other one two r s k like nr ns a b
+
+  answered_same : (old other one two : V) (got : Got) (out xs ys : List (List ℕ)) (r s : Result (Unit {0}) EndFault) → known old → alike old other → went_wanting r ≡ false → went_wanting s ≡ false
+      → Answered e old one got out xs r → Answered d other two got out ys s → alike one two × (r ≡ s) × (xs ≡ ys) × told × known one
+  answered_same old other one two got out xs ys r s k like nr ns a b =
+      did_same _ _ _ _ out xs ys (λ p one two handed sends w v. answered_one p one two handed got out xs ys sends w v) (λ p q w. (_, w.2.wrote.sent)) old other one two r s k like nr ns a b
+
+  in_same : (old other one two : V) (bytes : List ℕ) (r s : Result Got LinkFault) → AreBytes bytes → known old → alike old other → r ≢ Err fault.NoMemory → s ≢ Err fault.NoMemory
+      → TookIn e old one bytes r → TookIn d other two bytes s → (r ≡ s) × alike one two × known one
+  in_same old other one two bytes r s fits k like nr ns a b =
+      let port = by.port old other like in
+      let rb : Receives (e.port old).link (d.port two).link bytes s = subst (λ (p : PortValue). Receives p.link (d.port two).link bytes s) (sym port) b.receives in
+      let t = receives_same (e.port old).link (e.port one).link (d.port two).link bytes r s fits nr ns a.receives rb in
+      let there = ap (with_link (e.port old)) t.1 ∙ ap (λ (p : PortValue). with_link p (d.port two).link) port in
+      (t.0, moved_to old other one two _ _ like a.rest b.rest there, by.stays old one _ k a.rest a.still a.receives.sends)
+
+  then_same : (old other one two : V) (bytes : List ℕ) (g h : Got) (out xs ys : List (List ℕ)) (r s : Result (Unit {0}) EndFault) → AreBytes bytes → known old → alike old other → went_wanting r ≡ false → went_wanting s ≡ false
+      → TookThen e old one bytes g out xs r → TookThen d other two bytes h out ys s → alike one two × ((g ≡ h) × (r ≡ s)) × (xs ≡ ys) × told × known one
+  then_same old other one two bytes g h out xs ys r s fits k like nr ns a b =
+      let i = in_same old other a.0 b.0 bytes (Ok g) (Ok h) fits k like (ok_apart g fault.NoMemory) (ok_apart h fault.NoMemory) a.1 b.1 in
+      let gots = ok_same g h i.0 in
+      let t = answered_same a.0 b.0 one two g out xs ys r s i.2 i.1 nr ns a.2 (subst (λ (x : Got). Answered d b.0 two x out ys s) (sym gots) b.2) in
+      (t.0, (gots, t.1), t.2, t.3, t.4)
+
+  in_apart : (old other one two : V) (bytes : List ℕ) (g : Got) (f : LinkFault) → AreBytes bytes → known old → alike old other → is_want (end_fault.Link f) ≡ false → TookIn e old one bytes (Ok g) → TookIn d other two bytes (Err f) → ⊥
+  in_apart old other one two bytes g f fits k like n a b =
+      ok_apart g f (in_same old other one two bytes (Ok g) (Err f) fits k like (ok_apart g fault.NoMemory) (λ e. no_want f n (err_same f fault.NoMemory e)) a b).0
+
+  apart_in : (old other one two : V) (bytes : List ℕ) (g : Got) (f : LinkFault) → AreBytes bytes → known old → alike old other → is_want (end_fault.Link f) ≡ false → TookIn e old one bytes (Err f) → TookIn d other two bytes (Ok g) → ⊥
+  apart_in old other one two bytes g f fits k like n a b =
+      ok_apart g f (sym (in_same old other one two bytes (Err f) (Ok g) fits k like (λ e. no_want f n (err_same f fault.NoMemory e)) (ok_apart g fault.NoMemory) a b).0)
+
+  pub took_same : (old other one two : V) (bytes : List ℕ) (out xs ys : List (List ℕ)) (r s : Result Got TakeFault) → AreBytes bytes → known old → alike old other → took_wanting r ≡ false → took_wanting s ≡ false
+      → Takes e old one bytes out xs r → Takes d other two bytes out ys s → alike one two × (r ≡ s) × (xs ≡ ys) × told × known one
+  took_same old other one two bytes out xs ys (Ok g) (Ok h) fits k like nr ns a b =
+      let t = then_same old other one two bytes g h out xs ys (Ok tt) (Ok tt) fits k like refl refl a b in (t.0, ap took t.1.0, t.2, t.3, t.4)
+  took_same old other one two bytes out xs ys (Ok g) (Err (take_fault.Refused f)) fits k like nr ns a b = absurd (in_apart old other a.0 two bytes g f fits k like ns a.1 b.0)
+  took_same old other one two bytes out xs ys (Ok g) (Err (take_fault.Unfinished h f)) fits k like nr ns a b =
+      absurd (did_apart f (then_same old other one two bytes g h out xs ys (Ok tt) (Err f) fits k like refl ns a b).1.1)
+  took_same old other one two bytes out xs ys (Err (take_fault.Refused f)) (Ok h) fits k like nr ns a b = absurd (apart_in old other one b.0 bytes h f fits k like nr a.0 b.1)
+  took_same old other one two bytes out xs ys (Err (take_fault.Refused f)) (Err (take_fault.Refused g)) fits k like nr ns a b =
+      let t = in_same old other one two bytes (Err f) (Err g) fits k like (λ e. no_want f nr (err_same f fault.NoMemory e)) (λ e. no_want g ns (err_same g fault.NoMemory e)) a.0 b.0 in
+      (t.1, ap refused (err_same f g t.0), a.1 ∙ sym b.1, by.quiet a.2 b.2, t.2)
+  took_same old other one two bytes out xs ys (Err (take_fault.Refused f)) (Err (take_fault.Unfinished h g)) fits k like nr ns a b = absurd (apart_in old other one b.0 bytes h f fits k like nr a.0 b.1)
+  took_same old other one two bytes out xs ys (Err (take_fault.Unfinished g f)) (Ok h) fits k like nr ns a b =
+      absurd (did_apart f (sym (then_same old other one two bytes g h out xs ys (Err f) (Ok tt) fits k like nr refl a b).1.1))
+  took_same old other one two bytes out xs ys (Err (take_fault.Unfinished g f)) (Err (take_fault.Refused h)) fits k like nr ns a b = absurd (in_apart old other a.0 two bytes g h fits k like ns a.1 b.0)
+  took_same old other one two bytes out xs ys (Err (take_fault.Unfinished g f)) (Err (take_fault.Unfinished h i)) fits k like nr ns a b =
+      let t = then_same old other one two bytes g h out xs ys (Err f) (Err i) fits k like nr ns a b in
+      (t.0, ap (λ (x : Got). unfinished x f) t.1.0 ∙ ap (unfinished h) (failed_same f i t.1.1), t.2, t.3, t.4)
