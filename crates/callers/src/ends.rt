@@ -7,6 +7,7 @@ use nsp_link::LinkSetup;
 use std::alloc::Global;
 use std::io::Write;
 
+/// The limits of the link of an end with these addresses.
 fn setup(local: u16, remote: u16) -> LinkSetup {
     LinkSetup {
         local,

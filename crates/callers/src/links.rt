@@ -5,6 +5,7 @@ use nsp_link::{LinkEnd, LinkSetup};
 use std::alloc::Global;
 use std::io::Write;
 
+/// The limits of an end with these addresses.
 fn setup(local: u16, remote: u16) -> LinkSetup {
     LinkSetup {
         local,

@@ -16,6 +16,7 @@ use std::io::Write;
 use std::process::ExitCode;
 use trouble::Trouble;
 
+/// Calls each library.
 fn call_all<W: Write>(alloc: Global, out: &mut W) -> Result<(), Trouble> {
     messages::call(alloc, out)?;
     links::call(alloc, out)?;

@@ -33,19 +33,19 @@ use Rattle.std.specs.List.{prefix_len, AllByRecursion}
 use Rattle.std.proofs.lemmas.List.Sums.{take_while-cons}
 use Rattle.dap_msg.specs.BothEnds.{config_of, limit_of}
 use Rattle.dap_accessed.specs.Standing.{Files, enters}
-use Rattle.dap_accessed.specs.Standing.{place_of, file_at, the_file, Place, Fresh, Ready, Opened, Connected, Store, Stopped, Standing, Scene, Effect}
-use Rattle.dap_accessed.specs.Past.{Memory, looked_back, next_ordinal}
+use Rattle.dap_accessed.specs.Standing.{place_of, file_at, the_file, Place, Fresh, Ready, Opened, Connected, Store, Stopped, Group, Standing, Scene, Effect}
+use Rattle.dap_accessed.specs.Past.{asked_shape, kept_attributes, is_dropping, ordinal_so_far, next_ordinal}
 use Rattle.dap_accessed.specs.Replies.{bare_status, reason_status, sync_status, reason_of, refusal_status, done_status, record_status, too_large, completed, org_number, format_number, opened_with}
-use Rattle.dap_accessed.specs.Accesses.{open_file, create_file, access_file, complete}
+use Rattle.dap_accessed.specs.Accesses.{open_file, create_file, access_file, end_stream, complete}
 use Rattle.dap_accessed.specs.Records.{at_number, uncurrent, verb_of, get_pick, got, record_got, Change, Putting, Updating, changed, fits_limit, filedata_of}
 use Rattle.dap_accessed.specs.Transfers.{fetch, fetch_ends, continue_refused, continue_fetch, store_one, stored_answers, continue_store}
 use Rattle.dap_msg.specs.BothEnds.{is_too_small}
 use Rattle.dap_accessed.specs.Effects.{Begun, Turn, control_status, control_opened, control_connected, turn_in, turn_of, effect_with}
-use Rattle.dap_accessed.specs.Groups.{Answers, scene_of, stands_after, added}
+use Rattle.dap_accessed.specs.Groups.{Answers, stands_after, added}
 use Rattle.dap_accessed.specs.Sound.{AreFiles, IsOpenAt, IsSound}
 use Rattle.dap_accessed.proofs.Kept.{both}
 use Rattle.dap_accessed.proofs.SoundTables.{AllFiles, file-there}
-use Rattle.dap_accessed.proofs.SoundGroups.{Good, good-memory, place-within}
+use Rattle.dap_accessed.proofs.SoundGroups.{Good, good-shape, place-within}
 use Rattle.dap_accessed.proofs.SoundLists.{all-sound}
 use Rattle.dap_accessed.proofs.Writing.{org_small, format_small}
 
@@ -131,7 +131,7 @@ module _ (limit : ℕ) (least : least_buffer ≤ limit) where
   all_recorded (r ∷ rs) h =
       subst (λ (l : List (ℕ × List ℕ)). AreSendable limit (map filedata_of l)) (sym (take_while-cons (fits_limit limit) r rs)) (leads r rs (fits_limit limit r) refl h.0 (all_recorded rs h.1))
 
-module _ (scene : Scene) (own : scene.own < 2 ^ 16) (files : AllFiles scene.files) (least : least_buffer ≤ scene.limit) where
+module _ (own : ℕ) (small_own : own < 2 ^ 16) (scene : Scene) (files : AllFiles scene.files) (least : least_buffer ≤ scene.limit) where
   abbrev Sends : Effect → Type 0
   Sends e = AreSendable scene.limit e.answers
 
@@ -158,11 +158,19 @@ module _ (scene : Scene) (own : scene.own < 2 ^ 16) (files : AllFiles scene.file
       either (a.func == codes.accfunc.opening) _ _ (opening a.fac (place_of a.name scene.files) (place-within a.name scene.files))
       (either (a.func == codes.accfunc.creating) _ _ (creating a.name a.fac (place_of a.name scene.files) shape g) (bare scene.limit least 0x20C0 (lit< tt), tt))
 
-  completing-sends : (func : ℕ) (o : OpenFile) (place : Place) (ends : Effect) → Sends ends → Sends (complete func scene o place ends)
-  completing-sends func o place ends h =
+  ending-sends : (o : OpenFile) (place : Place) → Sends (end_stream scene o place)
+  ending-sends o (Opened p) = (bare scene.limit least (codes.out_of_place codes.types.accomp) (lit< tt), tt)
+  ending-sends o Fresh = (ended scene.limit least, tt)
+  ending-sends o Ready = (ended scene.limit least, tt)
+  ending-sends o (Connected p s) = (ended scene.limit least, tt)
+  ending-sends o (Store p s) = (ended scene.limit least, tt)
+  ending-sends o (Stopped p s) = (ended scene.limit least, tt)
+
+  completing-sends : (func : ℕ) (o : OpenFile) (place : Place) → Sends (complete func scene o place)
+  completing-sends func o place =
       either (func == codes.cmpfunc.close) _ _ (ended scene.limit least, tt)
       (either (func == codes.cmpfunc.purge) _ _ (ended scene.limit least, tt)
-      (either (func == codes.cmpfunc.end_of_stream) _ _ h
+      (either (func == codes.cmpfunc.end_of_stream) _ _ (ending-sends o place)
       (either (func == codes.cmpfunc.skip) _ _ (bare scene.limit least 0x21C0 (lit< tt), tt) (bare scene.limit least 0x91C0 (lit< tt), tt))))
 
   -- ---- Records.
@@ -248,52 +256,52 @@ module _ (scene : Scene) (own : scene.own < 2 ^ 16) (files : AllFiles scene.file
     with-second change s (Whole (Filedata r body)) h = second change s body
     with-second change s (Whole message) h = (out scene.limit least message h, tt)
 
-  configuring : (small : Bool) (bufsiz : ℕ) → AreSendable scene.limit (if small then enters scene Fresh (bare_status (codes.invalid codes.types.config) ∷ []) else enters (record scene { limit = limit_of bufsiz }) Ready (config_of scene.own ∷ [])).answers
+  configuring : (small : Bool) (bufsiz : ℕ) → AreSendable scene.limit (if small then enters scene Fresh (bare_status (codes.invalid codes.types.config) ∷ []) else enters (record scene { limit = limit_of bufsiz }) Ready (config_of own ∷ [])).answers
   configuring true bufsiz = (bare scene.limit least 0x9040 (lit< tt), tt)
-  configuring false bufsiz = (short scene.limit least _ (answers_fit.config scene.own own), tt)
+  configuring false bufsiz = (short scene.limit least _ (answers_fit.config own small_own), tt)
 
-  of-message : (memory : Memory) → Good memory.shape → (place : Place) → IsOpenAt scene.files place → (m : Message) → type_of m < 256 → SendsIn (turn_in scene memory place m)
-  of-message memory g Fresh h (Config c) t = configuring (is_too_small c.bufsiz) c.bufsiz
-  of-message memory g Fresh h (Other _ _) t = tt
-  of-message memory g Fresh h m t = (out scene.limit least m t, tt)
-  of-message memory g Ready h (Other _ _) t = tt
-  of-message memory g Ready h (Attrib _) t = tt
-  of-message memory g Ready h (Access a) t = accessing a memory.shape g
-  of-message memory g Ready h m t = (out scene.limit least m t, tt)
-  of-message memory g (Opened o) h (Control c) t = opened-control o h (verb_of c)
-  of-message memory g (Opened o) h (Accomp c) t = completing-sends c.func o (Opened o) _ (out scene.limit least (Accomp c) t, tt)
-  of-message memory g (Opened o) h m t = (out scene.limit least m t, tt)
-  of-message memory g (Connected o s) h (Control c) t = connected-control o h (verb_of c) s c
-  of-message memory g (Connected o s) h (Accomp c) t = completing-sends c.func o (Connected o s) _ (ended scene.limit least, tt)
-  of-message memory g (Connected o s) h m t = (out scene.limit least m t, tt)
-  of-message memory g (Store o s) h (Control c) t = (misplaced scene.limit least (verb_of c), tt)
-  of-message memory g (Store o s) h (Filedata r body) t = either memory.dropping _ _ tt (storing o h memory.ordinal s body)
-  of-message memory g (Store o s) h (Contran func) t = either memory.dropping _ _ (resuming o h func s) (bare scene.limit least (codes.out_of_place codes.types.contran) (lit< tt), tt)
-  of-message memory g (Store o s) h (Accomp c) t = completing-sends c.func o (Store o s) _ (ended scene.limit least, tt)
-  of-message memory g (Store o s) h m t = (out scene.limit least m t, tt)
-  of-message memory g (Stopped o s) h (Control c) t = (misplaced scene.limit least (verb_of c), tt)
-  of-message memory g (Stopped o s) h (Contran func) t = continuing o h func s
-  of-message memory g (Stopped o s) h (Accomp c) t = completing-sends c.func o (Stopped o s) _ (ended scene.limit least, tt)
-  of-message memory g (Stopped o s) h m t = (out scene.limit least m t, tt)
+  of-message : (past : List Group) (place : Place) → IsOpenAt scene.files place → (m : Message) → type_of m < 256 → SendsIn (turn_in own scene past place m)
+  of-message past Fresh h (Config c) t = configuring (is_too_small c.bufsiz) c.bufsiz
+  of-message past Fresh h (Other _ _) t = tt
+  of-message past Fresh h m t = (out scene.limit least m t, tt)
+  of-message past Ready h (Other _ _) t = tt
+  of-message past Ready h (Attrib _) t = tt
+  of-message past Ready h (Access a) t = accessing a (asked_shape (kept_attributes past)) (good-shape (kept_attributes past))
+  of-message past Ready h m t = (out scene.limit least m t, tt)
+  of-message past (Opened o) h (Control c) t = opened-control o h (verb_of c)
+  of-message past (Opened o) h (Accomp c) t = completing-sends c.func o (Opened o)
+  of-message past (Opened o) h m t = (out scene.limit least m t, tt)
+  of-message past (Connected o s) h (Control c) t = connected-control o h (verb_of c) s c
+  of-message past (Connected o s) h (Accomp c) t = completing-sends c.func o (Connected o s)
+  of-message past (Connected o s) h m t = (out scene.limit least m t, tt)
+  of-message past (Store o s) h (Control c) t = (misplaced scene.limit least (verb_of c), tt)
+  of-message past (Store o s) h (Filedata r body) t = either (is_dropping past) _ _ tt (storing o h (ordinal_so_far past) s body)
+  of-message past (Store o s) h (Contran func) t = either (is_dropping past) _ _ (resuming o h func s) (bare scene.limit least (codes.out_of_place codes.types.contran) (lit< tt), tt)
+  of-message past (Store o s) h (Accomp c) t = completing-sends c.func o (Store o s)
+  of-message past (Store o s) h m t = (out scene.limit least m t, tt)
+  of-message past (Stopped o s) h (Control c) t = (misplaced scene.limit least (verb_of c), tt)
+  of-message past (Stopped o s) h (Contran func) t = continuing o h func s
+  of-message past (Stopped o s) h (Accomp c) t = completing-sends c.func o (Stopped o s)
+  of-message past (Stopped o s) h m t = (out scene.limit least m t, tt)
 
-  of-item : (memory : Memory) → Good memory.shape → (place : Place) → IsOpenAt scene.files place → (item : Item) → HasShortType item → SendsIn (turn_of scene memory place item)
-  of-item memory g place h (Malformed fault) t = (malformed scene.limit least fault.message_type, tt)
-  of-item memory g place h (Whole m) t = of-message memory g place h m t
+  of-item : (past : List Group) (place : Place) → IsOpenAt scene.files place → (item : Item) → HasShortType item → SendsIn (turn_of own (record { scene = scene; place = place; past = past }) item)
+  of-item past place h (Malformed fault) t = (malformed scene.limit least fault.message_type, tt)
+  of-item past place h (Whole m) t = of-message past place h m t
 
 -- ---- One item more, and every list of items.
 
 module _ (own : ℕ) (small : own < 2 ^ 16) (first : Files) (good : AreFiles first) where
-  one-sends : (s : Standing) (b : Option Begun) (item : Item) → IsSound (record { standing = s; begun = b }) → HasShortType item → AreSendable s.limit (answers_after own s b item)
+  one-sends : (s : Standing) (b : Option Begun) (item : Item) → IsSound (record { standing = s; begun = b }) → HasShortType item → AreSendable s.scene.limit (answers_after own s b item)
   one-sends s None item h t =
       let h = h.standing in
-      of-item (scene_of own s) small h.files.files h.least (looked_back s.place s.past) (good-memory s.place s.past) s.place h.opened item t
-  one-sends s (Some b) item h t = with-second (scene_of own s) small h.standing.files.files h.standing.least b.opened h.begun b.change b.stream item t
+      of-item own small s.scene h.files.files h.least s.past s.place h.opened item t
+  one-sends s (Some b) item h t = with-second own small s.scene h.standing.files.files h.standing.least b.opened h.begun b.change b.stream item t
 
   -- what one item more adds may be sent
-  pub added-sends : (items : List Item) (item : Item) → HasShortType item → AreSendable (stands_after own first items).standing.limit (added own first items item)
+  pub added-sends : (items : List Item) (item : Item) → HasShortType item → AreSendable (stands_after own first items).standing.scene.limit (added own first items item)
   added-sends items item t =
       let c = stands_after own first items in
-      subst (AreSendable c.standing.limit) (sym (added-is own first items item)) (one-sends c.standing c.begun item (all-sound own first items good) t)
+      subst (AreSendable c.standing.scene.limit) (sym (added-is own first items item)) (one-sends c.standing c.begun item (all-sound own first items good) t)
 
 -- ---- All answers to items that were read have spellings.
 
@@ -309,7 +317,7 @@ fit-on : (own : ℕ) → own < 2 ^ 16 → (first : Files) → AreFiles first →
 fit-on own small first good before [] h r = subst (λ (l : List Item). AllFit (Answers own first l)) (sym (append-nil before)) h
 fit-on own small first good before (item ∷ more) h r =
     let here = added own first before item in
-    let fit : AllFit here = sendable-fit (stands_after own first before).standing.limit here (added-sends own small first good before item (read-short item r.0)) in
+    let fit : AllFit here = sendable-fit (stands_after own first before).standing.scene.limit here (added-sends own small first good before item (read-short item r.0)) in
     let one : AllFit (Answers own first (before ++ item ∷ [])) = subst AllFit (sym (Answers-more own first before item)) (fit-both (Answers own first before) here h fit) in
     subst (λ (l : List Item). AllFit (Answers own first l)) (append_assoc before (item ∷ []) more) (fit-on own small first good (before ++ item ∷ []) more one r.1)
 

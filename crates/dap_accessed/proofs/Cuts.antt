@@ -6,26 +6,26 @@ use Rattle.std.proofs.lemmas.List.{append-nil}
 use Rattle.dap_msg.specs.Message.{Message}
 use Rattle.dap_msg.specs.Items.{Item}
 use Rattle.dap_accessed.specs.Standing.{Files, Standing, start}
-use Rattle.dap_accessed.specs.Effects.{Begun, Turn, Does, Begins}
-use Rattle.dap_accessed.specs.Groups.{Grouped, turn_at, over, after_two, grouped, stands_after, added, answers_in, Answers}
+use Rattle.dap_accessed.specs.Effects.{Begun, Turn, Does, Begins, turn_of}
+use Rattle.dap_accessed.specs.Groups.{Grouped, over, after_two, grouped, stands_after, added, answers_in, Answers}
 use Rattle.dap_accessed.specs.Inner.Present.{present_of}
 use Rattle.dap_accessed.proofs.OneMore.{one_more, next_group, more_after, next_answers, answers_after, answers_of}
 
 pub cut-more : (own : ℕ) (s : Standing) (items : List Item) (item : Item) → grouped own s (items ++ item ∷ []) ≡ one_more own (grouped own s items) item
 cut-more own s [] item = refl
 cut-more own s (first ∷ []) item =
-    elim (turn_at own s first) as (λ (t : Turn).
-    ◌≡◌ {A = Grouped} (elim t [ Does effect ↦ grouped own (over s s.place first effect) (item ∷ []) | Begins begun ↦ grouped own (after_two own s begun item) [] ])
+    elim (turn_of own s first) as (λ (t : Turn).
+    ◌≡◌ {A = Grouped} (elim t [ Does effect ↦ grouped own (over s s.place first effect) (item ∷ []) | Begins begun ↦ grouped own (after_two s begun item) [] ])
     (one_more own (elim t [ Does effect ↦ record { standing = over s s.place first effect; begun = None } | Begins begun ↦ record { standing = s; begun = Some begun } ]) item)) [
       | Does effect ↦ refl
       | Begins begun ↦ refl
     ]
 cut-more own s (first ∷ second ∷ items) item =
-    elim (turn_at own s first) as (λ (t : Turn).
-    ◌≡◌ {A = Grouped} (elim t [ Does effect ↦ grouped own (over s s.place first effect) (second ∷ (items ++ item ∷ [])) | Begins begun ↦ grouped own (after_two own s begun second) (items ++ item ∷ []) ])
-    (one_more own (elim t [ Does effect ↦ grouped own (over s s.place first effect) (second ∷ items) | Begins begun ↦ grouped own (after_two own s begun second) items ]) item)) [
+    elim (turn_of own s first) as (λ (t : Turn).
+    ◌≡◌ {A = Grouped} (elim t [ Does effect ↦ grouped own (over s s.place first effect) (second ∷ (items ++ item ∷ [])) | Begins begun ↦ grouped own (after_two s begun second) (items ++ item ∷ []) ])
+    (one_more own (elim t [ Does effect ↦ grouped own (over s s.place first effect) (second ∷ items) | Begins begun ↦ grouped own (after_two s begun second) items ]) item)) [
       | Does effect ↦ cut-more own (over s s.place first effect) (second ∷ items) item
-      | Begins begun ↦ cut-more own (after_two own s begun second) items item
+      | Begins begun ↦ cut-more own (after_two s begun second) items item
     ]
 
 next_answers-more : (s : Standing) (item : Item) (t : Turn) → answers_in (next_group s item t).standing.past ≡ answers_in s.past ++ next_answers t
@@ -33,7 +33,7 @@ next_answers-more s item (Does effect) = refl
 next_answers-more s item (Begins begun) = sym (append-nil (answers_in s.past))
 
 answers_after-more : (own : ℕ) (s : Standing) (b : Option Begun) (item : Item) → answers_in (more_after own s b item).standing.past ≡ answers_in s.past ++ answers_after own s b item
-answers_after-more own s None item = next_answers-more s item (turn_at own s item)
+answers_after-more own s None item = next_answers-more s item (turn_of own s item)
 answers_after-more own s (Some begun) item = refl
 
 Answers-then : (own : ℕ) (first : Files) (items : List Item) (item : Item) → Answers own first (items ++ item ∷ []) ≡ Answers own first items ++ answers_of own (stands_after own first items) item

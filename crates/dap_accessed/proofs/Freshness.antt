@@ -6,11 +6,11 @@ use Rattle.dap_msg.specs.Items.{Item, Whole, Malformed}
 use Rattle.rec_file.specs.Acts.{StreamVal}
 use Rattle.dap_accessed.specs.declared.phase.OpenFile.{OpenFile}
 use Rattle.dap_accessed.specs.declared.phase.Phase.TheVariants as phases
-use Rattle.dap_accessed.specs.Standing.{Files, Place, Standing, Scene, Fresh, Ready, Opened, Connected, Store, Stopped, start}
-use Rattle.dap_accessed.specs.Past.{Memory, looked_back}
+use Rattle.dap_accessed.specs.Standing.{Files, Place, Standing, Fresh, Ready, Opened, Connected, Store, Stopped, start}
+use Rattle.dap_accessed.specs.Inner.Present.{Memory, looked_back}
 use Rattle.dap_accessed.specs.Records.{Change, Putting, Updating}
 use Rattle.dap_accessed.specs.Effects.{Begun, Turn, Does, Begins, turn_of}
-use Rattle.dap_accessed.specs.Groups.{Grouped, scene_of, turn_at, stands_after}
+use Rattle.dap_accessed.specs.Groups.{Grouped, stands_after}
 use Rattle.dap_accessed.specs.Inner.Present.{Present, phase_at, phase_within, phase_of}
 use Rattle.dap_accessed.specs.Adding.{IsFresh, IsLate}
 use Rattle.dap_accessed.proofs.OneMore.{next_group, more_after}
@@ -46,17 +46,17 @@ is-fresh p e = record { is = λ first items h. (let c = stands_after p.own first
 abbrev IsWhole : Grouped → Type 0
 IsWhole c = c.standing.place ≡ Fresh → c.begun ≡ None
 
-does : (scene : Scene) (memory : Memory) (item : Item) (begun : Begun) → turn_of scene memory Fresh item ≡ Begins begun → ⊥
-does scene memory (Malformed fault) begun e = cc
-does scene memory (Whole message) begun e = cc
+does : (own : ℕ) (s : Standing) (item : Item) (begun : Begun) → turn_of own (record s { place = Fresh }) item ≡ Begins begun → ⊥
+does own s (Malformed fault) begun e = cc
+does own s (Whole message) begun e = cc
 
-whole-by : (own : ℕ) (s : Standing) (item : Item) (t : Turn) → turn_at own s item ≡ t → IsWhole (next_group s item t)
+whole-by : (own : ℕ) (s : Standing) (item : Item) (t : Turn) → turn_of own s item ≡ t → IsWhole (next_group s item t)
 whole-by own s item (Does effect) e = λ at. refl
 whole-by own s item (Begins begun) e = λ at.
-    absurd (does (scene_of own s) (looked_back s.place s.past) item begun (ap (λ (p : Place). turn_of (scene_of own s) (looked_back s.place s.past) p item) (sym at) ∙ e))
+    absurd (does own s item begun (ap (λ (p : Place). turn_of own (record s { place = p }) item) (sym at) ∙ e))
 
 whole-one : (own : ℕ) (s : Standing) (b : Option Begun) (item : Item) → IsWhole (more_after own s b item)
-whole-one own s None item = whole-by own s item (turn_at own s item) refl
+whole-one own s None item = whole-by own s item (turn_of own s item) refl
 whole-one own s (Some b) item = λ at. refl
 
 whole-on : (own : ℕ) (first : Files) (before more : List Item) → IsWhole (stands_after own first before) → IsWhole (stands_after own first (before ++ more))

@@ -5,7 +5,7 @@ use Rattle.dap_msg.specs.Message.{Accomp, Completion}
 use Rattle.rec_file.specs.Acts.{StreamVal}
 use Rattle.dap_accessed.specs.declared.phase.OpenFile.{OpenFile}
 use Rattle.dap_accessed.specs.Standing.{Store}
-use Rattle.dap_accessed.specs.Accesses.{complete, end_stream}
+use Rattle.dap_accessed.specs.Accesses.{complete}
 use Rattle.dap_accessed.specs.Present.{Present}
 use Rattle.dap_accessed.specs.Inner.Moves.{between, move_in, scene_in, settles, store_memory, store_phase}
 
@@ -19,6 +19,6 @@ store-moves true o s n p item = refl
 store-moves false o s n p item = refl
 
 pub store-completes : (d : Bool) (o : OpenFile) (s : StreamVal) (n : ℕ) (p : Present) (c : Completion) →
-    move_in (store_phase d o s n) p (Whole (Accomp c)) ≡ settles p (store_memory p.kept d n) (complete c.func (scene_in p) o (Store o s) (end_stream (scene_in p) o))
+    move_in (store_phase d o s n) p (Whole (Accomp c)) ≡ settles p (store_memory p.kept d n) (complete c.func (scene_in p) o (Store o s))
 store-completes true o s n p c = refl
 store-completes false o s n p c = refl

@@ -19,13 +19,13 @@ use Rattle.dap_accessed.specs.declared.verbs.Verb.{Verb}
 use Rattle.dap_accessed.specs.declared.verbs.Verb.TheVariants as verbs
 use Rattle.dap_accessed.specs.Standing.{Files, the_file, place_of, Place, Group, Standing, Scene, Effect, Fresh, Ready, Opened, Connected, Store, Stopped, enters}
 use Rattle.dap_accessed.specs.Replies.{bare_status}
-use Rattle.dap_accessed.specs.Past.{Memory, is_filedata, is_dropping, looked_back, ordinal_so_far}
-use Rattle.dap_accessed.specs.Accesses.{open_file, create_file, access_file, complete}
+use Rattle.dap_accessed.specs.Past.{is_filedata, is_dropping, ordinal_so_far}
+use Rattle.dap_accessed.specs.Accesses.{open_file, create_file, access_file, end_stream, complete}
 use Rattle.dap_accessed.specs.Records.{Change, Putting, Updating, got, record_got, at_number, verb_of, fits_limit, filedata_of}
 use Rattle.dap_accessed.specs.Transfers.{fetch, fetch_ends, continue_fetch, continue_refused}
 use Rattle.dap_accessed.specs.Effects.{Begun, effect_with, control_opened, control_connected}
 use Rattle.dap_accessed.specs.Groups.{stands_after}
-use Rattle.dap_accessed.specs.Inner.Present.{Present, StandsAfter, phase_at, phase_within, phase_of}
+use Rattle.dap_accessed.specs.Inner.Present.{Present, Memory, looked_back, StandsAfter, phase_at, phase_within, phase_of}
 use Rattle.dap_accessed.specs.Inner.Moves.{move_in, scene_in, begins_only, is_silent, plain_memory, turns}
 use Rattle.dap_accessed.specs.Served.{IsSilent}
 use Rattle.dap_accessed.proofs.StepIs.{answers-are}
@@ -58,11 +58,15 @@ module _ (scene : Scene) where
       either (a.func == codes.accfunc.opening) _ _ (opening a.fac (place_of a.name scene.files))
       (either (a.func == codes.accfunc.creating) _ _ (creating a.name a.fac (place_of a.name scene.files) shape) (λ e. cc))
 
-  completing : (func : ℕ) (o : OpenFile) (place : Place) (ends : Effect) → Answers ends → Answers (complete func scene o place ends)
-  completing func o place ends a =
+  ending-stream : (o : OpenFile) (place : Place) → Answers (end_stream scene o place)
+  ending-stream o (Opened p) = λ e. cc
+  ending-stream o place = λ e. cc
+
+  completing : (func : ℕ) (o : OpenFile) (place : Place) → Answers (complete func scene o place)
+  completing func o place =
       either (func == codes.cmpfunc.close) _ _ (λ e. cc)
       (either (func == codes.cmpfunc.purge) _ _ (λ e. cc)
-      (either (func == codes.cmpfunc.end_of_stream) _ _ a (either (func == codes.cmpfunc.skip) _ _ (λ e. cc) (λ e. cc))))
+      (either (func == codes.cmpfunc.end_of_stream) _ _ (ending-stream o place) (either (func == codes.cmpfunc.skip) _ _ (λ e. cc) (λ e. cc))))
 
   getting : (reply : Result ℕ Refusal) (o : OpenFile) (before after : StreamVal) → Answers (got reply scene o before after)
   getting (Err refusal) o before after = λ e. cc
@@ -132,29 +136,29 @@ silent phases.Ready p (Whole (Access a)) e h = absurd (accessing (scene_in p) a 
 silent phases.Ready p (Whole message) e h = cc
 silent (phases.Opened o) p (Malformed fault) e h = cc
 silent (phases.Opened o) p (Whole (Control c)) e h = absurd (connecting (scene_in p) (verb_of c) o e)
-silent (phases.Opened o) p (Whole (Accomp c)) e h = absurd (completing (scene_in p) c.func o _ _ (λ f. cc) e)
+silent (phases.Opened o) p (Whole (Accomp c)) e h = absurd (completing (scene_in p) c.func o (Opened o) e)
 silent (phases.Opened o) p (Whole message) e h = cc
 silent (phases.Connected o s) p (Malformed fault) e h = cc
 silent (phases.Connected o s) p (Whole (Control c)) e h = commanded (verb_of c) p (plain_memory p.kept) o s c (Whole (Control c)) e
-silent (phases.Connected o s) p (Whole (Accomp c)) e h = absurd (completing (scene_in p) c.func o _ _ (λ f. cc) e)
+silent (phases.Connected o s) p (Whole (Accomp c)) e h = absurd (completing (scene_in p) c.func o (Connected o s) e)
 silent (phases.Connected o s) p (Whole message) e h = cc
 silent (phases.PutDue o s key) p item e h = absurd (changing (scene_in p) (Putting key) o s item e)
 silent (phases.UpdateDue o s) p item e h = absurd (changing (scene_in p) Updating o s item e)
 silent (phases.Storing o s n) p (Malformed fault) e h = cc
 silent (phases.Storing o s n) p (Whole (Control c)) e h = cc
 silent (phases.Storing o s n) p (Whole (Filedata _ _)) e h = (let f = h refl in cc)
-silent (phases.Storing o s n) p (Whole (Accomp c)) e h = absurd (completing (scene_in p) c.func o _ _ (λ f. cc) e)
+silent (phases.Storing o s n) p (Whole (Accomp c)) e h = absurd (completing (scene_in p) c.func o (Store o s) e)
 silent (phases.Storing o s n) p (Whole message) e h = cc
 silent (phases.Dropping o s n) p (Malformed fault) e h = cc
 silent (phases.Dropping o s n) p (Whole (Control c)) e h = cc
 silent (phases.Dropping o s n) p (Whole (Filedata _ _)) e h = refl
 silent (phases.Dropping o s n) p (Whole (Contran func)) e h = took_up (func == codes.confunc.skip) func e
-silent (phases.Dropping o s n) p (Whole (Accomp c)) e h = absurd (completing (scene_in p) c.func o _ _ (λ f. cc) e)
+silent (phases.Dropping o s n) p (Whole (Accomp c)) e h = absurd (completing (scene_in p) c.func o (Store o s) e)
 silent (phases.Dropping o s n) p (Whole message) e h = cc
 silent (phases.Stopped o s) p (Malformed fault) e h = cc
 silent (phases.Stopped o s) p (Whole (Control c)) e h = cc
 silent (phases.Stopped o s) p (Whole (Contran func)) e h = absurd (continuing (scene_in p) func o s e)
-silent (phases.Stopped o s) p (Whole (Accomp c)) e h = absurd (completing (scene_in p) c.func o _ _ (λ f. cc) e)
+silent (phases.Stopped o s) p (Whole (Accomp c)) e h = absurd (completing (scene_in p) c.func o (Stopped o s) e)
 silent (phases.Stopped o s) p (Whole message) e h = cc
 
 -- ---- By the history.

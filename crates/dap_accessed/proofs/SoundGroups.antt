@@ -31,13 +31,13 @@ use Rattle.dap_msg.specs.Codes as codes
 use Rattle.dap_msg.specs.BothEnds.{config_of}
 use Rattle.dap_accessed.specs.Replies.{bare_status}
 use Rattle.dap_accessed.specs.Standing.{Files, place_of, with_file, the_file, Place, Fresh, Ready, Opened, Connected, Store, Stopped, Group, Standing, Scene, Effect, start, enters}
-use Rattle.dap_accessed.specs.Past.{Memory, looked_back, asked_shape, kept_attributes}
-use Rattle.dap_accessed.specs.Accesses.{open_file, create_file, access_file, complete}
+use Rattle.dap_accessed.specs.Past.{asked_shape, kept_attributes, is_dropping, ordinal_so_far}
+use Rattle.dap_accessed.specs.Accesses.{open_file, create_file, access_file, end_stream, complete}
 use Rattle.dap_accessed.specs.Records.{at_number, verb_of, get_pick, got, record_got, settled, Change, Putting, Updating, changed, fits_limit}
 use Rattle.dap_accessed.specs.Transfers.{fetch, fetch_ends, continue_fetch, store_one}
 use Rattle.dap_msg.specs.BothEnds.{is_too_small}
 use Rattle.dap_accessed.specs.Effects.{Begun, Turn, Does, Begins, control_opened, control_connected, turn_in, turn_of, effect_with}
-use Rattle.dap_accessed.specs.Groups.{scene_of, turn_at, after_two}
+use Rattle.dap_accessed.specs.Groups.{after_two}
 use Rattle.dap_accessed.specs.Sound.{AreFiles, IsOpenAt, IsSoundAt, IsSound}
 use Rattle.dap_accessed.proofs.OneMore.{next_group, more_after}
 use Rattle.dap_accessed.proofs.Tables.{length-with}
@@ -63,9 +63,6 @@ good-of (Some org) (Some format) mrs mrn = allowed org format mrs mrn _ refl
 
 pub good-shape : (a : Attributes) → Good (asked_shape a)
 good-shape a = good-of (org_of_code (unwrap_or a.org 0)) (format_of_code (unwrap_or a.rfm 2)) (unwrap_or a.mrs 0) (number_of (unwrap_or a.mrn []))
-
-pub good-memory : (place : Place) (past : List Group) → Good (looked_back place past).shape
-good-memory place past = good-shape (kept_attributes past)
 
 limit-most : (bufsiz : ℕ) → limit_of bufsiz ≤ greatest_message
 limit-most bufsiz =
@@ -96,14 +93,14 @@ place-within name files = within-of _ _ _ (λ e. grind (arith, nat_tests))
 
 -- the end that a turn leaves is sound, or the open file is in the table
 abbrev IsSoundTurn : Scene → Turn → Type 0
-IsSoundTurn scene (Does e) = IsSoundAt e.files e.limit e.place
+IsSoundTurn scene (Does e) = IsSoundAt e.scene e.place
 IsSoundTurn scene (Begins b) = b.opened.at < length scene.files
 
 module _ (scene : Scene) (files : AreFiles scene.files) (least : 64 ≤ scene.limit) (most : scene.limit ≤ greatest_message) where
   abbrev Leaves : Effect → Type 0
-  Leaves e = IsSoundAt e.files e.limit e.place
+  Leaves e = IsSoundAt e.scene e.place
 
-  entering : (place : Place) → IsOpenAt scene.files place → IsSoundAt scene.files scene.limit place
+  entering : (place : Place) → IsOpenAt scene.files place → IsSoundAt scene place
   entering place h = record { files = files; opened = h; least = least; most = most }
 
   -- an operation on the open file
@@ -112,7 +109,7 @@ module _ (scene : Scene) (files : AreFiles scene.files) (least : 64 ≤ scene.li
 
   changing : (op : Operation) (o : OpenFile) (s : StreamVal) (place : Place) (h : o.at < length scene.files)
       → IsOpenAt (with_file o.at (act op (the_file scene.files o) s).file scene.files) place
-      → IsSoundAt (with_file o.at (act op (the_file scene.files o) s).file scene.files) scene.limit place
+      → IsSoundAt (record scene { files = with_file o.at (act op (the_file scene.files o) s).file scene.files }) place
   changing op o s place h there =
       record {
         files = files-with scene.files o.at _ files (acted op o s h);
@@ -154,15 +151,23 @@ module _ (scene : Scene) (files : AreFiles scene.files) (least : 64 ≤ scene.li
       either (a.func == codes.accfunc.opening) _ _ (opening a.fac a.name (place_of a.name scene.files) (place-within a.name scene.files))
       (either (a.func == codes.accfunc.creating) _ _ (creating a.name a.fac (place_of a.name scene.files) shape refl g) (entering Ready tt))
 
-  purging : (o : OpenFile) (new : Bool) → IsSoundAt (if new then remove scene.files o.at else scene.files) scene.limit Ready
+  purging : (o : OpenFile) (new : Bool) → IsSoundAt (record scene { files = if new then remove scene.files o.at else scene.files }) Ready
   purging o true = record { files = record { files = all-without scene.files o.at files.files; distinct = distinct-without scene.files o.at files.distinct }; opened = tt; least = least; most = most }
   purging o false = entering Ready tt
 
-  completed-soundly : (func : ℕ) (o : OpenFile) (place : Place) (ends : Effect) → IsOpenAt scene.files place → Leaves ends → Leaves (complete func scene o place ends)
-  completed-soundly func o place ends h e =
+  ended-soundly : (o : OpenFile) (place : Place) → o.at < length scene.files → Leaves (end_stream scene o place)
+  ended-soundly o (Opened p) h = entering (Opened o) h
+  ended-soundly o Fresh h = entering (Opened o) h
+  ended-soundly o Ready h = entering (Opened o) h
+  ended-soundly o (Connected p s) h = entering (Opened o) h
+  ended-soundly o (Store p s) h = entering (Opened o) h
+  ended-soundly o (Stopped p s) h = entering (Opened o) h
+
+  completed-soundly : (func : ℕ) (o : OpenFile) (place : Place) → IsOpenAt scene.files place → o.at < length scene.files → Leaves (complete func scene o place)
+  completed-soundly func o place h e =
       either (func == codes.cmpfunc.close) _ _ (entering Ready tt)
       (either (func == codes.cmpfunc.purge) _ _ (purging o o.is_new)
-      (either (func == codes.cmpfunc.end_of_stream) _ _ e (either (func == codes.cmpfunc.skip) _ _ (entering place h) (entering place h))))
+      (either (func == codes.cmpfunc.end_of_stream) _ _ (ended-soundly o place e) (either (func == codes.cmpfunc.skip) _ _ (entering place h) (entering place h))))
 
   -- ---- Records.
 
@@ -222,33 +227,33 @@ module _ (scene : Scene) (files : AreFiles scene.files) (least : 64 ≤ scene.li
     with-second change s (Whole (Filedata r body)) = second change s body
     with-second change s (Whole message) = entering (Connected o s) h
 
-  configuring : (small : Bool) (bufsiz : ℕ) → is_too_small bufsiz ≡ small → Leaves (if small then enters scene Fresh (bare_status (codes.invalid codes.types.config) ∷ []) else enters (record scene { limit = limit_of bufsiz }) Ready (config_of scene.own ∷ []))
-  configuring true bufsiz e = entering Fresh tt
-  configuring false bufsiz e =
+  configuring : (small : Bool) (bufsiz : ℕ) → is_too_small bufsiz ≡ small → (own : ℕ) → Leaves (if small then enters scene Fresh (bare_status (codes.invalid codes.types.config) ∷ []) else enters (record scene { limit = limit_of bufsiz }) Ready (config_of own ∷ []))
+  configuring true bufsiz e own = entering Fresh tt
+  configuring false bufsiz e own =
       record { files = files; opened = tt; least = limit-least bufsiz e; most = limit-most bufsiz }
 
-  of-message : (memory : Memory) → Good memory.shape → (place : Place) → IsOpenAt scene.files place → (m : Message) → IsSoundTurn scene (turn_in scene memory place m)
-  of-message memory g Fresh h (Config c) = configuring (is_too_small c.bufsiz) c.bufsiz refl
-  of-message memory g Fresh h m = entering Fresh tt
-  of-message memory g Ready h (Access a) = accessing a memory.shape g
-  of-message memory g Ready h m = entering Ready tt
-  of-message memory g (Opened o) h (Control c) = opened-control o h (verb_of c)
-  of-message memory g (Opened o) h (Accomp c) = completed-soundly c.func o (Opened o) _ h (entering (Opened o) h)
-  of-message memory g (Opened o) h m = entering (Opened o) h
-  of-message memory g (Connected o s) h (Control c) = connected-control o h (verb_of c) s c
-  of-message memory g (Connected o s) h (Accomp c) = completed-soundly c.func o (Connected o s) _ h (entering (Opened o) h)
-  of-message memory g (Connected o s) h m = entering (Connected o s) h
-  of-message memory g (Store o s) h (Filedata r body) = either memory.dropping _ _ (entering (Store o s) h) (storing o h memory.ordinal s body)
-  of-message memory g (Store o s) h (Contran func) = either memory.dropping _ _ (entering (Store o s) h) (entering (Store o s) h)
-  of-message memory g (Store o s) h (Accomp c) = completed-soundly c.func o (Store o s) _ h (entering (Opened o) h)
-  of-message memory g (Store o s) h m = entering (Store o s) h
-  of-message memory g (Stopped o s) h (Contran func) = continuing o h func s
-  of-message memory g (Stopped o s) h (Accomp c) = completed-soundly c.func o (Stopped o s) _ h (entering (Opened o) h)
-  of-message memory g (Stopped o s) h m = entering (Stopped o s) h
+  of-message : (own : ℕ) (past : List Group) (place : Place) → IsOpenAt scene.files place → (m : Message) → IsSoundTurn scene (turn_in own scene past place m)
+  of-message own past Fresh h (Config c) = configuring (is_too_small c.bufsiz) c.bufsiz refl own
+  of-message own past Fresh h m = entering Fresh tt
+  of-message own past Ready h (Access a) = accessing a (asked_shape (kept_attributes past)) (good-shape (kept_attributes past))
+  of-message own past Ready h m = entering Ready tt
+  of-message own past (Opened o) h (Control c) = opened-control o h (verb_of c)
+  of-message own past (Opened o) h (Accomp c) = completed-soundly c.func o (Opened o) h h
+  of-message own past (Opened o) h m = entering (Opened o) h
+  of-message own past (Connected o s) h (Control c) = connected-control o h (verb_of c) s c
+  of-message own past (Connected o s) h (Accomp c) = completed-soundly c.func o (Connected o s) h h
+  of-message own past (Connected o s) h m = entering (Connected o s) h
+  of-message own past (Store o s) h (Filedata r body) = either (is_dropping past) _ _ (entering (Store o s) h) (storing o h (ordinal_so_far past) s body)
+  of-message own past (Store o s) h (Contran func) = either (is_dropping past) _ _ (entering (Store o s) h) (entering (Store o s) h)
+  of-message own past (Store o s) h (Accomp c) = completed-soundly c.func o (Store o s) h h
+  of-message own past (Store o s) h m = entering (Store o s) h
+  of-message own past (Stopped o s) h (Contran func) = continuing o h func s
+  of-message own past (Stopped o s) h (Accomp c) = completed-soundly c.func o (Stopped o s) h h
+  of-message own past (Stopped o s) h m = entering (Stopped o s) h
 
-  pub of-item : (memory : Memory) → Good memory.shape → (place : Place) → IsOpenAt scene.files place → (item : Item) → IsSoundTurn scene (turn_of scene memory place item)
-  of-item memory g place h (Malformed fault) = entering place h
-  of-item memory g place h (Whole m) = of-message memory g place h m
+  pub of-item : (own : ℕ) (past : List Group) (place : Place) → IsOpenAt scene.files place → (item : Item) → IsSoundTurn scene (turn_of own (record { scene = scene; place = place; past = past }) item)
+  of-item own past place h (Malformed fault) = entering place h
+  of-item own past place h (Whole m) = of-message own past place h m
 
   pub of-second : (change : Change) (o : OpenFile) (s : StreamVal) (item : Item) → o.at < length scene.files → Leaves (effect_with change scene o s item)
   of-second change o s item h = with-second o h change s item
@@ -258,17 +263,17 @@ module _ (scene : Scene) (files : AreFiles scene.files) (least : 64 ≤ scene.li
 pub start-sound : (first : Files) → AreFiles first → IsSound (record { standing = start first; begun = None })
 start-sound first good = record { standing = record { files = good; opened = tt; least = lit≤ tt; most = lit≤ tt }; begun = tt }
 
-one-sound : (own : ℕ) (s : Standing) (item : Item) → IsSoundAt s.files s.limit s.place → IsSoundTurn (scene_of own s) (turn_at own s item)
+one-sound : (own : ℕ) (s : Standing) (item : Item) → IsSoundAt s.scene s.place → IsSoundTurn s.scene (turn_of own s item)
 one-sound own s item h =
-    of-item (scene_of own s) h.files h.least h.most (looked_back s.place s.past) (good-memory s.place s.past) s.place h.opened item
+    of-item s.scene h.files h.least h.most own s.past s.place h.opened item
 
-two-sound : (own : ℕ) (s : Standing) (b : Begun) (item : Item) → IsSoundAt s.files s.limit s.place → b.opened.at < length s.files → let t = after_two own s b item in IsSoundAt t.files t.limit t.place
-two-sound own s b item h there = of-second (scene_of own s) h.files h.least h.most b.change b.opened b.stream item there
+two-sound : (s : Standing) (b : Begun) (item : Item) → IsSoundAt s.scene s.place → b.opened.at < length s.scene.files → let t = after_two s b item in IsSoundAt t.scene t.place
+two-sound s b item h there = of-second s.scene h.files h.least h.most b.change b.opened b.stream item there
 
-next-sound : (own : ℕ) (s : Standing) (item : Item) (t : Turn) → IsSoundAt s.files s.limit s.place → IsSoundTurn (scene_of own s) t → IsSound (next_group s item t)
-next-sound own s item (Does e) h sound = record { standing = sound; begun = tt }
-next-sound own s item (Begins b) h there = record { standing = h; begun = there }
+next-sound : (s : Standing) (item : Item) (t : Turn) → IsSoundAt s.scene s.place → IsSoundTurn s.scene t → IsSound (next_group s item t)
+next-sound s item (Does e) h sound = record { standing = sound; begun = tt }
+next-sound s item (Begins b) h there = record { standing = h; begun = there }
 
 pub more-sound : (own : ℕ) (s : Standing) (b : Option Begun) (item : Item) → IsSound (record { standing = s; begun = b }) → IsSound (more_after own s b item)
-more-sound own s None item h = next-sound own s item (turn_at own s item) h.standing (one-sound own s item h.standing)
-more-sound own s (Some b) item h = record { standing = two-sound own s b item h.standing h.begun; begun = tt }
+more-sound own s None item h = next-sound s item (turn_of own s item) h.standing (one-sound own s item h.standing)
+more-sound own s (Some b) item h = record { standing = two-sound s b item h.standing h.begun; begun = tt }

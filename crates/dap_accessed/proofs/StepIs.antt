@@ -11,13 +11,13 @@ use Rattle.rec_file.specs.Acts.{StreamVal}
 use Rattle.dap_accessed.specs.declared.phase.OpenFile.{OpenFile}
 use Rattle.dap_accessed.specs.declared.phase.Phase.{Phase}
 use Rattle.dap_accessed.specs.declared.phase.Phase.TheVariants as phases
-use Rattle.dap_accessed.specs.Standing.{Files, Place, Group, Standing, Effect, Fresh, Ready, Opened, Connected, Store, Stopped}
-use Rattle.dap_accessed.specs.Past.{Memory, looked_back, asked_shape, kept_attributes, is_dropping, ordinal_so_far, this_store, is_skip, is_ready, is_store, is_access, is_filedata, attributes_in, since_access, was_refused, greatest_ordinal, next_ordinal}
+use Rattle.dap_accessed.specs.Standing.{Files, Scene, Place, Group, Standing, Effect, Fresh, Ready, Opened, Connected, Store, Stopped}
+use Rattle.dap_accessed.specs.Past.{asked_shape, kept_attributes, is_dropping, ordinal_so_far, this_store, is_skip, is_ready, is_store, is_access, is_filedata, attributes_in, since_access, was_refused, greatest_ordinal, next_ordinal}
 use Rattle.dap_accessed.specs.Records.{Change, Putting, Updating}
 use Rattle.dap_accessed.specs.Effects.{Begun, Turn, Does, Begins, turn_of, effect_with}
-use Rattle.dap_accessed.specs.Groups.{Grouped, over, scene_of, turn_at, added, stands_after}
-use Rattle.dap_accessed.specs.Inner.Present.{Present, present_of, phase_at, StandsAfter}
-use Rattle.dap_accessed.specs.Inner.Moves.{Move, move, move_in, between, turns, settles, remembers, plain_memory, store_memory, store_phase, scene_in, drops_next, ordinal_next}
+use Rattle.dap_accessed.specs.Groups.{Grouped, over, added, stands_after}
+use Rattle.dap_accessed.specs.Inner.Present.{Present, Memory, looked_back, present_of, phase_at, StandsAfter}
+use Rattle.dap_accessed.specs.Inner.Moves.{Move, move, move_in, turn_by, between, turns, settles, remembers, plain_memory, store_memory, store_phase, scene_in, drops_next, ordinal_next}
 use Rattle.dap_accessed.proofs.OneMore.{next_group, next_answers, one_more, answers_of}
 use Rattle.dap_accessed.proofs.Cuts.{present-more, added-is}
 use Rattle.dap_accessed.proofs.Opens.{store-moves}
@@ -131,9 +131,9 @@ module _ (past : List Group) where
 
 -- ---- Moves.
 
-module _ (own : ℕ) (files : Files) (limit : ℕ) (past : List Group) where
+module _ (own : ℕ) (scene : Scene) (past : List Group) where
   abbrev at : Place → Standing
-  at place = record { files = files; limit = limit; place = place; past = past }
+  at place = record { scene = scene; place = place; past = past }
 
   abbrev kept_at : Place → Present
   kept_at place = present_of own (record { standing = at place; begun = None })
@@ -142,8 +142,8 @@ module _ (own : ℕ) (files : Files) (limit : ℕ) (past : List Group) where
   after-group : (p : Present) (s : Standing) (place : Place) (item : Item) (e : Effect) → p.own ≡ own → s.past ≡ past →
       present_of own (record { standing = over s place item e; begun = None }) ≡ (settles p (remembers (looked_back place past) place item e.answers) e).present
   after-group p s place item e o h = rw (o, h)
-      (ap (λ (k : Option Shape). let q : Present = record { own = own; limit = e.limit; files = e.files; kept = k; phase = phase_at e.place (looked_back e.place (group_of past place item e.answers ∷ past)) } in q) (shape-kept past place item e.answers)
-      ∙ ap (λ (f : Phase). let q : Present = record { own = own; limit = e.limit; files = e.files; kept = (remembers (looked_back place past) place item e.answers).shape; phase = f } in q) (entered past e.place place item e.answers))
+      (ap (λ (k : Option Shape). let q : Present = record { own = own; limit = e.scene.limit; files = e.scene.files; kept = k; phase = phase_at e.place (looked_back e.place (group_of past place item e.answers ∷ past)) } in q) (shape-kept past place item e.answers)
+      ∙ ap (λ (f : Phase). let q : Present = record { own = own; limit = e.scene.limit; files = e.scene.files; kept = (remembers (looked_back place past) place item e.answers).shape; phase = f } in q) (entered past e.place place item e.answers))
 
   -- what an end keeps, and the answers, are those of the move
   pub record Agrees (step : Move) (present : Present) (answers : List Message) : Type 0 where
@@ -157,10 +157,22 @@ module _ (own : ℕ) (files : Files) (limit : ℕ) (past : List Group) where
 
   abbrev Follows : Place → Item → Move → Type 0
   Follows place item step =
-      Agrees step (present_of own (next_group (at place) item (turn_at own (at place) item))) (next_answers (turn_at own (at place) item))
+      Agrees step (present_of own (next_group (at place) item (turn_of own (at place) item))) (next_answers (turn_of own (at place) item))
+
+  -- all that counts of the past was looked back for
+  turn-is : (place : Place) (item : Item) → turn_by own scene (looked_back place past) place item ≡ turn_of own (at place) item
+  turn-is place (Malformed fault) = refl
+  turn-is Fresh (Whole message) = refl
+  turn-is Ready (Whole message) = refl
+  turn-is (Opened o) (Whole message) = refl
+  turn-is (Connected o s) (Whole message) = refl
+  turn-is (Store o s) (Whole message) = refl
+  turn-is (Stopped o s) (Whole message) = refl
 
   follows : (place : Place) (item : Item) → Follows place item (between (kept_at place) (looked_back place past) place item)
-  follows place item = turned place item (turn_at own (at place) item)
+  follows place item =
+      subst (λ (t : Turn). Follows place item (turns t (kept_at place) (looked_back place past) place item)) (sym (turn-is place item))
+      (turned place item (turn_of own (at place) item))
 
   pub one-follows : (place : Place) (item : Item) → Follows place item (move (kept_at place) item)
   one-follows Fresh item = follows Fresh item
@@ -177,20 +189,20 @@ module _ (own : ℕ) (files : Files) (limit : ℕ) (past : List Group) where
       Agrees (move (present_of own c) item) (present_of own (one_more own c item)) (answers_of own c item)
   two-follows place o s (Putting key) first item =
       record {
-        same_present = after-group (record { own = own; limit = limit; files = files; kept = asked_shape (kept_attributes past); phase = phases.PutDue o s key }) (at place) (Connected o s) first (effect_with (Putting key) (scene_of own (at place)) o s item) refl refl;
+        same_present = after-group (record { own = own; limit = scene.limit; files = scene.files; kept = asked_shape (kept_attributes past); phase = phases.PutDue o s key }) (at place) (Connected o s) first (effect_with (Putting key) scene o s item) refl refl;
         same_answers = refl;
       }
   two-follows place o s Updating first item =
       record {
-        same_present = after-group (record { own = own; limit = limit; files = files; kept = asked_shape (kept_attributes past); phase = phases.UpdateDue o s }) (at place) (Connected o s) first (effect_with Updating (scene_of own (at place)) o s item) refl refl;
+        same_present = after-group (record { own = own; limit = scene.limit; files = scene.files; kept = asked_shape (kept_attributes past); phase = phases.UpdateDue o s }) (at place) (Connected o s) first (effect_with Updating scene o s item) refl refl;
         same_answers = refl;
       }
 
 pub step-is : (own : ℕ) (s : Standing) (begun : Option Begun) (item : Item) →
     let c : Grouped = record { standing = s; begun = begun } in
-    Agrees own s.files s.limit s.past (move (present_of own c) item) (present_of own (one_more own c item)) (answers_of own c item)
-step-is own s None item = one-follows own s.files s.limit s.past s.place item
-step-is own s (Some b) item = two-follows own s.files s.limit s.past s.place b.opened b.stream b.change b.first item
+    Agrees own s.scene s.past (move (present_of own c) item) (present_of own (one_more own c item)) (answers_of own c item)
+step-is own s None item = one-follows own s.scene s.past s.place item
+step-is own s (Some b) item = two-follows own s.scene s.past s.place b.opened b.stream b.change b.first item
 
 -- the move of an end that stands as after some items
 pub present-moves : (own : ℕ) (first : Files) (items : List Item) (item : Item) → present_of own (stands_after own first (items ++ item ∷ [])) ≡ (move (present_of own (stands_after own first items)) item).present
@@ -205,7 +217,7 @@ turns-own (Does effect) p memory place item = refl
 turns-own (Begins begun) p memory place item = refl
 
 between-own : (p : Present) (memory : Memory) (place : Place) (item : Item) → (between p memory place item).present.own ≡ p.own
-between-own p memory place item = turns-own (turn_of (scene_in p) memory place item) p memory place item
+between-own p memory place item = turns-own (turn_by p.own (scene_in p) memory place item) p memory place item
 
 moves-own : (phase : Phase) (p : Present) (item : Item) → (move_in phase p item).present.own ≡ p.own
 moves-own phases.Fresh p item = between-own p (plain_memory p.kept) Fresh item

@@ -7,7 +7,7 @@ use Rattle.dap_msg.specs.Message.{Message, AccessFields}
 use Rattle.rec_file.specs.declared.shapes.Shape.{Shape}
 use Rattle.rec_file.specs.declared.picks.Rights.{Rights}
 use Rattle.dap_accessed.specs.declared.phase.OpenFile.{OpenFile}
-use Rattle.dap_accessed.specs.Standing.{Files, new_file, place_of, file_at, Place, Ready, Opened, Scene, Effect, enters, leaves}
+use Rattle.dap_accessed.specs.Standing.{Files, new_file, place_of, file_at, Place, Ready, Opened, Scene, Effect, enters}
 use Rattle.dap_accessed.specs.Replies.{bare_status, refused_access, opened_with, completed}
 
 abbrev pub rights_of : ℕ → Rights
@@ -38,7 +38,7 @@ abbrev pub create_file : Scene → (name : List ℕ) → (fac : ℕ) → Option 
 create_file scene name fac (Some at) shape = refuse_access scene (refused_access FileExists)
 create_file scene name fac None None = refuse_access scene (refused_access BadAttributes)
 create_file scene name fac None (Some shape) =
-    leaves scene (scene.files ++ (name, new_file shape) ∷ [])
+    enters (record scene { files = scene.files ++ (name, new_file shape) ∷ [] })
     (Opened (record { at = length scene.files; is_new = true; rights = rights_of (fac_or fac codes.fac_bits.put) }))
     (opened_with shape)
 
@@ -55,14 +55,16 @@ access_file scene access shape =
 abbrev pub purged : OpenFile → Files → Files
 purged opened files = if opened.is_new then remove files opened.at else files
 
--- by CMPFUNC, in a place in which a file is open; what the end of a stream does is given, since it depends on the place
-abbrev pub complete : (func : ℕ) → Scene → OpenFile → Place → (end_of_stream : Effect) → Effect
-complete func scene opened place end_of_stream =
+-- the end of a stream; where none is connected it has no place
+abbrev pub end_stream : Scene → OpenFile → Place → Effect
+end_stream scene opened (Opened _) = enters scene (Opened opened) (bare_status (codes.out_of_place codes.types.accomp) ∷ [])
+end_stream scene opened place = enters scene (Opened opened) (completed ∷ [])
+
+-- by CMPFUNC, in a place in which a file is open
+abbrev pub complete : (func : ℕ) → Scene → OpenFile → Place → Effect
+complete func scene opened place =
     if func == codes.cmpfunc.close then enters scene Ready (completed ∷ [])
-    else if func == codes.cmpfunc.purge then leaves scene (purged opened scene.files) Ready (completed ∷ [])
-    else if func == codes.cmpfunc.end_of_stream then end_of_stream
+    else if func == codes.cmpfunc.purge then enters (record scene { files = purged opened scene.files }) Ready (completed ∷ [])
+    else if func == codes.cmpfunc.end_of_stream then end_stream scene opened place
     else if func == codes.cmpfunc.skip then enters scene place (bare_status (codes.unsupported codes.types.accomp) ∷ [])
     else enters scene place (bare_status (codes.invalid codes.types.accomp) ∷ [])
-
-abbrev pub end_stream : Scene → OpenFile → Effect
-end_stream scene opened = enters scene (Opened opened) (completed ∷ [])

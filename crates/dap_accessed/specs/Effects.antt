@@ -1,6 +1,6 @@
 -- What each item does, and its answers, by the place in which it is served (DAP 5.6.0, message sequences; the answers
 -- to a message that has no place are own).
-use Rattle.std.specs.Prelude.{if◌then◌else◌, [], ◌∷◌, Option}
+use Rattle.std.specs.Prelude.{ℕ, Bool, if◌then◌else◌, List, [], ◌∷◌, Option}
 use Rattle.dap_msg.specs.Codes as codes
 use Rattle.dap_msg.specs.Message.{Message, Config, Attrib, Access, Control, Contran, Ack, Accomp, Filedata, Other, ControlFields}
 use Rattle.dap_msg.specs.BothEnds.{limit_of, config_of, is_too_small}
@@ -11,10 +11,10 @@ use Rattle.rec_file.specs.Acts.{StreamVal, delete_record, act}
 use Rattle.dap_accessed.specs.declared.phase.OpenFile.{OpenFile}
 use Rattle.dap_accessed.specs.declared.verbs.Verb.{Verb}
 use Rattle.dap_accessed.specs.declared.verbs.Verb.TheVariants as verbs
-use Rattle.dap_accessed.specs.Standing.{the_file, Place, Fresh, Ready, Opened, Connected, Store, Stopped, Scene, Effect, enters}
+use Rattle.dap_accessed.specs.Standing.{the_file, Place, Fresh, Ready, Opened, Connected, Store, Stopped, Group, Standing, Scene, Effect, enters}
 use Rattle.dap_accessed.specs.Replies.{bare_status, sync_status}
-use Rattle.dap_accessed.specs.Past.{Memory}
-use Rattle.dap_accessed.specs.Accesses.{access_file, complete, end_stream}
+use Rattle.dap_accessed.specs.Past.{asked_shape, kept_attributes, is_dropping, ordinal_so_far}
+use Rattle.dap_accessed.specs.Accesses.{access_file, complete}
 use Rattle.dap_accessed.specs.Records.{at_number, new_stream, verb_of, get_pick, record_got, put_key, refused, settled, Change, Putting, Updating, changed}
 use Rattle.dap_accessed.specs.Transfers.{fetch, continue_fetch, store_one, continue_store}
 
@@ -43,15 +43,21 @@ control_status verb = bare_status (codes.out_of_place codes.types.control)
 abbrev pub refuse_control : Verb → Scene → Place → Effect
 refuse_control verb scene place = enters scene place (control_status verb ∷ [])
 
+-- what a message does in each place in which a file is open, unless the place says otherwise
+abbrev pub common_effect : Scene → OpenFile → Place → Message → Effect
+common_effect scene opened place (Control control) = refuse_control (verb_of control) scene place
+common_effect scene opened place (Accomp c) = complete c.func scene opened place
+common_effect scene opened place message = sync scene place message
+
 -- ---- Fresh.
 
 -- a Config says how long a message the peer takes
-abbrev pub effect_fresh : Scene → Message → Effect
-effect_fresh scene (Config c) =
+abbrev pub effect_fresh : (own : ℕ) → Scene → Message → Effect
+effect_fresh own scene (Config c) =
     if is_too_small c.bufsiz then enters scene Fresh (bare_status (codes.invalid codes.types.config) ∷ [])
-    else enters (record scene { limit = limit_of c.bufsiz }) Ready (config_of scene.own ∷ [])
-effect_fresh scene (Other _ _) = enters scene Fresh []
-effect_fresh scene message = sync scene Fresh message
+    else enters (record scene { limit = limit_of c.bufsiz }) Ready (config_of own ∷ [])
+effect_fresh own scene (Other _ _) = enters scene Fresh []
+effect_fresh own scene message = sync scene Fresh message
 
 -- ---- Ready.
 
@@ -70,9 +76,7 @@ control_opened verb scene opened = refuse_control verb scene (Opened opened)
 
 abbrev pub effect_opened : Scene → OpenFile → Message → Effect
 effect_opened scene opened (Control control) = control_opened (verb_of control) scene opened
-effect_opened scene opened (Accomp c) =
-    complete c.func scene opened (Opened opened) (sync scene (Opened opened) (Accomp c))
-effect_opened scene opened message = sync scene (Opened opened) message
+effect_opened scene opened message = common_effect scene opened (Opened opened) message
 
 -- ---- Connected.
 
@@ -100,49 +104,38 @@ control_connected verb scene opened stream control = Does (refuse_control verb s
 abbrev pub turn_connected : Scene → OpenFile → StreamVal → Message → Turn
 turn_connected scene opened stream (Control control) =
     control_connected (verb_of control) scene opened stream control
-turn_connected scene opened stream (Accomp c) =
-    Does (complete c.func scene opened (Connected opened stream) (end_stream scene opened))
-turn_connected scene opened stream message = Does (sync scene (Connected opened stream) message)
+turn_connected scene opened stream message = Does (common_effect scene opened (Connected opened stream) message)
 
 -- ---- Store. After a Filedata that was refused those behind it do nothing, and only then a Continue Transfer has a place.
 
-abbrev pub effect_store : Scene → Memory → OpenFile → StreamVal → Message → Effect
-effect_store scene memory opened stream (Control control) =
-    refuse_control (verb_of control) scene (Store opened stream)
-effect_store scene memory opened stream (Filedata _ body) =
-    if memory.dropping then enters scene (Store opened stream) [] else store_one memory.ordinal scene opened stream body
-effect_store scene memory opened stream (Contran func) =
-    if memory.dropping then continue_store func scene opened stream
-    else sync scene (Store opened stream) (Contran func)
-effect_store scene memory opened stream (Accomp c) =
-    complete c.func scene opened (Store opened stream) (end_stream scene opened)
-effect_store scene memory opened stream message = sync scene (Store opened stream) message
+abbrev pub effect_store : (dropping : Bool) → (ordinal : ℕ) → Scene → OpenFile → StreamVal → Message → Effect
+effect_store dropping ordinal scene opened stream (Filedata _ body) =
+    if dropping then enters scene (Store opened stream) [] else store_one ordinal scene opened stream body
+effect_store dropping ordinal scene opened stream (Contran func) =
+    if dropping then continue_store func scene opened stream else sync scene (Store opened stream) (Contran func)
+effect_store dropping ordinal scene opened stream message = common_effect scene opened (Store opened stream) message
 
 -- ---- Stopped.
 
 abbrev pub effect_stopped : Scene → OpenFile → StreamVal → Message → Effect
-effect_stopped scene opened stream (Control control) =
-    refuse_control (verb_of control) scene (Stopped opened stream)
 effect_stopped scene opened stream (Contran func) = continue_fetch func scene opened stream
-effect_stopped scene opened stream (Accomp c) =
-    complete c.func scene opened (Stopped opened stream) (end_stream scene opened)
-effect_stopped scene opened stream message = sync scene (Stopped opened stream) message
+effect_stopped scene opened stream message = common_effect scene opened (Stopped opened stream) message
 
 -- ---- All places. Only in Connected does a message begin a group of two.
 
-abbrev pub turn_in : Scene → Memory → Place → Message → Turn
-turn_in scene memory Fresh message = Does (effect_fresh scene message)
-turn_in scene memory Ready message = Does (effect_ready scene memory.shape message)
-turn_in scene memory (Opened opened) message = Does (effect_opened scene opened message)
-turn_in scene memory (Connected opened stream) message = turn_connected scene opened stream message
-turn_in scene memory (Store opened stream) message = Does (effect_store scene memory opened stream message)
-turn_in scene memory (Stopped opened stream) message = Does (effect_stopped scene opened stream message)
+abbrev pub turn_in : (own : ℕ) → Scene → (past : List Group) → Place → Message → Turn
+turn_in own scene past Fresh message = Does (effect_fresh own scene message)
+turn_in own scene past Ready message = Does (effect_ready scene (asked_shape (kept_attributes past)) message)
+turn_in own scene past (Opened opened) message = Does (effect_opened scene opened message)
+turn_in own scene past (Connected opened stream) message = turn_connected scene opened stream message
+turn_in own scene past (Store opened stream) message =
+    Does (effect_store (is_dropping past) (ordinal_so_far past) scene opened stream message)
+turn_in own scene past (Stopped opened stream) message = Does (effect_stopped scene opened stream message)
 
--- a malformed item has its format Status
-abbrev pub turn_of : Scene → Memory → Place → Item → Turn
-turn_of scene memory place (Malformed fault) =
-    Does (enters scene place (bare_status (codes.status_code_for fault.message_type) ∷ []))
-turn_of scene memory place (Whole message) = turn_in scene memory place message
+-- What an item does that is served now, outside a group of two; a malformed one has its format Status.
+abbrev pub turn_of : (own : ℕ) → Standing → Item → Turn
+turn_of own s (Malformed fault) = Does (enters s.scene s.place (bare_status (codes.status_code_for fault.message_type) ∷ []))
+turn_of own s (Whole message) = turn_in own s.scene s.past s.place message
 
 -- ---- The second item of a group of two.
 

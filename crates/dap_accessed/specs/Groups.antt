@@ -3,32 +3,22 @@
 use Rattle.std.specs.Prelude.{ℕ, List, [], ◌∷◌, ◌++◌, length, drop, Option, Some, None}
 use Rattle.dap_msg.specs.Message.{Message}
 use Rattle.dap_msg.specs.Items.{Item}
-use Rattle.dap_accessed.specs.Standing.{Files, Place, Connected, Group, Standing, Scene, Effect, start}
-use Rattle.dap_accessed.specs.Past.{looked_back}
-use Rattle.dap_accessed.specs.Effects.{Begun, Turn, Does, Begins, turn_of, effect_with}
-
--- what a group finds that is served now
-abbrev pub scene_of : ℕ → Standing → Scene
-scene_of own s = record { own = own; limit = s.limit; files = s.files }
-
--- what an item does that is served now, outside a group of two
-abbrev pub turn_at : ℕ → Standing → Item → Turn
-turn_at own s item = turn_of (scene_of own s) (looked_back s.place s.past) s.place item
+use Rattle.dap_accessed.specs.Standing.{Files, Place, Connected, Group, Standing, Effect, start}
+use Rattle.dap_accessed.specs.Effects.{Begun, Does, Begins, turn_of, effect_with}
 
 -- the standing after a group
 abbrev pub over : Standing → Place → Item → Effect → Standing
 over s place first effect =
     record {
-      files = effect.files;
-      limit = effect.limit;
+      scene = effect.scene;
       place = effect.place;
       past = record { place = place; first = first; answers = effect.answers } ∷ s.past;
     }
 
-abbrev pub after_two : ℕ → Standing → Begun → Item → Standing
-after_two own s begun second =
+abbrev pub after_two : Standing → Begun → Item → Standing
+after_two s begun second =
     over s (Connected begun.opened begun.stream) begun.first
-    (effect_with begun.change (scene_of own s) begun.opened begun.stream second)
+    (effect_with begun.change s.scene begun.opened begun.stream second)
 
 -- Where items leave an end: the standing after the whole groups, and the beginning of one that is not whole.
 pub record Grouped : Type 0 where
@@ -38,14 +28,14 @@ pub record Grouped : Type 0 where
 abbrev pub grouped : ℕ → Standing → List Item → Grouped
 grouped own s [] = record { standing = s; begun = None }
 grouped own s (item ∷ []) =
-    elim (turn_at own s item) [
+    elim (turn_of own s item) [
       | Does effect ↦ record { standing = over s s.place item effect; begun = None }
       | Begins begun ↦ record { standing = s; begun = Some begun }
     ]
 grouped own s (item ∷ second ∷ items) =
-    elim (turn_at own s item) [
+    elim (turn_of own s item) [
       | Does effect ↦ grouped own (over s s.place item effect) (second ∷ items)
-      | Begins begun ↦ grouped own (after_two own s begun second) items
+      | Begins begun ↦ grouped own (after_two s begun second) items
     ]
 
 -- the answers of the groups, the oldest first
@@ -59,11 +49,11 @@ stands_after own first items = grouped own (start first) items
 
 -- how long a message the peer takes then
 abbrev pub limit_for : ℕ → Files → List Item → ℕ
-limit_for own first items = (stands_after own first items).standing.limit
+limit_for own first items = (stands_after own first items).standing.scene.limit
 
 -- the file table after the operations of all groups
 abbrev pub After : ℕ → Files → List Item → Files
-After own first items = (stands_after own first items).standing.files
+After own first items = (stands_after own first items).standing.scene.files
 
 -- the answers of all groups, in order
 abbrev pub Answers : ℕ → Files → List Item → List Message

@@ -1,8 +1,8 @@
 -- What is looked back for in the groups so far, the newest first.
-use Rattle.std.specs.Prelude.{ℕ, ◌+◌, Bool, true, false, not, ◌&&◌, nat_lt, ◌==◌, if◌then◌else◌, min, List, [], length, filter, filter_map, slice_get, take_while, Option, Some, None, unwrap_or}
+use Rattle.std.specs.Prelude.{ℕ, ◌+◌, Bool, true, false, not, ◌&&◌, nat_lt, ◌==◌, min, List, [], length, filter, filter_map, slice_get, take_while, Option, Some, None, unwrap_or}
 use Rattle.std.specs.List.{list_any}
 use Rattle.dap_msg.specs.Codes as codes
-use Rattle.dap_msg.specs.BothEnds.{no_attributes, number_of}
+use Rattle.dap_msg.specs.BothEnds.{no_attributes, with_defaults}
 use Rattle.dap_msg.specs.Message.{Attrib, Access, Contran, Filedata, Attributes}
 use Rattle.dap_msg.specs.Items.{Item, Whole}
 use Rattle.rec_file.specs.declared.shapes.Shape.{Shape}
@@ -45,11 +45,9 @@ abbrev pub kept_attributes : List Group → Attributes
 kept_attributes past =
     unwrap_or (slice_get (filter_map (λ group. attributes_in group.first) (since_access past)) 0) no_attributes
 
--- the shape that attributes ask for, if a file may have it; a field that is missing has the value given here
+-- the shape that attributes ask for, if a file may have it
 abbrev pub asked_shape : Attributes → Option Shape
-asked_shape a =
-    checked_shape (unwrap_or a.org codes.org.sequential) (unwrap_or a.rfm codes.rfm.variable) (unwrap_or a.mrs 0)
-    (number_of (unwrap_or a.mrn []))
+asked_shape a = with_defaults checked_shape a
 
 -- ---- A Store.
 
@@ -75,20 +73,3 @@ was_refused group = is_filedata group.first && nat_lt 0 (length group.answers)
 -- A Filedata of this Store was refused, and the Store wasn't taken up again since.
 abbrev pub is_dropping : List Group → Bool
 is_dropping past = list_any was_refused (take_while (λ group. not (is_skip group.first)) (this_store past))
-
--- ---- Together.
-
--- what counts of the past: the shape that an Access would give a new file, and in a Store whether it drops what
--- comes, and its ordinal
-pub record Memory : Type 0 where
-  pub shape : Option Shape
-  pub dropping : Bool
-  pub ordinal : ℕ
-
-abbrev pub looked_back : Place → List Group → Memory
-looked_back place past =
-    record {
-      shape = asked_shape (kept_attributes past);
-      dropping = is_store place && is_dropping past;
-      ordinal = if is_store place then ordinal_so_far past else 0;
-    }

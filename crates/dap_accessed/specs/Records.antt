@@ -18,7 +18,7 @@ use Rattle.rec_file.specs.Acts.{StreamVal, get_record, put_record, update_record
 use Rattle.dap_accessed.specs.declared.phase.OpenFile.{OpenFile}
 use Rattle.dap_accessed.specs.declared.verbs.Verb.{Verb}
 use Rattle.dap_accessed.specs.declared.verbs.Verb.TheVariants as verbs
-use Rattle.dap_accessed.specs.Standing.{with_file, the_file, Connected, Scene, Effect, enters, leaves}
+use Rattle.dap_accessed.specs.Standing.{with_file, the_file, Connected, Scene, Effect, enters}
 use Rattle.dap_accessed.specs.Replies.{refusal_status, record_status, too_large}
 
 -- the stream with no current record
@@ -60,6 +60,13 @@ abbrev pub or_refusal : {X : Type 0} → Option Refusal → X → Result X Refus
 or_refusal None x = Ok x
 or_refusal (Some refusal) x = Err refusal
 
+-- what is refused of a GET or a PUT before its key is a number: it needs this right, and no RAC above this one is for it
+abbrev pub refusals_before : (right : Bool) → (greatest_rac : ℕ) → FileVal → ControlFields → List (Bool × Refusal)
+refusals_before right greatest_rac file control =
+    (not right, NotPermitted)
+    ∷ (nat_lt greatest_rac (rac_of control) || (is_keyed control && is_seq file.shape.org), BadAccessMode)
+    ∷ (not (is_next control) && is_err (key_of control), BadKey) ∷ []
+
 -- ---- GET.
 
 abbrev pub pick_of : ControlFields → Pick
@@ -67,16 +74,10 @@ pick_of control =
     if is_next control then Next
     else if is_keyed control then Key (result_unwrap_or (key_of control) 0) else Rfa (result_unwrap_or (key_of control) 0)
 
--- what is refused of a GET before its key is a number
-abbrev pub get_refusals_before : FileVal → StreamVal → ControlFields → List (Bool × Refusal)
-get_refusals_before file stream control =
-    (not stream.rights.get, NotPermitted)
-    ∷ (nat_lt codes.rac.address (rac_of control) || (is_keyed control && is_seq file.shape.org), BadAccessMode)
-    ∷ (not (is_next control) && is_err (key_of control), BadKey) ∷ []
-
 -- the record that a GET is for, or why it is refused
 abbrev pub get_pick : FileVal → StreamVal → ControlFields → Result Pick Refusal
-get_pick file stream control = or_refusal (first_refusal (get_refusals_before file stream control)) (pick_of control)
+get_pick file stream control =
+    or_refusal (first_refusal (refusals_before stream.rights.get codes.rac.address file control)) (pick_of control)
 
 -- a refusal leaves the files and where the stream is, and no current record
 abbrev pub refused : Scene → OpenFile → StreamVal → Refusal → Effect
@@ -106,23 +107,16 @@ record_got (Ok pick) scene opened stream =
 
 -- ---- PUT, UPDATE and DELETE.
 
--- what is refused of a PUT before its key is a number
-abbrev pub put_refusals_before : FileVal → StreamVal → ControlFields → List (Bool × Refusal)
-put_refusals_before file stream control =
-    (not stream.rights.put, NotPermitted)
-    ∷ (nat_lt codes.rac.keyed (rac_of control) || (is_keyed control && is_seq file.shape.org), BadAccessMode)
-    ∷ (is_keyed control && is_err (key_of control), BadKey) ∷ []
-
 -- the key of a PUT, if it has one, or why it is refused
 abbrev pub put_key : FileVal → StreamVal → ControlFields → Result (Option ℕ) Refusal
 put_key file stream control =
-    or_refusal (first_refusal (put_refusals_before file stream control))
+    or_refusal (first_refusal (refusals_before stream.rights.put codes.rac.keyed file control))
     (if is_keyed control then Some (result_unwrap_or (key_of control) 0) else None)
 
 -- an operation that may change the file, and its Status
 abbrev pub settled : Scene → OpenFile → Outcome → Effect
 settled scene opened outcome =
-    leaves scene (with_file opened.at outcome.file scene.files) (Connected opened outcome.stream)
+    enters (record scene { files = with_file opened.at outcome.file scene.files }) (Connected opened outcome.stream)
     (record_status outcome.reply ∷ [])
 
 -- What a Control begins that has the item after it in its group.

@@ -3,7 +3,7 @@ use Rattle.std.specs.Prelude.{ℕ, ◌<◌, ◌≤◌, length, IfSome, bytes_eq}
 use Rattle.std.specs.List.{AllByRecursion, IsDistinct}
 use Rattle.dap_msg.specs.BothEnds.{greatest_message, least_buffer}
 use Rattle.rec_file.specs.Files.{IsFile}
-use Rattle.dap_accessed.specs.Standing.{Files, Place, Fresh, Ready, Opened, Connected, Store, Stopped}
+use Rattle.dap_accessed.specs.Standing.{Files, Scene, Place, Fresh, Ready, Opened, Connected, Store, Stopped}
 use Rattle.dap_accessed.specs.Groups.{Grouped}
 
 -- the file that is open is in the table
@@ -22,14 +22,14 @@ pub record AreFiles (table : Files) : Type 0 where
   -- no two have the same name
   pub distinct : IsDistinct (λ f g. bytes_eq f.0 g.0) table
 
-pub record IsSoundAt (table : Files) (limit : ℕ) (place : Place) : Type 0 where
-  pub files : AreFiles table
-  pub opened : IsOpenAt table place
+pub record IsSoundAt (scene : Scene) (place : Place) : Type 0 where
+  pub files : AreFiles scene.files
+  pub opened : IsOpenAt scene.files place
   -- what a peer takes is not less than the least, and not more than any end takes
-  pub least : least_buffer ≤ limit
-  pub most : limit ≤ greatest_message
+  pub least : least_buffer ≤ scene.limit
+  pub most : scene.limit ≤ greatest_message
 
 -- also inside a group of two
 pub record IsSound (c : Grouped) : Type 0 where
-  pub standing : IsSoundAt c.standing.files c.standing.limit c.standing.place
-  pub begun : IfSome c.begun (λ b. b.opened.at < length c.standing.files)
+  pub standing : IsSoundAt c.standing.scene c.standing.place
+  pub begun : IfSome c.begun (λ b. b.opened.at < length c.standing.scene.files)

@@ -59,34 +59,26 @@ pub record Group : Type 0 where
   pub first : Item
   pub answers : List Message
 
--- the files, how long a message the peer takes, the place, and the groups so far, the newest first
-pub record Standing : Type 0 where
-  pub files : Files
+-- how long a message the peer takes, and the files: a group finds such a scene, and leaves one
+pub record Scene : Type 0 where
   pub limit : ℕ
+  pub files : Files
+
+-- the scene, the place, and the groups so far, the newest first
+pub record Standing : Type 0 where
+  pub scene : Scene
   pub place : Place
   pub past : List Group
 
--- What a group finds: the end's own BUFSIZ, how long a message the peer takes, and the files.
-pub record Scene : Type 0 where
-  pub own : ℕ
-  pub limit : ℕ
-  pub files : Files
-
--- what a group leaves, and its answers
+-- the scene that a group leaves, the place after it, and its answers
 pub record Effect : Type 0 where
-  pub files : Files
-  pub limit : ℕ
+  pub scene : Scene
   pub place : Place
   pub answers : List Message
 
--- no more than the place moves
 abbrev pub enters : Scene → Place → List Message → Effect
-enters scene place answers = record { files = scene.files; limit = scene.limit; place = place; answers = answers }
-
--- the files and the place move
-abbrev pub leaves : Scene → Files → Place → List Message → Effect
-leaves scene files place answers = record { files = files; limit = scene.limit; place = place; answers = answers }
+enters scene place answers = record { scene = scene; place = place; answers = answers }
 
 -- These files, and no Config of the peer yet, which may have the least buffer.
 abbrev pub start : Files → Standing
-start files = record { files = files; limit = least_buffer; place = Fresh; past = [] }
+start files = record { scene = record { limit = least_buffer; files = files }; place = Fresh; past = [] }

@@ -8,7 +8,7 @@ use Rattle.rec_file.specs.declared.refusals.Refusal.{Refusal}
 use Rattle.rec_file.specs.Files.{records_from}
 use Rattle.rec_file.specs.Acts.{StreamVal, put_record, act}
 use Rattle.dap_accessed.specs.declared.phase.OpenFile.{OpenFile}
-use Rattle.dap_accessed.specs.Standing.{with_file, the_file, Connected, Store, Stopped, Scene, Effect, enters, leaves}
+use Rattle.dap_accessed.specs.Standing.{with_file, the_file, Connected, Store, Stopped, Scene, Effect, enters}
 use Rattle.dap_accessed.specs.Replies.{bare_status, refusal_status, too_large}
 use Rattle.dap_accessed.specs.Past.{next_ordinal}
 use Rattle.dap_accessed.specs.Records.{at_number, filedata_of, fits_limit}
@@ -54,7 +54,7 @@ stored_answers ordinal (Err refusal) = refusal_status refusal (four_bytes ordina
 abbrev pub store_one : (ordinal : ℕ) → Scene → OpenFile → StreamVal → List ℕ → Effect
 store_one ordinal scene opened stream body =
     let outcome = act (put_record None body) (the_file scene.files opened) stream in
-    leaves scene (with_file opened.at outcome.file scene.files) (Store opened outcome.stream)
+    enters (record scene { files = with_file opened.at outcome.file scene.files }) (Store opened outcome.stream)
     (stored_answers (next_ordinal ordinal) outcome.reply)
 
 -- a Continue Transfer after a Filedata that was refused

@@ -199,6 +199,7 @@ impl Accessed {
         Vec::new(self.alloc)
     }
 
+    /// The answers to a message where the peer's Config is due, or None where it has no place.
     fn serve_fresh(&mut self, message: Message<'_>) -> Result<Option<Vec<Vec<u8>>>, NoMemory>
         requires { self.old.phase ≡ phases.Fresh }
         ensures takes { Takes phases.Fresh (seen message.entry) self.old self.new result }
@@ -221,6 +222,7 @@ impl Accessed {
         }
     }
 
+    /// The answers to a message where no file is open, or None where it has no place.
     fn serve_ready(&mut self, message: Message<'_>) -> Result<Option<Vec<Vec<u8>>>, NoMemory>
         requires phase { self.old.phase ≡ phases.Ready }
         requires spelled { IsSpelled (seen message) }
@@ -245,6 +247,7 @@ impl Accessed {
         }
     }
 
+    /// Answers an Access, which opens a file, creates one or is refused.
     fn access(&mut self, func: u8, name: &[u8], fac: u32) -> Result<Vec<Vec<u8>>, NoMemory>
         requires { self.old.phase ≡ phases.Ready }
         ensures ok { Makes (opens_by func self.old name.now fac) self.old self.new result }
@@ -270,6 +273,7 @@ impl Accessed {
         Ok(answers)
     }
 
+    /// Answers an Access that opens a file.
     fn open(&mut self, name: &[u8], fac: u32) -> Result<Vec<Vec<u8>>, NoMemory>
         requires { self.old.phase ≡ phases.Ready }
         ensures ok { Makes (opens self.old name.now fac) self.old self.new result }
@@ -288,6 +292,7 @@ impl Accessed {
         Ok(answers)
     }
 
+    /// Answers an Access that creates a file.
     fn create(&mut self, name: &[u8], fac: u32) -> Result<Vec<Vec<u8>>, NoMemory>
         requires { self.old.phase ≡ phases.Ready }
         ensures ok { Makes (creates self.old name.now fac) self.old self.new result }
@@ -348,6 +353,7 @@ impl Accessed {
         Ok(Served { answers, next })
     }
 
+    /// Answers a message, or bytes of which no message can be read.
     fn answer_item(&mut self, item: Item<'_>) -> Result<Vec<Vec<u8>>, NoMemory>
         requires { ItemFits (seen_item item) }
         ensures ok { Makes (move self.old (seen_item item.entry)) self.old self.new result }

@@ -48,6 +48,7 @@ pub(crate) fn too_large<'a>() -> Answer<'a>
     }
 }
 
+/// A Status with these fields.
 #[tactic(auto, using(dap_msg::proofs::ForCallers::answers_fit))]
 fn status<'a>(code: u16, rfa: &'a [u8], recnum: &'a [u8], stv: &'a [u8]) -> Message<'a>
     requires rfa { length rfa.now ≤ 4 }
@@ -65,6 +66,7 @@ fn status<'a>(code: u16, rfa: &'a [u8], recnum: &'a [u8], stv: &'a [u8]) -> Mess
     }
 }
 
+/// The ORG of an organization.
 fn org_code(org: Org) -> u8
     ensures { result ≡ org_number org }
 {
@@ -74,6 +76,7 @@ fn org_code(org: Org) -> u8
     }
 }
 
+/// The RFM of a record format.
 fn format_code(format: Format) -> u8
     ensures { result ≡ format_number format }
 {
@@ -128,6 +131,7 @@ pub(crate) fn filedata_len(body: &[u8]) -> usize
 }
 
 impl<'a> Answer<'a> {
+    /// The message that the answer is.
     #[tactic(auto, using(dap_msg::proofs::ForCallers::answers_fit))]
     fn message(&self) -> Message<'_>
         requires { IsWritable self.now }
@@ -211,6 +215,7 @@ impl Model for Room {
 }
 
 impl Room {
+    /// Room for one answer, unless memory is wanting.
     pub(crate) fn new(alloc: Global) -> Result<Room, NoMemory> {
         let answers = Vec::with_capacity(alloc, 1)?;
         let bytes = Vec::with_capacity(alloc, usize::from(LEAST_BUFFER))?;

@@ -5,8 +5,7 @@ ghost use Rattle.dap_msg.specs.Codes.{cmpfunc};
 ghost use Rattle.dap_msg.specs.Items.{Whole};
 ghost use Rattle.dap_msg.specs.Message.{Control as TheControl, seen, seen_control};
 ghost use Rattle.dap_accessed.specs.Records.{Putting, Updating, uncurrent, verb_of};
-ghost use Rattle.dap_accessed.specs.Inner.Moves.{Completes, Makes, Takes, begins_only, changes, deletes, gets, is_silent, refuses, scene_in};
-ghost use Rattle.dap_accessed.specs.Accesses.{end_stream};
+ghost use Rattle.dap_accessed.specs.Inner.Moves.{Completes, Makes, Takes, begins_only, changes, deletes, ends_stream, gets, is_silent, refuses, scene_in};
 ghost use Rattle.dap_accessed.specs.Standing.{Effect};
 ghost use Rattle.dap_accessed.specs.declared.phase.Phase.TheVariants as phases;
 
@@ -32,6 +31,7 @@ fn without_current(mut stream: Stream) -> Stream
 }
 
 impl Accessed {
+    /// The answers to a message where a file is open without a stream, or None where it has no place.
     pub(crate) fn serve_opened(
         &mut self,
         opened: OpenFile,
@@ -95,7 +95,7 @@ impl Accessed {
         func: u8,
     ) -> Result<Vec<Vec<u8>>, NoMemory>
         requires { opened.at < length self.old.files }
-        ensures ok { Completes func opened (end_stream (scene_in self.old) opened)
+        ensures ok { Completes func opened (ends_stream (scene_in self.old) opened)
             self.old self.new result }
         ensures err { OnErr result (self.new ≡ self.old) }
     {
@@ -108,6 +108,7 @@ impl Accessed {
         }
     }
 
+    /// The answers to a message where a stream is connected, or None where it has no place.
     pub(crate) fn serve_connected(
         &mut self,
         opened: OpenFile,
@@ -131,6 +132,7 @@ impl Accessed {
         }
     }
 
+    /// The answers to a Control where a stream is connected, or None where it has no place.
     fn control(
         &mut self,
         opened: OpenFile,
@@ -175,6 +177,7 @@ impl Accessed {
         }
     }
 
+    /// Gives the record that a Control asks for.
     fn get(
         &mut self,
         opened: OpenFile,
@@ -229,6 +232,7 @@ impl Accessed {
         Ok(answers)
     }
 
+    /// Deletes the stream's current record.
     fn delete(&mut self, opened: OpenFile, stream: Stream) -> Result<Vec<Vec<u8>>, NoMemory>
         requires { opened.at < length self.old.files }
         ensures ok { Makes (deletes self.old opened stream) self.old self.new result }
@@ -241,6 +245,7 @@ impl Accessed {
         Ok(room.fill(self.limit, settled(reply)))
     }
 
+    /// Stores the record of a Filedata, under a key where there is one, unless the key was refused.
     pub(crate) fn put(
         &mut self,
         opened: OpenFile,
@@ -264,6 +269,7 @@ impl Accessed {
         Ok(room.fill(self.limit, settled(reply)))
     }
 
+    /// Stores the record of a Filedata in the place of the stream's current one.
     pub(crate) fn update(
         &mut self,
         opened: OpenFile,

@@ -44,6 +44,7 @@ fn refused_continuation<'a>(func: u8) -> Answer<'a>
 }
 
 impl Accessed {
+    /// The answers to a message of a Store, or None where it has no place. Records are dropped once one was refused.
     pub(crate) fn serve_store(
         &mut self,
         dropping: bool,
@@ -112,6 +113,7 @@ impl Accessed {
         }
     }
 
+    /// The answers to a message after a fetch that stopped, or None where it has no place.
     pub(crate) fn serve_stopped(
         &mut self,
         opened: OpenFile,

@@ -6,7 +6,8 @@ use Rattle.std.proofs.lemmas.List.Sums.{take_while-cons}
 use Rattle.dap_msg.specs.Message.{Filedata, Status, StatusFields}
 use Rattle.dap_msg.specs.Items.{Item, Whole}
 use Rattle.dap_msg.specs.BothEnds.{number_of}
-use Rattle.dap_accessing.specs.Told.{behind, is_record, record_in, records_in_front, is_status, status_in, statuses_in_front}
+use Rattle.dap_accessing.specs.Told.{behind, record_in, status_in}
+use Rattle.dap_accessing.specs.Inner.Parts.{is_record, records_in_front, is_status, statuses_in_front}
 
 pub behind-more : (test : Item → Bool) (item : Item) (rest : List Item) → test item ≡ true → behind test (item ∷ rest) ≡ behind test rest
 behind-more test item rest e =

@@ -11,7 +11,8 @@ use Rattle.dap_accessing.specs.Request.{Request}
 use Rattle.dap_accessing.specs.declared.report.Report.{Report}
 use Rattle.dap_accessing.specs.declared.report.Report.TheVariants as report
 use Rattle.dap_msg.specs.Codes.{is_success}
-use Rattle.dap_accessing.specs.Told.{Hearing, Reports, Waits, Unexpected, refusal, hear, hear_config, hear_ack, opened_as, hear_record, hear_done, ending_of, reason_in, told_of, hear_closed, Told, Due, AnswersDue, Wrong, due_after}
+use Rattle.dap_accessing.specs.Told.{Hearing, Reports, Waits, Unexpected, refusal, hear_refusal, hear_completed, hear, hear_config, hear_ack, hear_record, hear_done, reason_in, told_of, Told, Due, AnswersDue, Wrong, due_after}
+use Rattle.dap_accessing.specs.Inner.Parts.{opened_as, ending_of}
 use Rattle.dap_accessing.specs.declared.pending.Pending.{Pending}
 use Rattle.dap_accessing.specs.declared.pending.Pending.TheVariants as pending
 use Rattle.dap_accessing.specs.Inner.Hears.{pending_of}
@@ -32,9 +33,8 @@ stays-if-not : (b : Bool) (done : Report) (rest more : List Item) → Stays (if 
 stays-if-not true done rest more = refl
 stays-if-not false done rest more = refl
 
-stays-refusal : (status : StatusFields) (rest more : List Item) → Stays (refusal status rest) (refusal status (rest ++ more)) more
-stays-refusal status rest more =
-    elim (is_success status.code) as (λ b. Stays (if b then Unexpected else Reports (report.Refused status.code (reason_in status.stv)) rest) (if b then Unexpected else Reports (report.Refused status.code (reason_in status.stv)) (rest ++ more)) more) [ true ↦ refl | false ↦ refl ]
+stays-refusal : (status : StatusFields) (rest more : List Item) → Stays (hear_refusal (Whole (Status status) ∷ rest)) (hear_refusal (Whole (Status status) ∷ (rest ++ more))) more
+stays-refusal status rest more = stays-if (is_success status.code) (refusal status) rest more
 
 stays-config : (answers more : List Item) → Stays (hear_config answers) (hear_config (answers ++ more)) more
 stays-config [] more = tt
@@ -69,18 +69,12 @@ stays-attributes (_ ∷ rest) more = refl
 stays-record : (answers more : List Item) → Stays (hear_record answers) (hear_record (answers ++ more)) more
 stays-record [] more = tt
 stays-record (Whole (Filedata recnum body) ∷ rest) more = refl
-stays-record (Whole (Status status) ∷ rest) more =
-    elim (status.code == stscode.end_of_file) as (λ b. Stays (if b then Reports report.EndOfFile rest else refusal status rest) (if b then Reports report.EndOfFile (rest ++ more) else refusal status (rest ++ more)) more) [
-      | true ↦ refl
-      | false ↦ stays-refusal status rest more
-    ]
+stays-record (Whole (Status status) ∷ rest) more = stays-if (is_success status.code) (if status.code == stscode.end_of_file then report.EndOfFile else refusal status) rest more
 stays-record (_ ∷ rest) more = refl
 
 stays-done : (answers more : List Item) → Stays (hear_done answers) (hear_done (answers ++ more)) more
 stays-done [] more = tt
-stays-done (Whole (Status status) ∷ rest) more =
-    elim (is_success status.code) as (λ b. Stays (if b then Reports (report.Done (number_of status.recnum)) rest else if b then Unexpected else Reports (report.Refused status.code (reason_in status.stv)) rest)
-    (if b then Reports (report.Done (number_of status.recnum)) (rest ++ more) else if b then Unexpected else Reports (report.Refused status.code (reason_in status.stv)) (rest ++ more)) more) [ true ↦ refl | false ↦ refl ]
+stays-done (Whole (Status status) ∷ rest) more = refl
 stays-done (_ ∷ rest) more = refl
 
 stays-batch : (records : List (ℕ × List ℕ)) (answers more : List Item) → Stays (gather_batch records answers) (gather_batch records (answers ++ more)) more
@@ -99,7 +93,7 @@ stays-stored first (Whole (Status status) ∷ rest) more =
 stays-stored first (Whole (Accomp c) ∷ rest) more = stays-if-not (c.func == cmpfunc.response) (report.Stored first) rest more
 stays-stored first (_ ∷ rest) more = refl
 
-stays-closed : (answers more : List Item) → Stays (hear_closed answers) (hear_closed (answers ++ more)) more
+stays-closed : (answers more : List Item) → Stays (hear_completed report.Closed answers) (hear_completed report.Closed (answers ++ more)) more
 stays-closed [] more = tt
 stays-closed (Whole (Accomp c) ∷ rest) more = stays-if-not (c.func == cmpfunc.response) report.Closed rest more
 stays-closed (Whole (Status status) ∷ rest) more = stays-refusal status rest more

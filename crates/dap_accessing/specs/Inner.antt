@@ -1,4 +1,5 @@
 -- What only the contracts of private functions cite, and proofs: nobody has to believe it.
+pub mod Parts
 pub mod Present
 pub mod MayAsk
 pub mod Gathers

@@ -1,11 +1,11 @@
 -- What answers to requests report: each request takes its answers from the front of what is left.
-use Rattle.std.specs.Prelude.{ℕ, Bool, true, false, ◌&&◌, nat_le, ◌==◌, if◌then◌else◌, List, [], ◌∷◌, ◌++◌, drop, slice_get, take_while, filter_map, Option, Some, None, is_some, unwrap_or, option_map}
+use Rattle.std.specs.Prelude.{ℕ, Bool, true, false, ◌&&◌, nat_le, ◌==◌, if◌then◌else◌, List, [], ◌∷◌, ◌++◌, drop, slice_get, take_while, filter_map, Option, Some, None, is_some, option_map}
 use Rattle.std.specs.List.{prefix_len, list_any}
 use Rattle.dap_msg.specs.Codes as codes
 use Rattle.dap_msg.specs.declared.codes.Reason.TheVariants.{TooLargeForBuffer}
-use Rattle.dap_msg.specs.Message.{Config, Attrib, Ack, Accomp, Filedata, Status, Other, Attributes, StatusFields}
+use Rattle.dap_msg.specs.Message.{Config, Attrib, Ack, Accomp, Filedata, Status, Other, StatusFields}
 use Rattle.dap_msg.specs.Items.{Item, Whole}
-use Rattle.dap_msg.specs.BothEnds.{number_of, is_too_small}
+use Rattle.dap_msg.specs.BothEnds.{number_of, is_too_small, with_defaults}
 use Rattle.rec_file.specs.Limits.{greatest_number}
 use Rattle.dap_accessing.specs.Request.{Request}
 use Rattle.dap_accessing.specs.declared.request.Request.TheVariants.{Hello, Create, OpenFile, Connect, Get, Put, Update, Delete, Rewind, Fetch, Store, Continue, Close, Purge}
@@ -20,71 +20,69 @@ pub data Hearing : Type 0 where
   Waits : Hearing
   Unexpected : Hearing
 
--- the answers behind those in front that pass the test
-abbrev pub behind : (Item → Bool) → List Item → List Item
-behind test answers = drop (prefix_len test answers) answers
-
 -- the reason, where there is one byte of it
 abbrev pub reason_in : List ℕ → ℕ
 reason_in (reason ∷ []) = reason
 reason_in _ = 0
 
--- a Status where a report is due: it refuses, and a success has no place
-abbrev pub refusal : StatusFields → List Item → Hearing
-refusal status rest =
-    if codes.is_success status.code then Unexpected else Reports (report.Refused status.code (reason_in status.stv)) rest
+abbrev pub refusal : StatusFields → Report
+refusal status = report.Refused status.code (reason_in status.stv)
+
+-- A Status that is no success, where this is reported of it. All else has no place, and where there is nothing, more is due.
+abbrev pub hear_failure : (StatusFields → Report) → List Item → Hearing
+hear_failure told [] = Waits
+hear_failure told (Whole (Status status) ∷ rest) =
+    if codes.is_success status.code then Unexpected else Reports (told status) rest
+hear_failure told (_ ∷ rest) = Unexpected
+
+-- the same where another answer is looked for: a Status refuses the request
+abbrev pub hear_refusal : List Item → Hearing
+hear_refusal answers = hear_failure refusal answers
 
 abbrev pub hear_config : List Item → Hearing
-hear_config [] = Waits
 hear_config (Whole (Config config) ∷ rest) =
     if is_too_small config.bufsiz then Unexpected else Reports (report.Ready config.bufsiz) rest
-hear_config (Whole (Status status) ∷ rest) = refusal status rest
-hear_config (_ ∷ rest) = Unexpected
+hear_config answers = hear_refusal answers
 
 -- an Ack, after which there is this report
 abbrev pub hear_ack : Report → List Item → Hearing
-hear_ack done [] = Waits
 hear_ack done (Whole Ack ∷ rest) = Reports done rest
-hear_ack done (Whole (Status status) ∷ rest) = refusal status rest
-hear_ack done (_ ∷ rest) = Unexpected
+hear_ack done answers = hear_refusal answers
+
+-- the answers behind those in front that pass the test
+abbrev pub behind : (Item → Bool) → List Item → List Item
+behind test answers = drop (prefix_len test answers) answers
 
 -- the answer is of a type from 10 to 16
 abbrev pub is_other : Item → Bool
 is_other (Whole (Other _ _)) = true
 is_other _ = false
 
--- the Ack of an open or a create; messages of types 10 to 16 before it are ignored
-abbrev pub hear_opened : Report → List Item → Hearing
-hear_opened done answers = hear_ack done (behind is_other answers)
-
-abbrev pub opened_as : Attributes → Report
-opened_as a =
-    report.Opened (unwrap_or a.org codes.org.sequential) (unwrap_or a.rfm codes.rfm.variable) (unwrap_or a.mrs 0)
-    (number_of (unwrap_or a.mrn []))
-
--- the attributes of a file, whose records have no greater number than any file's, and then the Ack
+-- the attributes of a file, whose records have no greater number than any file's, and then the Ack; messages of types 10 to
+-- 16 between them are ignored
 abbrev pub hear_file : List Item → Hearing
-hear_file [] = Waits
 hear_file (Whole (Attrib a) ∷ rest) =
-    if nat_le (number_of (unwrap_or a.mrn [])) greatest_number then hear_opened (opened_as a) rest else Unexpected
-hear_file (Whole (Status status) ∷ rest) = refusal status rest
-hear_file (_ ∷ rest) = Unexpected
+    with_defaults (λ org rfm mrs mrn. if nat_le mrn greatest_number then hear_ack (report.Opened org rfm mrs mrn) (behind is_other rest) else Unexpected) a
+hear_file answers = hear_refusal answers
 
--- the same; messages of types 10 to 16 before the attributes are ignored too
+-- and so are those before the attributes
 abbrev pub hear_attributes : List Item → Hearing
 hear_attributes answers = hear_file (behind is_other answers)
 
 abbrev pub hear_record : List Item → Hearing
-hear_record [] = Waits
 hear_record (Whole (Filedata recnum body) ∷ rest) = Reports (report.Found (number_of recnum) body) rest
-hear_record (Whole (Status status) ∷ rest) = if status.code == codes.stscode.end_of_file then Reports report.EndOfFile rest else refusal status rest
-hear_record (_ ∷ rest) = Unexpected
+hear_record answers =
+    hear_failure (λ status. if status.code == codes.stscode.end_of_file then report.EndOfFile else refusal status) answers
 
 abbrev pub hear_done : List Item → Hearing
-hear_done [] = Waits
 hear_done (Whole (Status status) ∷ rest) =
-    if codes.is_success status.code then Reports (report.Done (number_of status.recnum)) rest else refusal status rest
-hear_done (_ ∷ rest) = Unexpected
+    Reports (if codes.is_success status.code then report.Done (number_of status.recnum) else refusal status) rest
+hear_done answers = hear_refusal answers
+
+-- an Accomp that answers, after which there is this report
+abbrev pub hear_completed : Report → List Item → Hearing
+hear_completed done (Whole (Accomp c) ∷ rest) = if c.func == codes.cmpfunc.response then Reports done rest else Unexpected
+hear_completed done answers = hear_refusal answers
 
 -- how a fetch ended, by the code and the reason of its Status
 abbrev pub ending_by : ℕ → ℕ → Ending
@@ -93,42 +91,24 @@ ending_by code reason =
     else if code == codes.stscode.record_refused && reason == codes.reason_number TooLargeForBuffer then ending.Stopped
     else ending.Refused code reason
 
-abbrev pub ending_of : StatusFields → Ending
-ending_of status = ending_by status.code (reason_in status.stv)
+-- what is read of the answers in front, as far as something is read of each
+abbrev pub in_front : {X : Type 0} → (Item → Option X) → List Item → List X
+in_front read answers = filter_map read (take_while (λ answer. is_some (read answer)) answers)
 
 -- the number and the bytes of a record
 abbrev pub record_in : Item → Option (ℕ × List ℕ)
 record_in (Whole (Filedata recnum body)) = Some (number_of recnum, body)
 record_in _ = None
 
-abbrev pub is_record : Item → Bool
-is_record answer = is_some (record_in answer)
-
--- the records before the first answer that is none
-abbrev pub records_in_front : List Item → List (ℕ × List ℕ)
-records_in_front answers = filter_map record_in (take_while is_record answers)
-
--- the Status of a fetch, with these records before it; a success has no place
-abbrev pub hear_batch_end : List (ℕ × List ℕ) → List Item → Hearing
-hear_batch_end records [] = Waits
-hear_batch_end records (Whole (Status status) ∷ rest) =
-    if codes.is_success status.code then Unexpected else Reports (report.Batch records (ending_of status)) rest
-hear_batch_end records (_ ∷ rest) = Unexpected
-
 -- the records of a fetch, and then its Status
 abbrev pub hear_batch : List Item → Hearing
-hear_batch answers = hear_batch_end (records_in_front answers) (behind is_record answers)
+hear_batch answers =
+    hear_failure (λ status. report.Batch (in_front record_in answers) (ending_by status.code (reason_in status.stv)))
+    (behind (λ answer. is_some (record_in answer)) answers)
 
 abbrev pub status_in : Item → Option StatusFields
 status_in (Whole (Status status)) = Some status
 status_in _ = None
-
-abbrev pub is_status : Item → Bool
-is_status answer = is_some (status_in answer)
-
--- the Statuses before the first answer that is none
-abbrev pub statuses_in_front : List Item → List StatusFields
-statuses_in_front answers = filter_map status_in (take_while is_status answers)
 
 -- one of them is a success
 abbrev pub has_success : List StatusFields → Bool
@@ -142,27 +122,11 @@ told_of status = (status.code, reason_in status.stv, number_of status.recnum)
 abbrev pub first_told : List StatusFields → Option (ℕ × ℕ × ℕ)
 first_told statuses = option_map told_of (slice_get statuses 0)
 
--- an Accomp that answers: there is this report; any other has no place
-abbrev pub completes : ℕ → Report → List Item → Hearing
-completes func done rest = if func == codes.cmpfunc.response then Reports done rest else Unexpected
-
--- the Accomp of a store, with this first refusal before it
-abbrev pub hear_store_end : Option (ℕ × ℕ × ℕ) → List Item → Hearing
-hear_store_end first [] = Waits
-hear_store_end first (Whole (Accomp c) ∷ rest) = completes c.func (report.Stored first) rest
-hear_store_end first (_ ∷ rest) = Unexpected
-
 -- the refusals of a store, and then its Accomp; a success among them has no place
 abbrev pub hear_stored : List Item → Hearing
 hear_stored answers =
-    if has_success (statuses_in_front answers) then Unexpected
-    else hear_store_end (first_told (statuses_in_front answers)) (behind is_status answers)
-
-abbrev pub hear_closed : List Item → Hearing
-hear_closed [] = Waits
-hear_closed (Whole (Accomp c) ∷ rest) = completes c.func report.Closed rest
-hear_closed (Whole (Status status) ∷ rest) = refusal status rest
-hear_closed (_ ∷ rest) = Unexpected
+    if has_success (in_front status_in answers) then Unexpected
+    else hear_completed (report.Stored (first_told (in_front status_in answers))) (behind (λ answer. is_some (status_in answer)) answers)
 
 -- what the answers to a request come to
 abbrev pub hear : Request → List Item → Hearing
@@ -178,8 +142,8 @@ hear Rewind answers = hear_done answers
 hear Fetch answers = hear_batch answers
 hear (Store _) answers = hear_stored answers
 hear (Continue _) answers = hear_batch answers
-hear Close answers = hear_closed answers
-hear Purge answers = hear_closed answers
+hear Close answers = hear_completed report.Closed answers
+hear Purge answers = hear_completed report.Closed answers
 
 -- What is due after requests and answers: nothing; more answers to a request, after these; or an answer had no place.
 pub data Due : Type 0 where

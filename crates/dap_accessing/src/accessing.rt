@@ -13,11 +13,11 @@ ghost use Rattle.dap_accessing.specs.Calls.{Asks, AskRefused, IsAdmittedBy, Read
 ghost use Rattle.dap_accessing.specs.Inner.MayAsk.{MayAsk};
 ghost use Rattle.dap_accessing.specs.Told.{Told};
 ghost use Rattle.dap_accessing.specs.Asked.{messages_of};
-ghost use Rattle.dap_accessing.specs.Inner.Outgoing.{outgoing_messages};
+ghost use Rattle.dap_accessing.specs.Inner.Outgoing.{AreCounted, IsCounted, outgoing_messages, seen_option};
 ghost use Rattle.dap_accessing.specs.Request.{Request as TheRequest};
 ghost use Rattle.dap_accessing.specs.declared.report.Report.{Report as TheReport};
 
-use crate::asking::{Outgoing, carried_number};
+use crate::asking::{Checked, Outgoing, carried_number};
 use crate::fault::{AskFault, ReadFault, ReadStep};
 use crate::pending::{Heard, Pending};
 use crate::phase::Phase;
@@ -97,14 +97,19 @@ impl Accessing {
     {
         let number = carried_number(request).to_le_bytes();
         let outgoing = Outgoing::of(self.bufsiz, request, &number);
-        self.admit(request, &outgoing)?;
-        self.send(request, &outgoing)
+        let checked = self.admit(request, &outgoing)?;
+        self.send(request, &outgoing, checked)
     }
 
-    /// The same of a request that `check` lets through. It isn't looked at again, and refused for
-    /// want of memory alone. Own.
-    pub fn ask_checked(&mut self, request: &Request) -> Result<Vec<Vec<u8>>, AskFault>
-        requires { MayAsk self.old request.now }
+    /// The same of a request that `check` lets through, with what it counted. It isn't looked at again, and
+    /// refused for want of memory alone. Own.
+    pub fn ask_checked(
+        &mut self,
+        request: &Request,
+        checked: Checked,
+    ) -> Result<Vec<Vec<u8>>, AskFault>
+        requires may { MayAsk self.old request.now }
+        requires counted { IsCounted self.old.own request.now checked }
         ensures asks { IfOk result
             (λ messages. Asks request.now self.old self.new (bodies messages.items)) }
         ensures refused { IfErr result (λ f. f ≡ NoMemory) }
@@ -112,43 +117,55 @@ impl Accessing {
         ensures own { self.new.own ≡ self.old.own }
     {
         let number = carried_number(request).to_le_bytes();
-        self.send(request, &Outgoing::of(self.bufsiz, request, &number))
+        let outgoing = Outgoing::of(self.bufsiz, request, &number);
+        self.send(request, &outgoing, checked)
     }
 
     /// Asks a request, whose messages these are.
-    fn send(&mut self, request: &Request, outgoing: &Outgoing<'_>) -> Result<Vec<Vec<u8>>, AskFault>
+    fn send(
+        &mut self,
+        request: &Request,
+        outgoing: &Outgoing<'_>,
+        checked: Checked,
+    ) -> Result<Vec<Vec<u8>>, AskFault>
         requires same { outgoing_messages outgoing.now ≡ messages_of self.old.own request.now }
         requires may { MayAsk self.old request.now }
+        requires counted { AreCounted (seen outgoing.now.first) (seen_option outgoing.now.last)
+            checked }
         ensures asks { IfOk result
             (λ messages. Asks request.now self.old self.new (bodies messages.items)) }
         ensures refused { IfErr result (λ f. f ≡ NoMemory) }
         ensures unchanged { OnErr result (self.new ≡ self.old) }
         ensures own { self.new.own ≡ self.old.own }
     {
-        let Ok(messages) = outgoing.blocked(self.alloc, self.limit) else {
+        let Ok(messages) = outgoing.blocked(self.alloc, self.limit, checked) else {
             return Err(AskFault::NoMemory);
         };
         self.pending = Some(Pending::of(self.alloc, request));
         Ok(messages)
     }
 
-    /// Whether `ask` would take the request, memory aside; refused as there. It takes no memory. Own.
-    pub fn check(&self, request: &Request) -> Result<(), AskFault>
+    /// Whether `ask` would take the request, memory aside, with what `ask_checked` needs; refused as
+    /// there. It takes no memory. Own.
+    pub fn check(&self, request: &Request) -> Result<Checked, AskFault>
         ensures works { OnOk result (self.now.failed ≡ false) }
         ensures admissible { OnOk result (IsAdmittedBy self.now request.now) }
         ensures may { OnOk result (MayAsk self.now request.now) }
+        ensures counted { IfOk result (IsCounted self.now.own request.now) }
         ensures refused { IfErr result (λ f. (f ≢ NoMemory) × AskRefused request.now self.now f) }
     {
         let number = carried_number(request).to_le_bytes();
         self.admit(request, &Outgoing::of(self.bufsiz, request, &number))
     }
 
-    /// Whether a request is admissible, whose messages these are.
-    fn admit(&self, request: &Request, outgoing: &Outgoing<'_>) -> Result<(), AskFault>
+    /// Whether a request is admissible, whose messages these are, with what was counted of them.
+    fn admit(&self, request: &Request, outgoing: &Outgoing<'_>) -> Result<Checked, AskFault>
         requires { outgoing_messages outgoing.now ≡ messages_of self.now.own request.now }
         ensures works { OnOk result (self.now.failed ≡ false) }
         ensures admissible { OnOk result (IsAdmittedBy self.now request.now) }
         ensures may { OnOk result (MayAsk self.now request.now) }
+        ensures counted { IfOk result
+            (AreCounted (seen outgoing.now.first) (seen_option outgoing.now.last)) }
         ensures refused { IfErr result (λ f. (f ≢ NoMemory) × AskRefused request.now self.now f) }
     {
         if self.failed {
@@ -160,10 +177,10 @@ impl Accessing {
         if !self.phase.fits(request) {
             return Err(AskFault::WrongPhase);
         }
-        if !outgoing.is_sendable(self.limit) {
-            return Err(AskFault::TooLarge);
+        match outgoing.count(self.limit) {
+            Some(checked) => Ok(checked),
+            None => Err(AskFault::TooLarge),
         }
-        Ok(())
     }
 
     /// Takes the message as the next answer.

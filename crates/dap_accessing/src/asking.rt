@@ -1,12 +1,13 @@
 //! The messages of a request.
 
-ghost use Rattle.std.specs.Prelude.{◌≡◌, ◌↔◌, IsTrue, IfOk, option_copied};
+ghost use Rattle.std.specs.Prelude.{◌≡◌, ◌≤◌, ◌<◌, ◌↔◌, ℕ, None, length, map, IsTrue, IfOk, IfSome, option_copied};
 ghost use Rattle.dap_msg.specs.Message.{seen};
 ghost use Rattle.dap_msg.specs.BothEnds.{four_bytes};
 ghost use Rattle.dap_msg.specs.Blocked.{AddsOne};
-ghost use Rattle.dap_msg.specs.Canon.{canon, Fits};
+ghost use Rattle.dap_msg.specs.Canon.{canon, file_data_size, Fits};
 ghost use Rattle.dap_accessing.specs.Asked as asked;
-ghost use Rattle.dap_accessing.specs.Inner.Outgoing.{IsBlocked, number_carried, first_of, bodies_of, last_of, outgoing_messages, seen_option};
+ghost use Rattle.dap_accessing.specs.Asked.{unnumbered_record};
+ghost use Rattle.dap_accessing.specs.Inner.Outgoing.{AreCounted, IsBlocked, number_carried, first_of, bodies_of, last_of, outgoing_messages, seen_option};
 ghost use Rattle.dap_msg.specs.Sendable.{IsSendable, AreSendable};
 
 use crate::bytes::Octets;
@@ -17,7 +18,7 @@ use dap_msg::codes::{
     CTLFUNC_PUT, CTLFUNC_REWIND, CTLFUNC_UPDATE, RAC_ADDRESS, RAC_KEYED, RAC_SEQUENTIAL,
     RAC_WHOLE_FILE,
 };
-use dap_msg::{Attributes, Control, Message, MsgFault, append_message, encoded_len, fits};
+use dap_msg::{Attributes, Control, Message, MsgFault, append_counted, encoded_len, fits};
 use std::alloc::Global;
 
 /// The number that a request carries in four bytes, 0 where it carries none.
@@ -35,6 +36,7 @@ pub(crate) fn carried_number(request: &Request) -> u32
     }
 }
 
+/// An Attributes message with these fields alone.
 fn attributes(org: Option<u8>, rfm: Option<u8>, mrs: Option<u16>, mrn: Option<&[u8]>) -> Message<'_>
     ensures { seen result ≡ asked.attributes org rfm mrs (option_copied mrn.entry) }
 {
@@ -47,6 +49,7 @@ fn attributes(org: Option<u8>, rfm: Option<u8>, mrs: Option<u16>, mrn: Option<&[
     })
 }
 
+/// An Access of this function to the file of this name.
 fn access(func: u8, name: &Octets, fac: u32) -> Message<'_>
     ensures { seen result ≡ asked.access func name.now fac }
 {
@@ -61,6 +64,7 @@ fn access(func: u8, name: &Octets, fac: u32) -> Message<'_>
     }
 }
 
+/// A Control with these fields alone.
 fn control(func: u8, rac: Option<u8>, key: Option<&[u8]>) -> Message<'_>
     ensures { seen result ≡ asked.control func rac (option_copied key.entry) }
 {
@@ -75,6 +79,7 @@ fn control(func: u8, rac: Option<u8>, key: Option<&[u8]>) -> Message<'_>
     })
 }
 
+/// The Filedata of a record, without a number.
 fn record(body: &Octets) -> Message<'_>
     ensures { seen result ≡ asked.unnumbered_record body.now }
 {
@@ -141,24 +146,81 @@ fn records(request: &Request) -> &[Octets]
     }
 }
 
-/// Whether the message has a spelling, within the limit.
-fn is_sendable(message: &Message<'_>, limit: u16) -> bool
-    ensures { IsTrue result ↔ IsSendable limit (seen message.now) }
+/// The bytes of the message, where it has a spelling within the limit.
+fn sendable_len(message: &Message<'_>, limit: u16) -> Option<usize>
+    ensures yes { IfSome result (λ n. IsSendable limit (seen message.now)) }
+    ensures exact { IfSome result (λ n. n ≡ length (canon (seen message.now))) }
+    ensures no { result ≡ None → IsSendable limit (seen message.now) → ⊥ }
 {
-    fits(message) && encoded_len(message) <= usize::from(limit)
+    if !fits(message) {
+        return None;
+    }
+    let len = encoded_len(message);
+    if len <= usize::from(limit) {
+        Some(len)
+    } else {
+        None
+    }
 }
 
-/// Adds a message to the last of the NSP messages, or begins a new one.
+/// What stands before a record in its Filedata where that has a header of 3 bytes, and where it has one of 4.
+const BEFORE_SHORT_RECORD: usize = 4;
+
+const BEFORE_LONG_RECORD: usize = 5;
+
+/// The bytes of the longest Filedata that has a header of 3 bytes.
+const LONGEST_SHORT: u16 = 258;
+
+/// The bytes of the longest record whose Filedata is within the limit, where there is one.
+fn longest_record(limit: u16) -> Option<usize>
+    ensures some { IfSome result
+        (λ most. (len : ℕ) → (len ≤ most) ↔ (file_data_size 0 len ≤ limit)) }
+    ensures none { result ≡ None → (len : ℕ) → limit < file_data_size 0 len }
+{
+    let before = if limit <= LONGEST_SHORT {
+        BEFORE_SHORT_RECORD
+    } else {
+        BEFORE_LONG_RECORD
+    };
+    usize::from(limit).checked_sub(before)
+}
+
+/// Whether each record has a Filedata within the limit.
+fn are_sendable(records: &[Octets], limit: u16) -> bool
+    ensures { IsTrue result ↔ AreSendable limit (map unnumbered_record records.now) }
+{
+    let Some(longest) = longest_record(limit) else {
+        return records.is_empty();
+    };
+    for body in records {
+        if body.0.len() > longest {
+            return false;
+        }
+    }
+    true
+}
+
+/// Adds a message of `len` bytes to the last of the NSP messages, or begins a new one.
 fn append(
     alloc: Global,
     list: &mut Vec<Vec<u8>>,
     message: &Message<'_>,
+    len: usize,
     limit: u16,
 ) -> Result<(), MsgFault>
-    requires { Fits (seen message.now) }
+    requires fits { Fits (seen message.now) }
+    requires counted { len ≡ length (canon (seen message.now)) }
     ensures { AddsOne limit (canon (seen message.now)) list.old list.new result }
 {
-    append_message(alloc, list, message, usize::from(limit))
+    append_counted(alloc, list, message, len, usize::from(limit))
+}
+
+/// What [`crate::Accessing::check`] counted of the messages of a request: the bytes of the first, and of the last behind
+/// the records, 0 where there is none. Own.
+#[derive(Clone, Copy, Debug)]
+pub struct Checked {
+    first: usize,
+    last: usize,
 }
 
 /// The messages of a request.
@@ -170,9 +232,12 @@ pub(crate) struct Outgoing<'a> {
 }
 
 impl<'a> Outgoing<'a> {
+    /// The messages of a request that carries these four bytes.
     pub(crate) fn of(own: u16, request: &'a Request, number: &'a [u8]) -> Outgoing<'a>
         requires { number.now ≡ four_bytes (number_carried request.now) }
-        ensures { outgoing_messages result ≡ asked.messages_of own request.now }
+        ensures messages { outgoing_messages result ≡ asked.messages_of own request.now }
+        ensures first { seen result.first ≡ first_of own request.now }
+        ensures last { seen_option result.last ≡ last_of request.now }
     {
         Outgoing {
             first: first_message(own, request, number),
@@ -181,37 +246,44 @@ impl<'a> Outgoing<'a> {
         }
     }
 
-    /// Whether each message has a spelling, within the limit.
-    pub(crate) fn is_sendable(&self, limit: u16) -> bool
-        ensures { IsTrue result ↔ AreSendable limit (outgoing_messages self.now) }
+    /// Counts the messages, where each has a spelling within the limit.
+    pub(crate) fn count(&self, limit: u16) -> Option<Checked>
+        ensures yes { IfSome result (λ _. AreSendable limit (outgoing_messages self.now)) }
+        ensures counted { IfSome result
+            (AreCounted (seen self.now.first) (seen_option self.now.last)) }
+        ensures no { result ≡ None → AreSendable limit (outgoing_messages self.now) → ⊥ }
     {
-        if !is_sendable(&self.first, limit) {
-            return false;
+        let first = sendable_len(&self.first, limit)?;
+        if !are_sendable(self.records, limit) {
+            return None;
         }
-        for body in self.records {
-            if !is_sendable(&record(body), limit) {
-                return false;
-            }
-        }
-        match &self.last {
-            Some(message) => is_sendable(message, limit),
-            None => true,
-        }
+        let last = match &self.last {
+            Some(message) => sendable_len(message, limit)?,
+            None => 0,
+        };
+        Some(Checked { first, last })
     }
 
-    /// The messages, joined as far as the limit goes.
-    pub(crate) fn blocked(&self, alloc: Global, limit: u16) -> Result<Vec<Vec<u8>>, MsgFault>
-        requires { AreSendable limit (outgoing_messages self.now) }
+    /// The messages, joined as far as the limit goes. The first and the last aren't counted again.
+    pub(crate) fn blocked(
+        &self,
+        alloc: Global,
+        limit: u16,
+        checked: Checked,
+    ) -> Result<Vec<Vec<u8>>, MsgFault>
+        requires sendable { AreSendable limit (outgoing_messages self.now) }
+        requires counted { AreCounted (seen self.now.first) (seen_option self.now.last) checked }
         ensures { IfOk result (IsBlocked limit (outgoing_messages self.now)) }
     {
         let mut list = Vec::new(alloc);
-        append(alloc, &mut list, &self.first, limit)?;
+        append(alloc, &mut list, &self.first, checked.first, limit)?;
         for body in self.records {
-            append(alloc, &mut list, &record(body), limit)?;
+            let message = record(body);
+            append(alloc, &mut list, &message, encoded_len(&message), limit)?;
         }
         match &self.last {
             Some(message) => {
-                append(alloc, &mut list, message, limit)?;
+                append(alloc, &mut list, message, checked.last, limit)?;
                 Ok(list)
             }
             None => Ok(list),

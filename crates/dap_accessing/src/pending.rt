@@ -118,6 +118,7 @@ fn hear_status(code: u16, stv: &[u8]) -> Heard
     }
 }
 
+/// What a message comes to where a Config is due.
 fn hear_config(message: &Message<'_>) -> Heard
     ensures { Hears pending.Config (Whole (seen message.now)) result }
 {
@@ -134,6 +135,7 @@ fn hear_config(message: &Message<'_>) -> Heard
     }
 }
 
+/// What a message comes to where the Attributes of an opened file are due.
 fn hear_attributes(message: &Message<'_>) -> Heard
     requires { HasShortNumbers (seen message.now) }
     ensures { Hears pending.Attributes (Whole (seen message.now)) result }
@@ -158,6 +160,7 @@ fn hear_attributes(message: &Message<'_>) -> Heard
     }
 }
 
+/// What a message comes to where the Acknowledge behind these attributes is due.
 fn hear_opened(org: u8, rfm: u8, mrs: u16, mrn: u32, message: &Message<'_>) -> Heard
     ensures { Hears (pending.Opened org rfm mrs mrn) (Whole (seen message.now)) result }
 {
@@ -169,6 +172,7 @@ fn hear_opened(org: u8, rfm: u8, mrs: u16, mrn: u32, message: &Message<'_>) -> H
     }
 }
 
+/// What a message comes to where the Acknowledge of a connection is due.
 fn hear_connected(message: &Message<'_>) -> Heard
     ensures { Hears pending.Connected (Whole (seen message.now)) result }
 {
@@ -179,6 +183,7 @@ fn hear_connected(message: &Message<'_>) -> Heard
     }
 }
 
+/// What a message comes to where the record of a get is due.
 fn hear_record(alloc: Global, message: &Message<'_>) -> Heard
     requires { HasShortNumbers (seen message.now) }
     ensures { Hears pending.Record (Whole (seen message.now)) result }
@@ -201,6 +206,7 @@ fn hear_record(alloc: Global, message: &Message<'_>) -> Heard
     }
 }
 
+/// What a message comes to where the Status of an operation is due.
 fn hear_done(message: &Message<'_>) -> Heard
     requires { HasShortNumbers (seen message.now) }
     ensures { Hears pending.Done (Whole (seen message.now)) result }
@@ -236,6 +242,7 @@ fn hear_body(alloc: Global, bodies: Numbered, number: u64, payload: &[u8]) -> He
     }
 }
 
+/// What a message comes to in a fetch, behind these records.
 fn hear_batch(alloc: Global, bodies: Numbered, message: &Message<'_>) -> Heard
     requires { HasShortNumbers (seen message.now) }
     ensures { Hears (pending.Batch bodies) (Whole (seen message.now)) result }
@@ -261,6 +268,7 @@ fn hear_batch(alloc: Global, bodies: Numbered, message: &Message<'_>) -> Heard
     }
 }
 
+/// What a message comes to where the end of a store is due, whose first refusal is kept.
 fn hear_stored(kept: Option<(u16, u8, u64)>, message: &Message<'_>) -> Heard
     requires { HasShortNumbers (seen message.now) }
     ensures { Hears (pending.Stored kept) (Whole (seen message.now)) result }
@@ -291,6 +299,7 @@ fn hear_stored(kept: Option<(u16, u8, u64)>, message: &Message<'_>) -> Heard
     }
 }
 
+/// What a message comes to where the Access Complete of a close or a purge is due.
 fn hear_closed(message: &Message<'_>) -> Heard
     ensures { Hears pending.Closed (Whole (seen message.now)) result }
 {

@@ -15,7 +15,7 @@ use Rattle.dap_world.specs.declared.setup.WorldSetup.{WorldSetup}
 use Rattle.dap_world.specs.Machine.{State, Sending, Steps, Refuses, fresh, end_of, reported, files_of}
 use Rattle.dap_world.specs.Setups.{IsWorldSetup}
 use Rattle.dap_world.specs.Wires.{IsOnWire}
-use Rattle.dap_world.specs.Runs.{writer_of}
+use Rattle.dap_world.specs.Runs.{writing_end}
 use Rattle.dap_text.specs.Answers.{ask_text, got_text}
 use Rattle.dap_text.specs.Text.{line_feed}
 use Rattle.dap_text.specs.Reports.{report_text}
@@ -54,7 +54,7 @@ IsReported s text =
 abbrev pub IsStepText : State → Event → Step → List ℕ → Type 0
 IsStepText s e (step.Asked count) text = text ≡ codes "asked " ++ decimal count
 IsStepText s e (step.Posted count) text = text ≡ codes "posted " ++ decimal count
-IsStepText s e (step.Packet place) text = (end : End) × (writer_of e ≡ Some end) × IsPacketWritten s end place text
+IsStepText s e (step.Packet place) text = (end : End) × (writing_end e ≡ Some end) × IsPacketWritten s end place text
 IsStepText s e (step.Delivered got) text = text ≡ got_text got
 IsStepText s e (step.Served count) text = text ≡ codes "served " ++ decimal count
 IsStepText s e step.Nothing text = text ≡ codes "read"

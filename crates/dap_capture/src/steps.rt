@@ -3,7 +3,7 @@
 ghost use Rattle.std.specs.Prelude.{◌≡◌, ◌<◌, OnOk, length, option_copied};
 ghost use Rattle.dap_world.specs.Machine.{reported, end_of};
 ghost use Rattle.dap_world.specs.Inner.Naming.{NamedIsThere};
-ghost use Rattle.dap_world.specs.Runs.{writer_of};
+ghost use Rattle.dap_world.specs.Runs.{writing_end};
 ghost use Rattle.dap_text.specs.Adding.{Adds};
 ghost use Rattle.dap_text.specs.Adding.{AddsSome};
 ghost use Rattle.dap_capture.specs.Inner.Orders.{event_of_order};
@@ -41,7 +41,7 @@ pub(crate) fn refusal_word(fault: WorldFault) -> Option<&'static str>
 
 /// The end that writes a packet in the event of this order.
 fn writing_end<'a>(order: &Order<'a>) -> Option<End>
-    ensures { result ≡ writer_of (event_of_order order.now) }
+    ensures { result ≡ writing_end (event_of_order order.now) }
 {
     match order {
         Order::Emit(end) | Order::Resend(end, _) | Order::Ack(end) => Some(*end),

@@ -120,7 +120,7 @@ failed_reads old one rs e (goes m r more x on is) = absurd (true≢false (sym e 
 read_past : (past : AskingPast) (old new : AskingValue) (rs : List Report) → HasAsked past old → ReadOn old new rs → (now : AskingPast) × HasAsked now new
 read_past past old new rs h on = let g = (read_grows old new rs on).past past h in (g.0, g.1.is)
 
-stops_empty : (v : AskingValue) → v.port.link.inbox ≡ [] → Stops v
+stops_empty : (v : AskingValue) → v.port.link.coming.inbox ≡ [] → Stops v
 stops_empty v none = λ next report r. no_next r.one.bytes r.one.later (sym none ∙ r.one.came)
 
 not_wrong : (d : Due) (p : Option Pending) → elim d [ NothingDue ↦ false | AnswersDue request so_far ↦ false | Wrong ↦ true ] ≡ true → FitsDue d p → ⊥
@@ -188,11 +188,11 @@ heard_alike old other one two before xs ys d like a b =
     )
 
 -- all that came was read, or reading stopped
-empty_apart : (old other one mid two : AskingValue) (before xs ys : List Report) (f : ReadFault) → HasDone old → AreAlike old other → f ≢ read_fault.NoMemory → ReadAll old one before xs → one.port.link.inbox ≡ [] → ReadAll other mid before ys
+empty_apart : (old other one mid two : AskingValue) (before xs ys : List Report) (f : ReadFault) → HasDone old → AreAlike old other → f ≢ read_fault.NoMemory → ReadAll old one before xs → one.port.link.coming.inbox ≡ [] → ReadAll other mid before ys
     → ReadNone mid two f → ⊥
 empty_apart old other one mid two before xs ys f d like want ra none rb n =
     let t = read_alike old other one mid before xs ys d like ra rb (λ p. stops_empty one none) (λ p. stops_unread mid two f want n p) in
-    no_next n.bytes n.later (sym none ∙ ap (λ (p : PortValue). p.link.inbox) t.0.0 ∙ n.came)
+    no_next n.bytes n.later (sym none ∙ ap (λ (p : PortValue). p.link.coming.inbox) t.0.0 ∙ n.came)
 
 heard_apart : (old other one two : AskingValue) (before xs ys : List Report) (f : EndFault) → HasDone old → AreAlike old other → is_want f ≡ false → HeardAll old one before xs → HearFault other two before ys f → ⊥
 heard_apart old other one two before xs ys (end_fault.Link f) d like want a b =

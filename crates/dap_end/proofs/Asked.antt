@@ -12,7 +12,7 @@ use Rattle.dap_msg.specs.Sendable.{AreSendable}
 use Rattle.dap_msg.specs.Blocked.{NspMessage, joined, Blocked, blocked_after, all_joined, messages_in, AllFit, AllWithin, IsWithin}
 use Rattle.dap_msg.proofs.ForCallers.{messages_in-Blocked, within_limit}
 use Rattle.nsp_link.specs.declared.fault.LinkFault.{LinkFault}
-use Rattle.nsp_link.specs.Link.{LinkValue, SendsStill, Stands}
+use Rattle.nsp_link.specs.Link.{LinkValue, SendsStill, Stands, with_inbox}
 use Rattle.nsp_link.specs.Sending.{MayQueueAll, SendAllFault}
 use Rattle.nsp_link.proofs.ForCallers.{sends_all}
 use Rattle.dap_accessed.specs.Served.{AllAtMost}
@@ -41,7 +41,7 @@ pub still_received : (v : AskingValue) (link : LinkValue) → Grown v.port.link 
 still_received v link g sends = λ past h.
     record {
       asking = h.asking;
-      gone = subst (λ (l : List (List ℕ)). GoneThrough past.given l v.port.place past.answers) (sym g.inbox) (gone_stays past.given v.port.link.inbox g.more v.port.place past.answers h.gone);
+      gone = subst (λ (l : List (List ℕ)). GoneThrough past.given l v.port.place past.answers) (sym g.inbox) (gone_stays past.given v.port.link.coming.inbox g.more v.port.place past.answers h.gone);
       sends = sends past.handed h.sends;
       messages = h.messages;
       waiting = h.waiting;
@@ -184,7 +184,7 @@ few_blocked limit (m ∷ messages) = omega (arith, blocked-few limit (m ∷ []) 
 
 -- ---- An answer.
 
-pub reads_one : (old : AskingValue) (bytes : List ℕ) (later : List (List ℕ)) → AreBytes bytes → (after : Present) (port : PortValue) (step : ReadStep) → old.port.link.inbox ≡ bytes ∷ later → IsPlace old.port.place bytes
+pub reads_one : (old : AskingValue) (bytes : List ℕ) (later : List (List ℕ)) → AreBytes bytes → (after : Present) (port : PortValue) (step : ReadStep) → old.port.link.coming.inbox ≡ bytes ∷ later → IsPlace old.port.place bytes
     → (r : Reads bytes old.port.place old.accessing after step) → step.next ≤ length bytes → (old.port.place < length bytes → old.port.place < step.next) → after.own ≡ old.accessing.own
     → port ≡ gone_on old.port bytes later step.next → ReadOne old (asking_of port after) step.report
 reads_one old bytes later fits after port step inbox place r within onward own is =
@@ -220,12 +220,12 @@ pub record HasRead (past now : AskingPast) (old new : AskingValue) (reports : Li
   pub answers : (more : List Item) × (now.answers ≡ past.answers ++ more)
   pub told : Told past.requests now.answers ≡ Told past.requests past.answers ++ reports
   -- what left the link was read
-  pub given : now.given ++ new.port.link.inbox ≡ past.given ++ old.port.link.inbox
+  pub given : now.given ++ new.port.link.coming.inbox ≡ past.given ++ old.port.link.coming.inbox
   pub stands : (size : ℕ) (messages : List (List ℕ)) → Stands old.port.link size messages past.given
       → Stands new.port.link size messages now.given
 
 pub record ReadMore (old new : AskingValue) (reports : List Report) : Type 0 where
-  pub link : new.port.link ≡ record old.port.link { inbox = new.port.link.inbox }
+  pub link : new.port.link ≡ with_inbox old.port.link new.port.link.coming.inbox
   pub outbox : new.port.outbox ≡ old.port.outbox
   pub own : new.accessing.own ≡ old.accessing.own
   pub past : (past : AskingPast) → HasAsked past old → (now : AskingPast) × HasRead past now old new reports
@@ -265,7 +265,7 @@ split_given given inbox later bytes next came =
 
 read_grew : (a b c : AskingValue) (report : Option Report) (told : List Report) (past : AskingPast) (now : AskingPast) → HasRead past now a b told → (r : ReadOne b c report) → HasRead past (read_one now r.one.bytes r.one.item r.one.next) a c (told ++ option_to_list report)
 read_grew a b c report told past now g r =
-    let link : c.port.link ≡ record b.port.link { inbox = if r.one.next == length r.one.bytes then r.one.later else b.port.link.inbox } = ap (λ (p : PortValue). p.link) r.port in
+    let link : c.port.link ≡ with_inbox b.port.link (if r.one.next == length r.one.bytes then r.one.later else b.port.link.coming.inbox) = ap (λ (p : PortValue). p.link) r.port in
     record {
       is = r.past now g.is;
       requests = g.requests;
@@ -275,18 +275,18 @@ read_grew a b c report told past now g r =
       told = ap (λ (l : List Request). Told l (now.answers ++ r.one.item ∷ [])) (sym g.requests) ∙ r.told now g.is
           ∙ ap (λ (l : List Request). Told l now.answers ++ option_to_list report) g.requests
           ∙ ap (λ (l : List Report). l ++ option_to_list report) g.told ∙ append_assoc (Told past.requests past.answers) told (option_to_list report);
-      given = subst (λ (l : LinkValue). given_then now.given r.one.bytes r.one.next ++ l.inbox ≡ now.given ++ b.port.link.inbox) (sym link)
-          (split_given now.given b.port.link.inbox r.one.later r.one.bytes r.one.next r.one.came) ∙ g.given;
+      given = subst (λ (l : LinkValue). given_then now.given r.one.bytes r.one.next ++ l.coming.inbox ≡ now.given ++ b.port.link.coming.inbox) (sym link)
+          (split_given now.given b.port.link.coming.inbox r.one.later r.one.bytes r.one.next r.one.came) ∙ g.given;
       stands = λ size messages s. subst (λ (l : LinkValue). Stands l size messages (read_one now r.one.bytes r.one.item r.one.next).given) (sym link)
           (port_given b.port r.one.bytes r.one.later r.one.next size messages now.given r.one.came (g.stands size messages s));
     }
 
 read_then : (a b c : AskingValue) (told : List Report) (report : Option Report) → ReadMore a b told → ReadOne b c report → ReadMore a c (told ++ option_to_list report)
 read_then a b c told report m r =
-    let link : c.port.link ≡ record b.port.link { inbox = if r.one.next == length r.one.bytes then r.one.later else b.port.link.inbox } = ap (λ (p : PortValue). p.link) r.port in
-    let here : c.port.link ≡ record b.port.link { inbox = c.port.link.inbox } = subst (λ (l : LinkValue). l ≡ record b.port.link { inbox = l.inbox }) (sym link) refl in
+    let link : c.port.link ≡ with_inbox b.port.link (if r.one.next == length r.one.bytes then r.one.later else b.port.link.coming.inbox) = ap (λ (p : PortValue). p.link) r.port in
+    let here : c.port.link ≡ with_inbox b.port.link c.port.link.coming.inbox = subst (λ (l : LinkValue). l ≡ with_inbox b.port.link l.coming.inbox) (sym link) refl in
     record {
-      link = here ∙ ap (λ (l : LinkValue). record l { inbox = c.port.link.inbox }) m.link;
+      link = here ∙ ap (λ (l : LinkValue). with_inbox l c.port.link.coming.inbox) m.link;
       outbox = ap (λ (p : PortValue). p.outbox) r.port ∙ m.outbox;
       own = r.own ∙ m.own;
       past = λ past h. (let g = m.past past h in (read_one g.0 r.one.bytes r.one.item r.one.next, read_grew a b c report told past g.0 g.1 r));
@@ -314,10 +314,10 @@ read_more a b c report before all new m r is = (
   read_on a b c m.0 report m.2 r,
 )
 
-pub read_falls : (old new : AskingValue) (report : Option Report) → ReadOne old new report → work new.port.link.inbox - new.port.place < work old.port.link.inbox - old.port.place
+pub read_falls : (old new : AskingValue) (report : Option Report) → ReadOne old new report → work new.port.link.coming.inbox - new.port.place < work old.port.link.coming.inbox - old.port.place
 read_falls old new report r =
-    subst (λ (p : PortValue). work p.link.inbox - p.place < work old.port.link.inbox - old.port.place) (sym r.port)
-    (less_left old.port.link.inbox r.one.later r.one.bytes old.port.place r.one.next r.one.came r.one.place r.one.goes r.one.within)
+    subst (λ (p : PortValue). work p.link.coming.inbox - p.place < work old.port.link.coming.inbox - old.port.place) (sym r.port)
+    (less_left old.port.link.coming.inbox r.one.later r.one.bytes old.port.place r.one.next r.one.came r.one.place r.one.goes r.one.within)
 
 pub still_sent : (v : AskingValue) (port : PortValue) (n : ℕ) → port ≡ sent_more v.port n → HasStill v (record v { port = port })
 still_sent v port n e =
@@ -330,6 +330,6 @@ still_sent v port n e =
 pub works_after : (old new : AskingValue) (n : ℕ) → HandedAll old new n → new.port.link.failed ≡ false
 works_after old new n h = ap (λ (v : AskingValue). v.port.link.failed) h.posted ∙ h.may.0
 
-pub heard_only : (old heard new : AskingValue) (before reports : List Report) (f : LinkFault) → ReadAll old heard before reports → heard.port.link.inbox ≡ [] → (new ≡ heard) × SendAllFault heard.port.link heard.port.outbox f → HearFault old new before reports (end_fault.Link f)
+pub heard_only : (old heard new : AskingValue) (before reports : List Report) (f : LinkFault) → ReadAll old heard before reports → heard.port.link.coming.inbox ≡ [] → (new ≡ heard) × SendAllFault heard.port.link heard.port.outbox f → HearFault old new before reports (end_fault.Link f)
 heard_only old heard new before reports f read done h =
     subst (λ (v : AskingValue). HearFault old v before reports (end_fault.Link f)) (sym h.0) ((read, done), h.1)

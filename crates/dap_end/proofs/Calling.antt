@@ -38,19 +38,19 @@ pub posting_is : (old new : AskingValue) (n : ℕ) → HandedAll old new n → A
 posting_is old new n h = one_event old new (By GoesOn) [] [] (new, [], (old, begins, inr (n, h)), wrote_nothing new.port, refl, refl)
 
 pub writing_is : (old new : AskingValue) (bytes : List ℕ) → new ≡ record old { port = new.port } → WroteNext old.port new.port bytes
-    → AskingRuns old (By GoesOn ∷ []) new [] (numbered (old.port.link.sent + 1) old.port.link.received (bytes ∷ []))
+    → AskingRuns old (By GoesOn ∷ []) new [] (numbered (old.port.link.sent + 1) old.port.link.coming.received (bytes ∷ []))
 writing_is old new bytes rest w = one_event old new (By GoesOn) [] _ (old, bytes ∷ [], (old, begins, inl refl), one_segment old.port new.port bytes w, rest, refl)
 
 pub again_is : (v : AskingValue) (i : ℕ) (bytes : List ℕ) → i < v.port.link.sent - v.port.link.acked → WritesSent v.port.link (Some (v.port.link.acked + 1 + i)) bytes
-    → AskingRuns v (By (Again i) ∷ []) v [] (record { bytes = bytes; segment = Some (v.port.link.acked + 1 + i); acks = v.port.link.received } ∷ [])
-again_is v i bytes lt w = one_event v v (By (Again i)) [] _ (record { bytes = bytes; segment = Some (v.port.link.acked + 1 + i); acks = v.port.link.received }, lt, (refl, refl, w), refl, refl, refl)
+    → AskingRuns v (By (Again i) ∷ []) v [] (record { bytes = bytes; segment = Some (v.port.link.acked + 1 + i); acks = v.port.link.coming.received } ∷ [])
+again_is v i bytes lt w = one_event v v (By (Again i)) [] _ (record { bytes = bytes; segment = Some (v.port.link.acked + 1 + i); acks = v.port.link.coming.received }, lt, (refl, refl, w), refl, refl, refl)
 
-pub ack_is : (v : AskingValue) (bytes : List ℕ) → IsSpelling (ack_packet_of v.port.link) bytes → AskingRuns v (By Acks ∷ []) v [] (record { bytes = bytes; segment = None; acks = v.port.link.received } ∷ [])
-ack_is v bytes s = one_event v v (By Acks) [] _ (record { bytes = bytes; segment = None; acks = v.port.link.received }, (refl, refl, ack_written v.port.link bytes s), refl, refl, refl)
+pub ack_is : (v : AskingValue) (bytes : List ℕ) → IsSpelling (ack_packet_of v.port.link) bytes → AskingRuns v (By Acks ∷ []) v [] (record { bytes = bytes; segment = None; acks = v.port.link.coming.received } ∷ [])
+ack_is v bytes s = one_event v v (By Acks) [] _ (record { bytes = bytes; segment = None; acks = v.port.link.coming.received }, (refl, refl, ack_written v.port.link bytes s), refl, refl, refl)
 
 -- all was read and handed over, and these segments written
 goes : (old heard new : AskingValue) (before after : List Report) (packets : List (List ℕ)) → (h : HeardAll old heard before after) → WroteMore heard.port new.port packets → new ≡ record heard { port = new.port }
-    → AskingStepped old (By GoesOn) new h.2.0.0 (numbered (heard.port.link.sent + 1) heard.port.link.received packets)
+    → AskingStepped old (By GoesOn) new h.2.0.0 (numbered (heard.port.link.sent + 1) heard.port.link.coming.received packets)
 goes old heard new before after packets h w rest = (heard, packets, (h.0, h.2.0.2, inr (h.1, h.3)), w, rest, refl)
 
 behind : (out all packets : List (List ℕ)) (k a : ℕ) → all ≡ out ++ packets → all ≡ out ++ bytes_of (numbered k a packets)
@@ -77,8 +77,8 @@ answered_is old heard new got out all packets written before after false h rest 
 )
 answered_is old heard new got out all packets written before after true h rest w is e quiet acks =
     let a = acks e in
-    let first = numbered (heard.port.link.sent + 1) heard.port.link.received written in
-    let last : Written = record { bytes = a.0; segment = None; acks = new.port.link.received } in (
+    let first = numbered (heard.port.link.sent + 1) heard.port.link.coming.received written in
+    let last : Written = record { bytes = a.0; segment = None; acks = new.port.link.coming.received } in (
       By GoesOn ∷ By Acks ∷ [],
       (
         h.2.0.0,

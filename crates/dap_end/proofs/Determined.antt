@@ -88,8 +88,8 @@ pub no_next : (bytes : List ℕ) (later : List (List ℕ)) → [] ≡ bytes ∷ 
 no_next bytes later e = cc
 
 -- nothing that came is left
-stops_empty : (v : ServingValue) → v.port.link.inbox ≡ [] → Stops v
-stops_empty v none = λ posted mid k n x y. no_next y.one.bytes y.one.later (sym (ap (λ (w : ServingValue). w.port.link.inbox) x.posted ∙ none) ∙ y.one.came)
+stops_empty : (v : ServingValue) → v.port.link.coming.inbox ≡ [] → Stops v
+stops_empty v none = λ posted mid k n x y. no_next y.one.bytes y.one.later (sym (ap (λ (w : ServingValue). w.port.link.coming.inbox) x.posted ∙ none) ∙ y.one.came)
 
 running : (b : Bool) → IsTrue b → b ≡ false → ⊥
 running b t e = true≢false (sym t ∙ e)
@@ -126,7 +126,7 @@ stops_refused v f want h = λ posted mid k n x y. may_or_not v.port.link v.port.
 
 -- where all is served, the last one was handed over
 up_stops : (old new : ServingValue) → (u : ServedUp old new) → IsServed new → Stops u.0
-up_stops old new u d = stops_empty u.0 (sym (ap (λ (v : ServingValue). v.port.link.inbox) u.3.posted) ∙ d.0)
+up_stops old new u d = stops_empty u.0 (sym (ap (λ (v : ServingValue). v.port.link.coming.inbox) u.3.posted) ∙ d.0)
 
 pub up_one : (past : Past) (old one two : ServingValue) → IsAfter past old → ServedUp old one → ServedUp old two → IsServed one → IsServed two → one ≡ two
 up_one past old one two h a b da db =

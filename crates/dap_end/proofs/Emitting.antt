@@ -27,11 +27,11 @@ wrote_known p link (Err f) next sent = tt
 
 -- ---- Several.
 
-written-more : (v : LinkValue) (handed : List (List ℕ)) (k : ℕ) (packets : List (List ℕ)) (bytes : List ℕ) → AreWritten v handed k packets → Writes v handed (Some (k + length packets)) v.received bytes
+written-more : (v : LinkValue) (handed : List (List ℕ)) (k : ℕ) (packets : List (List ℕ)) (bytes : List ℕ) → AreWritten v handed k packets → Writes v handed (Some (k + length packets)) v.coming.received bytes
     → AreWritten v handed k (packets ++ bytes ∷ [])
-written-more v handed k [] bytes h w = (subst (λ (n : ℕ). Writes v handed (Some n) v.received bytes) (add-zero k) w, tt)
+written-more v handed k [] bytes h w = (subst (λ (n : ℕ). Writes v handed (Some n) v.coming.received bytes) (add-zero k) w, tt)
 written-more v handed k (p ∷ packets) bytes h w =
-    (h.0, written-more v handed (k + 1) packets bytes h.1 (subst (λ (n : ℕ). Writes v handed (Some n) v.received bytes) (omega arith) w))
+    (h.0, written-more v handed (k + 1) packets bytes h.1 (subst (λ (n : ℕ). Writes v handed (Some n) v.coming.received bytes) (omega arith) w))
 
 pub wrote_nothing : (p : PortValue) → WroteMore p p []
 wrote_nothing p = record { sent = ap (λ (n : ℕ). with_link p (record p.link { sent = n })) (sym (add-zero p.link.sent)); writes = λ handed h. tt; within = λ some. absurd (omega arith) }
@@ -50,8 +50,8 @@ wrote_then a b c packets bytes m w =
       within = λ some. subst (λ (p : PortValue). IsWithin p.link) (sym w.sent) (let may = w.may in (omega arith, omega arith));
       writes = λ handed h.
           written-more a.link handed (a.link.sent + 1) packets bytes (m.writes handed h)
-          (subst (λ (n : ℕ). Writes a.link handed (Some n) a.link.received bytes) (omega arith)
-          (subst (λ (p : PortValue). Writes p.link handed (Some (p.link.sent + 1)) p.link.received bytes) m.sent
+          (subst (λ (n : ℕ). Writes a.link handed (Some n) a.link.coming.received bytes) (omega arith)
+          (subst (λ (p : PortValue). Writes p.link handed (Some (p.link.sent + 1)) p.link.coming.received bytes) m.sent
           (w.writes handed (subst (λ (p : PortValue). Sends p.link handed) (sym m.sent) (still_sends a (length packets) handed h)))));
     }
 

@@ -52,8 +52,8 @@ gone_front given inbox rest place items g = λ all k.
           ∙ sym (append_assoc g.done g.begun next.0) ∙ ap (λ (l : List Item). l ++ next.0) (sym g.all),
     )
 
-pub served_front : (v : LinkValue) (size : ℕ) (messages given : List (List ℕ)) (place : ℕ) (items : List Item) → Stands v size messages given → GoneThrough given v.inbox place items → AreFrontOf messages items
+pub served_front : (v : LinkValue) (size : ℕ) (messages given : List (List ℕ)) (place : ℕ) (items : List Item) → Stands v size messages given → GoneThrough given v.coming.inbox place items → AreFrontOf messages items
 served_front v size messages given place items s g =
     let rest = drop s.taken.count messages in
-    let is : given ++ (v.inbox ++ rest) ≡ messages = sym (append_assoc given v.inbox rest) ∙ ap (λ (l : List (List ℕ)). l ++ rest) s.taken.inbox ∙ take-append-drop s.taken.count messages in
-    subst (λ (l : List (List ℕ)). AreFrontOf l items) is (gone_front given v.inbox rest place items g)
+    let is : given ++ (v.coming.inbox ++ rest) ≡ messages = sym (append_assoc given v.coming.inbox rest) ∙ ap (λ (l : List (List ℕ)). l ++ rest) s.taken.inbox ∙ take-append-drop s.taken.count messages in
+    subst (λ (l : List (List ℕ)). AreFrontOf l items) is (gone_front given v.coming.inbox rest place items g)

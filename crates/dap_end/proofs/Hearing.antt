@@ -77,7 +77,7 @@ handed_so requests reports wrote old new (inr h) t =
     }
 
 sent_so : (requests : List Request) (reports : List Report) (wrote ws : List Written) (old new : AskingValue) (packets : List (List ℕ)) → WroteMore old.port new.port packets → new ≡ record old { port = new.port }
-    → ws ≡ numbered (old.port.link.sent + 1) old.port.link.received packets → Asked_So requests reports wrote old → Asked_So requests reports (wrote ++ ws) new
+    → ws ≡ numbered (old.port.link.sent + 1) old.port.link.coming.received packets → Asked_So requests reports wrote old → Asked_So requests reports (wrote ++ ws) new
 sent_so requests reports wrote ws old new packets w e is t =
     let after : AreWrittenOf old.port.link t.past.handed ws =
     subst (AreWrittenOf old.port.link t.past.handed) (sym is) (numbered_written old.port.link t.past.handed (old.port.link.sent + 1) packets (w.writes t.past.handed t.is.sends)) in

@@ -7,7 +7,7 @@ use Rattle.dap_msg.specs.Items.{Item, Whole}
 use Rattle.dap_msg.specs.Blocked.{NspMessage, joined, Blocked, all_joined, messages_in, AllFit}
 use Rattle.dap_msg.proofs.ForCallers.{are_items}
 use Rattle.nsp_link.specs.declared.link.LinkSetup.{LinkSetup}
-use Rattle.nsp_link.specs.Link.{LinkValue, Stands, Sends, new_link}
+use Rattle.nsp_link.specs.Link.{LinkValue, Stands, Sends, new_link, with_inbox}
 use Rattle.nsp_link.specs.Sending.{AreShort}
 use Rattle.nsp_link.proofs.ForCallers.{stands_new}
 use Rattle.dap_accessed.specs.Standing.{Files}
@@ -133,11 +133,11 @@ pub headline : (first : Files) (p : Pair) → IsLinked first p → PairHeadline 
 headline first p j =
     let own = p.b.accessed.own in
     let t = first_ones j.asked.asked j.asked.handed p.a.port.outbox j.served.items j.asking.full j.asking.fit j.asking.waiting
-    (served_front p.b.port.link p.a.port.link.seg_size j.asked.handed j.served.given p.b.port.place j.served.items j.ways.there.stands j.serving.gone) in
+    (served_front p.b.port.link p.a.port.link.setup.seg_size j.asked.handed j.served.given p.b.port.place j.served.items j.ways.there.stands j.serving.gone) in
     let packets = answers_to own j.served.first [] j.served.items in
     let answers : messages_in packets ≡ Answers own j.served.first j.served.items = answers_from own j.served.first [] j.served.items in
     let r = first_ones packets j.served.handed p.b.port.outbox j.asked.answers (answers_full own j.served.first [] j.served.items) (subst AllFit (sym answers) j.serving.fit) j.serving.answers
-    (served_front p.a.port.link p.b.port.link.seg_size j.served.handed j.asked.given p.a.port.place j.asked.answers j.ways.back.stands j.asking.gone) in
+    (served_front p.a.port.link p.b.port.link.setup.seg_size j.served.handed j.asked.given p.a.port.place j.asked.answers j.ways.back.stands j.asking.gone) in
     record {
       taken = t.taken;
       taken_in_order = (t.rest, t.split ∙ j.asking.messages ∙ ap (Asked p.a.accessing.own) j.requests);
@@ -190,7 +190,7 @@ new_pair s t first p o n =
 -- ---- The end that serves is called.
 
 -- the packets of an end that wrote one are true
-one_true : (v : LinkValue) (k : Option ℕ) (w : Written) → IfSome k (λ n. n ≤ v.sent) → WroteOne v k w → AreTrue v.sent v.received (w ∷ [])
+one_true : (v : LinkValue) (k : Option ℕ) (w : Written) → IfSome k (λ n. n ≤ v.sent) → WroteOne v k w → AreTrue v.sent v.coming.received (w ∷ [])
 one_true v k w was h =
     (record { segment = subst (λ (s : Option ℕ). IfSome s (λ n. n ≤ v.sent)) (sym h.0) was; acks = omega (arith, h.1) }, tt)
 
@@ -199,46 +199,46 @@ wrote_one : (a b : LinkValue) (from_a from_b to_a to_b : List (List ℕ)) (wire_
     → AreJoined a b from_a from_b to_a to_b (wire_a ++ w ∷ []) wire_b
 wrote_one a b from_a from_b to_a to_b wire_a wire_b k w j sends was one =
     subst (λ (l : List (List ℕ)). AreJoined a b l from_b to_a to_b (wire_a ++ w ∷ []) wire_b) (append-nil from_a)
-    (works a b from_a from_b to_a to_b [] to_a wire_a wire_b (w ∷ []) a.inbox a.queue a.sent j (record { more = omega arith; within = j.there.within }) (none_short a) j.back.stands
+    (works a b from_a from_b to_a to_b [] to_a wire_a wire_b (w ∷ []) a.coming.inbox a.queue a.sent j (record { more = omega arith; within = j.there.within }) (none_short a) j.back.stands
     (subst (λ (l : List (List ℕ)). AreWrittenOf a l (wire_a ++ w ∷ [])) (sym (append-nil from_a)) (all_written a from_a wire_a (w ∷ []) j.there.packets (one_written a from_a k w sends one, tt)))
     (one_true a k w was one))
 
-same_front : (v link : LinkValue) (sent : ℕ) → link ≡ record v { inbox = link.inbox; queue = link.queue } → record link { sent = sent } ≡ moved v link.inbox link.queue sent
-same_front v link sent e = subst (λ (l : LinkValue). record l { sent = sent } ≡ moved v l.inbox l.queue sent) (sym e) refl
+same_front : (v link : LinkValue) (sent : ℕ) → link ≡ record (with_inbox v link.coming.inbox) { queue = link.queue } → record link { sent = sent } ≡ moved v link.coming.inbox link.queue sent
+same_front v link sent e = subst (λ (l : LinkValue). record l { sent = sent } ≡ moved v l.coming.inbox l.queue sent) (sym e) refl
 
-within_by : (v link : LinkValue) (sent n : ℕ) → link ≡ record v { inbox = link.inbox; queue = link.queue } → sent ≡ link.sent + n → (0 < n → sent ≤ link.acked + link.window) → v.sent ≤ v.acked + v.window → Moves v link.inbox link.queue sent
+within_by : (v link : LinkValue) (sent n : ℕ) → link ≡ record (with_inbox v link.coming.inbox) { queue = link.queue } → sent ≡ link.sent + n → (0 < n → sent ≤ link.acked + link.setup.window) → v.sent ≤ v.acked + v.setup.window → Moves v link.coming.inbox link.queue sent
 within_by v link sent zero e is within before =
     let same : link.sent ≡ v.sent = ap (λ (l : LinkValue). l.sent) e in record { more = omega (arith, is, same); within = omega (arith, is, same, before) }
 within_by v link sent (suc n) e is within before =
     let same : link.sent ≡ v.sent = ap (λ (l : LinkValue). l.sent) e in
     let acked : link.acked ≡ v.acked = ap (λ (l : LinkValue). l.acked) e in
-    let window : link.window ≡ v.window = ap (λ (l : LinkValue). l.window) e in
+    let window : link.setup.window ≡ v.setup.window = ap (λ (l : LinkValue). l.setup.window) e in
     record { more = omega (arith, is, same); within = omega (arith, within (omega arith), acked, window) }
 
 -- an end goes on: this is its link in between, and then so many segments were written
 goes : (a b link : LinkValue) (new : PortValue) (port : PortValue) (from_a from_b to_a to_b more given now : List (List ℕ)) (wire_a wire_b : List Written) (packets : List (List ℕ)) → AreJoined a b from_a from_b to_a to_b wire_a wire_b → port.link ≡ link
-    → link ≡ record a { inbox = link.inbox; queue = link.queue } → WroteMore port new packets → now ≡ from_a ++ more → AreShort a more → Stands link b.seg_size from_b given → Sends link now
-    → AreJoined new.link b now from_b given to_b (wire_a ++ numbered (link.sent + 1) link.received packets) wire_b
+    → link ≡ record (with_inbox a link.coming.inbox) { queue = link.queue } → WroteMore port new packets → now ≡ from_a ++ more → AreShort a more → Stands link b.setup.seg_size from_b given → Sends link now
+    → AreJoined new.link b now from_b given to_b (wire_a ++ numbered (link.sent + 1) link.coming.received packets) wire_b
 goes a b link new port from_a from_b to_a to_b more given now wire_a wire_b packets j at counts w is short stands sends =
     let n = length packets in
-    let ws = numbered (link.sent + 1) link.received packets in
+    let ws = numbered (link.sent + 1) link.coming.received packets in
     let sent : ℕ = link.sent + n in
     let new_is : new.link ≡ record link { sent = sent } = ap (λ (p : PortValue). p.link) w.sent ∙ ap (λ (l : LinkValue). record l { sent = l.sent + n }) at in
-    let to : new.link ≡ moved a link.inbox link.queue sent = new_is ∙ same_front a link sent counts in
-    let within : 0 < n → sent ≤ link.acked + link.window = λ some. (let i = w.within some in subst (λ (l : LinkValue). l.sent ≤ l.acked + l.window) new_is i.1) in
-    let moves : Moves a link.inbox link.queue sent = within_by a link sent n counts refl within j.there.within in
+    let to : new.link ≡ moved a link.coming.inbox link.queue sent = new_is ∙ same_front a link sent counts in
+    let within : 0 < n → sent ≤ link.acked + link.setup.window = λ some. (let i = w.within some in subst (λ (l : LinkValue). l.sent ≤ l.acked + l.setup.window) new_is i.1) in
+    let moves : Moves a link.coming.inbox link.queue sent = within_by a link sent n counts refl within j.there.within in
     let same_sent : link.sent ≡ a.sent = ap (λ (l : LinkValue). l.sent) counts in
-    let same_received : link.received ≡ a.received = ap (λ (l : LinkValue). l.received) counts in
+    let same_received : link.coming.received ≡ a.coming.received = ap (λ (l : LinkValue). l.coming.received) counts in
     let wrote : AreWrittenOf link now ws = numbered_written link now (link.sent + 1) packets (subst (λ (l : LinkValue). AreWritten l now (l.sent + 1) packets) at (w.writes now (subst (λ (l : LinkValue). Sends l now) (sym at) sends))) in
     let all : AreWrittenOf new.link now (wire_a ++ ws) = went_written a link new.link from_a more now wire_a ws counts is (new_is ∙ ap (λ (k : ℕ). record link { sent = k }) (sym (ap (λ (l : LinkValue). l.sent) new_is))) j.there.packets wrote in
-    let stands' : Stands (moved a link.inbox link.queue sent) b.seg_size from_b given =
-    subst (λ (l : LinkValue). Stands l b.seg_size from_b given) (same_front a link sent counts) (record { taken = stands.taken; held = stands.held }) in
-    let packets' : AreWrittenOf (moved a link.inbox link.queue sent) (from_a ++ more) (wire_a ++ ws) =
+    let stands' : Stands (moved a link.coming.inbox link.queue sent) b.setup.seg_size from_b given =
+    subst (λ (l : LinkValue). Stands l b.setup.seg_size from_b given) (same_front a link sent counts) (record { taken = stands.taken; held = stands.held }) in
+    let packets' : AreWrittenOf (moved a link.coming.inbox link.queue sent) (from_a ++ more) (wire_a ++ ws) =
     subst (λ (l : LinkValue). AreWrittenOf l (from_a ++ more) (wire_a ++ ws)) to (subst (λ (h : List (List ℕ)). AreWrittenOf new.link h (wire_a ++ ws)) is all) in
-    let true_ws : AreTrue sent a.received ws = subst (λ (k : ℕ). AreTrue sent k ws) same_received (counts_numbered link packets) in
+    let true_ws : AreTrue sent a.coming.received ws = subst (λ (k : ℕ). AreTrue sent k ws) same_received (counts_numbered link packets) in
     subst (λ (h : List (List ℕ)). AreJoined new.link b h from_b given to_b (wire_a ++ ws) wire_b) (sym is)
     (subst (λ (l : LinkValue). AreJoined l b (from_a ++ more) from_b given to_b (wire_a ++ ws) wire_b) (sym to)
-    (works a b from_a from_b to_a to_b more given wire_a wire_b ws link.inbox link.queue sent j moves short stands' packets' true_ws))
+    (works a b from_a from_b to_a to_b more given wire_a wire_b ws link.coming.inbox link.queue sent j moves short stands' packets' true_ws))
 
 again_sent : (v : LinkValue) (i : ℕ) → i < v.sent - v.acked → IfSome (Some (v.acked + 1 + i)) (λ n. n ≤ v.sent)
 again_sent v i lt = omega arith
@@ -286,7 +286,7 @@ serves first old new GoesOn s j =
     let g = more.1 in
     let back = swapped old.a.port.link old.b.port.link j.asked.handed j.served.handed j.asked.given j.served.given old.from_a old.from_b j.ways in
     let ways = goes old.b.port.link old.a.port.link t.0.port.link new.b.port t.0.port j.served.handed j.asked.handed j.served.given j.asked.given g.handed.0 now.given now.handed old.from_b old.from_a t.1 back refl t.2.link t.3 g.handed.1 g.handed.2
-    (g.stands old.a.port.link.seg_size j.asked.handed back.back.stands) g.is.sends in
+    (g.stands old.a.port.link.setup.seg_size j.asked.handed back.back.stands) g.is.sends in
     subst (IsLinked first) (sym s.3)
     (record {
       asked = j.asked;
@@ -336,7 +336,7 @@ record Hands (past : AskingPast) (old heard handed : AskingValue) : Type 0 where
   more_is : now.handed ≡ past.handed ++ more
   short : AreShort heard.port.link more
   given : now.given ≡ past.given
-  link : handed.port.link ≡ record heard.port.link { inbox = handed.port.link.inbox; queue = handed.port.link.queue }
+  link : handed.port.link ≡ record (with_inbox heard.port.link handed.port.link.coming.inbox) { queue = handed.port.link.queue }
   same : (size : ℕ) (messages given : List (List ℕ)) → Stands heard.port.link size messages given → Stands handed.port.link size messages given
 
 hands : (past : AskingPast) (old heard handed : AskingValue) → HasAsked past heard → HandedOver heard handed → Hands past old heard handed
@@ -359,8 +359,8 @@ hands past old heard handed h (inr k) =
       same = λ size messages given s. record { taken = s.taken; held = s.held };
     })
 
-link_trans : (a b c : LinkValue) → b ≡ record a { inbox = b.inbox } → c ≡ record b { inbox = c.inbox; queue = c.queue } → c ≡ record a { inbox = c.inbox; queue = c.queue }
-link_trans a b c ab bc = bc ∙ ap (λ (l : LinkValue). record l { inbox = c.inbox; queue = c.queue }) ab
+link_trans : (a b c : LinkValue) → b ≡ with_inbox a b.coming.inbox → c ≡ record (with_inbox b c.coming.inbox) { queue = c.queue } → c ≡ record (with_inbox a c.coming.inbox) { queue = c.queue }
+link_trans a b c ab bc = bc ∙ ap (λ (l : LinkValue). record (with_inbox l c.coming.inbox) { queue = c.queue }) ab
 
 asks : (first : Files) (old new : Pair) (event : AskingEvent) → PairStepped old (AtA event) new → IsLinked first old → IsLinked first new
 asks first old new (By (Came bytes)) s j =
@@ -406,10 +406,10 @@ asks first old new (By GoesOn) s j =
     let read = m.past j.asked j.asking in
     let g = read.1 in
     let h = hands read.0 old.a heard t.0 g.is over in
-    let limit : heard.port.link.max_message ≡ old.a.port.link.max_message = ap (λ (l : LinkValue). l.max_message) m.link in
+    let limit : heard.port.link.setup.max_message ≡ old.a.port.link.setup.max_message = ap (λ (l : LinkValue). l.setup.max_message) m.link in
     let short : AreShort old.a.port.link h.more = subst (λ (n : ℕ). All (λ m. length m ≤ n) h.more) limit h.short in
-    let stands : Stands t.0.port.link old.b.port.link.seg_size j.served.handed h.now.given =
-    h.same old.b.port.link.seg_size j.served.handed h.now.given (subst (λ (l : List (List ℕ)). Stands heard.port.link old.b.port.link.seg_size j.served.handed l) (sym h.given) (g.stands old.b.port.link.seg_size j.served.handed j.ways.back.stands)) in
+    let stands : Stands t.0.port.link old.b.port.link.setup.seg_size j.served.handed h.now.given =
+    h.same old.b.port.link.setup.seg_size j.served.handed h.now.given (subst (λ (l : List (List ℕ)). Stands heard.port.link old.b.port.link.setup.seg_size j.served.handed l) (sym h.given) (g.stands old.b.port.link.setup.seg_size j.served.handed j.ways.back.stands)) in
     let ways = goes old.a.port.link old.b.port.link t.0.port.link new.a.port t.0.port j.asked.handed j.served.handed j.asked.given j.served.given h.more h.now.given h.now.handed old.from_a old.from_b t.1 j.ways refl
     (link_trans old.a.port.link heard.port.link t.0.port.link m.link h.link) t.3 (h.more_is ∙ ap (λ (l : List (List ℕ)). l ++ h.more) g.handed) short stands h.is.sends in
     subst (IsLinked first) (sym s.4)

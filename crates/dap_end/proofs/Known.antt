@@ -6,8 +6,11 @@ use Rattle.nsp_link.specs.declared.link.Got.{Got}
 use Rattle.nsp_link.specs.declared.fault.LinkFault.{LinkFault}
 use Rattle.nsp_link.specs.Cutting.{Piece}
 use Rattle.nsp_link.specs.Coming.{Coming, taken_all}
-use Rattle.nsp_link.specs.Holding.{inserted, following}
-use Rattle.nsp_link.specs.Link.{LinkValue, coming, piece_of, failed_link}
+use Rattle.nsp_link.specs.Holding.{following}
+use Rattle.nsp_link.proofs.ForCallers.{inserted}
+use Rattle.std.specs.declared.cmp.Ordering.TheVariants.{Less, Equal, Greater}
+use Rattle.std.specs.Ordering.{match_ordering}
+use Rattle.nsp_link.specs.Link.{LinkValue, piece_of, failed_link}
 use Rattle.nsp_link.specs.Receiving.{Received, run, segment_of, taking_in, is_end, ReceivedBytes, Receives}
 use Rattle.dap_end.specs.declared.fault.EndFault.{EndFault}
 use Rattle.dap_end.specs.declared.fault.EndFault.TheVariants as end_fault
@@ -26,7 +29,7 @@ use Rattle.dap_end.proofs.Determined.{no_next}
 -- a segment came, or nothing did
 abbrev Comes : LinkValue → LinkValue → Type 0
 Comes old new =
-    ((0 < new.received) ⊎ (0 < length new.held)) ⊎ ((new.received ≡ old.received) × (new.held ≡ old.held) × (new.inbox ≡ old.inbox))
+    ((0 < new.coming.received) ⊎ (0 < length new.held)) ⊎ ((new.coming.received ≡ old.coming.received) × (new.held ≡ old.held) × (new.coming.inbox ≡ old.coming.inbox))
 
 stays : (v : LinkValue) → Comes v v
 stays v = inr (refl, refl, refl)
@@ -34,23 +37,23 @@ stays v = inr (refl, refl, refl)
 along : (old new other : LinkValue) → new ≡ other → Comes old other → Comes old new
 along old new other e h = subst (Comes old) (sym e) h
 
-inserted_some : (k : ℕ) (p : Piece) (held : List (ℕ × Piece)) → 0 < length (inserted k p held)
-unfolding inserted
-inserted_some k p [] = omega arith
-inserted_some k p (h ∷ held) =
-    elim (nat_lt k h.0) as (λ b. 0 < length (if b then (k, p) ∷ h ∷ held else if k == h.0 then h ∷ held else h ∷ inserted k p held)) [
-      | true ↦ omega arith
-      | false ↦ elim (k == h.0) as (λ b. 0 < length (if b then h ∷ held else h ∷ inserted k p held)) [ true ↦ omega arith | false ↦ omega arith ]
-    ]
+some_by : (a b : Bool) (x h : ℕ × Piece) (held more : List (ℕ × Piece)) → 0 < length (match_ordering (if a then Less else (if b then Equal else Greater)) (x ∷ h ∷ held) (h ∷ held) (h ∷ more))
+some_by true b x h held more = omega arith
+some_by false true x h held more = omega arith
+some_by false false x h held more = omega arith
 
-in_by : (v : LinkValue) (k : ℕ) (p : Piece) (next near : Bool) → let c : Coming = if next then taken_all (coming v) (run v p) else coming v in
-    Comes v (record v { received = c.received; partial = c.partial; inbox = c.inbox; held = if next then drop (length (following k v.held)) v.held else (if near then inserted k p v.held else v.held) })
-in_by v k p true near = inl (inl (omega (arith, taken_count (coming v) (run v p))))
+inserted_some : (k : ℕ) (p : Piece) (held : List (ℕ × Piece)) → 0 < length (inserted k p held)
+inserted_some k p [] = omega arith
+inserted_some k p (h ∷ held) = some_by (nat_lt k h.0) (k == h.0) (k, p) h held (inserted k p held)
+
+in_by : (v : LinkValue) (k : ℕ) (p : Piece) (next near : Bool) → let c : Coming = if next then taken_all v.coming (run v p) else v.coming in
+    Comes v (record v { coming = c; held = if next then drop (length (following k v.held)) v.held else (if near then inserted k p v.held else v.held) })
+in_by v k p true near = inl (inl (omega (arith, taken_count v.coming (run v p))))
 in_by v k p false true = inl (inr (inserted_some k p v.held))
 in_by v k p false false = stays v
 
 in_comes : (v : LinkValue) (k : ℕ) (p : Piece) → Comes v (taking_in v k p)
-in_comes v k p = in_by v k p (k == v.received + 1) (nat_lt v.received k && nat_lt k (v.received + 1 + v.window))
+in_comes v k p = in_by v k p (k == v.coming.received + 1) (nat_lt v.coming.received k && nat_lt k (v.coming.received + 1 + v.setup.window))
 
 stopped_comes : (v : LinkValue) (ends : Bool) → Comes v (if ends then failed_link v else v)
 stopped_comes v true = inr (refl, refl, refl)
@@ -73,7 +76,7 @@ comes_by false old new bytes r e h = bytes_come old new bytes r (h.any e)
 
 -- the end is as after some past, in which it did nothing before a segment came
 abbrev pub IsKnown : ServingValue → Type 0
-IsKnown v = (past : Past) × IsAfter past v × (HasCome v.port ⊎ ((past ≡ nothing_yet past.first) × (v.port.link.inbox ≡ [])))
+IsKnown v = (past : Past) × IsAfter past v × (HasCome v.port ⊎ ((past ≡ nothing_yet past.first) × (v.port.link.coming.inbox ≡ [])))
 
 known_by : (old : ServingValue) (link : LinkValue) → Comes old.port.link link → IsStill old (with_port old (with_link old.port link)) → IsKnown old → IsKnown (with_port old (with_link old.port link))
 known_by old link (inl came) still (past, h, c) = (past, still past h, inl came)
@@ -92,7 +95,7 @@ posted_known v new n p (past, h, inr none) =
     let there : IsAfter first v = subst (λ (q : Past). IsAfter q v) none.0 h in
     let outbox : v.port.outbox ≡ [] = there.answers in
     let after : IsAfter first new = subst (λ (l : List (List ℕ)). IsAfter (record first { handed = l }) new) outbox (p.past first there) in
-    (first, after, inr (refl, ap (λ (w : ServingValue). w.port.link.inbox) p.posted ∙ none.1))
+    (first, after, inr (refl, ap (λ (w : ServingValue). w.port.link.coming.inbox) p.posted ∙ none.1))
 
 served_known : (v new : ServingValue) (n : ℕ) → ServedOne v new n → IsKnown v → IsKnown new
 served_known v new n s (past, h, inl came) =
@@ -118,7 +121,7 @@ wrote_known old new wrote w n sent k =
       w.still past h,
       elim did [
         | inl came ↦ inl (subst (λ (p : PortValue). HasCome p) (sym sent) came)
-        | inr none ↦ inr (none.0, ap (λ (p : PortValue). p.link.inbox) sent ∙ none.1)
+        | inr none ↦ inr (none.0, ap (λ (p : PortValue). p.link.coming.inbox) sent ∙ none.1)
       ],
     )
 
@@ -138,5 +141,5 @@ taking_known old new bytes out all (Err (take_fault.Refused f)) t k = in_known o
 taking_known old new bytes out all (Err (take_fault.Unfinished got f)) (mid, t, inl h) k = fault_known mid new f h.0 (in_known old mid bytes (Ok got) t k)
 taking_known old new bytes out all (Err (take_fault.Unfinished got f)) (mid, t, inr h) k = wrote_known mid new _ h.1 _ h.1.wrote.wrote.sent (in_known old mid bytes (Ok got) t k)
 
-pub new_known : (first : _) (v : ServingValue) → IsAfter (nothing_yet first) v → v.port.link.inbox ≡ [] → IsKnown v
+pub new_known : (first : _) (v : ServingValue) → IsAfter (nothing_yet first) v → v.port.link.coming.inbox ≡ [] → IsKnown v
 new_known first v h none = (nothing_yet first, h, inr (refl, none))

@@ -2,6 +2,7 @@
 use Rattle.std.proofs.Common.{ℕ, ◌+◌, refl, sym, subst, List, [], ◌∷◌, ◌++◌}
 use Rattle.std.specs.Prelude.{Option, None}
 use Rattle.nsp_link.specs.Cutting.{cut}
+use Rattle.nsp_link.specs.declared.link.LinkSetup.{LinkSetup}
 use Rattle.nsp_link.specs.Link.{LinkValue, Sends, Writes, IsWritten, IsSpelling}
 use Rattle.nsp_link.specs.Sending.{WritesSent, ack_packet_of}
 use Rattle.nsp_link.proofs.ForCallers.{writes_more}
@@ -22,14 +23,12 @@ still_written v handed more (w ∷ ws) h = (writes_more v handed more w.segment 
 pub written_on : (old new : LinkValue) → Grown old new → (handed : List (List ℕ)) (ws : List Written) → AreWrittenOf old handed ws → AreWrittenOf new handed ws
 written_on old new g handed [] h = tt
 written_on old new g handed (w ∷ ws) h = (
-  subst (λ (x : ℕ). IsWritten x new.remote (cut new.seg_size handed) w.segment w.acks w.bytes) (sym g.local)
-      (subst (λ (x : ℕ). IsWritten old.local x (cut new.seg_size handed) w.segment w.acks w.bytes) (sym g.remote)
-      (subst (λ (x : ℕ). IsWritten old.local old.remote (cut x handed) w.segment w.acks w.bytes) (sym g.size) h.0)),
+  subst (λ (s : LinkSetup). IsWritten s.local s.remote (cut s.seg_size handed) w.segment w.acks w.bytes) (sym g.setup) h.0,
   written_on old new g handed ws h.1,
 )
 
 -- segments one after another
-pub numbered_written : (v : LinkValue) (handed : List (List ℕ)) (k : ℕ) (packets : List (List ℕ)) → AreWritten v handed k packets → AreWrittenOf v handed (numbered k v.received packets)
+pub numbered_written : (v : LinkValue) (handed : List (List ℕ)) (k : ℕ) (packets : List (List ℕ)) → AreWritten v handed k packets → AreWrittenOf v handed (numbered k v.coming.received packets)
 numbered_written v handed k [] h = tt
 numbered_written v handed k (p ∷ packets) h = (h.0, numbered_written v handed (k + 1) packets h.1)
 

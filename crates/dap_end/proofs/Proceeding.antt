@@ -7,7 +7,7 @@ use Rattle.std.proofs.lemmas.List.Elements.{All-append}
 use Rattle.dap_msg.specs.Items.{Item, IsPlace}
 use Rattle.nsp_link.specs.declared.fault.LinkFault.{LinkFault}
 use Rattle.nsp_link.specs.declared.fault.LinkFault.TheVariants as fault
-use Rattle.nsp_link.specs.Link.{LinkValue, Stands, MaySend}
+use Rattle.nsp_link.specs.Link.{LinkValue, Stands, MaySend, with_inbox}
 use Rattle.nsp_link.specs.Sending.{AreShort}
 use Rattle.dap_end.specs.declared.fault.EndFault.{EndFault}
 use Rattle.dap_end.specs.declared.fault.EndFault.TheVariants as end_fault
@@ -32,11 +32,11 @@ more_none v =
     }
 
 counts_trans : (a b c : LinkValue) → SameCounts a b → SameCounts b c → SameCounts a c
-counts_trans a b c ab bc = bc ∙ ap (λ (l : LinkValue). record l { inbox = c.inbox; queue = c.queue }) ab
+counts_trans a b c ab bc = bc ∙ ap (λ (l : LinkValue). record (with_inbox l c.coming.inbox) { queue = c.queue }) ab
 
 grew_trans : (p q r : Past) (a b c : ServingValue) → SameCounts a.port.link b.port.link → Grew p q a b → Grew q r b c → Grew p r a c
 grew_trans p q r a b c counts g h =
-    let limit : b.port.link.max_message ≡ a.port.link.max_message = ap (λ (l : LinkValue). l.max_message) counts in
+    let limit : b.port.link.setup.max_message ≡ a.port.link.setup.max_message = ap (λ (l : LinkValue). l.setup.max_message) counts in
     record {
       is = h.is;
       first = h.first ∙ g.first;
@@ -44,7 +44,7 @@ grew_trans p q r a b c counts g h =
       handed = (
         g.handed.0 ++ h.handed.0,
         h.handed.1 ∙ ap (λ (l : List (List ℕ)). l ++ h.handed.0) g.handed.1 ∙ append_assoc p.handed g.handed.0 h.handed.0,
-        All-append (λ m. length m ≤ a.port.link.max_message) g.handed.0 h.handed.0 g.handed.2 (subst (λ (n : ℕ). All (λ m. length m ≤ n) h.handed.0) limit h.handed.2),
+        All-append (λ m. length m ≤ a.port.link.setup.max_message) g.handed.0 h.handed.0 g.handed.2 (subst (λ (n : ℕ). All (λ m. length m ≤ n) h.handed.0) limit h.handed.2),
       );
       given = h.given ∙ g.given;
       stands = λ size messages s. h.stands size messages (g.stands size messages s);
@@ -83,7 +83,7 @@ split_given given inbox later bytes next came =
 
 pub more_served : (old new : ServingValue) (n : ℕ) → ServedOne old new n → ServedMore old new
 more_served old new n s =
-    let link : new.port.link ≡ record old.port.link { inbox = if s.one.next == length s.one.bytes then s.one.later else old.port.link.inbox } = ap (λ (p : PortValue). p.link) s.port in
+    let link : new.port.link ≡ with_inbox old.port.link (if s.one.next == length s.one.bytes then s.one.later else old.port.link.coming.inbox) = ap (λ (p : PortValue). p.link) s.port in
     record {
       link = subst (SameCounts old.port.link) (sym link) refl;
       own = s.own;
@@ -94,8 +94,8 @@ more_served old new n s =
           first = refl;
           items = (s.one.item ∷ [], refl);
           handed = ([], sym (append-nil past.handed), none_short old.port.link);
-          given = subst (λ (l : LinkValue). (served past s.one.bytes s.one.item s.one.next).given ++ l.inbox ≡ past.given ++ old.port.link.inbox) (sym link)
-              (split_given past.given old.port.link.inbox s.one.later s.one.bytes s.one.next s.one.came);
+          given = subst (λ (l : LinkValue). (served past s.one.bytes s.one.item s.one.next).given ++ l.coming.inbox ≡ past.given ++ old.port.link.coming.inbox) (sym link)
+              (split_given past.given old.port.link.coming.inbox s.one.later s.one.bytes s.one.next s.one.came);
           stands = λ size messages t. subst (λ (l : LinkValue). Stands l size messages (served past s.one.bytes s.one.item s.one.next).given) (sym link)
               (port_given old.port s.one.bytes s.one.later s.one.next size messages past.given s.one.came t);
         },
@@ -120,12 +120,12 @@ fault_grew a b (end_fault.Link f) (inl h) = on_grew a b h.0
 fault_grew a b (end_fault.Link f) (inr h) = up_grew a b h.1
 fault_grew a b (end_fault.Read f) h = absurd h
 
-no_more : (v : ServingValue) (inbox : List (List ℕ)) → v.port.link.inbox ≡ inbox → v.port.outbox ≡ [] → (MayServe v → ⊥) → inbox ≡ []
+no_more : (v : ServingValue) (inbox : List (List ℕ)) → v.port.link.coming.inbox ≡ inbox → v.port.outbox ≡ [] → (MayServe v → ⊥) → inbox ≡ []
 no_more v [] is idle none = refl
 no_more v (m ∷ inbox) is idle none = absurd (none (idle, (let long = ap length is in omega arith)))
 
 pub all_served : (v : ServingValue) → v.port.outbox ≡ [] → (MayServe v → ⊥) → IsServed v
-all_served v idle none = (no_more v v.port.link.inbox refl idle none, idle)
+all_served v idle none = (no_more v v.port.link.coming.inbox refl idle none, idle)
 
 pub none_waits : (v new : ServingValue) (n : ℕ) → PostedAll v new n → new.port.outbox ≡ []
 none_waits v new n p = ap (λ (x : ServingValue). x.port.outbox) p.posted
@@ -141,7 +141,7 @@ work [] = 0
 work (m ∷ inbox) = length m + 1 + work inbox
 
 abbrev pub left : ServingValue → ℕ
-left v = work v.port.link.inbox - v.port.place
+left v = work v.port.link.coming.inbox - v.port.place
 
 less_ends : (later : List (List ℕ)) (bytes : List ℕ) (place : ℕ) → IsPlace place bytes → work later - 0 < work (bytes ∷ later) - place
 less_ends later bytes place (inl lt) = omega arith
@@ -161,8 +161,8 @@ less_left inbox later bytes place next came at onward within =
 
 pub falls : (old new : ServingValue) (n : ℕ) → ServedOne old new n → left new < left old
 falls old new n s =
-    subst (λ (p : PortValue). work p.link.inbox - p.place < left old) (sym s.port)
-    (less_left old.port.link.inbox s.one.later s.one.bytes old.port.place s.one.next s.one.came s.one.place s.one.goes s.one.within)
+    subst (λ (p : PortValue). work p.link.coming.inbox - p.place < left old) (sym s.port)
+    (less_left old.port.link.coming.inbox s.one.later s.one.bytes old.port.place s.one.next s.one.came s.one.place s.one.goes s.one.within)
 
 -- ---- Writing.
 
@@ -173,7 +173,7 @@ pub still_by : (v : ServingValue) (port : PortValue) (n : ℕ) → port ≡ sent
 still_by v port n e = subst (λ (p : PortValue). IsStill v (with_port v p)) (sym e) (still_sent v n)
 
 served_still : (v : ServingValue) (port : PortValue) (n : ℕ) → port ≡ sent_more v.port n → IsServed v → IsServed (with_port v port)
-served_still v port n e h = (ap (λ (p : PortValue). p.link.inbox) e ∙ h.0, ap (λ (p : PortValue). p.outbox) e ∙ h.1)
+served_still v port n e h = (ap (λ (p : PortValue). p.link.coming.inbox) e ∙ h.0, ap (λ (p : PortValue). p.outbox) e ∙ h.1)
 
 -- all was served, and then segments were written
 pub gone_by : (old served : ServingValue) (port : PortValue) (out all : List (List ℕ)) (r : Result (Unit {0}) LinkFault) → ServedUp old served → IsServed served → WroteAll served.port port out all → OnOk r (IsFull port.link)

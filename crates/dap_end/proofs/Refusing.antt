@@ -13,8 +13,8 @@ use Rattle.nsp_link.specs.declared.fault.LinkFault.TheVariants.{Malformed, Wrong
 use Rattle.nsp_link.specs.Cutting.{Piece}
 use Rattle.nsp_link.specs.Limits.{most_segments}
 use Rattle.nsp_link.specs.Coming.{Coming, taken, taken_all, FitsBehind, AllFit, Misfits, MisfitsOne, RefusesAll}
-use Rattle.nsp_link.specs.Link.{LinkValue, IsBetween, coming, first_ack, got_of, piece_of}
-use Rattle.nsp_link.specs.Receiving.{Received, Refuses, Acknowledges, segment_of, taking_in, forgotten, run, stopped, ReceivedBytes, Receives}
+use Rattle.nsp_link.specs.Link.{LinkValue, IsBetween, first_ack, got_of, piece_of, forgotten}
+use Rattle.nsp_link.specs.Receiving.{Received, Refuses, Acknowledges, segment_of, taking_in, run, stopped, ReceivedBytes, Receives}
 
 -- ---- Segments that follow one another.
 
@@ -92,16 +92,16 @@ received_one old one two (segment s) g h (_, (a, _, acks)) (_, (b, _, others)) =
 received_one old one two (data_ack s) g h (_, (a, acks)) (_, (b, others)) = (a ∙ sym b, acks_one old old one two (first_ack (Some s.ack1) s.ack2) acks others)
 
 -- the next segment and those that follow it aren't refused where they were taken
-next_apart : (old one : LinkValue) (k : ℕ) (p : Piece) (g : Got) (e : LinkFault) (count : ℕ) → e ≢ NoMemory → one.received ≤ most_segments → k ≡ old.received + 1
-    → g ≡ got_of old.received (Some k) → (g ≡ Accepted → AllFit old.max_message (coming old) (run old p)) → one ≡ forgotten (taking_in old k p) count → RefusesAll old.max_message (coming old) (run old p) e → ⊥
+next_apart : (old one : LinkValue) (k : ℕ) (p : Piece) (g : Got) (e : LinkFault) (count : ℕ) → e ≢ NoMemory → one.coming.received ≤ most_segments → k ≡ old.coming.received + 1
+    → g ≡ got_of old.coming.received (Some k) → (g ≡ Accepted → AllFit old.setup.max_message old.coming (run old p)) → one ≡ forgotten (taking_in old k p) count → RefusesAll old.setup.max_message old.coming (run old p) e → ⊥
 next_apart old one k p g e count ne few next same fits left out =
-    let test : (k == old.received + 1) ≡ true = eq-eqb k (old.received + 1) next in
-    let got : got_of old.received (Some k) ≡ Accepted = rw test refl in
-    let all : (taking_in old k p).received ≡ (taken_all (coming old) (run old p)).received = rw test refl in
-    taken_apart old.max_message (coming old) (run old p) e ne (fits (same ∙ got)) (subst (λ (n : ℕ). n ≤ most_segments) (ap (λ (v : LinkValue). v.received) left ∙ all) few) out
+    let test : (k == old.coming.received + 1) ≡ true = eq-eqb k (old.coming.received + 1) next in
+    let got : got_of old.coming.received (Some k) ≡ Accepted = rw test refl in
+    let all : (taking_in old k p).coming.received ≡ (taken_all old.coming (run old p)).received = rw test refl in
+    taken_apart old.setup.max_message old.coming (run old p) e ne (fits (same ∙ got)) (subst (λ (n : ℕ). n ≤ most_segments) (ap (λ (v : LinkValue). v.coming.received) left ∙ all) few) out
 
 -- a packet that was taken isn't refused
-taken_or_not : (old one two : LinkValue) (p : PacketValue) (g : Got) (e : LinkFault) → e ≢ NoMemory → one.received ≤ most_segments → Received old p (Ok g) one → Received old p (Err e) two → ⊥
+taken_or_not : (old one two : LinkValue) (p : PacketValue) (g : Got) (e : LinkFault) → e ≢ NoMemory → one.coming.received ≤ most_segments → Received old p (Ok g) one → Received old p (Err e) two → ⊥
 taken_or_not old one two (segment s) g e ne few a (inl (out, _), _) = out a.0
 taken_or_not old one two (segment s) g e ne few (_, (_, _, acks)) (inr (_, inl (none, _)), _) = let none-is : ⊥ = (let both = sym none ∙ acks.1 in cc) in none-is
 taken_or_not old one two (segment s) g e ne few (_, (same, fits, acks)) (inr (_, inr (_, inl (next, out))), _) =
@@ -114,7 +114,7 @@ refuses_same : (old : LinkValue) (p : PacketValue) (e f : LinkFault) → e ≢ N
 refuses_same old (segment s) e f ne nf (inl a) (inl b) = a.1 ∙ sym b.1
 refuses_same old (segment s) e f ne nf (inl a) (inr (believed, _)) = absurd (believed a.0)
 refuses_same old (segment s) e f ne nf (inr (believed, _)) (inl b) = absurd (believed b.0)
-refuses_same old (segment s) e f ne nf (inr (_, inl a)) (inr (_, inl b)) = refuses_one old.max_message (coming old) (run old (piece_of s)) e f ne nf a.1 b.1
+refuses_same old (segment s) e f ne nf (inr (_, inl a)) (inr (_, inl b)) = refuses_one old.setup.max_message old.coming (run old (piece_of s)) e f ne nf a.1 b.1
 refuses_same old (segment s) e f ne nf (inr (_, inl a)) (inr (_, inr b)) = absurd (nf b.1)
 refuses_same old (segment s) e f ne nf (inr (_, inr a)) (inr b) = absurd (ne a.1)
 refuses_same old (data_ack s) e f ne nf a b = a.1 ∙ sym b.1
@@ -124,7 +124,7 @@ not_taken old one two p e f ne nf (out, left) (also, right) =
     let same : e ≡ f = reason out also in
     (same, left ∙ ap (λ (x : LinkFault). stopped x old) same ∙ sym right)
   where
-    reason : (((IsBetween old.remote old.local p → ⊥) × (e ≡ WrongLink)) ⊎ (IsBetween old.remote old.local p × Refuses old p e)) → (((IsBetween old.remote old.local p → ⊥) × (f ≡ WrongLink)) ⊎ (IsBetween old.remote old.local p × Refuses old p f)) → e ≡ f
+    reason : (((IsBetween old.setup.remote old.setup.local p → ⊥) × (e ≡ WrongLink)) ⊎ (IsBetween old.setup.remote old.setup.local p × Refuses old p e)) → (((IsBetween old.setup.remote old.setup.local p → ⊥) × (f ≡ WrongLink)) ⊎ (IsBetween old.setup.remote old.setup.local p × Refuses old p f)) → e ≡ f
     reason (inl a) (inl b) = a.1 ∙ sym b.1
     reason (inl a) (inr b) = absurd (a.0 b.0)
     reason (inr a) (inl b) = absurd (b.0 a.0)
@@ -139,7 +139,7 @@ failed_by f = Err f
 abbrev malformed_by : SegFault → Result Got LinkFault
 malformed_by f = Err (Malformed f)
 
-packet_same : (old one two : LinkValue) (p : PacketValue) (r s : Result Got LinkFault) → r ≢ Err NoMemory → s ≢ Err NoMemory → one.received ≤ most_segments → two.received ≤ most_segments
+packet_same : (old one two : LinkValue) (p : PacketValue) (r s : Result Got LinkFault) → r ≢ Err NoMemory → s ≢ Err NoMemory → one.coming.received ≤ most_segments → two.coming.received ≤ most_segments
     → Received old p r one → Received old p s two → (r ≡ s) × (one ≡ two)
 packet_same old one two p (Ok g) (Ok h) nr ns few less a b =
     let same = received_one old one two p g h a b in (ap got_by same.0, same.1)
@@ -151,7 +151,7 @@ packet_same old one two p (Err e) (Err f) nr ns few less a b =
 
 -- ---- Any bytes.
 
-bytes_same : (old one two : LinkValue) (bytes : List ℕ) (r s : Result Got LinkFault) → AreBytes bytes → r ≢ Err NoMemory → s ≢ Err NoMemory → one.received ≤ most_segments → two.received ≤ most_segments
+bytes_same : (old one two : LinkValue) (bytes : List ℕ) (r s : Result Got LinkFault) → AreBytes bytes → r ≢ Err NoMemory → s ≢ Err NoMemory → one.coming.received ≤ most_segments → two.coming.received ≤ most_segments
     → ReceivedBytes old one bytes r → ReceivedBytes old two bytes s → (r ≡ s) × (one ≡ two)
 bytes_same old one two bytes r s fits nr ns few less (inl a) (inl b) =
     (a.1 ∙ ap malformed_by (fault-one a.0 b.0 bytes fits a.2 b.2) ∙ sym b.1, a.3 ∙ sym b.3)

@@ -8,7 +8,8 @@ use Rattle.dap_msg.specs.Blocked.{NspMessage, Blocked, messages_in}
 use Rattle.dap_msg.proofs.ForCallers.{messages_in-Blocked}
 use Rattle.nsp_link.specs.declared.link.Got.{Got}
 use Rattle.nsp_link.specs.declared.fault.LinkFault.{LinkFault}
-use Rattle.nsp_link.specs.Link.{LinkValue, Stands, IsDue, IsSpelling}
+use Rattle.nsp_link.proofs.ForCallers.{is_delivered}
+use Rattle.nsp_link.specs.Link.{LinkValue, Stands, IsSpelling, with_inbox}
 use Rattle.nsp_link.specs.Sending.{WritesSent, ack_packet_of}
 use Rattle.dap_accessed.specs.Standing.{Files}
 use Rattle.dap_accessed.specs.Present.{Present}
@@ -80,7 +81,7 @@ one_more first v new wrote ws k w one same is d =
     }))
 
 -- written by the port, and the end did more before
-pub went_written : (old served new : LinkValue) (handed more now : List (List ℕ)) (wrote ws : List Written) → served ≡ record old { inbox = served.inbox; queue = served.queue } → now ≡ handed ++ more
+pub went_written : (old served new : LinkValue) (handed more now : List (List ℕ)) (wrote ws : List Written) → served ≡ record (with_inbox old served.coming.inbox) { queue = served.queue } → now ≡ handed ++ more
     → new ≡ record served { sent = new.sent } → AreWrittenOf old handed wrote → AreWrittenOf served now ws → AreWrittenOf new now (wrote ++ ws)
 went_written old served new handed more now wrote ws counts is sent before after =
     let one : AreWrittenOf served handed wrote = subst (λ (l : LinkValue). AreWrittenOf l handed wrote) (sym counts) before in
@@ -91,7 +92,7 @@ pub sent_link : (p new : PortValue) (n : ℕ) → new ≡ sent_more p n → new.
 sent_link p new n e = subst (λ (q : PortValue). q.link ≡ record p.link { sent = q.link.sent }) (sym e) refl
 
 went : (old served new : ServingValue) (packets : List (List ℕ)) (first : Files) (wrote ws : List Written) → ServedMore old served → WroteMore served.port new.port packets → new ≡ with_port served new.port
-    → ws ≡ numbered (served.port.link.sent + 1) served.port.link.received packets → Did first old wrote → Did first new (wrote ++ ws)
+    → ws ≡ numbered (served.port.link.sent + 1) served.port.link.coming.received packets → Did first old wrote → Did first new (wrote ++ ws)
 went old served new packets first wrote ws m w e is d =
     let more = m.past d.past d.is in
     let now = more.0 in
@@ -133,20 +134,6 @@ record Hears (size : ℕ) (messages : List (List ℕ)) (first : Files) (v : Serv
   stands : Stands v.port.link size messages past.given
   works : v.port.link.failed ≡ false
 
-abbrev pub due : (v : LinkValue) (size : ℕ) (messages given : List (List ℕ)) (bytes : List ℕ) → (f : IsFromPeer v size messages bytes) → v.failed ≡ false → Stands v size messages given → IsDue v size messages given f.packet f.segment f.acks
-due v size messages given bytes f works stands =
-    record {
-      running = works;
-      positive = f.positive;
-      stands = stands;
-      short = f.short;
-      way = f.way;
-      carries = f.carries;
-      fresh = f.fresh;
-      near = f.near;
-      believable = f.believable;
-    }
-
 -- the link after a packet of the peer
 abbrev pub StandsThen : LinkValue → ℕ → List (List ℕ) → List (List ℕ) → Type 0
 StandsThen link size messages given = Stands link size messages given × (link.failed ≡ false)
@@ -154,9 +141,9 @@ StandsThen link size messages given = Stands link size messages given × (link.f
 pub then_stands : (old link : LinkValue) (size : ℕ) (messages given : List (List ℕ)) (bytes : List ℕ) (r : Result Got LinkFault) → IsFromPeer old size messages bytes → StandsThen old size messages given → Receives old link bytes r
     → StandsThen link size messages given
 then_stands old link size messages given bytes (Ok got) f s h =
-    let told = h.due size messages given f.packet f.segment f.acks f.spelled (due old size messages given bytes f s.1 s.0) in (told.2, told.1.failed)
+    let told = h.due size messages given f.0 f.1 f.2 f.3 (s.1, s.0, f.4) in (told.2, (is_delivered old link f.1 f.2 told.1).failed ∙ s.1)
 then_stands old link size messages given bytes (Err e) f s h =
-    let told = h.due size messages given f.packet f.segment f.acks f.spelled (due old size messages given bytes f s.1 s.0) in
+    let told = h.due size messages given f.0 f.1 f.2 f.3 (s.1, s.0, f.4) in
     subst (λ (l : LinkValue). StandsThen l size messages given) (sym told.1) s
 
 went_hears : (old served new : ServingValue) (sent size : ℕ) (messages : List (List ℕ)) (first : Files) → ServedMore old served → new ≡ with_port served (sent_more served.port sent) → Hears size messages first old
@@ -218,15 +205,15 @@ one_segment p new bytes w =
       within = λ some. subst (λ (q : PortValue). IsWithin q.link) (sym w.sent) (let may = w.may in (omega arith, omega arith));
     }
 
-pub writing_is : (old new : ServingValue) (bytes : List ℕ) → new ≡ with_port old new.port → WroteNext old.port new.port bytes → Runs old (GoesOn ∷ []) new (numbered (old.port.link.sent + 1) old.port.link.received (bytes ∷ []))
+pub writing_is : (old new : ServingValue) (bytes : List ℕ) → new ≡ with_port old new.port → WroteNext old.port new.port bytes → Runs old (GoesOn ∷ []) new (numbered (old.port.link.sent + 1) old.port.link.coming.received (bytes ∷ []))
 writing_is old new bytes rest w = one_event old new GoesOn _ (old, bytes ∷ [], more_none old, one_segment old.port new.port bytes w, rest, refl)
 
 pub again_is : (v : ServingValue) (i : ℕ) (bytes : List ℕ) → i < v.port.link.sent - v.port.link.acked → WritesSent v.port.link (Some (v.port.link.acked + 1 + i)) bytes
-    → Runs v (Again i ∷ []) v (record { bytes = bytes; segment = Some (v.port.link.acked + 1 + i); acks = v.port.link.received } ∷ [])
-again_is v i bytes lt w = one_event v v (Again i) _ (record { bytes = bytes; segment = Some (v.port.link.acked + 1 + i); acks = v.port.link.received }, lt, (refl, refl, w), refl, refl, tt)
+    → Runs v (Again i ∷ []) v (record { bytes = bytes; segment = Some (v.port.link.acked + 1 + i); acks = v.port.link.coming.received } ∷ [])
+again_is v i bytes lt w = one_event v v (Again i) _ (record { bytes = bytes; segment = Some (v.port.link.acked + 1 + i); acks = v.port.link.coming.received }, lt, (refl, refl, w), refl, refl, tt)
 
-pub ack_is : (v : ServingValue) (bytes : List ℕ) → IsSpelling (ack_packet_of v.port.link) bytes → Runs v (Acks ∷ []) v (record { bytes = bytes; segment = None; acks = v.port.link.received } ∷ [])
-ack_is v bytes s = one_event v v Acks _ (record { bytes = bytes; segment = None; acks = v.port.link.received }, (refl, refl, ack_written v.port.link bytes s), refl, refl, tt)
+pub ack_is : (v : ServingValue) (bytes : List ℕ) → IsSpelling (ack_packet_of v.port.link) bytes → Runs v (Acks ∷ []) v (record { bytes = bytes; segment = None; acks = v.port.link.coming.received } ∷ [])
+ack_is v bytes s = one_event v v Acks _ (record { bytes = bytes; segment = None; acks = v.port.link.coming.received }, (refl, refl, ack_written v.port.link bytes s), refl, refl, tt)
 
 pub numbered_bytes : (k a : ℕ) (packets : List (List ℕ)) → bytes_of (numbered k a packets) ≡ packets
 numbered_bytes k a [] = refl
@@ -260,8 +247,8 @@ answered_is old served new got out all packets written false m rest w is e quiet
 )
 answered_is old served new got out all packets written true m rest w is e quiet acks =
     let a = acks e in
-    let first = numbered (served.port.link.sent + 1) served.port.link.received written in
-    let last : Written = record { bytes = a.0; segment = None; acks = new.port.link.received } in (
+    let first = numbered (served.port.link.sent + 1) served.port.link.coming.received written in
+    let last : Written = record { bytes = a.0; segment = None; acks = new.port.link.coming.received } in (
       GoesOn ∷ Acks ∷ [],
       (
         first ++ last ∷ [],

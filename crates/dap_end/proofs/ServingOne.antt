@@ -8,7 +8,7 @@ use Rattle.dap_fields.specs.Spelling.{AreBytes}
 use Rattle.dap_msg.specs.Items.{Item, ItemAt, IsPlace}
 use Rattle.dap_msg.specs.Blocked.{NspMessage, Blocked, all_joined, bodies, joined, AllFit}
 use Rattle.dap_msg.specs.Message.{Message}
-use Rattle.nsp_link.specs.Link.{Stands}
+use Rattle.nsp_link.specs.Link.{Stands, with_inbox}
 use Rattle.dap_accessed.specs.Groups.{Answers, added, limit_for}
 use Rattle.dap_accessed.proofs.ForCallers.{Answers-more}
 use Rattle.dap_accessed.specs.Present.{Present}
@@ -39,20 +39,20 @@ no_length (x ∷ l) e = absurd (omega arith)
 abbrev pub GoesOn : PortValue → PortValue → Bool → ℕ → Type 0
 GoesOn p new last next =
     (last ≡ false → new ≡ record p { place = next })
-    × (last ≡ true → (bytes : List ℕ) (later : List (List ℕ)) → p.link.inbox ≡ bytes ∷ later → new ≡ record p { link = record p.link { inbox = later }; place = 0 })
+    × (last ≡ true → (bytes : List ℕ) (later : List (List ℕ)) → p.link.coming.inbox ≡ bytes ∷ later → new ≡ record p { link = with_inbox p.link later; place = 0 })
 
-gone_by : (p new : PortValue) (last : Bool) (bytes : List ℕ) (later : List (List ℕ)) (next : ℕ) → p.link.inbox ≡ bytes ∷ later → GoesOn p new last next
-    → new ≡ record p { link = record p.link { inbox = if last then later else p.link.inbox }; place = if last then 0 else next }
+gone_by : (p new : PortValue) (last : Bool) (bytes : List ℕ) (later : List (List ℕ)) (next : ℕ) → p.link.coming.inbox ≡ bytes ∷ later → GoesOn p new last next
+    → new ≡ record p { link = with_inbox p.link (if last then later else p.link.coming.inbox); place = if last then 0 else next }
 gone_by p new true bytes later next inbox h = h.1 refl bytes later inbox
 gone_by p new false bytes later next inbox h = h.0 refl
 
-pub gone_is : (p new : PortValue) (bytes : List ℕ) (later : List (List ℕ)) (next : ℕ) (last : Bool) → last ≡ (next == length bytes) → p.link.inbox ≡ bytes ∷ later → GoesOn p new last next → new ≡ gone_on p bytes later next
+pub gone_is : (p new : PortValue) (bytes : List ℕ) (later : List (List ℕ)) (next : ℕ) (last : Bool) → last ≡ (next == length bytes) → p.link.coming.inbox ≡ bytes ∷ later → GoesOn p new last next → new ≡ gone_on p bytes later next
 gone_is p new bytes later next last is inbox h = gone_by p new (next == length bytes) bytes later next inbox (subst (λ (b : Bool). GoesOn p new b next) is h)
 
 -- ---- The link gives the message away at its end.
 
-stands_given : (p : PortValue) (bytes : List ℕ) (later : List (List ℕ)) (size : ℕ) (messages given : List (List ℕ)) → p.link.inbox ≡ bytes ∷ later
-    → Stands p.link size messages given → Stands (record p.link { inbox = later }) size messages (given ++ bytes ∷ [])
+stands_given : (p : PortValue) (bytes : List ℕ) (later : List (List ℕ)) (size : ℕ) (messages given : List (List ℕ)) → p.link.coming.inbox ≡ bytes ∷ later
+    → Stands p.link size messages given → Stands (with_inbox p.link later) size messages (given ++ bytes ∷ [])
 stands_given p bytes later size messages given inbox h =
     record {
       taken = record { count = h.taken.count; whole = h.taken.whole; inbox = append_assoc given (bytes ∷ []) later ∙ ap (λ (l : List (List ℕ)). given ++ l) (sym inbox) ∙ h.taken.inbox; partial = h.taken.partial };
@@ -61,7 +61,7 @@ stands_given p bytes later size messages given inbox h =
 
 -- ---- The step.
 
-pub port_given : (p : PortValue) (bytes : List ℕ) (later : List (List ℕ)) (next size : ℕ) (messages given : List (List ℕ)) → p.link.inbox ≡ bytes ∷ later → Stands p.link size messages given
+pub port_given : (p : PortValue) (bytes : List ℕ) (later : List (List ℕ)) (next size : ℕ) (messages given : List (List ℕ)) → p.link.coming.inbox ≡ bytes ∷ later → Stands p.link size messages given
     → Stands (gone_on p bytes later next).link size messages (given_then given bytes next)
 port_given p bytes later next size messages given inbox h =
     elim (cases_eq next (length bytes)) [
@@ -70,8 +70,8 @@ port_given p bytes later next size messages given inbox h =
     ]
 
 -- and what was gone through
-pub port_gone : (p : PortValue) (bytes : List ℕ) (later : List (List ℕ)) (next : ℕ) (given : List (List ℕ)) (items : List Item) (item : Item) → AreBytes bytes → p.link.inbox ≡ bytes ∷ later → GoneThrough given p.link.inbox p.place items
-    → ItemAt bytes p.place item next → next ≤ length bytes → GoneThrough (given_then given bytes next) (gone_on p bytes later next).link.inbox (gone_on p bytes later next).place (items ++ item ∷ [])
+pub port_gone : (p : PortValue) (bytes : List ℕ) (later : List (List ℕ)) (next : ℕ) (given : List (List ℕ)) (items : List Item) (item : Item) → AreBytes bytes → p.link.coming.inbox ≡ bytes ∷ later → GoneThrough given p.link.coming.inbox p.place items
+    → ItemAt bytes p.place item next → next ≤ length bytes → GoneThrough (given_then given bytes next) (gone_on p bytes later next).link.coming.inbox (gone_on p bytes later next).place (items ++ item ∷ [])
 port_gone p bytes later next given items item fits inbox h reads within =
     let gone = gone_one given later bytes p.place next items item fits (subst (λ (l : List (List ℕ)). GoneThrough given l p.place items) inbox h) reads within in
     subst (λ (l : List (List ℕ)). let ends = next == length bytes in GoneThrough (given_then given bytes next) (if ends then later else l) (if ends then 0 else next) (items ++ item ∷ [])) (sym inbox) gone
@@ -80,7 +80,7 @@ pub fit-both : (one two : List Message) → AllFit one → AllFit two → AllFit
 fit-both [] two h k = k
 fit-both (m ∷ one) two h k = (h.0, fit-both one two h.1 k)
 
-module _ (old : ServingValue) (bytes : List ℕ) (later : List (List ℕ)) (inbox : old.port.link.inbox ≡ bytes ∷ later) (fits : AreBytes bytes) where
+module _ (old : ServingValue) (bytes : List ℕ) (later : List (List ℕ)) (inbox : old.port.link.coming.inbox ≡ bytes ∷ later) (fits : AreBytes bytes) where
   past_one : (after : Present) (s : Served) (serves : Serves bytes old.port.place old.accessed after s) → old.port.outbox ≡ [] → s.next ≤ length bytes
       → (past : Past) → IsAfter past old
       → IsAfter (served past bytes serves.item s.next) (serving_of (record (gone_on old.port bytes later s.next) { outbox = bodies s.answers.items }) after)
@@ -121,7 +121,7 @@ module _ (old : ServingValue) (bytes : List ℕ) (later : List (List ℕ)) (inbo
         past = λ past h. subst (λ (p : PortValue). IsAfter (served past bytes serves.item s.next) (serving_of p after)) (sym to) (past_one after s serves idle le past h);
       }
 
-pub place_there : (p : PortValue) (bytes : List ℕ) (later : List (List ℕ)) → p.link.inbox ≡ bytes ∷ later → IsPort p → IsPlace p.place bytes
+pub place_there : (p : PortValue) (bytes : List ℕ) (later : List (List ℕ)) → p.link.coming.inbox ≡ bytes ∷ later → IsPort p → IsPlace p.place bytes
 place_there p bytes later inbox h = subst (λ (l : List (List ℕ)). IsPlace p.place (oldest l)) inbox h.place
 
 -- ---- The port stays one.
@@ -130,7 +130,7 @@ pub all_short : (limit : ℕ) (list : List (List ℕ)) → limit ≤ 65535 → A
 all_short limit [] le h = λ k d lt. absurd (omega arith)
 all_short limit (x ∷ list) le h = All-cons (λ m. length m ≤ 65535) x list (omega (arith, le, h.0)) (all_short limit list le h.1)
 
-pub port_goes : (p : PortValue) (bytes : List ℕ) (later outbox : List (List ℕ)) (next limit : ℕ) → p.link.inbox ≡ bytes ∷ later → IsPort p → next ≤ length bytes
+pub port_goes : (p : PortValue) (bytes : List ℕ) (later outbox : List (List ℕ)) (next limit : ℕ) → p.link.coming.inbox ≡ bytes ∷ later → IsPort p → next ≤ length bytes
     → limit ≤ 65535 → AllAtMost limit outbox → IsPort (record (gone_on p bytes later next) { outbox = outbox })
 port_goes p bytes later outbox next limit inbox h within le short =
     record {

@@ -7,8 +7,8 @@ use Rattle.nsp_link.specs.declared.link.Got.{Got}
 use Rattle.nsp_link.specs.declared.fault.LinkFault.{LinkFault}
 use Rattle.nsp_link.specs.Cutting.{Piece}
 use Rattle.nsp_link.specs.Coming.{Coming, taken, taken_all, body_with}
-use Rattle.nsp_link.specs.Link.{LinkValue, coming, piece_of, failed_link}
-use Rattle.nsp_link.specs.Receiving.{Received, run, segment_of, taking_in, is_end, forgotten, ReceivedBytes, Receives}
+use Rattle.nsp_link.specs.Link.{LinkValue, piece_of, failed_link, forgotten}
+use Rattle.nsp_link.specs.Receiving.{Received, run, segment_of, taking_in, is_end, ReceivedBytes, Receives}
 use Rattle.dap_msg.specs.Items.{IsPlace}
 use Rattle.dap_end.specs.Ports.{PortValue, oldest, with_link}
 use Rattle.dap_end.specs.Inner.Kept.{IsPort}
@@ -16,13 +16,11 @@ use Rattle.dap_end.specs.Inner.Kept.{IsPort}
 -- more messages may wait, and the link is the same
 pub record Grown (old new : LinkValue) : Type 0 where
   pub more : List (List ℕ)
-  pub inbox : new.inbox ≡ old.inbox ++ more
-  pub local : new.local ≡ old.local
-  pub remote : new.remote ≡ old.remote
-  pub size : new.seg_size ≡ old.seg_size
+  pub inbox : new.coming.inbox ≡ old.coming.inbox ++ more
+  pub setup : new.setup ≡ old.setup
 
 same : (v : LinkValue) → Grown v v
-same v = record { more = []; inbox = sym (append-nil v.inbox); local = refl; remote = refl; size = refl }
+same v = record { more = []; inbox = sym (append-nil v.coming.inbox); setup = refl }
 
 along : (old new other : LinkValue) → new ≡ other → Grown old other → Grown old new
 along old new other e g = subst (Grown old) (sym e) g
@@ -39,19 +37,19 @@ taken_more c (p ∷ ps) =
     let rest = taken_more (taken c p) ps in
     (one.0 ++ rest.0, rest.1 ∙ ap (λ (l : List (List ℕ)). l ++ rest.0) one.1 ∙ append_assoc c.inbox one.0 rest.0)
 
-taken_by : (v : LinkValue) (p : Piece) (next : Bool) → (more : List (List ℕ)) × ((if next then taken_all (coming v) (run v p) else coming v).inbox ≡ v.inbox ++ more)
-taken_by v p true = taken_more (coming v) (run v p)
-taken_by v p false = ([], sym (append-nil v.inbox))
+taken_by : (v : LinkValue) (p : Piece) (next : Bool) → (more : List (List ℕ)) × ((if next then taken_all v.coming (run v p) else v.coming).inbox ≡ v.coming.inbox ++ more)
+taken_by v p true = taken_more v.coming (run v p)
+taken_by v p false = ([], sym (append-nil v.coming.inbox))
 
 in_grown : (v : LinkValue) (k : ℕ) (p : Piece) → Grown v (taking_in v k p)
-in_grown v k p = let m = taken_by v p (k == v.received + 1) in record { more = m.0; inbox = m.1; local = refl; remote = refl; size = refl }
+in_grown v k p = let m = taken_by v p (k == v.coming.received + 1) in record { more = m.0; inbox = m.1; setup = refl }
 
 stopped_by : (v : LinkValue) (ends : Bool) → Grown v (if ends then failed_link v else v)
-stopped_by v true = record { more = []; inbox = sym (append-nil v.inbox); local = refl; remote = refl; size = refl }
+stopped_by v true = record { more = []; inbox = sym (append-nil v.coming.inbox); setup = refl }
 stopped_by v false = same v
 
 forgotten_grown : (old mid : LinkValue) (count : ℕ) → Grown old mid → Grown old (forgotten mid count)
-forgotten_grown old mid count g = record { more = g.more; inbox = g.inbox; local = g.local; remote = g.remote; size = g.size }
+forgotten_grown old mid count g = record { more = g.more; inbox = g.inbox; setup = g.setup }
 
 received : (old new : LinkValue) (p : PacketValue) (r : Result Got LinkFault) → Received old p r new → Grown old new
 received old new (segment s) (Ok got) (_, (_, _, acks)) =
@@ -85,6 +83,6 @@ place_stays place (m ∷ inbox) more h = h
 pub port_stays : (p : PortValue) (link : LinkValue) → Grown p.link link → IsPort p → IsPort (with_link p link)
 port_stays p link g h =
     record {
-      place = subst (λ (l : List (List ℕ)). IsPlace p.place (oldest l)) (sym g.inbox) (place_stays p.place p.link.inbox g.more h.place);
+      place = subst (λ (l : List (List ℕ)). IsPlace p.place (oldest l)) (sym g.inbox) (place_stays p.place p.link.coming.inbox g.more h.place);
       short = h.short;
     }

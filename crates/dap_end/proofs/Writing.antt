@@ -26,7 +26,7 @@ packets_one v handed k [] [] e a b = refl
 packets_one v handed k [] (y ∷ two) e a b = absurd (omega arith)
 packets_one v handed k (x ∷ one) [] e a b = absurd (omega arith)
 packets_one v handed k (x ∷ one) (y ∷ two) e a b =
-    ap (λ (z : List ℕ). z ∷ one) (written_one v.local v.remote (cut v.seg_size handed) (Some k) v.received x y a.0 b.0)
+    ap (λ (z : List ℕ). z ∷ one) (written_one v.setup.local v.setup.remote (cut v.setup.seg_size handed) (Some k) v.coming.received x y a.0 b.0)
     ∙ ap (λ (l : List (List ℕ)). y ∷ l) (packets_one v handed (k + 1) one two (omega arith) a.1 b.1)
 
 acks_same : (got : Got) (written : List (List ℕ)) (v w : LinkValue) (wants : Bool) (one two : List (List ℕ)) → wants_ack got (length written) ≡ wants → v ≡ w

@@ -46,7 +46,7 @@ nothing_asked = record { requests = []; asked = []; handed = []; given = []; ans
 -- of the requests.
 pub record HasAsked (past : AskingPast) (v : AskingValue) : Type 0 where
   pub asking : StandsAfter past.requests past.answers v.accessing
-  pub gone : GoneThrough past.given v.port.link.inbox v.port.place past.answers
+  pub gone : GoneThrough past.given v.port.link.coming.inbox v.port.place past.answers
   pub sends : Sends v.port.link past.handed
   pub messages : messages_in past.asked ≡ Asked v.accessing.own past.requests
   pub waiting : past.handed ++ v.port.outbox ≡ all_joined past.asked
@@ -101,14 +101,14 @@ pub record ReadOne (old new : AskingValue) (report : Option Report) : Type 0 whe
 pub record ReadNone (old new : AskingValue) (f : ReadFault) : Type 0 where
   pub bytes : List ℕ
   pub later : List (List ℕ)
-  pub came : old.port.link.inbox ≡ bytes ∷ later
+  pub came : old.port.link.coming.inbox ≡ bytes ∷ later
   pub port : new.port ≡ old.port
   pub own : new.accessing.own ≡ old.accessing.own
   pub refused : ReadRefused bytes old.port.place old.accessing new.accessing f
 
 -- what reading the next answer comes to
 abbrev pub ReadNext : (old new : AskingValue) → Heard → Type 0
-ReadNext old new heard.Nothing = (old.port.link.inbox ≡ []) × (new ≡ old)
+ReadNext old new heard.Nothing = (old.port.link.coming.inbox ≡ []) × (new ≡ old)
 ReadNext old new heard.Part = ReadOne old new None
 ReadNext old new (heard.Report report) = ReadOne old new (Some report)
 
@@ -125,11 +125,11 @@ ReadAll old new before all = (reports : List Report) × (all ≡ before ++ repor
 -- Some were read, and then memory was wanting for one that came, or it was refused.
 abbrev pub ReadPart : (old new : AskingValue) → (before all : List Report) → ReadFault → Type 0
 ReadPart old new before all f =
-    ((f ≡ read_fault.NoMemory) × ReadAll old new before all × (0 < length new.port.link.inbox))
+    ((f ≡ read_fault.NoMemory) × ReadAll old new before all × (0 < length new.port.link.coming.inbox))
     ⊎ ((mid : AskingValue) × ReadAll old mid before all × ReadNone mid new f)
 
 abbrev pub ReadsAll : (old new : AskingValue) → (before reports : List Report) → Result (Unit {0}) ReadFault → Type 0
-ReadsAll old new before reports (Ok done) = ReadAll old new before reports × (new.port.link.inbox ≡ [])
+ReadsAll old new before reports (Ok done) = ReadAll old new before reports × (new.port.link.coming.inbox ≡ [])
 ReadsAll old new before reports (Err f) = ReadPart old new before reports f
 
 -- ---- Going on, and taking.

@@ -44,7 +44,7 @@ given_then given bytes next = if next == length bytes then given ++ bytes ∷ []
 pub record NextItem (p : PortValue) : Type 0 where
   pub bytes : List ℕ
   pub later : List (List ℕ)
-  pub came : p.link.inbox ≡ bytes ∷ later
+  pub came : p.link.coming.inbox ≡ bytes ∷ later
   pub fits : AreBytes bytes
   pub item : Item
   pub next : ℕ

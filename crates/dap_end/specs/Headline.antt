@@ -1,14 +1,12 @@
 -- What an end that serves promises over every list of its calls, whatever bytes come, and what it promises where the packets
 -- are those of a peer.
-use Rattle.std.specs.Prelude.{◌≡◌, ℕ, ◌+◌, ◌-◌, ◌<◌, ◌≤◌, List, [], ◌∷◌, ◌++◌, length, map, Option, Some, None, IfSome, Result, All}
+use Rattle.std.specs.Prelude.{◌≡◌, ℕ, ◌+◌, ◌-◌, ◌<◌, List, [], ◌∷◌, ◌++◌, map, Option, Some, None, Result}
 use Rattle.std.specs.List.{AllByRecursion}
 use Rattle.dap_msg.specs.Blocked.{all_joined, messages_in}
 use Rattle.nsp_seg.specs.Packets.{PacketValue, Spells}
 use Rattle.nsp_link.specs.declared.link.Got.{Got}
 use Rattle.nsp_link.specs.declared.fault.LinkFault.{LinkFault}
-use Rattle.nsp_link.specs.Limits.{largest_window}
-use Rattle.nsp_link.specs.Cutting.{cut}
-use Rattle.nsp_link.specs.Link.{LinkValue, IsBetween, Carries, IsTimely, Writes}
+use Rattle.nsp_link.specs.Link.{LinkValue, IsOfPeer, Writes}
 use Rattle.nsp_link.specs.Sending.{WritesSent}
 use Rattle.dap_accessed.specs.Groups.{After, Answers}
 use Rattle.dap_end.specs.Ports.{with_link}
@@ -37,7 +35,7 @@ bytes_of wrote = map (λ w. w.bytes) wrote
 
 -- it carries that segment of whatever was handed to the link, or none, and all that the link has taken
 abbrev pub WroteOne : LinkValue → Option ℕ → Written → Type 0
-WroteOne v k w = (w.segment ≡ k) × (w.acks ≡ v.received) × WritesSent v k w.bytes
+WroteOne v k w = (w.segment ≡ k) × (w.acks ≡ v.coming.received) × WritesSent v k w.bytes
 
 -- ---- Calls.
 
@@ -56,7 +54,7 @@ EndStepped end does old (Came bytes) new wrote =
     × (new ≡ end.with_port old (with_link (end.port old) link)) × (wrote ≡ []) × end.quiet
 EndStepped {V} end does old GoesOn new wrote =
     (mid : V) × (packets : List (List ℕ)) × does old mid × WroteMore (end.port mid) (end.port new) packets × (new ≡ end.with_port mid (end.port new))
-    × (wrote ≡ numbered ((end.port mid).link.sent + 1) (end.port mid).link.received packets)
+    × (wrote ≡ numbered ((end.port mid).link.sent + 1) (end.port mid).link.coming.received packets)
 EndStepped end does old (Again i) new wrote =
     let v = (end.port old).link in
     (w : Written) × (i < v.sent - v.acked) × WroteOne v (Some (v.acked + 1 + i)) w × (new ≡ old) × (wrote ≡ w ∷ []) × end.quiet
@@ -98,21 +96,10 @@ pub record Promises (past : Past) (v : ServingValue) (wrote : List Written) : Ty
 
 -- ---- A peer.
 
--- The bytes are a packet of a peer that cuts these NSP messages, none longer than this end takes, by this size: of one of
--- their segments, or of none, and of an acknowledgement of segments that this end sent. Neither is more than 2,047 numbers
--- old, nor further ahead than the numbers tell.
-pub record IsFromPeer (v : LinkValue) (size : ℕ) (messages : List (List ℕ)) (bytes : List ℕ) : Type 0 where
-  pub positive : 0 < size
-  pub short : All (λ m. length m ≤ v.max_message) messages
-  pub packet : PacketValue
-  pub segment : Option ℕ
-  pub acks : ℕ
-  pub spelled : Spells packet bytes
-  pub way : IsBetween v.remote v.local packet
-  pub carries : Carries packet (cut size messages) segment acks
-  pub fresh : IsTimely v segment acks
-  pub near : IfSome segment (λ n. n ≤ v.received + largest_window)
-  pub believable : acks ≤ v.sent
+-- the bytes are a packet of a peer that cuts these NSP messages by this size
+abbrev pub IsFromPeer : LinkValue → (size : ℕ) → (messages : List (List ℕ)) → List ℕ → Type 0
+IsFromPeer v size messages bytes =
+    (packet : PacketValue) × (segment : Option ℕ) × (acks : ℕ) × Spells packet bytes × IsOfPeer v size messages packet segment acks
 
 -- one after another, and each packet that came is from that peer
 abbrev pub RunsFrom : (size : ℕ) (messages : List (List ℕ)) → ServingValue → List EndEvent → ServingValue → Type 0

@@ -3,7 +3,7 @@
 use Rattle.std.specs.Prelude.{◌⊎◌, ℕ, ◌<◌, ◌==◌, if◌then◌else◌, List, [], length, slice_index_or}
 use Rattle.nsp_link.specs.Cutting.{cut}
 use Rattle.nsp_link.specs.declared.link.LinkSetup.{LinkSetup}
-use Rattle.nsp_link.specs.Link.{LinkValue, new_link}
+use Rattle.nsp_link.specs.Link.{LinkValue, new_link, with_inbox}
 use Rattle.nsp_link.specs.Sending.{queued_link}
 
 pub record PortValue : Type 0 where
@@ -26,12 +26,12 @@ with_link p link = record p { link = link }
 abbrev pub gone_on : PortValue → (bytes : List ℕ) (later : List (List ℕ)) → (next : ℕ) → PortValue
 gone_on p bytes later next =
     let ends = next == length bytes in
-    record p { link = record p.link { inbox = if ends then later else p.link.inbox }; place = if ends then 0 else next }
+    record p { link = with_inbox p.link (if ends then later else p.link.coming.inbox); place = if ends then 0 else next }
 
 -- all that waits was handed to the link
 abbrev pub posted : PortValue → PortValue
-posted p = record p { link = queued_link p.link (cut p.link.seg_size p.outbox); outbox = [] }
+posted p = record p { link = queued_link p.link (cut p.link.setup.seg_size p.outbox); outbox = [] }
 
 -- a segment came, and was taken or is held
 abbrev pub HasCome : PortValue → Type 0
-HasCome p = (0 < p.link.received) ⊎ (0 < length p.link.held)
+HasCome p = (0 < p.link.coming.received) ⊎ (0 < length p.link.held)

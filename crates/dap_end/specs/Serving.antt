@@ -37,7 +37,7 @@ answers_to own first before (item ∷ items) =
 -- it served and of the front of the next one; and what it handed to its link, and what waits, are the answers to them.
 pub record IsAfter (past : Past) (v : ServingValue) : Type 0 where
   pub serving : StandsAfter past.first past.items v.accessed
-  pub gone : GoneThrough past.given v.port.link.inbox v.port.place past.items
+  pub gone : GoneThrough past.given v.port.link.coming.inbox v.port.place past.items
   pub sends : Sends v.port.link past.handed
   pub answers : past.handed ++ v.port.outbox ≡ all_joined (answers_to v.accessed.own past.first [] past.items)
   -- each answer has a spelling
@@ -69,7 +69,7 @@ served past bytes item next =
 
 -- no answer waits, and something came that wasn't served
 abbrev pub MayServe : ServingValue → Type 0
-MayServe v = (v.port.outbox ≡ []) × (0 < length v.port.link.inbox)
+MayServe v = (v.port.outbox ≡ []) × (0 < length v.port.link.coming.inbox)
 
 -- The next item of the oldest NSP message was served, and its answers wait.
 pub record ServedOne (old new : ServingValue) (n : ℕ) : Type 0 where

@@ -3,7 +3,7 @@ use Rattle.std.specs.Prelude.{◌≡◌, ◌⊎◌, ℕ, List, [], ◌++◌, Res
 use Rattle.dap_msg.specs.Items.{Item}
 use Rattle.nsp_link.specs.declared.fault.LinkFault.{LinkFault}
 use Rattle.nsp_link.specs.declared.fault.LinkFault.TheVariants as fault
-use Rattle.nsp_link.specs.Link.{LinkValue, Stands}
+use Rattle.nsp_link.specs.Link.{LinkValue, Stands, with_inbox}
 use Rattle.nsp_link.specs.Sending.{AreShort, SendAllFault}
 use Rattle.dap_end.specs.declared.fault.EndFault.{EndFault}
 use Rattle.dap_end.specs.declared.fault.EndFault.TheVariants as end_fault
@@ -15,7 +15,7 @@ use Rattle.dap_end.specs.Serving.{ServingValue, Past, IsAfter, IsStill, MayServe
 
 -- what came and what is queued may have moved, and nothing else of a link
 abbrev pub SameCounts : LinkValue → LinkValue → Type 0
-SameCounts old new = new ≡ record old { inbox = new.inbox; queue = new.queue }
+SameCounts old new = new ≡ record (with_inbox old new.coming.inbox) { queue = new.queue }
 
 -- What the end did grew into this.
 pub record Grew (past now : Past) (old new : ServingValue) : Type 0 where
@@ -24,7 +24,7 @@ pub record Grew (past now : Past) (old new : ServingValue) : Type 0 where
   pub items : (more : List Item) × (now.items ≡ past.items ++ more)
   pub handed : (more : List (List ℕ)) × (now.handed ≡ past.handed ++ more) × AreShort old.port.link more
   -- what left the link was served
-  pub given : now.given ++ new.port.link.inbox ≡ past.given ++ old.port.link.inbox
+  pub given : now.given ++ new.port.link.coming.inbox ≡ past.given ++ old.port.link.coming.inbox
   pub stands : (size : ℕ) (messages : List (List ℕ)) → Stands old.port.link size messages past.given
       → Stands new.port.link size messages now.given
 
@@ -46,7 +46,7 @@ ServedUp old new = (last : ServingValue) × (count : ℕ) × ServedOn old last �
 
 -- nothing that came is left, and no answer waits
 abbrev pub IsServed : ServingValue → Type 0
-IsServed v = (v.port.link.inbox ≡ []) × (v.port.outbox ≡ [])
+IsServed v = (v.port.link.coming.inbox ≡ []) × (v.port.outbox ≡ [])
 
 -- why not all is served and handed over, and what is done then: what waits is refused, or memory to serve the next item
 abbrev pub ServeFault : ServingValue → ServingValue → EndFault → Type 0

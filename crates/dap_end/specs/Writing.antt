@@ -9,7 +9,7 @@ use Rattle.dap_end.specs.Ports.{PortValue, with_link}
 -- these are the packets of the segments of what was handed over, in order from this number on
 abbrev pub AreWritten : LinkValue → (handed : List (List ℕ)) → (from : ℕ) → List (List ℕ) → Type 0
 AreWritten v handed k [] = Unit {0}
-AreWritten v handed k (bytes ∷ packets) = Writes v handed (Some k) v.received bytes × AreWritten v handed (k + 1) packets
+AreWritten v handed k (bytes ∷ packets) = Writes v handed (Some k) v.coming.received bytes × AreWritten v handed (k + 1) packets
 
 -- so many segments more count as sent
 abbrev pub sent_more : PortValue → ℕ → PortValue
@@ -17,7 +17,7 @@ sent_more p n = with_link p (record p.link { sent = p.link.sent + n })
 
 -- what counts as sent is there, and within the window
 abbrev pub IsWithin : LinkValue → Type 0
-IsWithin v = (v.sent ≤ v.acked + length v.queue) × (v.sent ≤ v.acked + v.window)
+IsWithin v = (v.sent ≤ v.acked + length v.queue) × (v.sent ≤ v.acked + v.setup.window)
 
 -- the next segment was written
 pub record WroteNext (old new : PortValue) (bytes : List ℕ) : Type 0 where

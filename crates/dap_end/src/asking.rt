@@ -11,6 +11,7 @@ ghost use Rattle.nsp_link.specs.declared.fault.LinkFault.TheVariants as fault;
 ghost use Rattle.dap_accessing.specs.Asked.{messages_of};
 ghost use Rattle.dap_accessing.specs.Calls.{AskRefused, IsAdmittedBy};
 ghost use Rattle.dap_accessing.specs.Inner.MayAsk.{MayAsk};
+ghost use Rattle.dap_accessing.specs.Inner.Outgoing.{IsCounted};
 ghost use Rattle.dap_accessing.specs.declared.fault.AskFault.TheVariants as ask_fault;
 ghost use Rattle.dap_fields.specs.Spelling.{AreBytes};
 ghost use Rattle.dap_end.specs.Ports.{new_port, oldest, with_link};
@@ -24,7 +25,7 @@ ghost use Rattle.dap_end.specs.Inner.AskingView.{asking_of};
 
 use crate::fault::{EndFault, TakeFault};
 use crate::port::{Port, is_end};
-use dap_accessing::{Accessing, AskFault, ReadFault, Report, Request};
+use dap_accessing::{Accessing, AskFault, Checked, ReadFault, Report, Request};
 use nsp_link::{Got, LinkEnd, LinkFault, LinkSetup};
 use std::alloc::Global;
 use std::marker::Model;
@@ -99,29 +100,32 @@ impl AskingEnd {
         ensures err { IfErr result (λ f. (self.new ≡ self.old)
             × AskRefused request.now self.old.accessing f) }
     {
-        self.check(request)?;
-        self.ask_checked(request)
+        let checked = self.check(request)?;
+        self.ask_checked(request, checked)
     }
 
-    /// Whether `ask` would take the request, memory aside; refused as there. It takes no memory. Own.
-    pub fn check(&self, request: &Request) -> Result<(), AskFault>
+    /// Whether `ask` would take the request, memory aside, with what `ask_checked` needs; refused as there. It takes no
+    /// memory. Own.
+    pub fn check(&self, request: &Request) -> Result<Checked, AskFault>
         ensures works { OnOk result (self.now.accessing.failed ≡ false) }
         ensures admissible { OnOk result (IsAdmittedBy self.now.accessing request.now) }
         ensures may { OnOk result (MayAsk self.now.accessing request.now) }
+        ensures counted { IfOk result (IsCounted self.now.accessing.own request.now) }
         ensures refused { IfErr result (λ f. (f ≢ ask_fault.NoMemory)
             × AskRefused request.now self.now.accessing f) }
     {
         self.accessing.check(request)
     }
 
-    /// Asks a request that `check` lets through, as `ask` does. It isn't looked at again, and refused for want of memory
-    /// alone, with nothing changed. Own.
-    pub fn ask_checked(&mut self, request: &Request) -> Result<usize, AskFault>
-        requires { MayAsk self.old.accessing request.now }
+    /// Asks a request that `check` lets through, with what it counted, as `ask` does. It isn't looked at again, and
+    /// refused for want of memory alone, with nothing changed. Own.
+    pub fn ask_checked(&mut self, request: &Request, checked: Checked) -> Result<usize, AskFault>
+        requires may { MayAsk self.old.accessing request.now }
+        requires counted { IsCounted self.old.accessing.own request.now checked }
         ensures ok { IfOk result (λ n. AskedOne request.now self.old self.new n) }
         ensures err { IfErr result (λ f. (self.new ≡ self.old) × (f ≡ ask_fault.NoMemory)) }
     {
-        ask_next(&mut self.port, &mut self.accessing, request)
+        ask_next(&mut self.port, &mut self.accessing, request, checked)
     }
 
     /// Takes a packet in, as [`nsp_link::LinkEnd::receive`] does; nothing is read by that.
@@ -137,9 +141,9 @@ impl AskingEnd {
 
     /// Whether something came that wasn't read. It takes no memory. Own.
     pub fn may_read(&self) -> bool
-        ensures yes { result ≡ true → 0 < length self.now.port.link.inbox }
-        ensures no { result ≡ false → self.now.port.link.inbox ≡ [] }
-        ensures bytes { AreBytes (oldest self.now.port.link.inbox) }
+        ensures yes { result ≡ true → 0 < length self.now.port.link.coming.inbox }
+        ensures no { result ≡ false → self.now.port.link.coming.inbox ≡ [] }
+        ensures bytes { AreBytes (oldest self.now.port.link.coming.inbox) }
     {
         match self.port.link.peek_message() {
             Some(message) => is_left(message),
@@ -157,16 +161,17 @@ impl AskingEnd {
         if !self.may_read() {
             return Ok(Heard::Nothing);
         }
-        match self.read_there() {
+        match self.read_next() {
             Ok(None) => Ok(Heard::Part),
             Ok(Some(report)) => Ok(Heard::Report(report)),
             Err(fault) => Err(fault),
         }
     }
 
-    /// Reads the next answer, which came.
-    fn read_there(&mut self) -> Result<Option<Report>, ReadFault>
-        requires { 0 < length self.old.port.link.inbox }
+    /// The same where something came that wasn't read, as `may_read` tells: it isn't looked at again. Gives the report
+    /// that the answer completes. Refused as `read` is. Own.
+    pub fn read_next(&mut self) -> Result<Option<Report>, ReadFault>
+        requires { 0 < length self.old.port.link.coming.inbox }
         ensures ok { IfOk result (λ report. ReadOne self.old self.new report) }
         ensures err { IfErr result (λ f. ReadNone self.old self.new f) }
     {
@@ -177,7 +182,7 @@ impl AskingEnd {
     /// that stays so.
     pub fn read_all(&mut self, reports: &mut Vec<Report>) -> Result<(), ReadFault>
         ensures ok { OnOk result (ReadAll self.old self.new reports.old.items reports.new.items) }
-        ensures all { OnOk result (self.new.port.link.inbox ≡ []) }
+        ensures all { OnOk result (self.new.port.link.coming.inbox ≡ []) }
         ensures err { IfErr result (ReadPart self.old self.new reports.old.items
             reports.new.items) }
     {
@@ -188,7 +193,7 @@ impl AskingEnd {
             let Ok(()) = reports.reserve(1) else {
                 return Err(ReadFault::NoMemory);
             };
-            match self.read_there() {
+            match self.read_next() {
                 Ok(report) => keep(reports, report),
                 Err(fault) => return Err(fault),
             }
@@ -272,20 +277,23 @@ impl AskingEnd {
         ensures ok { IfOk result (λ n. HandedAll self.old self.new n) }
         ensures err { IfErr result (λ f. (self.new ≡ self.old)
             × SendAllFault self.old.port.link self.old.port.outbox f) }
-        ensures short { self.old.port.link.max_message ≡ largest_limit
+        ensures short { self.old.port.link.setup.max_message ≡ largest_limit
             → IfErr result (λ f. f ≢ MessageTooLong) }
     {
         self.port.post()
     }
 
     /// The same of messages that the link takes, as [`nsp_link::LinkEnd::check_messages`] tells: they aren't looked at
-    /// again. Refused for want of memory alone, with nothing changed. Own.
-    pub fn post_checked(&mut self) -> Result<usize, LinkFault>
+    /// again, and are moved behind those in `handed`. Refused for want of memory alone, with nothing changed. Own.
+    pub fn post_into(&mut self, handed: &mut Vec<Vec<u8>>) -> Result<usize, LinkFault>
         requires { MayQueueAll self.old.port.link self.old.port.outbox }
         ensures ok { IfOk result (λ n. HandedAll self.old self.new n) }
+        ensures moved { OnOk result (bodies handed.new.items
+            ≡ bodies handed.old.items ++ self.old.port.outbox) }
         ensures err { IfErr result (λ f. (self.new ≡ self.old) × (f ≡ fault.NoMemory)) }
+        ensures same { OnErr result (handed.new.items ≡ handed.old.items) }
     {
-        self.port.post_checked()
+        self.port.post_into(handed)
     }
 
     /// The packet of the next segment that was never sent, or none where none waits or the window is full, as
@@ -401,9 +409,11 @@ fn ask_next(
     port: &mut Port,
     accessing: &mut Accessing,
     request: &Request,
+    checked: Checked,
 ) -> Result<usize, AskFault>
     requires kept { IsPort port.old }
     requires may { MayAsk accessing.old request.now }
+    requires counted { IsCounted accessing.old.own request.now checked }
     ensures ok { IfOk result (λ n. AskedOne request.now (asking_of port.old accessing.old)
         (asking_of port.new accessing.new) n) }
     ensures kept { IsPort port.new }
@@ -413,7 +423,7 @@ fn ask_next(
     let Ok(()) = port.outbox.reserve(most_messages(request)) else {
         return Err(AskFault::NoMemory);
     };
-    let mut messages = accessing.ask_checked(request)?;
+    let mut messages = accessing.ask_checked(request, checked)?;
     let count = messages.len();
     port.outbox.append(&mut messages).unwrap();
     Ok(count)
@@ -422,7 +432,7 @@ fn ask_next(
 /// Reads the next answer of the oldest NSP message that came.
 fn read_next(port: &mut Port, accessing: &mut Accessing) -> Result<Option<Report>, ReadFault>
     requires kept { IsPort port.old }
-    requires some { 0 < length port.old.link.inbox }
+    requires some { 0 < length port.old.link.coming.inbox }
     ensures ok { IfOk result (λ report. ReadOne (asking_of port.old accessing.old)
         (asking_of port.new accessing.new) report) }
     ensures kept { IsPort port.new }

@@ -58,20 +58,20 @@ pub fn calls_are_runs()
         → Runs old (GoesOn ∷ []) new [] }
     ensures emit { (old new : ServingValue) (bytes : List ℕ) → new ≡ with_port old new.port
         → WroteNext old.port new.port bytes → Runs old (GoesOn ∷ []) new
-        (numbered (old.port.link.sent + 1) old.port.link.received (bytes ∷ [])) }
+        (numbered (old.port.link.sent + 1) old.port.link.coming.received (bytes ∷ [])) }
     ensures resend { (v : ServingValue) (i : ℕ) (bytes : List ℕ)
         → i < v.port.link.sent - v.port.link.acked
         → WritesSent v.port.link (Some (v.port.link.acked + 1 + i)) bytes
         → Runs v (Again i ∷ []) v (record {
           bytes = bytes;
           segment = Some (v.port.link.acked + 1 + i);
-          acks = v.port.link.received;
+          acks = v.port.link.coming.received;
         } ∷ []) }
     ensures ack { (v : ServingValue) (bytes : List ℕ) → IsSpelling (ack_packet_of v.port.link) bytes
         → Runs v (Acks ∷ []) v (record {
           bytes = bytes;
           segment = None;
-          acks = v.port.link.received;
+          acks = v.port.link.coming.received;
         } ∷ []) }
     ensures go_on { (old new : ServingValue) (out all : List (List ℕ))
         → WroteThen serves (λ p q. WroteAll p q out all) old new
@@ -99,20 +99,20 @@ pub fn asking_calls_are_runs()
         → AskingRuns old (By GoesOn ∷ []) new [] [] }
     ensures emit { (old new : AskingValue) (bytes : List ℕ) → new ≡ record old { port = new.port }
         → WroteNext old.port new.port bytes → AskingRuns old (By GoesOn ∷ []) new []
-        (numbered (old.port.link.sent + 1) old.port.link.received (bytes ∷ [])) }
+        (numbered (old.port.link.sent + 1) old.port.link.coming.received (bytes ∷ [])) }
     ensures resend { (v : AskingValue) (i : ℕ) (bytes : List ℕ)
         → i < v.port.link.sent - v.port.link.acked
         → WritesSent v.port.link (Some (v.port.link.acked + 1 + i)) bytes
         → AskingRuns v (By (Again i) ∷ []) v [] (record {
           bytes = bytes;
           segment = Some (v.port.link.acked + 1 + i);
-          acks = v.port.link.received;
+          acks = v.port.link.coming.received;
         } ∷ []) }
     ensures ack { (v : AskingValue) (bytes : List ℕ) → IsSpelling (ack_packet_of v.port.link) bytes
         → AskingRuns v (By Acks ∷ []) v [] (record {
           bytes = bytes;
           segment = None;
-          acks = v.port.link.received;
+          acks = v.port.link.coming.received;
         } ∷ []) }
     ensures go_on { (old new : AskingValue) (out all : List (List ℕ))
         (before after : List TheReport)

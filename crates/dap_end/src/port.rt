@@ -1,8 +1,8 @@
 //! One end of a link, with the NSP messages that wait to be handed to it, and the place in the oldest one that came.
 
-ghost use Rattle.std.specs.Prelude.{◌≡◌, ◌≢◌, ◌+◌, ◌-◌, ◌<◌, ◌≤◌, ◌∷◌, [], ℕ, List, Ok, Some, None, length, false, true, IfOk, IfErr, IfSome, OnOk, OnErr, slice_get};
+ghost use Rattle.std.specs.Prelude.{◌≡◌, ◌≢◌, ◌+◌, ◌-◌, ◌<◌, ◌≤◌, ◌∷◌, ◌++◌, [], ℕ, List, Ok, Some, None, length, false, true, IfOk, IfErr, IfSome, OnOk, OnErr, slice_get};
 ghost use Rattle.nsp_link.specs.Limits.{largest_limit};
-ghost use Rattle.nsp_link.specs.Link.{IsSetup, SetupFault, IsLink, MaySend};
+ghost use Rattle.nsp_link.specs.Link.{IsSetup, SetupFault, IsLink, MaySend, with_inbox};
 ghost use Rattle.nsp_link.specs.Sending.{NextFault, MayQueueAll, SendAllFault};
 ghost use Rattle.nsp_link.specs.declared.fault.LinkFault.TheVariants.{MessageTooLong, NoMemory};
 ghost use Rattle.std.specs.Prelude.{◌==◌};
@@ -38,6 +38,7 @@ impl Model for Port {
 }
 
 impl Port {
+    /// A port with a new link of these limits, where nothing waits.
     pub(crate) fn new(alloc: Global, setup: LinkSetup) -> Result<Port, LinkFault>
         ensures ok { IfOk result (λ p. IsSetup setup × (p ≡ new_port setup)) }
         ensures err { IfErr result (SetupFault setup) }
@@ -73,9 +74,9 @@ impl Port {
     pub(crate) fn go_on(&mut self, last: bool, next: usize)
         ensures going { last ≡ false → self.new ≡ record self.old { place = next } }
         ensures ends { last ≡ true → (bytes : List ℕ) (later : List (List ℕ))
-            → self.old.link.inbox ≡ bytes ∷ later
+            → self.old.link.coming.inbox ≡ bytes ∷ later
             → self.new ≡ record self.old {
-              link = record self.old.link { inbox = later };
+              link = with_inbox self.old.link later;
               place = 0;
             } }
     {
@@ -191,7 +192,7 @@ impl Port {
         ensures kept { IsPort self.new }
         ensures err { IfErr result (λ f. (self.new ≡ self.old)
             × SendAllFault self.old.link self.old.outbox f) }
-        ensures short { self.old.link.max_message ≡ largest_limit
+        ensures short { self.old.link.setup.max_message ≡ largest_limit
             → IfErr result (λ f. f ≢ MessageTooLong) }
     {
         self.link.check_messages(&self.outbox)?;
@@ -213,6 +214,32 @@ impl Port {
         match self.link.send_checked(&self.outbox) {
             Ok(()) => {
                 self.outbox.clear();
+                Ok(count)
+            }
+            Err(_) => Err(LinkFault::NoMemory),
+        }
+    }
+
+    /// The same, and moves what waited behind what `handed` has.
+    pub(crate) fn post_into(&mut self, handed: &mut Vec<Vec<u8>>) -> Result<usize, LinkFault>
+        requires kept { IsPort self.old }
+        requires may { MayQueueAll self.old.link self.old.outbox }
+        ensures ok { IfOk result (λ n. (self.new ≡ posted self.old)
+            × (n ≡ length self.old.outbox)) }
+        ensures may { OnOk result (MayQueueAll self.old.link self.old.outbox) }
+        ensures moved { OnOk result (bodies handed.new.items
+            ≡ bodies handed.old.items ++ self.old.outbox) }
+        ensures kept { IsPort self.new }
+        ensures err { IfErr result (λ f. (self.new ≡ self.old) × (f ≡ NoMemory)) }
+        ensures same { OnErr result (handed.new.items ≡ handed.old.items) }
+    {
+        let count = self.outbox.len();
+        let Ok(()) = handed.reserve(count) else {
+            return Err(LinkFault::NoMemory);
+        };
+        match self.link.send_checked(&self.outbox) {
+            Ok(()) => {
+                handed.append(&mut self.outbox).unwrap();
                 Ok(count)
             }
             Err(_) => Err(LinkFault::NoMemory),

@@ -172,7 +172,7 @@ impl ServingEnd {
         ensures ok { IfOk result (λ n. PostedAll self.old self.new n) }
         ensures err { IfErr result (λ f. (self.new ≡ self.old)
             × SendAllFault self.old.port.link self.old.port.outbox f) }
-        ensures short { self.old.port.link.max_message ≡ largest_limit
+        ensures short { self.old.port.link.setup.max_message ≡ largest_limit
             → IfErr result (λ f. f ≢ MessageTooLong) }
     {
         self.port.post()

@@ -64,6 +64,7 @@ pub(crate) struct Room {
 }
 
 impl Room {
+    /// Room for no bytes yet. It takes no memory.
     pub(crate) fn new(alloc: Global) -> Self {
         Room {
             digits: Vec::new(alloc),

@@ -19,6 +19,7 @@ pub(crate) struct Reading<'a> {
 }
 
 impl<'a> Reading<'a> {
+    /// Nothing was read yet. It takes no memory.
     fn new(alloc: Global) -> Self
         ensures { Reads [] result }
     {

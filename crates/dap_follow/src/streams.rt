@@ -28,6 +28,7 @@ pub(crate) struct Streams<'a> {
 }
 
 impl<'a> Streams<'a> {
+    /// No streams. It takes no memory.
     pub(crate) fn new(alloc: Global) -> Self
         ensures { KeepsAll [] result }
     {

@@ -11,4 +11,4 @@ are_short : (limit : ℕ) (ms : List (List ℕ)) → All (λ m. length m ≤ lim
 are_short limit ms short = list_all-from_AllPass (λ m. nat_le (length m) limit) ms (λ k d within. le-leb _ _ (short k d within))
 
 pub queues : (v : LinkValue) (ms : List (List ℕ)) → MayQueueAll v ms → may_queue v ms ≡ true
-queues v ms may = rw (may.0, are_short v.max_message ms may.1, le-leb _ _ may.2) refl
+queues v ms may = rw (may.0, are_short v.setup.max_message ms may.1, le-leb _ _ may.2) refl

@@ -155,7 +155,7 @@ again_one link handed place [] (y ∷ ys) sends e a b = absurd (omega arith)
 again_one link handed place (x ∷ xs) [] sends e a b = absurd (omega arith)
 again_one link handed place (x ∷ xs) (y ∷ ys) sends e a b =
     ap (λ (z : List ℕ). z ∷ xs)
-    (written_one link.local link.remote (cut link.seg_size handed) (Some (link.acked + 1 + place)) link.received x y (a.0 handed sends) (b.0 handed sends))
+    (written_one link.setup.local link.setup.remote (cut link.setup.seg_size handed) (Some (link.acked + 1 + place)) link.coming.received x y (a.0 handed sends) (b.0 handed sends))
     ∙ ap (λ (l : List (List ℕ)). y ∷ l) (again_one link handed (place + 1) xs ys sends (omega arith) a.1 b.1)
 
 pub all_again : (link : LinkValue) (handed xs ys : List (List ℕ)) → Sends link handed → AllAgain link xs → AllAgain link ys → xs ≡ ys

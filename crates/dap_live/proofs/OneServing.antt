@@ -108,7 +108,7 @@ renewed_one old other one two anew same x y =
     let after : IsAfter (nothing_yet old.end.accessed.files) two.end = subst (λ (f : Files). IsAfter (nothing_yet f) two.end) (sym files) y.after in (
       anew_one old.end.accessed.files one.end two.end (x.port ∙ ap new_port setup ∙ sym y.port) (x.own ∙ own ∙ sym y.own) x.after after,
       x.setup ∙ setup ∙ sym y.setup,
-      new_known old.end.accessed.files one.end x.after (ap (λ (p : PortValue). p.link.inbox) x.port),
+      new_known old.end.accessed.files one.end x.after (ap (λ (p : PortValue). p.link.coming.inbox) x.port),
     )
 
 renew_one : (old other one two : Serving) (anew : Anew) (said more : List ℕ) (b c : Became) → AreSameServing old other → b ≢ NoMemory → c ≢ NoMemory
@@ -137,7 +137,7 @@ added_one end one two said more b c (past, h, inr none) files x y =
       anew_one one.accessed.files one two (x.port ∙ sym y.port) (x.own ∙ sym y.own) after other,
       x.silent ∙ sym y.silent,
       x.ends ∙ sym y.ends,
-      new_known one.accessed.files one after (ap (λ (p : PortValue). p.link.inbox) x.port ∙ none.1),
+      new_known one.accessed.files one after (ap (λ (p : PortValue). p.link.coming.inbox) x.port ∙ none.1),
     )
 
 add_want : (f : AddFault) → (add_refusal f).1 ≢ NoMemory → f ≢ add.NoMemory
@@ -290,5 +290,5 @@ serving_text =
 
 -- new ends that are set up alike
 pub new_serving : (files : Files) (one other : Serving) → IsAfter (nothing_yet files) one.end → IsAfter (nothing_yet files) other.end → one.end.port ≡ other.end.port
-    → one.end.accessed.own ≡ other.end.accessed.own → one.setup ≡ other.setup → one.end.port.link.inbox ≡ [] → AreSameServing one other
+    → one.end.accessed.own ≡ other.end.accessed.own → one.setup ≡ other.setup → one.end.port.link.coming.inbox ≡ [] → AreSameServing one other
 new_serving files one other x y port own setup none = (anew_one files one.end other.end port own x y, setup, new_known files one.end x none)

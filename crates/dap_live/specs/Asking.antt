@@ -31,7 +31,7 @@ use Rattle.dap_live.specs.declared.asking.Front.{Front}
 use Rattle.dap_live.specs.declared.asking.Front.TheVariants.{Asked}
 use Rattle.dap_live.specs.declared.asking.Front.TheVariants as front
 use Rattle.dap_text.specs.Text.{line_feed}
-use Rattle.dap_live.specs.Texts.{Said, ask_refusal, end_refusal, link_refusal, packets_text, refused_line, reports_text, taken_said}
+use Rattle.dap_live.specs.Texts.{LineAnswer, ask_refusal, end_refusal, link_refusal, packets_text, refused_line, reports_text, taken_said}
 
 -- only the end moved, and reports came
 abbrev pub OnEnd : Asking → Asking → Type 0
@@ -58,7 +58,7 @@ abbrev pub front_text : Front → List ℕ
 front_text (Asked count) = concat (codes "asked " ∷ decimal count ∷ line_feed ∷ [])
 front_text front.Busy = refused_line (codes "ask-busy")
 
-abbrev pub gone_said : Result (Unit {0}) EndFault → Said
+abbrev pub gone_said : Result (Unit {0}) EndFault → LineAnswer
 gone_said (Ok done) = ([], Done)
 gone_said (Err f) = end_refusal f
 

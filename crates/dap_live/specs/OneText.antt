@@ -8,7 +8,7 @@ use Rattle.dap_live.specs.declared.asking.Asking.{Asking}
 
 -- the end is as after some past, in which it did nothing before a segment came
 abbrev pub HasServed : ServingValue → Type 0
-HasServed v = (past : Past) × IsAfter past v × (HasCome v.port ⊎ ((past ≡ nothing_yet past.first) × (v.port.link.inbox ≡ [])))
+HasServed v = (past : Past) × IsAfter past v × (HasCome v.port ⊎ ((past ≡ nothing_yet past.first) × (v.port.link.coming.inbox ≡ [])))
 
 -- both ends are of one value
 abbrev pub AreSameServing : Serving → Serving → Type 0

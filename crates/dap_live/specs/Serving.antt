@@ -26,7 +26,7 @@ use Rattle.dap_live.specs.declared.orders.Order.{Order}
 use Rattle.dap_live.specs.declared.orders.Order.TheVariants as order
 use Rattle.dap_live.specs.Orders.{order_of, setup_anew}
 use Rattle.dap_live.specs.Sending.{AllAgain, SaysAck, is_left, waits_of}
-use Rattle.dap_live.specs.Texts.{Said, add_refusal, link_refusal, packets_text, status_line, taken_said}
+use Rattle.dap_live.specs.Texts.{LineAnswer, add_refusal, link_refusal, packets_text, status_line, taken_said}
 
 -- ---- A packet.
 
@@ -39,7 +39,7 @@ pub record TakesPacket (old : ServingValue) (bytes : List ℕ) (new : ServingVal
 
 -- ---- Going on.
 
-abbrev pub gone_said : Result (Unit {0}) LinkFault → Said
+abbrev pub gone_said : Result (Unit {0}) LinkFault → LineAnswer
 gone_said (Ok done) = ([], Done)
 gone_said (Err f) = link_refusal f
 

@@ -52,17 +52,17 @@ refused_line word = concat (codes "refused " ∷ word ∷ line_feed ∷ [])
 
 -- What an answer says of a fault, and what it became. Of want of memory, which is told at the end of an answer, it says
 -- nothing.
-abbrev pub Said : Type 0
-Said = List ℕ × Became
+abbrev pub LineAnswer : Type 0
+LineAnswer = List ℕ × Became
 
-abbrev pub wanting : Said
+abbrev pub wanting : LineAnswer
 wanting = ([], NoMemory)
 
-abbrev pub refused : List ℕ → Said
+abbrev pub refused : List ℕ → LineAnswer
 refused word = (refused_line word, Done)
 
 -- why a link refuses; of bytes that are no packet in the words of a listing
-abbrev pub link_refusal : LinkFault → Said
+abbrev pub link_refusal : LinkFault → LineAnswer
 link_refusal (fault.Malformed f) = (codes "refused " ++ fault_line f, Done)
 link_refusal fault.BadSetup = refused (codes "bad-setup")
 link_refusal fault.WrongLink = refused (codes "wrong-link")
@@ -73,23 +73,23 @@ link_refusal fault.Exhausted = refused (codes "exhausted")
 link_refusal fault.NoSuchSegment = refused (codes "nothing-to-do")
 link_refusal fault.NoMemory = wanting
 
-abbrev pub read_refusal : ReadFault → Said
+abbrev pub read_refusal : ReadFault → LineAnswer
 read_refusal read.Failed = refused (codes "ask-failed")
 read_refusal read.Unexpected = refused (codes "unexpected-answer")
 read_refusal read.NoMemory = wanting
 
-abbrev pub end_refusal : EndFault → Said
+abbrev pub end_refusal : EndFault → LineAnswer
 end_refusal (end.Link f) = link_refusal f
 end_refusal (end.Read f) = read_refusal f
 
-abbrev pub ask_refusal : AskFault → Said
+abbrev pub ask_refusal : AskFault → LineAnswer
 ask_refusal f = option_map_or refused (ask_text f) wanting
 
 -- a refusal by the code of a Status, and its reason
 abbrev pub status_line : ℕ → ℕ → List ℕ
 status_line code why = refused_text code why ++ line_feed
 
-abbrev pub add_refusal : AddFault → Said
+abbrev pub add_refusal : AddFault → LineAnswer
 add_refusal add.Busy = refused (codes "busy")
 add_refusal add.FileExists = (status_line codes_of.stscode.access_refused (codes_of.reason_number reason.FileExists), Done)
 add_refusal add.NoFile = (status_line codes_of.stscode.file_not_found 0, Done)
@@ -98,7 +98,7 @@ add_refusal add.NoMemory = wanting
 
 -- ---- The answer to a packet.
 
-abbrev pub taken_said : Result Got TakeFault → List Report → List (List ℕ) → Said
+abbrev pub taken_said : Result Got TakeFault → List Report → List (List ℕ) → LineAnswer
 taken_said (Ok got) reports packets = (got_line got ++ (reports_text reports ++ packets_text packets), Done)
 taken_said (Err (take.Refused f)) reports packets = link_refusal f
 taken_said (Err (take.Unfinished got f)) reports packets =

@@ -154,6 +154,7 @@ pub(crate) enum Front {
     Busy,
 }
 
+/// Appends what is said before what going on comes to.
 fn push_front(text: &mut Vec<u8>, front: Front) -> Result<(), AllocError>
     ensures { OnOk result (Adds text.old text.new (front_text front)) }
 {

@@ -6,7 +6,7 @@ use Rattle.std.proofs.lemmas.List.{length-append}
 use Rattle.dap_fields.specs.Writing.{groups}
 use Rattle.dap_msg.specs.Message.{Message, StatusFields, Ack, Filedata, Status}
 use Rattle.dap_msg.specs.Canon.{canon, type_number, header_bytes, operand_bytes, header_size, file_data_size, Fits}
-use Rattle.dap_msg.specs.Inner.Fitting.{KeepsLimits, FieldsFit}
+use Rattle.dap_msg.specs.Inner.Fitting.{FieldsFit}
 use Rattle.dap_msg.specs.BothEnds.{config_of, complete_with, attributes_of}
 use Rattle.dap_msg.specs.Inner.Answers.{IsShortAnswer, AnswersFit}
 use Rattle.dap_msg.proofs.Canonical.{closed_spelling}
@@ -30,12 +30,6 @@ file_data_measured recnum payload = rw (canon_length (Filedata recnum payload), 
 
 header_extent : (len : ℕ) → (3 ≤ header_size len) × (header_size len ≤ 4)
 header_extent len = grind (arith, nat_tests)
-
-pub message_some : (m : Message) → 0 < length (canon m)
-message_some m = omega (arith, canon_length m, (header_extent (length (operand_bytes m))).0)
-
-pub message_short : (m : Message) → KeepsLimits m → length (canon m) ≤ 65539
-message_short m k = omega (arith, canon_length m, (header_extent (length (operand_bytes m))).1, k.length)
 
 short_answer_of : (m : Message) → FieldsFit m → IsPlainMessage m → length (operand_bytes m) ≤ 60 → IsShortAnswer m
 short_answer_of m fields plain short = record {
@@ -64,6 +58,11 @@ status_short s c r n v =
 pub file_data_fits : (recnum payload : List ℕ) → length recnum ≤ 8 → length payload ≤ 65526 → Fits (Filedata recnum payload)
 file_data_fits recnum payload small short =
     closed_spelling (Filedata recnum payload) (record { fields = small; length = omega (arith, file_data_operand recnum payload) })
+
+-- a record without a number
+pub unnumbered_fits : (payload : List ℕ) → length payload ≤ 65534 → Fits (Filedata [] payload)
+unnumbered_fits payload short =
+    closed_spelling (Filedata [] payload) (record { fields = lit≤ tt; length = omega (arith, file_data_operand [] payload) })
 
 pub answers_fit : AnswersFit
 answers_fit = record {

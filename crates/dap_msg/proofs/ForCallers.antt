@@ -13,7 +13,7 @@ pub use Rattle.dap_msg.proofs.Places.{read_in_place}
 -- the answers of both ends have spellings, and all but records have short ones
 pub use Rattle.dap_msg.proofs.Extents.{answers_fit}
 -- a Filedata has a spelling
-pub use Rattle.dap_msg.proofs.Extents.{file_data_fits}
+pub use Rattle.dap_msg.proofs.Extents.{file_data_fits, unnumbered_fits}
 -- the length of a Filedata's spelling
 pub use Rattle.dap_msg.proofs.Extents.{file_data_measured}
 -- one message more, in the last NSP message or in a new one

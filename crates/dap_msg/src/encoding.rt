@@ -5,7 +5,7 @@ ghost use Rattle.dap_fields.specs.Writing.{shortest};
 ghost use Rattle.dap_msg.specs.Message.{Attrib, Control as ControlOf, seen, seen_attributes, seen_control};
 ghost use Rattle.dap_msg.specs.Canon.{canon, Fits, operand_bytes, header_bytes, option_bytes, bits_of};
 ghost use Rattle.dap_msg.specs.Written.{AppendsMessage};
-ghost use Rattle.dap_msg.specs.Inner.Fields.{AppendsWithin, bytes_of, fields_bytes, message_bytes, is_there, CanWrite, CanWriteAll, completion_of};
+ghost use Rattle.dap_msg.specs.Inner.Fields.{bytes_of, fields_bytes, message_bytes, is_there, CanWrite, CanWriteAll, completion_of};
 ghost use Rattle.dap_msg.specs.Inner.Fitting.{FieldsFit, FitsOption, KeepsLimits};
 
 use crate::fault::MsgFault;
@@ -61,6 +61,7 @@ fn put_all(fields: &[Field], out: &mut Vec<u8>)
     }
 }
 
+/// The bytes of the shortest spelling of an extensible number.
 fn extensible_len(value: u128) -> usize
     requires { value < 2 ^ 84 }
     ensures exact { result ≡ length (shortest value) }
@@ -75,6 +76,7 @@ fn extensible_len(value: u128) -> usize
     len
 }
 
+/// The bytes of a field, 0 where it is absent.
 fn field_len(field: Field) -> usize
     requires { CanWrite field }
     ensures { result ≡ length (bytes_of field.entry) }
@@ -89,6 +91,7 @@ fn field_len(field: Field) -> usize
     }
 }
 
+/// The bytes of all the fields.
 fn fields_len(fields: &[Field]) -> usize
     requires fit { CanWriteAll fields.now }
     requires small { length (fields_bytes fields.now) < 2 ^ 16 }
@@ -112,10 +115,10 @@ fn put_header(number: u8, len: usize, out: &mut Vec<u8>)
     ensures items { out.new.items ≡ out.old.items ++ header_bytes number len }
     ensures capacity { vec_capacity out.old ≤ vec_capacity out.new }
 {
+    let [low, high] = (len as u16).to_le_bytes();
     if len < 256 {
-        put_rest(&[number, WITH_LENGTH, len as u8], out);
+        put_rest(&[number, WITH_LENGTH, low], out);
     } else {
-        let [low, high] = (len as u16).to_le_bytes();
         put_rest(&[number, WITH_BOTH_LENGTHS, low, high], out);
     }
 }
@@ -137,28 +140,33 @@ fn message_len(len: usize) -> usize
     if len < 256 { len + 3 } else { len + 4 }
 }
 
-/// Appends a message of these fields, where it has at most so many bytes: whether it has. Where there is no memory
-/// nothing is changed.
+/// The bytes of the operand of a message that has `len`.
+fn operand_of(len: usize) -> usize
+    requires { 3 ≤ len }
+    ensures { (number operand : ℕ) → len ≡ length (header_bytes number operand) + operand
+        → result ≡ operand }
+{
+    if len < 259 { len - 3 } else { len - 4 }
+}
+
+/// Appends a message of these fields, which has `len` bytes. Where there is no memory nothing is changed.
 #[inline(always)]
 fn write_message(
     fields: &[Field],
     number: u8,
-    most: usize,
+    len: usize,
     out: &mut Vec<u8>,
-) -> Result<bool, MsgFault>
+) -> Result<(), MsgFault>
     requires fit { CanWriteAll fields.now }
     requires small { length (fields_bytes fields.now) < 2 ^ 16 }
-    ensures appends { AppendsWithin most (message_bytes number fields.now) out.old out.new result }
+    requires counted { len ≡ length (message_bytes number fields.now) }
+    ensures appends { AppendsMessage (message_bytes number fields.now) out.old out.new result }
     ensures capacity { vec_capacity out.old ≤ vec_capacity out.new }
 {
-    let len = fields_len(fields);
-    if message_len(len) > most {
-        return Ok(false);
-    }
-    out.reserve(message_len(len))?;
-    put_header(number, len, out);
+    out.reserve(len)?;
+    put_header(number, operand_of(len), out);
     put_all(fields, out);
-    Ok(true)
+    Ok(())
 }
 
 /// The field of a menu.
@@ -177,6 +185,7 @@ fn option_field<'a, T, K: Kind<'a, T>>(field: Optional<K>, value: Option<T>) -> 
     }
 }
 
+/// Whether the field is there.
 fn is_there(field: Field) -> bool
     ensures { result ≡ is_there field.entry }
 {
@@ -209,6 +218,7 @@ fn menu_field<'a>(fields: &[Field]) -> Field<'a>
     Field::Extensible(u128::from(menu_bits(fields)))
 }
 
+/// The fields of an Access Complete, in order.
 fn completion_fields<'a>(func: u8, fop: u64, check: Option<u16>) -> [Field<'a>; 3]
     requires { FieldsFit (completion_of func fop check) }
     ensures bytes { fields_bytes result ≡ operand_bytes (completion_of func fop check) }
@@ -224,6 +234,7 @@ fn completion_fields<'a>(func: u8, fop: u64, check: Option<u16>) -> [Field<'a>; 
     ]
 }
 
+/// The fields of a Control, in order, with their menu.
 #[inline(always)]
 fn control_fields(here: Control<'_>) -> [Field<'_>; 8]
     requires { FieldsFit (ControlOf (seen_control here)) }
@@ -244,6 +255,7 @@ fn control_fields(here: Control<'_>) -> [Field<'_>; 8]
     fields
 }
 
+/// The fields of an Attributes message, in order, behind their menu.
 fn attributes_fields(here: Attributes<'_>) -> [Field<'_>; 22]
     requires { FieldsFit (Attrib (seen_attributes here)) }
     ensures bytes { fields_bytes result ≡ operand_bytes (Attrib (seen_attributes here.entry)) }
@@ -354,43 +366,46 @@ macro_rules! with_fields {
     };
 }
 
-/// Appends a message as [`encode_within`] does.
+/// Appends a message as [`encode_counted`] does.
 #[tactic(auto, unfolding(crate::specs::Canon::canon))]
 #[inline(always)]
-fn encode_here(message: &Message<'_>, most: usize, out: &mut Vec<u8>) -> Result<bool, MsgFault>
-    requires { KeepsLimits (seen message.now) }
-    ensures appends { AppendsWithin most (canon (seen message.now)) out.old out.new result }
+fn encode_here(message: &Message<'_>, len: usize, out: &mut Vec<u8>) -> Result<(), MsgFault>
+    requires fits { KeepsLimits (seen message.now) }
+    requires counted { len ≡ length (canon (seen message.now)) }
+    ensures appends { AppendsMessage (canon (seen message.now)) out.old out.new result }
     ensures capacity { vec_capacity out.old ≤ vec_capacity out.new }
 {
-    with_fields!(message, write_message, message.number(), most, out)
+    with_fields!(message, write_message, message.number(), len, out)
 }
 
 /// The same. A call clears the room for the fields of all messages that it may meet: so those with the most fields are
 /// written apart.
 #[inline(never)]
-fn encode_apart(message: &Message<'_>, most: usize, out: &mut Vec<u8>) -> Result<bool, MsgFault>
-    requires { KeepsLimits (seen message.now) }
-    ensures appends { AppendsWithin most (canon (seen message.now)) out.old out.new result }
+fn encode_apart(message: &Message<'_>, len: usize, out: &mut Vec<u8>) -> Result<(), MsgFault>
+    requires fits { KeepsLimits (seen message.now) }
+    requires counted { len ≡ length (canon (seen message.now)) }
+    ensures appends { AppendsMessage (canon (seen message.now)) out.old out.new result }
     ensures capacity { vec_capacity out.old ≤ vec_capacity out.new }
 {
-    encode_here(message, most, out)
+    encode_here(message, len, out)
 }
 
-/// Appends the message as [`encode`] does, where that takes at most so many bytes: whether it does.
-pub(crate) fn encode_within(
+/// Appends a message of `len` bytes, as [`encode`] does. They aren't counted again.
+pub(crate) fn encode_counted(
     message: &Message<'_>,
-    most: usize,
+    len: usize,
     out: &mut Vec<u8>,
-) -> Result<bool, MsgFault>
-    requires { KeepsLimits (seen message.now) }
-    ensures appends { AppendsWithin most (canon (seen message.now)) out.old out.new result }
+) -> Result<(), MsgFault>
+    requires fits { Fits (seen message.now) }
+    requires counted { len ≡ length (canon (seen message.now)) }
+    ensures appends { AppendsMessage (canon (seen message.now)) out.old out.new result }
     ensures capacity { vec_capacity out.old ≤ vec_capacity out.new }
 {
     match message {
         Message::Config { .. } | Message::Attrib(_) | Message::Access { .. } => {
-            encode_apart(message, most, out)
+            encode_apart(message, len, out)
         }
-        _ => encode_here(message, most, out),
+        _ => encode_here(message, len, out),
     }
 }
 
@@ -405,10 +420,7 @@ pub fn encode(message: &Message<'_>, out: &mut Vec<u8>) -> Result<(), MsgFault>
     ensures appends { AppendsMessage (canon (seen message.now)) out.old out.new result }
     ensures capacity { vec_capacity out.old ≤ vec_capacity out.new }
 {
-    match encode_within(message, usize::MAX, out) {
-        Ok(_) => Ok(()),
-        Err(fault) => Err(fault),
-    }
+    encode_counted(message, encoded_len(message), out)
 }
 
 /// The bytes of the operand.

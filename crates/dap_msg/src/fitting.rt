@@ -21,6 +21,7 @@ fn option_fits<'a, T, K: Kind<'a, T>>(field: Optional<K>, value: Option<T>) -> b
     }
 }
 
+/// Whether each value of an Attributes message fits its field.
 fn attributes_fit(here: Attributes<'_>) -> bool
     ensures { IsTrue result ↔ FieldsFit (Attrib (seen_attributes here.entry)) }
 {
@@ -37,6 +38,7 @@ fn attributes_fit(here: Attributes<'_>) -> bool
         && option_fits(menu::SBN, here.sbn)
 }
 
+/// Whether each value of a Control fits its field.
 fn control_fits(here: Control<'_>) -> bool
     ensures { IsTrue result ↔ FieldsFit (ControlOf (seen_control here.entry)) }
 {

@@ -11,6 +11,7 @@ use crate::message::{Attributes, Control, Message};
 use crate::reading::Cursor;
 use crate::{field, menu};
 
+/// The Acknowledge, whatever its operand is.
 #[tactic(auto, unfolding(crate::specs::Formats::acknowledge))]
 #[inline(always)]
 pub(crate) fn read_acknowledge(cursor: Cursor<'_>) -> Result<Message<'_>, Fault>
@@ -20,6 +21,7 @@ pub(crate) fn read_acknowledge(cursor: Cursor<'_>) -> Result<Message<'_>, Fault>
     Ok(Message::Ack)
 }
 
+/// The Status that the operand spells; RFA, RECNUM and STV may be absent.
 #[tactic(auto, unfolding(crate::specs::Formats::status))]
 #[inline(always)]
 pub(crate) fn read_status(mut cursor: Cursor<'_>) -> Result<Message<'_>, Fault>
@@ -37,6 +39,7 @@ pub(crate) fn read_status(mut cursor: Cursor<'_>) -> Result<Message<'_>, Fault>
     })
 }
 
+/// The Control that the operand spells.
 #[tactic(auto, unfolding(crate::specs::Formats::control))]
 #[inline(always)]
 pub(crate) fn read_control(mut cursor: Cursor<'_>) -> Result<Message<'_>, Fault>
@@ -61,6 +64,7 @@ pub(crate) fn read_control(mut cursor: Cursor<'_>) -> Result<Message<'_>, Fault>
     }))
 }
 
+/// The Attributes that the operand spells.
 #[tactic(auto, unfolding(crate::specs::Formats::attributes, crate::specs::Inner::Attributes::later_attributes))]
 #[inline(always)]
 pub(crate) fn read_attributes(mut cursor: Cursor<'_>) -> Result<Message<'_>, Fault>
@@ -131,6 +135,7 @@ fn read_later_attributes<'a>(
     }))
 }
 
+/// The Config that the operand spells.
 #[tactic(auto, unfolding(crate::specs::Formats::configuration))]
 #[inline(always)]
 pub(crate) fn read_configuration(mut cursor: Cursor<'_>) -> Result<Message<'_>, Fault>
@@ -158,6 +163,7 @@ pub(crate) fn read_configuration(mut cursor: Cursor<'_>) -> Result<Message<'_>, 
     })
 }
 
+/// The Access that the operand spells; the fields behind FILESPEC may be absent.
 #[tactic(auto, unfolding(crate::specs::Formats::access))]
 #[inline(always)]
 pub(crate) fn read_access(mut cursor: Cursor<'_>) -> Result<Message<'_>, Fault>
@@ -181,6 +187,7 @@ pub(crate) fn read_access(mut cursor: Cursor<'_>) -> Result<Message<'_>, Fault>
     })
 }
 
+/// The Continue Transfer that the operand spells.
 #[tactic(auto, unfolding(crate::specs::Formats::continuation))]
 #[inline(always)]
 pub(crate) fn read_continuation(mut cursor: Cursor<'_>) -> Result<Message<'_>, Fault>
@@ -190,6 +197,7 @@ pub(crate) fn read_continuation(mut cursor: Cursor<'_>) -> Result<Message<'_>, F
     Ok(Message::Contran { func })
 }
 
+/// The Access Complete that the operand spells; FOP and the checksum may be absent.
 #[tactic(auto, unfolding(crate::specs::Formats::completion))]
 #[inline(always)]
 pub(crate) fn read_completion(mut cursor: Cursor<'_>) -> Result<Message<'_>, Fault>
@@ -201,6 +209,7 @@ pub(crate) fn read_completion(mut cursor: Cursor<'_>) -> Result<Message<'_>, Fau
     Ok(Message::Accomp { func, fop, check })
 }
 
+/// The Filedata that the operand spells: all that stands behind RECNUM is its payload.
 #[tactic(auto, unfolding(crate::specs::Formats::file_data))]
 #[inline(always)]
 pub(crate) fn read_file_data(mut cursor: Cursor<'_>) -> Result<Message<'_>, Fault>
@@ -213,6 +222,7 @@ pub(crate) fn read_file_data(mut cursor: Cursor<'_>) -> Result<Message<'_>, Faul
     })
 }
 
+/// The message of another type, with its operand as it stands.
 #[tactic(auto, unfolding(crate::specs::Formats::other))]
 #[inline(always)]
 pub(crate) fn read_other(number: u8, cursor: Cursor<'_>) -> Result<Message<'_>, Fault>

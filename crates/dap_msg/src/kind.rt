@@ -154,10 +154,12 @@ pub(crate) trait Number: Copy {
 
     ghost most: { ℕ };
 
+    /// The integer of this value.
     fn of(value: u128) -> Self
         requires { value < 128 ^ most }
         ensures { number result ≡ value };
 
+    /// The value of the integer.
     fn wide(self) -> u128
         ensures { result ≡ number self };
 

@@ -24,7 +24,7 @@ mod message;
 mod reading;
 mod status;
 
-pub use blocking::{append_blocked, append_message, blocks_in_steps};
+pub use blocking::{append_blocked, append_counted, append_message, blocks_in_steps};
 pub use both_ends::{
     GREATEST_MESSAGE, LEAST_BUFFER, is_too_small, limit_of, names_the_limits, number_of,
 };

@@ -68,6 +68,7 @@ pub fn push_hex(text: &mut Vec<u8>, bytes: &[u8]) -> Result<(), AllocError>
     }
 }
 
+/// Appends at most 8 bytes as lower hex digits.
 fn push_few(text: &mut Vec<u8>, bytes: &[u8]) -> Result<(), AllocError>
     requires { length bytes.now ≤ 8 }
     ensures { OnOk result (Adds text.old text.new (encode_lower bytes.now)) }
@@ -80,6 +81,7 @@ fn push_few(text: &mut Vec<u8>, bytes: &[u8]) -> Result<(), AllocError>
     text.extend_from_slice(digits)
 }
 
+/// Appends any number of bytes as lower hex digits.
 fn push_many(text: &mut Vec<u8>, bytes: &[u8]) -> Result<(), AllocError>
     ensures { OnOk result (Adds text.old text.new (encode_lower bytes.now)) }
 {

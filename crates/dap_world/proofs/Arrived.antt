@@ -9,7 +9,7 @@ use Rattle.dap_msg.specs.Message.{Message}
 use Rattle.dap_msg.specs.Canon.{canon}
 use Rattle.dap_msg.specs.Blocked.{NspMessage, joined, all_joined, messages_in, AllFit}
 use Rattle.nsp_link.specs.Cutting.{cut, count_of}
-use Rattle.nsp_link.specs.Link.{LinkValue, IsWhole}
+use Rattle.nsp_link.specs.Link.{LinkValue, IsWhole, with_inbox}
 use Rattle.dap_world.specs.Machine.{arrived}
 use Rattle.dap_world.specs.Inner.Sides.{SideValue, port_of, side_of}
 use Rattle.dap_world.specs.Inner.Ways.{IsWay}
@@ -114,7 +114,7 @@ pub record Next (from to : SideValue) (packets : List NspMessage) (count : ℕ) 
   pub behind : to.place ≡ length (joined begun)
   pub way : IsWay from to.link handed (all_joined gone)
   pub fit : AllFit (begun ++ m ∷ more)
-  pub next : slice_get (messages_in (arrived from.link.seg_size to.link.received (take from.posted packets))) count ≡ Some m
+  pub next : slice_get (messages_in (arrived from.link.setup.seg_size to.link.coming.received (take from.posted packets))) count ≡ Some m
 
 -- what an NSP message has, where the first messages were handled
 record Opened (begun : List Message) (p : NspMessage) : Type 0 where
@@ -168,17 +168,17 @@ module _ (from to : SideValue) (packets : List NspMessage) (count : ℕ) (h : Is
   handed_are = handed-bytes from.posted h.handed from.outbox packets h.posted h.bytes
 
   -- what was given away and waits is a front of what was handed over
-  given_and : all_joined h.gone ++ to.link.inbox ≡ take h.way.stands.taken.count (all_joined h.gone ++ all_joined h.among.rest)
+  given_and : all_joined h.gone ++ to.link.coming.inbox ≡ take h.way.stands.taken.count (all_joined h.gone ++ all_joined h.among.rest)
   given_and =
       h.way.stands.taken.inbox ∙ ap (take h.way.stands.taken.count) (handed_are ∙ ap all_joined h.among.split ∙ map-append joined h.gone h.among.rest)
 
-  came_whole : arrived from.link.seg_size to.link.received (take from.posted packets) ≡ take h.way.stands.taken.count (take from.posted packets)
+  came_whole : arrived from.link.setup.seg_size to.link.coming.received (take from.posted packets) ≡ take h.way.stands.taken.count (take from.posted packets)
   came_whole =
-      arrived_is from.link.seg_size to.link.received h.way.stands.taken.count (take from.posted packets)
-      (subst (λ (l : List (List ℕ)). IsWhole from.link.seg_size l to.link.received h.way.stands.taken.count) handed_are h.way.stands.taken.whole)
+      arrived_is from.link.setup.seg_size to.link.coming.received h.way.stands.taken.count (take from.posted packets)
+      (subst (λ (l : List (List ℕ)). IsWhole from.link.setup.seg_size l to.link.coming.received h.way.stands.taken.count) handed_are h.way.stands.taken.whole)
 
   -- the oldest that waits has the next message
-  pub find_next : (bytes : List ℕ) (later : List (List ℕ)) → AreFull (take from.posted packets) → AllFit (messages_in (take from.posted packets)) → to.link.inbox ≡ bytes ∷ later → Next from to packets count bytes
+  pub find_next : (bytes : List ℕ) (later : List (List ℕ)) → AreFull (take from.posted packets) → AllFit (messages_in (take from.posted packets)) → to.link.coming.inbox ≡ bytes ∷ later → Next from to packets count bytes
   find_next bytes later full fit inbox =
       let c = h.way.stands.taken.count in
       let front = front_of (all_joined h.gone) later (all_joined h.among.rest) bytes c (subst (λ (l : List (List ℕ)). all_joined h.gone ++ l ≡ take c (all_joined h.gone ++ all_joined h.among.rest)) inbox given_and) in
@@ -212,7 +212,7 @@ module _ (from to : SideValue) (packets : List NspMessage) (count : ℕ) (h : Is
       }
 
   -- nothing waits: there is no next message
-  pub none_next : to.link.inbox ≡ [] → slice_get (messages_in (arrived from.link.seg_size to.link.received (take from.posted packets))) count ≡ None
+  pub none_next : to.link.coming.inbox ≡ [] → slice_get (messages_in (arrived from.link.setup.seg_size to.link.coming.received (take from.posted packets))) count ≡ None
   none_next empty =
       let c = h.way.stands.taken.count in
       let some = h.way.stands.taken.whole.some in
@@ -234,8 +234,8 @@ abbrev pub handled_side : SideValue → (bytes : List ℕ) (later : List (List �
 handled_side s bytes later next = side_of (gone_on (port_of s) bytes later next) s.posted s.wire
 
 -- the oldest left the inbox: it is given away
-gave : (from : SideValue) (v : LinkValue) (given messages : List (List ℕ)) (bytes : List ℕ) (later : List (List ℕ)) → v.inbox ≡ bytes ∷ later → IsWay from v messages given
-    → IsWay from (record v { inbox = later }) messages (given ++ bytes ∷ [])
+gave : (from : SideValue) (v : LinkValue) (given messages : List (List ℕ)) (bytes : List ℕ) (later : List (List ℕ)) → v.coming.inbox ≡ bytes ∷ later → IsWay from v messages given
+    → IsWay from (with_inbox v later) messages (given ++ bytes ∷ [])
 gave from v given messages bytes later inbox way =
     record {
       size = way.size;
@@ -261,7 +261,7 @@ gave from v given messages bytes later inbox way =
 told_by_more : (from to : SideValue) (packets : List NspMessage) (count : ℕ) (bytes : List ℕ) (later : List (List ℕ)) (next : ℕ) (told : IsTold from to packets count)
     (handed : List (List ℕ)) → from.posted ≡ length handed → handed ++ from.outbox ≡ all_joined packets → (gone rest : List NspMessage) (begun more : List Message) (m : Message) → take from.posted packets ≡ gone ++ (begun ++ m ∷ more) ∷ rest → bytes ≡ joined (begun ++ m ∷ more)
     → count ≡ length (messages_in gone) + length begun → IsWay from to.link handed (all_joined gone) → AllFit (begun ++ m ∷ more)
-    → to.link.inbox ≡ bytes ∷ later → length (joined begun) + length (canon m) ≡ next → IsTold from (handled_side to bytes later next) packets (count + 1)
+    → to.link.coming.inbox ≡ bytes ∷ later → length (joined begun) + length (canon m) ≡ next → IsTold from (handled_side to bytes later next) packets (count + 1)
 told_by_more from to packets count bytes later next told handed posted handed_are gone rest begun [] m split bytes_are handled way fit inbox goes =
     let p = begun ++ m ∷ [] in
     let end : next ≡ length bytes = sym (ap length bytes_are ∙ ends_at begun [] m ∙ (omega (arith, goes))) in
@@ -278,7 +278,7 @@ told_by_more from to packets count bytes later next told handed posted handed_ar
         behind = refl;
         stays = inl refl;
       };
-      way = subst (λ (l : List (List ℕ)). IsWay from (record to.link { inbox = later }) handed l) (ap (λ (b : List ℕ). all_joined gone ++ b ∷ []) bytes_are ∙ sym (map-append joined gone (p ∷ [])))
+      way = subst (λ (l : List (List ℕ)). IsWay from (with_inbox to.link later) handed l) (ap (λ (b : List ℕ). all_joined gone ++ b ∷ []) bytes_are ∙ sym (map-append joined gone (p ∷ [])))
           (gave from to.link (all_joined gone) handed bytes later inbox way);
       bytes = handed_are;
       fit = told.fit;
@@ -308,6 +308,6 @@ told_by_more from to packets count bytes later next told handed posted handed_ar
     })
 
 pub handled_one : (from to : SideValue) (packets : List NspMessage) (count : ℕ) (bytes : List ℕ) (later : List (List ℕ)) (next : ℕ) → IsTold from to packets count → (n : Next from to packets count bytes)
-    → to.link.inbox ≡ bytes ∷ later → length (joined n.begun) + length (canon n.m) ≡ next → IsTold from (handled_side to bytes later next) packets (count + 1)
+    → to.link.coming.inbox ≡ bytes ∷ later → length (joined n.begun) + length (canon n.m) ≡ next → IsTold from (handled_side to bytes later next) packets (count + 1)
 handled_one from to packets count bytes later next told n inbox goes =
     told_by_more from to packets count bytes later next told n.handed n.posted n.handed_are n.gone n.rest n.begun n.more n.m n.split n.bytes_are n.handled n.way n.fit inbox goes

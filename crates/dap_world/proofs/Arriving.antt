@@ -16,7 +16,7 @@ use Rattle.dap_world.specs.Inner.Ways.{IsWay, is_old_wired}
 -- A packet is no further ahead than the numbers tell, makes no more than 2^40 segments taken, and acknowledges nothing
 -- that was never sent.
 pub record IsNear (v : LinkValue) (w : Wired) : Type 0 where
-  pub segment : IfSome w.segment (λ k. k ≤ v.received + largest_window)
+  pub segment : IfSome w.segment (λ k. k ≤ v.coming.received + largest_window)
   pub few : taken_after v w.segment ≤ most_segments
   pub acks : w.acks ≤ v.sent
 
@@ -53,24 +53,26 @@ neither true b e = let no : ⊥ = cc in absurd no
 
 -- the j-th packet is due unless it is stale
 pub due : (from : SideValue) (v : LinkValue) (messages given : List (List ℕ)) (j : ℕ) (w : Wired)
-    → IsWay from v messages given → AllNear v from.wire → slice_get from.wire j ≡ Some w → is_old_wired v w ≡ false → IsDueAs v from.link.seg_size messages given w
+    → IsWay from v messages given → AllNear v from.wire → slice_get from.wire j ≡ Some w → is_old_wired v w ≡ false → IsDueAs v from.link.setup.seg_size messages given w
 due from v messages given j w way near at young =
-    let written = written_spells from.link.local from.link.remote (cut from.link.seg_size messages) w.segment w.acks w.packet.items (all_at _ from.wire j w way.wire at) in
+    let written = written_spells from.link.setup.local from.link.setup.remote (cut from.link.setup.seg_size messages) w.segment w.acks w.packet.items (all_at _ from.wire j w way.wire at) in
     let close : IsNear v w = all_at (IsNear v) from.wire j w near at in
-    let both = neither (is_old_segment v.received w.segment) (is_old w.acks v.acked) young in
+    let both = neither (is_old_segment v.coming.received w.segment) (is_old w.acks v.acked) young in
     record {
       value = written.0;
       spelled = written.1;
-      due = record {
-        running = way.listening;
-        positive = way.size;
-        stands = way.stands;
-        short = way.short;
-        way = between from.link.local from.link.remote v.remote v.local written.0 way.there way.back written.2;
-        carries = written.3;
-        fresh = (young_segment v.received w.segment both.0, young_ack w.acks v.acked both.1);
-        near = close.segment;
-        believable = close.acks;
-      };
+      due = (
+        way.listening,
+        way.stands,
+        record {
+          positive = way.size;
+          short = way.short;
+          way = between from.link.setup.local from.link.setup.remote v.setup.remote v.setup.local written.0 way.there way.back written.2;
+          carries = written.3;
+          fresh = (young_segment v.coming.received w.segment both.0, young_ack w.acks v.acked both.1);
+          near = close.segment;
+          believable = close.acks;
+        },
+      );
       few = close.few;
     }

@@ -5,7 +5,6 @@ use Rattle.std.proofs.lemmas.List.{drop-append-le, length-append, length-map, ta
 use Rattle.std.proofs.lemmas.List.Elements.{All-cons}
 use Rattle.dap_msg.specs.Message.{Message}
 use Rattle.dap_msg.specs.Items.{Item, Whole}
-use Rattle.dap_msg.specs.Canon.{canon}
 use Rattle.dap_msg.specs.Blocked.{NspMessage, joined, Blocked, all_joined, messages_in, AllFit, AllWithin}
 use Rattle.dap_msg.proofs.ForCallers.{messages_in-Blocked, within_limit}
 use Rattle.dap_accessed.specs.Standing as at
@@ -78,7 +77,7 @@ asking_is s r h m =
     let reports = reports_of s.own_a s.own_b s.requests in
     let same : reported s ≡ reports = ap (Told s.requests) all in
     ap (λ (l : List Report). Blocked (limit_after l) (messages_of s.own_a r)) same
-    ∙ same-blocked s.own_a s.own_b (phase_after reports) standing.place standing.limit (limit_after reports) r agree.places (ap (λ (l : List Report). phase_fits (phase_after l) r) (sym same) ∙ m.1)
+    ∙ same-blocked s.own_a s.own_b (phase_after reports) standing.place standing.scene.limit (limit_after reports) r agree.places (ap (λ (l : List Report). phase_fits (phase_after l) r) (sym same) ∙ m.1)
 
 -- ---- None is too long.
 
@@ -94,7 +93,7 @@ request-blocked own_a own_b a b rs all = λ r m.
     let agree = both-agree own_a own_b a b rs all in
     let standing = (stands_after own_b [] (items_of own_a rs)).standing in
     let reports = reports_of own_a own_b rs in
-    subst (λ (l : List NspMessage). AllAtMost own_b (all_joined l)) (sym (same-blocked own_a own_b (phase_after reports) standing.place standing.limit (limit_after reports) r agree.places m.1))
+    subst (λ (l : List NspMessage). AllAtMost own_b (all_joined l)) (sym (same-blocked own_a own_b (phase_after reports) standing.place standing.scene.limit (limit_after reports) r agree.places m.1))
     (blocked-within own_b own_b (messages_of own_a r) (omega arith) (messages-within own_a own_b a b rs all r m))
 
 -- ---- No report comes of a request alone.
@@ -150,20 +149,20 @@ module _ (p : Parts) (h : AreParts p) (r : Request) (m : IsAdmissible p.accessin
       let admissible : IsAdmissible p.accessing.own p.requests (map Whole (answers_to p.accessing.own p.accessed.own p.requests)) r =
       subst (λ (l : List Item). IsAdmissible p.accessing.own p.requests l r) (all-answers s r h.world m) m in
       let within = messages-within p.accessing.own p.accessed.own h.world.own_a h.world.own_b p.requests h.world.admissible r admissible in
-      let short : AreShort p.a.link.max_message more =
-      subst (AreShort p.a.link.max_message) (sym more_is)
-      (short-packets p.accessed.own p.a.link.max_message block h.limit_b (within_limit p.accessed.own (messages_of p.accessing.own r)) (subst (AreWithin p.accessed.own) (sym all) within)) in
+      let short : AreShort p.a.link.setup.max_message more =
+      subst (AreShort p.a.link.setup.max_message) (sym more_is)
+      (short-packets p.accessed.own p.a.link.setup.max_message block h.limit_b (within_limit p.accessed.own (messages_of p.accessing.own r)) (subst (AreWithin p.accessed.own) (sym all) within)) in
       let fit : AllFit (messages_in block) = subst AllFit (sym all) (sendable-fit _ (messages_of p.accessing.own r) m.2) in
       record {
         world = subst IsWorld (sym state) world;
-        alike = record { here = h.alike.here; there = h.alike.there; size = h.alike.size; window = h.alike.window; limit = h.alike.limit };
+        alike = h.alike;
         limit_a = h.limit_a;
         limit_b = h.limit_b;
         most = h.most;
         from_a = subst (λ (l : List NspMessage). IsTold (record p.a { outbox = outbox }) p.b l p.served) (sym (asked-more p.accessing.own p.accessed.own p.requests r))
-            (told_more p.a p.b (asks p) block p.served p.a.link.inbox p.a.place outbox more h.from_a refl more_is fit short);
+            (told_more p.a p.b (asks p) block p.served p.a.link.coming.inbox p.a.place outbox more h.from_a refl more_is fit short);
         from_b = subst (λ (l : List NspMessage). IsTold p.b (record p.a { outbox = outbox }) l p.read) (sym answers_same) h.from_b;
-        sent_is = h.sent_is ∙ ap (λ (x : State). map canon (messages_in x.a.handed)) (sym state);
+        handed_is = h.handed_is ∙ ap (λ (x : State). all_joined x.a.handed) (sym state);
         reports_is = h.reports_is ∙ sym (same_told p.requests (answers_read s) p.accessing r h.asking.1.asking m.0) ∙ ap reported (sym state);
         asking = subst (λ (x : State). IsAskedAll (asking_end (q_of outbox after)) (p.requests ++ r ∷ []) (answers_read x)) (sym state) asking;
         serving = subst (λ (x : State). IsServedAll (serving_end p) (map Whole (taken_of x))) (sym state) h.serving;
@@ -180,7 +179,7 @@ refused_by p r ask_fault.NoMemory h f refused = absurd (f refl)
 refused : (p : Parts) (r : Request) (f : WorldFault) → AreParts p → AskFaultOf r p.accessing f → Went (state_of p) (event.Ask r) (Err f) (state_of p)
 unfolding Steps Refuses
 refused p r (fault.Ask f) h why = (refused_by p r f h why.0 why.1, refl)
-refused p r fault.NoMemory h may = (((_, _, asks_one p r (may p.requests (answers_read (state_of p)) h.asking.1.asking)), λ t. t), refl)
+refused p r fault.NoMemory h may = ((_, _, asks_one p r (may p.requests (answers_read (state_of p)) h.asking.1.asking), tt), refl)
 refused p r fault.NoSuchPacket h never = absurd never
 refused p r fault.Stale h never = absurd never
 refused p r fault.NothingToDo h never = absurd never

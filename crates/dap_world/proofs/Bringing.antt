@@ -11,9 +11,8 @@ use Rattle.dap_world.specs.Machine.{Refuses, State, EndState, Sending, end_of, w
 use Rattle.dap_msg.specs.Blocked.{NspMessage}
 use Rattle.dap_world.specs.Runs.{Went}
 use Rattle.dap_world.specs.Inner.Worlds.{IsWorld}
-use Rattle.dap_world.specs.Settling.{RanBy, RanTo, unacked}
-use Rattle.dap_world.specs.Inner.Settling.{SameBut}
-use Rattle.dap_world.specs.Inner.Settling.{Brought}
+use Rattle.dap_world.specs.Settling.{RanBy, unacked}
+use Rattle.dap_world.specs.Inner.Settling.{Brought, RanTo, SameBut}
 use Rattle.dap_world.proofs.Kept.{back, came_in, direction, now_at, other_still, still_at, twice}
 use Rattle.dap_world.proofs.Settles.{ran_none, ran_one, ran_both, at_last, is_same, took}
 

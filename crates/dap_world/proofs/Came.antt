@@ -5,8 +5,10 @@ use Rattle.std.specs.Option.{option_map}
 use Rattle.std.proofs.lemmas.Option.{slice_get-map}
 use Rattle.std.proofs.lemmas.Bool.{cases_lt, cases_eq, ne_eqb}
 use Rattle.nsp_link.specs.Cutting.{Piece, cut}
-use Rattle.nsp_link.specs.Holding.{closed_up, numbers, following}
-use Rattle.nsp_link.specs.Limits.{most_segments, largest_window}
+use Rattle.nsp_link.specs.Holding.{closed_up, following}
+use Rattle.std.specs.Map.{keys_of}
+use Rattle.nsp_link.specs.Limits.{most_segments, largest_window, largest_limit}
+use Rattle.nsp_link.specs.declared.link.LinkSetup.{LinkSetup}
 use Rattle.nsp_link.specs.Link.{LinkValue, Sends, Delivered, Keeps, MayRefuse, got_of, taken_after, held_after}
 use Rattle.nsp_link.specs.declared.link.Got.{Got}
 use Rattle.nsp_link.specs.declared.fault.LinkFault.{LinkFault}
@@ -14,7 +16,7 @@ use Rattle.dap_end.specs.Ports.{PortValue, with_link as port_with}
 use Rattle.nsp_link.specs.Receiving.{Receives}
 use Rattle.dap_end.specs.Asking.{AskingValue, HasStill}
 use Rattle.dap_end.specs.Serving.{ServingValue, IsStill}
-use Rattle.nsp_link.proofs.ForCallers.{closes, keeps}
+use Rattle.nsp_link.proofs.ForCallers.{closes, keeps, IsDelivered, is_delivered}
 use Rattle.dap_world.specs.declared.event.End.{End}
 use Rattle.dap_world.specs.declared.event.End.TheVariants.{A, B}
 use Rattle.dap_world.specs.declared.event.Event.TheVariants as event
@@ -22,14 +24,14 @@ use Rattle.dap_world.specs.declared.event.Step.{Step}
 use Rattle.dap_world.specs.declared.event.Step.TheVariants as step
 use Rattle.dap_world.specs.declared.event.WorldFault.{WorldFault}
 use Rattle.dap_world.specs.declared.event.WorldFault.TheVariants as fault
-use Rattle.dap_world.specs.Machine.{reported, State, EndState, Sending, other, end_of, with_end, is_stale, came, delivered, Steps, Refuses}
-use Rattle.dap_world.specs.Runs.{TakesNoMemory, Went}
+use Rattle.dap_world.specs.Machine.{reported, State, EndState, other, end_of, with_end, is_stale, came, delivered, Steps, Refuses}
+use Rattle.dap_world.specs.Runs.{TakesMemory, Went}
 use Rattle.dap_world.specs.Inner.Worlds.{IsWorld, AreTrue, AreEarly, WasSent}
 use Rattle.dap_world.specs.declared.side.Wired.{Wired}
 use Rattle.dap_world.specs.Wires.{sending_of}
 use Rattle.dap_world.specs.Inner.Sides.{SideValue, port_of, side_of}
 use Rattle.dap_world.specs.Inner.Ways.{IsWay, Delivery, NotDue, delivered_as, is_old_wired}
-use Rattle.dap_world.specs.Inner.Parts.{Parts, AreParts, asks, answers, asking_end, serving_end, end_state, state_of, side, with_side}
+use Rattle.dap_world.specs.Inner.Parts.{Parts, AreParts, AreAlike, asks, answers, asking_end, serving_end, end_state, state_of, side, with_side}
 use Rattle.dap_msg.specs.Blocked.{NspMessage}
 use Rattle.dap_world.proofs.Counting.{segments-handed}
 use Rattle.dap_world.proofs.Directions.{closed}
@@ -41,60 +43,60 @@ use Rattle.dap_world.proofs.Wrote.{AreAfter, AreThen, StaysAt, asking_parts, ser
 -- ---- What is near.
 
 -- what is taken once the segment came was sent
-taken_sent : (v : LinkValue) (k : Option ℕ) (sent : ℕ) → WasSent sent k → v.received ≤ sent → AreEarly (v.received + 1) sent (numbers v.held) → taken_after v k ≤ sent
+taken_sent : (v : LinkValue) (k : Option ℕ) (sent : ℕ) → WasSent sent k → v.coming.received ≤ sent → AreEarly (v.coming.received + 1) sent (keys_of v.held) → taken_after v k ≤ sent
 taken_sent v None sent was le early = le
 taken_sent v (Some k) sent was le early =
-    elim (cases_eq k (v.received + 1)) [
+    elim (cases_eq k (v.coming.received + 1)) [
       | inl same ↦
-          let c = closed (numbers v.held) k sent was.1 (subst (λ (n : ℕ). AreEarly n sent (numbers v.held)) (sym same) early) in
-          let goes : (closed_up k (numbers v.held)).0 ≡ k + length (following k v.held) = ap (λ (x : ℕ × List ℕ). x.0) (closes k v.held) in
-          rw (eq-eqb k (v.received + 1) same) (omega (arith, c.1, goes))
-      | inr apart ↦ rw (ne_eqb k (v.received + 1) apart) le
+          let c = closed (keys_of v.held) k sent was.1 (subst (λ (n : ℕ). AreEarly n sent (keys_of v.held)) (sym same) early) in
+          let goes : (closed_up k (keys_of v.held)).0 ≡ k + length (following k v.held) = ap (λ (x : ℕ × List ℕ). x.0) (closes k v.held) in
+          rw (eq-eqb k (v.coming.received + 1) same) (omega (arith, c.1, goes))
+      | inr apart ↦ rw (ne_eqb k (v.coming.received + 1) apart) le
     ]
 
 near_one : (k : Option ℕ) (sent n : ℕ) → WasSent sent k → sent ≤ n → IfSome k (λ k. k ≤ n)
 near_one None sent n was le = tt
 near_one (Some k) sent n was le = omega (arith, was.1)
 
-near_all : (v : LinkValue) (sent acked : ℕ) (wire : List Wired) → AreTrue sent acked (map sending_of wire) → sent ≤ v.received + largest_window → sent ≤ most_segments → acked ≤ v.sent
-    → v.received ≤ sent → AreEarly (v.received + 1) sent (numbers v.held) → AllNear v wire
+near_all : (v : LinkValue) (sent acked : ℕ) (wire : List Wired) → AreTrue sent acked (map sending_of wire) → sent ≤ v.coming.received + largest_window → sent ≤ most_segments → acked ≤ v.sent
+    → v.coming.received ≤ sent → AreEarly (v.coming.received + 1) sent (keys_of v.held) → AllNear v wire
 near_all v sent acked [] h near few le low early = tt
 near_all v sent acked (w ∷ wire) h near few le low early =
     let most = taken_sent v w.segment sent h.0 low early in (
-      record { segment = near_one w.segment sent (v.received + largest_window) h.0 near; few = omega (arith, most, few); acks = omega (arith, h.1) },
+      record { segment = near_one w.segment sent (v.coming.received + largest_window) h.0 near; few = omega (arith, most, few); acks = omega (arith, h.1) },
       near_all v sent acked wire h.2 near few le low early,
     )
 
 pub all_near : (p : Parts) (end : End) → AreParts p → AllNear (side p end).link (side p (other end)).wire
 all_near p A h =
-    let there = segments-handed p.a.link.seg_size p.b.posted h.from_b.handed p.b.outbox (answers p) h.from_b.posted h.from_b.bytes in
+    let there = segments-handed p.a.link.setup.seg_size p.b.posted h.from_b.handed p.b.outbox (answers p) h.from_b.posted h.from_b.bytes in
     let few : length _ ≤ most_segments = subst (λ (n : ℕ). length (cut n h.from_b.handed) ≤ most_segments) h.alike.size h.from_b.way.few in
     let counts = h.world.from_b.counts in
     let back = h.world.from_a.counts in
-    near_all p.a.link p.b.link.sent p.b.link.received p.b.wire h.world.from_b.wire
+    near_all p.a.link p.b.link.sent p.b.link.coming.received p.b.wire h.world.from_b.wire
     (omega (arith, counts.within_window, counts.acked_taken, h.world.window)) (omega (arith, counts.sent_there, there, few)) (omega (arith, back.taken_sent)) counts.taken_sent h.world.from_b.early
 all_near p B h =
-    let there = segments-handed p.a.link.seg_size p.a.posted h.from_a.handed p.a.outbox (asks p) h.from_a.posted h.from_a.bytes in
+    let there = segments-handed p.a.link.setup.seg_size p.a.posted h.from_a.handed p.a.outbox (asks p) h.from_a.posted h.from_a.bytes in
     let few = h.from_a.way.few in
     let counts = h.world.from_a.counts in
     let back = h.world.from_b.counts in
-    near_all p.b.link p.a.link.sent p.a.link.received p.a.wire h.world.from_a.wire
+    near_all p.b.link p.a.link.sent p.a.link.coming.received p.a.wire h.world.from_a.wire
     (omega (arith, counts.within_window, counts.acked_taken, h.world.window)) (omega (arith, counts.sent_there, there, few)) (omega (arith, back.taken_sent)) counts.taken_sent h.world.from_a.early
 
 -- ---- What comes.
 
 -- the machine takes in what the link does, and keeps what it keeps
-came_is : (v : LinkValue) (k : Option ℕ) (p : Piece) → IfSome k (λ n. n < v.received + 1 + v.window)
-    → came true v.received (numbers v.held) k ≡ (taken_after v k, numbers (held_after v k p))
+came_is : (v : LinkValue) (k : Option ℕ) (p : Piece) → IfSome k (λ n. n < v.coming.received + 1 + v.setup.window)
+    → came true v.coming.received (keys_of v.held) k ≡ (taken_after v k, keys_of (held_after v k p))
 came_is v None p near = refl
 came_is v (Some k) p near =
-    elim (cases_eq k (v.received + 1)) [
-      | inl same ↦ rw (eq-eqb k (v.received + 1) same) (closes k v.held)
-      | inr apart ↦ elim (cases_lt v.received k) [
+    elim (cases_eq k (v.coming.received + 1)) [
+      | inl same ↦ rw (eq-eqb k (v.coming.received + 1) same) (closes k v.held)
+      | inr apart ↦ elim (cases_lt v.coming.received k) [
         | inl lt ↦
-            let below : nat_lt k (v.received + 1 + v.window) ≡ true = lt-ltb k (v.received + 1 + v.window) near in
-            rw (ne_eqb k (v.received + 1) apart, lt-ltb v.received k lt, below) (ap (λ (l : List ℕ). (v.received, l)) (sym (keeps k p v.held)))
-        | inr le ↦ rw (ne_eqb k (v.received + 1) apart, le-ltb v.received k le) refl
+            let below : nat_lt k (v.coming.received + 1 + v.setup.window) ≡ true = lt-ltb k (v.coming.received + 1 + v.setup.window) near in
+            rw (ne_eqb k (v.coming.received + 1) apart, lt-ltb v.coming.received k lt, below) (ap (λ (l : List ℕ). (v.coming.received, l)) (sym (keeps k p v.held)))
+        | inr le ↦ rw (ne_eqb k (v.coming.received + 1) apart, le-ltb v.coming.received k le) refl
       ]
     ]
 
@@ -108,15 +110,15 @@ true_at (x ∷ wire) zero w n t h e = let same : x ≡ w = cc in subst (λ (x : 
 true_at (x ∷ wire) (suc j) w n t h e = true_at wire j w n t h.2 e
 
 -- every segment on the wire is below the window of the link to which it goes
-below : (p : Parts) (end : End) (j : ℕ) (w : Wired) → AreParts p → slice_get (side p (other end)).wire j ≡ Some w → IfSome w.segment (λ n. n < (side p end).link.received + 1 + (side p end).link.window)
+below : (p : Parts) (end : End) (j : ℕ) (w : Wired) → AreParts p → slice_get (side p (other end)).wire j ≡ Some w → IfSome w.segment (λ n. n < (side p end).link.coming.received + 1 + (side p end).link.setup.window)
 below p A j w h at =
     let counts = h.world.from_b.counts in
-    below_one w.segment p.b.link.sent (p.a.link.received + 1 + p.a.link.window) (true_at p.b.wire j w p.b.link.sent p.b.link.received h.world.from_b.wire at)
+    below_one w.segment p.b.link.sent (p.a.link.coming.received + 1 + p.a.link.setup.window) (true_at p.b.wire j w p.b.link.sent p.b.link.coming.received h.world.from_b.wire at)
     (omega (arith, counts.within_window, counts.acked_taken))
 below p B j w h at =
     let counts = h.world.from_a.counts in
     let window = h.alike.window in
-    below_one w.segment p.a.link.sent (p.b.link.received + 1 + p.b.link.window) (true_at p.a.wire j w p.a.link.sent p.a.link.received h.world.from_a.wire at)
+    below_one w.segment p.a.link.sent (p.b.link.coming.received + 1 + p.b.link.setup.window) (true_at p.a.wire j w p.a.link.sent p.a.link.coming.received h.world.from_a.wire at)
     (omega (arith, counts.within_window, counts.acked_taken, window))
 
 at_wire : (wire : List Wired) (j : ℕ) (o : Option Wired) → slice_get wire j ≡ o → slice_get (map sending_of wire) j ≡ option_map sending_of o
@@ -134,16 +136,16 @@ abbrev with_link : Parts → End → LinkValue → Parts
 with_link p end v = with_side p end (record (side p end) { link = v })
 
 -- the state after a delivery
-comes_to : (s : SideValue) (packets : List NspMessage) (w : Wired) (v : LinkValue) → IfSome w.segment (λ n. n < s.link.received + 1 + s.link.window) → Delivered s.link v w.segment w.acks
+comes_to : (s : SideValue) (packets : List NspMessage) (w : Wired) (v : LinkValue) → IfSome w.segment (λ n. n < s.link.coming.received + 1 + s.link.setup.window) → IsDelivered s.link v w.segment w.acks
     → delivered true (end_state s packets) (sending_of w) ≡ end_state (record s { link = v }) packets
 comes_to s packets w v near d =
     ap (λ (c : ℕ × List ℕ). record (end_state s packets) { acked = max s.link.acked w.acks; taken = c.0; held = c.1 }) (came_is s.link w.segment d.held.0 near)
     ∙ rw (d.sent, d.acked, d.received, d.held.1) refl
 
-delivered_is : (p : Parts) (end : End) (w : Wired) (v : LinkValue) → IfSome w.segment (λ n. n < (side p end).link.received + 1 + (side p end).link.window)
+delivered_is : (p : Parts) (end : End) (w : Wired) (v : LinkValue) → IfSome w.segment (λ n. n < (side p end).link.coming.received + 1 + (side p end).link.setup.window)
     → Delivered (side p end).link v w.segment w.acks → with_end (state_of p) end (delivered true (end_of (state_of p) end) (sending_of w)) ≡ state_of (with_link p end v)
-delivered_is p A w v near d = ap (λ (e : EndState). with_end (state_of p) A e) (comes_to p.a (asks p) w v near d) ∙ rw (d.seg_size, d.window) refl
-delivered_is p B w v near d = ap (λ (e : EndState). with_end (state_of p) B e) (comes_to p.b (answers p) w v near d)
+delivered_is p A w v near d = ap (λ (e : EndState). with_end (state_of p) A e) (comes_to p.a (asks p) w v near (is_delivered p.a.link v w.segment w.acks d)) ∙ rw (is_delivered p.a.link v w.segment w.acks d).setup refl
+delivered_is p B w v near d = ap (λ (e : EndState). with_end (state_of p) B e) (comes_to p.b (answers p) w v near (is_delivered p.b.link v w.segment w.acks d))
 
 parts_came : (p : Parts) (end : End) (w : Wired) (v : LinkValue) → AreParts p → Delivered (side p end).link v w.segment w.acks
     → ((messages given : List (List ℕ)) → IsWay (side p (other end)) (side p end).link messages given → IsWay (side p (other end)) v messages given)
@@ -151,15 +153,16 @@ parts_came : (p : Parts) (end : End) (w : Wired) (v : LinkValue) → AreParts p 
     → StaysAt p end (record (side p end) { link = v }) → IsWorld (state_of (with_link p end v)) → AreParts (with_link p end v)
 unfolding reported
 parts_came p A w v h d on sends still world =
+    let same = (is_delivered p.a.link v w.segment w.acks d).setup in
     record {
       world = world;
-      alike = record { here = d.local ∙ h.alike.here; there = d.remote ∙ h.alike.there; size = h.alike.size ∙ sym d.seg_size; window = h.alike.window ∙ sym d.window; limit = h.alike.limit ∙ sym d.max_message };
-      limit_a = omega (arith, h.limit_a, d.max_message);
-      limit_b = omega (arith, h.limit_b, d.max_message);
-      most = omega (arith, h.most, d.max_message);
+      alike = subst (λ (s : LinkSetup). AreAlike p.b.link.setup s) (sym same) h.alike;
+      limit_a = subst (λ (s : LinkSetup). p.accessing.own ≤ s.max_message) (sym same) h.limit_a;
+      limit_b = subst (λ (s : LinkSetup). p.accessed.own ≤ s.max_message) (sym same) h.limit_b;
+      most = subst (λ (s : LinkSetup). s.max_message ≤ largest_limit) (sym same) h.most;
       from_a = told_gives (asks p) p.served p.a p.b h.from_a v w.segment w.acks d (sends h.from_a.handed h.from_a.way.sends);
       from_b = told_takes (answers p) p.read p.b p.a h.from_b v on;
-      sent_is = h.sent_is;
+      handed_is = h.handed_is;
       reports_is = h.reports_is;
       asking = (h.asking.0, still _ h.asking.1);
       serving = h.serving;
@@ -167,25 +170,25 @@ parts_came p A w v h d on sends still world =
 parts_came p B w v h d on sends still world =
     record {
       world = world;
-      alike = record { here = h.alike.here; there = h.alike.there; size = d.seg_size ∙ h.alike.size; window = d.window ∙ h.alike.window; limit = d.max_message ∙ h.alike.limit };
+      alike = subst (λ (s : LinkSetup). AreAlike s p.a.link.setup) (sym (is_delivered p.b.link v w.segment w.acks d).setup) h.alike;
       limit_a = h.limit_a;
       limit_b = h.limit_b;
       most = h.most;
       from_a = told_takes (asks p) p.served p.a p.b h.from_a v on;
       from_b = told_gives (answers p) p.read p.b p.a h.from_b v w.segment w.acks d (sends h.from_b.handed h.from_b.way.sends);
-      sent_is = h.sent_is;
+      handed_is = h.handed_is;
       reports_is = h.reports_is;
       asking = h.asking;
       serving = (h.serving.0, still _ h.serving.1);
     }
 
-taken_is : (p : Parts) (end : End) → (end_of (state_of p) end).taken ≡ (side p end).link.received
+taken_is : (p : Parts) (end : End) → (end_of (state_of p) end).taken ≡ (side p end).link.coming.received
 taken_is p A = refl
 taken_is p B = refl
 
 -- it is a step
 steps : (p : Parts) (end : End) (j : ℕ) (w : Wired) → slice_get (side p (other end)).wire j ≡ Some w → is_old_wired (side p end).link w ≡ false
-    → Steps (state_of p) (event.Deliver end j) (step.Delivered (got_of (side p end).link.received w.segment)) (with_end (state_of p) end (delivered true (end_of (state_of p) end) (sending_of w)))
+    → Steps (state_of p) (event.Deliver end j) (step.Delivered (got_of (side p end).link.coming.received w.segment)) (with_end (state_of p) end (delivered true (end_of (state_of p) end) (sending_of w)))
 unfolding Steps
 steps p end j w at young =
     (sending_of w, (there p (other end) j (Some w) at, stale_is p end w ∙ young), ap (λ (n : ℕ). step.Delivered (got_of n w.segment)) (sym (taken_is p end)), refl)
@@ -193,21 +196,13 @@ steps p end j w at young =
 -- the segment is the next, or an early one that the link keeps
 abbrev TakesIn : LinkValue → Option ℕ → Type 0
 TakesIn v None = ⊥
-TakesIn v (Some k) = (k ≡ v.received + 1) ⊎ Keeps v k
+TakesIn v (Some k) = (k ≡ v.coming.received + 1) ⊎ Keeps v k
 
 -- a packet that the link takes in may take memory
-takes_some : (v : LinkValue) (k : Option ℕ) → TakesIn v k → IfSome k (λ n. n ≤ v.received) → ⊥
-takes_some v None t le = t
-takes_some v (Some k) (inl next) le = omega arith
-takes_some v (Some k) (inr keeps) le = omega (arith, keeps.0)
-
-next_takes : (p : Parts) (end : End) (j : ℕ) (w : Wired) → slice_get (side p (other end)).wire j ≡ Some w → TakesIn (side p end).link w.segment → TakesNoMemory (state_of p) (event.Deliver end j) → ⊥
-next_takes p end j w at takes t =
-    let same : Some (sending_of w) ≡ Some t.0 = sym (there p (other end) j (Some w) at) ∙ t.1.0 in
-    let is : sending_of w ≡ t.0 = cc in
-    let le : IfSome w.segment (λ n. n ≤ (side p end).link.received) =
-    subst (λ (n : ℕ). IfSome w.segment (λ k. k ≤ n)) (taken_is p end) (subst (λ (x : Sending). IfSome x.segment (λ k. k ≤ (end_of (state_of p) end).taken)) (sym is) t.2) in
-    takes_some (side p end).link w.segment takes le
+takes_some : (v : LinkValue) (k : Option ℕ) → TakesIn v k → TakesMemory (step.Delivered (got_of v.coming.received k))
+takes_some v None takes = absurd takes
+takes_some v (Some k) (inl next) = rw (eq-eqb k (v.coming.received + 1) next) tt
+takes_some v (Some k) (inr keeps) = rw (ne_eqb k (v.coming.received + 1) (λ same. omega (arith, same, keeps.0)), lt-ltb v.coming.received k (omega (arith, keeps.0))) tt
 
 -- only memory was wanting
 not_exhausted : (v : LinkValue) (k : Option ℕ) (f : LinkFault) → taken_after v k ≤ most_segments → MayRefuse v k f → TakesIn v k
@@ -239,7 +234,7 @@ went_not p end j fault.Exhausted never = absurd never
 went_not p end j fault.BadSetup never = absurd never
 
 module _ (p : Parts) (end : End) (j : ℕ) (h : AreParts p) (w : Wired) (at : slice_get (side p (other end)).wire j ≡ Some w) (young : is_old_wired (side p end).link w ≡ false) where
-  due_so : (messages given : List (List ℕ)) → IsWay (side p (other end)) (side p end).link messages given → IsDueAs (side p end).link (side p (other end)).link.seg_size messages given w
+  due_so : (messages given : List (List ℕ)) → IsWay (side p (other end)) (side p end).link messages given → IsDueAs (side p end).link (side p (other end)).link.setup.seg_size messages given w
   due_so messages given way = due (side p (other end)) (side p end).link messages given j w way (all_near p end h) at young
 
   took : (v : LinkValue) (r : Result Got LinkFault) → Receives (side p end).link v w.packet.items r → StaysAt p end (record (side p end) { link = v })
@@ -261,7 +256,7 @@ module _ (p : Parts) (end : End) (j : ℕ) (h : AreParts p) (w : Wired) (at : sl
       let d = due_so way.0 way.1 way.2 in
       let none = receives.due _ way.0 way.1 d.value w.segment w.acks d.spelled d.due in
       none_more p end (event.Deliver end j) (record (side p end) { link = v }) fault.NoMemory h (ap (λ (x : LinkValue). record (side p end) { link = x }) none.1)
-      (((_, _, steps p end j w at young), next_takes p end j w at (not_exhausted (side p end).link w.segment f d.few none.0)), refl)
+      ((_, _, steps p end j w at young, takes_some (side p end).link w.segment (not_exhausted (side p end).link w.segment f d.few none.0)), refl)
 
 delivered_to : (p : Parts) (end : End) (j : ℕ) (v : LinkValue) (r : Result Step WorldFault) → AreParts p → Delivery (side p end).link v (side p (other end)).wire j r
     → StaysAt p end (record (side p end) { link = v }) → AreAfter p end (event.Deliver end j) (record (side p end) { link = v }) r

@@ -42,19 +42,19 @@ segments-handed size n handed waiting packets is e =
     segments-cut size (take n packets) ∙ ap (λ (l : List (List ℕ)). length (cut size l)) (sym (handed-bytes n handed waiting packets is e))
 
 -- the segments of a link that are acknowledged or queued are all
-pub queued : (v : LinkValue) (messages : List (List ℕ)) → Sends v messages → v.acked + length v.queue ≡ length (cut v.seg_size messages)
+pub queued : (v : LinkValue) (messages : List (List ℕ)) → Sends v messages → v.acked + length v.queue ≡ length (cut v.setup.seg_size messages)
 queued v messages sends =
-    let same : length v.queue ≡ length (drop v.acked (cut v.seg_size messages)) = ap length sends.queue in
-    omega (arith, length-drop v.acked (cut v.seg_size messages), sends.acked)
+    let same : length v.queue ≡ length (drop v.acked (cut v.setup.seg_size messages)) = ap length sends.queue in
+    omega (arith, length-drop v.acked (cut v.setup.seg_size messages), sends.acked)
 
 abbrev pub segments_queued : SideValue → ℕ
 segments_queued s = segments_with s.link s.outbox
 
 -- all segments, those that wait too
-pub all_segments : (s : SideValue) (handed : List (List ℕ)) → Sends s.link handed → length (cut s.link.seg_size (handed ++ s.outbox)) ≡ segments_queued s
+pub all_segments : (s : SideValue) (handed : List (List ℕ)) → Sends s.link handed → length (cut s.link.setup.seg_size (handed ++ s.outbox)) ≡ segments_queued s
 all_segments s handed sends =
-    let cuts = ap length (cut-append s.link.seg_size handed s.outbox) in
-    omega (arith, cuts, length-append (cut s.link.seg_size handed) (cut s.link.seg_size s.outbox), queued s.link handed sends)
+    let cuts = ap length (cut-append s.link.setup.seg_size handed s.outbox) in
+    omega (arith, cuts, length-append (cut s.link.setup.seg_size handed) (cut s.link.setup.seg_size s.outbox), queued s.link handed sends)
 
 -- as many NSP messages were handed over, and wait
 pub counted : (n : ℕ) (handed waiting : List (List ℕ)) (packets : List NspMessage) → n ≡ length handed → handed ++ waiting ≡ all_joined packets → n + length waiting ≡ length packets

@@ -13,7 +13,10 @@ use Rattle.nsp_link.specs.Link.{got_of}
 use Rattle.dap_world.specs.declared.event.Step.{Step}
 use Rattle.dap_world.specs.declared.event.Step.TheVariants as step
 use Rattle.dap_world.specs.Machine.{State, Sending, answering, delivered, end_of, with_end, served_one, is_stale, Steps, Refuses}
-use Rattle.dap_world.specs.Runs.{MayHappen}
+
+-- the event has a step
+abbrev pub MayHappen : State → Event → Type 0
+MayHappen s e = (answer : Step) × (new : State) × Steps s e answer new
 
 same_sending : (s : State) (p q : Sending) (x : _) → x ≡ Some p → x ≡ Some q → p ≡ q
 same_sending s p q x e f = cc

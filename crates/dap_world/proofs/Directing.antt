@@ -5,7 +5,6 @@ use Rattle.std.proofs.lemmas.List.{take_more, take_all}
 use Rattle.std.proofs.lemmas.Option.{slice_get_within, get_or_from_slice_get}
 use Rattle.dap_msg.specs.Message.{Message}
 use Rattle.dap_msg.specs.Items.{Whole}
-use Rattle.dap_accessed.specs.Groups.{After}
 use Rattle.dap_accessing.specs.declared.fault.AskFault.TheVariants as ask_fault
 use Rattle.dap_accessing.specs.Request.{Request}
 use Rattle.dap_accessing.specs.Asked.{Asked}
@@ -20,8 +19,8 @@ use Rattle.dap_world.specs.declared.event.WorldFault.TheVariants as fault
 use Rattle.dap_world.specs.Machine.{State, answers_read, asked, files_of, reported, sent_by, taken_of, Steps, Refuses}
 use Rattle.dap_world.specs.Runs.{Went}
 use Rattle.dap_world.specs.Inner.Worlds.{IsWorld}
-use Rattle.dap_world.specs.Settling.{AllDone, AllTold, Finished, FinishFault, IsFresh, RanOut, RanTo, StopsAtRequest}
-use Rattle.dap_world.specs.Inner.Settling.{IsQuiet, RunsTo}
+use Rattle.dap_world.specs.Settling.{AllDone, AllTold, Finished, FinishFault, IsFresh, RanOut, StopsAtRequest}
+use Rattle.dap_world.specs.Inner.Settling.{IsQuiet, RanTo, RunsTo}
 use Rattle.dap_world.proofs.Exhausting.{quiet_enough}
 use Rattle.dap_world.proofs.Kept.{headline_of}
 use Rattle.dap_world.proofs.Onward.{ran_on, ran_world}
@@ -44,7 +43,6 @@ fresh_told s h none =
     record {
       sent = sent;
       taken = taken;
-      files = ap (λ (l : List Message). After s.own_b [] (map Whole l)) taken;
       reports = ap (λ (r : List Request). Told r (answers_read s)) none ∙ sym (ap (λ (r : List Request). Told r (map Whole (answers_to s.own_a s.own_b s.requests))) none);
       each = ap length (ap (λ (r : List Request). Told r (answers_read s)) none) ∙ sym (ap length none);
     }

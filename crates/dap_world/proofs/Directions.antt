@@ -2,7 +2,10 @@
 use Rattle.std.proofs.Common.{◌≡◌, ℕ, zero, suc, ◌+◌, ◌≤◌, ◌<◌, arith, refl, true, false, Bool, subst}
 use Rattle.std.specs.Prelude.{max, nat_lt, ◌==◌, ◌&&◌, List, [], ◌∷◌, ◌++◌, Option, Some, None, if◌then◌else◌, slice_get}
 use Rattle.dap_msg.specs.Blocked.{NspMessage}
-use Rattle.nsp_link.specs.Holding.{closed_up, with_number}
+use Rattle.nsp_link.specs.Holding.{closed_up}
+use Rattle.std.specs.declared.cmp.Ordering.TheVariants.{Less, Equal, Greater}
+use Rattle.std.specs.Ordering.{match_ordering, nat_cmp}
+use Rattle.std.specs.BTreeSet.{insert_key}
 use Rattle.nsp_link.specs.Limits.{most_segments}
 use Rattle.dap_world.specs.Machine.{Sending, segments_of, came}
 use Rattle.dap_world.specs.Inner.Worlds.{WasSent, AreTrue, AreEarly, IsDirection}
@@ -44,13 +47,12 @@ closed (k ∷ held) r sent le h =
       | false ↦ λ e. (omega arith, le, (grind (arith, e, h.0), h.1, h.2))
     ] refl
 
-pub AreEarly-with : (held : List ℕ) (k low sent : ℕ) → low < k → k ≤ sent → AreEarly low sent held → AreEarly low sent (with_number k held)
-unfolding with_number
+pub AreEarly-with : (held : List ℕ) (k low sent : ℕ) → low < k → k ≤ sent → AreEarly low sent held → AreEarly low sent (insert_key nat_cmp held k)
 AreEarly-with [] k low sent a b h = (a, b, tt)
 AreEarly-with (n ∷ held) k low sent a b h =
-    elim (nat_lt k n) as (λ v. nat_lt k n ≡ v → AreEarly low sent (if v then k ∷ n ∷ held else if k == n then n ∷ held else n ∷ with_number k held)) [
+    elim (nat_lt k n) as (λ v. nat_lt k n ≡ v → AreEarly low sent (match_ordering (if v then Less else (if k == n then Equal else Greater)) (k ∷ n ∷ held) (n ∷ held) (n ∷ insert_key nat_cmp held k))) [
       | true ↦ λ e. (a, b, (grind (arith, e), h.1, h.2))
-      | false ↦ λ e. elim (k == n) as (λ w. (k == n) ≡ w → AreEarly low sent (if w then n ∷ held else n ∷ with_number k held)) [
+      | false ↦ λ e. elim (k == n) as (λ w. (k == n) ≡ w → AreEarly low sent (match_ordering (if w then Equal else Greater) (k ∷ n ∷ held) (n ∷ held) (n ∷ insert_key nat_cmp held k))) [
         | true ↦ λ e'. h
         | false ↦ λ e'. (h.0, h.1, AreEarly-with held k n sent (grind (arith, e, e')) b h.2)
       ] refl
@@ -99,14 +101,14 @@ module _ (window there sent acked taken : ℕ) (held : List ℕ) (back : ℕ) (w
   kept-came keep None was = (h, omega arith)
   kept-came keep (Some k) was =
       elim (k == taken + 1) as (λ b. (k == taken + 1) ≡ b →
-      let new : ℕ × List ℕ = (if b then closed_up k held else (taken, if nat_lt taken k && keep then with_number k held else held)) in
+      let new : ℕ × List ℕ = (if b then closed_up k held else (taken, if nat_lt taken k && keep then insert_key nat_cmp held k else held)) in
       IsDirection window there sent acked new.0 new.1 back wire × (taken ≤ new.0)) [
         | true ↦ λ e.
             let c = closed held k sent was.1 (subst (λ (n : ℕ). AreEarly n sent held) (grind (arith, e)) h.early) in
             let le : taken ≤ (closed_up k held).0 = grind (arith, e, c.0) in
             (kept-taken (closed_up k held).0 (closed_up k held).1 le c.1 c.2, le)
-        | false ↦ λ e. elim (nat_lt taken k && keep) as (λ b. (nat_lt taken k && keep) ≡ b → IsDirection window there sent acked taken (if b then with_number k held else held) back wire × (taken ≤ taken)) [
-          | true ↦ λ e'. (kept-taken taken (with_number k held) (omega arith) h.counts.taken_sent (AreEarly-with held k (taken + 1) sent (grind (arith, e, e')) was.1 h.early), omega arith)
+        | false ↦ λ e. elim (nat_lt taken k && keep) as (λ b. (nat_lt taken k && keep) ≡ b → IsDirection window there sent acked taken (if b then insert_key nat_cmp held k else held) back wire × (taken ≤ taken)) [
+          | true ↦ λ e'. (kept-taken taken (insert_key nat_cmp held k) (omega arith) h.counts.taken_sent (AreEarly-with held k (taken + 1) sent (grind (arith, e, e')) was.1 h.early), omega arith)
           | false ↦ λ e'. (h, omega arith)
         ] refl
       ] refl

@@ -48,7 +48,7 @@ read_ends old now new n k h went is =
 pub read_refused : (old now new : State) (n : ℕ) (f : WorldFault) → (f ≡ fault.NothingToDo → ⊥) → IsWorld now → ReadSome old now n → Went now event.Read (Err f) new → (f ≡ fault.NoMemory) × ReadPart old new × IsWorld new
 unfolding Steps Refuses
 read_refused old now new n fault.NoMemory other w h went =
-    let may = went.0.0.2 in
+    let may = went.0.2 in
     let part : ReadPart old now = record { ran = (n, h.ran); read = h.read; more = omega (arith, h.count); next = may.0; there = may.1 } in
     (refl, subst (ReadPart old) (sym went.1) part, subst IsWorld (sym went.1) w)
 read_refused old now new n fault.NothingToDo other w h went = absurd (other refl)

@@ -12,11 +12,11 @@ use Rattle.dap_world.specs.declared.event.Event.TheVariants as event
 use Rattle.dap_world.specs.declared.event.WorldFault.{WorldFault}
 use Rattle.dap_world.specs.declared.event.WorldFault.TheVariants as fault
 use Rattle.dap_world.specs.Machine.{State, MayEmit, end_of, Steps, Refuses}
-use Rattle.dap_world.specs.Runs.{MayHappen, Went}
+use Rattle.dap_world.specs.Runs.{Went}
 use Rattle.dap_world.specs.Inner.Parts.{Parts, answer_packets, asked_packets, state_of}
 use Rattle.dap_world.specs.Settling.{FinishFault, IsEmpty, IsExhausted, IsPostDue, unacked}
 use Rattle.dap_world.specs.Inner.Settling.{AreEmpty, IsQuiet, ReadPart}
-use Rattle.dap_world.proofs.Deciding.{no_step}
+use Rattle.dap_world.proofs.Deciding.{MayHappen, no_step}
 
 pub memory : (s : State) (f : WorldFault) → f ≡ fault.NoMemory → (IsExhausted s → ⊥) → FinishFault s f
 memory s f is none = subst (FinishFault s) (sym is) none
@@ -63,7 +63,7 @@ may_post s B due may (B, due', why) = no_step s (event.Post B) fault.Exhausted w
 
 pub post_fault : (old new : State) (end : End) (f : WorldFault) → (f ≡ fault.NothingToDo → ⊥) → IsPostDue old end → Went old (event.Post end) (Err f) new → FinishFault new f
 unfolding Refuses
-post_fault old new end fault.NoMemory some due went = subst (λ (s : State). IsExhausted s → ⊥) (sym went.1) (may_post old end due went.0.0)
+post_fault old new end fault.NoMemory some due went = subst (λ (s : State). IsExhausted s → ⊥) (sym went.1) (may_post old end due (went.0.0, went.0.1, went.0.2))
 post_fault old new end fault.Exhausted some due went = subst IsExhausted (sym went.1) (end, due, went.0)
 post_fault old new end fault.NothingToDo some due went = absurd (some refl)
 post_fault old new end fault.NoSuchPacket some due went = absurd went.0

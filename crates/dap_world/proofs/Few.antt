@@ -22,10 +22,10 @@ few_served p h =
     let s = state_of p in
     let packets = take p.a.posted (asks p) in
     let front = arrived-front s.seg_size s.b.taken s.a.handed in
-    few_messages p.a.link.seg_size packets p.served (omega (arith, h.world.served, ap length front.1, length-append (messages_in (arrived s.seg_size s.b.taken s.a.handed)) front.0))
-    (fit-take p.a.posted (asks p) h.from_a.fit) p.b.link.max_message
-    (subst (AreShort p.b.link.max_message) (handed-bytes p.a.posted h.from_a.handed p.a.outbox (asks p) h.from_a.posted h.from_a.bytes) h.from_a.way.short) (omega (arith, h.most, h.alike.limit))
-    (subst (λ (l : List (List ℕ)). length (cut p.a.link.seg_size l) ≤ most_segments) (handed-bytes p.a.posted h.from_a.handed p.a.outbox (asks p) h.from_a.posted h.from_a.bytes) h.from_a.way.few)
+    few_messages p.a.link.setup.seg_size packets p.served (omega (arith, h.world.served, ap length front.1, length-append (messages_in (arrived s.seg_size s.b.taken s.a.handed)) front.0))
+    (fit-take p.a.posted (asks p) h.from_a.fit) p.b.link.setup.max_message
+    (subst (AreShort p.b.link.setup.max_message) (handed-bytes p.a.posted h.from_a.handed p.a.outbox (asks p) h.from_a.posted h.from_a.bytes) h.from_a.way.short) (omega (arith, h.most, h.alike.limit))
+    (subst (λ (l : List (List ℕ)). length (cut p.a.link.setup.seg_size l) ≤ most_segments) (handed-bytes p.a.posted h.from_a.handed p.a.outbox (asks p) h.from_a.posted h.from_a.bytes) h.from_a.way.few)
 
 -- at most one request has no report yet
 pub one_due : (p : Parts) → AreParts p → IsOneDue (state_of p)

@@ -6,7 +6,7 @@ use Rattle.std.proofs.lemmas.Option.{slice_get_within}
 use Rattle.dap_msg.specs.Message.{Message}
 use Rattle.dap_msg.specs.Items.{Whole}
 use Rattle.dap_msg.specs.Blocked.{NspMessage, messages_in}
-use Rattle.dap_accessed.specs.Groups.{Answers, After}
+use Rattle.dap_accessed.specs.Groups.{Answers}
 use Rattle.dap_accessing.specs.Asked.{Asked}
 use Rattle.dap_accessing.specs.Told.{Told}
 use Rattle.dap_world.specs.Agreement.{reports_of}
@@ -39,7 +39,6 @@ all_told s h f =
     record {
       sent = sent;
       taken = taken;
-      files = ap (λ (l : List Message). After s.own_b [] (map Whole l)) taken;
       reports = reports;
       each = ap length reports ∙ one-report-each s.own_a s.own_b h.own_a h.own_b s.requests h.admissible;
     }

@@ -8,6 +8,9 @@ use Rattle.dap_world.specs.Machine.{State, Sending, other, end_of}
 use Rattle.dap_world.specs.Wires.{IsOnWire, address_of}
 -- an event has one step at the most, or one reason why it has none
 pub use Rattle.dap_world.proofs.Deciding.{no_step, one_reason, one_step}
+-- what follows of a run that asks nothing, and of one that is all of settling
+pub use Rattle.dap_world.proofs.Quiet.{asks_nothing}
+pub use Rattle.dap_world.proofs.Still.{sends_nothing}
 -- what an answer names is there
 pub use Rattle.dap_world.proofs.Naming.{named}
 

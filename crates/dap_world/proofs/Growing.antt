@@ -9,7 +9,7 @@ use Rattle.dap_accessed.specs.Served.{AllAtMost}
 use Rattle.nsp_link.specs.Cutting.{cut, count_of}
 use Rattle.nsp_link.specs.Limits.{largest_limit, most_segments}
 use Rattle.dap_end.proofs.ForCallers.{back_fit, fit-both, front_fit, in_append}
-use Rattle.nsp_link.specs.Link.{LinkValue}
+use Rattle.nsp_link.specs.Link.{LinkValue, with_inbox}
 use Rattle.dap_world.specs.Inner.Sides.{SideValue, AreShort}
 use Rattle.dap_world.specs.Inner.Parts.{IsTold, IsAmong}
 use Rattle.dap_world.specs.Inner.Ways.{IsWay}
@@ -19,7 +19,7 @@ use Rattle.dap_world.proofs.Ways.{same_writes, told_with}
 
 -- the sending end moved its place, and has other messages to send
 moved_way : (from : SideValue) (to : LinkValue) (messages given : List (List ℕ)) (inbox : List (List ℕ)) (place : ℕ) (outbox : List (List ℕ)) → IsWay from to messages given
-    → IsWay (record from { link = record from.link { inbox = inbox }; place = place; outbox = outbox }) to messages given
+    → IsWay (record from { link = with_inbox from.link inbox; place = place; outbox = outbox }) to messages given
 moved_way from to messages given inbox place outbox way =
     record {
       size = way.size;
@@ -31,7 +31,7 @@ moved_way from to messages given inbox place outbox way =
       stands = way.stands;
       short = way.short;
       few = way.few;
-      wire = same_writes from.link (record from.link { inbox = inbox }) messages refl refl refl from.wire way.wire;
+      wire = same_writes from.link (with_inbox from.link inbox) messages refl from.wire way.wire;
     }
 
 -- the first NSP messages are the same with more behind them
@@ -40,8 +40,8 @@ handed_same from to packets block count h = let n = counted from.posted h.handed
 
 -- the sending end has more to send, and moved its place
 pub told_more : (from to : SideValue) (packets block : List NspMessage) (count : ℕ) (inbox : List (List ℕ)) (place : ℕ) (outbox more : List (List ℕ)) → IsTold from to packets count
-    → outbox ≡ from.outbox ++ more → more ≡ all_joined block → AllFit (messages_in block) → AreShort from.link.max_message more
-    → IsTold (record from { link = record from.link { inbox = inbox }; place = place; outbox = outbox }) to (packets ++ block) count
+    → outbox ≡ from.outbox ++ more → more ≡ all_joined block → AllFit (messages_in block) → AreShort from.link.setup.max_message more
+    → IsTold (record from { link = with_inbox from.link inbox; place = place; outbox = outbox }) to (packets ++ block) count
 told_more from to packets block count inbox place outbox more h outbox_is more_is fit short =
     record {
       handed = h.handed;
@@ -52,7 +52,7 @@ told_more from to packets block count inbox place outbox more h outbox_is more_i
       bytes = ap (λ (l : List (List ℕ)). h.handed ++ l) outbox_is ∙ sym (append_assoc h.handed from.outbox more) ∙ ap (λ (l : List (List ℕ)). l ++ more) h.bytes
           ∙ ap (λ (l : List (List ℕ)). all_joined packets ++ l) more_is ∙ sym (map-append joined packets block);
       fit = subst AllFit (sym (in_append packets block)) (fit-both (messages_in packets) (messages_in block) h.fit fit);
-      short = subst (AreShort from.link.max_message) (sym outbox_is) (All-append (λ m. length m ≤ from.link.max_message) from.outbox more h.short short);
+      short = subst (AreShort from.link.setup.max_message) (sym outbox_is) (All-append (λ m. length m ≤ from.link.setup.max_message) from.outbox more h.short short);
     }
 
 -- none is longer than a limit
@@ -62,7 +62,7 @@ all_short limit most (x ∷ list) le h = All-cons (λ m. length m ≤ most) x li
 
 -- the sending end moved its place
 pub told_moved : (from to : SideValue) (packets : List NspMessage) (count : ℕ) (inbox : List (List ℕ)) (place : ℕ) → IsTold from to packets count
-    → IsTold (record from { link = record from.link { inbox = inbox }; place = place }) to packets count
+    → IsTold (record from { link = with_inbox from.link inbox; place = place }) to packets count
 told_moved from to packets count inbox place h = told_with h (moved_way from to.link h.handed _ inbox place from.outbox h.way)
 
 -- ---- No more messages than segments, and than bytes.
@@ -78,7 +78,7 @@ as_many_segments size (m ∷ messages) = omega (arith, as_many_segments size mes
 
 -- few were handed over
 pub few_posted : (from to : SideValue) (packets : List NspMessage) (count : ℕ) → IsTold from to packets count → from.posted ≤ most_segments
-few_posted from to packets count h = omega (arith, h.posted, as_many_segments from.link.seg_size h.handed, h.way.few)
+few_posted from to packets count h = omega (arith, h.posted, as_many_segments from.link.setup.seg_size h.handed, h.way.few)
 
 as_many_bytes : (messages : List Message) → AllFit messages → length messages ≤ length (joined messages)
 as_many_bytes [] fit = omega arith

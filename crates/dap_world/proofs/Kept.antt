@@ -21,7 +21,7 @@ use Rattle.dap_world.specs.declared.event.Event.TheVariants as event
 use Rattle.dap_world.specs.declared.event.Step.{Step}
 use Rattle.dap_world.specs.declared.setup.WorldSetup.{WorldSetup}
 use Rattle.dap_world.specs.Setups.{IsWorldSetup}
-use Rattle.dap_world.specs.Machine.{files_of, reported, State, EndState, Sending, fresh, other, end_of, with_end, arrived, arrived_at, sent_by, taken_of, answers_read, asking, asked, posted, wrote, delivered, answering, served_one, read_one, segments_of, segments_then, Steps, StepsFreely}
+use Rattle.dap_world.specs.Machine.{files_of, reported, State, EndState, Sending, fresh, other, end_of, with_end, arrived, arrived_at, sent_by, taken_of, answers_read, asking, asked, posted, wrote, delivered, answering, served_one, read_one, segments_of, Steps, StepsFreely}
 use Rattle.dap_world.specs.Runs.{RunsBy}
 use Rattle.dap_accessed.specs.Present as accessed
 use Rattle.dap_end.proofs.ForCallers.{Asked-more, in_append}
@@ -211,12 +211,12 @@ kept-moves s B e h m =
       read = more_came s.seg_size s.a.taken s.read s.b.handed m.more e.handed m.handed h.read;
     }
 
-kept-posted : (s : State) (end : End) → IsWorld s → segments_then s end ≤ most_segments → IsWorld (with_end s end (posted (end_of s end)))
+kept-posted : (s : State) (end : End) → IsWorld s → segments_of s.seg_size (posted (end_of s end)).handed ≤ most_segments → IsWorld (with_end s end (posted (end_of s end)))
 kept-posted s end h few =
     let e = end_of s end in
     kept-moves s end (posted e) h
     (record {
-      out = kept-there _ _ _ _ _ _ _ _ (direction s end h) (segments_then s end) (omega (arith, segments_of-append s.seg_size e.handed e.waiting)) few;
+      out = kept-there _ _ _ _ _ _ _ _ (direction s end h) (segments_of s.seg_size (posted (end_of s end)).handed) (omega (arith, segments_of-append s.seg_size e.handed e.waiting)) few;
       comes = back s end h;
       all = ap messages_in (append-nil (e.handed ++ e.waiting));
       more = e.waiting;

@@ -21,11 +21,14 @@ pub mod Posted
 pub mod Others
 pub mod Arrived
 pub mod Growing
+pub mod Handed
 pub mod Serving
 pub mod ReadingOne
 pub mod AskingOne
 pub mod New
 pub mod Wires
+pub mod Quiet
+pub mod Still
 pub mod Settles
 pub mod Bringing
 pub mod Emptying

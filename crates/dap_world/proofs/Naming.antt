@@ -13,7 +13,7 @@ use Rattle.dap_world.specs.declared.event.Step.{Step}
 use Rattle.dap_world.specs.declared.event.Step.TheVariants as step
 use Rattle.dap_world.specs.declared.event.WorldFault.{WorldFault}
 use Rattle.dap_world.specs.Machine.{State, EndState, end_of, with_end, wrote, taken_of, answers_read, reported, read_one, told_by, Steps}
-use Rattle.dap_world.specs.Runs.{Went, writer_of}
+use Rattle.dap_world.specs.Runs.{Went, writing_end}
 use Rattle.dap_world.specs.Inner.Naming.{NamedIsThere}
 use Rattle.dap_world.proofs.Kept.{now_at}
 
@@ -22,7 +22,7 @@ wire_grew : (s new : State) (end : End) (sent : ℕ) (k : Option ℕ) → new �
 wire_grew s new end sent k e =
     let wire = (end_of s end).wire in omega (arith, ap (λ (x : EndState). length x.wire) (now_at s new end _ e), length-append wire (record { segment = k; acks = (end_of s end).taken } ∷ []))
 
-packet_there : (e : Event) (s new : State) (end : End) (sent : ℕ) (k : Option ℕ) (answer : Step) → writer_of e ≡ Some end → answer ≡ step.Packet (length (end_of s end).wire) → new ≡ with_end s end (wrote (end_of s end) sent k) → NamedIsThere e answer new
+packet_there : (e : Event) (s new : State) (end : End) (sent : ℕ) (k : Option ℕ) (answer : Step) → writing_end e ≡ Some end → answer ≡ step.Packet (length (end_of s end).wire) → new ≡ with_end s end (wrote (end_of s end) sent k) → NamedIsThere e answer new
 packet_there e s new end sent k answer by is went = subst (λ (a : Step). NamedIsThere e a new) (sym is) (end, by, wire_grew s new end sent k went)
 
 -- a report came of it only where there is one more

@@ -15,12 +15,13 @@ use Rattle.dap_world.specs.declared.event.Step.{Step}
 use Rattle.dap_world.specs.Machine.{State, sent_by, taken_of, answers_read, reported, Steps}
 use Rattle.dap_world.specs.Runs.{Runs}
 use Rattle.dap_world.specs.Inner.Worlds.{IsWorld}
-use Rattle.dap_world.specs.Settling.{AsksNothing, RanBy, RanTo}
-use Rattle.dap_world.specs.Inner.Settling.{SameBut}
+use Rattle.dap_world.specs.Settling.{RanBy}
+use Rattle.dap_world.specs.Inner.Settling.{AsksNothing, RanTo, SameBut}
 use Rattle.dap_world.proofs.Asking.{answers-front}
 use Rattle.dap_world.proofs.Bringing.{same_emit, same_ack, same_deliver, same_wrote}
 use Rattle.dap_world.proofs.Kept.{kept-step, taken-more, headline_of}
 use Rattle.dap_world.proofs.Packets.{served-stays}
+use Rattle.dap_world.proofs.Quiet.{asks_nothing}
 use Rattle.dap_world.proofs.Settles.{ran_none}
 
 pub record Onward (old new : State) : Type 0 where
@@ -117,10 +118,10 @@ onward old new (e ∷ events) h quiet run =
     (on_both old run.0 new first.0 rest.0, rest.1)
 
 pub ran_on : (old new : State) (n : ℕ) → IsWorld old → RanBy old new n → Onward old new
-ran_on old new n h r = (onward old new r.events h r.quiet r.ran).0
+ran_on old new n h r = (onward old new r.events h (asks_nothing old new r.events r.ran r.quiet) r.ran).0
 
 pub ran_world : (old new : State) (n : ℕ) → IsWorld old → RanBy old new n → IsWorld new
-ran_world old new n h r = (onward old new r.events h r.quiet r.ran).1
+ran_world old new n h r = (onward old new r.events h (asks_nothing old new r.events r.ran r.quiet) r.ran).1
 
 -- no event changes nothing
 pub ran_still : (old new : State) (n : ℕ) → RanBy old new n → n ≡ 0 → new ≡ old

@@ -7,8 +7,7 @@ use Rattle.std.proofs.lemmas.List.Elements.{All-append}
 use Rattle.std.proofs.Math.Seq.{drop-append_seam}
 use Rattle.dap_msg.specs.Message.{Message}
 use Rattle.dap_msg.specs.Items.{Whole}
-use Rattle.dap_msg.specs.Canon.{canon}
-use Rattle.dap_msg.specs.Blocked.{NspMessage, joined, all_joined, messages_in, AllFit}
+use Rattle.dap_msg.specs.Blocked.{NspMessage, joined, all_joined, messages_in}
 use Rattle.dap_accessed.specs.Groups.{Answers}
 use Rattle.dap_accessing.specs.Told.{Told}
 use Rattle.nsp_link.specs.Cutting.{Piece, cut}
@@ -19,7 +18,6 @@ use Rattle.nsp_link.proofs.ForCallers.{writes_more, stands_more, sends_all}
 use Rattle.dap_end.specs.Ports.{posted as port_posted}
 use Rattle.dap_end.specs.Asking.{AskingValue, AskingPast, HasAsked, HandedAll}
 use Rattle.dap_end.specs.Serving.{ServingValue, Past, IsAfter, PostedAll}
-use Rattle.dap_end.proofs.ForCallers.{back_fit, in_append}
 use Rattle.dap_world.specs.declared.event.End.{End}
 use Rattle.dap_world.specs.declared.event.End.TheVariants.{A, B}
 use Rattle.dap_world.specs.declared.event.Event.TheVariants as event
@@ -27,17 +25,15 @@ use Rattle.dap_world.specs.declared.event.Step.{Step}
 use Rattle.dap_world.specs.declared.event.Step.TheVariants as step
 use Rattle.dap_world.specs.declared.event.WorldFault.{WorldFault}
 use Rattle.dap_world.specs.declared.event.WorldFault.TheVariants as fault
-use Rattle.dap_world.specs.Machine.{reported, EndState, end_of, with_end, posted, segments_of, segments_then, Steps, Refuses}
+use Rattle.dap_world.specs.Machine.{reported, EndState, end_of, with_end, posted, segments_of, Steps, Refuses}
 use Rattle.dap_world.specs.Runs.{Went}
 use Rattle.dap_world.specs.Inner.Worlds.{IsWorld}
 use Rattle.dap_world.specs.declared.side.Wired.{Wired}
 use Rattle.dap_world.specs.Inner.Sides.{SideValue, AreShort, PostFault, PostedSo, port_of, side_of}
 use Rattle.dap_world.specs.Inner.Ways.{IsWay}
 use Rattle.dap_world.specs.Inner.Parts.{Parts, AreParts, IsTold, IsAmong, IsAskedAll, IsServedAll, asks, answers, asking_end, serving_end, end_state, state_of, side}
-use Rattle.dap_world.specs.Inner.Splitting.{SplitsAll, SentAll}
 use Rattle.dap_world.proofs.Counting.{segments_queued, segments-cut, all_segments, counted}
 use Rattle.dap_world.proofs.Packets.{served-stays}
-use Rattle.dap_world.proofs.Blocks.{asked-full, full-drop}
 use Rattle.dap_world.proofs.Kept.{kept-step}
 use Rattle.dap_world.proofs.Ways.{still_way, told_with}
 use Rattle.dap_world.proofs.Wrote.{AreThen, asking_parts, serving_parts}
@@ -53,7 +49,7 @@ more_writes v pieces messages more (w ∷ wire) h =
 abbrev pub new_side : SideValue → SideValue
 new_side s = side_of (port_posted (port_of s)) (s.posted + length s.outbox) s.wire
 
-way_posted : (s : SideValue) (to : LinkValue) (handed given : List (List ℕ)) → IsWay s to handed given → AreShort to.max_message s.outbox → segments_queued s ≤ most_segments
+way_posted : (s : SideValue) (to : LinkValue) (handed given : List (List ℕ)) → IsWay s to handed given → AreShort to.setup.max_message s.outbox → segments_queued s ≤ most_segments
     → IsWay (new_side s) to (handed ++ s.outbox) given
 way_posted s to handed given way short room =
     record {
@@ -63,10 +59,10 @@ way_posted s to handed given way short room =
       there = way.there;
       back = way.back;
       sends = sends_all s.link handed s.outbox way.sends;
-      stands = stands_more to s.link.seg_size handed s.outbox given way.stands;
-      short = All-append (λ m. length m ≤ to.max_message) handed s.outbox way.short short;
+      stands = stands_more to s.link.setup.seg_size handed s.outbox given way.stands;
+      short = All-append (λ m. length m ≤ to.setup.max_message) handed s.outbox way.short short;
       few = omega (arith, all_segments s handed way.sends, room);
-      wire = more_writes s.link (cut s.link.seg_size s.outbox) handed s.outbox s.wire way.wire;
+      wire = more_writes s.link (cut s.link.setup.seg_size s.outbox) handed s.outbox s.wire way.wire;
     }
 
 -- ---- The state.
@@ -86,15 +82,15 @@ pub waits-bytes : (from to : SideValue) (packets : List NspMessage) (count : ℕ
 waits-bytes from to packets count h =
     sym (drop-append_seam h.handed from.outbox) ∙ ap (drop (length h.handed)) h.bytes ∙ drop-map joined (length h.handed) packets ∙ ap (λ (n : ℕ). all_joined (drop n packets)) (sym h.posted)
 
-segments_all : (size : ℕ) (s : SideValue) (handed : List (List ℕ)) (packets : List NspMessage) → size ≡ s.link.seg_size → handed ++ s.outbox ≡ all_joined packets → Sends s.link handed
+segments_all : (size : ℕ) (s : SideValue) (handed : List (List ℕ)) (packets : List NspMessage) → size ≡ s.link.setup.seg_size → handed ++ s.outbox ≡ all_joined packets → Sends s.link handed
     → segments_of size (take s.posted packets ++ drop s.posted packets) ≡ segments_queued s
 segments_all size s handed packets same e sends =
     ap (segments_of size) (take-append-drop s.posted packets) ∙ segments-cut size packets ∙ ap (λ (l : List (List ℕ)). length (cut size l)) (sym e)
     ∙ ap (λ n. length (cut n (handed ++ s.outbox))) same ∙ all_segments s handed sends
 
-segments_are : (p : Parts) (end : End) → AreParts p → segments_then (state_of p) end ≡ segments_queued (side p end)
-segments_are p A h = segments_all p.a.link.seg_size p.a h.from_a.handed (asks p) refl h.from_a.bytes h.from_a.way.sends
-segments_are p B h = segments_all p.a.link.seg_size p.b h.from_b.handed (answers p) (sym h.alike.size) h.from_b.bytes h.from_b.way.sends
+segments_are : (p : Parts) (end : End) → AreParts p → segments_of (state_of p).seg_size (posted (end_of (state_of p) end)).handed ≡ segments_queued (side p end)
+segments_are p A h = segments_all p.a.link.setup.seg_size p.a h.from_a.handed (asks p) refl h.from_a.bytes h.from_a.way.sends
+segments_are p B h = segments_all p.a.link.setup.seg_size p.b h.from_b.handed (answers p) (sym h.alike.size) h.from_b.bytes h.from_b.way.sends
 
 waiting_is : (p : Parts) (end : End) → AreParts p → length (end_of (state_of p) end).waiting ≡ length (side p end).outbox
 waiting_is p A h = waits p.a p.b (asks p) p.served h.from_a
@@ -104,28 +100,23 @@ pub no_length : {X : Type 0} (xs : List X) → length xs ≡ 0 → xs ≡ []
 no_length [] e = refl
 no_length (x ∷ xs) e = let no : ⊥ = omega arith in absurd no
 
--- ---- The parts: what A handed over is sent.
+-- ---- The parts.
 
-abbrev pub posted_parts : Parts → End → List (List ℕ) → Parts
-posted_parts p A more = record p { a = new_side p.a; sent = p.sent ++ more }
-posted_parts p B more = record p { b = new_side p.b }
+abbrev pub posted_parts : Parts → End → Parts
+posted_parts p A = record p { a = new_side p.a; handed = p.handed ++ p.a.outbox }
+posted_parts p B = record p { b = new_side p.b }
 
--- what is added to the messages sent
-abbrev pub SentMore : Parts → End → List (List ℕ) → Type 0
-SentMore p A more = SplitsAll p.a.outbox [] more
-SentMore p B more = Unit {0}
+state_posted : (p : Parts) (end : End) → AreParts p → with_end (state_of p) end (posted (end_of (state_of p) end)) ≡ state_of (posted_parts p end)
+state_posted p A h = ap (λ (e : EndState). with_end (state_of p) A e) (posted_is p.a (asks p) (counted p.a.posted h.from_a.handed p.a.outbox (asks p) h.from_a.posted h.from_a.bytes))
+state_posted p B h = ap (λ (e : EndState). with_end (state_of p) B e) (posted_is p.b (answers p) (counted p.b.posted h.from_b.handed p.b.outbox (answers p) h.from_b.posted h.from_b.bytes))
 
-state_posted : (p : Parts) (end : End) (more : List (List ℕ)) → AreParts p → with_end (state_of p) end (posted (end_of (state_of p) end)) ≡ state_of (posted_parts p end more)
-state_posted p A more h = ap (λ (e : EndState). with_end (state_of p) A e) (posted_is p.a (asks p) (counted p.a.posted h.from_a.handed p.a.outbox (asks p) h.from_a.posted h.from_a.bytes))
-state_posted p B more h = ap (λ (e : EndState). with_end (state_of p) B e) (posted_is p.b (answers p) (counted p.b.posted h.from_b.handed p.b.outbox (answers p) h.from_b.posted h.from_b.bytes))
-
-posts : (p : Parts) (end : End) (more : List (List ℕ)) → AreParts p → 0 < length (side p end).outbox → segments_queued (side p end) ≤ most_segments
-    → Steps (state_of p) (event.Post end) (step.Posted (length (side p end).outbox)) (state_of (posted_parts p end more))
+posts : (p : Parts) (end : End) → AreParts p → 0 < length (side p end).outbox → segments_queued (side p end) ≤ most_segments
+    → Steps (state_of p) (event.Post end) (step.Posted (length (side p end).outbox)) (state_of (posted_parts p end))
 unfolding Steps
-posts p end more h some room =
+posts p end h some room =
     let n = waiting_is p end h in
     let all = segments_are p end h in
-    (omega arith, omega arith, ap (λ (k : ℕ). step.Posted k) (sym n), sym (state_posted p end more h))
+    (omega arith, omega arith, ap (λ (k : ℕ). step.Posted k) (sym n), sym (state_posted p end h))
 
 -- messages that were handled among the first NSP messages, when more are handed over
 among_more : (n m : ℕ) (packets : List NspMessage) (count place : ℕ) (gone : List NspMessage) → n ≤ m → IsAmong (take n packets) count place gone → IsAmong (take m packets) count place gone
@@ -147,7 +138,7 @@ among_more n m packets count place gone le h =
     shorter : (n m : ℕ) (packets : List NspMessage) → n ≤ m → take n (take m packets) ≡ take n packets
     shorter n m packets le = take-take n m packets le
 
-told_posted : (packets : List NspMessage) (count : ℕ) (from to : SideValue) → IsTold from to packets count → AreShort to.link.max_message from.outbox → segments_queued from ≤ most_segments
+told_posted : (packets : List NspMessage) (count : ℕ) (from to : SideValue) → IsTold from to packets count → AreShort to.link.setup.max_message from.outbox → segments_queued from ≤ most_segments
     → IsTold (new_side from) to packets count
 told_posted packets count from to h short room =
     record {
@@ -162,7 +153,7 @@ told_posted packets count from to h short room =
     }
 
 told_queued : (packets : List NspMessage) (count : ℕ) (from to : SideValue) → IsTold from to packets count → IsTold from (new_side to) packets count
-told_queued packets count from to h = told_with h (still_way from to.link (queued_link to.link (cut to.link.seg_size to.outbox)) h.handed _ refl h.way)
+told_queued packets count from to h = told_with h (still_way from to.link (queued_link to.link (cut to.link.setup.seg_size to.outbox)) h.handed _ refl h.way)
 
 -- what B served is a front of what A handed over, before and after
 served_same : (p : Parts) → AreParts p
@@ -170,90 +161,84 @@ served_same : (p : Parts) → AreParts p
 served_same p h =
     let n = counted p.a.posted h.from_a.handed p.a.outbox (asks p) h.from_a.posted h.from_a.bytes in
     ap (λ (l : List NspMessage). take p.served (messages_in l)) (take_all (p.a.posted + length p.a.outbox) (asks p) (omega arith) ∙ sym (take-append-drop p.a.posted (asks p)))
-    ∙ served-stays p.served p.a.link.seg_size p.b.link.received (take p.a.posted (asks p)) (drop p.a.posted (asks p)) h.world.served
+    ∙ served-stays p.served p.a.link.setup.seg_size p.b.link.coming.received (take p.a.posted (asks p)) (drop p.a.posted (asks p)) h.world.served
 
-sent_more : (p : Parts) (more : List (List ℕ)) → AreParts p → SplitsAll p.a.outbox [] more → p.sent ++ more ≡ map canon (messages_in (take (p.a.posted + length p.a.outbox) (asks p)))
-sent_more p more h splits =
+handed_more : (p : Parts) → AreParts p → p.handed ++ p.a.outbox ≡ all_joined (take (p.a.posted + length p.a.outbox) (asks p))
+handed_more p h =
     let n = counted p.a.posted h.from_a.handed p.a.outbox (asks p) h.from_a.posted h.from_a.bytes in
     let front = take p.a.posted (asks p) in
     let back = drop p.a.posted (asks p) in
-    let all : messages_in (asks p) ≡ messages_in front ++ messages_in back = ap messages_in (sym (take-append-drop p.a.posted (asks p))) ∙ in_append front back in
-    let full = full-drop p.a.posted (asks p) (asked-full p.accessing.own p.accessed.own p.requests) in
-    let fit = back_fit (messages_in front) (messages_in back) (subst AllFit all h.from_a.fit) in
-    let is : more ≡ map canon (messages_in back) = splits back full fit (waits-bytes p.a p.b (asks p) p.served h.from_a) in
-    ap (λ (l : List (List ℕ)). l ++ more) h.sent_is ∙ ap (λ (l : List (List ℕ)). map canon (messages_in front) ++ l) is
-    ∙ sym (map-append canon (messages_in front) (messages_in back)) ∙ ap (map canon) (sym all)
-    ∙ ap (λ (l : List NspMessage). map canon (messages_in l)) (sym (take_all (p.a.posted + length p.a.outbox) (asks p) (omega arith)))
+    ap (λ (l : List (List ℕ)). l ++ p.a.outbox) h.handed_is ∙ ap (λ (l : List (List ℕ)). all_joined front ++ l) (waits-bytes p.a p.b (asks p) p.served h.from_a)
+    ∙ sym (map-append joined front back) ∙ ap all_joined (take-append-drop p.a.posted (asks p))
+    ∙ ap all_joined (sym (take_all (p.a.posted + length p.a.outbox) (asks p) (omega arith)))
 
 -- whatever the end was after, it handed over what waited too
 abbrev pub HandsOver : Parts → End → Type 0
 HandsOver p A = (past : AskingPast) → HasAsked past (asking_end p) → HasAsked (record past { handed = past.handed ++ p.a.outbox }) (record { port = port_posted (port_of p.a); accessing = p.accessing })
 HandsOver p B = (past : Past) → IsAfter past (serving_end p) → IsAfter (record past { handed = past.handed ++ p.b.outbox }) (record { port = port_posted (port_of p.b); accessed = p.accessed })
 
-parts_posted : (p : Parts) (end : End) (more : List (List ℕ)) → AreParts p → segments_queued (side p end) ≤ most_segments → SentMore p end more → HandsOver p end → IsWorld (state_of (posted_parts p end more)) → AreParts (posted_parts p end more)
+parts_posted : (p : Parts) (end : End) → AreParts p → segments_queued (side p end) ≤ most_segments → HandsOver p end → IsWorld (state_of (posted_parts p end)) → AreParts (posted_parts p end)
 unfolding reported
-parts_posted p A more h room splits goes world =
+parts_posted p A h room goes world =
     let short = subst (λ (n : ℕ). AreShort n p.a.outbox) (sym h.alike.limit) h.from_a.short in
     let same = served_same p h in
     record {
       world = world;
-      alike = record { here = h.alike.here; there = h.alike.there; size = h.alike.size; window = h.alike.window; limit = h.alike.limit };
+      alike = h.alike;
       limit_a = h.limit_a;
       limit_b = h.limit_b;
       most = h.most;
       from_a = told_posted (asks p) p.served p.a p.b h.from_a short room;
       from_b = told_queued (answers p) p.read p.b p.a h.from_b;
-      sent_is = sent_more p more h splits;
+      handed_is = handed_more p h;
       reports_is = h.reports_is ∙ ap (λ (l : List Message). Told p.requests (map Whole (take p.read (Answers p.accessed.own [] (map Whole l))))) (sym same);
-      asking = subst (λ (l : List Message). IsAskedAll (asking_end (posted_parts p A more)) p.requests (map Whole (take p.read (Answers p.accessed.own [] (map Whole l))))) (sym same)
+      asking = subst (λ (l : List Message). IsAskedAll (asking_end (posted_parts p A)) p.requests (map Whole (take p.read (Answers p.accessed.own [] (map Whole l))))) (sym same)
           (record h.asking.0 { handed = h.asking.0.handed ++ p.a.outbox }, goes _ h.asking.1);
       serving = subst (λ (l : List Message). IsServedAll (serving_end p) (map Whole l)) (sym same) h.serving;
     }
-parts_posted p B more h room splits goes world =
+parts_posted p B h room goes world =
     let short = subst (λ (n : ℕ). AreShort n p.b.outbox) h.alike.limit h.from_b.short in
     record {
       world = world;
-      alike = record { here = h.alike.here; there = h.alike.there; size = h.alike.size; window = h.alike.window; limit = h.alike.limit };
+      alike = h.alike;
       limit_a = h.limit_a;
       limit_b = h.limit_b;
       most = h.most;
       from_a = told_queued (asks p) p.served p.a p.b h.from_a;
       from_b = told_posted (answers p) p.read p.b p.a h.from_b short room;
-      sent_is = h.sent_is;
+      handed_is = h.handed_is;
       reports_is = h.reports_is;
       asking = h.asking;
       serving = (record h.serving.0 { handed = h.serving.0.handed ++ p.b.outbox }, goes _ h.serving.1);
     }
 
-posted_step : (p : Parts) (end : End) (more : List (List ℕ)) → AreParts p → 0 < length (side p end).outbox → segments_queued (side p end) ≤ most_segments → SentMore p end more → HandsOver p end
-    → AreThen p (event.Post end) (posted_parts p end more) (Ok (step.Posted (length (side p end).outbox)))
+posted_step : (p : Parts) (end : End) → AreParts p → 0 < length (side p end).outbox → segments_queued (side p end) ≤ most_segments → HandsOver p end
+    → AreThen p (event.Post end) (posted_parts p end) (Ok (step.Posted (length (side p end).outbox)))
 unfolding Steps
-posted_step p end more h some room splits goes =
-    let steps = posts p end more h some room in (
-      parts_posted p end more h room splits goes (kept-step (state_of p) (state_of (posted_parts p end more)) (event.Post end) (step.Posted (length (side p end).outbox)) steps h.world),
-      steps,
-    )
+posted_step p end h some room goes =
+    let steps = posts p end h some room in
+    (parts_posted p end h room goes (kept-step (state_of p) (state_of (posted_parts p end)) (event.Post end) (step.Posted (length (side p end).outbox)) steps h.world), steps)
 
 -- nothing was handed over
 pub post_refused : (p : Parts) (end : End) (f : WorldFault) → AreParts p → PostFault (side p end).link (side p end).outbox f → Went (state_of p) (event.Post end) (Err f) (state_of p)
 unfolding Steps Refuses
 post_refused p end fault.NothingToDo h none = (no_length (end_of (state_of p) end).waiting (waiting_is p end h ∙ ap length none), refl)
 post_refused p end fault.Exhausted h many = let n = waiting_is p end h in let all = segments_are p end h in ((omega (arith, many.0), omega (arith, many.1)), refl)
-post_refused p end fault.NoMemory h may = (((_, _, posts p end [] h may.0 may.1), λ t. t), refl)
+post_refused p end fault.NoMemory h may = ((_, _, posts p end h may.0 may.1, tt), refl)
 post_refused p end fault.NoSuchPacket h none = absurd none
 post_refused p end fault.Stale h none = absurd none
 post_refused p end (fault.Ask f) h none = absurd none
 post_refused p end fault.BadSetup h none = absurd none
 
-pub post_a : (p : Parts) (v : AskingValue) (posted : ℕ) (sent : List (List ℕ)) (r : Result Step WorldFault) → AreParts p
-    → IfOk r (λ answer. PostedSo p.a.outbox p.a.posted posted answer) → OnOk r (HandedAll (asking_end p) v (length p.a.outbox)) → OnOk r (SentAll p.a.outbox p.sent sent)
-    → OnErr r ((v ≡ asking_end p) × (posted ≡ p.a.posted) × (sent ≡ p.sent)) → IfErr r (PostFault p.a.link p.a.outbox)
-    → AreThen p (event.Post A) (record (asking_parts p v posted p.a.wire) { sent = sent }) r
-post_a p v posted sent (Ok answer) h so handed more same err =
-    let goes : HandsOver p A = λ past has. subst (λ (x : AskingValue). HasAsked (record past { handed = past.handed ++ p.a.outbox }) x) handed.posted (handed.past past has) in
-    let done = posted_step p A more.0 h so.2 handed.may.2 more.2 goes in
-    rw (so.0, handed.posted, so.1, more.1) done
-post_a p v posted sent (Err f) h so handed more same err = rw (same.0, same.1, same.2) (h, post_refused p A f h err)
+pub post_a : (p : Parts) (v : AskingValue) (posted : ℕ) (handed : List (List ℕ)) (r : Result Step WorldFault) → AreParts p
+    → IfOk r (λ answer. PostedSo p.a.outbox p.a.posted posted answer) → OnOk r (HandedAll (asking_end p) v (length p.a.outbox)) → OnOk r (handed ≡ p.handed ++ p.a.outbox)
+    → OnErr r ((v ≡ asking_end p) × (posted ≡ p.a.posted) × (handed ≡ p.handed)) → IfErr r (PostFault p.a.link p.a.outbox)
+    → AreThen p (event.Post A) (record (asking_parts p v posted p.a.wire) { handed = handed }) r
+post_a p v posted handed (Ok answer) h so all moved same err =
+    let goes : HandsOver p A = λ past has. subst (λ (x : AskingValue). HasAsked (record past { handed = past.handed ++ p.a.outbox }) x) all.posted (all.past past has) in
+    let done = posted_step p A h so.2 all.may.2 goes in
+    rw (so.0, all.posted, so.1, moved) done
+post_a p v posted handed (Err f) h so all moved same err = rw (same.0, same.1, same.2) (h, post_refused p A f h err)
 
 pub post_b : (p : Parts) (v : ServingValue) (posted : ℕ) (r : Result Step WorldFault) → AreParts p
     → IfOk r (λ answer. PostedSo p.b.outbox p.b.posted posted answer) → OnOk r (PostedAll (serving_end p) v (length p.b.outbox))
@@ -261,6 +246,6 @@ pub post_b : (p : Parts) (v : ServingValue) (posted : ℕ) (r : Result Step Worl
     → AreThen p (event.Post B) (serving_parts p v posted p.b.wire) r
 post_b p v posted (Ok answer) h so handed same err =
     let goes : HandsOver p B = λ past is. subst (λ (x : ServingValue). IsAfter (record past { handed = past.handed ++ p.b.outbox }) x) handed.posted (handed.past past is) in
-    let done = posted_step p B [] h so.2 handed.may.2 tt goes in
+    let done = posted_step p B h so.2 handed.may.2 goes in
     rw (so.0, handed.posted, so.1) done
 post_b p v posted (Err f) h so handed same err = rw (same.0, same.1) (h, post_refused p B f h err)

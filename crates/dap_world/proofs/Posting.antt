@@ -42,7 +42,7 @@ posted_none old new end went =
 
 pub post_refused : (old new : State) (end : End) (f : WorldFault) → (f ≡ fault.NothingToDo → ⊥) → Went old (event.Post end) (Err f) new → 0 < length (end_of old end).waiting
 unfolding Steps Refuses
-post_refused old new end fault.NoMemory other went = went.0.0.2.0
+post_refused old new end fault.NoMemory other went = went.0.2.0
 post_refused old new end fault.Exhausted other went = went.0.0
 post_refused old new end fault.NothingToDo other went = absurd (other refl)
 post_refused old new end fault.NoSuchPacket other went = absurd went.0

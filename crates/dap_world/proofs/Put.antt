@@ -9,7 +9,7 @@ use Rattle.dap_world.specs.declared.event.Step.TheVariants as step
 use Rattle.dap_world.specs.Inner.Sides.{WroteOne}
 
 pub wrote_put : (v : LinkValue) (old mid new : List Wired) (w : Wired) (k : Option ℕ) (answer : Step) → mid ≡ old → new ≡ mid ++ w ∷ [] → answer ≡ step.Packet (length mid)
-    → w.segment ≡ k → w.acks ≡ v.received → WritesSent v k w.packet.items → WroteOne v old new k answer
+    → w.segment ≡ k → w.acks ≡ v.coming.received → WritesSent v k w.packet.items → WroteOne v old new k answer
 wrote_put v old mid new w k answer same wire place segment acks writes =
     record {
       place = place ∙ ap (λ (l : List Wired). step.Packet (length l)) same;

@@ -1,5 +1,5 @@
 -- Reading an answer is a step of the machine.
-use Rattle.std.proofs.Common.{◌≡◌, ◌≢◌, ℕ, ◌+◌, ◌^◌, ◌≤◌, ◌<◌, arith, refl, sym, ◌∙◌, subst, ap, append_assoc, true, List, [], ◌∷◌, ◌++◌, length, take, drop, map, eq-eqb}
+use Rattle.std.proofs.Common.{◌≡◌, ◌≢◌, ℕ, ◌+◌, ◌^◌, ◌≤◌, ◌<◌, arith, refl, sym, ◌∙◌, subst, ap, append_assoc, true, false, List, [], ◌∷◌, ◌++◌, length, take, drop, map, eq-eqb}
 use Rattle.std.specs.Prelude.{◌==◌, if◌then◌else◌, option_to_list, Option, Some, None, Ok, Err, slice_get}
 use Rattle.std.proofs.lemmas.List.{length-append, map-append, append-nil}
 use Rattle.std.proofs.lemmas.Bool.{ne_eqb}
@@ -17,8 +17,8 @@ use Rattle.dap_world.specs.declared.event.Event.TheVariants as event
 use Rattle.dap_world.specs.declared.event.Step.{Step}
 use Rattle.dap_world.specs.declared.event.Step.TheVariants as step
 use Rattle.dap_world.specs.declared.event.WorldFault.TheVariants as fault
-use Rattle.dap_world.specs.Machine.{Refuses, arrived, arrived_at, taken_of, answers_read, read_one, next_to_read, told_by, reported, Steps}
-use Rattle.dap_world.specs.Runs.{Went, MayHappen}
+use Rattle.dap_world.specs.Machine.{Refuses, State, arrived, arrived_at, taken_of, answers_read, read_one, next_to_read, told_by, reported, Steps}
+use Rattle.dap_world.specs.Runs.{Went, TakesMemory, WantsMemory}
 use Rattle.dap_world.specs.Inner.Worlds.{IsWorld}
 use Rattle.dap_fields.specs.Spelling.{AreBytes}
 use Rattle.dap_accessing.specs.Calls.{ReadRefused}
@@ -26,9 +26,7 @@ use Rattle.dap_accessing.specs.declared.fault.ReadFault.{ReadFault}
 use Rattle.dap_accessing.specs.declared.fault.ReadFault.TheVariants as read_fault
 use Rattle.dap_end.specs.Ports.{PortValue, oldest}
 use Rattle.dap_end.specs.Going.{given_then}
-use Rattle.dap_end.specs.Asking.{AskingValue, HasAsked, ReadNext, ReadNone, ReadOne}
-use Rattle.dap_end.specs.declared.asking.Heard.{Heard}
-use Rattle.dap_end.specs.declared.asking.Heard.TheVariants as heard
+use Rattle.dap_end.specs.Asking.{AskingValue, HasAsked, ReadNone, ReadOne}
 use Rattle.dap_end.proofs.ForCallers.{answers_full, in_append}
 use Rattle.dap_world.specs.Inner.Sides.{AreShort, KeptSo, side_of}
 use Rattle.dap_world.specs.Inner.Parts.{Parts, AreParts, IsAskedAll, asks, answers, asking_end, served_items, state_of}
@@ -48,14 +46,14 @@ all-answered p h =
     sym (in_append (take p.b.posted (answers p)) (drop p.b.posted (answers p))) ∙ h.world.answered
 
 -- what is read next from B is of its message
-pub next_answer : (p : Parts) (bytes : List ℕ) (later : List (List ℕ)) → AreParts p → p.a.link.inbox ≡ bytes ∷ later → Next p.b p.a (answers p) p.read bytes
+pub next_answer : (p : Parts) (bytes : List ℕ) (later : List (List ℕ)) → AreParts p → p.a.link.coming.inbox ≡ bytes ∷ later → Next p.b p.a (answers p) p.read bytes
 next_answer p bytes later h inbox =
     find_next p.b p.a (answers p) p.read h.from_b bytes later
     (full-take p.b.posted (answers p) (answers_full p.accessed.own [] [] (served_items p))) (fit-take p.b.posted (answers p) h.from_b.fit) inbox
 
 next_read : (p : Parts) (bytes : List ℕ) → AreParts p → (n : Next p.b p.a (answers p) p.read bytes) → next_to_read (state_of p) ≡ Some n.m
 next_read p bytes h n =
-    subst (λ (size : ℕ). slice_get (messages_in (arrived size p.a.link.received (take p.b.posted (answers p)))) p.read ≡ Some n.m) h.alike.size n.next
+    subst (λ (size : ℕ). slice_get (messages_in (arrived size p.a.link.coming.received (take p.b.posted (answers p)))) p.read ≡ Some n.m) h.alike.size n.next
 
 -- the answers read, once one more is
 read-more : (p : Parts) (m : Message) → AreParts p → next_to_read (state_of p) ≡ Some m → answers_read (read_one (state_of p)) ≡ answers_read (state_of p) ++ Whole m ∷ []
@@ -86,28 +84,32 @@ few_read p h =
     let s = state_of p in
     let packets = take p.b.posted (answers p) in
     let front = arrived-front s.seg_size s.a.taken s.b.handed in
-    few_messages p.b.link.seg_size packets p.read (omega (arith, h.world.read, ap length front.1, length-append (messages_in (arrived s.seg_size s.a.taken s.b.handed)) front.0))
-    (fit-take p.b.posted (answers p) h.from_b.fit) p.a.link.max_message
-    (subst (AreShort p.a.link.max_message) (handed-bytes p.b.posted h.from_b.handed p.b.outbox (answers p) h.from_b.posted h.from_b.bytes) h.from_b.way.short) h.most
-    (subst (λ (l : List (List ℕ)). length (cut p.b.link.seg_size l) ≤ most_segments) (handed-bytes p.b.posted h.from_b.handed p.b.outbox (answers p) h.from_b.posted h.from_b.bytes) h.from_b.way.few)
+    few_messages p.b.link.setup.seg_size packets p.read (omega (arith, h.world.read, ap length front.1, length-append (messages_in (arrived s.seg_size s.a.taken s.b.handed)) front.0))
+    (fit-take p.b.posted (answers p) h.from_b.fit) p.a.link.setup.max_message
+    (subst (AreShort p.a.link.setup.max_message) (handed-bytes p.b.posted h.from_b.handed p.b.outbox (answers p) h.from_b.posted h.from_b.bytes) h.from_b.way.short) h.most
+    (subst (λ (l : List (List ℕ)). length (cut p.b.link.setup.seg_size l) ≤ most_segments) (handed-bytes p.b.posted h.from_b.handed p.b.outbox (answers p) h.from_b.posted h.from_b.bytes) h.from_b.way.few)
 
 -- ---- None is read.
 
-pub reads_nothing : (p : Parts) → AreParts p → p.a.link.inbox ≡ [] → Went (state_of p) event.Read (Err fault.NothingToDo) (state_of p)
+pub reads_nothing : (p : Parts) → AreParts p → p.a.link.coming.inbox ≡ [] → Went (state_of p) event.Read (Err fault.NothingToDo) (state_of p)
 unfolding Refuses
 reads_nothing p h empty =
-    (subst (λ (size : ℕ). slice_get (messages_in (arrived size p.a.link.received (take p.b.posted (answers p)))) p.read ≡ None) h.alike.size (none_next p.b p.a (answers p) p.read h.from_b empty), refl)
+    (subst (λ (size : ℕ). slice_get (messages_in (arrived size p.a.link.coming.received (take p.b.posted (answers p)))) p.read ≡ None) h.alike.size (none_next p.b p.a (answers p) p.read h.from_b empty), refl)
 
-pub reads_later : (p : Parts) → AreParts p → 0 < length p.a.link.inbox → Went (state_of p) event.Read (Err fault.NoMemory) (state_of p)
+-- whatever a reading comes to, it may take memory
+told_takes_some : (old new : State) → TakesMemory (told_by old new)
+told_takes_some old new = elim (length (reported new) == length (reported old)) as (λ b. TakesMemory (if b then step.Nothing else step.Reported)) [ true ↦ tt | false ↦ tt ]
+
+pub reads_later : (p : Parts) → AreParts p → 0 < length p.a.link.coming.inbox → Went (state_of p) event.Read (Err fault.NoMemory) (state_of p)
 unfolding Steps
-reads_later p h some = (may_read p.a.link.inbox refl some, refl)
+reads_later p h some = (may_read p.a.link.coming.inbox refl some, refl)
   where
-    may_read : (inbox : List (List ℕ)) → p.a.link.inbox ≡ inbox → 0 < length inbox → MayHappen (state_of p) event.Read × (⊥ → ⊥)
+    may_read : (inbox : List (List ℕ)) → p.a.link.coming.inbox ≡ inbox → 0 < length inbox → WantsMemory (state_of p) event.Read
     may_read [] e some = let none : ⊥ = omega arith in absurd none
-    may_read (bytes ∷ later) e some = let n = next_answer p bytes later h e in ((_, _, reads p n.m (next_read p bytes h n)), λ t. t)
+    may_read (bytes ∷ later) e some = let n = next_answer p bytes later h e in (_, _, reads p n.m (next_read p bytes h n), told_takes_some (state_of p) (read_one (state_of p)))
 
 -- the answer has its place, so that it was refused for memory
-same_present : (p : Parts) (new : accessing.Present) (bytes : List ℕ) (later : List (List ℕ)) (f : ReadFault) → AreParts p → p.a.link.inbox ≡ bytes ∷ later → AreBytes bytes
+same_present : (p : Parts) (new : accessing.Present) (bytes : List ℕ) (later : List (List ℕ)) (f : ReadFault) → AreParts p → p.a.link.coming.inbox ≡ bytes ∷ later → AreBytes bytes
     → ReadRefused bytes p.a.place p.accessing new f → new ≡ p.accessing
 same_present p new bytes later read_fault.Failed h came fits refused = refused.1
 same_present p new bytes later read_fault.NoMemory h came fits refused = refused.1
@@ -118,7 +120,7 @@ same_present p new bytes later read_fault.Unexpected h came fits refused =
     absurd (has_place p n.m h (next_read p bytes h n)
     (ap (λ (i : Item). is_unexpected p.requests (answers_read (state_of p)) i) one.0 ∙ there.3 p.requests (answers_read (state_of p)) h.asking.1.asking))
 
-pub not_read : (p : Parts) (v : AskingValue) (f : ReadFault) (reports : List Report) → AreParts p → AreBytes (oldest p.a.link.inbox) → ReadNone (asking_end p) v f → reports ≡ p.reports
+pub not_read : (p : Parts) (v : AskingValue) (f : ReadFault) (reports : List Report) → AreParts p → AreBytes (oldest p.a.link.coming.inbox) → ReadNone (asking_end p) v f → reports ≡ p.reports
     → AreThen p event.Read (record (asking_parts p v p.a.posted p.a.wire) { reports = reports }) (Err fault.NoMemory)
 not_read p v f reports h fits o told =
     let bytes : AreBytes o.bytes = subst (λ (l : List (List ℕ)). AreBytes (oldest l)) o.came fits in
@@ -165,13 +167,13 @@ read_so p v report reports h o kept =
     let parts : AreParts q =
     record {
       world = world-read p m h next;
-      alike = record { here = h.alike.here; there = h.alike.there; size = h.alike.size; window = h.alike.window; limit = h.alike.limit };
+      alike = h.alike;
       limit_a = h.limit_a;
       limit_b = h.limit_b;
       most = h.most;
-      from_a = told_moved p.a p.b (asks p) p.served t.link.inbox t.place h.from_a;
+      from_a = told_moved p.a p.b (asks p) p.served t.link.coming.inbox t.place h.from_a;
       from_b = handled_one p.b p.a (answers p) p.read o.one.bytes o.one.later o.one.next h.from_b x o.one.came one.1;
-      sent_is = h.sent_is;
+      handed_is = h.handed_is;
       reports_is = kept ∙ ap (λ (l : List Report). l ++ option_to_list report) h.reports_is ∙ sym adds;
       asking = asking;
       serving = h.serving;
@@ -181,12 +183,11 @@ read_so p v report reports h o kept =
     subst (λ (port : PortValue). AreThen p event.Read (record p { a = side_of port p.a.posted p.a.wire; accessing = v.accessing; reports = reports; read = p.read + 1 }) (Ok (told_step report))) (sym o.port)
     (subst (λ (y : accessing.Present). AreThen p event.Read (record p { a = t; accessing = y; reports = reports; read = p.read + 1 }) (Ok (told_step report))) (sym own) done)
 
-pub read_step : (p : Parts) (v : AskingValue) (heard : Heard) (reports : List Report) (answer : Step) → AreParts p → 0 < length p.a.link.inbox → ReadNext (asking_end p) v heard → KeptSo heard p.reports reports answer
+pub read_step : (p : Parts) (v : AskingValue) (report : Option Report) (reports : List Report) (answer : Step) → AreParts p → ReadOne (asking_end p) v report → KeptSo report p.reports reports answer
     → AreThen p event.Read (record (asking_parts p v p.a.posted p.a.wire) { reports = reports; read = p.read + 1 }) (Ok answer)
-read_step p v heard.Nothing reports answer h some o kept = absurd (let none = ap length o.0 in omega (arith, some, none))
-read_step p v heard.Part reports answer h some o kept =
+read_step p v None reports answer h o kept =
     subst (λ (a : Step). AreThen p event.Read (record (asking_parts p v p.a.posted p.a.wire) { reports = reports; read = p.read + 1 }) (Ok a)) (sym kept.0)
     (read_so p v None reports h o (kept.1 ∙ sym (append-nil p.reports)))
-read_step p v (heard.Report report) reports answer h some o kept =
+read_step p v (Some report) reports answer h o kept =
     subst (λ (a : Step). AreThen p event.Read (record (asking_parts p v p.a.posted p.a.wire) { reports = reports; read = p.read + 1 }) (Ok a)) (sym kept.0)
     (read_so p v (Some report) reports h o kept.1)

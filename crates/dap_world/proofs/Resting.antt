@@ -1,16 +1,13 @@
 -- What events of the links leave alone, whatever comes of them.
-use Rattle.std.proofs.Common.{◌≡◌, ℕ, refl, sym, ◌∙◌, subst, ap, Ok, Err}
+use Rattle.std.proofs.Common.{◌≡◌, ℕ, arith, refl, ◌∙◌, subst, sym, Ok, Err}
 use Rattle.std.specs.Prelude.{Result}
 use Rattle.dap_world.specs.declared.event.End.{End}
 use Rattle.dap_world.specs.declared.event.End.TheVariants.{A, B}
 use Rattle.dap_world.specs.declared.event.Event.TheVariants as event
 use Rattle.dap_world.specs.declared.event.Step.{Step}
 use Rattle.dap_world.specs.declared.event.WorldFault.{WorldFault}
-use Rattle.std.proofs.Common.{List}
-use Rattle.dap_msg.specs.Blocked.{NspMessage}
-use Rattle.dap_accessing.specs.Request.{Request}
-use Rattle.dap_world.specs.Machine.{State, EndState, end_of, Steps}
-use Rattle.dap_world.specs.Settling.{SendsNothing, moved}
+use Rattle.dap_world.specs.Machine.{State, end_of, Steps}
+use Rattle.dap_world.specs.Settling.{work}
 use Rattle.dap_world.specs.Runs.{Went}
 use Rattle.dap_world.specs.Inner.Worlds.{IsWorld}
 use Rattle.dap_world.specs.Inner.Settling.{SameBut, NothingSent}
@@ -54,24 +51,5 @@ same_emitted old new end (Err f) went = (rest_is old new (refused_same old new (
 
 -- ---- Said by a state.
 
-moved_is : (old new : EndState) → new.waiting ≡ old.waiting → new.handed ≡ old.handed → new.sent ≡ old.sent → new ≡ moved old new
-moved_is old new a b c =
-    ap (λ (l : List NspMessage). record new { waiting = l }) a ∙ ap (λ (l : List NspMessage). record new { waiting = old.waiting; handed = l }) b
-    ∙ ap (λ (n : ℕ). record new { waiting = old.waiting; handed = old.handed; sent = n }) c
-
-pub sends_nothing : (old new : State) → NothingSent old new → SendsNothing old new
-sends_nothing old new h =
-    let at : ℕ → ℕ → ℕ → ℕ → List Request → EndState → EndState → ℕ → ℕ → State =
-    λ seg_size window own_a own_b requests a b served read.
-    record { seg_size = seg_size; window = window; own_a = own_a; own_b = own_b; requests = requests; a = a; b = b; served = served; read = read } in
-    let a = moved_is old.a new.a (h.same.waiting A) (h.same.handed A) (h.sent A) in
-    let b = moved_is old.b new.b (h.same.waiting B) (h.same.handed B) (h.sent B) in
-    ap (λ x. at x new.window new.own_a new.own_b new.requests new.a new.b new.served new.read) h.same.seg_size
-    ∙ ap (λ x. at old.seg_size x new.own_a new.own_b new.requests new.a new.b new.served new.read) h.same.window
-    ∙ ap (λ x. at old.seg_size old.window x new.own_b new.requests new.a new.b new.served new.read) h.same.own_a
-    ∙ ap (λ x. at old.seg_size old.window old.own_a x new.requests new.a new.b new.served new.read) h.same.own_b
-    ∙ ap (λ x. at old.seg_size old.window old.own_a old.own_b x new.a new.b new.served new.read) h.same.requests
-    ∙ ap (λ x. at old.seg_size old.window old.own_a old.own_b old.requests x new.b new.served new.read) a
-    ∙ ap (λ x. at old.seg_size old.window old.own_a old.own_b old.requests (moved old.a new.a) x new.served new.read) b
-    ∙ ap (λ x. at old.seg_size old.window old.own_a old.own_b old.requests (moved old.a new.a) (moved old.b new.b) x new.read) h.same.served
-    ∙ ap (λ x. at old.seg_size old.window old.own_a old.own_b old.requests (moved old.a new.a) (moved old.b new.b) old.served x) h.same.read
+pub no_work : (old new : State) → NothingSent old new → work new ≡ work old
+no_work old new h = omega (arith, h.sent A, h.sent B, h.same.served, h.same.read)

@@ -18,8 +18,9 @@ use Rattle.dap_world.specs.declared.event.Step.TheVariants as step
 use Rattle.dap_world.specs.declared.event.WorldFault.{WorldFault}
 use Rattle.dap_world.specs.declared.event.WorldFault.TheVariants as fault
 use Rattle.dap_world.specs.Machine.{State, arrived, taken_of, answers_read, answering, served_one, next_to_serve, Steps, Refuses, reported}
-use Rattle.dap_world.specs.Runs.{Went, MayHappen}
+use Rattle.dap_world.specs.Runs.{Went, WantsMemory}
 use Rattle.dap_world.specs.Inner.Worlds.{IsWorld}
+use Rattle.nsp_link.specs.Link.{with_inbox}
 use Rattle.dap_end.specs.Ports.{PortValue}
 use Rattle.dap_end.specs.Serving.{ServingValue, Past, IsAfter, MayServe, ServedOne, served}
 use Rattle.dap_end.proofs.ForCallers.{answer_to, answers-more, back_fit, front_fit, front_full, in_append}
@@ -56,18 +57,18 @@ asked-split p =
 pub served_is : (p : Parts) → AreParts p → served_items p ≡ map Whole (taken_of (state_of p))
 served_is p h =
     let handed = take p.a.posted (asks p) in
-    let front = arrived-front p.a.link.seg_size p.b.link.received handed in
+    let front = arrived-front p.a.link.setup.seg_size p.b.link.coming.received handed in
     ap (λ (l : List Message). map Whole (take p.served l)) (sym (asked-split p))
     ∙ ap (map Whole) (take-append-le p.served (messages_in handed) (messages_in (drop p.a.posted (asks p)))
-    (omega (arith, h.world.served, length-append (messages_in (arrived p.a.link.seg_size p.b.link.received handed)) front.0, ap length front.1)))
+    (omega (arith, h.world.served, length-append (messages_in (arrived p.a.link.setup.seg_size p.b.link.coming.received handed)) front.0, ap length front.1)))
 
 -- one more
 served_more : (p : Parts) (m : Message) → next_to_serve (state_of p) ≡ Some m → take (p.served + 1) (Asked p.accessing.own p.requests) ≡ take p.served (Asked p.accessing.own p.requests) ++ m ∷ []
 served_more p m next =
     let handed = take p.a.posted (asks p) in
-    let front = arrived-front p.a.link.seg_size p.b.link.received handed in
+    let front = arrived-front p.a.link.setup.seg_size p.b.link.coming.received handed in
     let here : slice_get (messages_in handed) p.served ≡ Some m =
-    subst (λ (l : List Message). slice_get l p.served ≡ Some m) front.1 (get-front (messages_in (arrived p.a.link.seg_size p.b.link.received handed)) front.0 p.served m next) in
+    subst (λ (l : List Message). slice_get l p.served ≡ Some m) front.1 (get-front (messages_in (arrived p.a.link.setup.seg_size p.b.link.coming.received handed)) front.0 p.served m next) in
     take-next (Asked p.accessing.own p.requests) p.served m
     (subst (λ (l : List Message). slice_get l p.served ≡ Some m) (asked-split p) (get-front (messages_in handed) (messages_in (drop p.a.posted (asks p))) p.served m here))
 
@@ -108,7 +109,7 @@ module _ (p : Parts) (h : AreParts p) (m : Message) (next : next_to_serve (state
   abbrev q_of : (inbox : List (List ℕ)) (place : ℕ) (outbox : List (List ℕ)) → accessed.Present → Parts
   q_of inbox place outbox after =
       record p {
-        b = record p.b { link = record p.b.link { inbox = inbox }; place = place; outbox = outbox };
+        b = record p.b { link = with_inbox p.b.link inbox; place = place; outbox = outbox };
         accessed = kept_own p after;
         served = p.served + 1;
       }
@@ -144,44 +145,44 @@ module _ (p : Parts) (h : AreParts p) (m : Message) (next : next_to_serve (state
   serves = (m, none_waits, next, refl, refl)
 
   -- none of the NSP messages is longer than A takes
-  block_short : AreShort p.b.link.max_message (all_joined (answer_to p.accessed.own [] (map Whole (taken_of (state_of p))) (Whole m)))
+  block_short : AreShort p.b.link.setup.max_message (all_joined (answer_to p.accessed.own [] (map Whole (taken_of (state_of p))) (Whole m)))
   block_short =
       let s = state_of p in
       let front = served-front (served_one s m) (kept-step s (served_one s m) event.Serve (step.Served (length (answering s m))) serves h.world) in
       let all : (taken_of s ++ m ∷ []) ++ front.0 ≡ Asked p.accessing.own p.requests = ap (λ (l : List Message). l ++ front.0) (sym (taken-more s m next)) ∙ front.1 in
-      all_short p.accessing.own p.b.link.max_message _ (omega (arith, h.limit_a, h.alike.limit))
+      all_short p.accessing.own p.b.link.setup.max_message _ (omega (arith, h.limit_a, h.alike.limit))
       (answers-blocked p.accessing.own p.accessed.own h.world.own_a h.world.own_b p.requests (map Whole (taken_of s)) (map Whole front.0) (Whole m)
       (sym (map-append Whole (taken_of s) (m ∷ front.0)) ∙ ap (map Whole) (sym (append_assoc (taken_of s) (m ∷ []) front.0) ∙ all)))
 
   parts_served : (bytes : List ℕ) (later outbox : List (List ℕ)) (next_place : ℕ) (after : accessed.Present) (n : Next p.a p.b (asks p) p.served bytes)
-      → n.m ≡ m → p.b.link.inbox ≡ bytes ∷ later → length (joined n.begun) + length (canon n.m) ≡ next_place
+      → n.m ≡ m → p.b.link.coming.inbox ≡ bytes ∷ later → length (joined n.begun) + length (canon n.m) ≡ next_place
       → outbox ≡ all_joined (answer_to p.accessed.own [] (map Whole (taken_of (state_of p))) (Whole m)) → AllFit (added p.accessed.own [] (map Whole (taken_of (state_of p))) (Whole m))
       → (let s = handled_side p.b bytes later next_place in
-      IsServedAll (serving_end (q_of s.link.inbox s.place outbox after)) (map Whole (taken_of (state_of p)) ++ Whole m ∷ []) → AreParts (q_of s.link.inbox s.place outbox after))
+      IsServedAll (serving_end (q_of s.link.coming.inbox s.place outbox after)) (map Whole (taken_of (state_of p)) ++ Whole m ∷ []) → AreParts (q_of s.link.coming.inbox s.place outbox after))
   unfolding reported
   parts_served bytes later outbox next_place after n same inbox goes outbox_is fit serving =
       let s = handled_side p.b bytes later next_place in
-      let q = q_of s.link.inbox s.place outbox after in
-      let state = state_served s.link.inbox s.place outbox after in
+      let q = q_of s.link.coming.inbox s.place outbox after in
+      let state = state_served s.link.coming.inbox s.place outbox after in
       let world = kept-step (state_of p) (served_one (state_of p) m) event.Serve (step.Served (length (answering (state_of p) m))) serves h.world in
       let taken : taken_of (served_one (state_of p) m) ≡ taken_of (state_of p) ++ m ∷ [] = taken-more (state_of p) m next in
       let b = answer_to p.accessed.own [] (served_items p) (Whole m) in
-      let all = messages_in-Blocked (stands_after p.accessed.own [] (served_items p)).standing.limit (added p.accessed.own [] (served_items p) (Whole m)) in
+      let all = messages_in-Blocked (stands_after p.accessed.own [] (served_items p)).standing.scene.limit (added p.accessed.own [] (served_items p) (Whole m)) in
       let fit_block : AllFit (messages_in b) = subst AllFit (sym all) (subst (λ (l : List Item). AllFit (added p.accessed.own [] l (Whole m))) (sym (served_is p h)) fit) in
-      let short : AreShort p.b.link.max_message outbox = subst (AreShort p.b.link.max_message) (sym outbox_is) block_short in
+      let short : AreShort p.b.link.setup.max_message outbox = subst (AreShort p.b.link.setup.max_message) (sym outbox_is) block_short in
       let block_is : outbox ≡ all_joined b = outbox_is ∙ ap (λ (l : List Item). all_joined (answer_to p.accessed.own [] l (Whole m))) (sym (served_is p h)) in
       let read : answers_read (served_one (state_of p) m) ≡ answers_read (state_of p) =
       ap (λ (l : List Message). map Whole (take p.read (Answers p.accessed.own [] (map Whole l)))) taken ∙ ap (map Whole) (read-stays p m h) in
       record {
         world = subst IsWorld (sym state) world;
-        alike = record { here = h.alike.here; there = h.alike.there; size = h.alike.size; window = h.alike.window; limit = h.alike.limit };
+        alike = h.alike;
         limit_a = h.limit_a;
         limit_b = h.limit_b;
         most = h.most;
         from_a = handled_one p.a p.b (asks p) p.served bytes later next_place h.from_a n inbox goes;
         from_b = subst (λ (l : List NspMessage). IsTold q.b p.a l p.read) (sym answers_are)
-            (told_more p.b p.a (answers p) b p.read s.link.inbox s.place outbox outbox h.from_b (ap (λ (l : List (List ℕ)). l ++ outbox) (sym idle)) block_is fit_block short);
-        sent_is = h.sent_is;
+            (told_more p.b p.a (answers p) b p.read s.link.coming.inbox s.place outbox outbox h.from_b (ap (λ (l : List (List ℕ)). l ++ outbox) (sym idle)) block_is fit_block short);
+        handed_is = h.handed_is;
         reports_is = h.reports_is ∙ ap (Told p.requests) (sym read) ∙ ap reported (sym state);
         asking = subst (λ (x : State). IsAskedAll (asking_end p) p.requests (answers_read x)) (sym state)
             (subst (λ (l : List Item). IsAskedAll (asking_end p) p.requests l) (sym read) h.asking);
@@ -190,7 +191,7 @@ module _ (p : Parts) (h : AreParts p) (m : Message) (next : next_to_serve (state
       }
 
 -- what is read next from A is of its message
-pub next_of : (p : Parts) (bytes : List ℕ) (later : List (List ℕ)) → AreParts p → p.b.link.inbox ≡ bytes ∷ later → Next p.a p.b (asks p) p.served bytes
+pub next_of : (p : Parts) (bytes : List ℕ) (later : List (List ℕ)) → AreParts p → p.b.link.coming.inbox ≡ bytes ∷ later → Next p.a p.b (asks p) p.served bytes
 next_of p bytes later h inbox =
     find_next p.a p.b (asks p) p.served h.from_a bytes later
     (full-take p.a.posted (asks p) (asked-full p.accessing.own p.accessed.own p.requests)) (fit-take p.a.posted (asks p) h.from_a.fit) inbox
@@ -204,18 +205,18 @@ unserved [] (x ∷ inbox) denied = absurd (denied (refl, omega arith))
 pub serves_nothing : (p : Parts) → AreParts p → (MayServe (serving_end p) → ⊥) → Went (state_of p) event.Serve (Err fault.NothingToDo) (state_of p)
 unfolding Refuses
 serves_nothing p h denied =
-    elim (unserved p.b.outbox p.b.link.inbox denied) as (λ _. Went (state_of p) event.Serve (Err fault.NothingToDo) (state_of p)) [
+    elim (unserved p.b.outbox p.b.link.coming.inbox denied) as (λ _. Went (state_of p) event.Serve (Err fault.NothingToDo) (state_of p)) [
       | inl waiting ↦ (inl (omega (arith, waiting, waits p.b p.a (answers p) p.read h.from_b)), refl)
       | inr empty ↦ (inr (none_next p.a p.b (asks p) p.served h.from_a empty), refl)
     ]
 
 pub serves_later : (p : Parts) → AreParts p → MayServe (serving_end p) → Went (state_of p) event.Serve (Err fault.NoMemory) (state_of p)
 unfolding Steps
-serves_later p h may = (may_serve p.b.link.inbox refl may.1, refl)
+serves_later p h may = (may_serve p.b.link.coming.inbox refl may.1, refl)
   where
-    may_serve : (inbox : List (List ℕ)) → p.b.link.inbox ≡ inbox → 0 < length inbox → MayHappen (state_of p) event.Serve × (⊥ → ⊥)
+    may_serve : (inbox : List (List ℕ)) → p.b.link.coming.inbox ≡ inbox → 0 < length inbox → WantsMemory (state_of p) event.Serve
     may_serve [] e some = let none : ⊥ = omega arith in absurd none
-    may_serve (bytes ∷ later) e some = let n = next_of p bytes later h e in ((_, _, serves p h n.m n.next may.0), λ t. t)
+    may_serve (bytes ∷ later) e some = let n = next_of p bytes later h e in (_, _, serves p h n.m n.next may.0, tt)
 
 pub not_served : (p : Parts) (v : ServingValue) (f : WorldFault) → AreParts p → v ≡ serving_end p → Went (state_of p) event.Serve (Err f) (state_of p)
     → AreThen p event.Serve (serving_parts p v p.b.posted p.b.wire) (Err f)
@@ -267,13 +268,13 @@ served_step p v n h o =
     let outbox = v.port.outbox in
     let own = own_is p v n h o m one.0 in
     let is = outbox_is p v n h o m one.0 in
-    let q = q_of p h m x.next o.idle t.link.inbox t.place outbox v.accessed in
+    let q = q_of p h m x.next o.idle t.link.coming.inbox t.place outbox v.accessed in
     let serving : IsServedAll (serving_end q) (map Whole (taken_of (state_of p)) ++ Whole m ∷ []) =
     (now p v n h o m one.0, subst (λ (port : PortValue). IsAfter (now p v n h o m one.0) (record { port = port; accessed = record v.accessed { own = p.accessed.own } })) o.port (is_after p v n h o m one.0)) in
     let parts : AreParts q = parts_served p h m x.next o.idle o.one.bytes o.one.later outbox o.one.next v.accessed x refl o.one.came one.1 is (added_fit p v n h o m one.0) serving in
     let count : length (answering (state_of p) m) ≡ n = sym (length-map (answering (state_of p) m) joined) ∙ ap length (sym is) ∙ sym o.count in
     let went : Steps (state_of p) event.Serve (step.Served n) (state_of q) =
-    subst (λ (y : State). Steps (state_of p) event.Serve (step.Served n) y) (sym (state_served p h m x.next o.idle t.link.inbox t.place outbox v.accessed))
+    subst (λ (y : State). Steps (state_of p) event.Serve (step.Served n) y) (sym (state_served p h m x.next o.idle t.link.coming.inbox t.place outbox v.accessed))
     (subst (λ (k : ℕ). Steps (state_of p) event.Serve (step.Served k) (served_one (state_of p) m)) count (serves p h m x.next o.idle)) in
     subst (λ (port : PortValue). AreThen p event.Serve (record p { b = side_of port p.b.posted p.b.wire; accessed = v.accessed; served = p.served + 1 }) (Ok (step.Served n))) (sym o.port)
     (subst (λ (y : accessed.Present). AreThen p event.Serve (record p { b = record t { outbox = outbox }; accessed = y; served = p.served + 1 }) (Ok (step.Served n))) (sym own) (parts, went))

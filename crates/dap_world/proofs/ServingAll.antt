@@ -1,9 +1,7 @@
 -- Every message is served.
-use Rattle.std.proofs.Common.{◌≡◌, ℕ, zero, suc, ◌+◌, ◌-◌, ◌≤◌, ◌<◌, arith, refl, sym, ◌∙◌, subst, ap, true, false, List, [], ◌∷◌, length, map, take, inl, inr}
+use Rattle.std.proofs.Common.{◌≡◌, ℕ, zero, suc, ◌+◌, ◌-◌, ◌≤◌, ◌<◌, arith, refl, sym, ◌∙◌, subst, ap, true, false, List, [], ◌∷◌, length, inl, inr}
 use Rattle.std.specs.Prelude.{nat_le, if◌then◌else◌, None, Err, slice_get}
-use Rattle.std.proofs.lemmas.List.{length-map}
-use Rattle.std.proofs.lemmas.Grind.{common_steps}
-use Rattle.dap_msg.specs.Canon.{canon}
+use Rattle.std.proofs.lemmas.Bool.{cases_lt}
 use Rattle.dap_msg.specs.Message.{Message}
 use Rattle.dap_msg.specs.Blocked.{NspMessage, joined, messages_in}
 use Rattle.nsp_link.specs.Cutting.{count_of}
@@ -12,13 +10,13 @@ use Rattle.dap_world.specs.declared.event.Event.TheVariants as event
 use Rattle.dap_world.specs.declared.event.Step.{Step}
 use Rattle.dap_world.specs.declared.event.WorldFault.{WorldFault}
 use Rattle.dap_world.specs.declared.event.WorldFault.TheVariants as fault
-use Rattle.dap_world.specs.Machine.{State, EndState, arrived, arrived_at, segments_of, sent_by, taken_of, Steps, Refuses}
+use Rattle.dap_world.specs.Machine.{State, EndState, arrived, arrived_at, segments_of, sent_by, Steps, Refuses}
 use Rattle.dap_world.specs.Runs.{Went}
 use Rattle.dap_world.specs.Inner.Worlds.{IsWorld}
-use Rattle.dap_world.specs.Settling.{RanBy, RanTo, IsEmpty, IsExhausted, IsPostDue, FinishFault}
-use Rattle.dap_world.specs.Inner.Settling.{AreEmpty, Emptied, Served, ServedEvery}
+use Rattle.dap_world.specs.Settling.{RanBy, IsEmpty, IsExhausted, IsPostDue}
+use Rattle.dap_world.specs.Inner.Settling.{AreEmpty, Emptied, Halts, IsServed, Served, ServedEvery}
 use Rattle.dap_world.proofs.Exhausting.{quiet_empty, quiet_enough}
-use Rattle.dap_world.proofs.Kept.{headline_of}
+use Rattle.dap_world.proofs.Kept.{headline_of, kept-step}
 use Rattle.dap_world.proofs.Posting.{still_other}
 use Rattle.dap_world.proofs.Settles.{ran_none, ran_one, ran_both}
 
@@ -44,20 +42,6 @@ pub none_past : (xs : List Message) (n : ℕ) → n < length xs → slice_get xs
 none_past [] n lt e = omega (arith, lt)
 none_past (x ∷ xs) zero lt e = cc
 none_past (x ∷ xs) (suc n) lt e = none_past xs n (omega (arith, lt)) e
-
-pub serve_refused : (old now new : State) (n k : ℕ) (f : WorldFault) → IsWorld now → Served old now n k → now.served < length (sent_by now.a) → Went now event.Serve (Err f) new → FinishFault new f × RanTo old new
-unfolding Steps Refuses
-serve_refused old now new n k fault.NoMemory w h lt went = (subst (λ (s : State). IsExhausted s → ⊥) (sym went.1) (quiet_enough now (quiet_empty now h.empty)), (n, subst (λ (s : State). RanBy old s n) (sym went.1) h.ran))
-serve_refused old now new n k fault.NothingToDo w h lt went =
-    elim went.0 [
-      | inl some ↦ absurd (omega (arith, some, ap length h.empty.1.waiting))
-      | inr none ↦ absurd (none_past (sent_by now.a) now.served lt (ap (λ (l : List Message). slice_get l now.served) (sym (arrived_empty_a now w h.empty.0)) ∙ none))
-    ]
-serve_refused old now new n k fault.NoSuchPacket w h lt went = absurd went.0
-serve_refused old now new n k fault.Stale w h lt went = absurd went.0
-serve_refused old now new n k (fault.Ask g) w h lt went = absurd went.0
-serve_refused old now new n k fault.Exhausted w h lt went = absurd went.0
-serve_refused old now new n k fault.BadSetup w h lt went = absurd went.0
 
 -- what serving one leaves alone
 pub record ServedOne (old new : State) : Type 0 where
@@ -114,19 +98,38 @@ served_more old now mid new n k more m h one e is =
 
 -- ---- How many.
 
-pub count_taken : {V : Type 0} (s : State) (f : V → List ℕ) (list : List V) → IsWorld s → map f list ≡ map canon (taken_of s) → length list ≡ s.served
-count_taken s f list h is =
-    let all = sym (length-map list f) ∙ ap length is ∙ length-map (taken_of s) canon in
-    omega (arith, all, length_take s.served (sent_by s.a) (headline_of s h).taken_there)
-  where
-    length_take : (c : ℕ) (r : List Message) → c ≤ length r → length (take c r) ≡ c
-    length_take c r le = grind (arith, common_steps, le)
-
-pub count_sent : {V : Type 0} (s : State) (f : V → List ℕ) (list : List V) → map f list ≡ map canon (sent_by s.a) → length list ≡ length (sent_by s.a)
-count_sent s f list is = sym (length-map list f) ∙ ap length is ∙ length-map (sent_by s.a) canon
-
 pub same_sent : (old now : State) (n k : ℕ) → Served old now n k → length (sent_by now.a) ≡ length (sent_by old.a)
 same_sent old now n k h = ap (λ (l : List NspMessage). length (messages_in l)) h.handed
+
+-- a message that is served was sent
+pub serves_sent : (now new : State) (answer : Step) → IsWorld now → Steps now event.Serve answer new → now.served < length (sent_by now.a)
+serves_sent now new answer w steps =
+    let one = served_one now new answer steps in
+    omega (arith, one.served, (headline_of new (kept-step now new event.Serve answer steps w)).taken_there, ap (λ (e : EndState). length (sent_by e)) one.from_a)
+
+-- where nothing is to be served, all was
+pub nothing_left : (now : State) → IsWorld now → AreEmpty now → Refuses now event.Serve fault.NothingToDo → length (sent_by now.a) ≤ now.served
+unfolding Refuses
+nothing_left now w e (inl some) = absurd (omega (arith, some, ap length e.1.waiting))
+nothing_left now w e (inr none) =
+    elim (cases_lt now.served (length (sent_by now.a))) [
+      | inl lt ↦ absurd (none_past (sent_by now.a) now.served lt (ap (λ (l : List Message). slice_get l now.served) (sym (arrived_empty_a now w e.0)) ∙ none))
+      | inr le ↦ le
+    ]
+
+pub serve_refused : (old now new : State) (n k : ℕ) (f : WorldFault) → IsWorld now → Served old now n k → (f ≡ fault.NothingToDo → ⊥) → Went now event.Serve (Err f) new → Halts (IsServed old) old new f
+unfolding Steps Refuses
+serve_refused old now new n k fault.NoMemory w h some went = (
+  subst (λ (s : State). IsExhausted s → ⊥) (sym went.1) (quiet_enough now (quiet_empty now h.empty)),
+  (n, subst (λ (s : State). RanBy old s n) (sym went.1) h.ran),
+  λ all. omega (arith, all, h.served, same_sent old now n k h, serves_sent now went.0.1 went.0.0 w went.0.2),
+)
+serve_refused old now new n k fault.NothingToDo w h some went = absurd (some refl)
+serve_refused old now new n k fault.NoSuchPacket w h some went = absurd went.0
+serve_refused old now new n k fault.Stale w h some went = absurd went.0
+serve_refused old now new n k (fault.Ask g) w h some went = absurd went.0
+serve_refused old now new n k fault.Exhausted w h some went = absurd went.0
+serve_refused old now new n k fault.BadSetup w h some went = absurd went.0
 
 pub served_every : (old now : State) (n k : ℕ) → IsWorld now → Served old now n k → length (sent_by old.a) ≤ now.served → ServedEvery old now n
 served_every old now n k w h all =

@@ -18,26 +18,16 @@ use Rattle.dap_world.specs.Inner.Worlds.{IsWorld, AreEarly}
 use Rattle.dap_world.specs.Wires as wires
 use Rattle.dap_world.specs.Wires.{AreWired}
 use Rattle.dap_world.specs.declared.side.Wired.{Wired}
-use Rattle.dap_world.specs.Settling.{AsksNothing, RanBy, RanTo, unacked}
-use Rattle.dap_world.specs.Inner.Settling.{AllResent, AreThere, AllCame}
+use Rattle.dap_world.specs.Settling.{RanBy, unacked}
+use Rattle.dap_world.specs.Inner.Settling.{AllResent, AreThere, AllCame, AsksNothing, RanTo}
 use Rattle.dap_world.proofs.Directions.{closed}
 use Rattle.dap_world.proofs.Kept.{back, direction, now_at, still_at, twice}
+use Rattle.dap_world.proofs.Quiet.{none_asked}
 
 -- ---- Runs.
 
 pub ran_none : (s : State) → RanBy s s 0
-ran_none s = record { events = []; ran = refl; quiet = tt; count = refl }
-
-quiet-on : (events more : List Event) → AsksNothing events → AsksNothing more → AsksNothing (events ++ more)
-quiet-on [] more h g = g
-quiet-on (event.Ask r ∷ events) more h g = absurd h
-quiet-on (event.Post end ∷ events) more h g = quiet-on events more h g
-quiet-on (event.Emit end ∷ events) more h g = quiet-on events more h g
-quiet-on (event.Resend end i ∷ events) more h g = quiet-on events more h g
-quiet-on (event.Ack end ∷ events) more h g = quiet-on events more h g
-quiet-on (event.Deliver end j ∷ events) more h g = quiet-on events more h g
-quiet-on (event.Serve ∷ events) more h g = quiet-on events more h g
-quiet-on (event.Read ∷ events) more h g = quiet-on events more h g
+ran_none s = record { events = []; ran = refl; count = refl; quiet = refl }
 
 pub runs-both : (first second : List Event) (old mid new : State) → Runs old first mid → Runs mid second new → Runs old (first ++ second) new
 unfolding Steps Refuses
@@ -46,11 +36,11 @@ runs-both (e ∷ first) second old mid new r t = (r.0, r.1, r.2, runs-both first
 
 pub ran_both : (old mid new : State) (n k : ℕ) → RanBy old mid n → RanBy mid new k → RanBy old new (n + k)
 ran_both old mid new n k a b =
-    record { events = a.events ++ b.events; ran = runs-both a.events b.events old mid new a.ran b.ran; quiet = quiet-on a.events b.events a.quiet b.quiet; count = length-append a.events b.events ∙ (omega (arith, a.count, b.count)) }
+    record { events = a.events ++ b.events; ran = runs-both a.events b.events old mid new a.ran b.ran; count = length-append a.events b.events ∙ (omega (arith, a.count, b.count)); quiet = b.quiet ∙ a.quiet }
 
 pub ran_one : (old new : State) (e : Event) (answer : Step) → AsksNothing (e ∷ []) → Steps old e answer new → RanBy old new 1
 unfolding Steps
-ran_one old new e answer quiet step = record { events = e ∷ []; ran = (new, answer, step, refl); quiet = quiet; count = refl }
+ran_one old new e answer quiet step = record { events = e ∷ []; ran = (new, answer, step, refl); count = refl; quiet = none_asked old new e answer quiet step }
 
 pub ran_more : (old mid new : State) (n : ℕ) (e : Event) (answer : Step) → AsksNothing (e ∷ []) → RanBy old mid n → Steps mid e answer new → RanBy old new (n + 1)
 unfolding Steps

@@ -1,10 +1,12 @@
 -- A way stays a way when one of its ends moves.
 use Rattle.std.proofs.Common.{◌≡◌, ℕ, ◌≤◌, ◌<◌, refl, sym, ◌∙◌, subst, ap, List, [], ◌∷◌, ◌++◌, length}
-use Rattle.std.specs.Prelude.{Option, All}
+use Rattle.std.specs.Prelude.{Option}
 use Rattle.std.specs.List.{AllByRecursion}
 use Rattle.dap_msg.specs.Blocked.{NspMessage, all_joined}
 use Rattle.nsp_link.specs.Limits.{most_segments}
 use Rattle.nsp_link.specs.Cutting.{cut}
+use Rattle.nsp_link.specs.declared.link.LinkSetup.{LinkSetup}
+use Rattle.nsp_link.proofs.ForCallers.{is_delivered}
 use Rattle.nsp_link.specs.Link.{LinkValue, Sends, Stands, Writes, IsWritten, Delivered}
 use Rattle.dap_world.specs.declared.side.Wired.{Wired}
 use Rattle.dap_world.specs.Inner.Sides.{SideValue, AreShort}
@@ -17,46 +19,46 @@ wrote_side s sent w = record s { link = record s.link { sent = sent }; wire = s.
 
 -- the taking link took a packet in
 pub takes : (from : SideValue) (v v' : LinkValue) (messages given : List (List ℕ)) (k : Option ℕ) (a : ℕ)
-    → IsWay from v messages given → Delivered v v' k a → Stands v' from.link.seg_size messages given → IsWay from v' messages given
-takes from v v' messages given k a way d stands =
+    → IsWay from v messages given → Delivered v v' k a → Stands v' from.link.setup.seg_size messages given → IsWay from v' messages given
+takes from v v' messages given k a way took stands =
+    let d = is_delivered v v' k a took in
     record {
       size = way.size;
       running = way.running;
-      listening = d.failed;
-      there = way.there ∙ sym d.remote;
-      back = way.back ∙ sym d.local;
+      listening = d.failed ∙ way.listening;
+      there = way.there ∙ sym (ap (λ (s : LinkSetup). s.remote) d.setup);
+      back = way.back ∙ sym (ap (λ (s : LinkSetup). s.local) d.setup);
       sends = way.sends;
       stands = stands;
-      short = subst (λ (n : ℕ). All (λ m. length m ≤ n) messages) (sym d.max_message) way.short;
+      short = subst (λ (s : LinkSetup). AreShort s.max_message messages) (sym d.setup) way.short;
       few = way.few;
       wire = way.wire;
     }
 
-pub same_writes : (v v' : LinkValue) (messages : List (List ℕ)) → v'.local ≡ v.local → v'.remote ≡ v.remote → v'.seg_size ≡ v.seg_size
+pub same_writes : (v v' : LinkValue) (messages : List (List ℕ)) → v'.setup ≡ v.setup
     → (wire : List Wired) → AllByRecursion (λ w. Writes v messages w.segment w.acks w.packet.items) wire → AllByRecursion (λ w. Writes v' messages w.segment w.acks w.packet.items) wire
-same_writes v v' messages l r s [] h = tt
-same_writes v v' messages l r s (w ∷ wire) h = (
-  subst (λ (x : ℕ). IsWritten x v'.remote (cut v'.seg_size messages) w.segment w.acks w.packet.items) (sym l)
-      (subst (λ (x : ℕ). IsWritten v.local x (cut v'.seg_size messages) w.segment w.acks w.packet.items) (sym r)
-      (subst (λ (x : ℕ). IsWritten v.local v.remote (cut x messages) w.segment w.acks w.packet.items) (sym s) h.0)),
-  same_writes v v' messages l r s wire h.1,
+same_writes v v' messages same [] h = tt
+same_writes v v' messages same (w ∷ wire) h = (
+  subst (λ (s : LinkSetup). IsWritten s.local s.remote (cut s.seg_size messages) w.segment w.acks w.packet.items) (sym same) h.0,
+  same_writes v v' messages same wire h.1,
 )
 
 -- the sending link took a packet in: it sends what it sent
 pub gives : (from : SideValue) (v' to : LinkValue) (messages given : List (List ℕ)) (k : Option ℕ) (a : ℕ)
     → IsWay from to messages given → Delivered from.link v' k a → Sends v' messages → IsWay (record from { link = v' }) to messages given
-gives from v' to messages given k a way d sends =
+gives from v' to messages given k a way took sends =
+    let d = is_delivered from.link v' k a took in
     record {
-      size = subst (λ (n : ℕ). 0 < n) (sym d.seg_size) way.size;
-      running = d.failed;
+      size = subst (λ (s : LinkSetup). 0 < s.seg_size) (sym d.setup) way.size;
+      running = d.failed ∙ way.running;
       listening = way.listening;
-      there = d.local ∙ way.there;
-      back = d.remote ∙ way.back;
+      there = ap (λ (s : LinkSetup). s.local) d.setup ∙ way.there;
+      back = ap (λ (s : LinkSetup). s.remote) d.setup ∙ way.back;
       sends = sends;
-      stands = subst (λ (n : ℕ). Stands to n messages given) (sym d.seg_size) way.stands;
+      stands = subst (λ (s : LinkSetup). Stands to s.seg_size messages given) (sym d.setup) way.stands;
       short = way.short;
-      few = subst (λ (n : ℕ). length (cut n messages) ≤ most_segments) (sym d.seg_size) way.few;
-      wire = same_writes from.link v' messages d.local d.remote d.seg_size from.wire way.wire;
+      few = subst (λ (s : LinkSetup). length (cut s.seg_size messages) ≤ most_segments) (sym d.setup) way.few;
+      wire = same_writes from.link v' messages d.setup from.wire way.wire;
     }
 
 all_push : {X : Type 0} (P : X → Type 0) → (xs : List X) (x : X) → AllByRecursion P xs → P x → AllByRecursion P (xs ++ x ∷ [])
@@ -77,7 +79,7 @@ writes_more from to messages given sent w way written =
       stands = way.stands;
       short = way.short;
       few = way.few;
-      wire = all_push _ from.wire w (same_writes from.link (record from.link { sent = sent }) messages refl refl refl from.wire way.wire) written;
+      wire = all_push _ from.wire w (same_writes from.link (record from.link { sent = sent }) messages refl from.wire way.wire) written;
     }
 
 -- the taking link moved only what it sends: it stands where it stood
@@ -95,11 +97,11 @@ still_way from v w messages given same way =
       size = way.size;
       running = way.running;
       listening = ap (λ (x : LinkValue). x.failed) same ∙ way.listening;
-      there = way.there ∙ sym (ap (λ (x : LinkValue). x.remote) same);
-      back = way.back ∙ sym (ap (λ (x : LinkValue). x.local) same);
+      there = way.there ∙ sym (ap (λ (x : LinkValue). x.setup.remote) same);
+      back = way.back ∙ sym (ap (λ (x : LinkValue). x.setup.local) same);
       sends = way.sends;
-      stands = stands_same v w from.link.seg_size messages given same way.stands;
-      short = subst (λ (n : ℕ). AreShort n messages) (sym (ap (λ (x : LinkValue). x.max_message) same)) way.short;
+      stands = stands_same v w from.link.setup.seg_size messages given same way.stands;
+      short = subst (λ (n : ℕ). AreShort n messages) (sym (ap (λ (x : LinkValue). x.setup.max_message) same)) way.short;
       few = way.few;
       wire = way.wire;
     }
@@ -120,7 +122,7 @@ module _ (packets : List NspMessage) (count : ℕ) (from to : SideValue) (h : Is
 
   pub told_gives : (v : LinkValue) (k : Option ℕ) (a : ℕ) → Delivered from.link v k a → Sends v h.handed → IsTold (record from { link = v }) to packets count
   told_gives v k a d sends =
-      subst (λ (most : ℕ). IsToldBy from.posted to.place most from.outbox packets count (IsWay (record from { link = v }) to.link)) (sym d.max_message)
+      subst (λ (most : ℕ). IsToldBy from.posted to.place most from.outbox packets count (IsWay (record from { link = v }) to.link)) (sym (ap (λ (s : LinkSetup). s.max_message) (is_delivered from.link v k a d).setup))
       (told_with h (gives from v to.link h.handed _ k a h.way d sends))
 
   pub told_takes : (v : LinkValue) → ((messages given : List (List ℕ)) → IsWay from to.link messages given → IsWay from v messages given) → IsTold from (record to { link = v }) packets count

@@ -15,9 +15,9 @@ use Rattle.dap_world.proofs.Counting.{handed-bytes}
 
 -- what a link writes is what the end writes
 record IsSideOf (s : State) (end : End) (v : LinkValue) (messages : List (List ℕ)) : Type 0 where
-  local : v.local ≡ address_of end
-  remote : v.remote ≡ address_of (other end)
-  size : v.seg_size ≡ s.seg_size
+  local : v.setup.local ≡ address_of end
+  remote : v.setup.remote ≡ address_of (other end)
+  size : v.setup.seg_size ≡ s.seg_size
   messages_are : messages ≡ all_joined (end_of s end).handed
 
 packet_of : (s : State) (end : End) (v : LinkValue) (messages : List (List ℕ)) (w : Wired) → IsSideOf s end v messages
@@ -26,8 +26,8 @@ unfolding IsOnWire
 packet_of s end v messages w is h =
     subst (λ (l : List (List ℕ)). IsWritten (address_of end) (address_of (other end)) (cut s.seg_size l) w.segment w.acks w.packet.items) is.messages_are
     (subst (λ (n : ℕ). IsWritten (address_of end) (address_of (other end)) (cut n messages) w.segment w.acks w.packet.items) is.size
-    (subst (λ (n : ℕ). IsWritten (address_of end) n (cut v.seg_size messages) w.segment w.acks w.packet.items) is.remote
-    (subst (λ (n : ℕ). IsWritten n v.remote (cut v.seg_size messages) w.segment w.acks w.packet.items) is.local h)))
+    (subst (λ (n : ℕ). IsWritten (address_of end) n (cut v.setup.seg_size messages) w.segment w.acks w.packet.items) is.remote
+    (subst (λ (n : ℕ). IsWritten n v.setup.remote (cut v.setup.seg_size messages) w.segment w.acks w.packet.items) is.local h)))
 
 packets_of : (s : State) (end : End) (v : LinkValue) (messages : List (List ℕ)) (wire : List Wired) → IsSideOf s end v messages
     → AllByRecursion (λ w. Writes v messages w.segment w.acks w.packet.items) wire → AllByRecursion (λ w. IsOnWire s end (sending_of w) w.packet.items) wire

@@ -37,13 +37,13 @@ StaysAt p A s = HasStill (asking_end p) (record { port = port_of s; accessing = 
 StaysAt p B s = IsStill (serving_end p) (record { port = port_of s; accessed = p.accessed })
 
 -- the machine wrote what the end wrote
-wrote_is : (s : SideValue) (packets : List NspMessage) (sent : ℕ) (w : Wired) → w.acks ≡ s.link.received → wrote (end_state s packets) sent w.segment ≡ end_state (wrote_side s sent w) packets
+wrote_is : (s : SideValue) (packets : List NspMessage) (sent : ℕ) (w : Wired) → w.acks ≡ s.link.coming.received → wrote (end_state s packets) sent w.segment ≡ end_state (wrote_side s sent w) packets
 wrote_is s packets sent w acks =
     let e = end_state s packets in
     ap (λ (n : ℕ). record e { sent = sent; wire = e.wire ++ record { segment = w.segment; acks = n } ∷ [] }) (sym acks)
     ∙ ap (λ (l : List Sending). record e { sent = sent; wire = l }) (sym (map-append sending_of s.wire (w ∷ [])))
 
-wrote_at : (p : Parts) (end : End) (sent : ℕ) (w : Wired) → w.acks ≡ (side p end).link.received
+wrote_at : (p : Parts) (end : End) (sent : ℕ) (w : Wired) → w.acks ≡ (side p end).link.coming.received
     → with_end (state_of p) end (wrote (end_of (state_of p) end) sent w.segment) ≡ state_of (with_side p end (wrote_side (side p end) sent w))
 wrote_at p A sent w acks = ap (λ (e : EndState). with_end (state_of p) A e) (wrote_is p.a (asks p) sent w acks)
 wrote_at p B sent w acks = ap (λ (e : EndState). with_end (state_of p) B e) (wrote_is p.b (answers p) sent w acks)
@@ -60,13 +60,13 @@ unfolding reported
 parts_wrote p A sent w h carries still world =
     record {
       world = world;
-      alike = record { here = h.alike.here; there = h.alike.there; size = h.alike.size; window = h.alike.window; limit = h.alike.limit };
+      alike = h.alike;
       limit_a = h.limit_a;
       limit_b = h.limit_b;
       most = h.most;
       from_a = told_writes (asks p) p.served p.a p.b h.from_a sent w (carries h.from_a.handed h.from_a.way.sends);
       from_b = told_sent (answers p) p.read p.b p.a h.from_b sent w;
-      sent_is = h.sent_is;
+      handed_is = h.handed_is;
       reports_is = h.reports_is;
       asking = (h.asking.0, still _ h.asking.1);
       serving = h.serving;
@@ -74,13 +74,13 @@ parts_wrote p A sent w h carries still world =
 parts_wrote p B sent w h carries still world =
     record {
       world = world;
-      alike = record { here = h.alike.here; there = h.alike.there; size = h.alike.size; window = h.alike.window; limit = h.alike.limit };
+      alike = h.alike;
       limit_a = h.limit_a;
       limit_b = h.limit_b;
       most = h.most;
       from_a = told_sent (asks p) p.served p.a p.b h.from_a sent w;
       from_b = told_writes (answers p) p.read p.b p.a h.from_b sent w (carries h.from_b.handed h.from_b.way.sends);
-      sent_is = h.sent_is;
+      handed_is = h.handed_is;
       reports_is = h.reports_is;
       asking = h.asking;
       serving = (h.serving.0, still _ h.serving.1);
@@ -158,9 +158,9 @@ same_wire p end wire same = ap (λ (l : List Wired). record (side p end) { wire 
 
 -- the segments that the machine counts for an end
 segments_there : (p : Parts) (end : End) → AreParts p → segments_of (state_of p).seg_size (end_of (state_of p) end).handed ≡ (side p end).link.acked + length (side p end).link.queue
-segments_there p A h = segments-handed p.a.link.seg_size p.a.posted h.from_a.handed p.a.outbox (asks p) h.from_a.posted h.from_a.bytes ∙ sym (queued p.a.link h.from_a.handed h.from_a.way.sends)
+segments_there p A h = segments-handed p.a.link.setup.seg_size p.a.posted h.from_a.handed p.a.outbox (asks p) h.from_a.posted h.from_a.bytes ∙ sym (queued p.a.link h.from_a.handed h.from_a.way.sends)
 segments_there p B h =
-    segments-handed p.a.link.seg_size p.b.posted h.from_b.handed p.b.outbox (answers p) h.from_b.posted h.from_b.bytes
+    segments-handed p.a.link.setup.seg_size p.b.posted h.from_b.handed p.b.outbox (answers p) h.from_b.posted h.from_b.bytes
     ∙ ap (λ n. length (cut n h.from_b.handed)) (sym h.alike.size)
     ∙ sym (queued p.b.link h.from_b.handed h.from_b.way.sends)
 
@@ -197,7 +197,7 @@ emitted : (p : Parts) (end : End) (s : SideValue) (r : Result Step WorldFault) �
 unfolding Steps Refuses
 emitted p end s (Ok answer) h is ok err still = one_more p end (event.Emit end) _ _ s answer h is ok.1 still (emits p end (can p end h ok.0))
 emitted p end s (Err fault.NothingToDo) h is ok err still = none_more p end (event.Emit end) s fault.NothingToDo h err.0 (cannot p end h err.1, refl)
-emitted p end s (Err fault.NoMemory) h is ok err still = none_more p end (event.Emit end) s fault.NoMemory h err.0 (((_, _, emits p end (can p end h err.1)), λ t. t), refl)
+emitted p end s (Err fault.NoMemory) h is ok err still = none_more p end (event.Emit end) s fault.NoMemory h err.0 ((_, _, emits p end (can p end h err.1), tt), refl)
 emitted p end s (Err fault.NoSuchPacket) h is ok err still = absurd err.1
 emitted p end s (Err fault.Stale) h is ok err still = absurd err.1
 emitted p end s (Err (fault.Ask f)) h is ok err still = absurd err.1
@@ -247,7 +247,7 @@ pub resent : (p : Parts) (end : End) (i : ℕ) (wire : List Wired) (r : Result S
 unfolding Steps Refuses
 resent p end i wire (Ok answer) h ok err = one_more p end (event.Resend end i) (side p end).link.sent _ _ answer h refl ok.1 (still_there p end wire) (resends p end i ok.0)
 resent p end i wire (Err fault.NothingToDo) h ok err = none_more p end (event.Resend end i) _ fault.NothingToDo h (same_wire p end wire err.0) (resends_not p end i err.1, refl)
-resent p end i wire (Err fault.NoMemory) h ok err = none_more p end (event.Resend end i) _ fault.NoMemory h (same_wire p end wire err.0) (((_, _, resends p end i err.1), λ t. t), refl)
+resent p end i wire (Err fault.NoMemory) h ok err = none_more p end (event.Resend end i) _ fault.NoMemory h (same_wire p end wire err.0) ((_, _, resends p end i err.1, tt), refl)
 resent p end i wire (Err fault.NoSuchPacket) h ok err = absurd err.1
 resent p end i wire (Err fault.Stale) h ok err = absurd err.1
 resent p end i wire (Err (fault.Ask f)) h ok err = absurd err.1
@@ -268,7 +268,7 @@ unfolding Steps Refuses
 acked p end wire (Ok answer) h ok err = one_more p end (event.Ack end) (side p end).link.sent None _ answer h refl ok (still_there p end wire) (acks p end)
 acked p end wire (Err f) h ok err =
     subst (λ (g : WorldFault). AreAfter p end (event.Ack end) (record (side p end) { wire = wire }) (Err g)) (sym err.1)
-    (none_more p end (event.Ack end) _ fault.NoMemory h (same_wire p end wire err.0) (((_, _, acks p end), λ t. t), refl))
+    (none_more p end (event.Ack end) _ fault.NoMemory h (same_wire p end wire err.0) ((_, _, acks p end, tt), refl))
 
 pub is_running : (p : Parts) (end : End) → AreParts p → (side p end).link.failed ≡ false
 is_running p A h = h.from_a.way.running

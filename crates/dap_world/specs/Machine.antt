@@ -13,7 +13,9 @@ use Rattle.dap_accessing.specs.Asked.{messages_of}
 use Rattle.dap_accessing.specs.Told.{Told}
 use Rattle.dap_accessing.specs.Phase.{IsAdmissible, IsRefused, limit_after}
 use Rattle.nsp_link.specs.Cutting.{count_of}
-use Rattle.nsp_link.specs.Holding.{closed_up, with_number}
+use Rattle.nsp_link.specs.Holding.{closed_up}
+use Rattle.std.specs.Ordering.{nat_cmp}
+use Rattle.std.specs.BTreeSet.{insert_key}
 use Rattle.nsp_link.specs.Limits.{greatest_age, most_segments}
 use Rattle.nsp_link.specs.Link.{got_of}
 use Rattle.dap_world.specs.declared.event.End.{End}
@@ -145,7 +147,7 @@ wrote e sent k = record e { sent = sent; wire = e.wire ++ record { segment = k; 
 abbrev pub came : (keep : Bool) → (taken : ℕ) → (held : List ℕ) → Option ℕ → ℕ × List ℕ
 came keep taken held None = (taken, held)
 came keep taken held (Some k) =
-    if k == taken + 1 then closed_up k held else (taken, if nat_lt taken k && keep then with_number k held else held)
+    if k == taken + 1 then closed_up k held else (taken, if nat_lt taken k && keep then insert_key nat_cmp held k else held)
 
 -- a packet comes; of the acknowledgements the greatest counts
 abbrev pub delivered : (keep : Bool) → EndState → Sending → EndState
@@ -181,10 +183,6 @@ abbrev pub MayEmit : State → End → Type 0
 MayEmit s end =
     let e = end_of s end in (e.sent < segments_of s.seg_size e.handed) × (e.sent - e.acked < s.window)
 
--- how many segments an end has, once all that waits is handed over
-abbrev pub segments_then : State → End → ℕ
-segments_then s end = let e = end_of s end in segments_of s.seg_size (e.handed ++ e.waiting)
-
 -- the next message that B can serve, and A read
 abbrev pub next_to_serve : State → Option Message
 next_to_serve s = slice_get (arrived_at s B) s.served
@@ -210,7 +208,8 @@ Steps s (event.Ask request) answer new =
     IsAdmissible s.own_a s.requests (answers_read s) request × (answer ≡ step.Asked (length (asking s request))) × (new ≡ asked s request)
 Steps s (event.Post end) answer new =
     let e = end_of s end in
-    (0 < length e.waiting) × (segments_then s end ≤ most_segments) × (answer ≡ step.Posted (length e.waiting)) × (new ≡ with_end s end (posted e))
+    (0 < length e.waiting) × (segments_of s.seg_size (posted e).handed ≤ most_segments)
+    × (answer ≡ step.Posted (length e.waiting)) × (new ≡ with_end s end (posted e))
 Steps s (event.Emit end) answer new =
     let e = end_of s end in
     MayEmit s end × (answer ≡ step.Packet (length e.wire)) × (new ≡ with_end s end (wrote e (e.sent + 1) (Some (e.sent + 1))))
@@ -235,7 +234,7 @@ unfoldable pub Refuses : State → Event → WorldFault → Type 0
 Refuses s (event.Ask request) (fault.Ask ask_fault.NoMemory) = ⊥
 Refuses s (event.Ask request) (fault.Ask f) = IsRefused s.own_a s.requests (answers_read s) request f
 Refuses s (event.Post end) fault.NothingToDo = (end_of s end).waiting ≡ []
-Refuses s (event.Post end) fault.Exhausted = (0 < length (end_of s end).waiting) × (most_segments < segments_then s end)
+Refuses s (event.Post end) fault.Exhausted = (0 < length (end_of s end).waiting) × (most_segments < segments_of s.seg_size (posted (end_of s end)).handed)
 Refuses s (event.Emit end) fault.NothingToDo = MayEmit s end → ⊥
 Refuses s (event.Resend end i) fault.NothingToDo = (end_of s end).sent - (end_of s end).acked ≤ i
 Refuses s (event.Deliver end j) fault.NoSuchPacket = slice_get (end_of s (other end)).wire j ≡ None

@@ -1,8 +1,9 @@
 -- What one event comes to, and several.
-use Rattle.std.specs.Prelude.{◌≡◌, ◌≤◌, ℕ, List, [], ◌∷◌, take, slice_get, Option, Some, None, IfSome, Result, Ok, Err, false}
+use Rattle.std.specs.Prelude.{◌≡◌, ℕ, List, [], ◌∷◌, take, slice_get, Option, Some, None, Result, Ok, Err, false}
 use Rattle.dap_msg.specs.Blocked.{all_joined}
 use Rattle.nsp_link.specs.Link.{LinkValue, Sends}
-use Rattle.nsp_link.specs.Holding.{numbers}
+use Rattle.std.specs.Map.{keys_of}
+use Rattle.nsp_link.specs.declared.link.Got.TheVariants as got
 use Rattle.dap_world.specs.declared.event.End.{End}
 use Rattle.dap_world.specs.declared.event.Event.{Event}
 use Rattle.dap_world.specs.declared.event.Event.TheVariants as event
@@ -10,24 +11,20 @@ use Rattle.dap_world.specs.declared.event.Step.{Step}
 use Rattle.dap_world.specs.declared.event.Step.TheVariants as step
 use Rattle.dap_world.specs.declared.event.WorldFault.{WorldFault}
 use Rattle.dap_world.specs.declared.event.WorldFault.TheVariants as fault
-use Rattle.dap_world.specs.Machine.{State, Sending, Steps, StepsFreely, Refuses, fresh, end_of, other, IsDue}
+use Rattle.dap_world.specs.Machine.{State, Steps, StepsFreely, Refuses, fresh, end_of, other}
 use Rattle.dap_world.specs.Setups.{IsWorldSetup}
 use Rattle.dap_world.specs.Wires.{address_of}
 use Rattle.dap_world.specs.declared.setup.WorldSetup.{WorldSetup}
 
--- the event has a step
-abbrev pub MayHappen : State → Event → Type 0
-MayHappen s e = (answer : Step) × (new : State) × Steps s e answer new
-
--- a delivery that takes in no segment and holds none: of one that was taken, or of none
-abbrev pub TakesNoMemory : State → Event → Type 0
-TakesNoMemory s (event.Deliver end j) =
-    (p : Sending) × IsDue s end j p × IfSome p.segment (λ k. k ≤ (end_of s end).taken)
-TakesNoMemory s e = ⊥
+-- an event that comes to this may take memory: any but a delivery of no segment, or of one that was taken
+abbrev pub TakesMemory : Step → Type 0
+TakesMemory (step.Delivered got.AckOnly) = ⊥
+TakesMemory (step.Delivered got.Repeat) = ⊥
+TakesMemory answer = Unit {0}
 
 -- Memory was refused: only to an event that has a step, and may take some.
 abbrev pub WantsMemory : State → Event → Type 0
-WantsMemory s e = MayHappen s e × (TakesNoMemory s e → ⊥)
+WantsMemory s e = (answer : Step) × (new : State) × Steps s e answer new × TakesMemory answer
 
 -- It is a step of the machine; or the machine has none, for this reason; or memory was refused. A refusal changes nothing.
 abbrev pub Went : State → Event → Result Step WorldFault → State → Type 0
@@ -36,11 +33,11 @@ Went old e (Err fault.NoMemory) new = WantsMemory old e × (new ≡ old)
 Went old e (Err f) new = Refuses old e f × (new ≡ old)
 
 -- the end that an event lets write a packet
-abbrev pub writer_of : Event → Option End
-writer_of (event.Emit end) = Some end
-writer_of (event.Resend end _) = Some end
-writer_of (event.Ack end) = Some end
-writer_of _ = None
+abbrev pub writing_end : Event → Option End
+writing_end (event.Emit end) = Some end
+writing_end (event.Resend end _) = Some end
+writing_end (event.Ack end) = Some end
+writing_end _ = None
 
 -- the events may lead from old to new by such steps, none refused
 abbrev pub RunsBy : (State → Event → Step → State → Type 0) → State → List Event → State → Type 0
@@ -63,13 +60,13 @@ pub record StopsAt (events : List Event) (old new : State) (stop : ℕ × WorldF
 
 -- The link is this end's: its counts, its segments and the early ones that it holds are those of the machine.
 pub record IsLinkOf (s : State) (end : End) (v : LinkValue) : Type 0 where
-  pub local : v.local ≡ address_of end
-  pub remote : v.remote ≡ address_of (other end)
-  pub size : v.seg_size ≡ s.seg_size
-  pub window : v.window ≡ s.window
+  pub local : v.setup.local ≡ address_of end
+  pub remote : v.setup.remote ≡ address_of (other end)
+  pub size : v.setup.seg_size ≡ s.seg_size
+  pub window : v.setup.window ≡ s.window
   pub sent : v.sent ≡ (end_of s end).sent
   pub acked : v.acked ≡ (end_of s end).acked
   pub queued : Sends v (all_joined (end_of s end).handed)
-  pub received : v.received ≡ (end_of s end).taken
-  pub held : numbers v.held ≡ (end_of s end).held
+  pub received : v.coming.received ≡ (end_of s end).taken
+  pub held : keys_of v.held ≡ (end_of s end).held
   pub running : v.failed ≡ false

@@ -1,50 +1,37 @@
 -- A stretch without loss.
-use Rattle.std.specs.Prelude.{◌≡◌, ◌==◌, ◌⊎◌, ℕ, ◌+◌, ◌*◌, ◌-◌, ◌≤◌, ◌<◌, if◌then◌else◌, List, [], ◌∷◌, length, map, take, Some, slice_get}
+use Rattle.std.specs.Prelude.{◌≡◌, ◌==◌, ◌⊎◌, ℕ, ◌+◌, ◌*◌, ◌-◌, ◌≤◌, ◌<◌, if◌then◌else◌, List, [], length, map, take, Some, slice_get}
 use Rattle.dap_msg.specs.Items.{Whole}
-use Rattle.dap_accessed.specs.Groups.{Answers, After}
+use Rattle.dap_accessed.specs.Groups.{Answers}
 use Rattle.dap_accessing.specs.Asked.{Asked}
 use Rattle.dap_accessing.specs.Phase.{IsRefused}
 use Rattle.dap_accessing.specs.declared.fault.AskFault.{AskFault}
 use Rattle.dap_accessing.specs.declared.fault.AskFault.TheVariants as ask_fault
 use Rattle.dap_accessing.specs.Request.{Request}
-use Rattle.dap_world.specs.Agreement.{AreAdmissible, items_of, reports_of}
+use Rattle.dap_world.specs.Agreement.{AreAdmissible, reports_of}
 use Rattle.dap_world.specs.declared.event.End.{End}
 use Rattle.dap_world.specs.declared.event.End.TheVariants.{A, B}
 use Rattle.dap_world.specs.declared.event.Event.{Event}
 use Rattle.dap_world.specs.declared.event.Event.TheVariants as event
 use Rattle.dap_world.specs.declared.event.WorldFault.{WorldFault}
 use Rattle.dap_world.specs.declared.event.WorldFault.TheVariants as fault
-use Rattle.dap_world.specs.Machine.{State, EndState, Refuses, end_of, segments_of, sent_by, taken_of, answers_read, reported, files_of}
+use Rattle.dap_world.specs.Machine.{State, Refuses, end_of, segments_of, sent_by, taken_of, answers_read, reported}
 use Rattle.dap_world.specs.Runs.{Runs}
 
--- no event asks
-abbrev pub AsksNothing : List Event → Type 0
-AsksNothing [] = Unit {0}
-AsksNothing (event.Ask _ ∷ events) = ⊥
-AsksNothing (_ ∷ events) = AsksNothing events
-
--- so many events lead from the one state to the other, and none of them asks
+-- so many events lead from the one state to the other, and none of them asks: there is no request more
 pub record RanBy (old new : State) (n : ℕ) : Type 0 where
   pub events : List Event
   pub ran : Runs old events new
-  pub quiet : AsksNothing events
   pub count : length events ≡ n
-
--- some events do
-abbrev pub RanTo : State → State → Type 0
-RanTo old new = (n : ℕ) × RanBy old new n
+  pub quiet : new.requests ≡ old.requests
 
 -- how many of the segments that an end sent aren't acknowledged
 abbrev pub unacked : State → End → ℕ
 unacked s end = (end_of s end).sent - (end_of s end).acked
 
--- what moves of an end: the counts of segments acknowledged and taken, what it holds, and its wire
-abbrev pub moved : (old new : EndState) → EndState
-moved old new = record old { acked = new.acked; taken = new.taken; held = new.held; wire = new.wire }
-
--- nothing else moved, so that no segment more was sent
-abbrev pub SendsNothing : (old new : State) → Type 0
-SendsNothing old new = new ≡ record old { a = moved old.a new.a; b = moved old.b new.b }
+-- what is done, in the events that it takes: four for each segment first sent, two for each message served and each
+-- answer read
+abbrev pub work : State → ℕ
+work s = 4 * (s.a.sent + s.b.sent) + 2 * (s.served + s.read)
 
 -- ---- One end is settled.
 
@@ -70,29 +57,20 @@ pub record IsFinished (s : State) : Type 0 where
   pub served : taken_of s ≡ sent_by s.a
   pub read : answers_read s ≡ map Whole (Answers s.own_b [] (map Whole (taken_of s)))
 
--- All that the requests ask was sent and served, the files are those after it, and every request has its report. The
--- files and the number of reports follow from the others; a caller is spared the proof.
+-- All that the requests ask was sent and served, so that the files are those after it, and every request has its report.
 pub record AllTold (s : State) : Type 0 where
   pub sent : sent_by s.a ≡ Asked s.own_a s.requests
   pub taken : taken_of s ≡ Asked s.own_a s.requests
-  pub files : files_of s ≡ After s.own_b [] (items_of s.own_a s.requests)
   pub reports : reported s ≡ reports_of s.own_a s.own_b s.requests
   pub each : length (reported s) ≡ length s.requests
-
--- the segments first sent between two states, and the messages served and answers read
-abbrev pub sent_between : State → State → ℕ
-sent_between old new = (new.a.sent - old.a.sent) + (new.b.sent - old.b.sent)
-
-abbrev pub handled_between : State → State → ℕ
-handled_between old new = (new.served - old.served) + (new.read - old.read)
 
 -- After so many events nothing is left to do, and every request has its report, whatever was lost before.
 pub record Finished (old new : State) (n : ℕ) : Type 0 where
   pub ran : RanBy old new n
   pub finished : IsFinished new
   pub told : AllTold new
-  -- both ends are settled, what waits is handed over, and each segment and each message takes so many events
-  pub bound : n ≤ 4 * old.window + 6 + 4 * sent_between old new + 2 * handled_between old new
+  -- both ends are settled, what waits is handed over, and the rest is work
+  pub bound : n + work old ≤ 4 * old.window + 6 + work new
   pub only : IsFinished old → n ≡ 0
 
 -- What waits at an end is due to be handed over: all that was sent is acknowledged, and at B's turn A has nothing left.

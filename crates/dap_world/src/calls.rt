@@ -6,6 +6,7 @@ ghost use Rattle.nsp_link.specs.Limits.{most_segments};
 ghost use Rattle.nsp_link.specs.Link.{MaySend};
 ghost use Rattle.nsp_link.specs.Sending.{MayQueueAll};
 ghost use Rattle.dap_accessing.specs.Inner.MayAsk.{MayAsk};
+ghost use Rattle.dap_accessing.specs.Inner.Outgoing.{IsCounted};
 ghost use Rattle.dap_end.specs.Ports.{with_link};
 ghost use Rattle.dap_end.specs.Writing.{sent_more};
 ghost use Rattle.dap_end.specs.Serving as serving;
@@ -13,16 +14,14 @@ ghost use Rattle.dap_end.specs.Serving.{IsStill};
 ghost use Rattle.dap_end.specs.Asking as asking;
 ghost use Rattle.dap_end.specs.Asking.{HasStill};
 ghost use Rattle.dap_world.specs.Inner.Sides.{AreShort, AskFaultOf, AskedSo, EmitFault, KeptSo, PostFault, PostedSo, WroteOne};
-ghost use Rattle.dap_world.specs.Inner.Splitting.{SentAll};
 ghost use Rattle.dap_world.specs.Inner.Ways.{Delivery, delivered_as};
 ghost use Rattle.dap_world.specs.declared.event.WorldFault.TheVariants.{NoMemory};
 
 use crate::event::{End, Event, Step, WorldFault};
 use crate::side::{Wired, acknowledge, again, due, may_post, next_number, put};
-use crate::splitting::split_all;
 use crate::world::World;
-use dap_accessing::{Report, Request};
-use dap_end::{AskingEnd, Heard, ServingEnd};
+use dap_accessing::{Checked, Report, Request};
+use dap_end::{AskingEnd, ServingEnd};
 use nsp_link::{Got, LinkFault};
 use std::alloc::Global;
 
@@ -65,10 +64,10 @@ impl World {
             return Err(WorldFault::NothingToDo);
         }
         match self.reports.reserve(1) {
-            Ok(()) => match self.asking.read() {
-                Ok(heard) => {
+            Ok(()) => match self.asking.read_next() {
+                Ok(report) => {
                     self.read += 1;
-                    Ok(keep(&mut self.reports, heard))
+                    Ok(keep(&mut self.reports, report))
                 }
                 Err(_) => Err(WorldFault::NoMemory),
             },
@@ -81,12 +80,7 @@ impl World {
         ensures { Went self.old (Event.Post end) result self.new }
     {
         match end {
-            End::A => post_a(
-                self.alloc,
-                &mut self.asking,
-                &mut self.posted_a,
-                &mut self.sent,
-            ),
+            End::A => post_a(&mut self.asking, &mut self.handed),
             End::B => post_b(&mut self.serving, &mut self.posted_b),
         }
     }
@@ -157,7 +151,7 @@ fn copy_and_ask(
         × (requests.new.items ≡ requests.old.items) × AskFaultOf request.now end.old.accessing f) }
 {
     match end.check(request) {
-        Ok(()) => ask_checked(end, requests, request.copy(alloc)?),
+        Ok(checked) => ask_checked(end, requests, request.copy(alloc)?, checked),
         Err(fault) => Err(WorldFault::Ask(fault)),
     }
 }
@@ -174,7 +168,7 @@ fn ask_next(
         × (requests.new.items ≡ requests.old.items) × AskFaultOf request end.old.accessing f) }
 {
     match end.check(&request) {
-        Ok(()) => ask_checked(end, requests, request),
+        Ok(checked) => ask_checked(end, requests, request, checked),
         Err(fault) => Err(WorldFault::Ask(fault)),
     }
 }
@@ -184,15 +178,17 @@ fn ask_checked(
     end: &mut AskingEnd,
     requests: &mut Vec<Request>,
     request: Request,
+    checked: Checked,
 ) -> Result<Step, WorldFault>
-    requires { MayAsk end.old.accessing request }
+    requires may { MayAsk end.old.accessing request }
+    requires counted { IsCounted end.old.accessing.own request checked }
     ensures ok { IfOk result (λ answer. AskedSo request end.old end.new answer) }
     ensures told { OnOk result (requests.new.items ≡ requests.old.items ++ request ∷ []) }
     ensures err { IfErr result (λ f. (end.new ≡ end.old)
         × (requests.new.items ≡ requests.old.items) × (f ≡ NoMemory)) }
 {
     requests.reserve(1)?;
-    match end.ask_checked(&request) {
+    match end.ask_checked(&request, checked) {
         Ok(count) => {
             requests.push_reserved(request);
             Ok(Step::Asked(count))
@@ -201,17 +197,17 @@ fn ask_checked(
     }
 }
 
-/// Adds the report that was read, for which there is room.
-fn keep(reports: &mut Vec<Report>, heard: Heard) -> Step
+/// Adds the report that was read, if there is one, for which there is room.
+fn keep(reports: &mut Vec<Report>, report: Option<Report>) -> Step
     requires { vec_len reports.old < vec_capacity reports.old }
-    ensures { KeptSo heard reports.old.items reports.new.items result }
+    ensures { KeptSo report reports.old.items reports.new.items result }
 {
-    match heard {
-        Heard::Report(report) => {
+    match report {
+        Some(report) => {
             reports.push_reserved(report);
             Step::Reported
         }
-        _ => Step::Nothing,
+        None => Step::Nothing,
     }
 }
 
@@ -279,6 +275,7 @@ fn deliver_b(end: &mut ServingEnd, wire: &[Wired], j: usize) -> Result<Step, Wor
     }
 }
 
+/// What a delivery comes to: what the link got, or want of memory.
 fn delivered(got: Result<Got, LinkFault>) -> Result<Step, WorldFault>
     ensures { result ≡ delivered_as got }
 {
@@ -288,55 +285,22 @@ fn delivered(got: Result<Got, LinkFault>) -> Result<Step, WorldFault>
     }
 }
 
-/// A hands over what waits; the DAP messages in it are sent.
-fn post_a(
-    alloc: Global,
-    end: &mut AskingEnd,
-    posted: &mut usize,
-    sent: &mut Vec<Vec<u8>>,
-) -> Result<Step, WorldFault>
+/// A hands over what waits.
+fn post_a(end: &mut AskingEnd, handed: &mut Vec<Vec<u8>>) -> Result<Step, WorldFault>
     requires running { end.old.port.link.failed ≡ false }
-    requires short { AreShort end.old.port.link.max_message end.old.port.outbox }
-    requires few { posted.old ≤ most_segments }
-    ensures ok { IfOk result (λ answer. PostedSo end.old.port.outbox posted.old posted.new answer) }
+    requires short { AreShort end.old.port.link.setup.max_message end.old.port.outbox }
+    ensures ok { IfOk result (λ answer. PostedSo end.old.port.outbox (length handed.old.items)
+        (length handed.new.items) answer) }
     ensures handed { OnOk result (asking.HandedAll end.old end.new
         (length end.old.port.outbox)) }
-    ensures sent { OnOk result (SentAll end.old.port.outbox (bodies sent.old.items)
-        (bodies sent.new.items)) }
-    ensures same { OnErr result ((end.new ≡ end.old) × (posted.new ≡ posted.old)
-        × (bodies sent.new.items ≡ bodies sent.old.items)) }
+    ensures moved { OnOk result (bodies handed.new.items
+        ≡ bodies handed.old.items ++ end.old.port.outbox) }
+    ensures same { OnErr result ((end.new ≡ end.old) × (handed.new.items ≡ handed.old.items)) }
     ensures err { IfErr result (PostFault end.old.port.link end.old.port.outbox) }
 {
     may_post(end.link(), end.waiting())?;
-    hand_over(alloc, end, posted, sent)
-}
-
-fn hand_over(
-    alloc: Global,
-    end: &mut AskingEnd,
-    posted: &mut usize,
-    sent: &mut Vec<Vec<u8>>,
-) -> Result<Step, WorldFault>
-    requires some { 0 < length end.old.port.outbox }
-    requires may { MayQueueAll end.old.port.link end.old.port.outbox }
-    requires few { posted.old ≤ most_segments }
-    ensures ok { IfOk result (λ answer. PostedSo end.old.port.outbox posted.old posted.new answer) }
-    ensures handed { OnOk result (asking.HandedAll end.old end.new
-        (length end.old.port.outbox)) }
-    ensures sent { OnOk result (SentAll end.old.port.outbox (bodies sent.old.items)
-        (bodies sent.new.items)) }
-    ensures same { OnErr result ((end.new ≡ end.old) × (posted.new ≡ posted.old)
-        × (bodies sent.new.items ≡ bodies sent.old.items)) }
-    ensures err { IfErr result (λ f. f ≡ NoMemory) }
-{
-    let mut more = split_all(alloc, end.waiting())?;
-    sent.reserve(more.len())?;
-    match end.post_checked() {
-        Ok(count) => {
-            *posted += count;
-            sent.append(&mut more).unwrap();
-            Ok(Step::Posted(count))
-        }
+    match end.post_into(handed) {
+        Ok(count) => Ok(Step::Posted(count)),
         Err(_) => Err(WorldFault::NoMemory),
     }
 }
@@ -344,7 +308,7 @@ fn hand_over(
 /// B hands over what waits.
 fn post_b(end: &mut ServingEnd, posted: &mut usize) -> Result<Step, WorldFault>
     requires running { end.old.port.link.failed ≡ false }
-    requires short { AreShort end.old.port.link.max_message end.old.port.outbox }
+    requires short { AreShort end.old.port.link.setup.max_message end.old.port.outbox }
     requires few { posted.old ≤ most_segments }
     ensures ok { IfOk result (λ answer. PostedSo end.old.port.outbox posted.old posted.new answer) }
     ensures handed { OnOk result (serving.PostedAll end.old end.new

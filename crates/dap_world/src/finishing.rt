@@ -18,15 +18,15 @@ impl WorldFault {
 }
 
 impl World {
-    ghost use Rattle.std.specs.Prelude.{◌≡◌, ◌≢◌, ◌<◌, ◌^◌, List, [], length, IfOk, IfErr, IsOk, OnOk, OnErr};
+    ghost use Rattle.std.specs.Prelude.{◌≡◌, ◌≢◌, ◌<◌, ◌^◌, ℕ, List, [], length, IfOk, IfErr, IsOk, OnOk, OnErr};
     ghost use Rattle.dap_accessing.specs.Told.{due_after, Wrong};
     ghost use Rattle.dap_world.specs.Machine.{MayEmit, answers_read, reported, end_of, sent_by};
     ghost use Rattle.dap_world.specs.Headline.{HeadlineOf};
     ghost use Rattle.dap_world.specs.Runs.{Runs};
     ghost use Rattle.dap_world.specs.declared.event.Event.{Event as TheEvent};
     ghost use Rattle.dap_world.specs.Inner.Worlds.{IsWorld};
-    ghost use Rattle.dap_world.specs.Settling.{AllDone, Finished, FinishFault, IsEmpty, IsFinished, IsFresh, IsPostDue, RanTo, StopsAtRequest, unacked};
-    ghost use Rattle.dap_world.specs.Inner.Settling.{AreEmpty, AreSettled, Brought, BroughtAll, Emptied, Halts, IsOneDue, IsQuiet, IsServed, NothingSent, PostedAll, ReadEvery, ReadPart, RunsTo, SameBut, SentBoth, ServedEvery, SettledBoth};
+    ghost use Rattle.dap_world.specs.Settling.{AllDone, Finished, FinishFault, IsEmpty, IsFinished, IsFresh, IsPostDue, RanBy, StopsAtRequest, unacked};
+    ghost use Rattle.dap_world.specs.Inner.Settling.{AreEmpty, AreSettled, Brought, BroughtAll, Emptied, Halts, IsOneDue, IsQuiet, IsServed, NothingSent, PostedAll, RanTo, ReadEvery, ReadPart, RunsTo, SameBut, SentBoth, ServedEvery, SettledBoth};
     ghost use Rattle.dap_world.specs.declared.event.End.TheVariants.{A, B};
     ghost use Rattle.dap_world.specs.declared.event.WorldFault.TheVariants.{NoMemory};
 
@@ -134,10 +134,16 @@ impl World {
         ensures err { IfErr result (Halts (IsServed self.old) self.old self.new) }
     {
         let mut count = 0;
-        for served in self.taken().len()..self.sent().len() {
+        'messages: loop {
             match self.step(&Event::Serve) {
                 Ok(_step) => {}
-                Err(fault) => return Err(fault),
+                Err(fault) => {
+                    return if fault.is_nothing() {
+                        Ok(count)
+                    } else {
+                        Err(fault)
+                    };
+                }
             }
             match self.send_waiting(End::B) {
                 Ok(more) => {
@@ -147,7 +153,6 @@ impl World {
                 Err(fault) => return Err(fault),
             }
         }
-        Ok(count)
     }
 
     /// Reads every answer that came; how many.
@@ -250,7 +255,8 @@ impl World {
     /// report more was told.
     pub fn finish(&mut self) -> Result<usize, WorldFault>
         ensures ok { IfOk result (λ n. Finished self.old self.new n) }
-        ensures err { IfErr result (λ f. FinishFault self.new f × RanTo self.old self.new) }
+        ensures err { IfErr result (λ f. FinishFault self.new f
+            × ((n : ℕ) × RanBy self.old self.new n)) }
         ensures untold { OnErr result (reported self.new ≡ reported self.old) }
         ensures nothing { IsFinished self.old → IsOk result }
         ensures headline { HeadlineOf self.new }

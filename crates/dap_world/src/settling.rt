@@ -7,8 +7,8 @@ impl World {
     ghost use Rattle.std.specs.Prelude.{◌≡◌, ◌<◌, ◌≤◌, ◌+◌, ◌-◌, IfOk, IfErr, IsOk, OnOk, OnErr, length, ℕ};
     ghost use Rattle.dap_world.specs.Machine.{end_of, other};
     ghost use Rattle.dap_world.specs.Inner.Worlds.{IsWorld};
-    ghost use Rattle.dap_world.specs.Settling.{RanBy, RanTo, SendsNothing, Settled, unacked};
-    ghost use Rattle.dap_world.specs.Inner.Settling.{AllResent, AreThere, AllCame, NothingSent};
+    ghost use Rattle.dap_world.specs.Settling.{RanBy, Settled, unacked, work};
+    ghost use Rattle.dap_world.specs.Inner.Settling.{AllResent, AreThere, AllCame, NothingSent, RanTo};
     ghost use Rattle.dap_world.specs.Headline.{HeadlineOf};
     ghost use Rattle.dap_world.specs.declared.event.End.{End};
     ghost use Rattle.dap_world.specs.declared.event.WorldFault.TheVariants.{NoMemory};
@@ -72,6 +72,7 @@ impl World {
         }
     }
 
+    /// Settles an end with so many segments that aren't acknowledged, and says how many events that were.
     fn settle_some(&mut self, end: End, count: usize) -> Result<usize, WorldFault>
         requires world { IsWorld self.old }
         requires all { count ≡ unacked self.old end }
@@ -104,8 +105,10 @@ impl World {
     /// event that wasn't refused left the world.
     pub fn settle(&mut self, end: End) -> Result<usize, WorldFault>
         ensures ok { IfOk result (λ n. Settled self.old self.new end n) }
-        ensures rest { SendsNothing self.old self.new }
-        ensures err { IfErr result (λ f. (f ≡ NoMemory) × RanTo self.old self.new) }
+        ensures work { work self.new ≡ work self.old }
+        ensures handed { (e : End) → (end_of self.new e).handed ≡ (end_of self.old e).handed }
+        ensures err { IfErr result (λ f. (f ≡ NoMemory)
+            × ((n : ℕ) × RanBy self.old self.new n)) }
         ensures nothing { unacked self.old end ≡ 0 → IsOk result }
         ensures headline { HeadlineOf self.new }
     {
@@ -115,6 +118,7 @@ impl World {
         result
     }
 
+    /// Settles an end, and says how many events that were: 0 where there was nothing to do.
     pub(crate) fn settle_end(&mut self, end: End) -> Result<usize, WorldFault>
         requires world { IsWorld self.old }
         ensures ok { IfOk result (λ n. Settled self.old self.new end n) }

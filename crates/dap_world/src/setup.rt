@@ -40,6 +40,7 @@ fn address(end: End) -> u16
     }
 }
 
+/// The limits of an end's link.
 fn link_setup(setup: &WorldSetup, end: End) -> LinkSetup
     ensures { result ≡ link_of setup.now end }
 {
@@ -88,10 +89,9 @@ impl World {
             serving,
             wire_a: Vec::new(alloc),
             wire_b: Vec::new(alloc),
-            posted_a: 0,
+            handed: Vec::new(alloc),
             posted_b: 0,
             requests: Vec::new(alloc),
-            sent: Vec::new(alloc),
             served: 0,
             reports: Vec::new(alloc),
             read: 0,

@@ -78,13 +78,12 @@ pub(crate) fn again(
     ensures err { IfErr result (λ f. (wire.new.items ≡ wire.old.items)
         × ResendFault link.now place f) }
 {
-    if place >= link.unacked() {
-        return Err(WorldFault::NothingToDo);
-    }
-    let segment = Some(link.acked_count() + 1 + place as u64);
-    let Ok(packet) = packet else {
-        return Err(WorldFault::NoMemory);
+    let packet = match packet {
+        Ok(packet) => packet,
+        Err(LinkFault::NoSuchSegment) => return Err(WorldFault::NothingToDo),
+        Err(_) => return Err(WorldFault::NoMemory),
     };
+    let segment = Some(link.acked_count() + 1 + place as u64);
     wire.reserve(1)?;
     Ok(put(wire, packet, segment, link.received_count()))
 }
@@ -114,6 +113,7 @@ fn is_stale(number: u64, now: u64) -> bool
     now > GREATEST_AGE && number < now - GREATEST_AGE
 }
 
+/// The segment of a packet, where it has one, is more than 2,047 old.
 fn is_stale_segment(segment: Option<u64>, taken: u64) -> bool
     requires { taken ≤ most_segments }
     ensures { result ≡ is_old_segment taken segment }
@@ -154,7 +154,7 @@ pub(crate) fn due<'a>(link: &LinkEnd, wire: &'a [Wired], j: usize) -> Result<&'a
 /// Whether what waits may be handed over.
 pub(crate) fn may_post(link: &LinkEnd, waiting: &[Vec<u8>]) -> Result<(), WorldFault>
     requires running { link.now.failed ≡ false }
-    requires short { AreShort link.now.max_message (bodies waiting.now) }
+    requires short { AreShort link.now.setup.max_message (bodies waiting.now) }
     ensures some { OnOk result (0 < length waiting.now) }
     ensures may { OnOk result (MayQueueAll link.now (bodies waiting.now)) }
     ensures err { IfErr result (λ f. (f ≢ NoMemory)

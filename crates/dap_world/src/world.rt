@@ -2,11 +2,12 @@
 
 use crate::event::{End, Event, Step, WorldFault};
 use crate::side::Wired;
+use crate::splitting::split_all;
 use dap_accessed::FileTable;
 use dap_accessing::{Report, Request};
 use dap_end::{AskingEnd, ServingEnd};
 use nsp_link::LinkEnd;
-use std::alloc::Global;
+use std::alloc::{AllocError, Global};
 use std::marker::Model;
 
 /// Both ends and the network (own).
@@ -15,14 +16,14 @@ pub struct World {
     pub(crate) alloc: Global,
     pub(crate) asking: AskingEnd,
     pub(crate) serving: ServingEnd,
-    /// The packets that each end wrote, and how many NSP messages it handed to its link.
+    /// The packets that each end wrote.
     pub(crate) wire_a: Vec<Wired>,
     pub(crate) wire_b: Vec<Wired>,
-    pub(crate) posted_a: usize,
+    /// The NSP messages that A handed to its link, and how many B did.
+    pub(crate) handed: Vec<Vec<u8>>,
     pub(crate) posted_b: usize,
     pub(crate) requests: Vec<Request>,
-    /// The DAP messages that A handed to its link, and how many of them B served.
-    pub(crate) sent: Vec<Vec<u8>>,
+    /// How many of the DAP messages in what A handed over B served.
     pub(crate) served: usize,
     pub(crate) reports: Vec<Report>,
     /// The answers that A read.
@@ -42,7 +43,8 @@ impl Model for World {
 }
 
 impl World {
-    ghost use Rattle.std.specs.Prelude.{◌≡◌, OnOk, IfErr, map, true, false};
+    ghost use Rattle.std.specs.Prelude.{◌≡◌, OnOk, IfOk, IfErr, map, true, false};
+    ghost use Rattle.dap_msg.specs.Blocked.{bodies};
     ghost use Rattle.dap_msg.specs.Canon.{canon};
     ghost use Rattle.dap_world.specs.Machine.{MayEmit, files_of, reported, end_of, sent_by, taken_of};
     ghost use Rattle.dap_world.specs.Runs.{IsLinkOf, Runs, StopsAt, Went};
@@ -50,6 +52,7 @@ impl World {
     ghost use Rattle.dap_world.specs.Wires.{AreWired};
     ghost use Rattle.dap_world.specs.Headline.{HeadlineOf};
 
+    /// One event happens, or is refused and changes nothing.
     fn happen(&mut self, event: &Event) -> Result<Step, WorldFault>
         ensures { Went self.old event.now result self.new }
     {
@@ -115,6 +118,7 @@ impl World {
         result
     }
 
+    /// The events happen, up to the first that is refused: its place, from 0, and why.
     fn go(&mut self, events: &[Event]) -> Result<(), (usize, WorldFault)>
         ensures all { OnOk result (Runs self.old events.now self.new) }
         ensures stopped { IfErr result (λ stop. StopsAt events.now self.old self.new stop) }
@@ -146,19 +150,22 @@ impl World {
         &self.requests
     }
 
-    /// The DAP messages that were handed to A's link (own). It takes no memory.
-    pub fn sent(&self) -> &[Vec<u8>]
-        ensures { map (λ v. v.items) result.now ≡ map canon (sent_by self.now.a) }
+    /// The DAP messages that were handed to A's link, each copied from its NSP message (own). Refused for want of memory
+    /// alone.
+    pub fn sent(&self) -> Result<Vec<Vec<u8>>, AllocError>
+        ensures { IfOk result (λ list. bodies list.items ≡ map canon (sent_by self.now.a)) }
     {
-        &self.sent
+        split_all(self.alloc, &self.handed)
     }
 
-    /// The DAP messages that B served: a part from the front of those that were handed to A's link (own). It
-    /// takes no memory.
-    pub fn taken(&self) -> &[Vec<u8>]
-        ensures { map (λ v. v.items) result.now ≡ map canon (taken_of self.now) }
+    /// The DAP messages that B served: a part from the front of those that were handed to A's link (own). Refused as
+    /// `sent` is.
+    pub fn taken(&self) -> Result<Vec<Vec<u8>>, AllocError>
+        ensures { IfOk result (λ list. bodies list.items ≡ map canon (taken_of self.now)) }
     {
-        &self.sent[..self.served]
+        let mut list = self.sent()?;
+        list.truncate(self.served);
+        Ok(list)
     }
 
     /// How many answers A read (own). It takes no memory.

@@ -251,13 +251,13 @@ fn bring(world: &mut World, segments: usize) -> Result<(), WorldFault> {
     Ok(())
 }
 
-fn counts(world: &World) -> (bool, usize, usize, u64) {
-    (
+fn counts(world: &World) -> Result<(bool, usize, usize, u64), WorldFault> {
+    Ok((
         world.is_fresh(),
         world.requests().len(),
-        world.sent().len(),
+        world.sent()?.len(),
         world.read_count(),
-    )
+    ))
 }
 
 /// Whether a request over a clean network comes to what the line says.
@@ -284,7 +284,7 @@ fn go_so(alloc: Global, world: &mut World, line: Line) -> Result<bool, WorldFaul
         Line::Finishes => finish(world).map(|_events| true),
         Line::Runs(list, wanted, seen) => {
             let events = events(alloc, list)?;
-            Ok(run(world, &events) == wanted && counts(world) == seen)
+            Ok(run(world, &events) == wanted && counts(world)? == seen)
         }
         line => turns_so(alloc, world, line),
     }
@@ -302,7 +302,7 @@ fn is_so(alloc: Global, world: &mut World, line: Line) -> Result<bool, WorldFaul
         Line::Counts(unacked, reports, taken) => {
             count_unacked(world, End::A) == unacked
                 && world.reports().len() == reports
-                && world.taken().len() == taken
+                && world.taken()?.len() == taken
         }
         Line::Took(segments) => taken(world, End::B) == segments,
         Line::Holds(number, body) => is_held(world, number, body),
@@ -320,7 +320,7 @@ fn play(
 ) -> Result<(usize, usize), WorldFault> {
     let mut world = begin(rt.alloc(), setup)?;
     go_on(rt, &mut world, script)?;
-    Ok((world.sent().len(), world.taken().len()))
+    Ok((world.sent()?.len(), world.taken()?.len()))
 }
 
 /// Plays a script in a world.

@@ -50,6 +50,7 @@ impl Counts {
         }
     }
 
+    /// Counts bytes that had this outcome.
     fn add(&mut self, outcome: Outcome) {
         let count = match outcome {
             Outcome::Taken => &mut self.taken,
@@ -172,6 +173,7 @@ struct Heard {
     before: &'static [Line],
 }
 
+/// The end asks or hears what a line says.
 fn follow(alloc: Global, end: &mut Accessing, line: Line) -> Result<(), Trouble> {
     match line {
         Line::Ask(words) => {

@@ -80,6 +80,7 @@ impl Asking {
         })
     }
 
+    /// Asks a request, and keeps its messages.
     fn ask(&mut self, words: &str) -> Result<(), Trouble> {
         let request = request(self.alloc, words)?;
         match self.end.ask(&request) {
@@ -93,6 +94,7 @@ impl Asking {
         }
     }
 
+    /// Hears an answer, and keeps its report where there is one.
     fn hear(&mut self, answer: &[u8]) -> Result<(), Trouble> {
         if let Some(report) = self.end.read(answer, 0)?.report {
             self.reports.push(report)?;

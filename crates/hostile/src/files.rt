@@ -75,6 +75,7 @@ impl Filing {
     }
 }
 
+/// Stores a record under a free number that the file allows.
 fn place(file: &mut AnyFile, number: u32, body: &[u8]) -> Result<(), Trouble> {
     let shape = file.shape();
     if number == 0 || number > shape.limit() || !shape.allows(body.len()) {
@@ -90,6 +91,7 @@ fn place(file: &mut AnyFile, number: u32, body: &[u8]) -> Result<(), Trouble> {
     }
 }
 
+/// Stores another record under an occupied number.
 fn replace(file: &mut AnyFile, number: u32, body: &[u8]) -> Result<(), Trouble> {
     if !file.shape().allows(body.len()) {
         return Err(Trouble::Wrong);
@@ -101,6 +103,7 @@ fn replace(file: &mut AnyFile, number: u32, body: &[u8]) -> Result<(), Trouble> 
     }
 }
 
+/// Does one act to the file, or to the stream.
 fn perform(file: &mut AnyFile, stream: &mut Stream, act: Act) -> Result<(), Trouble> {
     let done = match act {
         Act::Place(number, body) => return place(file, number, body),

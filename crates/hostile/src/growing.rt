@@ -176,11 +176,13 @@ impl Seen {
         Ok(Seen { before, after })
     }
 
+    /// Keeps what the readers answer before a call.
     fn look_before<G: Growing>(&mut self, subject: &G) -> io::Result<()> {
         self.before.clear();
         subject.look(&mut self.before)
     }
 
+    /// Writes what the readers answer in the end.
     fn write_last<G: Growing, W: Write>(&mut self, subject: &G, out: &mut W) -> Result<(), Ending> {
         self.look_before(subject)?;
         out.write_all(&self.before)?;
@@ -188,6 +190,7 @@ impl Seen {
         Ok(())
     }
 
+    /// Whether the readers answer what they did before the call.
     fn is_unchanged<G: Growing>(&mut self, subject: &G) -> io::Result<bool> {
         self.after.clear();
         subject.look(&mut self.after)?;

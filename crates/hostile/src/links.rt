@@ -64,6 +64,7 @@ struct Pair {
     b: LinkEnd,
 }
 
+/// The limits of an end with these addresses.
 fn setup(local: u16, remote: u16) -> LinkSetup {
     LinkSetup {
         local,
@@ -74,6 +75,7 @@ fn setup(local: u16, remote: u16) -> LinkSetup {
     }
 }
 
+/// Both ends, new.
 fn new_pair(alloc: Global) -> Result<Pair, LinkFault> {
     let a = LinkEnd::new(alloc, setup(0x0101, 0x0202))?;
     let b = LinkEnd::new(alloc, setup(0x0202, 0x0101))?;
@@ -88,6 +90,7 @@ enum Gave {
     Got(Got),
 }
 
+/// The next packet of an end, which has one.
 fn next(end: &mut LinkEnd) -> Result<Gave, Trouble> {
     match end.next_packet()? {
         Some(packet) => Ok(Gave::Packet(packet)),
@@ -95,16 +98,19 @@ fn next(end: &mut LinkEnd) -> Result<Gave, Trouble> {
     }
 }
 
+/// The packet of the segment at this place of the queue.
 fn resend(end: &LinkEnd, place: usize) -> Result<Gave, Trouble> {
     let packet = end.resend(place)?;
     Ok(Gave::Packet(packet))
 }
 
+/// The acknowledgement that an end writes.
 fn acknowledge(end: &LinkEnd) -> Result<Gave, Trouble> {
     let packet = end.ack_packet()?;
     Ok(Gave::Packet(packet))
 }
 
+/// Takes in a packet, which is there.
 fn receive(end: &mut LinkEnd, packet: Option<&Vec<u8>>) -> Result<Gave, Trouble> {
     let Some(packet) = packet else {
         return Err(Trouble::Wrong);
@@ -113,11 +119,13 @@ fn receive(end: &mut LinkEnd, packet: Option<&Vec<u8>>) -> Result<Gave, Trouble>
     Ok(Gave::Got(got))
 }
 
+/// Queues a message.
 fn send(end: &mut LinkEnd, message: &[u8]) -> Result<Gave, Trouble> {
     end.send(message)?;
     Ok(Gave::Nothing)
 }
 
+/// Queues all messages, or none.
 fn send_all(alloc: Global, end: &mut LinkEnd, list: &[&[u8]]) -> Result<Gave, Trouble> {
     let mut all = Vec::new(alloc);
     for message in list {
@@ -163,6 +171,7 @@ impl Links {
         })
     }
 
+    /// Keeps what an end gave.
     fn keep(&mut self, gave: Gave) -> Result<(), Trouble> {
         match gave {
             Gave::Nothing => {}

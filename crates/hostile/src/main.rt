@@ -218,6 +218,7 @@ fn grow_ends<W: Write, E: Write>(
     Ok(())
 }
 
+/// Makes all growing calls, and writes what the readers answer in the end.
 fn grow<W: Write, E: Write>(alloc: Global, out: &mut W, told: &mut E) -> Result<(), Ending> {
     let mut seen = Seen::new(alloc)?;
     write(alloc, &mut seen, out, told)?;
@@ -234,6 +235,7 @@ fn grow<W: Write, E: Write>(alloc: Global, out: &mut W, told: &mut E) -> Result<
     Ok(())
 }
 
+/// Alters messages, packets and answers, and writes what became of them.
 fn alter<W: Write>(alloc: Global, out: &mut W) -> Result<(), Ending> {
     alter_all(alloc, false)?.write("altered messages", out)?;
     alter_all(alloc, true)?.write("altered packets", out)?;
@@ -243,6 +245,7 @@ fn alter<W: Write>(alloc: Global, out: &mut W) -> Result<(), Ending> {
     Ok(())
 }
 
+/// Runs the listings over devices at fault, and writes how many runs that were.
 fn fail_devices<W: Write>(alloc: Global, out: &mut W) -> Result<(), Ending> {
     for (name, rows) in LISTED {
         writeln!(out, "{name}, devices at fault:")?;
@@ -260,6 +263,7 @@ fn fail_devices<W: Write>(alloc: Global, out: &mut W) -> Result<(), Ending> {
     Ok(())
 }
 
+/// All of it, or with any input the growing calls alone.
 fn run<R: Read, W: Write, E: Write>(
     alloc: Global,
     reader: &mut R,

@@ -100,6 +100,7 @@ const ACTS: &[Act] = &[
     AskingTakes(14),
 ];
 
+/// The limits of the link of an end with these addresses.
 fn setup(local: u16, remote: u16) -> LinkSetup {
     LinkSetup {
         local,
@@ -153,6 +154,7 @@ struct Pair {
     serving: ServingEnd,
 }
 
+/// Both ends, new.
 fn new_pair(alloc: Global) -> Result<Pair, LinkFault> {
     let asking = AskingEnd::new(alloc, BUFFER, setup(0x0101, 0x0202))?;
     let serving = ServingEnd::new(alloc, BUFFER, setup(0x0202, 0x0101))?;
@@ -188,6 +190,7 @@ fn keep(packets: &mut Vec<Vec<u8>>, written: Option<Vec<u8>>) -> Result<(), Trou
     }
 }
 
+/// Adds an empty file of this name.
 fn add(end: &mut ServingEnd, name: &[u8]) -> Result<(), Trouble> {
     let Some(shape) = Shape::check(16, 2, 0, 3) else {
         return Err(Trouble::Wrong);
@@ -196,12 +199,14 @@ fn add(end: &mut ServingEnd, name: &[u8]) -> Result<(), Trouble> {
     Ok(())
 }
 
+/// Asks the request of these words.
 fn ask(alloc: Global, end: &mut AskingEnd, words: &str) -> Result<(), Trouble> {
     let request = request(alloc, words)?;
     end.ask(&request)?;
     Ok(())
 }
 
+/// Reads what came, and keeps its report where there is one.
 fn read(end: &mut AskingEnd, reports: &mut Vec<Report>) -> Result<(), Trouble> {
     reports.reserve(1)?;
     match end.read()? {
@@ -212,6 +217,7 @@ fn read(end: &mut AskingEnd, reports: &mut Vec<Report>) -> Result<(), Trouble> {
     Ok(())
 }
 
+/// Serves one message, which is there.
 fn serve(end: &mut ServingEnd) -> Result<(), Trouble> {
     match end.serve()? {
         Some(_) => Ok(()),

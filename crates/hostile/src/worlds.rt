@@ -210,6 +210,7 @@ fn stops(fault: WorldFault) -> Trouble {
     }
 }
 
+/// The event of an act.
 fn event(alloc: Global, world: &World, act: Act) -> Result<Event, Trouble> {
     Ok(match act {
         Act::Ask(words) => Event::Ask(request(alloc, words)?),
@@ -245,15 +246,16 @@ fn happen(alloc: Global, world: &mut World, act: Act) -> Result<Option<Step>, Tr
     }
 }
 
+/// Appends what the readers of a world answer.
 fn look_at_world(world: &World, seen: &mut Vec<u8>) -> io::Result<()> {
     for request in world.requests() {
         write!(seen, "\n {request:?}")?;
     }
     note(seen, "read", world.read_count())?;
-    for message in world.sent() {
+    for message in &world.sent()? {
         note_bytes(seen, "sent", message)?;
     }
-    for message in world.taken() {
+    for message in &world.taken()? {
         note_bytes(seen, "taken", message)?;
     }
     for report in world.reports() {
@@ -262,6 +264,7 @@ fn look_at_world(world: &World, seen: &mut Vec<u8>) -> io::Result<()> {
     look_at_files(world.files(), seen)
 }
 
+/// Appends what the readers of an end of a world answer.
 fn look_at_side(world: &World, end: End, seen: &mut Vec<u8>) -> io::Result<()> {
     look_at_link(world.link(end), seen)?;
     for wired in world.wire(end) {
@@ -332,6 +335,7 @@ const DIRECTED: &[&str] = &[
     "purge",
 ];
 
+/// The requests of the world that is directed.
 fn requests(alloc: Global) -> Result<Vec<Request>, Trouble> {
     let mut all = Vec::with_capacity(alloc, DIRECTED.len())?;
     for words in DIRECTED {

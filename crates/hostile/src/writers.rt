@@ -32,6 +32,7 @@ impl Writers {
 /// The image that is written: longer than any room that is left.
 const IMAGE: [u8; 255] = [0x55; 255];
 
+/// Writes the field of this place.
 fn write_field(place: usize, out: &mut Vec<u8>) -> Result<(), FieldFault> {
     match place {
         0 => write_u8(7, out),
@@ -41,6 +42,7 @@ fn write_field(place: usize, out: &mut Vec<u8>) -> Result<(), FieldFault> {
     }
 }
 
+/// Writes the message that the bytes spell.
 fn write_message(bytes: &[u8], out: &mut Vec<u8>) -> Result<(), Trouble> {
     match decode(bytes) {
         Ok((message, _len)) if fits(&message) => encode(&message, out)?,
@@ -49,6 +51,7 @@ fn write_message(bytes: &[u8], out: &mut Vec<u8>) -> Result<(), Trouble> {
     Ok(())
 }
 
+/// Writes the packet that the bytes spell.
 fn write_packet(bytes: &[u8], out: &mut Vec<u8>) -> Result<(), Trouble> {
     let Ok(packet) = decode_packet(bytes) else {
         return Err(Trouble::Wrong);

@@ -36,6 +36,7 @@ pub(crate) struct Line {
 }
 
 impl Line {
+    /// A line of which nothing was read yet.
     pub(crate) fn new(alloc: Global) -> Line
         ensures { Holds result [] }
     {

@@ -76,6 +76,7 @@ fn no_end<E: Write>(_fault: LinkFault, error_writer: &mut E) -> u8
     tell("no memory", error_writer)
 }
 
+/// Answers the lines of the input by an end that serves, and answers the exit status.
 fn serve<R: BufRead, W: Write, E: Write>(
     alloc: Global,
     options: Options,
@@ -94,6 +95,7 @@ fn serve<R: BufRead, W: Write, E: Write>(
     }
 }
 
+/// Answers the lines of the input by an end that asks, and answers the exit status.
 fn ask<R: BufRead, W: Write, E: Write>(
     alloc: Global,
     options: Options,

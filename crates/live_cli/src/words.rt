@@ -138,18 +138,21 @@ fn number<'a>(
     option(alloc, name, value, usual, help).value_parser(range)
 }
 
+/// The bytes that a segment may have at most: 1 to 1,400.
 fn segments<'a>() -> ValueParser<'a>
     ensures { result ≡ parser.Signed (pos 1) (pos largest_segment) }
 {
     value_parser!(u16).range(1..=LARGEST_SEGMENT as i64)
 }
 
+/// The segments that a window may have: 1 to 2,047.
 fn windows<'a>() -> ValueParser<'a>
     ensures { result ≡ parser.Signed (pos 1) (pos largest_window) }
 {
     value_parser!(u16).range(1..=LARGEST_WINDOW as i64)
 }
 
+/// The bytes that a buffer may have: 64 to 65,535.
 fn buffers<'a>() -> ValueParser<'a>
     ensures { result ≡ parser.Signed (pos least_buffer) (pos greatest_message) }
 {

@@ -54,8 +54,8 @@ cut-one size message = append-nil (cut_message size message)
 pub length-cut-one : (size : ℕ) (message : List ℕ) → length (cut size (message ∷ [])) ≡ count_of size (length message)
 length-cut-one size message = ap length (cut-one size message) ∙ length-cut_message size message
 
-pub one_short : (v : LinkValue) (message : List ℕ) → length message ≤ v.max_message → AreShort v (message ∷ [])
-one_short v message le = All-cons (λ (m : List ℕ). length m ≤ v.max_message) message [] le (All-nil (λ (m : List ℕ). length m ≤ v.max_message))
+pub one_short : (v : LinkValue) (message : List ℕ) → length message ≤ v.setup.max_message → AreShort v (message ∷ [])
+one_short v message le = All-cons (λ (m : List ℕ). length m ≤ v.setup.max_message) message [] le (All-nil (λ (m : List ℕ). length m ≤ v.setup.max_message))
 
 -- one message alone
 pub ruleset one_message = (length-cut-one, one_short)

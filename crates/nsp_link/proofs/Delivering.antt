@@ -1,6 +1,6 @@
 -- What becomes of a packet that is due: the numbers that go round tell which it is.
-use Rattle.std.proofs.Common.{◌≡◌, ℕ, ◌+◌, ◌-◌, ◌<◌, ◌≤◌, max, List, [], length, drop, Option, Some, None, Result, Ok, Err, refl, sym, ap, ◌∙◌, arith, true, false, inl, inr, cond, subst, ◌==◌}
-use Rattle.std.specs.Prelude.{slice_get, IfSome, MatchResult, IsOk, nat_lt, ◌&&◌}
+use Rattle.std.proofs.Common.{◌≡◌, ℕ, ◌+◌, ◌-◌, ◌<◌, ◌≤◌, max, List, [], length, Option, Some, None, Result, Ok, Err, refl, sym, ap, ◌∙◌, arith, true, false, inl, inr, cond, subst, ◌==◌}
+use Rattle.std.specs.Prelude.{slice_get, MatchResult, nat_lt, ◌&&◌}
 use Rattle.std.proofs.lemmas.Bool.{lt-ltb, le-ltb, cases_lt, cases_eq, eq-eqb, ne_eqb}
 use Rattle.nsp_seg.specs.Numbers.{residue}
 use Rattle.nsp_seg.specs.Packets.{PacketValue, SegmentValue, AckValue, segment, data_ack}
@@ -11,12 +11,12 @@ use Rattle.nsp_seg.specs.declared.packet.SegFault.{SegFault}
 use Rattle.nsp_link.specs.Cutting.{Piece, cut}
 use Rattle.std.specs.List.{AllByRecursion}
 use Rattle.nsp_link.specs.Coming.{Coming, taken_all, AllFit, RefusesAll}
-use Rattle.nsp_link.specs.Holding.{following, inserted}
+use Rattle.nsp_link.specs.Holding.{following}
 use Rattle.nsp_link.specs.Limits.{most_segments}
-use Rattle.nsp_link.specs.Link.{LinkValue, IsLink, IsDue, Stands, HasTaken, Delivered, MayRefuse, Keeps, coming, got_of, taken_after, held_after, piece_of}
-use Rattle.nsp_link.specs.Receiving.{newly_acked, segment_of, taking_in, forgotten, run, stopped, Received}
+use Rattle.nsp_link.specs.Link.{LinkValue, IsLink, IsDue, Stands, HasTaken, Delivered, MayRefuse, Keeps, got_of, taken_after, held_after, piece_of, forgotten}
+use Rattle.nsp_link.specs.Receiving.{newly_acked, segment_of, taking_in, run, stopped, Received}
 use Rattle.nsp_link.proofs.Taking.{AreNext, takes_all, received-all, refuses-all}
-use Rattle.nsp_link.proofs.Held.{following_next, all_drop, all_inserted}
+use Rattle.nsp_link.proofs.Held.{inserted, following_next, all_drop, all_inserted}
 
 -- Separation: a number less than 4,096 from another is found from the two residues alone.
 pub ahead : (x y : ℕ) → y ≤ x → x < y + 4096 → residue (residue x + 4096 - residue y) ≡ x - y
@@ -40,102 +40,92 @@ newly_acked-of v a ordered window believable fresh =
     ]
 
 -- a number less than 2,048 from the next one's says which segment it is
-segment_found : (v : LinkValue) (k : ℕ) → v.received + 1 ≤ k + 2047 → k ≤ v.received + 2047 → segment_of v (residue k) ≡ k
+segment_found : (v : LinkValue) (k : ℕ) → v.coming.received + 1 ≤ k + 2047 → k ≤ v.coming.received + 2047 → segment_of v (residue k) ≡ k
 segment_found v k fresh near =
-    elim (cases_lt k (v.received + 1)) [
-      | inl lt ↦ rw (behind k (v.received + 1) lt (omega arith), le-ltb (4096 - (v.received + 1 - k)) 2048 (omega arith)) (omega arith)
-      | inr le ↦ rw (ahead k (v.received + 1) le (omega arith), lt-ltb (k - (v.received + 1)) 2048 (omega arith)) (omega arith)
+    elim (cases_lt k (v.coming.received + 1)) [
+      | inl lt ↦ rw (behind k (v.coming.received + 1) lt (omega arith), le-ltb (4096 - (v.coming.received + 1 - k)) 2048 (omega arith)) (omega arith)
+      | inr le ↦ rw (ahead k (v.coming.received + 1) le (omega arith), lt-ltb (k - (v.coming.received + 1)) 2048 (omega arith)) (omega arith)
     ]
 
 -- an end that took in this, holds these early segments, and forgot what is acknowledged
-delivered_with : (old : LinkValue) (c : Coming) (held : List (ℕ × Piece)) (count : ℕ) (k : Option ℕ) (a : ℕ) (p : Piece) → count ≡ max old.acked a - old.acked → old.failed ≡ false → c.received ≡ taken_after old k → held ≡ held_after old k p
-    → Delivered old (forgotten (record old { received = c.received; partial = c.partial; inbox = c.inbox; held = held }) count) k a
-delivered_with old c held count k a p e running on keeps = record {
-  local = refl;
-  remote = refl;
-  seg_size = refl;
-  window = refl;
-  max_message = refl;
-  failed = running;
-  sent = refl;
-  acked = omega arith;
-  queue = ap (λ (n : ℕ). drop n old.queue) (omega arith);
-  received = on;
-  held = (p, keeps);
-}
+delivered_with : (old : LinkValue) (c : Coming) (held : List (ℕ × Piece)) (count : ℕ) (k : Option ℕ) (a : ℕ) (p : Piece) → count ≡ max old.acked a - old.acked → c.received ≡ taken_after old k → held ≡ held_after old k p
+    → Delivered old (forgotten (record old { coming = c; held = held }) count) k a
+delivered_with old c held count k a p e on keeps =
+    let same : count ≡ a - old.acked = omega arith in
+    (on, (p, ap (λ (n : ℕ). forgotten (record old { coming = c; held = held }) n) same ∙ ap (λ (hs : List (ℕ × Piece)). record (forgotten old (a - old.acked)) { coming = c; held = hs }) keeps))
 
-delivered_in : (old : LinkValue) (p : Piece) (count k a : ℕ) → count ≡ max old.acked a - old.acked → old.failed ≡ false → Delivered old (forgotten (taking_in old k p) count) (Some k) a
-delivered_in old p count k a e running =
-    let c : Coming = cond (k == old.received + 1) (taken_all (coming old) (run old p)) (coming old) in
-    let on : c.received ≡ taken_after old (Some k) = elim (cases_eq k (old.received + 1)) [
+delivered_in : (old : LinkValue) (p : Piece) (count k a : ℕ) → count ≡ max old.acked a - old.acked → Delivered old (forgotten (taking_in old k p) count) (Some k) a
+delivered_in old p count k a e =
+    let c : Coming = cond (k == old.coming.received + 1) (taken_all old.coming (run old p)) old.coming in
+    let on : c.received ≡ taken_after old (Some k) = elim (cases_eq k (old.coming.received + 1)) [
       | inl next ↦
-          let same : following (old.received + 1) old.held ≡ following k old.held = ap (λ (n : ℕ). following n old.held) (sym next) in
-          rw (eq-eqb k (old.received + 1) next) (received-all (coming old) (run old p) ∙ omega (arith, ap length same, next))
-      | inr ne ↦ rw (ne_eqb k (old.received + 1) ne) refl
+          let same : following (old.coming.received + 1) old.held ≡ following k old.held = ap (λ (n : ℕ). following n old.held) (sym next) in
+          rw (eq-eqb k (old.coming.received + 1) next) (received-all old.coming (run old p) ∙ omega (arith, ap length same, next))
+      | inr ne ↦ rw (ne_eqb k (old.coming.received + 1) ne) refl
     ] in
-    delivered_with old c (held_after old (Some k) p) count (Some k) a p e running on refl
+    delivered_with old c (held_after old (Some k) p) count (Some k) a p e on refl
 
 stands_forgotten : (v : LinkValue) (count size : ℕ) (messages given : List (List ℕ)) → Stands v size messages given → Stands (forgotten v count) size messages given
 stands_forgotten v count size messages given st = record { taken = st.taken; held = st.held }
 
 -- what the definition says of a packet that is due
 abbrev pub Due : LinkValue → LinkValue → Result Got LinkFault → ℕ → List (List ℕ) → List (List ℕ) → Option ℕ → ℕ → Type 0
-Due old new (Ok got) size messages given k a = (got ≡ got_of old.received k) × Delivered old new k a × Stands new size messages given
+Due old new (Ok got) size messages given k a = (got ≡ got_of old.coming.received k) × Delivered old new k a × Stands new size messages given
 Due old new (Err e) size messages given k a = MayRefuse old k e × (new ≡ old)
 
 count_is : (old : LinkValue) (size : ℕ) (messages given : List (List ℕ)) (p : PacketValue) (k : Option ℕ) (a count : ℕ) (number : Option ℕ) → IsLink old → IsDue old size messages given p k a → number ≡ Some (residue a) → newly_acked old number ≡ Some count → count ≡ max old.acked a - old.acked
 count_is old size messages given p k a count number link due e newly =
-    let is = newly_acked-of old a link.acked (omega (arith, link.within, link.window_limit)) due.believable due.fresh.1 in
+    let is = newly_acked-of old a link.acked (omega (arith, link.within, link.setup.3)) due.2.believable due.2.fresh.1 in
     let f = rw e at newly in
     (cc)
 
 count_some : (old : LinkValue) (size : ℕ) (messages given : List (List ℕ)) (p : PacketValue) (k : Option ℕ) (a : ℕ) (number : Option ℕ) → IsLink old → IsDue old size messages given p k a → number ≡ Some (residue a) → newly_acked old number ≡ None → ⊥
 count_some old size messages given p k a number link due e newly =
-    let is = newly_acked-of old a link.acked (omega (arith, link.within, link.window_limit)) due.believable due.fresh.1 in
+    let is = newly_acked-of old a link.acked (omega (arith, link.within, link.setup.3)) due.2.believable due.2.fresh.1 in
     let f = rw e at newly in
     cc
 
 due_ack : (old new : LinkValue) (r : Result Got LinkFault) (size : ℕ) (messages given : List (List ℕ)) (s : AckValue) (a : ℕ) → IsLink old → IsDue old size messages given (data_ack s) None a → Received old (data_ack s) r new → Due old new r size messages given None a
 due_ack old new (Ok got) size messages given s a link due (_, (same, (count, newly, e))) =
-    let is = count_is old size messages given (data_ack s) None a count _ link due due.carries newly in
-    (same, rw e (delivered_with old (coming old) old.held count None a (record { first = false; last = false; payload = [] }) is due.running refl refl), rw e (stands_forgotten old count size messages given due.stands))
-due_ack old new (Err e) size messages given s a link due (inl (out, _), _) = absurd (out due.way)
-due_ack old new (Err e) size messages given s a link due (inr (_, (none, _)), _) = absurd (count_some old size messages given (data_ack s) None a _ link due due.carries none)
+    let is = count_is old size messages given (data_ack s) None a count _ link due due.2.carries newly in
+    (same, rw e (delivered_with old old.coming old.held count None a (record { first = false; last = false; payload = [] }) is refl refl), rw e (stands_forgotten old count size messages given due.1))
+due_ack old new (Err e) size messages given s a link due (inl (out, _), _) = absurd (out due.2.way)
+due_ack old new (Err e) size messages given s a link due (inr (_, (none, _)), _) = absurd (count_some old size messages given (data_ack s) None a _ link due due.2.carries none)
 
 module _ (old : LinkValue) (size : ℕ) (messages given : List (List ℕ)) (s : SegmentValue) (n a : ℕ) (link : IsLink old) (due : IsDue old size messages given (segment s) (Some n) a) where
   found : segment_of old s.number ≡ n
-  found = rw due.carries.2 (segment_found old n due.fresh.0 due.near)
+  found = rw due.2.carries.2 (segment_found old n due.2.fresh.0 due.2.near)
 
   -- the next segment and all that follow it are segments of the messages
-  next_taken : n ≡ old.received + 1 → AllFit old.max_message (coming old) (run old (piece_of s)) × HasTaken (taken_all (coming old) (run old (piece_of s))) size messages given
+  next_taken : n ≡ old.coming.received + 1 → AllFit old.setup.max_message old.coming (run old (piece_of s)) × HasTaken (taken_all old.coming (run old (piece_of s))) size messages given
   unfolding AreNext
   next_taken e =
-      let back : n - 1 ≡ old.received = omega arith in
-      let at : slice_get (cut size messages) old.received ≡ Some (piece_of s) = rw back at due.carries.1 in
-      takes_all (coming old) size messages given (run old (piece_of s)) old.max_message due.positive due.short due.stands.taken
-      (at, following_next (old.received + 1) (cut size messages) old.held due.stands.held)
+      let back : n - 1 ≡ old.coming.received = omega arith in
+      let at : slice_get (cut size messages) old.coming.received ≡ Some (piece_of s) = rw back at due.2.carries.1 in
+      takes_all old.coming size messages given (run old (piece_of s)) old.setup.max_message due.2.positive due.2.short due.1.taken
+      (at, following_next (old.coming.received + 1) (cut size messages) old.held due.1.held)
 
   stands_in : Stands (taking_in old n (piece_of s)) size messages given
-  stands_in = elim (cases_eq n (old.received + 1)) [
-    | inl e ↦ rw (eq-eqb n (old.received + 1) e) (record {
+  stands_in = elim (cases_eq n (old.coming.received + 1)) [
+    | inl e ↦ rw (eq-eqb n (old.coming.received + 1) e) (record {
       taken = (next_taken e).1;
-      held = all_drop (cut size messages) (length (following n old.held)) old.held due.stands.held;
+      held = all_drop (cut size messages) (length (following n old.held)) old.held due.1.held;
     })
-    | inr ne ↦ rw (ne_eqb n (old.received + 1) ne) (record {
-      taken = due.stands.taken;
-      held = elim (nat_lt old.received n && nat_lt n (old.received + 1 + old.window)) as (λ b. AllByRecursion (λ h. slice_get (cut size messages) (h.0 - 1) ≡ Some h.1) (cond b (inserted n (piece_of s) old.held) old.held)) [
-        | true ↦ all_inserted (cut size messages) n (piece_of s) old.held due.carries.1 due.stands.held
-        | false ↦ due.stands.held
+    | inr ne ↦ rw (ne_eqb n (old.coming.received + 1) ne) (record {
+      taken = due.1.taken;
+      held = elim (nat_lt old.coming.received n && nat_lt n (old.coming.received + 1 + old.setup.window)) as (λ b. AllByRecursion (λ h. slice_get (cut size messages) (h.0 - 1) ≡ Some h.1) (cond b (inserted n (piece_of s) old.held) old.held)) [
+        | true ↦ all_inserted (cut size messages) n (piece_of s) old.held due.2.carries.1 due.1.held
+        | false ↦ due.1.held
       ];
     })
   ]
 
   -- the next one isn't taken: what is refused leaves the end as it was
-  due_not_taken : (new : LinkValue) (e : LinkFault) → n ≡ old.received + 1 → RefusesAll old.max_message (coming old) (run old (piece_of s)) e → new ≡ stopped e old → Due old new (Err e) size messages given (Some n) a
+  due_not_taken : (new : LinkValue) (e : LinkFault) → n ≡ old.coming.received + 1 → RefusesAll old.setup.max_message old.coming (run old (piece_of s)) e → new ≡ stopped e old → Due old new (Err e) size messages given (Some n) a
   due_not_taken new e next out left =
-      let test : (n == old.received + 1) ≡ true = eq-eqb n (old.received + 1) next in
-      let same : following (old.received + 1) old.held ≡ following n old.held = ap (λ (k : ℕ). following k old.held) (sym next) in
-      elim (refuses-all old.max_message (coming old) (run old (piece_of s)) e (next_taken next).0 out) [
+      let test : (n == old.coming.received + 1) ≡ true = eq-eqb n (old.coming.received + 1) next in
+      let same : following (old.coming.received + 1) old.held ≡ following n old.held = ap (λ (k : ℕ). following k old.held) (sym next) in
+      elim (refuses-all old.setup.max_message old.coming (run old (piece_of s)) e (next_taken next).0 out) [
         | inl m ↦
             let few : n + length (following n old.held) ≤ most_segments = omega (arith, m.1, ap length same, next) in
             (inl (m.0, inl next, rw test few), left ∙ ap (λ (f : LinkFault). stopped f old) m.0)
@@ -146,27 +136,27 @@ module _ (old : LinkValue) (size : ℕ) (messages given : List (List ℕ)) (s : 
 
   due_segment : (new : LinkValue) (r : Result Got LinkFault) → Received old (segment s) r new → Due old new r size messages given (Some n) a
   due_segment new (Ok got) (_, (same, _, (count, newly, e))) =
-      let is = count_is old size messages given (segment s) (Some n) a count _ link due due.carries.3 newly in
+      let is = count_is old size messages given (segment s) (Some n) a count _ link due due.2.carries.3 newly in
       let left : new ≡ forgotten (taking_in old n (piece_of s)) count = e ∙ ap (λ (k : ℕ). forgotten (taking_in old k (piece_of s)) count) found in
-      (same ∙ ap (λ (k : ℕ). got_of old.received (Some k)) found, rw left (delivered_in old (piece_of s) count n a is due.running), rw left (stands_forgotten (taking_in old n (piece_of s)) count size messages given stands_in))
-  due_segment new (Err e) (inl (out, _), _) = absurd (out due.way)
-  due_segment new (Err e) (inr (_, inl (none, _)), _) = absurd (count_some old size messages given (segment s) (Some n) a _ link due due.carries.3 none)
+      (same ∙ ap (λ (k : ℕ). got_of old.coming.received (Some k)) found, rw left (delivered_in old (piece_of s) count n a is), rw left (stands_forgotten (taking_in old n (piece_of s)) count size messages given stands_in))
+  due_segment new (Err e) (inl (out, _), _) = absurd (out due.2.way)
+  due_segment new (Err e) (inr (_, inl (none, _)), _) = absurd (count_some old size messages given (segment s) (Some n) a _ link due due.2.carries.3 none)
   due_segment new (Err e) (inr (_, inr (_, inl (next, out))), left) = due_not_taken new e (sym found ∙ next) out left
   due_segment new (Err e) (inr (_, inr (_, inr (keeps, memory))), left) =
       let keeps-it = subst (λ (k : ℕ). Keeps old k) found keeps in
-      let apart : (n == old.received + 1) ≡ false = ne_eqb n (old.received + 1) (λ x. omega (arith, keeps-it.0)) in
+      let apart : (n == old.coming.received + 1) ≡ false = ne_eqb n (old.coming.received + 1) (λ x. omega (arith, keeps-it.0)) in
       (inl (memory, inr keeps-it, rw apart link.few_taken), left ∙ ap (λ (f : LinkFault). stopped f old) memory)
 
 -- a packet that is due does what the definition says
 pub due_received : (old new : LinkValue) (r : Result Got LinkFault) (size : ℕ) (messages given : List (List ℕ)) (p : PacketValue) (k : Option ℕ) (a : ℕ) → IsLink old → IsDue old size messages given p k a → Received old p r new → Due old new r size messages given k a
 due_received old new r size messages given (segment s) (Some n) a link due rec = due_segment old size messages given s n a link due new r rec
-due_received old new r size messages given (segment s) None a link due rec = absurd due.carries
+due_received old new r size messages given (segment s) None a link due rec = absurd due.2.carries
 due_received old new r size messages given (data_ack s) None a link due rec = due_ack old new r size messages given s a link due rec
-due_received old new r size messages given (data_ack s) (Some n) a link due rec = absurd due.carries
+due_received old new r size messages given (data_ack s) (Some n) a link due rec = absurd due.2.carries
 
 -- the same, in the words of the clause
 pub due_matched : (old new : LinkValue) (r : Result Got LinkFault) (size : ℕ) (messages given : List (List ℕ)) (k : Option ℕ) (a : ℕ) → Due old new r size messages given k a
-    → MatchResult r (λ got. (got ≡ got_of old.received k) × Delivered old new k a × Stands new size messages given)
+    → MatchResult r (λ got. (got ≡ got_of old.coming.received k) × Delivered old new k a × Stands new size messages given)
     (λ e. MayRefuse old k e × (new ≡ old))
 due_matched old new (Ok got) size messages given k a d = d
 due_matched old new (Err e) size messages given k a d = d
@@ -178,14 +168,6 @@ received_read old new p (Err g) f (inl out, _) e = cc
 received_read old new (segment s) (Err g) f (inr (_, inl out), _) e = cc
 received_read old new (segment s) (Err g) f (inr (_, inr (_, inl out)), _) e =
     let same : g ≡ Malformed f = (cc) in
-    subst (λ (h : LinkFault). RefusesAll old.max_message (coming old) (run old (piece_of s)) h) same out.1
+    subst (λ (h : LinkFault). RefusesAll old.setup.max_message old.coming (run old (piece_of s)) h) same out.1
 received_read old new (segment s) (Err g) f (inr (_, inr (_, inr out)), _) e = cc
 received_read old new (data_ack s) (Err g) f (inr out, _) e = cc
-
--- what was taken before, and what only acknowledges, is never refused
-pub unrefused : (old new : LinkValue) (r : Result Got LinkFault) (size : ℕ) (messages given : List (List ℕ)) (k : Option ℕ) (a : ℕ) → IfSome k (λ n. n ≤ old.received) → Due old new r size messages given k a → IsOk r
-unrefused old new (Ok got) size messages given k a le d = refl
-unrefused old new (Err e) size messages given None a le d = absurd d.0
-unrefused old new (Err e) size messages given (Some k) a le (inl (_, inl next, _), _) = absurd (omega arith)
-unrefused old new (Err e) size messages given (Some k) a le (inl (_, inr keeps, _), _) = absurd (omega (arith, keeps.0))
-unrefused old new (Err e) size messages given (Some k) a le (inr (_, next, _), _) = absurd (omega arith)

@@ -1,10 +1,14 @@
 -- What the crates above may cite of this one's proofs. No other file here is for them.
-use Rattle.std.proofs.Common.{◌≡◌, ℕ, ◌+◌, List, [], ◌++◌, length, drop, Option}
+use Rattle.std.proofs.Common.{◌≡◌, ℕ, ◌+◌, max, List, [], ◌++◌, length, drop, Option, ap, ◌∙◌, arith}
 use Rattle.nsp_seg.specs.Packets.{PacketValue, Spells}
 use Rattle.nsp_link.specs.declared.link.LinkSetup.{LinkSetup}
 use Rattle.nsp_link.specs.Cutting.{Piece, cut}
-use Rattle.nsp_link.specs.Holding.{following, inserted, numbers, closed_up, with_number}
-use Rattle.nsp_link.specs.Link.{LinkValue, IsBetween, Carries, IsWritten, Writes, Sends, Stands, new_link}
+use Rattle.nsp_link.specs.Holding.{following, closed_up}
+use Rattle.std.specs.Ordering.{nat_cmp}
+use Rattle.std.specs.Map.{keys_of}
+use Rattle.std.specs.BTreeSet.{insert_key}
+pub use Rattle.nsp_link.proofs.Held.{inserted}
+use Rattle.nsp_link.specs.Link.{LinkValue, IsBetween, Carries, IsWritten, Writes, Sends, Stands, new_link, Delivered, taken_after, held_after}
 use Rattle.nsp_link.specs.Sending.{queued_link}
 use Rattle.nsp_link.proofs.Growing as growing
 use Rattle.nsp_link.proofs.Numbers as by_number
@@ -40,13 +44,32 @@ pub sends_new : (s : LinkSetup) → Sends (new_link s) []
 sends_new = growing.sends_new
 
 -- more messages are sent
-pub sends_all : (v : LinkValue) (messages more : List (List ℕ)) → Sends v messages → Sends (queued_link v (cut v.seg_size more)) (messages ++ more)
+pub sends_all : (v : LinkValue) (messages more : List (List ℕ)) → Sends v messages → Sends (queued_link v (cut v.setup.seg_size more)) (messages ++ more)
 sends_all = growing.sends_all
 
+-- what a delivery leaves, part by part
+pub record IsDelivered (old new : LinkValue) (k : Option ℕ) (a : ℕ) : Type 0 where
+  pub setup : new.setup ≡ old.setup
+  pub failed : new.failed ≡ old.failed
+  pub sent : new.sent ≡ old.sent
+  pub acked : new.acked ≡ max old.acked a
+  pub received : new.coming.received ≡ taken_after old k
+  pub held : (p : Piece) × (new.held ≡ held_after old k p)
+
+pub is_delivered : (old new : LinkValue) (k : Option ℕ) (a : ℕ) → Delivered old new k a → IsDelivered old new k a
+is_delivered old new k a (on, (p, is)) = record {
+  setup = ap (λ (v : LinkValue). v.setup) is;
+  failed = ap (λ (v : LinkValue). v.failed) is;
+  sent = ap (λ (v : LinkValue). v.sent) is;
+  acked = ap (λ (v : LinkValue). v.acked) is ∙ omega arith;
+  received = on;
+  held = (p, ap (λ (v : LinkValue). v.held) is);
+}
+
 -- what is taken in behind the k-th, and what stays held, by the numbers alone
-pub closes : (k : ℕ) (held : List (ℕ × Piece)) → closed_up k (numbers held) ≡ (k + length (following k held), numbers (drop (length (following k held)) held))
+pub closes : (k : ℕ) (held : List (ℕ × Piece)) → closed_up k (keys_of held) ≡ (k + length (following k held), keys_of (drop (length (following k held)) held))
 closes = by_number.closes
 
 -- one more is held, by the numbers alone
-pub keeps : (k : ℕ) (p : Piece) (held : List (ℕ × Piece)) → numbers (inserted k p held) ≡ with_number k (numbers held)
+pub keeps : (k : ℕ) (p : Piece) (held : List (ℕ × Piece)) → keys_of (inserted k p held) ≡ insert_key nat_cmp (keys_of held) k
 keeps = by_number.keeps

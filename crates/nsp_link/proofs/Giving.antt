@@ -4,11 +4,11 @@ use Rattle.std.specs.Prelude.{MatchOption}
 use Rattle.std.specs.Option.{option_to_list}
 use Rattle.std.specs.declared.vec.Vec.{Vec}
 use Rattle.std.specs.declared.alloc.Global.{Global}
-use Rattle.nsp_link.specs.Link.{LinkValue, Stands}
+use Rattle.nsp_link.specs.Link.{LinkValue, Stands, with_inbox}
 use Rattle.nsp_link.specs.Inner.Pieces.{bodies}
 
-pub stands_popped : (v : LinkValue) (size : ℕ) (messages given : List (List ℕ)) (items rest : List (Vec ℕ Global)) (r : Option (Vec ℕ Global)) → v.inbox ≡ bodies items → items ≡ option_to_list r ++ rest → Stands v size messages given
-    → MatchOption r (Stands (record v { inbox = bodies rest }) size messages given) (λ m. Stands (record v { inbox = bodies rest }) size messages (given ++ m.items ∷ []))
+pub stands_popped : (v : LinkValue) (size : ℕ) (messages given : List (List ℕ)) (items rest : List (Vec ℕ Global)) (r : Option (Vec ℕ Global)) → v.coming.inbox ≡ bodies items → items ≡ option_to_list r ++ rest → Stands v size messages given
+    → MatchOption r (Stands (with_inbox v (bodies rest)) size messages given) (λ m. Stands (with_inbox v (bodies rest)) size messages (given ++ m.items ∷ []))
 stands_popped v size messages given items rest None inbox e st =
     let had = st.taken in
     record {

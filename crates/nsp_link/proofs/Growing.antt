@@ -35,7 +35,7 @@ written_longer src dst pieces more (Some k) a bytes (p, is, fits, e) = (p, (is.0
 written_longer src dst pieces more None a bytes w = w
 
 pub writes_more : (v : LinkValue) (ms more : List (List ℕ)) (k : Option ℕ) (a : ℕ) (bytes : List ℕ) → Writes v ms k a bytes → Writes v (ms ++ more) k a bytes
-writes_more v ms more k a bytes w = rw (cut-append v.seg_size ms more) (written_longer v.local v.remote (cut v.seg_size ms) (cut v.seg_size more) k a bytes w)
+writes_more v ms more k a bytes w = rw (cut-append v.setup.seg_size ms more) (written_longer v.setup.local v.setup.remote (cut v.setup.seg_size ms) (cut v.setup.seg_size more) k a bytes w)
 
 begun_more : (size : ℕ) (ms more : List (List ℕ)) (r n : ℕ) → IsWhole size ms r n → begun size ms r n ≡ begun size (ms ++ more) r n
 begun_more size ms more r n w =
@@ -79,9 +79,9 @@ stands_more v size ms more given st =
     record {
       taken = record {
         count = had.count;
-        whole = whole_more size ms more v.received had.count had.whole;
+        whole = whole_more size ms more v.coming.received had.count had.whole;
         inbox = had.inbox ∙ sym (take-append-le had.count ms more had.whole.some);
-        partial = had.partial ∙ begun_more size ms more v.received had.count had.whole;
+        partial = had.partial ∙ begun_more size ms more v.coming.received had.count had.whole;
       };
       held = rw (cut-append size ms more) (held_more (cut size ms) (cut size more) v.held st.held);
     }
@@ -104,10 +104,10 @@ unfolding cut
 sends_new s = record { queue = refl; acked = omega arith }
 
 -- more messages are sent
-pub sends_all : (v : LinkValue) (messages more : List (List ℕ)) → Sends v messages → Sends (queued_link v (cut v.seg_size more)) (messages ++ more)
+pub sends_all : (v : LinkValue) (messages more : List (List ℕ)) → Sends v messages → Sends (queued_link v (cut v.setup.seg_size more)) (messages ++ more)
 sends_all v messages more sends =
-    let joined = cut-append v.seg_size messages more in
+    let joined = cut-append v.setup.seg_size messages more in
     record {
-      queue = rw (joined, drop-append-le v.acked (cut v.seg_size messages) (cut v.seg_size more) sends.acked, sends.queue) refl;
-      acked = rw joined (omega (arith, length-append (cut v.seg_size messages) (cut v.seg_size more), sends.acked));
+      queue = rw (joined, drop-append-le v.acked (cut v.setup.seg_size messages) (cut v.setup.seg_size more) sends.acked, sends.queue) refl;
+      acked = rw joined (omega (arith, length-append (cut v.setup.seg_size messages) (cut v.setup.seg_size more), sends.acked));
     }

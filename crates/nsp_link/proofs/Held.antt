@@ -1,13 +1,15 @@
 -- Early segments in the ring, and the definition's list of them.
 use Rattle.std.proofs.Common.{◌≡◌, ℕ, zero, suc, ◌+◌, ◌-◌, ◌<◌, ◌≤◌, List, [], ◌∷◌, ◌++◌, length, drop, replicate, Option, Some, None, refl, sym, ap, ◌∙◌, arith, Bool, true, false, inl, inr, subst, append_assoc, Bor}
-use Rattle.std.specs.Prelude.{slice_get, slice_set, MatchOption, is_none}
+use Rattle.std.specs.Prelude.{◌≢◌, slice_get, slice_set, MatchOption, is_none}
+use Rattle.std.specs.Ordering.{nat_cmp}
+use Rattle.std.specs.BTreeSet.{insert_key}
 use Rattle.std.specs.List.{AllByRecursion}
 use Rattle.std.specs.Option.{option_copied}
 use Rattle.std.proofs.lemmas.Bool.{cases_eq, cases_lt, eq-eqb, ne_eqb, lt-ltb, le-ltb}
 use Rattle.std.proofs.lemmas.List.{length-append, length-drop, length-replicate, drop-append-le, drop-drop, replicate-append-replicate}
 use Rattle.nsp_link.specs.Inner.Pieces.{Held}
 use Rattle.nsp_link.specs.Cutting.{Piece}
-use Rattle.nsp_link.specs.Holding.{AreHeld, following, inserted, Lacks}
+use Rattle.nsp_link.specs.Holding.{AreHeld, following}
 use Rattle.nsp_link.specs.Inner.Pieces.{held_from, held_piece, leading}
 use Rattle.nsp_link.proofs.Taking.{AreNext}
 
@@ -206,23 +208,30 @@ length-ring_closed n k m places at e =
     let some = follows_held n places at in
     omega (arith, any, closed, dropped, follows, some)
 
+-- the k-th is held too
+abbrev pub inserted : ℕ → Piece → List (ℕ × Piece) → List (ℕ × Piece)
+inserted k p held = insert_key (λ a b. nat_cmp a.0 b.0) held (k, p)
+
+-- the k-th isn't held
+abbrev Lacks : ℕ → List (ℕ × Piece) → Type 0
+Lacks k held = AllByRecursion (λ h. h.0 ≢ k) held
+
 -- what is held above a number comes behind it
 inserted_low : (k low high : ℕ) (p : Piece) (held : List (ℕ × Piece)) → k ≤ low → AreHeld low high held → inserted k p held ≡ (k, p) ∷ held
-unfolding AreHeld inserted
+unfolding AreHeld
 inserted_low k low high p [] le all = refl
 inserted_low k low high p (h ∷ held) le all = rw (lt-ltb k h.0 (omega (arith, all.0))) refl
 
 inserted_past : (k : ℕ) (p : Piece) (h : ℕ × Piece) (held : List (ℕ × Piece)) → h.0 < k → inserted k p (h ∷ held) ≡ h ∷ inserted k p held
-unfolding inserted
 inserted_past k p h held lt = rw (le-ltb k h.0 (omega arith), ne_eqb k h.0 (λ e. omega arith)) refl
 
 lacks_low : (k low high : ℕ) (held : List (ℕ × Piece)) → k ≤ low → AreHeld low high held → Lacks k held
-unfolding AreHeld Lacks
+unfolding AreHeld
 lacks_low k low high [] le all = tt
 lacks_low k low high (h ∷ held) le all = ((λ x. omega (arith, all.0)), lacks_low k h.0 high held (omega (arith, all.0)) all.2)
 
 pub held_put : (n i : ℕ) (places : List (Option Held)) (h : Held) → slice_get places i ≡ Some None → held_from n (slice_set places i (Some h)) ≡ inserted (n + i) (held_piece h) (held_from n places)
-unfolding inserted held_from
+unfolding held_from
 held_put n i [] h at = absurd (cc)
 held_put n zero (None ∷ places) h at =
     let z : n + 0 ≡ n = omega arith in
@@ -237,7 +246,7 @@ held_put n (suc i) (Some g ∷ places) h at =
     ∙ sym (inserted_past (n + suc i) (held_piece h) (n, held_piece g) (held_from (n + 1) places) (omega arith))
 
 pub held_there : (n i : ℕ) (places : List (Option Held)) (h : Held) (p : Piece) → slice_get places i ≡ Some (Some h) → inserted (n + i) p (held_from n places) ≡ held_from n places
-unfolding inserted held_from
+unfolding held_from
 held_there n i [] h p at = absurd (cc)
 held_there n zero (None ∷ places) h p at = absurd (cc)
 held_there n zero (Some g ∷ places) h p at = let z : n + 0 ≡ n = omega arith in rw (z, le-ltb n n (omega arith), eq-eqb n n refl) refl
@@ -250,7 +259,7 @@ held_there n (suc i) (Some g ∷ places) h p at =
     ∙ ap (λ (hs : List (ℕ × Piece)). (n, held_piece g) ∷ hs) (ap (λ (k : ℕ). inserted k p (held_from (n + 1) places)) e ∙ held_there (n + 1) i places h p at)
 
 pub held_lacks : (n i : ℕ) (places : List (Option Held)) → slice_get places i ≡ Some None → Lacks (n + i) (held_from n places)
-unfolding Lacks held_from
+unfolding held_from
 held_lacks n i [] at = absurd (cc)
 held_lacks n zero (None ∷ places) at =
     let z : n + 0 ≡ n = omega arith in
@@ -280,7 +289,6 @@ all_drop segments (suc n) [] all = tt
 all_drop segments (suc n) (h ∷ held) all = all_drop segments n held all.1
 
 pub all_inserted : (segments : List Piece) (k : ℕ) (p : Piece) (held : List (ℕ × Piece)) → slice_get segments (k - 1) ≡ Some p → AllByRecursion (λ h. slice_get segments (h.0 - 1) ≡ Some h.1) held → AllByRecursion (λ h. slice_get segments (h.0 - 1) ≡ Some h.1) (inserted k p held)
-unfolding inserted
 all_inserted segments k p [] at all = (at, tt)
 all_inserted segments k p (h ∷ held) at all = elim (cases_lt k h.0) [
   | inl lt ↦ rw (lt-ltb k h.0 lt) (at, all)

@@ -25,7 +25,7 @@ piece_read items place s p lt read at =
 
 -- the packet that the code makes is the definition's
 pub packet_is : (v : LinkValue) (s : Segment) (p : Piece) (ack : AckField) (dst src number k : ℕ) (payload : List ℕ)
-    → piece s ≡ p → payload ≡ s.payload → ack ≡ acknowledging v.received → number ≡ residue k → dst ≡ v.remote → src ≡ v.local
+    → piece s ≡ p → payload ≡ s.payload → ack ≡ acknowledging v.coming.received → number ≡ residue k → dst ≡ v.setup.remote → src ≡ v.setup.local
     → segment (record { first = s.first; last = s.last; dst = dst; src = src; ack1 = Some ack; ack2 = None; number = number; payload = payload }) ≡ segment_packet v p k
 packet_is v s p ack dst src number k payload same bytes acks numbers to from =
     rw (bytes, acks, numbers, to, from) (ap (λ (q : Piece). segment_packet v q k) same)

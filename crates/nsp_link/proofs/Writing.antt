@@ -4,7 +4,7 @@ use Rattle.std.specs.Prelude.{slice_get}
 use Rattle.std.proofs.lemmas.List.{length-drop, get_or-drop, drop-drop}
 use Rattle.std.proofs.lemmas.Option.{slice_get-get_or}
 use Rattle.nsp_link.specs.Cutting.{Piece, cut}
-use Rattle.nsp_link.specs.Link.{LinkValue, Sends, Writes}
+use Rattle.nsp_link.specs.Link.{LinkValue, Sends, Writes, forgotten}
 use Rattle.std.proofs.Common.{Result, Ok, Err, inl, inr}
 use Rattle.std.proofs.lemmas.Bool.{cases_lt, lt-ltb, le-ltb}
 use Rattle.nsp_seg.specs.Numbers.{residue}
@@ -12,13 +12,13 @@ use Rattle.nsp_seg.specs.Packets.{PacketValue, segment, data_ack}
 use Rattle.nsp_link.specs.declared.fault.LinkFault.{LinkFault}
 use Rattle.nsp_link.specs.declared.link.Got.{Got}
 use Rattle.nsp_link.specs.Link.{IsLink, failed_link, first_ack, piece_of}
-use Rattle.nsp_link.specs.Receiving.{forgotten, newly_acked, Acknowledges, Received, segment_of, taking_in, stopped, is_end}
+use Rattle.nsp_link.specs.Receiving.{newly_acked, Acknowledges, Received, segment_of, taking_in, stopped, is_end}
 use Rattle.nsp_link.specs.Sending.{WritesQueued, segment_packet}
 
 pub writes_segment : (v : LinkValue) (messages : List (List ℕ)) (bytes : List ℕ) (place : ℕ) → place < length v.queue
-    → WritesQueued v place (v.acked + 1 + place) bytes → Sends v messages → Writes v messages (Some (v.acked + 1 + place)) v.received bytes
+    → WritesQueued v place (v.acked + 1 + place) bytes → Sends v messages → Writes v messages (Some (v.acked + 1 + place)) v.coming.received bytes
 writes_segment v messages bytes place lt spelled sends =
-    let pieces = cut v.seg_size messages in
+    let pieces = cut v.setup.seg_size messages in
     let d : Piece = record { first = false; last = false; payload = [] } in
     let p = get_or v.queue place d in
     let at : slice_get v.queue place ≡ Some p = slice_get-get_or v.queue place d lt in
@@ -31,8 +31,8 @@ writes_segment v messages bytes place lt spelled sends =
 -- what is acknowledged is forgotten
 pub sends_forgotten : (v : LinkValue) (messages : List (List ℕ)) (count : ℕ) → count ≤ length v.queue → Sends v messages → Sends (forgotten v count) messages
 sends_forgotten v messages count few sends = record {
-  queue = rw sends.queue (drop-drop count v.acked (cut v.seg_size messages));
-  acked = omega (arith, few, sends.acked, ap length sends.queue, length-drop v.acked (cut v.seg_size messages));
+  queue = rw sends.queue (drop-drop count v.acked (cut v.setup.seg_size messages));
+  acked = omega (arith, few, sends.acked, ap length sends.queue, length-drop v.acked (cut v.setup.seg_size messages));
 }
 
 newly-few : (v : LinkValue) (number : Option ℕ) (count : ℕ) → newly_acked v number ≡ Some count → count ≤ v.sent - v.acked
@@ -48,10 +48,10 @@ newly-few v (Some n) count e =
     ]
 
 -- the parts of an end that sending reads
-sends_like : (v w : LinkValue) (messages : List (List ℕ)) → w.queue ≡ v.queue → w.acked ≡ v.acked → w.seg_size ≡ v.seg_size → Sends v messages → Sends w messages
+sends_like : (v w : LinkValue) (messages : List (List ℕ)) → w.queue ≡ v.queue → w.acked ≡ v.acked → w.setup.seg_size ≡ v.setup.seg_size → Sends v messages → Sends w messages
 sends_like v w messages queue acked size sends = record { queue = rw (queue, acked, size) sends.queue; acked = rw (acked, size) sends.acked }
 
-sends_acked : (old mid new : LinkValue) (number : Option ℕ) (messages : List (List ℕ)) → IsLink old → mid.queue ≡ old.queue → mid.acked ≡ old.acked → mid.seg_size ≡ old.seg_size → Acknowledges old number mid new → Sends old messages → Sends new messages
+sends_acked : (old mid new : LinkValue) (number : Option ℕ) (messages : List (List ℕ)) → IsLink old → mid.queue ≡ old.queue → mid.acked ≡ old.acked → mid.setup.seg_size ≡ old.setup.seg_size → Acknowledges old number mid new → Sends old messages → Sends new messages
 sends_acked old mid new number messages link queue acked size acks sends =
     let few = newly-few old number acks.0 acks.1 in
     let long : acks.0 ≤ length mid.queue = rw queue (omega (arith, few, link.acked, link.queued)) in

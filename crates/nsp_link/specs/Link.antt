@@ -1,7 +1,9 @@
 -- One end of a link, as its callers see it.
-use Rattle.std.specs.Prelude.{◌≡◌, ◌⊎◌, ℕ, ◌+◌, ◌-◌, ◌*◌, ◌<◌, ◌≤◌, ◌==◌, max, Bool, true, false, List, [], ◌∷◌, ◌++◌, length, take, drop, Option, Some, None, IfSome, unwrap_or, nat_lt, if◌then◌else◌, slice_get, slice_index_or, All, ◌&&◌}
+use Rattle.std.specs.Prelude.{◌≡◌, ◌≢◌, ◌⊎◌, ℕ, ◌+◌, ◌-◌, ◌*◌, ◌<◌, ◌≤◌, ◌==◌, Bool, true, false, List, [], ◌∷◌, ◌++◌, length, take, drop, Option, Some, None, IfSome, unwrap_or, nat_lt, if◌then◌else◌, slice_get, slice_index_or, All, ◌&&◌}
 use Rattle.std.specs.Option.{option_or}
 use Rattle.std.specs.List.{AllByRecursion}
+use Rattle.std.specs.Ordering.{nat_cmp}
+use Rattle.std.specs.BTreeSet.{insert_key}
 use Rattle.nsp_seg.specs.Numbers.{residue}
 use Rattle.nsp_seg.specs.declared.packet.AckField.{AckField}
 use Rattle.nsp_seg.specs.Packets.{PacketValue, SegmentValue, segment, data_ack, FitsFields, spelling}
@@ -12,26 +14,18 @@ use Rattle.nsp_link.specs.declared.fault.LinkFault.{LinkFault}
 use Rattle.nsp_link.specs.declared.fault.LinkFault.TheVariants.{BadSetup, Exhausted, NoMemory}
 use Rattle.nsp_link.specs.Cutting.{Piece, cut}
 use Rattle.nsp_link.specs.Coming.{Coming}
-use Rattle.nsp_link.specs.Holding.{AreHeld, following, inserted, Lacks}
+use Rattle.nsp_link.specs.Holding.{AreHeld, following}
 use Rattle.nsp_link.specs.Limits.{largest_segment, largest_window, greatest_age, least_limit, largest_limit, most_segments}
 
 pub record LinkValue : Type 0 where
-  -- how it was set up
-  pub local : ℕ
-  pub remote : ℕ
-  pub seg_size : ℕ
-  pub window : ℕ
-  pub max_message : ℕ
+  pub setup : LinkSetup
   -- how many segments were sent, how many of these are acknowledged, and the segments after those, sent or not
   pub sent : ℕ
   pub acked : ℕ
   pub queue : List Piece
-  -- how many segments were taken in order, the bytes of a message whose last segment is still to come,
-  -- early segments by their numbers, and the whole messages that were not handed out
-  pub received : ℕ
-  pub partial : Option (List ℕ)
+  -- what it has of the other's messages, and early segments by their numbers
+  pub coming : Coming
   pub held : List (ℕ × Piece)
-  pub inbox : List (List ℕ)
   -- whether a packet showed that the two ends have lost each other
   pub failed : Bool
 
@@ -46,40 +40,26 @@ SetupFault s e = ((e ≡ BadSetup) × (IsSetup s → ⊥)) ⊎ ((e ≡ NoMemory)
 
 abbrev pub new_link : LinkSetup → LinkValue
 new_link s = record {
-  local = s.local;
-  remote = s.remote;
-  seg_size = s.seg_size;
-  window = s.window;
-  max_message = s.max_message;
+  setup = s;
   sent = 0;
   acked = 0;
   queue = [];
-  received = 0;
-  partial = None;
+  coming = record { received = 0; partial = None; inbox = [] };
   held = [];
-  inbox = [];
   failed = false;
 }
 
 -- what holds of every end
 pub record IsLink (v : LinkValue) : Type 0 where
-  pub size : 1 ≤ v.seg_size
-  pub size_limit : v.seg_size ≤ largest_segment
-  pub window : 1 ≤ v.window
-  pub window_limit : v.window ≤ largest_window
-  pub message_limit : v.max_message ≤ largest_limit
+  pub setup : IsSetup v.setup
   pub acked : v.acked ≤ v.sent
-  pub within : v.sent ≤ v.acked + v.window
+  pub within : v.sent ≤ v.acked + v.setup.window
   pub queued : v.sent ≤ v.acked + length v.queue
   pub few_sent : v.acked + length v.queue ≤ most_segments
-  pub few_taken : v.received ≤ most_segments
-  pub partial : length (unwrap_or v.partial []) ≤ v.max_message
+  pub few_taken : v.coming.received ≤ most_segments
+  pub partial : length (unwrap_or v.coming.partial []) ≤ v.setup.max_message
   -- those that are held lie above the next one, within the window
-  pub held : AreHeld (v.received + 1) (v.received + 1 + v.window) v.held
-
--- what an end has of the other's messages
-abbrev pub coming : LinkValue → Coming
-coming v = record { received = v.received; partial = v.partial; inbox = v.inbox }
+  pub held : AreHeld (v.coming.received + 1) (v.coming.received + 1 + v.setup.window) v.held
 
 abbrev pub failed_link : LinkValue → LinkValue
 failed_link v = record v { failed = true }
@@ -88,8 +68,8 @@ failed_link v = record v { failed = true }
 
 -- These are the messages sent: what is queued are their segments after those that are acknowledged.
 pub record Sends (v : LinkValue) (messages : List (List ℕ)) : Type 0 where
-  pub queue : v.queue ≡ drop v.acked (cut v.seg_size messages)
-  pub acked : v.acked ≤ length (cut v.seg_size messages)
+  pub queue : v.queue ≡ drop v.acked (cut v.setup.seg_size messages)
+  pub acked : v.acked ≤ length (cut v.setup.seg_size messages)
 
 -- whatever messages were sent, they are those that were sent still
 abbrev pub SendsStill : LinkValue → LinkValue → Type 0
@@ -101,7 +81,7 @@ SendsMore old new more = (messages : List (List ℕ)) → Sends old messages →
 
 -- a segment waits, and the window has room
 abbrev pub MaySend : LinkValue → Type 0
-MaySend v = (v.sent < v.acked + length v.queue) × (v.sent < v.acked + v.window)
+MaySend v = (v.sent < v.acked + length v.queue) × (v.sent < v.acked + v.setup.window)
 
 -- ---- packets on the way
 
@@ -169,7 +149,7 @@ IsWritten src dst pieces k a bytes =
 
 -- what this end writes of the k-th segment of the messages sent, or of none, and of the first a
 abbrev pub Writes : LinkValue → List (List ℕ) → Option ℕ → ℕ → List ℕ → Type 0
-Writes v messages k a bytes = IsWritten v.local v.remote (cut v.seg_size messages) k a bytes
+Writes v messages k a bytes = IsWritten v.setup.local v.setup.remote (cut v.setup.seg_size messages) k a bytes
 
 -- ---- taking
 
@@ -195,20 +175,24 @@ pub record HasTaken (c : Coming) (size : ℕ) (messages given : List (List ℕ))
 
 -- An end that has taken its first segments of these messages, holds others of them, and has handed these out.
 pub record Stands (v : LinkValue) (size : ℕ) (messages given : List (List ℕ)) : Type 0 where
-  pub taken : HasTaken (coming v) size messages given
+  pub taken : HasTaken v.coming size messages given
   pub held : AllByRecursion (λ h. slice_get (cut size messages) (h.0 - 1) ≡ Some h.1) v.held
 
 -- whatever was taken and handed out, it is so still
 abbrev pub StandsStill : LinkValue → LinkValue → Type 0
 StandsStill old new = (size : ℕ) (messages given : List (List ℕ)) → Stands old size messages given → Stands new size messages given
 
+-- an end with these whole messages
+abbrev pub with_inbox : LinkValue → List (List ℕ) → LinkValue
+with_inbox v inbox = record v { coming = record v.coming { inbox = inbox } }
+
 -- the oldest whole message was handed out
 abbrev pub HandsOut : LinkValue → LinkValue → List ℕ → Type 0
-HandsOut old new message = (old.inbox ≡ message ∷ new.inbox) × (new ≡ record old { inbox = new.inbox })
+HandsOut old new message = (old.coming.inbox ≡ message ∷ new.coming.inbox) × (new ≡ with_inbox old new.coming.inbox)
 
 -- neither the segment nor the acknowledgement is more than 2,047 old
 abbrev pub IsTimely : LinkValue → Option ℕ → ℕ → Type 0
-IsTimely v k a = IfSome k (λ n. v.received + 1 ≤ n + greatest_age) × (v.acked ≤ a + greatest_age)
+IsTimely v k a = IfSome k (λ n. v.coming.received + 1 ≤ n + greatest_age) × (v.acked ≤ a + greatest_age)
 
 abbrev pub got_of : ℕ → Option ℕ → Got
 got_of received None = AckOnly
@@ -216,53 +200,51 @@ got_of received (Some k) = if k == received + 1 then Accepted else (if nat_lt re
 
 -- how many segments are taken once the k-th came: the next one, and all held ones that follow it without a hole
 abbrev pub taken_after : LinkValue → Option ℕ → ℕ
-taken_after v None = v.received
-taken_after v (Some k) = if k == v.received + 1 then k + length (following k v.held) else v.received
+taken_after v None = v.coming.received
+taken_after v (Some k) = if k == v.coming.received + 1 then k + length (following k v.held) else v.coming.received
 
 -- the end keeps the k-th segment, which is early, for later
 abbrev pub Keeps : LinkValue → ℕ → Type 0
-Keeps v k = (v.received + 1 < k) × (k < v.received + 1 + v.window) × Lacks k v.held
+Keeps v k = (v.coming.received + 1 < k) × (k < v.coming.received + 1 + v.setup.window) × AllByRecursion (λ h. h.0 ≢ k) v.held
 
 -- What is held once the k-th came, which says this: what follows it without a hole leaves, and an
 -- early one within the window is held, the first copy of it.
 abbrev pub held_after : LinkValue → Option ℕ → Piece → List (ℕ × Piece)
 held_after v None p = v.held
 held_after v (Some k) p =
-    if k == v.received + 1 then drop (length (following k v.held)) v.held else
-    (if nat_lt v.received k && nat_lt k (v.received + 1 + v.window) then inserted k p v.held else v.held)
+    if k == v.coming.received + 1 then drop (length (following k v.held)) v.held else
+    (if nat_lt v.coming.received k && nat_lt k (v.coming.received + 1 + v.setup.window) then insert_key (λ a b. nat_cmp a.0 b.0) v.held (k, p) else v.held)
 
--- What an end is that took in the k-th segment, or none, and an acknowledgement of the first a.
-pub record Delivered (old new : LinkValue) (k : Option ℕ) (a : ℕ) : Type 0 where
-  pub local : new.local ≡ old.local
-  pub remote : new.remote ≡ old.remote
-  pub seg_size : new.seg_size ≡ old.seg_size
-  pub window : new.window ≡ old.window
-  pub max_message : new.max_message ≡ old.max_message
-  pub failed : new.failed ≡ false
-  pub sent : new.sent ≡ old.sent
-  pub acked : new.acked ≡ max old.acked a
-  pub queue : new.queue ≡ drop (new.acked - old.acked) old.queue
-  pub received : new.received ≡ taken_after old k
-  pub held : (p : Piece) × (new.held ≡ held_after old k p)
+-- an end whose oldest segments are acknowledged
+abbrev pub forgotten : LinkValue → ℕ → LinkValue
+forgotten v count = record v { acked = v.acked + count; queue = drop count v.queue }
 
--- A packet of the other end, which cuts these messages by this size: the k-th of their segments or
--- none, with an acknowledgement of the first a of this end's. It isn't stale, and not further ahead
--- than the numbers tell.
-pub record IsDue (v : LinkValue) (size : ℕ) (messages given : List (List ℕ)) (p : PacketValue) (k : Option ℕ) (a : ℕ) : Type 0 where
-  pub running : v.failed ≡ false
+-- An end took in the k-th segment, or none, and an acknowledgement of the first a.
+abbrev pub Delivered : LinkValue → LinkValue → Option ℕ → ℕ → Type 0
+Delivered old new k a =
+    (new.coming.received ≡ taken_after old k)
+    × ((p : Piece) × (new ≡ record (forgotten old (a - old.acked)) { coming = new.coming; held = held_after old k p }))
+
+-- A packet of a peer, which cuts these messages, none longer than this end takes, by this size: the k-th of their segments
+-- or none, with an acknowledgement of the first a of this end's. It isn't stale, and not further ahead than the numbers
+-- tell.
+pub record IsOfPeer (v : LinkValue) (size : ℕ) (messages : List (List ℕ)) (p : PacketValue) (k : Option ℕ) (a : ℕ) : Type 0 where
   pub positive : 0 < size
-  pub stands : Stands v size messages given
-  pub short : All (λ m. length m ≤ v.max_message) messages
-  pub way : IsBetween v.remote v.local p
+  pub short : All (λ m. length m ≤ v.setup.max_message) messages
+  pub way : IsBetween v.setup.remote v.setup.local p
   pub carries : Carries p (cut size messages) k a
   pub fresh : IsTimely v k a
-  pub near : IfSome k (λ n. n ≤ v.received + largest_window)
+  pub near : IfSome k (λ n. n ≤ v.coming.received + largest_window)
   pub believable : a ≤ v.sent
+
+-- The end hasn't failed and stands after some of the peer's messages, and the packet is of that peer.
+abbrev pub IsDue : LinkValue → (size : ℕ) → (messages given : List (List ℕ)) → PacketValue → Option ℕ → ℕ → Type 0
+IsDue v size messages given p k a = (v.failed ≡ false) × Stands v size messages given × IsOfPeer v size messages p k a
 
 -- The refusals of a packet that is due: only one that is taken in or kept needs memory, and one with
 -- which the segments taken would be too many is exhausted.
 abbrev pub MayRefuse : LinkValue → Option ℕ → LinkFault → Type 0
 MayRefuse v None e = ⊥
 MayRefuse v (Some k) e =
-    ((e ≡ NoMemory) × ((k ≡ v.received + 1) ⊎ Keeps v k) × (taken_after v (Some k) ≤ most_segments))
-    ⊎ ((e ≡ Exhausted) × (k ≡ v.received + 1) × (most_segments < taken_after v (Some k)))
+    ((e ≡ NoMemory) × ((k ≡ v.coming.received + 1) ⊎ Keeps v k) × (taken_after v (Some k) ≤ most_segments))
+    ⊎ ((e ≡ Exhausted) × (k ≡ v.coming.received + 1) × (most_segments < taken_after v (Some k)))

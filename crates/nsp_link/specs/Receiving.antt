@@ -1,5 +1,5 @@
 -- What receiving computes, by the numbers that a packet shows.
-use Rattle.std.specs.Prelude.{◌≡◌, ◌≢◌, ℕ, ◌+◌, ◌-◌, ◌≤◌, Bool, true, false, List, ◌∷◌, ◌⊎◌, drop, Result, Ok, Err, Option, Some, None, IfSome, IsOk, MatchResult, nat_lt, ◌==◌, if◌then◌else◌}
+use Rattle.std.specs.Prelude.{◌≡◌, ◌≢◌, ℕ, ◌+◌, ◌-◌, ◌≤◌, Bool, true, false, List, ◌∷◌, ◌⊎◌, Result, Ok, Err, Option, Some, None, MatchResult, nat_lt, ◌==◌, if◌then◌else◌}
 use Rattle.nsp_seg.specs.Numbers.{residue}
 use Rattle.nsp_link.specs.declared.fault.LinkFault.{LinkFault}
 use Rattle.nsp_link.specs.declared.fault.LinkFault.TheVariants.{WrongLink, BadSequence, MessageTooLong, NoMemory, Failed, Malformed}
@@ -11,7 +11,7 @@ use Rattle.nsp_link.specs.Cutting.{Piece}
 use Rattle.nsp_link.specs.Coming.{taken_all, AllFit, RefusesAll}
 use Rattle.nsp_link.specs.Holding.{following}
 use Rattle.nsp_link.specs.Limits.{most_segments}
-use Rattle.nsp_link.specs.Link.{LinkValue, IsDue, MayRefuse, got_of, held_after, Delivered, Stands, SendsStill, coming, failed_link, first_ack, piece_of, IsBetween, Keeps}
+use Rattle.nsp_link.specs.Link.{LinkValue, IsDue, MayRefuse, got_of, held_after, Delivered, Stands, SendsStill, failed_link, first_ack, piece_of, IsBetween, Keeps, forgotten}
 
 -- How many segments a field acknowledges anew: 0 where its number is 2,048 or more ahead, which is old, and nothing where
 -- it is less far ahead, and of a segment never sent.
@@ -23,19 +23,19 @@ newly_acked v (Some n) =
 
 -- the next segment and all held ones that follow it without a hole
 abbrev pub run : LinkValue → Piece → List Piece
-run v p = p ∷ following (v.received + 1) v.held
+run v p = p ∷ following (v.coming.received + 1) v.held
 
 -- the segment for which a number stands: less than 2,048 ahead of the one that is wanted next, or behind it
 abbrev pub segment_of : LinkValue → ℕ → ℕ
 segment_of v number =
-    let ahead = residue (number + 4096 - residue (v.received + 1)) in
-    if nat_lt ahead 2048 then v.received + 1 + ahead else v.received + 1 + ahead - 4096
+    let ahead = residue (number + 4096 - residue (v.coming.received + 1)) in
+    if nat_lt ahead 2048 then v.coming.received + 1 + ahead else v.coming.received + 1 + ahead - 4096
 
 -- an end that took in the k-th segment: the next one with all that follow it, or an early one that it keeps
 abbrev pub taking_in : LinkValue → ℕ → Piece → LinkValue
 taking_in v k p =
-    let c = if k == v.received + 1 then taken_all (coming v) (run v p) else coming v in
-    record v { received = c.received; partial = c.partial; inbox = c.inbox; held = held_after v (Some k) p }
+    let c = if k == v.coming.received + 1 then taken_all v.coming (run v p) else v.coming in
+    record v { coming = c; held = held_after v (Some k) p }
 
 -- the refusals that show that the two ends have lost each other
 abbrev pub is_end : LinkFault → Bool
@@ -47,17 +47,13 @@ is_end _ = false
 abbrev pub stopped : LinkFault → LinkValue → LinkValue
 stopped e v = if is_end e then failed_link v else v
 
--- an end whose oldest segments are acknowledged
-abbrev pub forgotten : LinkValue → ℕ → LinkValue
-forgotten v count = record v { acked = v.acked + count; queue = drop count v.queue }
-
 -- what an acknowledgement takes from an end
 abbrev pub Acknowledges : LinkValue → Option ℕ → LinkValue → LinkValue → Type 0
 Acknowledges old number mid new = (count : ℕ) × (newly_acked old number ≡ Some count) × (new ≡ forgotten mid count)
 
 -- why the k-th segment isn't taken: the next one and those that follow it, or an early one, for want of memory alone
 abbrev pub NotTaken : LinkValue → ℕ → Piece → LinkFault → Type 0
-NotTaken v k p e = ((k ≡ v.received + 1) × RefusesAll v.max_message (coming v) (run v p) e) ⊎ (Keeps v k × (e ≡ NoMemory))
+NotTaken v k p e = ((k ≡ v.coming.received + 1) × RefusesAll v.setup.max_message v.coming (run v p) e) ⊎ (Keeps v k × (e ≡ NoMemory))
 
 -- why a packet from the other end is refused: its acknowledgement comes before its segment
 abbrev pub Refuses : LinkValue → PacketValue → LinkFault → Type 0
@@ -70,15 +66,16 @@ Refuses v (data_ack s) e = (newly_acked v (first_ack (Some s.ack1) s.ack2) ≡ N
 abbrev pub Takes : LinkValue → PacketValue → Got → LinkValue → Type 0
 Takes old (segment s) got new =
     let k = segment_of old s.number in
-    (got ≡ got_of old.received (Some k)) × (got ≡ Accepted → AllFit old.max_message (coming old) (run old (piece_of s)))
+    (got ≡ got_of old.coming.received (Some k)) × (got ≡ Accepted → AllFit old.setup.max_message old.coming (run old (piece_of s)))
     × Acknowledges old (first_ack s.ack1 s.ack2) (taking_in old k (piece_of s)) new
 Takes old (data_ack s) got new = (got ≡ AckOnly) × Acknowledges old (first_ack (Some s.ack1) s.ack2) old new
 
 -- What an end that hasn't failed does with any packet: what it answers, and what it is afterwards.
 abbrev pub Received : LinkValue → PacketValue → Result Got LinkFault → LinkValue → Type 0
-Received old p (Ok got) new = IsBetween old.remote old.local p × Takes old p got new
+Received old p (Ok got) new = IsBetween old.setup.remote old.setup.local p × Takes old p got new
 Received old p (Err e) new =
-    (((IsBetween old.remote old.local p → ⊥) × (e ≡ WrongLink)) ⊎ (IsBetween old.remote old.local p × Refuses old p e)) × (new ≡ stopped e old)
+    let way = IsBetween old.setup.remote old.setup.local p in
+    (((way → ⊥) × (e ≡ WrongLink)) ⊎ (way × Refuses old p e)) × (new ≡ stopped e old)
 
 -- ---- What an end does with any bytes.
 
@@ -96,21 +93,14 @@ ReceivedDue old new bytes result =
     (size : ℕ) (messages given : List (List ℕ)) (p : PacketValue) (k : Option ℕ) (a : ℕ)
     → Spells p bytes → IsDue old size messages given p k a
     → MatchResult result
-    (λ got. (got ≡ got_of old.received k) × Delivered old new k a × Stands new size messages given)
+    (λ got. (got ≡ got_of old.coming.received k) × Delivered old new k a × Stands new size messages given)
     (λ e. MayRefuse old k e × (new ≡ old))
-
--- one that only acknowledges, or whose segment was taken before, is never refused
-abbrev pub UnrefusedDue : LinkValue → List ℕ → Result Got LinkFault → Type 0
-UnrefusedDue old bytes result =
-    (size : ℕ) (messages given : List (List ℕ)) (p : PacketValue) (k : Option ℕ) (a : ℕ)
-    → Spells p bytes → IsDue old size messages given p k a → IfSome k (λ n. n ≤ old.received) → IsOk result
 
 pub record Receives (old new : LinkValue) (bytes : List ℕ) (result : Result Got LinkFault) : Type 0 where
   pub failed : old.failed ≡ true → (result ≡ Err Failed) × (new ≡ old)
   pub any : old.failed ≡ false → ReceivedBytes old new bytes result
   pub due : ReceivedDue old new bytes result
-  pub unrefused : UnrefusedDue old bytes result
   -- no end takes more segments than that
-  pub few : new.received ≤ most_segments
+  pub few : new.coming.received ≤ most_segments
   -- the messages sent stay those that were sent
   pub sends : SendsStill old new

@@ -9,10 +9,10 @@ use Rattle.nsp_link.specs.Link.{LinkValue, MaySend, Sends, Writes, IsSpelling, w
 
 -- a segment under its number
 abbrev pub segment_packet : LinkValue → Piece → ℕ → PacketValue
-segment_packet v piece number = written_segment v.local v.remote piece number v.received
+segment_packet v piece number = written_segment v.setup.local v.setup.remote piece number v.coming.received
 
 abbrev pub ack_packet_of : LinkValue → PacketValue
-ack_packet_of v = written_ack v.local v.remote v.received
+ack_packet_of v = written_ack v.setup.local v.setup.remote v.coming.received
 
 -- the bytes are the segment at this place of the queue, if one stands there, under this number
 abbrev pub WritesQueued : LinkValue → ℕ → ℕ → List ℕ → Type 0
@@ -30,7 +30,7 @@ NextFault v e = ((e ≡ NoMemory) × MaySend v) ⊎ ((e ≡ Failed) × IsTrue v.
 
 -- of whatever messages were sent, the bytes are what this end writes of their k-th segment, or of none
 abbrev pub WritesSent : LinkValue → Option ℕ → List ℕ → Type 0
-WritesSent v k bytes = (messages : List (List ℕ)) → Sends v messages → Writes v messages k v.received bytes
+WritesSent v k bytes = (messages : List (List ℕ)) → Sends v messages → Writes v messages k v.coming.received bytes
 
 -- an end with more segments queued
 abbrev pub queued_link : LinkValue → List Piece → LinkValue
@@ -38,18 +38,18 @@ queued_link v pieces = record v { queue = v.queue ++ pieces }
 
 -- every message is short enough for this end
 abbrev pub AreShort : LinkValue → List (List ℕ) → Type 0
-AreShort v messages = All (λ m. length m ≤ v.max_message) messages
+AreShort v messages = All (λ m. length m ≤ v.setup.max_message) messages
 
 abbrev pub MayQueueAll : LinkValue → List (List ℕ) → Type 0
 MayQueueAll v messages =
-    (v.failed ≡ false) × AreShort v messages × (v.acked + length v.queue + length (cut v.seg_size messages) ≤ most_segments)
+    (v.failed ≡ false) × AreShort v messages × (v.acked + length v.queue + length (cut v.setup.seg_size messages) ≤ most_segments)
 
 -- why messages are not sent, none of them, in the order of the tests
 abbrev pub SendAllFault : LinkValue → List (List ℕ) → LinkFault → Type 0
 SendAllFault v messages Failed = IsTrue v.failed
 SendAllFault v messages MessageTooLong =
-    (v.failed ≡ false) × ((k : ℕ) × (k < length messages) × (v.max_message < length (slice_index_or messages k [])))
+    (v.failed ≡ false) × ((k : ℕ) × (k < length messages) × (v.setup.max_message < length (slice_index_or messages k [])))
 SendAllFault v messages Exhausted =
-    (v.failed ≡ false) × AreShort v messages × (most_segments < v.acked + length v.queue + length (cut v.seg_size messages))
+    (v.failed ≡ false) × AreShort v messages × (most_segments < v.acked + length v.queue + length (cut v.setup.seg_size messages))
 SendAllFault v messages NoMemory = MayQueueAll v messages × (messages ≢ [])
 SendAllFault v messages _ = ⊥

@@ -1,11 +1,14 @@
 //! Laws of the definitions, for whoever keeps the lists.
 
 ghost use Rattle.std.specs.Prelude.{◌≡◌, ◌≤◌, ◌+◌, [], ◌++◌, ℕ, List, Option, length, drop};
+ghost use Rattle.std.specs.Ordering.{nat_cmp};
+ghost use Rattle.std.specs.Map.{keys_of};
+ghost use Rattle.std.specs.BTreeSet.{insert_key};
 ghost use Rattle.nsp_seg.specs.Numbers.{residue};
 ghost use Rattle.nsp_seg.specs.Packets.{PacketValue};
 ghost use Rattle.nsp_link.specs.declared.link.LinkSetup.{LinkSetup};
 ghost use Rattle.nsp_link.specs.Cutting.{Piece, cut};
-ghost use Rattle.nsp_link.specs.Holding.{following, inserted, numbers, closed_up, with_number};
+ghost use Rattle.nsp_link.specs.Holding.{following, closed_up};
 ghost use Rattle.nsp_link.specs.Limits.{greatest_age};
 ghost use Rattle.nsp_link.specs.Link.{LinkValue, IsLink, Carries, Sends, Stands, Writes, new_link};
 ghost use Rattle.nsp_link.specs.Sending.{queued_link};
@@ -21,7 +24,7 @@ pub fn messages_only_grow()
     ensures stands { (v : LinkValue) (size : ℕ) (messages more given : List (List ℕ))
         → Stands v size messages given → Stands v size (messages ++ more) given }
     ensures sends { (v : LinkValue) (messages more : List (List ℕ))
-        → Sends v messages → Sends (queued_link v (cut v.seg_size more)) (messages ++ more) }
+        → Sends v messages → Sends (queued_link v (cut v.setup.seg_size more)) (messages ++ more) }
     ensures new_stands { (s : LinkSetup) (size : ℕ) (messages : List (List ℕ))
         → Stands (new_link s) size messages [] }
     ensures new_sends { (s : LinkSetup) → Sends (new_link s) [] }
@@ -32,8 +35,8 @@ pub fn messages_only_grow()
 /// is compared with; and no two that are near have the same number modulo 4,096 (NSP 4.0.0, segment numbers).
 pub fn distances_separate()
     ensures segment { (from to : LinkValue) (k : ℕ)
-        → IsLink from → from.acked ≤ to.received → k ≤ from.sent
-        → to.received + 1 ≤ k + greatest_age → IsSegmentNear to.received k }
+        → IsLink from → from.acked ≤ to.coming.received → k ≤ from.sent
+        → to.coming.received + 1 ≤ k + greatest_age → IsSegmentNear to.coming.received k }
     ensures ack { (v : LinkValue) (a : ℕ)
         → IsLink v → a ≤ v.sent → v.acked ≤ a + greatest_age → IsAckNear v.acked a }
     ensures segments_apart { (received k l : ℕ)
@@ -45,8 +48,9 @@ pub fn distances_separate()
 
 /// What is held, by its numbers alone (own).
 pub fn held_by_number()
-    ensures closes { (k : ℕ) (held : List (ℕ × Piece)) → closed_up k (numbers held)
-        ≡ (k + length (following k held), numbers (drop (length (following k held)) held)) }
+    ensures closes { (k : ℕ) (held : List (ℕ × Piece)) → closed_up k (keys_of held)
+        ≡ (k + length (following k held), keys_of (drop (length (following k held)) held)) }
     ensures keeps { (k : ℕ) (p : Piece) (held : List (ℕ × Piece))
-        → numbers (inserted k p held) ≡ with_number k (numbers held) }
+        → keys_of (insert_key (λ a b. nat_cmp a.0 b.0) held (k, p))
+        ≡ insert_key nat_cmp (keys_of held) k }
 {}

@@ -13,7 +13,7 @@ use std::collections::VecDeque;
 use std::marker::Model;
 
 /// The addresses and limits of an end (own).
-#[derive(Clone, Copy, Debug)]
+#[derive(Clone, Copy, Debug, PartialEq, Eq)]
 pub struct LinkSetup {
     /// The own address, to which packets have to be sent.
     pub local: u16,
@@ -137,7 +137,7 @@ impl LinkEnd {
 
     /// The segments that were taken in order (own). It takes no memory.
     pub fn received_count(&self) -> u64
-        ensures value { result ≡ self.now.received }
+        ensures value { result ≡ self.now.coming.received }
         ensures valid { IsLink self.now }
     {
         self.incoming.received
@@ -146,7 +146,7 @@ impl LinkEnd {
     /// The segments that were sent and aren't acknowledged: at most the window (own). It takes no memory.
     pub fn unacked(&self) -> usize
         ensures value { result ≡ self.now.sent - self.now.acked }
-        ensures small { result ≤ self.now.window }
+        ensures small { result ≤ self.now.setup.window }
         ensures valid { IsLink self.now }
     {
         (self.sent - self.acked) as usize
@@ -154,7 +154,7 @@ impl LinkEnd {
 
     /// The oldest whole message, which stays (own). It takes no memory.
     pub fn peek_message(&self) -> Option<&[u8]>
-        ensures { option_copied result ≡ slice_get self.now.inbox 0 }
+        ensures { option_copied result ≡ slice_get self.now.coming.inbox 0 }
     {
         self.incoming.inbox.front().map(Vec::as_slice)
     }
@@ -162,7 +162,7 @@ impl LinkEnd {
     /// The early segments that are held: fewer than the window (own). It takes no memory.
     pub fn held_count(&self) -> usize
         ensures value { result ≡ length self.now.held }
-        ensures small { result ≤ self.now.window - 1 }
+        ensures small { result ≤ self.now.setup.window - 1 }
     {
         self.early
     }
@@ -170,8 +170,8 @@ impl LinkEnd {
     /// The bytes of the message whose last segment is still to come; 0 where there is none (own). It takes
     /// no memory.
     pub fn partial_len(&self) -> usize
-        ensures value { result ≡ length (unwrap_or self.now.partial []) }
-        ensures small { result ≤ self.now.max_message }
+        ensures value { result ≡ length (unwrap_or self.now.coming.partial []) }
+        ensures small { result ≤ self.now.setup.max_message }
     {
         begun_len(&self.incoming.partial).unwrap_or(0)
     }

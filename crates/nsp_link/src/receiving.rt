@@ -6,8 +6,8 @@ ghost use Rattle.nsp_seg.specs.Packets.{Spells, view, PacketValue, HasFault};
 ghost use Rattle.nsp_link.specs.declared.fault.LinkFault.TheVariants.{BadSequence, Failed, NoMemory, WrongLink, Malformed};
 ghost use Rattle.nsp_link.specs.declared.link.Got.TheVariants.{Accepted};
 ghost use Rattle.nsp_link.specs.Coming.{AllFit, RefusesAll};
-ghost use Rattle.nsp_link.specs.Link.{Stands, SendsStill, HandsOut, Keeps, coming, got_of, first_ack, plain_ack};
-ghost use Rattle.nsp_link.specs.Receiving.{newly_acked, forgotten, run, segment_of, taking_in, is_end, stopped, NotTaken, Received, ReceivedBytes, ReceivedDue, UnrefusedDue};
+ghost use Rattle.nsp_link.specs.Link.{Stands, SendsStill, HandsOut, Keeps, got_of, first_ack, plain_ack, forgotten};
+ghost use Rattle.nsp_link.specs.Receiving.{newly_acked, run, segment_of, taking_in, is_end, stopped, NotTaken, Received, ReceivedBytes, ReceivedDue};
 ghost use Rattle.nsp_link.specs.Inner.Pieces.{lent_piece};
 
 use crate::fault::LinkFault;
@@ -25,7 +25,7 @@ const HALF_ROUND: u16 = 2048;
 impl LinkEnd {
     /// The oldest whole message, which leaves (own). It takes no memory.
     pub fn take_message(&mut self) -> Option<Vec<u8>>
-        ensures value { MatchOption result ((self.old.inbox ≡ []) × (self.new ≡ self.old))
+        ensures value { MatchOption result ((self.old.coming.inbox ≡ []) × (self.new ≡ self.old))
             (λ m. HandsOut self.old self.new m.items) }
         ensures stands { (size : ℕ) (messages given : List (List ℕ))
             → Stands self.old size messages given
@@ -65,8 +65,6 @@ impl LinkEnd {
         ensures sends { SendsStill self.old self.new }
         // A packet that is due, by the counts for which its numbers stand.
         ensures due { ReceivedDue self.old self.new packet.now result }
-        // One that only acknowledges, or whose segment was taken before, is never refused.
-        ensures unrefused { UnrefusedDue self.old packet.now result }
     {
         if self.failed {
             return Err(LinkFault::Failed);
@@ -135,8 +133,10 @@ impl LinkEnd {
 
     /// Whether a packet is from the other end to this one.
     fn check_address(&self, dst: u16, src: u16) -> Result<(), LinkFault>
-        ensures { MatchResult result (λ _. (src ≡ self.now.remote) × (dst ≡ self.now.local))
-            (λ e. (e ≡ WrongLink) × ((src ≡ self.now.remote) × (dst ≡ self.now.local) → ⊥)) }
+        ensures { MatchResult result
+            (λ _. (src ≡ self.now.setup.remote) × (dst ≡ self.now.setup.local))
+            (λ e. (e ≡ WrongLink)
+            × ((src ≡ self.now.setup.remote) × (dst ≡ self.now.setup.local) → ⊥)) }
     {
         if src == self.setup.remote && dst == self.setup.local {
             Ok(())
@@ -179,9 +179,10 @@ impl LinkEnd {
     /// Takes in a segment from the other end; where it is refused, nothing changes.
     fn take_segment(&mut self, number: Seq12, piece: &Piece<&[u8]>) -> Result<Got, LinkFault>
         ensures got { IfOk result
-            (λ got. got ≡ got_of self.old.received (Some (segment_of self.old number))) }
+            (λ got. got ≡ got_of self.old.coming.received (Some (segment_of self.old number))) }
         ensures fit { IfOk result (λ got. got ≡ Accepted
-            → AllFit self.old.max_message (coming self.old) (run self.old (lent_piece piece.now))) }
+            → AllFit self.old.setup.max_message self.old.coming
+            (run self.old (lent_piece piece.now))) }
         ensures taken { OnOk result (self.new
             ≡ taking_in self.old (segment_of self.old number) (lent_piece piece.now)) }
         ensures err { IfErr result (λ e. (self.new ≡ self.old)
@@ -201,11 +202,11 @@ impl LinkEnd {
 
     /// Takes in the next segment and all that follow it, or none of them.
     fn take_next(&mut self, piece: &Piece<&[u8]>) -> Result<(), LinkFault>
-        ensures ok { OnOk result (AllFit self.old.max_message (coming self.old)
+        ensures ok { OnOk result (AllFit self.old.setup.max_message self.old.coming
             (run self.old (lent_piece piece.now))) }
         ensures taken { OnOk result
-            (self.new ≡ taking_in self.old (self.old.received + 1) (lent_piece piece.now)) }
-        ensures err { IfErr result (λ e. RefusesAll self.old.max_message (coming self.old)
+            (self.new ≡ taking_in self.old (self.old.coming.received + 1) (lent_piece piece.now)) }
+        ensures err { IfErr result (λ e. RefusesAll self.old.setup.max_message self.old.coming
             (run self.old (lent_piece piece.now)) e × (self.new ≡ self.old)) }
     {
         let limit = self.setup.max_message;
@@ -220,9 +221,9 @@ impl LinkEnd {
     fn keep(&mut self, place: usize, piece: &Piece<&[u8]>) -> Result<(), LinkFault>
         requires { 0 < place }
         ensures ok { OnOk result (self.new
-            ≡ taking_in self.old (self.old.received + 1 + place) (lent_piece piece.now)) }
+            ≡ taking_in self.old (self.old.coming.received + 1 + place) (lent_piece piece.now)) }
         ensures err { IfErr result (λ e. (e ≡ NoMemory)
-            × Keeps self.old (self.old.received + 1 + place) × (self.new ≡ self.old)) }
+            × Keeps self.old (self.old.coming.received + 1 + place) × (self.new ≡ self.old)) }
     {
         if is_free(&self.held, place) {
             let payload = Vec::from_slice(self.alloc, piece.payload)?;

@@ -15,14 +15,14 @@ use crate::link::LinkEnd;
 use nsp_seg::{AckField, Packet, Seq12, encode_packet};
 
 impl LinkEnd {
-    #[tactic(auto, using(crate::proofs::Counts::one_message))]
     /// Queues the segments of a message: one for each `seg_size` bytes or part of that, and one of no bytes
     /// for an empty message (NSP 4.0.0, data segment message). Refused, with nothing changed: `Failed`;
     /// `MessageTooLong`, above `max_message`; `Exhausted`, where this end would have had more than 2^40
     /// segments; `NoMemory`.
+    #[tactic(auto, using(crate::proofs::Counts::one_message))]
     pub fn send(&mut self, message: &[u8]) -> Result<(), LinkFault>
         ensures ok { OnOk result
-            (self.new ≡ queued_link self.old (cut_message self.old.seg_size message.now)) }
+            (self.new ≡ queued_link self.old (cut_message self.old.setup.seg_size message.now)) }
         ensures fits { OnOk result (MayQueueAll self.old (message.now ∷ [])) }
         ensures stands { StandsStill self.old self.new }
         ensures sends { OnOk result (SendsMore self.old self.new (message.now ∷ [])) }
@@ -55,7 +55,7 @@ impl LinkEnd {
     /// list is queued without memory.
     pub fn send_all(&mut self, messages: &[Vec<u8>]) -> Result<(), LinkFault>
         ensures ok { OnOk result (self.new
-            ≡ queued_link self.old (cut self.old.seg_size (map (λ v. v.items) messages.now))) }
+            ≡ queued_link self.old (cut self.old.setup.seg_size (map (λ v. v.items) messages.now))) }
         ensures fits { OnOk result (MayQueueAll self.old (map (λ v. v.items) messages.now)) }
         ensures stands { StandsStill self.old self.new }
         ensures sends { OnOk result
@@ -74,7 +74,7 @@ impl LinkEnd {
     pub fn send_checked(&mut self, messages: &[Vec<u8>]) -> Result<(), LinkFault>
         requires { MayQueueAll self.old (map (λ v. v.items) messages.now) }
         ensures ok { OnOk result (self.new
-            ≡ queued_link self.old (cut self.old.seg_size (map (λ v. v.items) messages.now))) }
+            ≡ queued_link self.old (cut self.old.setup.seg_size (map (λ v. v.items) messages.now))) }
         ensures stands { StandsStill self.old self.new }
         ensures sends { OnOk result
             (SendsMore self.old self.new (map (λ v. v.items) messages.now)) }
@@ -147,7 +147,7 @@ impl LinkEnd {
 
     /// What every packet acknowledges.
     fn acknowledgement(&self) -> AckField
-        ensures { result ≡ acknowledging self.now.received }
+        ensures { result ≡ acknowledging self.now.coming.received }
     {
         AckField {
             qual: 0,
@@ -235,7 +235,7 @@ impl LinkEnd {
     pub fn ack_packet(&self) -> Result<Vec<u8>, LinkFault>
         ensures ack { IfOk result (λ v. IsSpelling (ack_packet_of self.now) v.items) }
         ensures carries { IfOk result (λ v. (messages : List (List ℕ))
-            → Writes self.now messages None self.now.received v.items) }
+            → Writes self.now messages None self.now.coming.received v.items) }
         ensures failed { IsTrue self.now.failed → IsErrOf result Failed }
         ensures memory { self.now.failed ≡ false → IfErr result (λ e. e ≡ NoMemory) }
     {

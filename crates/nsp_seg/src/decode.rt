@@ -39,6 +39,7 @@ fn ack_field(word: u16) -> Option<AckField>
 /// of a segment.
 type Tail<'a> = (Option<AckField>, Option<AckField>, u16, &'a [u8]);
 
+/// What a segment has from offset 5 on.
 #[tactic(auto, unfolding(crate::specs::Inner::Reading::tail_of))]
 fn take_tail(bytes: &[u8]) -> Result<Tail<'_>, SegFault>
     ensures { Gives (λ t. (t.0, t.1, t.2, t.3.now)) result (tail_of bytes.now) }
@@ -58,6 +59,7 @@ fn take_tail(bytes: &[u8]) -> Result<Tail<'_>, SegFault>
     Err(SegFault::BadNumber(9))
 }
 
+/// The segment with this flag byte in front of these bytes.
 #[tactic(auto, unfolding(crate::specs::Inner::Reading::segment_of))]
 fn segment(flag: u8, bytes: &[u8]) -> Result<Packet<'_>, SegFault>
     ensures { Gives view result (segment_of flag bytes.now) }
@@ -94,6 +96,7 @@ fn second_ack(bytes: &[u8]) -> Result<Option<AckField>, SegFault>
     }
 }
 
+/// The data acknowledgement with these bytes behind its flag byte.
 #[tactic(auto, unfolding(crate::specs::Inner::Reading::data_ack_of))]
 fn data_ack(bytes: &[u8]) -> Result<Packet<'_>, SegFault>
     ensures { Gives view result (data_ack_of bytes.now) }
@@ -113,6 +116,7 @@ fn data_ack(bytes: &[u8]) -> Result<Packet<'_>, SegFault>
     })
 }
 
+/// The packet that the bytes spell, or their fault.
 #[tactic(auto, unfolding(crate::specs::Inner::Reading::read))]
 fn packet(bytes: &[u8]) -> Result<Packet<'_>, SegFault>
     ensures { Gives view result (read bytes.now) }

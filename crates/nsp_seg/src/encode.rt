@@ -21,6 +21,7 @@ fn put_word(out: &mut Vec<u8>, word: u16)
     out.push_reserved(bytes[1]);
 }
 
+/// Appends an acknowledgement field, for which there is room.
 fn put_ack(out: &mut Vec<u8>, ack: AckField)
     requires room { vec_len out.old + 2 ≤ vec_capacity out.old }
     requires qual { QualFits ack }
@@ -35,6 +36,7 @@ fn put_ack(out: &mut Vec<u8>, ack: AckField)
     );
 }
 
+/// Appends an acknowledgement field where there is one, for which there is room.
 fn put_optional_ack(out: &mut Vec<u8>, ack: Option<AckField>)
     requires room { vec_len out.old + length (optional_ack ack) ≤ vec_capacity out.old }
     requires qual { IfSome ack QualFits }
@@ -48,6 +50,7 @@ fn put_optional_ack(out: &mut Vec<u8>, ack: Option<AckField>)
     }
 }
 
+/// The bytes of an acknowledgement field, 0 where there is none.
 fn optional_len(ack: &Option<AckField>) -> usize
     ensures value { result ≡ length (optional_ack ack.now) }
     ensures small { result ≤ 2 }
@@ -58,6 +61,7 @@ fn optional_len(ack: &Option<AckField>) -> usize
     }
 }
 
+/// The bytes of a packet.
 fn packet_len(packet: &Packet<'_>) -> usize
     ensures { result ≡ length (spelling (view packet.now)) }
 {
@@ -72,6 +76,7 @@ fn packet_len(packet: &Packet<'_>) -> usize
     }
 }
 
+/// Appends a packet, for which there is room.
 fn put_packet(out: &mut Vec<u8>, packet: &Packet<'_>)
     requires writable { IsWritable (view packet.now) }
     requires room { vec_len out.old + length (spelling (view packet.now)) ≤ vec_capacity out.old }

@@ -19,7 +19,7 @@ use std::marker::Model;
 /// An operation answers the number of its record, or the first of its refusals whose condition
 /// holds. Each operation leaves no current record, refused or not, save a get that finds one, and
 /// save want of memory, which comes last and changes nothing.
-#[derive(Clone, Copy)]
+#[derive(Clone, Copy, Debug)]
 pub struct Stream {
     rights: Rights,
     next: u32,
@@ -106,10 +106,8 @@ impl Stream {
         ensures stream { self.new ≡ (act (get_record pick) (F.value file.now) self.old).stream }
         ensures no_memory_wanted { is_no_memory result ≡ false }
     {
-        match self.read(file, pick) {
-            Ok((number, _body)) => Ok(number),
-            Err(refusal) => Err(refusal),
-        }
+        let (number, _body) = self.read(file, pick)?;
+        Ok(number)
     }
 
     /// A get that answers the record too, behind its number (own). It takes no memory. Its refusals are those of

@@ -3,7 +3,7 @@ use Rattle.std.specs.Prelude.{ℕ, ◌≡◌, ◌<◌, ◌≤◌, Bool, true, fa
 use Rattle.std.specs.Global.{Vec}
 use Rattle.dap_msg.specs.Codes as codes
 use Rattle.dap_msg.specs.Message.{Message, Attrib, Access, Control, Contran, Filedata, Other, ControlFields}
-use Rattle.dap_msg.specs.Items.{Item, Whole}
+use Rattle.dap_msg.specs.Items.{Item, Whole, Malformed}
 use Rattle.dap_msg.specs.BothEnds.{least_buffer}
 use Rattle.rec_file.specs.declared.shapes.Shape.{Shape}
 use Rattle.rec_file.specs.Limits.{greatest_number}
@@ -16,15 +16,15 @@ use Rattle.dap_accessed.specs.declared.phase.Phase.{Phase}
 use Rattle.dap_accessed.specs.declared.phase.Phase.TheVariants as phases
 use Rattle.dap_accessed.specs.declared.verbs.Verb.{Verb}
 use Rattle.dap_accessed.specs.declared.verbs.Verb.TheVariants as verbs
-use Rattle.dap_accessed.specs.Standing.{Files, place_of, the_file, Place, Scene, Effect, Fresh, Ready, Opened, Connected, Store, Stopped}
+use Rattle.dap_accessed.specs.Standing.{Files, place_of, the_file, Place, Scene, Effect, enters, Fresh, Ready, Opened, Connected, Store, Stopped}
 use Rattle.dap_msg.specs.BothEnds.{no_attributes}
-use Rattle.dap_accessed.specs.Past.{Memory, asked_shape, next_ordinal}
-use Rattle.dap_accessed.specs.Accesses.{refuse_access, open_file, create_file, complete}
-use Rattle.dap_accessed.specs.Replies.{bare_status, sync_status}
+use Rattle.dap_accessed.specs.Past.{asked_shape, next_ordinal}
+use Rattle.dap_accessed.specs.Accesses.{refuse_access, open_file, create_file, purged}
+use Rattle.dap_accessed.specs.Replies.{bare_status, sync_status, completed}
 use Rattle.dap_accessed.specs.Records.{verb_of, Change, Putting, Updating, changed, get_pick, record_got, refused, settled}
 use Rattle.dap_accessed.specs.Transfers.{fetch, store_one}
-use Rattle.dap_accessed.specs.Effects.{Turn, Does, Begins, control_status, turn_of, effect_with}
-use Rattle.dap_accessed.specs.Inner.Present.{Present, phase_at, phase_within}
+use Rattle.dap_accessed.specs.Effects.{Turn, Does, Begins, control_status, effect_fresh, effect_ready, effect_opened, turn_connected, effect_store, effect_stopped, effect_with}
+use Rattle.dap_accessed.specs.Inner.Present.{Present, Memory, phase_at, phase_within}
 use Rattle.dap_accessed.specs.Inner.Written.{Answered}
 
 -- what an item leaves, and its answers
@@ -33,7 +33,7 @@ pub record Move : Type 0 where
   pub answers : List Message
 
 abbrev pub scene_in : Present → Scene
-scene_in p = record { own = p.own; limit = p.limit; files = p.files }
+scene_in p = record { limit = p.limit; files = p.files }
 
 -- outside a Store nothing is dropped or counted
 abbrev pub plain_memory : Option Shape → Memory
@@ -75,8 +75,8 @@ settles p memory effect =
     record {
       present = record {
         own = p.own;
-        limit = effect.limit;
-        files = effect.files;
+        limit = effect.scene.limit;
+        files = effect.scene.files;
         kept = memory.shape;
         phase = phase_at effect.place memory;
       };
@@ -92,8 +92,19 @@ abbrev pub turns : Turn → Present → Memory → Place → Item → Move
 turns (Does effect) p memory place item = settles p (remembers memory place item effect.answers) effect
 turns (Begins begun) p memory place item = begins p (phase_within begun.change begun.opened begun.stream)
 
+-- what an item does outside a group of two, where this counts of the past
+abbrev pub turn_by : (own : ℕ) → Scene → Memory → Place → Item → Turn
+turn_by own scene memory place (Malformed fault) = Does (enters scene place (bare_status (codes.status_code_for fault.message_type) ∷ []))
+turn_by own scene memory Fresh (Whole message) = Does (effect_fresh own scene message)
+turn_by own scene memory Ready (Whole message) = Does (effect_ready scene memory.shape message)
+turn_by own scene memory (Opened opened) (Whole message) = Does (effect_opened scene opened message)
+turn_by own scene memory (Connected opened stream) (Whole message) = turn_connected scene opened stream message
+turn_by own scene memory (Store opened stream) (Whole message) =
+    Does (effect_store memory.dropping memory.ordinal scene opened stream message)
+turn_by own scene memory (Stopped opened stream) (Whole message) = Does (effect_stopped scene opened stream message)
+
 abbrev pub between : Present → Memory → Place → Item → Move
-between p memory place item = turns (turn_of (scene_in p) memory place item) p memory place item
+between p memory place item = turns (turn_by p.own (scene_in p) memory place item) p memory place item
 
 -- a group that is over, outside a Store
 abbrev pub does : Present → Effect → Move
@@ -227,11 +238,24 @@ refuses p opened stream refusal = does p (refused (scene_in p) opened stream ref
 abbrev pub fetches : Present → OpenFile → StreamVal → Move
 fetches p opened stream = does p (fetch (scene_in p) opened stream)
 
--- a completion in any place in which this file is open, if the end of a stream has this effect there
+-- a completion in a place in which this file is open, where the end of a stream has this effect
+abbrev pub complete_by : (func : ℕ) → Scene → OpenFile → Place → (ends : Effect) → Effect
+complete_by func scene opened place ends =
+    if func == codes.cmpfunc.close then enters scene Ready (completed ∷ [])
+    else if func == codes.cmpfunc.purge then enters (record scene { files = purged opened scene.files }) Ready (completed ∷ [])
+    else if func == codes.cmpfunc.end_of_stream then ends
+    else if func == codes.cmpfunc.skip then enters scene place (bare_status (codes.unsupported codes.types.accomp) ∷ [])
+    else enters scene place (bare_status (codes.invalid codes.types.accomp) ∷ [])
+
+-- where a stream is connected
+abbrev pub ends_stream : Scene → OpenFile → Effect
+ends_stream scene opened = enters scene (Opened opened) (completed ∷ [])
+
+-- in any place in which this file is open, if the end of a stream has this effect there
 abbrev pub Completes : (func : ℕ) → OpenFile → (ends : Effect) → (old new : Present) → Result (Vec (Vec ℕ)) NoMemory → Type 0
 Completes func opened ends old new result =
     IfOk result (λ answers. (place : Place) (memory : Memory) → old.phase ≡ phase_at place memory → memory.shape ≡ old.kept
-    → Moves old (settles old memory (complete func (scene_in old) opened place ends)) new answers)
+    → Moves old (settles old memory (complete_by func (scene_in old) opened place ends)) new answers)
 
 -- the phase behind a fetch
 abbrev pub fetched_phase : Present → OpenFile → StreamVal → Phase

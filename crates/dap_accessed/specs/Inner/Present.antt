@@ -1,13 +1,13 @@
 -- What an end keeps of the items that it served: it stands as after any list of items that leaves just this.
-use Rattle.std.specs.Prelude.{ℕ, ◌≡◌, if◌then◌else◌, List, Option, Some, None}
+use Rattle.std.specs.Prelude.{ℕ, ◌≡◌, Bool, ◌&&◌, if◌then◌else◌, List, Option, Some, None}
 use Rattle.dap_msg.specs.Items.{Item}
 use Rattle.rec_file.specs.declared.shapes.Shape.{Shape}
 use Rattle.rec_file.specs.Acts.{StreamVal}
 use Rattle.dap_accessed.specs.declared.phase.OpenFile.{OpenFile}
 use Rattle.dap_accessed.specs.declared.phase.Phase.{Phase}
 use Rattle.dap_accessed.specs.declared.phase.Phase.TheVariants as phases
-use Rattle.dap_accessed.specs.Standing.{Files, Place, Standing, Fresh, Ready, Opened, Connected, Store, Stopped}
-use Rattle.dap_accessed.specs.Past.{Memory, looked_back, kept_attributes, asked_shape}
+use Rattle.dap_accessed.specs.Standing.{Files, Place, Group, Standing, Fresh, Ready, Opened, Connected, Store, Stopped}
+use Rattle.dap_accessed.specs.Past.{is_store, is_dropping, ordinal_so_far, kept_attributes, asked_shape}
 use Rattle.dap_accessed.specs.Records.{Change, Putting, Updating}
 use Rattle.dap_accessed.specs.Effects.{Begun}
 use Rattle.dap_accessed.specs.Groups.{Grouped, stands_after}
@@ -21,6 +21,21 @@ pub record Present : Type 0 where
   -- the shape that an Access would give a new file now, if its attributes are good
   pub kept : Option Shape
   pub phase : Phase
+
+-- what counts of the past: the shape that an Access would give a new file, and in a Store whether it drops what
+-- comes, and its ordinal
+pub record Memory : Type 0 where
+  pub shape : Option Shape
+  pub dropping : Bool
+  pub ordinal : ℕ
+
+abbrev pub looked_back : Place → List Group → Memory
+looked_back place past =
+    record {
+      shape = asked_shape (kept_attributes past);
+      dropping = is_store place && is_dropping past;
+      ordinal = if is_store place then ordinal_so_far past else 0;
+    }
 
 -- the phase between groups
 abbrev pub phase_at : Place → Memory → Phase
@@ -45,8 +60,8 @@ abbrev pub present_of : ℕ → Grouped → Present
 present_of own c =
     record {
       own = own;
-      limit = c.standing.limit;
-      files = c.standing.files;
+      limit = c.standing.scene.limit;
+      files = c.standing.scene.files;
       kept = asked_shape (kept_attributes c.standing.past);
       phase = phase_of c.standing c.begun;
     }

@@ -10,7 +10,8 @@ use Rattle.dap_accessing.specs.declared.report.Report.{Report}
 use Rattle.dap_accessing.specs.declared.report.Report.TheVariants as report
 use Rattle.dap_accessing.specs.declared.pending.Pending.{Pending}
 use Rattle.dap_accessing.specs.declared.pending.Pending.TheVariants as pending
-use Rattle.dap_accessing.specs.Told.{Hearing, Reports, Waits, Unexpected, refusal, hear_config, hear_ack, opened_as, hear_record, hear_done, ending_of, told_of, completes, hear_closed}
+use Rattle.dap_accessing.specs.Told.{Hearing, Reports, Waits, Unexpected, hear_refusal, hear_config, hear_ack, hear_record, hear_done, hear_completed, told_of}
+use Rattle.dap_accessing.specs.Inner.Parts.{opened_as, ending_of, completes}
 
 -- the Ack of an open or a create
 abbrev pub gather_opened : Report → List Item → Hearing
@@ -23,7 +24,7 @@ gather_attributes [] = Waits
 gather_attributes (Whole (Other _ _) ∷ rest) = gather_attributes rest
 gather_attributes (Whole (Attrib a) ∷ rest) =
     if nat_le (number_of (unwrap_or a.mrn [])) greatest_number then gather_opened (opened_as a) rest else Unexpected
-gather_attributes (Whole (Status status) ∷ rest) = refusal status rest
+gather_attributes (Whole (Status status) ∷ rest) = hear_refusal (Whole (Status status) ∷ rest)
 gather_attributes (_ ∷ rest) = Unexpected
 
 -- the records of a fetch, after those so far, and then its Status
@@ -52,4 +53,4 @@ gather pending.Record answers = hear_record answers
 gather pending.Done answers = hear_done answers
 gather (pending.Batch records) answers = gather_batch records answers
 gather (pending.Stored first) answers = gather_stored first answers
-gather pending.Closed answers = hear_closed answers
+gather pending.Closed answers = hear_completed report.Closed answers

@@ -7,7 +7,8 @@ use Rattle.dap_accessing.specs.declared.report.Report.TheVariants as report
 use Rattle.dap_accessing.specs.declared.phase.Phase.{Phase}
 use Rattle.dap_accessing.specs.declared.pending.Pending.{Pending}
 use Rattle.dap_accessing.specs.declared.pending.Pending.TheVariants as pending
-use Rattle.dap_accessing.specs.Told.{Hearing, Unexpected, hear, hear_config, hear_attributes, hear_opened, hear_ack, hear_record, hear_done, behind, is_record, records_in_front, hear_batch_end, is_status, statuses_in_front, has_success, first_told, hear_store_end, hear_closed, Told, Due, NothingDue, AnswersDue, due_after}
+use Rattle.dap_accessing.specs.Told.{Hearing, Unexpected, hear, hear_config, hear_attributes, hear_ack, hear_record, hear_done, behind, has_success, first_told, hear_completed, Told, Due, NothingDue, AnswersDue, due_after}
+use Rattle.dap_accessing.specs.Inner.Parts.{hear_opened, is_record, records_in_front, hear_batch_end, is_status, statuses_in_front, hear_store_end}
 use Rattle.dap_accessing.specs.Phase.{phase_after, limit_after}
 
 -- What answers come to, where this is still to come: of a fetch more records after those that came, of a Store its end
@@ -23,7 +24,7 @@ hear_from (pending.Batch records) answers = hear_batch_end (records ++ records_i
 hear_from (pending.Stored first) answers =
     if has_success (statuses_in_front answers) then Unexpected
     else hear_store_end (option_or first (first_told (statuses_in_front answers))) (behind is_status answers)
-hear_from pending.Closed answers = hear_closed answers
+hear_from pending.Closed answers = hear_completed report.Closed answers
 
 pub record Present : Type 0 where
   pub own : ℕ

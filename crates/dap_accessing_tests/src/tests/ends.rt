@@ -250,11 +250,14 @@ fn does(alloc: Global, end: &mut Accessing, line: Line) -> Result<bool, AllocErr
         Line::Sends(ask, bytes) => sends(end, &request(alloc, ask)?, bytes),
         Line::Asks(ask) => {
             let request = request(alloc, ask)?;
-            end.check(&request).is_ok() && end.ask_checked(&request).is_ok()
+            match end.check(&request) {
+                Ok(checked) => end.ask_checked(&request, checked).is_ok(),
+                Err(_) => false,
+            }
         }
         Line::Refuses(ask, fault) => {
             let request = request(alloc, ask)?;
-            end.check(&request) == Err(fault) && end.ask(&request).err() == Some(fault)
+            end.check(&request).err() == Some(fault) && end.ask(&request).err() == Some(fault)
         }
         Line::Hears(bytes, expected) => hears(end, bytes, 0, bytes.len(), expected),
         Line::HearsAt(bytes, at, next, expected) => hears(end, bytes, at, next, expected),

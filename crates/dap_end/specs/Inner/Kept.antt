@@ -9,6 +9,6 @@ AreShort messages = All (λ m. length m ≤ largest_limit) messages
 
 pub record IsPort (p : PortValue) : Type 0 where
   -- the next item begins within the oldest NSP message, or that has no bytes
-  pub place : IsPlace p.place (oldest p.link.inbox)
+  pub place : IsPlace p.place (oldest p.link.coming.inbox)
   -- no NSP message that waits is longer than an end may send
   pub short : AreShort p.outbox

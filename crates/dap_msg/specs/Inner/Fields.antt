@@ -1,13 +1,10 @@
 -- The fields that the encoder writes, one after another.
-use Rattle.std.specs.Prelude.{◌≡◌, ℕ, ◌<◌, ◌≤◌, ◌^◌, List, [], ◌∷◌, ◌++◌, length, Option, Bool, true, false, Result, Ok, Err}
-use Rattle.std.specs.Global.{Vec}
+use Rattle.std.specs.Prelude.{ℕ, ◌<◌, ◌≤◌, ◌^◌, List, [], ◌∷◌, ◌++◌, length, Option, Bool, true, false}
 use Rattle.dap_fields.specs.Writing.{shortest}
 use Rattle.dap_msg.specs.declared.encoding.Field.{Field}
 use Rattle.dap_msg.specs.declared.encoding.Field.TheVariants.{Absent, Byte, Word, Extensible, Image, Rest}
 use Rattle.dap_msg.specs.Grammar as kinds
-use Rattle.dap_msg.specs.declared.fault.MsgFault.{MsgFault}
 use Rattle.dap_msg.specs.Message.{Message, Accomp}
-use Rattle.dap_msg.specs.Written.{AppendsMessage}
 use Rattle.dap_msg.specs.Canon.{field_bytes, header_bytes}
 
 abbrev pub bytes_of : Field → List ℕ
@@ -44,9 +41,3 @@ CanWriteAll (field ∷ fields) = CanWrite field × CanWriteAll fields
 
 abbrev pub completion_of : (func fop : ℕ) → Option ℕ → Message
 completion_of func fop check = Accomp (record { func = func; fop = fop; check = check })
-
--- The bytes are appended where they are at most so many; else nothing is changed.
-abbrev pub AppendsWithin : ℕ → List ℕ → Vec ℕ → Vec ℕ → Result Bool MsgFault → Type 0
-AppendsWithin most bytes old new (Ok true) = (length bytes ≤ most) × AppendsMessage bytes old new (Ok tt)
-AppendsWithin most bytes old new (Ok false) = (most < length bytes) × (new.items ≡ old.items)
-AppendsWithin most bytes old new (Err f) = (length bytes ≤ most) × AppendsMessage bytes old new (Err f)

@@ -38,7 +38,7 @@ pub record Agree (own_a own_b : ℕ) (requests : List Request) : Type 0 where
   pub places :
       let s = (stands_after own_b [] (items_of own_a requests)).standing in
       let reports = reports_of own_a own_b requests in
-      AgreeAt own_a own_b (phase_after reports) s.place s.limit (limit_after reports)
+      AgreeAt own_a own_b (phase_after reports) s.place s.scene.limit (limit_after reports)
 
 -- no answer so far, and not the next one, is unexpected
 abbrev pub NothingUnexpected : (own_a own_b : ℕ) → List Request → Type 0

@@ -2,10 +2,9 @@
 use Rattle.std.specs.Prelude.{◌≡◌, ◌⊎◌, ℕ, ◌+◌, ◌≤◌, List, [], ◌∷◌, ◌++◌, length, map, take, drop}
 use Rattle.dap_msg.specs.Message.{Message}
 use Rattle.dap_msg.specs.Items.{Item, Whole}
-use Rattle.dap_msg.specs.Canon.{canon}
 use Rattle.dap_msg.specs.Blocked.{NspMessage, joined, Blocked, all_joined, messages_in, AllFit}
-use Rattle.nsp_link.specs.Link.{LinkValue}
-use Rattle.nsp_link.specs.Holding.{numbers}
+use Rattle.nsp_link.specs.declared.link.LinkSetup.{LinkSetup}
+use Rattle.std.specs.Map.{keys_of}
 use Rattle.nsp_link.specs.Limits.{largest_limit}
 use Rattle.dap_accessed.specs.Present as accessed
 use Rattle.dap_accessing.specs.Present as accessing
@@ -14,7 +13,7 @@ use Rattle.dap_accessing.specs.declared.report.Report.{Report}
 use Rattle.dap_accessing.specs.Asked.{Asked, messages_of}
 use Rattle.dap_world.specs.declared.event.End.{End}
 use Rattle.dap_world.specs.declared.event.End.TheVariants.{A, B}
-use Rattle.dap_world.specs.Machine.{State, EndState, sent_by, taken_of, answers_read, reported}
+use Rattle.dap_world.specs.Machine.{State, EndState, taken_of, answers_read, reported}
 use Rattle.dap_world.specs.Inner.Worlds.{IsWorld}
 use Rattle.dap_end.specs.Asking.{AskingValue, AskingPast, HasAsked}
 use Rattle.dap_end.specs.Serving.{ServingValue, Past, IsAfter, answers_to}
@@ -28,8 +27,8 @@ pub record Parts : Type 0 where
   pub accessing : accessing.Present
   pub accessed : accessed.Present
   pub requests : List Request
-  pub sent : List (List ℕ)  -- the DAP messages in what A handed over
-  pub served : ℕ  -- how many of them B served
+  pub handed : List (List ℕ)  -- the NSP messages that A handed over
+  pub served : ℕ  -- how many of the DAP messages in them B served
   pub reports : List Report
   pub read : ℕ  -- the answers that A read
 
@@ -64,16 +63,16 @@ end_state s packets =
       handed = take s.posted packets;
       sent = s.link.sent;
       acked = s.link.acked;
-      taken = s.link.received;
-      held = numbers s.link.held;
+      taken = s.link.coming.received;
+      held = keys_of s.link.held;
       wire = map sending_of s.wire;
     }
 
 abbrev pub state_of : Parts → State
 state_of p =
     record {
-      seg_size = p.a.link.seg_size;
-      window = p.a.link.window;
+      seg_size = p.a.link.setup.seg_size;
+      window = p.a.link.setup.window;
       own_a = p.accessing.own;
       own_b = p.accessed.own;
       requests = p.requests;
@@ -109,12 +108,12 @@ IsServedAll v items = (past : Past) × IsAfter (record past { first = []; items 
 -- ---- What is true of them.
 
 -- the links have one size, one window and one limit, and the second one is that of A
-pub record AreAlike (v w : LinkValue) : Type 0 where
-  pub here : w.local ≡ address_of A
-  pub there : w.remote ≡ address_of B
-  pub size : v.seg_size ≡ w.seg_size
-  pub window : v.window ≡ w.window
-  pub limit : v.max_message ≡ w.max_message
+pub record AreAlike (s t : LinkSetup) : Type 0 where
+  pub here : t.local ≡ address_of A
+  pub there : t.remote ≡ address_of B
+  pub size : s.seg_size ≡ t.seg_size
+  pub window : s.window ≡ t.window
+  pub limit : s.max_message ≡ t.max_message
 
 -- Of the first messages in NSP messages so many were handled: all those of some NSP messages, which left the link, and
 -- the first of the next one, which stays while one of it is left; the place is behind these.
@@ -140,18 +139,18 @@ pub record IsToldBy (count_posted place most : ℕ) (outbox : List (List ℕ)) (
   pub short : AreShort most outbox
 
 abbrev pub IsTold : (from to : SideValue) → List NspMessage → (count : ℕ) → Type 0
-IsTold from to packets count = IsToldBy from.posted to.place from.link.max_message from.outbox packets count (IsWay from to.link)
+IsTold from to packets count = IsToldBy from.posted to.place from.link.setup.max_message from.outbox packets count (IsWay from to.link)
 
 pub record AreParts (p : Parts) : Type 0 where
   pub world : IsWorld (state_of p)
-  pub alike : AreAlike p.b.link p.a.link
+  pub alike : AreAlike p.b.link.setup p.a.link.setup
   -- a link takes what either end may send
-  pub limit_a : p.accessing.own ≤ p.a.link.max_message
-  pub limit_b : p.accessed.own ≤ p.a.link.max_message
-  pub most : p.a.link.max_message ≤ largest_limit
+  pub limit_a : p.accessing.own ≤ p.a.link.setup.max_message
+  pub limit_b : p.accessed.own ≤ p.a.link.setup.max_message
+  pub most : p.a.link.setup.max_message ≤ largest_limit
   pub from_a : IsTold p.a p.b (asks p) p.served
   pub from_b : IsTold p.b p.a (answers p) p.read
-  pub sent_is : p.sent ≡ map canon (sent_by (state_of p).a)
+  pub handed_is : p.handed ≡ all_joined (state_of p).a.handed
   pub reports_is : p.reports ≡ reported (state_of p)
   -- the ends are as after what was asked, served and read
   pub asking : IsAskedAll (asking_end p) p.requests (answers_read (state_of p))

@@ -1,13 +1,32 @@
 -- The parts of a stretch without loss.
-use Rattle.std.specs.Prelude.{◌≡◌, ℕ, ◌+◌, ◌*◌, ◌≤◌, ◌<◌, List, [], ◌++◌, length, Some, None, slice_get}
+use Rattle.std.specs.Prelude.{◌≡◌, ℕ, ◌+◌, ◌*◌, ◌≤◌, ◌<◌, List, [], ◌∷◌, ◌++◌, length, Some, None, slice_get}
 use Rattle.dap_world.specs.declared.event.End.{End}
 use Rattle.dap_world.specs.declared.event.Event.{Event}
+use Rattle.dap_world.specs.declared.event.Event.TheVariants as event
 use Rattle.dap_world.specs.declared.event.WorldFault.{WorldFault}
 use Rattle.dap_world.specs.Runs.{Runs}
-use Rattle.dap_world.specs.Machine.{State, Sending, MayEmit, next_to_read, posted, reported, end_of, sent_by, other, with_end}
+use Rattle.dap_world.specs.Machine.{State, EndState, Sending, MayEmit, next_to_read, posted, reported, end_of, sent_by, other, with_end}
 use Rattle.dap_msg.specs.Message.{Message}
-use Rattle.dap_world.specs.Settling.{FinishFault, IsEmpty, RanBy, RanTo, unacked}
+use Rattle.dap_world.specs.Settling.{FinishFault, IsEmpty, RanBy, unacked}
 use Rattle.dap_world.specs.declared.event.End.TheVariants.{A, B}
+
+-- some events lead from the one state to the other, and none of them asks
+abbrev pub RanTo : State → State → Type 0
+RanTo old new = (n : ℕ) × RanBy old new n
+
+-- no event asks
+abbrev pub AsksNothing : List Event → Type 0
+AsksNothing [] = Unit {0}
+AsksNothing (event.Ask _ ∷ events) = ⊥
+AsksNothing (_ ∷ events) = AsksNothing events
+
+-- what moves of an end while it is settled: the counts of segments acknowledged and taken, what it holds, and its wire
+abbrev pub moved : (old new : EndState) → EndState
+moved old new = record old { acked = new.acked; taken = new.taken; held = new.held; wire = new.wire }
+
+-- nothing else moved
+abbrev pub SendsNothing : (old new : State) → Type 0
+SendsNothing old new = new ≡ record old { a = moved old.a new.a; b = moved old.b new.b }
 
 -- What the links' own events leave alone: all but the counts, the wires and what is held.
 pub record SameBut (old new : State) : Type 0 where

@@ -1,5 +1,5 @@
 -- What the world keeps of an end beside the end itself, and what one event adds to that.
-use Rattle.std.specs.Prelude.{◌≡◌, ◌≢◌, ℕ, ◌+◌, ◌-◌, ◌<◌, ◌≤◌, List, [], ◌∷◌, ◌++◌, length, Option, All}
+use Rattle.std.specs.Prelude.{◌≡◌, ◌≢◌, ℕ, ◌+◌, ◌-◌, ◌<◌, ◌≤◌, List, [], ◌∷◌, ◌++◌, length, Option, Some, None, All}
 use Rattle.nsp_link.specs.Link.{LinkValue, MaySend}
 use Rattle.nsp_link.specs.Cutting.{cut}
 use Rattle.nsp_link.specs.Limits.{most_segments}
@@ -11,8 +11,6 @@ use Rattle.dap_accessing.specs.declared.report.Report.{Report}
 use Rattle.dap_accessing.specs.declared.fault.AskFault.TheVariants as ask_fault
 use Rattle.dap_end.specs.Asking.{AskingValue, AskedOne}
 use Rattle.dap_end.specs.Ports.{PortValue}
-use Rattle.dap_end.specs.declared.asking.Heard.{Heard}
-use Rattle.dap_end.specs.declared.asking.Heard.TheVariants as heard
 use Rattle.dap_world.specs.declared.side.Wired.{Wired}
 use Rattle.dap_world.specs.declared.event.Step.{Step}
 use Rattle.dap_world.specs.declared.event.Step.TheVariants as step
@@ -39,7 +37,7 @@ pub record WroteOne (v : LinkValue) (old new : List Wired) (k : Option ℕ) (ans
   pub wired : Wired
   pub wire : new ≡ old ++ wired ∷ []
   pub segment : wired.segment ≡ k
-  pub acks : wired.acks ≡ v.received
+  pub acks : wired.acks ≡ v.coming.received
   pub writes : WritesSent v k wired.packet.items
 
 -- why no new segment is written
@@ -59,7 +57,7 @@ AreShort limit messages = All (λ m. length m ≤ limit) messages
 
 -- how many segments there are once these are handed over
 abbrev pub segments_with : LinkValue → List (List ℕ) → ℕ
-segments_with v waiting = v.acked + length v.queue + length (cut v.seg_size waiting)
+segments_with v waiting = v.acked + length v.queue + length (cut v.setup.seg_size waiting)
 
 -- all that waited, and something did, counts as handed over
 abbrev pub PostedSo : (waiting : List (List ℕ)) → (old new : ℕ) → Step → Type 0
@@ -82,7 +80,7 @@ AskFaultOf request old (fault.Ask f) = (f ≢ ask_fault.NoMemory) × AskRefused 
 AskFaultOf request old fault.NoMemory = IsAdmittedBy old request
 AskFaultOf request old _ = ⊥
 
--- the report that was read stands behind the others
-abbrev pub KeptSo : Heard → (old new : List Report) → Step → Type 0
-KeptSo (heard.Report report) old new answer = (answer ≡ step.Reported) × (new ≡ old ++ report ∷ [])
-KeptSo _ old new answer = (answer ≡ step.Nothing) × (new ≡ old)
+-- the report that was read, if there is one, stands behind the others
+abbrev pub KeptSo : Option Report → (old new : List Report) → Step → Type 0
+KeptSo (Some report) old new answer = (answer ≡ step.Reported) × (new ≡ old ++ report ∷ [])
+KeptSo None old new answer = (answer ≡ step.Nothing) × (new ≡ old)

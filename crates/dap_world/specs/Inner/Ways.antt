@@ -18,22 +18,22 @@ use Rattle.dap_world.specs.declared.event.WorldFault.TheVariants as fault
 
 -- The messages are those handed to the one link; the other stands after some of their segments and gave away these.
 pub record IsWay (from : SideValue) (to : LinkValue) (messages given : List (List ℕ)) : Type 0 where
-  pub size : 0 < from.link.seg_size
+  pub size : 0 < from.link.setup.seg_size
   pub running : from.link.failed ≡ false
   pub listening : to.failed ≡ false
-  pub there : from.link.local ≡ to.remote
-  pub back : from.link.remote ≡ to.local
+  pub there : from.link.setup.local ≡ to.setup.remote
+  pub back : from.link.setup.remote ≡ to.setup.local
   pub sends : Sends from.link messages
-  pub stands : Stands to from.link.seg_size messages given
-  pub short : AreShort to.max_message messages
-  pub few : length (cut from.link.seg_size messages) ≤ most_segments
+  pub stands : Stands to from.link.setup.seg_size messages given
+  pub short : AreShort to.setup.max_message messages
+  pub few : length (cut from.link.setup.seg_size messages) ≤ most_segments
   pub wire : AllByRecursion (λ w. Writes from.link messages w.segment w.acks w.packet.items) from.wire
 
 abbrev pub is_old_segment : ℕ → Option ℕ → Bool
 is_old_segment taken segment = option_map_or (λ k. is_old k (taken + 1)) segment false
 
 abbrev pub is_old_wired : LinkValue → Wired → Bool
-is_old_wired v w = is_old_segment v.received w.segment || is_old w.acks v.acked
+is_old_wired v w = is_old_segment v.coming.received w.segment || is_old w.acks v.acked
 
 -- why the j-th packet of this wire is not given to the link
 abbrev pub NotDue : LinkValue → List Wired → ℕ → WorldFault → Type 0

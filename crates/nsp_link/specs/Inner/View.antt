@@ -2,22 +2,16 @@
 use Rattle.std.specs.Prelude.{Some, None, ◌≡◌, ◌+◌, length, slice_get}
 use Rattle.nsp_link.specs.declared.link.LinkEnd.TheInside.{Inside}
 use Rattle.nsp_link.specs.Link.{LinkValue, IsLink}
-use Rattle.nsp_link.specs.Inner.Pieces.{bodies, pieces, body_of, held_from}
+use Rattle.nsp_link.specs.Inner.Pieces.{pieces, coming_of, held_from}
 
 abbrev pub link_view : Inside → LinkValue
 link_view a = record {
-  local = a.setup.local;
-  remote = a.setup.remote;
-  seg_size = a.setup.seg_size;
-  window = a.setup.window;
-  max_message = a.setup.max_message;
+  setup = a.setup;
   sent = a.sent;
   acked = a.acked;
   queue = pieces a.queue.items;
-  received = a.incoming.received;
-  partial = body_of a.incoming.partial;
+  coming = coming_of a.incoming;
   held = held_from (a.incoming.received + 1) a.held.items;
-  inbox = bodies a.incoming.inbox.items;
   failed = a.failed;
 }
 

@@ -10,7 +10,7 @@ use Rattle.dap_end.proofs.serving.serve_next.Goals as goal
 pub returns-clause-ok : goal.returns-clause-ok
 returns-clause-ok c =
     let bytes = c.in-Some.message.now in
-    let waits = has_first c.port.inside.link.inbox bytes (sym c.in-Some.ensures) in
+    let waits = has_first c.port.inside.link.coming.inbox bytes (sym c.in-Some.ensures) in
     let idle : length c.port.inside.outbox.items ≡ 0 = search rules in
     let answered : c.len-answered.result ≡ length c.in-Ok.served.answers.items = search rules in
     let goes = gone_is (record (port_view c.port.inside) { outbox = bodies c.in-Ok.served.answers.items }) c.go_on.new.self bytes waits.0 c.item_at-next.result.1 c.is_end-at_end.result c.is_end-at_end.ensures.end waits.1 (c.go_on.ensures.going, c.go_on.ensures.ends) in
@@ -25,7 +25,7 @@ returns-clause-ok c =
 pub returns-clause-kept : goal.returns-clause-kept
 returns-clause-kept c =
     let bytes = c.in-Some.message.now in
-    let waits = has_first c.port.inside.link.inbox bytes (sym c.in-Some.ensures) in
+    let waits = has_first c.port.inside.link.coming.inbox bytes (sym c.in-Some.ensures) in
     let kept : IsPort (port_view c.port.inside) = subst IsPort (sym c.port.view_is) c.requires in
     let serves = c.in-Ok.ensures.serves bytes c.port.inside.place c.item_at-next.ensures.exact in
     let goes = gone_is (record (port_view c.port.inside) { outbox = bodies c.in-Ok.served.answers.items }) c.go_on.new.self bytes waits.0 c.item_at-next.result.1 c.is_end-at_end.result c.is_end-at_end.ensures.end waits.1 (c.go_on.ensures.going, c.go_on.ensures.ends) in

@@ -2,7 +2,7 @@ use Rattle.dap_world.proofs.Deciding.{no_step, one_reason, one_step}
 use Rattle.dap_world.proofs.laws.events_are_decided.Goals as goal
 
 pub returns-clause-apart : goal.returns-clause-apart
-returns-clause-apart c = no_step
+returns-clause-apart c = λ s e f a n why step. no_step s e f why (a, n, step)
 
 pub returns-clause-one : goal.returns-clause-one
 returns-clause-one c = one_reason

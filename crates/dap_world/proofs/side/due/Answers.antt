@@ -13,7 +13,7 @@ found wire j x lt at =
     slice_get-get_or wire j x within ∙ ap (λ (y : Wired). Some y) (sym at)
 
 -- the test by the counts that the link shows
-told : (v : LinkValue) (k : Option ℕ) (a taken acked : ℕ) (b : Bool) → taken ≡ v.received → acked ≡ v.acked → b ≡ (is_old_segment taken k || is_old a acked) → b ≡ (is_old_segment v.received k || is_old a v.acked)
+told : (v : LinkValue) (k : Option ℕ) (a taken acked : ℕ) (b : Bool) → taken ≡ v.coming.received → acked ≡ v.acked → b ≡ (is_old_segment taken k || is_old a acked) → b ≡ (is_old_segment v.coming.received k || is_old a v.acked)
 told v k a taken acked b t s e = e ∙ rw (t, s) refl
 
 pub returns-then-is_stale_wired-clause-err : goal.returns-then-is_stale_wired-clause-err

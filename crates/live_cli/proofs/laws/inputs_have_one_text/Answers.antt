@@ -8,7 +8,7 @@ returns-clause-serving c = λ options one other new end input text more bad wors
     let x = same.0 in
     let y = same.1 in
     serving_text one other new end input text more bad worse
-    (new_serving [] one other x.after y.after (x.port ∙ sym y.port) (x.own ∙ sym y.own) (x.setup ∙ sym y.setup) (ap (λ (p : PortValue). p.link.inbox) x.port))
+    (new_serving [] one other x.after y.after (x.port ∙ sym y.port) (x.own ∙ sym y.own) (x.setup ∙ sym y.setup) (ap (λ (p : PortValue). p.link.coming.inbox) x.port))
     t u never less
 
 pub returns-clause-asking : goal.returns-clause-asking

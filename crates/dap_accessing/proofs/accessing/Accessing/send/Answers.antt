@@ -10,8 +10,8 @@ use Rattle.dap_accessing.specs.contracts.accessing.Accessing.{the_view}
 use Rattle.dap_accessing.proofs.Laws.{asks_of}
 use Rattle.dap_accessing.proofs.accessing.Accessing.send.Goals as goal
 
-pub blocked-requires : goal.blocked-requires
-blocked-requires c =
+pub blocked-requires-clause-sendable : goal.blocked-requires-clause-sendable
+blocked-requires-clause-sendable c =
     let may : MayAsk (the_view c.self.inside) c.args.request.now = subst (λ (v : Present). MayAsk v c.args.request.now) (sym c.self.view_is) c.requires.may in
     subst (λ l. AreSendable c.self.inside.limit l) (sym (c.requires.same ∙ ap (λ (v : Present). messages_of v.own c.args.request.now) (sym c.self.view_is))) may.sendable
 

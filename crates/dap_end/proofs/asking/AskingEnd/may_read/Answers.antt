@@ -11,4 +11,4 @@ oldest_is (x ∷ inbox) bytes e fits = let same : bytes ≡ x = cc in subst AreB
 
 pub returns-in-Some-clause-bytes : goal.returns-in-Some-clause-bytes
 returns-in-Some-clause-bytes c =
-    rw (← c.self.view_is) (subst (λ (x : Inside). AreBytes (oldest x.port.link.inbox)) c.self-inside.view_is (oldest_is _ _ c.in-Some.ensures c.is_left.ensures.bytes))
+    rw (← c.self.view_is) (subst (λ (x : Inside). AreBytes (oldest x.port.link.coming.inbox)) c.self-inside.view_is (oldest_is _ _ c.in-Some.ensures c.is_left.ensures.bytes))

@@ -8,5 +8,5 @@ answers-init c = read_none c.args.self.now c.args.reports.now.items
 
 pub answers-preserved : goal.answers-preserved
 answers-preserved c =
-    read_more c.args.self.now c.answers.self c.read_there.new.self c.in-Ok-read_there.report c.args.reports.now.items c.answers.reports.items c.keep.new.reports.items c.answers.invariant c.in-Ok-read_there.ensures.ok
-    (c.keep.ensures ∙ ap (λ l. l ++ option_to_list c.in-Ok-read_there.report) c.in-Ok.ensures.items)
+    read_more c.args.self.now c.answers.self c.read_next.new.self c.in-Ok-read_next.report c.args.reports.now.items c.answers.reports.items c.keep.new.reports.items c.answers.invariant c.in-Ok-read_next.ensures.ok
+    (c.keep.ensures ∙ ap (λ l. l ++ option_to_list c.in-Ok-read_next.report) c.in-Ok.ensures.items)

@@ -16,15 +16,15 @@ overflow_add-self c = omega (arith, few_read (parts_of c.self.inside) c.self.inv
 
 pub invariant_of-self : goal.invariant_of-self
 invariant_of-self c =
-    (read_step (parts_of c.self.inside) c.read.new.self c.in-Ok-read.heard c.keep.new.reports.items c.keep.result c.self.invariant (c.if-not-may_read.ensures.yes refl) c.in-Ok-read.ensures.ok (subst (λ (l : List Report). KeptSo c.in-Ok-read.heard l c.keep.new.reports.items c.keep.result) c.in-Ok.ensures.items c.keep.ensures)).0
+    (read_step (parts_of c.self.inside) c.read_next.new.self c.in-Ok-read_next.report c.keep.new.reports.items c.keep.result c.self.invariant c.in-Ok-read_next.ensures.ok (subst (λ (l : List Report). KeptSo c.in-Ok-read_next.report l c.keep.new.reports.items c.keep.result) c.in-Ok.ensures.items c.keep.ensures)).0
 
-pub returns-in-Ok-read : goal.returns-in-Ok-read
-returns-in-Ok-read c =
+pub returns-in-Ok-read_next : goal.returns-in-Ok-read_next
+returns-in-Ok-read_next c =
     rw (← c.self.view_is)
-    (read_step (parts_of c.self.inside) c.read.new.self c.in-Ok-read.heard c.keep.new.reports.items c.keep.result c.self.invariant (c.if-not-may_read.ensures.yes refl) c.in-Ok-read.ensures.ok (subst (λ (l : List Report). KeptSo c.in-Ok-read.heard l c.keep.new.reports.items c.keep.result) c.in-Ok.ensures.items c.keep.ensures)).1
+    (read_step (parts_of c.self.inside) c.read_next.new.self c.in-Ok-read_next.report c.keep.new.reports.items c.keep.result c.self.invariant c.in-Ok-read_next.ensures.ok (subst (λ (l : List Report). KeptSo c.in-Ok-read_next.report l c.keep.new.reports.items c.keep.result) c.in-Ok.ensures.items c.keep.ensures)).1
 
-pub invariant_of-self-in-Err-read : goal.invariant_of-self-in-Err-read
-invariant_of-self-in-Err-read c = (not_read (parts_of c.self.inside) c.read.new.self _ c.reserve.new.self.items c.self.invariant c.if-not-may_read.ensures.bytes c.in-Err-read.ensures.err c.in-Ok.ensures.items).0
+pub invariant_of-self-in-Err-read_next : goal.invariant_of-self-in-Err-read_next
+invariant_of-self-in-Err-read_next c = (not_read (parts_of c.self.inside) c.read_next.new.self _ c.reserve.new.self.items c.self.invariant c.if-not-may_read.ensures.bytes c.in-Err-read_next.ensures.err c.in-Ok.ensures.items).0
 
-pub returns-in-Err-read : goal.returns-in-Err-read
-returns-in-Err-read c = rw (← c.self.view_is) (not_read (parts_of c.self.inside) c.read.new.self _ c.reserve.new.self.items c.self.invariant c.if-not-may_read.ensures.bytes c.in-Err-read.ensures.err c.in-Ok.ensures.items).1
+pub returns-in-Err-read_next : goal.returns-in-Err-read_next
+returns-in-Err-read_next c = rw (← c.self.view_is) (not_read (parts_of c.self.inside) c.read_next.new.self _ c.reserve.new.self.items c.self.invariant c.if-not-may_read.ensures.bytes c.in-Err-read_next.ensures.err c.in-Ok.ensures.items).1

@@ -1,7 +1,11 @@
-use Rattle.std.proofs.Common.{◌≡◌, ◌-◌}
+use Rattle.std.proofs.Common.{◌-◌, length}
+use Rattle.dap_world.specs.Machine.{sent_by}
 use Rattle.dap_world.specs.Inner.Settling.{Served}
 use Rattle.dap_world.specs.Inner.Worlds.{IsWorld}
 use Rattle.dap_world.proofs.world.World.serve_every.Given as goal
 
-abbrev pub invariant-loop-served : goal.invariant-loop-served
-invariant-loop-served l = record { done : Served l.fn.self l.self l.count (l.served - l.fn.self.served); at : l.self.served ≡ l.served; world : IsWorld l.self }
+abbrev pub invariant-messages : goal.invariant-messages
+invariant-messages l = record { done : Served l.fn.self l.self l.count (l.self.served - l.fn.self.served); world : IsWorld l.self }
+
+abbrev pub decreases-messages : goal.decreases-messages
+decreases-messages l = length (sent_by l.self.a) - l.self.served

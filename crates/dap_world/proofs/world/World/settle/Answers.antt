@@ -1,9 +1,12 @@
 use Rattle.dap_world.proofs.Kept.{headline_of}
-use Rattle.dap_world.proofs.Resting.{sends_nothing}
+use Rattle.dap_world.proofs.Resting.{no_work}
 use Rattle.dap_world.proofs.world.World.settle.Goals as goal
 
 pub returns-clause-headline : goal.returns-clause-headline
 returns-clause-headline c = headline_of _ c.sound-2.ensures
 
-pub returns-clause-rest : goal.returns-clause-rest
-returns-clause-rest c = sends_nothing c.args.self.now c.settle_end-result.new.self c.settle_end-result.ensures.rest
+pub returns-clause-work : goal.returns-clause-work
+returns-clause-work c = no_work c.args.self.now c.settle_end-result.new.self c.settle_end-result.ensures.rest
+
+pub returns-clause-handed : goal.returns-clause-handed
+returns-clause-handed c = c.settle_end-result.ensures.rest.same.handed

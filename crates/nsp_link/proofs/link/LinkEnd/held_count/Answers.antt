@@ -9,6 +9,6 @@ returns-clause-value c = c.self.invariant.counted ∙ ap (λ (v : LinkValue). le
 pub returns-clause-small : goal.returns-clause-small
 returns-clause-small c =
     let r = c.self.inside.incoming.received in
-    let window = ap (λ (v : LinkValue). v.window) c.self.view_is in
-    let few = held_few (r + 1) (r + 1 + c.self.inside.setup.window) _ (omega (arith, c.self.invariant.link.window)) c.self.invariant.link.held in
+    let window = ap (λ (v : LinkValue). v.setup.window) c.self.view_is in
+    let few = held_few (r + 1) (r + 1 + c.self.inside.setup.window) _ (omega (arith, c.self.invariant.link.setup.2)) c.self.invariant.link.held in
     omega (arith, c.self.invariant.counted, few, window)

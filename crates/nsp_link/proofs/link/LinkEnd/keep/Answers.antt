@@ -18,7 +18,7 @@ returns-in_err-payload-clause-err c =
     let at = is_free_read items c.args.place c.is_free.result c.is_free.ensures c.if-is_free.true in
     let v = link_view c.self.inside in
     let keeps = keeps_free v items refl c.args.place c.requires c.self.invariant.places at in
-    let now-keeps : Keeps c.args.self.now (c.args.self.now.received + 1 + c.args.place) = subst (λ (w : LinkValue). Keeps w (w.received + 1 + c.args.place)) c.self.view_is keeps in
+    let now-keeps : Keeps c.args.self.now (c.args.self.now.coming.received + 1 + c.args.place) = subst (λ (w : LinkValue). Keeps w (w.coming.received + 1 + c.args.place)) c.self.view_is keeps in
     if_err_and c.from_residual.result _ _ c.from_residual.ensures.1 (λ e is. (is, now-keeps, refl))
 
 pub fill-requires : goal.fill-requires
@@ -37,11 +37,7 @@ invariant_of-self c =
     let front : slice_get c.fill.new.ring.items 0 ≡ Some None = ap (λ (xs : List (Option Held)). slice_get xs 0) c.fill.ensures.items ∙ slice_get-set_other items c.args.place 0 _ (λ e. omega (arith, c.requires)) ∙ c.self.invariant.free in
     record {
       link = record {
-        size = link.size;
-        size_limit = link.size_limit;
-        window = link.window;
-        window_limit = link.window_limit;
-        message_limit = link.message_limit;
+        setup = link.setup;
         acked = link.acked;
         within = link.within;
         queued = link.queued;
@@ -64,23 +60,23 @@ returns-in_ok-payload-clause-ok c =
     let h : Held = record { first = c.args.piece.now.first; last = c.args.piece.now.last; payload = c.in_ok-payload.payload } in
     let p = lent_piece c.args.piece.now in
     let filled = kept_filled v items refl c.args.place c.requires c.self.invariant.places h p at (ap (λ (bytes : List ℕ). record p { payload = bytes }) c.in_ok-payload.ensures.items) in
-    ap (λ (xs : List (Option Held)). record v { held = held_from (v.received + 1) xs }) c.fill.ensures.items ∙ filled
-    ∙ ap (λ (w : LinkValue). taking_in w (w.received + 1 + c.args.place) p) c.self.view_is
+    ap (λ (xs : List (Option Held)). record v { held = held_from (v.coming.received + 1) xs }) c.fill.ensures.items ∙ filled
+    ∙ ap (λ (w : LinkValue). taking_in w (w.coming.received + 1 + c.args.place) p) c.self.view_is
 
 pub returns-else-is_free-clause-ok : goal.returns-else-is_free-clause-ok
 returns-else-is_free-clause-ok c =
     let items = c.self.inside.held.items in
     let v = link_view c.self.inside in
     let p = lent_piece c.args.piece.now in
-    let same : v ≡ taking_in v (v.received + 1 + c.args.place) p = elim (is_taken_read items c.args.place c.is_free.result c.is_free.ensures c.if-is_free.false) [
+    let same : v ≡ taking_in v (v.coming.received + 1 + c.args.place) p = elim (is_taken_read items c.args.place c.is_free.result c.is_free.ensures c.if-is_free.false) [
       | beyond at ↦ kept_beyond v items refl c.args.place c.requires c.self.invariant.places p at
       | there h at ↦ kept_there v items refl c.args.place c.requires c.self.invariant.places h p at
     ] in
-    sym c.self.view_is ∙ same ∙ ap (λ (w : LinkValue). taking_in w (w.received + 1 + c.args.place) p) c.self.view_is
+    sym c.self.view_is ∙ same ∙ ap (λ (w : LinkValue). taking_in w (w.coming.received + 1 + c.args.place) p) c.self.view_is
 
 pub overflow_add-self : goal.overflow_add-self
 overflow_add-self c =
     let r = c.self.inside.incoming.received in
     let link = c.self.invariant.link in
-    let few = held_few (r + 1) (r + 1 + c.self.inside.setup.window) _ (omega (arith, link.window)) link.held in
-    omega (arith, few, c.self.invariant.counted, link.window_limit)
+    let few = held_few (r + 1) (r + 1 + c.self.inside.setup.window) _ (omega (arith, link.setup.2)) link.held in
+    omega (arith, few, c.self.invariant.counted, link.setup.3)

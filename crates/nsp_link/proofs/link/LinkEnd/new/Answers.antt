@@ -13,11 +13,7 @@ invariant_of-result c =
     let none = ap (λ (ss : List Segment). length (pieces ss)) c.new.ensures.items in
     record {
       link = record {
-        size = fits.0;
-        size_limit = fits.1;
-        window = fits.2;
-        window_limit = fits.3;
-        message_limit = fits.5;
+        setup = fits;
         acked = omega arith;
         within = omega arith;
         queued = omega arith;

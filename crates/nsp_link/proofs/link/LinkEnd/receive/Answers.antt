@@ -3,7 +3,7 @@ use Rattle.nsp_seg.specs.Packets.{PacketValue}
 use Rattle.nsp_link.specs.Link.{LinkValue, IsLink}
 use Rattle.nsp_link.specs.Receiving.{Received}
 use Rattle.nsp_link.proofs.Writing.{sends_received}
-use Rattle.nsp_link.proofs.Delivering.{due_received, due_matched, received_read, unrefused}
+use Rattle.nsp_link.proofs.Delivering.{due_received, due_matched, received_read}
 use Rattle.nsp_link.proofs.link.LinkEnd.receive.Goals as goal
 
 pub returns-in-Ok-clause-any : goal.returns-in-Ok-clause-any
@@ -28,11 +28,3 @@ returns-in-Ok-clause-sends c = λ messages sends.
 
 pub returns-in-Ok-clause-malformed : goal.returns-in-Ok-clause-malformed
 returns-in-Ok-clause-malformed c = λ f e. absurd (received_read c.args.self.now c.receive_packet.new.self _ c.receive_packet.result f c.receive_packet.ensures e)
-
-pub returns-in-Ok-clause-unrefused : goal.returns-in-Ok-clause-unrefused
-returns-in-Ok-clause-unrefused c = λ size messages given p k a spelled due le.
-    let link = subst (λ (v : LinkValue). IsLink v) c.self.view_is c.self.invariant.link in
-    let same = c.in-Ok.ensures.only p spelled in
-    let rec = subst (λ (q : PacketValue). Received c.args.self.now q c.receive_packet.result c.receive_packet.new.self) same c.receive_packet.ensures in
-    unrefused c.args.self.now c.receive_packet.new.self c.receive_packet.result size messages given k a le
-    (due_received c.args.self.now c.receive_packet.new.self c.receive_packet.result size messages given p k a link due rec)

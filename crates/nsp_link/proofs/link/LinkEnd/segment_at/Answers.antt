@@ -18,7 +18,7 @@ returns-clause-ok c =
     let same = piece_read items c.args.place c.index-segment.result.now piece lt c.index-segment.ensures inside in
     spelling_same _ _ v.items
     (packet_is c.args.self.now c.index-segment.result.now piece c.acknowledgement.result c.self.inside.setup.remote c.self.inside.setup.local c.of.result (c.args.self.now.acked + 1 + c.args.place) c.deref.result.now
-    same c.deref.ensures c.acknowledgement.ensures (rw (← c.self.view_is) c.of.ensures) (ap (λ (w : LinkValue). w.remote) c.self.view_is) (ap (λ (w : LinkValue). w.local) c.self.view_is))
+    same c.deref.ensures c.acknowledgement.ensures (rw (← c.self.view_is) c.of.ensures) (ap (λ (w : LinkValue). w.setup.remote) c.self.view_is) (ap (λ (w : LinkValue). w.setup.local) c.self.view_is))
     spelled)
 
 pub returns-clause-carries : goal.returns-clause-carries

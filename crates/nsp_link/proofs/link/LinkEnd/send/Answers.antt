@@ -18,11 +18,7 @@ invariant_of-self c =
     let link = c.self.invariant.link in
     record {
       link = record {
-        size = link.size;
-        size_limit = link.size_limit;
-        window = link.window;
-        window_limit = link.window_limit;
-        message_limit = link.message_limit;
+        setup = link.setup;
         acked = link.acked;
         within = link.within;
         queued = omega (arith, longer, link.queued);
