@@ -17,7 +17,7 @@ use Rattle.dap_accessing.specs.Inner.Hears.{pending_of, HasNoPlace, HasPlace, Ta
 use Rattle.dap_accessing.specs.Inner.Present.{Present, StandsAfter, FitsDue}
 use Rattle.dap_accessing.specs.Inner.Gathers.{gather}
 use Rattle.dap_accessing.specs.Calls.{IsAdmittedBy, Asks, Reads, ReadRefused}
-use Rattle.dap_accessing.specs.Inner.MayAsk.{MayAsk}
+use Rattle.dap_accessing.specs.Inner.Prepared.{MayAsk}
 use Rattle.dap_msg.specs.Blocked.{Blocked, all_joined}
 use Rattle.dap_accessing.specs.Asked.{messages_of}
 use Rattle.dap_accessing.specs.declared.fault.AskFault.TheVariants as fault

@@ -1,7 +1,7 @@
 -- What only the contracts of private functions cite, and proofs: nobody has to believe it.
 pub mod Parts
 pub mod Present
-pub mod MayAsk
 pub mod Gathers
 pub mod Hears
 pub mod Outgoing
+pub mod Prepared

@@ -2,7 +2,7 @@
 
 ghost use Rattle.std.specs.Prelude.{◌≡◌, ◌≢◌, ◌≤◌, ◌<◌, List, [], ◌++◌, false, length, map, IfOk, IfErr, OnOk, OnErr};
 ghost use Rattle.dap_accessing.specs.declared.fault.AskFault.TheVariants.{NoMemory};
-ghost use Rattle.dap_msg.specs.BothEnds.{greatest_message, least_buffer};
+ghost use Rattle.dap_msg.specs.BothEnds.{four_bytes, greatest_message, least_buffer};
 ghost use Rattle.dap_msg.specs.Message.{seen};
 ghost use Rattle.dap_msg.specs.Items.{Item as TheItem, Whole};
 ghost use Rattle.dap_msg.specs.Blocked.{bodies};
@@ -10,14 +10,13 @@ ghost use Rattle.dap_accessing.specs.Inner.Hears.{HasShortNumbers, Takes};
 ghost use Rattle.dap_accessing.specs.Present.{Present, StandsAfter};
 ghost use Rattle.dap_msg.specs.Items.{IsPlace};
 ghost use Rattle.dap_accessing.specs.Calls.{Asks, AskRefused, IsAdmittedBy, Reads, ReadRefused};
-ghost use Rattle.dap_accessing.specs.Inner.MayAsk.{MayAsk};
 ghost use Rattle.dap_accessing.specs.Told.{Told};
-ghost use Rattle.dap_accessing.specs.Asked.{messages_of};
-ghost use Rattle.dap_accessing.specs.Inner.Outgoing.{AreCounted, IsCounted, outgoing_messages, seen_option};
+ghost use Rattle.dap_accessing.specs.Inner.Outgoing.{number_carried};
+ghost use Rattle.dap_accessing.specs.Inner.Prepared.{IsPrepared};
 ghost use Rattle.dap_accessing.specs.Request.{Request as TheRequest};
 ghost use Rattle.dap_accessing.specs.declared.report.Report.{Report as TheReport};
 
-use crate::asking::{Checked, Outgoing, carried_number};
+use crate::asking::{Outgoing, Prepared};
 use crate::fault::{AskFault, ReadFault, ReadStep};
 use crate::pending::{Heard, Pending};
 use crate::phase::Phase;
@@ -95,77 +94,34 @@ impl Accessing {
         ensures unchanged { OnErr result (self.new ≡ self.old) }
         ensures own { self.new.own ≡ self.old.own }
     {
-        let number = carried_number(request).to_le_bytes();
-        let outgoing = Outgoing::of(self.bufsiz, request, &number);
-        let checked = self.admit(request, &outgoing)?;
-        self.send(request, &outgoing, checked)
+        let number = request.number();
+        let prepared = self.prepare(request, &number)?;
+        self.ask_prepared(request, prepared)
     }
 
-    /// The same of a request that `check` lets through, with what it counted. It isn't looked at again, and
-    /// refused for want of memory alone. Own.
-    pub fn ask_checked(
-        &mut self,
-        request: &Request,
-        checked: Checked,
-    ) -> Result<Vec<Vec<u8>>, AskFault>
-        requires may { MayAsk self.old request.now }
-        requires counted { IsCounted self.old.own request.now checked }
-        ensures asks { IfOk result
-            (λ messages. Asks request.now self.old self.new (bodies messages.items)) }
-        ensures refused { IfErr result (λ f. f ≡ NoMemory) }
-        ensures unchanged { OnErr result (self.new ≡ self.old) }
-        ensures own { self.new.own ≡ self.old.own }
-    {
-        let number = carried_number(request).to_le_bytes();
-        let outgoing = Outgoing::of(self.bufsiz, request, &number);
-        self.send(request, &outgoing, checked)
-    }
-
-    /// Asks a request, whose messages these are.
-    fn send(
-        &mut self,
-        request: &Request,
-        outgoing: &Outgoing<'_>,
-        checked: Checked,
-    ) -> Result<Vec<Vec<u8>>, AskFault>
-        requires same { outgoing_messages outgoing.now ≡ messages_of self.old.own request.now }
-        requires may { MayAsk self.old request.now }
-        requires counted { AreCounted (seen outgoing.now.first) (seen_option outgoing.now.last)
-            checked }
-        ensures asks { IfOk result
-            (λ messages. Asks request.now self.old self.new (bodies messages.items)) }
-        ensures refused { IfErr result (λ f. f ≡ NoMemory) }
-        ensures unchanged { OnErr result (self.new ≡ self.old) }
-        ensures own { self.new.own ≡ self.old.own }
-    {
-        let Ok(messages) = outgoing.blocked(self.alloc, self.limit, checked) else {
-            return Err(AskFault::NoMemory);
-        };
-        self.pending = Some(Pending::of(self.alloc, request));
-        Ok(messages)
-    }
-
-    /// Whether `ask` would take the request, memory aside, with what `ask_checked` needs; refused as
-    /// there. It takes no memory. Own.
-    pub fn check(&self, request: &Request) -> Result<Checked, AskFault>
+    /// Whether `ask` would take the request, memory aside; refused as there. It takes no memory. Own.
+    pub fn check(&self, request: &Request) -> Result<(), AskFault>
         ensures works { OnOk result (self.now.failed ≡ false) }
         ensures admissible { OnOk result (IsAdmittedBy self.now request.now) }
-        ensures may { OnOk result (MayAsk self.now request.now) }
-        ensures counted { IfOk result (IsCounted self.now.own request.now) }
         ensures refused { IfErr result (λ f. (f ≢ NoMemory) × AskRefused request.now self.now f) }
     {
-        let number = carried_number(request).to_le_bytes();
-        self.admit(request, &Outgoing::of(self.bufsiz, request, &number))
+        match self.prepare(request, &request.number()) {
+            Ok(_) => Ok(()),
+            Err(fault) => Err(fault),
+        }
     }
 
-    /// Whether a request is admissible, whose messages these are, with what was counted of them.
-    fn admit(&self, request: &Request, outgoing: &Outgoing<'_>) -> Result<Checked, AskFault>
-        requires { outgoing_messages outgoing.now ≡ messages_of self.now.own request.now }
+    /// The messages of a request that `ask` would take, memory aside, for `ask_prepared`; refused as there. `number` has
+    /// the bytes of the request's `number`. It takes no memory. Own.
+    pub fn prepare<'a>(
+        &self,
+        request: &'a Request,
+        number: &'a [u8],
+    ) -> Result<Prepared<'a>, AskFault>
+        requires { number.now ≡ four_bytes (number_carried request.now) }
         ensures works { OnOk result (self.now.failed ≡ false) }
         ensures admissible { OnOk result (IsAdmittedBy self.now request.now) }
-        ensures may { OnOk result (MayAsk self.now request.now) }
-        ensures counted { IfOk result
-            (AreCounted (seen outgoing.now.first) (seen_option outgoing.now.last)) }
+        ensures prepared { IfOk result (IsPrepared self.now request.now) }
         ensures refused { IfErr result (λ f. (f ≢ NoMemory) × AskRefused request.now self.now f) }
     {
         if self.failed {
@@ -177,10 +133,33 @@ impl Accessing {
         if !self.phase.fits(request) {
             return Err(AskFault::WrongPhase);
         }
+        let outgoing = Outgoing::of(self.bufsiz, request, number);
         match outgoing.count(self.limit) {
-            Some(checked) => Ok(checked),
+            Some(counts) => Ok(Prepared { outgoing, counts }),
             None => Err(AskFault::TooLarge),
         }
+    }
+
+    /// Asks a request by the messages that `prepare` made of it. They aren't looked at again, and it is refused for want
+    /// of memory alone. Own.
+    pub fn ask_prepared(
+        &mut self,
+        request: &Request,
+        prepared: Prepared<'_>,
+    ) -> Result<Vec<Vec<u8>>, AskFault>
+        requires { IsPrepared self.old request.now prepared }
+        ensures asks { IfOk result
+            (λ messages. Asks request.now self.old self.new (bodies messages.items)) }
+        ensures refused { IfErr result (λ f. f ≡ NoMemory) }
+        ensures unchanged { OnErr result (self.new ≡ self.old) }
+        ensures own { self.new.own ≡ self.old.own }
+    {
+        let Prepared { outgoing, counts } = prepared;
+        let Ok(messages) = outgoing.blocked(self.alloc, self.limit, counts) else {
+            return Err(AskFault::NoMemory);
+        };
+        self.pending = Some(Pending::of(self.alloc, request));
+        Ok(messages)
     }
 
     /// Takes the message as the next answer.

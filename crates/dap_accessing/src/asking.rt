@@ -22,7 +22,7 @@ use dap_msg::{Attributes, Control, Message, MsgFault, append_counted, encoded_le
 use std::alloc::Global;
 
 /// The number that a request carries in four bytes, 0 where it carries none.
-pub(crate) fn carried_number(request: &Request) -> u32
+fn carried_number(request: &Request) -> u32
     ensures { result ≡ number_carried request.now }
 {
     match request {
@@ -33,6 +33,16 @@ pub(crate) fn carried_number(request: &Request) -> u32
             ..
         } => *number,
         _ => 0,
+    }
+}
+
+impl Request {
+    /// The number that its messages carry, in four bytes, the lowest first: a file's MRN, a record's number or its address;
+    /// 0 where they carry none (DAP 5.6.0, Attributes and Control messages).
+    pub fn number(&self) -> [u8; 4]
+        ensures { result ≡ four_bytes (number_carried self.now) }
+    {
+        carried_number(self).to_le_bytes()
     }
 }
 
@@ -215,10 +225,10 @@ fn append(
     append_counted(alloc, list, message, len, usize::from(limit))
 }
 
-/// What [`crate::Accessing::check`] counted of the messages of a request: the bytes of the first, and of the last behind
-/// the records, 0 where there is none. Own.
-#[derive(Clone, Copy, Debug)]
-pub struct Checked {
+/// What was counted of the messages of a request: the bytes of the first, and of the last behind the records, 0 where
+/// there is none.
+#[derive(Clone, Copy)]
+pub(crate) struct Counts {
     first: usize,
     last: usize,
 }
@@ -247,7 +257,7 @@ impl<'a> Outgoing<'a> {
     }
 
     /// Counts the messages, where each has a spelling within the limit.
-    pub(crate) fn count(&self, limit: u16) -> Option<Checked>
+    pub(crate) fn count(&self, limit: u16) -> Option<Counts>
         ensures yes { IfSome result (λ _. AreSendable limit (outgoing_messages self.now)) }
         ensures counted { IfSome result
             (AreCounted (seen self.now.first) (seen_option self.now.last)) }
@@ -261,7 +271,7 @@ impl<'a> Outgoing<'a> {
             Some(message) => sendable_len(message, limit)?,
             None => 0,
         };
-        Some(Checked { first, last })
+        Some(Counts { first, last })
     }
 
     /// The messages, joined as far as the limit goes. The first and the last aren't counted again.
@@ -269,24 +279,31 @@ impl<'a> Outgoing<'a> {
         &self,
         alloc: Global,
         limit: u16,
-        checked: Checked,
+        counts: Counts,
     ) -> Result<Vec<Vec<u8>>, MsgFault>
         requires sendable { AreSendable limit (outgoing_messages self.now) }
-        requires counted { AreCounted (seen self.now.first) (seen_option self.now.last) checked }
+        requires counted { AreCounted (seen self.now.first) (seen_option self.now.last) counts }
         ensures { IfOk result (IsBlocked limit (outgoing_messages self.now)) }
     {
         let mut list = Vec::new(alloc);
-        append(alloc, &mut list, &self.first, checked.first, limit)?;
+        append(alloc, &mut list, &self.first, counts.first, limit)?;
         for body in self.records {
             let message = record(body);
             append(alloc, &mut list, &message, encoded_len(&message), limit)?;
         }
         match &self.last {
             Some(message) => {
-                append(alloc, &mut list, message, checked.last, limit)?;
+                append(alloc, &mut list, message, counts.last, limit)?;
                 Ok(list)
             }
             None => Ok(list),
         }
     }
+}
+
+/// The messages of a request that [`crate::Accessing::prepare`] looked at, with what was counted of them. Own.
+#[derive(Clone, Copy)]
+pub struct Prepared<'a> {
+    pub(crate) outgoing: Outgoing<'a>,
+    pub(crate) counts: Counts,
 }

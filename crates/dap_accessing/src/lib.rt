@@ -13,7 +13,7 @@ mod report;
 mod request;
 
 pub use accessing::{Accessing, reports_grow, standing_is_one};
-pub use asking::Checked;
+pub use asking::Prepared;
 pub use bytes::{Numbered, Octets, OctetsList, ToBytes, ToRecords};
 pub use fault::{AskFault, ReadFault, ReadStep};
 pub use report::{Ending, Report};

@@ -1,7 +1,7 @@
 //! The end that asks.
 
 ghost use Rattle.std.specs.Prelude.{◌≡◌, ◌≢◌, ◌≤◌, ◌<◌, ◌+◌, ◌-◌, ℕ, [], Ok, Some, None, true, false, length, IfOk, IfErr, IfSome, OnOk, OnErr, IsErrOf, IsTrue, ◌++◌, option_to_list, vec_len, vec_capacity};
-ghost use Rattle.dap_msg.specs.BothEnds.{least_buffer};
+ghost use Rattle.dap_msg.specs.BothEnds.{four_bytes, least_buffer};
 ghost use Rattle.dap_msg.specs.Blocked.{bodies};
 ghost use Rattle.nsp_link.specs.Limits.{largest_limit};
 ghost use Rattle.nsp_link.specs.Link.{IsSetup, SetupFault, MaySend, IsSpelling};
@@ -10,8 +10,8 @@ ghost use Rattle.nsp_link.specs.declared.fault.LinkFault.TheVariants.{Failed, No
 ghost use Rattle.nsp_link.specs.declared.fault.LinkFault.TheVariants as fault;
 ghost use Rattle.dap_accessing.specs.Asked.{messages_of};
 ghost use Rattle.dap_accessing.specs.Calls.{AskRefused, IsAdmittedBy};
-ghost use Rattle.dap_accessing.specs.Inner.MayAsk.{MayAsk};
-ghost use Rattle.dap_accessing.specs.Inner.Outgoing.{IsCounted};
+ghost use Rattle.dap_accessing.specs.Inner.Outgoing.{number_carried};
+ghost use Rattle.dap_accessing.specs.Inner.Prepared.{IsPrepared};
 ghost use Rattle.dap_accessing.specs.declared.fault.AskFault.TheVariants as ask_fault;
 ghost use Rattle.dap_fields.specs.Spelling.{AreBytes};
 ghost use Rattle.dap_end.specs.Ports.{new_port, oldest, with_link};
@@ -25,7 +25,7 @@ ghost use Rattle.dap_end.specs.Inner.AskingView.{asking_of};
 
 use crate::fault::{EndFault, TakeFault};
 use crate::port::{Port, is_end};
-use dap_accessing::{Accessing, AskFault, Checked, ReadFault, Report, Request};
+use dap_accessing::{Accessing, AskFault, Prepared, ReadFault, Report, Request};
 use nsp_link::{Got, LinkEnd, LinkFault, LinkSetup};
 use std::alloc::Global;
 use std::marker::Model;
@@ -100,32 +100,51 @@ impl AskingEnd {
         ensures err { IfErr result (λ f. (self.new ≡ self.old)
             × AskRefused request.now self.old.accessing f) }
     {
-        let checked = self.check(request)?;
-        self.ask_checked(request, checked)
+        let number = request.number();
+        let prepared = self.prepare(request, &number)?;
+        self.ask_prepared(request, prepared)
     }
 
-    /// Whether `ask` would take the request, memory aside, with what `ask_checked` needs; refused as there. It takes no
-    /// memory. Own.
-    pub fn check(&self, request: &Request) -> Result<Checked, AskFault>
+    /// Whether `ask` would take the request, memory aside; refused as there. It takes no memory. Own.
+    pub fn check(&self, request: &Request) -> Result<(), AskFault>
         ensures works { OnOk result (self.now.accessing.failed ≡ false) }
         ensures admissible { OnOk result (IsAdmittedBy self.now.accessing request.now) }
-        ensures may { OnOk result (MayAsk self.now.accessing request.now) }
-        ensures counted { IfOk result (IsCounted self.now.accessing.own request.now) }
         ensures refused { IfErr result (λ f. (f ≢ ask_fault.NoMemory)
             × AskRefused request.now self.now.accessing f) }
     {
         self.accessing.check(request)
     }
 
-    /// Asks a request that `check` lets through, with what it counted, as `ask` does. It isn't looked at again, and
+    /// The messages of a request that `ask` would take, memory aside, for `ask_prepared`, as
+    /// [`dap_accessing::Accessing::prepare`] makes them; refused as `ask` is. `number` has the bytes of the request's
+    /// `number`. It takes no memory. Own.
+    pub fn prepare<'a>(
+        &self,
+        request: &'a Request,
+        number: &'a [u8],
+    ) -> Result<Prepared<'a>, AskFault>
+        requires { number.now ≡ four_bytes (number_carried request.now) }
+        ensures works { OnOk result (self.now.accessing.failed ≡ false) }
+        ensures admissible { OnOk result (IsAdmittedBy self.now.accessing request.now) }
+        ensures prepared { IfOk result (IsPrepared self.now.accessing request.now) }
+        ensures refused { IfErr result (λ f. (f ≢ ask_fault.NoMemory)
+            × AskRefused request.now self.now.accessing f) }
+    {
+        self.accessing.prepare(request, number)
+    }
+
+    /// Asks a request by the messages that `prepare` made of it, as `ask` does. They aren't looked at again, and it is
     /// refused for want of memory alone, with nothing changed. Own.
-    pub fn ask_checked(&mut self, request: &Request, checked: Checked) -> Result<usize, AskFault>
-        requires may { MayAsk self.old.accessing request.now }
-        requires counted { IsCounted self.old.accessing.own request.now checked }
+    pub fn ask_prepared(
+        &mut self,
+        request: &Request,
+        prepared: Prepared<'_>,
+    ) -> Result<usize, AskFault>
+        requires { IsPrepared self.old.accessing request.now prepared }
         ensures ok { IfOk result (λ n. AskedOne request.now self.old self.new n) }
         ensures err { IfErr result (λ f. (self.new ≡ self.old) × (f ≡ ask_fault.NoMemory)) }
     {
-        ask_next(&mut self.port, &mut self.accessing, request, checked)
+        ask_next(&mut self.port, &mut self.accessing, request, prepared)
     }
 
     /// Takes a packet in, as [`nsp_link::LinkEnd::receive`] does; nothing is read by that.
@@ -404,16 +423,15 @@ fn most_messages(request: &Request) -> usize
     }
 }
 
-/// Asks a request that was checked: its messages wait.
+/// Asks a request by its messages, which wait then.
 fn ask_next(
     port: &mut Port,
     accessing: &mut Accessing,
     request: &Request,
-    checked: Checked,
+    prepared: Prepared<'_>,
 ) -> Result<usize, AskFault>
     requires kept { IsPort port.old }
-    requires may { MayAsk accessing.old request.now }
-    requires counted { IsCounted accessing.old.own request.now checked }
+    requires prepared { IsPrepared accessing.old request.now prepared }
     ensures ok { IfOk result (λ n. AskedOne request.now (asking_of port.old accessing.old)
         (asking_of port.new accessing.new) n) }
     ensures kept { IsPort port.new }
@@ -423,7 +441,7 @@ fn ask_next(
     let Ok(()) = port.outbox.reserve(most_messages(request)) else {
         return Err(AskFault::NoMemory);
     };
-    let mut messages = accessing.ask_checked(request, checked)?;
+    let mut messages = accessing.ask_prepared(request, prepared)?;
     let count = messages.len();
     port.outbox.append(&mut messages).unwrap();
     Ok(count)

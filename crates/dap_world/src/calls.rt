@@ -1,12 +1,13 @@
 //! What an event is to the end that it is at: one call of it.
 
 ghost use Rattle.std.specs.Prelude.{◌≡◌, ◌<◌, ◌≤◌, ◌+◌, ◌++◌, ◌∷◌, [], length, IfOk, IfErr, Some, OnOk, OnErr, vec_len, vec_capacity, false};
+ghost use Rattle.dap_msg.specs.BothEnds.{four_bytes};
 ghost use Rattle.dap_msg.specs.Blocked.{bodies};
 ghost use Rattle.nsp_link.specs.Limits.{most_segments};
 ghost use Rattle.nsp_link.specs.Link.{MaySend};
 ghost use Rattle.nsp_link.specs.Sending.{MayQueueAll};
-ghost use Rattle.dap_accessing.specs.Inner.MayAsk.{MayAsk};
-ghost use Rattle.dap_accessing.specs.Inner.Outgoing.{IsCounted};
+ghost use Rattle.dap_accessing.specs.Inner.Outgoing.{number_carried};
+ghost use Rattle.dap_accessing.specs.Inner.Prepared.{IsPrepared};
 ghost use Rattle.dap_end.specs.Ports.{with_link};
 ghost use Rattle.dap_end.specs.Writing.{sent_more};
 ghost use Rattle.dap_end.specs.Serving as serving;
@@ -20,7 +21,7 @@ ghost use Rattle.dap_world.specs.declared.event.WorldFault.TheVariants.{NoMemory
 use crate::event::{End, Event, Step, WorldFault};
 use crate::side::{Wired, acknowledge, again, due, may_post, next_number, put};
 use crate::world::World;
-use dap_accessing::{Checked, Report, Request};
+use dap_accessing::{Prepared, Report, Request};
 use dap_end::{AskingEnd, ServingEnd};
 use nsp_link::{Got, LinkFault};
 use std::alloc::Global;
@@ -150,10 +151,13 @@ fn copy_and_ask(
     ensures err { IfErr result (λ f. (end.new ≡ end.old)
         × (requests.new.items ≡ requests.old.items) × AskFaultOf request.now end.old.accessing f) }
 {
-    match end.check(request) {
-        Ok(checked) => ask_checked(end, requests, request.copy(alloc)?, checked),
-        Err(fault) => Err(WorldFault::Ask(fault)),
-    }
+    let number = request.number();
+    let prepared = prepare(end, request, &number)?;
+    let copy = request.copy(alloc)?;
+    requests.reserve(1)?;
+    let step = ask_prepared(end, request, prepared)?;
+    requests.push_reserved(copy);
+    Ok(step)
 }
 
 /// Asks a request of A.
@@ -167,32 +171,43 @@ fn ask_next(
     ensures err { IfErr result (λ f. (end.new ≡ end.old)
         × (requests.new.items ≡ requests.old.items) × AskFaultOf request end.old.accessing f) }
 {
-    match end.check(&request) {
-        Ok(checked) => ask_checked(end, requests, request, checked),
+    let number = request.number();
+    let prepared = prepare(end, &request, &number)?;
+    requests.reserve(1)?;
+    let step = ask_prepared(end, &request, prepared)?;
+    requests.push_reserved(request);
+    Ok(step)
+}
+
+/// The messages of a request that A may ask.
+fn prepare<'a>(
+    end: &AskingEnd,
+    request: &'a Request,
+    number: &'a [u8],
+) -> Result<Prepared<'a>, WorldFault>
+    requires { number.now ≡ four_bytes (number_carried request.now) }
+    ensures ok { IfOk result (IsPrepared end.now.accessing request.now) }
+    ensures admissible { OnOk result (IsAdmittedBy end.now.accessing request.now) }
+    ensures err { IfErr result (AskFaultOf request.now end.now.accessing) }
+{
+    match end.prepare(request, number) {
+        Ok(prepared) => Ok(prepared),
         Err(fault) => Err(WorldFault::Ask(fault)),
     }
 }
 
-/// Asks a request that is refused for want of memory alone.
-fn ask_checked(
+/// Asks a request by its messages, and is refused for want of memory alone.
+fn ask_prepared(
     end: &mut AskingEnd,
-    requests: &mut Vec<Request>,
-    request: Request,
-    checked: Checked,
+    request: &Request,
+    prepared: Prepared<'_>,
 ) -> Result<Step, WorldFault>
-    requires may { MayAsk end.old.accessing request }
-    requires counted { IsCounted end.old.accessing.own request checked }
-    ensures ok { IfOk result (λ answer. AskedSo request end.old end.new answer) }
-    ensures told { OnOk result (requests.new.items ≡ requests.old.items ++ request ∷ []) }
-    ensures err { IfErr result (λ f. (end.new ≡ end.old)
-        × (requests.new.items ≡ requests.old.items) × (f ≡ NoMemory)) }
+    requires { IsPrepared end.old.accessing request.now prepared }
+    ensures ok { IfOk result (λ answer. AskedSo request.now end.old end.new answer) }
+    ensures err { IfErr result (λ f. (end.new ≡ end.old) × (f ≡ NoMemory)) }
 {
-    requests.reserve(1)?;
-    match end.ask_checked(&request, checked) {
-        Ok(count) => {
-            requests.push_reserved(request);
-            Ok(Step::Asked(count))
-        }
+    match end.ask_prepared(request, prepared) {
+        Ok(count) => Ok(Step::Asked(count)),
         Err(_) => Err(WorldFault::NoMemory),
     }
 }

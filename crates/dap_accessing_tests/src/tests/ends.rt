@@ -250,10 +250,12 @@ fn does(alloc: Global, end: &mut Accessing, line: Line) -> Result<bool, AllocErr
         Line::Sends(ask, bytes) => sends(end, &request(alloc, ask)?, bytes),
         Line::Asks(ask) => {
             let request = request(alloc, ask)?;
-            match end.check(&request) {
-                Ok(checked) => end.ask_checked(&request, checked).is_ok(),
-                Err(_) => false,
-            }
+            let number = request.number();
+            end.check(&request).is_ok()
+                && match end.prepare(&request, &number) {
+                    Ok(prepared) => end.ask_prepared(&request, prepared).is_ok(),
+                    Err(_) => false,
+                }
         }
         Line::Refuses(ask, fault) => {
             let request = request(alloc, ask)?;

@@ -13,4 +13,4 @@ refused request old new (Ok n) works may wanting = wanting
 refused request old new (Err f) works may wanting = (wanting.0, subst (λ (g : AskFault). AskRefused request old.accessing g) (sym wanting.1) (works, may))
 
 pub returns-clause-err : goal.returns-clause-err
-returns-clause-err c = refused c.args.request.now c.args.self.now c.ask_checked.new.self c.ask_checked.result c.in_ok-checked.ensures.works c.in_ok-checked.ensures.admissible c.ask_checked.ensures.err
+returns-clause-err c = refused c.args.request.now c.args.self.now c.ask_prepared.new.self c.ask_prepared.result c.in_ok-prepared.ensures.works c.in_ok-prepared.ensures.admissible c.ask_prepared.ensures.err

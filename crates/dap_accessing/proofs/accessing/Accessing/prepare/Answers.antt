@@ -4,10 +4,10 @@ use Rattle.dap_msg.specs.Sendable.{AreSendable}
 use Rattle.dap_accessing.specs.Present.{Present}
 use Rattle.dap_accessing.specs.Asked.{messages_of}
 use Rattle.dap_accessing.specs.Calls.{AskRefused}
-use Rattle.dap_accessing.specs.Inner.MayAsk.{MayAsk}
+use Rattle.dap_accessing.specs.Inner.Prepared.{MayAsk}
 use Rattle.dap_accessing.specs.contracts.accessing.Accessing.{the_view}
 use Rattle.dap_accessing.proofs.Laws.{refuse_busy, refuse_phase, refuse_large, may_ask, admit}
-use Rattle.dap_accessing.proofs.accessing.Accessing.admit.Goals as goal
+use Rattle.dap_accessing.proofs.accessing.Accessing.prepare.Goals as goal
 
 pub returns-then-is_some-clause-refused : goal.returns-then-is_some-clause-refused
 returns-then-is_some-clause-refused c =
@@ -26,15 +26,18 @@ returns-in-None-clause-refused c =
       (
         c.if-self.false,
         refuse_large c.args.request.now (the_view c.self.inside) (sym c.is_some.ensures ∙ c.if-is_some.false) (sym c.fits.ensures ∙ c.if-not-fits.false)
-            (λ s. c.in-None.ensures.no refl (subst (λ l. AreSendable c.self.inside.limit l) (sym (c.requires ∙ ap (λ (v : Present). messages_of v.own c.args.request.now) (sym c.self.view_is))) s)),
+            (λ s. c.in-None.ensures.no refl (subst (λ l. AreSendable c.self.inside.limit l) (sym c.of-outgoing.ensures.messages) s)),
       ),
     )
 
-pub returns-in-Some-clause-may : goal.returns-in-Some-clause-may
-returns-in-Some-clause-may c =
-    subst (λ (v : Present). MayAsk v c.args.request.now) c.self.view_is
-    (may_ask c.args.request.now (the_view c.self.inside) c.if-self.false (sym c.is_some.ensures ∙ c.if-is_some.false) (sym c.fits.ensures ∙ c.if-not-fits.false)
-    (subst (λ l. AreSendable c.self.inside.limit l) (c.requires ∙ ap (λ (v : Present). messages_of v.own c.args.request.now) (sym c.self.view_is)) c.in-Some.ensures.yes) (omega arith))
+pub returns-in-Some-clause-prepared : goal.returns-in-Some-clause-prepared
+returns-in-Some-clause-prepared c = record {
+  may = subst (λ (v : Present). MayAsk v c.args.request.now) c.self.view_is
+      (may_ask c.args.request.now (the_view c.self.inside) c.if-self.false (sym c.is_some.ensures ∙ c.if-is_some.false) (sym c.fits.ensures ∙ c.if-not-fits.false)
+      (subst (λ l. AreSendable c.self.inside.limit l) c.of-outgoing.ensures.messages c.in-Some.ensures.yes) (omega arith));
+  messages = c.of-outgoing.ensures.messages ∙ ap (λ (v : Present). messages_of v.own c.args.request.now) c.self.view_is;
+  counted = c.in-Some.ensures.counted;
+}
 
 pub returns-in-Some-clause-admissible : goal.returns-in-Some-clause-admissible
-returns-in-Some-clause-admissible c = admit c.args.request.now c.args.self.now (returns-in-Some-clause-may c)
+returns-in-Some-clause-admissible c = admit c.args.request.now c.args.self.now (returns-in-Some-clause-prepared c).may
