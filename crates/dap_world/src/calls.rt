@@ -6,6 +6,7 @@ ghost use Rattle.dap_msg.specs.Blocked.{bodies};
 ghost use Rattle.nsp_link.specs.Limits.{most_segments};
 ghost use Rattle.nsp_link.specs.Link.{MaySend};
 ghost use Rattle.nsp_link.specs.Sending.{MayQueueAll};
+ghost use Rattle.dap_accessing.specs.Calls.{IsAdmittedBy};
 ghost use Rattle.dap_accessing.specs.Inner.Outgoing.{number_carried};
 ghost use Rattle.dap_accessing.specs.Inner.Prepared.{IsPrepared};
 ghost use Rattle.dap_end.specs.Ports.{with_link};
