@@ -50,7 +50,7 @@ fn push_ends(text: &mut Vec<u8>, dst: u16, src: u16) -> Result<(), AllocError>
 }
 
 /// A data segment (NSP 4.0.0, data segment message), and the hex digits of its payload.
-#[derive(Clone, Copy, Debug)]
+#[derive(Clone, Copy, Debug, PartialEq)]
 pub struct Carried<'a> {
     pub first: bool,
     pub last: bool,
@@ -63,7 +63,7 @@ pub struct Carried<'a> {
 }
 
 /// A captured packet.
-#[derive(Clone, Copy, Debug)]
+#[derive(Clone, Copy, Debug, PartialEq)]
 pub enum Captured<'a> {
     Segment(Carried<'a>),
     /// NSP 4.0.0, data acknowledgement message.
