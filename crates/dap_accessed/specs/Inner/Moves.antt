@@ -150,43 +150,7 @@ is_silent (phases.Dropping opened stream ordinal) (Whole (Filedata _ _)) = true
 is_silent (phases.Dropping opened stream ordinal) (Whole (Contran func)) = func == codes.confunc.skip
 is_silent _ _ = false
 
--- ---- A message that has no place.
-
--- only where a file is open, and no record is due, a Control that this end doesn't know has a Status of its own
-abbrev pub misplaced : Phase → Message → Message
-misplaced (phases.Opened opened) (Control c) = control_status (verb_of c)
-misplaced (phases.Connected opened stream) (Control c) = control_status (verb_of c)
-misplaced (phases.Storing opened stream ordinal) (Control c) = control_status (verb_of c)
-misplaced (phases.Dropping opened stream ordinal) (Control c) = control_status (verb_of c)
-misplaced (phases.Stopped opened stream) (Control c) = control_status (verb_of c)
-misplaced phase message = sync_status message
-
--- an item that is refused ends a group of two
-abbrev pub phase_behind : Phase → Phase
-phase_behind (phases.PutDue opened stream key) = phases.Connected opened stream
-phase_behind (phases.UpdateDue opened stream) = phases.Connected opened stream
-phase_behind phase = phase
-
--- and changes nothing else
-abbrev pub refuses_item : Present → Message → Move
-refuses_item p status = record { present = record p { phase = phase_behind p.phase }; answers = status ∷ [] }
-
--- The message has no place in this phase: it is refused, and has an answer.
-pub record HasNoPlace (phase : Phase) (p : Present) (m : Message) : Type 0 where
-  pub refused : move_in phase p (Whole m) ≡ record { present = record p { phase = phase_behind phase }; answers = misplaced phase m ∷ [] }
-  pub answered : is_silent phase (Whole m) ≡ false
-
 -- ---- The words of the contracts.
-
--- where the call answers, the message was served so in this phase, or it has no place, and nothing has moved
-abbrev pub Takes : Phase → Message → (old new : Present) → Result (Option (Vec (Vec ℕ))) NoMemory → Type 0
-Takes phase m old new result =
-    IfOk result (λ taken. MatchOption taken ((new ≡ old) × HasNoPlace phase old m) (λ answers. Moves old (move_in phase old (Whole m)) new answers))
-
--- the phase of a Store, which may drop what comes
-abbrev pub store_phase : (dropping : Bool) → OpenFile → StreamVal → ℕ → Phase
-store_phase dropping opened stream ordinal =
-    if dropping then phases.Dropping opened stream ordinal else phases.Storing opened stream ordinal
 
 -- where the call answers, the end moved so
 abbrev pub Makes : Move → (old new : Present) → Result (Vec (Vec ℕ)) NoMemory → Type 0
@@ -237,25 +201,6 @@ refuses p opened stream refusal = does p (refused (scene_in p) opened stream ref
 
 abbrev pub fetches : Present → OpenFile → StreamVal → Move
 fetches p opened stream = does p (fetch (scene_in p) opened stream)
-
--- a completion in a place in which this file is open, where the end of a stream has this effect
-abbrev pub complete_by : (func : ℕ) → Scene → OpenFile → Place → (ends : Effect) → Effect
-complete_by func scene opened place ends =
-    if func == codes.cmpfunc.close then enters scene Ready (completed ∷ [])
-    else if func == codes.cmpfunc.purge then enters (record scene { files = purged opened scene.files }) Ready (completed ∷ [])
-    else if func == codes.cmpfunc.end_of_stream then ends
-    else if func == codes.cmpfunc.skip then enters scene place (bare_status (codes.unsupported codes.types.accomp) ∷ [])
-    else enters scene place (bare_status (codes.invalid codes.types.accomp) ∷ [])
-
--- where a stream is connected
-abbrev pub ends_stream : Scene → OpenFile → Effect
-ends_stream scene opened = enters scene (Opened opened) (completed ∷ [])
-
--- in any place in which this file is open, if the end of a stream has this effect there
-abbrev pub Completes : (func : ℕ) → OpenFile → (ends : Effect) → (old new : Present) → Result (Vec (Vec ℕ)) NoMemory → Type 0
-Completes func opened ends old new result =
-    IfOk result (λ answers. (place : Place) (memory : Memory) → old.phase ≡ phase_at place memory → memory.shape ≡ old.kept
-    → Moves old (settles old memory (complete_by func (scene_in old) opened place ends)) new answers)
 
 -- the phase behind a fetch
 abbrev pub fetched_phase : Present → OpenFile → StreamVal → Phase
