@@ -4,7 +4,7 @@ ghost use Rattle.std.specs.Prelude.{◌≡◌, ◌≤◌, IfSome, IsTrue};
 ghost use Rattle.dap_msg.specs.Items.{ItemFits, Whole, seen_item};
 ghost use Rattle.dap_msg.specs.Decoding.{IsSpelled};
 ghost use Rattle.dap_msg.specs.Inner.Fitting.{FieldsFit};
-ghost use Rattle.dap_msg.specs.Message.{Accomp, Attrib, Completion, seen, seen_attributes};
+ghost use Rattle.dap_msg.specs.Message.{Attrib, seen, seen_attributes};
 ghost use Rattle.rec_file.specs.Shapes.{is_shape};
 ghost use Rattle.dap_accessed.specs.Standing.{Files};
 ghost use Rattle.dap_accessed.specs.Past.{asked_shape};
@@ -12,7 +12,7 @@ ghost use Rattle.dap_accessed.specs.Effects.{control_status};
 ghost use Rattle.dap_accessed.specs.Replies.{bare_status};
 ghost use Rattle.dap_accessed.specs.Transfers.{continue_refused};
 ghost use Rattle.dap_accessed.specs.Inner.Moves.{IsOpenIn};
-ghost use Rattle.dap_accessed.specs.Inner.Steps.{Asks, HasOpen};
+ghost use Rattle.dap_accessed.specs.Inner.Steps.{Asks, HasOpen, IsCommon};
 ghost use Rattle.rec_file.specs.Limits.{greatest_number};
 ghost use Rattle.dap_accessed.specs.declared.phase.Phase.TheVariants as phases;
 
@@ -87,9 +87,12 @@ impl Phase {
                 Message::Filedata { payload, .. } => Ok(Step::Update(opened, stream, payload)),
                 _ => Err(out_of_place(message.number())),
             },
-            Phase::Storing(opened, stream, ordinal) => {
-                self.storing(opened, stream, ordinal, message)
-            }
+            Phase::Storing(opened, stream, ordinal) => match message {
+                Message::Filedata { payload, .. } => {
+                    Ok(Step::Store(opened, stream, ordinal, payload))
+                }
+                _ => self.otherwise(opened, message),
+            },
             Phase::Dropping(opened, stream, ordinal) => {
                 self.dropping(opened, stream, ordinal, message)
             }
@@ -110,8 +113,7 @@ impl Phase {
                 )),
                 verb => Err(control_refused(verb)),
             },
-            Message::Accomp { func, .. } => self.complete(opened, func),
-            _ => Err(out_of_place(message.number())),
+            _ => self.otherwise(opened, message),
         }
     }
 
@@ -143,29 +145,7 @@ impl Phase {
                 )),
                 verb => Err(control_refused(verb)),
             },
-            Message::Accomp { func, .. } => self.complete(opened, func),
-            _ => Err(out_of_place(message.number())),
-        }
-    }
-
-    /// The same in a Store.
-    fn storing<'a>(
-        self,
-        opened: OpenFile,
-        stream: Stream,
-        ordinal: u32,
-        message: Message<'a>,
-    ) -> Result<Step<'a>, u16>
-        requires { self ≡ phases.Storing opened stream ordinal }
-        ensures { Asks self (Whole (seen message.entry)) result }
-    {
-        match message {
-            Message::Filedata { payload, .. } => {
-                Ok(Step::Store(opened, stream, ordinal, payload))
-            }
-            Message::Control(control) => Err(control_refused(verb_of(&control))),
-            Message::Accomp { func, .. } => self.complete(opened, func),
-            _ => Err(out_of_place(message.number())),
+            _ => self.otherwise(opened, message),
         }
     }
 
@@ -190,9 +170,7 @@ impl Phase {
                 CONFUNC_SKIP => Ok(Step::Enter(Phase::Storing(opened, stream, ordinal))),
                 _ => Err(continuation_refused(func)),
             },
-            Message::Control(control) => Err(control_refused(verb_of(&control))),
-            Message::Accomp { func, .. } => self.complete(opened, func),
-            _ => Err(out_of_place(message.number())),
+            _ => self.otherwise(opened, message),
         }
     }
 
@@ -217,26 +195,29 @@ impl Phase {
                 )),
                 _ => Err(continuation_refused(func)),
             },
-            Message::Control(control) => Err(control_refused(verb_of(&control))),
-            Message::Accomp { func, .. } => self.complete(opened, func),
-            _ => Err(out_of_place(message.number())),
+            _ => self.otherwise(opened, message),
         }
     }
 
-    /// What a completion asks for where this file is open.
-    fn complete<'a>(self, opened: OpenFile, func: u8) -> Result<Step<'a>, u16>
-        requires { HasOpen self opened }
-        ensures { (c : Completion) → c.func ≡ func → Asks self (Whole (Accomp c)) result }
+    /// The same in each phase in which a file is open, unless the phase says otherwise.
+    fn otherwise<'a>(self, opened: OpenFile, message: Message<'a>) -> Result<Step<'a>, u16>
+        requires there { HasOpen self opened }
+        requires common { IsCommon self (seen message) }
+        ensures { Asks self (Whole (seen message.entry)) result }
     {
-        match func {
-            CMPFUNC_CLOSE => Ok(Step::Reply(Answer::Complete, Phase::Ready)),
-            CMPFUNC_PURGE => Ok(Step::Purge(opened)),
-            CMPFUNC_END_OF_STREAM => match self {
-                Phase::Opened(_) => Err(out_of_place(TYPE_COMPLETE)),
-                _ => Ok(Step::Reply(Answer::Complete, Phase::Opened(opened))),
+        match message {
+            Message::Control(control) => Err(control_refused(verb_of(&control))),
+            Message::Accomp { func, .. } => match func {
+                CMPFUNC_CLOSE => Ok(Step::Reply(Answer::Complete, Phase::Ready)),
+                CMPFUNC_PURGE => Ok(Step::Purge(opened)),
+                CMPFUNC_END_OF_STREAM => match self {
+                    Phase::Opened(_) => Err(out_of_place(TYPE_COMPLETE)),
+                    _ => Ok(Step::Reply(Answer::Complete, Phase::Opened(opened))),
+                },
+                CMPFUNC_SKIP => Err(unsupported(TYPE_COMPLETE)),
+                _ => Err(invalid(TYPE_COMPLETE)),
             },
-            CMPFUNC_SKIP => Err(unsupported(TYPE_COMPLETE)),
-            _ => Err(invalid(TYPE_COMPLETE)),
+            _ => Err(out_of_place(message.number())),
         }
     }
 }

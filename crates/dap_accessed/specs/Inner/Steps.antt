@@ -2,7 +2,7 @@
 use Rattle.std.specs.Prelude.{ℕ, ◌≡◌, ◌<◌, ◌≤◌, Bool, true, false, [], ◌∷◌, length, IfSome, IsTrue, Result, Ok, Err}
 use Rattle.dap_msg.specs.BothEnds.{config_of, least_buffer}
 use Rattle.dap_msg.specs.Items.{Item}
-use Rattle.dap_msg.specs.Message.{Message, seen_control}
+use Rattle.dap_msg.specs.Message.{Message, Control, Contran, Filedata, seen_control}
 use Rattle.rec_file.specs.Shapes.{is_shape}
 use Rattle.dap_accessed.specs.declared.phase.OpenFile.{OpenFile}
 use Rattle.dap_accessed.specs.declared.phase.Phase.{Phase}
@@ -91,3 +91,13 @@ HasOpen (phases.Storing o stream ordinal) opened = o ≡ opened
 HasOpen (phases.Dropping o stream ordinal) opened = o ≡ opened
 HasOpen (phases.Stopped o stream) opened = o ≡ opened
 HasOpen phase opened = ⊥
+
+-- the phase says nothing of its own of the message
+abbrev pub IsCommon : Phase → Message → Type 0
+IsCommon (phases.Opened opened) (Control control) = ⊥
+IsCommon (phases.Connected opened stream) (Control control) = ⊥
+IsCommon (phases.Storing opened stream ordinal) (Filedata recnum payload) = ⊥
+IsCommon (phases.Dropping opened stream ordinal) (Filedata recnum payload) = ⊥
+IsCommon (phases.Dropping opened stream ordinal) (Contran func) = ⊥
+IsCommon (phases.Stopped opened stream) (Contran func) = ⊥
+IsCommon phase message = Unit {0}
