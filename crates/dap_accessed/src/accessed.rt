@@ -9,7 +9,7 @@ ghost use Rattle.dap_accessed.specs.Replies.{refused_access};
 ghost use Rattle.dap_accessed.specs.Present.{StandsAfter};
 ghost use Rattle.dap_accessed.specs.Served.{IsSilent, Serves};
 ghost use Rattle.dap_accessed.specs.Standing.{Files};
-ghost use Rattle.dap_accessed.specs.Inner.Moves.{IsOpenIn, Makes, Moves, begins, creates, is_silent, move, opens, opens_by, opens_nothing};
+ghost use Rattle.dap_accessed.specs.Inner.Moves.{IsOpenIn, Makes, Moves, begins, creates, is_silent, move, opens, opens_nothing};
 ghost use Rattle.dap_accessed.specs.Inner.Steps.{CanDo, done, is_quiet, replies};
 ghost use Rattle.dap_accessed.specs.Inner.Written.{Answered, IsShort, message_of};
 ghost use Rattle.dap_accessed.specs.declared.step.Step.TheVariants as steps;
@@ -208,7 +208,7 @@ impl Accessed {
 
     /// Answers an Access, which opens a file, creates one or is refused.
     fn access(&mut self, func: u8, name: &[u8], fac: u32) -> Result<Vec<Vec<u8>>, NoMemory>
-        ensures ok { Makes (opens_by func self.old name.now fac) self.old self.new result }
+        ensures ok { Makes (done (steps.Access func name.entry fac) self.old) self.old self.new result }
         ensures err { OnErr result (self.new ≡ self.old) }
     {
         match func {

@@ -1,9 +1,8 @@
 //! What is served while a file is open.
 
 ghost use Rattle.std.specs.Prelude.{◌≡◌, ◌<◌, length, OnErr};
-ghost use Rattle.dap_msg.specs.Message.{seen_control};
-ghost use Rattle.dap_accessed.specs.Records.{Putting, Updating, uncurrent};
-ghost use Rattle.dap_accessed.specs.Inner.Moves.{Makes, Moves, changes, deletes, gets, refuses};
+ghost use Rattle.dap_accessed.specs.Records.{uncurrent};
+ghost use Rattle.dap_accessed.specs.Inner.Moves.{Makes, Moves, refuses};
 ghost use Rattle.dap_accessed.specs.Inner.Steps.{done};
 ghost use Rattle.dap_accessed.specs.declared.step.Step.TheVariants as steps;
 
@@ -61,7 +60,7 @@ impl Accessed {
         control: Control<'_>,
     ) -> Result<Vec<Vec<u8>>, NoMemory>
         requires { opened.at < length self.old.files }
-        ensures ok { Makes (gets self.old opened stream (seen_control control.entry))
+        ensures ok { Makes (done (steps.Get opened stream control.entry) self.old)
             self.old self.new result }
         ensures err { OnErr result (self.new ≡ self.old) }
     {
@@ -117,7 +116,7 @@ impl Accessed {
         stream: Stream,
     ) -> Result<Vec<Vec<u8>>, NoMemory>
         requires { opened.at < length self.old.files }
-        ensures ok { Makes (deletes self.old opened stream) self.old self.new result }
+        ensures ok { Makes (done (steps.Delete opened stream) self.old) self.old self.new result }
         ensures err { OnErr result (self.new ≡ self.old) }
     {
         let room = Room::new(self.alloc)?;
@@ -136,7 +135,7 @@ impl Accessed {
         body: &[u8],
     ) -> Result<Vec<Vec<u8>>, NoMemory>
         requires { opened.at < length self.old.files }
-        ensures ok { Makes (changes self.old (Putting key) opened stream body.now)
+        ensures ok { Makes (done (steps.Put opened stream key body.entry) self.old)
             self.old self.new result }
         ensures err { OnErr result (self.new ≡ self.old) }
     {
@@ -159,7 +158,7 @@ impl Accessed {
         body: &[u8],
     ) -> Result<Vec<Vec<u8>>, NoMemory>
         requires { opened.at < length self.old.files }
-        ensures ok { Makes (changes self.old Updating opened stream body.now)
+        ensures ok { Makes (done (steps.Update opened stream body.entry) self.old)
             self.old self.new result }
         ensures err { OnErr result (self.new ≡ self.old) }
     {

@@ -1,7 +1,9 @@
 //! File transfers: all records to the peer, or records from it until the stream ends.
 
 ghost use Rattle.std.specs.Prelude.{◌≡◌, ◌≤◌, ◌<◌, ◌+◌, length, IfOk, OnErr};
-ghost use Rattle.dap_accessed.specs.Inner.Moves.{HasFetched, IsOpenIn, Makes, fetched_phase, fetches, stores};
+ghost use Rattle.dap_accessed.specs.Inner.Moves.{HasFetched, IsOpenIn, Makes, fetched_phase};
+ghost use Rattle.dap_accessed.specs.Inner.Steps.{done};
+ghost use Rattle.dap_accessed.specs.declared.step.Step.TheVariants as steps;
 ghost use Rattle.rec_file.specs.Limits.{greatest_number};
 ghost use Rattle.dap_accessed.specs.Records.{at_number};
 
@@ -33,7 +35,7 @@ impl Accessed {
         body: &[u8],
     ) -> Result<Vec<Vec<u8>>, NoMemory>
         requires { opened.at < length self.old.files }
-        ensures ok { Makes (stores self.old opened stream ordinal body.now)
+        ensures ok { Makes (done (steps.Store opened stream ordinal body.entry) self.old)
             self.old self.new result }
         ensures err { OnErr result (self.new ≡ self.old) }
     {
@@ -60,7 +62,7 @@ impl Accessed {
         stream: Stream,
     ) -> Result<Vec<Vec<u8>>, NoMemory>
         requires { opened.at < length self.old.files }
-        ensures ok { Makes (fetches self.old opened stream) self.old self.new result }
+        ensures ok { Makes (done (steps.Fetch opened stream) self.old) self.old self.new result }
         ensures err { OnErr result (self.new ≡ self.old) }
     {
         let (answers, phase) = self.batch(opened, stream)?;

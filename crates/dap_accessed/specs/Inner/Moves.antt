@@ -169,38 +169,8 @@ opens p name fac = accesses p (open_file (scene_in p) fac (place_of name p.files
 abbrev pub creates : Present → (name : List ℕ) → (fac : ℕ) → Move
 creates p name fac = accesses p (create_file (scene_in p) name fac (place_of name p.files) p.kept)
 
--- by ACCFUNC
-abbrev pub opens_by : (func : ℕ) → Present → (name : List ℕ) → (fac : ℕ) → Move
-opens_by func p name fac =
-    if func == codes.accfunc.opening then opens p name fac
-    else if func == codes.accfunc.creating then creates p name fac
-    else opens_nothing p (bare_status (codes.unsupported codes.types.access))
-
--- a Filedata that a Store doesn't drop
-abbrev pub stores : Present → OpenFile → StreamVal → (ordinal : ℕ) → (body : List ℕ) → Move
-stores p opened stream ordinal body =
-    let e = store_one ordinal (scene_in p) opened stream body in
-    settles p (store_memory p.kept (nat_lt 0 (length e.answers)) (next_ordinal ordinal)) e
-
--- a GET
-abbrev pub gets : Present → OpenFile → StreamVal → ControlFields → Move
-gets p opened stream control =
-    does p (record_got (get_pick (the_file p.files opened) stream control) (scene_in p) opened stream)
-
--- a DELETE
-abbrev pub deletes : Present → OpenFile → StreamVal → Move
-deletes p opened stream =
-    does p (settled (scene_in p) opened (act delete_record (the_file p.files opened) stream))
-
--- a PUT or an UPDATE, with the record's bytes
-abbrev pub changes : Present → Change → OpenFile → StreamVal → (body : List ℕ) → Move
-changes p change opened stream body = does p (changed change (scene_in p) opened stream body)
-
 abbrev pub refuses : Present → OpenFile → StreamVal → Refusal → Move
 refuses p opened stream refusal = does p (refused (scene_in p) opened stream refusal)
-
-abbrev pub fetches : Present → OpenFile → StreamVal → Move
-fetches p opened stream = does p (fetch (scene_in p) opened stream)
 
 -- the phase behind a fetch
 abbrev pub fetched_phase : Present → OpenFile → StreamVal → Phase

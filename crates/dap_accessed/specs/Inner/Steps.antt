@@ -1,8 +1,10 @@
 -- What an item asks for in a phase.
-use Rattle.std.specs.Prelude.{ℕ, ◌≡◌, ◌<◌, ◌≤◌, Bool, true, false, [], ◌∷◌, length, IfSome, IsTrue, Result, Ok, Err}
+use Rattle.std.specs.Prelude.{ℕ, ◌≡◌, ◌<◌, ◌≤◌, ◌==◌, nat_lt, if◌then◌else◌, Bool, true, false, [], ◌∷◌, length, IfSome, IsTrue, Result, Ok, Err}
 use Rattle.dap_msg.specs.BothEnds.{config_of, least_buffer}
+use Rattle.dap_msg.specs.Codes as codes
 use Rattle.dap_msg.specs.Items.{Item}
 use Rattle.dap_msg.specs.Message.{Message, Control, Contran, Filedata, seen_control}
+use Rattle.rec_file.specs.Acts.{act, delete_record}
 use Rattle.rec_file.specs.Shapes.{is_shape}
 use Rattle.dap_accessed.specs.declared.phase.OpenFile.{OpenFile}
 use Rattle.dap_accessed.specs.declared.phase.Phase.{Phase}
@@ -12,10 +14,12 @@ use Rattle.dap_accessed.specs.declared.step.Step.TheVariants as steps
 use Rattle.dap_accessed.specs.Standing.{Files, the_file}
 use Rattle.dap_accessed.specs.Accesses.{purged}
 use Rattle.dap_accessed.specs.Replies.{bare_status, completed}
-use Rattle.dap_accessed.specs.Records.{Putting, Updating, put_key}
+use Rattle.dap_accessed.specs.Past.{next_ordinal}
+use Rattle.dap_accessed.specs.Records.{Putting, Updating, changed, get_pick, put_key, record_got, settled}
+use Rattle.dap_accessed.specs.Transfers.{fetch, store_one}
 use Rattle.dap_accessed.specs.Inner.Present.{Present}
 use Rattle.dap_accessed.specs.Inner.Written.{IsShort, message_of}
-use Rattle.dap_accessed.specs.Inner.Moves.{IsOpenIn, Move, begins, changes, deletes, fetches, gets, is_silent, move_in, opens_by, stores}
+use Rattle.dap_accessed.specs.Inner.Moves.{IsOpenIn, Move, begins, creates, does, is_silent, move_in, opens, opens_nothing, scene_in, settles, store_memory}
 
 -- one answer, and nothing moves but the phase
 abbrev pub replies : Present → Message → Phase → Move
@@ -27,17 +31,25 @@ done (steps.Reply answer phase) p = replies p (message_of answer) phase
 done (steps.Configure limit) p =
     record { present = record p { limit = limit; phase = phases.Ready }; answers = config_of p.own ∷ [] }
 done (steps.Keep shape) p = record { present = record p { kept = shape; phase = phases.Ready }; answers = [] }
-done (steps.Access func name fac) p = opens_by func p name.now fac
+done (steps.Access func name fac) p =
+    if func == codes.accfunc.opening then opens p name.now fac
+    else if func == codes.accfunc.creating then creates p name.now fac
+    else opens_nothing p (bare_status (codes.unsupported codes.types.access))
 done (steps.Purge opened) p =
     record { present = record p { files = purged opened p.files; phase = phases.Ready }; answers = completed ∷ [] }
-done (steps.Get opened stream control) p = gets p opened stream (seen_control control)
-done (steps.Fetch opened stream) p = fetches p opened stream
+done (steps.Get opened stream control) p =
+    does p (record_got (get_pick (the_file p.files opened) stream (seen_control control)) (scene_in p) opened stream)
+done (steps.Fetch opened stream) p = does p (fetch (scene_in p) opened stream)
 done (steps.Expect opened stream control) p =
     begins p (phases.PutDue opened stream (put_key (the_file p.files opened) stream (seen_control control)))
-done (steps.Put opened stream key body) p = changes p (Putting key) opened stream body.now
-done (steps.Update opened stream body) p = changes p Updating opened stream body.now
-done (steps.Delete opened stream) p = deletes p opened stream
-done (steps.Store opened stream ordinal body) p = stores p opened stream ordinal body.now
+done (steps.Put opened stream key body) p =
+    does p (changed (Putting key) (scene_in p) opened stream body.now)
+done (steps.Update opened stream body) p = does p (changed Updating (scene_in p) opened stream body.now)
+done (steps.Delete opened stream) p =
+    does p (settled (scene_in p) opened (act delete_record (the_file p.files opened) stream))
+done (steps.Store opened stream ordinal body) p =
+    let e = store_one ordinal (scene_in p) opened stream body.now in
+    settles p (store_memory p.kept (nat_lt 0 (length e.answers)) (next_ordinal ordinal)) e
 
 -- what it needs: the file is in the table, and so is that of the phase that is entered
 abbrev pub CanDo : Files → Step → Type 0
