@@ -1,14 +1,14 @@
 -- What an item does to what an end keeps, and its answers.
-use Rattle.std.specs.Prelude.{ℕ, ◌≡◌, ◌<◌, ◌≤◌, Bool, true, false, not, ◌==◌, nat_lt, List, [], ◌∷◌, length, Option, IfSome, IsTrue, Result, IfOk, MatchOption, if◌then◌else◌}
+use Rattle.std.specs.Prelude.{ℕ, ◌≡◌, ◌<◌, ◌≤◌, Bool, true, false, not, ◌==◌, nat_lt, List, [], ◌∷◌, length, Option, IfSome, IsTrue, Result, IfOk}
 use Rattle.std.specs.Global.{Vec}
 use Rattle.dap_msg.specs.Codes as codes
-use Rattle.dap_msg.specs.Message.{Message, Attrib, Access, Control, Contran, Filedata, Other, ControlFields}
+use Rattle.dap_msg.specs.Message.{Message, Attrib, Access, Control, Contran, Filedata, Other}
 use Rattle.dap_msg.specs.Items.{Item, Whole, Malformed}
 use Rattle.dap_msg.specs.BothEnds.{least_buffer}
 use Rattle.rec_file.specs.declared.shapes.Shape.{Shape}
 use Rattle.rec_file.specs.Limits.{greatest_number}
 use Rattle.rec_file.specs.Shapes.{is_shape}
-use Rattle.rec_file.specs.Acts.{StreamVal, act, delete_record}
+use Rattle.rec_file.specs.Acts.{StreamVal}
 use Rattle.rec_file.specs.declared.refusals.Refusal.{Refusal}
 use Rattle.dap_accessed.specs.declared.fault.NoMemory.{NoMemory}
 use Rattle.dap_accessed.specs.declared.phase.OpenFile.{OpenFile}
@@ -16,14 +16,14 @@ use Rattle.dap_accessed.specs.declared.phase.Phase.{Phase}
 use Rattle.dap_accessed.specs.declared.phase.Phase.TheVariants as phases
 use Rattle.dap_accessed.specs.declared.verbs.Verb.{Verb}
 use Rattle.dap_accessed.specs.declared.verbs.Verb.TheVariants as verbs
-use Rattle.dap_accessed.specs.Standing.{Files, place_of, the_file, Place, Scene, Effect, enters, Fresh, Ready, Opened, Connected, Store, Stopped}
+use Rattle.dap_accessed.specs.Standing.{Files, place_of, Place, Scene, Effect, enters, Fresh, Ready, Opened, Connected, Store, Stopped}
 use Rattle.dap_msg.specs.BothEnds.{no_attributes}
 use Rattle.dap_accessed.specs.Past.{asked_shape, next_ordinal}
-use Rattle.dap_accessed.specs.Accesses.{refuse_access, open_file, create_file, purged}
-use Rattle.dap_accessed.specs.Replies.{bare_status, sync_status, completed}
-use Rattle.dap_accessed.specs.Records.{verb_of, Change, Putting, Updating, changed, get_pick, record_got, refused, settled}
-use Rattle.dap_accessed.specs.Transfers.{fetch, store_one}
-use Rattle.dap_accessed.specs.Effects.{Turn, Does, Begins, control_status, effect_fresh, effect_ready, effect_opened, turn_connected, effect_store, effect_stopped, effect_with}
+use Rattle.dap_accessed.specs.Accesses.{refuse_access, open_file, create_file}
+use Rattle.dap_accessed.specs.Replies.{bare_status}
+use Rattle.dap_accessed.specs.Records.{verb_of, Putting, Updating, refused}
+use Rattle.dap_accessed.specs.Transfers.{fetch}
+use Rattle.dap_accessed.specs.Effects.{Turn, Does, Begins, effect_fresh, effect_ready, effect_opened, turn_connected, effect_store, effect_stopped, effect_with}
 use Rattle.dap_accessed.specs.Inner.Present.{Present, Memory, phase_at, phase_within}
 use Rattle.dap_accessed.specs.Inner.Written.{Answered}
 
