@@ -1,6 +1,6 @@
 //! The accessed end.
 
-ghost use Rattle.std.specs.Prelude.{◌≡◌, ◌≤◌, ◌<◌, ℕ, List, [], ◌∷◌, length, IfOk, IsOk, OnErr, true};
+ghost use Rattle.std.specs.Prelude.{◌≡◌, ◌≤◌, ◌<◌, ℕ, List, [], length, IfOk, IsOk, OnErr, true};
 ghost use Rattle.dap_msg.specs.BothEnds.{greatest_message, least_buffer};
 ghost use Rattle.dap_msg.specs.Items.{IsPlace, Item as TheItem, ItemAt, ItemFits, seen_item};
 ghost use Rattle.dap_accessed.specs.Groups.{After};

@@ -25,6 +25,7 @@ use Rattle.dap_accessed.specs.Inner.Moves.{IsOpenIn, Move, begins, creates, does
 abbrev pub replies : Present → Message → Phase → Move
 replies p message phase = record { present = record p { phase = phase }; answers = message ∷ [] }
 
+-- what a step leaves, and its answers
 abbrev pub done : Step → Present → Move
 done (steps.Enter phase) p = begins p phase
 done (steps.Reply answer phase) p = replies p (message_of answer) phase
@@ -57,6 +58,7 @@ CanDo files (steps.Enter next) = IsOpenIn files next
 CanDo files (steps.Reply answer next) = IsShort answer × IsOpenIn files next
 CanDo files (steps.Configure limit) = least_buffer ≤ limit
 CanDo files (steps.Keep shape) = IfSome shape (λ s. IsTrue (is_shape s))
+CanDo files (steps.Access func name fac) = Unit {0}
 CanDo files (steps.Purge opened) = opened.at < length files
 CanDo files (steps.Get opened stream control) = opened.at < length files
 CanDo files (steps.Fetch opened stream) = opened.at < length files
@@ -65,7 +67,6 @@ CanDo files (steps.Put opened stream key body) = opened.at < length files
 CanDo files (steps.Update opened stream body) = opened.at < length files
 CanDo files (steps.Delete opened stream) = opened.at < length files
 CanDo files (steps.Store opened stream ordinal body) = opened.at < length files
-CanDo files (steps.Access func name fac) = Unit {0}
 
 -- what takes no memory
 abbrev pub is_quiet : Step → Bool
@@ -91,6 +92,7 @@ pub record IsRefused (phase : Phase) (item : Item) (code : ℕ) : Type 0 where
   pub moves : (p : Present) → move_in phase p item ≡ replies p (bare_status code) (phase_behind phase)
   pub answered : is_silent phase item ≡ false
 
+-- what the item asks for, or how it is refused
 abbrev pub Asks : Phase → Item → Result Step ℕ → Type 0
 Asks phase item (Ok step) = IsFor phase item step
 Asks phase item (Err code) = IsRefused phase item code
