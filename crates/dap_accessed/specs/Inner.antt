@@ -4,4 +4,5 @@ pub mod Stored
 pub mod Tables
 pub mod Written
 pub mod Moves
+pub mod Steps
 pub mod Storing

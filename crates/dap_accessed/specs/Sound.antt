@@ -1,5 +1,5 @@
 -- What holds of an end after any items.
-use Rattle.std.specs.Prelude.{ℕ, ◌<◌, ◌≤◌, length, IfSome, bytes_eq}
+use Rattle.std.specs.Prelude.{◌<◌, ◌≤◌, length, IfSome, bytes_eq}
 use Rattle.std.specs.List.{AllByRecursion, IsDistinct}
 use Rattle.dap_msg.specs.BothEnds.{greatest_message, least_buffer}
 use Rattle.rec_file.specs.Files.{IsFile}

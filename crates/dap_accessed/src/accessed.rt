@@ -1,38 +1,29 @@
 //! The accessed end.
 
-ghost use Rattle.std.specs.Prelude.{◌≡◌, ◌≤◌, ◌<◌, ℕ, List, [], ◌∷◌, length, IfOk, IsOk, IfSome, IsTrue, OnErr, true};
+ghost use Rattle.std.specs.Prelude.{◌≡◌, ◌≤◌, ◌<◌, ℕ, List, [], length, IfOk, IsOk, OnErr, true};
 ghost use Rattle.dap_msg.specs.BothEnds.{greatest_message, least_buffer};
-ghost use Rattle.dap_msg.specs.Items.{IsPlace, Item as TheItem, ItemAt, ItemFits, Whole, seen_item};
-ghost use Rattle.dap_msg.specs.Decoding.{IsSpelled};
-ghost use Rattle.dap_msg.specs.Inner.Fitting.{FieldsFit};
-ghost use Rattle.dap_msg.specs.Message.{Attrib, seen, seen_attributes};
-ghost use Rattle.dap_msg.specs.Codes.{status_code_for};
-ghost use Rattle.rec_file.specs.Shapes.{is_shape};
+ghost use Rattle.dap_msg.specs.Items.{IsPlace, Item as TheItem, ItemAt, ItemFits, seen_item};
 ghost use Rattle.dap_accessed.specs.Groups.{After};
 ghost use Rattle.dap_accessed.specs.Accesses.{fac_or, rights_of};
-ghost use Rattle.dap_accessed.specs.Replies.{bare_status, refused_access};
-ghost use Rattle.dap_accessed.specs.Past.{asked_shape};
+ghost use Rattle.dap_accessed.specs.Replies.{refused_access};
 ghost use Rattle.dap_accessed.specs.Present.{StandsAfter};
 ghost use Rattle.dap_accessed.specs.Served.{IsSilent, Serves};
 ghost use Rattle.dap_accessed.specs.Standing.{Files};
-ghost use Rattle.dap_accessed.specs.Inner.Moves.{Makes, Takes, creates, is_silent, misplaced, move, opens, opens_by, opens_nothing, refuses_item};
+ghost use Rattle.dap_accessed.specs.Inner.Moves.{IsOpenIn, Makes, Moves, begins, creates, is_silent, move, opens, opens_nothing};
+ghost use Rattle.dap_accessed.specs.Inner.Steps.{CanDo, done, is_quiet, replies};
 ghost use Rattle.dap_accessed.specs.Inner.Written.{Answered, IsShort, message_of};
-ghost use Rattle.dap_accessed.specs.declared.phase.Phase.TheVariants as phases;
+ghost use Rattle.dap_accessed.specs.declared.step.Step.TheVariants as steps;
 
 use crate::answers::{Answer, one, opening};
 use crate::fault::NoMemory;
 use crate::phase::{OpenFile, Phase};
 use crate::served::Served;
+use crate::step::Step;
 use crate::table::FileTable;
-use crate::verbs::{Verb, verb_of};
 use dap_msg::codes::{
-    self, ACCESS_REFUSED, ACCFUNC_CREATE, ACCFUNC_OPEN, FILE_NOT_FOUND, ORG_SEQUENTIAL,
-    RFM_VARIABLE, Reason, TYPE_ACCESS, TYPE_CONFIGURATION, TYPE_CONTROL, invalid, unsupported,
+    ACCESS_REFUSED, ACCFUNC_CREATE, ACCFUNC_OPEN, FILE_NOT_FOUND, Reason, TYPE_ACCESS, unsupported,
 };
-use dap_msg::{
-    Attributes, FileAccess, Item, LEAST_BUFFER, Message, MsgFault, is_too_small, item_at, limit_of,
-    number_of, status_for,
-};
+use dap_msg::{FileAccess, Item, LEAST_BUFFER, item_at};
 use rec_file::{Format, Org, RecordFile, Rights, Shape};
 use std::alloc::Global;
 use std::marker::Model;
@@ -81,24 +72,6 @@ pub(crate) const PLAIN: Shape = Shape {
     mrn: 0,
 };
 
-/// The shape that the attributes of a message that was read ask for.
-fn shape_for(attributes: &Attributes<'_>) -> Option<Shape>
-    requires { FieldsFit (Attrib (seen_attributes attributes.now)) }
-    ensures same { result ≡ asked_shape (seen_attributes attributes.now) }
-    ensures good { IfSome result (λ shape. IsTrue (is_shape shape)) }
-{
-    let mrn = match attributes.mrn {
-        Some(image) => number_of(image),
-        None => 0,
-    };
-    Shape::check(
-        attributes.org.unwrap_or(ORG_SEQUENTIAL),
-        attributes.rfm.unwrap_or(RFM_VARIABLE),
-        attributes.mrs.unwrap_or(0),
-        mrn,
-    )
-}
-
 /// The rights that FAC gives, or those of the usual operation where it is 0.
 fn rights_for(fac: u32, usual: FileAccess) -> Rights
     ensures { result ≡ rights_of (fac_or fac usual.0) }
@@ -125,34 +98,6 @@ fn refused_access<'a>(reason: Reason) -> Answer<'a>
         code: ACCESS_REFUSED,
         reason: [reason.number()],
     }
-}
-
-/// The answer to a message that has no place in this phase.
-fn misplaced<'a>(phase: Phase, message: &Message<'_>) -> Answer<'a>
-    ensures message { message_of result ≡ misplaced phase (seen message.now) }
-    ensures short { IsShort result }
-{
-    let code = codes::out_of_place(message.number());
-    match phase {
-        Phase::Fresh | Phase::Ready | Phase::PutDue(..) | Phase::UpdateDue(..) => {
-            Answer::Status(code)
-        }
-        _ => match message {
-            Message::Control(control) => match verb_of(control) {
-                Verb::Unknown => Answer::Status(unsupported(TYPE_CONTROL)),
-                _ => Answer::Status(code),
-            },
-            _ => Answer::Status(code),
-        },
-    }
-}
-
-/// The answer to bytes of which no message can be read.
-fn malformed<'a>(fault: MsgFault) -> Answer<'a>
-    ensures message { message_of result ≡ bare_status (status_code_for fault.message_type) }
-    ensures short { IsShort result }
-{
-    Answer::Status(status_for(&fault))
 }
 
 impl Accessed {
@@ -184,14 +129,6 @@ impl Accessed {
         &self.files
     }
 
-    /// One short answer.
-    pub(crate) fn one(&self, answer: Answer<'_>) -> Result<Vec<Vec<u8>>, NoMemory>
-        requires { IsShort answer }
-        ensures { IfOk result (Answered self.now.limit (message_of answer.entry ∷ [])) }
-    {
-        one(self.alloc, self.limit, answer)
-    }
-
     /// No answer.
     pub(crate) fn none(&self) -> Vec<Vec<u8>>
         ensures { Answered self.now.limit [] result }
@@ -199,58 +136,79 @@ impl Accessed {
         Vec::new(self.alloc)
     }
 
-    /// The answers to a message where the peer's Config is due, or None where it has no place.
-    fn serve_fresh(&mut self, message: Message<'_>) -> Result<Option<Vec<Vec<u8>>>, NoMemory>
-        requires { self.old.phase ≡ phases.Fresh }
-        ensures takes { Takes phases.Fresh (seen message.entry) self.old self.new result }
+    /// Does what an item asks for.
+    fn act(&mut self, step: &Step<'_>) -> Result<Vec<Vec<u8>>, NoMemory>
+        requires { CanDo self.old.files step.now }
+        ensures ok { Makes (done step.now self.old) self.old self.new result }
         ensures err { OnErr result (self.new ≡ self.old) }
-        ensures silent { is_silent self.old.phase (Whole (seen message.entry)) ≡ true
-            → IsOk result }
+        ensures quiet { is_quiet step.now ≡ true → IsOk result }
     {
-        match message {
-            Message::Config { bufsiz, .. } => {
-                if is_too_small(bufsiz) {
-                    return Ok(Some(self.one(Answer::Status(invalid(TYPE_CONFIGURATION)))?));
-                }
-                let answers = self.one(Answer::Config(self.bufsiz))?;
-                self.limit = limit_of(bufsiz);
-                self.phase = Phase::Ready;
-                Ok(Some(answers))
-            }
-            Message::Other { .. } => Ok(Some(self.none())),
-            _ => Ok(None),
+        match *step {
+            Step::Enter(phase) => Ok(self.enter(phase)),
+            Step::Reply(answer, phase) => self.reply(answer, phase),
+            Step::Configure(limit) => self.configure(limit),
+            Step::Keep(shape) => Ok(self.keep(shape)),
+            Step::Access { func, name, fac } => self.access(func, name, fac),
+            Step::Purge(opened) => self.purge(opened),
+            Step::Get(opened, stream, control) => self.get(opened, stream, control),
+            Step::Fetch(opened, stream) => self.fetch(opened, stream),
+            Step::Expect(opened, stream, control) => Ok(self.expect(opened, stream, control)),
+            Step::Put(opened, stream, key, body) => self.put(opened, stream, key, body),
+            Step::Update(opened, stream, body) => self.update(opened, stream, body),
+            Step::Delete(opened, stream) => self.delete(opened, stream),
+            Step::Store(opened, stream, ordinal, body) => self.store(opened, stream, ordinal, body),
         }
     }
 
-    /// The answers to a message where no file is open, or None where it has no place.
-    fn serve_ready(&mut self, message: Message<'_>) -> Result<Option<Vec<Vec<u8>>>, NoMemory>
-        requires phase { self.old.phase ≡ phases.Ready }
-        requires spelled { IsSpelled (seen message) }
-        ensures takes { Takes phases.Ready (seen message.entry) self.old self.new result }
-        ensures err { OnErr result (self.new ≡ self.old) }
-        ensures silent { is_silent self.old.phase (Whole (seen message.entry)) ≡ true
-            → IsOk result }
+    /// Another phase, without an answer.
+    pub(crate) fn enter(&mut self, phase: Phase) -> Vec<Vec<u8>>
+        requires { IsOpenIn self.old.files phase }
+        ensures { Moves self.old (begins self.old phase) self.new result }
     {
-        match message {
-            Message::Attrib(attributes) => {
-                self.kept = shape_for(&attributes);
-                Ok(Some(self.none()))
-            }
-            Message::Access {
-                func,
-                name,
-                fac,
-                ..
-            } => Ok(Some(self.access(func, name, fac)?)),
-            Message::Other { .. } => Ok(Some(self.none())),
-            _ => Ok(None),
-        }
+        self.phase = phase;
+        self.none()
+    }
+
+    /// One short answer, and the phase after it.
+    pub(crate) fn reply(
+        &mut self,
+        answer: Answer<'_>,
+        phase: Phase,
+    ) -> Result<Vec<Vec<u8>>, NoMemory>
+        requires short { IsShort answer }
+        requires there { IsOpenIn self.old.files phase }
+        ensures ok { Makes (replies self.old (message_of answer.entry) phase)
+            self.old self.new result }
+        ensures err { OnErr result (self.new ≡ self.old) }
+    {
+        let answers = one(self.alloc, self.limit, answer)?;
+        self.phase = phase;
+        Ok(answers)
+    }
+
+    /// Answers the Config of a peer that takes messages of so many bytes.
+    fn configure(&mut self, limit: u16) -> Result<Vec<Vec<u8>>, NoMemory>
+        requires { least_buffer ≤ limit }
+        ensures ok { Makes (done (steps.Configure limit) self.old) self.old self.new result }
+        ensures err { OnErr result (self.new ≡ self.old) }
+    {
+        let answers = self.reply(Answer::Config(self.bufsiz), Phase::Ready)?;
+        self.limit = limit;
+        Ok(answers)
+    }
+
+    /// Keeps the shape that an Access would give a new file.
+    fn keep(&mut self, shape: Option<Shape>) -> Vec<Vec<u8>>
+        requires { CanDo self.old.files (steps.Keep shape) }
+        ensures { Moves self.old (done (steps.Keep shape) self.old) self.new result }
+    {
+        self.kept = shape;
+        self.enter(Phase::Ready)
     }
 
     /// Answers an Access, which opens a file, creates one or is refused.
     fn access(&mut self, func: u8, name: &[u8], fac: u32) -> Result<Vec<Vec<u8>>, NoMemory>
-        requires { self.old.phase ≡ phases.Ready }
-        ensures ok { Makes (opens_by func self.old name.now fac) self.old self.new result }
+        ensures ok { Makes (done (steps.Access func name.entry fac) self.old) self.old self.new result }
         ensures err { OnErr result (self.new ≡ self.old) }
     {
         match func {
@@ -262,20 +220,18 @@ impl Accessed {
 
     /// Answers an Access that opens no file. Every Access uses up the attributes that were kept.
     fn refuse_access(&mut self, answer: Answer<'_>) -> Result<Vec<Vec<u8>>, NoMemory>
-        requires phase { self.old.phase ≡ phases.Ready }
-        requires short { IsShort answer }
+        requires { IsShort answer }
         ensures ok { Makes (opens_nothing self.old (message_of answer.entry))
             self.old self.new result }
         ensures err { OnErr result (self.new ≡ self.old) }
     {
-        let answers = self.one(answer)?;
+        let answers = self.reply(answer, Phase::Ready)?;
         self.kept = Some(PLAIN);
         Ok(answers)
     }
 
     /// Answers an Access that opens a file.
     fn open(&mut self, name: &[u8], fac: u32) -> Result<Vec<Vec<u8>>, NoMemory>
-        requires { self.old.phase ≡ phases.Ready }
         ensures ok { Makes (opens self.old name.now fac) self.old self.new result }
         ensures err { OnErr result (self.new ≡ self.old) }
     {
@@ -294,7 +250,6 @@ impl Accessed {
 
     /// Answers an Access that creates a file.
     fn create(&mut self, name: &[u8], fac: u32) -> Result<Vec<Vec<u8>>, NoMemory>
-        requires { self.old.phase ≡ phases.Ready }
         ensures ok { Makes (creates self.old name.now fac) self.old self.new result }
         ensures err { OnErr result (self.new ≡ self.old) }
     {
@@ -360,61 +315,9 @@ impl Accessed {
         ensures err { OnErr result (self.new ≡ self.old) }
         ensures silent { is_silent self.old.phase (seen_item item.entry) ≡ true → IsOk result }
     {
-        let message = match item {
-            Item::Whole(message) => message,
-            Item::Malformed(fault) => return self.refuse_item(malformed(fault)),
-        };
-        match self.serve_message(message)? {
-            Some(answers) => Ok(answers),
-            None => self.refuse_item(misplaced(self.phase, &message)),
-        }
-    }
-
-    /// Answers an item that has no place: it ends a group of two, and changes nothing else.
-    fn refuse_item(&mut self, answer: Answer<'_>) -> Result<Vec<Vec<u8>>, NoMemory>
-        requires { IsShort answer }
-        ensures ok { Makes (refuses_item self.old (message_of answer.entry))
-            self.old self.new result }
-        ensures err { OnErr result (self.new ≡ self.old) }
-    {
-        let answers = self.one(answer)?;
-        self.phase = self.phase.behind();
-        Ok(answers)
-    }
-
-    /// The answers to a message, or none where it has no place.
-    fn serve_message(&mut self, message: Message<'_>) -> Result<Option<Vec<Vec<u8>>>, NoMemory>
-        requires { IsSpelled (seen message) }
-        ensures takes { Takes self.old.phase (seen message.entry) self.old self.new result }
-        ensures err { OnErr result (self.new ≡ self.old) }
-        ensures silent { is_silent self.old.phase (Whole (seen message.entry)) ≡ true
-            → IsOk result }
-    {
-        let phase = self.phase;
-        match phase {
-            Phase::Fresh => self.serve_fresh(message),
-            Phase::Ready => self.serve_ready(message),
-            Phase::Opened(opened) => self.serve_opened(opened, message),
-            Phase::Connected(opened, stream) => self.serve_connected(opened, stream, message),
-            Phase::PutDue(opened, stream, key) => match message {
-                Message::Filedata { payload, .. } => {
-                    Ok(Some(self.put(opened, stream, key, payload)?))
-                }
-                _ => Ok(None),
-            },
-            Phase::UpdateDue(opened, stream) => match message {
-                Message::Filedata { payload, .. } => {
-                    Ok(Some(self.update(opened, stream, payload)?))
-                }
-                _ => Ok(None),
-            },
-            Phase::Storing(opened, stream, ordinal) => {
-                self.serve_store(false, opened, stream, ordinal, message)
-            }
-            Phase::Dropping(opened, stream, ordinal) => {
-                self.serve_store(true, opened, stream, ordinal, message)
-            }
-            Phase::Stopped(opened, stream) => self.serve_stopped(opened, stream, message),
+        match self.phase.step(item) {
+            Ok(step) => self.act(&step),
+            Err(code) => self.reply(Answer::Status(code), self.phase.behind()),
         }
     }
 }

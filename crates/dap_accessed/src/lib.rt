@@ -11,6 +11,7 @@ mod opened;
 mod phase;
 mod refusing;
 mod served;
+mod step;
 mod table;
 mod transfer;
 mod verbs;

@@ -1,29 +1,22 @@
 //! What is served while a file is open.
 
-ghost use Rattle.std.specs.Prelude.{◌≡◌, ◌≢◌, ◌<◌, length, IsOk, OnErr, true};
-ghost use Rattle.dap_msg.specs.Codes.{cmpfunc};
-ghost use Rattle.dap_msg.specs.Items.{Whole};
-ghost use Rattle.dap_msg.specs.Message.{Control as TheControl, seen, seen_control};
-ghost use Rattle.dap_accessed.specs.Records.{Putting, Updating, uncurrent, verb_of};
-ghost use Rattle.dap_accessed.specs.Inner.Moves.{Completes, Makes, Takes, begins_only, changes, deletes, ends_stream, gets, is_silent, refuses, scene_in};
-ghost use Rattle.dap_accessed.specs.Standing.{Effect};
-ghost use Rattle.dap_accessed.specs.declared.phase.Phase.TheVariants as phases;
+ghost use Rattle.std.specs.Prelude.{◌≡◌, ◌<◌, length, OnErr};
+ghost use Rattle.dap_accessed.specs.Records.{uncurrent};
+ghost use Rattle.dap_accessed.specs.Inner.Moves.{Makes, Moves, refuses};
+ghost use Rattle.dap_accessed.specs.Inner.Steps.{done};
+ghost use Rattle.dap_accessed.specs.declared.step.Step.TheVariants as steps;
 
 use crate::accessed::Accessed;
 use crate::answers::{Answer, Room, filedata_len, one, too_large};
 use crate::fault::NoMemory;
 use crate::phase::{OpenFile, Phase};
 use crate::refusing::{refused, settled};
-use crate::verbs::{Verb, key_for, pick_for, verb_of};
-use dap_msg::codes::{
-    CMPFUNC_CLOSE, CMPFUNC_END_OF_STREAM, CMPFUNC_PURGE, CMPFUNC_SKIP, SUCCESS, TYPE_COMPLETE,
-    invalid, unsupported,
-};
-use dap_msg::{Control, Message};
+use crate::verbs::{key_for, pick_for};
+use dap_msg::Control;
 use rec_file::{Refusal, Stream};
 
 /// The stream with no current record.
-fn without_current(mut stream: Stream) -> Stream
+pub(crate) fn without_current(mut stream: Stream) -> Stream
     ensures { result ≡ uncurrent stream }
 {
     stream.forget();
@@ -31,161 +24,43 @@ fn without_current(mut stream: Stream) -> Stream
 }
 
 impl Accessed {
-    /// The answers to a message where a file is open without a stream, or None where it has no place.
-    pub(crate) fn serve_opened(
-        &mut self,
-        opened: OpenFile,
-        message: Message<'_>,
-    ) -> Result<Option<Vec<Vec<u8>>>, NoMemory>
-        requires phase { self.old.phase ≡ phases.Opened opened }
-        requires there { opened.at < length self.old.files }
-        ensures takes { Takes (phases.Opened opened) (seen message.entry) self.old self.new result }
-        ensures err { OnErr result (self.new ≡ self.old) }
-        ensures silent { is_silent self.old.phase (Whole (seen message.entry)) ≡ true
-            → IsOk result }
-    {
-        match message {
-            Message::Control(control) => match verb_of(&control) {
-                Verb::Connect => {
-                    let answers = self.one(Answer::Ack)?;
-                    self.phase = Phase::Connected(opened, Stream::new(opened.rights));
-                    Ok(Some(answers))
-                }
-                _ => Ok(None),
-            },
-            Message::Accomp {
-                func: CMPFUNC_END_OF_STREAM,
-                ..
-            } => Ok(None),
-            Message::Accomp { func, .. } => Ok(Some(self.complete(opened, func)?)),
-            _ => Ok(None),
-        }
-    }
-
-    /// A completion other than the end of a stream.
-    pub(crate) fn complete(&mut self, opened: OpenFile, func: u8) -> Result<Vec<Vec<u8>>, NoMemory>
-        requires there { opened.at < length self.old.files }
-        requires other { func ≢ cmpfunc.end_of_stream }
-        ensures ok { (ends : Effect) → Completes func opened ends self.old self.new result }
-        ensures err { OnErr result (self.new ≡ self.old) }
-    {
-        match func {
-            CMPFUNC_CLOSE => {
-                let answers = self.one(Answer::Complete)?;
-                self.phase = Phase::Ready;
-                Ok(answers)
-            }
-            CMPFUNC_PURGE => {
-                let answers = self.one(Answer::Complete)?;
-                if opened.is_new {
-                    self.files.remove(opened.at);
-                }
-                self.phase = Phase::Ready;
-                Ok(answers)
-            }
-            CMPFUNC_SKIP => self.one(Answer::Status(unsupported(TYPE_COMPLETE))),
-            _ => self.one(Answer::Status(invalid(TYPE_COMPLETE))),
-        }
-    }
-
-    /// A completion where a stream is there.
-    pub(crate) fn complete_stream(
-        &mut self,
-        opened: OpenFile,
-        func: u8,
-    ) -> Result<Vec<Vec<u8>>, NoMemory>
+    /// Ends an access, without the file that it made.
+    pub(crate) fn purge(&mut self, opened: OpenFile) -> Result<Vec<Vec<u8>>, NoMemory>
         requires { opened.at < length self.old.files }
-        ensures ok { Completes func opened (ends_stream (scene_in self.old) opened)
-            self.old self.new result }
+        ensures ok { Makes (done (steps.Purge opened) self.old) self.old self.new result }
         ensures err { OnErr result (self.new ≡ self.old) }
     {
-        if func == CMPFUNC_END_OF_STREAM {
-            let answers = self.one(Answer::Complete)?;
-            self.phase = Phase::Opened(opened);
-            Ok(answers)
-        } else {
-            self.complete(opened, func)
+        let answers = self.reply(Answer::Complete, Phase::Ready)?;
+        if opened.is_new {
+            self.files.remove(opened.at);
         }
+        Ok(answers)
     }
 
-    /// The answers to a message where a stream is connected, or None where it has no place.
-    pub(crate) fn serve_connected(
+    /// Waits for the record of a PUT.
+    pub(crate) fn expect(
         &mut self,
         opened: OpenFile,
         stream: Stream,
-        message: Message<'_>,
-    ) -> Result<Option<Vec<Vec<u8>>>, NoMemory>
-        requires phase { self.old.phase ≡ phases.Connected opened stream }
-        requires there { opened.at < length self.old.files }
-        ensures takes { Takes (phases.Connected opened stream) (seen message.entry)
-            self.old self.new result }
-        ensures err { OnErr result (self.new ≡ self.old) }
-        ensures silent { is_silent self.old.phase (Whole (seen message.entry)) ≡ true
-            → IsOk result }
-    {
-        match message {
-            Message::Control(control) => {
-                self.control(opened, stream, verb_of(&control), control)
-            }
-            Message::Accomp { func, .. } => Ok(Some(self.complete_stream(opened, func)?)),
-            _ => Ok(None),
-        }
-    }
-
-    /// The answers to a Control where a stream is connected, or None where it has no place.
-    fn control(
-        &mut self,
-        opened: OpenFile,
-        stream: Stream,
-        verb: Verb,
         control: Control<'_>,
-    ) -> Result<Option<Vec<Vec<u8>>>, NoMemory>
-        requires phase { self.old.phase ≡ phases.Connected opened stream }
-        requires there { opened.at < length self.old.files }
-        requires verb { verb ≡ verb_of (seen_control control) }
-        ensures takes { Takes (phases.Connected opened stream)
-            (TheControl (seen_control control.entry)) self.old self.new result }
-        ensures err { OnErr result (self.new ≡ self.old) }
-        ensures silent { begins_only verb ≡ true → IsOk result }
+    ) -> Vec<Vec<u8>>
+        requires { opened.at < length self.old.files }
+        ensures { Moves self.old (done (steps.Expect opened stream control.entry) self.old)
+            self.new result }
     {
-        match verb {
-            Verb::Get => Ok(Some(self.get(opened, stream, control)?)),
-            Verb::Fetch if stream.rights().get => Ok(Some(self.fetch(opened, stream)?)),
-            Verb::Fetch => Ok(Some(self.refuse(opened, stream, Refusal::NotPermitted)?)),
-            Verb::Put => {
-                let key = key_for(self.files.file(opened.at), stream, &control);
-                self.phase = Phase::PutDue(opened, stream, key);
-                Ok(Some(self.none()))
-            }
-            Verb::Update => {
-                self.phase = Phase::UpdateDue(opened, stream);
-                Ok(Some(self.none()))
-            }
-            Verb::Store => {
-                self.phase = Phase::Storing(opened, stream, 0);
-                Ok(Some(self.none()))
-            }
-            Verb::Delete => Ok(Some(self.delete(opened, stream)?)),
-            Verb::Rewind => {
-                let answers = self.one(Answer::Status(SUCCESS))?;
-                let mut stream = stream;
-                stream.rewind();
-                self.phase = Phase::Connected(opened, stream);
-                Ok(Some(answers))
-            }
-            Verb::Connect | Verb::Unknown => Ok(None),
-        }
+        let key = key_for(self.files.file(opened.at), stream, &control);
+        self.enter(Phase::PutDue(opened, stream, key))
     }
 
     /// Gives the record that a Control asks for.
-    fn get(
+    pub(crate) fn get(
         &mut self,
         opened: OpenFile,
         stream: Stream,
         control: Control<'_>,
     ) -> Result<Vec<Vec<u8>>, NoMemory>
         requires { opened.at < length self.old.files }
-        ensures ok { Makes (gets self.old opened stream (seen_control control.entry))
+        ensures ok { Makes (done (steps.Get opened stream control.entry) self.old)
             self.old self.new result }
         ensures err { OnErr result (self.new ≡ self.old) }
     {
@@ -200,9 +75,10 @@ impl Accessed {
             Err(refusal) => return self.refuse(opened, stream, refusal),
         };
         if filedata_len(body) > usize::from(self.limit) {
-            let answers = self.one(too_large())?;
-            self.phase = Phase::Connected(opened, without_current(stream));
-            return Ok(answers);
+            return self.reply(
+                too_large(),
+                Phase::Connected(opened, without_current(stream)),
+            );
         }
         let answers = one(
             self.alloc,
@@ -227,15 +103,20 @@ impl Accessed {
         ensures ok { Makes (refuses self.old opened stream refusal) self.old self.new result }
         ensures err { OnErr result (self.new ≡ self.old) }
     {
-        let answers = self.one(refused(refusal))?;
-        self.phase = Phase::Connected(opened, without_current(stream));
-        Ok(answers)
+        self.reply(
+            refused(refusal),
+            Phase::Connected(opened, without_current(stream)),
+        )
     }
 
     /// Deletes the stream's current record.
-    fn delete(&mut self, opened: OpenFile, stream: Stream) -> Result<Vec<Vec<u8>>, NoMemory>
+    pub(crate) fn delete(
+        &mut self,
+        opened: OpenFile,
+        stream: Stream,
+    ) -> Result<Vec<Vec<u8>>, NoMemory>
         requires { opened.at < length self.old.files }
-        ensures ok { Makes (deletes self.old opened stream) self.old self.new result }
+        ensures ok { Makes (done (steps.Delete opened stream) self.old) self.old self.new result }
         ensures err { OnErr result (self.new ≡ self.old) }
     {
         let room = Room::new(self.alloc)?;
@@ -254,7 +135,7 @@ impl Accessed {
         body: &[u8],
     ) -> Result<Vec<Vec<u8>>, NoMemory>
         requires { opened.at < length self.old.files }
-        ensures ok { Makes (changes self.old (Putting key) opened stream body.now)
+        ensures ok { Makes (done (steps.Put opened stream key body.entry) self.old)
             self.old self.new result }
         ensures err { OnErr result (self.new ≡ self.old) }
     {
@@ -277,7 +158,7 @@ impl Accessed {
         body: &[u8],
     ) -> Result<Vec<Vec<u8>>, NoMemory>
         requires { opened.at < length self.old.files }
-        ensures ok { Makes (changes self.old Updating opened stream body.now)
+        ensures ok { Makes (done (steps.Update opened stream body.entry) self.old)
             self.old self.new result }
         ensures err { OnErr result (self.new ≡ self.old) }
     {

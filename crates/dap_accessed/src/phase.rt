@@ -1,7 +1,7 @@
 //! Where the accessed end stands between two messages.
 
 ghost use Rattle.std.specs.Prelude.{◌≡◌};
-ghost use Rattle.dap_accessed.specs.Inner.Moves.{phase_behind};
+ghost use Rattle.dap_accessed.specs.Inner.Steps.{phase_behind};
 
 use rec_file::{Refusal, Rights, Stream};
 

@@ -1,29 +1,22 @@
 //! File transfers: all records to the peer, or records from it until the stream ends.
 
-ghost use Rattle.std.specs.Prelude.{◌≡◌, ◌≤◌, ◌<◌, ◌+◌, length, IfOk, IsOk, OnErr, true};
-ghost use Rattle.dap_msg.specs.Items.{Whole};
-ghost use Rattle.dap_msg.specs.Message.{seen};
-ghost use Rattle.dap_accessed.specs.Inner.Moves.{HasFetched, IsOpenIn, Makes, Takes, does, fetched_phase, fetches, is_silent, scene_in, store_phase, stores};
-ghost use Rattle.dap_accessed.specs.Inner.Written.{IsShort, message_of};
-ghost use Rattle.dap_accessed.specs.Transfers.{continue_fetch, continue_refused};
+ghost use Rattle.std.specs.Prelude.{◌≡◌, ◌≤◌, ◌<◌, ◌+◌, length, IfOk, OnErr};
+ghost use Rattle.dap_accessed.specs.Inner.Moves.{HasFetched, IsOpenIn, Makes, fetched_phase};
+ghost use Rattle.dap_accessed.specs.Inner.Steps.{done};
+ghost use Rattle.dap_accessed.specs.declared.step.Step.TheVariants as steps;
 ghost use Rattle.rec_file.specs.Limits.{greatest_number};
 ghost use Rattle.dap_accessed.specs.Records.{at_number};
-ghost use Rattle.dap_accessed.specs.declared.phase.Phase.TheVariants as phases;
 
 use crate::accessed::Accessed;
 use crate::answers::{Answer, Room, append, filedata_len, too_large};
 use crate::fault::NoMemory;
 use crate::phase::{OpenFile, Phase};
 use crate::refusing::store_refused;
-use dap_msg::Message;
-use dap_msg::codes::{
-    CONFUNC_ABORT, CONFUNC_AGAIN, CONFUNC_RESUME, CONFUNC_SKIP, END_OF_FILE, TYPE_CONTINUE,
-    invalid, unsupported,
-};
+use dap_msg::codes::END_OF_FILE;
 use rec_file::{Stream, first_record};
 
 /// The stream at another number, with no current record.
-fn at_number(mut stream: Stream, number: u32) -> Stream
+pub(crate) fn at_number(mut stream: Stream, number: u32) -> Stream
     requires above { 1 ≤ number }
     requires within { number ≤ greatest_number + 1 }
     ensures { result ≡ at_number number stream }
@@ -32,60 +25,9 @@ fn at_number(mut stream: Stream, number: u32) -> Stream
     stream
 }
 
-/// The answer to a Continue Transfer that asks for nothing that is done here.
-fn refused_continuation<'a>(func: u8) -> Answer<'a>
-    ensures message { message_of result ≡ continue_refused func }
-    ensures short { IsShort result }
-{
-    match func {
-        CONFUNC_RESUME => Answer::Status(unsupported(TYPE_CONTINUE)),
-        _ => Answer::Status(invalid(TYPE_CONTINUE)),
-    }
-}
-
 impl Accessed {
-    /// The answers to a message of a Store, or None where it has no place. Records are dropped once one was refused.
-    pub(crate) fn serve_store(
-        &mut self,
-        dropping: bool,
-        opened: OpenFile,
-        stream: Stream,
-        ordinal: u32,
-        message: Message<'_>,
-    ) -> Result<Option<Vec<Vec<u8>>>, NoMemory>
-        requires phase { self.old.phase ≡ store_phase dropping opened stream ordinal }
-        requires there { opened.at < length self.old.files }
-        ensures takes { Takes (store_phase dropping opened stream ordinal) (seen message.entry)
-            self.old self.new result }
-        ensures err { OnErr result (self.new ≡ self.old) }
-        ensures silent { is_silent self.old.phase (Whole (seen message.entry)) ≡ true
-            → IsOk result }
-    {
-        match message {
-            Message::Filedata { payload, .. } => {
-                if dropping {
-                    self.phase = Phase::Dropping(opened, stream, ordinal.saturating_add(1));
-                    return Ok(Some(self.none()));
-                }
-                Ok(Some(self.store(opened, stream, ordinal, payload)?))
-            }
-            Message::Contran { func } => {
-                if !dropping {
-                    return Ok(None);
-                }
-                if func != CONFUNC_SKIP {
-                    return Ok(Some(self.one(refused_continuation(func))?));
-                }
-                self.phase = Phase::Storing(opened, stream, ordinal);
-                Ok(Some(self.none()))
-            }
-            Message::Accomp { func, .. } => Ok(Some(self.complete_stream(opened, func)?)),
-            _ => Ok(None),
-        }
-    }
-
     /// A Filedata of a Store.
-    fn store(
+    pub(crate) fn store(
         &mut self,
         opened: OpenFile,
         stream: Stream,
@@ -93,7 +35,7 @@ impl Accessed {
         body: &[u8],
     ) -> Result<Vec<Vec<u8>>, NoMemory>
         requires { opened.at < length self.old.files }
-        ensures ok { Makes (stores self.old opened stream ordinal body.now)
+        ensures ok { Makes (done (steps.Store opened stream ordinal body.entry) self.old)
             self.old self.new result }
         ensures err { OnErr result (self.new ≡ self.old) }
     {
@@ -113,55 +55,6 @@ impl Accessed {
         }
     }
 
-    /// The answers to a message after a fetch that stopped, or None where it has no place.
-    pub(crate) fn serve_stopped(
-        &mut self,
-        opened: OpenFile,
-        stream: Stream,
-        message: Message<'_>,
-    ) -> Result<Option<Vec<Vec<u8>>>, NoMemory>
-        requires phase { self.old.phase ≡ phases.Stopped opened stream }
-        requires there { opened.at < length self.old.files }
-        requires next { stream.next ≤ greatest_number }
-        ensures takes { Takes (phases.Stopped opened stream) (seen message.entry)
-            self.old self.new result }
-        ensures err { OnErr result (self.new ≡ self.old) }
-        ensures silent { is_silent self.old.phase (Whole (seen message.entry)) ≡ true
-            → IsOk result }
-    {
-        match message {
-            Message::Contran { func } => Ok(Some(self.go_on(opened, stream, func)?)),
-            Message::Accomp { func, .. } => Ok(Some(self.complete_stream(opened, func)?)),
-            _ => Ok(None),
-        }
-    }
-
-    /// A Continue Transfer after a fetch that stopped.
-    fn go_on(
-        &mut self,
-        opened: OpenFile,
-        stream: Stream,
-        func: u8,
-    ) -> Result<Vec<Vec<u8>>, NoMemory>
-        requires phase { self.old.phase ≡ phases.Stopped opened stream }
-        requires there { opened.at < length self.old.files }
-        requires next { stream.next ≤ greatest_number }
-        ensures ok { Makes (does self.old (continue_fetch func (scene_in self.old) opened stream))
-            self.old self.new result }
-        ensures err { OnErr result (self.new ≡ self.old) }
-    {
-        match func {
-            CONFUNC_AGAIN => self.fetch(opened, stream),
-            CONFUNC_SKIP => self.fetch(opened, at_number(stream, stream.next() + 1)),
-            CONFUNC_ABORT => {
-                let answers = self.one(Answer::Status(END_OF_FILE))?;
-                self.phase = Phase::Connected(opened, stream);
-                Ok(answers)
-            }
-            _ => self.one(refused_continuation(func)),
-        }
-    }
-
     /// Gives the records from the stream's next on.
     pub(crate) fn fetch(
         &mut self,
@@ -169,7 +62,7 @@ impl Accessed {
         stream: Stream,
     ) -> Result<Vec<Vec<u8>>, NoMemory>
         requires { opened.at < length self.old.files }
-        ensures ok { Makes (fetches self.old opened stream) self.old self.new result }
+        ensures ok { Makes (done (steps.Fetch opened stream) self.old) self.old self.new result }
         ensures err { OnErr result (self.new ≡ self.old) }
     {
         let (answers, phase) = self.batch(opened, stream)?;

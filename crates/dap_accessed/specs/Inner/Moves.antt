@@ -1,14 +1,14 @@
 -- What an item does to what an end keeps, and its answers.
-use Rattle.std.specs.Prelude.{ℕ, ◌≡◌, ◌<◌, ◌≤◌, Bool, true, false, not, ◌==◌, nat_lt, List, [], ◌∷◌, length, Option, IfSome, IsTrue, Result, IfOk, MatchOption, if◌then◌else◌}
+use Rattle.std.specs.Prelude.{ℕ, ◌≡◌, ◌<◌, ◌≤◌, Bool, true, false, not, ◌==◌, nat_lt, List, [], ◌∷◌, length, Option, IfSome, IsTrue, Result, IfOk}
 use Rattle.std.specs.Global.{Vec}
 use Rattle.dap_msg.specs.Codes as codes
-use Rattle.dap_msg.specs.Message.{Message, Attrib, Access, Control, Contran, Filedata, Other, ControlFields}
+use Rattle.dap_msg.specs.Message.{Message, Attrib, Access, Control, Contran, Filedata, Other}
 use Rattle.dap_msg.specs.Items.{Item, Whole, Malformed}
 use Rattle.dap_msg.specs.BothEnds.{least_buffer}
 use Rattle.rec_file.specs.declared.shapes.Shape.{Shape}
 use Rattle.rec_file.specs.Limits.{greatest_number}
 use Rattle.rec_file.specs.Shapes.{is_shape}
-use Rattle.rec_file.specs.Acts.{StreamVal, act, delete_record}
+use Rattle.rec_file.specs.Acts.{StreamVal}
 use Rattle.rec_file.specs.declared.refusals.Refusal.{Refusal}
 use Rattle.dap_accessed.specs.declared.fault.NoMemory.{NoMemory}
 use Rattle.dap_accessed.specs.declared.phase.OpenFile.{OpenFile}
@@ -16,14 +16,14 @@ use Rattle.dap_accessed.specs.declared.phase.Phase.{Phase}
 use Rattle.dap_accessed.specs.declared.phase.Phase.TheVariants as phases
 use Rattle.dap_accessed.specs.declared.verbs.Verb.{Verb}
 use Rattle.dap_accessed.specs.declared.verbs.Verb.TheVariants as verbs
-use Rattle.dap_accessed.specs.Standing.{Files, place_of, the_file, Place, Scene, Effect, enters, Fresh, Ready, Opened, Connected, Store, Stopped}
+use Rattle.dap_accessed.specs.Standing.{Files, place_of, Place, Scene, Effect, enters, Fresh, Ready, Opened, Connected, Store, Stopped}
 use Rattle.dap_msg.specs.BothEnds.{no_attributes}
 use Rattle.dap_accessed.specs.Past.{asked_shape, next_ordinal}
-use Rattle.dap_accessed.specs.Accesses.{refuse_access, open_file, create_file, purged}
-use Rattle.dap_accessed.specs.Replies.{bare_status, sync_status, completed}
-use Rattle.dap_accessed.specs.Records.{verb_of, Change, Putting, Updating, changed, get_pick, record_got, refused, settled}
-use Rattle.dap_accessed.specs.Transfers.{fetch, store_one}
-use Rattle.dap_accessed.specs.Effects.{Turn, Does, Begins, control_status, effect_fresh, effect_ready, effect_opened, turn_connected, effect_store, effect_stopped, effect_with}
+use Rattle.dap_accessed.specs.Accesses.{refuse_access, open_file, create_file}
+use Rattle.dap_accessed.specs.Replies.{bare_status}
+use Rattle.dap_accessed.specs.Records.{verb_of, Putting, Updating, refused}
+use Rattle.dap_accessed.specs.Transfers.{fetch}
+use Rattle.dap_accessed.specs.Effects.{Turn, Does, Begins, effect_fresh, effect_ready, effect_opened, turn_connected, effect_store, effect_stopped, effect_with}
 use Rattle.dap_accessed.specs.Inner.Present.{Present, Memory, phase_at, phase_within}
 use Rattle.dap_accessed.specs.Inner.Written.{Answered}
 
@@ -150,43 +150,7 @@ is_silent (phases.Dropping opened stream ordinal) (Whole (Filedata _ _)) = true
 is_silent (phases.Dropping opened stream ordinal) (Whole (Contran func)) = func == codes.confunc.skip
 is_silent _ _ = false
 
--- ---- A message that has no place.
-
--- only where a file is open, and no record is due, a Control that this end doesn't know has a Status of its own
-abbrev pub misplaced : Phase → Message → Message
-misplaced (phases.Opened opened) (Control c) = control_status (verb_of c)
-misplaced (phases.Connected opened stream) (Control c) = control_status (verb_of c)
-misplaced (phases.Storing opened stream ordinal) (Control c) = control_status (verb_of c)
-misplaced (phases.Dropping opened stream ordinal) (Control c) = control_status (verb_of c)
-misplaced (phases.Stopped opened stream) (Control c) = control_status (verb_of c)
-misplaced phase message = sync_status message
-
--- an item that is refused ends a group of two
-abbrev pub phase_behind : Phase → Phase
-phase_behind (phases.PutDue opened stream key) = phases.Connected opened stream
-phase_behind (phases.UpdateDue opened stream) = phases.Connected opened stream
-phase_behind phase = phase
-
--- and changes nothing else
-abbrev pub refuses_item : Present → Message → Move
-refuses_item p status = record { present = record p { phase = phase_behind p.phase }; answers = status ∷ [] }
-
--- The message has no place in this phase: it is refused, and has an answer.
-pub record HasNoPlace (phase : Phase) (p : Present) (m : Message) : Type 0 where
-  pub refused : move_in phase p (Whole m) ≡ record { present = record p { phase = phase_behind phase }; answers = misplaced phase m ∷ [] }
-  pub answered : is_silent phase (Whole m) ≡ false
-
 -- ---- The words of the contracts.
-
--- where the call answers, the message was served so in this phase, or it has no place, and nothing has moved
-abbrev pub Takes : Phase → Message → (old new : Present) → Result (Option (Vec (Vec ℕ))) NoMemory → Type 0
-Takes phase m old new result =
-    IfOk result (λ taken. MatchOption taken ((new ≡ old) × HasNoPlace phase old m) (λ answers. Moves old (move_in phase old (Whole m)) new answers))
-
--- the phase of a Store, which may drop what comes
-abbrev pub store_phase : (dropping : Bool) → OpenFile → StreamVal → ℕ → Phase
-store_phase dropping opened stream ordinal =
-    if dropping then phases.Dropping opened stream ordinal else phases.Storing opened stream ordinal
 
 -- where the call answers, the end moved so
 abbrev pub Makes : Move → (old new : Present) → Result (Vec (Vec ℕ)) NoMemory → Type 0
@@ -205,57 +169,8 @@ opens p name fac = accesses p (open_file (scene_in p) fac (place_of name p.files
 abbrev pub creates : Present → (name : List ℕ) → (fac : ℕ) → Move
 creates p name fac = accesses p (create_file (scene_in p) name fac (place_of name p.files) p.kept)
 
--- by ACCFUNC
-abbrev pub opens_by : (func : ℕ) → Present → (name : List ℕ) → (fac : ℕ) → Move
-opens_by func p name fac =
-    if func == codes.accfunc.opening then opens p name fac
-    else if func == codes.accfunc.creating then creates p name fac
-    else opens_nothing p (bare_status (codes.unsupported codes.types.access))
-
--- a Filedata that a Store doesn't drop
-abbrev pub stores : Present → OpenFile → StreamVal → (ordinal : ℕ) → (body : List ℕ) → Move
-stores p opened stream ordinal body =
-    let e = store_one ordinal (scene_in p) opened stream body in
-    settles p (store_memory p.kept (nat_lt 0 (length e.answers)) (next_ordinal ordinal)) e
-
--- a GET
-abbrev pub gets : Present → OpenFile → StreamVal → ControlFields → Move
-gets p opened stream control =
-    does p (record_got (get_pick (the_file p.files opened) stream control) (scene_in p) opened stream)
-
--- a DELETE
-abbrev pub deletes : Present → OpenFile → StreamVal → Move
-deletes p opened stream =
-    does p (settled (scene_in p) opened (act delete_record (the_file p.files opened) stream))
-
--- a PUT or an UPDATE, with the record's bytes
-abbrev pub changes : Present → Change → OpenFile → StreamVal → (body : List ℕ) → Move
-changes p change opened stream body = does p (changed change (scene_in p) opened stream body)
-
 abbrev pub refuses : Present → OpenFile → StreamVal → Refusal → Move
 refuses p opened stream refusal = does p (refused (scene_in p) opened stream refusal)
-
-abbrev pub fetches : Present → OpenFile → StreamVal → Move
-fetches p opened stream = does p (fetch (scene_in p) opened stream)
-
--- a completion in a place in which this file is open, where the end of a stream has this effect
-abbrev pub complete_by : (func : ℕ) → Scene → OpenFile → Place → (ends : Effect) → Effect
-complete_by func scene opened place ends =
-    if func == codes.cmpfunc.close then enters scene Ready (completed ∷ [])
-    else if func == codes.cmpfunc.purge then enters (record scene { files = purged opened scene.files }) Ready (completed ∷ [])
-    else if func == codes.cmpfunc.end_of_stream then ends
-    else if func == codes.cmpfunc.skip then enters scene place (bare_status (codes.unsupported codes.types.accomp) ∷ [])
-    else enters scene place (bare_status (codes.invalid codes.types.accomp) ∷ [])
-
--- where a stream is connected
-abbrev pub ends_stream : Scene → OpenFile → Effect
-ends_stream scene opened = enters scene (Opened opened) (completed ∷ [])
-
--- in any place in which this file is open, if the end of a stream has this effect there
-abbrev pub Completes : (func : ℕ) → OpenFile → (ends : Effect) → (old new : Present) → Result (Vec (Vec ℕ)) NoMemory → Type 0
-Completes func opened ends old new result =
-    IfOk result (λ answers. (place : Place) (memory : Memory) → old.phase ≡ phase_at place memory → memory.shape ≡ old.kept
-    → Moves old (settles old memory (complete_by func (scene_in old) opened place ends)) new answers)
 
 -- the phase behind a fetch
 abbrev pub fetched_phase : Present → OpenFile → StreamVal → Phase

@@ -1,0 +1,117 @@
+-- What an item asks for in a phase.
+use Rattle.std.specs.Prelude.{ℕ, ◌≡◌, ◌<◌, ◌≤◌, ◌==◌, nat_lt, if◌then◌else◌, Bool, true, false, [], ◌∷◌, length, IfSome, IsTrue, Result, Ok, Err}
+use Rattle.dap_msg.specs.BothEnds.{config_of, least_buffer}
+use Rattle.dap_msg.specs.Codes as codes
+use Rattle.dap_msg.specs.Items.{Item}
+use Rattle.dap_msg.specs.Message.{Message, Control, Contran, Filedata, seen_control}
+use Rattle.rec_file.specs.Acts.{act, delete_record}
+use Rattle.rec_file.specs.Shapes.{is_shape}
+use Rattle.dap_accessed.specs.declared.phase.OpenFile.{OpenFile}
+use Rattle.dap_accessed.specs.declared.phase.Phase.{Phase}
+use Rattle.dap_accessed.specs.declared.phase.Phase.TheVariants as phases
+use Rattle.dap_accessed.specs.declared.step.Step.{Step}
+use Rattle.dap_accessed.specs.declared.step.Step.TheVariants as steps
+use Rattle.dap_accessed.specs.Standing.{Files, the_file}
+use Rattle.dap_accessed.specs.Accesses.{purged}
+use Rattle.dap_accessed.specs.Replies.{bare_status, completed}
+use Rattle.dap_accessed.specs.Past.{next_ordinal}
+use Rattle.dap_accessed.specs.Records.{Putting, Updating, changed, get_pick, put_key, record_got, settled}
+use Rattle.dap_accessed.specs.Transfers.{fetch, store_one}
+use Rattle.dap_accessed.specs.Inner.Present.{Present}
+use Rattle.dap_accessed.specs.Inner.Written.{IsShort, message_of}
+use Rattle.dap_accessed.specs.Inner.Moves.{IsOpenIn, Move, begins, creates, does, is_silent, move_in, opens, opens_nothing, scene_in, settles, store_memory}
+
+-- one answer, and nothing moves but the phase
+abbrev pub replies : Present → Message → Phase → Move
+replies p message phase = record { present = record p { phase = phase }; answers = message ∷ [] }
+
+-- what a step leaves, and its answers
+abbrev pub done : Step → Present → Move
+done (steps.Enter phase) p = begins p phase
+done (steps.Reply answer phase) p = replies p (message_of answer) phase
+done (steps.Configure limit) p =
+    record { present = record p { limit = limit; phase = phases.Ready }; answers = config_of p.own ∷ [] }
+done (steps.Keep shape) p = record { present = record p { kept = shape; phase = phases.Ready }; answers = [] }
+done (steps.Access func name fac) p =
+    if func == codes.accfunc.opening then opens p name.now fac
+    else if func == codes.accfunc.creating then creates p name.now fac
+    else opens_nothing p (bare_status (codes.unsupported codes.types.access))
+done (steps.Purge opened) p =
+    record { present = record p { files = purged opened p.files; phase = phases.Ready }; answers = completed ∷ [] }
+done (steps.Get opened stream control) p =
+    does p (record_got (get_pick (the_file p.files opened) stream (seen_control control)) (scene_in p) opened stream)
+done (steps.Fetch opened stream) p = does p (fetch (scene_in p) opened stream)
+done (steps.Expect opened stream control) p =
+    begins p (phases.PutDue opened stream (put_key (the_file p.files opened) stream (seen_control control)))
+done (steps.Put opened stream key body) p =
+    does p (changed (Putting key) (scene_in p) opened stream body.now)
+done (steps.Update opened stream body) p = does p (changed Updating (scene_in p) opened stream body.now)
+done (steps.Delete opened stream) p =
+    does p (settled (scene_in p) opened (act delete_record (the_file p.files opened) stream))
+done (steps.Store opened stream ordinal body) p =
+    let e = store_one ordinal (scene_in p) opened stream body.now in
+    settles p (store_memory p.kept (nat_lt 0 (length e.answers)) (next_ordinal ordinal)) e
+
+-- what it needs: the file is in the table, and so is that of the phase that is entered
+abbrev pub CanDo : Files → Step → Type 0
+CanDo files (steps.Enter next) = IsOpenIn files next
+CanDo files (steps.Reply answer next) = IsShort answer × IsOpenIn files next
+CanDo files (steps.Configure limit) = least_buffer ≤ limit
+CanDo files (steps.Keep shape) = IfSome shape (λ s. IsTrue (is_shape s))
+CanDo files (steps.Access func name fac) = Unit {0}
+CanDo files (steps.Purge opened) = opened.at < length files
+CanDo files (steps.Get opened stream control) = opened.at < length files
+CanDo files (steps.Fetch opened stream) = opened.at < length files
+CanDo files (steps.Expect opened stream control) = opened.at < length files
+CanDo files (steps.Put opened stream key body) = opened.at < length files
+CanDo files (steps.Update opened stream body) = opened.at < length files
+CanDo files (steps.Delete opened stream) = opened.at < length files
+CanDo files (steps.Store opened stream ordinal body) = opened.at < length files
+
+-- what takes no memory
+abbrev pub is_quiet : Step → Bool
+is_quiet (steps.Enter phase) = true
+is_quiet (steps.Keep shape) = true
+is_quiet (steps.Expect opened stream control) = true
+is_quiet step = false
+
+-- an item that is refused ends a group of two
+abbrev pub phase_behind : Phase → Phase
+phase_behind (phases.PutDue opened stream key) = phases.Connected opened stream
+phase_behind (phases.UpdateDue opened stream) = phases.Connected opened stream
+phase_behind phase = phase
+
+-- the item does what the step says, and the step can be done
+pub record IsFor (phase : Phase) (item : Item) (step : Step) : Type 0 where
+  pub moves : (p : Present) → move_in phase p item ≡ done step p
+  pub can : (files : Files) → IsOpenIn files phase → CanDo files step
+  pub quiet : is_silent phase item ≡ is_quiet step
+
+-- it does nothing, but that it ends a group of two, and has a Status with this code
+pub record IsRefused (phase : Phase) (item : Item) (code : ℕ) : Type 0 where
+  pub moves : (p : Present) → move_in phase p item ≡ replies p (bare_status code) (phase_behind phase)
+  pub answered : is_silent phase item ≡ false
+
+-- what the item asks for, or how it is refused
+abbrev pub Asks : Phase → Item → Result Step ℕ → Type 0
+Asks phase item (Ok step) = IsFor phase item step
+Asks phase item (Err code) = IsRefused phase item code
+
+-- the file is open in the phase, and no record is due
+abbrev pub HasOpen : Phase → OpenFile → Type 0
+HasOpen (phases.Opened o) opened = o ≡ opened
+HasOpen (phases.Connected o stream) opened = o ≡ opened
+HasOpen (phases.Storing o stream ordinal) opened = o ≡ opened
+HasOpen (phases.Dropping o stream ordinal) opened = o ≡ opened
+HasOpen (phases.Stopped o stream) opened = o ≡ opened
+HasOpen phase opened = ⊥
+
+-- the phase says nothing of its own of the message
+abbrev pub IsCommon : Phase → Message → Type 0
+IsCommon (phases.Opened opened) (Control control) = ⊥
+IsCommon (phases.Connected opened stream) (Control control) = ⊥
+IsCommon (phases.Storing opened stream ordinal) (Filedata recnum payload) = ⊥
+IsCommon (phases.Dropping opened stream ordinal) (Filedata recnum payload) = ⊥
+IsCommon (phases.Dropping opened stream ordinal) (Contran func) = ⊥
+IsCommon (phases.Stopped opened stream) (Contran func) = ⊥
+IsCommon phase message = Unit {0}
