@@ -14,14 +14,14 @@ use Rattle.dap_accessing.specs.Present.{Present}
 use Rattle.dap_end.specs.declared.fault.EndFault.{EndFault}
 use Rattle.dap_end.specs.declared.fault.EndFault.TheVariants as end_fault
 use Rattle.dap_end.specs.Ports.{PortValue}
-use Rattle.dap_end.specs.Writing.{wants_ack, WroteNext, WroteMore, WroteAll}
+use Rattle.dap_end.specs.Writing.{wants_ack, WroteMore, WroteAll}
 use Rattle.dap_end.specs.Asking.{AskingValue, AskedOne, HandedAll, ReadOne, begins, goes as reads_first, ReadAll, HeardAll, HearFault, ReadNone, ReadPart, asks}
 use Rattle.dap_end.specs.Turns.{WroteThen, WentOn, TookIn, TookThen}
 use Rattle.dap_end.specs.Headline.{Written, numbered, bytes_of, Came, GoesOn, Again, Acks, AnyBytes}
 use Rattle.dap_end.specs.Hearing.{AskingEvent, Asks, By, AskingStepped, AskingRuns, AreAskingCalls}
 use Rattle.dap_end.proofs.Packets.{ack_written}
 use Rattle.dap_end.proofs.Emitting.{wrote_nothing}
-use Rattle.dap_end.proofs.Running.{one_segment, numbered_bytes}
+use Rattle.dap_end.proofs.Running.{numbered_bytes}
 
 one_event : (old new : AskingValue) (event : AskingEvent) (reports : List Report) (ws : List Written) → AskingStepped AnyBytes (old, [], []) event ws (new, reports, ws) → AskingRuns AnyBytes old (event ∷ []) new reports ws
 one_event old new event reports ws s = ((new, reports, ws), ws, s, refl)
@@ -37,9 +37,9 @@ reading_is old new report r =
 pub posting_is : (old new : AskingValue) (n : ℕ) → HandedAll old new n → AskingRuns AnyBytes old (By GoesOn ∷ []) new [] []
 posting_is old new n h = one_event old new (By GoesOn) [] [] ((new, [], (old, ([], refl, begins), inr (n, h)), wrote_nothing new.port, refl, refl), refl)
 
-pub writing_is : (old new : AskingValue) (bytes : List ℕ) → new ≡ record old { port = new.port } → WroteNext old.port new.port bytes
+pub writing_is : (old new : AskingValue) (bytes : List ℕ) → new ≡ record old { port = new.port } → WroteMore old.port new.port (bytes ∷ [])
     → AskingRuns AnyBytes old (By GoesOn ∷ []) new [] (numbered (old.port.link.sent + 1) old.port.link.coming.received (bytes ∷ []))
-writing_is old new bytes rest w = one_event old new (By GoesOn) [] _ ((old, bytes ∷ [], (old, ([], refl, begins), inl refl), one_segment old.port new.port bytes w, rest, refl), refl)
+writing_is old new bytes rest w = one_event old new (By GoesOn) [] _ ((old, bytes ∷ [], (old, ([], refl, begins), inl refl), w, rest, refl), refl)
 
 pub again_is : (v : AskingValue) (i : ℕ) (bytes : List ℕ) → i < v.port.link.sent - v.port.link.acked → WritesSent v.port.link (Some (v.port.link.acked + 1 + i)) bytes
     → AskingRuns AnyBytes v (By (Again i) ∷ []) v [] (record { bytes = bytes; segment = Some (v.port.link.acked + 1 + i); acks = v.port.link.coming.received } ∷ [])

@@ -19,7 +19,7 @@ use Rattle.dap_end.specs.declared.fault.EndFault.{EndFault}
 use Rattle.dap_end.specs.Ports.{PortValue}
 use Rattle.nsp_link.specs.Receiving.{Receives}
 use Rattle.dap_end.specs.Going.{AreFrontOf}
-use Rattle.dap_end.specs.Writing.{IsWithin, sent_more, wants_ack, WroteNext, WroteMore, WroteAll}
+use Rattle.dap_end.specs.Writing.{sent_more, wants_ack, WroteMore, WroteAll}
 use Rattle.dap_end.specs.Serving.{ServingValue, Past, IsAfter, answers_to, nothing_yet, ServedOne, PostedAll}
 use Rattle.dap_end.specs.Turns.{WroteThen, WentOn, TookIn, TookThen}
 use Rattle.dap_end.specs.Taking.{ServedMore, with_port, ServeFault, serves}
@@ -206,16 +206,8 @@ serving_is old new n s = one_event old new GoesOn [] (served_only old new (more_
 pub posting_is : (old new : ServingValue) (n : ℕ) → PostedAll old new n → Runs AnyBytes old (GoesOn ∷ []) new []
 posting_is old new n p = one_event old new GoesOn [] (served_only old new (more_posted old new n p))
 
-pub one_segment : (p new : PortValue) (bytes : List ℕ) → WroteNext p new bytes → WroteMore p new (bytes ∷ [])
-one_segment p new bytes w =
-    record {
-      sent = w.sent;
-      writes = λ handed sends. (w.writes handed sends, tt);
-      within = λ some. subst (λ (q : PortValue). IsWithin q.link) (sym w.sent) (let may = w.may in (omega arith, omega arith));
-    }
-
-pub writing_is : (old new : ServingValue) (bytes : List ℕ) → new ≡ with_port old new.port → WroteNext old.port new.port bytes → Runs AnyBytes old (GoesOn ∷ []) new (numbered (old.port.link.sent + 1) old.port.link.coming.received (bytes ∷ []))
-writing_is old new bytes rest w = one_event old new GoesOn _ (old, bytes ∷ [], more_none old, one_segment old.port new.port bytes w, rest, refl)
+pub writing_is : (old new : ServingValue) (bytes : List ℕ) → new ≡ with_port old new.port → WroteMore old.port new.port (bytes ∷ []) → Runs AnyBytes old (GoesOn ∷ []) new (numbered (old.port.link.sent + 1) old.port.link.coming.received (bytes ∷ []))
+writing_is old new bytes rest w = one_event old new GoesOn _ (old, bytes ∷ [], more_none old, w, rest, refl)
 
 pub again_is : (v : ServingValue) (i : ℕ) (bytes : List ℕ) → i < v.port.link.sent - v.port.link.acked → WritesSent v.port.link (Some (v.port.link.acked + 1 + i)) bytes
     → Runs AnyBytes v (Again i ∷ []) v (record { bytes = bytes; segment = Some (v.port.link.acked + 1 + i); acks = v.port.link.coming.received } ∷ [])

@@ -19,7 +19,7 @@ ghost use Rattle.dap_end.specs.declared.fault.TakeFault.{TakeFault as TheTakeFau
 ghost use Rattle.dap_end.specs.Ports.{PortValue, new_port};
 ghost use Rattle.dap_end.specs.Going.{AreFrontOf};
 ghost use Rattle.dap_end.specs.Serving.{ServingValue, Past, IsAfter, ServedOne, PostedAll, nothing_yet};
-ghost use Rattle.dap_end.specs.Writing.{WroteNext, WroteAll};
+ghost use Rattle.dap_end.specs.Writing.{WroteMore, WroteAll};
 ghost use Rattle.dap_end.specs.Turns.{WroteThen, WentOn, TookIn, TookThen, Takes};
 ghost use Rattle.dap_end.specs.Taking as serving;
 ghost use Rattle.dap_end.specs.Taking.{serves, with_port};
@@ -59,7 +59,7 @@ pub fn calls_are_runs()
     ensures post { (old new : ServingValue) (n : ℕ) → PostedAll old new n
         → Runs AnyBytes old (GoesOn ∷ []) new [] }
     ensures emit { (old new : ServingValue) (bytes : List ℕ) → new ≡ with_port old new.port
-        → WroteNext old.port new.port bytes → Runs AnyBytes old (GoesOn ∷ []) new
+        → WroteMore old.port new.port (bytes ∷ []) → Runs AnyBytes old (GoesOn ∷ []) new
         (numbered (old.port.link.sent + 1) old.port.link.coming.received (bytes ∷ [])) }
     ensures resend { (v : ServingValue) (i : ℕ) (bytes : List ℕ)
         → i < v.port.link.sent - v.port.link.acked
@@ -100,7 +100,7 @@ pub fn asking_calls_are_runs()
     ensures post { (old new : AskingValue) (n : ℕ) → HandedAll old new n
         → AskingRuns AnyBytes old (By GoesOn ∷ []) new [] [] }
     ensures emit { (old new : AskingValue) (bytes : List ℕ) → new ≡ record old { port = new.port }
-        → WroteNext old.port new.port bytes → AskingRuns AnyBytes old (By GoesOn ∷ []) new []
+        → WroteMore old.port new.port (bytes ∷ []) → AskingRuns AnyBytes old (By GoesOn ∷ []) new []
         (numbered (old.port.link.sent + 1) old.port.link.coming.received (bytes ∷ [])) }
     ensures resend { (v : AskingValue) (i : ℕ) (bytes : List ℕ)
         → i < v.port.link.sent - v.port.link.acked
