@@ -87,7 +87,7 @@ answered_is old heard new got out all packets written before after true h rest w
       (
         h.2.0.0,
         first ++ last ∷ [],
-        ((new, h.2.0.0, first), first, goes old heard new before after written h w rest, (new, h.2.0.0, first ++ last ∷ []), last ∷ [], ack_step new h.2.0.0 first a.0 a.2, refl),
+        ((new, h.2.0.0, first), first, goes old heard new before after written h w rest, ((new, h.2.0.0, first ++ last ∷ []), last ∷ [], ack_step new h.2.0.0 first a.0 a.2, refl)),
         is ∙ ap (λ (l : List (List ℕ)). out ++ l) (a.1 ∙ ap (λ (l : List (List ℕ)). l ++ a.0 ∷ []) (sym (numbered_bytes _ _ written)) ∙ sym (map-append (λ (w : Written). w.bytes) first (last ∷ []))),
         h.2.0.1,
       ),

@@ -164,21 +164,21 @@ sent_listens size messages old new packets w e t =
     subst (Listens size messages) (sym (e ∙ ap (λ (p : PortValue). record old { port = p }) w.sent)) here
 
 step_listens : (size : ℕ) (messages : List (List ℕ)) (old new : SoFar) (event : AskingEvent) (ws : List Written) → AskingStepped (IsFromPeer size messages) old event ws new → Listens size messages old.0 → Listens size messages new.0
-step_listens size messages (old, _) (new, _) (By (Came bytes)) ws (s, e) t =
+step_listens size messages (old, _, _) (new, _, _) (By (Came bytes)) ws (s, e) t =
     let g = grown old.port.link s.1 bytes s.0 s.2 in
     subst (Listens size messages) (sym s.3)
     (record { past = t.past; is = still_received old s.1 g s.2.sends t.past t.is; stands = then_stands old.port.link s.1 size messages t.past.given bytes s.0 s.6 t.stands s.2 })
-step_listens size messages (old, _) (new, _) (Asks request) ws s t =
+step_listens size messages (old, _, _) (new, _, _) (Asks request) ws s t =
     record { past = asked_one t.past old.accessing.own request; is = s.1.past t.past t.is; stands = asked_stands old size messages t.past.given new request s.0 s.1 t.stands }
-step_listens size messages (old, _) (new, _) (By GoesOn) ws (s, e) t =
+step_listens size messages (old, _, _) (new, _, _) (By GoesOn) ws (s, e) t =
     let (heard, read, over) = s.2 in
     let m = read_grows old heard read.0 read.2 in
     let g = m.past t.past t.is in
     let works : heard.port.link.failed ≡ false = ap (λ (l : LinkValue). l.failed) m.link ∙ t.stands.1 in
     let here : Listens size messages heard = record { past = g.0; is = g.1.is; stands = (g.1.stands size messages t.stands.0, works) } in
     sent_listens size messages s.0 new s.1 s.3 s.4 (handed_listens size messages heard s.0 over here)
-step_listens size messages (old, _) (new, _) (By (Again i)) ws (s, e) t = subst (Listens size messages) (sym s.3) t
-step_listens size messages (old, _) (new, _) (By Acks) ws (s, e) t = subst (Listens size messages) (sym s.2) t
+step_listens size messages (old, _, _) (new, _, _) (By (Again i)) ws (s, e) t = subst (Listens size messages) (sym s.3) t
+step_listens size messages (old, _, _) (new, _, _) (By Acks) ws (s, e) t = subst (Listens size messages) (sym s.2) t
 
 run_listens : (size : ℕ) (messages : List (List ℕ)) (events : List AskingEvent) (old new : SoFar) → RunsBy (AskingStepped (IsFromPeer size messages)) old events new → Listens size messages old.0 → Listens size messages new.0
 run_listens size messages [] old new r h = subst (λ (x : SoFar). Listens size messages x.0) (sym r) h

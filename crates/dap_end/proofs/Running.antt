@@ -256,7 +256,7 @@ answered_is old served new got out all packets written true m rest w is e quiet 
       GoesOn ∷ Acks ∷ [],
       (
         first ++ last ∷ [],
-        ((new, first), first, ((served, written, m, w, rest, refl), refl), (new, first ++ last ∷ []), last ∷ [], (ack_step new a.0 a.2, refl), refl),
+        ((new, first), first, ((served, written, m, w, rest, refl), refl), ((new, first ++ last ∷ []), last ∷ [], (ack_step new a.0 a.2, refl), refl)),
         is ∙ ap (λ (l : List (List ℕ)). out ++ l) (a.1 ∙ ap (λ (l : List (List ℕ)). l ++ a.0 ∷ []) (sym (numbered_bytes _ _ written)) ∙ sym (bytes_append first (last ∷ []))),
       ),
     )
