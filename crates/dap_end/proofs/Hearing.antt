@@ -1,6 +1,6 @@
 -- What a list of an asking end's calls leaves.
 use Rattle.std.proofs.Common.{◌≡◌, ℕ, ◌+◌, refl, sym, ◌∙◌, subst, ap, append_assoc, false, List, [], ◌∷◌, ◌++◌, length, inl, inr}
-use Rattle.std.specs.Prelude.{Option}
+use Rattle.std.specs.Prelude.{◌⊎◌, Option}
 use Rattle.std.proofs.lemmas.List.{append-nil}
 use Rattle.nsp_link.specs.Link.{LinkValue, Stands}
 use Rattle.dap_accessing.specs.Request.{Request}
@@ -12,7 +12,7 @@ use Rattle.dap_end.specs.Writing.{sent_more, WroteMore}
 use Rattle.dap_end.specs.Asking.{AskingValue, AskingPast, HasAsked, AskedOne, HandedAll, nothing_asked, asked_one}
 use Rattle.dap_end.specs.Runs.{RunsBy}
 use Rattle.dap_end.specs.Headline.{Written, numbered, WroteOne, AreWrittenOf, EndEvent, Came, GoesOn, Again, Acks, AnyBytes, IsFromPeer}
-use Rattle.dap_end.specs.Hearing.{AskingEvent, Asks, By, HandedOver, AskingStepped, AskingRuns, requests_in, AskingPromises}
+use Rattle.dap_end.specs.Hearing.{AskingEvent, Asks, By, AskingStepped, AskingRuns, requests_in, AskingPromises}
 use Rattle.dap_end.proofs.Taking.{grown}
 use Rattle.dap_end.proofs.Asked.{ReadMore, still_received, still_sent, read_grows}
 use Rattle.dap_end.proofs.Packets.{all_written, still_written, written_on, numbered_written, one_written}
@@ -61,6 +61,10 @@ heard_so requests reports more wrote old new m t =
       told = ap (λ (l : List Report). l ++ more) t.told ∙ sym g.1.told ∙ ap (λ (l : List Request). Told l g.0.answers) (sym g.1.requests);
       packets = subst (λ (l : LinkValue). AreWrittenOf l g.0.handed wrote) (sym m.link) (subst (λ (h : List (List ℕ)). AreWrittenOf old.port.link h wrote) (sym g.1.handed) t.packets);
     }
+
+-- all that waited was handed over, or none
+abbrev pub HandedOver : AskingValue → AskingValue → Type 0
+HandedOver old new = (new ≡ old) ⊎ ((n : ℕ) × HandedAll old new n)
 
 handed_so : (requests : List Request) (reports : List Report) (wrote : List Written) (old new : AskingValue) → HandedOver old new → Asked_So requests reports wrote old → Asked_So requests reports wrote new
 handed_so requests reports wrote old new (inl same) t = subst (Asked_So requests reports wrote) (sym same) t

@@ -17,16 +17,17 @@ use Rattle.dap_accessing.specs.Request.{Request}
 use Rattle.dap_accessing.specs.declared.report.Report.{Report}
 use Rattle.dap_accessing.specs.Asked.{Asked}
 use Rattle.dap_accessing.specs.Told.{Told}
+use Rattle.dap_end.specs.Inner.Pasts.{AreFull}
 use Rattle.dap_end.specs.Ports.{PortValue}
 use Rattle.nsp_link.specs.Receiving.{Receives}
 use Rattle.dap_end.specs.Going.{AreItemsOf, AreFrontOf}
 use Rattle.dap_end.specs.Writing.{AreWritten, WroteMore}
 use Rattle.dap_end.specs.Serving.{ServingValue, Past, IsAfter, answers_to, nothing_yet}
 use Rattle.dap_end.specs.Taking.{with_port}
-use Rattle.dap_end.specs.Asking.{AreFull, AskingValue, AskingPast, HasAsked, nothing_asked, asked_one}
+use Rattle.dap_end.specs.Asking.{AskingValue, AskingPast, HasAsked, nothing_asked, asked_one}
 use Rattle.dap_end.specs.Runs.{RunsBy}
 use Rattle.dap_end.specs.Headline.{Written, numbered, WroteOne, AreWrittenOf, EndEvent, Came, GoesOn, Again, Acks}
-use Rattle.dap_end.specs.Hearing.{AskingEvent, Asks, By, HandedOver, requests_in}
+use Rattle.dap_end.specs.Hearing.{AskingEvent, Asks, By, requests_in}
 use Rattle.dap_end.specs.Joined.{Pair, AreOpposite, AreNew, PairEvent, AtA, AtB, PairStepped, PairHeadline}
 use Rattle.dap_end.proofs.Taking.{grown}
 use Rattle.dap_end.proofs.Afterwards.{after_received}
@@ -36,6 +37,7 @@ use Rattle.dap_end.proofs.Asked.{full-blocked, full-both, read_grows, still_rece
 use Rattle.dap_end.proofs.Asked as asked
 use Rattle.dap_end.proofs.Packets.{all_written, written_on, numbered_written, one_written}
 use Rattle.dap_end.proofs.Running.{in_append, answers_from, went_written}
+use Rattle.dap_end.proofs.Hearing.{HandedOver}
 use Rattle.dap_end.proofs.Ways.{AreTrue, IsWay, AreJoined, swapped, comes, moved, Moves, works, counts_numbered}
 
 -- ---- The items of NSP messages that are messages joined.

@@ -15,13 +15,9 @@ pub data AskingEvent : Type 0 where
   Asks : Request → AskingEvent
   By : EndEvent → AskingEvent
 
--- all that waited was handed over, or none
-abbrev pub HandedOver : AskingValue → AskingValue → Type 0
-HandedOver old new = (new ≡ old) ⊎ ((n : ℕ) × HandedAll old new n)
-
 -- answers were read, whose reports stand behind those before, and then all that waited was handed over, or none
 abbrev pub HeardMore : (before after : List Report) → AskingValue → AskingValue → Type 0
-HeardMore before after old new = (heard : AskingValue) × ReadAll old heard before after × HandedOver heard new
+HeardMore before after old new = (heard : AskingValue) × ReadAll old heard before after × ((new ≡ heard) ⊎ ((n : ℕ) × HandedAll heard new n))
 
 -- the end, with its reports and its packets so far: those of the event stand behind them
 abbrev pub AskingStepped : (comes : LinkValue → List ℕ → Type 0) → AskingValue × List Report × List Written → AskingEvent → List Written → AskingValue × List Report × List Written → Type 0
