@@ -19,11 +19,12 @@ use Rattle.dap_accessing.specs.Told.{Told, Due, NothingDue, AnswersDue, Wrong, d
 use Rattle.dap_accessing.specs.Asked.{messages_of}
 use Rattle.dap_accessing.specs.Inner.Present.{Present, StandsAfter, FitsDue}
 use Rattle.dap_accessing.proofs.ForCallers.{one_present}
+use Rattle.dap_end.specs.Inner.Pasts.{read_one}
 use Rattle.dap_end.specs.declared.fault.EndFault.{EndFault}
 use Rattle.dap_end.specs.declared.fault.EndFault.TheVariants as end_fault
 use Rattle.dap_end.specs.declared.fault.TakeFault.{TakeFault}
 use Rattle.dap_end.specs.Ports.{PortValue, gone_on, posted}
-use Rattle.dap_end.specs.Asking.{AskingValue, AskingPast, HasAsked, HasStill, AskedOne, HandedAll, ReadOne, ReadNone, ReadOn, begins, goes, ReadAll, ReadPart, ReadsAll, HeardAll, HearFault, asks, AreAlike, HasDone, read_one, asked_one}
+use Rattle.dap_end.specs.Asking.{AskingValue, AskingPast, HasAsked, HasStill, AskedOne, HandedAll, ReadOne, ReadNone, ReadOn, begins, goes, ReadAll, ReadPart, ReadsAll, HeardAll, HearFault, asks, AreAlike, HasDone, asked_one}
 use Rattle.dap_end.specs.Turns.{WentOn, Takes}
 use Rattle.dap_end.specs.Wanting.{is_want, went_wanting, took_wanting}
 use Rattle.dap_end.proofs.Asked.{read_grows}

@@ -24,11 +24,12 @@ use Rattle.dap_accessing.specs.Told.{Told}
 use Rattle.dap_accessing.specs.Phase.{limit_after}
 use Rattle.dap_accessing.specs.Present.{Present}
 use Rattle.dap_accessing.specs.Calls.{Asks, Reads}
+use Rattle.dap_end.specs.Inner.Pasts.{AreFull, read_one}
 use Rattle.dap_end.specs.declared.fault.EndFault.TheVariants as end_fault
 use Rattle.dap_end.specs.Ports.{PortValue, with_link, posted, gone_on}
 use Rattle.dap_end.specs.Writing.{sent_more}
 use Rattle.dap_end.specs.Going.{GoneThrough, given_then}
-use Rattle.dap_end.specs.Asking.{AskingValue, AskingPast, AreFull, HasAsked, HasStill, AskedOne, HandedAll, ReadOne, ReadOn, begins, goes, ReadAll, HearFault, read_one}
+use Rattle.dap_end.specs.Asking.{AskingValue, AskingPast, HasAsked, HasStill, AskedOne, HandedAll, ReadOne, ReadOn, begins, goes, ReadAll, HearFault}
 use Rattle.dap_end.specs.Inner.Kept.{IsPort, AreShort}
 use Rattle.dap_end.specs.Inner.AskingView.{asking_of}
 use Rattle.dap_end.proofs.Taking.{Grown}

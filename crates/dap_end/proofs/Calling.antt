@@ -14,44 +14,48 @@ use Rattle.dap_accessing.specs.Present.{Present}
 use Rattle.dap_end.specs.declared.fault.EndFault.{EndFault}
 use Rattle.dap_end.specs.declared.fault.EndFault.TheVariants as end_fault
 use Rattle.dap_end.specs.Ports.{PortValue}
-use Rattle.dap_end.specs.Writing.{wants_ack, WroteNext, WroteMore, WroteAll}
+use Rattle.dap_end.specs.Writing.{wants_ack, WroteMore, WroteAll}
 use Rattle.dap_end.specs.Asking.{AskingValue, AskedOne, HandedAll, ReadOne, begins, goes as reads_first, ReadAll, HeardAll, HearFault, ReadNone, ReadPart, asks}
 use Rattle.dap_end.specs.Turns.{WroteThen, WentOn, TookIn, TookThen}
-use Rattle.dap_end.specs.Headline.{Written, numbered, bytes_of, Came, GoesOn, Again, Acks}
+use Rattle.dap_end.specs.Headline.{Written, numbered, bytes_of, Came, GoesOn, Again, Acks, AnyBytes}
 use Rattle.dap_end.specs.Hearing.{AskingEvent, Asks, By, AskingStepped, AskingRuns, AreAskingCalls}
 use Rattle.dap_end.proofs.Packets.{ack_written}
 use Rattle.dap_end.proofs.Emitting.{wrote_nothing}
-use Rattle.dap_end.proofs.Running.{one_segment, numbered_bytes}
+use Rattle.dap_end.proofs.Running.{numbered_bytes}
 
-one_event : (old new : AskingValue) (event : AskingEvent) (reports : List Report) (ws : List Written) → AskingStepped old event new reports ws → AskingRuns old (event ∷ []) new reports ws
-one_event old new event reports ws s = (new, reports, [], sym (append-nil reports), ws, [], sym (append-nil ws), s, (refl, refl, refl))
+one_event : (old new : AskingValue) (event : AskingEvent) (reports : List Report) (ws : List Written) → AskingStepped AnyBytes (old, [], []) event ws (new, reports, ws) → AskingRuns AnyBytes old (event ∷ []) new reports ws
+one_event old new event reports ws s = ((new, reports, ws), ws, s, refl)
 
-pub asking_is : (old new : AskingValue) (request : Request) (n : ℕ) → AskedOne request old new n → AskingRuns old (Asks request ∷ []) new [] []
-asking_is old new request n a = one_event old new (Asks request) [] [] (n, a, refl, refl)
+pub asking_is : (old new : AskingValue) (request : Request) (n : ℕ) → AskedOne request old new n → AskingRuns AnyBytes old (Asks request ∷ []) new [] []
+asking_is old new request n a = one_event old new (Asks request) [] [] (n, a, refl, refl, refl)
 
-pub reading_is : (old new : AskingValue) (report : Option Report) → ReadOne old new report → AskingRuns old (By GoesOn ∷ []) new (option_to_list report) []
+pub reading_is : (old new : AskingValue) (report : Option Report) → ReadOne old new report → AskingRuns AnyBytes old (By GoesOn ∷ []) new (option_to_list report) []
 reading_is old new report r =
     one_event old new (By GoesOn) (option_to_list report) []
-    (new, [], (new, reads_first new report [] r begins (sym (append-nil (option_to_list report))), inl refl), wrote_nothing new.port, refl, refl)
+    ((new, [], (new, (option_to_list report, refl, reads_first new report [] r begins (sym (append-nil (option_to_list report)))), inl refl), wrote_nothing new.port, refl, refl), refl)
 
-pub posting_is : (old new : AskingValue) (n : ℕ) → HandedAll old new n → AskingRuns old (By GoesOn ∷ []) new [] []
-posting_is old new n h = one_event old new (By GoesOn) [] [] (new, [], (old, begins, inr (n, h)), wrote_nothing new.port, refl, refl)
+pub posting_is : (old new : AskingValue) (n : ℕ) → HandedAll old new n → AskingRuns AnyBytes old (By GoesOn ∷ []) new [] []
+posting_is old new n h = one_event old new (By GoesOn) [] [] ((new, [], (old, ([], refl, begins), inr (n, h)), wrote_nothing new.port, refl, refl), refl)
 
-pub writing_is : (old new : AskingValue) (bytes : List ℕ) → new ≡ record old { port = new.port } → WroteNext old.port new.port bytes
-    → AskingRuns old (By GoesOn ∷ []) new [] (numbered (old.port.link.sent + 1) old.port.link.coming.received (bytes ∷ []))
-writing_is old new bytes rest w = one_event old new (By GoesOn) [] _ (old, bytes ∷ [], (old, begins, inl refl), one_segment old.port new.port bytes w, rest, refl)
+pub writing_is : (old new : AskingValue) (bytes : List ℕ) → new ≡ record old { port = new.port } → WroteMore old.port new.port (bytes ∷ [])
+    → AskingRuns AnyBytes old (By GoesOn ∷ []) new [] (numbered (old.port.link.sent + 1) old.port.link.coming.received (bytes ∷ []))
+writing_is old new bytes rest w = one_event old new (By GoesOn) [] _ ((old, bytes ∷ [], (old, ([], refl, begins), inl refl), w, rest, refl), refl)
 
 pub again_is : (v : AskingValue) (i : ℕ) (bytes : List ℕ) → i < v.port.link.sent - v.port.link.acked → WritesSent v.port.link (Some (v.port.link.acked + 1 + i)) bytes
-    → AskingRuns v (By (Again i) ∷ []) v [] (record { bytes = bytes; segment = Some (v.port.link.acked + 1 + i); acks = v.port.link.coming.received } ∷ [])
-again_is v i bytes lt w = one_event v v (By (Again i)) [] _ (record { bytes = bytes; segment = Some (v.port.link.acked + 1 + i); acks = v.port.link.coming.received }, lt, (refl, refl, w), refl, refl, refl)
+    → AskingRuns AnyBytes v (By (Again i) ∷ []) v [] (record { bytes = bytes; segment = Some (v.port.link.acked + 1 + i); acks = v.port.link.coming.received } ∷ [])
+again_is v i bytes lt w = one_event v v (By (Again i)) [] _ ((record { bytes = bytes; segment = Some (v.port.link.acked + 1 + i); acks = v.port.link.coming.received }, lt, (refl, refl, w), refl, refl, refl), refl)
 
-pub ack_is : (v : AskingValue) (bytes : List ℕ) → IsSpelling (ack_packet_of v.port.link) bytes → AskingRuns v (By Acks ∷ []) v [] (record { bytes = bytes; segment = None; acks = v.port.link.coming.received } ∷ [])
-ack_is v bytes s = one_event v v (By Acks) [] _ (record { bytes = bytes; segment = None; acks = v.port.link.coming.received }, (refl, refl, ack_written v.port.link bytes s), refl, refl, refl)
+ack_step : (v : AskingValue) (reports : List Report) (before : List Written) (bytes : List ℕ) → IsSpelling (ack_packet_of v.port.link) bytes
+    → (let w : Written = record { bytes = bytes; segment = None; acks = v.port.link.coming.received } in AskingStepped AnyBytes (v, reports, before) (By Acks) (w ∷ []) (v, reports, before ++ w ∷ []))
+ack_step v reports before bytes s = ((record { bytes = bytes; segment = None; acks = v.port.link.coming.received }, (refl, refl, ack_written v.port.link bytes s), refl, refl, refl), refl)
+
+pub ack_is : (v : AskingValue) (bytes : List ℕ) → IsSpelling (ack_packet_of v.port.link) bytes → AskingRuns AnyBytes v (By Acks ∷ []) v [] (record { bytes = bytes; segment = None; acks = v.port.link.coming.received } ∷ [])
+ack_is v bytes s = one_event v v (By Acks) [] _ (ack_step v [] [] bytes s)
 
 -- all was read and handed over, and these segments written
 goes : (old heard new : AskingValue) (before after : List Report) (packets : List (List ℕ)) → (h : HeardAll old heard before after) → WroteMore heard.port new.port packets → new ≡ record heard { port = new.port }
-    → AskingStepped old (By GoesOn) new h.2.0.0 (numbered (heard.port.link.sent + 1) heard.port.link.coming.received packets)
-goes old heard new before after packets h w rest = (heard, packets, (h.0, h.2.0.2, inr (h.1, h.3)), w, rest, refl)
+    → (let ws = numbered (heard.port.link.sent + 1) heard.port.link.coming.received packets in AskingStepped AnyBytes (old, [], []) (By GoesOn) ws (new, h.2.0.0, ws))
+goes old heard new before after packets h w rest = ((heard, packets, (h.0, (h.2.0.0, refl, h.2.0.2), inr (h.1, h.3)), w, rest, refl), refl)
 
 behind : (out all packets : List (List ℕ)) (k a : ℕ) → all ≡ out ++ packets → all ≡ out ++ bytes_of (numbered k a packets)
 behind out all packets k a e = e ∙ ap (λ (l : List (List ℕ)). out ++ l) (sym (numbered_bytes k a packets))
@@ -60,12 +64,12 @@ pub going_is : (old new : AskingValue) (out all : List (List ℕ)) (before after
 going_is old new out all before after w =
     (w.done.2.0.0, _, one_event old new (By GoesOn) _ _ (goes old w.mid new before after w.wrote.0 w.done w.wrote.2 w.rest), behind out all w.wrote.0 _ _ w.wrote.1, w.done.2.0.1)
 
-came : (old new : AskingValue) (bytes : List ℕ) (before after : List Report) (r : Result Got LinkFault) → TookIn (asks before after) old new bytes r → AskingStepped old (By (Came bytes)) new [] []
-came old new bytes before after r t = (r, new.port.link, t.receives, t.rest, refl, refl)
+came : (old new : AskingValue) (bytes : List ℕ) (before after : List Report) (r : Result Got LinkFault) → TookIn (asks before after) old new bytes r → AskingStepped AnyBytes (old, [], []) (By (Came bytes)) [] (new, [], [])
+came old new bytes before after r t = ((r, new.port.link, t.receives, t.rest, refl, refl, tt), refl)
 
-took_by : (old mid new : AskingValue) (bytes : List ℕ) (events : List AskingEvent) (out all : List (List ℕ)) (before after : List Report) → AskingStepped old (By (Came bytes)) mid [] [] → AreAskingCalls mid events new out all before after
+took_by : (old mid new : AskingValue) (bytes : List ℕ) (events : List AskingEvent) (out all : List (List ℕ)) (before after : List Report) → AskingStepped AnyBytes (old, [], []) (By (Came bytes)) [] (mid, [], []) → AreAskingCalls mid events new out all before after
     → AreAskingCalls old (By (Came bytes) ∷ events) new out all before after
-took_by old mid new bytes events out all before after s c = (c.0, c.1, (mid, [], c.0, refl, [], c.1, refl, s, c.2), c.3, c.4)
+took_by old mid new bytes events out all before after s c = (c.0, c.1, ((mid, [], []), [], s, c.2), c.3, c.4)
 
 answered_is : (old heard new : AskingValue) (got : Got) (out all packets written : List (List ℕ)) (before after : List Report) (wants : Bool) → HeardAll old heard before after → new ≡ record heard { port = new.port } → WroteMore heard.port new.port written
     → all ≡ out ++ packets → wants_ack got (length written) ≡ wants → (wants_ack got (length written) ≡ false → packets ≡ written)
@@ -83,7 +87,7 @@ answered_is old heard new got out all packets written before after true h rest w
       (
         h.2.0.0,
         first ++ last ∷ [],
-        (new, h.2.0.0, [], sym (append-nil h.2.0.0), first, last ∷ [], refl, goes old heard new before after written h w rest, ack_is new a.0 a.2),
+        ((new, h.2.0.0, first), first, goes old heard new before after written h w rest, ((new, h.2.0.0, first ++ last ∷ []), last ∷ [], ack_step new h.2.0.0 first a.0 a.2, refl)),
         is ∙ ap (λ (l : List (List ℕ)). out ++ l) (a.1 ∙ ap (λ (l : List (List ℕ)). l ++ a.0 ∷ []) (sym (numbered_bytes _ _ written)) ∙ sym (map-append (λ (w : Written). w.bytes) first (last ∷ []))),
         h.2.0.1,
       ),
@@ -96,7 +100,7 @@ taking_is old new bytes got out all before after (mid, t, w) =
     let r = answered_is mid w.mid new got out all a.0 a.2.written before after (wants_ack got (length a.2.written)) w.done w.rest a.2.wrote a.1 refl a.2.quiet a.2.acks in
     (r.0, took_by old mid new bytes r.0 out all before after (came old mid bytes before after (Ok got) t) r.1)
 
-pub refusing_is : (old new : AskingValue) (bytes : List ℕ) (before after : List Report) (f : LinkFault) → TookIn (asks before after) old new bytes (Err f) → AskingRuns old (By (Came bytes) ∷ []) new [] []
+pub refusing_is : (old new : AskingValue) (bytes : List ℕ) (before after : List Report) (f : LinkFault) → TookIn (asks before after) old new bytes (Err f) → AskingRuns AnyBytes old (By (Came bytes) ∷ []) new [] []
 refusing_is old new bytes before after f t = one_event old new (By (Came bytes)) [] [] (came old new bytes before after (Err f) t)
 
 -- ---- Calls that didn't do all.
@@ -121,7 +125,7 @@ heard_part old new before after (end_fault.Read f) h other = part_read old new b
 -- some was read, and nothing else done
 read_only : (old new : AskingValue) (out all : List (List ℕ)) (before after : List Report) → ReadAll old new before after → all ≡ out → AreAskingCalls old (By GoesOn ∷ []) new out all before after
 read_only old new out all before after r same =
-    (r.0, [], one_event old new (By GoesOn) r.0 [] (new, [], (new, r.2, inl refl), wrote_nothing new.port, refl, refl), same ∙ sym (append-nil out), r.1)
+    (r.0, [], one_event old new (By GoesOn) r.0 [] ((new, [], (new, (r.0, refl, r.2), inl refl), wrote_nothing new.port, refl, refl), refl), same ∙ sym (append-nil out), r.1)
 
 pub halting_is : (old new : AskingValue) (out all : List (List ℕ)) (before after : List Report) (f : EndFault) → WentOn (asks before after) old new out all (Err f) → f ≢ end_fault.Read read_fault.Unexpected
     → AreAskingCalls old (By GoesOn ∷ []) new out all before after

@@ -12,12 +12,13 @@ use Rattle.nsp_link.specs.Sending.{MayQueueAll, SendAllFault}
 use Rattle.dap_accessed.specs.Standing.{Files}
 use Rattle.dap_accessed.specs.Inner.Present.{Present, present_of}
 use Rattle.dap_accessed.specs.Groups.{stands_after}
+use Rattle.dap_end.specs.Inner.Pasts.{served}
 use Rattle.dap_end.specs.declared.fault.EndFault.{EndFault}
 use Rattle.dap_end.specs.declared.fault.EndFault.TheVariants as end_fault
 use Rattle.dap_end.specs.declared.fault.TakeFault.{TakeFault}
 use Rattle.dap_end.specs.Ports.{gone_on, posted}
 use Rattle.dap_end.specs.Going.{StandFrom}
-use Rattle.dap_end.specs.Serving.{ServingValue, Past, IsAfter, ServedOne, PostedAll, answers_to, served}
+use Rattle.dap_end.specs.Serving.{ServingValue, Past, IsAfter, ServedOne, PostedAll, answers_to}
 use Rattle.dap_end.specs.Taking.{ServedOn, begins, goes, ServedUp, IsServed, ServeFault, ServesAll, serves, GoesOn, with_port}
 use Rattle.dap_end.specs.Turns.{Takes}
 use Rattle.dap_end.specs.Wanting.{is_want, took_wanting}

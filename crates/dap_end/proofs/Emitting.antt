@@ -9,20 +9,24 @@ use Rattle.nsp_link.specs.Link.{LinkValue, Sends, Writes, MaySend}
 use Rattle.nsp_link.specs.Sending.{WritesNext, WritesSent}
 use Rattle.dap_end.specs.Ports.{PortValue, with_link}
 use Rattle.nsp_link.specs.declared.fault.LinkFault.TheVariants as fault
-use Rattle.dap_end.specs.Writing.{AreWritten, IsWithin, IsFull, sent_more, WroteNext, WroteMore, WroteAll, wants_ack, AnsweredAll, AnsweredPart}
+use Rattle.dap_end.specs.Writing.{AreWritten, IsWithin, IsFull, sent_more, WroteMore, WroteAll, wants_ack, AnsweredAll, AnsweredPart}
 use Rattle.dap_end.specs.Inner.Answered.{Acknowledged}
 
 -- ---- One.
 
+one_segment : (p new : PortValue) (bytes : List ℕ) → MaySend p.link → new ≡ sent_more p 1 → WritesSent p.link (Some (p.link.sent + 1)) bytes → WroteMore p new (bytes ∷ [])
+one_segment p new bytes may sent writes =
+    record { sent = sent; writes = λ handed sends. (writes handed sends, tt); within = λ some. subst (λ (q : PortValue). IsWithin q.link) (sym sent) (omega arith, omega arith) }
+
 pub wrote_next : (p : PortValue) (link : LinkValue) (r : Result (Option (Vec ℕ)) LinkFault) → IfOk r (λ o. IfSome o (λ b. WritesNext p.link link b.items))
-    → IfOk r (λ o. IfSome o (λ b. WritesSent p.link (Some (p.link.sent + 1)) b.items)) → IfOk r (λ o. IfSome o (λ b. WroteNext p (with_link p link) b.items))
+    → IfOk r (λ o. IfSome o (λ b. WritesSent p.link (Some (p.link.sent + 1)) b.items)) → IfOk r (λ o. IfSome o (λ b. WroteMore p (with_link p link) (b.items ∷ [])))
 wrote_next p link (Ok None) next sent = tt
-wrote_next p link (Ok (Some b)) next sent = record { may = next.0; sent = ap (with_link p) next.1; writes = sent }
+wrote_next p link (Ok (Some b)) next sent = one_segment p (with_link p link) b.items next.0 (ap (with_link p) next.1) sent
 wrote_next p link (Err f) next sent = tt
 
 pub wrote_known : (p : PortValue) (link : LinkValue) (r : Result (Vec ℕ) LinkFault) → IfOk r (λ b. WritesNext p.link link b.items) → IfOk r (λ b. WritesSent p.link (Some (p.link.sent + 1)) b.items)
-    → IfOk r (λ b. WroteNext p (with_link p link) b.items)
-wrote_known p link (Ok b) next sent = record { may = next.0; sent = ap (with_link p) next.1; writes = sent }
+    → IfOk r (λ b. WroteMore p (with_link p link) (b.items ∷ []))
+wrote_known p link (Ok b) next sent = one_segment p (with_link p link) b.items next.0 (ap (with_link p) next.1) sent
 wrote_known p link (Err f) next sent = tt
 
 -- ---- Several.
@@ -42,20 +46,20 @@ wrote_none p out = ([], sym (append-nil out), wrote_nothing p)
 still_sends : (a : PortValue) (n : ℕ) (handed : List (List ℕ)) → Sends a.link handed → Sends (sent_more a n).link handed
 still_sends a n handed h = record { queue = h.queue; acked = h.acked }
 
-wrote_then : (a b c : PortValue) (packets : List (List ℕ)) (bytes : List ℕ) → WroteMore a b packets → WroteNext b c bytes → WroteMore a c (packets ++ bytes ∷ [])
+wrote_then : (a b c : PortValue) (packets : List (List ℕ)) (bytes : List ℕ) → WroteMore a b packets → WroteMore b c (bytes ∷ []) → WroteMore a c (packets ++ bytes ∷ [])
 wrote_then a b c packets bytes m w =
     record {
       sent = w.sent ∙ ap (λ (p : PortValue). sent_more p 1) m.sent
           ∙ ap (λ (n : ℕ). with_link a (record a.link { sent = n })) (let long = length-append packets (bytes ∷ []) in omega arith);
-      within = λ some. subst (λ (p : PortValue). IsWithin p.link) (sym w.sent) (let may = w.may in (omega arith, omega arith));
+      within = λ some. w.within (omega arith);
       writes = λ handed h.
           written-more a.link handed (a.link.sent + 1) packets bytes (m.writes handed h)
           (subst (λ (n : ℕ). Writes a.link handed (Some n) a.link.coming.received bytes) (omega arith)
           (subst (λ (p : PortValue). Writes p.link handed (Some (p.link.sent + 1)) p.link.coming.received bytes) m.sent
-          (w.writes handed (subst (λ (p : PortValue). Sends p.link handed) (sym m.sent) (still_sends a (length packets) handed h)))));
+          (w.writes handed (subst (λ (p : PortValue). Sends p.link handed) (sym m.sent) (still_sends a (length packets) handed h))).0));
     }
 
-pub wrote_more : (a b c : PortValue) (out all new : List (List ℕ)) (bytes : List ℕ) → WroteAll a b out all → WroteNext b c bytes → new ≡ all ++ bytes ∷ [] → WroteAll a c out new
+pub wrote_more : (a b c : PortValue) (out all new : List (List ℕ)) (bytes : List ℕ) → WroteAll a b out all → WroteMore b c (bytes ∷ []) → new ≡ all ++ bytes ∷ [] → WroteAll a c out new
 wrote_more a b c out all new bytes m w is =
     (m.0 ++ bytes ∷ [], is ∙ ap (λ (l : List (List ℕ)). l ++ bytes ∷ []) m.1 ∙ append_assoc out m.0 (bytes ∷ []), wrote_then a b c m.0 bytes m.2 w)
 

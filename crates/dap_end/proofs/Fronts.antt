@@ -2,12 +2,13 @@
 use Rattle.std.proofs.Common.{◌≡◌, ℕ, ◌<◌, arith, refl, sym, ◌∙◌, subst, ap, append_assoc, List, [], ◌∷◌, ◌++◌, length}
 use Rattle.std.specs.Prelude.{drop}
 use Rattle.std.proofs.lemmas.List.{take-append-drop}
+use Rattle.std.specs.List.{AllByRecursion}
 use Rattle.dap_fields.specs.Spelling.{AreBytes}
 use Rattle.dap_msg.specs.Items.{Item, Items, ItemsFrom}
 use Rattle.dap_msg.proofs.ForCallers.{one_item, have_items}
 use Rattle.nsp_link.specs.Link.{LinkValue, Stands}
 use Rattle.dap_end.specs.Ports.{oldest}
-use Rattle.dap_end.specs.Going.{AllBytes, StandFrom, AreItemsOf, GoneThrough, AreFrontOf}
+use Rattle.dap_end.specs.Going.{StandFrom, AreItemsOf, GoneThrough, AreFrontOf}
 
 -- the items of two lists of NSP messages
 items_split : (xs ys : List (List ℕ)) (all : List Item) → AreItemsOf (xs ++ ys) all → (a b : List Item) × (all ≡ a ++ b) × AreItemsOf xs a × AreItemsOf ys b
@@ -20,7 +21,7 @@ items_split (x ∷ xs) ys all h =
 one_list : (bytes : List ℕ) (a b : List Item) → AreBytes bytes → Items bytes a → Items bytes b → a ≡ b
 one_list bytes a b fits h k = let all = have_items bytes fits in all.only a h ∙ sym (all.only b k)
 
-pub same_items : (xs : List (List ℕ)) (a b : List Item) → AllBytes xs → AreItemsOf xs a → AreItemsOf xs b → a ≡ b
+pub same_items : (xs : List (List ℕ)) (a b : List Item) → AllByRecursion AreBytes xs → AreItemsOf xs a → AreItemsOf xs b → a ≡ b
 same_items [] a b fits h k = h ∙ sym k
 same_items (x ∷ xs) a b fits h k =
     h.2 ∙ ap (λ (l : List Item). l ++ h.1) (one_list x h.0 k.0 fits.0 h.3 k.3) ∙ ap (λ (l : List Item). k.0 ++ l) (same_items xs h.1 k.1 fits.1 h.4 k.4) ∙ sym k.2

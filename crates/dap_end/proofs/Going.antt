@@ -3,10 +3,11 @@ use Rattle.std.proofs.Common.{ℕ, ◌<◌, ◌≤◌, arith, refl, sym, ◌∙�
 use Rattle.std.specs.Prelude.{◌==◌, if◌then◌else◌}
 use Rattle.std.proofs.lemmas.Bool.{cases_eq, ne_eqb}
 use Rattle.std.proofs.lemmas.List.{append-nil}
+use Rattle.std.specs.List.{AllByRecursion}
 use Rattle.dap_fields.specs.Spelling.{AreBytes}
 use Rattle.dap_msg.specs.Items.{Item, ItemAt, Items, ItemsFrom}
 use Rattle.dap_end.specs.Ports.{oldest}
-use Rattle.dap_end.specs.Going.{AllBytes, StandFrom, AreItemsOf, GoneThrough}
+use Rattle.dap_end.specs.Going.{StandFrom, AreItemsOf, GoneThrough}
 
 -- ---- More comes.
 
@@ -49,7 +50,7 @@ items_more [] bytes done front h i = (front, [], ap (λ (l : List Item). l ++ fr
 items_more (m ∷ given) bytes done front h i =
     (h.0, h.1 ++ front, ap (λ (l : List Item). l ++ front) h.2 ∙ append_assoc h.0 h.1 front, h.3, items_more given bytes h.1 front h.4 i)
 
-bytes-more : (given : List (List ℕ)) (bytes : List ℕ) → AllBytes given → AreBytes bytes → AllBytes (given ++ bytes ∷ [])
+bytes-more : (given : List (List ℕ)) (bytes : List ℕ) → AllByRecursion AreBytes given → AreBytes bytes → AllByRecursion AreBytes (given ++ bytes ∷ [])
 bytes-more [] bytes h fits = (fits, tt)
 bytes-more (m ∷ given) bytes h fits = (h.0, bytes-more given bytes h.1 fits)
 

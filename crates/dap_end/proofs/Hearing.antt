@@ -1,6 +1,6 @@
 -- What a list of an asking end's calls leaves.
 use Rattle.std.proofs.Common.{◌≡◌, ℕ, ◌+◌, refl, sym, ◌∙◌, subst, ap, append_assoc, false, List, [], ◌∷◌, ◌++◌, length, inl, inr}
-use Rattle.std.specs.Prelude.{Option}
+use Rattle.std.specs.Prelude.{◌⊎◌, Option}
 use Rattle.std.proofs.lemmas.List.{append-nil}
 use Rattle.nsp_link.specs.Link.{LinkValue, Stands}
 use Rattle.dap_accessing.specs.Request.{Request}
@@ -10,8 +10,9 @@ use Rattle.dap_end.specs.Ports.{PortValue}
 use Rattle.dap_end.specs.Going.{AreFrontOf}
 use Rattle.dap_end.specs.Writing.{sent_more, WroteMore}
 use Rattle.dap_end.specs.Asking.{AskingValue, AskingPast, HasAsked, AskedOne, HandedAll, nothing_asked, asked_one}
-use Rattle.dap_end.specs.Headline.{Written, numbered, WroteOne, AreWrittenOf, Came, GoesOn, Again, Acks, IsFromPeer}
-use Rattle.dap_end.specs.Hearing.{AskingEvent, Asks, By, HandedOver, AskingStepped, AskingRuns, requests_in, AskingPromises, IfHeard, AskingRunsFrom}
+use Rattle.dap_end.specs.Runs.{RunsBy}
+use Rattle.dap_end.specs.Headline.{Written, numbered, WroteOne, AreWrittenOf, EndEvent, Came, GoesOn, Again, Acks, AnyBytes, IsFromPeer}
+use Rattle.dap_end.specs.Hearing.{AskingEvent, Asks, By, AskingStepped, AskingRuns, requests_in, AskingPromises}
 use Rattle.dap_end.proofs.Taking.{grown}
 use Rattle.dap_end.proofs.Asked.{ReadMore, still_received, still_sent, read_grows}
 use Rattle.dap_end.proofs.Packets.{all_written, still_written, written_on, numbered_written, one_written}
@@ -30,27 +31,25 @@ pub record Asked_So (requests : List Request) (reports : List Report) (wrote : L
 abbrev pub new_requests : AskingEvent → List Request
 new_requests event = requests_in (event ∷ [])
 
--- nothing was asked, told or written
-same_so : (requests : List Request) (reports more : List Report) (wrote ws : List Written) (v : AskingValue) → more ≡ [] → ws ≡ [] → Asked_So requests reports wrote v → Asked_So (requests ++ []) (reports ++ more) (wrote ++ ws) v
-same_so requests reports more wrote ws v none quiet t =
-    subst (λ (l : List Request). Asked_So l (reports ++ more) (wrote ++ ws) v) (sym (append-nil requests))
-    (subst (λ (l : List Report). Asked_So requests l (wrote ++ ws) v) (sym (ap (λ (l : List Report). reports ++ l) none ∙ append-nil reports))
-    (subst (λ (l : List Written). Asked_So requests reports l v) (sym (ap (λ (l : List Written). wrote ++ l) quiet ∙ append-nil wrote)) t))
+-- nothing was told or written
+same_so : (requests : List Request) (reports after : List Report) (wrote all ws : List Written) (v : AskingValue) → after ≡ reports → ws ≡ [] → all ≡ wrote ++ ws → Asked_So requests reports wrote v → Asked_So requests after all v
+same_so requests reports after wrote all ws v quiet none is t =
+    subst (λ (l : List Report). Asked_So requests l all v) (sym quiet)
+    (subst (λ (l : List Written). Asked_So requests reports l v) (sym (is ∙ ap (λ (l : List Written). wrote ++ l) none ∙ append-nil wrote)) t)
 
-one_so : (requests : List Request) (reports more : List Report) (wrote ws : List Written) (v new : AskingValue) (k : Option ℕ) (w : Written) → WroteOne v.port.link k w → new ≡ v → more ≡ [] → ws ≡ w ∷ [] → Asked_So requests reports wrote v
-    → Asked_So (requests ++ []) (reports ++ more) (wrote ++ ws) new
-one_so requests reports more wrote ws v new k w one same none is t =
-    let here : Asked_So requests reports (wrote ++ ws) v =
-    subst (λ (l : List Written). Asked_So requests reports (wrote ++ l) v) (sym is)
+one_so : (requests : List Request) (reports after : List Report) (wrote all ws : List Written) (v new : AskingValue) (k : Option ℕ) (w : Written) → WroteOne v.port.link k w → new ≡ v → after ≡ reports → ws ≡ w ∷ [] → all ≡ wrote ++ ws → Asked_So requests reports wrote v
+    → Asked_So requests after all new
+one_so requests reports after wrote all ws v new k w one same quiet is e t =
+    subst (λ (x : AskingValue). Asked_So requests after all x) (sym same)
+    (subst (λ (l : List Report). Asked_So requests l all v) (sym quiet)
+    (subst (λ (l : List Written). Asked_So requests reports l v) (sym (e ∙ ap (λ (l : List Written). wrote ++ l) is))
     (record {
       past = t.past;
       is = t.is;
       asked = t.asked;
       told = t.told;
       packets = all_written v.port.link t.past.handed wrote (w ∷ []) t.packets (one_written v.port.link t.past.handed k w t.is.sends one, tt);
-    }) in
-    subst (λ (x : AskingValue). Asked_So (requests ++ []) (reports ++ more) (wrote ++ ws) x) (sym same)
-    (subst (λ (l : List Written). Asked_So (requests ++ []) (reports ++ more) l v) (append-nil (wrote ++ ws)) (same_so requests reports more (wrote ++ ws) [] v none refl here))
+    })))
 
 heard_so : (requests : List Request) (reports more : List Report) (wrote : List Written) (old new : AskingValue) → ReadMore old new more → Asked_So requests reports wrote old → Asked_So requests (reports ++ more) wrote new
 heard_so requests reports more wrote old new m t =
@@ -62,6 +61,10 @@ heard_so requests reports more wrote old new m t =
       told = ap (λ (l : List Report). l ++ more) t.told ∙ sym g.1.told ∙ ap (λ (l : List Request). Told l g.0.answers) (sym g.1.requests);
       packets = subst (λ (l : LinkValue). AreWrittenOf l g.0.handed wrote) (sym m.link) (subst (λ (h : List (List ℕ)). AreWrittenOf old.port.link h wrote) (sym g.1.handed) t.packets);
     }
+
+-- all that waited was handed over, or none
+abbrev pub HandedOver : AskingValue → AskingValue → Type 0
+HandedOver old new = (new ≡ old) ⊎ ((n : ℕ) × HandedAll old new n)
 
 handed_so : (requests : List Request) (reports : List Report) (wrote : List Written) (old new : AskingValue) → HandedOver old new → Asked_So requests reports wrote old → Asked_So requests reports wrote new
 handed_so requests reports wrote old new (inl same) t = subst (Asked_So requests reports wrote) (sym same) t
@@ -89,52 +92,54 @@ sent_so requests reports wrote ws old new packets w e is t =
       packets = subst (λ (l : LinkValue). AreWrittenOf l t.past.handed (wrote ++ ws)) (sym (sent_link old.port new.port (length packets) w.sent)) (all_written old.port.link t.past.handed wrote ws t.packets after);
     }
 
-pub step_so : (requests : List Request) (reports more : List Report) (wrote ws : List Written) (old new : AskingValue) (event : AskingEvent) → AskingStepped old event new more ws → Asked_So requests reports wrote old
-    → Asked_So (requests ++ new_requests event) (reports ++ more) (wrote ++ ws) new
-step_so requests reports more wrote ws old new (By (Came bytes)) s t =
+-- the end, and the reports and packets so far
+abbrev SoFar : Type 0
+SoFar = AskingValue × List Report × List Written
+
+-- what happens to either end
+end_so : (comes : LinkValue → List ℕ → Type 0) (requests : List Request) (old new : SoFar) (event : EndEvent) (ws : List Written) → AskingStepped comes old (By event) ws new → Asked_So requests old.1 old.2 old.0 → Asked_So requests new.1 new.2 new.0
+end_so comes requests (old, reports, wrote) (new, after, all) (Came bytes) ws (s, e) t =
     let g = grown old.port.link s.1 bytes s.0 s.2 in
-    same_so requests reports more wrote ws new s.5 s.4
+    same_so requests reports after wrote all ws new s.5 s.4 e
     (subst (Asked_So requests reports wrote) (sym s.3)
     (record { past = t.past; is = still_received old s.1 g s.2.sends t.past t.is; asked = t.asked; told = t.told; packets = written_on old.port.link s.1 g t.past.handed wrote t.packets }))
-step_so requests reports more wrote ws old new (Asks request) s t =
+end_so comes requests (old, reports, wrote) (new, after, all) GoesOn ws (s, e) t =
+    let (heard, read, over) = s.2 in
+    let told = subst (λ (l : List Report). Asked_So requests l wrote heard) (sym read.1) (heard_so requests reports read.0 wrote old heard (read_grows old heard read.0 read.2) t) in
+    subst (λ (l : List Written). Asked_So requests after l new) (sym e) (sent_so requests after wrote ws s.0 new s.1 s.3 s.4 s.5 (handed_so requests after wrote heard s.0 over told))
+end_so comes requests (old, reports, wrote) (new, after, all) (Again i) ws (s, e) t = one_so requests reports after wrote all ws old new _ s.0 s.2 s.3 s.5 s.4 e t
+end_so comes requests (old, reports, wrote) (new, after, all) Acks ws (s, e) t = one_so requests reports after wrote all ws old new _ s.0 s.1 s.2 s.4 s.3 e t
+
+step_so : (comes : LinkValue → List ℕ → Type 0) (requests : List Request) (old new : SoFar) (event : AskingEvent) (ws : List Written) → AskingStepped comes old event ws new → Asked_So requests old.1 old.2 old.0 → Asked_So (requests ++ new_requests event) new.1 new.2 new.0
+step_so comes requests (old, reports, wrote) (new, after, all) (Asks request) ws s t =
     let a = s.1 in
     record {
       past = asked_one t.past old.accessing.own request;
       is = a.past t.past t.is;
       asked = ap (λ (l : List Request). l ++ request ∷ []) t.asked;
-      told = ap (λ (l : List Report). reports ++ l) s.2 ∙ append-nil reports ∙ t.told ∙ sym (a.asks.told t.past.requests t.past.answers t.is.asking);
-      packets =
-          subst (λ (p : PortValue). AreWrittenOf p.link t.past.handed (wrote ++ ws)) (sym a.port)
-          (subst (λ (l : List Written). AreWrittenOf old.port.link t.past.handed l) (sym (ap (λ (l : List Written). wrote ++ l) s.3 ∙ append-nil wrote)) t.packets);
+      told = s.3 ∙ t.told ∙ sym (a.asks.told t.past.requests t.past.answers t.is.asking);
+      packets = subst (λ (p : PortValue). AreWrittenOf p.link t.past.handed all) (sym a.port) (subst (AreWrittenOf old.port.link t.past.handed) (sym s.4) t.packets);
     }
-step_so requests reports more wrote ws old new (By GoesOn) s t =
-    let (heard, on, over) = s.2 in
-    let handed = handed_so requests (reports ++ more) wrote heard s.0 over (heard_so requests reports more wrote old heard (read_grows old heard more on) t) in
-    subst (λ (l : List Request). Asked_So l (reports ++ more) (wrote ++ ws) new) (sym (append-nil requests))
-    (sent_so requests (reports ++ more) wrote ws s.0 new s.1 s.3 s.4 s.5 handed)
-step_so requests reports more wrote ws old new (By (Again i)) s t = one_so requests reports more wrote ws old new _ s.0 s.2 s.3 s.5 s.4 t
-step_so requests reports more wrote ws old new (By Acks) s t = one_so requests reports more wrote ws old new _ s.0 s.1 s.2 s.4 s.3 t
+step_so comes requests old new (By event) ws s t = subst (λ (l : List Request). Asked_So l new.1 new.2 new.0) (sym (append-nil requests)) (end_so comes requests old new event ws s t)
 
 pub requests_of : (event : AskingEvent) (events : List AskingEvent) → new_requests event ++ requests_in events ≡ requests_in (event ∷ events)
 requests_of (Asks request) events = refl
 requests_of (By event) events = refl
 
-run_so : (events : List AskingEvent) (requests : List Request) (reports more : List Report) (wrote ws : List Written) (old new : AskingValue) → AskingRuns old events new more ws → Asked_So requests reports wrote old
-    → Asked_So (requests ++ requests_in events) (reports ++ more) (wrote ++ ws) new
-run_so [] requests reports more wrote ws old new r t = same_so requests reports more wrote ws new r.1 r.2 (subst (Asked_So requests reports wrote) (sym r.0) t)
-run_so (event ∷ events) requests reports more wrote ws old new r t =
-    let rest = run_so events (requests ++ new_requests event) (reports ++ r.1) r.2 (wrote ++ r.4) r.5 r.0 new r.8 (step_so requests reports r.1 wrote r.4 old r.0 event r.7 t) in
-    subst (λ (l : List Written). Asked_So (requests ++ requests_in (event ∷ events)) (reports ++ more) l new) (append_assoc wrote r.4 r.5 ∙ ap (λ (l : List Written). wrote ++ l) (sym r.6))
-    (subst (λ (l : List Report). Asked_So (requests ++ requests_in (event ∷ events)) l ((wrote ++ r.4) ++ r.5) new) (append_assoc reports r.1 r.2 ∙ ap (λ (l : List Report). reports ++ l) (sym r.3))
-    (subst (λ (l : List Request). Asked_So l ((reports ++ r.1) ++ r.2) ((wrote ++ r.4) ++ r.5) new) (append_assoc requests (new_requests event) (requests_in events) ∙ ap (λ (l : List Request). requests ++ l) (requests_of event events)) rest))
+run_so : (comes : LinkValue → List ℕ → Type 0) (events : List AskingEvent) (requests : List Request) (old new : SoFar) → RunsBy (AskingStepped comes) old events new → Asked_So requests old.1 old.2 old.0 → Asked_So (requests ++ requests_in events) new.1 new.2 new.0
+run_so comes [] requests old new r t =
+    subst (λ (x : SoFar). Asked_So (requests ++ []) x.1 x.2 x.0) (sym r) (subst (λ (l : List Request). Asked_So l old.1 old.2 old.0) (sym (append-nil requests)) t)
+run_so comes (event ∷ events) requests old new (mid, more, s, r) t =
+    subst (λ (l : List Request). Asked_So l new.1 new.2 new.0) (append_assoc requests (new_requests event) (requests_in events) ∙ ap (λ (l : List Request). requests ++ l) (requests_of event events))
+    (run_so comes events (requests ++ new_requests event) mid new r (step_so comes requests old mid event more s t))
 
 pub asked_nothing : (v : AskingValue) → HasAsked nothing_asked v → Asked_So [] [] [] v
 asked_nothing v h = record { past = nothing_asked; is = h; asked = refl; told = refl; packets = tt }
 
-pub run_promises : (events : List AskingEvent) (old new : AskingValue) (reports : List Report) (wrote : List Written) → HasAsked nothing_asked old → AskingRuns old events new reports wrote
+pub run_promises : (events : List AskingEvent) (old new : AskingValue) (reports : List Report) (wrote : List Written) → HasAsked nothing_asked old → AskingRuns AnyBytes old events new reports wrote
     → (past : AskingPast) × HasAsked past new × AskingPromises (requests_in events) reports past new wrote
 run_promises events old new reports wrote h r =
-    let t = run_so events [] [] reports [] wrote old new r (asked_nothing old h) in
+    let t = run_so AnyBytes events [] (old, [], []) (new, reports, wrote) r (asked_nothing old h) in
     (t.past, t.is, record { asked = t.asked; told = t.told; handed = (new.port.outbox, t.is.waiting); messages = t.is.messages; packets = t.packets })
 
 -- ---- From a peer.
@@ -162,30 +167,29 @@ sent_listens size messages old new packets w e t =
     record { past = t.past; is = still_sent old (sent_more old.port (length packets)) (length packets) refl t.past t.is; stands = (record { taken = t.stands.0.taken; held = t.stands.0.held }, t.stands.1) } in
     subst (Listens size messages) (sym (e ∙ ap (λ (p : PortValue). record old { port = p }) w.sent)) here
 
-step_listens : (size : ℕ) (messages : List (List ℕ)) (more : List Report) (ws : List Written) (old new : AskingValue) (event : AskingEvent) → IfHeard event (IsFromPeer old.port.link size messages) → AskingStepped old event new more ws
-    → Listens size messages old → Listens size messages new
-step_listens size messages more ws old new (By (Came bytes)) f s t =
+step_listens : (size : ℕ) (messages : List (List ℕ)) (old new : SoFar) (event : AskingEvent) (ws : List Written) → AskingStepped (IsFromPeer size messages) old event ws new → Listens size messages old.0 → Listens size messages new.0
+step_listens size messages (old, _, _) (new, _, _) (By (Came bytes)) ws (s, e) t =
     let g = grown old.port.link s.1 bytes s.0 s.2 in
     subst (Listens size messages) (sym s.3)
-    (record { past = t.past; is = still_received old s.1 g s.2.sends t.past t.is; stands = then_stands old.port.link s.1 size messages t.past.given bytes s.0 f t.stands s.2 })
-step_listens size messages more ws old new (Asks request) f s t =
+    (record { past = t.past; is = still_received old s.1 g s.2.sends t.past t.is; stands = then_stands old.port.link s.1 size messages t.past.given bytes s.0 s.6 t.stands s.2 })
+step_listens size messages (old, _, _) (new, _, _) (Asks request) ws s t =
     record { past = asked_one t.past old.accessing.own request; is = s.1.past t.past t.is; stands = asked_stands old size messages t.past.given new request s.0 s.1 t.stands }
-step_listens size messages more ws old new (By GoesOn) f s t =
-    let (heard, on, over) = s.2 in
-    let m = read_grows old heard more on in
+step_listens size messages (old, _, _) (new, _, _) (By GoesOn) ws (s, e) t =
+    let (heard, read, over) = s.2 in
+    let m = read_grows old heard read.0 read.2 in
     let g = m.past t.past t.is in
     let works : heard.port.link.failed ≡ false = ap (λ (l : LinkValue). l.failed) m.link ∙ t.stands.1 in
     let here : Listens size messages heard = record { past = g.0; is = g.1.is; stands = (g.1.stands size messages t.stands.0, works) } in
     sent_listens size messages s.0 new s.1 s.3 s.4 (handed_listens size messages heard s.0 over here)
-step_listens size messages more ws old new (By (Again i)) f s t = subst (Listens size messages) (sym s.3) t
-step_listens size messages more ws old new (By Acks) f s t = subst (Listens size messages) (sym s.2) t
+step_listens size messages (old, _, _) (new, _, _) (By (Again i)) ws (s, e) t = subst (Listens size messages) (sym s.3) t
+step_listens size messages (old, _, _) (new, _, _) (By Acks) ws (s, e) t = subst (Listens size messages) (sym s.2) t
 
-run_listens : (size : ℕ) (messages : List (List ℕ)) (events : List AskingEvent) (old new : AskingValue) → AskingRunsFrom size messages old events new → Listens size messages old → Listens size messages new
-run_listens size messages [] old new r t = subst (Listens size messages) (sym r) t
-run_listens size messages (event ∷ events) old new r t = run_listens size messages events r.0 new r.5 (step_listens size messages r.1 r.2 old r.0 event r.3 r.4 t)
+run_listens : (size : ℕ) (messages : List (List ℕ)) (events : List AskingEvent) (old new : SoFar) → RunsBy (AskingStepped (IsFromPeer size messages)) old events new → Listens size messages old.0 → Listens size messages new.0
+run_listens size messages [] old new r h = subst (λ (x : SoFar). Listens size messages x.0) (sym r) h
+run_listens size messages (event ∷ events) old new r h = run_listens size messages events r.0 new r.3 (step_listens size messages old r.0 event r.1 r.2 h)
 
-pub run_hears : (size : ℕ) (messages : List (List ℕ)) (events : List AskingEvent) (old new : AskingValue) → HasAsked nothing_asked old → Stands old.port.link size messages [] → old.port.link.failed ≡ false
-    → AskingRunsFrom size messages old events new → (past : AskingPast) × HasAsked past new × AreFrontOf messages past.answers
-run_hears size messages events old new h stands works r =
-    let t = run_listens size messages events old new r (record { past = nothing_asked; is = h; stands = (stands, works) }) in
+pub run_hears : (size : ℕ) (messages : List (List ℕ)) (events : List AskingEvent) (old new : AskingValue) (reports : List Report) (wrote : List Written) → HasAsked nothing_asked old → Stands old.port.link size messages [] → old.port.link.failed ≡ false
+    → AskingRuns (IsFromPeer size messages) old events new reports wrote → (past : AskingPast) × HasAsked past new × AreFrontOf messages past.answers
+run_hears size messages events old new reports wrote h stands works r =
+    let t = run_listens size messages events (old, [], []) (new, reports, wrote) r (record { past = nothing_asked; is = h; stands = (stands, works) }) in
     (t.past, t.is, served_front new.port.link size messages t.past.given new.port.place t.past.answers t.stands.0 t.is.gone)

@@ -17,16 +17,18 @@ use Rattle.dap_accessing.specs.Request.{Request}
 use Rattle.dap_accessing.specs.declared.report.Report.{Report}
 use Rattle.dap_accessing.specs.Asked.{Asked}
 use Rattle.dap_accessing.specs.Told.{Told}
+use Rattle.dap_end.specs.Inner.Pasts.{AreFull}
 use Rattle.dap_end.specs.Ports.{PortValue}
 use Rattle.nsp_link.specs.Receiving.{Receives}
 use Rattle.dap_end.specs.Going.{AreItemsOf, AreFrontOf}
 use Rattle.dap_end.specs.Writing.{AreWritten, WroteMore}
 use Rattle.dap_end.specs.Serving.{ServingValue, Past, IsAfter, answers_to, nothing_yet}
 use Rattle.dap_end.specs.Taking.{with_port}
-use Rattle.dap_end.specs.Asking.{AreFull, AskingValue, AskingPast, HasAsked, nothing_asked, asked_one}
+use Rattle.dap_end.specs.Asking.{AskingValue, AskingPast, HasAsked, nothing_asked, asked_one}
+use Rattle.dap_end.specs.Runs.{RunsBy}
 use Rattle.dap_end.specs.Headline.{Written, numbered, WroteOne, AreWrittenOf, EndEvent, Came, GoesOn, Again, Acks}
-use Rattle.dap_end.specs.Hearing.{AskingEvent, Asks, By, HandedOver, requests_in}
-use Rattle.dap_end.specs.Joined.{Pair, AreOpposite, AreNew, PairEvent, AtA, AtB, PairStepped, PairRuns, PairHeadline}
+use Rattle.dap_end.specs.Hearing.{AskingEvent, Asks, By, requests_in}
+use Rattle.dap_end.specs.Joined.{Pair, AreOpposite, AreNew, PairEvent, AtA, AtB, PairStepped, PairHeadline}
 use Rattle.dap_end.proofs.Taking.{grown}
 use Rattle.dap_end.proofs.Afterwards.{after_received}
 use Rattle.dap_end.proofs.Proceeding.{none_short, still_sent}
@@ -35,6 +37,7 @@ use Rattle.dap_end.proofs.Asked.{full-blocked, full-both, read_grows, still_rece
 use Rattle.dap_end.proofs.Asked as asked
 use Rattle.dap_end.proofs.Packets.{all_written, written_on, numbered_written, one_written}
 use Rattle.dap_end.proofs.Running.{in_append, answers_from, went_written}
+use Rattle.dap_end.proofs.Hearing.{HandedOver}
 use Rattle.dap_end.proofs.Ways.{AreTrue, IsWay, AreJoined, swapped, comes, moved, Moves, works, counts_numbered}
 
 -- ---- The items of NSP messages that are messages joined.
@@ -244,11 +247,11 @@ again_sent : (v : LinkValue) (i : ℕ) → i < v.sent - v.acked → IfSome (Some
 again_sent v i lt = omega arith
 
 wrote_b : (first : Files) (old new : Pair) (wrote : List Written) (w : Written) (k : Option ℕ) → WroteOne old.b.port.link k w → new.b ≡ old.b → wrote ≡ w ∷ [] → IfSome k (λ n. n ≤ old.b.port.link.sent)
-    → new ≡ record old { b = new.b; from_b = old.from_b ++ wrote } → IsLinked first old → IsLinked first new
-wrote_b first old new wrote w k one same is was e j =
+    → new.from_b ≡ old.from_b ++ wrote → new ≡ record old { b = new.b; from_b = new.from_b } → IsLinked first old → IsLinked first new
+wrote_b first old new wrote w k one same is was at e j =
     let back = swapped old.a.port.link old.b.port.link j.asked.handed j.served.handed j.asked.given j.served.given old.from_a old.from_b j.ways in
     let ways = wrote_one old.b.port.link old.a.port.link j.served.handed j.asked.handed j.served.given j.asked.given old.from_b old.from_a k w back j.serving.sends was one in
-    subst (IsLinked first) (sym (e ∙ ap (λ (v : ServingValue). record old { b = v; from_b = old.from_b ++ wrote }) same ∙ ap (λ (l : List Written). record old { from_b = old.from_b ++ l }) is))
+    subst (IsLinked first) (sym (e ∙ ap (λ (v : ServingValue). record old { b = v; from_b = new.from_b }) same ∙ ap (λ (l : List Written). record old { from_b = l }) (at ∙ ap (λ (l : List Written). old.from_b ++ l) is)))
     (record {
       asked = j.asked;
       asking = j.asking;
@@ -261,33 +264,34 @@ wrote_b first old new wrote w k one same is was e j =
     })
 
 -- each event
-serves : (first : Files) (old new : Pair) (event : EndEvent) → PairStepped old (AtB event) new → IsLinked first old → IsLinked first new
-serves first old new (Came bytes) s j =
-    let g = grown old.b.port.link s.2.1 bytes s.2.0 s.2.2 in
-    let ways = comes old.a.port.link old.b.port.link s.2.1 j.asked.handed j.served.handed j.asked.given j.served.given old.from_a old.from_b s.1.0 s.1.1 s.2.0 j.ways s.1.2 s.1.4
-    (subst (λ (x : List ℕ). Receives old.b.port.link s.2.1 x s.2.0) s.1.3 s.2.2) (written_on old.b.port.link s.2.1 g j.served.handed old.from_b j.ways.back.packets) in
-    subst (IsLinked first) (sym s.3)
+serves : (first : Files) (old new : Pair) (event : EndEvent) (ws : List Written) → PairStepped old (AtB event) ws new → IsLinked first old → IsLinked first new
+serves first old new (Came bytes) ws s j =
+    let t = s.0.0 in
+    let g = grown old.b.port.link t.1 bytes t.0 t.2 in
+    let ways = comes old.a.port.link old.b.port.link t.1 j.asked.handed j.served.handed j.asked.given j.served.given old.from_a old.from_b t.6.0 t.6.1 t.0 j.ways t.6.2 t.6.4
+    (subst (λ (x : List ℕ). Receives old.b.port.link t.1 x t.0) t.6.3 t.2) (written_on old.b.port.link t.1 g j.served.handed old.from_b j.ways.back.packets) in
+    subst (IsLinked first) (sym s.1)
     (record {
       asked = j.asked;
       asking = j.asking;
       served = j.served;
-      serving = subst (IsAfter j.served) (sym s.2.3) (after_received j.served old.b s.2.1 g s.2.2.sends j.serving);
+      serving = subst (IsAfter j.served) (sym t.3) (after_received j.served old.b t.1 g t.2.sends j.serving);
       had = j.had;
       requests = j.requests;
       told = j.told;
       ways =
-          subst (λ (l : List Written). AreJoined old.a.port.link new.b.port.link j.asked.handed j.served.handed j.asked.given j.served.given old.from_a l) (sym (ap (λ (l : List Written). old.from_b ++ l) s.2.4 ∙ append-nil old.from_b))
-          (subst (λ (v : ServingValue). AreJoined old.a.port.link v.port.link j.asked.handed j.served.handed j.asked.given j.served.given old.from_a old.from_b) (sym s.2.3) ways);
+          subst (λ (l : List Written). AreJoined old.a.port.link new.b.port.link j.asked.handed j.served.handed j.asked.given j.served.given old.from_a l) (sym (s.0.1 ∙ ap (λ (l : List Written). old.from_b ++ l) t.4 ∙ append-nil old.from_b))
+          (subst (λ (v : ServingValue). AreJoined old.a.port.link v.port.link j.asked.handed j.served.handed j.asked.given j.served.given old.from_a old.from_b) (sym t.3) ways);
     })
-serves first old new GoesOn s j =
-    let t = s.2 in
-    let more = t.2.past j.served j.serving in
-    let now = more.0 in
-    let g = more.1 in
+serves first old new GoesOn ws s j =
+    let t = s.0.0 in
+    let m = t.2.past j.served j.serving in
+    let now = m.0 in
+    let g = m.1 in
     let back = swapped old.a.port.link old.b.port.link j.asked.handed j.served.handed j.asked.given j.served.given old.from_a old.from_b j.ways in
     let ways = goes old.b.port.link old.a.port.link t.0.port.link new.b.port t.0.port j.served.handed j.asked.handed j.served.given j.asked.given g.handed.0 now.given now.handed old.from_b old.from_a t.1 back refl t.2.link t.3 g.handed.1 g.handed.2
     (g.stands old.a.port.link.setup.seg_size j.asked.handed back.back.stands) g.is.sends in
-    subst (IsLinked first) (sym s.3)
+    subst (IsLinked first) (sym s.1)
     (record {
       asked = j.asked;
       asking = j.asking;
@@ -297,23 +301,23 @@ serves first old new GoesOn s j =
       requests = j.requests;
       told = j.told;
       ways =
-          subst (λ (l : List Written). AreJoined old.a.port.link new.b.port.link j.asked.handed now.handed j.asked.given now.given old.from_a (old.from_b ++ l)) (sym t.5)
+          subst (λ (l : List Written). AreJoined old.a.port.link new.b.port.link j.asked.handed now.handed j.asked.given now.given old.from_a l) (sym (s.0.1 ∙ ap (λ (l : List Written). old.from_b ++ l) t.5))
           (swapped new.b.port.link old.a.port.link now.handed j.asked.handed now.given j.asked.given _ old.from_a ways);
     })
-serves first old new (Again i) s j = wrote_b first old new s.0 s.2.0 _ s.2.2 s.2.3 s.2.4 (again_sent old.b.port.link i s.2.1) s.3 j
-serves first old new Acks s j = wrote_b first old new s.0 s.2.0 _ s.2.1 s.2.2 s.2.3 tt s.3 j
+serves first old new (Again i) ws ((t, at), e) j = wrote_b first old new ws t.0 _ t.2 t.3 t.4 (again_sent old.b.port.link i t.1) at e j
+serves first old new Acks ws ((t, at), e) j = wrote_b first old new ws t.0 _ t.1 t.2 t.3 tt at e j
 
 -- ---- The end that asks is called.
 
-wrote_a : (first : Files) (old new : Pair) (event : AskingEvent) (reports : List Report) (wrote : List Written) (w : Written) (k : Option ℕ) → WroteOne old.a.port.link k w → new.a ≡ old.a → reports ≡ [] → wrote ≡ w ∷ [] → IfSome k (λ n. n ≤ old.a.port.link.sent)
-    → requests_in (event ∷ []) ≡ [] → new ≡ record old { a = new.a; from_a = old.from_a ++ wrote; requests = old.requests ++ requests_in (event ∷ []); reports = old.reports ++ reports } → IsLinked first old → IsLinked first new
-wrote_a first old new event reports wrote w k one same none is was quiet e j =
+wrote_a : (first : Files) (old new : Pair) (event : AskingEvent) (wrote : List Written) (w : Written) (k : Option ℕ) → WroteOne old.a.port.link k w → new.a ≡ old.a → new.reports ≡ old.reports → wrote ≡ w ∷ [] → IfSome k (λ n. n ≤ old.a.port.link.sent) → requests_in (event ∷ []) ≡ []
+    → new.from_a ≡ old.from_a ++ wrote → new ≡ record old { a = new.a; from_a = new.from_a; requests = old.requests ++ requests_in (event ∷ []); reports = new.reports } → IsLinked first old → IsLinked first new
+wrote_a first old new event wrote w k one same none is was quiet at e j =
     let ways = wrote_one old.a.port.link old.b.port.link j.asked.handed j.served.handed j.asked.given j.served.given old.from_a old.from_b k w j.ways j.asking.sends was one in
     let to : new ≡ record old { from_a = old.from_a ++ w ∷ [] } =
-    e ∙ ap (λ (v : AskingValue). record old { a = v; from_a = old.from_a ++ wrote; requests = old.requests ++ requests_in (event ∷ []); reports = old.reports ++ reports }) same
-    ∙ ap (λ (l : List Written). record old { from_a = old.from_a ++ l; requests = old.requests ++ requests_in (event ∷ []); reports = old.reports ++ reports }) is
-    ∙ ap (λ (l : List Request). record old { from_a = old.from_a ++ w ∷ []; requests = l; reports = old.reports ++ reports }) (ap (λ (l : List Request). old.requests ++ l) quiet ∙ append-nil old.requests)
-    ∙ ap (λ (l : List Report). record old { from_a = old.from_a ++ w ∷ []; reports = l }) (ap (λ (l : List Report). old.reports ++ l) none ∙ append-nil old.reports) in
+    e ∙ ap (λ (v : AskingValue). record old { a = v; from_a = new.from_a; requests = old.requests ++ requests_in (event ∷ []); reports = new.reports }) same
+    ∙ ap (λ (l : List Written). record old { from_a = l; requests = old.requests ++ requests_in (event ∷ []); reports = new.reports }) (at ∙ ap (λ (l : List Written). old.from_a ++ l) is)
+    ∙ ap (λ (l : List Request). record old { from_a = old.from_a ++ w ∷ []; requests = l; reports = new.reports }) (ap (λ (l : List Request). old.requests ++ l) quiet ∙ append-nil old.requests)
+    ∙ ap (λ (l : List Report). record old { from_a = old.from_a ++ w ∷ []; reports = l }) none in
     subst (IsLinked first) (sym to)
     (record {
       asked = j.asked;
@@ -362,14 +366,14 @@ hands past old heard handed h (inr k) =
 link_trans : (a b c : LinkValue) → b ≡ with_inbox a b.coming.inbox → c ≡ record (with_inbox b c.coming.inbox) { queue = c.queue } → c ≡ record (with_inbox a c.coming.inbox) { queue = c.queue }
 link_trans a b c ab bc = bc ∙ ap (λ (l : LinkValue). record (with_inbox l c.coming.inbox) { queue = c.queue }) ab
 
-asks : (first : Files) (old new : Pair) (event : AskingEvent) → PairStepped old (AtA event) new → IsLinked first old → IsLinked first new
-asks first old new (By (Came bytes)) s j =
-    let t = s.3 in
+asks : (first : Files) (old new : Pair) (event : AskingEvent) (ws : List Written) → PairStepped old (AtA event) ws new → IsLinked first old → IsLinked first new
+asks first old new (By (Came bytes)) ws s j =
+    let t = s.0.0 in
     let g = grown old.a.port.link t.1 bytes t.0 t.2 in
     let back = swapped old.a.port.link old.b.port.link j.asked.handed j.served.handed j.asked.given j.served.given old.from_a old.from_b j.ways in
-    let ways = comes old.b.port.link old.a.port.link t.1 j.served.handed j.asked.handed j.served.given j.asked.given old.from_b old.from_a s.2.0 s.2.1 t.0 back s.2.2 s.2.4
-    (subst (λ (x : List ℕ). Receives old.a.port.link t.1 x t.0) s.2.3 t.2) (written_on old.a.port.link t.1 g j.asked.handed old.from_a j.ways.there.packets) in
-    subst (IsLinked first) (sym s.4)
+    let ways = comes old.b.port.link old.a.port.link t.1 j.served.handed j.asked.handed j.served.given j.asked.given old.from_b old.from_a t.6.0 t.6.1 t.0 back t.6.2 t.6.4
+    (subst (λ (x : List ℕ). Receives old.a.port.link t.1 x t.0) t.6.3 t.2) (written_on old.a.port.link t.1 g j.asked.handed old.from_a j.ways.there.packets) in
+    subst (IsLinked first) (sym s.1)
     (record {
       asked = j.asked;
       asking = subst (HasAsked j.asked) (sym t.3) (still_received old.a t.1 g t.2.sends j.asked j.asking);
@@ -377,16 +381,16 @@ asks first old new (By (Came bytes)) s j =
       serving = j.serving;
       had = j.had;
       requests = j.requests ∙ sym (append-nil old.requests);
-      told = ap (λ (l : List Report). old.reports ++ l) t.5 ∙ append-nil old.reports ∙ j.told;
+      told = t.5 ∙ j.told;
       ways =
-          subst (λ (l : List Written). AreJoined new.a.port.link old.b.port.link j.asked.handed j.served.handed j.asked.given j.served.given l old.from_b) (sym (ap (λ (l : List Written). old.from_a ++ l) t.4 ∙ append-nil old.from_a))
+          subst (λ (l : List Written). AreJoined new.a.port.link old.b.port.link j.asked.handed j.served.handed j.asked.given j.served.given l old.from_b) (sym (s.0.1 ∙ ap (λ (l : List Written). old.from_a ++ l) t.4 ∙ append-nil old.from_a))
           (subst (λ (v : AskingValue). AreJoined v.port.link old.b.port.link j.asked.handed j.served.handed j.asked.given j.served.given old.from_a old.from_b) (sym t.3)
           (swapped old.b.port.link t.1 j.served.handed j.asked.handed j.served.given j.asked.given old.from_b old.from_a ways));
     })
-asks first old new (Asks request) s j =
-    let t = s.3 in
+asks first old new (Asks request) ws s j =
+    let t = s.0 in
     let a = t.1 in
-    subst (IsLinked first) (sym s.4)
+    subst (IsLinked first) (sym s.1)
     (record {
       asked = asked_one j.asked old.a.accessing.own request;
       asking = a.past j.asked j.asking;
@@ -394,15 +398,15 @@ asks first old new (Asks request) s j =
       serving = j.serving;
       had = j.had;
       requests = ap (λ (l : List Request). l ++ request ∷ []) j.requests;
-      told = ap (λ (l : List Report). old.reports ++ l) t.2 ∙ append-nil old.reports ∙ j.told ∙ sym (a.asks.told j.asked.requests j.asked.answers j.asking.asking);
+      told = t.3 ∙ j.told ∙ sym (a.asks.told j.asked.requests j.asked.answers j.asking.asking);
       ways =
-          subst (λ (l : List Written). AreJoined new.a.port.link old.b.port.link j.asked.handed j.served.handed j.asked.given j.served.given l old.from_b) (sym (ap (λ (l : List Written). old.from_a ++ l) t.3 ∙ append-nil old.from_a))
+          subst (λ (l : List Written). AreJoined new.a.port.link old.b.port.link j.asked.handed j.served.handed j.asked.given j.served.given l old.from_b) (sym t.4)
           (subst (λ (x : PortValue). AreJoined x.link old.b.port.link j.asked.handed j.served.handed j.asked.given j.served.given old.from_a old.from_b) (sym a.port) j.ways);
     })
-asks first old new (By GoesOn) s j =
-    let t = s.3 in
-    let (heard, on, over) = t.2 in
-    let m = read_grows old.a heard s.0 on in
+asks first old new (By GoesOn) ws s j =
+    let t = s.0.0 in
+    let (heard, all, over) = t.2 in
+    let m = read_grows old.a heard all.0 all.2 in
     let read = m.past j.asked j.asking in
     let g = read.1 in
     let h = hands read.0 old.a heard t.0 g.is over in
@@ -412,7 +416,7 @@ asks first old new (By GoesOn) s j =
     h.same old.b.port.link.setup.seg_size j.served.handed h.now.given (subst (λ (l : List (List ℕ)). Stands heard.port.link old.b.port.link.setup.seg_size j.served.handed l) (sym h.given) (g.stands old.b.port.link.setup.seg_size j.served.handed j.ways.back.stands)) in
     let ways = goes old.a.port.link old.b.port.link t.0.port.link new.a.port t.0.port j.asked.handed j.served.handed j.asked.given j.served.given h.more h.now.given h.now.handed old.from_a old.from_b t.1 j.ways refl
     (link_trans old.a.port.link heard.port.link t.0.port.link m.link h.link) t.3 (h.more_is ∙ ap (λ (l : List (List ℕ)). l ++ h.more) g.handed) short stands h.is.sends in
-    subst (IsLinked first) (sym s.4)
+    subst (IsLinked first) (sym s.1)
     (record {
       asked = h.now;
       asking = subst (HasAsked h.now) (sym t.4) (asked.still_sent t.0 new.a.port (length t.1) t.3.sent h.now h.is);
@@ -420,21 +424,21 @@ asks first old new (By GoesOn) s j =
       serving = j.serving;
       had = j.had;
       requests = h.requests ∙ g.requests ∙ j.requests ∙ sym (append-nil old.requests);
-      told = ap (λ (l : List Report). l ++ s.0) j.told ∙ sym g.told ∙ ap (λ (l : List Request). Told l read.0.answers) (sym (h.requests ∙ g.requests)) ∙ ap (Told h.now.requests) (sym h.answers);
-      ways = subst (λ (l : List Written). AreJoined new.a.port.link old.b.port.link h.now.handed j.served.handed h.now.given j.served.given (old.from_a ++ l) old.from_b) (sym t.5) ways;
+      told = all.1 ∙ ap (λ (l : List Report). l ++ all.0) j.told ∙ sym g.told ∙ ap (λ (l : List Request). Told l read.0.answers) (sym (h.requests ∙ g.requests)) ∙ ap (Told h.now.requests) (sym h.answers);
+      ways = subst (λ (l : List Written). AreJoined new.a.port.link old.b.port.link h.now.handed j.served.handed h.now.given j.served.given l old.from_b) (sym (s.0.1 ∙ ap (λ (l : List Written). old.from_a ++ l) t.5)) ways;
     })
-asks first old new (By (Again i)) s j = wrote_a first old new (By (Again i)) s.0 s.1 s.3.0 _ s.3.2 s.3.3 s.3.5 s.3.4 (again_sent old.a.port.link i s.3.1) refl s.4 j
-asks first old new (By Acks) s j = wrote_a first old new (By Acks) s.0 s.1 s.3.0 _ s.3.1 s.3.2 s.3.4 s.3.3 tt refl s.4 j
+asks first old new (By (Again i)) ws ((t, at), e) j = wrote_a first old new (By (Again i)) ws t.0 _ t.2 t.3 t.5 t.4 (again_sent old.a.port.link i t.1) refl at e j
+asks first old new (By Acks) ws ((t, at), e) j = wrote_a first old new (By Acks) ws t.0 _ t.1 t.2 t.4 t.3 tt refl at e j
 
 -- ---- All events.
 
-pair_step : (first : Files) (old new : Pair) (event : PairEvent) → PairStepped old event new → IsLinked first old → IsLinked first new
-pair_step first old new (AtA event) s j = asks first old new event s j
-pair_step first old new (AtB event) s j = serves first old new event s j
+pair_step : (first : Files) (old new : Pair) (event : PairEvent) (ws : List Written) → PairStepped old event ws new → IsLinked first old → IsLinked first new
+pair_step first old new (AtA event) ws s j = asks first old new event ws s j
+pair_step first old new (AtB event) ws s j = serves first old new event ws s j
 
-pair_run : (first : Files) (events : List PairEvent) (old new : Pair) → PairRuns old events new → IsLinked first old → IsLinked first new
+pair_run : (first : Files) (events : List PairEvent) (old new : Pair) → RunsBy PairStepped old events new → IsLinked first old → IsLinked first new
 pair_run first [] old new r j = subst (IsLinked first) (sym r) j
-pair_run first (event ∷ events) old new r j = pair_run first events r.0 new r.2 (pair_step first old r.0 event r.1 j)
+pair_run first (event ∷ events) old new r j = pair_run first events r.0 new r.3 (pair_step first old r.0 event r.1 r.2 j)
 
-pub pair_headline : (s t : LinkSetup) (first : Files) (events : List PairEvent) (old new : Pair) → AreOpposite s t → AreNew s t first old → PairRuns old events new → PairHeadline first new
+pub pair_headline : (s t : LinkSetup) (first : Files) (events : List PairEvent) (old new : Pair) → AreOpposite s t → AreNew s t first old → RunsBy PairStepped old events new → PairHeadline first new
 pair_headline s t first events old new o n r = headline first new (pair_run first events old new r (new_pair s t first old o n))

@@ -12,13 +12,14 @@ use Rattle.std.specs.declared.cmp.Ordering.TheVariants.{Less, Equal, Greater}
 use Rattle.std.specs.Ordering.{match_ordering}
 use Rattle.nsp_link.specs.Link.{LinkValue, piece_of, failed_link}
 use Rattle.nsp_link.specs.Receiving.{Received, run, segment_of, taking_in, is_end, ReceivedBytes, Receives}
+use Rattle.dap_end.specs.Inner.Pasts.{served}
 use Rattle.dap_end.specs.declared.fault.EndFault.{EndFault}
 use Rattle.dap_end.specs.declared.fault.EndFault.TheVariants as end_fault
 use Rattle.dap_end.specs.declared.fault.TakeFault.{TakeFault}
 use Rattle.dap_end.specs.declared.fault.TakeFault.TheVariants as take_fault
 use Rattle.dap_end.specs.Ports.{PortValue, HasCome, with_link}
 use Rattle.dap_end.specs.Writing.{sent_more}
-use Rattle.dap_end.specs.Serving.{ServingValue, Past, IsAfter, IsStill, ServedOne, PostedAll, nothing_yet, served}
+use Rattle.dap_end.specs.Serving.{ServingValue, Past, IsAfter, IsStill, ServedOne, PostedAll, nothing_yet}
 use Rattle.dap_end.specs.Turns.{WroteThen, TookIn, Takes}
 use Rattle.dap_end.specs.Taking.{ServedOn, begins, goes, ServedUp, ServeFault, serves, GoesOn, with_port}
 use Rattle.dap_end.proofs.Refusing.{taken_count}

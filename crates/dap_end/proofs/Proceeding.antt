@@ -9,12 +9,13 @@ use Rattle.nsp_link.specs.declared.fault.LinkFault.{LinkFault}
 use Rattle.nsp_link.specs.declared.fault.LinkFault.TheVariants as fault
 use Rattle.nsp_link.specs.Link.{LinkValue, Stands, MaySend, with_inbox}
 use Rattle.nsp_link.specs.Sending.{AreShort}
+use Rattle.dap_end.specs.Inner.Pasts.{served}
 use Rattle.dap_end.specs.declared.fault.EndFault.{EndFault}
 use Rattle.dap_end.specs.declared.fault.EndFault.TheVariants as end_fault
 use Rattle.dap_end.specs.Ports.{PortValue, posted}
-use Rattle.dap_end.specs.Serving.{ServingValue, Past, IsAfter, ServedOne, PostedAll, MayServe, IsStill, served}
+use Rattle.dap_end.specs.Serving.{ServingValue, Past, IsAfter, ServedOne, PostedAll, MayServe, IsStill}
 use Rattle.dap_end.specs.Writing.{sent_more, IsFull, WroteAll}
-use Rattle.dap_end.specs.Taking.{SameCounts, Grew, ServedMore, ServedOn, begins, goes, ServedUp, IsServed, ServeFault, serves, GoesOn, with_port}
+use Rattle.dap_end.specs.Taking.{Grew, ServedMore, ServedOn, begins, goes, ServedUp, IsServed, ServeFault, serves, GoesOn, with_port}
 use Rattle.dap_end.proofs.ServingOne.{port_given}
 use Rattle.dap_end.proofs.Turning.{went_by}
 
@@ -30,6 +31,10 @@ more_none v =
       own = refl;
       past = λ past h. (past, record { is = h; first = refl; items = ([], sym (append-nil past.items)); handed = ([], sym (append-nil past.handed), none_short v.port.link); given = refl; stands = λ size messages s. s });
     }
+
+-- what came and what is queued may have moved
+abbrev SameCounts : LinkValue → LinkValue → Type 0
+SameCounts old new = new ≡ record (with_inbox old new.coming.inbox) { queue = new.queue }
 
 counts_trans : (a b c : LinkValue) → SameCounts a b → SameCounts b c → SameCounts a c
 counts_trans a b c ab bc = bc ∙ ap (λ (l : LinkValue). record (with_inbox l c.coming.inbox) { queue = c.queue }) ab

@@ -1,5 +1,5 @@
 -- What a list of a serving end's calls leaves.
-use Rattle.std.proofs.Common.{◌≡◌, ℕ, ◌+◌, ◌<◌, refl, sym, ◌∙◌, subst, ap, append_assoc, true, false, List, [], ◌∷◌, ◌++◌, length, inl, inr, arith}
+use Rattle.std.proofs.Common.{◌≡◌, ℕ, ◌+◌, ◌<◌, refl, sym, ◌∙◌, subst, ap, append_assoc, true, false, List, [], ◌∷◌, ◌++◌, length, inl, inr}
 use Rattle.std.specs.Prelude.{Bool, ◌-◌, Option, Some, None, Result, Ok, Err}
 use Rattle.std.proofs.lemmas.List.{append-nil, map-append}
 use Rattle.dap_msg.specs.Items.{Item}
@@ -19,11 +19,12 @@ use Rattle.dap_end.specs.declared.fault.EndFault.{EndFault}
 use Rattle.dap_end.specs.Ports.{PortValue}
 use Rattle.nsp_link.specs.Receiving.{Receives}
 use Rattle.dap_end.specs.Going.{AreFrontOf}
-use Rattle.dap_end.specs.Writing.{IsWithin, sent_more, wants_ack, WroteNext, WroteMore, WroteAll}
+use Rattle.dap_end.specs.Writing.{sent_more, wants_ack, WroteMore, WroteAll}
 use Rattle.dap_end.specs.Serving.{ServingValue, Past, IsAfter, answers_to, nothing_yet, ServedOne, PostedAll}
 use Rattle.dap_end.specs.Turns.{WroteThen, WentOn, TookIn, TookThen}
 use Rattle.dap_end.specs.Taking.{ServedMore, with_port, ServeFault, serves}
-use Rattle.dap_end.specs.Headline.{Written, numbered, bytes_of, WroteOne, EndEvent, Came, GoesOn, Again, Acks, Stepped, Runs, AreWrittenOf, Promises, IsFromPeer, IfCame, RunsFrom, AreCalls}
+use Rattle.dap_end.specs.Runs.{RunsBy}
+use Rattle.dap_end.specs.Headline.{Written, numbered, bytes_of, WroteOne, EndEvent, Came, GoesOn, Again, Acks, AnyBytes, EndStepped, Stepped, Runs, AreWrittenOf, Promises, IsFromPeer, AreCalls}
 use Rattle.dap_end.proofs.Taking.{grown}
 use Rattle.dap_end.proofs.Afterwards.{after_received}
 use Rattle.dap_end.proofs.Fronts.{served_front}
@@ -105,21 +106,30 @@ went old served new packets first wrote ws m w e is d =
       packets = went_written old.port.link served.port.link new.port.link d.past.handed more.1.handed.0 now.handed wrote ws m.link more.1.handed.1 (sent_link served.port new.port (length packets) w.sent) d.packets after;
     }
 
-pub step : (old new : ServingValue) (event : EndEvent) (first : Files) (wrote ws : List Written) → Stepped old event new ws → Did first old wrote → Did first new (wrote ++ ws)
-step old new (Came bytes) first wrote ws t d =
+-- the end, and the packets so far
+abbrev Wrote : Type 0
+Wrote = ServingValue × List Written
+
+-- an event of the end alone
+abbrev Stepping : (comes : LinkValue → List ℕ → Type 0) → ServingValue → EndEvent → ServingValue → List Written → Type 0
+Stepping comes old event new ws = EndStepped serves ServedMore comes old event new ws
+
+step_end : (comes : LinkValue → List ℕ → Type 0) (old new : ServingValue) (event : EndEvent) (first : Files) (wrote ws : List Written) → Stepping comes old event new ws → Did first old wrote → Did first new (wrote ++ ws)
+step_end comes old new (Came bytes) first wrote ws t d =
     let g = grown old.port.link t.1 bytes t.0 t.2 in
     no_more first new wrote ws t.4
     (subst (λ (v : ServingValue). Did first v wrote) (sym t.3)
     (record { past = d.past; is = after_received d.past old t.1 g t.2.sends d.is; had = d.had; packets = written_on old.port.link t.1 g d.past.handed wrote d.packets }))
-step old new GoesOn first wrote ws t d = went old t.0 new t.1 first wrote ws t.2 t.3 t.4 t.5 d
-step old new (Again i) first wrote ws t d = one_more first old new wrote ws _ t.0 t.2 t.3 t.4 d
-step old new Acks first wrote ws t d = one_more first old new wrote ws _ t.0 t.1 t.2 t.3 d
+step_end comes old new GoesOn first wrote ws t d = went old t.0 new t.1 first wrote ws t.2 t.3 t.4 t.5 d
+step_end comes old new (Again i) first wrote ws t d = one_more first old new wrote ws _ t.0 t.2 t.3 t.4 d
+step_end comes old new Acks first wrote ws t d = one_more first old new wrote ws _ t.0 t.1 t.2 t.3 d
 
-pub run : (events : List EndEvent) (old new : ServingValue) (first : Files) (wrote ws : List Written) → Runs old events new ws → Did first old wrote → Did first new (wrote ++ ws)
-run [] old new first wrote ws r d = no_more first new wrote ws r.1 (subst (λ (v : ServingValue). Did first v wrote) (sym r.0) d)
-run (event ∷ events) old new first wrote ws r d =
-    subst (Did first new) (append_assoc wrote r.1 r.2 ∙ ap (λ (l : List Written). wrote ++ l) (sym r.3))
-    (run events r.0 new first (wrote ++ r.1) r.2 r.5 (step old r.0 event first wrote r.1 r.4 d))
+step : (comes : LinkValue → List ℕ → Type 0) (old new : Wrote) (event : EndEvent) (first : Files) (ws : List Written) → Stepped comes old event ws new → Did first old.0 old.1 → Did first new.0 new.1
+step comes (old, wrote) (new, all) event first ws (t, e) d = subst (Did first new) (sym e) (step_end comes old new event first wrote ws t d)
+
+pub run : (comes : LinkValue → List ℕ → Type 0) (events : List EndEvent) (old new : Wrote) (first : Files) → RunsBy (Stepped comes) old events new → Did first old.0 old.1 → Did first new.0 new.1
+run comes [] old new first r d = subst (λ (x : Wrote). Did first x.0 x.1) (sym r) d
+run comes (event ∷ events) old new first r d = run comes events r.0 new first r.3 (step comes old r.0 event first r.1 r.2 d)
 
 pub did_nothing : (first : Files) (v : ServingValue) → IsAfter (nothing_yet first) v → Did first v []
 did_nothing first v h = record { past = nothing_yet first; is = h; had = refl; packets = tt }
@@ -138,7 +148,7 @@ record Hears (size : ℕ) (messages : List (List ℕ)) (first : Files) (v : Serv
 abbrev pub StandsThen : LinkValue → ℕ → List (List ℕ) → List (List ℕ) → Type 0
 StandsThen link size messages given = Stands link size messages given × (link.failed ≡ false)
 
-pub then_stands : (old link : LinkValue) (size : ℕ) (messages given : List (List ℕ)) (bytes : List ℕ) (r : Result Got LinkFault) → IsFromPeer old size messages bytes → StandsThen old size messages given → Receives old link bytes r
+pub then_stands : (old link : LinkValue) (size : ℕ) (messages given : List (List ℕ)) (bytes : List ℕ) (r : Result Got LinkFault) → IsFromPeer size messages old bytes → StandsThen old size messages given → Receives old link bytes r
     → StandsThen link size messages given
 then_stands old link size messages given bytes (Ok got) f s h =
     let told = h.due size messages given f.0 f.1 f.2 f.3 (s.1, s.0, f.4) in (told.2, (is_delivered old link f.1 f.2 told.1).failed ∙ s.1)
@@ -161,59 +171,53 @@ went_hears old served new sent size messages first m e h =
       works = works;
     })
 
-step_hears : (old new : ServingValue) (event : EndEvent) (ws : List Written) (size : ℕ) (messages : List (List ℕ)) (first : Files) → IfCame event (IsFromPeer old.port.link size messages) → Stepped old event new ws → Hears size messages first old
-    → Hears size messages first new
-step_hears old new (Came bytes) ws size messages first f t h =
+step_hears : (old new : ServingValue) (event : EndEvent) (ws : List Written) (size : ℕ) (messages : List (List ℕ)) (first : Files) → Stepping (IsFromPeer size messages) old event new ws → Hears size messages first old → Hears size messages first new
+step_hears old new (Came bytes) ws size messages first t h =
     let g = grown old.port.link t.1 bytes t.0 t.2 in
-    let s = then_stands old.port.link t.1 size messages h.past.given bytes t.0 f (h.stands, h.works) t.2 in
+    let s = then_stands old.port.link t.1 size messages h.past.given bytes t.0 t.6 (h.stands, h.works) t.2 in
     subst (Hears size messages first) (sym t.3)
     (record { past = h.past; is = after_received h.past old t.1 g t.2.sends h.is; had = h.had; stands = s.0; works = s.1 })
-step_hears old new GoesOn ws size messages first f t h = went_hears old t.0 new (length t.1) size messages first t.2 (t.4 ∙ ap (with_port t.0) t.3.sent) h
-step_hears old new (Again i) ws size messages first f t h = subst (Hears size messages first) (sym t.3) h
-step_hears old new Acks ws size messages first f t h = subst (Hears size messages first) (sym t.2) h
+step_hears old new GoesOn ws size messages first t h = went_hears old t.0 new (length t.1) size messages first t.2 (t.4 ∙ ap (with_port t.0) t.3.sent) h
+step_hears old new (Again i) ws size messages first t h = subst (Hears size messages first) (sym t.3) h
+step_hears old new Acks ws size messages first t h = subst (Hears size messages first) (sym t.2) h
 
-run_hears : (events : List EndEvent) (old new : ServingValue) (size : ℕ) (messages : List (List ℕ)) (first : Files) → RunsFrom size messages old events new → Hears size messages first old → Hears size messages first new
-run_hears [] old new size messages first r h = subst (Hears size messages first) (sym r) h
-run_hears (event ∷ events) old new size messages first r h = run_hears events r.0 new size messages first r.4 (step_hears old r.0 event r.1 size messages first r.2 r.3 h)
+run_hears : (events : List EndEvent) (old new : Wrote) (size : ℕ) (messages : List (List ℕ)) (first : Files) → RunsBy (Stepped (IsFromPeer size messages)) old events new → Hears size messages first old.0 → Hears size messages first new.0
+run_hears [] old new size messages first r h = subst (λ (x : Wrote). Hears size messages first x.0) (sym r) h
+run_hears (event ∷ events) old new size messages first r h = run_hears events r.0 new size messages first r.3 (step_hears old.0 r.0.0 event r.1 size messages first r.2.0 h)
 
-pub run_from : (events : List EndEvent) (old new : ServingValue) (size : ℕ) (messages : List (List ℕ)) (past : Past) → IsAfter past old → Stands old.port.link size messages past.given → old.port.link.failed ≡ false
-    → RunsFrom size messages old events new → (now : Past) × IsAfter now new × (now.first ≡ past.first) × AreFrontOf messages now.items
-run_from events old new size messages past is stands works r =
-    let h = run_hears events old new size messages past.first r (record { past = past; is = is; had = refl; stands = stands; works = works }) in
+pub run_from : (events : List EndEvent) (old new : ServingValue) (wrote : List Written) (size : ℕ) (messages : List (List ℕ)) (past : Past) → IsAfter past old → Stands old.port.link size messages past.given → old.port.link.failed ≡ false
+    → Runs (IsFromPeer size messages) old events new wrote → (now : Past) × IsAfter now new × (now.first ≡ past.first) × AreFrontOf messages now.items
+run_from events old new wrote size messages past is stands works r =
+    let h = run_hears events (old, []) (new, wrote) size messages past.first r (record { past = past; is = is; had = refl; stands = stands; works = works }) in
     (h.past, h.is, h.had, served_front new.port.link size messages h.past.given new.port.place h.past.items h.stands h.is.gone)
 
 -- ---- Calls are runs.
 
-one_event : (old new : ServingValue) (event : EndEvent) (ws : List Written) → Stepped old event new ws → Runs old (event ∷ []) new ws
-one_event old new event ws s = (new, ws, [], sym (append-nil ws), s, (refl, refl))
+one_event : (old new : ServingValue) (event : EndEvent) (ws : List Written) → Stepping AnyBytes old event new ws → Runs AnyBytes old (event ∷ []) new ws
+one_event old new event ws s = ((new, ws), ws, (s, refl), refl)
 
 -- served and handed over, and nothing written
-served_only : (old new : ServingValue) → ServedMore old new → Stepped old GoesOn new []
+served_only : (old new : ServingValue) → ServedMore old new → Stepping AnyBytes old GoesOn new []
 served_only old new m = (new, [], m, wrote_nothing new.port, refl, refl)
 
-pub serving_is : (old new : ServingValue) (n : ℕ) → ServedOne old new n → Runs old (GoesOn ∷ []) new []
+pub serving_is : (old new : ServingValue) (n : ℕ) → ServedOne old new n → Runs AnyBytes old (GoesOn ∷ []) new []
 serving_is old new n s = one_event old new GoesOn [] (served_only old new (more_served old new n s))
 
-pub posting_is : (old new : ServingValue) (n : ℕ) → PostedAll old new n → Runs old (GoesOn ∷ []) new []
+pub posting_is : (old new : ServingValue) (n : ℕ) → PostedAll old new n → Runs AnyBytes old (GoesOn ∷ []) new []
 posting_is old new n p = one_event old new GoesOn [] (served_only old new (more_posted old new n p))
 
-pub one_segment : (p new : PortValue) (bytes : List ℕ) → WroteNext p new bytes → WroteMore p new (bytes ∷ [])
-one_segment p new bytes w =
-    record {
-      sent = w.sent;
-      writes = λ handed sends. (w.writes handed sends, tt);
-      within = λ some. subst (λ (q : PortValue). IsWithin q.link) (sym w.sent) (let may = w.may in (omega arith, omega arith));
-    }
-
-pub writing_is : (old new : ServingValue) (bytes : List ℕ) → new ≡ with_port old new.port → WroteNext old.port new.port bytes → Runs old (GoesOn ∷ []) new (numbered (old.port.link.sent + 1) old.port.link.coming.received (bytes ∷ []))
-writing_is old new bytes rest w = one_event old new GoesOn _ (old, bytes ∷ [], more_none old, one_segment old.port new.port bytes w, rest, refl)
+pub writing_is : (old new : ServingValue) (bytes : List ℕ) → new ≡ with_port old new.port → WroteMore old.port new.port (bytes ∷ []) → Runs AnyBytes old (GoesOn ∷ []) new (numbered (old.port.link.sent + 1) old.port.link.coming.received (bytes ∷ []))
+writing_is old new bytes rest w = one_event old new GoesOn _ (old, bytes ∷ [], more_none old, w, rest, refl)
 
 pub again_is : (v : ServingValue) (i : ℕ) (bytes : List ℕ) → i < v.port.link.sent - v.port.link.acked → WritesSent v.port.link (Some (v.port.link.acked + 1 + i)) bytes
-    → Runs v (Again i ∷ []) v (record { bytes = bytes; segment = Some (v.port.link.acked + 1 + i); acks = v.port.link.coming.received } ∷ [])
+    → Runs AnyBytes v (Again i ∷ []) v (record { bytes = bytes; segment = Some (v.port.link.acked + 1 + i); acks = v.port.link.coming.received } ∷ [])
 again_is v i bytes lt w = one_event v v (Again i) _ (record { bytes = bytes; segment = Some (v.port.link.acked + 1 + i); acks = v.port.link.coming.received }, lt, (refl, refl, w), refl, refl, tt)
 
-pub ack_is : (v : ServingValue) (bytes : List ℕ) → IsSpelling (ack_packet_of v.port.link) bytes → Runs v (Acks ∷ []) v (record { bytes = bytes; segment = None; acks = v.port.link.coming.received } ∷ [])
-ack_is v bytes s = one_event v v Acks _ (record { bytes = bytes; segment = None; acks = v.port.link.coming.received }, (refl, refl, ack_written v.port.link bytes s), refl, refl, tt)
+ack_step : (v : ServingValue) (bytes : List ℕ) → IsSpelling (ack_packet_of v.port.link) bytes → Stepping AnyBytes v Acks v (record { bytes = bytes; segment = None; acks = v.port.link.coming.received } ∷ [])
+ack_step v bytes s = (record { bytes = bytes; segment = None; acks = v.port.link.coming.received }, (refl, refl, ack_written v.port.link bytes s), refl, refl, tt)
+
+pub ack_is : (v : ServingValue) (bytes : List ℕ) → IsSpelling (ack_packet_of v.port.link) bytes → Runs AnyBytes v (Acks ∷ []) v (record { bytes = bytes; segment = None; acks = v.port.link.coming.received } ∷ [])
+ack_is v bytes s = one_event v v Acks _ (ack_step v bytes s)
 
 pub numbered_bytes : (k a : ℕ) (packets : List (List ℕ)) → bytes_of (numbered k a packets) ≡ packets
 numbered_bytes k a [] = refl
@@ -227,11 +231,11 @@ pub going_is : (old new : ServingValue) (out all : List (List ℕ)) → WroteThe
 going_is old new out all w =
     (_, one_event old new GoesOn _ (w.mid, w.wrote.0, up_grew old w.mid w.done.0, w.wrote.2, w.rest, refl), behind out all w.wrote.0 _ _ w.wrote.1)
 
-came : (old new : ServingValue) (bytes : List ℕ) (r : Result Got LinkFault) → TookIn serves old new bytes r → Stepped old (Came bytes) new []
-came old new bytes r t = (r, new.port.link, t.receives, t.rest, refl, tt)
+came : (old new : ServingValue) (bytes : List ℕ) (r : Result Got LinkFault) → TookIn serves old new bytes r → Stepping AnyBytes old (Came bytes) new []
+came old new bytes r t = (r, new.port.link, t.receives, t.rest, refl, tt, tt)
 
-took_by : (old mid new : ServingValue) (bytes : List ℕ) (events : List EndEvent) (out all : List (List ℕ)) → Stepped old (Came bytes) mid [] → AreCalls mid events new out all → AreCalls old (Came bytes ∷ events) new out all
-took_by old mid new bytes events out all s c = (c.0, (mid, [], c.0, refl, s, c.1), c.2)
+took_by : (old mid new : ServingValue) (bytes : List ℕ) (events : List EndEvent) (out all : List (List ℕ)) → Stepping AnyBytes old (Came bytes) mid [] → AreCalls mid events new out all → AreCalls old (Came bytes ∷ events) new out all
+took_by old mid new bytes events out all s c = (c.0, ((mid, []), [], (s, refl), c.1), c.2)
 
 bytes_append : (xs ys : List Written) → bytes_of (xs ++ ys) ≡ bytes_of xs ++ bytes_of ys
 bytes_append xs ys = map-append (λ (w : Written). w.bytes) xs ys
@@ -252,7 +256,7 @@ answered_is old served new got out all packets written true m rest w is e quiet 
       GoesOn ∷ Acks ∷ [],
       (
         first ++ last ∷ [],
-        (new, first, last ∷ [], refl, (served, written, m, w, rest, refl), ack_is new a.0 a.2),
+        ((new, first), first, ((served, written, m, w, rest, refl), refl), ((new, first ++ last ∷ []), last ∷ [], (ack_step new a.0 a.2, refl), refl)),
         is ∙ ap (λ (l : List (List ℕ)). out ++ l) (a.1 ∙ ap (λ (l : List (List ℕ)). l ++ a.0 ∷ []) (sym (numbered_bytes _ _ written)) ∙ sym (bytes_append first (last ∷ []))),
       ),
     )
@@ -278,5 +282,5 @@ part_is old new bytes got out all f (mid, t, inr h) =
     took_by old mid new bytes (GoesOn ∷ []) out all (came old mid bytes (Ok got) t)
     (going_is mid new out all (record { mid = w.mid; done = w.done; rest = w.rest; still = w.still; wrote = (w.wrote.packets, w.wrote.behind, w.wrote.wrote) }))
 
-pub refusing_is : (old new : ServingValue) (bytes : List ℕ) (f : LinkFault) → TookIn serves old new bytes (Err f) → Runs old (Came bytes ∷ []) new []
+pub refusing_is : (old new : ServingValue) (bytes : List ℕ) (f : LinkFault) → TookIn serves old new bytes (Err f) → Runs AnyBytes old (Came bytes ∷ []) new []
 refusing_is old new bytes f t = one_event old new (Came bytes) [] (came old new bytes (Err f) t)

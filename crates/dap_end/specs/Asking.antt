@@ -26,10 +26,6 @@ pub record AskingValue : Type 0 where
   pub port : PortValue
   pub accessing : Present
 
--- each NSP message has a message
-abbrev pub AreFull : List NspMessage → Type 0
-AreFull packets = AllByRecursion (λ packet. packet ≢ []) packets
-
 -- What the end did on this link. It keeps none of it.
 pub record AskingPast : Type 0 where
   pub requests : List Request  -- what was asked
@@ -52,7 +48,7 @@ pub record HasAsked (past : AskingPast) (v : AskingValue) : Type 0 where
   pub waiting : past.handed ++ v.port.outbox ≡ all_joined past.asked
   -- each message has a spelling, and no NSP message is without one
   pub fit : AllFit (messages_in past.asked)
-  pub full : AreFull past.asked
+  pub full : AllByRecursion (λ packet. packet ≢ []) past.asked
 
 abbrev pub HasStill : AskingValue → AskingValue → Type 0
 HasStill old new = (past : AskingPast) → HasAsked past old → HasAsked past new
@@ -85,16 +81,13 @@ pub record HandedAll (old new : AskingValue) (n : ℕ) : Type 0 where
 
 -- ---- Reading.
 
-abbrev pub read_one : AskingPast → (bytes : List ℕ) → Item → (next : ℕ) → AskingPast
-read_one past bytes item next = record past { given = given_then past.given bytes next; answers = past.answers ++ item ∷ [] }
-
 -- The next item of the oldest NSP message was read; it had its place, and the report is the one that it adds.
 pub record ReadOne (old new : AskingValue) (report : Option Report) : Type 0 where
   pub works : old.accessing.failed ≡ false
   pub one : NextItem old.port
   pub port : new.port ≡ gone_on old.port one.bytes one.later one.next
   pub own : new.accessing.own ≡ old.accessing.own
-  pub past : (past : AskingPast) → HasAsked past old → HasAsked (read_one past one.bytes one.item one.next) new
+  pub past : (past : AskingPast) → HasAsked past old → HasAsked (record past { given = given_then past.given one.bytes one.next; answers = past.answers ++ one.item ∷ [] }) new
   pub told : (past : AskingPast) → HasAsked past old → Told past.requests (past.answers ++ one.item ∷ []) ≡ Told past.requests past.answers ++ option_to_list report
 
 -- why nothing was read, and what that leaves: after an answer that has no place the end has failed

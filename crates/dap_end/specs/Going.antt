@@ -5,10 +5,6 @@ use Rattle.dap_fields.specs.Spelling.{AreBytes}
 use Rattle.dap_msg.specs.Items.{Item, ItemAt, Items, IsPlace}
 use Rattle.dap_end.specs.Ports.{PortValue, oldest}
 
--- NSP messages are of bytes
-abbrev pub AllBytes : List (List ℕ) → Type 0
-AllBytes messages = AllByRecursion AreBytes messages
-
 -- The items stand in the bytes, from one place to another, and none of them ends with the bytes.
 abbrev pub StandFrom : List ℕ → ℕ → List Item → ℕ → Type 0
 StandFrom bytes at [] to = at ≡ to
@@ -29,7 +25,7 @@ pub record GoneThrough (given inbox : List (List ℕ)) (place : ℕ) (items : Li
   pub all : items ≡ done ++ begun
   pub whole : AreItemsOf given done
   pub front : StandFrom (oldest inbox) 0 begun place
-  pub bytes : AllBytes given
+  pub bytes : AllByRecursion AreBytes given
   pub front_bytes : 0 < length begun → AreBytes (oldest inbox)
 
 -- the items are a front of all those in these NSP messages: each once, and in order

@@ -13,6 +13,7 @@ use Rattle.dap_end.specs.Ports.{with_link}
 use Rattle.nsp_link.specs.Receiving.{Receives}
 use Rattle.dap_end.specs.Serving.{ServingValue, Past, answers_to}
 use Rattle.dap_end.specs.Turns.{EndOf}
+use Rattle.dap_end.specs.Runs.{RunsBy}
 use Rattle.dap_end.specs.Taking.{ServedMore, serves}
 use Rattle.dap_end.specs.Writing.{WroteMore}
 
@@ -47,40 +48,38 @@ pub data EndEvent : Type 0 where
   Again : ℕ → EndEvent
   Acks : EndEvent
 
--- what each leaves of either end, and the packets that it writes, where the end does so by itself before it writes
-abbrev pub EndStepped : {V : Type 0} → EndOf V → (does : V → V → Type 0) → (old : V) → EndEvent → (new : V) → List Written → Type 0
-EndStepped end does old (Came bytes) new wrote =
+-- what each leaves of either end, and the packets that it writes, where the end does so by itself before it writes, and such
+-- bytes may come to its link
+abbrev pub EndStepped : {V : Type 0} → EndOf V → (does : V → V → Type 0) → (comes : LinkValue → List ℕ → Type 0) → (old : V) → EndEvent → (new : V) → List Written → Type 0
+EndStepped end does comes old (Came bytes) new wrote =
     (result : Result Got LinkFault) × (link : LinkValue) × Receives (end.port old).link link bytes result
-    × (new ≡ end.with_port old (with_link (end.port old) link)) × (wrote ≡ []) × end.quiet
-EndStepped {V} end does old GoesOn new wrote =
+    × (new ≡ end.with_port old (with_link (end.port old) link)) × (wrote ≡ []) × end.quiet × comes (end.port old).link bytes
+EndStepped {V} end does comes old GoesOn new wrote =
     (mid : V) × (packets : List (List ℕ)) × does old mid × WroteMore (end.port mid) (end.port new) packets × (new ≡ end.with_port mid (end.port new))
     × (wrote ≡ numbered ((end.port mid).link.sent + 1) (end.port mid).link.coming.received packets)
-EndStepped end does old (Again i) new wrote =
+EndStepped end does comes old (Again i) new wrote =
     let v = (end.port old).link in
     (w : Written) × (i < v.sent - v.acked) × WroteOne v (Some (v.acked + 1 + i)) w × (new ≡ old) × (wrote ≡ w ∷ []) × end.quiet
-EndStepped end does old Acks new wrote =
+EndStepped end does comes old Acks new wrote =
     (w : Written) × WroteOne (end.port old).link None w × (new ≡ old) × (wrote ≡ w ∷ []) × end.quiet
 
--- this is so of a packet that came
-abbrev pub IfCame : EndEvent → (List ℕ → Type 0) → Type 0
-IfCame (Came bytes) P = P bytes
-IfCame _ P = Unit {0}
+-- whatever bytes come
+abbrev pub AnyBytes : LinkValue → List ℕ → Type 0
+AnyBytes v bytes = Unit {0}
 
 -- ---- The end that serves.
 
-abbrev pub Stepped : ServingValue → EndEvent → ServingValue → List Written → Type 0
-Stepped old event new wrote = EndStepped serves ServedMore old event new wrote
+-- the end, with its packets so far: those of the event stand behind them
+abbrev pub Stepped : (comes : LinkValue → List ℕ → Type 0) → ServingValue × List Written → EndEvent → List Written → ServingValue × List Written → Type 0
+Stepped comes old event more new = EndStepped serves ServedMore comes old.0 event new.0 more × (new.1 ≡ old.1 ++ more)
 
 -- one after another
-abbrev pub Runs : ServingValue → List EndEvent → ServingValue → List Written → Type 0
-Runs old [] new wrote = (new ≡ old) × (wrote ≡ [])
-Runs old (event ∷ events) new wrote =
-    (mid : ServingValue) × (front : List Written) × (back : List Written) × (wrote ≡ front ++ back)
-    × Stepped old event mid front × Runs mid events new back
+abbrev pub Runs : (comes : LinkValue → List ℕ → Type 0) → ServingValue → List EndEvent → ServingValue → List Written → Type 0
+Runs comes old events new wrote = RunsBy (Stepped comes) (old, []) events (new, wrote)
 
 -- a call is these events: its packets stand behind those that were there
 abbrev pub AreCalls : ServingValue → List EndEvent → ServingValue → (out all : List (List ℕ)) → Type 0
-AreCalls old events new out all = (wrote : List Written) × Runs old events new wrote × (all ≡ out ++ bytes_of wrote)
+AreCalls old events new out all = (wrote : List Written) × Runs AnyBytes old events new wrote × (all ≡ out ++ bytes_of wrote)
 
 -- each packet carries its segment of what was handed to the link, and its count of segments taken
 abbrev pub AreWrittenOf : LinkValue → (handed : List (List ℕ)) → List Written → Type 0
@@ -97,13 +96,6 @@ pub record Promises (past : Past) (v : ServingValue) (wrote : List Written) : Ty
 -- ---- A peer.
 
 -- the bytes are a packet of a peer that cuts these NSP messages by this size
-abbrev pub IsFromPeer : LinkValue → (size : ℕ) → (messages : List (List ℕ)) → List ℕ → Type 0
-IsFromPeer v size messages bytes =
+abbrev pub IsFromPeer : (size : ℕ) (messages : List (List ℕ)) → LinkValue → List ℕ → Type 0
+IsFromPeer size messages v bytes =
     (packet : PacketValue) × (segment : Option ℕ) × (acks : ℕ) × Spells packet bytes × IsOfPeer v size messages packet segment acks
-
--- one after another, and each packet that came is from that peer
-abbrev pub RunsFrom : (size : ℕ) (messages : List (List ℕ)) → ServingValue → List EndEvent → ServingValue → Type 0
-RunsFrom size messages old [] new = new ≡ old
-RunsFrom size messages old (event ∷ events) new =
-    (mid : ServingValue) × (wrote : List Written) × IfCame event (IsFromPeer old.port.link size messages) × Stepped old event mid wrote
-    × RunsFrom size messages mid events new

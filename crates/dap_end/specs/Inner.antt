@@ -7,3 +7,4 @@ pub mod AskingView
 pub mod AskingInside
 pub mod Stored
 pub mod Answered
+pub mod Pasts

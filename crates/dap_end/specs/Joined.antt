@@ -13,8 +13,8 @@ use Rattle.dap_accessing.specs.Told.{Told}
 use Rattle.dap_end.specs.Ports.{new_port}
 use Rattle.dap_end.specs.Serving.{ServingValue, IsAfter, nothing_yet}
 use Rattle.dap_end.specs.Asking.{AskingValue, HasAsked, nothing_asked}
-use Rattle.dap_end.specs.Headline.{Written, EndEvent, IfCame, Stepped}
-use Rattle.dap_end.specs.Hearing.{AskingEvent, IfHeard, AskingStepped, requests_in}
+use Rattle.dap_end.specs.Headline.{Written, EndEvent, Stepped}
+use Rattle.dap_end.specs.Hearing.{AskingEvent, AskingStepped, requests_in}
 
 -- both ends, every packet that each wrote, the requests that were asked, and the reports that were told
 pub record Pair : Type 0 where
@@ -42,26 +42,21 @@ pub record AreNew (s t : LinkSetup) (first : Files) (p : Pair) : Type 0 where
   pub none : p ≡ record { a = p.a; b = p.b; from_a = []; from_b = []; requests = []; reports = [] }
 
 -- a packet that comes is one that the other end wrote, unaltered and not more than 2,047 numbers old
-abbrev pub IsBrought : LinkValue → List Written → List ℕ → Type 0
-IsBrought v wire bytes =
+abbrev pub IsBrought : List Written → LinkValue → List ℕ → Type 0
+IsBrought wire v bytes =
     (j : ℕ) × (w : Written) × (slice_get wire j ≡ Some w) × (bytes ≡ w.bytes) × IsTimely v w.segment w.acks
 
 pub data PairEvent : Type 0 where
   AtA : AskingEvent → PairEvent
   AtB : EndEvent → PairEvent
 
--- one end is called
-abbrev pub PairStepped : Pair → PairEvent → Pair → Type 0
-PairStepped old (AtA event) new =
-    (reports : List Report) × (wrote : List Written) × IfHeard event (IsBrought old.a.port.link old.from_b) × AskingStepped old.a event new.a reports wrote
-    × (new ≡ record old { a = new.a; from_a = old.from_a ++ wrote; requests = old.requests ++ requests_in (event ∷ []); reports = old.reports ++ reports })
-PairStepped old (AtB event) new =
-    (wrote : List Written) × IfCame event (IsBrought old.b.port.link old.from_a) × Stepped old.b event new.b wrote
-    × (new ≡ record old { b = new.b; from_b = old.from_b ++ wrote })
-
-abbrev pub PairRuns : Pair → List PairEvent → Pair → Type 0
-PairRuns old [] new = new ≡ old
-PairRuns old (event ∷ events) new = (mid : Pair) × PairStepped old event mid × PairRuns mid events new
+-- one end is called, and writes this
+abbrev pub PairStepped : Pair → PairEvent → List Written → Pair → Type 0
+PairStepped old (AtA event) more new =
+    AskingStepped (IsBrought old.from_b) (old.a, old.reports, old.from_a) event more (new.a, new.reports, new.from_a)
+    × (new ≡ record old { a = new.a; from_a = new.from_a; requests = old.requests ++ requests_in (event ∷ []); reports = new.reports })
+PairStepped old (AtB event) more new =
+    Stepped (IsBrought old.from_a) (old.b, old.from_b) event more (new.b, new.from_b) × (new ≡ record old { b = new.b; from_b = new.from_b })
 
 -- The messages that were served are the first of those that the requests ask, each once and in order; the files are those
 -- after them; the answers that were read are the first of the answers to them, and the reports are those that the definition

@@ -63,10 +63,6 @@ IsGiven old new = (first : Files) → IsAfter (nothing_yet first) old → IsAfte
 
 -- ---- Serving.
 
-abbrev pub served : Past → (bytes : List ℕ) → Item → (next : ℕ) → Past
-served past bytes item next =
-    record past { given = given_then past.given bytes next; items = past.items ++ item ∷ [] }
-
 -- no answer waits, and something came that wasn't served
 abbrev pub MayServe : ServingValue → Type 0
 MayServe v = (v.port.outbox ≡ []) × (0 < length v.port.link.coming.inbox)
@@ -78,7 +74,7 @@ pub record ServedOne (old new : ServingValue) (n : ℕ) : Type 0 where
   pub port : new.port ≡ record (gone_on old.port one.bytes one.later one.next) { outbox = new.port.outbox }
   pub own : new.accessed.own ≡ old.accessed.own
   pub count : n ≡ length new.port.outbox
-  pub past : (past : Past) → IsAfter past old → IsAfter (served past one.bytes one.item one.next) new
+  pub past : (past : Past) → IsAfter past old → IsAfter (record past { given = given_then past.given one.bytes one.next; items = past.items ++ one.item ∷ [] }) new
 
 -- ---- Handing over.
 

@@ -3,7 +3,7 @@ use Rattle.std.specs.Prelude.{◌≡◌, ◌⊎◌, ℕ, List, [], ◌++◌, Res
 use Rattle.dap_msg.specs.Items.{Item}
 use Rattle.nsp_link.specs.declared.fault.LinkFault.{LinkFault}
 use Rattle.nsp_link.specs.declared.fault.LinkFault.TheVariants as fault
-use Rattle.nsp_link.specs.Link.{LinkValue, Stands, with_inbox}
+use Rattle.nsp_link.specs.Link.{Stands, with_inbox}
 use Rattle.nsp_link.specs.Sending.{AreShort, SendAllFault}
 use Rattle.dap_end.specs.declared.fault.EndFault.{EndFault}
 use Rattle.dap_end.specs.declared.fault.EndFault.TheVariants as end_fault
@@ -12,10 +12,6 @@ use Rattle.dap_end.specs.Turns.{EndOf, WentOn}
 use Rattle.dap_end.specs.Serving.{ServingValue, Past, IsAfter, IsStill, MayServe, PostedAll, ServedOne}
 
 -- ---- Serving all.
-
--- what came and what is queued may have moved, and nothing else of a link
-abbrev pub SameCounts : LinkValue → LinkValue → Type 0
-SameCounts old new = new ≡ record (with_inbox old new.coming.inbox) { queue = new.queue }
 
 -- What the end did grew into this.
 pub record Grew (past now : Past) (old new : ServingValue) : Type 0 where
@@ -30,7 +26,8 @@ pub record Grew (past now : Past) (old new : ServingValue) : Type 0 where
 
 -- more was served and handed over
 pub record ServedMore (old new : ServingValue) : Type 0 where
-  pub link : SameCounts old.port.link new.port.link
+  -- what came and what is queued may have moved, and nothing else of the link
+  pub link : new.port.link ≡ record (with_inbox old.port.link new.port.link.coming.inbox) { queue = new.port.link.queue }
   pub own : new.accessed.own ≡ old.accessed.own
   pub past : (past : Past) → IsAfter past old → (now : Past) × Grew past now old new
 

@@ -3,7 +3,7 @@ use Rattle.std.specs.Prelude.{◌≡◌, ◌⊎◌, ℕ, ◌+◌, ◌<◌, ◌�
 use Rattle.nsp_link.specs.declared.link.Got.{Got}
 use Rattle.nsp_link.specs.declared.link.Got.TheVariants.{AckOnly}
 use Rattle.nsp_link.specs.Link.{LinkValue, Sends, Writes, MaySend, IsSpelling}
-use Rattle.nsp_link.specs.Sending.{WritesSent, ack_packet_of}
+use Rattle.nsp_link.specs.Sending.{ack_packet_of}
 use Rattle.dap_end.specs.Ports.{PortValue, with_link}
 
 -- these are the packets of the segments of what was handed over, in order from this number on
@@ -18,12 +18,6 @@ sent_more p n = with_link p (record p.link { sent = p.link.sent + n })
 -- what counts as sent is there, and within the window
 abbrev pub IsWithin : LinkValue → Type 0
 IsWithin v = (v.sent ≤ v.acked + length v.queue) × (v.sent ≤ v.acked + v.setup.window)
-
--- the next segment was written
-pub record WroteNext (old new : PortValue) (bytes : List ℕ) : Type 0 where
-  pub may : MaySend old.link
-  pub sent : new ≡ sent_more old 1
-  pub writes : WritesSent old.link (Some (old.link.sent + 1)) bytes
 
 -- The next segments were written, no more than there are and the window allows: of whatever was handed over, these are
 -- their packets.

@@ -1,6 +1,6 @@
 //! The end that asks.
 
-ghost use Rattle.std.specs.Prelude.{◌≡◌, ◌≢◌, ◌≤◌, ◌<◌, ◌+◌, ◌-◌, ℕ, [], Ok, Some, None, true, false, length, IfOk, IfErr, IfSome, OnOk, OnErr, IsErrOf, IsTrue, ◌++◌, option_to_list, vec_len, vec_capacity};
+ghost use Rattle.std.specs.Prelude.{◌≡◌, ◌≢◌, ◌≤◌, ◌<◌, ◌+◌, ◌-◌, ℕ, [], ◌∷◌, Ok, Some, None, true, false, length, IfOk, IfErr, IfSome, OnOk, OnErr, IsErrOf, IsTrue, ◌++◌, option_to_list, vec_len, vec_capacity};
 ghost use Rattle.dap_msg.specs.BothEnds.{four_bytes, least_buffer};
 ghost use Rattle.dap_msg.specs.Blocked.{bodies};
 ghost use Rattle.nsp_link.specs.Limits.{largest_limit};
@@ -16,7 +16,7 @@ ghost use Rattle.dap_accessing.specs.declared.fault.AskFault.TheVariants as ask_
 ghost use Rattle.dap_fields.specs.Spelling.{AreBytes};
 ghost use Rattle.dap_end.specs.Ports.{new_port, oldest, with_link};
 ghost use Rattle.nsp_link.specs.Receiving.{Receives};
-ghost use Rattle.dap_end.specs.Writing.{WroteNext};
+ghost use Rattle.dap_end.specs.Writing.{WroteMore};
 ghost use Rattle.dap_end.specs.Asking.{HasAsked, HasStill, AskedOne, HandedAll, ReadOne, ReadNone, ReadNext, ReadAll, ReadPart, HeardAll, HearFault, asks, nothing_asked};
 ghost use Rattle.dap_end.specs.Turns.{Answered, WentOn, Takes};
 ghost use Rattle.dap_end.specs.Inner.Answered.{ended_by};
@@ -322,7 +322,7 @@ impl AskingEnd {
         ensures nothing { result ≡ Ok None
             → (self.new ≡ self.old) × (MaySend self.old.port.link → ⊥) }
         ensures wrote { IfOk result
-            (λ o. IfSome o (λ v. WroteNext self.old.port self.new.port v.items)) }
+            (λ o. IfSome o (λ v. WroteMore self.old.port self.new.port (v.items ∷ []))) }
         ensures err { IfErr result (λ f. (self.new ≡ self.old) × NextFault self.old.port.link f) }
         ensures still { HasStill self.old self.new }
     {
@@ -335,7 +335,7 @@ impl AskingEnd {
         requires works { self.old.port.link.failed ≡ false }
         requires may { MaySend self.old.port.link }
         ensures rest { self.new ≡ record self.old { port = self.new.port } }
-        ensures wrote { IfOk result (λ v. WroteNext self.old.port self.new.port v.items) }
+        ensures wrote { IfOk result (λ v. WroteMore self.old.port self.new.port (v.items ∷ [])) }
         ensures err { IfErr result (λ f. (self.new ≡ self.old) × (f ≡ fault.NoMemory)) }
         ensures still { HasStill self.old self.new }
     {

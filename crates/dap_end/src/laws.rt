@@ -19,23 +19,25 @@ ghost use Rattle.dap_end.specs.declared.fault.TakeFault.{TakeFault as TheTakeFau
 ghost use Rattle.dap_end.specs.Ports.{PortValue, new_port};
 ghost use Rattle.dap_end.specs.Going.{AreFrontOf};
 ghost use Rattle.dap_end.specs.Serving.{ServingValue, Past, IsAfter, ServedOne, PostedAll, nothing_yet};
-ghost use Rattle.dap_end.specs.Writing.{WroteNext, WroteAll};
+ghost use Rattle.dap_end.specs.Writing.{WroteMore, WroteAll};
 ghost use Rattle.dap_end.specs.Turns.{WroteThen, WentOn, TookIn, TookThen, Takes};
 ghost use Rattle.dap_end.specs.Taking as serving;
 ghost use Rattle.dap_end.specs.Taking.{serves, with_port};
 ghost use Rattle.dap_end.specs.Wanting.{took_wanting, went_wanting};
 ghost use Rattle.dap_end.specs.Asking as asking;
 ghost use Rattle.dap_end.specs.Asking.{asks, AreAlike, AskingValue, AskingPast, HasAsked, HasDone, AskedOne, HandedAll, ReadOne, nothing_asked};
-ghost use Rattle.dap_end.specs.Headline.{Written, EndEvent, Came, GoesOn, Again, Acks, Runs, RunsFrom, AreCalls, Promises, numbered};
-ghost use Rattle.dap_end.specs.Hearing.{AskingEvent, Asks, By, AskingRuns, AskingRunsFrom, AreAskingCalls, AskingPromises, requests_in};
-ghost use Rattle.dap_end.specs.Joined.{Pair, PairEvent, PairRuns, AreOpposite, AreNew, PairHeadline};
+ghost use Rattle.dap_end.specs.Runs.{RunsBy};
+ghost use Rattle.dap_end.specs.Headline.{Written, EndEvent, Came, GoesOn, Again, Acks, AnyBytes, IsFromPeer, Runs, AreCalls, Promises, numbered};
+ghost use Rattle.dap_end.specs.Hearing.{AskingEvent, Asks, By, AskingRuns, AreAskingCalls, AskingPromises, requests_in};
+ghost use Rattle.dap_end.specs.Joined.{Pair, PairEvent, PairStepped, AreOpposite, AreNew, PairHeadline};
 
 /// Whatever bytes come to an end that served nothing yet, and whatever it was called to do, there is a list of items that it
 /// served: its files are those after them, what it handed to its link is a front of the answers to them, and each packet
 /// that it wrote carries its segment of that. Own.
 pub fn every_run_is_served()
     ensures { (first : Files) (events : List EndEvent) (old new : ServingValue)
-        (wrote : List Written) → IsAfter (nothing_yet first) old → Runs old events new wrote
+        (wrote : List Written) → IsAfter (nothing_yet first) old
+        → Runs AnyBytes old events new wrote
         → (past : Past) × IsAfter past new × (past.first ≡ first) × Promises past new wrote }
 {}
 
@@ -43,9 +45,9 @@ pub fn every_run_is_served()
 /// end served is a front of the items in them, each once and in order. Own.
 pub fn a_peer_is_served_in_order()
     ensures { (setup : TheSetup) (first : Files) (size : ℕ) (messages : List (List ℕ))
-        (events : List EndEvent) (old new : ServingValue)
+        (events : List EndEvent) (old new : ServingValue) (wrote : List Written)
         → old.port ≡ new_port setup → IsAfter (nothing_yet first) old
-        → RunsFrom size messages old events new
+        → Runs (IsFromPeer size messages) old events new wrote
         → (past : Past) × IsAfter past new × (past.first ≡ first)
         × AreFrontOf messages past.items }
 {}
@@ -53,22 +55,22 @@ pub fn a_peer_is_served_in_order()
 /// Each call of an end that serves is a run, refused or not. Own.
 pub fn calls_are_runs()
     ensures serve { (old new : ServingValue) (n : ℕ) → ServedOne old new n
-        → Runs old (GoesOn ∷ []) new [] }
+        → Runs AnyBytes old (GoesOn ∷ []) new [] }
     ensures post { (old new : ServingValue) (n : ℕ) → PostedAll old new n
-        → Runs old (GoesOn ∷ []) new [] }
+        → Runs AnyBytes old (GoesOn ∷ []) new [] }
     ensures emit { (old new : ServingValue) (bytes : List ℕ) → new ≡ with_port old new.port
-        → WroteNext old.port new.port bytes → Runs old (GoesOn ∷ []) new
+        → WroteMore old.port new.port (bytes ∷ []) → Runs AnyBytes old (GoesOn ∷ []) new
         (numbered (old.port.link.sent + 1) old.port.link.coming.received (bytes ∷ [])) }
     ensures resend { (v : ServingValue) (i : ℕ) (bytes : List ℕ)
         → i < v.port.link.sent - v.port.link.acked
         → WritesSent v.port.link (Some (v.port.link.acked + 1 + i)) bytes
-        → Runs v (Again i ∷ []) v (record {
+        → Runs AnyBytes v (Again i ∷ []) v (record {
           bytes = bytes;
           segment = Some (v.port.link.acked + 1 + i);
           acks = v.port.link.coming.received;
         } ∷ []) }
     ensures ack { (v : ServingValue) (bytes : List ℕ) → IsSpelling (ack_packet_of v.port.link) bytes
-        → Runs v (Acks ∷ []) v (record {
+        → Runs AnyBytes v (Acks ∷ []) v (record {
           bytes = bytes;
           segment = None;
           acks = v.port.link.coming.received;
@@ -86,30 +88,30 @@ pub fn calls_are_runs()
         → TookThen serves old new bytes got out all (Err f)
         → AreCalls old (Came bytes ∷ GoesOn ∷ []) new out all }
     ensures refused { (old new : ServingValue) (bytes : List ℕ) (f : TheFault)
-        → TookIn serves old new bytes (Err f) → Runs old (Came bytes ∷ []) new [] }
+        → TookIn serves old new bytes (Err f) → Runs AnyBytes old (Came bytes ∷ []) new [] }
 {}
 
 /// Each call of an end that asks is a run, but one in which an answer has no place. Own.
 pub fn asking_calls_are_runs()
     ensures ask { (old new : AskingValue) (request : TheRequest) (n : ℕ)
-        → AskedOne request old new n → AskingRuns old (Asks request ∷ []) new [] [] }
+        → AskedOne request old new n → AskingRuns AnyBytes old (Asks request ∷ []) new [] [] }
     ensures read { (old new : AskingValue) (report : Option TheReport) → ReadOne old new report
-        → AskingRuns old (By GoesOn ∷ []) new (option_to_list report) [] }
+        → AskingRuns AnyBytes old (By GoesOn ∷ []) new (option_to_list report) [] }
     ensures post { (old new : AskingValue) (n : ℕ) → HandedAll old new n
-        → AskingRuns old (By GoesOn ∷ []) new [] [] }
+        → AskingRuns AnyBytes old (By GoesOn ∷ []) new [] [] }
     ensures emit { (old new : AskingValue) (bytes : List ℕ) → new ≡ record old { port = new.port }
-        → WroteNext old.port new.port bytes → AskingRuns old (By GoesOn ∷ []) new []
+        → WroteMore old.port new.port (bytes ∷ []) → AskingRuns AnyBytes old (By GoesOn ∷ []) new []
         (numbered (old.port.link.sent + 1) old.port.link.coming.received (bytes ∷ [])) }
     ensures resend { (v : AskingValue) (i : ℕ) (bytes : List ℕ)
         → i < v.port.link.sent - v.port.link.acked
         → WritesSent v.port.link (Some (v.port.link.acked + 1 + i)) bytes
-        → AskingRuns v (By (Again i) ∷ []) v [] (record {
+        → AskingRuns AnyBytes v (By (Again i) ∷ []) v [] (record {
           bytes = bytes;
           segment = Some (v.port.link.acked + 1 + i);
           acks = v.port.link.coming.received;
         } ∷ []) }
     ensures ack { (v : AskingValue) (bytes : List ℕ) → IsSpelling (ack_packet_of v.port.link) bytes
-        → AskingRuns v (By Acks ∷ []) v [] (record {
+        → AskingRuns AnyBytes v (By Acks ∷ []) v [] (record {
           bytes = bytes;
           segment = None;
           acks = v.port.link.coming.received;
@@ -136,7 +138,7 @@ pub fn asking_calls_are_runs()
     ensures refused { (old new : AskingValue) (bytes : List ℕ)
         (before after : List TheReport) (f : TheFault)
         → TookIn (asks before after) old new bytes (Err f)
-        → AskingRuns old (By (Came bytes) ∷ []) new [] [] }
+        → AskingRuns AnyBytes old (By (Came bytes) ∷ []) new [] [] }
 {}
 
 /// Whatever an end that serves is called to do by itself leaves one end, and writes one list of packets, by what the end did
@@ -209,7 +211,7 @@ pub fn posting_is_determined()
 pub fn every_run_is_told()
     ensures { (events : List AskingEvent) (old new : AskingValue) (reports : List TheReport)
         (wrote : List Written) → HasAsked nothing_asked old
-        → AskingRuns old events new reports wrote
+        → AskingRuns AnyBytes old events new reports wrote
         → (past : AskingPast) × HasAsked past new
         × AskingPromises (requests_in events) reports past new wrote }
 {}
@@ -218,9 +220,9 @@ pub fn every_run_is_told()
 /// answers read are a front of the items in them, each once and in order. Own.
 pub fn a_peer_is_heard_in_order()
     ensures { (setup : TheSetup) (size : ℕ) (messages : List (List ℕ)) (events : List AskingEvent)
-        (old new : AskingValue)
+        (old new : AskingValue) (reports : List TheReport) (wrote : List Written)
         → old.port ≡ new_port setup → HasAsked nothing_asked old
-        → AskingRunsFrom size messages old events new
+        → AskingRuns (IsFromPeer size messages) old events new reports wrote
         → (past : AskingPast) × HasAsked past new × AreFrontOf messages past.answers }
 {}
 
@@ -230,6 +232,6 @@ pub fn a_peer_is_heard_in_order()
 /// it. Own.
 pub fn two_ends_keep_the_headline()
     ensures { (s t : TheSetup) (first : Files) (events : List PairEvent) (old new : Pair)
-        → AreOpposite s t → AreNew s t first old → PairRuns old events new
+        → AreOpposite s t → AreNew s t first old → RunsBy PairStepped old events new
         → PairHeadline first new }
 {}

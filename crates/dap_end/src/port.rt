@@ -8,7 +8,7 @@ ghost use Rattle.nsp_link.specs.declared.fault.LinkFault.TheVariants.{MessageToo
 ghost use Rattle.std.specs.Prelude.{◌==◌};
 ghost use Rattle.dap_fields.specs.Spelling.{AreBytes};
 ghost use Rattle.dap_msg.specs.Blocked.{bodies};
-ghost use Rattle.dap_end.specs.Writing.{WroteNext, WroteAll, AnsweredAll, AnsweredPart, IsFull, sent_more, wants_ack};
+ghost use Rattle.dap_end.specs.Writing.{WroteMore, WroteAll, AnsweredAll, AnsweredPart, IsFull, sent_more, wants_ack};
 ghost use Rattle.nsp_link.specs.Receiving.{Receives};
 ghost use Rattle.dap_end.specs.Ports.{new_port, with_link, posted, gone_on, HasCome};
 ghost use Rattle.dap_end.specs.Inner.Kept.{IsPort};
@@ -91,7 +91,8 @@ impl Port {
     /// The packet of the next segment that was never sent.
     pub(crate) fn emit(&mut self) -> Result<Option<Vec<u8>>, LinkFault>
         ensures nothing { result ≡ Ok None → (self.new ≡ self.old) × (MaySend self.old.link → ⊥) }
-        ensures wrote { IfOk result (λ o. IfSome o (λ v. WroteNext self.old self.new v.items)) }
+        ensures wrote { IfOk result
+            (λ o. IfSome o (λ v. WroteMore self.old self.new (v.items ∷ []))) }
         ensures sent { (n : ℕ) × (self.new ≡ sent_more self.old n) }
         ensures err { IfErr result (λ f. (self.new ≡ self.old) × NextFault self.old.link f) }
         ensures kept { IsPort self.old → IsPort self.new }
@@ -103,7 +104,7 @@ impl Port {
     pub(crate) fn write_next(&mut self) -> Result<Vec<u8>, LinkFault>
         requires works { self.old.link.failed ≡ false }
         requires may { MaySend self.old.link }
-        ensures wrote { IfOk result (λ v. WroteNext self.old self.new v.items) }
+        ensures wrote { IfOk result (λ v. WroteMore self.old self.new (v.items ∷ [])) }
         ensures sent { (n : ℕ) × (self.new ≡ sent_more self.old n) }
         ensures err { IfErr result (λ f. (self.new ≡ self.old) × (f ≡ NoMemory)) }
         ensures kept { IsPort self.old → IsPort self.new }

@@ -13,7 +13,7 @@ ghost use Rattle.dap_accessed.specs.Groups.{After};
 ghost use Rattle.dap_accessed.specs.Adding.{MayAdd, MayAddRecord, with_new_file, with_record};
 ghost use Rattle.dap_end.specs.Ports.{HasCome, new_port, with_link};
 ghost use Rattle.nsp_link.specs.Receiving.{Receives};
-ghost use Rattle.dap_end.specs.Writing.{WroteNext};
+ghost use Rattle.dap_end.specs.Writing.{WroteMore};
 ghost use Rattle.dap_end.specs.Serving.{Past, IsAfter, IsStill, NotAdded, NotStored, IsGiven, MayServe, ServedOne, PostedAll, nothing_yet};
 ghost use Rattle.dap_end.specs.Taking.{ServedUp, IsServed, ServeFault, GoesOn, serves, with_port};
 ghost use Rattle.dap_end.specs.Turns.{Answered, Takes};
@@ -195,7 +195,7 @@ impl ServingEnd {
         ensures nothing { result ≡ Ok None
             → (self.new ≡ self.old) × (MaySend self.old.port.link → ⊥) }
         ensures wrote { IfOk result
-            (λ o. IfSome o (λ v. WroteNext self.old.port self.new.port v.items)) }
+            (λ o. IfSome o (λ v. WroteMore self.old.port self.new.port (v.items ∷ []))) }
         ensures err { IfErr result (λ f. (self.new ≡ self.old) × NextFault self.old.port.link f) }
         ensures still { IsStill self.old self.new }
     {
@@ -208,7 +208,7 @@ impl ServingEnd {
         requires works { self.old.port.link.failed ≡ false }
         requires may { MaySend self.old.port.link }
         ensures rest { self.new ≡ with_port self.old self.new.port }
-        ensures wrote { IfOk result (λ v. WroteNext self.old.port self.new.port v.items) }
+        ensures wrote { IfOk result (λ v. WroteMore self.old.port self.new.port (v.items ∷ [])) }
         ensures err { IfErr result (λ f. (self.new ≡ self.old) × (f ≡ fault.NoMemory)) }
         ensures still { IsStill self.old self.new }
     {

@@ -22,7 +22,7 @@ use Rattle.dap_world.specs.declared.event.Step.{Step}
 use Rattle.dap_world.specs.declared.setup.WorldSetup.{WorldSetup}
 use Rattle.dap_world.specs.Setups.{IsWorldSetup}
 use Rattle.dap_world.specs.Machine.{files_of, reported, State, EndState, Sending, fresh, other, end_of, with_end, arrived, arrived_at, sent_by, taken_of, answers_read, asking, asked, posted, wrote, delivered, answering, served_one, read_one, segments_of, Steps, StepsFreely}
-use Rattle.dap_world.specs.Runs.{RunsBy}
+use Rattle.dap_end.specs.Runs.{RunsBy}
 use Rattle.dap_accessed.specs.Present as accessed
 use Rattle.dap_end.proofs.ForCallers.{Asked-more, in_append}
 use Rattle.dap_world.specs.Inner.Parts.{Parts, state_of}

@@ -1,8 +1,10 @@
 -- A packet that was put on a wire.
-use Rattle.std.proofs.Common.{◌≡◌, ℕ, ◌∙◌, ap, List, [], ◌∷◌, ◌++◌, length}
+use Rattle.std.proofs.Common.{◌≡◌, ℕ, arith, ◌∙◌, ap, subst, List, [], ◌∷◌, ◌++◌, length}
 use Rattle.std.specs.Prelude.{Option}
-use Rattle.nsp_link.specs.Link.{LinkValue}
+use Rattle.nsp_link.specs.Link.{LinkValue, MaySend}
 use Rattle.nsp_link.specs.Sending.{WritesSent}
+use Rattle.dap_end.specs.Ports.{PortValue}
+use Rattle.dap_end.specs.Writing.{IsWithin, WroteMore}
 use Rattle.dap_world.specs.declared.side.Wired.{Wired}
 use Rattle.dap_world.specs.declared.event.Step.{Step}
 use Rattle.dap_world.specs.declared.event.Step.TheVariants as step
@@ -19,3 +21,7 @@ wrote_put v old mid new w k answer same wire place segment acks writes =
       acks = acks;
       writes = writes;
     }
+
+-- one segment was written, so one might be
+pub may_wrote : (old new : PortValue) (bytes : List ℕ) → WroteMore old new (bytes ∷ []) → MaySend old.link
+may_wrote old new bytes w = let within = subst (λ (p : PortValue). IsWithin p.link) w.sent (w.within (omega arith)) in (omega arith, omega arith)

@@ -1,8 +1,9 @@
 -- What one event comes to, and several.
-use Rattle.std.specs.Prelude.{◌≡◌, ℕ, List, [], ◌∷◌, take, slice_get, Option, Some, None, Result, Ok, Err, false}
+use Rattle.std.specs.Prelude.{◌≡◌, ℕ, List, take, slice_get, Option, Some, None, Result, Ok, Err, false}
 use Rattle.dap_msg.specs.Blocked.{all_joined}
 use Rattle.nsp_link.specs.Link.{LinkValue, Sends}
 use Rattle.std.specs.Map.{keys_of}
+use Rattle.dap_end.specs.Runs.{RunsBy}
 use Rattle.nsp_link.specs.declared.link.Got.TheVariants as got
 use Rattle.dap_world.specs.declared.event.End.{End}
 use Rattle.dap_world.specs.declared.event.Event.{Event}
@@ -39,11 +40,7 @@ writing_end (event.Resend end _) = Some end
 writing_end (event.Ack end) = Some end
 writing_end _ = None
 
--- the events may lead from old to new by such steps, none refused
-abbrev pub RunsBy : (State → Event → Step → State → Type 0) → State → List Event → State → Type 0
-RunsBy Goes old [] new = new ≡ old
-RunsBy Goes old (e ∷ events) new = (mid : State) × (answer : Step) × Goes old e answer mid × RunsBy Goes mid events new
-
+-- each event steps, none refused
 abbrev pub Runs : State → List Event → State → Type 0
 Runs old events new = RunsBy Steps old events new
 

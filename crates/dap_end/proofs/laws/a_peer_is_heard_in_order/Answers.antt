@@ -6,7 +6,7 @@ use Rattle.dap_end.proofs.Hearing.{run_hears}
 use Rattle.dap_end.proofs.laws.a_peer_is_heard_in_order.Goals as goal
 
 pub returns : goal.returns
-returns c = λ setup size messages events old new is h r.
-    run_hears size messages events old new h
+returns c = λ setup size messages events old new reports wrote is h r.
+    run_hears size messages events old new reports wrote h
     (subst (λ (p : PortValue). Stands p.link size messages []) (sym is) (stands_new setup size messages))
     (subst (λ (p : PortValue). p.link.failed ≡ false) (sym is) refl) r

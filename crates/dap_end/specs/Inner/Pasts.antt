@@ -1,0 +1,18 @@
+-- What an end did, once one item more was handled; and NSP messages none of which is empty.
+use Rattle.std.specs.Prelude.{◌≢◌, ℕ, List, [], ◌∷◌, ◌++◌}
+use Rattle.std.specs.List.{AllByRecursion}
+use Rattle.dap_msg.specs.Items.{Item}
+use Rattle.dap_msg.specs.Blocked.{NspMessage}
+use Rattle.dap_end.specs.Going.{given_then}
+use Rattle.dap_end.specs.Serving.{Past}
+use Rattle.dap_end.specs.Asking.{AskingPast}
+
+abbrev pub served : Past → (bytes : List ℕ) → Item → (next : ℕ) → Past
+served past bytes item next = record past { given = given_then past.given bytes next; items = past.items ++ item ∷ [] }
+
+abbrev pub read_one : AskingPast → (bytes : List ℕ) → Item → (next : ℕ) → AskingPast
+read_one past bytes item next = record past { given = given_then past.given bytes next; answers = past.answers ++ item ∷ [] }
+
+-- each NSP message has a message
+abbrev pub AreFull : List NspMessage → Type 0
+AreFull packets = AllByRecursion (λ packet. packet ≢ []) packets
