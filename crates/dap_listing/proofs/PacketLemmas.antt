@@ -1,8 +1,9 @@
 -- What is read of packets that are decoded only in front of a payload.
-use Rattle.std.proofs.Common.{◌≡◌, ◌<◌, ◌≤◌, ◌+◌, ◌-◌, ◌*◌, ℕ, List, length, take, drop, get_or, Result, Ok, Err, refl, ap, sym, subst, ◌∙◌, arith}
+use Rattle.std.proofs.Common.{◌≡◌, ◌<◌, ◌≤◌, ◌+◌, ◌-◌, ◌*◌, ℕ, List, [], ◌∷◌, length, take, drop, get_or, Result, Ok, Err, refl, ap, sym, subst, ◌∙◌, arith}
 use Rattle.std.proofs.lemmas.List.{ext_get_or, length-drop, take_all, get_or-take, get_or-drop}
-use Rattle.nsp_seg.specs.Packets.{SegmentValue, segment, Spells}
+use Rattle.nsp_seg.specs.Packets.{SegmentValue, segment, Spells, HasFault}
 use Rattle.nsp_seg.specs.declared.packet.SegFault.{SegFault}
+use Rattle.nsp_seg.specs.declared.packet.SegFault.TheVariants.{Truncated, Trailing, NotHere, BadNumber, NoMemory}
 use Rattle.nsp_seg.proofs.ForCallers.{carrying, other_payload}
 use Rattle.dap_listing.specs.Packets.{IsSeen, segment_line}
 use Rattle.dap_listing.specs.Captured.{AreDecoded, Spell, bytes_of, carried_value, seen_value}
@@ -49,10 +50,24 @@ segment_is digits room known head s spell decoded reached spells at =
     let same : take o.0 bytes ≡ take o.0 room = sym (same_part room bytes 0 o.0 (sym long) (λ i low high. decoded i low (omega (arith, high, o.1, reached)))) in
     (rw start at (o.2 bytes same), same_line s (drop head bytes) (omega (arith, length-drop head bytes, long, o.1, start)))
 
-pub all_told : (n : ℕ) (seen : Result Captured SegFault) → IsTold n n seen
-all_told n (Ok (Segment c)) = omega arith
-all_told n (Ok (DataAck dst src ack1 ack2)) = refl
-all_told n (Err fault) = refl
+pub all_told : (digits room : List ℕ) (seen : Result Captured SegFault) → IsFront digits room seen → IsTold (length room) (length room) seen
+all_told digits room (Ok (Segment c)) front = omega arith
+all_told digits room (Ok (DataAck dst src ack1 ack2)) front = refl
+all_told digits room (Err (NotHere flag)) front = omega (arith, ap length front.1)
+all_told digits room (Err (Truncated at)) front = refl
+all_told digits room (Err (Trailing at)) front = refl
+all_told digits room (Err (BadNumber at)) front = refl
+all_told digits room (Err NoMemory) front = absurd front
+
+begins : (l : List ℕ) → 0 < length l → l ≡ get_or l 0 0 ∷ drop 1 l
+begins [] some = absurd (omega (arith, some))
+begins (x ∷ l) some = refl
+
+-- a fault of bytes that are all decoded
+whole_fault : (digits room : List ℕ) (known : ℕ) (fault : SegFault) → Spell digits (length room) → AreDecoded digits 0 known room
+    → known ≡ length room → HasFault fault room → HasFault fault (bytes_of digits)
+whole_fault digits room known fault spell decoded all has =
+    rw (all_decoded digits room spell (subst (λ (n : ℕ). AreDecoded digits 0 n room) all decoded)) at has
 
 -- what is read of bytes that are decoded so far is what the digits spell
 pub told : (digits room : List ℕ) (known : ℕ) (seen : Result Captured SegFault) → Spell digits (length room) → AreDecoded digits 0 known room
@@ -69,5 +84,12 @@ told digits room known (Ok (Segment c)) spell decoded reached front =
     rw bytes (segment_is digits room known head s spell decoded far front.1 refl).0
 told digits room known (Ok (DataAck dst src ack1 ack2)) spell decoded all front =
     rw (all_decoded digits room spell (subst (λ (n : ℕ). AreDecoded digits 0 n room) all decoded)) at front
-told digits room known (Err fault) spell decoded all front =
-    rw (all_decoded digits room spell (subst (λ (n : ℕ). AreDecoded digits 0 n room) all decoded)) at front
+told digits room known (Err (NotHere flag)) spell decoded some front =
+    let bytes : List ℕ = bytes_of digits in
+    let long : 0 < length bytes = omega (arith, count_of digits (length room) spell, ap length front.1) in
+    let same : get_or bytes 0 0 ≡ flag = sym (decoded 0 (omega arith) some) ∙ ap (λ (l : List ℕ). get_or l 0 0) front.1 in
+    (drop 1 bytes, begins bytes long ∙ ap (λ (x : ℕ). x ∷ drop 1 bytes) same, front.2)
+told digits room known (Err (Truncated at)) spell decoded all front = whole_fault digits room known (Truncated at) spell decoded all front
+told digits room known (Err (Trailing at)) spell decoded all front = whole_fault digits room known (Trailing at) spell decoded all front
+told digits room known (Err (BadNumber at)) spell decoded all front = whole_fault digits room known (BadNumber at) spell decoded all front
+told digits room known (Err NoMemory) spell decoded all front = absurd front

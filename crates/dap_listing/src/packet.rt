@@ -187,13 +187,15 @@ fn seen_of<'a>(digits: &'a [u8], bytes: &[u8]) -> Result<Captured<'a>, SegFault>
     }
 }
 
-/// Whether so many bytes in front, of all, tell what was captured: they reach up to a payload, or to the end.
+/// Whether so many bytes in front, of all, tell what was captured: they reach up to a payload, or to the end, or the first
+/// is that of a message which isn't read here.
 fn is_told(seen: &Result<Captured<'_>, SegFault>, known: usize, all: usize) -> bool
     requires { known ≤ all }
     ensures { result ≡ true → IsTold known all seen.now }
 {
     match seen {
         Ok(Captured::Segment(line)) => all - known <= line.payload.len() / 2,
+        Err(SegFault::NotHere(_)) => known > 0,
         _ => known == all,
     }
 }

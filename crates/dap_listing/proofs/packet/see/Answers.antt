@@ -20,4 +20,4 @@ returns-clause-seen c =
     let spell : Spell digits (length room) = (c.requires.0, omega (arith, c.requires.1, first.ensures.size, second.ensures.size)) in
     let decoded = second.ensures.decoded 0 (first.ensures.decoded 0 (λ i low high. omega (arith, high))) in
     let all : second.result ≡ length room = omega (arith, second.ensures.end, first.ensures.end, second.ensures.size) in
-    told digits room (length room) c.seen_of.result spell (subst (λ (n : ℕ). AreDecoded digits 0 n room) all decoded) (all_told (length room) c.seen_of.result) c.seen_of.ensures
+    told digits room (length room) c.seen_of.result spell (subst (λ (n : ℕ). AreDecoded digits 0 n room) all decoded) (all_told digits room c.seen_of.result c.seen_of.ensures) c.seen_of.ensures
