@@ -227,14 +227,14 @@ fn append(
 
 /// What was counted of the messages of a request: the bytes of the first, and of the last behind the records, 0 where
 /// there is none.
-#[derive(Clone, Copy)]
+#[derive(Clone, Copy, Debug)]
 pub(crate) struct Counts {
     first: usize,
     last: usize,
 }
 
 /// The messages of a request.
-#[derive(Clone, Copy)]
+#[derive(Clone, Copy, Debug)]
 pub(crate) struct Outgoing<'a> {
     first: Message<'a>,
     records: &'a [Octets],
@@ -302,7 +302,7 @@ impl<'a> Outgoing<'a> {
 }
 
 /// The messages of a request that [`crate::Accessing::prepare`] looked at, with what was counted of them. Own.
-#[derive(Clone, Copy)]
+#[derive(Clone, Copy, Debug)]
 pub struct Prepared<'a> {
     pub(crate) outgoing: Outgoing<'a>,
     pub(crate) counts: Counts,
