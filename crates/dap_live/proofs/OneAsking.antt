@@ -1,10 +1,11 @@
 -- What the end that asks does by a line, and says, follows from the end and the line, want of memory aside.
 use Rattle.std.proofs.Common.{◌≡◌, ◌≢◌, ℕ, refl, sym, ◌∙◌, subst, ap, true, false, true≢false, List, [], ◌++◌, length, inl, inr}
-use Rattle.std.specs.Prelude.{◌&&◌, ◌||◌, not, nat_lt, Bool, Option, Some, None, Result, Ok, Err}
+use Rattle.std.specs.Prelude.{MatchBool, ◌&&◌, ◌||◌, not, nat_lt, Bool, Option, Some, None, Result, Ok, Err}
 use Rattle.hex.specs.Hex.{IsBytes as AreBytes}
 use Rattle.dap_msg.specs.Items.{Item}
 use Rattle.nsp_link.specs.declared.link.Got.{Got}
 use Rattle.nsp_link.specs.declared.link.LinkSetup.{LinkSetup}
+use Rattle.nsp_link.specs.declared.fault.LinkFault.TheVariants.{Failed}
 use Rattle.nsp_link.specs.Link.{SetupFault}
 use Rattle.dap_accessing.specs.Request.{Request}
 use Rattle.dap_accessing.specs.declared.report.Report.{Report}
@@ -36,7 +37,7 @@ use Rattle.dap_live.specs.declared.orders.Order.TheVariants as order
 use Rattle.dap_live.specs.Orders.{order_of, setup_anew}
 use Rattle.dap_live.specs.Sending.{AllAgain, SaysAck, has_message, is_left, waits_of}
 use Rattle.dap_live.specs.Texts.{ask_refusal, link_refusal, packets_text, reports_text, taken_said}
-use Rattle.dap_live.specs.Asking.{TakesPacket, GoesOn, GoesOnIf, Resends, ResendsRunning, AsksIt, AsksNot, AsksRunning, Asks, Renewed, Renews, OnEnd, Does, DoesAll, DoesOrder, Ends, answered, waiting, came_by, front_text, gone_said, goes_on}
+use Rattle.dap_live.specs.Asking.{TakesPacket, GoesOn, GoesOnIf, Resends, AsksIt, AsksNot, Asks, Tells, Renewed, Renews, OnEnd, Does, DoesAll, DoesOrder, Ends, answered, waiting, came_by, front_text, gone_said, goes_on}
 use Rattle.dap_live.specs.OneText.{AreSameAsking}
 use Rattle.dap_live.proofs.OneLine.{Fits, line_fits, all_again, ack_one, end_wants, taken_wants, setup_apart, setup_one, one_answer}
 
@@ -123,7 +124,7 @@ goes_alike old other like =
     ap (λ (f : Bool). not f && (has_message old.port.link || is_left old.port.link old.port.outbox)) like.2
     ∙ ap (λ (p : PortValue). not other.accessing.failed && (has_message p.link || is_left p.link p.outbox)) like.0
 
-again_one : (old other one two : Asking) (said more : List ℕ) (m n : Came) → AreSameAsking old other → outcome m ≢ NoMemory → outcome n ≢ NoMemory → ResendsRunning old one said m → ResendsRunning other two more n
+again_one : (old other one two : Asking) (said more : List ℕ) (m n : Came) → AreSameAsking old other → outcome m ≢ NoMemory → outcome n ≢ NoMemory → Resends old one said m → Resends other two more n
     → Two one two said more m n
 again_one old other one two said more m n same nm nn x y =
     let sent = has_sent old.end same.3 in
@@ -136,9 +137,10 @@ again_one old other one two said more m n same nm nn x y =
     on_end old other one two said more m n same x.0 y.0
     (going_if (goes_on old.end) old.end other.end old.reports.items (packets_text x.1.0) said more one two m n same.3 same.0 nm nn x.1.2 there)
 
-resend_one : (failed : Bool) (old other one two : Asking) (said more : List ℕ) (m n : Came) → AreSameAsking old other → outcome m ≢ NoMemory → outcome n ≢ NoMemory → Resends failed old one said m → Resends failed other two more n
-    → Two one two said more m n
-resend_one true old other one two said more m n same nm nn x y = (stay old other one two same x.0 y.0, x.1 ∙ sym y.1, x.2 ∙ sym y.2)
+resend_one : (failed : Bool) (old other one two : Asking) (said more : List ℕ) (m n : Came) → AreSameAsking old other → outcome m ≢ NoMemory → outcome n ≢ NoMemory
+    → MatchBool failed (Tells old one m × (said ≡ (link_refusal Failed).0)) (Resends old one said m)
+    → MatchBool failed (Tells other two n × (more ≡ (link_refusal Failed).0)) (Resends other two more n) → Two one two said more m n
+resend_one true old other one two said more m n same nm nn x y = (stay old other one two same x.0.0 y.0.0, x.1 ∙ sym y.1, x.0.1 ∙ sym y.0.1)
 resend_one false old other one two said more m n same nm nn x y = again_one old other one two said more m n same nm nn x y
 
 -- ---- A request.
@@ -224,8 +226,8 @@ it_apart old other one two request said more m n past f h like nn x r y =
     ask_apart old.end.accessing.own past.requests past.answers request f (not_want other request two more n f nn y) (x.2.asks.admissible past.requests past.answers h.asking)
     (refused_by request old.end past f h there)
 
-running_one : (old other one two : Asking) (request : Request) (said more : List ℕ) (m n : Came) → AreSameAsking old other → HasDone old.end → outcome m ≢ NoMemory → outcome n ≢ NoMemory → AsksRunning old request one said m
-    → AsksRunning other request two more n → Two one two said more m n
+running_one : (old other one two : Asking) (request : Request) (said more : List ℕ) (m n : Came) → AreSameAsking old other → HasDone old.end → outcome m ≢ NoMemory → outcome n ≢ NoMemory → Asks old request one said m
+    → Asks other request two more n → Two one two said more m n
 running_one old other one two request said more m n same (inl d) nm nn (rx, inl x) (ry, inl y) = it_one old other one two request said more m n d.0 d.1 same rx ry nm nn x y
 running_one old other one two request said more m n same (inl d) nm nn (rx, inl x) (ry, inr y) =
     absurd (it_apart old other one two request said more m n d.0 y.0 d.1 same.0 nn x y.1 y.2)
@@ -244,9 +246,10 @@ running_one old other one two request said more m n same (inr d) nm nn (rx, inr 
     let why : x.0 ≡ y.0 = only_failed request old.end x.0 d.0 x.1 ∙ sym (only_failed request other.end y.0 (sym same.0.2 ∙ d.0) y.1) in
     not_one old other one two request said more m n x.0 same rx ry nm nn x.2 (subst (λ (f : AskFault). AsksNot other request two more n f) (sym why) y.2)
 
-ask_one : (failed : Bool) (old other one two : Asking) (request : Request) (said more : List ℕ) (m n : Came) → AreSameAsking old other → outcome m ≢ NoMemory → outcome n ≢ NoMemory → Asks failed old request one said m
-    → Asks failed other request two more n → Two one two said more m n
-ask_one true old other one two request said more m n same nm nn x y = (stay old other one two same x.0 y.0, x.1 ∙ sym y.1, x.2 ∙ sym y.2)
+ask_one : (failed : Bool) (old other one two : Asking) (request : Request) (said more : List ℕ) (m n : Came) → AreSameAsking old other → outcome m ≢ NoMemory → outcome n ≢ NoMemory
+    → MatchBool failed (Tells old one m × (said ≡ (link_refusal Failed).0)) (Asks old request one said m)
+    → MatchBool failed (Tells other two n × (more ≡ (link_refusal Failed).0)) (Asks other request two more n) → Two one two said more m n
+ask_one true old other one two request said more m n same nm nn x y = (stay old other one two same x.0.0 y.0.0, x.1 ∙ sym y.1, x.0.1 ∙ sym y.0.1)
 ask_one false old other one two request said more m n same nm nn x y = running_one old other one two request said more m n same same.3 nm nn x y
 
 -- ---- A new link.
@@ -286,7 +289,8 @@ does_one : (old other one two : Asking) (o : Order) (said more : List ℕ) (m n 
     → Two one two said more m n
 does_one old other one two (order.Packet bytes) said more m n fits same nm nn x y = packet_one old other one two bytes said more m n fits same nm nn x y
 does_one old other one two order.Resend said more m n fits same nm nn x y =
-    resend_one old.end.port.link.failed old other one two said more m n same nm nn x (subst (λ (f : Bool). Resends f other two more n) (sym (same_failed old other same)) y)
+    resend_one old.end.port.link.failed old other one two said more m n same nm nn x 
+    (subst (λ (f : Bool). MatchBool f (Tells other two n × (more ≡ (link_refusal Failed).0)) (Resends other two more n)) (sym (same_failed old other same)) y)
 does_one old other one two order.Ack said more m n fits same nm nn x y = (
   stay old other one two same x.0.0 y.0.0,
   ack_one old.end.port.link said more x.1 (subst (λ (p : PortValue). SaysAck p.link more) (sym same.0.0) y.1),
@@ -294,7 +298,8 @@ does_one old other one two order.Ack said more m n fits same nm nn x y = (
 )
 does_one old other one two (order.New anew) said more m n fits same nm nn x y = renew_one old other one two anew said more m n same nm nn x y
 does_one old other one two (order.Ask request) said more m n fits same nm nn x y =
-    ask_one old.end.port.link.failed old other one two request said more m n same nm nn x (subst (λ (f : Bool). Asks f other request two more n) (sym (same_failed old other same)) y)
+    ask_one old.end.port.link.failed old other one two request said more m n same nm nn x 
+    (subst (λ (f : Bool). MatchBool f (Tells other two n × (more ≡ (link_refusal Failed).0)) (Asks other request two more n)) (sym (same_failed old other same)) y)
 does_one old other one two order.Files said more m n fits same nm nn x y = (stay old other one two same x.0 y.0, x.1 ∙ sym y.1, x.2 ∙ sym y.2)
 does_one old other one two (order.File file) said more m n fits same nm nn x y = (stay old other one two same x.0 y.0, x.1 ∙ sym y.1, x.2 ∙ sym y.2)
 does_one old other one two (order.Record r) said more m n fits same nm nn x y = (stay old other one two same x.0 y.0, x.1 ∙ sym y.1, x.2 ∙ sym y.2)

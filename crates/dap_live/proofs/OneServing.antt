@@ -1,11 +1,12 @@
 -- What the end that serves does by a line, and says, follows from the end and the line, want of memory aside.
 use Rattle.std.proofs.Common.{◌≡◌, ◌≢◌, ℕ, ◌<◌, arith, refl, sym, ◌∙◌, subst, ap, true, false, List, [], ◌++◌, length, inl, inr}
-use Rattle.std.specs.Prelude.{Bool, Option, Some, None, Result, Err, MatchOption}
+use Rattle.std.specs.Prelude.{MatchBool, Bool, Option, Some, None, Result, Err, MatchOption}
 use Rattle.hex.specs.Hex.{IsBytes as AreBytes}
 use Rattle.nsp_link.specs.declared.link.Got.{Got}
 use Rattle.nsp_link.specs.declared.link.LinkSetup.{LinkSetup}
 use Rattle.nsp_link.specs.declared.fault.LinkFault.{LinkFault}
 use Rattle.nsp_link.specs.declared.fault.LinkFault.TheVariants as fault
+use Rattle.nsp_link.specs.declared.fault.LinkFault.TheVariants.{Failed}
 use Rattle.nsp_link.specs.Link.{SetupFault}
 use Rattle.rec_file.specs.declared.shapes.Shape.{Shape}
 use Rattle.rec_file.specs.declared.refusals.Refusal.{Refusal}
@@ -32,9 +33,9 @@ use Rattle.dap_live.specs.declared.orders.Anew.{Anew}
 use Rattle.dap_live.specs.declared.orders.Order.{Order}
 use Rattle.dap_live.specs.declared.orders.Order.TheVariants as order
 use Rattle.dap_live.specs.Orders.{order_of, setup_anew}
-use Rattle.dap_live.specs.Sending.{SaysAck, is_left, waits_of}
+use Rattle.dap_live.specs.Sending.{SaysAck, UnlessFailed, is_left, waits_of}
 use Rattle.dap_live.specs.Texts.{add_refusal, link_refusal, packets_text, taken_said}
-use Rattle.dap_live.specs.Serving.{TakesPacket, GoesOn, GoesOnIf, Resends, Renewed, Renews, Added, AddsShaped, AddsFile, AddsRecord, OnEnd, Does, DoesOrder, answered, waiting, gone_said}
+use Rattle.dap_live.specs.Serving.{TakesPacket, GoesOn, GoesOnIf, Resends, Tells, Renewed, Renews, Added, AddsShaped, AddsFile, AddsRecord, OnEnd, Does, DoesOrder, answered, waiting, gone_said}
 use Rattle.dap_live.specs.OneText.{HasServed, AreSameServing}
 use Rattle.dap_live.proofs.OneLine.{Fits, line_fits, all_again, ack_one, taken_wants, setup_apart, setup_one, one_answer}
 
@@ -78,8 +79,9 @@ going_if true end one two front said more b c k nb nc x y = going_same end one t
 going_if false end one two front said more b c k nb nc x y = (x.0 ∙ sym y.0, x.1 ∙ sym y.1, x.2 ∙ sym y.2, subst HasServed (sym x.0) k)
 
 resend_one : (failed : Bool) (end one two : ServingValue) (said more : List ℕ) (b c : Became) → HasServed end → b ≢ NoMemory → c ≢ NoMemory
-    → Resends failed end one said b → Resends failed end two more c → One one two said more b c
-resend_one true end one two said more b c k nb nc x y = (x.0 ∙ sym y.0, x.1 ∙ sym y.1, x.2 ∙ sym y.2, subst HasServed (sym x.0) k)
+    → MatchBool failed (Tells end one b × (said ≡ (link_refusal Failed).0)) (Resends end one said b)
+    → MatchBool failed (Tells end two c × (more ≡ (link_refusal Failed).0)) (Resends end two more c) → One one two said more b c
+resend_one true end one two said more b c k nb nc x y = (x.0.0 ∙ sym y.0.0, x.1 ∙ sym y.1, x.0.1 ∙ sym y.0.1, subst HasServed (sym x.0.0) k)
 resend_one false end one two said more b c k nb nc x y =
     let same = all_again end.port.link k.0.handed x.0 y.0 k.1.sends x.1 y.1 in
     going_if (is_left end.port.link end.port.outbox) end one two (packets_text x.0) said more b c k nb nc x.2
@@ -255,7 +257,7 @@ does_one old other one two (order.Packet bytes) said more b c fits same nb nc x 
 does_one old other one two order.Resend said more b c fits same nb nc x y =
     on_end old other one two said more b c same x.0 y.0
     (resend_one old.end.port.link.failed old.end one.end two.end said more b c same.2 nb nc x.1
-    (subst (λ (v : ServingValue). Resends v.port.link.failed v two.end more c) (sym same.0) y.1))
+    (subst (λ (v : ServingValue). UnlessFailed v.port.link more (Tells v two.end c) (Resends v two.end more c)) (sym same.0) y.1))
 does_one old other one two order.Ack said more b c fits same nb nc x y = (
   stay old other one two same x.0.0 y.0.0,
   ack_one old.end.port.link said more x.1 (subst (λ (v : ServingValue). SaysAck v.port.link more) (sym same.0) y.1),

@@ -4,7 +4,6 @@ use Rattle.std.specs.List.{concat}
 use Rattle.std.specs.Fmt.{decimal}
 use Rattle.nsp_link.specs.declared.link.Got.{Got}
 use Rattle.nsp_link.specs.declared.fault.LinkFault.{LinkFault}
-use Rattle.nsp_link.specs.declared.fault.LinkFault.TheVariants.{Failed}
 use Rattle.nsp_link.specs.Link.{IsSetup, SetupFault}
 use Rattle.dap_accessing.specs.Request.{Request}
 use Rattle.dap_accessing.specs.declared.report.Report.{Report}
@@ -26,7 +25,7 @@ use Rattle.dap_live.specs.declared.orders.Anew.{Anew}
 use Rattle.dap_live.specs.declared.orders.Order.{Order}
 use Rattle.dap_live.specs.declared.orders.Order.TheVariants as order
 use Rattle.dap_live.specs.Orders.{order_of, setup_anew}
-use Rattle.dap_live.specs.Sending.{AllAgain, SaysAck, has_message, is_left, waits_of}
+use Rattle.dap_live.specs.Sending.{AllAgain, SaysAck, UnlessFailed, has_message, is_left, waits_of}
 use Rattle.dap_live.specs.declared.asking.Front.{Front}
 use Rattle.dap_live.specs.declared.asking.Front.TheVariants.{Asked}
 use Rattle.dap_live.specs.declared.asking.Front.TheVariants as front
@@ -82,14 +81,9 @@ GoesOnIf false old before front new text came =
     (new.end ≡ old) × (new.reports.items ≡ before) × (text ≡ front ++ reports_text before) × (came ≡ Told Done)
 
 -- behind the packets of all segments that aren't acknowledged
-abbrev pub ResendsRunning : Asking → Asking → List ℕ → Came → Type 0
-ResendsRunning old new text came = OnEnd old new × ((packets : List (List ℕ)) × AllAgain old.end.port.link packets
+abbrev pub Resends : Asking → Asking → List ℕ → Came → Type 0
+Resends old new text came = OnEnd old new × ((packets : List (List ℕ)) × AllAgain old.end.port.link packets
     × GoesOnIf (goes_on old.end) old.end old.reports.items (packets_text packets) new text came)
-
--- nothing is sent on a link that has failed
-abbrev pub Resends : (failed : Bool) → Asking → Asking → List ℕ → Came → Type 0
-Resends true old new text came = (new ≡ old) × (text ≡ (link_refusal Failed).0) × (came ≡ Untold Done)
-Resends false old new text came = ResendsRunning old new text came
 
 -- it was asked, and its messages are on their way
 abbrev pub AsksIt : Asking → Request → Asking → List ℕ → Came → Type 0
@@ -101,14 +95,9 @@ abbrev pub AsksNot : Asking → Request → Asking → List ℕ → Came → Ask
 AsksNot old request new text came Busy = GoesOn old.end old.reports.items (front_text front.Busy) new text came
 AsksNot old request new text came f = (new ≡ old) × (text ≡ (ask_refusal f).0) × (came ≡ Untold (ask_refusal f).1)
 
-abbrev pub AsksRunning : Asking → Request → Asking → List ℕ → Came → Type 0
-AsksRunning old request new text came = OnEnd old new × (AsksIt old request new text came
+abbrev pub Asks : Asking → Request → Asking → List ℕ → Came → Type 0
+Asks old request new text came = OnEnd old new × (AsksIt old request new text came
     ⊎ ((f : AskFault) × AskRefused request old.end.accessing f × AsksNot old request new text came f))
-
--- nothing is asked on a link that has failed
-abbrev pub Asks : Bool → Asking → Request → Asking → List ℕ → Came → Type 0
-Asks true old request new text came = (new ≡ old) × (text ≡ (link_refusal Failed).0) × (came ≡ Untold Done)
-Asks false old request new text came = AsksRunning old request new text came
 
 -- ---- A new link.
 
@@ -138,10 +127,10 @@ IsNone old new text came = (new ≡ old) × (text ≡ []) × (came ≡ Untold Ba
 -- what is done by a line that says this, and what is said
 abbrev pub Does : Asking → Order → Asking → List ℕ → Came → Type 0
 Does old (order.Packet bytes) new text came = TakesPacket old bytes new text came
-Does old order.Resend new text came = Resends old.end.port.link.failed old new text came
+Does old order.Resend new text came = UnlessFailed old.end.port.link text (Tells old new came) (Resends old new text came)
 Does old order.Ack new text came = Tells old new came × SaysAck old.end.port.link text
 Does old (order.New anew) new text came = Renews old anew new text came
-Does old (order.Ask request) new text came = Asks old.end.port.link.failed old request new text came
+Does old (order.Ask request) new text came = UnlessFailed old.end.port.link text (Tells old new came) (Asks old request new text came)
 Does old order.Files new text came = IsNone old new text came
 Does old (order.File file) new text came = IsNone old new text came
 Does old (order.Record r) new text came = IsNone old new text came

@@ -2,7 +2,6 @@
 use Rattle.std.specs.Prelude.{◌≡◌, ◌⊎◌, ◌++◌, ℕ, Bool, true, false, List, [], Result, Ok, Err, Option, Some, None, MatchOption}
 use Rattle.nsp_link.specs.declared.link.Got.{Got}
 use Rattle.nsp_link.specs.declared.fault.LinkFault.{LinkFault}
-use Rattle.nsp_link.specs.declared.fault.LinkFault.TheVariants.{Failed}
 use Rattle.nsp_link.specs.Link.{IsSetup, SetupFault}
 use Rattle.rec_file.specs.declared.shapes.Shape.{Shape}
 use Rattle.rec_file.specs.Shapes.{checked_shape}
@@ -25,7 +24,7 @@ use Rattle.dap_live.specs.declared.orders.Anew.{Anew}
 use Rattle.dap_live.specs.declared.orders.Order.{Order}
 use Rattle.dap_live.specs.declared.orders.Order.TheVariants as order
 use Rattle.dap_live.specs.Orders.{order_of, setup_anew}
-use Rattle.dap_live.specs.Sending.{AllAgain, SaysAck, is_left, waits_of}
+use Rattle.dap_live.specs.Sending.{AllAgain, SaysAck, UnlessFailed, is_left, waits_of}
 use Rattle.dap_live.specs.Texts.{LineAnswer, add_refusal, link_refusal, packets_text, status_line, taken_said}
 
 -- ---- A packet.
@@ -57,14 +56,9 @@ GoesOnIf true old front new text became = GoesOn old front new text became
 GoesOnIf false old front new text became = (new ≡ old) × (text ≡ front) × (became ≡ Done)
 
 -- behind the packets of all segments that aren't acknowledged
-abbrev pub ResendsRunning : ServingValue → ServingValue → List ℕ → Became → Type 0
-ResendsRunning old new text became = (packets : List (List ℕ)) × AllAgain old.port.link packets
+abbrev pub Resends : ServingValue → ServingValue → List ℕ → Became → Type 0
+Resends old new text became = (packets : List (List ℕ)) × AllAgain old.port.link packets
     × GoesOnIf (is_left old.port.link old.port.outbox) old (packets_text packets) new text became
-
--- nothing is sent on a link that has failed
-abbrev pub Resends : (failed : Bool) → ServingValue → ServingValue → List ℕ → Became → Type 0
-Resends true old new text became = (new ≡ old) × (text ≡ (link_refusal Failed).0) × (became ≡ Done)
-Resends false old new text became = ResendsRunning old new text became
 
 -- ---- A new link.
 
@@ -120,13 +114,14 @@ abbrev pub OnEnd : Serving → Serving → Type 0
 OnEnd old new = new ≡ record old { end = new.end }
 
 -- what is said where the end stays as it is
-abbrev pub Tells : Serving → Serving → Became → Type 0
+abbrev pub Tells : {E : Type 0} → E → E → Became → Type 0
 Tells old new became = (new ≡ old) × (became ≡ Done)
 
 -- what is done by a line that says this, and what is said
 abbrev pub Does : Serving → Order → Serving → List ℕ → Became → Type 0
 Does old (order.Packet bytes) new text became = OnEnd old new × TakesPacket old.end bytes new.end text became
-Does old order.Resend new text became = OnEnd old new × Resends old.end.port.link.failed old.end new.end text became
+Does old order.Resend new text became =
+    OnEnd old new × UnlessFailed old.end.port.link text (Tells old.end new.end became) (Resends old.end new.end text became)
 Does old order.Ack new text became = Tells old new became × SaysAck old.end.port.link text
 Does old (order.New anew) new text became = Renews old anew new text became
 Does old order.Files new text became = Tells old new became × (text ≡ files_text old.end.accessed.files)

@@ -10,7 +10,7 @@ ghost use Rattle.dap_end.specs.Turns.{WentOn, Takes};
 ghost use Rattle.dap_text.specs.Adding.{Adds};
 ghost use Rattle.dap_live.specs.declared.asking.Came.{Came as TheCame};
 ghost use Rattle.dap_live.specs.Texts.{packets_text, reports_text};
-ghost use Rattle.dap_live.specs.Asking.{Asks, AsksRunning, Does, DoesOrder, Ends, GoesOn, GoesOnIf, OnEnd, Reaches, Renews, Resends, ResendsRunning, TakesPacket, came_by, front_text, gone_said, goes_on as goes_on_by, is_behind as is_behind_by};
+ghost use Rattle.dap_live.specs.Asking.{Asks, Does, DoesOrder, Ends, GoesOn, GoesOnIf, OnEnd, Reaches, Renews, Resends, TakesPacket, came_by, front_text, gone_said, goes_on as goes_on_by, is_behind as is_behind_by};
 
 use crate::orders::{Anew, Order, read_order, set_up};
 use crate::sending::{has_message, is_left, push_again, say_ack, waits};
@@ -229,9 +229,9 @@ fn go_on_if_left(asking: &mut Asking, text: &mut Vec<u8>) -> Result<Came, AllocE
 /// Sends all segments again that aren't acknowledged, and goes on, on a link that runs.
 fn resend_running(asking: &mut Asking, text: &mut Vec<u8>) -> Result<Came, AllocError>
     requires { text.old.items ≡ [] }
-    ensures ok { IfOk result (ResendsRunning asking.old asking.new text.new.items) }
+    ensures ok { IfOk result (Resends asking.old asking.new text.new.items) }
     ensures err { OnErr result ((asking.new ≡ asking.old) ⊎ ((said : List ℕ) × (came : TheCame)
-        × ResendsRunning asking.old asking.new said came)) }
+        × Resends asking.old asking.new said came)) }
 {
     push_again(asking.end.link(), text)?;
     go_on_if_left(asking, text)
@@ -240,10 +240,8 @@ fn resend_running(asking: &mut Asking, text: &mut Vec<u8>) -> Result<Came, Alloc
 /// Sends all segments again that aren't acknowledged, and goes on.
 fn resend(asking: &mut Asking, text: &mut Vec<u8>) -> Result<Came, AllocError>
     requires { text.old.items ≡ [] }
-    ensures ok { IfOk result (Resends asking.old.end.port.link.failed asking.old asking.new
-        text.new.items) }
-    ensures err { OnErr result ((asking.new ≡ asking.old) ⊎ ((said : List ℕ) × (came : TheCame)
-        × Resends asking.old.end.port.link.failed asking.old asking.new said came)) }
+    ensures ok { IfOk result (Does asking.old Order.Resend asking.new text.new.items) }
+    ensures err { OnErr result (Reaches asking.old Order.Resend asking.new) }
 {
     if asking.end.link().has_failed() {
         return Ok(Came::Untold(push_link_refusal(text, LinkFault::Failed)?));
@@ -258,9 +256,9 @@ fn ask_request(
     text: &mut Vec<u8>,
 ) -> Result<Came, AllocError>
     requires { text.old.items ≡ [] }
-    ensures ok { IfOk result (AsksRunning asking.old request.now asking.new text.new.items) }
+    ensures ok { IfOk result (Asks asking.old request.now asking.new text.new.items) }
     ensures err { OnErr result ((asking.new ≡ asking.old) ⊎ ((said : List ℕ) × (came : TheCame)
-        × AsksRunning asking.old request.now asking.new said came)) }
+        × Asks asking.old request.now asking.new said came)) }
 {
     match asking.end.ask(request) {
         Ok(count) => go_on_behind(asking, Front::Asked(count), text),
@@ -272,10 +270,8 @@ fn ask_request(
 /// Asks what the words say.
 fn ask(asking: &mut Asking, asked: &RequestText<'_>, text: &mut Vec<u8>) -> Result<Came, AllocError>
     requires { text.old.items ≡ [] }
-    ensures ok { IfOk result (Asks asking.old.end.port.link.failed asking.old asked.now asking.new
-        text.new.items) }
-    ensures err { OnErr result ((asking.new ≡ asking.old) ⊎ ((said : List ℕ) × (came : TheCame)
-        × Asks asking.old.end.port.link.failed asking.old asked.now asking.new said came)) }
+    ensures ok { IfOk result (Does asking.old (Order.Ask asked.now) asking.new text.new.items) }
+    ensures err { OnErr result (Reaches asking.old (Order.Ask asked.now) asking.new) }
 {
     if asking.end.link().has_failed() {
         return Ok(Came::Untold(push_link_refusal(text, LinkFault::Failed)?));

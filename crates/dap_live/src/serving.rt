@@ -12,10 +12,10 @@ ghost use Rattle.dap_text.specs.Adding.{Adds};
 ghost use Rattle.dap_text.specs.Tables.{files_text};
 ghost use Rattle.rec_file.specs.Shapes.{is_shape};
 ghost use Rattle.linewise.specs.declared.talking.Became.{Became as TheBecame};
-ghost use Rattle.dap_live.specs.Sending.{is_left as is_left_of};
+ghost use Rattle.dap_live.specs.Sending.{UnlessFailed, is_left as is_left_of};
 ghost use Rattle.dap_live.specs.Texts.{packets_text};
 ghost use Rattle.dap_live.specs.Inner.Saying.{AddsSaid};
-ghost use Rattle.dap_live.specs.Serving.{AddsFile, AddsRecord, AddsShaped, Does, DoesOrder, GoesOn, GoesOnIf, Reaches, Renews, Resends, ResendsRunning, TakesPacket, gone_said};
+ghost use Rattle.dap_live.specs.Serving.{AddsFile, AddsRecord, AddsShaped, Does, DoesOrder, GoesOn, GoesOnIf, Reaches, Renews, Resends, TakesPacket, Tells, gone_said};
 
 use crate::orders::{Anew, Order, read_order, set_up};
 use crate::sending::{is_left, push_again, say_ack, waits};
@@ -152,9 +152,9 @@ fn resend_running(
     text: &mut Vec<u8>,
 ) -> Result<Became, AllocError>
     requires { text.old.items ≡ [] }
-    ensures ok { IfOk result (ResendsRunning end.old end.new text.new.items) }
+    ensures ok { IfOk result (Resends end.old end.new text.new.items) }
     ensures err { OnErr result ((end.new ≡ end.old) ⊎ ((said : List ℕ) × (became : TheBecame)
-        × ResendsRunning end.old end.new said became)) }
+        × Resends end.old end.new said became)) }
 {
     push_again(end.link(), text)?;
     go_on_if_left(alloc, end, text)
@@ -163,9 +163,11 @@ fn resend_running(
 /// Sends all segments again that aren't acknowledged, and goes on.
 fn resend(alloc: Global, end: &mut ServingEnd, text: &mut Vec<u8>) -> Result<Became, AllocError>
     requires { text.old.items ≡ [] }
-    ensures ok { IfOk result (Resends end.old.port.link.failed end.old end.new text.new.items) }
+    ensures ok { IfOk result (λ became. UnlessFailed end.old.port.link text.new.items
+        (Tells end.old end.new became) (Resends end.old end.new text.new.items became)) }
     ensures err { OnErr result ((end.new ≡ end.old) ⊎ ((said : List ℕ) × (became : TheBecame)
-        × Resends end.old.port.link.failed end.old end.new said became)) }
+        × UnlessFailed end.old.port.link said (Tells end.old end.new became)
+        (Resends end.old end.new said became))) }
 {
     if end.link().has_failed() {
         return push_link_refusal(text, LinkFault::Failed);

@@ -1,10 +1,15 @@
 use Rattle.std.proofs.Common.{◌≡◌, false, rules}
+use Rattle.nsp_link.specs.declared.fault.LinkFault.TheVariants.{Failed}
+use Rattle.dap_live.specs.Texts.{link_refusal}
+use Rattle.dap_live.specs.Serving.{Resends, Tells}
 use Rattle.dap_live.proofs.ResultLemmas.{err_from}
-use Rattle.dap_live.proofs.ReachLemmas.{serving_reached}
+use Rattle.dap_live.proofs.ReachLemmas.{unless_reached}
 use Rattle.dap_live.proofs.serving.resend.Goals as goal
 
 pub returns-clause-err : goal.returns-clause-err
 returns-clause-err c =
     let works : c.args.end.now.port.link.failed ≡ false = search rules in
+    let old = c.args.end.now in
+    let new = c.resend_running.new.end in
     err_from c.resend_running.result c.resend_running.ensures.err
-    (serving_reached c.args.end.now.port.link.failed works c.args.end.now c.resend_running.new.end)
+    (unless_reached old.port.link.failed works old new (λ said became. Tells old new became × (said ≡ (link_refusal Failed).0)) (Resends old new))
