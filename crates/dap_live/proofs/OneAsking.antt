@@ -37,7 +37,8 @@ use Rattle.dap_live.specs.declared.orders.Order.TheVariants as order
 use Rattle.dap_live.specs.Orders.{order_of, setup_anew}
 use Rattle.dap_live.specs.Sending.{AllAgain, SaysAck, has_message, is_left, waits_of}
 use Rattle.dap_live.specs.Texts.{ask_refusal, link_refusal, packets_text, reports_text, taken_said}
-use Rattle.dap_live.specs.Asking.{TakesPacket, GoesOn, GoesOnIf, Resends, AsksIt, AsksNot, Asks, Tells, Renewed, Renews, OnEnd, Does, DoesAll, DoesOrder, Ends, answered, waiting, came_by, front_text, gone_said, goes_on}
+use Rattle.dap_live.specs.Asking.{GoesOn, GoesOnIf, Resends, AsksIt, AsksNot, Asks, Tells, Renewed, Renews, OnEnd, Does, DoesAll, DoesOrder, Ends, answered, waiting, came_by, front_text, gone_said, goes_on}
+use Rattle.dap_live.specs.Both.{TakesPacket}
 use Rattle.dap_live.specs.OneText.{AreSameAsking}
 use Rattle.dap_live.proofs.OneLine.{Fits, line_fits, all_again, ack_one, end_wants, taken_wants, setup_apart, setup_one, one_answer}
 
@@ -68,21 +69,22 @@ on_end old other one two said more m n same x y h =
 -- ---- A packet.
 
 packet_one : (old other one two : Asking) (bytes said more : List ℕ) (m n : Came) → AreBytes bytes → AreSameAsking old other → outcome m ≢ NoMemory → outcome n ≢ NoMemory
-    → TakesPacket old bytes one said m → TakesPacket other bytes two more n → Two one two said more m n
-packet_one old other one two bytes said more m n fits same nm nn x y =
-    let wx = taken_wants x.taken one.reports.items x.packets (λ e. nm (ap outcome x.ends ∙ outcome_by x.taken _ ∙ e)) in
-    let wy = taken_wants y.taken two.reports.items y.packets (λ e. nn (ap outcome y.ends ∙ outcome_by y.taken _ ∙ e)) in
+    → OnEnd old one × TakesPacket (asks old.reports.items one.reports.items) one.reports.items came_by old.end bytes one.end said m
+    → OnEnd other two × TakesPacket (asks other.reports.items two.reports.items) two.reports.items came_by other.end bytes two.end more n → Two one two said more m n
+packet_one old other one two bytes said more m n fits same nm nn (rx, x) (ry, y) =
+    let wx = taken_wants x.taken one.reports.items x.packets (λ e. nm (ap outcome x.ended ∙ outcome_by x.taken _ ∙ e)) in
+    let wy = taken_wants y.taken two.reports.items y.packets (λ e. nn (ap outcome y.ended ∙ outcome_by y.taken _ ∙ e)) in
     let there : Takes (asks old.reports.items two.reports.items) other.end two.end bytes [] y.packets y.taken =
     subst (λ (l : List Report). Takes (asks l two.reports.items) other.end two.end bytes [] y.packets y.taken) (sym same.2) y.took in
     let t = taking_alike old.end other.end one.end two.end bytes x.taken y.taken [] x.packets y.packets old.reports.items one.reports.items two.reports.items fits same.3 same.0 wx wy x.took there in
     let same_said : taken_said x.taken one.reports.items x.packets ≡ taken_said y.taken two.reports.items y.packets =
     ap (λ (r : Result Got TakeFault). taken_said r one.reports.items x.packets) t.1 ∙ ap (taken_said y.taken one.reports.items) t.2
     ∙ ap (λ (l : List Report). taken_said y.taken l y.packets) t.3 in
-    on_end old other one two said more m n same x.rest y.rest (
+    on_end old other one two said more m n same rx ry (
       t.0,
       t.3,
       x.says ∙ ap (λ k. k.0) same_said ∙ sym y.says,
-      x.ends ∙ ap (λ (r : Result Got TakeFault). came_by r (taken_said x.taken one.reports.items x.packets).1) t.1 ∙ ap (λ k. came_by y.taken k.1) same_said ∙ sym y.ends,
+      x.ended ∙ ap (λ (r : Result Got TakeFault). came_by r (taken_said x.taken one.reports.items x.packets).1) t.1 ∙ ap (λ k. came_by y.taken k.1) same_said ∙ sym y.ended,
       t.4,
     )
 

@@ -20,6 +20,7 @@ use Rattle.dap_accessed.specs.Adding.{IsFresh, IsLate, MayAdd, MayAddRecord}
 use Rattle.dap_end.specs.declared.fault.TakeFault.{TakeFault}
 use Rattle.dap_end.specs.Ports.{PortValue, HasCome, new_port}
 use Rattle.dap_end.specs.Serving.{ServingValue, Past, IsAfter, NotAdded, NotStored, nothing_yet}
+use Rattle.dap_end.specs.Taking.{serves}
 use Rattle.dap_end.proofs.ForCallers.{going_one, taking_one, new_known, going_known, taking_known}
 use Rattle.dap_text.specs.declared.filed.FileLine.{FileLine}
 use Rattle.dap_text.specs.declared.filed.RecordLine.{RecordLine}
@@ -35,7 +36,8 @@ use Rattle.dap_live.specs.declared.orders.Order.TheVariants as order
 use Rattle.dap_live.specs.Orders.{order_of, setup_anew}
 use Rattle.dap_live.specs.Sending.{SaysAck, UnlessFailed, is_left, waits_of}
 use Rattle.dap_live.specs.Texts.{add_refusal, link_refusal, packets_text, taken_said}
-use Rattle.dap_live.specs.Serving.{TakesPacket, GoesOn, GoesOnIf, Resends, Tells, Renewed, Renews, Added, AddsShaped, AddsFile, AddsRecord, OnEnd, Does, DoesOrder, answered, waiting, gone_said}
+use Rattle.dap_live.specs.Serving.{GoesOn, GoesOnIf, Resends, Tells, Renewed, Renews, Added, AddsShaped, AddsFile, AddsRecord, OnEnd, Does, DoesOrder, answered, waiting, gone_said}
+use Rattle.dap_live.specs.Both.{TakesPacket}
 use Rattle.dap_live.specs.OneText.{HasServed, AreSameServing}
 use Rattle.dap_live.proofs.OneLine.{Fits, line_fits, all_again, ack_one, taken_wants, setup_apart, setup_one, one_answer}
 
@@ -46,14 +48,14 @@ One one two said more b c = (one ≡ two) × (said ≡ more) × (b ≡ c) × Has
 -- ---- A packet.
 
 packet_one : (end one two : ServingValue) (bytes said more : List ℕ) (b c : Became) → AreBytes bytes → HasServed end → b ≢ NoMemory → c ≢ NoMemory
-    → TakesPacket end bytes one said b → TakesPacket end bytes two more c → One one two said more b c
+    → TakesPacket serves [] (λ taken became. became) end bytes one said b → TakesPacket serves [] (λ taken became. became) end bytes two more c → One one two said more b c
 packet_one end one two bytes said more b c fits k nb nc x y =
     let said : x.taken ≡ y.taken → x.packets ≡ y.packets → taken_said x.taken [] x.packets ≡ taken_said y.taken [] y.packets =
     λ r l. ap (λ (r : Result Got TakeFault). taken_said r [] x.packets) r ∙ ap (taken_said y.taken []) l in
-    let t = taking_one k.0 end one two bytes x.taken y.taken [] x.packets y.packets fits k.1 (taken_wants x.taken [] x.packets (λ e. nb (x.ends ∙ e))) (taken_wants y.taken [] y.packets (λ e. nc (y.ends ∙ e))) x.took y.took in (
+    let t = taking_one k.0 end one two bytes x.taken y.taken [] x.packets y.packets fits k.1 (taken_wants x.taken [] x.packets (λ e. nb (x.ended ∙ e))) (taken_wants y.taken [] y.packets (λ e. nc (y.ended ∙ e))) x.took y.took in (
       t.0,
       x.says ∙ ap (λ k. k.0) (said t.1 t.2) ∙ sym y.says,
-      x.ends ∙ ap (λ k. k.1) (said t.1 t.2) ∙ sym y.ends,
+      x.ended ∙ ap (λ k. k.1) (said t.1 t.2) ∙ sym y.ended,
       taking_known end one bytes [] x.packets x.taken x.took k,
     )
 
@@ -253,7 +255,7 @@ does_one : (old other one two : Serving) (o : Order) (said more : List ℕ) (b c
     → Two one two said more b c
 does_one old other one two (order.Packet bytes) said more b c fits same nb nc x y =
     on_end old other one two said more b c same x.0 y.0
-    (packet_one old.end one.end two.end bytes said more b c fits same.2 nb nc x.1 (subst (λ (v : ServingValue). TakesPacket v bytes two.end more c) (sym same.0) y.1))
+    (packet_one old.end one.end two.end bytes said more b c fits same.2 nb nc x.1 (subst (λ (v : ServingValue). TakesPacket serves [] (λ taken became. became) v bytes two.end more c) (sym same.0) y.1))
 does_one old other one two order.Resend said more b c fits same nb nc x y =
     on_end old other one two said more b c same x.0 y.0
     (resend_one old.end.port.link.failed old.end one.end two.end said more b c same.2 nb nc x.1

@@ -1,5 +1,5 @@
 -- How far an order was done.
-use Rattle.std.proofs.Common.{◌≡◌, ◌⊎◌, ◌++◌, inl, inr, ℕ, Bool, true, false, List, refl, ap, sym, true≢false}
+use Rattle.std.proofs.Common.{◌≡◌, ◌⊎◌, ◌++◌, inl, inr, ℕ, Bool, true, false, List, [], refl, ap, sym, true≢false}
 use Rattle.std.specs.Prelude.{MatchBool}
 use Rattle.dap_accessing.specs.declared.report.Report.{Report}
 use Rattle.linewise.specs.declared.talking.Became.{Became}
@@ -11,14 +11,16 @@ use Rattle.dap_end.specs.Asking.{AskingValue}
 use Rattle.dap_live.specs.declared.orders.Order.TheVariants as order
 use Rattle.dap_live.specs.declared.serving.Serving.{Serving}
 use Rattle.dap_live.specs.declared.asking.Asking.{Asking}
-use Rattle.dap_live.specs.Serving.{TakesPacket, Reaches}
+use Rattle.dap_end.specs.Taking.{serves}
+use Rattle.dap_live.specs.Both.{TakesPacket}
+use Rattle.dap_live.specs.Serving.{Reaches}
 use Rattle.dap_live.specs.Serving as serving
 use Rattle.dap_live.specs.Texts.{reports_text}
 use Rattle.dap_live.specs.Sending.{UnlessFailed}
 use Rattle.dap_live.specs.Asking as asking
 
 pub reaches_packet : (old : Serving) (bytes : List ℕ) (end : ServingValue)
-    → ((end ≡ old.end) ⊎ ((said : List ℕ) × (became : Became) × TakesPacket old.end bytes end said became))
+    → ((end ≡ old.end) ⊎ ((said : List ℕ) × (became : Became) × TakesPacket serves [] (λ taken became. became) old.end bytes end said became))
     → Reaches old (order.Packet bytes) (record old { end = end })
 reaches_packet old bytes end (inl same) = inl (ap (λ e. record old { end = e }) same)
 reaches_packet old bytes end (inr done) = inr (done.0, done.1, (refl, done.2))

@@ -15,7 +15,7 @@ use Rattle.dap_end.specs.declared.fault.TakeFault.{TakeFault}
 use Rattle.dap_end.specs.declared.fault.TakeFault.TheVariants as take
 use Rattle.dap_end.specs.Ports.{new_port}
 use Rattle.dap_end.specs.Asking.{AskingValue, AskedOne, HasAsked, asks, nothing_asked}
-use Rattle.dap_end.specs.Turns.{WentOn, Takes}
+use Rattle.dap_end.specs.Turns.{WentOn}
 use Rattle.linewise.specs.declared.talking.Became.{Became}
 use Rattle.linewise.specs.declared.talking.Became.TheVariants.{Done, BadLine, NoMemory}
 use Rattle.dap_live.specs.declared.asking.Asking.{Asking}
@@ -30,7 +30,8 @@ use Rattle.dap_live.specs.declared.asking.Front.{Front}
 use Rattle.dap_live.specs.declared.asking.Front.TheVariants.{Asked}
 use Rattle.dap_live.specs.declared.asking.Front.TheVariants as front
 use Rattle.dap_text.specs.Text.{line_feed}
-use Rattle.dap_live.specs.Texts.{LineAnswer, ask_refusal, end_refusal, link_refusal, packets_text, refused_line, reports_text, taken_said}
+use Rattle.dap_live.specs.Texts.{LineAnswer, ask_refusal, end_refusal, link_refusal, packets_text, refused_line, reports_text}
+use Rattle.dap_live.specs.Both.{TakesPacket}
 
 -- only the end moved, and reports came
 abbrev pub OnEnd : Asking → Asking → Type 0
@@ -42,14 +43,6 @@ OnEnd old new = new ≡ record old { end = new.end; reports = new.reports }
 abbrev pub came_by : Result Got TakeFault → Became → Came
 came_by (Err (take.Refused f)) became = Untold became
 came_by _ became = Told became
-
-pub record TakesPacket (old : Asking) (bytes : List ℕ) (new : Asking) (text : List ℕ) (came : Came) : Type 0 where
-  pub rest : OnEnd old new
-  pub taken : Result Got TakeFault
-  pub packets : List (List ℕ)
-  pub took : Takes (asks old.reports.items new.reports.items) old.end new.end bytes [] packets taken
-  pub says : text ≡ (taken_said taken new.reports.items packets).0
-  pub ends : came ≡ came_by taken (taken_said taken new.reports.items packets).1
 
 -- ---- A request.
 
@@ -126,7 +119,8 @@ IsNone old new text came = (new ≡ old) × (text ≡ []) × (came ≡ Untold Ba
 
 -- what is done by a line that says this, and what is said
 abbrev pub Does : Asking → Order → Asking → List ℕ → Came → Type 0
-Does old (order.Packet bytes) new text came = TakesPacket old bytes new text came
+Does old (order.Packet bytes) new text came =
+    OnEnd old new × TakesPacket (asks old.reports.items new.reports.items) new.reports.items came_by old.end bytes new.end text came
 Does old order.Resend new text came = UnlessFailed old.end.port.link text (Tells old new came) (Resends old new text came)
 Does old order.Ack new text came = Tells old new came × SaysAck old.end.port.link text
 Does old (order.New anew) new text came = Renews old anew new text came

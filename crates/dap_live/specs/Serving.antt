@@ -1,6 +1,5 @@
 -- What the end that serves does by a line, and what it says.
 use Rattle.std.specs.Prelude.{◌≡◌, ◌⊎◌, ◌++◌, ℕ, Bool, true, false, List, [], Result, Ok, Err, Option, Some, None, MatchOption}
-use Rattle.nsp_link.specs.declared.link.Got.{Got}
 use Rattle.nsp_link.specs.declared.fault.LinkFault.{LinkFault}
 use Rattle.nsp_link.specs.Link.{IsSetup, SetupFault}
 use Rattle.rec_file.specs.declared.shapes.Shape.{Shape}
@@ -9,11 +8,9 @@ use Rattle.dap_msg.specs.Codes.{stscode, reason_number}
 use Rattle.dap_msg.specs.declared.codes.Reason.TheVariants.{BadAttributes}
 use Rattle.dap_accessed.specs.Adding.{MayAdd, MayAddRecord, with_new_file, with_record}
 use Rattle.dap_accessed.specs.declared.fault.AddFault.{AddFault}
-use Rattle.dap_end.specs.declared.fault.TakeFault.{TakeFault}
 use Rattle.dap_end.specs.Ports.{HasCome, new_port}
 use Rattle.dap_end.specs.Serving.{ServingValue, IsAfter, IsGiven, NotAdded, NotStored, nothing_yet}
 use Rattle.dap_end.specs.Taking.{GoesOn as Went, serves}
-use Rattle.dap_end.specs.Turns.{Takes}
 use Rattle.linewise.specs.declared.talking.Became.{Became}
 use Rattle.linewise.specs.declared.talking.Became.TheVariants.{Done, BadLine, NoMemory}
 use Rattle.dap_text.specs.declared.filed.FileLine.{FileLine}
@@ -25,16 +22,8 @@ use Rattle.dap_live.specs.declared.orders.Order.{Order}
 use Rattle.dap_live.specs.declared.orders.Order.TheVariants as order
 use Rattle.dap_live.specs.Orders.{order_of, setup_anew}
 use Rattle.dap_live.specs.Sending.{AllAgain, SaysAck, UnlessFailed, is_left, waits_of}
-use Rattle.dap_live.specs.Texts.{LineAnswer, add_refusal, link_refusal, packets_text, status_line, taken_said}
-
--- ---- A packet.
-
-pub record TakesPacket (old : ServingValue) (bytes : List ℕ) (new : ServingValue) (text : List ℕ) (became : Became) : Type 0 where
-  pub taken : Result Got TakeFault
-  pub packets : List (List ℕ)
-  pub took : Takes serves old new bytes [] packets taken
-  pub says : text ≡ (taken_said taken [] packets).0
-  pub ends : became ≡ (taken_said taken [] packets).1
+use Rattle.dap_live.specs.Texts.{LineAnswer, add_refusal, link_refusal, packets_text, status_line}
+use Rattle.dap_live.specs.Both.{TakesPacket}
 
 -- ---- Going on.
 
@@ -119,7 +108,7 @@ Tells old new became = (new ≡ old) × (became ≡ Done)
 
 -- what is done by a line that says this, and what is said
 abbrev pub Does : Serving → Order → Serving → List ℕ → Became → Type 0
-Does old (order.Packet bytes) new text became = OnEnd old new × TakesPacket old.end bytes new.end text became
+Does old (order.Packet bytes) new text became = OnEnd old new × TakesPacket serves [] (λ taken became. became) old.end bytes new.end text became
 Does old order.Resend new text became =
     OnEnd old new × UnlessFailed old.end.port.link text (Tells old.end new.end became) (Resends old.end new.end text became)
 Does old order.Ack new text became = Tells old new became × SaysAck old.end.port.link text

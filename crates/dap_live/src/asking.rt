@@ -10,7 +10,7 @@ ghost use Rattle.dap_end.specs.Turns.{WentOn, Takes};
 ghost use Rattle.dap_text.specs.Adding.{Adds};
 ghost use Rattle.dap_live.specs.declared.asking.Came.{Came as TheCame};
 ghost use Rattle.dap_live.specs.Texts.{packets_text, reports_text};
-ghost use Rattle.dap_live.specs.Asking.{Asks, Does, DoesOrder, Ends, GoesOn, GoesOnIf, OnEnd, Reaches, Renews, Resends, TakesPacket, came_by, front_text, gone_said, goes_on as goes_on_by, is_behind as is_behind_by};
+ghost use Rattle.dap_live.specs.Asking.{Asks, Does, DoesOrder, Ends, GoesOn, GoesOnIf, OnEnd, Reaches, Renews, Resends, came_by, front_text, gone_said, goes_on as goes_on_by, is_behind as is_behind_by};
 
 use crate::orders::{Anew, Order, read_order, set_up};
 use crate::sending::{has_message, is_left, push_again, say_ack, waits};
@@ -101,9 +101,8 @@ fn take_packet(
     text: &mut Vec<u8>,
 ) -> Result<Came, AllocError>
     requires { text.old.items ≡ [] }
-    ensures ok { IfOk result (TakesPacket asking.old digits.now asking.new text.new.items) }
-    ensures err { OnErr result ((asking.new ≡ asking.old) ⊎ ((said : List ℕ) × (came : TheCame)
-        × TakesPacket asking.old digits.now asking.new said came)) }
+    ensures ok { IfOk result (Does asking.old (Order.Packet digits.now) asking.new text.new.items) }
+    ensures err { OnErr result (Reaches asking.old (Order.Packet digits.now) asking.new) }
 {
     let bytes = digits.to_vec(asking.alloc)?;
     let mut packets = Vec::new(asking.alloc);

@@ -14,8 +14,9 @@ ghost use Rattle.rec_file.specs.Shapes.{is_shape};
 ghost use Rattle.linewise.specs.declared.talking.Became.{Became as TheBecame};
 ghost use Rattle.dap_live.specs.Sending.{UnlessFailed, is_left as is_left_of};
 ghost use Rattle.dap_live.specs.Texts.{packets_text};
+ghost use Rattle.dap_live.specs.Both.{TakesPacket};
 ghost use Rattle.dap_live.specs.Inner.Saying.{AddsSaid};
-ghost use Rattle.dap_live.specs.Serving.{AddsFile, AddsRecord, AddsShaped, Does, DoesOrder, GoesOn, GoesOnIf, Reaches, Renews, Resends, TakesPacket, Tells, gone_said};
+ghost use Rattle.dap_live.specs.Serving.{AddsFile, AddsRecord, AddsShaped, Does, DoesOrder, GoesOn, GoesOnIf, Reaches, Renews, Resends, Tells, gone_said};
 
 use crate::orders::{Anew, Order, read_order, set_up};
 use crate::sending::{is_left, push_again, say_ack, waits};
@@ -69,9 +70,10 @@ fn take_packet(
     text: &mut Vec<u8>,
 ) -> Result<Became, AllocError>
     requires { text.old.items ≡ [] }
-    ensures ok { IfOk result (TakesPacket end.old digits.now end.new text.new.items) }
+    ensures ok { IfOk result (TakesPacket serves [] (λ taken became. became) end.old digits.now
+        end.new text.new.items) }
     ensures err { OnErr result ((end.new ≡ end.old) ⊎ ((said : List ℕ) × (became : TheBecame)
-        × TakesPacket end.old digits.now end.new said became)) }
+        × TakesPacket serves [] (λ taken became. became) end.old digits.now end.new said became)) }
 {
     let bytes = digits.to_vec(alloc)?;
     let mut packets = Vec::new(alloc);
