@@ -37,8 +37,8 @@ use Rattle.dap_live.specs.declared.orders.Order.TheVariants as order
 use Rattle.dap_live.specs.Orders.{order_of, setup_anew}
 use Rattle.dap_live.specs.Sending.{AllAgain, SaysAck, has_message, is_left, waits_of}
 use Rattle.dap_live.specs.Texts.{ask_refusal, link_refusal, packets_text, reports_text, taken_said}
-use Rattle.dap_live.specs.Asking.{GoesOn, GoesOnIf, Resends, AsksIt, AsksNot, Asks, Tells, Renewed, Renews, OnEnd, Does, DoesAll, DoesOrder, Ends, answered, waiting, came_by, front_text, gone_said, goes_on}
-use Rattle.dap_live.specs.Both.{TakesPacket}
+use Rattle.dap_live.specs.Asking.{GoesOn, GoesOnIf, Resends, AsksIt, AsksNot, Asks, Tells, Renewed, Renews, OnEnd, Does, DoesAll, Ends, answered, waiting, came_by, front_text, gone_said, goes_on}
+use Rattle.dap_live.specs.Both.{DoesOrder, TakesPacket}
 use Rattle.dap_live.specs.OneText.{AreSameAsking}
 use Rattle.dap_live.proofs.OneLine.{Fits, line_fits, all_again, ack_one, end_wants, taken_wants, setup_apart, setup_one, one_answer}
 
@@ -332,7 +332,7 @@ all_one old other one two o said more b c fits same nb nc x y =
     let e = ends_one x.1 x.0 y.0 one two b c t.0 x.3 (subst (λ (m : Came). Ends m y.0 two c) (sym t.2) y.3) in
     (e.0, t.1, e.1)
 
-order_one : (old other one two : Asking) (o : Option Order) (said more : List ℕ) (b c : Became) → Fits o → AreSameAsking old other → b ≢ NoMemory → c ≢ NoMemory → DoesOrder old o one said b → DoesOrder other o two more c
+order_one : (old other one two : Asking) (o : Option Order) (said more : List ℕ) (b c : Became) → Fits o → AreSameAsking old other → b ≢ NoMemory → c ≢ NoMemory → DoesOrder Does DoesAll old o one said b → DoesOrder Does DoesAll other o two more c
     → AreSameAsking one two × (said ≡ more) × (b ≡ c)
 order_one old other one two None said more b c fits same nb nc x y = (stay old other one two same x.0 y.0, x.1 ∙ sym y.1, x.2 ∙ sym y.2)
 order_one old other one two (Some o) said more b c fits same nb nc (inl x) (inl y) = all_one old other one two o said more b c fits same nb nc x y

@@ -36,8 +36,8 @@ use Rattle.dap_live.specs.declared.orders.Order.TheVariants as order
 use Rattle.dap_live.specs.Orders.{order_of, setup_anew}
 use Rattle.dap_live.specs.Sending.{SaysAck, UnlessFailed, is_left, waits_of}
 use Rattle.dap_live.specs.Texts.{add_refusal, link_refusal, packets_text, taken_said}
-use Rattle.dap_live.specs.Serving.{GoesOn, GoesOnIf, Resends, Tells, Renewed, Renews, Added, AddsShaped, AddsFile, AddsRecord, OnEnd, Does, DoesOrder, answered, waiting, gone_said}
-use Rattle.dap_live.specs.Both.{TakesPacket}
+use Rattle.dap_live.specs.Serving.{GoesOn, GoesOnIf, Resends, Tells, Renewed, Renews, Added, AddsShaped, AddsFile, AddsRecord, OnEnd, Does, answered, waiting, gone_said}
+use Rattle.dap_live.specs.Both.{DoesOrder, TakesPacket}
 use Rattle.dap_live.specs.OneText.{HasServed, AreSameServing}
 use Rattle.dap_live.proofs.OneLine.{Fits, line_fits, all_again, ack_one, taken_wants, setup_apart, setup_one, one_answer}
 
@@ -276,7 +276,7 @@ does_one old other one two (order.Record r) said more b c fits same nb nc x y =
     (record_one old.end one.end two.end r said more b c same.2 nb nc x.1 (subst (λ (v : ServingValue). AddsRecord v r two.end more c) (sym same.0) y.1))
 does_one old other one two (order.Ask request) said more b c fits same nb nc x y = (stay old other one two same x.0 y.0, x.1 ∙ sym y.1, x.2 ∙ sym y.2)
 
-order_one : (old other one two : Serving) (o : Option Order) (said more : List ℕ) (b c : Became) → Fits o → AreSameServing old other → b ≢ NoMemory → c ≢ NoMemory → DoesOrder old o one said b → DoesOrder other o two more c
+order_one : (old other one two : Serving) (o : Option Order) (said more : List ℕ) (b c : Became) → Fits o → AreSameServing old other → b ≢ NoMemory → c ≢ NoMemory → DoesOrder Does Does old o one said b → DoesOrder Does Does other o two more c
     → Two one two said more b c
 order_one old other one two None said more b c fits same nb nc x y = (stay old other one two same x.0 y.0, x.1 ∙ sym y.1, x.2 ∙ sym y.2)
 order_one old other one two (Some o) said more b c fits same nb nc (inl x) (inl y) = does_one old other one two o said more b c fits same nb nc x y

@@ -12,8 +12,7 @@ use Rattle.dap_live.specs.declared.orders.Order.TheVariants as order
 use Rattle.dap_live.specs.declared.serving.Serving.{Serving}
 use Rattle.dap_live.specs.declared.asking.Asking.{Asking}
 use Rattle.dap_end.specs.Taking.{serves}
-use Rattle.dap_live.specs.Both.{TakesPacket}
-use Rattle.dap_live.specs.Serving.{Reaches}
+use Rattle.dap_live.specs.Both.{Reaches, TakesPacket}
 use Rattle.dap_live.specs.Serving as serving
 use Rattle.dap_live.specs.Texts.{reports_text}
 use Rattle.dap_live.specs.Sending.{UnlessFailed}
@@ -21,7 +20,7 @@ use Rattle.dap_live.specs.Asking as asking
 
 pub reaches_packet : (old : Serving) (bytes : List ℕ) (end : ServingValue)
     → ((end ≡ old.end) ⊎ ((said : List ℕ) × (became : Became) × TakesPacket serves [] (λ taken became. became) old.end bytes end said became))
-    → Reaches old (order.Packet bytes) (record old { end = end })
+    → Reaches serving.Does old (order.Packet bytes) (record old { end = end })
 reaches_packet old bytes end (inl same) = inl (ap (λ e. record old { end = e }) same)
 reaches_packet old bytes end (inr done) = inr (done.0, done.1, (refl, done.2))
 
@@ -57,6 +56,6 @@ unless_reached failed works old new Nothing This (inr done) =
 
 pub reaches_resend : (old : Serving) (end : ServingValue)
     → ((end ≡ old.end) ⊎ ((said : List ℕ) × (became : Became) × UnlessFailed old.end.port.link said (serving.Tells old.end end became) (serving.Resends old.end end said became)))
-    → Reaches old order.Resend (record old { end = end })
+    → Reaches serving.Does old order.Resend (record old { end = end })
 reaches_resend old end (inl same) = inl (ap (λ e. record old { end = e }) same)
 reaches_resend old end (inr done) = inr (done.0, done.1, (refl, done.2))

@@ -1,5 +1,5 @@
 -- What the end that asks does by a line, and what it says.
-use Rattle.std.specs.Prelude.{◌≡◌, ◌⊎◌, ℕ, ◌++◌, Bool, true, false, not, ◌&&◌, ◌||◌, nat_lt, length, List, [], ◌∷◌, codes, Result, Ok, Err, Option, Some, None}
+use Rattle.std.specs.Prelude.{◌≡◌, ◌⊎◌, ℕ, ◌++◌, Bool, true, false, not, ◌&&◌, ◌||◌, nat_lt, length, List, [], ◌∷◌, codes, Result, Ok, Err}
 use Rattle.std.specs.List.{concat}
 use Rattle.std.specs.Fmt.{decimal}
 use Rattle.nsp_link.specs.declared.link.Got.{Got}
@@ -17,7 +17,7 @@ use Rattle.dap_end.specs.Ports.{new_port}
 use Rattle.dap_end.specs.Asking.{AskingValue, AskedOne, HasAsked, asks, nothing_asked}
 use Rattle.dap_end.specs.Turns.{WentOn}
 use Rattle.linewise.specs.declared.talking.Became.{Became}
-use Rattle.linewise.specs.declared.talking.Became.TheVariants.{Done, BadLine, NoMemory}
+use Rattle.linewise.specs.declared.talking.Became.TheVariants.{Done, BadLine}
 use Rattle.dap_live.specs.declared.asking.Asking.{Asking}
 use Rattle.dap_live.specs.declared.asking.Came.{Came}
 use Rattle.dap_live.specs.declared.asking.Came.TheVariants.{Told, Untold}
@@ -31,7 +31,7 @@ use Rattle.dap_live.specs.declared.asking.Front.TheVariants.{Asked}
 use Rattle.dap_live.specs.declared.asking.Front.TheVariants as front
 use Rattle.dap_text.specs.Text.{line_feed}
 use Rattle.dap_live.specs.Texts.{LineAnswer, ask_refusal, end_refusal, link_refusal, packets_text, refused_line, reports_text}
-use Rattle.dap_live.specs.Both.{TakesPacket}
+use Rattle.dap_live.specs.Both.{DoesOrder, TakesPacket}
 
 -- only the end moved, and reports came
 abbrev pub OnEnd : Asking → Asking → Type 0
@@ -137,22 +137,13 @@ Ends (Untold was) old new became = (new ≡ old) × (became ≡ was)
 abbrev pub DoesAll : Asking → Order → Asking → List ℕ → Became → Type 0
 DoesAll old o new text became = (mid : Asking) × (came : Came) × Does old o mid text came × Ends came mid new became
 
--- it is done or it isn't, and nothing is said: its reports still wait
-abbrev pub Reaches : Asking → Order → Asking → Type 0
-Reaches old o new = (new ≡ old) ⊎ ((said : List ℕ) × (came : Came) × Does old o new said came)
-
--- Where memory is refused to the text, nothing is said but that.
-abbrev pub DoesOrder : Asking → Option Order → Asking → List ℕ → Became → Type 0
-DoesOrder old None new text became = (new ≡ old) × (text ≡ []) × (became ≡ BadLine)
-DoesOrder old (Some o) new text became =
-    DoesAll old o new text became ⊎ (Reaches old o new × (text ≡ []) × (became ≡ NoMemory))
-
 -- it would do something by going on, or has reports to tell
 abbrev pub is_behind : Asking → Bool
 is_behind asking = goes_on asking.end || nat_lt 0 (length asking.reports.items)
 
+-- where memory is refused to the text, the reports still wait
 abbrev pub answered : Asking → List ℕ → Asking → List ℕ → Became → Type 0
-answered old line new text became = DoesOrder old (order_of line) new text became
+answered old line new text became = DoesOrder Does DoesAll old (order_of line) new text became
 
 abbrev pub waiting : Asking → ℕ
 waiting asking = waits_of asking.end.port.link (is_behind asking)

@@ -1,5 +1,5 @@
 -- What the end that serves does by a line, and what it says.
-use Rattle.std.specs.Prelude.{◌≡◌, ◌⊎◌, ◌++◌, ℕ, Bool, true, false, List, [], Result, Ok, Err, Option, Some, None, MatchOption}
+use Rattle.std.specs.Prelude.{◌≡◌, ◌⊎◌, ◌++◌, ℕ, Bool, true, false, List, [], Result, Ok, Err, MatchOption}
 use Rattle.nsp_link.specs.declared.fault.LinkFault.{LinkFault}
 use Rattle.nsp_link.specs.Link.{IsSetup, SetupFault}
 use Rattle.rec_file.specs.declared.shapes.Shape.{Shape}
@@ -12,7 +12,7 @@ use Rattle.dap_end.specs.Ports.{HasCome, new_port}
 use Rattle.dap_end.specs.Serving.{ServingValue, IsAfter, IsGiven, NotAdded, NotStored, nothing_yet}
 use Rattle.dap_end.specs.Taking.{GoesOn as Went, serves}
 use Rattle.linewise.specs.declared.talking.Became.{Became}
-use Rattle.linewise.specs.declared.talking.Became.TheVariants.{Done, BadLine, NoMemory}
+use Rattle.linewise.specs.declared.talking.Became.TheVariants.{Done, BadLine}
 use Rattle.dap_text.specs.declared.filed.FileLine.{FileLine}
 use Rattle.dap_text.specs.declared.filed.RecordLine.{RecordLine}
 use Rattle.dap_text.specs.Tables.{files_text}
@@ -23,7 +23,7 @@ use Rattle.dap_live.specs.declared.orders.Order.TheVariants as order
 use Rattle.dap_live.specs.Orders.{order_of, setup_anew}
 use Rattle.dap_live.specs.Sending.{AllAgain, SaysAck, UnlessFailed, is_left, waits_of}
 use Rattle.dap_live.specs.Texts.{LineAnswer, add_refusal, link_refusal, packets_text, status_line}
-use Rattle.dap_live.specs.Both.{TakesPacket}
+use Rattle.dap_live.specs.Both.{DoesOrder, TakesPacket}
 
 -- ---- Going on.
 
@@ -118,18 +118,8 @@ Does old (order.File file) new text became = OnEnd old new × AddsFile old.end f
 Does old (order.Record r) new text became = OnEnd old new × AddsRecord old.end r new.end text became
 Does old (order.Ask request) new text became = (new ≡ old) × (text ≡ []) × (became ≡ BadLine)
 
--- it is done or it isn't, and nothing is said
-abbrev pub Reaches : Serving → Order → Serving → Type 0
-Reaches old o new = (new ≡ old) ⊎ ((said : List ℕ) × (became : Became) × Does old o new said became)
-
--- Where memory is refused to the text, nothing is said but that.
-abbrev pub DoesOrder : Serving → Option Order → Serving → List ℕ → Became → Type 0
-DoesOrder old None new text became = (new ≡ old) × (text ≡ []) × (became ≡ BadLine)
-DoesOrder old (Some o) new text became =
-    Does old o new text became ⊎ (Reaches old o new × (text ≡ []) × (became ≡ NoMemory))
-
 abbrev pub answered : Serving → List ℕ → Serving → List ℕ → Became → Type 0
-answered old line new text became = DoesOrder old (order_of line) new text became
+answered old line new text became = DoesOrder Does Does old (order_of line) new text became
 
 abbrev pub waiting : Serving → ℕ
 waiting serving = waits_of serving.end.port.link (is_left serving.end.port.link serving.end.port.outbox)

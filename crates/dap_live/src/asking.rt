@@ -10,7 +10,8 @@ ghost use Rattle.dap_end.specs.Turns.{WentOn, Takes};
 ghost use Rattle.dap_text.specs.Adding.{Adds};
 ghost use Rattle.dap_live.specs.declared.asking.Came.{Came as TheCame};
 ghost use Rattle.dap_live.specs.Texts.{packets_text, reports_text};
-ghost use Rattle.dap_live.specs.Asking.{Asks, Does, DoesOrder, Ends, GoesOn, GoesOnIf, OnEnd, Reaches, Renews, Resends, came_by, front_text, gone_said, goes_on as goes_on_by, is_behind as is_behind_by};
+ghost use Rattle.dap_live.specs.Both.{DoesOrder, Reaches};
+ghost use Rattle.dap_live.specs.Asking.{Asks, Does, DoesAll, Ends, GoesOn, GoesOnIf, OnEnd, Renews, Resends, came_by, front_text, gone_said, goes_on as goes_on_by, is_behind as is_behind_by};
 
 use crate::orders::{Anew, Order, read_order, set_up};
 use crate::sending::{has_message, is_left, push_again, say_ack, waits};
@@ -102,7 +103,7 @@ fn take_packet(
 ) -> Result<Came, AllocError>
     requires { text.old.items ≡ [] }
     ensures ok { IfOk result (Does asking.old (Order.Packet digits.now) asking.new text.new.items) }
-    ensures err { OnErr result (Reaches asking.old (Order.Packet digits.now) asking.new) }
+    ensures err { OnErr result (Reaches Does asking.old (Order.Packet digits.now) asking.new) }
 {
     let bytes = digits.to_vec(asking.alloc)?;
     let mut packets = Vec::new(asking.alloc);
@@ -240,7 +241,7 @@ fn resend_running(asking: &mut Asking, text: &mut Vec<u8>) -> Result<Came, Alloc
 fn resend(asking: &mut Asking, text: &mut Vec<u8>) -> Result<Came, AllocError>
     requires { text.old.items ≡ [] }
     ensures ok { IfOk result (Does asking.old Order.Resend asking.new text.new.items) }
-    ensures err { OnErr result (Reaches asking.old Order.Resend asking.new) }
+    ensures err { OnErr result (Reaches Does asking.old Order.Resend asking.new) }
 {
     if asking.end.link().has_failed() {
         return Ok(Came::Untold(push_link_refusal(text, LinkFault::Failed)?));
@@ -270,7 +271,7 @@ fn ask_request(
 fn ask(asking: &mut Asking, asked: &RequestText<'_>, text: &mut Vec<u8>) -> Result<Came, AllocError>
     requires { text.old.items ≡ [] }
     ensures ok { IfOk result (Does asking.old (Order.Ask asked.now) asking.new text.new.items) }
-    ensures err { OnErr result (Reaches asking.old (Order.Ask asked.now) asking.new) }
+    ensures err { OnErr result (Reaches Does asking.old (Order.Ask asked.now) asking.new) }
 {
     if asking.end.link().has_failed() {
         return Ok(Came::Untold(push_link_refusal(text, LinkFault::Failed)?));
@@ -300,7 +301,7 @@ fn renew(asking: &mut Asking, anew: Anew, text: &mut Vec<u8>) -> Result<Came, Al
 fn act(asking: &mut Asking, order: Order<'_>, text: &mut Vec<u8>) -> Result<Came, AllocError>
     requires { text.old.items ≡ [] }
     ensures ok { IfOk result (Does asking.old order.entry asking.new text.new.items) }
-    ensures err { OnErr result (Reaches asking.old order.entry asking.new) }
+    ensures err { OnErr result (Reaches Does asking.old order.entry asking.new) }
 {
     match order {
         Order::Packet(digits) => take_packet(asking, &digits, text),
@@ -328,7 +329,7 @@ fn end_answer(asking: &mut Asking, came: Came) -> Became
 /// Answers an order.
 fn answer_one(asking: &mut Asking, order: Order<'_>, text: &mut Vec<u8>) -> Became
     requires { text.old.items ≡ [] }
-    ensures { DoesOrder asking.old (Some order.entry) asking.new text.new.items result }
+    ensures { DoesOrder Does DoesAll asking.old (Some order.entry) asking.new text.new.items result }
 {
     match act(asking, order, text) {
         Ok(came) => end_answer(asking, came),
@@ -342,7 +343,7 @@ fn answer_one(asking: &mut Asking, order: Order<'_>, text: &mut Vec<u8>) -> Beca
 /// Answers what a line says.
 fn answer_order(asking: &mut Asking, order: Option<Order<'_>>, text: &mut Vec<u8>) -> Became
     requires { text.old.items ≡ [] }
-    ensures { DoesOrder asking.old order.entry asking.new text.new.items result }
+    ensures { DoesOrder Does DoesAll asking.old order.entry asking.new text.new.items result }
 {
     match order {
         Some(order) => answer_one(asking, order, text),

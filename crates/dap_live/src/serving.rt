@@ -14,9 +14,9 @@ ghost use Rattle.rec_file.specs.Shapes.{is_shape};
 ghost use Rattle.linewise.specs.declared.talking.Became.{Became as TheBecame};
 ghost use Rattle.dap_live.specs.Sending.{UnlessFailed, is_left as is_left_of};
 ghost use Rattle.dap_live.specs.Texts.{packets_text};
-ghost use Rattle.dap_live.specs.Both.{TakesPacket};
+ghost use Rattle.dap_live.specs.Both.{DoesOrder, Reaches, TakesPacket};
 ghost use Rattle.dap_live.specs.Inner.Saying.{AddsSaid};
-ghost use Rattle.dap_live.specs.Serving.{AddsFile, AddsRecord, AddsShaped, Does, DoesOrder, GoesOn, GoesOnIf, Reaches, Renews, Resends, Tells, gone_said};
+ghost use Rattle.dap_live.specs.Serving.{AddsFile, AddsRecord, AddsShaped, Does, GoesOn, GoesOnIf, Renews, Resends, Tells, gone_said};
 
 use crate::orders::{Anew, Order, read_order, set_up};
 use crate::sending::{is_left, push_again, say_ack, waits};
@@ -265,7 +265,7 @@ fn list_files(end: &ServingEnd, text: &mut Vec<u8>) -> Result<Became, AllocError
 fn act(serving: &mut Serving, order: Order<'_>, text: &mut Vec<u8>) -> Result<Became, AllocError>
     requires { text.old.items ≡ [] }
     ensures ok { IfOk result (Does serving.old order.entry serving.new text.new.items) }
-    ensures err { OnErr result (Reaches serving.old order.entry serving.new) }
+    ensures err { OnErr result (Reaches Does serving.old order.entry serving.new) }
 {
     let alloc = serving.alloc;
     match order {
@@ -283,7 +283,7 @@ fn act(serving: &mut Serving, order: Order<'_>, text: &mut Vec<u8>) -> Result<Be
 /// Answers an order.
 fn answer_one(serving: &mut Serving, order: Order<'_>, text: &mut Vec<u8>) -> Became
     requires { text.old.items ≡ [] }
-    ensures { DoesOrder serving.old (Some order.entry) serving.new text.new.items result }
+    ensures { DoesOrder Does Does serving.old (Some order.entry) serving.new text.new.items result }
 {
     match act(serving, order, text) {
         Ok(became) => became,
@@ -297,7 +297,7 @@ fn answer_one(serving: &mut Serving, order: Order<'_>, text: &mut Vec<u8>) -> Be
 /// Answers what a line says.
 fn answer_order(serving: &mut Serving, order: Option<Order<'_>>, text: &mut Vec<u8>) -> Became
     requires { text.old.items ≡ [] }
-    ensures { DoesOrder serving.old order.entry serving.new text.new.items result }
+    ensures { DoesOrder Does Does serving.old order.entry serving.new text.new.items result }
 {
     match order {
         Some(order) => answer_one(serving, order, text),
