@@ -36,9 +36,9 @@ use Rattle.dap_live.specs.declared.orders.Order.{Order}
 use Rattle.dap_live.specs.declared.orders.Order.TheVariants as order
 use Rattle.dap_live.specs.Orders.{order_of, setup_anew}
 use Rattle.dap_live.specs.Sending.{AllAgain, SaysAck, has_message, is_left, waits_of}
-use Rattle.dap_live.specs.Texts.{ask_refusal, link_refusal, packets_text, reports_text, taken_said}
-use Rattle.dap_live.specs.Asking.{GoesOn, GoesOnIf, Resends, AsksIt, AsksNot, Asks, Tells, Renewed, Renews, OnEnd, Does, DoesAll, Ends, answered, waiting, came_by, front_text, gone_said, goes_on}
-use Rattle.dap_live.specs.Both.{DoesOrder, TakesPacket}
+use Rattle.dap_live.specs.Texts.{ask_refusal, end_refusal, link_refusal, packets_text, reports_text, taken_said}
+use Rattle.dap_live.specs.Asking.{GoesOn, GoesOnIf, Resends, AsksIt, AsksNot, Asks, Tells, Renewed, OnEnd, Does, DoesAll, Ends, answered, waiting, came_by, front_text, goes_on}
+use Rattle.dap_live.specs.Both.{DoesOrder, Renews, TakesPacket, gone_said}
 use Rattle.dap_live.specs.OneText.{AreSameAsking}
 use Rattle.dap_live.proofs.OneLine.{Fits, line_fits, all_again, ack_one, end_wants, taken_wants, setup_apart, setup_one, one_answer}
 
@@ -90,7 +90,7 @@ packet_one old other one two bytes said more m n fits same nm nn (rx, x) (ry, y)
 
 -- ---- Going on.
 
-gone_wants : (r : Result (Unit {0}) EndFault) → (gone_said r).1 ≢ NoMemory → went_wanting r ≡ false
+gone_wants : (r : Result (Unit {0}) EndFault) → (gone_said end_refusal r).1 ≢ NoMemory → went_wanting r ≡ false
 gone_wants (Ok done) want = refl
 gone_wants (Err f) want = end_wants f want
 
@@ -102,10 +102,10 @@ going_same old other before front said more one two m n d like nm nn x y =
     let t = going_alike old other one.end two.end [] x.packets y.packets before one.reports.items two.reports.items x.gone y.gone d like wx wy x.went y.went in (
       t.0,
       t.3,
-      x.says ∙ ap (λ (r : Result (Unit {0}) EndFault). front ++ (reports_text one.reports.items ++ (packets_text x.packets ++ (gone_said r).0))) t.1
-          ∙ ap (λ (l : List (List ℕ)). front ++ (reports_text one.reports.items ++ (packets_text l ++ (gone_said y.gone).0))) t.2
-          ∙ ap (λ (l : List Report). front ++ (reports_text l ++ (packets_text y.packets ++ (gone_said y.gone).0))) t.3 ∙ sym y.says,
-      x.ends ∙ ap (λ (r : Result (Unit {0}) EndFault). Told ((gone_said r).1)) t.1 ∙ sym y.ends,
+      x.says ∙ ap (λ (r : Result (Unit {0}) EndFault). front ++ (reports_text one.reports.items ++ (packets_text x.packets ++ (gone_said end_refusal r).0))) t.1
+          ∙ ap (λ (l : List (List ℕ)). front ++ (reports_text one.reports.items ++ (packets_text l ++ (gone_said end_refusal y.gone).0))) t.2
+          ∙ ap (λ (l : List Report). front ++ (reports_text l ++ (packets_text y.packets ++ (gone_said end_refusal y.gone).0))) t.3 ∙ sym y.says,
+      x.ends ∙ ap (λ (r : Result (Unit {0}) EndFault). Told ((gone_said end_refusal r).1)) t.1 ∙ sym y.ends,
       t.4,
     )
 
@@ -268,15 +268,16 @@ renewed_one old other one two anew same x y =
       inl (nothing_asked, x.after),
     )
 
-renew_one : (old other one two : Asking) (anew : Anew) (said more : List ℕ) (m n : Came) → AreSameAsking old other → outcome m ≢ NoMemory → outcome n ≢ NoMemory → Renews old anew one said m → Renews other anew two more n
-    → Two one two said more m n
-renew_one old other one two anew said more m n same nm nn (inl x) (inl y) = (renewed_one old other one two anew same x.0 y.0, x.1 ∙ sym y.1, x.2 ∙ sym y.2)
+renew_one : (old other one two : Asking) (anew : Anew) (said more : List ℕ) (m n : Came) → AreSameAsking old other → outcome m ≢ NoMemory → outcome n ≢ NoMemory
+    → Renews Untold (setup_anew old.setup anew) (Renewed old anew one) old one said m
+    → Renews Untold (setup_anew other.setup anew) (Renewed other anew two) other two more n → Two one two said more m n
+renew_one old other one two anew said more m n same nm nn (inl x) (inl y) = (renewed_one old other one two anew same x.0 y.0, x.2 ∙ sym y.2, x.3 ∙ sym y.3)
 renew_one old other one two anew said more m n same nm nn (inl x) (inr y) =
-    let setup : setup_anew other.setup anew ≡ one.setup = ap (λ (s : LinkSetup). setup_anew s anew) (sym same.1) ∙ sym x.0.setup in
-    absurd (setup_apart one.setup y.0 (λ e. nn (ap outcome y.4 ∙ e)) x.0.good (subst (λ (s : LinkSetup). SetupFault s y.0) setup y.1))
+    let setup : setup_anew other.setup anew ≡ setup_anew old.setup anew = ap (λ (s : LinkSetup). setup_anew s anew) (sym same.1) in
+    absurd (setup_apart (setup_anew old.setup anew) y.0 (λ e. nn (ap outcome y.4 ∙ e)) x.1 (subst (λ (s : LinkSetup). SetupFault s y.0) setup y.1))
 renew_one old other one two anew said more m n same nm nn (inr x) (inl y) =
-    let setup : setup_anew old.setup anew ≡ two.setup = ap (λ (s : LinkSetup). setup_anew s anew) same.1 ∙ sym y.0.setup in
-    absurd (setup_apart two.setup x.0 (λ e. nm (ap outcome x.4 ∙ e)) y.0.good (subst (λ (s : LinkSetup). SetupFault s x.0) setup x.1))
+    let setup : setup_anew old.setup anew ≡ setup_anew other.setup anew = ap (λ (s : LinkSetup). setup_anew s anew) same.1 in
+    absurd (setup_apart (setup_anew other.setup anew) x.0 (λ e. nm (ap outcome x.4 ∙ e)) y.1 (subst (λ (s : LinkSetup). SetupFault s x.0) setup x.1))
 renew_one old other one two anew said more m n same nm nn (inr x) (inr y) =
     let setup : setup_anew old.setup anew ≡ setup_anew other.setup anew = ap (λ (s : LinkSetup). setup_anew s anew) same.1 in
     let f = setup_one (setup_anew other.setup anew) x.0 y.0 (λ e. nm (ap outcome x.4 ∙ e)) (λ e. nn (ap outcome y.4 ∙ e)) (subst (λ (s : LinkSetup). SetupFault s x.0) setup x.1) y.1 in

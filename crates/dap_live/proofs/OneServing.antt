@@ -36,8 +36,8 @@ use Rattle.dap_live.specs.declared.orders.Order.TheVariants as order
 use Rattle.dap_live.specs.Orders.{order_of, setup_anew}
 use Rattle.dap_live.specs.Sending.{SaysAck, UnlessFailed, is_left, waits_of}
 use Rattle.dap_live.specs.Texts.{add_refusal, link_refusal, packets_text, taken_said}
-use Rattle.dap_live.specs.Serving.{GoesOn, GoesOnIf, Resends, Tells, Renewed, Renews, Added, AddsShaped, AddsFile, AddsRecord, OnEnd, Does, answered, waiting, gone_said}
-use Rattle.dap_live.specs.Both.{DoesOrder, TakesPacket}
+use Rattle.dap_live.specs.Serving.{GoesOn, GoesOnIf, Resends, Tells, Renewed, Added, AddsShaped, AddsFile, AddsRecord, OnEnd, Does, answered, waiting}
+use Rattle.dap_live.specs.Both.{DoesOrder, Renews, TakesPacket, gone_said}
 use Rattle.dap_live.specs.OneText.{HasServed, AreSameServing}
 use Rattle.dap_live.proofs.OneLine.{Fits, line_fits, all_again, ack_one, taken_wants, setup_apart, setup_one, one_answer}
 
@@ -61,17 +61,17 @@ packet_one end one two bytes said more b c fits k nb nc x y =
 
 -- ---- Going on.
 
-gone_want : (r : Result (Unit {0}) LinkFault) → (gone_said r).1 ≢ NoMemory → r ≢ Err fault.NoMemory
-gone_want r want e = want (ap (λ k. (gone_said k).1) e)
+gone_want : (r : Result (Unit {0}) LinkFault) → (gone_said link_refusal r).1 ≢ NoMemory → r ≢ Err fault.NoMemory
+gone_want r want e = want (ap (λ k. (gone_said link_refusal k).1) e)
 
 going_same : (end one two : ServingValue) (front said more : List ℕ) (b c : Became) → HasServed end → b ≢ NoMemory → c ≢ NoMemory
     → GoesOn end front one said b → GoesOn end front two more c → One one two said more b c
 going_same end one two front said more b c k nb nc x y =
     let t = going_one k.0 end one two [] x.packets y.packets x.gone y.gone k.1 (gone_want x.gone (λ e. nb (x.ends ∙ e))) (gone_want y.gone (λ e. nc (y.ends ∙ e))) x.went y.went in (
       t.0,
-      x.says ∙ ap (λ (r : Result (Unit {0}) LinkFault). front ++ (packets_text x.packets ++ (gone_said r).0)) t.1
-          ∙ ap (λ (l : List (List ℕ)). front ++ (packets_text l ++ (gone_said y.gone).0)) t.2 ∙ sym y.says,
-      x.ends ∙ ap (λ k. (gone_said k).1) t.1 ∙ sym y.ends,
+      x.says ∙ ap (λ (r : Result (Unit {0}) LinkFault). front ++ (packets_text x.packets ++ (gone_said link_refusal r).0)) t.1
+          ∙ ap (λ (l : List (List ℕ)). front ++ (packets_text l ++ (gone_said link_refusal y.gone).0)) t.2 ∙ sym y.says,
+      x.ends ∙ ap (λ k. (gone_said link_refusal k).1) t.1 ∙ sym y.ends,
       going_known end one [] x.packets x.gone x.went k,
     )
 
@@ -116,14 +116,15 @@ renewed_one old other one two anew same x y =
     )
 
 renew_one : (old other one two : Serving) (anew : Anew) (said more : List ℕ) (b c : Became) → AreSameServing old other → b ≢ NoMemory → c ≢ NoMemory
-    → Renews old anew one said b → Renews other anew two more c → Two one two said more b c
-renew_one old other one two anew said more b c same nb nc (inl x) (inl y) = (renewed_one old other one two anew same x.0 y.0, x.1 ∙ sym y.1, x.2 ∙ sym y.2)
+    → Renews (λ became. became) (setup_anew old.setup anew) (Renewed old anew one) old one said b
+    → Renews (λ became. became) (setup_anew other.setup anew) (Renewed other anew two) other two more c → Two one two said more b c
+renew_one old other one two anew said more b c same nb nc (inl x) (inl y) = (renewed_one old other one two anew same x.0 y.0, x.2 ∙ sym y.2, x.3 ∙ sym y.3)
 renew_one old other one two anew said more b c same nb nc (inl x) (inr y) =
-    let setup : setup_anew other.setup anew ≡ one.setup = ap (λ (s : LinkSetup). setup_anew s anew) (sym same.1) ∙ sym x.0.setup in
-    absurd (setup_apart one.setup y.0 (λ e. nc (y.4 ∙ e)) x.0.good (subst (λ (s : LinkSetup). SetupFault s y.0) setup y.1))
+    let setup : setup_anew other.setup anew ≡ setup_anew old.setup anew = ap (λ (s : LinkSetup). setup_anew s anew) (sym same.1) in
+    absurd (setup_apart (setup_anew old.setup anew) y.0 (λ e. nc (y.4 ∙ e)) x.1 (subst (λ (s : LinkSetup). SetupFault s y.0) setup y.1))
 renew_one old other one two anew said more b c same nb nc (inr x) (inl y) =
-    let setup : setup_anew old.setup anew ≡ two.setup = ap (λ (s : LinkSetup). setup_anew s anew) same.1 ∙ sym y.0.setup in
-    absurd (setup_apart two.setup x.0 (λ e. nb (x.4 ∙ e)) y.0.good (subst (λ (s : LinkSetup). SetupFault s x.0) setup x.1))
+    let setup : setup_anew old.setup anew ≡ setup_anew other.setup anew = ap (λ (s : LinkSetup). setup_anew s anew) same.1 in
+    absurd (setup_apart (setup_anew other.setup anew) x.0 (λ e. nb (x.4 ∙ e)) y.1 (subst (λ (s : LinkSetup). SetupFault s x.0) setup x.1))
 renew_one old other one two anew said more b c same nb nc (inr x) (inr y) =
     let setup : setup_anew old.setup anew ≡ setup_anew other.setup anew = ap (λ (s : LinkSetup). setup_anew s anew) same.1 in
     let f = setup_one (setup_anew other.setup anew) x.0 y.0 (λ e. nb (x.4 ∙ e)) (λ e. nc (y.4 ∙ e)) (subst (λ (s : LinkSetup). SetupFault s x.0) setup x.1) y.1 in

@@ -3,8 +3,6 @@ use Rattle.std.specs.Prelude.{◌≡◌, ◌⊎◌, ℕ, ◌++◌, Bool, true, f
 use Rattle.std.specs.List.{concat}
 use Rattle.std.specs.Fmt.{decimal}
 use Rattle.nsp_link.specs.declared.link.Got.{Got}
-use Rattle.nsp_link.specs.declared.fault.LinkFault.{LinkFault}
-use Rattle.nsp_link.specs.Link.{IsSetup, SetupFault}
 use Rattle.dap_accessing.specs.Request.{Request}
 use Rattle.dap_accessing.specs.declared.report.Report.{Report}
 use Rattle.dap_accessing.specs.declared.fault.AskFault.{AskFault}
@@ -30,8 +28,8 @@ use Rattle.dap_live.specs.declared.asking.Front.{Front}
 use Rattle.dap_live.specs.declared.asking.Front.TheVariants.{Asked}
 use Rattle.dap_live.specs.declared.asking.Front.TheVariants as front
 use Rattle.dap_text.specs.Text.{line_feed}
-use Rattle.dap_live.specs.Texts.{LineAnswer, ask_refusal, end_refusal, link_refusal, packets_text, refused_line, reports_text}
-use Rattle.dap_live.specs.Both.{DoesOrder, TakesPacket}
+use Rattle.dap_live.specs.Texts.{ask_refusal, end_refusal, packets_text, refused_line, reports_text}
+use Rattle.dap_live.specs.Both.{DoesOrder, Renews, TakesPacket, gone_said}
 
 -- only the end moved, and reports came
 abbrev pub OnEnd : Asking → Asking → Type 0
@@ -50,17 +48,13 @@ abbrev pub front_text : Front → List ℕ
 front_text (Asked count) = concat (codes "asked " ∷ decimal count ∷ line_feed ∷ [])
 front_text front.Busy = refused_line (codes "ask-busy")
 
-abbrev pub gone_said : Result (Unit {0}) EndFault → LineAnswer
-gone_said (Ok done) = ([], Done)
-gone_said (Err f) = end_refusal f
-
 -- This is said first, and then what going on comes to.
 pub record GoesOn (old : AskingValue) (before : List Report) (front : List ℕ) (new : Asking) (text : List ℕ) (came : Came) : Type 0 where
   pub gone : Result (Unit {0}) EndFault
   pub packets : List (List ℕ)
   pub went : WentOn (asks before new.reports.items) old new.end [] packets gone
-  pub says : text ≡ front ++ (reports_text new.reports.items ++ (packets_text packets ++ (gone_said gone).0))
-  pub ends : came ≡ Told (gone_said gone).1
+  pub says : text ≡ front ++ (reports_text new.reports.items ++ (packets_text packets ++ (gone_said end_refusal gone).0))
+  pub ends : came ≡ Told (gone_said end_refusal gone).1
 
 -- The end would do something by going on, memory aside. What came is read before what waits is handed over, and an end that
 -- an unexpected answer failed does nothing more.
@@ -100,13 +94,7 @@ pub record Renewed (old : Asking) (anew : Anew) (new : Asking) : Type 0 where
   pub port : new.end.port ≡ new_port (setup_anew old.setup anew)
   pub own : new.end.accessing.own ≡ old.end.accessing.own
   pub setup : new.setup ≡ setup_anew old.setup anew
-  pub good : IsSetup new.setup
   pub reports : new.reports.items ≡ []
-
-abbrev pub Renews : Asking → Anew → Asking → List ℕ → Came → Type 0
-Renews old anew new text came =
-    (Renewed old anew new × (text ≡ []) × (came ≡ Untold Done))
-    ⊎ ((f : LinkFault) × SetupFault (setup_anew old.setup anew) f × (new ≡ old) × (text ≡ (link_refusal f).0) × (came ≡ Untold (link_refusal f).1))
 
 -- ---- A line.
 
@@ -123,7 +111,7 @@ Does old (order.Packet bytes) new text came =
     OnEnd old new × TakesPacket (asks old.reports.items new.reports.items) new.reports.items came_by old.end bytes new.end text came
 Does old order.Resend new text came = UnlessFailed old.end.port.link text (Tells old new came) (Resends old new text came)
 Does old order.Ack new text came = Tells old new came × SaysAck old.end.port.link text
-Does old (order.New anew) new text came = Renews old anew new text came
+Does old (order.New anew) new text came = Renews Untold (setup_anew old.setup anew) (Renewed old anew new) old new text came
 Does old (order.Ask request) new text came = UnlessFailed old.end.port.link text (Tells old new came) (Asks old request new text came)
 Does old order.Files new text came = IsNone old new text came
 Does old (order.File file) new text came = IsNone old new text came

@@ -1,7 +1,6 @@
 -- What the end that serves does by a line, and what it says.
 use Rattle.std.specs.Prelude.{◌≡◌, ◌⊎◌, ◌++◌, ℕ, Bool, true, false, List, [], Result, Ok, Err, MatchOption}
 use Rattle.nsp_link.specs.declared.fault.LinkFault.{LinkFault}
-use Rattle.nsp_link.specs.Link.{IsSetup, SetupFault}
 use Rattle.rec_file.specs.declared.shapes.Shape.{Shape}
 use Rattle.rec_file.specs.Shapes.{checked_shape}
 use Rattle.dap_msg.specs.Codes.{stscode, reason_number}
@@ -22,22 +21,18 @@ use Rattle.dap_live.specs.declared.orders.Order.{Order}
 use Rattle.dap_live.specs.declared.orders.Order.TheVariants as order
 use Rattle.dap_live.specs.Orders.{order_of, setup_anew}
 use Rattle.dap_live.specs.Sending.{AllAgain, SaysAck, UnlessFailed, is_left, waits_of}
-use Rattle.dap_live.specs.Texts.{LineAnswer, add_refusal, link_refusal, packets_text, status_line}
-use Rattle.dap_live.specs.Both.{DoesOrder, TakesPacket}
+use Rattle.dap_live.specs.Texts.{add_refusal, link_refusal, packets_text, status_line}
+use Rattle.dap_live.specs.Both.{DoesOrder, Renews, TakesPacket, gone_said}
 
 -- ---- Going on.
-
-abbrev pub gone_said : Result (Unit {0}) LinkFault → LineAnswer
-gone_said (Ok done) = ([], Done)
-gone_said (Err f) = link_refusal f
 
 -- This is said first, and then what going on comes to.
 pub record GoesOn (old : ServingValue) (front : List ℕ) (new : ServingValue) (text : List ℕ) (became : Became) : Type 0 where
   pub gone : Result (Unit {0}) LinkFault
   pub packets : List (List ℕ)
   pub went : Went old new [] packets gone
-  pub says : text ≡ front ++ (packets_text packets ++ (gone_said gone).0)
-  pub ends : became ≡ (gone_said gone).1
+  pub says : text ≡ front ++ (packets_text packets ++ (gone_said link_refusal gone).0)
+  pub ends : became ≡ (gone_said link_refusal gone).1
 
 -- only where something is left
 abbrev pub GoesOnIf : (left : Bool) → ServingValue → List ℕ → ServingValue → List ℕ → Became → Type 0
@@ -57,12 +52,6 @@ pub record Renewed (old : Serving) (anew : Anew) (new : Serving) : Type 0 where
   pub port : new.end.port ≡ new_port (setup_anew old.setup anew)
   pub own : new.end.accessed.own ≡ old.end.accessed.own
   pub setup : new.setup ≡ setup_anew old.setup anew
-  pub good : IsSetup new.setup
-
-abbrev pub Renews : Serving → Anew → Serving → List ℕ → Became → Type 0
-Renews old anew new text became =
-    (Renewed old anew new × (text ≡ []) × (became ≡ Done))
-    ⊎ ((f : LinkFault) × SetupFault (setup_anew old.setup anew) f × (new ≡ old) × (text ≡ (link_refusal f).0) × (became ≡ (link_refusal f).1))
 
 -- ---- Files that it is given.
 
@@ -112,7 +101,8 @@ Does old (order.Packet bytes) new text became = OnEnd old new × TakesPacket ser
 Does old order.Resend new text became =
     OnEnd old new × UnlessFailed old.end.port.link text (Tells old.end new.end became) (Resends old.end new.end text became)
 Does old order.Ack new text became = Tells old new became × SaysAck old.end.port.link text
-Does old (order.New anew) new text became = Renews old anew new text became
+Does old (order.New anew) new text became =
+    Renews (λ became. became) (setup_anew old.setup anew) (Renewed old anew new) old new text became
 Does old order.Files new text became = Tells old new became × (text ≡ files_text old.end.accessed.files)
 Does old (order.File file) new text became = OnEnd old new × AddsFile old.end file new.end text became
 Does old (order.Record r) new text became = OnEnd old new × AddsRecord old.end r new.end text became

@@ -9,9 +9,9 @@ ghost use Rattle.dap_end.specs.Asking.{HasAsked, asks, nothing_asked};
 ghost use Rattle.dap_end.specs.Turns.{WentOn, Takes};
 ghost use Rattle.dap_text.specs.Adding.{Adds};
 ghost use Rattle.dap_live.specs.declared.asking.Came.{Came as TheCame};
-ghost use Rattle.dap_live.specs.Texts.{packets_text, reports_text};
-ghost use Rattle.dap_live.specs.Both.{DoesOrder, Reaches};
-ghost use Rattle.dap_live.specs.Asking.{Asks, Does, DoesAll, Ends, GoesOn, GoesOnIf, OnEnd, Renews, Resends, came_by, front_text, gone_said, goes_on as goes_on_by, is_behind as is_behind_by};
+ghost use Rattle.dap_live.specs.Texts.{end_refusal, packets_text, reports_text};
+ghost use Rattle.dap_live.specs.Both.{DoesOrder, Reaches, gone_said};
+ghost use Rattle.dap_live.specs.Asking.{Asks, Does, DoesAll, Ends, GoesOn, GoesOnIf, OnEnd, Resends, came_by, front_text, goes_on as goes_on_by, is_behind as is_behind_by};
 
 use crate::orders::{Anew, Order, read_order, set_up};
 use crate::sending::{has_message, is_left, push_again, say_ack, waits};
@@ -133,8 +133,8 @@ fn push_gone(
     packets: &Vec<Vec<u8>>,
 ) -> Result<Came, AllocError>
     ensures text { OnOk result (Adds text.old text.new (reports_text reports.now.items
-        ++ (packets_text (bodies packets.now.items) ++ (gone_said gone).0))) }
-    ensures came { IfOk result (λ came. came ≡ Came.Told (gone_said gone).1) }
+        ++ (packets_text (bodies packets.now.items) ++ (gone_said end_refusal gone).0))) }
+    ensures came { IfOk result (λ came. came ≡ Came.Told (gone_said end_refusal gone).1) }
 {
     push_reports(text, reports)?;
     push_packets(text, packets)?;
@@ -283,7 +283,7 @@ fn ask(asking: &mut Asking, asked: &RequestText<'_>, text: &mut Vec<u8>) -> Resu
 /// Makes the link anew.
 fn renew(asking: &mut Asking, anew: Anew, text: &mut Vec<u8>) -> Result<Came, AllocError>
     requires { text.old.items ≡ [] }
-    ensures ok { IfOk result (Renews asking.old anew asking.new text.new.items) }
+    ensures ok { IfOk result (Does asking.old (Order.New anew) asking.new text.new.items) }
     ensures err { OnErr result (asking.new ≡ asking.old) }
 {
     let setup = set_up(asking.setup, anew);

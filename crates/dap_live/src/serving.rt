@@ -13,10 +13,10 @@ ghost use Rattle.dap_text.specs.Tables.{files_text};
 ghost use Rattle.rec_file.specs.Shapes.{is_shape};
 ghost use Rattle.linewise.specs.declared.talking.Became.{Became as TheBecame};
 ghost use Rattle.dap_live.specs.Sending.{UnlessFailed, is_left as is_left_of};
-ghost use Rattle.dap_live.specs.Texts.{packets_text};
-ghost use Rattle.dap_live.specs.Both.{DoesOrder, Reaches, TakesPacket};
+ghost use Rattle.dap_live.specs.Texts.{link_refusal, packets_text};
+ghost use Rattle.dap_live.specs.Both.{DoesOrder, Reaches, TakesPacket, gone_said};
 ghost use Rattle.dap_live.specs.Inner.Saying.{AddsSaid};
-ghost use Rattle.dap_live.specs.Serving.{AddsFile, AddsRecord, AddsShaped, Does, GoesOn, GoesOnIf, Renews, Resends, Tells, gone_said};
+ghost use Rattle.dap_live.specs.Serving.{AddsFile, AddsRecord, AddsShaped, Does, GoesOn, GoesOnIf, Resends, Tells};
 
 use crate::orders::{Anew, Order, read_order, set_up};
 use crate::sending::{is_left, push_again, say_ack, waits};
@@ -97,7 +97,8 @@ fn push_gone(
     packets: &Vec<Vec<u8>>,
 ) -> Result<Became, AllocError>
     ensures { IfOk result (AddsSaid text.old text.new
-        (packets_text (bodies packets.now.items) ++ (gone_said gone).0, (gone_said gone).1)) }
+        (packets_text (bodies packets.now.items) ++ (gone_said link_refusal gone).0,
+        (gone_said link_refusal gone).1)) }
 {
     push_packets(text, packets)?;
     match gone {
@@ -180,7 +181,7 @@ fn resend(alloc: Global, end: &mut ServingEnd, text: &mut Vec<u8>) -> Result<Bec
 /// Makes the link anew, over the same files.
 fn renew(serving: &mut Serving, anew: Anew, text: &mut Vec<u8>) -> Result<Became, AllocError>
     requires { text.old.items ≡ [] }
-    ensures ok { IfOk result (Renews serving.old anew serving.new text.new.items) }
+    ensures ok { IfOk result (Does serving.old (Order.New anew) serving.new text.new.items) }
     ensures err { OnErr result (serving.new ≡ serving.old) }
 {
     let setup = set_up(serving.setup, anew);
