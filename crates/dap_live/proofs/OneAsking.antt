@@ -24,7 +24,7 @@ use Rattle.dap_end.specs.Turns.{Takes}
 use Rattle.dap_end.specs.Wanting.{went_wanting}
 use Rattle.dap_end.proofs.ForCallers.{alike_of, alike_same, has_sent, asking_one, going_alike, taking_alike}
 use Rattle.linewise.specs.declared.talking.Became.{Became}
-use Rattle.linewise.specs.declared.talking.Became.TheVariants.{NoMemory}
+use Rattle.linewise.specs.declared.talking.Became.TheVariants.{Done, NoMemory}
 use Rattle.linewise.specs.Talks.{HaveOneText}
 use Rattle.linewise.proofs.ForCallers.{one_text}
 use Rattle.dap_live.specs.declared.asking.Asking.{Asking}
@@ -37,8 +37,8 @@ use Rattle.dap_live.specs.declared.orders.Order.TheVariants as order
 use Rattle.dap_live.specs.Orders.{order_of, setup_anew}
 use Rattle.dap_live.specs.Sending.{AllAgain, SaysAck, has_message, is_left, waits_of}
 use Rattle.dap_live.specs.Texts.{ask_refusal, end_refusal, link_refusal, packets_text, reports_text, taken_said}
-use Rattle.dap_live.specs.Asking.{GoesOn, GoesOnIf, Resends, AsksIt, AsksNot, Asks, Tells, Renewed, OnEnd, Does, DoesAll, Ends, answered, waiting, came_by, front_text, goes_on}
-use Rattle.dap_live.specs.Both.{DoesOrder, Renews, TakesPacket, gone_said}
+use Rattle.dap_live.specs.Asking.{GoesOn, GoesOnIf, Resends, AsksIt, AsksNot, Asks, Renewed, OnEnd, Does, DoesAll, Ends, answered, waiting, came_by, front_text, goes_on}
+use Rattle.dap_live.specs.Both.{DoesOrder, Renews, Stays, TakesPacket, gone_said}
 use Rattle.dap_live.specs.OneText.{AreSameAsking}
 use Rattle.dap_live.proofs.OneLine.{Fits, line_fits, all_again, ack_one, end_wants, taken_wants, setup_apart, setup_one, one_answer}
 
@@ -140,8 +140,8 @@ again_one old other one two said more m n same nm nn x y =
     (going_if (goes_on old.end) old.end other.end old.reports.items (packets_text x.1.0) said more one two m n same.3 same.0 nm nn x.1.2 there)
 
 resend_one : (failed : Bool) (old other one two : Asking) (said more : List ℕ) (m n : Came) → AreSameAsking old other → outcome m ≢ NoMemory → outcome n ≢ NoMemory
-    → MatchBool failed (Tells old one m × (said ≡ (link_refusal Failed).0)) (Resends old one said m)
-    → MatchBool failed (Tells other two n × (more ≡ (link_refusal Failed).0)) (Resends other two more n) → Two one two said more m n
+    → MatchBool failed (Stays (Untold Done) old one m × (said ≡ (link_refusal Failed).0)) (Resends old one said m)
+    → MatchBool failed (Stays (Untold Done) other two n × (more ≡ (link_refusal Failed).0)) (Resends other two more n) → Two one two said more m n
 resend_one true old other one two said more m n same nm nn x y = (stay old other one two same x.0.0 y.0.0, x.1 ∙ sym y.1, x.0.1 ∙ sym y.0.1)
 resend_one false old other one two said more m n same nm nn x y = again_one old other one two said more m n same nm nn x y
 
@@ -249,8 +249,8 @@ running_one old other one two request said more m n same (inr d) nm nn (rx, inr 
     not_one old other one two request said more m n x.0 same rx ry nm nn x.2 (subst (λ (f : AskFault). AsksNot other request two more n f) (sym why) y.2)
 
 ask_one : (failed : Bool) (old other one two : Asking) (request : Request) (said more : List ℕ) (m n : Came) → AreSameAsking old other → outcome m ≢ NoMemory → outcome n ≢ NoMemory
-    → MatchBool failed (Tells old one m × (said ≡ (link_refusal Failed).0)) (Asks old request one said m)
-    → MatchBool failed (Tells other two n × (more ≡ (link_refusal Failed).0)) (Asks other request two more n) → Two one two said more m n
+    → MatchBool failed (Stays (Untold Done) old one m × (said ≡ (link_refusal Failed).0)) (Asks old request one said m)
+    → MatchBool failed (Stays (Untold Done) other two n × (more ≡ (link_refusal Failed).0)) (Asks other request two more n) → Two one two said more m n
 ask_one true old other one two request said more m n same nm nn x y = (stay old other one two same x.0.0 y.0.0, x.1 ∙ sym y.1, x.0.1 ∙ sym y.0.1)
 ask_one false old other one two request said more m n same nm nn x y = running_one old other one two request said more m n same same.3 nm nn x y
 
@@ -293,7 +293,7 @@ does_one : (old other one two : Asking) (o : Order) (said more : List ℕ) (m n 
 does_one old other one two (order.Packet bytes) said more m n fits same nm nn x y = packet_one old other one two bytes said more m n fits same nm nn x y
 does_one old other one two order.Resend said more m n fits same nm nn x y =
     resend_one old.end.port.link.failed old other one two said more m n same nm nn x 
-    (subst (λ (f : Bool). MatchBool f (Tells other two n × (more ≡ (link_refusal Failed).0)) (Resends other two more n)) (sym (same_failed old other same)) y)
+    (subst (λ (f : Bool). MatchBool f (Stays (Untold Done) other two n × (more ≡ (link_refusal Failed).0)) (Resends other two more n)) (sym (same_failed old other same)) y)
 does_one old other one two order.Ack said more m n fits same nm nn x y = (
   stay old other one two same x.0.0 y.0.0,
   ack_one old.end.port.link said more x.1 (subst (λ (p : PortValue). SaysAck p.link more) (sym same.0.0) y.1),
@@ -302,7 +302,7 @@ does_one old other one two order.Ack said more m n fits same nm nn x y = (
 does_one old other one two (order.New anew) said more m n fits same nm nn x y = renew_one old other one two anew said more m n same nm nn x y
 does_one old other one two (order.Ask request) said more m n fits same nm nn x y =
     ask_one old.end.port.link.failed old other one two request said more m n same nm nn x 
-    (subst (λ (f : Bool). MatchBool f (Tells other two n × (more ≡ (link_refusal Failed).0)) (Asks other request two more n)) (sym (same_failed old other same)) y)
+    (subst (λ (f : Bool). MatchBool f (Stays (Untold Done) other two n × (more ≡ (link_refusal Failed).0)) (Asks other request two more n)) (sym (same_failed old other same)) y)
 does_one old other one two order.Files said more m n fits same nm nn x y = (stay old other one two same x.0 y.0, x.1 ∙ sym y.1, x.2 ∙ sym y.2)
 does_one old other one two (order.File file) said more m n fits same nm nn x y = (stay old other one two same x.0 y.0, x.1 ∙ sym y.1, x.2 ∙ sym y.2)
 does_one old other one two (order.Record r) said more m n fits same nm nn x y = (stay old other one two same x.0 y.0, x.1 ∙ sym y.1, x.2 ∙ sym y.2)

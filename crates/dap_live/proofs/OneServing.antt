@@ -36,8 +36,8 @@ use Rattle.dap_live.specs.declared.orders.Order.TheVariants as order
 use Rattle.dap_live.specs.Orders.{order_of, setup_anew}
 use Rattle.dap_live.specs.Sending.{SaysAck, UnlessFailed, is_left, waits_of}
 use Rattle.dap_live.specs.Texts.{add_refusal, link_refusal, packets_text, taken_said}
-use Rattle.dap_live.specs.Serving.{GoesOn, GoesOnIf, Resends, Tells, Renewed, Added, AddsShaped, AddsFile, AddsRecord, OnEnd, Does, answered, waiting}
-use Rattle.dap_live.specs.Both.{DoesOrder, Renews, TakesPacket, gone_said}
+use Rattle.dap_live.specs.Serving.{GoesOn, GoesOnIf, Resends, Renewed, Added, AddsShaped, AddsFile, AddsRecord, OnEnd, Does, answered, waiting}
+use Rattle.dap_live.specs.Both.{DoesOrder, Renews, Stays, TakesPacket, gone_said}
 use Rattle.dap_live.specs.OneText.{HasServed, AreSameServing}
 use Rattle.dap_live.proofs.OneLine.{Fits, line_fits, all_again, ack_one, taken_wants, setup_apart, setup_one, one_answer}
 
@@ -81,8 +81,8 @@ going_if true end one two front said more b c k nb nc x y = going_same end one t
 going_if false end one two front said more b c k nb nc x y = (x.0 ∙ sym y.0, x.1 ∙ sym y.1, x.2 ∙ sym y.2, subst HasServed (sym x.0) k)
 
 resend_one : (failed : Bool) (end one two : ServingValue) (said more : List ℕ) (b c : Became) → HasServed end → b ≢ NoMemory → c ≢ NoMemory
-    → MatchBool failed (Tells end one b × (said ≡ (link_refusal Failed).0)) (Resends end one said b)
-    → MatchBool failed (Tells end two c × (more ≡ (link_refusal Failed).0)) (Resends end two more c) → One one two said more b c
+    → MatchBool failed (Stays Done end one b × (said ≡ (link_refusal Failed).0)) (Resends end one said b)
+    → MatchBool failed (Stays Done end two c × (more ≡ (link_refusal Failed).0)) (Resends end two more c) → One one two said more b c
 resend_one true end one two said more b c k nb nc x y = (x.0.0 ∙ sym y.0.0, x.1 ∙ sym y.1, x.0.1 ∙ sym y.0.1, subst HasServed (sym x.0.0) k)
 resend_one false end one two said more b c k nb nc x y =
     let same = all_again end.port.link k.0.handed x.0 y.0 k.1.sends x.1 y.1 in
@@ -260,7 +260,7 @@ does_one old other one two (order.Packet bytes) said more b c fits same nb nc x 
 does_one old other one two order.Resend said more b c fits same nb nc x y =
     on_end old other one two said more b c same x.0 y.0
     (resend_one old.end.port.link.failed old.end one.end two.end said more b c same.2 nb nc x.1
-    (subst (λ (v : ServingValue). UnlessFailed v.port.link more (Tells v two.end c) (Resends v two.end more c)) (sym same.0) y.1))
+    (subst (λ (v : ServingValue). UnlessFailed v.port.link more (Stays Done v two.end c) (Resends v two.end more c)) (sym same.0) y.1))
 does_one old other one two order.Ack said more b c fits same nb nc x y = (
   stay old other one two same x.0.0 y.0.0,
   ack_one old.end.port.link said more x.1 (subst (λ (v : ServingValue). SaysAck v.port.link more) (sym same.0) y.1),

@@ -12,7 +12,7 @@ use Rattle.dap_live.specs.declared.orders.Order.TheVariants as order
 use Rattle.dap_live.specs.declared.serving.Serving.{Serving}
 use Rattle.dap_live.specs.declared.asking.Asking.{Asking}
 use Rattle.dap_end.specs.Taking.{serves}
-use Rattle.dap_live.specs.Both.{Reaches, TakesPacket}
+use Rattle.dap_live.specs.Both.{Reaches, Stays, TakesPacket}
 use Rattle.dap_live.specs.Serving as serving
 use Rattle.dap_live.specs.Texts.{reports_text}
 use Rattle.dap_live.specs.Sending.{UnlessFailed}
@@ -55,7 +55,7 @@ unless_reached failed works old new Nothing This (inr done) =
     inr (done.0, done.1, unless_runs failed works (Nothing done.0 done.1) (This done.0 done.1) done.2)
 
 pub reaches_resend : (old : Serving) (end : ServingValue)
-    → ((end ≡ old.end) ⊎ ((said : List ℕ) × (became : Became) × UnlessFailed old.end.port.link said (serving.Tells old.end end became) (serving.Resends old.end end said became)))
+    → ((end ≡ old.end) ⊎ ((said : List ℕ) × (became : Became) × UnlessFailed old.end.port.link said (Stays Done old.end end became) (serving.Resends old.end end said became)))
     → Reaches serving.Does old order.Resend (record old { end = end })
 reaches_resend old end (inl same) = inl (ap (λ e. record old { end = e }) same)
 reaches_resend old end (inr done) = inr (done.0, done.1, (refl, done.2))

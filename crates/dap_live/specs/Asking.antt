@@ -29,7 +29,7 @@ use Rattle.dap_live.specs.declared.asking.Front.TheVariants.{Asked}
 use Rattle.dap_live.specs.declared.asking.Front.TheVariants as front
 use Rattle.dap_text.specs.Text.{line_feed}
 use Rattle.dap_live.specs.Texts.{ask_refusal, end_refusal, packets_text, refused_line, reports_text}
-use Rattle.dap_live.specs.Both.{DoesOrder, Renews, TakesPacket, gone_said}
+use Rattle.dap_live.specs.Both.{DoesOrder, Renews, Stays, TakesPacket, gone_said}
 
 -- only the end moved, and reports came
 abbrev pub OnEnd : Asking → Asking → Type 0
@@ -98,24 +98,15 @@ pub record Renewed (old : Asking) (anew : Anew) (new : Asking) : Type 0 where
 
 -- ---- A line.
 
--- what is said where the end stays as it is
-abbrev pub Tells : Asking → Asking → Came → Type 0
-Tells old new came = (new ≡ old) × (came ≡ Untold Done)
-
-abbrev pub IsNone : Asking → Asking → List ℕ → Came → Type 0
-IsNone old new text came = (new ≡ old) × (text ≡ []) × (came ≡ Untold BadLine)
-
 -- what is done by a line that says this, and what is said
 abbrev pub Does : Asking → Order → Asking → List ℕ → Came → Type 0
 Does old (order.Packet bytes) new text came =
     OnEnd old new × TakesPacket (asks old.reports.items new.reports.items) new.reports.items came_by old.end bytes new.end text came
-Does old order.Resend new text came = UnlessFailed old.end.port.link text (Tells old new came) (Resends old new text came)
-Does old order.Ack new text came = Tells old new came × SaysAck old.end.port.link text
+Does old order.Resend new text came = UnlessFailed old.end.port.link text (Stays (Untold Done) old new came) (Resends old new text came)
+Does old order.Ack new text came = Stays (Untold Done) old new came × SaysAck old.end.port.link text
 Does old (order.New anew) new text came = Renews Untold (setup_anew old.setup anew) (Renewed old anew new) old new text came
-Does old (order.Ask request) new text came = UnlessFailed old.end.port.link text (Tells old new came) (Asks old request new text came)
-Does old order.Files new text came = IsNone old new text came
-Does old (order.File file) new text came = IsNone old new text came
-Does old (order.Record r) new text came = IsNone old new text came
+Does old (order.Ask request) new text came = UnlessFailed old.end.port.link text (Stays (Untold Done) old new came) (Asks old request new text came)
+Does old _ new text came = (new ≡ old) × (text ≡ []) × (came ≡ Untold BadLine)
 
 -- where the answer has the reports, none waits; else they wait as before
 abbrev pub Ends : Came → Asking → Asking → Became → Type 0

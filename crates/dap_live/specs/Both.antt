@@ -42,6 +42,10 @@ Renews ends setup Renewed old new text came =
 abbrev pub Doing : (E C : Type 0) → Type 1
 Doing E C = E → Order → E → List ℕ → C → Type 0
 
+-- the end stays as it is, and this came of the line
+abbrev pub Stays : {E C : Type 0} → (was : C) → (old new : E) → C → Type 0
+Stays was old new came = (new ≡ old) × (came ≡ was)
+
 -- it is done or it isn't, and nothing is said of it
 abbrev pub Reaches : {E C : Type 0} → Doing E C → E → Order → E → Type 0
 Reaches {E} {C} Does old o new = (new ≡ old) ⊎ ((said : List ℕ) × (came : C) × Does old o new said came)

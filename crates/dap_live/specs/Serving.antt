@@ -22,7 +22,7 @@ use Rattle.dap_live.specs.declared.orders.Order.TheVariants as order
 use Rattle.dap_live.specs.Orders.{order_of, setup_anew}
 use Rattle.dap_live.specs.Sending.{AllAgain, SaysAck, UnlessFailed, is_left, waits_of}
 use Rattle.dap_live.specs.Texts.{add_refusal, link_refusal, packets_text, status_line}
-use Rattle.dap_live.specs.Both.{DoesOrder, Renews, TakesPacket, gone_said}
+use Rattle.dap_live.specs.Both.{DoesOrder, Renews, Stays, TakesPacket, gone_said}
 
 -- ---- Going on.
 
@@ -91,19 +91,15 @@ AddsRecord old r new text became =
 abbrev pub OnEnd : Serving → Serving → Type 0
 OnEnd old new = new ≡ record old { end = new.end }
 
--- what is said where the end stays as it is
-abbrev pub Tells : {E : Type 0} → E → E → Became → Type 0
-Tells old new became = (new ≡ old) × (became ≡ Done)
-
 -- what is done by a line that says this, and what is said
 abbrev pub Does : Serving → Order → Serving → List ℕ → Became → Type 0
 Does old (order.Packet bytes) new text became = OnEnd old new × TakesPacket serves [] (λ taken became. became) old.end bytes new.end text became
 Does old order.Resend new text became =
-    OnEnd old new × UnlessFailed old.end.port.link text (Tells old.end new.end became) (Resends old.end new.end text became)
-Does old order.Ack new text became = Tells old new became × SaysAck old.end.port.link text
+    OnEnd old new × UnlessFailed old.end.port.link text (Stays Done old.end new.end became) (Resends old.end new.end text became)
+Does old order.Ack new text became = Stays Done old new became × SaysAck old.end.port.link text
 Does old (order.New anew) new text became =
     Renews (λ became. became) (setup_anew old.setup anew) (Renewed old anew new) old new text became
-Does old order.Files new text became = Tells old new became × (text ≡ files_text old.end.accessed.files)
+Does old order.Files new text became = Stays Done old new became × (text ≡ files_text old.end.accessed.files)
 Does old (order.File file) new text became = OnEnd old new × AddsFile old.end file new.end text became
 Does old (order.Record r) new text became = OnEnd old new × AddsRecord old.end r new.end text became
 Does old (order.Ask request) new text became = (new ≡ old) × (text ≡ []) × (became ≡ BadLine)

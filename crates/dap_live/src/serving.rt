@@ -14,9 +14,9 @@ ghost use Rattle.rec_file.specs.Shapes.{is_shape};
 ghost use Rattle.linewise.specs.declared.talking.Became.{Became as TheBecame};
 ghost use Rattle.dap_live.specs.Sending.{UnlessFailed, is_left as is_left_of};
 ghost use Rattle.dap_live.specs.Texts.{link_refusal, packets_text};
-ghost use Rattle.dap_live.specs.Both.{DoesOrder, Reaches, TakesPacket, gone_said};
+ghost use Rattle.dap_live.specs.Both.{DoesOrder, Reaches, Stays, TakesPacket, gone_said};
 ghost use Rattle.dap_live.specs.Inner.Saying.{AddsSaid};
-ghost use Rattle.dap_live.specs.Serving.{AddsFile, AddsRecord, AddsShaped, Does, GoesOn, GoesOnIf, Resends, Tells};
+ghost use Rattle.dap_live.specs.Serving.{AddsFile, AddsRecord, AddsShaped, Does, GoesOn, GoesOnIf, Resends};
 
 use crate::orders::{Anew, Order, read_order, set_up};
 use crate::sending::{is_left, push_again, say_ack, waits};
@@ -167,9 +167,9 @@ fn resend_running(
 fn resend(alloc: Global, end: &mut ServingEnd, text: &mut Vec<u8>) -> Result<Became, AllocError>
     requires { text.old.items ≡ [] }
     ensures ok { IfOk result (λ became. UnlessFailed end.old.port.link text.new.items
-        (Tells end.old end.new became) (Resends end.old end.new text.new.items became)) }
+        (Stays Became.Done end.old end.new became) (Resends end.old end.new text.new.items became)) }
     ensures err { OnErr result ((end.new ≡ end.old) ⊎ ((said : List ℕ) × (became : TheBecame)
-        × UnlessFailed end.old.port.link said (Tells end.old end.new became)
+        × UnlessFailed end.old.port.link said (Stays Became.Done end.old end.new became)
         (Resends end.old end.new said became))) }
 {
     if end.link().has_failed() {
