@@ -1,5 +1,5 @@
 -- What the end that asks does by a line, and what it says.
-use Rattle.std.specs.Prelude.{◌≡◌, ◌⊎◌, ℕ, ◌++◌, Bool, true, false, not, ◌&&◌, ◌||◌, nat_lt, length, List, [], ◌∷◌, codes, Result, Ok, Err}
+use Rattle.std.specs.Prelude.{◌≡◌, ◌⊎◌, ℕ, ◌++◌, Bool, MatchBool, not, ◌&&◌, ◌||◌, nat_lt, length, List, [], ◌∷◌, codes, Result, Ok, Err}
 use Rattle.std.specs.List.{concat}
 use Rattle.std.specs.Fmt.{decimal}
 use Rattle.nsp_link.specs.declared.link.Got.{Got}
@@ -63,9 +63,8 @@ goes_on end = not end.accessing.failed && (has_message end.port.link || is_left 
 
 -- it does, or the reports that wait are told alone
 abbrev pub GoesOnIf : (left : Bool) → AskingValue → (before : List Report) → (front : List ℕ) → Asking → List ℕ → Came → Type 0
-GoesOnIf true old before front new text came = GoesOn old before front new text came
-GoesOnIf false old before front new text came =
-    (new.end ≡ old) × (new.reports.items ≡ before) × (text ≡ front ++ reports_text before) × (came ≡ Told Done)
+GoesOnIf left old before front new text came = MatchBool left (GoesOn old before front new text came)
+    ((new.end ≡ old) × (new.reports.items ≡ before) × (text ≡ front ++ reports_text before) × (came ≡ Told Done))
 
 -- behind the packets of all segments that aren't acknowledged
 abbrev pub Resends : Asking → Asking → List ℕ → Came → Type 0

@@ -1,10 +1,11 @@
 -- What the end that serves does by a line, and what it says.
-use Rattle.std.specs.Prelude.{◌≡◌, ◌⊎◌, ◌++◌, ℕ, Bool, true, false, List, [], Result, Ok, Err, MatchOption}
+use Rattle.std.specs.Prelude.{◌≡◌, ◌⊎◌, ◌++◌, ℕ, Bool, MatchBool, List, [], Result, Ok, Err, MatchOption}
 use Rattle.nsp_link.specs.declared.fault.LinkFault.{LinkFault}
 use Rattle.rec_file.specs.declared.shapes.Shape.{Shape}
 use Rattle.rec_file.specs.Shapes.{checked_shape}
 use Rattle.dap_msg.specs.Codes.{stscode, reason_number}
 use Rattle.dap_msg.specs.declared.codes.Reason.TheVariants.{BadAttributes}
+use Rattle.dap_accessed.specs.Standing.{Files}
 use Rattle.dap_accessed.specs.Adding.{MayAdd, MayAddRecord, with_new_file, with_record}
 use Rattle.dap_accessed.specs.declared.fault.AddFault.{AddFault}
 use Rattle.dap_end.specs.Ports.{HasCome, new_port}
@@ -36,8 +37,7 @@ pub record GoesOn (old : ServingValue) (front : List ℕ) (new : ServingValue) (
 
 -- only where something is left
 abbrev pub GoesOnIf : (left : Bool) → ServingValue → List ℕ → ServingValue → List ℕ → Became → Type 0
-GoesOnIf true old front new text became = GoesOn old front new text became
-GoesOnIf false old front new text became = (new ≡ old) × (text ≡ front) × (became ≡ Done)
+GoesOnIf left old front new text became = MatchBool left (GoesOn old front new text became) ((new ≡ old) × (text ≡ front) × (became ≡ Done))
 
 -- behind the packets of all segments that aren't acknowledged
 abbrev pub Resends : ServingValue → ServingValue → List ℕ → Became → Type 0
@@ -55,11 +55,6 @@ pub record Renewed (old : Serving) (anew : Anew) (new : Serving) : Type 0 where
 
 -- ---- Files that it is given.
 
--- nothing was added, and this is why
-abbrev pub SaysWhy : (AddFault → Type 0) → ServingValue → ServingValue → List ℕ → Became → Type 0
-SaysWhy Why old new text became =
-    (f : AddFault) × Why f × (new ≡ old) × (text ≡ (add_refusal f).0) × (became ≡ (add_refusal f).1)
-
 -- one was added, and no packet moved
 pub record Added (old new : ServingValue) (text : List ℕ) (became : Became) : Type 0 where
   pub idle : HasCome old.port → ⊥
@@ -69,10 +64,14 @@ pub record Added (old new : ServingValue) (text : List ℕ) (became : Became) : 
   pub silent : text ≡ []
   pub ends : became ≡ Done
 
+-- these are the files then, or nothing was added, and this is why
+abbrev pub Adds : (May : Type 0) → Files → (Why : AddFault → Type 0) → ServingValue → ServingValue → List ℕ → Became → Type 0
+Adds May files Why old new text became =
+    (May × (new.accessed.files ≡ files) × Added old new text became)
+    ⊎ ((f : AddFault) × Why f × (new ≡ old) × (text ≡ (add_refusal f).0) × (became ≡ (add_refusal f).1))
+
 abbrev pub AddsShaped : ServingValue → List ℕ → Shape → ServingValue → List ℕ → Became → Type 0
-AddsShaped old name shape new text became =
-    (MayAdd old.accessed name × (new.accessed.files ≡ with_new_file name shape old.accessed.files) × Added old new text became)
-    ⊎ SaysWhy (NotAdded old name) old new text became
+AddsShaped old name shape = Adds (MayAdd old.accessed name) (with_new_file name shape old.accessed.files) (NotAdded old name) old
 
 -- where the attributes are none of a file, they are told before all else
 abbrev pub AddsFile : ServingValue → FileLine → ServingValue → List ℕ → Became → Type 0
@@ -81,9 +80,8 @@ AddsFile old file new text became = MatchOption (checked_shape file.org file.rfm
     (λ shape. AddsShaped old file.name shape new text became)
 
 abbrev pub AddsRecord : ServingValue → RecordLine → ServingValue → List ℕ → Became → Type 0
-AddsRecord old r new text became =
-    (MayAddRecord old.accessed r.number r.body × (new.accessed.files ≡ with_record r.number r.body old.accessed.files) × Added old new text became)
-    ⊎ SaysWhy (NotStored old r.number r.body) old new text became
+AddsRecord old r =
+    Adds (MayAddRecord old.accessed r.number r.body) (with_record r.number r.body old.accessed.files) (NotStored old r.number r.body) old
 
 -- ---- A line.
 

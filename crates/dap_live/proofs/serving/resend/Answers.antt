@@ -1,6 +1,5 @@
 use Rattle.std.proofs.Common.{◌≡◌, false, rules}
 use Rattle.nsp_link.specs.declared.fault.LinkFault.TheVariants.{Failed}
-use Rattle.linewise.specs.declared.talking.Became.TheVariants.{Done}
 use Rattle.dap_live.specs.Both.{Stays}
 use Rattle.dap_live.specs.Texts.{link_refusal}
 use Rattle.dap_live.specs.Serving.{Resends}
@@ -14,4 +13,4 @@ returns-clause-err c =
     let old = c.args.end.now in
     let new = c.resend_running.new.end in
     err_from c.resend_running.result c.resend_running.ensures.err
-    (unless_reached old.port.link.failed works old new (λ said became. Stays Done old new became × (said ≡ (link_refusal Failed).0)) (Resends old new))
+    (unless_reached old.port.link.failed works old new (λ said became. Stays _ old new became × (said ≡ (link_refusal Failed).0)) (Resends old new))
