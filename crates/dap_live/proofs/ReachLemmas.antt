@@ -1,6 +1,7 @@
 -- How far an order was done.
 use Rattle.std.proofs.Common.{◌≡◌, ◌⊎◌, ◌++◌, inl, inr, ℕ, Bool, true, false, List, [], refl, ap, sym, true≢false}
 use Rattle.std.specs.Prelude.{MatchBool}
+use Rattle.nsp_link.specs.Link.{LinkValue}
 use Rattle.dap_accessing.specs.declared.report.Report.{Report}
 use Rattle.linewise.specs.declared.talking.Became.{Became}
 use Rattle.linewise.specs.declared.talking.Became.TheVariants.{Done}
@@ -47,12 +48,11 @@ unless_runs : (failed : Bool) → failed ≡ false → (Nothing This : Type 0) �
 unless_runs false works Nothing This this = this
 unless_runs true works Nothing This this = absurd (true≢false works)
 
-pub unless_reached : {E C : Type 0} (failed : Bool) → failed ≡ false → (old new : E) (Nothing This : List ℕ → C → Type 0)
+pub unless_reached : {E C : Type 0} (link : LinkValue) → link.failed ≡ false → (was : C) (old new : E) (This : List ℕ → C → Type 0)
     → ((new ≡ old) ⊎ ((said : List ℕ) × (came : C) × This said came))
-    → (new ≡ old) ⊎ ((said : List ℕ) × (came : C) × MatchBool failed (Nothing said came) (This said came))
-unless_reached failed works old new Nothing This (inl same) = inl same
-unless_reached failed works old new Nothing This (inr done) =
-    inr (done.0, done.1, unless_runs failed works (Nothing done.0 done.1) (This done.0 done.1) done.2)
+    → (new ≡ old) ⊎ ((said : List ℕ) × (came : C) × UnlessFailed link said (Stays was old new came) (This said came))
+unless_reached link works was old new This (inl same) = inl same
+unless_reached link works was old new This (inr done) = inr (done.0, done.1, unless_runs link.failed works _ _ done.2)
 
 pub reaches_resend : (old : Serving) (end : ServingValue)
     → ((end ≡ old.end) ⊎ ((said : List ℕ) × (became : Became) × UnlessFailed old.end.port.link said (Stays Done old.end end became) (serving.Resends old.end end said became)))

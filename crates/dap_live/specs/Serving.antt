@@ -64,7 +64,7 @@ pub record Added (old new : ServingValue) (text : List ℕ) (became : Became) : 
   pub silent : text ≡ []
   pub ends : became ≡ Done
 
--- these are the files then, or nothing was added, and this is why
+-- it was added, and these are the files then; or nothing was, and this is why
 abbrev pub Adds : (May : Type 0) → Files → (Why : AddFault → Type 0) → ServingValue → ServingValue → List ℕ → Became → Type 0
 Adds May files Why old new text became =
     (May × (new.accessed.files ≡ files) × Added old new text became)

@@ -1,7 +1,4 @@
 use Rattle.std.proofs.Common.{◌≡◌, false, rules}
-use Rattle.nsp_link.specs.declared.fault.LinkFault.TheVariants.{Failed}
-use Rattle.dap_live.specs.Both.{Stays}
-use Rattle.dap_live.specs.Texts.{link_refusal}
 use Rattle.dap_live.specs.Asking.{Resends}
 use Rattle.dap_live.proofs.ResultLemmas.{err_from}
 use Rattle.dap_live.proofs.ReachLemmas.{unless_reached}
@@ -13,4 +10,4 @@ returns-clause-err c =
     let old = c.args.asking.now in
     let new = c.resend_running.new.asking in
     err_from c.resend_running.result c.resend_running.ensures.err
-    (unless_reached old.end.port.link.failed works old new (λ said came. Stays _ old new came × (said ≡ (link_refusal Failed).0)) (Resends old new))
+    (unless_reached old.end.port.link works _ old new (Resends old new))
