@@ -292,7 +292,7 @@ does_one : (old other one two : Asking) (o : Order) (said more : List ℕ) (m n 
     → Two one two said more m n
 does_one old other one two (order.Packet bytes) said more m n fits same nm nn x y = packet_one old other one two bytes said more m n fits same nm nn x y
 does_one old other one two order.Resend said more m n fits same nm nn x y =
-    resend_one old.end.port.link.failed old other one two said more m n same nm nn x 
+    resend_one old.end.port.link.failed old other one two said more m n same nm nn x
     (subst (λ (f : Bool). MatchBool f (Stays (Untold Done) other two n × (more ≡ (link_refusal Failed).0)) (Resends other two more n)) (sym (same_failed old other same)) y)
 does_one old other one two order.Ack said more m n fits same nm nn x y = (
   stay old other one two same x.0.0 y.0.0,
@@ -301,7 +301,7 @@ does_one old other one two order.Ack said more m n fits same nm nn x y = (
 )
 does_one old other one two (order.New anew) said more m n fits same nm nn x y = renew_one old other one two anew said more m n same nm nn x y
 does_one old other one two (order.Ask request) said more m n fits same nm nn x y =
-    ask_one old.end.port.link.failed old other one two request said more m n same nm nn x 
+    ask_one old.end.port.link.failed old other one two request said more m n same nm nn x
     (subst (λ (f : Bool). MatchBool f (Stays (Untold Done) other two n × (more ≡ (link_refusal Failed).0)) (Asks other request two more n)) (sym (same_failed old other same)) y)
 does_one old other one two order.Files said more m n fits same nm nn x y = (stay old other one two same x.0 y.0, x.1 ∙ sym y.1, x.2 ∙ sym y.2)
 does_one old other one two (order.File file) said more m n fits same nm nn x y = (stay old other one two same x.0 y.0, x.1 ∙ sym y.1, x.2 ∙ sym y.2)

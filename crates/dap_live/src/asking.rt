@@ -329,7 +329,8 @@ fn end_answer(asking: &mut Asking, came: Came) -> Became
 /// Answers an order.
 fn answer_one(asking: &mut Asking, order: Order<'_>, text: &mut Vec<u8>) -> Became
     requires { text.old.items ≡ [] }
-    ensures { DoesOrder Does DoesAll asking.old (Some order.entry) asking.new text.new.items result }
+    ensures { DoesOrder Does DoesAll asking.old (Some order.entry) asking.new text.new.items
+        result }
 {
     match act(asking, order, text) {
         Ok(came) => end_answer(asking, came),

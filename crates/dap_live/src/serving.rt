@@ -96,9 +96,10 @@ fn push_gone(
     gone: Result<(), LinkFault>,
     packets: &Vec<Vec<u8>>,
 ) -> Result<Became, AllocError>
-    ensures { IfOk result (AddsSaid text.old text.new
-        (packets_text (bodies packets.now.items) ++ (gone_said link_refusal gone).0,
-        (gone_said link_refusal gone).1)) }
+    ensures { IfOk result (AddsSaid text.old text.new (
+      packets_text (bodies packets.now.items) ++ (gone_said link_refusal gone).0,
+      (gone_said link_refusal gone).1,
+    )) }
 {
     push_packets(text, packets)?;
     match gone {
@@ -167,7 +168,8 @@ fn resend_running(
 fn resend(alloc: Global, end: &mut ServingEnd, text: &mut Vec<u8>) -> Result<Became, AllocError>
     requires { text.old.items ≡ [] }
     ensures ok { IfOk result (λ became. UnlessFailed end.old.port.link text.new.items
-        (Stays Became.Done end.old end.new became) (Resends end.old end.new text.new.items became)) }
+        (Stays Became.Done end.old end.new became)
+        (Resends end.old end.new text.new.items became)) }
     ensures err { OnErr result ((end.new ≡ end.old) ⊎ ((said : List ℕ) × (became : TheBecame)
         × UnlessFailed end.old.port.link said (Stays Became.Done end.old end.new became)
         (Resends end.old end.new said became))) }
