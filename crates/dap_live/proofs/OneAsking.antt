@@ -1,10 +1,11 @@
 -- What the end that asks does by a line, and says, follows from the end and the line, want of memory aside.
 use Rattle.std.proofs.Common.{◌≡◌, ◌≢◌, ℕ, refl, sym, ◌∙◌, subst, ap, true, false, true≢false, List, [], ◌++◌, length, inl, inr}
-use Rattle.std.specs.Prelude.{◌&&◌, ◌||◌, not, nat_lt, Bool, Option, Some, None, Result, Ok, Err}
+use Rattle.std.specs.Prelude.{MatchBool, ◌&&◌, ◌||◌, not, nat_lt, Bool, Option, Some, None, Result, Ok, Err}
 use Rattle.hex.specs.Hex.{IsBytes as AreBytes}
 use Rattle.dap_msg.specs.Items.{Item}
 use Rattle.nsp_link.specs.declared.link.Got.{Got}
 use Rattle.nsp_link.specs.declared.link.LinkSetup.{LinkSetup}
+use Rattle.nsp_link.specs.declared.fault.LinkFault.TheVariants.{Failed}
 use Rattle.nsp_link.specs.Link.{SetupFault}
 use Rattle.dap_accessing.specs.Request.{Request}
 use Rattle.dap_accessing.specs.declared.report.Report.{Report}
@@ -23,7 +24,7 @@ use Rattle.dap_end.specs.Turns.{Takes}
 use Rattle.dap_end.specs.Wanting.{went_wanting}
 use Rattle.dap_end.proofs.ForCallers.{alike_of, alike_same, has_sent, asking_one, going_alike, taking_alike}
 use Rattle.linewise.specs.declared.talking.Became.{Became}
-use Rattle.linewise.specs.declared.talking.Became.TheVariants.{NoMemory}
+use Rattle.linewise.specs.declared.talking.Became.TheVariants.{Done, NoMemory}
 use Rattle.linewise.specs.Talks.{HaveOneText}
 use Rattle.linewise.proofs.ForCallers.{one_text}
 use Rattle.dap_live.specs.declared.asking.Asking.{Asking}
@@ -35,8 +36,9 @@ use Rattle.dap_live.specs.declared.orders.Order.{Order}
 use Rattle.dap_live.specs.declared.orders.Order.TheVariants as order
 use Rattle.dap_live.specs.Orders.{order_of, setup_anew}
 use Rattle.dap_live.specs.Sending.{AllAgain, SaysAck, has_message, is_left, waits_of}
-use Rattle.dap_live.specs.Texts.{ask_refusal, link_refusal, packets_text, reports_text, taken_said}
-use Rattle.dap_live.specs.Asking.{TakesPacket, GoesOn, GoesOnIf, Resends, ResendsRunning, AsksIt, AsksNot, AsksRunning, Asks, Renewed, Renews, OnEnd, Does, DoesAll, DoesOrder, Ends, answered, waiting, came_by, front_text, gone_said, goes_on}
+use Rattle.dap_live.specs.Texts.{ask_refusal, end_refusal, link_refusal, packets_text, reports_text, taken_said}
+use Rattle.dap_live.specs.Asking.{GoesOn, GoesOnIf, Resends, AsksIt, AsksNot, Asks, Renewed, OnEnd, Does, DoesAll, Ends, answered, waiting, came_by, front_text, goes_on}
+use Rattle.dap_live.specs.Both.{DoesOrder, Renews, Stays, TakesPacket, gone_said}
 use Rattle.dap_live.specs.OneText.{AreSameAsking}
 use Rattle.dap_live.proofs.OneLine.{Fits, line_fits, all_again, ack_one, end_wants, taken_wants, setup_apart, setup_one, one_answer}
 
@@ -67,27 +69,28 @@ on_end old other one two said more m n same x y h =
 -- ---- A packet.
 
 packet_one : (old other one two : Asking) (bytes said more : List ℕ) (m n : Came) → AreBytes bytes → AreSameAsking old other → outcome m ≢ NoMemory → outcome n ≢ NoMemory
-    → TakesPacket old bytes one said m → TakesPacket other bytes two more n → Two one two said more m n
-packet_one old other one two bytes said more m n fits same nm nn x y =
-    let wx = taken_wants x.taken one.reports.items x.packets (λ e. nm (ap outcome x.ends ∙ outcome_by x.taken _ ∙ e)) in
-    let wy = taken_wants y.taken two.reports.items y.packets (λ e. nn (ap outcome y.ends ∙ outcome_by y.taken _ ∙ e)) in
+    → OnEnd old one × TakesPacket (asks old.reports.items one.reports.items) one.reports.items came_by old.end bytes one.end said m
+    → OnEnd other two × TakesPacket (asks other.reports.items two.reports.items) two.reports.items came_by other.end bytes two.end more n → Two one two said more m n
+packet_one old other one two bytes said more m n fits same nm nn (rx, x) (ry, y) =
+    let wx = taken_wants x.taken one.reports.items x.packets (λ e. nm (ap outcome x.ended ∙ outcome_by x.taken _ ∙ e)) in
+    let wy = taken_wants y.taken two.reports.items y.packets (λ e. nn (ap outcome y.ended ∙ outcome_by y.taken _ ∙ e)) in
     let there : Takes (asks old.reports.items two.reports.items) other.end two.end bytes [] y.packets y.taken =
     subst (λ (l : List Report). Takes (asks l two.reports.items) other.end two.end bytes [] y.packets y.taken) (sym same.2) y.took in
     let t = taking_alike old.end other.end one.end two.end bytes x.taken y.taken [] x.packets y.packets old.reports.items one.reports.items two.reports.items fits same.3 same.0 wx wy x.took there in
     let same_said : taken_said x.taken one.reports.items x.packets ≡ taken_said y.taken two.reports.items y.packets =
     ap (λ (r : Result Got TakeFault). taken_said r one.reports.items x.packets) t.1 ∙ ap (taken_said y.taken one.reports.items) t.2
     ∙ ap (λ (l : List Report). taken_said y.taken l y.packets) t.3 in
-    on_end old other one two said more m n same x.rest y.rest (
+    on_end old other one two said more m n same rx ry (
       t.0,
       t.3,
       x.says ∙ ap (λ k. k.0) same_said ∙ sym y.says,
-      x.ends ∙ ap (λ (r : Result Got TakeFault). came_by r (taken_said x.taken one.reports.items x.packets).1) t.1 ∙ ap (λ k. came_by y.taken k.1) same_said ∙ sym y.ends,
+      x.ended ∙ ap (λ (r : Result Got TakeFault). came_by r (taken_said x.taken one.reports.items x.packets).1) t.1 ∙ ap (λ k. came_by y.taken k.1) same_said ∙ sym y.ended,
       t.4,
     )
 
 -- ---- Going on.
 
-gone_wants : (r : Result (Unit {0}) EndFault) → (gone_said r).1 ≢ NoMemory → went_wanting r ≡ false
+gone_wants : (r : Result (Unit {0}) EndFault) → (gone_said end_refusal r).1 ≢ NoMemory → went_wanting r ≡ false
 gone_wants (Ok done) want = refl
 gone_wants (Err f) want = end_wants f want
 
@@ -99,10 +102,10 @@ going_same old other before front said more one two m n d like nm nn x y =
     let t = going_alike old other one.end two.end [] x.packets y.packets before one.reports.items two.reports.items x.gone y.gone d like wx wy x.went y.went in (
       t.0,
       t.3,
-      x.says ∙ ap (λ (r : Result (Unit {0}) EndFault). front ++ (reports_text one.reports.items ++ (packets_text x.packets ++ (gone_said r).0))) t.1
-          ∙ ap (λ (l : List (List ℕ)). front ++ (reports_text one.reports.items ++ (packets_text l ++ (gone_said y.gone).0))) t.2
-          ∙ ap (λ (l : List Report). front ++ (reports_text l ++ (packets_text y.packets ++ (gone_said y.gone).0))) t.3 ∙ sym y.says,
-      x.ends ∙ ap (λ (r : Result (Unit {0}) EndFault). Told ((gone_said r).1)) t.1 ∙ sym y.ends,
+      x.says ∙ ap (λ (r : Result (Unit {0}) EndFault). front ++ (reports_text one.reports.items ++ (packets_text x.packets ++ (gone_said end_refusal r).0))) t.1
+          ∙ ap (λ (l : List (List ℕ)). front ++ (reports_text one.reports.items ++ (packets_text l ++ (gone_said end_refusal y.gone).0))) t.2
+          ∙ ap (λ (l : List Report). front ++ (reports_text l ++ (packets_text y.packets ++ (gone_said end_refusal y.gone).0))) t.3 ∙ sym y.says,
+      x.ends ∙ ap (λ (r : Result (Unit {0}) EndFault). Told ((gone_said end_refusal r).1)) t.1 ∙ sym y.ends,
       t.4,
     )
 
@@ -123,7 +126,7 @@ goes_alike old other like =
     ap (λ (f : Bool). not f && (has_message old.port.link || is_left old.port.link old.port.outbox)) like.2
     ∙ ap (λ (p : PortValue). not other.accessing.failed && (has_message p.link || is_left p.link p.outbox)) like.0
 
-again_one : (old other one two : Asking) (said more : List ℕ) (m n : Came) → AreSameAsking old other → outcome m ≢ NoMemory → outcome n ≢ NoMemory → ResendsRunning old one said m → ResendsRunning other two more n
+again_one : (old other one two : Asking) (said more : List ℕ) (m n : Came) → AreSameAsking old other → outcome m ≢ NoMemory → outcome n ≢ NoMemory → Resends old one said m → Resends other two more n
     → Two one two said more m n
 again_one old other one two said more m n same nm nn x y =
     let sent = has_sent old.end same.3 in
@@ -136,9 +139,10 @@ again_one old other one two said more m n same nm nn x y =
     on_end old other one two said more m n same x.0 y.0
     (going_if (goes_on old.end) old.end other.end old.reports.items (packets_text x.1.0) said more one two m n same.3 same.0 nm nn x.1.2 there)
 
-resend_one : (failed : Bool) (old other one two : Asking) (said more : List ℕ) (m n : Came) → AreSameAsking old other → outcome m ≢ NoMemory → outcome n ≢ NoMemory → Resends failed old one said m → Resends failed other two more n
-    → Two one two said more m n
-resend_one true old other one two said more m n same nm nn x y = (stay old other one two same x.0 y.0, x.1 ∙ sym y.1, x.2 ∙ sym y.2)
+resend_one : (failed : Bool) (old other one two : Asking) (said more : List ℕ) (m n : Came) → AreSameAsking old other → outcome m ≢ NoMemory → outcome n ≢ NoMemory
+    → MatchBool failed (Stays (Untold Done) old one m × (said ≡ (link_refusal Failed).0)) (Resends old one said m)
+    → MatchBool failed (Stays (Untold Done) other two n × (more ≡ (link_refusal Failed).0)) (Resends other two more n) → Two one two said more m n
+resend_one true old other one two said more m n same nm nn x y = (stay old other one two same x.0.0 y.0.0, x.1 ∙ sym y.1, x.0.1 ∙ sym y.0.1)
 resend_one false old other one two said more m n same nm nn x y = again_one old other one two said more m n same nm nn x y
 
 -- ---- A request.
@@ -224,8 +228,8 @@ it_apart old other one two request said more m n past f h like nn x r y =
     ask_apart old.end.accessing.own past.requests past.answers request f (not_want other request two more n f nn y) (x.2.asks.admissible past.requests past.answers h.asking)
     (refused_by request old.end past f h there)
 
-running_one : (old other one two : Asking) (request : Request) (said more : List ℕ) (m n : Came) → AreSameAsking old other → HasDone old.end → outcome m ≢ NoMemory → outcome n ≢ NoMemory → AsksRunning old request one said m
-    → AsksRunning other request two more n → Two one two said more m n
+running_one : (old other one two : Asking) (request : Request) (said more : List ℕ) (m n : Came) → AreSameAsking old other → HasDone old.end → outcome m ≢ NoMemory → outcome n ≢ NoMemory → Asks old request one said m
+    → Asks other request two more n → Two one two said more m n
 running_one old other one two request said more m n same (inl d) nm nn (rx, inl x) (ry, inl y) = it_one old other one two request said more m n d.0 d.1 same rx ry nm nn x y
 running_one old other one two request said more m n same (inl d) nm nn (rx, inl x) (ry, inr y) =
     absurd (it_apart old other one two request said more m n d.0 y.0 d.1 same.0 nn x y.1 y.2)
@@ -244,9 +248,10 @@ running_one old other one two request said more m n same (inr d) nm nn (rx, inr 
     let why : x.0 ≡ y.0 = only_failed request old.end x.0 d.0 x.1 ∙ sym (only_failed request other.end y.0 (sym same.0.2 ∙ d.0) y.1) in
     not_one old other one two request said more m n x.0 same rx ry nm nn x.2 (subst (λ (f : AskFault). AsksNot other request two more n f) (sym why) y.2)
 
-ask_one : (failed : Bool) (old other one two : Asking) (request : Request) (said more : List ℕ) (m n : Came) → AreSameAsking old other → outcome m ≢ NoMemory → outcome n ≢ NoMemory → Asks failed old request one said m
-    → Asks failed other request two more n → Two one two said more m n
-ask_one true old other one two request said more m n same nm nn x y = (stay old other one two same x.0 y.0, x.1 ∙ sym y.1, x.2 ∙ sym y.2)
+ask_one : (failed : Bool) (old other one two : Asking) (request : Request) (said more : List ℕ) (m n : Came) → AreSameAsking old other → outcome m ≢ NoMemory → outcome n ≢ NoMemory
+    → MatchBool failed (Stays (Untold Done) old one m × (said ≡ (link_refusal Failed).0)) (Asks old request one said m)
+    → MatchBool failed (Stays (Untold Done) other two n × (more ≡ (link_refusal Failed).0)) (Asks other request two more n) → Two one two said more m n
+ask_one true old other one two request said more m n same nm nn x y = (stay old other one two same x.0.0 y.0.0, x.1 ∙ sym y.1, x.0.1 ∙ sym y.0.1)
 ask_one false old other one two request said more m n same nm nn x y = running_one old other one two request said more m n same same.3 nm nn x y
 
 -- ---- A new link.
@@ -263,15 +268,16 @@ renewed_one old other one two anew same x y =
       inl (nothing_asked, x.after),
     )
 
-renew_one : (old other one two : Asking) (anew : Anew) (said more : List ℕ) (m n : Came) → AreSameAsking old other → outcome m ≢ NoMemory → outcome n ≢ NoMemory → Renews old anew one said m → Renews other anew two more n
-    → Two one two said more m n
-renew_one old other one two anew said more m n same nm nn (inl x) (inl y) = (renewed_one old other one two anew same x.0 y.0, x.1 ∙ sym y.1, x.2 ∙ sym y.2)
+renew_one : (old other one two : Asking) (anew : Anew) (said more : List ℕ) (m n : Came) → AreSameAsking old other → outcome m ≢ NoMemory → outcome n ≢ NoMemory
+    → Renews Untold (setup_anew old.setup anew) (Renewed old anew one) old one said m
+    → Renews Untold (setup_anew other.setup anew) (Renewed other anew two) other two more n → Two one two said more m n
+renew_one old other one two anew said more m n same nm nn (inl x) (inl y) = (renewed_one old other one two anew same x.0 y.0, x.2 ∙ sym y.2, x.3 ∙ sym y.3)
 renew_one old other one two anew said more m n same nm nn (inl x) (inr y) =
-    let setup : setup_anew other.setup anew ≡ one.setup = ap (λ (s : LinkSetup). setup_anew s anew) (sym same.1) ∙ sym x.0.setup in
-    absurd (setup_apart one.setup y.0 (λ e. nn (ap outcome y.4 ∙ e)) x.0.good (subst (λ (s : LinkSetup). SetupFault s y.0) setup y.1))
+    let setup : setup_anew other.setup anew ≡ setup_anew old.setup anew = ap (λ (s : LinkSetup). setup_anew s anew) (sym same.1) in
+    absurd (setup_apart (setup_anew old.setup anew) y.0 (λ e. nn (ap outcome y.4 ∙ e)) x.1 (subst (λ (s : LinkSetup). SetupFault s y.0) setup y.1))
 renew_one old other one two anew said more m n same nm nn (inr x) (inl y) =
-    let setup : setup_anew old.setup anew ≡ two.setup = ap (λ (s : LinkSetup). setup_anew s anew) same.1 ∙ sym y.0.setup in
-    absurd (setup_apart two.setup x.0 (λ e. nm (ap outcome x.4 ∙ e)) y.0.good (subst (λ (s : LinkSetup). SetupFault s x.0) setup x.1))
+    let setup : setup_anew old.setup anew ≡ setup_anew other.setup anew = ap (λ (s : LinkSetup). setup_anew s anew) same.1 in
+    absurd (setup_apart (setup_anew other.setup anew) x.0 (λ e. nm (ap outcome x.4 ∙ e)) y.1 (subst (λ (s : LinkSetup). SetupFault s x.0) setup x.1))
 renew_one old other one two anew said more m n same nm nn (inr x) (inr y) =
     let setup : setup_anew old.setup anew ≡ setup_anew other.setup anew = ap (λ (s : LinkSetup). setup_anew s anew) same.1 in
     let f = setup_one (setup_anew other.setup anew) x.0 y.0 (λ e. nm (ap outcome x.4 ∙ e)) (λ e. nn (ap outcome y.4 ∙ e)) (subst (λ (s : LinkSetup). SetupFault s x.0) setup x.1) y.1 in
@@ -286,7 +292,8 @@ does_one : (old other one two : Asking) (o : Order) (said more : List ℕ) (m n 
     → Two one two said more m n
 does_one old other one two (order.Packet bytes) said more m n fits same nm nn x y = packet_one old other one two bytes said more m n fits same nm nn x y
 does_one old other one two order.Resend said more m n fits same nm nn x y =
-    resend_one old.end.port.link.failed old other one two said more m n same nm nn x (subst (λ (f : Bool). Resends f other two more n) (sym (same_failed old other same)) y)
+    resend_one old.end.port.link.failed old other one two said more m n same nm nn x
+    (subst (λ (f : Bool). MatchBool f (Stays (Untold Done) other two n × (more ≡ (link_refusal Failed).0)) (Resends other two more n)) (sym (same_failed old other same)) y)
 does_one old other one two order.Ack said more m n fits same nm nn x y = (
   stay old other one two same x.0.0 y.0.0,
   ack_one old.end.port.link said more x.1 (subst (λ (p : PortValue). SaysAck p.link more) (sym same.0.0) y.1),
@@ -294,7 +301,8 @@ does_one old other one two order.Ack said more m n fits same nm nn x y = (
 )
 does_one old other one two (order.New anew) said more m n fits same nm nn x y = renew_one old other one two anew said more m n same nm nn x y
 does_one old other one two (order.Ask request) said more m n fits same nm nn x y =
-    ask_one old.end.port.link.failed old other one two request said more m n same nm nn x (subst (λ (f : Bool). Asks f other request two more n) (sym (same_failed old other same)) y)
+    ask_one old.end.port.link.failed old other one two request said more m n same nm nn x
+    (subst (λ (f : Bool). MatchBool f (Stays (Untold Done) other two n × (more ≡ (link_refusal Failed).0)) (Asks other request two more n)) (sym (same_failed old other same)) y)
 does_one old other one two order.Files said more m n fits same nm nn x y = (stay old other one two same x.0 y.0, x.1 ∙ sym y.1, x.2 ∙ sym y.2)
 does_one old other one two (order.File file) said more m n fits same nm nn x y = (stay old other one two same x.0 y.0, x.1 ∙ sym y.1, x.2 ∙ sym y.2)
 does_one old other one two (order.Record r) said more m n fits same nm nn x y = (stay old other one two same x.0 y.0, x.1 ∙ sym y.1, x.2 ∙ sym y.2)
@@ -325,7 +333,7 @@ all_one old other one two o said more b c fits same nb nc x y =
     let e = ends_one x.1 x.0 y.0 one two b c t.0 x.3 (subst (λ (m : Came). Ends m y.0 two c) (sym t.2) y.3) in
     (e.0, t.1, e.1)
 
-order_one : (old other one two : Asking) (o : Option Order) (said more : List ℕ) (b c : Became) → Fits o → AreSameAsking old other → b ≢ NoMemory → c ≢ NoMemory → DoesOrder old o one said b → DoesOrder other o two more c
+order_one : (old other one two : Asking) (o : Option Order) (said more : List ℕ) (b c : Became) → Fits o → AreSameAsking old other → b ≢ NoMemory → c ≢ NoMemory → DoesOrder Does DoesAll old o one said b → DoesOrder Does DoesAll other o two more c
     → AreSameAsking one two × (said ≡ more) × (b ≡ c)
 order_one old other one two None said more b c fits same nb nc x y = (stay old other one two same x.0 y.0, x.1 ∙ sym y.1, x.2 ∙ sym y.2)
 order_one old other one two (Some o) said more b c fits same nb nc (inl x) (inl y) = all_one old other one two o said more b c fits same nb nc x y

@@ -1,6 +1,6 @@
 -- What both ends say to a line is one text.
 use Rattle.std.proofs.Common.{◌≡◌, ◌≢◌, ℕ, ◌+◌, ◌<◌, ◌≤◌, ◌%◌, ◌==◌, arith, refl, sym, ◌∙◌, subst, ap, true, false, true≢false, List, [], ◌∷◌, length, inl, inr}
-use Rattle.std.specs.Prelude.{Bool, Option, Some, None, Result, Ok, Err, codes, option_map, if◌then◌else◌}
+use Rattle.std.specs.Prelude.{MatchBool, Bool, Option, Some, None, Result, Ok, Err, codes, option_map, if◌then◌else◌}
 use Rattle.std.specs.Option.{option_and_then, option_or}
 use Rattle.std.specs.Result.{result_ok}
 use Rattle.hex.specs.Hex.{IsBytes as AreBytes}
@@ -12,6 +12,7 @@ use Rattle.nsp_link.specs.declared.link.Got.{Got}
 use Rattle.nsp_link.specs.declared.link.LinkSetup.{LinkSetup}
 use Rattle.nsp_link.specs.declared.fault.LinkFault.{LinkFault}
 use Rattle.nsp_link.specs.declared.fault.LinkFault.TheVariants as fault
+use Rattle.nsp_link.specs.declared.fault.LinkFault.TheVariants.{Failed}
 use Rattle.nsp_link.specs.Cutting.{cut}
 use Rattle.nsp_link.specs.Link.{LinkValue, Sends, IsSetup, IsSpelling, SetupFault}
 use Rattle.nsp_link.specs.Sending.{ack_packet_of}
@@ -33,7 +34,7 @@ use Rattle.dap_live.specs.declared.orders.Anew.TheVariants.{Same, Between, Cut}
 use Rattle.dap_live.specs.declared.orders.Order.{Order}
 use Rattle.dap_live.specs.declared.orders.Order.TheVariants as order
 use Rattle.dap_live.specs.Orders.{address_of, anew_of, between_of, order_forms, order_of, packet_of}
-use Rattle.dap_live.specs.Sending.{AreAgain, AllAgain, SaysAck, UnlessFailed}
+use Rattle.dap_live.specs.Sending.{AreAgain, AllAgain, SaysAck}
 use Rattle.dap_accessing.specs.declared.report.Report.{Report}
 use Rattle.dap_live.specs.Texts.{end_refusal, link_refusal, packet_text, taken_said}
 
@@ -162,9 +163,9 @@ pub all_again : (link : LinkValue) (handed xs ys : List (List ℕ)) → Sends li
 all_again link handed xs ys sends a b = again_one link handed 0 xs ys sends (a.1 ∙ sym b.1) a.0 b.0
 
 ack_by : (failed : Bool) (link : LinkValue) (xs ys : List ℕ)
-    → UnlessFailed failed xs (λ text. (bytes : List ℕ) × IsSpelling (ack_packet_of link) bytes × (text ≡ packet_text bytes))
-    → UnlessFailed failed ys (λ text. (bytes : List ℕ) × IsSpelling (ack_packet_of link) bytes × (text ≡ packet_text bytes)) → xs ≡ ys
-ack_by true link xs ys a b = a ∙ sym b
+    → MatchBool failed (Unit {0} × (xs ≡ (link_refusal Failed).0)) ((bytes : List ℕ) × IsSpelling (ack_packet_of link) bytes × (xs ≡ packet_text bytes))
+    → MatchBool failed (Unit {0} × (ys ≡ (link_refusal Failed).0)) ((bytes : List ℕ) × IsSpelling (ack_packet_of link) bytes × (ys ≡ packet_text bytes)) → xs ≡ ys
+ack_by true link xs ys a b = a.1 ∙ sym b.1
 ack_by false link xs ys a b = a.2 ∙ ap packet_text (a.1.1 ∙ sym b.1.1) ∙ sym b.2
 
 pub ack_one : (link : LinkValue) (xs ys : List ℕ) → SaysAck link xs → SaysAck link ys → xs ≡ ys

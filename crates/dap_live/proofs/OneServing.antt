@@ -1,11 +1,12 @@
 -- What the end that serves does by a line, and says, follows from the end and the line, want of memory aside.
 use Rattle.std.proofs.Common.{◌≡◌, ◌≢◌, ℕ, ◌<◌, arith, refl, sym, ◌∙◌, subst, ap, true, false, List, [], ◌++◌, length, inl, inr}
-use Rattle.std.specs.Prelude.{Bool, Option, Some, None, Result, Err, MatchOption}
+use Rattle.std.specs.Prelude.{MatchBool, Bool, Option, Some, None, Result, Err, MatchOption}
 use Rattle.hex.specs.Hex.{IsBytes as AreBytes}
 use Rattle.nsp_link.specs.declared.link.Got.{Got}
 use Rattle.nsp_link.specs.declared.link.LinkSetup.{LinkSetup}
 use Rattle.nsp_link.specs.declared.fault.LinkFault.{LinkFault}
 use Rattle.nsp_link.specs.declared.fault.LinkFault.TheVariants as fault
+use Rattle.nsp_link.specs.declared.fault.LinkFault.TheVariants.{Failed}
 use Rattle.nsp_link.specs.Link.{SetupFault}
 use Rattle.rec_file.specs.declared.shapes.Shape.{Shape}
 use Rattle.rec_file.specs.declared.refusals.Refusal.{Refusal}
@@ -19,6 +20,7 @@ use Rattle.dap_accessed.specs.Adding.{IsFresh, IsLate, MayAdd, MayAddRecord}
 use Rattle.dap_end.specs.declared.fault.TakeFault.{TakeFault}
 use Rattle.dap_end.specs.Ports.{PortValue, HasCome, new_port}
 use Rattle.dap_end.specs.Serving.{ServingValue, Past, IsAfter, NotAdded, NotStored, nothing_yet}
+use Rattle.dap_end.specs.Taking.{serves}
 use Rattle.dap_end.proofs.ForCallers.{going_one, taking_one, new_known, going_known, taking_known}
 use Rattle.dap_text.specs.declared.filed.FileLine.{FileLine}
 use Rattle.dap_text.specs.declared.filed.RecordLine.{RecordLine}
@@ -32,9 +34,10 @@ use Rattle.dap_live.specs.declared.orders.Anew.{Anew}
 use Rattle.dap_live.specs.declared.orders.Order.{Order}
 use Rattle.dap_live.specs.declared.orders.Order.TheVariants as order
 use Rattle.dap_live.specs.Orders.{order_of, setup_anew}
-use Rattle.dap_live.specs.Sending.{SaysAck, is_left, waits_of}
+use Rattle.dap_live.specs.Sending.{SaysAck, UnlessFailed, is_left, waits_of}
 use Rattle.dap_live.specs.Texts.{add_refusal, link_refusal, packets_text, taken_said}
-use Rattle.dap_live.specs.Serving.{TakesPacket, GoesOn, GoesOnIf, Resends, Renewed, Renews, Added, AddsShaped, AddsFile, AddsRecord, OnEnd, Does, DoesOrder, answered, waiting, gone_said}
+use Rattle.dap_live.specs.Serving.{GoesOn, GoesOnIf, Resends, Renewed, Added, AddsShaped, AddsFile, AddsRecord, OnEnd, Does, answered, waiting}
+use Rattle.dap_live.specs.Both.{DoesOrder, Renews, Stays, TakesPacket, gone_said}
 use Rattle.dap_live.specs.OneText.{HasServed, AreSameServing}
 use Rattle.dap_live.proofs.OneLine.{Fits, line_fits, all_again, ack_one, taken_wants, setup_apart, setup_one, one_answer}
 
@@ -45,30 +48,30 @@ One one two said more b c = (one ≡ two) × (said ≡ more) × (b ≡ c) × Has
 -- ---- A packet.
 
 packet_one : (end one two : ServingValue) (bytes said more : List ℕ) (b c : Became) → AreBytes bytes → HasServed end → b ≢ NoMemory → c ≢ NoMemory
-    → TakesPacket end bytes one said b → TakesPacket end bytes two more c → One one two said more b c
+    → TakesPacket serves [] (λ taken became. became) end bytes one said b → TakesPacket serves [] (λ taken became. became) end bytes two more c → One one two said more b c
 packet_one end one two bytes said more b c fits k nb nc x y =
     let said : x.taken ≡ y.taken → x.packets ≡ y.packets → taken_said x.taken [] x.packets ≡ taken_said y.taken [] y.packets =
     λ r l. ap (λ (r : Result Got TakeFault). taken_said r [] x.packets) r ∙ ap (taken_said y.taken []) l in
-    let t = taking_one k.0 end one two bytes x.taken y.taken [] x.packets y.packets fits k.1 (taken_wants x.taken [] x.packets (λ e. nb (x.ends ∙ e))) (taken_wants y.taken [] y.packets (λ e. nc (y.ends ∙ e))) x.took y.took in (
+    let t = taking_one k.0 end one two bytes x.taken y.taken [] x.packets y.packets fits k.1 (taken_wants x.taken [] x.packets (λ e. nb (x.ended ∙ e))) (taken_wants y.taken [] y.packets (λ e. nc (y.ended ∙ e))) x.took y.took in (
       t.0,
       x.says ∙ ap (λ k. k.0) (said t.1 t.2) ∙ sym y.says,
-      x.ends ∙ ap (λ k. k.1) (said t.1 t.2) ∙ sym y.ends,
+      x.ended ∙ ap (λ k. k.1) (said t.1 t.2) ∙ sym y.ended,
       taking_known end one bytes [] x.packets x.taken x.took k,
     )
 
 -- ---- Going on.
 
-gone_want : (r : Result (Unit {0}) LinkFault) → (gone_said r).1 ≢ NoMemory → r ≢ Err fault.NoMemory
-gone_want r want e = want (ap (λ k. (gone_said k).1) e)
+gone_want : (r : Result (Unit {0}) LinkFault) → (gone_said link_refusal r).1 ≢ NoMemory → r ≢ Err fault.NoMemory
+gone_want r want e = want (ap (λ k. (gone_said link_refusal k).1) e)
 
 going_same : (end one two : ServingValue) (front said more : List ℕ) (b c : Became) → HasServed end → b ≢ NoMemory → c ≢ NoMemory
     → GoesOn end front one said b → GoesOn end front two more c → One one two said more b c
 going_same end one two front said more b c k nb nc x y =
     let t = going_one k.0 end one two [] x.packets y.packets x.gone y.gone k.1 (gone_want x.gone (λ e. nb (x.ends ∙ e))) (gone_want y.gone (λ e. nc (y.ends ∙ e))) x.went y.went in (
       t.0,
-      x.says ∙ ap (λ (r : Result (Unit {0}) LinkFault). front ++ (packets_text x.packets ++ (gone_said r).0)) t.1
-          ∙ ap (λ (l : List (List ℕ)). front ++ (packets_text l ++ (gone_said y.gone).0)) t.2 ∙ sym y.says,
-      x.ends ∙ ap (λ k. (gone_said k).1) t.1 ∙ sym y.ends,
+      x.says ∙ ap (λ (r : Result (Unit {0}) LinkFault). front ++ (packets_text x.packets ++ (gone_said link_refusal r).0)) t.1
+          ∙ ap (λ (l : List (List ℕ)). front ++ (packets_text l ++ (gone_said link_refusal y.gone).0)) t.2 ∙ sym y.says,
+      x.ends ∙ ap (λ k. (gone_said link_refusal k).1) t.1 ∙ sym y.ends,
       going_known end one [] x.packets x.gone x.went k,
     )
 
@@ -78,8 +81,9 @@ going_if true end one two front said more b c k nb nc x y = going_same end one t
 going_if false end one two front said more b c k nb nc x y = (x.0 ∙ sym y.0, x.1 ∙ sym y.1, x.2 ∙ sym y.2, subst HasServed (sym x.0) k)
 
 resend_one : (failed : Bool) (end one two : ServingValue) (said more : List ℕ) (b c : Became) → HasServed end → b ≢ NoMemory → c ≢ NoMemory
-    → Resends failed end one said b → Resends failed end two more c → One one two said more b c
-resend_one true end one two said more b c k nb nc x y = (x.0 ∙ sym y.0, x.1 ∙ sym y.1, x.2 ∙ sym y.2, subst HasServed (sym x.0) k)
+    → MatchBool failed (Stays Done end one b × (said ≡ (link_refusal Failed).0)) (Resends end one said b)
+    → MatchBool failed (Stays Done end two c × (more ≡ (link_refusal Failed).0)) (Resends end two more c) → One one two said more b c
+resend_one true end one two said more b c k nb nc x y = (x.0.0 ∙ sym y.0.0, x.1 ∙ sym y.1, x.0.1 ∙ sym y.0.1, subst HasServed (sym x.0.0) k)
 resend_one false end one two said more b c k nb nc x y =
     let same = all_again end.port.link k.0.handed x.0 y.0 k.1.sends x.1 y.1 in
     going_if (is_left end.port.link end.port.outbox) end one two (packets_text x.0) said more b c k nb nc x.2
@@ -112,14 +116,15 @@ renewed_one old other one two anew same x y =
     )
 
 renew_one : (old other one two : Serving) (anew : Anew) (said more : List ℕ) (b c : Became) → AreSameServing old other → b ≢ NoMemory → c ≢ NoMemory
-    → Renews old anew one said b → Renews other anew two more c → Two one two said more b c
-renew_one old other one two anew said more b c same nb nc (inl x) (inl y) = (renewed_one old other one two anew same x.0 y.0, x.1 ∙ sym y.1, x.2 ∙ sym y.2)
+    → Renews (λ became. became) (setup_anew old.setup anew) (Renewed old anew one) old one said b
+    → Renews (λ became. became) (setup_anew other.setup anew) (Renewed other anew two) other two more c → Two one two said more b c
+renew_one old other one two anew said more b c same nb nc (inl x) (inl y) = (renewed_one old other one two anew same x.0 y.0, x.2 ∙ sym y.2, x.3 ∙ sym y.3)
 renew_one old other one two anew said more b c same nb nc (inl x) (inr y) =
-    let setup : setup_anew other.setup anew ≡ one.setup = ap (λ (s : LinkSetup). setup_anew s anew) (sym same.1) ∙ sym x.0.setup in
-    absurd (setup_apart one.setup y.0 (λ e. nc (y.4 ∙ e)) x.0.good (subst (λ (s : LinkSetup). SetupFault s y.0) setup y.1))
+    let setup : setup_anew other.setup anew ≡ setup_anew old.setup anew = ap (λ (s : LinkSetup). setup_anew s anew) (sym same.1) in
+    absurd (setup_apart (setup_anew old.setup anew) y.0 (λ e. nc (y.4 ∙ e)) x.1 (subst (λ (s : LinkSetup). SetupFault s y.0) setup y.1))
 renew_one old other one two anew said more b c same nb nc (inr x) (inl y) =
-    let setup : setup_anew old.setup anew ≡ two.setup = ap (λ (s : LinkSetup). setup_anew s anew) same.1 ∙ sym y.0.setup in
-    absurd (setup_apart two.setup x.0 (λ e. nb (x.4 ∙ e)) y.0.good (subst (λ (s : LinkSetup). SetupFault s x.0) setup x.1))
+    let setup : setup_anew old.setup anew ≡ setup_anew other.setup anew = ap (λ (s : LinkSetup). setup_anew s anew) same.1 in
+    absurd (setup_apart (setup_anew other.setup anew) x.0 (λ e. nb (x.4 ∙ e)) y.1 (subst (λ (s : LinkSetup). SetupFault s x.0) setup x.1))
 renew_one old other one two anew said more b c same nb nc (inr x) (inr y) =
     let setup : setup_anew old.setup anew ≡ setup_anew other.setup anew = ap (λ (s : LinkSetup). setup_anew s anew) same.1 in
     let f = setup_one (setup_anew other.setup anew) x.0 y.0 (λ e. nb (x.4 ∙ e)) (λ e. nc (y.4 ∙ e)) (subst (λ (s : LinkSetup). SetupFault s x.0) setup x.1) y.1 in
@@ -251,11 +256,11 @@ does_one : (old other one two : Serving) (o : Order) (said more : List ℕ) (b c
     → Two one two said more b c
 does_one old other one two (order.Packet bytes) said more b c fits same nb nc x y =
     on_end old other one two said more b c same x.0 y.0
-    (packet_one old.end one.end two.end bytes said more b c fits same.2 nb nc x.1 (subst (λ (v : ServingValue). TakesPacket v bytes two.end more c) (sym same.0) y.1))
+    (packet_one old.end one.end two.end bytes said more b c fits same.2 nb nc x.1 (subst (λ (v : ServingValue). TakesPacket serves [] (λ taken became. became) v bytes two.end more c) (sym same.0) y.1))
 does_one old other one two order.Resend said more b c fits same nb nc x y =
     on_end old other one two said more b c same x.0 y.0
     (resend_one old.end.port.link.failed old.end one.end two.end said more b c same.2 nb nc x.1
-    (subst (λ (v : ServingValue). Resends v.port.link.failed v two.end more c) (sym same.0) y.1))
+    (subst (λ (v : ServingValue). UnlessFailed v.port.link more (Stays Done v two.end c) (Resends v two.end more c)) (sym same.0) y.1))
 does_one old other one two order.Ack said more b c fits same nb nc x y = (
   stay old other one two same x.0.0 y.0.0,
   ack_one old.end.port.link said more x.1 (subst (λ (v : ServingValue). SaysAck v.port.link more) (sym same.0) y.1),
@@ -272,7 +277,7 @@ does_one old other one two (order.Record r) said more b c fits same nb nc x y =
     (record_one old.end one.end two.end r said more b c same.2 nb nc x.1 (subst (λ (v : ServingValue). AddsRecord v r two.end more c) (sym same.0) y.1))
 does_one old other one two (order.Ask request) said more b c fits same nb nc x y = (stay old other one two same x.0 y.0, x.1 ∙ sym y.1, x.2 ∙ sym y.2)
 
-order_one : (old other one two : Serving) (o : Option Order) (said more : List ℕ) (b c : Became) → Fits o → AreSameServing old other → b ≢ NoMemory → c ≢ NoMemory → DoesOrder old o one said b → DoesOrder other o two more c
+order_one : (old other one two : Serving) (o : Option Order) (said more : List ℕ) (b c : Became) → Fits o → AreSameServing old other → b ≢ NoMemory → c ≢ NoMemory → DoesOrder Does Does old o one said b → DoesOrder Does Does other o two more c
     → Two one two said more b c
 order_one old other one two None said more b c fits same nb nc x y = (stay old other one two same x.0 y.0, x.1 ∙ sym y.1, x.2 ∙ sym y.2)
 order_one old other one two (Some o) said more b c fits same nb nc (inl x) (inl y) = does_one old other one two o said more b c fits same nb nc x y

@@ -1,11 +1,8 @@
 -- What the end that asks does by a line, and what it says.
-use Rattle.std.specs.Prelude.{◌≡◌, ◌⊎◌, ℕ, ◌++◌, Bool, true, false, not, ◌&&◌, ◌||◌, nat_lt, length, List, [], ◌∷◌, codes, Result, Ok, Err, Option, Some, None}
+use Rattle.std.specs.Prelude.{◌≡◌, ◌⊎◌, ℕ, ◌++◌, Bool, MatchBool, not, ◌&&◌, ◌||◌, nat_lt, length, List, [], ◌∷◌, codes, Result, Err}
 use Rattle.std.specs.List.{concat}
 use Rattle.std.specs.Fmt.{decimal}
 use Rattle.nsp_link.specs.declared.link.Got.{Got}
-use Rattle.nsp_link.specs.declared.fault.LinkFault.{LinkFault}
-use Rattle.nsp_link.specs.declared.fault.LinkFault.TheVariants.{Failed}
-use Rattle.nsp_link.specs.Link.{IsSetup, SetupFault}
 use Rattle.dap_accessing.specs.Request.{Request}
 use Rattle.dap_accessing.specs.declared.report.Report.{Report}
 use Rattle.dap_accessing.specs.declared.fault.AskFault.{AskFault}
@@ -16,9 +13,9 @@ use Rattle.dap_end.specs.declared.fault.TakeFault.{TakeFault}
 use Rattle.dap_end.specs.declared.fault.TakeFault.TheVariants as take
 use Rattle.dap_end.specs.Ports.{new_port}
 use Rattle.dap_end.specs.Asking.{AskingValue, AskedOne, HasAsked, asks, nothing_asked}
-use Rattle.dap_end.specs.Turns.{WentOn, Takes}
+use Rattle.dap_end.specs.Turns.{WentOn}
 use Rattle.linewise.specs.declared.talking.Became.{Became}
-use Rattle.linewise.specs.declared.talking.Became.TheVariants.{Done, BadLine, NoMemory}
+use Rattle.linewise.specs.declared.talking.Became.TheVariants.{Done, BadLine}
 use Rattle.dap_live.specs.declared.asking.Asking.{Asking}
 use Rattle.dap_live.specs.declared.asking.Came.{Came}
 use Rattle.dap_live.specs.declared.asking.Came.TheVariants.{Told, Untold}
@@ -26,12 +23,13 @@ use Rattle.dap_live.specs.declared.orders.Anew.{Anew}
 use Rattle.dap_live.specs.declared.orders.Order.{Order}
 use Rattle.dap_live.specs.declared.orders.Order.TheVariants as order
 use Rattle.dap_live.specs.Orders.{order_of, setup_anew}
-use Rattle.dap_live.specs.Sending.{AllAgain, SaysAck, has_message, is_left, waits_of}
+use Rattle.dap_live.specs.Sending.{AllAgain, SaysAck, UnlessFailed, has_message, is_left, waits_of}
 use Rattle.dap_live.specs.declared.asking.Front.{Front}
 use Rattle.dap_live.specs.declared.asking.Front.TheVariants.{Asked}
 use Rattle.dap_live.specs.declared.asking.Front.TheVariants as front
 use Rattle.dap_text.specs.Text.{line_feed}
-use Rattle.dap_live.specs.Texts.{LineAnswer, ask_refusal, end_refusal, link_refusal, packets_text, refused_line, reports_text, taken_said}
+use Rattle.dap_live.specs.Texts.{ask_refusal, end_refusal, packets_text, refused_line, reports_text}
+use Rattle.dap_live.specs.Both.{DoesOrder, Renews, Stays, TakesPacket, gone_said}
 
 -- only the end moved, and reports came
 abbrev pub OnEnd : Asking → Asking → Type 0
@@ -44,31 +42,19 @@ abbrev pub came_by : Result Got TakeFault → Became → Came
 came_by (Err (take.Refused f)) became = Untold became
 came_by _ became = Told became
 
-pub record TakesPacket (old : Asking) (bytes : List ℕ) (new : Asking) (text : List ℕ) (came : Came) : Type 0 where
-  pub rest : OnEnd old new
-  pub taken : Result Got TakeFault
-  pub packets : List (List ℕ)
-  pub took : Takes (asks old.reports.items new.reports.items) old.end new.end bytes [] packets taken
-  pub says : text ≡ (taken_said taken new.reports.items packets).0
-  pub ends : came ≡ came_by taken (taken_said taken new.reports.items packets).1
-
 -- ---- A request.
 
 abbrev pub front_text : Front → List ℕ
 front_text (Asked count) = concat (codes "asked " ∷ decimal count ∷ line_feed ∷ [])
 front_text front.Busy = refused_line (codes "ask-busy")
 
-abbrev pub gone_said : Result (Unit {0}) EndFault → LineAnswer
-gone_said (Ok done) = ([], Done)
-gone_said (Err f) = end_refusal f
-
 -- This is said first, and then what going on comes to.
 pub record GoesOn (old : AskingValue) (before : List Report) (front : List ℕ) (new : Asking) (text : List ℕ) (came : Came) : Type 0 where
   pub gone : Result (Unit {0}) EndFault
   pub packets : List (List ℕ)
   pub went : WentOn (asks before new.reports.items) old new.end [] packets gone
-  pub says : text ≡ front ++ (reports_text new.reports.items ++ (packets_text packets ++ (gone_said gone).0))
-  pub ends : came ≡ Told (gone_said gone).1
+  pub says : text ≡ front ++ (reports_text new.reports.items ++ (packets_text packets ++ (gone_said end_refusal gone).0))
+  pub ends : came ≡ Told (gone_said end_refusal gone).1
 
 -- The end would do something by going on, memory aside. What came is read before what waits is handed over, and an end that
 -- an unexpected answer failed does nothing more.
@@ -77,19 +63,13 @@ goes_on end = not end.accessing.failed && (has_message end.port.link || is_left 
 
 -- it does, or the reports that wait are told alone
 abbrev pub GoesOnIf : (left : Bool) → AskingValue → (before : List Report) → (front : List ℕ) → Asking → List ℕ → Came → Type 0
-GoesOnIf true old before front new text came = GoesOn old before front new text came
-GoesOnIf false old before front new text came =
-    (new.end ≡ old) × (new.reports.items ≡ before) × (text ≡ front ++ reports_text before) × (came ≡ Told Done)
+GoesOnIf left old before front new text came = MatchBool left (GoesOn old before front new text came)
+    ((new.end ≡ old) × (new.reports.items ≡ before) × (text ≡ front ++ reports_text before) × (came ≡ Told Done))
 
 -- behind the packets of all segments that aren't acknowledged
-abbrev pub ResendsRunning : Asking → Asking → List ℕ → Came → Type 0
-ResendsRunning old new text came = OnEnd old new × ((packets : List (List ℕ)) × AllAgain old.end.port.link packets
+abbrev pub Resends : Asking → Asking → List ℕ → Came → Type 0
+Resends old new text came = OnEnd old new × ((packets : List (List ℕ)) × AllAgain old.end.port.link packets
     × GoesOnIf (goes_on old.end) old.end old.reports.items (packets_text packets) new text came)
-
--- nothing is sent on a link that has failed
-abbrev pub Resends : (failed : Bool) → Asking → Asking → List ℕ → Came → Type 0
-Resends true old new text came = (new ≡ old) × (text ≡ (link_refusal Failed).0) × (came ≡ Untold Done)
-Resends false old new text came = ResendsRunning old new text came
 
 -- it was asked, and its messages are on their way
 abbrev pub AsksIt : Asking → Request → Asking → List ℕ → Came → Type 0
@@ -101,14 +81,9 @@ abbrev pub AsksNot : Asking → Request → Asking → List ℕ → Came → Ask
 AsksNot old request new text came Busy = GoesOn old.end old.reports.items (front_text front.Busy) new text came
 AsksNot old request new text came f = (new ≡ old) × (text ≡ (ask_refusal f).0) × (came ≡ Untold (ask_refusal f).1)
 
-abbrev pub AsksRunning : Asking → Request → Asking → List ℕ → Came → Type 0
-AsksRunning old request new text came = OnEnd old new × (AsksIt old request new text came
+abbrev pub Asks : Asking → Request → Asking → List ℕ → Came → Type 0
+Asks old request new text came = OnEnd old new × (AsksIt old request new text came
     ⊎ ((f : AskFault) × AskRefused request old.end.accessing f × AsksNot old request new text came f))
-
--- nothing is asked on a link that has failed
-abbrev pub Asks : Bool → Asking → Request → Asking → List ℕ → Came → Type 0
-Asks true old request new text came = (new ≡ old) × (text ≡ (link_refusal Failed).0) × (came ≡ Untold Done)
-Asks false old request new text came = AsksRunning old request new text came
 
 -- ---- A new link.
 
@@ -118,33 +93,19 @@ pub record Renewed (old : Asking) (anew : Anew) (new : Asking) : Type 0 where
   pub port : new.end.port ≡ new_port (setup_anew old.setup anew)
   pub own : new.end.accessing.own ≡ old.end.accessing.own
   pub setup : new.setup ≡ setup_anew old.setup anew
-  pub good : IsSetup new.setup
   pub reports : new.reports.items ≡ []
-
-abbrev pub Renews : Asking → Anew → Asking → List ℕ → Came → Type 0
-Renews old anew new text came =
-    (Renewed old anew new × (text ≡ []) × (came ≡ Untold Done))
-    ⊎ ((f : LinkFault) × SetupFault (setup_anew old.setup anew) f × (new ≡ old) × (text ≡ (link_refusal f).0) × (came ≡ Untold (link_refusal f).1))
 
 -- ---- A line.
 
--- what is said where the end stays as it is
-abbrev pub Tells : Asking → Asking → Came → Type 0
-Tells old new came = (new ≡ old) × (came ≡ Untold Done)
-
-abbrev pub IsNone : Asking → Asking → List ℕ → Came → Type 0
-IsNone old new text came = (new ≡ old) × (text ≡ []) × (came ≡ Untold BadLine)
-
 -- what is done by a line that says this, and what is said
 abbrev pub Does : Asking → Order → Asking → List ℕ → Came → Type 0
-Does old (order.Packet bytes) new text came = TakesPacket old bytes new text came
-Does old order.Resend new text came = Resends old.end.port.link.failed old new text came
-Does old order.Ack new text came = Tells old new came × SaysAck old.end.port.link text
-Does old (order.New anew) new text came = Renews old anew new text came
-Does old (order.Ask request) new text came = Asks old.end.port.link.failed old request new text came
-Does old order.Files new text came = IsNone old new text came
-Does old (order.File file) new text came = IsNone old new text came
-Does old (order.Record r) new text came = IsNone old new text came
+Does old (order.Packet bytes) new text came =
+    OnEnd old new × TakesPacket (asks old.reports.items new.reports.items) new.reports.items came_by old.end bytes new.end text came
+Does old order.Resend new text came = UnlessFailed old.end.port.link text (Stays (Untold Done) old new came) (Resends old new text came)
+Does old order.Ack new text came = Stays (Untold Done) old new came × SaysAck old.end.port.link text
+Does old (order.New anew) new text came = Renews Untold (setup_anew old.setup anew) (Renewed old anew new) old new text came
+Does old (order.Ask request) new text came = UnlessFailed old.end.port.link text (Stays (Untold Done) old new came) (Asks old request new text came)
+Does old _ new text came = (new ≡ old) × (text ≡ []) × (came ≡ Untold BadLine)
 
 -- where the answer has the reports, none waits; else they wait as before
 abbrev pub Ends : Came → Asking → Asking → Became → Type 0
@@ -154,22 +115,13 @@ Ends (Untold was) old new became = (new ≡ old) × (became ≡ was)
 abbrev pub DoesAll : Asking → Order → Asking → List ℕ → Became → Type 0
 DoesAll old o new text became = (mid : Asking) × (came : Came) × Does old o mid text came × Ends came mid new became
 
--- it is done or it isn't, and nothing is said: its reports still wait
-abbrev pub Reaches : Asking → Order → Asking → Type 0
-Reaches old o new = (new ≡ old) ⊎ ((said : List ℕ) × (came : Came) × Does old o new said came)
-
--- Where memory is refused to the text, nothing is said but that.
-abbrev pub DoesOrder : Asking → Option Order → Asking → List ℕ → Became → Type 0
-DoesOrder old None new text became = (new ≡ old) × (text ≡ []) × (became ≡ BadLine)
-DoesOrder old (Some o) new text became =
-    DoesAll old o new text became ⊎ (Reaches old o new × (text ≡ []) × (became ≡ NoMemory))
-
 -- it would do something by going on, or has reports to tell
 abbrev pub is_behind : Asking → Bool
 is_behind asking = goes_on asking.end || nat_lt 0 (length asking.reports.items)
 
+-- where memory is refused to the text, the reports still wait
 abbrev pub answered : Asking → List ℕ → Asking → List ℕ → Became → Type 0
-answered old line new text became = DoesOrder old (order_of line) new text became
+answered old line new text became = DoesOrder Does DoesAll old (order_of line) new text became
 
 abbrev pub waiting : Asking → ℕ
 waiting asking = waits_of asking.end.port.link (is_behind asking)

@@ -1,5 +1,5 @@
 -- What a link sends again, and what it waits for.
-use Rattle.std.specs.Prelude.{◌≡◌, ℕ, ◌+◌, ◌-◌, Bool, true, false, not, ◌||◌, ◌&&◌, nat_le, nat_lt, List, [], ◌∷◌, length, Some, if◌then◌else◌}
+use Rattle.std.specs.Prelude.{◌≡◌, MatchBool, ℕ, ◌+◌, ◌-◌, Bool, not, ◌||◌, ◌&&◌, nat_le, nat_lt, List, [], ◌∷◌, length, Some, if◌then◌else◌}
 use Rattle.std.specs.List.{list_all}
 use Rattle.nsp_link.specs.Cutting.{cut}
 use Rattle.nsp_link.specs.Limits.{most_segments}
@@ -41,12 +41,11 @@ AreAgain link place (bytes ∷ packets) =
 abbrev pub AllAgain : LinkValue → List (List ℕ) → Type 0
 AllAgain link packets = AreAgain link 0 packets × (length packets ≡ link.sent - link.acked)
 
--- what a link says where it has failed, or else
-abbrev pub UnlessFailed : Bool → List ℕ → (List ℕ → Type 0) → Type 0
-UnlessFailed true text Says = text ≡ (link_refusal Failed).0
-UnlessFailed false text Says = Says text
+-- on a link that has failed nothing is done but that it is told, else this
+abbrev pub UnlessFailed : LinkValue → (text : List ℕ) → (nothing this : Type 0) → Type 0
+UnlessFailed link text nothing this = MatchBool link.failed (nothing × (text ≡ (link_refusal Failed).0)) this
 
 -- the line of an acknowledgement
 abbrev pub SaysAck : LinkValue → List ℕ → Type 0
 SaysAck link text =
-    UnlessFailed link.failed text (λ text. (bytes : List ℕ) × IsSpelling (ack_packet_of link) bytes × (text ≡ packet_text bytes))
+    UnlessFailed link text (Unit {0}) ((bytes : List ℕ) × IsSpelling (ack_packet_of link) bytes × (text ≡ packet_text bytes))

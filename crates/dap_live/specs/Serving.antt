@@ -1,22 +1,18 @@
 -- What the end that serves does by a line, and what it says.
-use Rattle.std.specs.Prelude.{◌≡◌, ◌⊎◌, ◌++◌, ℕ, Bool, true, false, List, [], Result, Ok, Err, Option, Some, None, MatchOption}
-use Rattle.nsp_link.specs.declared.link.Got.{Got}
+use Rattle.std.specs.Prelude.{◌≡◌, ◌⊎◌, ◌++◌, ℕ, Bool, MatchBool, List, [], Result, MatchOption}
 use Rattle.nsp_link.specs.declared.fault.LinkFault.{LinkFault}
-use Rattle.nsp_link.specs.declared.fault.LinkFault.TheVariants.{Failed}
-use Rattle.nsp_link.specs.Link.{IsSetup, SetupFault}
 use Rattle.rec_file.specs.declared.shapes.Shape.{Shape}
 use Rattle.rec_file.specs.Shapes.{checked_shape}
 use Rattle.dap_msg.specs.Codes.{stscode, reason_number}
 use Rattle.dap_msg.specs.declared.codes.Reason.TheVariants.{BadAttributes}
+use Rattle.dap_accessed.specs.Standing.{Files}
 use Rattle.dap_accessed.specs.Adding.{MayAdd, MayAddRecord, with_new_file, with_record}
 use Rattle.dap_accessed.specs.declared.fault.AddFault.{AddFault}
-use Rattle.dap_end.specs.declared.fault.TakeFault.{TakeFault}
 use Rattle.dap_end.specs.Ports.{HasCome, new_port}
 use Rattle.dap_end.specs.Serving.{ServingValue, IsAfter, IsGiven, NotAdded, NotStored, nothing_yet}
 use Rattle.dap_end.specs.Taking.{GoesOn as Went, serves}
-use Rattle.dap_end.specs.Turns.{Takes}
 use Rattle.linewise.specs.declared.talking.Became.{Became}
-use Rattle.linewise.specs.declared.talking.Became.TheVariants.{Done, BadLine, NoMemory}
+use Rattle.linewise.specs.declared.talking.Became.TheVariants.{Done, BadLine}
 use Rattle.dap_text.specs.declared.filed.FileLine.{FileLine}
 use Rattle.dap_text.specs.declared.filed.RecordLine.{RecordLine}
 use Rattle.dap_text.specs.Tables.{files_text}
@@ -25,46 +21,28 @@ use Rattle.dap_live.specs.declared.orders.Anew.{Anew}
 use Rattle.dap_live.specs.declared.orders.Order.{Order}
 use Rattle.dap_live.specs.declared.orders.Order.TheVariants as order
 use Rattle.dap_live.specs.Orders.{order_of, setup_anew}
-use Rattle.dap_live.specs.Sending.{AllAgain, SaysAck, is_left, waits_of}
-use Rattle.dap_live.specs.Texts.{LineAnswer, add_refusal, link_refusal, packets_text, status_line, taken_said}
-
--- ---- A packet.
-
-pub record TakesPacket (old : ServingValue) (bytes : List ℕ) (new : ServingValue) (text : List ℕ) (became : Became) : Type 0 where
-  pub taken : Result Got TakeFault
-  pub packets : List (List ℕ)
-  pub took : Takes serves old new bytes [] packets taken
-  pub says : text ≡ (taken_said taken [] packets).0
-  pub ends : became ≡ (taken_said taken [] packets).1
+use Rattle.dap_live.specs.Sending.{AllAgain, SaysAck, UnlessFailed, is_left, waits_of}
+use Rattle.dap_live.specs.Texts.{add_refusal, link_refusal, packets_text, status_line}
+use Rattle.dap_live.specs.Both.{DoesOrder, Renews, Stays, TakesPacket, gone_said}
 
 -- ---- Going on.
-
-abbrev pub gone_said : Result (Unit {0}) LinkFault → LineAnswer
-gone_said (Ok done) = ([], Done)
-gone_said (Err f) = link_refusal f
 
 -- This is said first, and then what going on comes to.
 pub record GoesOn (old : ServingValue) (front : List ℕ) (new : ServingValue) (text : List ℕ) (became : Became) : Type 0 where
   pub gone : Result (Unit {0}) LinkFault
   pub packets : List (List ℕ)
   pub went : Went old new [] packets gone
-  pub says : text ≡ front ++ (packets_text packets ++ (gone_said gone).0)
-  pub ends : became ≡ (gone_said gone).1
+  pub says : text ≡ front ++ (packets_text packets ++ (gone_said link_refusal gone).0)
+  pub ends : became ≡ (gone_said link_refusal gone).1
 
 -- only where something is left
 abbrev pub GoesOnIf : (left : Bool) → ServingValue → List ℕ → ServingValue → List ℕ → Became → Type 0
-GoesOnIf true old front new text became = GoesOn old front new text became
-GoesOnIf false old front new text became = (new ≡ old) × (text ≡ front) × (became ≡ Done)
+GoesOnIf left old front new text became = MatchBool left (GoesOn old front new text became) ((new ≡ old) × (text ≡ front) × (became ≡ Done))
 
 -- behind the packets of all segments that aren't acknowledged
-abbrev pub ResendsRunning : ServingValue → ServingValue → List ℕ → Became → Type 0
-ResendsRunning old new text became = (packets : List (List ℕ)) × AllAgain old.port.link packets
+abbrev pub Resends : ServingValue → ServingValue → List ℕ → Became → Type 0
+Resends old new text became = (packets : List (List ℕ)) × AllAgain old.port.link packets
     × GoesOnIf (is_left old.port.link old.port.outbox) old (packets_text packets) new text became
-
--- nothing is sent on a link that has failed
-abbrev pub Resends : (failed : Bool) → ServingValue → ServingValue → List ℕ → Became → Type 0
-Resends true old new text became = (new ≡ old) × (text ≡ (link_refusal Failed).0) × (became ≡ Done)
-Resends false old new text became = ResendsRunning old new text became
 
 -- ---- A new link.
 
@@ -74,19 +52,8 @@ pub record Renewed (old : Serving) (anew : Anew) (new : Serving) : Type 0 where
   pub port : new.end.port ≡ new_port (setup_anew old.setup anew)
   pub own : new.end.accessed.own ≡ old.end.accessed.own
   pub setup : new.setup ≡ setup_anew old.setup anew
-  pub good : IsSetup new.setup
-
-abbrev pub Renews : Serving → Anew → Serving → List ℕ → Became → Type 0
-Renews old anew new text became =
-    (Renewed old anew new × (text ≡ []) × (became ≡ Done))
-    ⊎ ((f : LinkFault) × SetupFault (setup_anew old.setup anew) f × (new ≡ old) × (text ≡ (link_refusal f).0) × (became ≡ (link_refusal f).1))
 
 -- ---- Files that it is given.
-
--- nothing was added, and this is why
-abbrev pub SaysWhy : (AddFault → Type 0) → ServingValue → ServingValue → List ℕ → Became → Type 0
-SaysWhy Why old new text became =
-    (f : AddFault) × Why f × (new ≡ old) × (text ≡ (add_refusal f).0) × (became ≡ (add_refusal f).1)
 
 -- one was added, and no packet moved
 pub record Added (old new : ServingValue) (text : List ℕ) (became : Became) : Type 0 where
@@ -97,10 +64,14 @@ pub record Added (old new : ServingValue) (text : List ℕ) (became : Became) : 
   pub silent : text ≡ []
   pub ends : became ≡ Done
 
+-- it was added, and these are the files then; or nothing was, and this is why
+abbrev pub Adds : (May : Type 0) → Files → (Why : AddFault → Type 0) → ServingValue → ServingValue → List ℕ → Became → Type 0
+Adds May files Why old new text became =
+    (May × (new.accessed.files ≡ files) × Added old new text became)
+    ⊎ ((f : AddFault) × Why f × (new ≡ old) × (text ≡ (add_refusal f).0) × (became ≡ (add_refusal f).1))
+
 abbrev pub AddsShaped : ServingValue → List ℕ → Shape → ServingValue → List ℕ → Became → Type 0
-AddsShaped old name shape new text became =
-    (MayAdd old.accessed name × (new.accessed.files ≡ with_new_file name shape old.accessed.files) × Added old new text became)
-    ⊎ SaysWhy (NotAdded old name) old new text became
+AddsShaped old name shape = Adds (MayAdd old.accessed name) (with_new_file name shape old.accessed.files) (NotAdded old name) old
 
 -- where the attributes are none of a file, they are told before all else
 abbrev pub AddsFile : ServingValue → FileLine → ServingValue → List ℕ → Became → Type 0
@@ -109,9 +80,8 @@ AddsFile old file new text became = MatchOption (checked_shape file.org file.rfm
     (λ shape. AddsShaped old file.name shape new text became)
 
 abbrev pub AddsRecord : ServingValue → RecordLine → ServingValue → List ℕ → Became → Type 0
-AddsRecord old r new text became =
-    (MayAddRecord old.accessed r.number r.body × (new.accessed.files ≡ with_record r.number r.body old.accessed.files) × Added old new text became)
-    ⊎ SaysWhy (NotStored old r.number r.body) old new text became
+AddsRecord old r =
+    Adds (MayAddRecord old.accessed r.number r.body) (with_record r.number r.body old.accessed.files) (NotStored old r.number r.body) old
 
 -- ---- A line.
 
@@ -119,33 +89,21 @@ AddsRecord old r new text became =
 abbrev pub OnEnd : Serving → Serving → Type 0
 OnEnd old new = new ≡ record old { end = new.end }
 
--- what is said where the end stays as it is
-abbrev pub Tells : Serving → Serving → Became → Type 0
-Tells old new became = (new ≡ old) × (became ≡ Done)
-
 -- what is done by a line that says this, and what is said
 abbrev pub Does : Serving → Order → Serving → List ℕ → Became → Type 0
-Does old (order.Packet bytes) new text became = OnEnd old new × TakesPacket old.end bytes new.end text became
-Does old order.Resend new text became = OnEnd old new × Resends old.end.port.link.failed old.end new.end text became
-Does old order.Ack new text became = Tells old new became × SaysAck old.end.port.link text
-Does old (order.New anew) new text became = Renews old anew new text became
-Does old order.Files new text became = Tells old new became × (text ≡ files_text old.end.accessed.files)
+Does old (order.Packet bytes) new text became = OnEnd old new × TakesPacket serves [] (λ taken became. became) old.end bytes new.end text became
+Does old order.Resend new text became =
+    OnEnd old new × UnlessFailed old.end.port.link text (Stays Done old.end new.end became) (Resends old.end new.end text became)
+Does old order.Ack new text became = Stays Done old new became × SaysAck old.end.port.link text
+Does old (order.New anew) new text became =
+    Renews (λ became. became) (setup_anew old.setup anew) (Renewed old anew new) old new text became
+Does old order.Files new text became = Stays Done old new became × (text ≡ files_text old.end.accessed.files)
 Does old (order.File file) new text became = OnEnd old new × AddsFile old.end file new.end text became
 Does old (order.Record r) new text became = OnEnd old new × AddsRecord old.end r new.end text became
 Does old (order.Ask request) new text became = (new ≡ old) × (text ≡ []) × (became ≡ BadLine)
 
--- it is done or it isn't, and nothing is said
-abbrev pub Reaches : Serving → Order → Serving → Type 0
-Reaches old o new = (new ≡ old) ⊎ ((said : List ℕ) × (became : Became) × Does old o new said became)
-
--- Where memory is refused to the text, nothing is said but that.
-abbrev pub DoesOrder : Serving → Option Order → Serving → List ℕ → Became → Type 0
-DoesOrder old None new text became = (new ≡ old) × (text ≡ []) × (became ≡ BadLine)
-DoesOrder old (Some o) new text became =
-    Does old o new text became ⊎ (Reaches old o new × (text ≡ []) × (became ≡ NoMemory))
-
 abbrev pub answered : Serving → List ℕ → Serving → List ℕ → Became → Type 0
-answered old line new text became = DoesOrder old (order_of line) new text became
+answered old line new text became = DoesOrder Does Does old (order_of line) new text became
 
 abbrev pub waiting : Serving → ℕ
 waiting serving = waits_of serving.end.port.link (is_left serving.end.port.link serving.end.port.outbox)

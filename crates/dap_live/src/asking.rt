@@ -9,8 +9,9 @@ ghost use Rattle.dap_end.specs.Asking.{HasAsked, asks, nothing_asked};
 ghost use Rattle.dap_end.specs.Turns.{WentOn, Takes};
 ghost use Rattle.dap_text.specs.Adding.{Adds};
 ghost use Rattle.dap_live.specs.declared.asking.Came.{Came as TheCame};
-ghost use Rattle.dap_live.specs.Texts.{packets_text, reports_text};
-ghost use Rattle.dap_live.specs.Asking.{Asks, AsksRunning, Does, DoesOrder, Ends, GoesOn, GoesOnIf, OnEnd, Reaches, Renews, Resends, ResendsRunning, TakesPacket, came_by, front_text, gone_said, goes_on as goes_on_by, is_behind as is_behind_by};
+ghost use Rattle.dap_live.specs.Texts.{end_refusal, packets_text, reports_text};
+ghost use Rattle.dap_live.specs.Both.{DoesOrder, Reaches, gone_said};
+ghost use Rattle.dap_live.specs.Asking.{Asks, Does, DoesAll, Ends, GoesOn, GoesOnIf, OnEnd, Resends, came_by, front_text, goes_on as goes_on_by, is_behind as is_behind_by};
 
 use crate::orders::{Anew, Order, read_order, set_up};
 use crate::sending::{has_message, is_left, push_again, say_ack, waits};
@@ -101,9 +102,8 @@ fn take_packet(
     text: &mut Vec<u8>,
 ) -> Result<Came, AllocError>
     requires { text.old.items ≡ [] }
-    ensures ok { IfOk result (TakesPacket asking.old digits.now asking.new text.new.items) }
-    ensures err { OnErr result ((asking.new ≡ asking.old) ⊎ ((said : List ℕ) × (came : TheCame)
-        × TakesPacket asking.old digits.now asking.new said came)) }
+    ensures ok { IfOk result (Does asking.old (Order.Packet digits.now) asking.new text.new.items) }
+    ensures err { OnErr result (Reaches Does asking.old (Order.Packet digits.now) asking.new) }
 {
     let bytes = digits.to_vec(asking.alloc)?;
     let mut packets = Vec::new(asking.alloc);
@@ -133,8 +133,8 @@ fn push_gone(
     packets: &Vec<Vec<u8>>,
 ) -> Result<Came, AllocError>
     ensures text { OnOk result (Adds text.old text.new (reports_text reports.now.items
-        ++ (packets_text (bodies packets.now.items) ++ (gone_said gone).0))) }
-    ensures came { IfOk result (λ came. came ≡ Came.Told (gone_said gone).1) }
+        ++ (packets_text (bodies packets.now.items) ++ (gone_said end_refusal gone).0))) }
+    ensures came { IfOk result (λ came. came ≡ Came.Told (gone_said end_refusal gone).1) }
 {
     push_reports(text, reports)?;
     push_packets(text, packets)?;
@@ -229,9 +229,9 @@ fn go_on_if_left(asking: &mut Asking, text: &mut Vec<u8>) -> Result<Came, AllocE
 /// Sends all segments again that aren't acknowledged, and goes on, on a link that runs.
 fn resend_running(asking: &mut Asking, text: &mut Vec<u8>) -> Result<Came, AllocError>
     requires { text.old.items ≡ [] }
-    ensures ok { IfOk result (ResendsRunning asking.old asking.new text.new.items) }
+    ensures ok { IfOk result (Resends asking.old asking.new text.new.items) }
     ensures err { OnErr result ((asking.new ≡ asking.old) ⊎ ((said : List ℕ) × (came : TheCame)
-        × ResendsRunning asking.old asking.new said came)) }
+        × Resends asking.old asking.new said came)) }
 {
     push_again(asking.end.link(), text)?;
     go_on_if_left(asking, text)
@@ -240,10 +240,8 @@ fn resend_running(asking: &mut Asking, text: &mut Vec<u8>) -> Result<Came, Alloc
 /// Sends all segments again that aren't acknowledged, and goes on.
 fn resend(asking: &mut Asking, text: &mut Vec<u8>) -> Result<Came, AllocError>
     requires { text.old.items ≡ [] }
-    ensures ok { IfOk result (Resends asking.old.end.port.link.failed asking.old asking.new
-        text.new.items) }
-    ensures err { OnErr result ((asking.new ≡ asking.old) ⊎ ((said : List ℕ) × (came : TheCame)
-        × Resends asking.old.end.port.link.failed asking.old asking.new said came)) }
+    ensures ok { IfOk result (Does asking.old Order.Resend asking.new text.new.items) }
+    ensures err { OnErr result (Reaches Does asking.old Order.Resend asking.new) }
 {
     if asking.end.link().has_failed() {
         return Ok(Came::Untold(push_link_refusal(text, LinkFault::Failed)?));
@@ -258,9 +256,9 @@ fn ask_request(
     text: &mut Vec<u8>,
 ) -> Result<Came, AllocError>
     requires { text.old.items ≡ [] }
-    ensures ok { IfOk result (AsksRunning asking.old request.now asking.new text.new.items) }
+    ensures ok { IfOk result (Asks asking.old request.now asking.new text.new.items) }
     ensures err { OnErr result ((asking.new ≡ asking.old) ⊎ ((said : List ℕ) × (came : TheCame)
-        × AsksRunning asking.old request.now asking.new said came)) }
+        × Asks asking.old request.now asking.new said came)) }
 {
     match asking.end.ask(request) {
         Ok(count) => go_on_behind(asking, Front::Asked(count), text),
@@ -272,10 +270,8 @@ fn ask_request(
 /// Asks what the words say.
 fn ask(asking: &mut Asking, asked: &RequestText<'_>, text: &mut Vec<u8>) -> Result<Came, AllocError>
     requires { text.old.items ≡ [] }
-    ensures ok { IfOk result (Asks asking.old.end.port.link.failed asking.old asked.now asking.new
-        text.new.items) }
-    ensures err { OnErr result ((asking.new ≡ asking.old) ⊎ ((said : List ℕ) × (came : TheCame)
-        × Asks asking.old.end.port.link.failed asking.old asked.now asking.new said came)) }
+    ensures ok { IfOk result (Does asking.old (Order.Ask asked.now) asking.new text.new.items) }
+    ensures err { OnErr result (Reaches Does asking.old (Order.Ask asked.now) asking.new) }
 {
     if asking.end.link().has_failed() {
         return Ok(Came::Untold(push_link_refusal(text, LinkFault::Failed)?));
@@ -287,7 +283,7 @@ fn ask(asking: &mut Asking, asked: &RequestText<'_>, text: &mut Vec<u8>) -> Resu
 /// Makes the link anew.
 fn renew(asking: &mut Asking, anew: Anew, text: &mut Vec<u8>) -> Result<Came, AllocError>
     requires { text.old.items ≡ [] }
-    ensures ok { IfOk result (Renews asking.old anew asking.new text.new.items) }
+    ensures ok { IfOk result (Does asking.old (Order.New anew) asking.new text.new.items) }
     ensures err { OnErr result (asking.new ≡ asking.old) }
 {
     let setup = set_up(asking.setup, anew);
@@ -305,7 +301,7 @@ fn renew(asking: &mut Asking, anew: Anew, text: &mut Vec<u8>) -> Result<Came, Al
 fn act(asking: &mut Asking, order: Order<'_>, text: &mut Vec<u8>) -> Result<Came, AllocError>
     requires { text.old.items ≡ [] }
     ensures ok { IfOk result (Does asking.old order.entry asking.new text.new.items) }
-    ensures err { OnErr result (Reaches asking.old order.entry asking.new) }
+    ensures err { OnErr result (Reaches Does asking.old order.entry asking.new) }
 {
     match order {
         Order::Packet(digits) => take_packet(asking, &digits, text),
@@ -333,7 +329,8 @@ fn end_answer(asking: &mut Asking, came: Came) -> Became
 /// Answers an order.
 fn answer_one(asking: &mut Asking, order: Order<'_>, text: &mut Vec<u8>) -> Became
     requires { text.old.items ≡ [] }
-    ensures { DoesOrder asking.old (Some order.entry) asking.new text.new.items result }
+    ensures { DoesOrder Does DoesAll asking.old (Some order.entry) asking.new text.new.items
+        result }
 {
     match act(asking, order, text) {
         Ok(came) => end_answer(asking, came),
@@ -347,7 +344,7 @@ fn answer_one(asking: &mut Asking, order: Order<'_>, text: &mut Vec<u8>) -> Beca
 /// Answers what a line says.
 fn answer_order(asking: &mut Asking, order: Option<Order<'_>>, text: &mut Vec<u8>) -> Became
     requires { text.old.items ≡ [] }
-    ensures { DoesOrder asking.old order.entry asking.new text.new.items result }
+    ensures { DoesOrder Does DoesAll asking.old order.entry asking.new text.new.items result }
 {
     match order {
         Some(order) => answer_one(asking, order, text),

@@ -12,10 +12,11 @@ ghost use Rattle.dap_text.specs.Adding.{Adds};
 ghost use Rattle.dap_text.specs.Tables.{files_text};
 ghost use Rattle.rec_file.specs.Shapes.{is_shape};
 ghost use Rattle.linewise.specs.declared.talking.Became.{Became as TheBecame};
-ghost use Rattle.dap_live.specs.Sending.{is_left as is_left_of};
-ghost use Rattle.dap_live.specs.Texts.{packets_text};
+ghost use Rattle.dap_live.specs.Sending.{UnlessFailed, is_left as is_left_of};
+ghost use Rattle.dap_live.specs.Texts.{link_refusal, packets_text};
+ghost use Rattle.dap_live.specs.Both.{DoesOrder, Reaches, Stays, TakesPacket, gone_said};
 ghost use Rattle.dap_live.specs.Inner.Saying.{AddsSaid};
-ghost use Rattle.dap_live.specs.Serving.{AddsFile, AddsRecord, AddsShaped, Does, DoesOrder, GoesOn, GoesOnIf, Reaches, Renews, Resends, ResendsRunning, TakesPacket, gone_said};
+ghost use Rattle.dap_live.specs.Serving.{AddsFile, AddsRecord, AddsShaped, Does, GoesOn, GoesOnIf, Resends};
 
 use crate::orders::{Anew, Order, read_order, set_up};
 use crate::sending::{is_left, push_again, say_ack, waits};
@@ -69,9 +70,10 @@ fn take_packet(
     text: &mut Vec<u8>,
 ) -> Result<Became, AllocError>
     requires { text.old.items ≡ [] }
-    ensures ok { IfOk result (TakesPacket end.old digits.now end.new text.new.items) }
+    ensures ok { IfOk result (TakesPacket serves [] (λ taken became. became) end.old digits.now
+        end.new text.new.items) }
     ensures err { OnErr result ((end.new ≡ end.old) ⊎ ((said : List ℕ) × (became : TheBecame)
-        × TakesPacket end.old digits.now end.new said became)) }
+        × TakesPacket serves [] (λ taken became. became) end.old digits.now end.new said became)) }
 {
     let bytes = digits.to_vec(alloc)?;
     let mut packets = Vec::new(alloc);
@@ -94,8 +96,10 @@ fn push_gone(
     gone: Result<(), LinkFault>,
     packets: &Vec<Vec<u8>>,
 ) -> Result<Became, AllocError>
-    ensures { IfOk result (AddsSaid text.old text.new
-        (packets_text (bodies packets.now.items) ++ (gone_said gone).0, (gone_said gone).1)) }
+    ensures { IfOk result (AddsSaid text.old text.new (
+      packets_text (bodies packets.now.items) ++ (gone_said link_refusal gone).0,
+      (gone_said link_refusal gone).1,
+    )) }
 {
     push_packets(text, packets)?;
     match gone {
@@ -152,9 +156,9 @@ fn resend_running(
     text: &mut Vec<u8>,
 ) -> Result<Became, AllocError>
     requires { text.old.items ≡ [] }
-    ensures ok { IfOk result (ResendsRunning end.old end.new text.new.items) }
+    ensures ok { IfOk result (Resends end.old end.new text.new.items) }
     ensures err { OnErr result ((end.new ≡ end.old) ⊎ ((said : List ℕ) × (became : TheBecame)
-        × ResendsRunning end.old end.new said became)) }
+        × Resends end.old end.new said became)) }
 {
     push_again(end.link(), text)?;
     go_on_if_left(alloc, end, text)
@@ -163,9 +167,12 @@ fn resend_running(
 /// Sends all segments again that aren't acknowledged, and goes on.
 fn resend(alloc: Global, end: &mut ServingEnd, text: &mut Vec<u8>) -> Result<Became, AllocError>
     requires { text.old.items ≡ [] }
-    ensures ok { IfOk result (Resends end.old.port.link.failed end.old end.new text.new.items) }
+    ensures ok { IfOk result (λ became. UnlessFailed end.old.port.link text.new.items
+        (Stays Became.Done end.old end.new became)
+        (Resends end.old end.new text.new.items became)) }
     ensures err { OnErr result ((end.new ≡ end.old) ⊎ ((said : List ℕ) × (became : TheBecame)
-        × Resends end.old.port.link.failed end.old end.new said became)) }
+        × UnlessFailed end.old.port.link said (Stays Became.Done end.old end.new became)
+        (Resends end.old end.new said became))) }
 {
     if end.link().has_failed() {
         return push_link_refusal(text, LinkFault::Failed);
@@ -176,7 +183,7 @@ fn resend(alloc: Global, end: &mut ServingEnd, text: &mut Vec<u8>) -> Result<Bec
 /// Makes the link anew, over the same files.
 fn renew(serving: &mut Serving, anew: Anew, text: &mut Vec<u8>) -> Result<Became, AllocError>
     requires { text.old.items ≡ [] }
-    ensures ok { IfOk result (Renews serving.old anew serving.new text.new.items) }
+    ensures ok { IfOk result (Does serving.old (Order.New anew) serving.new text.new.items) }
     ensures err { OnErr result (serving.new ≡ serving.old) }
 {
     let setup = set_up(serving.setup, anew);
@@ -261,7 +268,7 @@ fn list_files(end: &ServingEnd, text: &mut Vec<u8>) -> Result<Became, AllocError
 fn act(serving: &mut Serving, order: Order<'_>, text: &mut Vec<u8>) -> Result<Became, AllocError>
     requires { text.old.items ≡ [] }
     ensures ok { IfOk result (Does serving.old order.entry serving.new text.new.items) }
-    ensures err { OnErr result (Reaches serving.old order.entry serving.new) }
+    ensures err { OnErr result (Reaches Does serving.old order.entry serving.new) }
 {
     let alloc = serving.alloc;
     match order {
@@ -279,7 +286,7 @@ fn act(serving: &mut Serving, order: Order<'_>, text: &mut Vec<u8>) -> Result<Be
 /// Answers an order.
 fn answer_one(serving: &mut Serving, order: Order<'_>, text: &mut Vec<u8>) -> Became
     requires { text.old.items ≡ [] }
-    ensures { DoesOrder serving.old (Some order.entry) serving.new text.new.items result }
+    ensures { DoesOrder Does Does serving.old (Some order.entry) serving.new text.new.items result }
 {
     match act(serving, order, text) {
         Ok(became) => became,
@@ -293,7 +300,7 @@ fn answer_one(serving: &mut Serving, order: Order<'_>, text: &mut Vec<u8>) -> Be
 /// Answers what a line says.
 fn answer_order(serving: &mut Serving, order: Option<Order<'_>>, text: &mut Vec<u8>) -> Became
     requires { text.old.items ≡ [] }
-    ensures { DoesOrder serving.old order.entry serving.new text.new.items result }
+    ensures { DoesOrder Does Does serving.old order.entry serving.new text.new.items result }
 {
     match order {
         Some(order) => answer_one(serving, order, text),

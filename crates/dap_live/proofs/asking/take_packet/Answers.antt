@@ -13,12 +13,14 @@ returns-in_err-became-clause-err c =
     err_always c.from_residual-in_err-became.result (inr (
       (taken_said taken c.take-taken.new.reports.items packets).0,
       came_by taken (taken_said taken c.take-taken.new.reports.items packets).1,
-      record {
-        rest = refl;
-        taken = taken;
-        packets = packets;
-        took = rw (c.deref.ensures.value, c.in_ok-bytes.ensures) at c.take-taken.ensures;
-        says = refl;
-        ends = refl;
-      },
+      (
+        refl,
+        record {
+          taken = taken;
+          packets = packets;
+          took = rw (c.deref.ensures.value, c.in_ok-bytes.ensures) at c.take-taken.ensures;
+          says = refl;
+          ended = refl;
+        },
+      ),
     ))

@@ -17,6 +17,6 @@ returns-clause-err c =
         packets = packets;
         took = rw (c.deref.ensures.value, c.in_ok-bytes.ensures) at c.take-taken.ensures;
         says = refl;
-        ends = refl;
+        ended = refl;
       },
     ))

@@ -1,0 +1,57 @@
+-- What both ends do alike by a line, and what they say.
+use Rattle.std.specs.Prelude.{◌≡◌, ◌⊎◌, ℕ, List, [], Result, Ok, Err, Option, Some, None}
+use Rattle.nsp_link.specs.declared.link.Got.{Got}
+use Rattle.nsp_link.specs.declared.link.LinkSetup.{LinkSetup}
+use Rattle.nsp_link.specs.declared.fault.LinkFault.{LinkFault}
+use Rattle.nsp_link.specs.Link.{IsSetup, SetupFault}
+use Rattle.dap_accessing.specs.declared.report.Report.{Report}
+use Rattle.dap_end.specs.declared.fault.TakeFault.{TakeFault}
+use Rattle.dap_end.specs.Turns.{EndOf, Takes}
+use Rattle.linewise.specs.declared.talking.Became.{Became}
+use Rattle.linewise.specs.declared.talking.Became.TheVariants.{Done, BadLine, NoMemory}
+use Rattle.dap_live.specs.declared.orders.Order.{Order}
+use Rattle.dap_live.specs.Texts.{LineAnswer, link_refusal, taken_said}
+
+-- A packet was taken in, and all done that it lets the end do, or it was refused; the answer has these reports.
+pub record TakesPacket {V C : Type 0} (end : EndOf V) (reports : List Report) (ends : Result Got TakeFault → Became → C)
+    (old : V) (bytes : List ℕ) (new : V) (text : List ℕ) (came : C) : Type 0 where
+  pub taken : Result Got TakeFault
+  pub packets : List (List ℕ)
+  pub took : Takes end old new bytes [] packets taken
+  pub says : text ≡ (taken_said taken reports packets).0
+  pub ended : came ≡ ends taken (taken_said taken reports packets).1
+
+-- ---- Going on.
+
+-- what is said last
+abbrev pub gone_said : {F : Type 0} → (refusal : F → LineAnswer) → Result (Unit {0}) F → LineAnswer
+gone_said refusal (Ok done) = ([], Done)
+gone_said refusal (Err f) = refusal f
+
+-- ---- A new link.
+
+-- it is made, or this setup is refused
+abbrev pub Renews : {E C : Type 0} → (ends : Became → C) → LinkSetup → (Renewed : Type 0) → (old new : E) → (text : List ℕ) → C → Type 0
+Renews ends setup Renewed old new text came =
+    (Renewed × IsSetup setup × (text ≡ []) × (came ≡ ends Done))
+    ⊎ ((f : LinkFault) × SetupFault setup f × (new ≡ old) × (text ≡ (link_refusal f).0) × (came ≡ ends (link_refusal f).1))
+
+-- ---- A line.
+
+-- what an end does by an order, and says, and what comes of it
+abbrev pub Doing : (E C : Type 0) → Type 1
+Doing E C = E → Order → E → List ℕ → C → Type 0
+
+-- the end stays as it is, and this came of the line
+abbrev pub Stays : {E C : Type 0} → (was : C) → (old new : E) → C → Type 0
+Stays was old new came = (new ≡ old) × (came ≡ was)
+
+-- it is done or it isn't, and nothing is said of it
+abbrev pub Reaches : {E C : Type 0} → Doing E C → E → Order → E → Type 0
+Reaches {E} {C} Does old o new = (new ≡ old) ⊎ ((said : List ℕ) × (came : C) × Does old o new said came)
+
+-- Where memory is refused to the text, nothing is said but that.
+abbrev pub DoesOrder : {E C : Type 0} → Doing E C → (DoesAll : Doing E Became) → E → Option Order → E → List ℕ → Became → Type 0
+DoesOrder Does DoesAll old None new text became = (new ≡ old) × (text ≡ []) × (became ≡ BadLine)
+DoesOrder Does DoesAll old (Some o) new text became =
+    DoesAll old o new text became ⊎ (Reaches Does old o new × (text ≡ []) × (became ≡ NoMemory))
