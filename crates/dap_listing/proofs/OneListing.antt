@@ -8,7 +8,8 @@ use Rattle.nsp_seg.specs.Packets.{SegmentValue, segment, data_ack, Spells, marks
 use Rattle.std.specs.Int.{w16, to_le_bytes}
 use Rattle.nsp_seg.proofs.ForCallers.{spells-one, spells-apart, fault-one}
 use Rattle.dap_listing.specs.Messages.{IsMessagesText, item_line}
-use Rattle.dap_listing.specs.Packets.{IsPacketText, IsSeen, Seen, SeenMessages, SegmentMessages, seen_line}
+use Rattle.dap_listing.specs.Packets.{IsPacketText, IsSeen, Seen, SeenMessages, seen_line}
+use Rattle.dap_listing.specs.Inner.Messages.{SegmentMessages}
 use Rattle.dap_listing.specs.Listing.{CaptureLines, IsCapturedText, IsMessageText, no_more, one_more as one_capture_more, HasOneListing, captures, heading, limit_of}
 use Rattle.dap_listing.specs.Lines.{Capture}
 use Rattle.dap_listing.specs.declared.listing.Listed.{Listed}
