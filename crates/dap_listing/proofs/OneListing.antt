@@ -8,8 +8,9 @@ use Rattle.nsp_seg.specs.Packets.{SegmentValue, segment, data_ack, Spells, marks
 use Rattle.std.specs.Int.{w16, to_le_bytes}
 use Rattle.nsp_seg.proofs.ForCallers.{spells-one, spells-apart, fault-one}
 use Rattle.dap_listing.specs.Messages.{IsMessagesText, item_line}
-use Rattle.dap_listing.specs.Packets.{IsPacketText, IsSeen, Seen, SeenMessages, SegmentMessages, seen_line}
-use Rattle.dap_listing.specs.Listing.{CaptureLines, IsCapturedText, IsMessageText, no_more, one_more as one_capture_more, HasOneListing, captures, heading, limit_of}
+use Rattle.dap_listing.specs.Packets.{IsPacketText, IsSeen, Seen, SeenMessages, seen_line}
+use Rattle.dap_listing.specs.Inner.Messages.{SegmentMessages}
+use Rattle.dap_listing.specs.Listing.{CaptureLines, IsCapturedText, no_more, one_more as one_capture_more, HasOneListing, captures, heading, limit_of}
 use Rattle.dap_listing.specs.Lines.{Capture}
 use Rattle.dap_listing.specs.declared.listing.Listed.{Listed}
 use Rattle.dap_listing.specs.declared.listing.Listed.TheVariants.{Packets, Messages}
@@ -56,10 +57,10 @@ one_packet bytes a b are text text' =
     let equal : text.messages ≡ text'.messages = one_of_seen text.seen bytes text.messages text'.messages are text.is text.listed listed in
     text.joined ∙ ap (λ (m : List ℕ). seen_line text.seen ++ m) equal ∙ ap (λ (seen : Seen). seen_line seen ++ text'.messages) (sym same) ∙ sym text'.joined
 
-one_message : (bytes a b : List ℕ) → AreBytes bytes → IsMessageText bytes a → IsMessageText bytes b → a ≡ b
+one_message : (bytes a b : List ℕ) → AreBytes bytes → IsCapturedText Messages bytes a → IsCapturedText Messages bytes b → a ≡ b
 one_message bytes a b are text text' =
-    let same : text.messages ≡ text'.messages = one_text bytes text.messages text'.messages are text.listed text'.listed in
-    text.joined ∙ ap (λ t. concat (codes "message len=" ∷ decimal (length bytes) ∷ line_feed ∷ []) ++ t) same ∙ sym text'.joined
+    let same : text.0 ≡ text'.0 = one_text bytes text.0 text'.0 are text.1 text'.1 in
+    text.2 ∙ ap (λ t. concat (codes "message len=" ∷ decimal (length bytes) ∷ line_feed ∷ []) ++ t) same ∙ sym text'.2
 
 one_captured : (listed : Listed) (bytes a b : List ℕ) → AreBytes bytes → IsCapturedText listed bytes a → IsCapturedText listed bytes b → a ≡ b
 one_captured Packets bytes a b are text text' = one_packet bytes a b are text text'

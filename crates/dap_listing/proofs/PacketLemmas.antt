@@ -5,7 +5,7 @@ use Rattle.nsp_seg.specs.Packets.{SegmentValue, segment, Spells, HasFault}
 use Rattle.nsp_seg.specs.declared.packet.SegFault.{SegFault}
 use Rattle.nsp_seg.specs.declared.packet.SegFault.TheVariants.{Truncated, Trailing, NotHere, BadNumber, NoMemory}
 use Rattle.nsp_seg.proofs.ForCallers.{carrying, other_payload}
-use Rattle.dap_listing.specs.Packets.{IsSeen, segment_line}
+use Rattle.dap_listing.specs.Packets.{IsSeen, seen_line}
 use Rattle.dap_listing.specs.Captured.{AreDecoded, Spell, bytes_of, carried_value, seen_value}
 use Rattle.dap_listing.specs.declared.packet.Captured.{Captured}
 use Rattle.dap_listing.specs.declared.packet.Captured.TheVariants.{Segment, DataAck}
@@ -35,13 +35,13 @@ rest_decoded digits room known head spell start within decoded i low high =
     ∙ decoded (head + i) (omega arith) (omega (arith, high)) ∙ sym (get_or-drop head (bytes_of digits) i 0)
     ∙ ap (λ (l : List ℕ). get_or l i 0) (sym (rest_of digits (length room) head spell start).1)
 
-same_line : (s : SegmentValue) (payload : List ℕ) → length payload ≡ length s.payload → segment_line (carrying s payload) ≡ segment_line s
+same_line : (s : SegmentValue) (payload : List ℕ) → length payload ≡ length s.payload → seen_line (Ok (segment (carrying s payload))) ≡ seen_line (Ok (segment s))
 same_line s payload same = rw same refl
 
 -- A segment that is decoded up to its payload is that of the bytes themselves, with the payload that they end with.
 pub segment_is : (digits room : List ℕ) (known head : ℕ) (s : SegmentValue) → Spell digits (length room) → AreDecoded digits 0 known room
     → length room ≤ known + length s.payload → Spells (segment s) room → head ≡ length room - length s.payload
-    → Spells (segment (carrying s (drop head (bytes_of digits)))) (bytes_of digits) × (segment_line (carrying s (drop head (bytes_of digits))) ≡ segment_line s)
+    → Spells (segment (carrying s (drop head (bytes_of digits)))) (bytes_of digits) × (seen_line (Ok (segment (carrying s (drop head (bytes_of digits))))) ≡ seen_line (Ok (segment s)))
 segment_is digits room known head s spell decoded reached spells at =
     let bytes : List ℕ = bytes_of digits in
     let o = other_payload s room spells in

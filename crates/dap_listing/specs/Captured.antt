@@ -28,15 +28,7 @@ AreDecoded digits from to bytes =
 -- a segment of the program, without where the digits of its payload lie
 abbrev pub carried_value : Carried → SegmentValue
 carried_value c = record {
-  first = c.first;
-  last = c.last;
-  dst = c.dst;
-  src = c.src;
-  ack1 = c.ack1;
-  ack2 = c.ack2;
-  number = c.number;
-  payload = bytes_of c.payload.now;
-}
+    first = c.first; last = c.last; dst = c.dst; src = c.src; ack1 = c.ack1; ack2 = c.ack2; number = c.number; payload = bytes_of c.payload.now }
 
 -- what the program reads
 abbrev pub seen_value : Result Captured SegFault → Seen
@@ -47,8 +39,7 @@ seen_value (Err fault) = Err fault
 -- what stands for a payload are hex digits of bytes
 abbrev pub HasDigits : Result Captured SegFault → Type 0
 HasDigits (Ok (Segment c)) = Spell c.payload.now (length c.payload.now / 2)
-HasDigits (Ok (DataAck dst src ack1 ack2)) = Unit {0}
-HasDigits (Err fault) = Unit {0}
+HasDigits _ = Unit {0}
 
 -- ---- the captured packets of an input, one after another
 

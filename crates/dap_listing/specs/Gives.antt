@@ -54,10 +54,9 @@ Gives faults IsText input old new (Err (BadLine number)) =
     HasLineFault faults input (BadLine number) × Keeps old new
 Gives faults IsText input old new (Err TooLarge) =
     ((input_limit < length input) ⊎ HasLineFault faults input TooLarge) × Keeps old new
-Gives faults IsText input old new (Err ReadFailed) = Keeps old new
-Gives faults IsText input old new (Err NoMemory) = Keeps old new
 Gives faults IsText input old new (Err WriteFailed) =
     (outcome : Outcome) × (text : List ℕ) × IsTextOf faults (IsText outcome) input text × WritesFront old new text
+Gives faults IsText input old new (Err _) = Keeps old new
 
 -- A fault leaves it as it was, save one of the writer.
 abbrev pub KeepsUnwritten : Result Outcome CaptureFault → Option (List ℕ) → Option (List ℕ) → Type 0
@@ -69,6 +68,4 @@ status_of (Ok Good) = 0
 status_of (Ok Stopped) = 1
 status_of (Err (BadLine number)) = 1
 status_of (Err TooLarge) = 1
-status_of (Err ReadFailed) = 3
-status_of (Err WriteFailed) = 3
-status_of (Err NoMemory) = 3
+status_of (Err _) = 3

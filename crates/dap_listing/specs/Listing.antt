@@ -39,16 +39,12 @@ arrow_text Left = codes "<"
 abbrev pub heading : ℕ → Direction → List ℕ
 heading number direction = concat (decimal number ∷ codes " " ∷ arrow_text direction ∷ codes " " ∷ [])
 
--- the line of an NSP message of so many bytes, and those of its messages
-pub record IsMessageText (bytes text : List ℕ) : Type 0 where
-  pub messages : List ℕ
-  pub listed : IsMessagesText bytes messages
-  pub joined : text ≡ concat (codes "message len=" ∷ decimal (length bytes) ∷ line_feed ∷ []) ++ messages
-
--- what is listed of captured bytes after their number and direction
+-- What is listed of captured bytes after their number and direction. Of an NSP message: the line of its length, and
+-- those of its messages.
 abbrev pub IsCapturedText : Listed → List ℕ → List ℕ → Type 0
 IsCapturedText Packets bytes text = IsPacketText bytes text
-IsCapturedText Messages bytes text = IsMessageText bytes text
+IsCapturedText Messages bytes text = (messages : List ℕ) × IsMessagesText bytes messages
+    × (text ≡ concat (codes "message len=" ∷ decimal (length bytes) ∷ line_feed ∷ []) ++ messages)
 
 -- the most bytes of a packet
 abbrev pub packet_limit : ℕ
@@ -75,12 +71,6 @@ IsListing listed input Stopped text = ⊥
 abbrev pub ListingGives : Listed → List ℕ → Option (List ℕ) → Option (List ℕ)
     → Result Outcome CaptureFault → Type 0
 ListingGives listed input = Gives (line_faults (limit_of listed) input) (IsListing listed input) input
-
-abbrev pub ShowGives : List ℕ → Option (List ℕ) → Option (List ℕ) → Result Outcome CaptureFault → Type 0
-ShowGives = ListingGives Packets
-
-abbrev pub MessagesGive : List ℕ → Option (List ℕ) → Option (List ℕ) → Result Outcome CaptureFault → Type 0
-MessagesGive = ListingGives Messages
 
 -- No input has two listings of a kind.
 abbrev pub HasOneListing : Type 0

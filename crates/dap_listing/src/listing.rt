@@ -10,7 +10,7 @@ ghost use Rattle.dap_listing.specs.Inner.Progress.{IsInputFault, IsWhole, TextGi
 ghost use Rattle.dap_listing.specs.declared.fault.CaptureFault.TheVariants.{NoMemory, WriteFailed};
 ghost use Rattle.dap_text.specs.Words.{is_hex_text as is_spelled};
 ghost use Rattle.dap_listing.specs.Lines.{IsEnd, digits_line, line_of};
-ghost use Rattle.dap_listing.specs.Listing.{IsCapturedText, IsMessageText, limit_of};
+ghost use Rattle.dap_listing.specs.Listing.{IsCapturedText, limit_of};
 ghost use Rattle.dap_listing.specs.Inner.Lines.{fault_of_line};
 
 use crate::CaptureFault;
@@ -91,7 +91,7 @@ pub(crate) fn read_line(
 /// Appends what the lines of the NSP message that the digits spell say after its number and direction.
 fn push_message(text: &mut Vec<u8>, digits: &[u8], bytes: &mut [u8]) -> Result<(), AllocError>
     requires { Spell digits.now (length bytes.old) }
-    ensures { OnOk result (AddsSome text.old text.new (IsMessageText (bytes_of digits.now))) }
+    ensures { OnOk result (AddsSome text.old text.new (IsCapturedText Listed.Messages (bytes_of digits.now))) }
 {
     push_number(text, "message len=", bytes.len())?;
     push_str(text, "\n")?;

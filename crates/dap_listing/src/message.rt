@@ -1,6 +1,8 @@
 //! The lines of DAP messages.
 
-ghost use Rattle.std.specs.Prelude.{◌≡◌, ◌≤◌, ◌/◌, ◌++◌, ℕ, List, OnOk, length};
+ghost use Rattle.std.specs.Prelude.{◌≡◌, ◌≤◌, ◌/◌, ◌++◌, ℕ, List, OnOk, codes, length};
+ghost use Rattle.std.specs.Option.{option_map_or};
+ghost use Rattle.std.specs.Fmt.{decimal};
 ghost use Rattle.dap_msg.specs.Items.{seen_item};
 ghost use Rattle.dap_msg.specs.Message.{Attrib, Control as TheControl, Filedata, Other, Status, seen, seen_attributes, seen_control};
 ghost use Rattle.dap_text.specs.Adding.{Adds};
@@ -8,7 +10,7 @@ ghost use Rattle.dap_text.specs.Adding.{AddsSome};
 ghost use Rattle.dap_listing.specs.Captured.{AreDecoded, Spell, bytes_of};
 ghost use Rattle.dap_listing.specs.Inner.Decoding.{item_with_record, record_size as size_of_record, with_record};
 ghost use Rattle.dap_listing.specs.Inner.Messages.{IsAccess, IsConfig};
-ghost use Rattle.dap_listing.specs.Messages.{IsMessagesText, check_text, fault_line, item_line, kind_text, message_line, version_text, wanted_text};
+ghost use Rattle.dap_listing.specs.Messages.{IsMessagesText, fault_line, item_line, kind_text, message_line, version_text, wanted_text};
 
 use crate::decode::{FRONT, decode_to};
 use crate::field::{attributes_fields, control_fields, push_fields};
@@ -19,7 +21,7 @@ use std::alloc::AllocError;
 
 /// Appends the check of a completed file, if there is one.
 fn push_check(text: &mut Vec<u8>, check: Option<u16>) -> Result<(), AllocError>
-    ensures { OnOk result (Adds text.old text.new (check_text check)) }
+    ensures { OnOk result (Adds text.old text.new (option_map_or decimal check (codes "-"))) }
 {
     match check {
         None => push_str(text, "-"),

@@ -6,7 +6,9 @@ ghost use Rattle.dap_text.specs.Text.{word_text};
 ghost use Rattle.dap_text.specs.Adding.{Adds, AddsSome};
 ghost use Rattle.dap_listing.specs.Captured.{AreDecoded, HasDigits, Spell, bytes_of, carried_value, seen_value};
 ghost use Rattle.dap_listing.specs.Inner.Decoding.{IsBehind, IsFront, IsTold};
-ghost use Rattle.dap_listing.specs.Packets.{IsPacketText, IsSeen, SegmentMessages, ack_line, ack_text, acks_text, mark_text, seen_line, segment_line};
+ghost use Rattle.dap_listing.specs.Packets.{IsPacketText, IsSeen, ack_text, acks_text, mark_text, seen_line};
+ghost use Rattle.dap_listing.specs.Inner.Messages.{SegmentMessages};
+ghost use Rattle.nsp_seg.specs.Packets.{data_ack, segment};
 
 use crate::decode::{FRONT, decode_to};
 use crate::message::push_messages;
@@ -78,7 +80,7 @@ pub enum Captured<'a> {
 /// Appends the line of a segment, which carries so many bytes.
 fn push_segment(text: &mut Vec<u8>, line: &Carried<'_>, count: usize) -> Result<(), AllocError>
     requires { count ≡ length (bytes_of line.now.payload.now) }
-    ensures { OnOk result (Adds text.old text.new (segment_line (carried_value line.now))) }
+    ensures { OnOk result (Adds text.old text.new (seen_line (Ok (segment (carried_value line.now))))) }
 {
     push_str(text, "segment ")?;
     push_str(text, mark_word(line.first, line.last))?;
@@ -132,7 +134,7 @@ fn push_ack(
     ack2: Option<AckField>,
 ) -> Result<(), AllocError>
     ensures { OnOk result (Adds text.old text.new
-        (ack_line (record { dst = dst; src = src; ack1 = ack1; ack2 = ack2 }))) }
+        (seen_line (Ok (data_ack (record { dst = dst; src = src; ack1 = ack1; ack2 = ack2 }))))) }
 {
     push_str(text, "ack")?;
     push_ends(text, dst, src)?;

@@ -18,5 +18,5 @@ returns c =
     let first : List ℕ = concat (codes "message len=" ∷ decimal (length (bytes_of digits)) ∷ line_feed ∷ []) in
     let head : c.push_str.new.text.items ≡ c.args.text.now.items ++ first = rw count said in
     on_ok_weaker c.push_messages.result
-    (λ w. (first ++ w.0, record { messages = w.0; listed = w.1; joined = refl }, appended_twice c.args.text.now.items _ _ first w.0 head w.2))
+    (λ w. (first ++ w.0, (w.0, w.1, refl), appended_twice c.args.text.now.items _ _ first w.0 head w.2))
     c.push_messages.ensures
