@@ -28,7 +28,15 @@ AreDecoded digits from to bytes =
 -- a segment of the program, without where the digits of its payload lie
 abbrev pub carried_value : Carried → SegmentValue
 carried_value c = record {
-    first = c.first; last = c.last; dst = c.dst; src = c.src; ack1 = c.ack1; ack2 = c.ack2; number = c.number; payload = bytes_of c.payload.now }
+  first = c.first;
+  last = c.last;
+  dst = c.dst;
+  src = c.src;
+  ack1 = c.ack1;
+  ack2 = c.ack2;
+  number = c.number;
+  payload = bytes_of c.payload.now;
+}
 
 -- what the program reads
 abbrev pub seen_value : Result Captured SegFault → Seen
