@@ -14,7 +14,8 @@ use Rattle.dap_world.specs.Setups.{IsWorldSetup}
 use Rattle.dap_world.specs.Wires.{IsOnWire}
 use Rattle.dap_world.proofs.ForCallers.{no_step, one_on_wire, one_reason, one_step}
 use Rattle.dap_text.specs.Reports.{report_text}
-use Rattle.dap_capture.specs.Schedules.{Numbered, events_of, said}
+use Rattle.dap_capture.specs.Schedules.{Numbered, said}
+use Rattle.dap_capture.specs.Inner.Schedules.{events_of}
 use Rattle.dap_text.specs.Tables.{files_text}
 use Rattle.dap_capture.specs.Played.{HasOneText, IsPacketWritten, IsReported, IsStepText, Played, Plays, empty, end_text, event_line, goes, over, played, refusal_line, refusal_text, setup_refused, stops}
 use Rattle.dap_listing.specs.declared.fault.Outcome.{Outcome}

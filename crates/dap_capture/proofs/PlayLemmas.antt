@@ -13,7 +13,8 @@ use Rattle.dap_world.specs.Runs.{Went}
 use Rattle.dap_listing.specs.declared.fault.Outcome.{Outcome}
 use Rattle.dap_listing.specs.declared.fault.Outcome.TheVariants.{Good, Stopped}
 use Rattle.dap_capture.specs.Orders.{event_of, setup_of}
-use Rattle.dap_capture.specs.Schedules.{Numbered, event_fault, events_of, fault_unless}
+use Rattle.dap_capture.specs.Schedules.{Numbered, fault_unless}
+use Rattle.dap_capture.specs.Inner.Schedules.{event_fault, events_of}
 use Rattle.dap_text.specs.Tables.{files_text}
 use Rattle.dap_capture.specs.Played.{Plays, over, goes, stops, Played, empty, setup_refused, played, event_line, refusal_line, refusal_text}
 use Rattle.dap_capture.specs.Inner.Playing.{PlaysOne}

@@ -1,6 +1,6 @@
 -- The text of a schedule: that of the run of the machine.
 use Rattle.std.specs.Prelude.{◌≡◌, ℕ, ◌+◌, ◌-◌, List, [], ◌∷◌, ◌++◌, length, slice_get, codes, Option, Some, None, Result}
-use Rattle.std.specs.List.{concat}
+use Rattle.std.specs.List.{concat, filter_map}
 use Rattle.std.specs.Fmt.{decimal}
 use Rattle.hex.specs.Hex.{encode_lower}
 use Rattle.dap_accessing.specs.declared.report.Report.{Report}
@@ -20,8 +20,8 @@ use Rattle.dap_text.specs.Answers.{ask_text, got_text}
 use Rattle.dap_text.specs.Text.{line_feed}
 use Rattle.dap_text.specs.Reports.{report_text}
 use Rattle.dap_text.specs.Tables.{files_text}
-use Rattle.dap_capture.specs.Orders.{setup_of}
-use Rattle.dap_capture.specs.Schedules.{Numbered, events_of, said, schedule_faults}
+use Rattle.dap_capture.specs.Orders.{event_of, setup_of}
+use Rattle.dap_capture.specs.Schedules.{Numbered, said, schedule_faults}
 use Rattle.dap_listing.specs.Gives.{Gives}
 use Rattle.dap_listing.specs.declared.fault.CaptureFault.{CaptureFault}
 use Rattle.dap_listing.specs.declared.fault.Outcome.{Outcome}
@@ -91,7 +91,7 @@ pub data Played : List Numbered → Outcome → List ℕ → Type 0 where
       → setup_of first.1 ≡ Some setup → (IsWorldSetup setup → ⊥)
       → Played (first ∷ others) Stopped (refusal_line 0 (codes "bad-setup"))
   played : {first : Numbered} {others : List Numbered} {outcome : Outcome} {text : List ℕ} (setup : WorldSetup)
-      → setup_of first.1 ≡ Some setup → IsWorldSetup setup → Plays (fresh setup) 1 (events_of others) outcome text
+      → setup_of first.1 ≡ Some setup → IsWorldSetup setup → Plays (fresh setup) 1 (filter_map (λ line. event_of line.1) others) outcome text
       → Played (first ∷ others) outcome text
 
 -- what a run over a schedule answers

@@ -8,7 +8,8 @@ ghost use Rattle.dap_capture.specs.Inner.Orders.{event_of_order};
 ghost use Rattle.dap_capture.specs.Inner.Playing.{PlaysOne};
 ghost use Rattle.dap_capture.specs.Played.{Played, Plays};
 ghost use Rattle.dap_listing.specs.Gives.{IsOfLine};
-ghost use Rattle.dap_capture.specs.Schedules.{event_fault, events_of, said, schedule_faults};
+ghost use Rattle.dap_capture.specs.Inner.Schedules.{event_fault, events_of};
+ghost use Rattle.dap_capture.specs.Schedules.{said, schedule_faults};
 
 use crate::meaningful::MeaningfulLines;
 use crate::orders::{Order, read_order, read_setup};

@@ -72,6 +72,12 @@ abbrev pub ListingGives : Listed → List ℕ → Option (List ℕ) → Option (
     → Result Outcome CaptureFault → Type 0
 ListingGives listed input = Gives (line_faults (limit_of listed) input) (IsListing listed input) input
 
+abbrev pub ShowGives : List ℕ → Option (List ℕ) → Option (List ℕ) → Result Outcome CaptureFault → Type 0
+ShowGives = ListingGives Packets
+
+abbrev pub MessagesGive : List ℕ → Option (List ℕ) → Option (List ℕ) → Result Outcome CaptureFault → Type 0
+MessagesGive = ListingGives Messages
+
 -- No input has two listings of a kind.
 abbrev pub HasOneListing : Type 0
 HasOneListing =

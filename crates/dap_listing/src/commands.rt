@@ -1,7 +1,7 @@
 //! The runs over what a reader gives.
 ghost use Rattle.std.specs.Prelude.{IfSome};
 ghost use Rattle.dap_listing.specs.Gives.{KeepsUnwritten, TakesWithinLimit};
-ghost use Rattle.dap_listing.specs.Listing.{ListingGives};
+ghost use Rattle.dap_listing.specs.Listing.{ListingGives, MessagesGive, ShowGives};
 
 use crate::listing::{Listed, list_input};
 use crate::output::write_text;
@@ -38,7 +38,7 @@ pub fn show<R: Read, W: Write>(
     writer: &mut W,
 ) -> Result<Outcome, CaptureFault>
     ensures listing { IfSome (R.remaining reader.old)
-        (λ input. ListingGives Listed.Packets input (W.contents writer.old) (W.contents writer.new) result) }
+        (λ input. ShowGives input (W.contents writer.old) (W.contents writer.new) result) }
     ensures unwritten { KeepsUnwritten result (W.contents writer.old) (W.contents writer.new) }
     ensures taken { TakesWithinLimit (R.remaining reader.old) (R.remaining reader.new) }
 {
@@ -54,7 +54,7 @@ pub fn messages<R: Read, W: Write>(
     writer: &mut W,
 ) -> Result<Outcome, CaptureFault>
     ensures listing { IfSome (R.remaining reader.old)
-        (λ input. ListingGives Listed.Messages input (W.contents writer.old) (W.contents writer.new) result) }
+        (λ input. MessagesGive input (W.contents writer.old) (W.contents writer.new) result) }
     ensures unwritten { KeepsUnwritten result (W.contents writer.old) (W.contents writer.new) }
     ensures taken { TakesWithinLimit (R.remaining reader.old) (R.remaining reader.new) }
 {
