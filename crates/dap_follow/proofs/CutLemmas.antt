@@ -10,7 +10,7 @@ use Rattle.std.proofs.lemmas.Map.Keys.{sorted_from_strictly_increasing}
 use Rattle.nsp_link.specs.Cutting as cutting
 use Rattle.dap_follow.specs.Streams.{ArePlaced, Came, Placed, at, no_more, one_more, put_at}
 use Rattle.dap_follow.specs.Cut.{StandFrom}
-use Rattle.dap_follow.specs.Joined.{Message, Piece, end_of, is_message, joins, message_of, messages, payload, pieces, segments, with_segment}
+use Rattle.dap_follow.specs.Joined.{Message, Piece, is_message, joins, message_of, messages, payload, pieces, segments, with_segment}
 use Rattle.std.specs.List.{filter, flat_map, range_with_len}
 use Rattle.std.specs.Int.{div_ceil}
 use Rattle.std.proofs.Math.Nat.{mul-le-mul_right}
@@ -18,7 +18,7 @@ use Rattle.std.proofs.lemmas.Grind.{div_ceil_times}
 use Rattle.std.proofs.Math.ListN.{drop_of_length-le}
 use Rattle.std.proofs.lemmas.List.{drop-drop, map-append, take-append-drop}
 use Rattle.std.proofs.lemmas.List.Elements.{Contains-append_right, filter-append}
-use Rattle.dap_follow.proofs.JoiningLemmas.{Chain, Ends, chain_cut, marks}
+use Rattle.dap_follow.proofs.JoiningLemmas.{Chain, Ends, chain_cut, end_of, marks}
 use Rattle.dap_follow.proofs.PlacingLemmas.{at-here, at-other}
 
 -- ---- places that differ by whole rounds
