@@ -1,6 +1,6 @@
 -- Segments of a cut message in the places of a stream.
 use Rattle.std.proofs.Common.{◌≡◌, ◌==◌, ◌<◌, ◌≤◌, ◌+◌, ◌*◌, ◌/◌, ◌%◌, ◌++◌, ℕ, Bool, true, false, List, [], ◌∷◌, map, max, Some, None, zero, suc, length, refl, sym, ap, ◌∙◌, subst, arith, ⊎_elim, ◌-◌, add-zero, take, drop}
-use Rattle.std.specs.List.{AllByRecursion}
+use Rattle.std.specs.List.{AllByRecursion, Contains}
 use Rattle.std.specs.List.Sorted.{IsStrictlyIncreasing, IsStrictlySortedBy}
 use Rattle.std.specs.Ordering.{nat_cmp}
 use Rattle.std.specs.declared.cmp.Ordering.TheVariants.{Less}
@@ -9,17 +9,16 @@ use Rattle.std.proofs.lemmas.Bool.Decides.{nat_tests}
 use Rattle.std.proofs.lemmas.Map.Keys.{sorted_from_strictly_increasing}
 use Rattle.nsp_link.specs.Cutting as cutting
 use Rattle.dap_follow.specs.Streams.{ArePlaced, Came, Placed, at, no_more, one_more, put_at}
-use Rattle.dap_follow.specs.Cut.{IsSegment, StandFrom}
-use Rattle.dap_follow.specs.Cut.{IsListed}
-use Rattle.dap_follow.specs.Joined.{Piece, end_of, is_message, joins, message_of, messages, payload, pieces, segments, with_segment}
+use Rattle.dap_follow.specs.Cut.{StandFrom}
+use Rattle.dap_follow.specs.Joined.{Message, Piece, is_message, joins, message_of, messages, payload, pieces, segments, with_segment}
 use Rattle.std.specs.List.{filter, flat_map, range_with_len}
 use Rattle.std.specs.Int.{div_ceil}
 use Rattle.std.proofs.Math.Nat.{mul-le-mul_right}
 use Rattle.std.proofs.lemmas.Grind.{div_ceil_times}
 use Rattle.std.proofs.Math.ListN.{drop_of_length-le}
 use Rattle.std.proofs.lemmas.List.{drop-drop, map-append, take-append-drop}
-use Rattle.std.proofs.lemmas.List.Elements.{filter-append}
-use Rattle.dap_follow.proofs.JoiningLemmas.{Chain, Ends, chain_cut, marks}
+use Rattle.std.proofs.lemmas.List.Elements.{Contains-append_right, filter-append}
+use Rattle.dap_follow.proofs.JoiningLemmas.{Chain, Ends, chain_cut, end_of, marks}
 use Rattle.dap_follow.proofs.PlacingLemmas.{at-here, at-other}
 
 -- ---- places that differ by whole rounds
@@ -76,8 +75,8 @@ found_in i j h k (c ∷ came) xs ys start (one_more x lx hx nx xs_more) (one_mor
     })
     (cases_eq x p)
 
-is_segment : (c : cutting.Piece) (s t : Placed) → IsSegment c s → IsLike s t → IsSegment c t
-is_segment c s t is like = record { first = like.first ∙ is.first; last = like.last ∙ is.last; payload = like.payload ∙ is.payload }
+abbrev pub IsSegment : cutting.Piece → Placed → Type 0
+IsSegment c s = (s.first ≡ c.first) × (s.last ≡ c.last) × (s.payload ≡ c.payload)
 
 -- they stand in the places that differ by whole rounds, too
 pub stand_too : (i j : ℕ) (xs ys : List Placed) → ((p : ℕ) (s : Placed) → at p xs ≡ Some s → IsFound i j p s ys) → (cut : List cutting.Piece) (p q : ℕ) → p + 4096 * i ≡ q + 4096 * j
@@ -85,14 +84,15 @@ pub stand_too : (i j : ℕ) (xs ys : List Placed) → ((p : ℕ) (s : Placed) �
 stand_too i j xs ys all [] p q same stand = tt
 stand_too i j xs ys all (c ∷ cut) p q same stand =
     let found = all p stand.0.0 stand.0.1 in
+    let like = found.like in
     let here : found.place ≡ q = omega (arith, found.same, same) in (
-      (found.found, ap (λ (n : ℕ). at n ys) (sym here) ∙ found.stands, is_segment c stand.0.0 found.found stand.0.2 found.like),
+      (found.found, ap (λ (n : ℕ). at n ys) (sym here) ∙ found.stands, like.first ∙ stand.0.2, like.last ∙ stand.0.3, like.payload ∙ stand.0.4),
       stand_too i j xs ys all cut (p + 1) (q + 1) (omega (arith, same)) stand.1,
     )
 
 pub stand_same : (xs ys : List Placed) → ((p : ℕ) → at p ys ≡ at p xs) → (cut : List cutting.Piece) (p : ℕ) → StandFrom p cut xs → StandFrom p cut ys
 stand_same xs ys same [] p stand = tt
-stand_same xs ys same (c ∷ cut) p stand = ((stand.0.0, same p ∙ stand.0.1, stand.0.2), stand_same xs ys same cut (p + 1) stand.1)
+stand_same xs ys same (c ∷ cut) p stand = ((stand.0.0, same p ∙ stand.0.1, stand.0.2, stand.0.3, stand.0.4), stand_same xs ys same cut (p + 1) stand.1)
 
 -- ---- where they stand in segments in order
 
@@ -133,7 +133,7 @@ all_more a b (s ∷ ss) le all = (omega (arith, all.0), all_more a b ss le all.1
 pub skip : (q : ℕ) (cut : List cutting.Piece) (s : Placed) (ss : List Placed) → s.place < q → StandFrom q cut (s ∷ ss) → StandFrom q cut ss
 skip q [] s ss below stand = tt
 skip q (c ∷ cut) s ss below stand =
-    ((stand.0.0, sym (at-other q s ss (λ e. omega (arith, e, below))) ∙ stand.0.1, stand.0.2), skip (q + 1) cut s ss (omega arith) stand.1)
+    ((stand.0.0, sym (at-other q s ss (λ e. omega (arith, e, below))) ∙ stand.0.1, stand.0.2, stand.0.3, stand.0.4), skip (q + 1) cut s ss (omega arith) stand.1)
 
 pub record HasRun (q : ℕ) (cut : List cutting.Piece) (ss : List Placed) : Type 0 where
   pub front : List Placed
@@ -156,7 +156,7 @@ run_front q (c ∷ cut) (s ∷ ss) rises above stand =
       s ∷ next.0,
       next.1,
       ap (λ (l : List Placed). s ∷ l) next.2,
-      (here, subst (IsSegment c) (sym one) stand.0.2, next.3),
+      (here, subst (IsSegment c) (sym one) (stand.0.2, stand.0.3, stand.0.4), next.3),
     ))
     (λ (apart : s.place ≡ q → ⊥).
     let over : q < s.place = omega (arith, above.0, apart_lt q s.place apart above.0) in
@@ -248,7 +248,7 @@ run_bytes q [] [] runs = refl
 run_bytes q [] (s ∷ run) runs = absurd runs
 run_bytes q (c ∷ cut) [] runs = absurd runs
 run_bytes q (c ∷ cut) (s ∷ run) runs =
-    ap (λ (l : List ℕ). l ++ flat_map (λ (t : Placed). t.payload) run) runs.1.payload ∙ ap (λ (l : List ℕ). c.payload ++ l) (run_bytes (q + 1) cut run runs.2)
+    ap (λ (l : List ℕ). l ++ flat_map (λ (t : Placed). t.payload) run) runs.1.2 ∙ ap (λ (l : List ℕ). c.payload ++ l) (run_bytes (q + 1) cut run runs.2)
 
 chain_over : (a b : Placed) (xs ys : List Placed) → a ≡ b → xs ≡ ys → Chain b ys → Chain a xs
 chain_over a b xs ys same more chain = subst (λ (u : Placed). Chain u xs) (sym same) (subst (Chain b) (sym more) chain)
@@ -269,7 +269,7 @@ unfolding Marked Run Chain
 whole q first [] run marked runs = absurd marked
 whole q first (c ∷ cut) [] marked runs = absurd runs
 whole q first (c ∷ []) (s ∷ []) marked runs =
-    record { s = s; others = []; is = refl; begins = runs.1.first ∙ marked.0; chain = tt; ends = runs.1.last ∙ marked.1 }
+    record { s = s; others = []; is = refl; begins = runs.1.0 ∙ marked.0; chain = tt; ends = runs.1.1 ∙ marked.1 }
 whole q first (c ∷ []) (s ∷ t ∷ run) marked runs = absurd runs.2
 whole q first (c ∷ d ∷ cut) (s ∷ []) marked runs = absurd runs.2
 whole q first (c ∷ d ∷ cut) (s ∷ t ∷ run) marked runs =
@@ -281,8 +281,8 @@ whole q first (c ∷ d ∷ cut) (s ∷ t ∷ run) marked runs =
       s = s;
       others = t ∷ run;
       is = refl;
-      begins = runs.1.first ∙ marked.0;
-      chain = (join_test s t (omega (arith, runs.0, runs.2.0)) (runs.1.last ∙ marked.1) begins, chain_over t rest.s run rest.others same more rest.chain);
+      begins = runs.1.0 ∙ marked.0;
+      chain = (join_test s t (omega (arith, runs.0, runs.2.0)) (runs.1.1 ∙ marked.1) begins, chain_over t rest.s run rest.others same more rest.chain);
       ends = ap (λ (u : Placed). (end_of u run).last) same ∙ ap (λ (l : List Placed). (end_of rest.s l).last) more ∙ rest.ends;
     }
 
@@ -330,18 +330,21 @@ among (b ∷ front) back s others first chain last =
     let rest = among front back s others first chain last in
     subst (λ (ps : List Piece). IsAmong (record { head = s; others = others }) (with_segment b ps)) (sym rest.parts) (one_before b (record { head = s; others = others }) rest.front rest.back first)
 
+-- one of the messages carries these bytes
+abbrev pub IsListed : List ℕ → List Message → Type 0
+IsListed message all = Contains (map (λ m. payload m.piece) all) message
+
 pub listed : (ordered : List Placed) (p : Piece) (front back : List Piece) → is_message p ≡ true → pieces ordered ≡ front ++ p ∷ back → IsListed (payload p) (messages ordered)
 listed ordered p front back message parts =
     let kept : filter is_message (p ∷ back) ≡ p ∷ filter is_message back = rw message refl in
-    record {
-      front = map (message_of ordered) (filter is_message front);
-      back = map (message_of ordered) (filter is_message back);
-      m = message_of ordered p;
-      among = ap (λ (ps : List Piece). map (message_of ordered) (filter is_message ps)) parts
-          ∙ ap (map (message_of ordered)) (filter-append is_message front (p ∷ back) ∙ ap (λ (ps : List Piece). filter is_message front ++ ps) kept)
-          ∙ map-append (message_of ordered) (filter is_message front) (p ∷ filter is_message back);
-      carries = refl;
-    }
+    let bytes = λ (m : Message). payload m.piece in
+    let before = map (message_of ordered) (filter is_message front) in
+    let among : messages ordered ≡ before ++ message_of ordered p ∷ map (message_of ordered) (filter is_message back) =
+    ap (λ (ps : List Piece). map (message_of ordered) (filter is_message ps)) parts
+    ∙ ap (map (message_of ordered)) (filter-append is_message front (p ∷ back) ∙ ap (λ (ps : List Piece). filter is_message front ++ ps) kept)
+    ∙ map-append (message_of ordered) (filter is_message front) (p ∷ filter is_message back) in
+    let carried = ap (map bytes) among ∙ map-append bytes before (message_of ordered p ∷ map (message_of ordered) (filter is_message back)) in
+    subst (λ (all : List (List ℕ)). Contains all (payload p)) (sym carried) (Contains-append_right (map bytes before) _ (payload p) (0, omega arith, refl))
 
 pub run_listed : (q : ℕ) (cut : List cutting.Piece) (ordered : List Placed) → Marked true cut → HasRun q cut ordered → IsListed (flat_map (λ (c : cutting.Piece). c.payload) cut) (messages ordered)
 run_listed q cut ordered marked has =

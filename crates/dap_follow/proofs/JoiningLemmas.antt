@@ -1,7 +1,7 @@
 -- The pieces of segments in order.
 use Rattle.std.proofs.Common.{◌≡◌, ◌==◌, ◌<◌, ◌≤◌, ◌+◌, ◌-◌, ◌/◌, ◌++◌, ◌&&◌, ℕ, zero, suc, Bool, true, false, List, [], ◌∷◌, length, take, drop, get_or, max, add-one, Some, None, refl, sym, ap, ◌∙◌, subst, arith, ⊎_elim}
 use Rattle.std.specs.Global.{Vec}
-use Rattle.std.specs.Prelude.{codes, if◌then◌else◌, nat_lt, slice_get, slice_set}
+use Rattle.std.specs.Prelude.{codes, fold, if◌then◌else◌, nat_lt, slice_get, slice_set}
 use Rattle.dap_text.specs.Text.{line_feed}
 use Rattle.std.specs.List.{filter, flat_map}
 use Rattle.std.proofs.lemmas.Bool.Decides.{nat_tests}
@@ -14,7 +14,7 @@ use Rattle.dap_listing.proofs.ForCallers.{bytes-append, count_of, spell-append}
 use Rattle.dap_follow.specs.Streams.{Placed}
 use Rattle.dap_listing.specs.Messages.{IsMessagesText}
 use Rattle.dap_follow.specs.Following.{AreMessageLines, gap_line, message_heading, no_more, one_more, part_line, part_text, range_text, stream_text}
-use Rattle.dap_follow.specs.Joined.{Message, Piece, end_of, is_message, joins, latest, payload, pieces, segments, tail, with_segment}
+use Rattle.dap_follow.specs.Joined.{Message, Piece, is_message, joins, latest, payload, pieces, segments, tail, with_segment}
 use Rattle.dap_follow.specs.Inner.Listing.{AreSpelled, IsCutOff, IsMessageText, IsPiece, ListsPiece, UnderAll, digits_of, message_at, values}
 use Rattle.dap_follow.specs.Inner.Placing.{counted_value}
 use Rattle.dap_follow.specs.declared.places.Counted.{Counted}
@@ -27,6 +27,9 @@ head_is a b xs ys e = cc
 
 tail_is : (a b : Placed) (xs ys : List Placed) → a ∷ xs ≡ b ∷ ys → xs ≡ ys
 tail_is a b xs ys e = cc
+
+abbrev pub end_of : Placed → List Placed → Placed
+end_of s others = fold (λ one next. next) s others
 
 last_is : (c : Counted) (cs : List Counted) (d : Counted) → counted_value (get_or (c ∷ cs) (length cs) d) ≡ end_of (counted_value c) (values cs)
 last_is c [] d = refl

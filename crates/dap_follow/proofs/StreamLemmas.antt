@@ -10,14 +10,14 @@ use Rattle.std.proofs.lemmas.List.{append_assoc, drop-drop, map-append, take-app
 use Rattle.std.proofs.lemmas.List.Elements.{filter-append}
 use Rattle.dap_text.specs.Adding.{Adds}
 use Rattle.dap_follow.specs.Streams.{Placed}
-use Rattle.dap_follow.specs.Joined.{Message, Piece, end_of, is_message, latest, message_of, pieces, tail}
+use Rattle.dap_follow.specs.Joined.{Message, Piece, is_message, latest, message_of, pieces, tail}
 use Rattle.dap_follow.specs.Following.{gap_line, part_line, rest_lines}
 use Rattle.dap_follow.specs.Inner.Keeping.{IsGood}
 use Rattle.dap_follow.specs.Inner.Listing.{AreSpelled, IsCutOff, IsPiece, ListsPiece, UnderAll, message_at, values}
 use Rattle.dap_follow.specs.Inner.Placing.{Rises, counted_value}
 use Rattle.dap_follow.specs.declared.places.Counted.{Counted}
 use Rattle.dap_follow.specs.declared.streams.Stream.{Stream}
-use Rattle.dap_follow.proofs.JoiningLemmas.{latest-append, under_both}
+use Rattle.dap_follow.proofs.JoiningLemmas.{end_of, latest-append, under_both}
 
 -- ---- what holds of all holds of a part
 

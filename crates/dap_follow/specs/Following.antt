@@ -1,6 +1,6 @@
 -- The listing of a capture with its messages joined. Own.
 use Rattle.std.specs.Prelude.{◌≡◌, ℕ, ◌+◌, ◌-◌, ◌%◌, ◌==◌, nat_lt, List, [], ◌∷◌, ◌++◌, length, codes, if◌then◌else◌, Option, Result, Ok}
-use Rattle.std.specs.List.{AllZip, concat, filter, flat_map}
+use Rattle.std.specs.List.{AllZip, concat, filter, flat_map, zip}
 use Rattle.std.specs.Fmt.{decimal}
 use Rattle.hex.specs.Hex.{decode_of}
 use Rattle.dap_text.specs.Text.{line_feed, word_text}
@@ -11,7 +11,7 @@ use Rattle.dap_listing.specs.Messages.{IsMessagesText}
 use Rattle.dap_listing.specs.Packets.{IsSeen, seen_line}
 use Rattle.dap_listing.specs.declared.fault.CaptureFault.{CaptureFault}
 use Rattle.dap_listing.specs.declared.fault.Outcome.{Outcome}
-use Rattle.dap_listing.specs.declared.fault.Outcome.TheVariants.{Good, Stopped}
+use Rattle.dap_listing.specs.declared.fault.Outcome.TheVariants.{Good}
 use Rattle.dap_follow.specs.Streams.{IsOrdered, Packet, Placed, came_in, streams}
 use Rattle.dap_follow.specs.Joined.{Message, Piece, is_message, messages, payload, pieces, tail}
 use Rattle.dap_follow.specs.declared.streams.Stream.{Stream}
@@ -69,9 +69,7 @@ rest_lines stream [] = []
 rest_lines stream (p ∷ others) = part_line stream p ++ gap_line stream p others ++ rest_lines stream others
 
 abbrev pub all_rest_lines : List Stream → List (List Placed) → List ℕ
-all_rest_lines [] ordered = []
-all_rest_lines (stream ∷ others) [] = []
-all_rest_lines (stream ∷ others) (ordered ∷ rest) = rest_lines stream (pieces ordered) ++ all_rest_lines others rest
+all_rest_lines streams ordered = flat_map (λ (stream, segments). rest_lines stream (pieces segments)) (zip streams ordered)
 
 -- the lines of the packets, and behind them what is left of each stream
 pub record IsFollowed (captured : List Capture) (text : List ℕ) : Type 0 where
@@ -83,10 +81,7 @@ pub record IsFollowed (captured : List Capture) (text : List ℕ) : Type 0 where
   pub are_lines : ArePacketLines (flat_map messages ordered) 1 packets lines
   pub joined : text ≡ lines ++ all_rest_lines (streams packets) ordered
 
-abbrev pub IsFollowing : List ℕ → Outcome → List ℕ → Type 0
-IsFollowing input Good text = IsFollowed (captures packet_limit input) text
-IsFollowing input Stopped text = ⊥
-
 -- what the listing of an input answers
 abbrev pub FollowGives : List ℕ → Option (List ℕ) → Option (List ℕ) → Result Outcome CaptureFault → Type 0
-FollowGives input = Gives (line_faults packet_limit input) (IsFollowing input) input
+FollowGives input =
+    Gives (line_faults packet_limit input) (λ outcome text. (outcome ≡ Good) × IsFollowed (captures packet_limit input) text) input

@@ -1,5 +1,5 @@
 -- Pieces of a stream, and the messages among them. Own.
-use Rattle.std.specs.Prelude.{ℕ, ◌+◌, ◌==◌, ◌&&◌, not, nat_le, Bool, List, [], ◌∷◌, map, max, if◌then◌else◌}
+use Rattle.std.specs.Prelude.{ℕ, ◌+◌, ◌==◌, ◌&&◌, not, nat_le, Bool, List, [], ◌∷◌, fold, map, max, if◌then◌else◌}
 use Rattle.std.specs.List.{filter, flat_map}
 use Rattle.dap_follow.specs.Streams.{Placed}
 
@@ -26,13 +26,9 @@ abbrev pub pieces : List Placed → List Piece
 pieces [] = []
 pieces (s ∷ others) = with_segment s (pieces others)
 
-abbrev pub end_of : Placed → List Placed → Placed
-end_of s [] = s
-end_of s (other ∷ others) = end_of other others
-
 -- its last segment
 abbrev pub tail : Piece → Placed
-tail p = end_of p.head p.others
+tail p = fold (λ one next. next) p.head p.others
 
 -- a piece that begins with a first mark and ends with a last one is a message
 abbrev pub is_message : Piece → Bool

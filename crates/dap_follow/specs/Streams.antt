@@ -1,9 +1,9 @@
 -- The data segments of a capture, stream by stream and in the order of their places. Own.
-use Rattle.std.specs.Prelude.{◌≡◌, ℕ, ◌+◌, ◌%◌, ◌≤◌, ◌==◌, ◌&&◌, Bool, true, false, List, [], ◌∷◌, map, max, if◌then◌else◌, Option, Some, None, Ok, Err}
-use Rattle.std.specs.List.{filter_map, enumerate_from}
+use Rattle.std.specs.Prelude.{◌≡◌, ℕ, ◌+◌, ◌%◌, ◌≤◌, ◌==◌, ◌&&◌, Bool, true, false, List, [], ◌∷◌, map, max, if◌then◌else◌, Option, Some, None, Ok}
+use Rattle.std.specs.List.{filter_map, find, enumerate_from}
 use Rattle.std.specs.List.Sorted.{IsStrictlyIncreasing}
 use Rattle.indexmap.specs.IndexSet.{insert_all}
-use Rattle.nsp_seg.specs.Packets.{SegmentValue, segment, data_ack}
+use Rattle.nsp_seg.specs.Packets.{SegmentValue, segment}
 use Rattle.dap_listing.specs.Packets.{Seen}
 use Rattle.dap_listing.specs.declared.lines.Direction.{Direction}
 use Rattle.dap_listing.specs.declared.lines.Direction.TheVariants.{Right, Left}
@@ -17,14 +17,12 @@ Packet = Direction × Seen
 
 abbrev pub stream_of : Packet → Option Stream
 stream_of (way, Ok (segment s)) = Some (record { way = way; dst = s.dst; src = s.src })
-stream_of (way, Ok (data_ack a)) = None
-stream_of (way, Err fault) = None
+stream_of _ = None
 
 abbrev pub is_same_way : Direction → Direction → Bool
 is_same_way Right Right = true
-is_same_way Right Left = false
-is_same_way Left Right = false
 is_same_way Left Left = true
+is_same_way _ _ = false
 
 abbrev pub is_same : Stream → Stream → Bool
 is_same a b = is_same_way a.way b.way && (a.dst == b.dst) && (a.src == b.src)
@@ -42,8 +40,7 @@ pub record Came : Type 0 where
 abbrev pub came_as : Stream → ℕ → Packet → Option Came
 came_as stream number (way, Ok (segment s)) =
     if is_same stream (record { way = way; dst = s.dst; src = s.src }) then Some (record { packet = number; segment = s }) else None
-came_as stream number (way, Ok (data_ack a)) = None
-came_as stream number (way, Err fault) = None
+came_as stream number _ = None
 
 -- the segments of a stream, as they came
 abbrev pub came_in : Stream → List Packet → List Came
@@ -77,8 +74,7 @@ first_place (c ∷ others) = c.segment.number + 4096
 
 -- what stands at a place: of several the first that came
 abbrev pub at : ℕ → List Placed → Option Placed
-at place [] = None
-at place (s ∷ others) = if s.place == place then Some s else at place others
+at place = find (λ s. s.place == place)
 
 -- the segments that count, in the order of their places
 pub record IsOrdered (came : List Came) (ordered : List Placed) : Type 0 where

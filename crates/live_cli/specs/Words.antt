@@ -1,5 +1,5 @@
 -- What the words of the program name.
-use Rattle.std.specs.Prelude.{ℕ, List, [], ◌∷◌, true, codes, if◌then◌else◌, pos, max, Option, Some, None, option_map, option_and_then}
+use Rattle.std.specs.Prelude.{ℕ, List, [], ◌∷◌, true, codes, fold, if◌then◌else◌, pos, max, Option, Some, None, option_map, option_and_then}
 use Rattle.clap.specs.Words.{App, Row, Rule, Text, first_of, new_app, new_rule, subcommand_of, with_rule, with_subcommand}
 use Rattle.clap.specs.Simple.{on_top}
 use Rattle.clap.specs.declared.builder.value_parser.ValueParser.TheVariants as parser
@@ -26,25 +26,16 @@ number name usual least most = record (option name usual) { parser = Some (parse
 -- the words behind the name of an end
 abbrev pub end_line : (name local remote : Text) → App
 end_line name local remote =
-    with_rule
-    (with_rule
-    (with_rule
-    (with_rule
-    (with_rule (new_app name) (option (codes "local") local))
-    (option (codes "remote") remote))
-    (number (codes "segment") (codes "512") 1 largest_segment))
-    (number (codes "window") (codes "8") 1 largest_window))
-    (number (codes "buffer") (codes "1024") least_buffer greatest_message)
+    fold with_rule (new_app name)
+    (option (codes "local") local ∷ option (codes "remote") remote ∷ number (codes "segment") (codes "512") 1 largest_segment
+    ∷ number (codes "window") (codes "8") 1 largest_window ∷ number (codes "buffer") (codes "1024") least_buffer greatest_message ∷ [])
 
 -- all words: one of three names is wanted
 abbrev pub daplive : App
 daplive =
-    with_subcommand
-    (with_subcommand
-    (with_subcommand (on_top (λ top. record top { subcommand_required = true; disable_help_subcommand = true }) (new_app (codes "daplive")))
-    (end_line (codes "serve") (codes "0202") (codes "0101")).top)
-    (end_line (codes "ask") (codes "0101") (codes "0202")).top)
-    (new_app (codes "follow")).top
+    fold with_subcommand (on_top (λ top. record top { subcommand_required = true; disable_help_subcommand = true }) (new_app (codes "daplive")))
+    ((end_line (codes "serve") (codes "0202") (codes "0101")).top ∷ (end_line (codes "ask") (codes "0101") (codes "0202")).top
+    ∷ (new_app (codes "follow")).top ∷ [])
 
 -- ---- What they say.
 
@@ -66,14 +57,7 @@ options_of role rows =
     bind (number_in (codes "segment") rows) (λ segment.
     bind (number_in (codes "window") rows) (λ window.
     bind (number_in (codes "buffer") rows) (λ buffer.
-    Some (record {
-      role = role;
-      local = local;
-      remote = remote;
-      segment = segment;
-      window = window;
-      buffer = max least_buffer buffer;
-    }))))))
+    Some (record { role = role; local = local; remote = remote; segment = segment; window = window; buffer = max least_buffer buffer }))))))
 
 abbrev pub task_in : Text × List Row → Option Task
 task_in p =

@@ -4,13 +4,15 @@ ghost use Rattle.linewise.specs.Talks.{HaveOneText};
 ghost use Rattle.dap_live.specs.Serving as serving;
 ghost use Rattle.dap_live.specs.Asking as asking;
 ghost use Rattle.live_cli.specs.declared.words.Options.{Options as TheOptions};
-ghost use Rattle.live_cli.specs.Running.{AreNewServing, AreNewAsking};
+ghost use Rattle.live_cli.specs.Running.{IsNewServing, IsNewAsking};
 
 /// By the same options an input has one text, and one exit status: whatever two new ends answer to all its lines, where no
 /// answer wants memory. Own.
 pub fn inputs_have_one_text()
     ensures serving { (options : TheOptions)
-        → HaveOneText serving.answered serving.waiting (AreNewServing options) }
+        → HaveOneText serving.answered serving.waiting
+        (λ one other. IsNewServing options one × IsNewServing options other) }
     ensures asking { (options : TheOptions)
-        → HaveOneText asking.answered asking.waiting (AreNewAsking options) }
+        → HaveOneText asking.answered asking.waiting
+        (λ one other. IsNewAsking options one × IsNewAsking options other) }
 {}

@@ -1,6 +1,6 @@
 //! The program over any reader and writers.
 
-ghost use Rattle.std.specs.Prelude.{◌≡◌, ◌≢◌, ◌≤◌, ◌⊎◌, ◌∷◌, ℕ, List, [], IfSome, None, Some, codes, map, string_bytes};
+ghost use Rattle.std.specs.Prelude.{◌≡◌, ◌≢◌, ◌≤◌, ◌⊎◌, ◌∷◌, ℕ, List, [], IfSome, None, Some, codes, if◌then◌else◌, map, string_bytes};
 ghost use Rattle.std.specs.Io.KnownBytes.{Keeps};
 ghost use Rattle.clap.specs.Words.{fault_of};
 ghost use Rattle.cli_faults.specs.Mistakes.{AreMistakes};
@@ -8,7 +8,8 @@ ghost use Rattle.dap_msg.specs.BothEnds.{least_buffer};
 ghost use Rattle.live_cli.specs.declared.words.Task.{Task as TheTask};
 ghost use Rattle.live_cli.specs.declared.words.Role.TheVariants as role;
 ghost use Rattle.live_cli.specs.declared.words.Role.{Role as TheRole};
-ghost use Rattle.live_cli.specs.Running.{AnswersAll, GivesAs, HasRoom, ListingGives, RunGives, IsSilent, TaskGives, setup_of, status_of};
+ghost use Rattle.live_cli.specs.Running.{AnswersAll, GivesAs, ListingGives, RunGives, TaskGives, setup_of};
+ghost use Rattle.live_cli.specs.Inner.CommandLine.{HasRoom};
 ghost use Rattle.live_cli.specs.Words.{daplive, task_of, usual, word_of};
 
 use crate::words::{Options, Role, Task, read_words};
@@ -46,7 +47,7 @@ fn tell<D: Display + Drop, E: Write>(why: D, error_writer: &mut E) -> u8
 
 /// The exit status of a conversation over all lines.
 fn status(bad: bool) -> u8
-    ensures { result ≡ status_of bad }
+    ensures { result ≡ (if bad then 1 else 0) }
 {
     if bad { 1 } else { 0 }
 }
@@ -87,7 +88,7 @@ fn serve<R: BufRead, W: Write, E: Write>(
     requires { least_buffer ≤ options.buffer }
     ensures { IfSome (R.remaining reader.old) (λ input. GivesAs role.Serve options input
         (W.contents writer.old) (W.contents writer.new) result
-        ⊎ IsSilent (W.contents writer.old) (W.contents writer.new) result) }
+        ⊎ (Keeps (W.contents writer.old) (W.contents writer.new) × (result ≡ 3))) }
 {
     match Serving::new(alloc, options.buffer, link_setup(options)) {
         Ok(mut end) => converse(alloc, &mut end, reader, writer, error_writer),
@@ -106,7 +107,7 @@ fn ask<R: BufRead, W: Write, E: Write>(
     requires { least_buffer ≤ options.buffer }
     ensures { IfSome (R.remaining reader.old) (λ input. GivesAs role.Ask options input
         (W.contents writer.old) (W.contents writer.new) result
-        ⊎ IsSilent (W.contents writer.old) (W.contents writer.new) result) }
+        ⊎ (Keeps (W.contents writer.old) (W.contents writer.new) × (result ≡ 3))) }
 {
     match Asking::new(alloc, options.buffer, link_setup(options)) {
         Ok(mut end) => converse(alloc, &mut end, reader, writer, error_writer),

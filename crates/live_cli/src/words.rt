@@ -7,9 +7,8 @@ ghost use Rattle.dap_msg.specs.BothEnds.{greatest_message, least_buffer};
 ghost use Rattle.nsp_link.specs.Limits.{largest_segment, largest_window};
 ghost use Rattle.clap.specs.declared.builder.command.Command.TheViews.{out-Command};
 ghost use Rattle.dap_text.specs.Words.{short};
-ghost use Rattle.live_cli.specs.Running.{HasRoom};
 ghost use Rattle.live_cli.specs.Words.{daplive, option as option_rule, options_of, address_in as address_in_rows, number_in as number_in_rows, task_in as task_of_rows, task_of};
-ghost use Rattle.live_cli.specs.Inner.CommandLine.{HasAddresses, HasLimits, IsCommandLine, IsEndLine};
+ghost use Rattle.live_cli.specs.Inner.CommandLine.{HasAddresses, HasLimits, HasRoom, IsCommandLine, IsEndLine};
 
 use clap::builder::ValueParser;
 use clap::error::ErrorKind;

@@ -1,10 +1,12 @@
--- How the command line is built.
-use Rattle.std.specs.Prelude.{◌≡◌, ◌∷◌, true, false, codes}
+-- How the command line is built, and what it names.
+use Rattle.std.specs.Prelude.{◌≡◌, ◌≤◌, ◌∷◌, true, false, codes}
 use Rattle.clap.specs.declared.builder.command.Command.{Command}
 use Rattle.clap.specs.declared.builder.command.Command.TheViews.{out-Command}
 use Rattle.clap.specs.Words.{App, Text, app_of, with_rule}
 use Rattle.dap_msg.specs.BothEnds.{greatest_message, least_buffer}
 use Rattle.nsp_link.specs.Limits.{largest_segment, largest_window}
+use Rattle.live_cli.specs.declared.words.Task.{Task}
+use Rattle.live_cli.specs.declared.words.Task.TheVariants.{End, Follow}
 use Rattle.live_cli.specs.Words.{daplive, end_line, number, option}
 
 -- the command is another with more words, none of them global
@@ -35,3 +37,8 @@ pub record IsCommandLine (command : Command) : Type 0 where
   pub app : app_of command ≡ daplive
   pub local : (out-Command command).has_globals ≡ false
   pub required : (out-Command command).subcommand_required ≡ true
+
+-- an end's buffer has room for any message of a fixed length
+abbrev pub HasRoom : Task → Type 0
+HasRoom (End options) = least_buffer ≤ options.buffer
+HasRoom Follow = Unit {0}

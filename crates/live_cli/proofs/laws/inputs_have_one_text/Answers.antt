@@ -8,7 +8,7 @@ returns-clause-serving c = λ options one other new end input text more bad wors
     let x = same.0 in
     let y = same.1 in
     serving_text one other new end input text more bad worse
-    (new_serving [] one other x.after y.after (x.port ∙ sym y.port) (x.own ∙ sym y.own) (x.setup ∙ sym y.setup) (ap (λ (p : PortValue). p.link.coming.inbox) x.port))
+    (new_serving [] one other x.0 y.0 (x.1.0 ∙ sym y.1.0) (x.1.1 ∙ sym y.1.1) (x.1.2 ∙ sym y.1.2) (ap (λ (p : PortValue). p.link.coming.inbox) x.1.0))
     t u never less
 
 pub returns-clause-asking : goal.returns-clause-asking
@@ -16,4 +16,4 @@ returns-clause-asking c = λ options one other new end input text more bad worse
     let x = same.0 in
     let y = same.1 in
     asking_text one other new end input text more bad worse
-    (new_asking one other x.after y.after (x.port ∙ sym y.port) (x.own ∙ sym y.own) (x.setup ∙ sym y.setup) (x.reports ∙ sym y.reports)) t u never less
+    (new_asking one other x.0 y.0 (x.2.0 ∙ sym y.2.0) (x.2.1 ∙ sym y.2.1) (x.2.2 ∙ sym y.2.2) (x.1 ∙ sym y.1)) t u never less

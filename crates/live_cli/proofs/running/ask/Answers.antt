@@ -9,12 +9,6 @@ returns-in-Ok g c =
     let is : c.link_setup.result ≡ setup_of c.args.options = c.link_setup.ensures in
     some_from _ c.converse.ensures (λ input answers. inl (
       c.in-Ok.end,
-      record {
-        after = c.in-Ok.ensures.after;
-        port = c.in-Ok.ensures.port ∙ ap new_port is;
-        own = c.in-Ok.ensures.own;
-        setup = c.in-Ok.ensures.setup ∙ is;
-        reports = c.in-Ok.ensures.reports;
-      },
+      (c.in-Ok.ensures.after, c.in-Ok.ensures.reports, (c.in-Ok.ensures.port ∙ ap new_port is, c.in-Ok.ensures.own, c.in-Ok.ensures.setup ∙ is)),
       answers,
     ))
