@@ -57,7 +57,14 @@ options_of role rows =
     bind (number_in (codes "segment") rows) (λ segment.
     bind (number_in (codes "window") rows) (λ window.
     bind (number_in (codes "buffer") rows) (λ buffer.
-    Some (record { role = role; local = local; remote = remote; segment = segment; window = window; buffer = max least_buffer buffer }))))))
+    Some (record {
+      role = role;
+      local = local;
+      remote = remote;
+      segment = segment;
+      window = window;
+      buffer = max least_buffer buffer;
+    }))))))
 
 abbrev pub task_in : Text × List Row → Option Task
 task_in p =
