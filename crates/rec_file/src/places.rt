@@ -20,7 +20,7 @@ const GROUP: u32 = 4096;
 /// The places of pages, by the pages' numbers, in order. Pages whose numbers have the same quotient are a group.
 #[derive(Drop)]
 pub(crate) struct Places {
-    groups: BTreeMap<u32, Vec<(u32, u32)>>,
+    groups: BTreeMap<u32, Vec<(u32, usize)>>,
 }
 
 impl Model for Places {
@@ -43,7 +43,7 @@ const NEAR: usize = 4;
 
 /// A part of a group outside of which a page doesn't stand: near the place where it would stand if the pages were
 /// spread evenly over the group, or else all up to there, or behind it.
-fn part(group: &[(u32, u32)], page: u32) -> (usize, usize)
+fn part(group: &[(u32, usize)], page: u32) -> (usize, usize)
     requires { IsInOrder (map (λ e. e.0) group.now) }
     ensures within { (result.0 ≤ result.1) × (result.1 ≤ length group.now) }
     ensures before { (j : ℕ) → j < result.0 → slice_index (map (λ e. e.0) group.now) j < page }
@@ -65,7 +65,7 @@ fn part(group: &[(u32, u32)], page: u32) -> (usize, usize)
 }
 
 /// Where a page stands in its group, or where it would.
-fn seek(group: &[(u32, u32)], page: u32) -> Result<usize, usize>
+fn seek(group: &[(u32, usize)], page: u32) -> Result<usize, usize>
     requires { IsInOrder (map (λ e. e.0) group.now) }
     ensures found { IfOk result (IsPlaceOf (map (λ e. e.0) group.now) page) }
     ensures gap { IfErr result (IsGapFor (map (λ e. e.0) group.now) page) }
@@ -78,7 +78,7 @@ fn seek(group: &[(u32, u32)], page: u32) -> Result<usize, usize>
 }
 
 /// The place of a page in its group.
-fn place_in(group: &[(u32, u32)], page: u32) -> Option<u32>
+fn place_in(group: &[(u32, usize)], page: u32) -> Option<usize>
     requires { is_sorted nat_cmp group.now ≡ true }
     ensures { result ≡ place_of group.now page }
 {
@@ -92,7 +92,7 @@ fn place_in(group: &[(u32, u32)], page: u32) -> Option<u32>
 #[derive(Drop)]
 pub(crate) enum Put {
     /// The page is kept, at this place.
-    Kept(u32),
+    Kept(usize),
     /// The page now has the next place of the pages, for which there is room, as for its first record.
     Begun(Vec<u8>),
 }
@@ -102,23 +102,21 @@ fn room_for(
     pages: &mut Slab<Page>,
     alloc: Global,
     body: &[u8],
-) -> Result<(u32, Vec<u8>), AllocError>
+) -> Result<(usize, Vec<u8>), AllocError>
     ensures place { IfOk result (λ r. r.0 ≡ pages.old.vacant_key) }
     ensures body { IfOk result (λ r. r.1.items ≡ body.now) }
     ensures room { OnOk result (HasRoomFor pages.new 1) }
     ensures pages { pages.new ≡ record pages.old { capacity = pages.new.capacity } }
 {
-    // There are at most 2^25 pages, so the next place always has 32 bits.
-    let place = u32::try_from(pages.vacant_key()).map_err(|_| AllocError)?;
     let record = Vec::from_slice(alloc, body)?;
     pages.reserve(1)?;
-    Ok((place, record))
+    Ok((pages.vacant_key(), record))
 }
 
 /// Puts a page into its group, where it has no place. An error is want of memory: it has no place, and nothing has
 /// changed.
 fn put_in(
-    group: &mut Vec<(u32, u32)>,
+    group: &mut Vec<(u32, usize)>,
     alloc: Global,
     page: u32,
     pages: &mut Slab<Page>,
@@ -145,7 +143,7 @@ fn put_in(
 }
 
 /// Empties a cell of a page of the group, where it is occupied; a page that has no record then goes. Whether it was.
-fn clear_in(group: &mut Vec<(u32, u32)>, page: u32, cell: usize, pages: &mut Slab<Page>) -> bool
+fn clear_in(group: &mut Vec<(u32, usize)>, page: u32, cell: usize, pages: &mut Slab<Page>) -> bool
     requires sorted { is_sorted nat_cmp group.old.items ≡ true }
     requires within { cell < 64 }
     requires stands { IfSome (place_of group.old.items page) (λ i. IsSome (get pages.old i)) }
@@ -154,7 +152,7 @@ fn clear_in(group: &mut Vec<(u32, u32)>, page: u32, cell: usize, pages: &mut Sla
     let Ok(at) = seek(group, page) else {
         return false;
     };
-    let place = group[at].1 as usize;
+    let place = group[at].1;
     let Some(kept) = pages.get_mut(place) else {
         unreachable!();
     };
@@ -170,7 +168,7 @@ fn clear_in(group: &mut Vec<(u32, u32)>, page: u32, cell: usize, pages: &mut Sla
 }
 
 /// The pages of a group from one on.
-fn rest_from(group: &[(u32, u32)], page: u32) -> &[(u32, u32)]
+fn rest_from(group: &[(u32, usize)], page: u32) -> &[(u32, usize)]
     requires { is_sorted nat_cmp group.now ≡ true }
     ensures { result.now ≡ places_from page group.now }
 {
@@ -191,7 +189,7 @@ impl Places {
     }
 
     /// The place of a page.
-    pub(crate) fn get(&self, page: u32) -> Option<u32>
+    pub(crate) fn get(&self, page: u32) -> Option<usize>
         ensures { result ≡ place_of self.now page }
     {
         let group = self.groups.get(&(page / GROUP))?;
@@ -245,7 +243,7 @@ impl Places {
     }
 
     /// The last page, and its place.
-    pub(crate) fn last(&self) -> Option<(u32, u32)>
+    pub(crate) fn last(&self) -> Option<(u32, usize)>
         ensures none { IfNone result (self.now ≡ []) }
         ensures some { IfSome result (IsLastPlace self.now) }
     {
@@ -277,8 +275,8 @@ impl Places {
 /// Pages and their places, in order: those of a group, and those of the groups behind it.
 #[derive(Drop)]
 pub(crate) struct PlacesFrom<'a> {
-    rest: &'a [(u32, u32)],
-    groups: Range<'a, u32, Vec<(u32, u32)>>,
+    rest: &'a [(u32, usize)],
+    groups: Range<'a, u32, Vec<(u32, usize)>>,
 }
 
 impl<'a> Model for PlacesFrom<'a> {
@@ -294,7 +292,7 @@ impl<'a> Model for PlacesFrom<'a> {
 
 impl<'a> PlacesFrom<'a> {
     /// Takes the first page that is left, and its place.
-    pub(crate) fn pop_first(&mut self) -> Option<(u32, u32)>
+    pub(crate) fn pop_first(&mut self) -> Option<(u32, usize)>
         ensures none { IfNone result (self.old ≡ []) }
         ensures some { IfSome result (λ first. self.old ≡ first ∷ self.new) }
     {

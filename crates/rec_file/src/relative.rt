@@ -90,7 +90,7 @@ impl RelFile {
         let own = page_of(least);
         let mut rest = self.places.from(own);
         let (at, place) = rest.pop_first()?;
-        let Some(page) = self.pages.get(place as usize) else {
+        let Some(page) = self.pages.get(place) else {
             unreachable!();
         };
         let from = if at == own { cell_of(least) } else { 0 };
@@ -98,7 +98,7 @@ impl RelFile {
             Some(first) => Some((first, page)),
             None => {
                 let (at, place) = rest.pop_first()?;
-                let Some(page) = self.pages.get(place as usize) else {
+                let Some(page) = self.pages.get(place) else {
                     unreachable!();
                 };
                 let Some(first) = first_in(at, page, 0) else {
@@ -139,7 +139,7 @@ fn put_in(
 {
     match places.put(alloc, at, pages, body)? {
         Put::Kept(place) => {
-            let Some(page) = pages.get_mut(place as usize) else {
+            let Some(page) = pages.get_mut(place) else {
                 unreachable!();
             };
             if page.get(cell).is_some() {
@@ -167,7 +167,7 @@ impl RecordFile for RelFile {
             return None;
         }
         let place = places.get(page_of(number))?;
-        let Some(page) = self.pages.get(place as usize) else {
+        let Some(page) = self.pages.get(place) else {
             unreachable!();
         };
         page.get(cell_of(number))
@@ -185,7 +185,7 @@ impl RecordFile for RelFile {
         let Some((at, place)) = self.places.last() else {
             return 0;
         };
-        let Some(page) = self.pages.get(place as usize) else {
+        let Some(page) = self.pages.get(place) else {
             unreachable!();
         };
         let Some(highest) = last_in(at, page) else {
@@ -215,7 +215,7 @@ impl RecordFile for RelFile {
         let Some(place) = places.get(page_of(number)) else {
             return Ok(false);
         };
-        let Some(page) = self.pages.get_mut(place as usize) else {
+        let Some(page) = self.pages.get_mut(place) else {
             unreachable!();
         };
         let cell = cell_of(number);
