@@ -1,15 +1,16 @@
 -- What is read of packets that are decoded only in front of a payload.
-use Rattle.std.proofs.Common.{◌≡◌, ◌<◌, ◌≤◌, ◌+◌, ◌-◌, ◌*◌, ℕ, List, [], ◌∷◌, length, take, drop, get_or, Result, Ok, Err, refl, ap, sym, subst, ◌∙◌, arith}
+use Rattle.std.proofs.Common.{◌≡◌, ◌<◌, ◌≤◌, ◌+◌, ◌-◌, ◌*◌, ℕ, List, length, take, drop, get_or, Result, Ok, Err, refl, ap, sym, ◌∙◌, arith, inl, inr}
+use Rattle.std.specs.Prelude.{min}
+use Rattle.std.proofs.lemmas.Bool.{cases_lt}
 use Rattle.std.proofs.lemmas.List.{ext_get_or, length-drop, take_all, get_or-take, get_or-drop}
-use Rattle.nsp_seg.specs.Packets.{SegmentValue, segment, Spells, HasFault}
+use Rattle.nsp_seg.specs.Packets.{SegmentValue, segment, Spells}
 use Rattle.nsp_seg.specs.declared.packet.SegFault.{SegFault}
-use Rattle.nsp_seg.specs.declared.packet.SegFault.TheVariants.{Truncated, Trailing, NotHere, BadNumber, NoMemory}
-use Rattle.nsp_seg.proofs.ForCallers.{carrying, other_payload}
+use Rattle.nsp_seg.proofs.ForCallers.{carrying, other_payload, head_few, other_ack, other_fault}
 use Rattle.dap_listing.specs.Packets.{IsSeen, seen_line}
 use Rattle.dap_listing.specs.Captured.{AreDecoded, Spell, bytes_of, carried_value, seen_value}
 use Rattle.dap_listing.specs.declared.packet.Captured.{Captured}
 use Rattle.dap_listing.specs.declared.packet.Captured.TheVariants.{Segment, DataAck}
-use Rattle.dap_listing.specs.Inner.Decoding.{IsFront, IsTold}
+use Rattle.dap_listing.specs.Inner.Decoding.{IsFront, IsBehind}
 use Rattle.dap_listing.proofs.DigitLemmas.{count_of, part}
 use Rattle.dap_listing.proofs.ItemLemmas.{same_part}
 
@@ -50,46 +51,40 @@ segment_is digits room known head s spell decoded reached spells at =
     let same : take o.0 bytes ≡ take o.0 room = sym (same_part room bytes 0 o.0 (sym long) (λ i low high. decoded i low (omega (arith, high, o.1, reached)))) in
     (rw start at (o.2 bytes same), same_line s (drop head bytes) (omega (arith, length-drop head bytes, long, o.1, start)))
 
-pub all_told : (digits room : List ℕ) (seen : Result Captured SegFault) → IsFront digits room seen → IsTold (length room) (length room) seen
-all_told digits room (Ok (Segment c)) front = omega arith
-all_told digits room (Ok (DataAck dst src ack1 ack2)) front = refl
-all_told digits room (Err (NotHere flag)) front = omega (arith, ap length front.1)
-all_told digits room (Err (Truncated at)) front = refl
-all_told digits room (Err (Trailing at)) front = refl
-all_told digits room (Err (BadNumber at)) front = refl
-all_told digits room (Err NoMemory) front = absurd front
+-- the first bytes are decoded
+same_first : (digits room : List ℕ) (known : ℕ) → Spell digits (length room) → AreDecoded digits 0 known room → known ≡ min 32 (length room)
+    → take 11 (bytes_of digits) ≡ take 11 room
+same_first digits room known spell decoded end =
+    elim (cases_lt (length room) 33) [
+      | inl few ↦ ap (take 11) (sym (all_decoded digits room spell (λ i low high. decoded i low (omega (arith, high, few, end)))))
+      | inr more ↦
+          sym (same_part room (bytes_of digits) 0 11 (sym (count_of digits (length room) spell)) (λ i low high. decoded i low (omega (arith, high, more, end))))
+    ]
 
-begins : (l : List ℕ) → 0 < length l → l ≡ get_or l 0 0 ∷ drop 1 l
-begins [] some = absurd (omega (arith, some))
-begins (x ∷ l) some = refl
-
--- a fault of bytes that are all decoded
-whole_fault : (digits room : List ℕ) (known : ℕ) (fault : SegFault) → Spell digits (length room) → AreDecoded digits 0 known room
-    → known ≡ length room → HasFault fault room → HasFault fault (bytes_of digits)
-whole_fault digits room known fault spell decoded all has =
-    rw (all_decoded digits room spell (subst (λ (n : ℕ). AreDecoded digits 0 n room) all decoded)) at has
-
--- what is read of bytes that are decoded so far is what the digits spell
+-- what is read where the first bytes are decoded is what the digits spell
 pub told : (digits room : List ℕ) (known : ℕ) (seen : Result Captured SegFault) → Spell digits (length room) → AreDecoded digits 0 known room
-    → IsTold known (length room) seen → IsFront digits room seen → IsSeen (seen_value seen) (bytes_of digits)
-told digits room known (Ok (Segment c)) spell decoded reached front =
+    → known ≡ min 32 (length room) → IsFront digits room seen → IsSeen (seen_value seen) (bytes_of digits)
+told digits room known (Ok (Segment c)) spell decoded end front =
     let s : SegmentValue = record (carried_value c) { payload = front.0 } in
     let o = other_payload s room front.1 in
     let head : ℕ = length room - length front.0 in
     let rest = rest_of digits (length room) head spell (omega arith) in
     let same : take (length digits - 2 * head) (drop (2 * head) digits) ≡ c.payload.now =
     take_all (length digits - 2 * head) (drop (2 * head) digits) (omega (arith, length-drop (2 * head) digits)) ∙ sym front.2 in
-    let far : length room ≤ known + length front.0 = omega (arith, reached, ap length (sym front.2), length-drop (2 * head) digits, spell.1, o.1) in
+    let far : length room ≤ known + length front.0 = omega (arith, end, head_few s room front.1) in
     let bytes : bytes_of c.payload.now ≡ drop head (bytes_of digits) = ap bytes_of (sym same) ∙ rest.1 in
     rw bytes (segment_is digits room known head s spell decoded far front.1 refl).0
-told digits room known (Ok (DataAck dst src ack1 ack2)) spell decoded all front =
-    rw (all_decoded digits room spell (subst (λ (n : ℕ). AreDecoded digits 0 n room) all decoded)) at front
-told digits room known (Err (NotHere flag)) spell decoded some front =
-    let bytes : List ℕ = bytes_of digits in
-    let long : 0 < length bytes = omega (arith, count_of digits (length room) spell, ap length front.1) in
-    let same : get_or bytes 0 0 ≡ flag = sym (decoded 0 (omega arith) some) ∙ ap (λ (l : List ℕ). get_or l 0 0) front.1 in
-    (drop 1 bytes, begins bytes long ∙ ap (λ (x : ℕ). x ∷ drop 1 bytes) same, front.2)
-told digits room known (Err (Truncated at)) spell decoded all front = whole_fault digits room known (Truncated at) spell decoded all front
-told digits room known (Err (Trailing at)) spell decoded all front = whole_fault digits room known (Trailing at) spell decoded all front
-told digits room known (Err (BadNumber at)) spell decoded all front = whole_fault digits room known (BadNumber at) spell decoded all front
-told digits room known (Err NoMemory) spell decoded all front = absurd front
+told digits room known (Ok (DataAck dst src ack1 ack2)) spell decoded end front =
+    other_ack (record { dst = dst; src = src; ack1 = ack1; ack2 = ack2 }) room (bytes_of digits) front (same_first digits room known spell decoded end)
+told digits room known (Err fault) spell decoded end front = other_fault fault room (bytes_of digits) front (same_first digits room known spell decoded end)
+
+-- a payload's digits stand behind what is decoded
+pub behind : (digits room : List ℕ) (known : ℕ) (seen : Result Captured SegFault) → Spell digits (length room)
+    → known ≡ min 32 (length room) → IsFront digits room seen → IsBehind digits known seen
+behind digits room known (Ok (Segment c)) spell end front =
+    let s : SegmentValue = record (carried_value c) { payload = front.0 } in
+    let o = other_payload s room front.1 in
+    let head : ℕ = length room - length front.0 in
+    (head, omega (arith, end, head_few s room front.1), omega (arith, ap length front.2, length-drop (2 * head) digits, spell.1, o.1), front.2)
+behind digits room known (Ok (DataAck dst src ack1 ack2)) spell end front = tt
+behind digits room known (Err fault) spell end front = tt

@@ -1,11 +1,11 @@
 //! The lines of a packet.
 
-ghost use Rattle.std.specs.Prelude.{◌≡◌, ◌≤◌, ◌/◌, ◌⊎◌, ◌++◌, ◌∷◌, [], ℕ, List, Ok, OnOk, Some, codes, length, true};
+ghost use Rattle.std.specs.Prelude.{◌≡◌, ◌≤◌, ◌/◌, ◌++◌, ◌∷◌, [], ℕ, List, Ok, OnOk, Some, codes, length};
 ghost use Rattle.std.specs.List.{concat};
 ghost use Rattle.dap_text.specs.Text.{word_text};
 ghost use Rattle.dap_text.specs.Adding.{Adds, AddsSome};
 ghost use Rattle.dap_listing.specs.Captured.{AreDecoded, HasDigits, Spell, bytes_of, carried_value, seen_value};
-ghost use Rattle.dap_listing.specs.Inner.Decoding.{IsBehind, IsFront, IsTold};
+ghost use Rattle.dap_listing.specs.Inner.Decoding.{IsBehind, IsFront};
 ghost use Rattle.dap_listing.specs.Packets.{IsPacketText, IsSeen, ack_text, acks_text, mark_text, seen_line};
 ghost use Rattle.dap_listing.specs.Inner.Messages.{SegmentMessages};
 ghost use Rattle.nsp_seg.specs.Packets.{data_ack, segment};
@@ -189,20 +189,7 @@ fn seen_of<'a>(digits: &'a [u8], bytes: &[u8]) -> Result<Captured<'a>, SegFault>
     }
 }
 
-/// Whether so many bytes in front, of all, tell what was captured: they reach up to a payload, or to the end, or the first
-/// is that of a message which isn't read here.
-fn is_told(seen: &Result<Captured<'_>, SegFault>, known: usize, all: usize) -> bool
-    requires { known ≤ all }
-    ensures { result ≡ true → IsTold known all seen.now }
-{
-    match seen {
-        Ok(Captured::Segment(line)) => all - known <= line.payload.len() / 2,
-        Err(SegFault::NotHere(_)) => known > 0,
-        _ => known == all,
-    }
-}
-
-/// What the bytes of the digits are, and how many in front are decoded: all up to a payload, at least.
+/// What the bytes of the digits are, which those in front tell, and how many of these are decoded: all up to a payload.
 fn see<'a>(digits: &'a [u8], bytes: &mut [u8]) -> (Result<Captured<'a>, SegFault>, usize)
     requires { Spell digits.now (length bytes.old) }
     ensures size { length bytes.new ≡ length bytes.old }
@@ -213,11 +200,6 @@ fn see<'a>(digits: &'a [u8], bytes: &mut [u8]) -> (Result<Captured<'a>, SegFault
     ensures behind { IsBehind digits.now result.1 result.0 }
 {
     let known = decode_to(digits, bytes, 0, FRONT);
-    let seen = seen_of(digits, bytes);
-    if is_told(&seen, known, bytes.len()) {
-        return (seen, known);
-    }
-    let known = decode_to(digits, bytes, known, bytes.len());
     (seen_of(digits, bytes), known)
 }
 

@@ -1,10 +1,9 @@
 -- Hex digits whose bytes are decoded as far as they are needed.
-use Rattle.std.specs.Prelude.{◌≡◌, ℕ, ◌+◌, ◌*◌, ◌-◌, ◌<◌, ◌≤◌, List, length, drop, Result, Ok, Err}
+use Rattle.std.specs.Prelude.{◌≡◌, ℕ, ◌+◌, ◌*◌, ◌-◌, ◌≤◌, List, length, drop, Result, Ok, Err}
 use Rattle.dap_listing.specs.Captured.{carried_value}
 use Rattle.dap_listing.specs.declared.packet.Captured.{Captured}
 use Rattle.dap_listing.specs.declared.packet.Captured.TheVariants.{Segment, DataAck}
 use Rattle.nsp_seg.specs.declared.packet.SegFault.{SegFault}
-use Rattle.nsp_seg.specs.declared.packet.SegFault.TheVariants.{NotHere}
 use Rattle.nsp_seg.specs.Packets.{segment, data_ack, Spells, HasFault}
 use Rattle.dap_msg.specs.Message.{Message, Filedata}
 use Rattle.dap_msg.specs.Items.{Item, Whole, Malformed}
@@ -16,13 +15,6 @@ IsFront digits bytes (Ok (Segment c)) =
     × (c.payload.now ≡ drop (2 * (length bytes - length payload)) digits)
 IsFront digits bytes (Ok (DataAck dst src ack1 ack2)) = Spells (data_ack (record { dst = dst; src = src; ack1 = ack1; ack2 = ack2 })) bytes
 IsFront digits bytes (Err fault) = HasFault fault bytes
-
--- so many bytes in front, of all, reach up to a payload, or to the end; the first tells a message that isn't read here
-abbrev pub IsTold : ℕ → ℕ → Result Captured SegFault → Type 0
-IsTold known all (Ok (Segment c)) = 2 * all ≤ 2 * known + length c.payload.now
-IsTold known all (Ok (DataAck dst src ack1 ack2)) = known ≡ all
-IsTold known all (Err (NotHere flag)) = 0 < known
-IsTold known all (Err fault) = known ≡ all
 
 -- a payload's digits end the digits, and stand behind so many bytes at most
 abbrev pub IsBehind : List ℕ → ℕ → Result Captured SegFault → Type 0
