@@ -1,16 +1,12 @@
 -- What is read of packets that are decoded only in front of a payload.
-use Rattle.std.proofs.Common.{◌≡◌, ◌<◌, ◌≤◌, ◌+◌, ◌-◌, ◌*◌, ℕ, List, length, take, drop, get_or, Result, Ok, Err, refl, ap, sym, ◌∙◌, arith, inl, inr}
-use Rattle.std.specs.Prelude.{min}
+use Rattle.std.proofs.Common.{◌≡◌, ◌<◌, ◌≤◌, ◌+◌, ◌-◌, ◌*◌, ℕ, List, length, take, drop, get_or, Ok, refl, ap, sym, ◌∙◌, arith, inl, inr}
 use Rattle.std.proofs.lemmas.Bool.{cases_lt}
 use Rattle.std.proofs.lemmas.List.{ext_get_or, length-drop, take_all, get_or-take, get_or-drop}
 use Rattle.nsp_seg.specs.Packets.{SegmentValue, segment, Spells}
-use Rattle.nsp_seg.specs.declared.packet.SegFault.{SegFault}
-use Rattle.nsp_seg.proofs.ForCallers.{carrying, other_payload, head_few, other_ack, other_fault}
-use Rattle.dap_listing.specs.Packets.{IsSeen, seen_line}
-use Rattle.dap_listing.specs.Captured.{AreDecoded, Spell, bytes_of, carried_value, seen_value}
-use Rattle.dap_listing.specs.declared.packet.Captured.{Captured}
-use Rattle.dap_listing.specs.declared.packet.Captured.TheVariants.{Segment, DataAck}
-use Rattle.dap_listing.specs.Inner.Decoding.{IsFront, IsBehind}
+use Rattle.nsp_seg.proofs.ForCallers.{carrying, other_payload, head_few}
+use Rattle.dap_listing.specs.Packets.{seen_line}
+use Rattle.dap_listing.specs.Captured.{AreDecoded, Spell, bytes_of}
+use Rattle.dap_listing.specs.Inner.Decoding.{front_of}
 use Rattle.dap_listing.proofs.DigitLemmas.{count_of, part}
 use Rattle.dap_listing.proofs.ItemLemmas.{same_part}
 
@@ -52,7 +48,7 @@ segment_is digits room known head s spell decoded reached spells at =
     (rw start at (o.2 bytes same), same_line s (drop head bytes) (omega (arith, length-drop head bytes, long, o.1, start)))
 
 -- the first bytes are decoded
-same_first : (digits room : List ℕ) (known : ℕ) → Spell digits (length room) → AreDecoded digits 0 known room → known ≡ min 32 (length room)
+pub same_first : (digits room : List ℕ) (known : ℕ) → Spell digits (length room) → AreDecoded digits 0 known room → known ≡ front_of (length room)
     → take 11 (bytes_of digits) ≡ take 11 room
 same_first digits room known spell decoded end =
     elim (cases_lt (length room) 33) [
@@ -61,30 +57,13 @@ same_first digits room known spell decoded end =
           sym (same_part room (bytes_of digits) 0 11 (sym (count_of digits (length room) spell)) (λ i low high. decoded i low (omega (arith, high, more, end))))
     ]
 
--- what is read where the first bytes are decoded is what the digits spell
-pub told : (digits room : List ℕ) (known : ℕ) (seen : Result Captured SegFault) → Spell digits (length room) → AreDecoded digits 0 known room
-    → known ≡ min 32 (length room) → IsFront digits room seen → IsSeen (seen_value seen) (bytes_of digits)
-told digits room known (Ok (Segment c)) spell decoded end front =
-    let s : SegmentValue = record (carried_value c) { payload = front.0 } in
-    let o = other_payload s room front.1 in
-    let head : ℕ = length room - length front.0 in
+-- a segment whose first bytes are decoded is that of the digits, with the bytes that its payload's digits spell
+pub told_segment : (digits room : List ℕ) (known : ℕ) (s : SegmentValue) → Spell digits (length room) → AreDecoded digits 0 known room
+    → known ≡ front_of (length room) → Spells (segment s) room
+    → Spells (segment (carrying s (bytes_of (take (length digits - 2 * (length room - length s.payload)) (drop (2 * (length room - length s.payload)) digits))))) (bytes_of digits)
+told_segment digits room known s spell decoded end spells =
+    let o = other_payload s room spells in
+    let head : ℕ = length room - length s.payload in
     let rest = rest_of digits (length room) head spell (omega arith) in
-    let same : take (length digits - 2 * head) (drop (2 * head) digits) ≡ c.payload.now =
-    take_all (length digits - 2 * head) (drop (2 * head) digits) (omega (arith, length-drop (2 * head) digits)) ∙ sym front.2 in
-    let far : length room ≤ known + length front.0 = omega (arith, end, head_few s room front.1) in
-    let bytes : bytes_of c.payload.now ≡ drop head (bytes_of digits) = ap bytes_of (sym same) ∙ rest.1 in
-    rw bytes (segment_is digits room known head s spell decoded far front.1 refl).0
-told digits room known (Ok (DataAck dst src ack1 ack2)) spell decoded end front =
-    other_ack (record { dst = dst; src = src; ack1 = ack1; ack2 = ack2 }) room (bytes_of digits) front (same_first digits room known spell decoded end)
-told digits room known (Err fault) spell decoded end front = other_fault fault room (bytes_of digits) front (same_first digits room known spell decoded end)
-
--- a payload's digits stand behind what is decoded
-pub behind : (digits room : List ℕ) (known : ℕ) (seen : Result Captured SegFault) → Spell digits (length room)
-    → known ≡ min 32 (length room) → IsFront digits room seen → IsBehind digits known seen
-behind digits room known (Ok (Segment c)) spell end front =
-    let s : SegmentValue = record (carried_value c) { payload = front.0 } in
-    let o = other_payload s room front.1 in
-    let head : ℕ = length room - length front.0 in
-    (head, omega (arith, end, head_few s room front.1), omega (arith, ap length front.2, length-drop (2 * head) digits, spell.1, o.1), front.2)
-behind digits room known (Ok (DataAck dst src ack1 ack2)) spell end front = tt
-behind digits room known (Err fault) spell end front = tt
+    let far : length room ≤ known + length s.payload = omega (arith, end, head_few s room spells) in
+    rw rest.1 (segment_is digits room known head s spell decoded far spells refl).0

@@ -5,7 +5,7 @@ ghost use Rattle.std.specs.List.{concat};
 ghost use Rattle.dap_text.specs.Text.{word_text};
 ghost use Rattle.dap_text.specs.Adding.{Adds, AddsSome};
 ghost use Rattle.dap_listing.specs.Captured.{AreDecoded, HasDigits, Spell, bytes_of, carried_value, seen_value};
-ghost use Rattle.dap_listing.specs.Inner.Decoding.{IsBehind, IsFront};
+ghost use Rattle.dap_listing.specs.Inner.Decoding.{IsBehind, front_of};
 ghost use Rattle.dap_listing.specs.Packets.{IsPacketText, IsSeen, ack_text, acks_text, mark_text, seen_line};
 ghost use Rattle.dap_listing.specs.Inner.Messages.{SegmentMessages};
 ghost use Rattle.nsp_seg.specs.Packets.{data_ack, segment};
@@ -142,11 +142,16 @@ fn push_ack(
     push_str(text, "\n")
 }
 
-/// What the bytes are, of which a payload needs no decoding: its digits stand for it.
-fn seen_of<'a>(digits: &'a [u8], bytes: &[u8]) -> Result<Captured<'a>, SegFault>
-    requires { Spell digits.now (length bytes.now) }
-    ensures { IsFront digits.now bytes.now result }
+/// What the bytes of the digits are, which those in front tell: these are decoded, all up to a payload.
+fn see<'a>(digits: &'a [u8], bytes: &mut [u8]) -> Result<Captured<'a>, SegFault>
+    requires { Spell digits.now (length bytes.old) }
+    ensures size { length bytes.new ≡ length bytes.old }
+    ensures decoded { AreDecoded digits.now 0 (front_of (length bytes.new)) bytes.new }
+    ensures seen { IsSeen (seen_value result) (bytes_of digits.now) }
+    ensures payload { HasDigits result }
+    ensures behind { IsBehind digits.now (front_of (length bytes.new)) result }
 {
+    let _known = decode_to(digits, bytes, 0, FRONT);
     match decode_packet(bytes) {
         Ok(
             Packet::Segment {
@@ -189,20 +194,6 @@ fn seen_of<'a>(digits: &'a [u8], bytes: &[u8]) -> Result<Captured<'a>, SegFault>
     }
 }
 
-/// What the bytes of the digits are, which those in front tell, and how many of these are decoded: all up to a payload.
-fn see<'a>(digits: &'a [u8], bytes: &mut [u8]) -> (Result<Captured<'a>, SegFault>, usize)
-    requires { Spell digits.now (length bytes.old) }
-    ensures size { length bytes.new ≡ length bytes.old }
-    ensures within { result.1 ≤ length bytes.new }
-    ensures decoded { AreDecoded digits.now 0 result.1 bytes.new }
-    ensures seen { IsSeen (seen_value result.0) (bytes_of digits.now) }
-    ensures payload { HasDigits result.0 }
-    ensures behind { IsBehind digits.now result.1 result.0 }
-{
-    let known = decode_to(digits, bytes, 0, FRONT);
-    (seen_of(digits, bytes), known)
-}
-
 /// What the bytes are that the hex digits spell (NSP 4.0.0, data segment and data acknowledgement messages). The room is
 /// for the bytes. Own. Takes no memory.
 pub fn read_packet<'a>(digits: &'a [u8], room: &mut [u8]) -> Result<Captured<'a>, SegFault>
@@ -211,8 +202,7 @@ pub fn read_packet<'a>(digits: &'a [u8], room: &mut [u8]) -> Result<Captured<'a>
     ensures seen { IsSeen (seen_value result) (bytes_of digits.now) }
     ensures payload { HasDigits result }
 {
-    let (seen, _) = see(digits, room);
-    seen
+    see(digits, room)
 }
 
 /// Appends the line of a packet.
@@ -254,18 +244,29 @@ pub(crate) fn push_packet(
     requires { Spell digits.now (length bytes.old) }
     ensures { OnOk result (AddsSome text.old text.new (IsPacketText (bytes_of digits.now))) }
 {
-    let (seen, known) = see(digits, bytes);
-    push_seen(text, &seen)?;
-    let Ok(Captured::Segment(line)) = seen else {
-        return Ok(());
-    };
-    let head = bytes.len() - line.payload.len() / 2;
-    push_whole(
-        text,
-        line.first,
-        line.last,
-        line.payload,
-        &mut bytes[head..],
-        known - head,
-    )
+    match see(digits, bytes) {
+        Ok(Captured::Segment(line)) => {
+            let count = line.payload.len() / 2;
+            push_segment(text, &line, count)?;
+            let known = FRONT.min(bytes.len());
+            let head = bytes.len() - count;
+            push_whole(
+                text,
+                line.first,
+                line.last,
+                line.payload,
+                &mut bytes[head..],
+                known - head,
+            )
+        }
+        Ok(
+            Captured::DataAck {
+                dst,
+                src,
+                ack1,
+                ack2,
+            },
+        ) => push_ack(text, dst, src, ack1, ack2),
+        Err(fault) => push_packet_fault(text, fault),
+    }
 }

@@ -1,20 +1,14 @@
 -- Hex digits whose bytes are decoded as far as they are needed.
-use Rattle.std.specs.Prelude.{◌≡◌, ℕ, ◌+◌, ◌*◌, ◌-◌, ◌≤◌, List, length, drop, Result, Ok, Err}
-use Rattle.dap_listing.specs.Captured.{carried_value}
+use Rattle.std.specs.Prelude.{min, ◌≡◌, ℕ, ◌+◌, ◌*◌, ◌≤◌, List, length, drop, Result, Ok, Err}
 use Rattle.dap_listing.specs.declared.packet.Captured.{Captured}
 use Rattle.dap_listing.specs.declared.packet.Captured.TheVariants.{Segment, DataAck}
 use Rattle.nsp_seg.specs.declared.packet.SegFault.{SegFault}
-use Rattle.nsp_seg.specs.Packets.{segment, data_ack, Spells, HasFault}
 use Rattle.dap_msg.specs.Message.{Message, Filedata}
 use Rattle.dap_msg.specs.Items.{Item, Whole, Malformed}
 
--- what is read of bytes of which a payload needs no decoding: the digits that end the others stand for it
-abbrev pub IsFront : List ℕ → List ℕ → Result Captured SegFault → Type 0
-IsFront digits bytes (Ok (Segment c)) =
-    (payload : List ℕ) × Spells (segment (record (carried_value c) { payload = payload })) bytes
-    × (c.payload.now ≡ drop (2 * (length bytes - length payload)) digits)
-IsFront digits bytes (Ok (DataAck dst src ack1 ack2)) = Spells (data_ack (record { dst = dst; src = src; ack1 = ack1; ack2 = ack2 })) bytes
-IsFront digits bytes (Err fault) = HasFault fault bytes
+-- how many bytes are decoded, of so many, to tell what they are
+abbrev pub front_of : ℕ → ℕ
+front_of count = min 32 count
 
 -- a payload's digits end the digits, and stand behind so many bytes at most
 abbrev pub IsBehind : List ℕ → ℕ → Result Captured SegFault → Type 0

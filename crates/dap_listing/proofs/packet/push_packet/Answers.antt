@@ -1,16 +1,17 @@
 use Rattle.std.proofs.Common.{◌≡◌, ◌≤◌, ◌<◌, ◌-◌, ◌*◌, ◌/◌, ℕ, List, Ok, length, length-drop, take, drop, get_or, sym, ap, ◌∙◌, subst, arith}
 use Rattle.std.proofs.lemmas.List.{take_all}
-use Rattle.dap_listing.specs.Captured.{Spell, bytes_of}
-use Rattle.dap_listing.specs.Inner.Decoding.{IsBehind}
+use Rattle.dap_listing.specs.Captured.{HasDigits, Spell, bytes_of}
+use Rattle.dap_listing.specs.Inner.Decoding.{IsBehind, front_of}
+use Rattle.dap_listing.proofs.DigitLemmas.{count_of}
 use Rattle.dap_listing.proofs.PacketLemmas.{rest_decoded}
 use Rattle.dap_listing.proofs.packet.push_packet.Goals as goal
 
 pub push_whole-requires-clause-decoded : goal.push_whole-requires-clause-decoded
 push_whole-requires-clause-decoded c =
-    let seen = c.see-seen.ensures in
+    let seen = c.see.ensures in
     let digits = c.args.digits.now in
-    let room = c.see-seen.new.bytes in
-    let known = c.see-seen.result.1 in
+    let room = c.see.new.bytes in
+    let known : ℕ = front_of (length room) in
     let payload = c.in-Ok-Segment.line.payload.now in
     let spell : Spell digits (length room) = (c.requires.0, omega (arith, c.requires.1, seen.size)) in
     let behind = subst (IsBehind digits known) (c.in-Ok-Segment.is ∙ ap Ok c.in-Ok-Segment.field-0-is) seen.behind in
@@ -18,6 +19,13 @@ push_whole-requires-clause-decoded c =
     let same : head ≡ length room - length payload / 2 = omega (arith, behind.2, spell.1) in
     let rest : take (length digits - 2 * head) (drop (2 * head) digits) ≡ payload =
     take_all (length digits - 2 * head) (drop (2 * head) digits) (omega (arith, length-drop (2 * head) digits)) ∙ sym behind.3 in
-    let decoded = rest_decoded digits room known head spell (omega (arith, behind.2, spell.1)) seen.within seen.decoded in
-    subst (λ (k : ℕ). (i : ℕ) → 0 ≤ i → i < known - k → get_or (take (length room - k) (drop k room)) i 0 ≡ get_or (bytes_of payload) i 0) same
-    (λ i low high. decoded i low high ∙ ap (λ (l : List ℕ). get_or (bytes_of l) i 0) rest)
+    let decoded = rest_decoded digits room known head spell (omega (arith, behind.2, spell.1)) (omega arith) seen.decoded in
+    let same_known : known ≡ c.min-known.result = sym c.min-known.ensures in
+    subst (λ (n : ℕ). (i : ℕ) → 0 ≤ i → i < n - (length room - length payload / 2) → get_or (take (length room - (length room - length payload / 2)) (drop (length room - length payload / 2) room)) i 0 ≡ get_or (bytes_of payload) i 0) same_known
+    (subst (λ (k : ℕ). (i : ℕ) → 0 ≤ i → i < known - k → get_or (take (length room - k) (drop k room)) i 0 ≡ get_or (bytes_of payload) i 0) same
+    (λ i low high. decoded i low high ∙ ap (λ (l : List ℕ). get_or (bytes_of l) i 0) rest))
+
+pub push_segment-requires : goal.push_segment-requires
+push_segment-requires c =
+    let payload = c.in-Ok-Segment.line.payload.now in
+    sym (count_of payload (length payload / 2) (subst HasDigits (c.in-Ok-Segment.is ∙ ap Ok c.in-Ok-Segment.field-0-is) c.see.ensures.payload))

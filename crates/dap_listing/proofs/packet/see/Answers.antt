@@ -1,20 +1,35 @@
 use Rattle.std.proofs.Common.{length, arith}
-use Rattle.dap_listing.specs.Captured.{Spell}
-use Rattle.dap_listing.proofs.PacketLemmas.{told, behind}
+use Rattle.nsp_seg.specs.Packets.{SegmentValue, AckValue, segment, data_ack, Spells}
+use Rattle.nsp_seg.proofs.ForCallers.{other_ack, other_fault}
+use Rattle.dap_listing.specs.Captured.{Spell, bytes_of}
+use Rattle.dap_listing.proofs.PacketLemmas.{told_segment, same_first}
 use Rattle.dap_listing.proofs.packet.see.Goals as goal
 
-pub returns-clause-seen : goal.returns-clause-seen
-returns-clause-seen c =
-    let digits = c.args.digits.now in
+pub returns-in-Ok-Segment-clause-seen : goal.returns-in-Ok-Segment-clause-seen
+returns-in-Ok-Segment-clause-seen c =
     let first = c.decode_to-known in
     let room = first.new.bytes in
-    let spell : Spell digits (length room) = (c.requires.0, omega (arith, c.requires.1, first.ensures.size)) in
-    told digits room first.result c.seen_of.result spell (first.ensures.decoded 0 (λ i low high. omega (arith, high))) (omega (arith, first.ensures.end, first.ensures.size)) c.seen_of.ensures
+    let p = c.in-Ok-Segment in
+    let s : SegmentValue = record { first = p.first; last = p.last; dst = p.dst; src = p.src; ack1 = p.ack1; ack2 = p.ack2; number = p.number; payload = p.payload.now } in
+    let spell : Spell c.args.digits.now (length room) = (c.requires.0, omega (arith, c.requires.1, first.ensures.size)) in
+    let spells : Spells (segment s) room = rw p.field-0-is at p.ensures.found in
+    told_segment c.args.digits.now room first.result s spell (first.ensures.decoded 0 (λ i low high. omega (arith, high))) (omega (arith, first.ensures.end, first.ensures.size)) spells
 
-pub returns-clause-behind : goal.returns-clause-behind
-returns-clause-behind c =
-    let digits = c.args.digits.now in
+pub returns-in-Ok-DataAck-clause-seen : goal.returns-in-Ok-DataAck-clause-seen
+returns-in-Ok-DataAck-clause-seen c =
     let first = c.decode_to-known in
     let room = first.new.bytes in
-    let spell : Spell digits (length room) = (c.requires.0, omega (arith, c.requires.1, first.ensures.size)) in
-    behind digits room first.result c.seen_of.result spell (omega (arith, first.ensures.end, first.ensures.size)) c.seen_of.ensures
+    let p = c.in-Ok-DataAck in
+    let a : AckValue = record { dst = p.dst; src = p.src; ack1 = p.ack1; ack2 = p.ack2 } in
+    let spell : Spell c.args.digits.now (length room) = (c.requires.0, omega (arith, c.requires.1, first.ensures.size)) in
+    let spells : Spells (data_ack a) room = rw p.field-0-is at p.ensures.found in
+    other_ack a room (bytes_of c.args.digits.now) spells
+    (same_first c.args.digits.now room first.result spell (first.ensures.decoded 0 (λ i low high. omega (arith, high))) (omega (arith, first.ensures.end, first.ensures.size)))
+
+pub returns-in-Err-clause-seen : goal.returns-in-Err-clause-seen
+returns-in-Err-clause-seen c =
+    let first = c.decode_to-known in
+    let room = first.new.bytes in
+    let spell : Spell c.args.digits.now (length room) = (c.requires.0, omega (arith, c.requires.1, first.ensures.size)) in
+    other_fault c.in-Err.fault room (bytes_of c.args.digits.now) c.in-Err.ensures.fault
+    (same_first c.args.digits.now room first.result spell (first.ensures.decoded 0 (λ i low high. omega (arith, high))) (omega (arith, first.ensures.end, first.ensures.size)))
