@@ -10,7 +10,7 @@ use Rattle.dap_fields.specs.Spelling.{FixedValue}
 use Rattle.dap_fields.specs.Writing.{groups, shortest}
 use Rattle.dap_fields.proofs.ForCallers.{groups_spell}
 use Rattle.dap_msg.specs.Grammar.{Kind, Byte, Word, Extensible, Image, ValueOf, SpellsField, Part, Must, When, OrElse, UnlessEnd, Remainder, PartValue, SpellsPart, Grammar, Next, Done, Spells, field_bytes, part_bytes, Writes}
-use Rattle.dap_msg.specs.Message.{Attributes, ControlFields, Message, Config, Attrib, Access, Control, Contran, Ack, Accomp, Filedata, Status, Other, length_of}
+use Rattle.dap_msg.specs.Message.{Message, Config, Attrib, Access, Control, Contran, Ack, Accomp, Filedata, Status, Other, length_of}
 use Rattle.dap_msg.specs.Formats.{any, has, menu, optional, refuses_type, refuses_flags, refuses_stream, header, operand, configuration, attributes, access, control, continuation, acknowledge, completion, file_data, status, other, type_number}
 use Rattle.dap_msg.specs.Decoding.{HasLength, SpellsMessage, StandsInFront, IsSpelled}
 use Rattle.dap_msg.specs.declared.fault.FaultKind.{FaultKind}
@@ -18,7 +18,7 @@ use Rattle.dap_msg.specs.Laws.{IsReadBack}
 use Rattle.dap_msg.specs.Inner.Whole.{message_at}
 use Rattle.dap_msg.proofs.Messages.{ok_only}
 use Rattle.dap_msg.specs.Canon.{Fits}
-use Rattle.dap_msg.specs.Inner.Canon.{option_bytes, bits_of, operand_bytes, canon}
+use Rattle.dap_msg.specs.Inner.Canon.{option_bytes, bits_of, attribute_flags, control_flags, operand_bytes, canon}
 use Rattle.dap_msg.specs.Inner.Fitting.{FitsField, FitsOption, FieldsFit, KeepsLimits}
 
 -- ---- Fields.
@@ -117,12 +117,6 @@ bits max flags room le =
     record { spelled = inl (field_spelled (Extensible max) (bits_of flags) room (omega arith), rw (lt-ltb (bits_of flags) (2 ^ length flags) below) refl) }
 
 -- ---- Operands.
-
-abbrev pub attribute_flags : Attributes → List Bool
-attribute_flags a = is_some a.datatype ∷ is_some a.org ∷ is_some a.rfm ∷ is_some a.rat ∷ is_some a.bls ∷ is_some a.mrs ∷ is_some a.alq ∷ is_some a.bks ∷ is_some a.fsz ∷ is_some a.mrn ∷ is_some a.runsys ∷ is_some a.deq ∷ is_some a.fop ∷ is_some a.bsz ∷ is_some a.dev ∷ is_some a.sdc ∷ is_some a.lrl ∷ is_some a.hbk ∷ is_some a.ebk ∷ is_some a.ffb ∷ is_some a.sbn ∷ []
-
-abbrev pub control_flags : ControlFields → List Bool
-control_flags c = is_some c.rac ∷ is_some c.key ∷ is_some c.krf ∷ is_some c.rop ∷ is_some c.hsh ∷ is_some c.display ∷ []
 
 pub other_operand : (n : ℕ) → 10 ≤ n → operand n ≡ other n
 other_operand n le = grind (arith, nat_tests, le)

@@ -15,18 +15,19 @@ abbrev pub bits_of : List Bool → ℕ
 bits_of [] = 0
 bits_of (there ∷ rest) = (if there then 1 else 0) + 2 * bits_of rest
 
-abbrev pub attribute_bits : Attributes → ℕ
-attribute_bits a = bits_of (
+-- which fields are there
+abbrev pub attribute_flags : Attributes → List Bool
+attribute_flags a =
     is_some a.datatype ∷ is_some a.org ∷ is_some a.rfm ∷
     is_some a.rat ∷ is_some a.bls ∷ is_some a.mrs ∷
     is_some a.alq ∷ is_some a.bks ∷ is_some a.fsz ∷
     is_some a.mrn ∷ is_some a.runsys ∷ is_some a.deq ∷
     is_some a.fop ∷ is_some a.bsz ∷ is_some a.dev ∷
     is_some a.sdc ∷ is_some a.lrl ∷ is_some a.hbk ∷
-    is_some a.ebk ∷ is_some a.ffb ∷ is_some a.sbn ∷ [])
+    is_some a.ebk ∷ is_some a.ffb ∷ is_some a.sbn ∷ []
 
-abbrev pub control_bits : ControlFields → ℕ
-control_bits c = bits_of (is_some c.rac ∷ is_some c.key ∷ is_some c.krf ∷ is_some c.rop ∷ is_some c.hsh ∷ is_some c.display ∷ [])
+abbrev pub control_flags : ControlFields → List Bool
+control_flags c = is_some c.rac ∷ is_some c.key ∷ is_some c.krf ∷ is_some c.rop ∷ is_some c.hsh ∷ is_some c.display ∷ []
 
 -- the fields of the operand, in order
 abbrev pub operand_fields : Message → List (List ℕ)
@@ -34,7 +35,7 @@ operand_fields (Config c) =
     field_bytes Word c.bufsiz ∷ field_bytes Byte c.ostype ∷ field_bytes Byte c.filesys ∷ field_bytes Byte c.vernum ∷ field_bytes Byte c.econum
     ∷ field_bytes Byte c.usrnum ∷ field_bytes Byte c.softver ∷ field_bytes Byte c.usrsoft ∷ field_bytes (Extensible 12) c.syscap ∷ []
 operand_fields (Attrib a) =
-    field_bytes (Extensible 6) (attribute_bits a)
+    field_bytes (Extensible 6) (bits_of (attribute_flags a))
     ∷ option_bytes (Extensible 2) a.datatype ∷ option_bytes Byte a.org ∷ option_bytes Byte a.rfm
     ∷ option_bytes (Extensible 3) a.rat ∷ option_bytes Word a.bls ∷ option_bytes Word a.mrs
     ∷ option_bytes (Image 5) a.alq ∷ option_bytes Byte a.bks ∷ option_bytes Byte a.fsz
@@ -47,7 +48,7 @@ operand_fields (Access a) =
     field_bytes Byte a.func ∷ field_bytes (Extensible 5) a.opt ∷ field_bytes (Image 255) a.name ∷ field_bytes (Extensible 3) a.fac
     ∷ field_bytes (Extensible 3) a.shr ∷ field_bytes (Extensible 4) a.display ∷ field_bytes (Image 40) a.password ∷ []
 operand_fields (Control c) =
-    field_bytes Byte c.func ∷ field_bytes (Extensible 4) (control_bits c) ∷ option_bytes Byte c.rac ∷ option_bytes (Image 255) c.key
+    field_bytes Byte c.func ∷ field_bytes (Extensible 4) (bits_of (control_flags c)) ∷ option_bytes Byte c.rac ∷ option_bytes (Image 255) c.key
     ∷ option_bytes Byte c.krf ∷ option_bytes (Extensible 6) c.rop ∷ option_bytes (Image 5) c.hsh ∷ option_bytes (Extensible 4) c.display ∷ []
 operand_fields (Contran func) = field_bytes Byte func ∷ []
 operand_fields Ack = []
