@@ -9,6 +9,8 @@ NO_DEFINITION = re.compile(r"\s*$|\s*--|use |pub use |mod |pub mod ")
 # a definition begins a line, or stands in a module without a name; a field of a record is indented, and none
 HEAD = re.compile(r"(?:\s*(?:abbrev |unfoldable )+|\s*(?=pub (?:data|record) )|)pub (?:data |record )?([A-Za-z_][\w-]*)")
 USE = re.compile(r"^(?:ghost |pub )*use (Rattle\.[\w.-]+?)(?:\.\{(.*?)\}| as ([\w-]+))?;?$", re.M)
+# what a file passes on that is defined under Inner
+LENT = re.compile(r"^pub use Rattle\.\w+\.specs\.Inner\.[\w.]+\.\{(.*?)\}$", re.M)
 WORD = re.compile(r"[A-Za-z_][\w-]*(?:\.[A-Za-z_][\w-]*)?")
 
 
@@ -29,8 +31,10 @@ def lines_of(text):
 
 @functools.cache
 def definitions(path):
-    """The lines of each definition of a file, by its name; what stands before the first one counts to it."""
-    found, before, name = {}, [], None
+    """The lines of each definition of a file, by its name; what stands before the first one counts to it. What is passed on
+    from Inner has none."""
+    lent = ", ".join(LENT.findall(read(path)))
+    found, before, name = {name.strip(): [] for name in lent.split(",") if name.strip()}, [], None
     for line in lines_of(read(path)):
         head = HEAD.match(line)
         if head:
@@ -81,14 +85,16 @@ def cited(path, text, own=()):
 
 
 def reached(roots):
-    """The definitions that these rest on, and these, each as its file and its name."""
+    """The definitions that these rest on, and these, each as its file and its name. What is passed on from Inner is what a
+    law says of it, in words of the file that passes it on: it rests on all of that."""
     found, left = set(), list(roots)
     while left:
         one = left.pop()
         if one not in found:
             found.add(one)
             path, name = one
-            left += cited(path, "\n".join(definitions(path)[name]), definitions(path))
+            here = definitions(path)
+            left += cited(path, "\n".join(here[name]), here) if here[name] else [(path, other) for other in here]
     return found
 
 

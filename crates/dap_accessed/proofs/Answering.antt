@@ -9,7 +9,7 @@ use Rattle.std.specs.FinMap.{get}
 use Rattle.std.proofs.lemmas.Bool.Decides.{nat_tests}
 use Rattle.dap_msg.specs.Codes as codes
 use Rattle.dap_msg.specs.Message.{Message, Config, Attrib, Access, Control, Contran, Ack, Accomp, Filedata, Other, AccessFields, ControlFields}
-use Rattle.dap_msg.specs.Canon.{type_number as type_of}
+use Rattle.dap_msg.specs.Formats.{type_number as type_of}
 use Rattle.dap_msg.specs.Inner.Answers.{IsShortAnswer}
 use Rattle.dap_msg.specs.BothEnds.{four_bytes, least_buffer}
 use Rattle.dap_msg.specs.Items.{Item, Whole, Malformed, IsRead}

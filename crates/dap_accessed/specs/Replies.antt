@@ -4,7 +4,7 @@ use Rattle.dap_msg.specs.Codes as codes
 use Rattle.dap_msg.specs.declared.codes.Reason.{Reason}
 use Rattle.dap_msg.specs.declared.codes.Reason.TheVariants as reason
 use Rattle.dap_msg.specs.Message.{Message, Status, Ack}
-use Rattle.dap_msg.specs.Canon.{type_number as type_of}
+use Rattle.dap_msg.specs.Formats.{type_number as type_of}
 use Rattle.dap_msg.specs.BothEnds.{four_bytes, complete_with, attributes_of}
 use Rattle.rec_file.specs.declared.shapes.Org.{Org}
 use Rattle.rec_file.specs.declared.shapes.Org.TheVariants.{Seq, Rel}

@@ -9,15 +9,16 @@ use Rattle.std.proofs.Math.Nat.{pow-succ'}
 use Rattle.dap_fields.specs.Spelling.{FixedValue}
 use Rattle.dap_fields.specs.Writing.{groups, shortest}
 use Rattle.dap_fields.proofs.ForCallers.{groups_spell}
-use Rattle.dap_msg.specs.Grammar.{Kind, Byte, Word, Extensible, Image, ValueOf, SpellsField, Part, Must, When, OrElse, UnlessEnd, Remainder, PartValue, SpellsPart, Grammar, Next, Done, Spells}
-use Rattle.dap_msg.specs.Message.{Attributes, ControlFields, Message, Config, Attrib, Access, Control, Contran, Ack, Accomp, Filedata, Status, Other, length_of}
-use Rattle.dap_msg.specs.Formats.{any, has, menu, optional, refuses_type, refuses_flags, refuses_stream, header, operand, configuration, attributes, access, control, continuation, acknowledge, completion, file_data, status, other}
+use Rattle.dap_msg.specs.Grammar.{Kind, Byte, Word, Extensible, Image, ValueOf, SpellsField, Part, Must, When, OrElse, UnlessEnd, Remainder, PartValue, SpellsPart, Grammar, Next, Done, Spells, field_bytes, part_bytes, Writes}
+use Rattle.dap_msg.specs.Message.{Message, Config, Attrib, Access, Control, Contran, Ack, Accomp, Filedata, Status, Other, length_of}
+use Rattle.dap_msg.specs.Formats.{any, has, menu, optional, refuses_type, refuses_flags, refuses_stream, header, operand, configuration, attributes, access, control, continuation, acknowledge, completion, file_data, status, other, type_number}
 use Rattle.dap_msg.specs.Decoding.{HasLength, SpellsMessage, StandsInFront, IsSpelled}
 use Rattle.dap_msg.specs.declared.fault.FaultKind.{FaultKind}
 use Rattle.dap_msg.specs.Laws.{IsReadBack}
 use Rattle.dap_msg.specs.Inner.Whole.{message_at}
 use Rattle.dap_msg.proofs.Messages.{ok_only}
-use Rattle.dap_msg.specs.Canon.{field_bytes, option_bytes, bits_of, type_number, operand_bytes, canon, Fits}
+use Rattle.dap_msg.specs.Canon.{Fits}
+use Rattle.dap_msg.specs.Inner.Canon.{option_bytes, bits_of, attribute_flags, control_flags, operand_bytes, canon}
 use Rattle.dap_msg.specs.Inner.Fitting.{FitsField, FitsOption, FieldsFit, KeepsLimits}
 
 -- ---- Fields.
@@ -57,70 +58,72 @@ bit_is (b ∷ flags) (suc i) = ap (λ v. eqb v 1) (bit_at-suc (cond b 1 0 + 2 * 
 
 -- ---- Parts, and formats of them.
 
--- the bytes are the part with the value v, where the rest follows
-record SpelledPart (p : Part) (v : PartValue p) (bytes rest : List ℕ) : Type 0 where
-  spelled : SpellsPart p v bytes rest
+-- the part with the value v is written where the rest follows
+record WrittenPart (p : Part) (v : PartValue p) (rest : List ℕ) : Type 0 where
+  spelled : SpellsPart p v (part_bytes p v) rest
 
--- the bytes are the format with the value x, where the rest follows
-record Spelled {A : Type 0} (g : Grammar A) (x : A) (bytes rest : List ℕ) : Type 0 where
-  spelled : Spells g x bytes rest
+-- the bytes are what is written of the format with the value x, where the rest follows
+pub record Written {A : Type 0} (g : Grammar A) (x : A) (bytes rest : List ℕ) : Type 0 where
+  pub written : Writes g x bytes rest
 
 -- a part, and the format behind it
 infixr 5 ◌▷◌
-◌▷◌ : {A : Type 0} {p : Part} {v : PartValue p} {g : PartValue p → Grammar A} {x : A} {front back rest : List ℕ}
-    → SpelledPart p v front (back ++ rest) → Spelled (g v) x back rest → Spelled (Next p g) x (front ++ back) rest
-part ▷ more = record { spelled = (_, _, _, refl, part.spelled, more.spelled) }
+◌▷◌ : {A : Type 0} {p : Part} {v : PartValue p} {g : PartValue p → Grammar A} {x : A} {back rest : List ℕ}
+    → WrittenPart p v (back ++ rest) → Written (g v) x back rest → Written (Next p g) x (part_bytes p v ++ back) rest
+part ▷ more = record { written = (_, _, refl, part.spelled, more.written) }
 
-done : {A : Type 0} {rest : List ℕ} (x : A) → Spelled (Done x) x [] rest
-done x = record { spelled = (refl, refl) }
+done : {A : Type 0} {rest : List ℕ} (x : A) → Written (Done x) x [] rest
+done x = record { written = (refl, refl) }
 
-remainder : (bytes : List ℕ) → SpelledPart Remainder bytes bytes []
+-- what is written is spelled
+spells : {A : Type 0} (g : Grammar A) (x : A) (bytes rest : List ℕ) → Writes g x bytes rest → Spells g x bytes rest
+spells (Done a) x bytes rest w = w
+spells (Next p next) x bytes rest (v, back, joined, part, more) = (v, part_bytes p v, back, joined, part, spells (next v) x back rest more)
+
+remainder : (bytes : List ℕ) → WrittenPart (Remainder true) bytes []
 remainder bytes = record { spelled = (refl, refl) }
 
-must : {rest : List ℕ} (k : Kind) (refuses : ValueOf k → Option FaultKind) (v : ValueOf k) → has_room k ≡ true → FitsField k v → refuses v ≡ None → SpelledPart (Must k refuses) v (field_bytes k v) rest
+ignored : WrittenPart (Remainder false) [] []
+ignored = record { spelled = (refl, refl) }
+
+must : {rest : List ℕ} (k : Kind) (refuses : ValueOf k → Option FaultKind) (v : ValueOf k) → has_room k ≡ true → FitsField k v → refuses v ≡ None → WrittenPart (Must k refuses) v rest
 must k refuses v room h e = record { spelled = (field_spelled k v room h, e) }
 
-field : {rest : List ℕ} (k : Kind) (v : ValueOf k) → has_room k ≡ true → FitsField k v → SpelledPart (Must k any) v (field_bytes k v) rest
+field : {rest : List ℕ} (k : Kind) (v : ValueOf k) → has_room k ≡ true → FitsField k v → WrittenPart (Must k any) v rest
 field k v room h = must k any v room h refl
 
-or_default : {rest : List ℕ} (k : Kind) (default v : ValueOf k) → has_room k ≡ true → FitsField k v → SpelledPart (OrElse k default any) v (field_bytes k v) rest
+or_default : {rest : List ℕ} (k : Kind) (default v : ValueOf k) → has_room k ≡ true → FitsField k v → WrittenPart (OrElse k default any) v rest
 or_default k default v room h = record { spelled = inl (field_spelled k v room h, refl) }
 
-unless_end : (k : Kind) (o : Option (ValueOf k)) → has_room k ≡ true → FitsOption k o → SpelledPart (UnlessEnd k any) o (option_bytes k o) []
+unless_end : (k : Kind) (o : Option (ValueOf k)) → has_room k ≡ true → FitsOption k o → WrittenPart (UnlessEnd k any) o []
 unless_end k (Some v) room h = record { spelled = (field_spelled k v room h, refl) }
 unless_end k None room h = record { spelled = (refl, refl) }
 
-absent : {rest : List ℕ} (test : Bool) (k : Kind) (refuses : ValueOf k → Option FaultKind) → test ≡ false → SpelledPart (When test k refuses) None [] rest
+absent : {rest : List ℕ} (test : Bool) (k : Kind) (refuses : ValueOf k → Option FaultKind) → test ≡ false → WrittenPart (When test k refuses) None rest
 absent true k refuses e = absurd cc
 absent false k refuses e = record { spelled = refl }
 
-when : {rest : List ℕ} (test : Bool) (k : Kind) (o : Option (ValueOf k)) → test ≡ is_some o → has_room k ≡ true → FitsOption k o → SpelledPart (When test k any) o (option_bytes k o) rest
+when : {rest : List ℕ} (test : Bool) (k : Kind) (o : Option (ValueOf k)) → test ≡ is_some o → has_room k ≡ true → FitsOption k o → WrittenPart (When test k any) o rest
 when true k (Some v) e room h = record { spelled = (field_spelled k v room h, refl) }
 when false k None e room h = absent false k any refl
 when test k o e room h = absurd cc
 
-optional_field : {rest : List ℕ} (flags : List Bool) (i : ℕ) (k : Kind) (o : Option (ValueOf k)) → get_or flags i false ≡ is_some o → has_room k ≡ true → FitsOption k o → SpelledPart (optional (bits_of flags) i k) o (option_bytes k o) rest
+optional_field : {rest : List ℕ} (flags : List Bool) (i : ℕ) (k : Kind) (o : Option (ValueOf k)) → get_or flags i false ≡ is_some o → has_room k ≡ true → FitsOption k o → WrittenPart (optional (bits_of flags) i k) o rest
 optional_field flags i k o e room h = when (has (bits_of flags) i) k o (bit_is flags i ∙ e) room h
 
-bits : {rest : List ℕ} (max : ℕ) (flags : List Bool) → has_room (Extensible max) ≡ true → 2 ^ length flags ≤ 128 ^ max → SpelledPart (menu max (length flags)) (bits_of flags) (shortest (bits_of flags)) rest
+bits : {rest : List ℕ} (max : ℕ) (flags : List Bool) → has_room (Extensible max) ≡ true → 2 ^ length flags ≤ 128 ^ max → WrittenPart (menu max (length flags)) (bits_of flags) rest
 bits max flags room le =
     let below = bits_below flags in
     record { spelled = inl (field_spelled (Extensible max) (bits_of flags) room (omega arith), rw (lt-ltb (bits_of flags) (2 ^ length flags) below) refl) }
 
 -- ---- Operands.
 
-abbrev attribute_flags : Attributes → List Bool
-attribute_flags a = is_some a.datatype ∷ is_some a.org ∷ is_some a.rfm ∷ is_some a.rat ∷ is_some a.bls ∷ is_some a.mrs ∷ is_some a.alq ∷ is_some a.bks ∷ is_some a.fsz ∷ is_some a.mrn ∷ is_some a.runsys ∷ is_some a.deq ∷ is_some a.fop ∷ is_some a.bsz ∷ is_some a.dev ∷ is_some a.sdc ∷ is_some a.lrl ∷ is_some a.hbk ∷ is_some a.ebk ∷ is_some a.ffb ∷ is_some a.sbn ∷ []
-
-abbrev control_flags : ControlFields → List Bool
-control_flags c = is_some c.rac ∷ is_some c.key ∷ is_some c.krf ∷ is_some c.rop ∷ is_some c.hsh ∷ is_some c.display ∷ []
-
-other_operand : (n : ℕ) → 10 ≤ n → operand n ≡ other n
+pub other_operand : (n : ℕ) → 10 ≤ n → operand n ≡ other n
 other_operand n le = grind (arith, nat_tests, le)
 
-operand_spelled : (m : Message) → FieldsFit m → Spelled (operand (type_number m)) m (operand_bytes m) []
+pub operand_written : (m : Message) → FieldsFit m → Written (operand (type_number m)) m (operand_bytes m) []
 unfolding configuration attributes access control continuation acknowledge completion file_data status other
-operand_spelled (Config c) h =
+operand_written (Config c) h =
     field Word c.bufsiz refl h.0
     ▷ field Byte c.ostype refl h.1
     ▷ field Byte c.filesys refl h.2
@@ -130,8 +133,8 @@ operand_spelled (Config c) h =
     ▷ field Byte c.softver refl h.6
     ▷ field Byte c.usrsoft refl h.7
     ▷ field (Extensible 12) c.syscap refl h.8
-    ▷ remainder [] ▷ done (Config c)
-operand_spelled (Attrib a) h =
+    ▷ ignored ▷ done (Config c)
+operand_written (Attrib a) h =
     bits 6 (attribute_flags a) refl (lit≤ tt)
     ▷ optional_field (attribute_flags a) 0 (Extensible 2) a.datatype refl refl h.0
     ▷ optional_field (attribute_flags a) 1 Byte a.org refl refl h.1
@@ -154,8 +157,8 @@ operand_spelled (Attrib a) h =
     ▷ optional_field (attribute_flags a) 18 (Image 5) a.ebk refl refl h.18
     ▷ optional_field (attribute_flags a) 19 Word a.ffb refl refl h.19
     ▷ optional_field (attribute_flags a) 20 (Image 5) a.sbn refl refl h.20
-    ▷ remainder [] ▷ done (Attrib a)
-operand_spelled (Access a) h =
+    ▷ ignored ▷ done (Attrib a)
+operand_written (Access a) h =
     field Byte a.func refl h.0
     ▷ field (Extensible 5) a.opt refl h.1
     ▷ field (Image 255) a.name refl h.2
@@ -163,8 +166,8 @@ operand_spelled (Access a) h =
     ▷ or_default (Extensible 3) 0 a.shr refl h.4
     ▷ or_default (Extensible 4) 0 a.display refl h.5
     ▷ or_default (Image 40) [] a.password refl h.6
-    ▷ remainder [] ▷ done (Access a)
-operand_spelled (Control c) h =
+    ▷ ignored ▷ done (Access a)
+operand_written (Control c) h =
     field Byte c.func refl h.0
     ▷ bits 4 (control_flags c) refl (lit≤ tt)
     ▷ optional_field (control_flags c) 0 Byte c.rac refl refl h.1
@@ -173,22 +176,22 @@ operand_spelled (Control c) h =
     ▷ optional_field (control_flags c) 3 (Extensible 6) c.rop refl refl h.4
     ▷ optional_field (control_flags c) 4 (Image 5) c.hsh refl refl h.5
     ▷ optional_field (control_flags c) 5 (Extensible 4) c.display refl refl h.6
-    ▷ remainder [] ▷ done (Control c)
-operand_spelled (Contran func) h = field Byte func refl h ▷ remainder [] ▷ done (Contran func)
-operand_spelled Ack h = remainder [] ▷ done Ack
-operand_spelled (Accomp c) h =
+    ▷ ignored ▷ done (Control c)
+operand_written (Contran func) h = field Byte func refl h ▷ ignored ▷ done (Contran func)
+operand_written Ack h = ignored ▷ done Ack
+operand_written (Accomp c) h =
     field Byte c.func refl h.0
     ▷ or_default (Extensible 6) 0 c.fop refl h.1
     ▷ unless_end Word c.check refl h.2
-    ▷ remainder [] ▷ done (Accomp c)
-operand_spelled (Filedata recnum payload) h = field (Image 8) recnum refl h ▷ remainder payload ▷ done (Filedata recnum payload)
-operand_spelled (Status s) h =
+    ▷ ignored ▷ done (Accomp c)
+operand_written (Filedata recnum payload) h = field (Image 8) recnum refl h ▷ remainder payload ▷ done (Filedata recnum payload)
+operand_written (Status s) h =
     field Word s.code refl h.0
     ▷ or_default (Image 8) [] s.rfa refl h.1
     ▷ or_default (Image 8) [] s.recnum refl h.2
     ▷ or_default (Image 8) [] s.stv refl h.3
-    ▷ remainder [] ▷ done (Status s)
-operand_spelled (Other n body) h = subst (λ g. Spelled g (Other n body) (operand_bytes (Other n body)) []) (sym (other_operand n h.0)) (remainder body ▷ done (Other n body))
+    ▷ ignored ▷ done (Status s)
+operand_written (Other n body) h = subst (λ g. Written g (Other n body) (operand_bytes (Other n body)) []) (sym (other_operand n h.0)) (remainder body ▷ done (Other n body))
 
 -- ---- Headers and whole messages.
 
@@ -207,10 +210,10 @@ known_flags low high e =
     let flags = header_flags low high in
     rw (lt-ltb (bits_of flags) 8 (bits_below flags), bit_is flags 1, bit_is flags 2, e) refl
 
-header_spelled : (n : ℕ) (low high : Option ℕ) → 0 < n → n < 17 → (is_some low || not (is_some high)) ≡ true → FitsOption Byte low → FitsOption Byte high → (rest : List ℕ)
-    → Spelled header (record { number = n; flags = bits_of (header_flags low high); low = low; high = high }) (front n low high) rest
+header_written : (n : ℕ) (low high : Option ℕ) → 0 < n → n < 17 → (is_some low || not (is_some high)) ≡ true → FitsOption Byte low → FitsOption Byte high → (rest : List ℕ)
+    → Written header (record { number = n; flags = bits_of (header_flags low high); low = low; high = high }) (front n low high) rest
 unfolding header
-header_spelled n low high some lt e l h rest =
+header_written n low high some lt e l h rest =
     let flags = header_flags low high in
     must Byte refuses_type n refl (omega arith) (rw (lt-ltb 0 n some, le-leb n 16 (omega arith)) refl)
     ▷ must (Extensible 5) refuses_flags (bits_of flags) refl (omega (arith, bits_below flags)) (known_flags low high e)
@@ -230,9 +233,9 @@ with_header m low high closed h e l r extent =
         front = front (type_number m) low high;
         rest = operand_bytes m;
         joined = refl;
-        header = (header_spelled (type_number m) low high n.0 n.1 e l r (operand_bytes m)).spelled;
+        header = spells header _ _ _ (header_written (type_number m) low high n.0 n.1 e l r (operand_bytes m)).written;
       };
-      operand = (operand_spelled m h).spelled;
+      operand = spells (operand (type_number m)) m _ _ (operand_written m h).written;
       extent = extent;
     }
 

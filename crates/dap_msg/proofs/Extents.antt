@@ -5,7 +5,9 @@ use Rattle.dap_fields.specs.Spelling.{little_bytes}
 use Rattle.std.proofs.lemmas.List.{length-append}
 use Rattle.dap_fields.specs.Writing.{groups}
 use Rattle.dap_msg.specs.Message.{Message, StatusFields, Ack, Filedata, Status}
-use Rattle.dap_msg.specs.Canon.{canon, type_number, header_bytes, operand_bytes, header_size, file_data_size, Fits}
+use Rattle.dap_msg.specs.Formats.{type_number, header_bytes}
+use Rattle.dap_msg.specs.Canon.{header_size, file_data_size, Fits}
+use Rattle.dap_msg.specs.Inner.Canon.{operand_bytes, canon}
 use Rattle.dap_msg.specs.Inner.Fitting.{FieldsFit}
 use Rattle.dap_msg.specs.BothEnds.{config_of, complete_with, attributes_of}
 use Rattle.dap_msg.specs.Inner.Answers.{IsShortAnswer, AnswersFit}

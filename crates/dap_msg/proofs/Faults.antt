@@ -19,7 +19,7 @@ IsCalmPart (Must k refuses) = IsCalmRefusal refuses
 IsCalmPart (When test k refuses) = IsCalmRefusal refuses
 IsCalmPart (OrElse k default refuses) = IsCalmRefusal refuses
 IsCalmPart (UnlessEnd k refuses) = IsCalmRefusal refuses
-IsCalmPart Remainder = Unit {0}
+IsCalmPart (Remainder kept) = Unit {0}
 
 -- no part refuses a value for want of memory
 abbrev IsCalm : {A : Type 0} → Grammar A → Type 0
@@ -42,7 +42,7 @@ part_calm (OrElse k default refuses) [] kind calm h = absurd h
 part_calm (OrElse k default refuses) (b ∷ bytes) kind calm h = field_calm k refuses (b ∷ bytes) kind calm h
 part_calm (UnlessEnd k refuses) [] kind calm h = absurd h
 part_calm (UnlessEnd k refuses) (b ∷ bytes) kind calm h = field_calm k refuses (b ∷ bytes) kind calm h
-part_calm Remainder bytes kind calm h = absurd h
+part_calm (Remainder kept) bytes kind calm h = absurd h
 
 grammar_calm : {A : Type 0} (g : Grammar A) (bytes : List ℕ) (kind : FaultKind) (offset : ℕ) → IsCalm g → Faulty g bytes kind offset → kind ≢ NoMemory
 grammar_calm (Done a) bytes kind offset calm h = absurd h

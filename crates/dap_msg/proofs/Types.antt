@@ -1,7 +1,7 @@
 -- The type of a message that was read is one byte.
 use Rattle.std.proofs.Common.{ℕ, ◌<◌, List, arith}
 use Rattle.dap_msg.specs.Message.{Message}
-use Rattle.dap_msg.specs.Canon.{type_number}
+use Rattle.dap_msg.specs.Formats.{type_number}
 use Rattle.dap_msg.specs.Items.{Whole, ItemAt}
 use Rattle.dap_msg.proofs.Canonical.{number_fits}
 use Rattle.dap_msg.proofs.Values.{fields_fit}

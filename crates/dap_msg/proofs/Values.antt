@@ -8,10 +8,11 @@ use Rattle.dap_msg.specs.declared.fault.MsgFault.{MsgFault}
 use Rattle.dap_msg.specs.declared.message.Message.{Message as LentMessage}
 use Rattle.dap_msg.specs.Grammar.{Kind, Byte, Word, Extensible, Image, ValueOf, SpellsField, Part, Must, When, OrElse, UnlessEnd, Remainder, PartValue, SpellsPart, Grammar, Done, Next, Spells}
 use Rattle.dap_msg.specs.Message.{Header, Message, Filedata, Other, seen, length_of}
-use Rattle.dap_msg.specs.Formats.{refuses_type, header, configuration, attributes, access, control, continuation, acknowledge, completion, file_data, status, other, operand}
+use Rattle.dap_msg.specs.Formats.{refuses_type, header, configuration, attributes, access, control, continuation, acknowledge, completion, file_data, status, other, operand, type_number}
 use Rattle.dap_msg.specs.Decoding.{HasLength, SpellsMessage, IsDecoded, IsSpelled}
 use Rattle.dap_msg.specs.Answer.{seen_answer}
-use Rattle.dap_msg.specs.Canon.{Fits, type_number, operand_bytes}
+use Rattle.dap_msg.specs.Canon.{Fits}
+use Rattle.dap_msg.specs.Inner.Canon.{operand_bytes}
 use Rattle.dap_msg.specs.Inner.Fitting.{FitsField, FitsOption, FieldsFit, KeepsLimits}
 use Rattle.dap_msg.proofs.Canonical.{open_spelling}
 use Rattle.dap_msg.proofs.Sizes.{plain_short}
@@ -50,7 +51,7 @@ FitsPart (Must k refuses) v len = FitsField k v × IsLong k v len
 FitsPart (When there k refuses) v len = FitsOption k v
 FitsPart (OrElse k default refuses) v len = FitsField k default → FitsField k v
 FitsPart (UnlessEnd k refuses) v len = FitsOption k v
-FitsPart Remainder v len = len ≡ length v
+FitsPart (Remainder kept) v len = len ≡ length v
 
 part_fits : (p : Part) (v : PartValue p) (bytes rest : List ℕ) → SpellsPart p v bytes rest → FitsPart p v (length bytes)
 part_fits (Must k refuses) v bytes rest s = kind_fits k v bytes s.0
@@ -62,7 +63,7 @@ part_fits (OrElse k default refuses) v bytes rest (inl s) = λ d. (kind_fits k v
 part_fits (OrElse k default refuses) v bytes rest (inr s) = λ d. subst (FitsField k) (sym s.2) d
 part_fits (UnlessEnd k refuses) (Some v) bytes rest s = (kind_fits k v bytes s.0).0
 part_fits (UnlessEnd k refuses) None bytes rest s = tt
-part_fits Remainder v bytes rest s = ap length s.0
+part_fits (Remainder kept) v bytes rest s = ap length s.0
 
 -- all values that fit, behind so many bytes, lead to what holds of the value and the number of bytes
 abbrev Yields : {A : Type 0} → Grammar A → (A → ℕ → Type 0) → ℕ → Type 0

@@ -1,10 +1,10 @@
 -- The formats of the messages' operands, and of the header.
-use Rattle.std.specs.Prelude.{ℕ, ◌/◌, ◌%◌, ◌^◌, ◌==◌, nat_lt, nat_le, if◌then◌else◌, Bool, ◌&&◌, ◌||◌, not, [], Option, Some, None}
+use Rattle.std.specs.Prelude.{ℕ, ◌/◌, ◌%◌, ◌^◌, ◌==◌, nat_lt, nat_le, if◌then◌else◌, Bool, true, false, ◌&&◌, ◌||◌, not, List, [], ◌∷◌, Option, Some, None}
 use Rattle.dap_msg.specs.Codes.{types, greatest_type}
 use Rattle.dap_msg.specs.declared.fault.FaultKind.{FaultKind}
 use Rattle.dap_msg.specs.declared.fault.FaultKind.TheVariants.{BadFlags, BadStream, UnknownType, BadMenu}
 use Rattle.dap_msg.specs.Grammar.{Kind, Byte, Word, Extensible, Image, Part, Must, When, OrElse, UnlessEnd, Remainder, Grammar, Done, Next, ◌>>=◌}
-use Rattle.dap_msg.specs.Message.{Header, Message, configuration_of, attributes_by, Attrib, Access, Control, Contran, Ack, Accomp, Filedata, Status, Other}
+use Rattle.dap_msg.specs.Message.{Header, Message, configuration_of, attributes_by, Config, Attrib, Access, Control, Contran, Ack, Accomp, Filedata, Status, Other}
 
 -- any value of the field will do
 abbrev pub any : {V : Type 0} → V → Option FaultKind
@@ -35,9 +35,9 @@ has bits i = bits / 2 ^ i % 2 == 1
 abbrev pub optional : ℕ → ℕ → Kind → Part
 optional bits i k = When (has bits i) k any
 
--- Bytes after the last known field are ignored.
+-- Bytes after the last known field are ignored, and none are written.
 abbrev pub ending : {A : Type 0} → A → Grammar A
-ending x = Next Remainder (λ ignored. Done x)
+ending x = Next (Remainder false) (λ ignored. Done x)
 
 unfoldable pub configuration : Grammar Message
 configuration = do
@@ -120,7 +120,7 @@ completion = do
 unfoldable pub file_data : Grammar Message
 file_data = do
   recnum ← must (Image 8)
-  payload ← Remainder
+  payload ← Remainder true
   Done (Filedata recnum payload)
 
 unfoldable pub status : Grammar Message
@@ -133,7 +133,7 @@ status = do
 
 unfoldable pub other : ℕ → Grammar Message
 other number = do
-  body ← Remainder
+  body ← Remainder true
   Done (Other number body)
 
 -- The operand's format by the type of the message.
@@ -148,6 +148,19 @@ operand number =
     if number == types.accomp then completion else
     if number == types.filedata then file_data else
     if number == types.status then status else other number
+
+-- the type of the message
+abbrev pub type_number : Message → ℕ
+type_number (Config c) = types.config
+type_number (Attrib a) = types.attrib
+type_number (Access a) = types.access
+type_number (Control c) = types.control
+type_number (Contran func) = types.contran
+type_number Ack = types.ack
+type_number (Accomp c) = types.accomp
+type_number (Filedata recnum payload) = types.filedata
+type_number (Status s) = types.status
+type_number (Other number body) = number
 
 -- ---- The header.
 
@@ -172,3 +185,7 @@ header = do
   low ← optional flags 1 Byte
   high ← optional flags 2 Byte
   Done (record { number = number; flags = flags; low = low; high = high })
+
+-- The header that is written: LENGTH always, LEN256 exactly where the operand has 256 bytes or more.
+abbrev pub header_bytes : ℕ → ℕ → List ℕ
+header_bytes number len = if nat_lt len 256 then number ∷ 2 ∷ len ∷ [] else number ∷ 6 ∷ len % 256 ∷ len / 256 ∷ []

@@ -1,6 +1,7 @@
 -- What only the contracts of private functions cite, and proofs: nobody has to believe it.
 pub mod Answers
 pub mod Attributes
+pub mod Canon
 pub mod Fields
 pub mod Fitting
 pub mod Reading

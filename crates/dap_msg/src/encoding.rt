@@ -3,8 +3,10 @@
 ghost use Rattle.std.specs.Prelude.{ℕ, ◌≡◌, ◌≤◌, ◌<◌, ◌+◌, ◌^◌, ◌++◌, length, is_some, map, vec_len, vec_capacity};
 ghost use Rattle.dap_fields.specs.Writing.{shortest};
 ghost use Rattle.dap_msg.specs.Message.{Attrib, Control as ControlOf, seen, seen_attributes, seen_control};
-ghost use Rattle.dap_msg.specs.Canon.{canon, Fits, operand_bytes, header_bytes, option_bytes, bits_of};
+ghost use Rattle.dap_msg.specs.Formats.{header_bytes};
+ghost use Rattle.dap_msg.specs.Canon.{canon, Fits};
 ghost use Rattle.dap_msg.specs.Written.{AppendsMessage};
+ghost use Rattle.dap_msg.specs.Inner.Canon.{operand_bytes, option_bytes, bits_of};
 ghost use Rattle.dap_msg.specs.Inner.Fields.{bytes_of, fields_bytes, message_bytes, is_there, CanWrite, CanWriteAll, completion_of};
 ghost use Rattle.dap_msg.specs.Inner.Fitting.{FieldsFit, FitsOption, KeepsLimits};
 
@@ -367,7 +369,7 @@ macro_rules! with_fields {
 }
 
 /// Appends a message as [`encode_counted`] does.
-#[tactic(auto, unfolding(crate::specs::Canon::canon))]
+#[tactic(auto, unfolding(crate::specs::Inner::Canon::canon))]
 #[inline(always)]
 fn encode_here(message: &Message<'_>, len: usize, out: &mut Vec<u8>) -> Result<(), MsgFault>
     requires fits { KeepsLimits (seen message.now) }

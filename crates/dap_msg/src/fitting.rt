@@ -2,7 +2,8 @@
 
 ghost use Rattle.std.specs.Prelude.{◌<◌, ◌^◌, ◌↔◌, length, IsTrue};
 ghost use Rattle.dap_msg.specs.Message.{Attrib, Control as ControlOf, seen, seen_attributes, seen_control};
-ghost use Rattle.dap_msg.specs.Canon.{Fits, operand_bytes};
+ghost use Rattle.dap_msg.specs.Canon.{Fits};
+ghost use Rattle.dap_msg.specs.Inner.Canon.{operand_bytes};
 ghost use Rattle.dap_msg.specs.Inner.Fitting.{FieldsFit, FitsOption};
 
 use crate::codes::{GREATEST_TYPE, TYPE_STATUS};

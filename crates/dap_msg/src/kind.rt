@@ -3,10 +3,9 @@
 ghost use Rattle.std.specs.Prelude.{◌≡◌, ◌≤◌, ◌<◌, ◌^◌, ℕ, Option, Some, None, option_copied, length, IfOk, refl, ◌↔◌, IsTrue, true};
 ghost use Rattle.std.proofs.Common.{lit≤};
 ghost use Rattle.dap_msg.specs.Grammar as kinds;
-ghost use Rattle.dap_msg.specs.Grammar.{ValueOf};
+ghost use Rattle.dap_msg.specs.Grammar.{ValueOf, field_bytes};
 ghost use Rattle.dap_msg.specs.Inner.Reading.{field_at, Gives};
 ghost use Rattle.dap_msg.specs.Inner.Fields.{bytes_of, CanWrite, is_there};
-ghost use Rattle.dap_msg.specs.Canon.{field_bytes};
 ghost use Rattle.dap_msg.specs.Inner.Fitting.{FitsField};
 
 use crate::encoding::Field;

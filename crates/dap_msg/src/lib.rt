@@ -36,6 +36,7 @@ pub use fitting::fits;
 pub use items::{Item, item_at};
 pub use laws::{
     has_items, lists_messages, measures_file_data, one_item_stands, reads_back, reads_in_place,
+    writes_canon,
 };
 pub use message::{Attributes, Control, Message};
 pub use status::{StatusCode, status_for};

@@ -2,7 +2,7 @@
 
 ghost use Rattle.std.specs.Prelude.{◌≡◌};
 ghost use Rattle.dap_msg.specs.Message.{seen};
-ghost use Rattle.dap_msg.specs.Canon.{type_number};
+ghost use Rattle.dap_msg.specs.Formats.{type_number};
 
 use crate::codes::{
     TYPE_ACCESS, TYPE_ACKNOWLEDGE, TYPE_ATTRIBUTES, TYPE_COMPLETE, TYPE_CONFIGURATION,

@@ -5,7 +5,8 @@ use Rattle.dap_msg.specs.declared.encoding.Field.{Field}
 use Rattle.dap_msg.specs.declared.encoding.Field.TheVariants.{Absent, Byte, Word, Extensible, Image, Rest}
 use Rattle.dap_msg.specs.Grammar as kinds
 use Rattle.dap_msg.specs.Message.{Message, Accomp}
-use Rattle.dap_msg.specs.Canon.{field_bytes, header_bytes}
+use Rattle.dap_msg.specs.Grammar.{field_bytes}
+use Rattle.dap_msg.specs.Formats.{header_bytes}
 
 abbrev pub bytes_of : Field → List ℕ
 bytes_of Absent = []

@@ -1,4 +1,4 @@
-use Rattle.std.proofs.Common.{◌≡◌, ◌∙◌, ◌-◌, ◌++◌, length, arith, refl, suc, sym, ap, true}
+use Rattle.std.proofs.Common.{◌≡◌, ◌∙◌, ◌-◌, ◌++◌, length, arith, refl, suc, ap, true}
 use Rattle.std.specs.Vec.{with_item}
 use Rattle.dap_msg.specs.Message.{seen}
 use Rattle.dap_msg.specs.Canon.{canon}
