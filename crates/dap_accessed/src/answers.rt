@@ -1,7 +1,8 @@
 //! Answers, and their messages.
 
 ghost use Rattle.std.specs.Prelude.{◌≡◌, ◌≤◌, [], ◌∷◌, IfOk, length};
-ghost use Rattle.dap_msg.specs.Message.{Ack, Filedata, seen};
+ghost use Rattle.dap_msg.specs.Message.{seen};
+ghost use Rattle.dap_msg.specs.declared.message.Message.TheVariants.{Ack, Filedata};
 ghost use Rattle.dap_msg.specs.Canon.{Fits, file_data_size};
 ghost use Rattle.dap_msg.specs.BothEnds.{config_of, four_bytes, least_buffer};
 ghost use Rattle.rec_file.specs.Limits.{longest_record};

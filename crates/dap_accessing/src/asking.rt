@@ -49,7 +49,12 @@ impl Request {
 }
 
 /// An Attributes message with these fields alone.
-fn attributes(org: Option<u8>, rfm: Option<u8>, mrs: Option<u16>, mrn: Option<&[u8]>) -> Message<&[u8]>
+fn attributes(
+    org: Option<u8>,
+    rfm: Option<u8>,
+    mrs: Option<u16>,
+    mrn: Option<&[u8]>,
+) -> Message<&[u8]>
     ensures { seen result ≡ asked.attributes org rfm mrs (option_copied mrn.entry) }
 {
     Message::Attrib(Attributes {

@@ -4,7 +4,8 @@ ghost use Rattle.std.specs.Prelude.{◌≡◌, ◌≤◌, ◌/◌, ◌++◌, ℕ
 ghost use Rattle.std.specs.Option.{option_map_or};
 ghost use Rattle.std.specs.Fmt.{decimal};
 ghost use Rattle.dap_msg.specs.Items.{seen_item};
-ghost use Rattle.dap_msg.specs.Message.{Access, Attrib, Config, Control, Filedata, Other, Status, seen};
+ghost use Rattle.dap_msg.specs.Message.{seen};
+ghost use Rattle.dap_msg.specs.declared.message.Message.TheVariants.{Access, Attrib, Config, Control, Filedata, Other, Status};
 ghost use Rattle.dap_text.specs.Adding.{Adds};
 ghost use Rattle.dap_text.specs.Adding.{AddsSome};
 ghost use Rattle.dap_listing.specs.Captured.{AreDecoded, Spell, bytes_of};

@@ -6,7 +6,8 @@ use Rattle.dap_listing.specs.declared.packet.Captured.TheVariants.{Segment, Data
 use Rattle.nsp_seg.specs.declared.packet.SegFault.{SegFault}
 use Rattle.nsp_seg.specs.declared.packet.SegFault.TheVariants.{NotHere}
 use Rattle.nsp_seg.specs.Packets.{segment, data_ack, Spells, HasFault}
-use Rattle.dap_msg.specs.Message.{Message, Filedata}
+use Rattle.dap_msg.specs.Message.{Message}
+use Rattle.dap_msg.specs.declared.message.Message.TheVariants.{Filedata}
 use Rattle.dap_msg.specs.Items.{Item, Whole, Malformed}
 
 -- what is read of bytes of which a payload needs no decoding: the digits that end the others stand for it
