@@ -202,7 +202,7 @@ const ATTRIBUTES: &[AttributesRow] = &[
 #[test]
 fn of_attributes(rt: HostRuntime) {
     for (datatype, rat, alq, mrn, runsys, fop, dev, sdc, hbk, ebk, sbn, good) in ATTRIBUTES {
-        let attributes = Attributes {
+        let attributes: Attributes<&[u8]> = Attributes {
             datatype: Some(*datatype),
             rat: Some(*rat),
             alq: Some(alq),
@@ -234,7 +234,7 @@ const ACCESS: &[(u64, &[u8], u32, u32, u32, &[u8], bool)] = &[
 #[test]
 fn of_access(rt: HostRuntime) {
     for (opt, name, fac, shr, display, password, good) in ACCESS {
-        let access = Message::Access(AccessFields {
+        let access: Message<&[u8]> = Message::Access(AccessFields {
             func: 1,
             opt: *opt,
             name,
@@ -259,7 +259,7 @@ const CONTROL: &[(&[u8], u64, &[u8], u32, bool)] = &[
 #[test]
 fn of_control(rt: HostRuntime) {
     for (key, rop, hsh, display, good) in CONTROL {
-        let control = ControlFields {
+        let control: ControlFields<&[u8]> = ControlFields {
             func: 1,
             rac: None,
             key: Some(key),
@@ -283,7 +283,7 @@ const STATUS: &[(&[u8], &[u8], &[u8], bool)] = &[
 #[test]
 fn of_status(rt: HostRuntime) {
     for (rfa, recnum, stv, good) in STATUS {
-        let status = Message::Status(StatusFields {
+        let status: Message<&[u8]> = Message::Status(StatusFields {
             code: 0,
             rfa,
             recnum,

@@ -9,7 +9,11 @@ use std::process::Abort;
 use std::test::Fail;
 
 /// The message is written as these bytes, and read back from them, whatever follows.
-fn check(rt: &(impl AllocGlobal + Abort), message: Message<&[u8]>, bytes: &[u8]) -> Result<(), Fail> {
+fn check(
+    rt: &(impl AllocGlobal + Abort),
+    message: Message<&[u8]>,
+    bytes: &[u8],
+) -> Result<(), Fail> {
     assert!(rt; fits(&message));
     let mut out = Vec::new(rt.alloc());
     encode(&message, &mut out)?;
@@ -73,7 +77,7 @@ fn configuration(rt: HostRuntime) -> Result<(), Fail> {
 
 #[test]
 fn attributes(rt: HostRuntime) -> Result<(), Fail> {
-    let message = Message::Attrib(Attributes {
+    let message: Message<&[u8]> = Message::Attrib(Attributes {
         org: Some(16),
         rfm: Some(2),
         mrs: Some(0),
@@ -87,7 +91,7 @@ fn attributes(rt: HostRuntime) -> Result<(), Fail> {
 
 #[test]
 fn every_attribute_has_its_bit(rt: HostRuntime) -> Result<(), Fail> {
-    let message = Message::Attrib(Attributes {
+    let message: Message<&[u8]> = Message::Attrib(Attributes {
         datatype: Some(2),
         org: Some(0),
         rfm: Some(1),
@@ -119,7 +123,7 @@ fn every_attribute_has_its_bit(rt: HostRuntime) -> Result<(), Fail> {
 
 #[test]
 fn access(rt: HostRuntime) -> Result<(), Fail> {
-    let message = Message::Access(AccessFields {
+    let message: Message<&[u8]> = Message::Access(AccessFields {
         func: 2,
         opt: 0,
         name: &[0x46],
@@ -133,7 +137,7 @@ fn access(rt: HostRuntime) -> Result<(), Fail> {
 
 #[test]
 fn control(rt: HostRuntime) -> Result<(), Fail> {
-    let put = Message::Control(ControlFields {
+    let put: Message<&[u8]> = Message::Control(ControlFields {
         func: 4,
         rac: Some(1),
         key: Some(&[3, 0, 0, 0]),
@@ -145,13 +149,13 @@ fn control(rt: HostRuntime) -> Result<(), Fail> {
         ..NO_CONTROL
     });
     check(&rt, connect, &[4, 2, 2, 2, 0])?;
-    let get = Message::Control(ControlFields {
+    let get: Message<&[u8]> = Message::Control(ControlFields {
         func: 1,
         rac: Some(0),
         ..NO_CONTROL
     });
     check(&rt, get, &[4, 2, 3, 1, 1, 0])?;
-    let all = Message::Control(ControlFields {
+    let all: Message<&[u8]> = Message::Control(ControlFields {
         func: 1,
         rac: Some(0),
         key: Some(&[]),
@@ -192,7 +196,7 @@ fn access_complete(rt: HostRuntime) -> Result<(), Fail> {
 
 #[test]
 fn file_data(rt: HostRuntime) -> Result<(), Fail> {
-    let message = Message::Filedata {
+    let message: Message<&[u8]> = Message::Filedata {
         recnum: &[],
         payload: &[0x41],
     };
@@ -201,7 +205,7 @@ fn file_data(rt: HostRuntime) -> Result<(), Fail> {
 
 /// How many bytes a record of so many is written in, whether they begin so, and whether they are read back.
 fn written(alloc: Global, record: &[u8], begin: &[u8]) -> Result<(usize, bool, bool), MsgFault> {
-    let message = Message::Filedata {
+    let message: Message<&[u8]> = Message::Filedata {
         recnum: &[],
         payload: record,
     };
@@ -225,7 +229,7 @@ fn a_long_operand_has_two_bytes_of_length(rt: HostRuntime) -> Result<(), Fail> {
 
 #[test]
 fn status(rt: HostRuntime) -> Result<(), Fail> {
-    let ended = Message::Status(StatusFields {
+    let ended: Message<&[u8]> = Message::Status(StatusFields {
         code: 0x5027,
         rfa: &[],
         recnum: &[],
@@ -233,7 +237,7 @@ fn status(rt: HostRuntime) -> Result<(), Fail> {
     });
     check(&rt, ended, &[9, 2, 5, 0x27, 0x50, 0, 0, 0])?;
     assert_eq!(rt; decode(&[9, 2, 2, 0x27, 0x50]), Ok((ended, 5)));
-    let done = Message::Status(StatusFields {
+    let done: Message<&[u8]> = Message::Status(StatusFields {
         code: 0x1000,
         rfa: &[1, 0, 0, 0],
         recnum: &[1, 0, 0, 0],
@@ -245,7 +249,7 @@ fn status(rt: HostRuntime) -> Result<(), Fail> {
 
 #[test]
 fn other(rt: HostRuntime) -> Result<(), Fail> {
-    let message = Message::Other {
+    let message: Message<&[u8]> = Message::Other {
         number: 10,
         body: &[1, 2],
     };
@@ -256,14 +260,11 @@ fn other(rt: HostRuntime) -> Result<(), Fail> {
 fn the_type_of_a_message(rt: HostRuntime) {
     assert_eq!(rt; Message::Ack.number(), 6);
     assert_eq!(rt; Message::Contran { func: 1 }.number(), 5);
-    assert_eq!(rt;
-        Message::Other {
-            number: 16,
-            body: &[]
-        }
-        .number(),
-        16
-    );
+    let other: Message<&[u8]> = Message::Other {
+        number: 16,
+        body: &[],
+    };
+    assert_eq!(rt; other.number(), 16);
 }
 
 #[test]
