@@ -62,7 +62,11 @@ fn push_wanted(text: &mut Vec<u8>, fac: u32, shr: u32, display: u32) -> Result<(
 
 /// Appends the line of a message. The digits are those of its record, where it is a Data message.
 #[inline(always)]
-fn push_message(text: &mut Vec<u8>, message: &Message<&[u8]>, digits: &[u8]) -> Result<(), AllocError>
+fn push_message(
+    text: &mut Vec<u8>,
+    message: &Message<&[u8]>,
+    digits: &[u8],
+) -> Result<(), AllocError>
     requires { Spell digits.now (length digits.now / 2) }
     ensures { OnOk result (Adds text.old text.new
         (message_line (with_record (seen message.now) (bytes_of digits.now)))) }
