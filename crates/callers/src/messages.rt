@@ -19,7 +19,7 @@ fn read<W: Write>(bytes: &[u8], out: &mut W) -> Result<(), Trouble> {
 
 /// Writes a record, where it is one that a message can have.
 fn write<W: Write>(alloc: Global, body: &[u8], out: &mut W) -> Result<(), Trouble> {
-    let message = Message::Filedata {
+    let message: Message<&[u8]> = Message::Filedata {
         recnum: &[],
         payload: body,
     };

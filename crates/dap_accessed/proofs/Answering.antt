@@ -8,7 +8,8 @@ use Rattle.std.specs.Prelude.{IfSome, IsTrue, nat_le, unwrap_or, if◌then◌els
 use Rattle.std.specs.FinMap.{get}
 use Rattle.std.proofs.lemmas.Bool.Decides.{nat_tests}
 use Rattle.dap_msg.specs.Codes as codes
-use Rattle.dap_msg.specs.Message.{Message, Config, Attrib, Access, Control, Contran, Ack, Accomp, Filedata, Other, AccessFields, ControlFields}
+use Rattle.dap_msg.specs.Message.{Message, AccessFields, ControlFields}
+use Rattle.dap_msg.specs.declared.message.Message.TheVariants.{Config, Attrib, Access, Control, Contran, Ack, Accomp, Filedata, Other}
 use Rattle.dap_msg.specs.Formats.{type_number as type_of}
 use Rattle.dap_msg.specs.Inner.Answers.{IsShortAnswer}
 use Rattle.dap_msg.specs.BothEnds.{four_bytes, least_buffer}

@@ -4,7 +4,8 @@ use Rattle.std.specs.Prelude.{◌+◌, ◌==◌, if◌then◌else◌, take_while
 use Rattle.std.specs.FinMap.{get}
 use Rattle.std.specs.List.{prefix_len}
 use Rattle.dap_msg.specs.Codes as codes
-use Rattle.dap_msg.specs.Message.{Message, Config, Attrib, Access, Control, Contran, Accomp, Filedata, Other, AccessFields, ControlFields}
+use Rattle.dap_msg.specs.Message.{Message, AccessFields, ControlFields}
+use Rattle.dap_msg.specs.declared.message.Message.TheVariants.{Config, Attrib, Access, Control, Contran, Accomp, Filedata, Other}
 use Rattle.dap_msg.specs.BothEnds.{config_of, limit_of, is_too_small}
 use Rattle.dap_msg.specs.Items.{Item, Whole, Malformed}
 use Rattle.rec_file.specs.declared.picks.Pick.{Pick}

@@ -2,7 +2,8 @@
 -- to a message that has no place are own).
 use Rattle.std.specs.Prelude.{ℕ, Bool, if◌then◌else◌, List, [], ◌∷◌, Option}
 use Rattle.dap_msg.specs.Codes as codes
-use Rattle.dap_msg.specs.Message.{Message, Config, Attrib, Access, Control, Contran, Ack, Accomp, Filedata, Other, ControlFields}
+use Rattle.dap_msg.specs.Message.{Message, ControlFields}
+use Rattle.dap_msg.specs.declared.message.Message.TheVariants.{Config, Attrib, Access, Control, Contran, Ack, Accomp, Filedata, Other}
 use Rattle.dap_msg.specs.BothEnds.{limit_of, config_of, is_too_small}
 use Rattle.dap_msg.specs.Items.{Item, Whole, Malformed}
 use Rattle.rec_file.specs.declared.refusals.Refusal.TheVariants.{NotPermitted}

@@ -3,7 +3,8 @@ use Rattle.std.specs.Prelude.{ℕ, ◌+◌, Bool, true, false, not, ◌&&◌, na
 use Rattle.std.specs.List.{list_any}
 use Rattle.dap_msg.specs.Codes as codes
 use Rattle.dap_msg.specs.BothEnds.{no_attributes, with_defaults}
-use Rattle.dap_msg.specs.Message.{Attrib, Access, Contran, Filedata, Attributes}
+use Rattle.dap_msg.specs.Message.{Attributes}
+use Rattle.dap_msg.specs.declared.message.Message.TheVariants.{Attrib, Access, Contran, Filedata}
 use Rattle.dap_msg.specs.Items.{Item, Whole}
 use Rattle.rec_file.specs.declared.shapes.Shape.{Shape}
 use Rattle.rec_file.specs.Shapes.{checked_shape}

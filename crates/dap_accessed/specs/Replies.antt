@@ -3,7 +3,8 @@ use Rattle.std.specs.Prelude.{ℕ, List, [], ◌∷◌, Result, Ok, Err}
 use Rattle.dap_msg.specs.Codes as codes
 use Rattle.dap_msg.specs.declared.codes.Reason.{Reason}
 use Rattle.dap_msg.specs.declared.codes.Reason.TheVariants as reason
-use Rattle.dap_msg.specs.Message.{Message, Status, Ack}
+use Rattle.dap_msg.specs.Message.{Message}
+use Rattle.dap_msg.specs.declared.message.Message.TheVariants.{Status, Ack}
 use Rattle.dap_msg.specs.Formats.{type_number as type_of}
 use Rattle.dap_msg.specs.BothEnds.{four_bytes, complete_with, attributes_of}
 use Rattle.rec_file.specs.declared.shapes.Org.{Org}

@@ -1,7 +1,8 @@
 //! Answers, and their messages.
 
 ghost use Rattle.std.specs.Prelude.{◌≡◌, ◌≤◌, [], ◌∷◌, IfOk, length};
-ghost use Rattle.dap_msg.specs.Message.{Ack, Filedata, seen};
+ghost use Rattle.dap_msg.specs.Message.{seen};
+ghost use Rattle.dap_msg.specs.declared.message.Message.TheVariants.{Ack, Filedata};
 ghost use Rattle.dap_msg.specs.Canon.{Fits, file_data_size};
 ghost use Rattle.dap_msg.specs.BothEnds.{config_of, four_bytes, least_buffer};
 ghost use Rattle.rec_file.specs.Limits.{longest_record};
@@ -13,7 +14,9 @@ use dap_msg::codes::{
     CMPFUNC_RESPONSE, ORG_RELATIVE, ORG_SEQUENTIAL, RECORD_REFUSED, RFM_FIXED, RFM_VARIABLE,
     Reason, SUCCESS,
 };
-use dap_msg::{Attributes, LEAST_BUFFER, Message, append_message, encode, encoded_len};
+use dap_msg::{
+    Attributes, LEAST_BUFFER, Message, StatusFields, append_message, encode, encoded_len,
+};
 use rec_file::{Format, Org, Shape};
 use std::alloc::Global;
 use std::marker::Model;
@@ -50,7 +53,7 @@ pub(crate) fn too_large<'a>() -> Answer<'a>
 
 /// A Status with these fields.
 #[tactic(auto, using(dap_msg::proofs::ForCallers::answers_fit))]
-fn status<'a>(code: u16, rfa: &'a [u8], recnum: &'a [u8], stv: &'a [u8]) -> Message<'a>
+fn status<'a>(code: u16, rfa: &'a [u8], recnum: &'a [u8], stv: &'a [u8]) -> Message<&'a [u8]>
     requires rfa { length rfa.now ≤ 4 }
     requires recnum { length recnum.now ≤ 4 }
     requires stv { length stv.now ≤ 4 }
@@ -58,12 +61,12 @@ fn status<'a>(code: u16, rfa: &'a [u8], recnum: &'a [u8], stv: &'a [u8]) -> Mess
     ensures fits { Fits (status code rfa.now recnum.now stv.now) }
     ensures short { IsAtMost least_buffer (status code rfa.now recnum.now stv.now) }
 {
-    Message::Status {
+    Message::Status(StatusFields {
         code,
         rfa,
         recnum,
         stv,
-    }
+    })
 }
 
 /// The ORG of an organization.
@@ -88,7 +91,7 @@ fn format_code(format: Format) -> u8
 
 /// The Attributes of a file, with its MRN in these four bytes.
 #[tactic(auto, using(dap_msg::proofs::ForCallers::answers_fit, crate::proofs::Writing::org_small, crate::proofs::Writing::format_small))]
-fn attributes(shape: Shape, mrn: &[u8]) -> Message<'_>
+fn attributes(shape: Shape, mrn: &[u8]) -> Message<&[u8]>
     requires { mrn.now ≡ four_bytes shape.mrn }
     ensures same { seen result ≡ attributes_for shape }
     ensures fits { Fits (attributes_for shape) }
@@ -105,7 +108,7 @@ fn attributes(shape: Shape, mrn: &[u8]) -> Message<'_>
 
 /// A record, with its number in these four bytes.
 #[tactic(auto, using(dap_msg::proofs::ForCallers::file_data_measured, dap_msg::proofs::ForCallers::file_data_fits))]
-fn record<'a>(number: &'a [u8], body: &'a [u8]) -> Message<'a>
+fn record<'a>(number: &'a [u8], body: &'a [u8]) -> Message<&'a [u8]>
     requires four { length number.now ≡ 4 }
     requires short { length body.now ≤ longest_record }
     ensures same { seen result ≡ Filedata number.now body.now }
@@ -133,7 +136,7 @@ pub(crate) fn filedata_len(body: &[u8]) -> usize
 impl<'a> Answer<'a> {
     /// The message that the answer is.
     #[tactic(auto, using(dap_msg::proofs::ForCallers::answers_fit))]
-    fn message(&self) -> Message<'_>
+    fn message(&self) -> Message<&[u8]>
         requires { IsWritable self.now }
         ensures same { seen result ≡ message_of self.now }
         ensures fits { Fits (message_of self.now) }

@@ -12,7 +12,7 @@ use crate::fault::NoMemory;
 use crate::phase::{OpenFile, Phase};
 use crate::refusing::{refused, settled};
 use crate::verbs::{key_for, pick_for};
-use dap_msg::Control;
+use dap_msg::ControlFields;
 use rec_file::{Refusal, Stream};
 
 /// The stream with no current record.
@@ -42,7 +42,7 @@ impl Accessed {
         &mut self,
         opened: OpenFile,
         stream: Stream,
-        control: Control<'_>,
+        control: ControlFields<&[u8]>,
     ) -> Vec<Vec<u8>>
         requires { opened.at < length self.old.files }
         ensures { Moves self.old (done (steps.Expect opened stream control.entry) self.old)
@@ -57,7 +57,7 @@ impl Accessed {
         &mut self,
         opened: OpenFile,
         stream: Stream,
-        control: Control<'_>,
+        control: ControlFields<&[u8]>,
     ) -> Result<Vec<Vec<u8>>, NoMemory>
         requires { opened.at < length self.old.files }
         ensures ok { Makes (done (steps.Get opened stream control.entry) self.old)

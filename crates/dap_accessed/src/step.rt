@@ -4,7 +4,8 @@ ghost use Rattle.std.specs.Prelude.{◌≡◌, ◌≤◌, IfSome, IsTrue};
 ghost use Rattle.dap_msg.specs.Items.{ItemFits, Whole, seen_item};
 ghost use Rattle.dap_msg.specs.Decoding.{IsSpelled};
 ghost use Rattle.dap_msg.specs.Inner.Fitting.{FieldsFit};
-ghost use Rattle.dap_msg.specs.Message.{Attrib, seen, seen_attributes};
+ghost use Rattle.dap_msg.specs.Message.{seen, seen_attributes};
+ghost use Rattle.dap_msg.specs.declared.message.Message.TheVariants.{Attrib};
 ghost use Rattle.rec_file.specs.Shapes.{is_shape};
 ghost use Rattle.dap_accessed.specs.Standing.{Files};
 ghost use Rattle.dap_accessed.specs.Past.{asked_shape};
@@ -28,7 +29,9 @@ use dap_msg::codes::{
     SUCCESS, TYPE_COMPLETE, TYPE_CONFIGURATION, TYPE_CONTINUE, TYPE_CONTROL, invalid, out_of_place,
     unsupported,
 };
-use dap_msg::{Attributes, Control, Item, Message, is_too_small, limit_of, number_of, status_for};
+use dap_msg::{
+    Attributes, ControlFields, Item, Message, is_too_small, limit_of, number_of, status_for,
+};
 use rec_file::{Refusal, Shape, Stream};
 
 /// What an item asks for that is not refused, with all that is needed to do it.
@@ -47,11 +50,11 @@ pub(crate) enum Step<'a> {
     /// The end of an access, without the file that it made.
     Purge(OpenFile),
     /// The record that the Control is for.
-    Get(OpenFile, Stream, Control<'a>),
+    Get(OpenFile, Stream, ControlFields<&'a [u8]>),
     /// The records from the stream's next on.
     Fetch(OpenFile, Stream),
     /// A record of which the Control has the key, if any, and the next item the bytes.
-    Expect(OpenFile, Stream, Control<'a>),
+    Expect(OpenFile, Stream, ControlFields<&'a [u8]>),
     /// A new record, under a key where there is one, unless the key was refused.
     Put(OpenFile, Stream, Result<Option<u32>, Refusal>, &'a [u8]),
     /// A record in the place of the current one.
@@ -101,7 +104,7 @@ impl Phase {
     }
 
     /// The same where a file is open without a stream.
-    fn opened<'a>(self, opened: OpenFile, message: Message<'a>) -> Result<Step<'a>, u16>
+    fn opened<'a>(self, opened: OpenFile, message: Message<&'a [u8]>) -> Result<Step<'a>, u16>
         requires { self ≡ phases.Opened opened }
         ensures { Asks self (Whole (seen message.entry)) result }
     {
@@ -122,7 +125,7 @@ impl Phase {
         self,
         opened: OpenFile,
         stream: Stream,
-        message: Message<'a>,
+        message: Message<&'a [u8]>,
     ) -> Result<Step<'a>, u16>
         requires { self ≡ phases.Connected opened stream }
         ensures { Asks self (Whole (seen message.entry)) result }
@@ -155,7 +158,7 @@ impl Phase {
         opened: OpenFile,
         stream: Stream,
         ordinal: u32,
-        message: Message<'a>,
+        message: Message<&'a [u8]>,
     ) -> Result<Step<'a>, u16>
         requires { self ≡ phases.Dropping opened stream ordinal }
         ensures { Asks self (Whole (seen message.entry)) result }
@@ -179,7 +182,7 @@ impl Phase {
         self,
         opened: OpenFile,
         stream: Stream,
-        message: Message<'a>,
+        message: Message<&'a [u8]>,
     ) -> Result<Step<'a>, u16>
         requires phase { self ≡ phases.Stopped opened stream }
         requires next { stream.next ≤ greatest_number }
@@ -200,14 +203,14 @@ impl Phase {
     }
 
     /// The same in each phase in which a file is open, unless the phase says otherwise.
-    fn otherwise<'a>(self, opened: OpenFile, message: Message<'a>) -> Result<Step<'a>, u16>
+    fn otherwise<'a>(self, opened: OpenFile, message: Message<&'a [u8]>) -> Result<Step<'a>, u16>
         requires there { HasOpen self opened }
         requires common { IsCommon self (seen message) }
         ensures { Asks self (Whole (seen message.entry)) result }
     {
         match message {
             Message::Control(control) => Err(control_refused(verb_of(&control))),
-            Message::Accomp { func, .. } => match func {
+            Message::Accomp(complete) => match complete.func {
                 CMPFUNC_CLOSE => Ok(Step::Reply(Answer::Complete, Phase::Ready)),
                 CMPFUNC_PURGE => Ok(Step::Purge(opened)),
                 CMPFUNC_END_OF_STREAM => match self {
@@ -223,30 +226,29 @@ impl Phase {
 }
 
 /// What a message asks for where the peer's Config is due.
-fn fresh<'a>(message: Message<'a>) -> Result<Step<'a>, u16>
+fn fresh<'a>(message: Message<&'a [u8]>) -> Result<Step<'a>, u16>
     ensures { Asks phases.Fresh (Whole (seen message.entry)) result }
 {
     match message {
-        Message::Config { bufsiz, .. } if is_too_small(bufsiz) => Err(invalid(TYPE_CONFIGURATION)),
-        Message::Config { bufsiz, .. } => Ok(Step::Configure(limit_of(bufsiz))),
+        Message::Config(config) if is_too_small(config.bufsiz) => Err(invalid(TYPE_CONFIGURATION)),
+        Message::Config(config) => Ok(Step::Configure(limit_of(config.bufsiz))),
         Message::Other { .. } => Ok(Step::Enter(Phase::Fresh)),
         _ => Err(out_of_place(message.number())),
     }
 }
 
 /// What a message asks for where no file is open.
-fn ready<'a>(message: Message<'a>) -> Result<Step<'a>, u16>
+fn ready<'a>(message: Message<&'a [u8]>) -> Result<Step<'a>, u16>
     requires { IsSpelled (seen message) }
     ensures { Asks phases.Ready (Whole (seen message.entry)) result }
 {
     match message {
         Message::Attrib(attributes) => Ok(Step::Keep(shape_for(&attributes))),
-        Message::Access {
-            func,
-            name,
-            fac,
-            ..
-        } => Ok(Step::Access { func, name, fac }),
+        Message::Access(access) => Ok(Step::Access {
+            func: access.func,
+            name: access.name,
+            fac: access.fac,
+        }),
         Message::Other { .. } => Ok(Step::Enter(Phase::Ready)),
         _ => Err(out_of_place(message.number())),
     }
@@ -273,7 +275,7 @@ fn continuation_refused(func: u8) -> u16
 }
 
 /// The shape that the attributes of a message that was read ask for.
-fn shape_for(attributes: &Attributes<'_>) -> Option<Shape>
+fn shape_for(attributes: &Attributes<&[u8]>) -> Option<Shape>
     requires { FieldsFit (Attrib (seen_attributes attributes.now)) }
     ensures same { result ≡ asked_shape (seen_attributes attributes.now) }
     ensures good { IfSome result (λ shape. IsTrue (is_shape shape)) }

@@ -5,7 +5,7 @@ ghost use Rattle.dap_msg.specs.Message.{seen_control};
 ghost use Rattle.rec_file.specs.AnyFiles.{any_value};
 ghost use Rattle.dap_accessed.specs.Records.{get_pick, key_of, put_key, verb_of};
 
-use dap_msg::Control;
+use dap_msg::ControlFields;
 use dap_msg::codes::{
     CTLFUNC_CONNECT, CTLFUNC_DELETE, CTLFUNC_GET, CTLFUNC_PUT, CTLFUNC_REWIND, CTLFUNC_UPDATE,
     RAC_ADDRESS, RAC_KEYED, RAC_SEQUENTIAL, RAC_WHOLE_FILE,
@@ -36,7 +36,7 @@ pub enum Verb {
 }
 
 /// What a Control asks for: a GET or a PUT may be for a whole file.
-pub(crate) fn verb_of(control: &Control<'_>) -> Verb
+pub(crate) fn verb_of(control: &ControlFields<&[u8]>) -> Verb
     ensures { result ≡ verb_of (seen_control control.now) }
 {
     let whole = control.rac.unwrap_or(RAC_SEQUENTIAL) == RAC_WHOLE_FILE;
@@ -54,7 +54,7 @@ pub(crate) fn verb_of(control: &Control<'_>) -> Verb
 }
 
 /// The number that KEY spells.
-fn key(control: &Control<'_>) -> Result<u32, Refusal>
+fn key(control: &ControlFields<&[u8]>) -> Result<u32, Refusal>
     ensures { result ≡ key_of (seen_control control.now) }
 {
     match control.key {
@@ -67,7 +67,7 @@ fn key(control: &Control<'_>) -> Result<u32, Refusal>
 pub(crate) fn pick_for(
     file: &AnyFile,
     stream: Stream,
-    control: &Control<'_>,
+    control: &ControlFields<&[u8]>,
 ) -> Result<Pick, Refusal>
     ensures { result ≡ get_pick (any_value file.now) stream (seen_control control.now) }
 {
@@ -91,7 +91,7 @@ pub(crate) fn pick_for(
 pub(crate) fn key_for(
     file: &AnyFile,
     stream: Stream,
-    control: &Control<'_>,
+    control: &ControlFields<&[u8]>,
 ) -> Result<Option<u32>, Refusal>
     ensures { result ≡ put_key (any_value file.now) stream (seen_control control.now) }
 {

@@ -3,7 +3,7 @@ use Rattle.std.proofs.Common.{◌≡◌, ℕ, Bool, List, [], ◌∷◌, Option,
 use Rattle.std.specs.Option.{option_or}
 use Rattle.std.proofs.lemmas.List.{append-nil}
 use Rattle.dap_msg.specs.Codes as codes
-use Rattle.dap_msg.specs.Message.{Ack, Filedata, Status}
+use Rattle.dap_msg.specs.declared.message.Message.TheVariants.{Ack, Filedata, Status}
 use Rattle.dap_msg.specs.BothEnds.{config_of, complete_with}
 use Rattle.dap_msg.specs.Items.{Item, Whole}
 use Rattle.dap_accessing.specs.declared.report.Report.{Report}

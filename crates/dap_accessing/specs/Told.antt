@@ -3,7 +3,8 @@ use Rattle.std.specs.Prelude.{ℕ, Bool, true, false, ◌&&◌, nat_le, ◌==◌
 use Rattle.std.specs.List.{prefix_len, list_any}
 use Rattle.dap_msg.specs.Codes as codes
 use Rattle.dap_msg.specs.declared.codes.Reason.TheVariants.{TooLargeForBuffer}
-use Rattle.dap_msg.specs.Message.{Config, Attrib, Ack, Accomp, Filedata, Status, Other, StatusFields}
+use Rattle.dap_msg.specs.Message.{StatusFields}
+use Rattle.dap_msg.specs.declared.message.Message.TheVariants.{Config, Attrib, Ack, Accomp, Filedata, Status, Other}
 use Rattle.dap_msg.specs.Items.{Item, Whole}
 use Rattle.dap_msg.specs.BothEnds.{number_of, is_too_small, with_defaults}
 use Rattle.rec_file.specs.Limits.{greatest_number}

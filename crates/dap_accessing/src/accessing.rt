@@ -163,7 +163,7 @@ impl Accessing {
     }
 
     /// Takes the message as the next answer.
-    fn take(&mut self, message: &Message<'_>) -> Result<Option<Report>, ReadFault>
+    fn take(&mut self, message: &Message<&[u8]>) -> Result<Option<Report>, ReadFault>
         requires short { HasShortNumbers (seen message.now) }
         ensures takes { Takes (Whole (seen message.now)) self.old self.new result }
         ensures own { self.new.own ≡ self.old.own }

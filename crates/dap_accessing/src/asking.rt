@@ -18,7 +18,9 @@ use dap_msg::codes::{
     CTLFUNC_PUT, CTLFUNC_REWIND, CTLFUNC_UPDATE, RAC_ADDRESS, RAC_KEYED, RAC_SEQUENTIAL,
     RAC_WHOLE_FILE,
 };
-use dap_msg::{Attributes, Control, Message, MsgFault, append_counted, encoded_len, fits};
+use dap_msg::{
+    AccessFields, Attributes, ControlFields, Message, MsgFault, append_counted, encoded_len, fits,
+};
 use std::alloc::Global;
 
 /// The number that a request carries in four bytes, 0 where it carries none.
@@ -47,7 +49,12 @@ impl Request {
 }
 
 /// An Attributes message with these fields alone.
-fn attributes(org: Option<u8>, rfm: Option<u8>, mrs: Option<u16>, mrn: Option<&[u8]>) -> Message<'_>
+fn attributes(
+    org: Option<u8>,
+    rfm: Option<u8>,
+    mrs: Option<u16>,
+    mrn: Option<&[u8]>,
+) -> Message<&[u8]>
     ensures { seen result ≡ asked.attributes org rfm mrs (option_copied mrn.entry) }
 {
     Message::Attrib(Attributes {
@@ -60,10 +67,10 @@ fn attributes(org: Option<u8>, rfm: Option<u8>, mrs: Option<u16>, mrn: Option<&[
 }
 
 /// An Access of this function to the file of this name.
-fn access(func: u8, name: &Octets, fac: u32) -> Message<'_>
+fn access(func: u8, name: &Octets, fac: u32) -> Message<&[u8]>
     ensures { seen result ≡ asked.access func name.now fac }
 {
-    Message::Access {
+    Message::Access(AccessFields {
         func,
         opt: 0,
         name: name.0.as_slice(),
@@ -71,14 +78,14 @@ fn access(func: u8, name: &Octets, fac: u32) -> Message<'_>
         shr: 0,
         display: 0,
         password: &[],
-    }
+    })
 }
 
 /// A Control with these fields alone.
-fn control(func: u8, rac: Option<u8>, key: Option<&[u8]>) -> Message<'_>
+fn control(func: u8, rac: Option<u8>, key: Option<&[u8]>) -> Message<&[u8]>
     ensures { seen result ≡ asked.control func rac (option_copied key.entry) }
 {
-    Message::Control(Control {
+    Message::Control(ControlFields {
         func,
         rac,
         key,
@@ -90,7 +97,7 @@ fn control(func: u8, rac: Option<u8>, key: Option<&[u8]>) -> Message<'_>
 }
 
 /// The Filedata of a record, without a number.
-fn record(body: &Octets) -> Message<'_>
+fn record(body: &Octets) -> Message<&[u8]>
     ensures { seen result ≡ asked.unnumbered_record body.now }
 {
     Message::Filedata {
@@ -100,7 +107,7 @@ fn record(body: &Octets) -> Message<'_>
 }
 
 /// The first message of a request that carries these four bytes.
-fn first_message<'a>(own: u16, request: &'a Request, number: &'a [u8]) -> Message<'a>
+fn first_message<'a>(own: u16, request: &'a Request, number: &'a [u8]) -> Message<&'a [u8]>
     requires { number.now ≡ four_bytes (number_carried request.now) }
     ensures { seen result ≡ first_of own request.now }
 {
@@ -134,7 +141,7 @@ fn first_message<'a>(own: u16, request: &'a Request, number: &'a [u8]) -> Messag
 }
 
 /// The message behind the first and the records, where there is one.
-fn last_message(request: &Request) -> Option<Message<'_>>
+fn last_message(request: &Request) -> Option<Message<&[u8]>>
     ensures { seen_option result ≡ last_of request.now }
 {
     match request {
@@ -157,7 +164,7 @@ fn records(request: &Request) -> &[Octets]
 }
 
 /// The bytes of the message, where it has a spelling within the limit.
-fn sendable_len(message: &Message<'_>, limit: u16) -> Option<usize>
+fn sendable_len(message: &Message<&[u8]>, limit: u16) -> Option<usize>
     ensures yes { IfSome result (λ n. IsSendable limit (seen message.now)) }
     ensures exact { IfSome result (λ n. n ≡ length (canon (seen message.now))) }
     ensures no { result ≡ None → IsSendable limit (seen message.now) → ⊥ }
@@ -214,7 +221,7 @@ fn are_sendable(records: &[Octets], limit: u16) -> bool
 fn append(
     alloc: Global,
     list: &mut Vec<Vec<u8>>,
-    message: &Message<'_>,
+    message: &Message<&[u8]>,
     len: usize,
     limit: u16,
 ) -> Result<(), MsgFault>
@@ -236,9 +243,9 @@ pub(crate) struct Counts {
 /// The messages of a request.
 #[derive(Clone, Copy, Debug)]
 pub(crate) struct Outgoing<'a> {
-    first: Message<'a>,
+    first: Message<&'a [u8]>,
     records: &'a [Octets],
-    last: Option<Message<'a>>,
+    last: Option<Message<&'a [u8]>>,
 }
 
 impl<'a> Outgoing<'a> {

@@ -89,7 +89,7 @@ impl Pending {
     }
 
     /// What the message comes to as the next answer.
-    pub(crate) fn hear(self, alloc: Global, message: &Message<'_>) -> Heard
+    pub(crate) fn hear(self, alloc: Global, message: &Message<&[u8]>) -> Heard
         requires { HasShortNumbers (seen message.now) }
         ensures { Hears self (Whole (seen message.now)) result }
     {
@@ -119,24 +119,24 @@ fn hear_status(code: u16, stv: &[u8]) -> Heard
 }
 
 /// What a message comes to where a Config is due.
-fn hear_config(message: &Message<'_>) -> Heard
+fn hear_config(message: &Message<&[u8]>) -> Heard
     ensures { Hears pending.Config (Whole (seen message.now)) result }
 {
     match *message {
-        Message::Config { bufsiz, .. } => {
-            if is_too_small(bufsiz) {
+        Message::Config(config) => {
+            if is_too_small(config.bufsiz) {
                 Heard::Unexpected
             } else {
-                Heard::Reports(Report::Ready(bufsiz))
+                Heard::Reports(Report::Ready(config.bufsiz))
             }
         }
-        Message::Status { code, stv, .. } => hear_status(code, stv),
+        Message::Status(status) => hear_status(status.code, status.stv),
         _ => Heard::Unexpected,
     }
 }
 
 /// What a message comes to where the Attributes of an opened file are due.
-fn hear_attributes(message: &Message<'_>) -> Heard
+fn hear_attributes(message: &Message<&[u8]>) -> Heard
     requires { HasShortNumbers (seen message.now) }
     ensures { Hears pending.Attributes (Whole (seen message.now)) result }
 {
@@ -155,36 +155,36 @@ fn hear_attributes(message: &Message<'_>) -> Heard
             }
         }
         Message::Other { .. } => Heard::Waits(Pending::Attributes),
-        Message::Status { code, stv, .. } => hear_status(code, stv),
+        Message::Status(status) => hear_status(status.code, status.stv),
         _ => Heard::Unexpected,
     }
 }
 
 /// What a message comes to where the Acknowledge behind these attributes is due.
-fn hear_opened(org: u8, rfm: u8, mrs: u16, mrn: u32, message: &Message<'_>) -> Heard
+fn hear_opened(org: u8, rfm: u8, mrs: u16, mrn: u32, message: &Message<&[u8]>) -> Heard
     ensures { Hears (pending.Opened org rfm mrs mrn) (Whole (seen message.now)) result }
 {
     match *message {
         Message::Ack => Heard::Reports(Report::Opened { org, rfm, mrs, mrn }),
         Message::Other { .. } => Heard::Waits(Pending::Opened { org, rfm, mrs, mrn }),
-        Message::Status { code, stv, .. } => hear_status(code, stv),
+        Message::Status(status) => hear_status(status.code, status.stv),
         _ => Heard::Unexpected,
     }
 }
 
 /// What a message comes to where the Acknowledge of a connection is due.
-fn hear_connected(message: &Message<'_>) -> Heard
+fn hear_connected(message: &Message<&[u8]>) -> Heard
     ensures { Hears pending.Connected (Whole (seen message.now)) result }
 {
     match *message {
         Message::Ack => Heard::Reports(Report::Connected),
-        Message::Status { code, stv, .. } => hear_status(code, stv),
+        Message::Status(status) => hear_status(status.code, status.stv),
         _ => Heard::Unexpected,
     }
 }
 
 /// What a message comes to where the record of a get is due.
-fn hear_record(alloc: Global, message: &Message<'_>) -> Heard
+fn hear_record(alloc: Global, message: &Message<&[u8]>) -> Heard
     requires { HasShortNumbers (seen message.now) }
     ensures { Hears pending.Record (Whole (seen message.now)) result }
 {
@@ -196,32 +196,27 @@ fn hear_record(alloc: Global, message: &Message<'_>) -> Heard
             }),
             Err(_) => Heard::NoMemory(Pending::Record),
         },
-        Message::Status { code, stv, .. } => {
-            if code == END_OF_FILE {
+        Message::Status(status) => {
+            if status.code == END_OF_FILE {
                 return Heard::Reports(Report::EndOfFile);
             }
-            hear_status(code, stv)
+            hear_status(status.code, status.stv)
         }
         _ => Heard::Unexpected,
     }
 }
 
 /// What a message comes to where the Status of an operation is due.
-fn hear_done(message: &Message<'_>) -> Heard
+fn hear_done(message: &Message<&[u8]>) -> Heard
     requires { HasShortNumbers (seen message.now) }
     ensures { Hears pending.Done (Whole (seen message.now)) result }
 {
     match *message {
-        Message::Status {
-            code,
-            recnum,
-            stv,
-            ..
-        } => {
-            if StatusCode(code).is_success() {
-                Heard::Reports(Report::Done(number_of(recnum)))
+        Message::Status(status) => {
+            if StatusCode(status.code).is_success() {
+                Heard::Reports(Report::Done(number_of(status.recnum)))
             } else {
-                Heard::Reports(Report::Refused(code, reason(stv)))
+                Heard::Reports(Report::Refused(status.code, reason(status.stv)))
             }
         }
         _ => Heard::Unexpected,
@@ -243,7 +238,7 @@ fn hear_body(alloc: Global, bodies: Numbered, number: u64, payload: &[u8]) -> He
 }
 
 /// What a message comes to in a fetch, behind these records.
-fn hear_batch(alloc: Global, bodies: Numbered, message: &Message<'_>) -> Heard
+fn hear_batch(alloc: Global, bodies: Numbered, message: &Message<&[u8]>) -> Heard
     requires { HasShortNumbers (seen message.now) }
     ensures { Hears (pending.Batch bodies) (Whole (seen message.now)) result }
 {
@@ -254,13 +249,13 @@ fn hear_batch(alloc: Global, bodies: Numbered, message: &Message<'_>) -> Heard
             number_of(recnum),
             payload,
         ),
-        Message::Status { code, stv, .. } => {
-            if StatusCode(code).is_success() {
+        Message::Status(status) => {
+            if StatusCode(status.code).is_success() {
                 Heard::Unexpected
             } else {
                 Heard::Reports(Report::Batch {
                     bodies,
-                    ending: ending(code, stv),
+                    ending: ending(status.code, status.stv),
                 })
             }
         }
@@ -269,27 +264,22 @@ fn hear_batch(alloc: Global, bodies: Numbered, message: &Message<'_>) -> Heard
 }
 
 /// What a message comes to where the end of a store is due, whose first refusal is kept.
-fn hear_stored(kept: Option<(u16, u8, u64)>, message: &Message<'_>) -> Heard
+fn hear_stored(kept: Option<(u16, u8, u64)>, message: &Message<&[u8]>) -> Heard
     requires { HasShortNumbers (seen message.now) }
     ensures { Hears (pending.Stored kept) (Whole (seen message.now)) result }
 {
     match *message {
-        Message::Status {
-            code,
-            recnum,
-            stv,
-            ..
-        } => {
-            if StatusCode(code).is_success() {
+        Message::Status(status) => {
+            if StatusCode(status.code).is_success() {
                 return Heard::Unexpected;
             }
             Heard::Waits(Pending::Stored(match kept {
                 Some(first) => Some(first),
-                None => Some((code, reason(stv), number_of(recnum))),
+                None => Some((status.code, reason(status.stv), number_of(status.recnum))),
             }))
         }
-        Message::Accomp { func, .. } => {
-            if func == CMPFUNC_RESPONSE {
+        Message::Accomp(complete) => {
+            if complete.func == CMPFUNC_RESPONSE {
                 Heard::Reports(Report::Stored(kept))
             } else {
                 Heard::Unexpected
@@ -300,18 +290,18 @@ fn hear_stored(kept: Option<(u16, u8, u64)>, message: &Message<'_>) -> Heard
 }
 
 /// What a message comes to where the Access Complete of a close or a purge is due.
-fn hear_closed(message: &Message<'_>) -> Heard
+fn hear_closed(message: &Message<&[u8]>) -> Heard
     ensures { Hears pending.Closed (Whole (seen message.now)) result }
 {
     match *message {
-        Message::Accomp { func, .. } => {
-            if func == CMPFUNC_RESPONSE {
+        Message::Accomp(complete) => {
+            if complete.func == CMPFUNC_RESPONSE {
                 Heard::Reports(Report::Closed)
             } else {
                 Heard::Unexpected
             }
         }
-        Message::Status { code, stv, .. } => hear_status(code, stv),
+        Message::Status(status) => hear_status(status.code, status.stv),
         _ => Heard::Unexpected,
     }
 }

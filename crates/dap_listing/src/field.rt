@@ -8,7 +8,7 @@ ghost use Rattle.dap_listing.specs.Messages.{attributes_text, control_text};
 ghost use Rattle.dap_text.specs.Text.{line_feed};
 ghost use Rattle.dap_listing.specs.Inner.Fields.{field_text};
 
-use dap_msg::{Attributes, Control};
+use dap_msg::{Attributes, ControlFields};
 use dap_text::{push_image, push_number, push_str};
 use itoa::Integer;
 use std::alloc::AllocError;
@@ -24,7 +24,7 @@ pub(crate) enum Field<'a> {
 }
 
 /// The fields of Attributes in the order of their menu bits.
-pub(crate) fn attributes_fields<'a>(a: &Attributes<'a>) -> [Field<'a>; 21]
+pub(crate) fn attributes_fields<'a>(a: &Attributes<&'a [u8]>) -> [Field<'a>; 21]
     ensures { flat_map field_text result ≡ attributes_text (seen_attributes a.now) }
 {
     [
@@ -53,7 +53,7 @@ pub(crate) fn attributes_fields<'a>(a: &Attributes<'a>) -> [Field<'a>; 21]
 }
 
 /// The fields of Control after its function, likewise.
-pub(crate) fn control_fields<'a>(c: &Control<'a>) -> [Field<'a>; 6]
+pub(crate) fn control_fields<'a>(c: &ControlFields<&'a [u8]>) -> [Field<'a>; 6]
     ensures { flat_map field_text result ≡ control_text (seen_control c.now) }
 {
     [

@@ -4,18 +4,21 @@ ghost use Rattle.std.specs.Prelude.{◌≡◌, ◌≤◌, ◌/◌, ◌++◌, ℕ
 ghost use Rattle.std.specs.Option.{option_map_or};
 ghost use Rattle.std.specs.Fmt.{decimal};
 ghost use Rattle.dap_msg.specs.Items.{seen_item};
-ghost use Rattle.dap_msg.specs.Message.{Attrib, Control as TheControl, Filedata, Other, Status, seen, seen_attributes, seen_control};
+ghost use Rattle.dap_msg.specs.Message.{seen};
+ghost use Rattle.dap_msg.specs.declared.message.Message.TheVariants.{Access, Attrib, Config, Control, Filedata, Other, Status};
 ghost use Rattle.dap_text.specs.Adding.{Adds};
 ghost use Rattle.dap_text.specs.Adding.{AddsSome};
 ghost use Rattle.dap_listing.specs.Captured.{AreDecoded, Spell, bytes_of};
 ghost use Rattle.dap_listing.specs.Inner.Decoding.{item_with_record, record_size as size_of_record, with_record};
-ghost use Rattle.dap_listing.specs.Inner.Messages.{IsAccess, IsConfig};
 ghost use Rattle.dap_listing.specs.Messages.{IsMessagesText, fault_line, item_line, kind_text, message_line, version_text, wanted_text};
 
 use crate::decode::{FRONT, decode_to};
 use crate::field::{attributes_fields, control_fields, push_fields};
 use crate::text::push_spelled;
-use dap_msg::{Attributes, Control, FaultKind, Item, Message, MsgFault, item_at};
+use dap_msg::{
+    AccessFields, Attributes, Configuration, ControlFields, FaultKind, Item, Message, MsgFault,
+    StatusFields, item_at,
+};
 use dap_text::{push_decimal, push_image, push_number, push_str, push_word};
 use std::alloc::AllocError;
 
@@ -59,13 +62,17 @@ fn push_wanted(text: &mut Vec<u8>, fac: u32, shr: u32, display: u32) -> Result<(
 
 /// Appends the line of a message. The digits are those of its record, where it is a Data message.
 #[inline(always)]
-fn push_message(text: &mut Vec<u8>, message: &Message<'_>, digits: &[u8]) -> Result<(), AllocError>
+fn push_message(
+    text: &mut Vec<u8>,
+    message: &Message<&[u8]>,
+    digits: &[u8],
+) -> Result<(), AllocError>
     requires { Spell digits.now (length digits.now / 2) }
     ensures { OnOk result (Adds text.old text.new
         (message_line (with_record (seen message.now) (bytes_of digits.now)))) }
 {
     match message {
-        Message::Config { .. } => push_config(text, message),
+        Message::Config(config) => push_config(text, *config),
         Message::Attrib(attributes) => push_attributes(text, *attributes),
         Message::Control(control) => push_control(text, *control),
         Message::Contran { func } => {
@@ -73,86 +80,60 @@ fn push_message(text: &mut Vec<u8>, message: &Message<'_>, digits: &[u8]) -> Res
             push_str(text, "\n")
         }
         Message::Ack => push_str(text, "  ack\n"),
-        Message::Accomp { func, fop, check } => {
-            push_number(text, "  complete func=", *func)?;
-            push_number(text, " fop=", *fop)?;
+        Message::Accomp(complete) => {
+            push_number(text, "  complete func=", complete.func)?;
+            push_number(text, " fop=", complete.fop)?;
             push_str(text, " check=")?;
-            push_check(text, *check)?;
+            push_check(text, complete.check)?;
             push_str(text, "\n")
         }
-        Message::Access { .. } => push_access(text, message),
+        Message::Access(access) => push_access(text, *access),
         Message::Filedata { recnum, .. } => push_data(text, recnum, digits),
-        Message::Status {
-            code,
-            rfa,
-            recnum,
-            stv,
-        } => push_status(text, *code, rfa, recnum, stv),
+        Message::Status(status) => push_status(text, *status),
         Message::Other { number, body } => push_other(text, *number, body),
     }
 }
 
 /// Appends the line of a Configuration message.
 #[inline(always)]
-fn push_config(text: &mut Vec<u8>, message: &Message<'_>) -> Result<(), AllocError>
-    requires { IsConfig (seen message.now) }
-    ensures { OnOk result (Adds text.old text.new (message_line (seen message.now))) }
+fn push_config(text: &mut Vec<u8>, config: Configuration) -> Result<(), AllocError>
+    ensures { OnOk result (Adds text.old text.new (message_line (Config config))) }
 {
-    let Message::Config {
-        bufsiz,
-        ostype,
-        filesys,
-        vernum,
-        econum,
-        usrnum,
-        softver,
-        usrsoft,
-        syscap,
-    } = *message
-    else {
-        unreachable!()
-    };
-    push_number(text, "  config bufsiz=", bufsiz)?;
-    push_number(text, " ostype=", ostype)?;
-    push_number(text, " filesys=", filesys)?;
+    push_number(text, "  config bufsiz=", config.bufsiz)?;
+    push_number(text, " ostype=", config.ostype)?;
+    push_number(text, " filesys=", config.filesys)?;
     push_str(text, " version=")?;
-    push_version(text, vernum, econum, usrnum, softver, usrsoft)?;
-    push_number(text, " syscap=", syscap)?;
+    push_version(
+        text,
+        config.vernum,
+        config.econum,
+        config.usrnum,
+        config.softver,
+        config.usrsoft,
+    )?;
+    push_number(text, " syscap=", config.syscap)?;
     push_str(text, "\n")
 }
 
 /// Appends the line of an Access message.
 #[inline(always)]
-fn push_access(text: &mut Vec<u8>, message: &Message<'_>) -> Result<(), AllocError>
-    requires { IsAccess (seen message.now) }
-    ensures { OnOk result (Adds text.old text.new (message_line (seen message.now))) }
+fn push_access(text: &mut Vec<u8>, access: AccessFields<&[u8]>) -> Result<(), AllocError>
+    ensures { OnOk result (Adds text.old text.new (message_line (seen (Access access.entry)))) }
 {
-    let Message::Access {
-        func,
-        opt,
-        name,
-        fac,
-        shr,
-        display,
-        password,
-    } = *message
-    else {
-        unreachable!()
-    };
-    push_number(text, "  access func=", func)?;
-    push_number(text, " opt=", opt)?;
-    push_image(text, " name=", name)?;
+    push_number(text, "  access func=", access.func)?;
+    push_number(text, " opt=", access.opt)?;
+    push_image(text, " name=", access.name)?;
     push_str(text, " ")?;
-    push_wanted(text, fac, shr, display)?;
-    push_number(text, " password=", password.len())?;
+    push_wanted(text, access.fac, access.shr, access.display)?;
+    push_number(text, " password=", access.password.len())?;
     push_str(text, "\n")
 }
 
 /// Appends the line of an Attributes message.
 #[inline(never)]
-fn push_attributes(text: &mut Vec<u8>, attributes: Attributes<'_>) -> Result<(), AllocError>
+fn push_attributes(text: &mut Vec<u8>, attributes: Attributes<&[u8]>) -> Result<(), AllocError>
     ensures { OnOk result (Adds text.old text.new
-        (message_line (Attrib (seen_attributes attributes.entry)))) }
+        (message_line (seen (Attrib attributes.entry)))) }
 {
     push_str(text, "  attributes")?;
     push_fields(text, &attributes_fields(&attributes))
@@ -160,9 +141,9 @@ fn push_attributes(text: &mut Vec<u8>, attributes: Attributes<'_>) -> Result<(),
 
 /// Appends the line of a Control message.
 #[inline(never)]
-fn push_control(text: &mut Vec<u8>, control: Control<'_>) -> Result<(), AllocError>
+fn push_control(text: &mut Vec<u8>, control: ControlFields<&[u8]>) -> Result<(), AllocError>
     ensures { OnOk result (Adds text.old text.new
-        (message_line (TheControl (seen_control control.entry)))) }
+        (message_line (seen (Control control.entry)))) }
 {
     push_number(text, "  control func=", control.func)?;
     push_fields(text, &control_fields(&control))
@@ -180,24 +161,13 @@ fn push_data(text: &mut Vec<u8>, recnum: &[u8], digits: &[u8]) -> Result<(), All
 }
 
 /// Appends the line of a Status message.
-fn push_status(
-    text: &mut Vec<u8>,
-    code: u16,
-    rfa: &[u8],
-    recnum: &[u8],
-    stv: &[u8],
-) -> Result<(), AllocError>
-    ensures { OnOk result (Adds text.old text.new (message_line (Status (record {
-      code = code;
-      rfa = rfa.now;
-      recnum = recnum.now;
-      stv = stv.now;
-    })))) }
+fn push_status(text: &mut Vec<u8>, status: StatusFields<&[u8]>) -> Result<(), AllocError>
+    ensures { OnOk result (Adds text.old text.new (message_line (seen (Status status.entry)))) }
 {
-    push_word(text, "  status ", code)?;
-    push_image(text, " rfa=", rfa)?;
-    push_image(text, " recnum=", recnum)?;
-    push_image(text, " stv=", stv)?;
+    push_word(text, "  status ", status.code)?;
+    push_image(text, " rfa=", status.rfa)?;
+    push_image(text, " recnum=", status.recnum)?;
+    push_image(text, " stv=", status.stv)?;
     push_str(text, "\n")
 }
 

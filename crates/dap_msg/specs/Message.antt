@@ -1,84 +1,30 @@
--- The messages, without where their bytes lie in memory.
+-- The messages, however their bytes are held.
 use Rattle.std.specs.Prelude.{ℕ, ◌+◌, ◌*◌, List, Option, Some, None, option_copied}
-use Rattle.dap_msg.specs.declared.message.Attributes.{Attributes as LentAttributes}
-use Rattle.dap_msg.specs.declared.message.Control.{Control as LentControl}
-use Rattle.dap_msg.specs.declared.message.Message.{Message as LentMessage}
-use Rattle.dap_msg.specs.declared.message.Message.TheVariants as lent
+use Rattle.std.specs.Borrow.{Bor}
+use Rattle.dap_msg.specs.declared.message.Attributes.{Attributes as HeldAttributes}
+use Rattle.dap_msg.specs.declared.message.AccessFields.{AccessFields as HeldAccessFields}
+use Rattle.dap_msg.specs.declared.message.ControlFields.{ControlFields as HeldControlFields}
+use Rattle.dap_msg.specs.declared.message.StatusFields.{StatusFields as HeldStatusFields}
+use Rattle.dap_msg.specs.declared.message.Message.{Message as HeldMessage}
+pub use Rattle.dap_msg.specs.declared.message.Configuration.{Configuration}
+pub use Rattle.dap_msg.specs.declared.message.Completion.{Completion}
+pub use Rattle.dap_msg.specs.declared.message.Message.TheVariants.{Config, Attrib, Access, Control, Contran, Ack, Accomp, Filedata, Status, Other}
 
-pub record Configuration : Type 0 where
-  pub bufsiz : ℕ
-  pub ostype : ℕ
-  pub filesys : ℕ
-  pub vernum : ℕ
-  pub econum : ℕ
-  pub usrnum : ℕ
-  pub softver : ℕ
-  pub usrsoft : ℕ
-  pub syscap : ℕ
+-- bytes are lists of numbers
+abbrev pub Attributes : Type 0
+Attributes = HeldAttributes (List ℕ)
 
-pub record Attributes : Type 0 where
-  pub datatype : Option ℕ
-  pub org : Option ℕ
-  pub rfm : Option ℕ
-  pub rat : Option ℕ
-  pub bls : Option ℕ
-  pub mrs : Option ℕ
-  pub alq : Option (List ℕ)
-  pub bks : Option ℕ
-  pub fsz : Option ℕ
-  pub mrn : Option (List ℕ)
-  pub runsys : Option (List ℕ)
-  pub deq : Option ℕ
-  pub fop : Option ℕ
-  pub bsz : Option ℕ
-  pub dev : Option ℕ
-  pub sdc : Option ℕ
-  pub lrl : Option ℕ
-  pub hbk : Option (List ℕ)
-  pub ebk : Option (List ℕ)
-  pub ffb : Option ℕ
-  pub sbn : Option (List ℕ)
+abbrev pub AccessFields : Type 0
+AccessFields = HeldAccessFields (List ℕ)
 
-pub record AccessFields : Type 0 where
-  pub func : ℕ
-  pub opt : ℕ
-  pub name : List ℕ
-  pub fac : ℕ
-  pub shr : ℕ
-  pub display : ℕ
-  pub password : List ℕ
+abbrev pub ControlFields : Type 0
+ControlFields = HeldControlFields (List ℕ)
 
-pub record ControlFields : Type 0 where
-  pub func : ℕ
-  pub rac : Option ℕ
-  pub key : Option (List ℕ)
-  pub krf : Option ℕ
-  pub rop : Option ℕ
-  pub hsh : Option (List ℕ)
-  pub display : Option ℕ
+abbrev pub StatusFields : Type 0
+StatusFields = HeldStatusFields (List ℕ)
 
-pub record Completion : Type 0 where
-  pub func : ℕ
-  pub fop : ℕ
-  pub check : Option ℕ
-
-pub record StatusFields : Type 0 where
-  pub code : ℕ
-  pub rfa : List ℕ
-  pub recnum : List ℕ
-  pub stv : List ℕ
-
-pub data Message : Type 0 where
-  Config : Configuration → Message
-  Attrib : Attributes → Message
-  Access : AccessFields → Message
-  Control : ControlFields → Message
-  Contran : (func : ℕ) → Message
-  Ack : Message
-  Accomp : Completion → Message
-  Filedata : (recnum payload : List ℕ) → Message
-  Status : StatusFields → Message
-  Other : (number : ℕ) (body : List ℕ) → Message
+abbrev pub Message : Type 0
+Message = HeldMessage (List ℕ)
 
 -- a Configuration by its fields, in order
 abbrev pub configuration_of : (bufsiz ostype filesys vernum econum usrnum softver usrsoft syscap : ℕ) → Message
@@ -122,15 +68,15 @@ attributes_by datatype org rfm rat bls mrs alq bks fsz mrn runsys deq fop bsz de
   sbn = sbn;
 }
 
--- ---- What a message of the program is.
+-- ---- What a message of the program is, whose bytes lie in memory.
 
-abbrev pub seen_attributes : LentAttributes → Attributes
+abbrev pub seen_attributes : HeldAttributes (Bor (List ℕ)) → Attributes
 seen_attributes a =
     attributes_by a.datatype a.org a.rfm a.rat a.bls a.mrs (option_copied a.alq) a.bks a.fsz (option_copied a.mrn)
     (option_copied a.runsys) a.deq a.fop a.bsz a.dev a.sdc a.lrl (option_copied a.hbk) (option_copied a.ebk) a.ffb
     (option_copied a.sbn)
 
-abbrev pub seen_control : LentControl → ControlFields
+abbrev pub seen_control : HeldControlFields (Bor (List ℕ)) → ControlFields
 seen_control c = record {
   func = c.func;
   rac = c.rac;
@@ -141,19 +87,26 @@ seen_control c = record {
   display = c.display;
 }
 
-abbrev pub seen : LentMessage → Message
-seen (lent.Config bufsiz ostype filesys vernum econum usrnum softver usrsoft syscap) =
-    configuration_of bufsiz ostype filesys vernum econum usrnum softver usrsoft syscap
-seen (lent.Attrib attributes) = Attrib (seen_attributes attributes)
-seen (lent.Access func opt name fac shr display password) =
-    Access (record { func = func; opt = opt; name = name.now; fac = fac; shr = shr; display = display; password = password.now })
-seen (lent.Control control) = Control (seen_control control)
-seen (lent.Contran func) = Contran func
-seen lent.Ack = Ack
-seen (lent.Accomp func fop check) = Accomp (record { func = func; fop = fop; check = check })
-seen (lent.Filedata recnum payload) = Filedata recnum.now payload.now
-seen (lent.Status code rfa recnum stv) = Status (record { code = code; rfa = rfa.now; recnum = recnum.now; stv = stv.now })
-seen (lent.Other number body) = Other number body.now
+abbrev pub seen : HeldMessage (Bor (List ℕ)) → Message
+seen (Config c) = Config c
+seen (Attrib a) = Attrib (seen_attributes a)
+seen (Access a) =
+    Access (record {
+      func = a.func;
+      opt = a.opt;
+      name = a.name.now;
+      fac = a.fac;
+      shr = a.shr;
+      display = a.display;
+      password = a.password.now;
+    })
+seen (Control c) = Control (seen_control c)
+seen (Contran func) = Contran func
+seen Ack = Ack
+seen (Accomp c) = Accomp c
+seen (Filedata recnum payload) = Filedata recnum.now payload.now
+seen (Status s) = Status (record { code = s.code; rfa = s.rfa.now; recnum = s.recnum.now; stv = s.stv.now })
+seen (Other number body) = Other number body.now
 
 -- ---- The header.
 

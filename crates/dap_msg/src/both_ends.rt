@@ -4,7 +4,7 @@ ghost use Rattle.std.specs.Prelude.{◌≡◌, ◌≤◌, ◌<◌, ◌^◌, leng
 ghost use Rattle.dap_msg.specs.Message.{seen, seen_attributes};
 ghost use Rattle.dap_msg.specs.BothEnds as both;
 
-use crate::message::{Attributes, Message};
+use crate::message::{Attributes, Completion, Configuration, Message};
 
 /// The longest message that any end takes, in bytes (own).
 pub const GREATEST_MESSAGE: u16 = 65535;
@@ -56,9 +56,9 @@ pub fn number_of(image: &[u8]) -> u64
     dap_fields::number_of(image)
 }
 
-impl<'a> Attributes<'a> {
+impl<'a> Attributes<&'a [u8]> {
     /// Attributes with no field (DAP 5.6.0, Attributes message). Takes no memory.
-    pub fn none() -> Attributes<'a>
+    pub fn none() -> Attributes<&'a [u8]>
         ensures { seen_attributes result ≡ both.no_attributes }
     {
         Attributes {
@@ -87,13 +87,13 @@ impl<'a> Attributes<'a> {
     }
 }
 
-impl<'a> Message<'a> {
+impl<'a> Message<&'a [u8]> {
     /// The Config that each end sends, with its BUFSIZ in bytes (DAP 5.6.0, Configuration message; its values are
     /// own). Takes no memory.
-    pub fn config_of(bufsiz: u16) -> Message<'a>
+    pub fn config_of(bufsiz: u16) -> Message<&'a [u8]>
         ensures { seen result ≡ both.config_of bufsiz }
     {
-        Message::Config {
+        Message::Config(Configuration {
             bufsiz,
             ostype: OSTYPE,
             filesys: FILESYS,
@@ -103,17 +103,17 @@ impl<'a> Message<'a> {
             softver: 0,
             usrsoft: 0,
             syscap: 0,
-        }
+        })
     }
 
     /// An Access Complete with this CMPFUNC and nothing else (DAP 5.6.0, Access Complete message). Takes no memory.
-    pub fn complete_with(func: u8) -> Message<'a>
+    pub fn complete_with(func: u8) -> Message<&'a [u8]>
         ensures { seen result ≡ both.complete_with func }
     {
-        Message::Accomp {
+        Message::Accomp(Completion {
             func,
             fop: 0,
             check: None,
-        }
+        })
     }
 }

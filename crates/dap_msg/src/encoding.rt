@@ -2,19 +2,19 @@
 
 ghost use Rattle.std.specs.Prelude.{ℕ, ◌≡◌, ◌≤◌, ◌<◌, ◌+◌, ◌^◌, ◌++◌, length, is_some, map, vec_len, vec_capacity};
 ghost use Rattle.dap_fields.specs.Writing.{shortest};
-ghost use Rattle.dap_msg.specs.Message.{Attrib, Control as ControlOf, seen, seen_attributes, seen_control};
+ghost use Rattle.dap_msg.specs.Message.{Accomp, Attrib, Control, seen, seen_attributes, seen_control};
 ghost use Rattle.dap_msg.specs.Formats.{header_bytes};
 ghost use Rattle.dap_msg.specs.Canon.{canon, Fits};
-ghost use Rattle.dap_msg.specs.Written.{AppendsMessage};
 ghost use Rattle.dap_msg.specs.Inner.Canon.{operand_bytes, option_bytes, bits_of};
-ghost use Rattle.dap_msg.specs.Inner.Fields.{bytes_of, fields_bytes, message_bytes, is_there, CanWrite, CanWriteAll, completion_of};
+ghost use Rattle.dap_msg.specs.Written.{AppendsMessage};
+ghost use Rattle.dap_msg.specs.Inner.Fields.{bytes_of, fields_bytes, message_bytes, is_there, CanWrite, CanWriteAll};
 ghost use Rattle.dap_msg.specs.Inner.Fitting.{FieldsFit, FitsOption, KeepsLimits};
 
 use crate::fault::MsgFault;
 use crate::header::HeaderFlags;
 use crate::kind::Kind;
 use crate::menu::{self, Optional};
-use crate::message::{Attributes, Control, Message};
+use crate::message::{Attributes, Completion, ControlFields, Message};
 use dap_fields::{write_ex, write_image, write_u8, write_u16};
 
 /// A field to write.
@@ -221,15 +221,15 @@ fn menu_field<'a>(fields: &[Field]) -> Field<'a>
 }
 
 /// The fields of an Access Complete, in order.
-fn completion_fields<'a>(func: u8, fop: u64, check: Option<u16>) -> [Field<'a>; 3]
-    requires { FieldsFit (completion_of func fop check) }
-    ensures bytes { fields_bytes result ≡ operand_bytes (completion_of func fop check) }
+fn completion_fields<'a>(here: Completion) -> [Field<'a>; 3]
+    requires { FieldsFit (Accomp here) }
+    ensures bytes { fields_bytes result ≡ operand_bytes (Accomp here) }
     ensures can { CanWriteAll result }
 {
     [
-        Field::Byte(func),
-        Field::Extensible(u128::from(fop)),
-        match check {
+        Field::Byte(here.func),
+        Field::Extensible(u128::from(here.fop)),
+        match here.check {
             Some(check) => Field::Word(check),
             None => Field::Absent,
         },
@@ -238,9 +238,9 @@ fn completion_fields<'a>(func: u8, fop: u64, check: Option<u16>) -> [Field<'a>; 
 
 /// The fields of a Control, in order, with their menu.
 #[inline(always)]
-fn control_fields(here: Control<'_>) -> [Field<'_>; 8]
-    requires { FieldsFit (ControlOf (seen_control here)) }
-    ensures bytes { fields_bytes result ≡ operand_bytes (ControlOf (seen_control here.entry)) }
+fn control_fields(here: ControlFields<&[u8]>) -> [Field<'_>; 8]
+    requires { FieldsFit (Control (seen_control here)) }
+    ensures bytes { fields_bytes result ≡ operand_bytes (Control (seen_control here.entry)) }
     ensures can { CanWriteAll result }
 {
     let mut fields = [
@@ -258,7 +258,7 @@ fn control_fields(here: Control<'_>) -> [Field<'_>; 8]
 }
 
 /// The fields of an Attributes message, in order, behind their menu.
-fn attributes_fields(here: Attributes<'_>) -> [Field<'_>; 22]
+fn attributes_fields(here: Attributes<&[u8]>) -> [Field<'_>; 22]
     requires { FieldsFit (Attrib (seen_attributes here)) }
     ensures bytes { fields_bytes result ≡ operand_bytes (Attrib (seen_attributes here.entry)) }
     ensures can { CanWriteAll result }
@@ -295,71 +295,46 @@ fn attributes_fields(here: Attributes<'_>) -> [Field<'_>; 22]
 macro_rules! with_fields {
     ($message:expr, $make:ident $(, $more:expr)*) => {
         match *$message {
-            Message::Config {
-                bufsiz,
-                ostype,
-                filesys,
-                vernum,
-                econum,
-                usrnum,
-                softver,
-                usrsoft,
-                syscap,
-            } => {
+            Message::Config(here) => {
                 let fields = &[
-                    Field::Word(bufsiz),
-                    Field::Byte(ostype),
-                    Field::Byte(filesys),
-                    Field::Byte(vernum),
-                    Field::Byte(econum),
-                    Field::Byte(usrnum),
-                    Field::Byte(softver),
-                    Field::Byte(usrsoft),
-                    Field::Extensible(syscap),
+                    Field::Word(here.bufsiz),
+                    Field::Byte(here.ostype),
+                    Field::Byte(here.filesys),
+                    Field::Byte(here.vernum),
+                    Field::Byte(here.econum),
+                    Field::Byte(here.usrnum),
+                    Field::Byte(here.softver),
+                    Field::Byte(here.usrsoft),
+                    Field::Extensible(here.syscap),
                 ];
                 $make(fields $(, $more)*)
             }
-            Message::Attrib(attributes) => $make(&attributes_fields(attributes) $(, $more)*),
-            Message::Access {
-                func,
-                opt,
-                name,
-                fac,
-                shr,
-                display,
-                password,
-            } => {
+            Message::Attrib(here) => $make(&attributes_fields(here) $(, $more)*),
+            Message::Access(here) => {
                 let fields = &[
-                    Field::Byte(func),
-                    Field::Extensible(u128::from(opt)),
-                    Field::Image(name),
-                    Field::Extensible(u128::from(fac)),
-                    Field::Extensible(u128::from(shr)),
-                    Field::Extensible(u128::from(display)),
-                    Field::Image(password),
+                    Field::Byte(here.func),
+                    Field::Extensible(u128::from(here.opt)),
+                    Field::Image(here.name),
+                    Field::Extensible(u128::from(here.fac)),
+                    Field::Extensible(u128::from(here.shr)),
+                    Field::Extensible(u128::from(here.display)),
+                    Field::Image(here.password),
                 ];
                 $make(fields $(, $more)*)
             }
-            Message::Control(control) => $make(&control_fields(control) $(, $more)*),
+            Message::Control(here) => $make(&control_fields(here) $(, $more)*),
             Message::Contran { func } => $make(&[Field::Byte(func)] $(, $more)*),
             Message::Ack => $make(&[] $(, $more)*),
-            Message::Accomp { func, fop, check } => {
-                $make(&completion_fields(func, fop, check) $(, $more)*)
-            }
+            Message::Accomp(here) => $make(&completion_fields(here) $(, $more)*),
             Message::Filedata { recnum, payload } => {
                 $make(&[Field::Image(recnum), Field::Rest(payload)] $(, $more)*)
             }
-            Message::Status {
-                code,
-                rfa,
-                recnum,
-                stv,
-            } => {
+            Message::Status(here) => {
                 let fields = &[
-                    Field::Word(code),
-                    Field::Image(rfa),
-                    Field::Image(recnum),
-                    Field::Image(stv),
+                    Field::Word(here.code),
+                    Field::Image(here.rfa),
+                    Field::Image(here.recnum),
+                    Field::Image(here.stv),
                 ];
                 $make(fields $(, $more)*)
             }
@@ -371,7 +346,7 @@ macro_rules! with_fields {
 /// Appends a message as [`encode_counted`] does.
 #[tactic(auto, unfolding(crate::specs::Inner::Canon::canon))]
 #[inline(always)]
-fn encode_here(message: &Message<'_>, len: usize, out: &mut Vec<u8>) -> Result<(), MsgFault>
+fn encode_here(message: &Message<&[u8]>, len: usize, out: &mut Vec<u8>) -> Result<(), MsgFault>
     requires fits { KeepsLimits (seen message.now) }
     requires counted { len ≡ length (canon (seen message.now)) }
     ensures appends { AppendsMessage (canon (seen message.now)) out.old out.new result }
@@ -383,7 +358,7 @@ fn encode_here(message: &Message<'_>, len: usize, out: &mut Vec<u8>) -> Result<(
 /// The same. A call clears the room for the fields of all messages that it may meet: so those with the most fields are
 /// written apart.
 #[inline(never)]
-fn encode_apart(message: &Message<'_>, len: usize, out: &mut Vec<u8>) -> Result<(), MsgFault>
+fn encode_apart(message: &Message<&[u8]>, len: usize, out: &mut Vec<u8>) -> Result<(), MsgFault>
     requires fits { KeepsLimits (seen message.now) }
     requires counted { len ≡ length (canon (seen message.now)) }
     ensures appends { AppendsMessage (canon (seen message.now)) out.old out.new result }
@@ -394,7 +369,7 @@ fn encode_apart(message: &Message<'_>, len: usize, out: &mut Vec<u8>) -> Result<
 
 /// Appends a message of `len` bytes, as [`encode`] does. They aren't counted again.
 pub(crate) fn encode_counted(
-    message: &Message<'_>,
+    message: &Message<&[u8]>,
     len: usize,
     out: &mut Vec<u8>,
 ) -> Result<(), MsgFault>
@@ -404,7 +379,7 @@ pub(crate) fn encode_counted(
     ensures capacity { vec_capacity out.old ≤ vec_capacity out.new }
 {
     match message {
-        Message::Config { .. } | Message::Attrib(_) | Message::Access { .. } => {
+        Message::Config(_) | Message::Attrib(_) | Message::Access(_) => {
             encode_apart(message, len, out)
         }
         _ => encode_here(message, len, out),
@@ -417,7 +392,7 @@ pub(crate) fn encode_counted(
 ///
 /// The message must fit, as [`fits`] tells. The only refusal is `FaultKind::NoMemory`, with type and offset 0, which
 /// comes only where `out` lacked the room and leaves it unchanged. Room is reserved once, and none is given back.
-pub fn encode(message: &Message<'_>, out: &mut Vec<u8>) -> Result<(), MsgFault>
+pub fn encode(message: &Message<&[u8]>, out: &mut Vec<u8>) -> Result<(), MsgFault>
     requires { Fits (seen message.now) }
     ensures appends { AppendsMessage (canon (seen message.now)) out.old out.new result }
     ensures capacity { vec_capacity out.old ≤ vec_capacity out.new }
@@ -426,7 +401,7 @@ pub fn encode(message: &Message<'_>, out: &mut Vec<u8>) -> Result<(), MsgFault>
 }
 
 /// The bytes of the operand.
-fn operand_len(message: &Message<'_>) -> usize
+fn operand_len(message: &Message<&[u8]>) -> usize
     requires { KeepsLimits (seen message.now) }
     ensures { result ≡ length (operand_bytes (seen message.now)) }
 {
@@ -435,7 +410,7 @@ fn operand_len(message: &Message<'_>) -> usize
 
 /// The number of bytes that [`encode`] appends for a message that fits (own; DAP 5.6.0, message formats). Takes no
 /// memory.
-pub fn encoded_len(message: &Message<'_>) -> usize
+pub fn encoded_len(message: &Message<&[u8]>) -> usize
     requires { Fits (seen message.now) }
     ensures { result ≡ length (canon (seen message.now)) }
 {

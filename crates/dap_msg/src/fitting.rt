@@ -1,7 +1,7 @@
 //! Whether a message has a spelling.
 
 ghost use Rattle.std.specs.Prelude.{◌<◌, ◌^◌, ◌↔◌, length, IsTrue};
-ghost use Rattle.dap_msg.specs.Message.{Attrib, Control as ControlOf, seen, seen_attributes, seen_control};
+ghost use Rattle.dap_msg.specs.Message.{Attrib, Config, Control, seen, seen_attributes, seen_control};
 ghost use Rattle.dap_msg.specs.Canon.{Fits};
 ghost use Rattle.dap_msg.specs.Inner.Canon.{operand_bytes};
 ghost use Rattle.dap_msg.specs.Inner.Fitting.{FieldsFit, FitsOption};
@@ -10,7 +10,7 @@ use crate::codes::{GREATEST_TYPE, TYPE_STATUS};
 use crate::field;
 use crate::kind::Kind;
 use crate::menu::{self, Optional};
-use crate::message::{Attributes, Control, Message};
+use crate::message::{Attributes, Configuration, ControlFields, Message};
 
 /// Whether a field of a menu fits, where it is there.
 fn option_fits<'a, T, K: Kind<'a, T>>(field: Optional<K>, value: Option<T>) -> bool
@@ -22,8 +22,15 @@ fn option_fits<'a, T, K: Kind<'a, T>>(field: Optional<K>, value: Option<T>) -> b
     }
 }
 
+/// Whether each value of a Configuration fits its field.
+fn configuration_fits(here: Configuration) -> bool
+    ensures { IsTrue result ↔ FieldsFit (Config here) }
+{
+    field::SYSCAP.fits(here.syscap)
+}
+
 /// Whether each value of an Attributes message fits its field.
-fn attributes_fit(here: Attributes<'_>) -> bool
+fn attributes_fit(here: Attributes<&[u8]>) -> bool
     ensures { IsTrue result ↔ FieldsFit (Attrib (seen_attributes here.entry)) }
 {
     option_fits(menu::DATATYPE, here.datatype)
@@ -40,8 +47,8 @@ fn attributes_fit(here: Attributes<'_>) -> bool
 }
 
 /// Whether each value of a Control fits its field.
-fn control_fits(here: Control<'_>) -> bool
-    ensures { IsTrue result ↔ FieldsFit (ControlOf (seen_control here.entry)) }
+fn control_fits(here: ControlFields<&[u8]>) -> bool
+    ensures { IsTrue result ↔ FieldsFit (Control (seen_control here.entry)) }
 {
     option_fits(menu::KEY, here.key)
         && option_fits(menu::ROP, here.rop)
@@ -50,39 +57,30 @@ fn control_fits(here: Control<'_>) -> bool
 }
 
 /// Whether each value fits its field. Those that fill their type need no test.
-fn fields_fit(message: Message<'_>) -> bool
+fn fields_fit(message: Message<&[u8]>) -> bool
     ensures { IsTrue result ↔ FieldsFit (seen message.entry) }
 {
     match message {
-        Message::Config { syscap, .. } => field::SYSCAP.fits(syscap),
+        Message::Config(here) => configuration_fits(here),
         Message::Attrib(here) => attributes_fit(here),
-        Message::Access {
-            opt,
-            name,
-            fac,
-            shr,
-            display,
-            password,
-            ..
-        } => {
-            field::ACCOPT.fits(opt)
-                && field::FILESPEC.fits(name)
-                && field::FAC.fits(fac)
-                && field::SHR.fits(shr)
-                && field::DISPLAY.fits(display)
-                && field::PASSWORD.fits(password)
+        Message::Access(here) => {
+            field::ACCOPT.fits(here.opt)
+                && field::FILESPEC.fits(here.name)
+                && field::FAC.fits(here.fac)
+                && field::SHR.fits(here.shr)
+                && field::DISPLAY.fits(here.display)
+                && field::PASSWORD.fits(here.password)
         }
         Message::Control(here) => control_fits(here),
         Message::Contran { .. } => true,
         Message::Ack => true,
-        Message::Accomp { fop, .. } => field::FOP.fits(fop),
+        Message::Accomp(here) => field::FOP.fits(here.fop),
         Message::Filedata { recnum, .. } => field::RECNUM.fits(recnum),
-        Message::Status {
-            rfa,
-            recnum,
-            stv,
-            ..
-        } => field::RFA.fits(rfa) && field::RECNUM.fits(recnum) && field::STV.fits(stv),
+        Message::Status(here) => {
+            field::RFA.fits(here.rfa)
+                && field::RECNUM.fits(here.recnum)
+                && field::STV.fits(here.stv)
+        }
         Message::Other { number, .. } => number > TYPE_STATUS && number <= GREATEST_TYPE,
     }
 }
@@ -91,7 +89,7 @@ fn fields_fit(message: Message<'_>) -> bool
 const LONGEST_OPERAND: usize = 65535;
 
 /// Whether the operand of a message whose values fit has a length that can be told.
-fn operand_fits(message: &Message<'_>) -> bool
+fn operand_fits(message: &Message<&[u8]>) -> bool
     requires { FieldsFit (seen message.now) }
     ensures { IsTrue result ↔ (length (operand_bytes (seen message.now)) < 2 ^ 16) }
 {
@@ -105,7 +103,7 @@ fn operand_fits(message: &Message<'_>) -> bool
 /// Whether the message has a spelling, the condition of [`crate::encode`]: every value fits its field, the number of an
 /// `Other` is 10 to 16, and the operand has at most 65,535 bytes (the fields are those of DAP 5.6.0, message formats).
 /// Takes no memory.
-pub fn fits(message: &Message<'_>) -> bool
+pub fn fits(message: &Message<&[u8]>) -> bool
     ensures { IsTrue result ↔ Fits (seen message.now) }
 {
     fields_fit(*message) && operand_fits(message)

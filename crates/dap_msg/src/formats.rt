@@ -7,14 +7,16 @@ ghost use Rattle.dap_msg.specs.Inner.Reading.{place, value_at, Gives};
 
 use crate::fault::Fault;
 use crate::kind::{Byte, Word};
-use crate::message::{Attributes, Control, Message};
+use crate::message::{
+    AccessFields, Attributes, Completion, Configuration, ControlFields, Message, StatusFields,
+};
 use crate::reading::Cursor;
 use crate::{field, menu};
 
 /// The Acknowledge, whatever its operand is.
 #[tactic(auto, unfolding(crate::specs::Formats::acknowledge))]
 #[inline(always)]
-pub(crate) fn read_acknowledge(cursor: Cursor<'_>) -> Result<Message<'_>, Fault>
+pub(crate) fn read_acknowledge(cursor: Cursor<'_>) -> Result<Message<&[u8]>, Fault>
     ensures { Gives seen result (value_at acknowledge (place cursor.entry)) }
 {
     let _ignored = cursor;
@@ -24,25 +26,25 @@ pub(crate) fn read_acknowledge(cursor: Cursor<'_>) -> Result<Message<'_>, Fault>
 /// The Status that the operand spells; RFA, RECNUM and STV may be absent.
 #[tactic(auto, unfolding(crate::specs::Formats::status))]
 #[inline(always)]
-pub(crate) fn read_status(mut cursor: Cursor<'_>) -> Result<Message<'_>, Fault>
+pub(crate) fn read_status(mut cursor: Cursor<'_>) -> Result<Message<&[u8]>, Fault>
     ensures { Gives seen result (value_at status (place cursor.entry)) }
 {
     let code = cursor.read(Word)?;
     let rfa = cursor.or_else(field::RFA, &[])?;
     let recnum = cursor.or_else(field::RECNUM, &[])?;
     let stv = cursor.or_else(field::STV, &[])?;
-    Ok(Message::Status {
+    Ok(Message::Status(StatusFields {
         code,
         rfa,
         recnum,
         stv,
-    })
+    }))
 }
 
 /// The Control that the operand spells.
 #[tactic(auto, unfolding(crate::specs::Formats::control))]
 #[inline(always)]
-pub(crate) fn read_control(mut cursor: Cursor<'_>) -> Result<Message<'_>, Fault>
+pub(crate) fn read_control(mut cursor: Cursor<'_>) -> Result<Message<&[u8]>, Fault>
     ensures { Gives seen result (value_at control (place cursor.entry)) }
 {
     let func = cursor.read(Byte)?;
@@ -53,7 +55,7 @@ pub(crate) fn read_control(mut cursor: Cursor<'_>) -> Result<Message<'_>, Fault>
     let rop = cursor.option_of(bits, menu::ROP)?;
     let hsh = cursor.option_of(bits, menu::HSH)?;
     let display = cursor.option_of(bits, menu::DISPLAY)?;
-    Ok(Message::Control(Control {
+    Ok(Message::Control(ControlFields {
         func,
         rac,
         key,
@@ -67,7 +69,7 @@ pub(crate) fn read_control(mut cursor: Cursor<'_>) -> Result<Message<'_>, Fault>
 /// The Attributes that the operand spells.
 #[tactic(auto, unfolding(crate::specs::Formats::attributes, crate::specs::Inner::Attributes::later_attributes))]
 #[inline(always)]
-pub(crate) fn read_attributes(mut cursor: Cursor<'_>) -> Result<Message<'_>, Fault>
+pub(crate) fn read_attributes(mut cursor: Cursor<'_>) -> Result<Message<&[u8]>, Fault>
     ensures { Gives seen result (value_at attributes (place cursor.entry)) }
 {
     let bits = cursor.menu_of(menu::ATTMENU)?;
@@ -102,9 +104,9 @@ pub(crate) fn read_attributes(mut cursor: Cursor<'_>) -> Result<Message<'_>, Fau
 #[inline(always)]
 fn read_later_attributes<'a>(
     bits: u64,
-    first: Attributes<'a>,
+    first: Attributes<&'a [u8]>,
     mut cursor: Cursor<'a>,
-) -> Result<Message<'a>, Fault>
+) -> Result<Message<&'a [u8]>, Fault>
     ensures { Gives seen result
         (value_at (later_attributes bits (seen_attributes first.entry)) (place cursor.entry)) }
 {
@@ -138,7 +140,7 @@ fn read_later_attributes<'a>(
 /// The Config that the operand spells.
 #[tactic(auto, unfolding(crate::specs::Formats::configuration))]
 #[inline(always)]
-pub(crate) fn read_configuration(mut cursor: Cursor<'_>) -> Result<Message<'_>, Fault>
+pub(crate) fn read_configuration(mut cursor: Cursor<'_>) -> Result<Message<&[u8]>, Fault>
     ensures { Gives seen result (value_at configuration (place cursor.entry)) }
 {
     let bufsiz = cursor.read(Word)?;
@@ -150,7 +152,7 @@ pub(crate) fn read_configuration(mut cursor: Cursor<'_>) -> Result<Message<'_>, 
     let softver = cursor.read(Byte)?;
     let usrsoft = cursor.read(Byte)?;
     let syscap = cursor.read(field::SYSCAP)?;
-    Ok(Message::Config {
+    Ok(Message::Config(Configuration {
         bufsiz,
         ostype,
         filesys,
@@ -160,13 +162,13 @@ pub(crate) fn read_configuration(mut cursor: Cursor<'_>) -> Result<Message<'_>, 
         softver,
         usrsoft,
         syscap,
-    })
+    }))
 }
 
 /// The Access that the operand spells; the fields behind FILESPEC may be absent.
 #[tactic(auto, unfolding(crate::specs::Formats::access))]
 #[inline(always)]
-pub(crate) fn read_access(mut cursor: Cursor<'_>) -> Result<Message<'_>, Fault>
+pub(crate) fn read_access(mut cursor: Cursor<'_>) -> Result<Message<&[u8]>, Fault>
     ensures { Gives seen result (value_at access (place cursor.entry)) }
 {
     let func = cursor.read(Byte)?;
@@ -176,7 +178,7 @@ pub(crate) fn read_access(mut cursor: Cursor<'_>) -> Result<Message<'_>, Fault>
     let shr = cursor.or_else(field::SHR, 0)?;
     let display = cursor.or_else(field::DISPLAY, 0)?;
     let password = cursor.or_else(field::PASSWORD, &[])?;
-    Ok(Message::Access {
+    Ok(Message::Access(AccessFields {
         func,
         opt,
         name,
@@ -184,13 +186,13 @@ pub(crate) fn read_access(mut cursor: Cursor<'_>) -> Result<Message<'_>, Fault>
         shr,
         display,
         password,
-    })
+    }))
 }
 
 /// The Continue Transfer that the operand spells.
 #[tactic(auto, unfolding(crate::specs::Formats::continuation))]
 #[inline(always)]
-pub(crate) fn read_continuation(mut cursor: Cursor<'_>) -> Result<Message<'_>, Fault>
+pub(crate) fn read_continuation(mut cursor: Cursor<'_>) -> Result<Message<&[u8]>, Fault>
     ensures { Gives seen result (value_at continuation (place cursor.entry)) }
 {
     let func = cursor.read(Byte)?;
@@ -200,19 +202,19 @@ pub(crate) fn read_continuation(mut cursor: Cursor<'_>) -> Result<Message<'_>, F
 /// The Access Complete that the operand spells; FOP and the checksum may be absent.
 #[tactic(auto, unfolding(crate::specs::Formats::completion))]
 #[inline(always)]
-pub(crate) fn read_completion(mut cursor: Cursor<'_>) -> Result<Message<'_>, Fault>
+pub(crate) fn read_completion(mut cursor: Cursor<'_>) -> Result<Message<&[u8]>, Fault>
     ensures { Gives seen result (value_at completion (place cursor.entry)) }
 {
     let func = cursor.read(Byte)?;
     let fop = cursor.or_else(field::FOP, 0)?;
     let check = cursor.unless_end(Word)?;
-    Ok(Message::Accomp { func, fop, check })
+    Ok(Message::Accomp(Completion { func, fop, check }))
 }
 
 /// The Filedata that the operand spells: all that stands behind RECNUM is its payload.
 #[tactic(auto, unfolding(crate::specs::Formats::file_data))]
 #[inline(always)]
-pub(crate) fn read_file_data(mut cursor: Cursor<'_>) -> Result<Message<'_>, Fault>
+pub(crate) fn read_file_data(mut cursor: Cursor<'_>) -> Result<Message<&[u8]>, Fault>
     ensures { Gives seen result (value_at file_data (place cursor.entry)) }
 {
     let recnum = cursor.read(field::RECNUM)?;
@@ -225,7 +227,7 @@ pub(crate) fn read_file_data(mut cursor: Cursor<'_>) -> Result<Message<'_>, Faul
 /// The message of another type, with its operand as it stands.
 #[tactic(auto, unfolding(crate::specs::Formats::other))]
 #[inline(always)]
-pub(crate) fn read_other(number: u8, cursor: Cursor<'_>) -> Result<Message<'_>, Fault>
+pub(crate) fn read_other(number: u8, cursor: Cursor<'_>) -> Result<Message<&[u8]>, Fault>
     ensures { Gives seen result (value_at (other number) (place cursor.entry)) }
 {
     Ok(Message::Other {

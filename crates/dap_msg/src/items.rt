@@ -11,7 +11,7 @@ use crate::message::Message;
 #[derive(Clone, Copy, Debug, PartialEq, Eq)]
 pub enum Item<'a> {
     /// A message.
-    Whole(Message<'a>),
+    Whole(Message<&'a [u8]>),
     /// The rest of the NSP message, of which no message can be read, with its first fault. The fault's offset is
     /// counted in bytes from the start of the NSP message, and [`crate::status_for`] gives the code of the Status
     /// that answers it.

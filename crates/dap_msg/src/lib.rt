@@ -38,5 +38,7 @@ pub use laws::{
     has_items, lists_messages, measures_file_data, one_item_stands, reads_back, reads_in_place,
     writes_canon,
 };
-pub use message::{Attributes, Control, Message};
+pub use message::{
+    AccessFields, Attributes, Completion, Configuration, ControlFields, Message, StatusFields,
+};
 pub use status::{StatusCode, status_for};

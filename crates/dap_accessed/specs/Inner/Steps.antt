@@ -3,7 +3,8 @@ use Rattle.std.specs.Prelude.{ℕ, ◌≡◌, ◌<◌, ◌≤◌, ◌==◌, nat_
 use Rattle.dap_msg.specs.BothEnds.{config_of, least_buffer}
 use Rattle.dap_msg.specs.Codes as codes
 use Rattle.dap_msg.specs.Items.{Item}
-use Rattle.dap_msg.specs.Message.{Message, Control, Contran, Filedata, seen_control}
+use Rattle.dap_msg.specs.Message.{Message, seen_control}
+use Rattle.dap_msg.specs.declared.message.Message.TheVariants.{Control, Contran, Filedata}
 use Rattle.rec_file.specs.Acts.{act, delete_record}
 use Rattle.rec_file.specs.Shapes.{is_shape}
 use Rattle.dap_accessed.specs.declared.phase.OpenFile.{OpenFile}

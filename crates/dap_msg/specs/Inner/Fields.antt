@@ -1,10 +1,9 @@
 -- The fields that the encoder writes, one after another.
-use Rattle.std.specs.Prelude.{ℕ, ◌<◌, ◌≤◌, ◌^◌, List, [], ◌∷◌, ◌++◌, length, Option, Bool, true, false}
+use Rattle.std.specs.Prelude.{ℕ, ◌<◌, ◌≤◌, ◌^◌, List, [], ◌∷◌, ◌++◌, length, Bool, true, false}
 use Rattle.dap_fields.specs.Writing.{shortest}
 use Rattle.dap_msg.specs.declared.encoding.Field.{Field}
 use Rattle.dap_msg.specs.declared.encoding.Field.TheVariants.{Absent, Byte, Word, Extensible, Image, Rest}
 use Rattle.dap_msg.specs.Grammar as kinds
-use Rattle.dap_msg.specs.Message.{Message, Accomp}
 use Rattle.dap_msg.specs.Grammar.{field_bytes}
 use Rattle.dap_msg.specs.Formats.{header_bytes}
 
@@ -39,6 +38,3 @@ CanWrite (Rest bytes) = Unit {0}
 abbrev pub CanWriteAll : List Field → Type 0
 CanWriteAll [] = Unit {0}
 CanWriteAll (field ∷ fields) = CanWrite field × CanWriteAll fields
-
-abbrev pub completion_of : (func fop : ℕ) → Option ℕ → Message
-completion_of func fop check = Accomp (record { func = func; fop = fop; check = check })

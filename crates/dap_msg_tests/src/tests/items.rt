@@ -1,8 +1,8 @@
 //! What stands at the places of an NSP message.
 
-use dap_msg::{Control, FaultKind, Item, Message, MsgFault, item_at};
+use dap_msg::{ControlFields, FaultKind, Item, Message, MsgFault, item_at};
 
-const GET: Message<'static> = Message::Control(Control {
+const GET: Message<&'static [u8]> = Message::Control(ControlFields {
     func: 1,
     rac: Some(0),
     key: None,

@@ -1,7 +1,10 @@
 //! The greatest value of each field that has a limit, and the one above it.
 
 use bitflags::Flags;
-use dap_msg::{Attributes, Control, FileAccess, Message, fits};
+use dap_msg::{
+    AccessFields, Attributes, Completion, Configuration, ControlFields, FileAccess, Message,
+    StatusFields, fits,
+};
 use std::test::Fail;
 
 /// The greatest values of extensible fields of 2 to 12 bytes.
@@ -33,7 +36,7 @@ const I_255: &[u8] = &[0; 255];
 
 const I_256: &[u8] = &[0; 256];
 
-fn data<'a>(recnum: &'a [u8], payload: &'a [u8]) -> Message<'a> {
+fn data<'a>(recnum: &'a [u8], payload: &'a [u8]) -> Message<&'a [u8]> {
     Message::Filedata { recnum, payload }
 }
 
@@ -199,7 +202,7 @@ const ATTRIBUTES: &[AttributesRow] = &[
 #[test]
 fn of_attributes(rt: HostRuntime) {
     for (datatype, rat, alq, mrn, runsys, fop, dev, sdc, hbk, ebk, sbn, good) in ATTRIBUTES {
-        let attributes = Attributes {
+        let attributes: Attributes<&[u8]> = Attributes {
             datatype: Some(*datatype),
             rat: Some(*rat),
             alq: Some(alq),
@@ -231,7 +234,7 @@ const ACCESS: &[(u64, &[u8], u32, u32, u32, &[u8], bool)] = &[
 #[test]
 fn of_access(rt: HostRuntime) {
     for (opt, name, fac, shr, display, password, good) in ACCESS {
-        let access = Message::Access {
+        let access: Message<&[u8]> = Message::Access(AccessFields {
             func: 1,
             opt: *opt,
             name,
@@ -239,7 +242,7 @@ fn of_access(rt: HostRuntime) {
             shr: *shr,
             display: *display,
             password,
-        };
+        });
         assert_eq!(rt; fits(&access), *good);
     }
 }
@@ -256,7 +259,7 @@ const CONTROL: &[(&[u8], u64, &[u8], u32, bool)] = &[
 #[test]
 fn of_control(rt: HostRuntime) {
     for (key, rop, hsh, display, good) in CONTROL {
-        let control = Control {
+        let control: ControlFields<&[u8]> = ControlFields {
             func: 1,
             rac: None,
             key: Some(key),
@@ -280,12 +283,12 @@ const STATUS: &[(&[u8], &[u8], &[u8], bool)] = &[
 #[test]
 fn of_status(rt: HostRuntime) {
     for (rfa, recnum, stv, good) in STATUS {
-        let status = Message::Status {
+        let status: Message<&[u8]> = Message::Status(StatusFields {
             code: 0,
             rfa,
             recnum,
             stv,
-        };
+        });
         assert_eq!(rt; fits(&status), *good);
     }
 }
@@ -293,7 +296,7 @@ fn of_status(rt: HostRuntime) {
 #[test]
 fn of_configuration_and_completion(rt: HostRuntime) {
     for (syscap, fop, good) in [(EX_12, EX_6, true), (EX_12 + 1, EX_6 + 1, false)] {
-        let config = Message::Config {
+        let config = Message::Config(Configuration {
             bufsiz: 0,
             ostype: 0,
             filesys: 0,
@@ -303,13 +306,13 @@ fn of_configuration_and_completion(rt: HostRuntime) {
             softver: 0,
             usrsoft: 0,
             syscap,
-        };
+        });
         assert_eq!(rt; fits(&config), good);
-        let complete = Message::Accomp {
+        let complete = Message::Accomp(Completion {
             func: 1,
             fop,
             check: None,
-        };
+        });
         assert_eq!(rt; fits(&complete), good);
     }
 }

@@ -1,14 +1,19 @@
 //! Each message, written and read.
 
 use dap_msg::{
-    Attributes, Control, Message, MsgFault, StatusCode, decode, encode, encoded_len, fits,
+    AccessFields, Attributes, Completion, Configuration, ControlFields, Message, MsgFault,
+    StatusCode, StatusFields, decode, encode, encoded_len, fits,
 };
 use std::alloc::Global;
 use std::process::Abort;
 use std::test::Fail;
 
 /// The message is written as these bytes, and read back from them, whatever follows.
-fn check(rt: &(impl AllocGlobal + Abort), message: Message<'_>, bytes: &[u8]) -> Result<(), Fail> {
+fn check(
+    rt: &(impl AllocGlobal + Abort),
+    message: Message<&[u8]>,
+    bytes: &[u8],
+) -> Result<(), Fail> {
     assert!(rt; fits(&message));
     let mut out = Vec::new(rt.alloc());
     encode(&message, &mut out)?;
@@ -20,7 +25,7 @@ fn check(rt: &(impl AllocGlobal + Abort), message: Message<'_>, bytes: &[u8]) ->
     Ok(())
 }
 
-const NO_ATTRIBUTES: Attributes<'static> = Attributes {
+const NO_ATTRIBUTES: Attributes<&'static [u8]> = Attributes {
     datatype: None,
     org: None,
     rfm: None,
@@ -44,7 +49,7 @@ const NO_ATTRIBUTES: Attributes<'static> = Attributes {
     sbn: None,
 };
 
-const NO_CONTROL: Control<'static> = Control {
+const NO_CONTROL: ControlFields<&'static [u8]> = ControlFields {
     func: 0,
     rac: None,
     key: None,
@@ -56,7 +61,7 @@ const NO_CONTROL: Control<'static> = Control {
 
 #[test]
 fn configuration(rt: HostRuntime) -> Result<(), Fail> {
-    let message = Message::Config {
+    let message = Message::Config(Configuration {
         bufsiz: 1024,
         ostype: 7,
         filesys: 3,
@@ -66,13 +71,13 @@ fn configuration(rt: HostRuntime) -> Result<(), Fail> {
         softver: 0,
         usrsoft: 0,
         syscap: 0,
-    };
+    });
     check(&rt, message, &[1, 2, 0x0a, 0, 4, 7, 3, 5, 6, 0, 0, 0, 0])
 }
 
 #[test]
 fn attributes(rt: HostRuntime) -> Result<(), Fail> {
-    let message = Message::Attrib(Attributes {
+    let message: Message<&[u8]> = Message::Attrib(Attributes {
         org: Some(16),
         rfm: Some(2),
         mrs: Some(0),
@@ -86,7 +91,7 @@ fn attributes(rt: HostRuntime) -> Result<(), Fail> {
 
 #[test]
 fn every_attribute_has_its_bit(rt: HostRuntime) -> Result<(), Fail> {
-    let message = Message::Attrib(Attributes {
+    let message: Message<&[u8]> = Message::Attrib(Attributes {
         datatype: Some(2),
         org: Some(0),
         rfm: Some(1),
@@ -118,7 +123,7 @@ fn every_attribute_has_its_bit(rt: HostRuntime) -> Result<(), Fail> {
 
 #[test]
 fn access(rt: HostRuntime) -> Result<(), Fail> {
-    let message = Message::Access {
+    let message: Message<&[u8]> = Message::Access(AccessFields {
         func: 2,
         opt: 0,
         name: &[0x46],
@@ -126,31 +131,31 @@ fn access(rt: HostRuntime) -> Result<(), Fail> {
         shr: 0,
         display: 0,
         password: &[],
-    };
+    });
     check(&rt, message, &[3, 2, 8, 2, 0, 1, 0x46, 7, 0, 0, 0])
 }
 
 #[test]
 fn control(rt: HostRuntime) -> Result<(), Fail> {
-    let put = Message::Control(Control {
+    let put: Message<&[u8]> = Message::Control(ControlFields {
         func: 4,
         rac: Some(1),
         key: Some(&[3, 0, 0, 0]),
         ..NO_CONTROL
     });
     check(&rt, put, &[4, 2, 8, 4, 3, 1, 4, 3, 0, 0, 0])?;
-    let connect = Message::Control(Control {
+    let connect = Message::Control(ControlFields {
         func: 2,
         ..NO_CONTROL
     });
     check(&rt, connect, &[4, 2, 2, 2, 0])?;
-    let get = Message::Control(Control {
+    let get: Message<&[u8]> = Message::Control(ControlFields {
         func: 1,
         rac: Some(0),
         ..NO_CONTROL
     });
     check(&rt, get, &[4, 2, 3, 1, 1, 0])?;
-    let all = Message::Control(Control {
+    let all: Message<&[u8]> = Message::Control(ControlFields {
         func: 1,
         rac: Some(0),
         key: Some(&[]),
@@ -175,23 +180,23 @@ fn acknowledge(rt: HostRuntime) -> Result<(), Fail> {
 
 #[test]
 fn access_complete(rt: HostRuntime) -> Result<(), Fail> {
-    let response = Message::Accomp {
+    let response = Message::Accomp(Completion {
         func: 2,
         fop: 0,
         check: None,
-    };
+    });
     check(&rt, response, &[7, 2, 2, 2, 0])?;
-    let checked = Message::Accomp {
+    let checked = Message::Accomp(Completion {
         func: 1,
         fop: 0,
         check: Some(0x1234),
-    };
+    });
     check(&rt, checked, &[7, 2, 4, 1, 0, 0x34, 0x12])
 }
 
 #[test]
 fn file_data(rt: HostRuntime) -> Result<(), Fail> {
-    let message = Message::Filedata {
+    let message: Message<&[u8]> = Message::Filedata {
         recnum: &[],
         payload: &[0x41],
     };
@@ -200,7 +205,7 @@ fn file_data(rt: HostRuntime) -> Result<(), Fail> {
 
 /// How many bytes a record of so many is written in, whether they begin so, and whether they are read back.
 fn written(alloc: Global, record: &[u8], begin: &[u8]) -> Result<(usize, bool, bool), MsgFault> {
-    let message = Message::Filedata {
+    let message: Message<&[u8]> = Message::Filedata {
         recnum: &[],
         payload: record,
     };
@@ -224,27 +229,27 @@ fn a_long_operand_has_two_bytes_of_length(rt: HostRuntime) -> Result<(), Fail> {
 
 #[test]
 fn status(rt: HostRuntime) -> Result<(), Fail> {
-    let ended = Message::Status {
+    let ended: Message<&[u8]> = Message::Status(StatusFields {
         code: 0x5027,
         rfa: &[],
         recnum: &[],
         stv: &[],
-    };
+    });
     check(&rt, ended, &[9, 2, 5, 0x27, 0x50, 0, 0, 0])?;
     assert_eq!(rt; decode(&[9, 2, 2, 0x27, 0x50]), Ok((ended, 5)));
-    let done = Message::Status {
+    let done: Message<&[u8]> = Message::Status(StatusFields {
         code: 0x1000,
         rfa: &[1, 0, 0, 0],
         recnum: &[1, 0, 0, 0],
         stv: &[],
-    };
+    });
     let bytes = [9, 2, 0x0d, 0, 0x10, 4, 1, 0, 0, 0, 4, 1, 0, 0, 0, 0];
     check(&rt, done, &bytes)
 }
 
 #[test]
 fn other(rt: HostRuntime) -> Result<(), Fail> {
-    let message = Message::Other {
+    let message: Message<&[u8]> = Message::Other {
         number: 10,
         body: &[1, 2],
     };
@@ -255,14 +260,11 @@ fn other(rt: HostRuntime) -> Result<(), Fail> {
 fn the_type_of_a_message(rt: HostRuntime) {
     assert_eq!(rt; Message::Ack.number(), 6);
     assert_eq!(rt; Message::Contran { func: 1 }.number(), 5);
-    assert_eq!(rt;
-        Message::Other {
-            number: 16,
-            body: &[]
-        }
-        .number(),
-        16
-    );
+    let other: Message<&[u8]> = Message::Other {
+        number: 16,
+        body: &[],
+    };
+    assert_eq!(rt; other.number(), 16);
 }
 
 #[test]
