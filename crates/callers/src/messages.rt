@@ -1,7 +1,7 @@
 //! `dap_msg`: a DAP message is read and written.
 
 use crate::trouble::Trouble;
-use dap_msg::{Message, decode, encode, fits};
+use dap_msg::{Bytes, Message, decode, encode, fits};
 use std::alloc::Global;
 use std::io::Write;
 
@@ -19,9 +19,9 @@ fn read<W: Write>(bytes: &[u8], out: &mut W) -> Result<(), Trouble> {
 
 /// Writes a record, where it is one that a message can have.
 fn write<W: Write>(alloc: Global, body: &[u8], out: &mut W) -> Result<(), Trouble> {
-    let message: Message<&[u8]> = Message::Filedata {
-        recnum: &[],
-        payload: body,
+    let message = Message::Filedata {
+        recnum: Bytes(&[]),
+        payload: Bytes(body),
     };
     let mut bytes = Vec::new(alloc);
     if fits(&message) {

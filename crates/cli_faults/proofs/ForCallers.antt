@@ -1,12 +1,11 @@
 -- What an error of `clap` is, from the kinds that the words can give.
 use Rattle.std.proofs.Common.{◌≡◌, ◌⊎◌, inl, inr, List, [], ◌∷◌}
-use Rattle.std.proofs.Common.{subst, sym}
+use Rattle.std.proofs.Common.{subst}
 use Rattle.clap.specs.Words.{HasKind, Kinds, kind_of}
 use Rattle.clap.specs.Kinds.{IsAmong}
 use Rattle.clap.specs.declared.error.Error.{Error}
-use Rattle.clap.specs.declared.error.kind.ErrorKind.{ErrorKind}
 use Rattle.clap.specs.declared.error.kind.ErrorKind.TheVariants.{OutOfMemory, DisplayHelp}
-use Rattle.cli_faults.specs.Mistakes.{IsMistake, AllMistakes, AreMistakes}
+use Rattle.cli_faults.specs.Mistakes.{IsMistake, AreMistakes}
 
 -- an error where nothing is at fault is want of memory
 pub only_memory : (kinds : Kinds) (e : Error) → kinds ≡ [] → HasKind kinds e → kind_of e ≡ OutOfMemory
@@ -14,16 +13,9 @@ only_memory [] e none (inl memory) = memory
 only_memory [] e none (inr among) = elim among [ ]
 only_memory (kind ∷ kinds) e none has = let no : ⊥ = cc in absurd no
 
--- an error among mistakes is a mistake
-among_mistakes : (k : ErrorKind) (kinds : Kinds) → AllMistakes kinds → IsAmong k kinds → IsMistake k
-among_mistakes k [] all among = elim among [ ]
-among_mistakes k (kind ∷ kinds) all (inl here) = subst IsMistake (sym here) all.0
-among_mistakes k (kind ∷ kinds) all (inr later) = among_mistakes k kinds all.1 later
-
 pub memory_or_mistake : (kinds : Kinds) (e : Error) → AreMistakes kinds → HasKind kinds e → (kind_of e ≡ OutOfMemory) ⊎ IsMistake (kind_of e)
-memory_or_mistake [] e mistakes has = elim mistakes [ ]
-memory_or_mistake (kind ∷ kinds) e mistakes (inl memory) = inl memory
-memory_or_mistake (kind ∷ kinds) e mistakes (inr among) = inr (among_mistakes (kind_of e) (kind ∷ kinds) mistakes among)
+memory_or_mistake kinds e mistakes (inl memory) = inl memory
+memory_or_mistake kinds e mistakes (inr among) = inr (mistakes.1 (kind_of e) among)
 
 pub memory_or_help : (kinds : Kinds) (e : Error) → kinds ≡ DisplayHelp ∷ [] → HasKind kinds e → (kind_of e ≡ OutOfMemory) ⊎ (kind_of e ≡ DisplayHelp)
 memory_or_help kinds e help has =

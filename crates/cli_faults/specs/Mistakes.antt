@@ -1,6 +1,6 @@
 -- What is wrong with words, in the words of `clap`.
-use Rattle.std.specs.Prelude.{◌≢◌, [], ◌∷◌}
-use Rattle.clap.specs.Kinds.{Kinds}
+use Rattle.std.specs.Prelude.{◌≢◌, []}
+use Rattle.clap.specs.Kinds.{IsAmong, Kinds}
 use Rattle.clap.specs.declared.error.kind.ErrorKind.{ErrorKind}
 use Rattle.clap.specs.declared.error.kind.ErrorKind.TheVariants.{DisplayHelp, DisplayVersion}
 
@@ -8,11 +8,6 @@ use Rattle.clap.specs.declared.error.kind.ErrorKind.TheVariants.{DisplayHelp, Di
 abbrev pub IsMistake : ErrorKind → Type 0
 IsMistake kind = (kind ≢ DisplayHelp) × (kind ≢ DisplayVersion)
 
-abbrev pub AllMistakes : Kinds → Type 0
-AllMistakes [] = Unit {0}
-AllMistakes (kind ∷ kinds) = IsMistake kind × AllMistakes kinds
-
 -- Something is at fault in the words, and it is a mistake, whichever of the kinds it is.
 abbrev pub AreMistakes : Kinds → Type 0
-AreMistakes [] = ⊥
-AreMistakes (kind ∷ kinds) = AllMistakes (kind ∷ kinds)
+AreMistakes kinds = (kinds ≢ []) × ((kind : ErrorKind) → IsAmong kind kinds → IsMistake kind)

@@ -8,12 +8,16 @@ use Rattle.std.specs.Prelude.{IfSome, IsTrue, nat_le, unwrap_or, if◌then◌els
 use Rattle.std.specs.FinMap.{get}
 use Rattle.std.proofs.lemmas.Bool.Decides.{nat_tests}
 use Rattle.dap_msg.specs.Codes as codes
-use Rattle.dap_msg.specs.Message.{Message, AccessFields, ControlFields}
+use Rattle.dap_msg.specs.declared.message.Message.{Message}
+use Rattle.dap_msg.specs.declared.message.AccessFields.{AccessFields}
+use Rattle.dap_msg.specs.declared.message.ControlFields.{ControlFields}
 use Rattle.dap_msg.specs.declared.message.Message.TheVariants.{Config, Attrib, Access, Control, Contran, Ack, Accomp, Filedata, Other}
 use Rattle.dap_msg.specs.Formats.{type_number as type_of}
 use Rattle.dap_msg.specs.Inner.Answers.{IsShortAnswer}
 use Rattle.dap_msg.specs.BothEnds.{four_bytes, least_buffer}
-use Rattle.dap_msg.specs.Items.{Item, Whole, Malformed, IsRead}
+use Rattle.dap_msg.specs.declared.items.Item.{Item}
+use Rattle.dap_msg.specs.declared.items.Item.TheVariants.{Whole, Malformed}
+use Rattle.dap_msg.specs.Items.{IsRead}
 use Rattle.dap_msg.specs.Blocked.{AllFit}
 use Rattle.dap_msg.specs.Sendable.{IsSendable, AreSendable}
 use Rattle.dap_msg.proofs.ForCallers.{answers_fit, file_data_measured, type_short}

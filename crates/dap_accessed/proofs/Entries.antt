@@ -8,10 +8,10 @@ use Rattle.rec_file.specs.declared.refusals.Refusal.{Refusal}
 use Rattle.rec_file.specs.declared.any.AnyFile.{AnyFile}
 use Rattle.rec_file.specs.AnyFiles.{any_value}
 use Rattle.rec_file.specs.Files.{FileVal}
-use Rattle.rec_file.specs.Acts.{Operation, StreamVal, Acts, IsOutcome, LacksMemory, act, is_no_memory}
+use Rattle.rec_file.specs.Acts.{Operation, StreamVal, Acts, IsOutcome, act, is_no_memory}
 use Rattle.dap_accessed.specs.declared.fault.NoMemory.{NoMemory}
 use Rattle.dap_accessed.specs.Standing.{Files, file_at, with_file}
-use Rattle.dap_accessed.proofs.Tables.{others, there, was, unchanged, view as view_by}
+use Rattle.dap_accessed.proofs.Tables.{LacksMemory, others, there, was, unchanged, view as view_by}
 
 abbrev pub Entry : Type 0
 Entry = Vec ℕ × AnyFile

@@ -1,12 +1,12 @@
 -- An operation leaves a file that obeys its shape.
 use Rattle.std.proofs.Common.{◌≡◌, ℕ, ◌+◌, ◌≤◌, Bool, true, false, length, Option, Some, None, IsSome, refl, ap, arith}
-use Rattle.std.specs.Prelude.{not, ◌&&◌, ◌||◌, nat_eq, nat_le, is_none, unwrap_or, if◌then◌else◌}
+use Rattle.std.specs.Prelude.{not, ◌&&◌, ◌||◌, nat_eq, nat_le, is_none, option_and_then, unwrap_or, if◌then◌else◌}
 use Rattle.std.proofs.lemmas.Bool.Decides.{nat_tests}
 use Rattle.std.specs.FinMap.{get}
 use Rattle.rec_file.specs.declared.refusals.Refusal.{Refusal}
 use Rattle.rec_file.specs.Shapes.{is_seq, limit_of, allows_length}
 use Rattle.rec_file.specs.Files.{FileVal, IsFile, highest_of}
-use Rattle.rec_file.specs.Acts.{Operation, get_record, put_record, update_record, delete_record, StreamVal, out_of_range, is_free, if_occupied, current_of, keeps_length, free_place, refusals_of, first_refusal, file_after, outcome_of, act}
+use Rattle.rec_file.specs.Acts.{Operation, get_record, put_record, update_record, delete_record, StreamVal, out_of_range, is_free, current_of, keeps_length, free_place, refusals_of, first_refusal, file_after, outcome_of, act}
 use Rattle.rec_file.proofs.ForCallers.{IsFile-placed, IsFile-replaced, IsFile-removed}
 
 pub passed : (b : Bool) (r : Refusal) (rest : Option Refusal) → (if b then Some r else rest) ≡ None → (b ≡ false) × (rest ≡ None)
@@ -39,6 +39,10 @@ some_of (Some x) e = refl
 there : (file : FileVal) (n : ℕ) (free : Bool) → is_free file n ≡ free → is_none (if free then None else Some n) ≡ false → IsSome (get file.records (unwrap_or (if free then None else Some n) 0))
 there file n true e h = cc
 there file n false e h = some_of (get file.records n) e
+
+-- a number that isn't occupied counts as none
+abbrev if_occupied : FileVal → Option ℕ → Option ℕ
+if_occupied file current = option_and_then (λ n. if is_free file n then None else Some n) current
 
 occupied : (file : FileVal) (current : Option ℕ) → is_none (if_occupied file current) ≡ false → IsSome (get file.records (unwrap_or (if_occupied file current) 0))
 occupied file None h = cc

@@ -1,7 +1,7 @@
 -- One item more finishes the group that was begun, or is a group, or begins one.
 use Rattle.std.proofs.Common.{ℕ, List, [], Option, Some, None}
-use Rattle.dap_msg.specs.Message.{Message}
-use Rattle.dap_msg.specs.Items.{Item}
+use Rattle.dap_msg.specs.declared.message.Message.{Message}
+use Rattle.dap_msg.specs.declared.items.Item.{Item}
 use Rattle.dap_accessed.specs.Standing.{Standing}
 use Rattle.dap_accessed.specs.Effects.{Begun, Turn, Does, Begins, turn_of, effect_with}
 use Rattle.dap_accessed.specs.Groups.{Grouped, over, after_two}

@@ -4,10 +4,13 @@ use Rattle.std.specs.Prelude.{◌+◌, ◌==◌, if◌then◌else◌, take_while
 use Rattle.std.specs.FinMap.{get}
 use Rattle.std.specs.List.{prefix_len}
 use Rattle.dap_msg.specs.Codes as codes
-use Rattle.dap_msg.specs.Message.{Message, AccessFields, ControlFields}
+use Rattle.dap_msg.specs.declared.message.Message.{Message}
+use Rattle.dap_msg.specs.declared.message.AccessFields.{AccessFields}
+use Rattle.dap_msg.specs.declared.message.ControlFields.{ControlFields}
 use Rattle.dap_msg.specs.declared.message.Message.TheVariants.{Config, Attrib, Access, Control, Contran, Accomp, Filedata, Other}
 use Rattle.dap_msg.specs.BothEnds.{config_of, limit_of, is_too_small}
-use Rattle.dap_msg.specs.Items.{Item, Whole, Malformed}
+use Rattle.dap_msg.specs.declared.items.Item.{Item}
+use Rattle.dap_msg.specs.declared.items.Item.TheVariants.{Whole, Malformed}
 use Rattle.rec_file.specs.declared.picks.Pick.{Pick}
 use Rattle.rec_file.specs.declared.refusals.Refusal.{Refusal}
 use Rattle.rec_file.specs.declared.shapes.Shape.{Shape}

@@ -1,7 +1,7 @@
 -- Every list of items leaves an end sound.
 use Rattle.std.proofs.Common.{ℕ, List, [], ◌∷◌, ◌++◌, sym, subst, append_assoc}
 use Rattle.std.proofs.lemmas.List.{append-nil}
-use Rattle.dap_msg.specs.Items.{Item}
+use Rattle.dap_msg.specs.declared.items.Item.{Item}
 use Rattle.dap_accessed.specs.Standing.{Files, start}
 use Rattle.dap_accessed.specs.Groups.{stands_after}
 use Rattle.dap_accessed.specs.Sound.{AreFiles, IsSound}

@@ -5,10 +5,10 @@ use Rattle.std.specs.List.{position, prefix_len, remove}
 use Rattle.std.specs.Map.{keys_of, values_of, lookup}
 use Rattle.indexmap.proofs.MapLemmas.{some_index}
 use Rattle.std.proofs.lemmas.List.{length-map}
-use Rattle.std.specs.Prelude.{Result, MatchBool}
+use Rattle.std.specs.Prelude.{Result, IsOk, MatchBool}
 use Rattle.indexmap.specs.IndexMap.{set_value_at}
 use Rattle.rec_file.specs.declared.refusals.Refusal.{Refusal}
-use Rattle.rec_file.specs.Acts.{Operation, StreamVal, Acts, act, is_no_memory, LacksMemory, IsOutcome}
+use Rattle.rec_file.specs.Acts.{Operation, StreamVal, Acts, Outcome, act, is_no_memory, IsOutcome}
 use Rattle.rec_file.specs.Files.{FileVal}
 use Rattle.dap_accessed.specs.Standing.{Files, file_at, name_at, with_file}
 
@@ -93,10 +93,14 @@ with-same [] i = refl
 with-same (e ∷ es) zero = refl
 with-same (e ∷ es) (suc i) = ap (λ (l : Files). e ∷ l) (with-same es i)
 
+-- nothing has changed, though an operation of this outcome was not to be refused
+abbrev pub LacksMemory : Outcome → FileVal → StreamVal → FileVal → StreamVal → Type 0
+LacksMemory outcome old_file old_stream file stream = (file ≡ old_file) × (stream ≡ old_stream) × IsOk outcome.reply
+
 -- an operation for which memory is wanted leaves the table
 pub unchanged : (op : Operation) (i : ℕ) (old new : Files) (old_stream new_stream : StreamVal) (r : Result ℕ Refusal)
     → new ≡ with_file i (file_at i new) old → Acts op (file_at i old) old_stream (file_at i new) new_stream r → is_no_memory r ≡ true → new ≡ old
 unchanged op i old new old_stream new_stream r o a e =
     let lacks : LacksMemory (act op (file_at i old) old_stream) (file_at i old) old_stream (file_at i new) new_stream =
     subst (λ (b : Bool). MatchBool b (LacksMemory (act op (file_at i old) old_stream) (file_at i old) old_stream (file_at i new) new_stream) (IsOutcome (act op (file_at i old) old_stream) (file_at i new) new_stream r)) e a in
-    o ∙ ap (λ (f : FileVal). with_file i f old) lacks.same_file ∙ with-same old i
+    o ∙ ap (λ (f : FileVal). with_file i f old) lacks.0 ∙ with-same old i

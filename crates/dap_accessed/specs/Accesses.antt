@@ -2,8 +2,8 @@
 use Rattle.std.specs.Prelude.{ℕ, true, false, ◌==◌, if◌then◌else◌, List, [], ◌∷◌, ◌++◌, length, Option, Some, None}
 use Rattle.std.specs.List.{remove}
 use Rattle.dap_msg.specs.Codes as codes
-use Rattle.dap_msg.specs.declared.codes.Reason.TheVariants.{FileExists, BadAttributes}
-use Rattle.dap_msg.specs.Message.{Message, AccessFields}
+use Rattle.dap_msg.specs.declared.message.Message.{Message}
+use Rattle.dap_msg.specs.declared.message.AccessFields.{AccessFields}
 use Rattle.rec_file.specs.declared.shapes.Shape.{Shape}
 use Rattle.rec_file.specs.declared.picks.Rights.{Rights}
 use Rattle.dap_accessed.specs.declared.phase.OpenFile.{OpenFile}
@@ -35,8 +35,8 @@ open_file scene fac (Some at) =
 
 -- with the shape that it would have; a new file stands behind all others
 abbrev pub create_file : Scene → (name : List ℕ) → (fac : ℕ) → Option ℕ → Option Shape → Effect
-create_file scene name fac (Some at) shape = refuse_access scene (refused_access FileExists)
-create_file scene name fac None None = refuse_access scene (refused_access BadAttributes)
+create_file scene name fac (Some at) shape = refuse_access scene (refused_access codes.reasons.file_exists)
+create_file scene name fac None None = refuse_access scene (refused_access codes.reasons.bad_attributes)
 create_file scene name fac None (Some shape) =
     enters (record scene { files = scene.files ++ (name, new_file shape) ∷ [] })
     (Opened (record { at = length scene.files; is_new = true; rights = rights_of (fac_or fac codes.fac_bits.put) }))

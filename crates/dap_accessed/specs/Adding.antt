@@ -8,7 +8,7 @@ use Rattle.rec_file.specs.Files.{FileVal, highest_of, stored}
 use Rattle.rec_file.specs.Acts.{out_of_range, is_free, first_refusal}
 use Rattle.dap_accessed.specs.declared.fault.AddFault.{AddFault}
 use Rattle.dap_accessed.specs.declared.fault.AddFault.TheVariants as fault
-use Rattle.dap_msg.specs.Items.{Item}
+use Rattle.dap_msg.specs.declared.items.Item.{Item}
 use Rattle.dap_accessed.specs.Standing.{Files, place_of, new_file, file_at, with_file, Fresh}
 use Rattle.dap_accessed.specs.Groups.{stands_after}
 use Rattle.dap_accessed.specs.Present.{Present, StandsAfter}

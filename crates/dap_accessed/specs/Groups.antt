@@ -1,8 +1,8 @@
 -- The list of items that were served is cut from its front into groups: one item, save that a PUT for a record or an
 -- UPDATE in Connected has the item after it in its group.
 use Rattle.std.specs.Prelude.{ℕ, List, [], ◌∷◌, ◌++◌, length, drop, Option, Some, None}
-use Rattle.dap_msg.specs.Message.{Message}
-use Rattle.dap_msg.specs.Items.{Item}
+use Rattle.dap_msg.specs.declared.message.Message.{Message}
+use Rattle.dap_msg.specs.declared.items.Item.{Item}
 use Rattle.dap_accessed.specs.Standing.{Files, Place, Connected, Group, Standing, Effect, start}
 use Rattle.dap_accessed.specs.Effects.{Begun, Does, Begins, turn_of, effect_with}
 

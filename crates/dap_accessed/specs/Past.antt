@@ -3,9 +3,10 @@ use Rattle.std.specs.Prelude.{ℕ, ◌+◌, Bool, true, false, not, ◌&&◌, na
 use Rattle.std.specs.List.{list_any}
 use Rattle.dap_msg.specs.Codes as codes
 use Rattle.dap_msg.specs.BothEnds.{no_attributes, with_defaults}
-use Rattle.dap_msg.specs.Message.{Attributes}
+use Rattle.dap_msg.specs.declared.message.Attributes.{Attributes}
 use Rattle.dap_msg.specs.declared.message.Message.TheVariants.{Attrib, Access, Contran, Filedata}
-use Rattle.dap_msg.specs.Items.{Item, Whole}
+use Rattle.dap_msg.specs.declared.items.Item.{Item}
+use Rattle.dap_msg.specs.declared.items.Item.TheVariants.{Whole}
 use Rattle.rec_file.specs.declared.shapes.Shape.{Shape}
 use Rattle.rec_file.specs.Shapes.{checked_shape}
 use Rattle.dap_accessed.specs.Standing.{Place, Ready, Store, Group}

@@ -1,9 +1,7 @@
 -- The answers of the accessed end (DAP 5.6.0, Status message; the codes and reasons are own).
 use Rattle.std.specs.Prelude.{ℕ, List, [], ◌∷◌, Result, Ok, Err}
 use Rattle.dap_msg.specs.Codes as codes
-use Rattle.dap_msg.specs.declared.codes.Reason.{Reason}
-use Rattle.dap_msg.specs.declared.codes.Reason.TheVariants as reason
-use Rattle.dap_msg.specs.Message.{Message}
+use Rattle.dap_msg.specs.declared.message.Message.{Message}
 use Rattle.dap_msg.specs.declared.message.Message.TheVariants.{Status, Ack}
 use Rattle.dap_msg.specs.Formats.{type_number as type_of}
 use Rattle.dap_msg.specs.BothEnds.{four_bytes, complete_with, attributes_of}
@@ -27,24 +25,24 @@ abbrev pub reason_status : (code reason : ℕ) → List ℕ → Message
 reason_status code reason recnum = status code [] recnum (reason ∷ [])
 
 -- an Access that opens nothing
-abbrev pub refused_access : Reason → Message
-refused_access why = reason_status codes.stscode.access_refused (codes.reason_number why) []
+abbrev pub refused_access : (reason : ℕ) → Message
+refused_access reason = reason_status codes.stscode.access_refused reason []
 
 -- a message has no place here
 abbrev pub sync_status : Message → Message
 sync_status message = bare_status (codes.out_of_place (type_of message))
 
--- 0 where there is none
+-- the one byte of the reason in STV, 0 where there is none
 abbrev pub reason_of : Refusal → ℕ
-reason_of NotPermitted = codes.reason_number reason.NotPermitted
-reason_of NoCurrent = codes.reason_number reason.NoCurrent
-reason_of RecordNotFound = codes.reason_number reason.RecordNotFound
-reason_of RecordExists = codes.reason_number reason.RecordExists
-reason_of NumberOutOfRange = codes.reason_number reason.NumberOutOfRange
-reason_of BadLength = codes.reason_number reason.BadLength
-reason_of BadAccessMode = codes.reason_number reason.BadAccessMode
-reason_of DeleteNotAllowed = codes.reason_number reason.DeleteNotAllowed
-reason_of BadKey = codes.reason_number reason.BadKey
+reason_of NotPermitted = 2
+reason_of NoCurrent = 3
+reason_of RecordNotFound = 4
+reason_of RecordExists = 5
+reason_of NumberOutOfRange = 6
+reason_of BadLength = 7
+reason_of BadAccessMode = 8
+reason_of DeleteNotAllowed = 9
+reason_of BadKey = 12
 reason_of _ = 0
 
 -- the Status of a refused operation on a record; in a Store it has the ordinal
@@ -62,7 +60,7 @@ record_status (Err refusal) = refusal_status refusal []
 
 -- a record's Filedata is longer than the peer takes
 abbrev pub too_large : Message
-too_large = reason_status codes.stscode.record_refused (codes.reason_number reason.TooLargeForBuffer) []
+too_large = reason_status codes.stscode.record_refused codes.reasons.too_large_for_buffer []
 
 -- what ends an access or a stream
 abbrev pub completed : Message

@@ -1,7 +1,8 @@
 -- What a call of `serve` does.
 use Rattle.std.specs.Prelude.{ℕ, ◌≡◌, ◌≤◌, true, List, [], ◌∷◌, ◌++◌, length}
 use Rattle.std.specs.List.{AllByRecursion}
-use Rattle.dap_msg.specs.Items.{Item, ItemAt}
+use Rattle.dap_msg.specs.declared.items.Item.{Item}
+use Rattle.dap_msg.specs.Items.{ItemAt}
 use Rattle.dap_msg.specs.Blocked.{Blocked, all_joined, bodies, AllFit}
 use Rattle.dap_msg.specs.BothEnds.{greatest_message}
 use Rattle.dap_accessed.specs.declared.served.Served.{Served}

@@ -3,8 +3,8 @@ use Rattle.std.specs.Prelude.{ℕ, List, [], get_or, set, Option, bytes_eq}
 use Rattle.std.specs.List.{position}
 use Rattle.std.specs.FinMap as map
 use Rattle.dap_msg.specs.BothEnds.{least_buffer}
-use Rattle.dap_msg.specs.Message.{Message}
-use Rattle.dap_msg.specs.Items.{Item}
+use Rattle.dap_msg.specs.declared.message.Message.{Message}
+use Rattle.dap_msg.specs.declared.items.Item.{Item}
 use Rattle.rec_file.specs.declared.shapes.Shape.{Shape}
 use Rattle.rec_file.specs.declared.shapes.Org.TheVariants.{Seq}
 use Rattle.rec_file.specs.declared.shapes.Format.TheVariants.{Variable}

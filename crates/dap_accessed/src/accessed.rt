@@ -2,7 +2,8 @@
 
 ghost use Rattle.std.specs.Prelude.{◌≡◌, ◌≤◌, ◌<◌, ℕ, List, [], length, IfOk, IsOk, OnErr, true};
 ghost use Rattle.dap_msg.specs.BothEnds.{greatest_message, least_buffer};
-ghost use Rattle.dap_msg.specs.Items.{IsPlace, Item as TheItem, ItemAt, ItemFits, seen_item};
+ghost use Rattle.dap_msg.specs.declared.items.Item.{Item as TheItem};
+ghost use Rattle.dap_msg.specs.Items.{IsPlace, ItemAt, ItemFits};
 ghost use Rattle.dap_accessed.specs.Groups.{After};
 ghost use Rattle.dap_accessed.specs.Accesses.{fac_or, rights_of};
 ghost use Rattle.dap_accessed.specs.Replies.{refused_access};
@@ -21,7 +22,8 @@ use crate::served::Served;
 use crate::step::Step;
 use crate::table::FileTable;
 use dap_msg::codes::{
-    ACCESS_REFUSED, ACCFUNC_CREATE, ACCFUNC_OPEN, FILE_NOT_FOUND, Reason, TYPE_ACCESS, unsupported,
+    ACCESS_REFUSED, ACCFUNC_CREATE, ACCFUNC_OPEN, FILE_NOT_FOUND, REASON_BAD_ATTRIBUTES,
+    REASON_FILE_EXISTS, TYPE_ACCESS, unsupported,
 };
 use dap_msg::{FileAccess, Item, LEAST_BUFFER, item_at};
 use rec_file::{Format, Org, RecordFile, Rights, Shape};
@@ -90,13 +92,13 @@ fn rights_for(fac: u32, usual: FileAccess) -> Rights
 }
 
 /// The answer to an Access that opens nothing.
-fn refused_access<'a>(reason: Reason) -> Answer<'a>
+fn refused_access<'a>(reason: u8) -> Answer<'a>
     ensures message { message_of result ≡ refused_access reason }
     ensures short { IsShort result }
 {
     Answer::Reason {
         code: ACCESS_REFUSED,
-        reason: [reason.number()],
+        reason: [reason],
     }
 }
 
@@ -143,20 +145,22 @@ impl Accessed {
         ensures err { OnErr result (self.new ≡ self.old) }
         ensures quiet { is_quiet step.now ≡ true → IsOk result }
     {
-        match *step {
-            Step::Enter(phase) => Ok(self.enter(phase)),
-            Step::Reply(answer, phase) => self.reply(answer, phase),
-            Step::Configure(limit) => self.configure(limit),
-            Step::Keep(shape) => Ok(self.keep(shape)),
-            Step::Access { func, name, fac } => self.access(func, name, fac),
-            Step::Purge(opened) => self.purge(opened),
-            Step::Get(opened, stream, control) => self.get(opened, stream, control),
-            Step::Fetch(opened, stream) => self.fetch(opened, stream),
-            Step::Expect(opened, stream, control) => Ok(self.expect(opened, stream, control)),
-            Step::Put(opened, stream, key, body) => self.put(opened, stream, key, body),
-            Step::Update(opened, stream, body) => self.update(opened, stream, body),
-            Step::Delete(opened, stream) => self.delete(opened, stream),
-            Step::Store(opened, stream, ordinal, body) => self.store(opened, stream, ordinal, body),
+        match step {
+            Step::Enter(phase) => Ok(self.enter(*phase)),
+            Step::Reply(answer, phase) => self.reply(*answer, *phase),
+            Step::Configure(limit) => self.configure(*limit),
+            Step::Keep(shape) => Ok(self.keep(*shape)),
+            Step::Access { func, name, fac } => self.access(*func, name, *fac),
+            Step::Purge(opened) => self.purge(*opened),
+            Step::Get(opened, stream, control) => self.get(*opened, *stream, control),
+            Step::Fetch(opened, stream) => self.fetch(*opened, *stream),
+            Step::Expect(opened, stream, control) => Ok(self.expect(*opened, *stream, control)),
+            Step::Put(opened, stream, key, body) => self.put(*opened, *stream, *key, body),
+            Step::Update(opened, stream, body) => self.update(*opened, *stream, body),
+            Step::Delete(opened, stream) => self.delete(*opened, *stream),
+            Step::Store(opened, stream, ordinal, body) => self.store(
+                *opened, *stream, *ordinal, body,
+            ),
         }
     }
 
@@ -254,10 +258,10 @@ impl Accessed {
         ensures err { OnErr result (self.new ≡ self.old) }
     {
         if self.files.find(name).is_some() {
-            return self.refuse_access(refused_access(Reason::FileExists));
+            return self.refuse_access(refused_access(REASON_FILE_EXISTS));
         }
         let Some(shape) = self.kept else {
-            return self.refuse_access(refused_access(Reason::BadAttributes));
+            return self.refuse_access(refused_access(REASON_BAD_ATTRIBUTES));
         };
         let answers = opening(self.alloc, self.limit, shape)?;
         let at = self.files.count();
@@ -294,14 +298,14 @@ impl Accessed {
     /// The same of what was read already: the message or fault that `item_at` answered, and the place
     /// behind it. Own.
     pub fn serve_item(&mut self, item: Item<'_>, next: usize) -> Result<Served, NoMemory>
-        requires { ItemFits (seen_item item) }
-        ensures serves { (bytes : List ℕ) (at : ℕ) → ItemAt bytes at (seen_item item.entry) next
+        requires { ItemFits item }
+        ensures serves { (bytes : List ℕ) (at : ℕ) → ItemAt bytes at item.entry next
             → IfOk result (Serves bytes at self.old self.new) }
         ensures next { IfOk result (λ served. served.next ≡ next) }
         ensures no_memory { OnErr result (self.new ≡ self.old) }
         ensures unrefused { (first : Files) (items : List TheItem)
             → StandsAfter first items self.old
-            → IsSilent self.old.own first items (seen_item item.entry) → IsOk result }
+            → IsSilent self.old.own first items item.entry → IsOk result }
     {
         let _ = &self.limit;
         let answers = self.answer_item(item)?;
@@ -310,10 +314,10 @@ impl Accessed {
 
     /// Answers a message, or bytes of which no message can be read.
     fn answer_item(&mut self, item: Item<'_>) -> Result<Vec<Vec<u8>>, NoMemory>
-        requires { ItemFits (seen_item item) }
-        ensures ok { Makes (move self.old (seen_item item.entry)) self.old self.new result }
+        requires { ItemFits item }
+        ensures ok { Makes (move self.old item.entry) self.old self.new result }
         ensures err { OnErr result (self.new ≡ self.old) }
-        ensures silent { is_silent self.old.phase (seen_item item.entry) ≡ true → IsOk result }
+        ensures silent { is_silent self.old.phase item.entry ≡ true → IsOk result }
     {
         match self.phase.step(item) {
             Ok(step) => self.act(&step),

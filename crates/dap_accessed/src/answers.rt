@@ -1,7 +1,6 @@
 //! Answers, and their messages.
 
 ghost use Rattle.std.specs.Prelude.{◌≡◌, ◌≤◌, [], ◌∷◌, IfOk, length};
-ghost use Rattle.dap_msg.specs.Message.{seen};
 ghost use Rattle.dap_msg.specs.declared.message.Message.TheVariants.{Ack, Filedata};
 ghost use Rattle.dap_msg.specs.Canon.{Fits, file_data_size};
 ghost use Rattle.dap_msg.specs.BothEnds.{config_of, four_bytes, least_buffer};
@@ -11,11 +10,11 @@ ghost use Rattle.dap_accessed.specs.Inner.Written.{AddsAnswer, Answered, FitsIn,
 
 use crate::fault::NoMemory;
 use dap_msg::codes::{
-    CMPFUNC_RESPONSE, ORG_RELATIVE, ORG_SEQUENTIAL, RECORD_REFUSED, RFM_FIXED, RFM_VARIABLE,
-    Reason, SUCCESS,
+    CMPFUNC_RESPONSE, ORG_RELATIVE, ORG_SEQUENTIAL, REASON_TOO_LARGE_FOR_BUFFER, RECORD_REFUSED,
+    RFM_FIXED, RFM_VARIABLE, SUCCESS,
 };
 use dap_msg::{
-    Attributes, LEAST_BUFFER, Message, StatusFields, append_message, encode, encoded_len,
+    Attributes, Bytes, LEAST_BUFFER, Message, StatusFields, append_message, encode, encoded_len,
 };
 use rec_file::{Format, Org, Shape};
 use std::alloc::Global;
@@ -47,25 +46,25 @@ pub(crate) fn too_large<'a>() -> Answer<'a>
 {
     Answer::Reason {
         code: RECORD_REFUSED,
-        reason: [Reason::TooLargeForBuffer.number()],
+        reason: [REASON_TOO_LARGE_FOR_BUFFER],
     }
 }
 
 /// A Status with these fields.
 #[tactic(auto, using(dap_msg::proofs::ForCallers::answers_fit))]
-fn status<'a>(code: u16, rfa: &'a [u8], recnum: &'a [u8], stv: &'a [u8]) -> Message<&'a [u8]>
+fn status<'a>(code: u16, rfa: &'a [u8], recnum: &'a [u8], stv: &'a [u8]) -> Message<'a>
     requires rfa { length rfa.now ≤ 4 }
     requires recnum { length recnum.now ≤ 4 }
     requires stv { length stv.now ≤ 4 }
-    ensures same { seen result ≡ status code rfa.now recnum.now stv.now }
+    ensures same { result ≡ status code rfa.now recnum.now stv.now }
     ensures fits { Fits (status code rfa.now recnum.now stv.now) }
     ensures short { IsAtMost least_buffer (status code rfa.now recnum.now stv.now) }
 {
     Message::Status(StatusFields {
         code,
-        rfa,
-        recnum,
-        stv,
+        rfa: Bytes(rfa),
+        recnum: Bytes(recnum),
+        stv: Bytes(stv),
     })
 }
 
@@ -91,9 +90,9 @@ fn format_code(format: Format) -> u8
 
 /// The Attributes of a file, with its MRN in these four bytes.
 #[tactic(auto, using(dap_msg::proofs::ForCallers::answers_fit, crate::proofs::Writing::org_small, crate::proofs::Writing::format_small))]
-fn attributes(shape: Shape, mrn: &[u8]) -> Message<&[u8]>
+fn attributes(shape: Shape, mrn: &[u8]) -> Message<'_>
     requires { mrn.now ≡ four_bytes shape.mrn }
-    ensures same { seen result ≡ attributes_for shape }
+    ensures same { result ≡ attributes_for shape }
     ensures fits { Fits (attributes_for shape) }
     ensures short { IsAtMost least_buffer (attributes_for shape) }
 {
@@ -101,23 +100,23 @@ fn attributes(shape: Shape, mrn: &[u8]) -> Message<&[u8]>
         org: Some(org_code(shape.org)),
         rfm: Some(format_code(shape.format)),
         mrs: Some(shape.mrs),
-        mrn: Some(mrn),
+        mrn: Some(Bytes(mrn)),
         ..Attributes::none()
     })
 }
 
 /// A record, with its number in these four bytes.
 #[tactic(auto, using(dap_msg::proofs::ForCallers::file_data_measured, dap_msg::proofs::ForCallers::file_data_fits))]
-fn record<'a>(number: &'a [u8], body: &'a [u8]) -> Message<&'a [u8]>
+fn record<'a>(number: &'a [u8], body: &'a [u8]) -> Message<'a>
     requires four { length number.now ≡ 4 }
     requires short { length body.now ≤ longest_record }
-    ensures same { seen result ≡ Filedata number.now body.now }
+    ensures same { result ≡ Filedata number.now body.now }
     ensures fits { Fits (Filedata number.now body.now) }
     ensures size { IsAtMost (file_data_size 4 (length body.now)) (Filedata number.now body.now) }
 {
     Message::Filedata {
-        recnum: number,
-        payload: body,
+        recnum: Bytes(number),
+        payload: Bytes(body),
     }
 }
 
@@ -128,17 +127,17 @@ pub(crate) fn filedata_len(body: &[u8]) -> usize
     ensures { result ≡ file_data_size 4 (length body.now) }
 {
     encoded_len(&Message::Filedata {
-        recnum: &[0; 4],
-        payload: body,
+        recnum: Bytes(&[0; 4]),
+        payload: Bytes(body),
     })
 }
 
 impl<'a> Answer<'a> {
     /// The message that the answer is.
     #[tactic(auto, using(dap_msg::proofs::ForCallers::answers_fit))]
-    fn message(&self) -> Message<&[u8]>
+    fn message(&self) -> Message<'_>
         requires { IsWritable self.now }
-        ensures same { seen result ≡ message_of self.now }
+        ensures same { result ≡ message_of self.now }
         ensures fits { Fits (message_of self.now) }
         ensures within { IsAtMost (most_bytes self.now) (message_of self.now) }
     {

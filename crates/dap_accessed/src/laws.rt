@@ -2,7 +2,8 @@
 //! the law.
 
 ghost use Rattle.std.specs.Prelude.{◌≡◌, ◌<◌, ◌^◌, ℕ, List, [], ◌∷◌, ◌++◌, length, None, IsTrue};
-ghost use Rattle.dap_msg.specs.Items.{IsRead, Item as TheItem};
+ghost use Rattle.dap_msg.specs.declared.items.Item.{Item as TheItem};
+ghost use Rattle.dap_msg.specs.Items.{IsRead};
 ghost use Rattle.dap_msg.specs.Blocked.{AllFit};
 ghost use Rattle.dap_msg.specs.Sendable.{AreSendable};
 ghost use Rattle.std.specs.List.{AllByRecursion};

@@ -21,5 +21,6 @@ pub use fault::{AddFault, NoMemory};
 pub use laws::{
     answers_are_sendable, answers_fit, answers_grow, given_files_are_sound, stays_sound,
 };
+pub use refusing::reason_number;
 pub use served::Served;
 pub use table::FileTable;

@@ -42,13 +42,13 @@ impl Accessed {
         &mut self,
         opened: OpenFile,
         stream: Stream,
-        control: ControlFields<&[u8]>,
+        control: &ControlFields<'_>,
     ) -> Vec<Vec<u8>>
         requires { opened.at < length self.old.files }
-        ensures { Moves self.old (done (steps.Expect opened stream control.entry) self.old)
+        ensures { Moves self.old (done (steps.Expect opened stream control.now) self.old)
             self.new result }
     {
-        let key = key_for(self.files.file(opened.at), stream, &control);
+        let key = key_for(self.files.file(opened.at), stream, control);
         self.enter(Phase::PutDue(opened, stream, key))
     }
 
@@ -57,15 +57,15 @@ impl Accessed {
         &mut self,
         opened: OpenFile,
         stream: Stream,
-        control: ControlFields<&[u8]>,
+        control: &ControlFields<'_>,
     ) -> Result<Vec<Vec<u8>>, NoMemory>
         requires { opened.at < length self.old.files }
-        ensures ok { Makes (done (steps.Get opened stream control.entry) self.old)
+        ensures ok { Makes (done (steps.Get opened stream control.now) self.old)
             self.old self.new result }
         ensures err { OnErr result (self.new ≡ self.old) }
     {
         let file = self.files.file(opened.at);
-        let pick = match pick_for(file, stream, &control) {
+        let pick = match pick_for(file, stream, control) {
             Ok(pick) => pick,
             Err(refusal) => return self.refuse(opened, stream, refusal),
         };

@@ -6,23 +6,28 @@ ghost use Rattle.dap_accessed.specs.Replies.{reason_of, record_status, refusal_s
 ghost use Rattle.dap_accessed.specs.Inner.Written.{IsShort, message_of};
 
 use crate::answers::Answer;
-use dap_msg::codes::{END_OF_FILE, RECORD_REFUSED, Reason};
+use dap_msg::codes::{
+    END_OF_FILE, REASON_BAD_ACCESS_MODE, REASON_BAD_KEY, REASON_BAD_LENGTH,
+    REASON_DELETE_NOT_ALLOWED, REASON_NO_CURRENT, REASON_NOT_PERMITTED, REASON_NUMBER_OUT_OF_RANGE,
+    REASON_RECORD_EXISTS, REASON_RECORD_NOT_FOUND, RECORD_REFUSED,
+};
 use rec_file::Refusal;
 
-/// The number of a reason, 0 where the refusal has none.
-fn reason_number(refusal: Refusal) -> u8
+/// The one byte of STV for the reason of a refusal of an operation on a record, 0 where it has none (own). Takes no
+/// memory.
+pub fn reason_number(refusal: Refusal) -> u8
     ensures { result ≡ reason_of refusal }
 {
     match refusal {
-        Refusal::NotPermitted => Reason::NotPermitted.number(),
-        Refusal::NoCurrent => Reason::NoCurrent.number(),
-        Refusal::RecordNotFound => Reason::RecordNotFound.number(),
-        Refusal::RecordExists => Reason::RecordExists.number(),
-        Refusal::NumberOutOfRange => Reason::NumberOutOfRange.number(),
-        Refusal::BadLength => Reason::BadLength.number(),
-        Refusal::BadAccessMode => Reason::BadAccessMode.number(),
-        Refusal::DeleteNotAllowed => Reason::DeleteNotAllowed.number(),
-        Refusal::BadKey => Reason::BadKey.number(),
+        Refusal::NotPermitted => REASON_NOT_PERMITTED,
+        Refusal::NoCurrent => REASON_NO_CURRENT,
+        Refusal::RecordNotFound => REASON_RECORD_NOT_FOUND,
+        Refusal::RecordExists => REASON_RECORD_EXISTS,
+        Refusal::NumberOutOfRange => REASON_NUMBER_OUT_OF_RANGE,
+        Refusal::BadLength => REASON_BAD_LENGTH,
+        Refusal::BadAccessMode => REASON_BAD_ACCESS_MODE,
+        Refusal::DeleteNotAllowed => REASON_DELETE_NOT_ALLOWED,
+        Refusal::BadKey => REASON_BAD_KEY,
         Refusal::EndOfFile | Refusal::NoMemory => 0,
     }
 }

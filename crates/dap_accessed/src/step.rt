@@ -1,10 +1,10 @@
 //! What an item asks for, by the phase in which it comes.
 
 ghost use Rattle.std.specs.Prelude.{◌≡◌, ◌≤◌, IfSome, IsTrue};
-ghost use Rattle.dap_msg.specs.Items.{ItemFits, Whole, seen_item};
+ghost use Rattle.dap_msg.specs.declared.items.Item.TheVariants.{Whole};
+ghost use Rattle.dap_msg.specs.Items.{ItemFits};
 ghost use Rattle.dap_msg.specs.Decoding.{IsSpelled};
 ghost use Rattle.dap_msg.specs.Inner.Fitting.{FieldsFit};
-ghost use Rattle.dap_msg.specs.Message.{seen, seen_attributes};
 ghost use Rattle.dap_msg.specs.declared.message.Message.TheVariants.{Attrib};
 ghost use Rattle.rec_file.specs.Shapes.{is_shape};
 ghost use Rattle.dap_accessed.specs.Standing.{Files};
@@ -35,7 +35,7 @@ use dap_msg::{
 use rec_file::{Refusal, Shape, Stream};
 
 /// What an item asks for that is not refused, with all that is needed to do it.
-#[derive(Clone, Copy)]
+#[derive(Drop)]
 pub(crate) enum Step<'a> {
     /// A phase, without an answer.
     Enter(Phase),
@@ -50,11 +50,11 @@ pub(crate) enum Step<'a> {
     /// The end of an access, without the file that it made.
     Purge(OpenFile),
     /// The record that the Control is for.
-    Get(OpenFile, Stream, ControlFields<&'a [u8]>),
+    Get(OpenFile, Stream, ControlFields<'a>),
     /// The records from the stream's next on.
     Fetch(OpenFile, Stream),
     /// A record of which the Control has the key, if any, and the next item the bytes.
-    Expect(OpenFile, Stream, ControlFields<&'a [u8]>),
+    Expect(OpenFile, Stream, ControlFields<'a>),
     /// A new record, under a key where there is one, unless the key was refused.
     Put(OpenFile, Stream, Result<Option<u32>, Refusal>, &'a [u8]),
     /// A record in the place of the current one.
@@ -69,9 +69,9 @@ impl Phase {
     /// What an item asks for in this phase, or the code of the Status by which it is refused: no message
     /// can be read, it has no place here, or it asks for nothing that is done.
     pub(crate) fn step<'a>(self, item: Item<'a>) -> Result<Step<'a>, u16>
-        requires fits { ItemFits (seen_item item) }
+        requires fits { ItemFits item }
         requires there { (files : Files) × IsOpenIn files self }
-        ensures { Asks self (seen_item item.entry) result }
+        ensures { Asks self item.entry result }
     {
         let message = match item {
             Item::Whole(message) => message,
@@ -83,16 +83,16 @@ impl Phase {
             Phase::Opened(opened) => self.opened(opened, message),
             Phase::Connected(opened, stream) => self.connected(opened, stream, message),
             Phase::PutDue(opened, stream, key) => match message {
-                Message::Filedata { payload, .. } => Ok(Step::Put(opened, stream, key, payload)),
+                Message::Filedata { payload, .. } => Ok(Step::Put(opened, stream, key, payload.0)),
                 _ => Err(out_of_place(message.number())),
             },
             Phase::UpdateDue(opened, stream) => match message {
-                Message::Filedata { payload, .. } => Ok(Step::Update(opened, stream, payload)),
+                Message::Filedata { payload, .. } => Ok(Step::Update(opened, stream, payload.0)),
                 _ => Err(out_of_place(message.number())),
             },
             Phase::Storing(opened, stream, ordinal) => match message {
                 Message::Filedata { payload, .. } => {
-                    Ok(Step::Store(opened, stream, ordinal, payload))
+                    Ok(Step::Store(opened, stream, ordinal, payload.0))
                 }
                 _ => self.otherwise(opened, message),
             },
@@ -104,9 +104,9 @@ impl Phase {
     }
 
     /// The same where a file is open without a stream.
-    fn opened<'a>(self, opened: OpenFile, message: Message<&'a [u8]>) -> Result<Step<'a>, u16>
+    fn opened<'a>(self, opened: OpenFile, message: Message<'a>) -> Result<Step<'a>, u16>
         requires { self ≡ phases.Opened opened }
-        ensures { Asks self (Whole (seen message.entry)) result }
+        ensures { Asks self (Whole message.entry) result }
     {
         match message {
             Message::Control(control) => match verb_of(&control) {
@@ -125,10 +125,10 @@ impl Phase {
         self,
         opened: OpenFile,
         stream: Stream,
-        message: Message<&'a [u8]>,
+        message: Message<'a>,
     ) -> Result<Step<'a>, u16>
         requires { self ≡ phases.Connected opened stream }
-        ensures { Asks self (Whole (seen message.entry)) result }
+        ensures { Asks self (Whole message.entry) result }
     {
         match message {
             Message::Control(control) => match verb_of(&control) {
@@ -158,10 +158,10 @@ impl Phase {
         opened: OpenFile,
         stream: Stream,
         ordinal: u32,
-        message: Message<&'a [u8]>,
+        message: Message<'a>,
     ) -> Result<Step<'a>, u16>
         requires { self ≡ phases.Dropping opened stream ordinal }
-        ensures { Asks self (Whole (seen message.entry)) result }
+        ensures { Asks self (Whole message.entry) result }
     {
         match message {
             Message::Filedata { .. } => Ok(Step::Enter(Phase::Dropping(
@@ -182,11 +182,11 @@ impl Phase {
         self,
         opened: OpenFile,
         stream: Stream,
-        message: Message<&'a [u8]>,
+        message: Message<'a>,
     ) -> Result<Step<'a>, u16>
         requires phase { self ≡ phases.Stopped opened stream }
         requires next { stream.next ≤ greatest_number }
-        ensures { Asks self (Whole (seen message.entry)) result }
+        ensures { Asks self (Whole message.entry) result }
     {
         match message {
             Message::Contran { func } => match func {
@@ -203,10 +203,10 @@ impl Phase {
     }
 
     /// The same in each phase in which a file is open, unless the phase says otherwise.
-    fn otherwise<'a>(self, opened: OpenFile, message: Message<&'a [u8]>) -> Result<Step<'a>, u16>
+    fn otherwise<'a>(self, opened: OpenFile, message: Message<'a>) -> Result<Step<'a>, u16>
         requires there { HasOpen self opened }
-        requires common { IsCommon self (seen message) }
-        ensures { Asks self (Whole (seen message.entry)) result }
+        requires common { IsCommon self message }
+        ensures { Asks self (Whole message.entry) result }
     {
         match message {
             Message::Control(control) => Err(control_refused(verb_of(&control))),
@@ -226,8 +226,8 @@ impl Phase {
 }
 
 /// What a message asks for where the peer's Config is due.
-fn fresh<'a>(message: Message<&'a [u8]>) -> Result<Step<'a>, u16>
-    ensures { Asks phases.Fresh (Whole (seen message.entry)) result }
+fn fresh<'a>(message: Message<'a>) -> Result<Step<'a>, u16>
+    ensures { Asks phases.Fresh (Whole message.entry) result }
 {
     match message {
         Message::Config(config) if is_too_small(config.bufsiz) => Err(invalid(TYPE_CONFIGURATION)),
@@ -238,15 +238,15 @@ fn fresh<'a>(message: Message<&'a [u8]>) -> Result<Step<'a>, u16>
 }
 
 /// What a message asks for where no file is open.
-fn ready<'a>(message: Message<&'a [u8]>) -> Result<Step<'a>, u16>
-    requires { IsSpelled (seen message) }
-    ensures { Asks phases.Ready (Whole (seen message.entry)) result }
+fn ready<'a>(message: Message<'a>) -> Result<Step<'a>, u16>
+    requires { IsSpelled message }
+    ensures { Asks phases.Ready (Whole message.entry) result }
 {
     match message {
         Message::Attrib(attributes) => Ok(Step::Keep(shape_for(&attributes))),
         Message::Access(access) => Ok(Step::Access {
             func: access.func,
-            name: access.name,
+            name: access.name.0,
             fac: access.fac,
         }),
         Message::Other { .. } => Ok(Step::Enter(Phase::Ready)),
@@ -275,13 +275,13 @@ fn continuation_refused(func: u8) -> u16
 }
 
 /// The shape that the attributes of a message that was read ask for.
-fn shape_for(attributes: &Attributes<&[u8]>) -> Option<Shape>
-    requires { FieldsFit (Attrib (seen_attributes attributes.now)) }
-    ensures same { result ≡ asked_shape (seen_attributes attributes.now) }
+fn shape_for(attributes: &Attributes<'_>) -> Option<Shape>
+    requires { FieldsFit (Attrib attributes.now) }
+    ensures same { result ≡ asked_shape attributes.now }
     ensures good { IfSome result (λ shape. IsTrue (is_shape shape)) }
 {
-    let mrn = match attributes.mrn {
-        Some(image) => number_of(image),
+    let mrn = match &attributes.mrn {
+        Some(image) => number_of(image.0),
         None => 0,
     };
     Shape::check(

@@ -1,7 +1,6 @@
 //! What a Control asks for, and what is refused of a GET or a PUT before its key is a number.
 
 ghost use Rattle.std.specs.Prelude.{◌≡◌};
-ghost use Rattle.dap_msg.specs.Message.{seen_control};
 ghost use Rattle.rec_file.specs.AnyFiles.{any_value};
 ghost use Rattle.dap_accessed.specs.Records.{get_pick, key_of, put_key, verb_of};
 
@@ -36,8 +35,8 @@ pub enum Verb {
 }
 
 /// What a Control asks for: a GET or a PUT may be for a whole file.
-pub(crate) fn verb_of(control: &ControlFields<&[u8]>) -> Verb
-    ensures { result ≡ verb_of (seen_control control.now) }
+pub(crate) fn verb_of(control: &ControlFields<'_>) -> Verb
+    ensures { result ≡ verb_of control.now }
 {
     let whole = control.rac.unwrap_or(RAC_SEQUENTIAL) == RAC_WHOLE_FILE;
     match control.func {
@@ -54,11 +53,11 @@ pub(crate) fn verb_of(control: &ControlFields<&[u8]>) -> Verb
 }
 
 /// The number that KEY spells.
-fn key(control: &ControlFields<&[u8]>) -> Result<u32, Refusal>
-    ensures { result ≡ key_of (seen_control control.now) }
+fn key(control: &ControlFields<'_>) -> Result<u32, Refusal>
+    ensures { result ≡ key_of control.now }
 {
-    match control.key {
-        Some(image) => key_number(image),
+    match &control.key {
+        Some(image) => key_number(image.0),
         None => Err(Refusal::BadKey),
     }
 }
@@ -67,9 +66,9 @@ fn key(control: &ControlFields<&[u8]>) -> Result<u32, Refusal>
 pub(crate) fn pick_for(
     file: &AnyFile,
     stream: Stream,
-    control: &ControlFields<&[u8]>,
+    control: &ControlFields<'_>,
 ) -> Result<Pick, Refusal>
-    ensures { result ≡ get_pick (any_value file.now) stream (seen_control control.now) }
+    ensures { result ≡ get_pick (any_value file.now) stream control.now }
 {
     if !stream.rights().get {
         return Err(Refusal::NotPermitted);
@@ -91,9 +90,9 @@ pub(crate) fn pick_for(
 pub(crate) fn key_for(
     file: &AnyFile,
     stream: Stream,
-    control: &ControlFields<&[u8]>,
+    control: &ControlFields<'_>,
 ) -> Result<Option<u32>, Refusal>
-    ensures { result ≡ put_key (any_value file.now) stream (seen_control control.now) }
+    ensures { result ≡ put_key (any_value file.now) stream control.now }
 {
     if !stream.rights().put {
         return Err(Refusal::NotPermitted);

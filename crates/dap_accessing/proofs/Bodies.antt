@@ -1,7 +1,7 @@
 -- A record that was added to a batch was heard.
 use Rattle.std.proofs.Common.{◌≡◌, ℕ, refl, ap, subst, sym, inl, List, [], ◌∷◌, ◌++◌}
 use Rattle.dap_msg.specs.declared.message.Message.TheVariants.{Filedata}
-use Rattle.dap_msg.specs.Items.{Whole}
+use Rattle.dap_msg.specs.declared.items.Item.TheVariants.{Whole}
 use Rattle.dap_msg.specs.BothEnds.{number_of}
 use Rattle.dap_accessing.specs.declared.pending.Pending.TheVariants as pending
 use Rattle.dap_accessing.specs.declared.pending.Heard.{Heard}

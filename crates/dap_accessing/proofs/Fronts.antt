@@ -3,9 +3,10 @@ use Rattle.std.proofs.Common.{◌≡◌, ◌∙◌, ℕ, suc, ◌+◌, true, Boo
 use Rattle.std.specs.Prelude.{filter_map}
 use Rattle.std.specs.List.{prefix_len}
 use Rattle.std.proofs.lemmas.List.Sums.{take_while-cons}
-use Rattle.dap_msg.specs.Message.{StatusFields}
+use Rattle.dap_msg.specs.declared.message.StatusFields.{StatusFields}
 use Rattle.dap_msg.specs.declared.message.Message.TheVariants.{Filedata, Status}
-use Rattle.dap_msg.specs.Items.{Item, Whole}
+use Rattle.dap_msg.specs.declared.items.Item.{Item}
+use Rattle.dap_msg.specs.declared.items.Item.TheVariants.{Whole}
 use Rattle.dap_msg.specs.BothEnds.{number_of}
 use Rattle.dap_accessing.specs.Told.{behind, record_in, status_in}
 use Rattle.dap_accessing.specs.Inner.Parts.{is_record, records_in_front, is_status, statuses_in_front}

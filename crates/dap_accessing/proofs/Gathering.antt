@@ -3,9 +3,10 @@ use Rattle.std.proofs.Common.{◌≡◌, ℕ, refl, sym, ◌∙◌, true, false,
 use Rattle.std.specs.Prelude.{nat_le, ◌||◌, Option, Some, None, if◌then◌else◌, unwrap_or}
 use Rattle.std.specs.Option.{option_or}
 use Rattle.std.proofs.lemmas.List.{append-nil}
-use Rattle.dap_msg.specs.Message.{StatusFields}
+use Rattle.dap_msg.specs.declared.message.StatusFields.{StatusFields}
 use Rattle.dap_msg.specs.declared.message.Message.TheVariants.{Attrib, Accomp, Filedata, Status, Other}
-use Rattle.dap_msg.specs.Items.{Item, Whole}
+use Rattle.dap_msg.specs.declared.items.Item.{Item}
+use Rattle.dap_msg.specs.declared.items.Item.TheVariants.{Whole}
 use Rattle.dap_msg.specs.Codes.{is_success}
 use Rattle.dap_msg.specs.BothEnds.{number_of}
 use Rattle.rec_file.specs.Limits.{greatest_number}

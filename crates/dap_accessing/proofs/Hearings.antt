@@ -2,9 +2,10 @@
 use Rattle.std.proofs.Common.{◌≡◌, ℕ, refl, sym, ◌∙◌, true, false, Bool, ap, subst, List, [], ◌∷◌, ◌++◌}
 use Rattle.std.specs.Option.{option_or}
 use Rattle.std.specs.Prelude.{nat_le, ◌==◌, Option, Some, if◌then◌else◌, unwrap_or}
-use Rattle.dap_msg.specs.Message.{StatusFields}
+use Rattle.dap_msg.specs.declared.message.StatusFields.{StatusFields}
 use Rattle.dap_msg.specs.declared.message.Message.TheVariants.{Config, Attrib, Ack, Accomp, Filedata, Status, Other}
-use Rattle.dap_msg.specs.Items.{Item, Whole}
+use Rattle.dap_msg.specs.declared.items.Item.{Item}
+use Rattle.dap_msg.specs.declared.items.Item.TheVariants.{Whole}
 use Rattle.dap_msg.specs.Codes.{cmpfunc, stscode}
 use Rattle.dap_msg.specs.BothEnds.{number_of, is_too_small}
 use Rattle.rec_file.specs.Limits.{greatest_number}

@@ -1,7 +1,7 @@
 -- The numbers in a message that was read have at most 8 bytes.
 use Rattle.std.proofs.Common.{ℕ, ◌≤◌, List, [], length, arith, lit≤}
 use Rattle.std.specs.Prelude.{Option, Some, None, unwrap_or}
-use Rattle.dap_msg.specs.Message.{Message}
+use Rattle.dap_msg.specs.declared.message.Message.{Message}
 use Rattle.dap_msg.specs.declared.message.Message.TheVariants.{Config, Attrib, Access, Control, Contran, Ack, Accomp, Filedata, Status, Other}
 use Rattle.dap_msg.specs.Grammar.{Image}
 use Rattle.dap_msg.specs.Inner.Fitting.{FitsOption, FieldsFit}

@@ -1,6 +1,6 @@
 -- The messages of a request.
 use Rattle.std.specs.Prelude.{ℕ, List, [], ◌∷◌, ◌++◌, map, Option, Some, None}
-use Rattle.dap_msg.specs.Message.{Message}
+use Rattle.dap_msg.specs.declared.message.Message.{Message}
 use Rattle.dap_msg.specs.declared.message.Message.TheVariants.{Attrib, Access, Control, Contran, Filedata}
 use Rattle.dap_msg.specs.Codes as codes
 use Rattle.dap_msg.specs.BothEnds.{four_bytes, config_of, complete_with, no_attributes}

@@ -1,6 +1,7 @@
 -- What `ask` and `read` come to.
 use Rattle.std.specs.Prelude.{ℕ, ◌≡◌, ◌≤◌, Bool, true, false, List, [], ◌∷◌, ◌++◌, option_to_list}
-use Rattle.dap_msg.specs.Items.{Item, ItemAt}
+use Rattle.dap_msg.specs.declared.items.Item.{Item}
+use Rattle.dap_msg.specs.Items.{ItemAt}
 use Rattle.dap_msg.specs.Blocked.{Blocked, all_joined}
 use Rattle.dap_msg.specs.Sendable.{AreSendable}
 use Rattle.dap_msg.specs.BothEnds.{greatest_message}

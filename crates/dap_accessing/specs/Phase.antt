@@ -1,6 +1,6 @@
 -- The phase and the peer's limit follow from the reports; which requests may be asked follows from these.
 use Rattle.std.specs.Prelude.{◌≡◌, ℕ, Bool, true, false, List, fold}
-use Rattle.dap_msg.specs.Items.{Item}
+use Rattle.dap_msg.specs.declared.items.Item.{Item}
 use Rattle.dap_msg.specs.BothEnds.{limit_of, greatest_message}
 use Rattle.dap_msg.specs.Sendable.{AreSendable}
 use Rattle.dap_accessing.specs.Request.{Request}

@@ -2,10 +2,10 @@
 use Rattle.std.specs.Prelude.{ℕ, Bool, true, false, ◌&&◌, nat_le, ◌==◌, if◌then◌else◌, List, [], ◌∷◌, ◌++◌, drop, slice_get, take_while, filter_map, Option, Some, None, is_some, option_map}
 use Rattle.std.specs.List.{prefix_len, list_any}
 use Rattle.dap_msg.specs.Codes as codes
-use Rattle.dap_msg.specs.declared.codes.Reason.TheVariants.{TooLargeForBuffer}
-use Rattle.dap_msg.specs.Message.{StatusFields}
+use Rattle.dap_msg.specs.declared.message.StatusFields.{StatusFields}
 use Rattle.dap_msg.specs.declared.message.Message.TheVariants.{Config, Attrib, Ack, Accomp, Filedata, Status, Other}
-use Rattle.dap_msg.specs.Items.{Item, Whole}
+use Rattle.dap_msg.specs.declared.items.Item.{Item}
+use Rattle.dap_msg.specs.declared.items.Item.TheVariants.{Whole}
 use Rattle.dap_msg.specs.BothEnds.{number_of, is_too_small, with_defaults}
 use Rattle.rec_file.specs.Limits.{greatest_number}
 use Rattle.dap_accessing.specs.Request.{Request}
@@ -89,7 +89,7 @@ hear_completed done answers = hear_refusal answers
 abbrev pub ending_by : ℕ → ℕ → Ending
 ending_by code reason =
     if code == codes.stscode.end_of_file then ending.Complete
-    else if code == codes.stscode.record_refused && reason == codes.reason_number TooLargeForBuffer then ending.Stopped
+    else if code == codes.stscode.record_refused && reason == codes.reasons.too_large_for_buffer then ending.Stopped
     else ending.Refused code reason
 
 -- what is read of the answers in front, as far as something is read of each

@@ -3,8 +3,8 @@
 ghost use Rattle.std.specs.Prelude.{◌≡◌, ◌≢◌, ◌≤◌, ◌<◌, List, [], ◌++◌, false, length, map, IfOk, IfErr, OnOk, OnErr};
 ghost use Rattle.dap_accessing.specs.declared.fault.AskFault.TheVariants.{NoMemory};
 ghost use Rattle.dap_msg.specs.BothEnds.{four_bytes, greatest_message, least_buffer};
-ghost use Rattle.dap_msg.specs.Message.{seen};
-ghost use Rattle.dap_msg.specs.Items.{Item as TheItem, Whole};
+ghost use Rattle.dap_msg.specs.declared.items.Item.{Item as TheItem};
+ghost use Rattle.dap_msg.specs.declared.items.Item.TheVariants.{Whole};
 ghost use Rattle.dap_msg.specs.Blocked.{bodies};
 ghost use Rattle.dap_accessing.specs.Inner.Hears.{HasShortNumbers, Takes};
 ghost use Rattle.dap_accessing.specs.Present.{Present, StandsAfter};
@@ -163,9 +163,9 @@ impl Accessing {
     }
 
     /// Takes the message as the next answer.
-    fn take(&mut self, message: &Message<&[u8]>) -> Result<Option<Report>, ReadFault>
-        requires short { HasShortNumbers (seen message.now) }
-        ensures takes { Takes (Whole (seen message.now)) self.old self.new result }
+    fn take(&mut self, message: &Message<'_>) -> Result<Option<Report>, ReadFault>
+        requires short { HasShortNumbers message.now }
+        ensures takes { Takes (Whole message.now) self.old self.new result }
         ensures own { self.new.own ≡ self.old.own }
     {
         let Some(pending) = self.pending.take() else {

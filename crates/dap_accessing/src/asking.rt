@@ -1,13 +1,12 @@
 //! The messages of a request.
 
-ghost use Rattle.std.specs.Prelude.{◌≡◌, ◌≤◌, ◌<◌, ◌↔◌, ℕ, None, length, map, IsTrue, IfOk, IfSome, option_copied};
-ghost use Rattle.dap_msg.specs.Message.{seen};
+ghost use Rattle.std.specs.Prelude.{◌≡◌, ◌≤◌, ◌<◌, ◌↔◌, ℕ, None, length, map, IsTrue, IfOk, IfSome};
 ghost use Rattle.dap_msg.specs.BothEnds.{four_bytes};
 ghost use Rattle.dap_msg.specs.Blocked.{AddsOne};
 ghost use Rattle.dap_msg.specs.Canon.{canon, file_data_size, Fits};
 ghost use Rattle.dap_accessing.specs.Asked as asked;
 ghost use Rattle.dap_accessing.specs.Asked.{unnumbered_record};
-ghost use Rattle.dap_accessing.specs.Inner.Outgoing.{AreCounted, IsBlocked, number_carried, first_of, bodies_of, last_of, outgoing_messages, seen_option};
+ghost use Rattle.dap_accessing.specs.Inner.Outgoing.{AreCounted, IsBlocked, number_carried, first_of, bodies_of, last_of, outgoing_messages};
 ghost use Rattle.dap_msg.specs.Sendable.{IsSendable, AreSendable};
 
 use crate::bytes::Octets;
@@ -19,7 +18,8 @@ use dap_msg::codes::{
     RAC_WHOLE_FILE,
 };
 use dap_msg::{
-    AccessFields, Attributes, ControlFields, Message, MsgFault, append_counted, encoded_len, fits,
+    AccessFields, Attributes, Bytes, ControlFields, Message, MsgFault, append_counted, encoded_len,
+    fits,
 };
 use std::alloc::Global;
 
@@ -53,9 +53,9 @@ fn attributes(
     org: Option<u8>,
     rfm: Option<u8>,
     mrs: Option<u16>,
-    mrn: Option<&[u8]>,
-) -> Message<&[u8]>
-    ensures { seen result ≡ asked.attributes org rfm mrs (option_copied mrn.entry) }
+    mrn: Option<Bytes<'_>>,
+) -> Message<'_>
+    ensures { result ≡ asked.attributes org rfm mrs mrn.entry }
 {
     Message::Attrib(Attributes {
         org,
@@ -67,23 +67,23 @@ fn attributes(
 }
 
 /// An Access of this function to the file of this name.
-fn access(func: u8, name: &Octets, fac: u32) -> Message<&[u8]>
-    ensures { seen result ≡ asked.access func name.now fac }
+fn access(func: u8, name: &Octets, fac: u32) -> Message<'_>
+    ensures { result ≡ asked.access func name.now fac }
 {
     Message::Access(AccessFields {
         func,
         opt: 0,
-        name: name.0.as_slice(),
+        name: Bytes(name.0.as_slice()),
         fac,
         shr: 0,
         display: 0,
-        password: &[],
+        password: Bytes(&[]),
     })
 }
 
 /// A Control with these fields alone.
-fn control(func: u8, rac: Option<u8>, key: Option<&[u8]>) -> Message<&[u8]>
-    ensures { seen result ≡ asked.control func rac (option_copied key.entry) }
+fn control(func: u8, rac: Option<u8>, key: Option<Bytes<'_>>) -> Message<'_>
+    ensures { result ≡ asked.control func rac key.entry }
 {
     Message::Control(ControlFields {
         func,
@@ -97,32 +97,36 @@ fn control(func: u8, rac: Option<u8>, key: Option<&[u8]>) -> Message<&[u8]>
 }
 
 /// The Filedata of a record, without a number.
-fn record(body: &Octets) -> Message<&[u8]>
-    ensures { seen result ≡ asked.unnumbered_record body.now }
+fn record(body: &Octets) -> Message<'_>
+    ensures { result ≡ asked.unnumbered_record body.now }
 {
     Message::Filedata {
-        recnum: &[],
-        payload: body.0.as_slice(),
+        recnum: Bytes(&[]),
+        payload: Bytes(body.0.as_slice()),
     }
 }
 
 /// The first message of a request that carries these four bytes.
-fn first_message<'a>(own: u16, request: &'a Request, number: &'a [u8]) -> Message<&'a [u8]>
+fn first_message<'a>(own: u16, request: &'a Request, number: &'a [u8]) -> Message<'a>
     requires { number.now ≡ four_bytes (number_carried request.now) }
-    ensures { seen result ≡ first_of own request.now }
+    ensures { result ≡ first_of own request.now }
 {
     match request {
         Request::Hello => Message::config_of(own),
         Request::Create { org, rfm, mrs, .. } => {
-            attributes(Some(*org), Some(*rfm), Some(*mrs), Some(number))
+            attributes(Some(*org), Some(*rfm), Some(*mrs), Some(Bytes(number)))
         }
         Request::OpenFile { .. } => attributes(None, None, None, None),
         Request::Connect => control(CTLFUNC_CONNECT, None, None),
         Request::Get(By::Next) => control(CTLFUNC_GET, Some(RAC_SEQUENTIAL), None),
-        Request::Get(By::Key(_)) => control(CTLFUNC_GET, Some(RAC_KEYED), Some(number)),
-        Request::Get(By::Rfa(_)) => control(CTLFUNC_GET, Some(RAC_ADDRESS), Some(number)),
+        Request::Get(By::Key(_)) => control(CTLFUNC_GET, Some(RAC_KEYED), Some(Bytes(number))),
+        Request::Get(By::Rfa(_)) => control(CTLFUNC_GET, Some(RAC_ADDRESS), Some(Bytes(number))),
         Request::Put { key: None, .. } => control(CTLFUNC_PUT, Some(RAC_SEQUENTIAL), None),
-        Request::Put { key: Some(_), .. } => control(CTLFUNC_PUT, Some(RAC_KEYED), Some(number)),
+        Request::Put { key: Some(_), .. } => control(
+            CTLFUNC_PUT,
+            Some(RAC_KEYED),
+            Some(Bytes(number)),
+        ),
         Request::Update { .. } => control(CTLFUNC_UPDATE, Some(RAC_SEQUENTIAL), None),
         Request::Delete => control(CTLFUNC_DELETE, Some(RAC_SEQUENTIAL), None),
         Request::Rewind => control(CTLFUNC_REWIND, Some(RAC_SEQUENTIAL), None),
@@ -141,8 +145,8 @@ fn first_message<'a>(own: u16, request: &'a Request, number: &'a [u8]) -> Messag
 }
 
 /// The message behind the first and the records, where there is one.
-fn last_message(request: &Request) -> Option<Message<&[u8]>>
-    ensures { seen_option result ≡ last_of request.now }
+fn last_message(request: &Request) -> Option<Message<'_>>
+    ensures { result ≡ last_of request.now }
 {
     match request {
         Request::Create { name, fac, .. } => Some(access(ACCFUNC_CREATE, name, *fac)),
@@ -164,10 +168,10 @@ fn records(request: &Request) -> &[Octets]
 }
 
 /// The bytes of the message, where it has a spelling within the limit.
-fn sendable_len(message: &Message<&[u8]>, limit: u16) -> Option<usize>
-    ensures yes { IfSome result (λ n. IsSendable limit (seen message.now)) }
-    ensures exact { IfSome result (λ n. n ≡ length (canon (seen message.now))) }
-    ensures no { result ≡ None → IsSendable limit (seen message.now) → ⊥ }
+fn sendable_len(message: &Message<'_>, limit: u16) -> Option<usize>
+    ensures yes { IfSome result (λ n. IsSendable limit message.now) }
+    ensures exact { IfSome result (λ n. n ≡ length (canon message.now)) }
+    ensures no { result ≡ None → IsSendable limit message.now → ⊥ }
 {
     if !fits(message) {
         return None;
@@ -221,13 +225,13 @@ fn are_sendable(records: &[Octets], limit: u16) -> bool
 fn append(
     alloc: Global,
     list: &mut Vec<Vec<u8>>,
-    message: &Message<&[u8]>,
+    message: &Message<'_>,
     len: usize,
     limit: u16,
 ) -> Result<(), MsgFault>
-    requires fits { Fits (seen message.now) }
-    requires counted { len ≡ length (canon (seen message.now)) }
-    ensures { AddsOne limit (canon (seen message.now)) list.old list.new result }
+    requires fits { Fits message.now }
+    requires counted { len ≡ length (canon message.now) }
+    ensures { AddsOne limit (canon message.now) list.old list.new result }
 {
     append_counted(alloc, list, message, len, usize::from(limit))
 }
@@ -241,11 +245,11 @@ pub(crate) struct Counts {
 }
 
 /// The messages of a request.
-#[derive(Clone, Copy, Debug)]
+#[derive(Drop, Debug)]
 pub(crate) struct Outgoing<'a> {
-    first: Message<&'a [u8]>,
+    first: Message<'a>,
     records: &'a [Octets],
-    last: Option<Message<&'a [u8]>>,
+    last: Option<Message<'a>>,
 }
 
 impl<'a> Outgoing<'a> {
@@ -253,8 +257,8 @@ impl<'a> Outgoing<'a> {
     pub(crate) fn of(own: u16, request: &'a Request, number: &'a [u8]) -> Outgoing<'a>
         requires { number.now ≡ four_bytes (number_carried request.now) }
         ensures messages { outgoing_messages result ≡ asked.messages_of own request.now }
-        ensures first { seen result.first ≡ first_of own request.now }
-        ensures last { seen_option result.last ≡ last_of request.now }
+        ensures first { result.first ≡ first_of own request.now }
+        ensures last { result.last ≡ last_of request.now }
     {
         Outgoing {
             first: first_message(own, request, number),
@@ -267,7 +271,7 @@ impl<'a> Outgoing<'a> {
     pub(crate) fn count(&self, limit: u16) -> Option<Counts>
         ensures yes { IfSome result (λ _. AreSendable limit (outgoing_messages self.now)) }
         ensures counted { IfSome result
-            (AreCounted (seen self.now.first) (seen_option self.now.last)) }
+            (AreCounted self.now.first self.now.last) }
         ensures no { result ≡ None → AreSendable limit (outgoing_messages self.now) → ⊥ }
     {
         let first = sendable_len(&self.first, limit)?;
@@ -289,7 +293,7 @@ impl<'a> Outgoing<'a> {
         counts: Counts,
     ) -> Result<Vec<Vec<u8>>, MsgFault>
         requires sendable { AreSendable limit (outgoing_messages self.now) }
-        requires counted { AreCounted (seen self.now.first) (seen_option self.now.last) counts }
+        requires counted { AreCounted self.now.first self.now.last counts }
         ensures { IfOk result (IsBlocked limit (outgoing_messages self.now)) }
     {
         let mut list = Vec::new(alloc);
@@ -309,7 +313,7 @@ impl<'a> Outgoing<'a> {
 }
 
 /// The messages of a request that [`crate::Accessing::prepare`] looked at, with what was counted of them. Own.
-#[derive(Clone, Copy, Debug)]
+#[derive(Drop, Debug)]
 pub struct Prepared<'a> {
     pub(crate) outgoing: Outgoing<'a>,
     pub(crate) counts: Counts,

@@ -1,8 +1,7 @@
 //! What is still to come of the answers to a request.
 
 ghost use Rattle.std.specs.Prelude.{◌≡◌};
-ghost use Rattle.dap_msg.specs.Items.{Whole};
-ghost use Rattle.dap_msg.specs.Message.{seen};
+ghost use Rattle.dap_msg.specs.declared.items.Item.TheVariants.{Whole};
 ghost use Rattle.dap_accessing.specs.declared.pending.Pending.TheVariants as pending;
 ghost use Rattle.dap_accessing.specs.Told.{ending_by, reason_in};
 ghost use Rattle.dap_accessing.specs.Inner.Hears.{AddsBody, HasShortNumbers, Hears, pending_of, refused_as};
@@ -11,7 +10,8 @@ use crate::bytes::{Numbered, Octets};
 use crate::report::{Ending, Report};
 use crate::request::Request;
 use dap_msg::codes::{
-    CMPFUNC_RESPONSE, END_OF_FILE, ORG_SEQUENTIAL, RECORD_REFUSED, RFM_VARIABLE, Reason,
+    CMPFUNC_RESPONSE, END_OF_FILE, ORG_SEQUENTIAL, REASON_TOO_LARGE_FOR_BUFFER, RECORD_REFUSED,
+    RFM_VARIABLE,
 };
 use dap_msg::{Message, StatusCode, is_too_small, number_of};
 use rec_file::MAX_NUMBER;
@@ -64,7 +64,7 @@ fn ending(code: u16, stv: &[u8]) -> Ending
     let reason = reason(stv);
     match code {
         END_OF_FILE => Ending::Complete,
-        RECORD_REFUSED if reason == Reason::TooLargeForBuffer.number() => Ending::Stopped,
+        RECORD_REFUSED if reason == REASON_TOO_LARGE_FOR_BUFFER => Ending::Stopped,
         _ => Ending::Refused(code, reason),
     }
 }
@@ -89,9 +89,9 @@ impl Pending {
     }
 
     /// What the message comes to as the next answer.
-    pub(crate) fn hear(self, alloc: Global, message: &Message<&[u8]>) -> Heard
-        requires { HasShortNumbers (seen message.now) }
-        ensures { Hears self (Whole (seen message.now)) result }
+    pub(crate) fn hear(self, alloc: Global, message: &Message<'_>) -> Heard
+        requires { HasShortNumbers message.now }
+        ensures { Hears self (Whole message.now) result }
     {
         match self {
             Pending::Config => hear_config(message),
@@ -119,10 +119,10 @@ fn hear_status(code: u16, stv: &[u8]) -> Heard
 }
 
 /// What a message comes to where a Config is due.
-fn hear_config(message: &Message<&[u8]>) -> Heard
-    ensures { Hears pending.Config (Whole (seen message.now)) result }
+fn hear_config(message: &Message<'_>) -> Heard
+    ensures { Hears pending.Config (Whole message.now) result }
 {
-    match *message {
+    match message {
         Message::Config(config) => {
             if is_too_small(config.bufsiz) {
                 Heard::Unexpected
@@ -130,19 +130,22 @@ fn hear_config(message: &Message<&[u8]>) -> Heard
                 Heard::Reports(Report::Ready(config.bufsiz))
             }
         }
-        Message::Status(status) => hear_status(status.code, status.stv),
+        Message::Status(status) => hear_status(status.code, status.stv.0),
         _ => Heard::Unexpected,
     }
 }
 
 /// What a message comes to where the Attributes of an opened file are due.
-fn hear_attributes(message: &Message<&[u8]>) -> Heard
-    requires { HasShortNumbers (seen message.now) }
-    ensures { Hears pending.Attributes (Whole (seen message.now)) result }
+fn hear_attributes(message: &Message<'_>) -> Heard
+    requires { HasShortNumbers message.now }
+    ensures { Hears pending.Attributes (Whole message.now) result }
 {
-    match *message {
+    match message {
         Message::Attrib(attributes) => {
-            let mrn = number_of(attributes.mrn.unwrap_or(&[]));
+            let mrn = match &attributes.mrn {
+                Some(image) => number_of(image.0),
+                None => 0,
+            };
             if mrn <= u64::from(MAX_NUMBER) {
                 Heard::Waits(Pending::Opened {
                     org: attributes.org.unwrap_or(ORG_SEQUENTIAL),
@@ -155,43 +158,43 @@ fn hear_attributes(message: &Message<&[u8]>) -> Heard
             }
         }
         Message::Other { .. } => Heard::Waits(Pending::Attributes),
-        Message::Status(status) => hear_status(status.code, status.stv),
+        Message::Status(status) => hear_status(status.code, status.stv.0),
         _ => Heard::Unexpected,
     }
 }
 
 /// What a message comes to where the Acknowledge behind these attributes is due.
-fn hear_opened(org: u8, rfm: u8, mrs: u16, mrn: u32, message: &Message<&[u8]>) -> Heard
-    ensures { Hears (pending.Opened org rfm mrs mrn) (Whole (seen message.now)) result }
+fn hear_opened(org: u8, rfm: u8, mrs: u16, mrn: u32, message: &Message<'_>) -> Heard
+    ensures { Hears (pending.Opened org rfm mrs mrn) (Whole message.now) result }
 {
-    match *message {
+    match message {
         Message::Ack => Heard::Reports(Report::Opened { org, rfm, mrs, mrn }),
         Message::Other { .. } => Heard::Waits(Pending::Opened { org, rfm, mrs, mrn }),
-        Message::Status(status) => hear_status(status.code, status.stv),
+        Message::Status(status) => hear_status(status.code, status.stv.0),
         _ => Heard::Unexpected,
     }
 }
 
 /// What a message comes to where the Acknowledge of a connection is due.
-fn hear_connected(message: &Message<&[u8]>) -> Heard
-    ensures { Hears pending.Connected (Whole (seen message.now)) result }
+fn hear_connected(message: &Message<'_>) -> Heard
+    ensures { Hears pending.Connected (Whole message.now) result }
 {
-    match *message {
+    match message {
         Message::Ack => Heard::Reports(Report::Connected),
-        Message::Status(status) => hear_status(status.code, status.stv),
+        Message::Status(status) => hear_status(status.code, status.stv.0),
         _ => Heard::Unexpected,
     }
 }
 
 /// What a message comes to where the record of a get is due.
-fn hear_record(alloc: Global, message: &Message<&[u8]>) -> Heard
-    requires { HasShortNumbers (seen message.now) }
-    ensures { Hears pending.Record (Whole (seen message.now)) result }
+fn hear_record(alloc: Global, message: &Message<'_>) -> Heard
+    requires { HasShortNumbers message.now }
+    ensures { Hears pending.Record (Whole message.now) result }
 {
-    match *message {
-        Message::Filedata { recnum, payload } => match Vec::from_slice(alloc, payload) {
+    match message {
+        Message::Filedata { recnum, payload } => match Vec::from_slice(alloc, payload.0) {
             Ok(body) => Heard::Reports(Report::Found {
-                number: number_of(recnum),
+                number: number_of(recnum.0),
                 body: Octets(body),
             }),
             Err(_) => Heard::NoMemory(Pending::Record),
@@ -200,23 +203,23 @@ fn hear_record(alloc: Global, message: &Message<&[u8]>) -> Heard
             if status.code == END_OF_FILE {
                 return Heard::Reports(Report::EndOfFile);
             }
-            hear_status(status.code, status.stv)
+            hear_status(status.code, status.stv.0)
         }
         _ => Heard::Unexpected,
     }
 }
 
 /// What a message comes to where the Status of an operation is due.
-fn hear_done(message: &Message<&[u8]>) -> Heard
-    requires { HasShortNumbers (seen message.now) }
-    ensures { Hears pending.Done (Whole (seen message.now)) result }
+fn hear_done(message: &Message<'_>) -> Heard
+    requires { HasShortNumbers message.now }
+    ensures { Hears pending.Done (Whole message.now) result }
 {
-    match *message {
+    match message {
         Message::Status(status) => {
             if StatusCode(status.code).is_success() {
-                Heard::Reports(Report::Done(number_of(status.recnum)))
+                Heard::Reports(Report::Done(number_of(status.recnum.0)))
             } else {
-                Heard::Reports(Report::Refused(status.code, reason(status.stv)))
+                Heard::Reports(Report::Refused(status.code, reason(status.stv.0)))
             }
         }
         _ => Heard::Unexpected,
@@ -238,16 +241,16 @@ fn hear_body(alloc: Global, bodies: Numbered, number: u64, payload: &[u8]) -> He
 }
 
 /// What a message comes to in a fetch, behind these records.
-fn hear_batch(alloc: Global, bodies: Numbered, message: &Message<&[u8]>) -> Heard
-    requires { HasShortNumbers (seen message.now) }
-    ensures { Hears (pending.Batch bodies) (Whole (seen message.now)) result }
+fn hear_batch(alloc: Global, bodies: Numbered, message: &Message<'_>) -> Heard
+    requires { HasShortNumbers message.now }
+    ensures { Hears (pending.Batch bodies) (Whole message.now) result }
 {
-    match *message {
+    match message {
         Message::Filedata { recnum, payload } => hear_body(
             alloc,
             bodies,
-            number_of(recnum),
-            payload,
+            number_of(recnum.0),
+            payload.0,
         ),
         Message::Status(status) => {
             if StatusCode(status.code).is_success() {
@@ -255,7 +258,7 @@ fn hear_batch(alloc: Global, bodies: Numbered, message: &Message<&[u8]>) -> Hear
             } else {
                 Heard::Reports(Report::Batch {
                     bodies,
-                    ending: ending(status.code, status.stv),
+                    ending: ending(status.code, status.stv.0),
                 })
             }
         }
@@ -264,18 +267,22 @@ fn hear_batch(alloc: Global, bodies: Numbered, message: &Message<&[u8]>) -> Hear
 }
 
 /// What a message comes to where the end of a store is due, whose first refusal is kept.
-fn hear_stored(kept: Option<(u16, u8, u64)>, message: &Message<&[u8]>) -> Heard
-    requires { HasShortNumbers (seen message.now) }
-    ensures { Hears (pending.Stored kept) (Whole (seen message.now)) result }
+fn hear_stored(kept: Option<(u16, u8, u64)>, message: &Message<'_>) -> Heard
+    requires { HasShortNumbers message.now }
+    ensures { Hears (pending.Stored kept) (Whole message.now) result }
 {
-    match *message {
+    match message {
         Message::Status(status) => {
             if StatusCode(status.code).is_success() {
                 return Heard::Unexpected;
             }
             Heard::Waits(Pending::Stored(match kept {
                 Some(first) => Some(first),
-                None => Some((status.code, reason(status.stv), number_of(status.recnum))),
+                None => Some((
+                    status.code,
+                    reason(status.stv.0),
+                    number_of(status.recnum.0),
+                )),
             }))
         }
         Message::Accomp(complete) => {
@@ -290,10 +297,10 @@ fn hear_stored(kept: Option<(u16, u8, u64)>, message: &Message<&[u8]>) -> Heard
 }
 
 /// What a message comes to where the Access Complete of a close or a purge is due.
-fn hear_closed(message: &Message<&[u8]>) -> Heard
-    ensures { Hears pending.Closed (Whole (seen message.now)) result }
+fn hear_closed(message: &Message<'_>) -> Heard
+    ensures { Hears pending.Closed (Whole message.now) result }
 {
-    match *message {
+    match message {
         Message::Accomp(complete) => {
             if complete.func == CMPFUNC_RESPONSE {
                 Heard::Reports(Report::Closed)
@@ -301,7 +308,7 @@ fn hear_closed(message: &Message<&[u8]>) -> Heard
                 Heard::Unexpected
             }
         }
-        Message::Status(status) => hear_status(status.code, status.stv),
+        Message::Status(status) => hear_status(status.code, status.stv.0),
         _ => Heard::Unexpected,
     }
 }

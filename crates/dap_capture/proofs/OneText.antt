@@ -17,7 +17,7 @@ use Rattle.dap_text.specs.Reports.{report_text}
 use Rattle.dap_capture.specs.Schedules.{Numbered, said}
 use Rattle.dap_capture.specs.Inner.Schedules.{events_of}
 use Rattle.dap_text.specs.Tables.{files_text}
-use Rattle.dap_capture.specs.Played.{HasOneText, IsPacketWritten, IsReported, IsStepText, Played, Plays, empty, end_text, event_line, goes, over, played, refusal_line, refusal_text, setup_refused, stops}
+use Rattle.dap_capture.specs.Played.{HasOneText, IsPacketWritten, IsStepText, Played, Plays, empty, end_text, event_line, goes, over, played, refusal_line, refusal_text, setup_refused, stops}
 use Rattle.dap_listing.specs.declared.fault.Outcome.{Outcome}
 
 same_end : (a b : End) (x : _) → x ≡ Some a → x ≡ Some b → b ≡ a
@@ -40,10 +40,6 @@ one_packet s end place a b (sending, at, bytes, packet, printed) (sending', at',
     let same = one_on_wire s end sending bytes bytes' packet (subst (λ (p : Sending). IsOnWire s end p bytes') (same_sending sending sending' _ at at') packet') in
     printed ∙ ap (λ (x : List ℕ). concat (codes "packet " ∷ end_text end ∷ codes " " ∷ decimal place ∷ codes " " ∷ encode_lower x ∷ [])) same ∙ sym printed'
 
-one_report : (s : State) (a b : List ℕ) → IsReported s a → IsReported s b → a ≡ b
-one_report s a b (report, newest, printed) (report', newest', printed') =
-    printed ∙ ap (λ (r : Report). codes "report " ++ report_text r) (same_report report report' _ newest newest') ∙ sym printed'
-
 one_answer : (s : State) (e : Event) (answer : Step) (a b : List ℕ) → IsStepText s e answer a → IsStepText s e answer b → a ≡ b
 one_answer s e (step.Asked count) a b one two = one ∙ sym two
 one_answer s e (step.Posted count) a b one two = one ∙ sym two
@@ -53,7 +49,8 @@ one_answer s e (step.Packet place) a b one two =
 one_answer s e (step.Delivered got) a b one two = one ∙ sym two
 one_answer s e (step.Served count) a b one two = one ∙ sym two
 one_answer s e step.Nothing a b one two = one ∙ sym two
-one_answer s e step.Reported a b one two = one_report s a b one two
+one_answer s e step.Reported a b (report, newest, printed) (report', newest', printed') =
+    printed ∙ ap (λ (r : Report). codes "report " ++ report_text r) (same_report report report' _ newest newest') ∙ sym printed'
 
 one_run : (s : State) (number : ℕ) (events : List Event) (one two : Outcome) (a b : List ℕ) → Plays s number events one a → Plays s number events two b → (one ≡ two) × (a ≡ b)
 one_run s number [] one two a b over over = (refl, refl)

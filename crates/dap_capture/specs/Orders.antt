@@ -1,16 +1,16 @@
 -- What the lines of a schedule say: a setup, or an event.
-use Rattle.std.specs.Prelude.{ℕ, List, [], ◌∷◌, codes, if◌then◌else◌, Option, Some, None, option_map}
+use Rattle.std.specs.Prelude.{ℕ, List, [], ◌∷◌, codes, bytes_eq, if◌then◌else◌, Option, Some, None, option_map}
 use Rattle.dap_world.specs.declared.event.End.{End}
 use Rattle.dap_world.specs.declared.event.End.TheVariants.{A, B}
 use Rattle.dap_world.specs.declared.event.Event.{Event}
 use Rattle.dap_world.specs.declared.event.Event.TheVariants as event
 use Rattle.dap_world.specs.declared.setup.WorldSetup.{WorldSetup}
 use Rattle.dap_text.specs.Requests.{request_of}
-use Rattle.dap_text.specs.Words.{Words, ends, field, is, long, one_of, short, word, words_of}
+use Rattle.dap_text.specs.Words.{Words, ends, field, long, one_of, short, word, words_of}
 
 -- an end
 abbrev pub end_of : List ℕ → Option End
-end_of word = if is word (codes "a") then Some A else if is word (codes "b") then Some B else None
+end_of word = if bytes_eq word (codes "a") then Some A else if bytes_eq word (codes "b") then Some B else None
 
 -- E
 abbrev pub one_end : (End → Event) → Words → Option Event

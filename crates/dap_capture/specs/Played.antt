@@ -45,12 +45,7 @@ IsPacketWritten s end place text =
     (sending : Sending) × (slice_get (end_of s end).wire place ≡ Some sending) × (bytes : List ℕ) × IsOnWire s end sending bytes
     × (text ≡ concat (codes "packet " ∷ end_text end ∷ codes " " ∷ decimal place ∷ codes " " ∷ encode_lower bytes ∷ []))
 
--- the newest report
-abbrev pub IsReported : State → (text : List ℕ) → Type 0
-IsReported s text =
-    (report : Report) × (slice_get (reported s) (length (reported s) - 1) ≡ Some report) × (text ≡ codes "report " ++ report_text report)
-
--- what is printed of an event that came to this step and left this state
+-- What is printed of an event that came to this step and left this state. Of a report that is told: the newest one.
 abbrev pub IsStepText : State → Event → Step → List ℕ → Type 0
 IsStepText s e (step.Asked count) text = text ≡ codes "asked " ++ decimal count
 IsStepText s e (step.Posted count) text = text ≡ codes "posted " ++ decimal count
@@ -58,7 +53,8 @@ IsStepText s e (step.Packet place) text = (end : End) × (writing_end e ≡ Some
 IsStepText s e (step.Delivered got) text = text ≡ got_text got
 IsStepText s e (step.Served count) text = text ≡ codes "served " ++ decimal count
 IsStepText s e step.Nothing text = text ≡ codes "read"
-IsStepText s e step.Reported text = IsReported s text
+IsStepText s e step.Reported text =
+    (report : Report) × (slice_get (reported s) (length (reported s) - 1) ≡ Some report) × (text ≡ codes "report " ++ report_text report)
 
 -- the word for a refusal; want of memory has none
 abbrev pub refusal_text : WorldFault → Option (List ℕ)

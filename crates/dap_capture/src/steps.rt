@@ -1,6 +1,7 @@
 //! What a schedule prints of its events.
 
 ghost use Rattle.std.specs.Prelude.{◌≡◌, ◌<◌, OnOk, length, option_copied};
+ghost use Rattle.dap_world.specs.declared.event.Event.TheVariants as event;
 ghost use Rattle.dap_world.specs.Machine.{reported, end_of};
 ghost use Rattle.dap_world.specs.Inner.Naming.{NamedIsThere};
 ghost use Rattle.dap_world.specs.Runs.{writing_end};
@@ -8,7 +9,7 @@ ghost use Rattle.dap_text.specs.Adding.{Adds};
 ghost use Rattle.dap_text.specs.Adding.{AddsSome};
 ghost use Rattle.dap_capture.specs.Inner.Orders.{event_of_order};
 ghost use Rattle.dap_capture.specs.Inner.Playing.{AddsStep, IsPacketAt};
-ghost use Rattle.dap_capture.specs.Played.{IsPacketWritten, IsReported, IsStepText, end_text, refusal_line, refusal_text};
+ghost use Rattle.dap_capture.specs.Played.{IsPacketWritten, IsStepText, end_text, refusal_line, refusal_text};
 
 use crate::orders::Order;
 use dap_text::{ask_word, got_word, push_decimal, push_hex, push_number, push_report, push_str};
@@ -73,7 +74,8 @@ fn push_packet(text: &mut Vec<u8>, world: &World, end: End, place: usize) -> Res
 /// Appends the newest report.
 fn push_newest(text: &mut Vec<u8>, world: &World) -> Result<(), AllocError>
     requires { 0 < length (reported world.now) }
-    ensures { OnOk result (AddsSome text.old text.new (IsReported world.now)) }
+    ensures { OnOk result (AddsSome text.old text.new
+        (IsStepText world.now event.Read Step.Reported)) }
 {
     let Some(newest) = world.reports().last() else {
         unreachable!()

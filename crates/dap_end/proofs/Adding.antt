@@ -7,7 +7,7 @@ use Rattle.dap_accessed.specs.Standing.{Files}
 use Rattle.dap_accessed.specs.Present.{Present, StandsAfter}
 use Rattle.dap_accessed.specs.Adding.{AddRefused, RecordRefused}
 use Rattle.dap_end.specs.Ports.{HasCome}
-use Rattle.dap_end.specs.Serving.{ServingValue, NotAdded, NotStored, IsGiven}
+use Rattle.dap_end.specs.Serving.{ServingValue, NotGiven, IsGiven}
 use Rattle.dap_end.specs.Inner.ServingView.{serving_of}
 
 pub given : (old : ServingValue) (after : Present) (r : Result (Unit {0}) AddFault) → after.own ≡ old.accessed.own → OnOk r ((first : Files) → StandsAfter first [] old.accessed → StandsAfter after.files [] after)
@@ -15,24 +15,24 @@ pub given : (old : ServingValue) (after : Present) (r : Result (Unit {0}) AddFau
 given old after (Ok u) own stands = λ first h. record { serving = stands first h.serving; gone = h.gone; sends = h.sends; answers = h.answers; fit = tt }
 given old after (Err f) own stands = tt
 
-refused_add : (v : ServingValue) (name : List ℕ) (f : AddFault) → (HasCome v.port → ⊥) → AddRefused v.accessed name f → NotAdded v name f
+refused_add : (v : ServingValue) (name : List ℕ) (f : AddFault) → (HasCome v.port → ⊥) → AddRefused v.accessed name f → NotGiven v (AddRefused v.accessed name) f
 refused_add v name fault.Busy none h = inr h
 refused_add v name fault.FileExists none h = (none, h)
 refused_add v name fault.NoMemory none h = (none, h)
 refused_add v name fault.NoFile none h = absurd h
 refused_add v name (fault.Record r) none h = absurd h
 
-refused_record : (v : ServingValue) (n : ℕ) (body : List ℕ) (f : AddFault) → (HasCome v.port → ⊥) → RecordRefused v.accessed n body f → NotStored v n body f
+refused_record : (v : ServingValue) (n : ℕ) (body : List ℕ) (f : AddFault) → (HasCome v.port → ⊥) → RecordRefused v.accessed n body f → NotGiven v (RecordRefused v.accessed n body) f
 refused_record v n body fault.Busy none h = inr h
 refused_record v n body fault.NoFile none h = (none, h)
 refused_record v n body (fault.Record r) none h = (none, h)
 refused_record v n body fault.NoMemory none h = (none, h)
 refused_record v n body fault.FileExists none h = absurd h
 
-pub by_add : (v : ServingValue) (name : List ℕ) (r : Result (Unit {0}) AddFault) → (HasCome v.port → ⊥) → IfErr r (λ f. AddRefused v.accessed name f) → IfErr r (λ f. NotAdded v name f)
+pub by_add : (v : ServingValue) (name : List ℕ) (r : Result (Unit {0}) AddFault) → (HasCome v.port → ⊥) → IfErr r (λ f. AddRefused v.accessed name f) → IfErr r (λ f. NotGiven v (AddRefused v.accessed name) f)
 by_add v name (Ok u) none h = tt
 by_add v name (Err f) none h = refused_add v name f none h
 
-pub by_add_record : (v : ServingValue) (n : ℕ) (body : List ℕ) (r : Result (Unit {0}) AddFault) → (HasCome v.port → ⊥) → IfErr r (λ f. RecordRefused v.accessed n body f) → IfErr r (λ f. NotStored v n body f)
+pub by_add_record : (v : ServingValue) (n : ℕ) (body : List ℕ) (r : Result (Unit {0}) AddFault) → (HasCome v.port → ⊥) → IfErr r (λ f. RecordRefused v.accessed n body f) → IfErr r (λ f. NotGiven v (RecordRefused v.accessed n body) f)
 by_add_record v n body (Ok u) none h = tt
 by_add_record v n body (Err f) none h = refused_record v n body f none h

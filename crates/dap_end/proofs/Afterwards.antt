@@ -1,10 +1,10 @@
 -- What the calls of a serving end leave of what it did.
-use Rattle.std.proofs.Common.{◌≡◌, ℕ, sym, ◌∙◌, subst, ap, List, ◌++◌, length}
+use Rattle.std.proofs.Common.{◌≡◌, ℕ, sym, ◌∙◌, subst, ap, List, ◌++◌, length, IsTrue}
 use Rattle.std.specs.Prelude.{Result, Ok, Err, IfOk, OnOk}
 use Rattle.std.proofs.lemmas.List.{append-nil}
 use Rattle.nsp_link.specs.declared.fault.LinkFault.{LinkFault}
 use Rattle.nsp_link.specs.Link.{LinkValue, SendsStill}
-use Rattle.nsp_link.specs.Sending.{MayQueueAll}
+use Rattle.nsp_link.specs.Sending.{may_queue}
 use Rattle.nsp_link.proofs.ForCallers.{sends_all}
 use Rattle.dap_end.specs.Ports.{PortValue, with_link, posted}
 use Rattle.dap_end.specs.Inner.ServingView.{serving_of}
@@ -35,7 +35,7 @@ after_posted past v h =
       fit = h.fit;
     }
 
-pub posted_all : (v : ServingValue) (port : PortValue) (r : Result ℕ LinkFault) → OnOk r (MayQueueAll v.port.link v.port.outbox) → IfOk r (λ n. (port ≡ posted v.port) × (n ≡ length v.port.outbox)) → IfOk r (λ n. PostedAll v (serving_of port v.accessed) n)
+pub posted_all : (v : ServingValue) (port : PortValue) (r : Result ℕ LinkFault) → OnOk r (IsTrue (may_queue v.port.link v.port.outbox)) → IfOk r (λ n. (port ≡ posted v.port) × (n ≡ length v.port.outbox)) → IfOk r (λ n. PostedAll v (serving_of port v.accessed) n)
 posted_all v port (Ok n) may h =
     record {
       may = may;

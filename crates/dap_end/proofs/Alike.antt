@@ -1,14 +1,15 @@
 -- What a call of an asking end answers and leaves follows from what it did and what came, want of memory aside.
-use Rattle.std.proofs.Common.{◌≡◌, ◌≢◌, ℕ, refl, sym, ◌∙◌, subst, ap, true, false, true≢false, List, [], ◌∷◌, ◌++◌, length, inl, inr}
+use Rattle.std.proofs.Common.{◌≡◌, ◌≢◌, ℕ, refl, sym, ◌∙◌, subst, ap, true, false, true≢false, List, [], ◌∷◌, ◌++◌, length, inl, inr, IsTrue}
 use Rattle.std.specs.Prelude.{Option, Some, None, Result, Ok, Err, option_to_list}
 use Rattle.dap_fields.specs.Spelling.{AreBytes}
-use Rattle.dap_msg.specs.Items.{Item, ItemAt}
+use Rattle.dap_msg.specs.declared.items.Item.{Item}
+use Rattle.dap_msg.specs.Items.{ItemAt}
 use Rattle.dap_msg.specs.Blocked.{Blocked, all_joined}
 use Rattle.dap_msg.proofs.ForCallers.{one_item}
 use Rattle.nsp_link.specs.declared.link.Got.{Got}
 use Rattle.nsp_link.specs.declared.fault.LinkFault.{LinkFault}
 use Rattle.nsp_link.specs.Link.{Sends}
-use Rattle.nsp_link.specs.Sending.{MayQueueAll, SendAllFault}
+use Rattle.nsp_link.specs.Sending.{may_queue, SendAllFault}
 use Rattle.nsp_link.proofs.ForCallers.{sends_all}
 use Rattle.dap_accessing.specs.Request.{Request}
 use Rattle.dap_accessing.specs.declared.report.Report.{Report}
@@ -24,8 +25,9 @@ use Rattle.dap_end.specs.declared.fault.EndFault.{EndFault}
 use Rattle.dap_end.specs.declared.fault.EndFault.TheVariants as end_fault
 use Rattle.dap_end.specs.declared.fault.TakeFault.{TakeFault}
 use Rattle.dap_end.specs.Ports.{PortValue, gone_on, posted}
-use Rattle.dap_end.specs.Asking.{AskingValue, AskingPast, HasAsked, HasStill, AskedOne, HandedAll, ReadOne, ReadNone, ReadOn, begins, goes, ReadAll, ReadPart, ReadsAll, HeardAll, HearFault, asks, AreAlike, HasDone, asked_one}
-use Rattle.dap_end.specs.Turns.{WentOn, Takes}
+use Rattle.dap_end.specs.Asking.{AskingValue, AskingPast, HasAsked, AskedOne, HandedAll, ReadOne, ReadNone, ReadOn, begins, goes, ReadPart, ReadsAll, HeardAll, HearFault, asks, AreAlike, HasDone, asked_one}
+use Rattle.dap_end.specs.Writing.{Behind}
+use Rattle.dap_end.specs.Turns.{WentOn, Takes, Still}
 use Rattle.dap_end.specs.Wanting.{is_want, went_wanting, took_wanting}
 use Rattle.dap_end.proofs.Asked.{read_grows}
 use Rattle.dap_end.proofs.Determined.{may_or_not, refused_one, no_next}
@@ -145,10 +147,10 @@ stops_unread v new read_fault.Failed want n p = λ next report r. true≢false (
 stops_unread v new read_fault.Unexpected want n p = λ next report r. no_place p.0 v new next report p.1 n r
 stops_unread v new read_fault.NoMemory want n p = absurd (want refl)
 
-read_alike : (old other one two : AskingValue) (before xs ys : List Report) → HasDone old → AreAlike old other → ReadAll old one before xs → ReadAll other two before ys
+read_alike : (old other one two : AskingValue) (before xs ys : List Report) → HasDone old → AreAlike old other → Behind before xs (ReadOn old one) → Behind before ys (ReadOn other two)
     → (((past : AskingPast) × HasAsked past one) → Stops one) → (((past : AskingPast) × HasAsked past two) → Stops two) → AreAlike one two × (xs ≡ ys) × HasDone one
 read_alike old other one two before xs ys (inl d) like ra rb sa sb =
-    let rc : ReadAll old two before ys = subst (λ (v : AskingValue). ReadAll v two before ys) (sym (alike_same old other like d.1.asking.works)) rb in
+    let rc : Behind before ys (ReadOn old two) = subst (λ (v : AskingValue). Behind before ys (ReadOn v two)) (sym (alike_same old other like d.1.asking.works)) rb in
     let pa = read_past d.0 old one ra.0 d.1 ra.2 in
     let pb = read_past d.0 old two rc.0 d.1 rc.2 in
     let s = reads_once d.0 old one two ra.0 rc.0 d.1 ra.2 rc.2 (sa pa) (sb pb) in
@@ -168,7 +170,7 @@ no_read_want f e k = true≢false (sym (ap (λ (x : ReadFault). is_want (end_fau
 
 -- where reading stopped at one that was refused
 abbrev Unread : (old new : AskingValue) → (before all : List Report) → ReadFault → Type 0
-Unread old new before all f = (mid : AskingValue) × ReadAll old mid before all × ReadNone mid new f
+Unread old new before all f = (mid : AskingValue) × Behind before all (ReadOn old mid) × ReadNone mid new f
 
 unread : (old new : AskingValue) (before all : List Report) (f : ReadFault) → f ≢ read_fault.NoMemory → ReadPart old new before all f → Unread old new before all f
 unread old new before all f want (inl h) = absurd (want h.0)
@@ -189,7 +191,7 @@ heard_alike old other one two before xs ys d like a b =
     )
 
 -- all that came was read, or reading stopped
-empty_apart : (old other one mid two : AskingValue) (before xs ys : List Report) (f : ReadFault) → HasDone old → AreAlike old other → f ≢ read_fault.NoMemory → ReadAll old one before xs → one.port.link.coming.inbox ≡ [] → ReadAll other mid before ys
+empty_apart : (old other one mid two : AskingValue) (before xs ys : List Report) (f : ReadFault) → HasDone old → AreAlike old other → f ≢ read_fault.NoMemory → Behind before xs (ReadOn old one) → one.port.link.coming.inbox ≡ [] → Behind before ys (ReadOn other mid)
     → ReadNone mid two f → ⊥
 empty_apart old other one mid two before xs ys f d like want ra none rb n =
     let t = read_alike old other one mid before xs ys d like ra rb (λ p. stops_empty one none) (λ p. stops_unread mid two f want n p) in
@@ -198,7 +200,7 @@ empty_apart old other one mid two before xs ys f d like want ra none rb n =
 heard_apart : (old other one two : AskingValue) (before xs ys : List Report) (f : EndFault) → HasDone old → AreAlike old other → is_want f ≡ false → HeardAll old one before xs → HearFault other two before ys f → ⊥
 heard_apart old other one two before xs ys (end_fault.Link f) d like want a b =
     let t = read_alike old other a.0 two before xs ys d like a.2.0 b.0.0 (λ p. stops_empty a.0 a.2.1) (λ p. stops_empty two b.0.1) in
-    may_or_not two.port.link two.port.outbox f (no_want f want) (subst (λ (p : PortValue). MayQueueAll p.link p.outbox) t.0.0 a.3.may) b.1
+    may_or_not two.port.link two.port.outbox f (no_want f want) (subst (λ (p : PortValue). IsTrue (may_queue p.link p.outbox)) t.0.0 a.3.may) b.1
 heard_apart old other one two before xs ys (end_fault.Read f) d like want a b =
     let u = unread other two before ys f (no_read_want f want) b in
     empty_apart old other a.0 u.0 two before xs ys f d like (no_read_want f want) a.2.0 a.2.1 u.1 u.2
@@ -269,7 +271,7 @@ stopped_alike old other one two before xs ys (end_fault.Read f) (end_fault.Read 
 
 -- ---- Going on, and taking.
 
-stays_done : (old new : AskingValue) (port : PortValue) → HasDone old → new ≡ record old { port = port } → HasStill old new → ((handed : List (List ℕ)) → Sends old.port.link handed → Sends new.port.link handed) → HasDone new
+stays_done : (old new : AskingValue) (port : PortValue) → HasDone old → new ≡ record old { port = port } → Still HasAsked old new → ((handed : List (List ℕ)) → Sends old.port.link handed → Sends new.port.link handed) → HasDone new
 stays_done old new port (inl d) rest still sends = inl (d.0, still d.0 d.1)
 stays_done old new port (inr d) rest still sends = inr (ap (λ (v : AskingValue). v.accessing.failed) rest ∙ d.0, (d.1.0, sends d.1.0 d.1.1))
 

@@ -1,20 +1,21 @@
 -- What the calls of an asking end leave of what it did.
-use Rattle.std.proofs.Common.{◌≡◌, inl, inr, eq-eqb, ◌-◌, ℕ, ◌+◌, ◌<◌, ◌≤◌, arith, refl, sym, ◌∙◌, subst, ap, append_assoc, true, false, List, [], ◌∷◌, ◌++◌, length}
+use Rattle.std.proofs.Common.{◌≡◌, inl, inr, eq-eqb, ◌-◌, ℕ, ◌+◌, ◌<◌, ◌≤◌, arith, refl, sym, ◌∙◌, subst, ap, append_assoc, true, false, List, [], ◌∷◌, ◌++◌, length, IsTrue}
 use Rattle.std.specs.Prelude.{◌==◌, Option, Result, Ok, Err, IfOk, OnOk, nat_le, if◌then◌else◌, option_to_list}
 use Rattle.std.proofs.lemmas.Bool.{cases_eq, ne_eqb}
 use Rattle.std.proofs.lemmas.List.{append-nil, map-append}
 use Rattle.std.proofs.lemmas.List.Elements.{All-append}
 use Rattle.dap_fields.specs.Spelling.{AreBytes}
-use Rattle.dap_msg.specs.Message.{Message}
+use Rattle.dap_msg.specs.declared.message.Message.{Message}
 use Rattle.dap_msg.specs.Canon.{canon}
-use Rattle.dap_msg.specs.Items.{Item, IsPlace}
+use Rattle.dap_msg.specs.declared.items.Item.{Item}
+use Rattle.dap_msg.specs.Items.{IsPlace}
 use Rattle.dap_msg.specs.Sendable.{AreSendable}
 use Rattle.dap_msg.specs.Blocked.{NspMessage, joined, Blocked, blocked_after, all_joined, messages_in, AllFit, AllWithin, IsWithin}
 use Rattle.dap_msg.proofs.ForCallers.{messages_in-Blocked, within_limit}
 use Rattle.nsp_link.specs.declared.fault.LinkFault.{LinkFault}
 use Rattle.nsp_link.specs.Link.{LinkValue, SendsStill, Stands, with_inbox}
-use Rattle.nsp_link.specs.Sending.{MayQueueAll, SendAllFault}
-use Rattle.nsp_link.proofs.ForCallers.{sends_all}
+use Rattle.nsp_link.specs.Sending.{may_queue, SendAllFault}
+use Rattle.nsp_link.proofs.ForCallers.{sends_all, may_queue_parts}
 use Rattle.dap_accessed.specs.Served.{AllAtMost}
 use Rattle.dap_accessing.specs.Request.{Request}
 use Rattle.dap_accessing.specs.declared.report.Report.{Report}
@@ -27,18 +28,19 @@ use Rattle.dap_accessing.specs.Calls.{Asks, Reads}
 use Rattle.dap_end.specs.Inner.Pasts.{AreFull, read_one}
 use Rattle.dap_end.specs.declared.fault.EndFault.TheVariants as end_fault
 use Rattle.dap_end.specs.Ports.{PortValue, with_link, posted, gone_on}
-use Rattle.dap_end.specs.Writing.{sent_more}
+use Rattle.dap_end.specs.Writing.{Behind, sent_more}
 use Rattle.dap_end.specs.Going.{GoneThrough, given_then}
-use Rattle.dap_end.specs.Asking.{AskingValue, AskingPast, HasAsked, HasStill, AskedOne, HandedAll, ReadOne, ReadOn, begins, goes, ReadAll, HearFault}
+use Rattle.dap_end.specs.Asking.{AskingValue, AskingPast, HasAsked, AskedOne, HandedAll, ReadOne, ReadOn, begins, goes, HearFault}
 use Rattle.dap_end.specs.Inner.Kept.{IsPort, AreShort}
 use Rattle.dap_end.specs.Inner.AskingView.{asking_of}
 use Rattle.dap_end.proofs.Taking.{Grown}
 use Rattle.dap_end.proofs.Going.{gone_stays}
 use Rattle.dap_end.proofs.ServingOne.{port_given, port_gone, all_short, fit-both}
 use Rattle.dap_end.proofs.Proceeding.{work, less_left}
+use Rattle.dap_end.specs.Turns.{Still}
 
 -- a packet came
-pub still_received : (v : AskingValue) (link : LinkValue) → Grown v.port.link link → SendsStill v.port.link link → HasStill v (record v { port = with_link v.port link })
+pub still_received : (v : AskingValue) (link : LinkValue) → Grown v.port.link link → SendsStill v.port.link link → Still HasAsked v (record v { port = with_link v.port link })
 still_received v link g sends = λ past h.
     record {
       asking = h.asking;
@@ -63,7 +65,7 @@ after_handed past v h =
       full = h.full;
     }
 
-pub handed_all : (v : AskingValue) (port : PortValue) (r : Result ℕ LinkFault) → OnOk r (MayQueueAll v.port.link v.port.outbox) → IfOk r (λ n. (port ≡ posted v.port) × (n ≡ length v.port.outbox)) → IfOk r (λ n. HandedAll v (asking_of port v.accessing) n)
+pub handed_all : (v : AskingValue) (port : PortValue) (r : Result ℕ LinkFault) → OnOk r (IsTrue (may_queue v.port.link v.port.outbox)) → IfOk r (λ n. (port ≡ posted v.port) × (n ≡ length v.port.outbox)) → IfOk r (λ n. HandedAll v (asking_of port v.accessing) n)
 handed_all v port (Ok n) may h =
     record {
       may = may;
@@ -252,7 +254,7 @@ read_nothing v =
       );
     }
 
-pub read_none : (v : AskingValue) (reports : List Report) → ReadAll v v reports reports
+pub read_none : (v : AskingValue) (reports : List Report) → Behind reports reports (ReadOn v v)
 read_none v reports = ([], sym (append-nil reports), begins)
 
 -- what left, and what is left
@@ -308,7 +310,7 @@ read_on a b c reports report (goes mid first more s on is) r =
     goes mid first (more ++ option_to_list report) s (read_on mid b c more report on r)
     (ap (λ (l : List Report). l ++ option_to_list report) is ∙ append_assoc (option_to_list first) more (option_to_list report))
 
-pub read_more : (a b c : AskingValue) (report : Option Report) (before all new : List Report) → ReadAll a b before all → ReadOne b c report → new ≡ all ++ option_to_list report → ReadAll a c before new
+pub read_more : (a b c : AskingValue) (report : Option Report) (before all new : List Report) → Behind before all (ReadOn a b) → ReadOne b c report → new ≡ all ++ option_to_list report → Behind before new (ReadOn a c)
 read_more a b c report before all new m r is = (
   m.0 ++ option_to_list report,
   is ∙ ap (λ (l : List Report). l ++ option_to_list report) m.1 ∙ append_assoc before m.0 (option_to_list report),
@@ -320,17 +322,17 @@ read_falls old new report r =
     subst (λ (p : PortValue). work p.link.coming.inbox - p.place < work old.port.link.coming.inbox - old.port.place) (sym r.port)
     (less_left old.port.link.coming.inbox r.one.later r.one.bytes old.port.place r.one.next r.one.came r.one.place r.one.goes r.one.within)
 
-pub still_sent : (v : AskingValue) (port : PortValue) (n : ℕ) → port ≡ sent_more v.port n → HasStill v (record v { port = port })
+pub still_sent : (v : AskingValue) (port : PortValue) (n : ℕ) → port ≡ sent_more v.port n → Still HasAsked v (record v { port = port })
 still_sent v port n e =
-    subst (λ (p : PortValue). HasStill v (asking_of p v.accessing)) (sym e)
+    subst (λ (p : PortValue). Still HasAsked v (asking_of p v.accessing)) (sym e)
     (λ past h. record { asking = h.asking; gone = h.gone; sends = record { queue = h.sends.queue; acked = h.sends.acked }; messages = h.messages; waiting = h.waiting; fit = h.fit; full = h.full })
 
 -- ---- Going on.
 
 -- a link to which something was handed runs
 pub works_after : (old new : AskingValue) (n : ℕ) → HandedAll old new n → new.port.link.failed ≡ false
-works_after old new n h = ap (λ (v : AskingValue). v.port.link.failed) h.posted ∙ h.may.0
+works_after old new n h = ap (λ (v : AskingValue). v.port.link.failed) h.posted ∙ (may_queue_parts old.port.link old.port.outbox h.may).0
 
-pub heard_only : (old heard new : AskingValue) (before reports : List Report) (f : LinkFault) → ReadAll old heard before reports → heard.port.link.coming.inbox ≡ [] → (new ≡ heard) × SendAllFault heard.port.link heard.port.outbox f → HearFault old new before reports (end_fault.Link f)
+pub heard_only : (old heard new : AskingValue) (before reports : List Report) (f : LinkFault) → Behind before reports (ReadOn old heard) → heard.port.link.coming.inbox ≡ [] → (new ≡ heard) × SendAllFault heard.port.link heard.port.outbox f → HearFault old new before reports (end_fault.Link f)
 heard_only old heard new before reports f read done h =
     subst (λ (v : AskingValue). HearFault old v before reports (end_fault.Link f)) (sym h.0) ((read, done), h.1)

@@ -14,8 +14,8 @@ use Rattle.dap_accessing.specs.Present.{Present}
 use Rattle.dap_end.specs.declared.fault.EndFault.{EndFault}
 use Rattle.dap_end.specs.declared.fault.EndFault.TheVariants as end_fault
 use Rattle.dap_end.specs.Ports.{PortValue}
-use Rattle.dap_end.specs.Writing.{wants_ack, WroteMore, WroteAll}
-use Rattle.dap_end.specs.Asking.{AskingValue, AskedOne, HandedAll, ReadOne, begins, goes as reads_first, ReadAll, HeardAll, HearFault, ReadNone, ReadPart, asks}
+use Rattle.dap_end.specs.Writing.{wants_ack, WroteMore, Behind}
+use Rattle.dap_end.specs.Asking.{AskingValue, AskedOne, HandedAll, ReadOne, begins, goes as reads_first, ReadOn, HeardAll, HearFault, ReadNone, ReadPart, asks}
 use Rattle.dap_end.specs.Turns.{WroteThen, WentOn, TookIn, TookThen}
 use Rattle.dap_end.specs.Headline.{Written, numbered, bytes_of, Came, GoesOn, Again, Acks, AnyBytes}
 use Rattle.dap_end.specs.Hearing.{AskingEvent, Asks, By, AskingStepped, AskingRuns, AreAskingCalls}
@@ -60,7 +60,7 @@ goes old heard new before after packets h w rest = ((heard, packets, (h.0, (h.2.
 behind : (out all packets : List (List ℕ)) (k a : ℕ) → all ≡ out ++ packets → all ≡ out ++ bytes_of (numbered k a packets)
 behind out all packets k a e = e ∙ ap (λ (l : List (List ℕ)). out ++ l) (sym (numbered_bytes k a packets))
 
-pub going_is : (old new : AskingValue) (out all : List (List ℕ)) (before after : List Report) → WroteThen (asks before after) (λ p q. WroteAll p q out all) old new → AreAskingCalls old (By GoesOn ∷ []) new out all before after
+pub going_is : (old new : AskingValue) (out all : List (List ℕ)) (before after : List Report) → WroteThen (asks before after) WroteMore old new out all → AreAskingCalls old (By GoesOn ∷ []) new out all before after
 going_is old new out all before after w =
     (w.done.2.0.0, _, one_event old new (By GoesOn) _ _ (goes old w.mid new before after w.wrote.0 w.done w.wrote.2 w.rest), behind out all w.wrote.0 _ _ w.wrote.1, w.done.2.0.1)
 
@@ -114,16 +114,16 @@ none_read mid new read_fault.Failed n other = same_end mid new n.port n.refused.
 none_read mid new read_fault.NoMemory n other = same_end mid new n.port n.refused.1
 none_read mid new read_fault.Unexpected n other = absurd (other refl)
 
-part_read : (old new : AskingValue) (before after : List Report) (f : ReadFault) → ReadPart old new before after f → f ≢ read_fault.Unexpected → ReadAll old new before after
+part_read : (old new : AskingValue) (before after : List Report) (f : ReadFault) → ReadPart old new before after f → f ≢ read_fault.Unexpected → Behind before after (ReadOn old new)
 part_read old new before after f (inl h) other = h.1
-part_read old new before after f (inr h) other = subst (λ (v : AskingValue). ReadAll old v before after) (sym (none_read h.0 new f h.2 other)) h.1
+part_read old new before after f (inr h) other = subst (λ (v : AskingValue). Behind before after (ReadOn old v)) (sym (none_read h.0 new f h.2 other)) h.1
 
-heard_part : (old new : AskingValue) (before after : List Report) (f : EndFault) → HearFault old new before after f → f ≢ end_fault.Read read_fault.Unexpected → ReadAll old new before after
+heard_part : (old new : AskingValue) (before after : List Report) (f : EndFault) → HearFault old new before after f → f ≢ end_fault.Read read_fault.Unexpected → Behind before after (ReadOn old new)
 heard_part old new before after (end_fault.Link f) h other = h.0.0
 heard_part old new before after (end_fault.Read f) h other = part_read old new before after f h (λ e. other (ap (λ (x : ReadFault). end_fault.Read x) e))
 
 -- some was read, and nothing else done
-read_only : (old new : AskingValue) (out all : List (List ℕ)) (before after : List Report) → ReadAll old new before after → all ≡ out → AreAskingCalls old (By GoesOn ∷ []) new out all before after
+read_only : (old new : AskingValue) (out all : List (List ℕ)) (before after : List Report) → Behind before after (ReadOn old new) → all ≡ out → AreAskingCalls old (By GoesOn ∷ []) new out all before after
 read_only old new out all before after r same =
     (r.0, [], one_event old new (By GoesOn) r.0 [] ((new, [], (new, (r.0, refl, r.2), inl refl), wrote_nothing new.port, refl, refl), refl), same ∙ sym (append-nil out), r.1)
 
@@ -131,7 +131,7 @@ pub halting_is : (old new : AskingValue) (out all : List (List ℕ)) (before aft
     → AreAskingCalls old (By GoesOn ∷ []) new out all before after
 halting_is old new out all before after f (inl h) other = read_only old new out all before after (heard_part old new before after f h.0 other) h.1
 halting_is old new out all before after f (inr h) other =
-    let w = h.1 in going_is old new out all before after (record { mid = w.mid; done = w.done; rest = w.rest; still = w.still; wrote = w.wrote.0 })
+    let w = h.1 in going_is old new out all before after (record { mid = w.mid; done = w.done; rest = w.rest; still = w.still; wrote = (w.wrote.0, w.wrote.1, w.wrote.2.0) })
 
 pub unfinished_is : (old new : AskingValue) (bytes : List ℕ) (got : Got) (out all : List (List ℕ)) (before after : List Report) (f : EndFault) → TookThen (asks before after) old new bytes got out all (Err f) → f ≢ end_fault.Read read_fault.Unexpected
     → AreAskingCalls old (By (Came bytes) ∷ By GoesOn ∷ []) new out all before after
@@ -140,4 +140,4 @@ unfinished_is old new bytes got out all before after f (mid, t, inl h) other =
 unfinished_is old new bytes got out all before after f (mid, t, inr h) other =
     let w = h.1 in
     took_by old mid new bytes (By GoesOn ∷ []) out all before after (came old mid bytes before after (Ok got) t)
-    (going_is mid new out all before after (record { mid = w.mid; done = w.done; rest = w.rest; still = w.still; wrote = (w.wrote.packets, w.wrote.behind, w.wrote.wrote) }))
+    (going_is mid new out all before after (record { mid = w.mid; done = w.done; rest = w.rest; still = w.still; wrote = (w.wrote.0, w.wrote.1, w.wrote.2.0) }))

@@ -2,13 +2,14 @@
 use Rattle.std.proofs.Common.{◌≡◌, ◌≢◌, ℕ, arith, refl, sym, ◌∙◌, subst, ap, false, true≢false, List, [], ◌∷◌, ◌++◌, length, inl, inr}
 use Rattle.std.specs.Prelude.{Bool, IsTrue, Result, Ok, Err}
 use Rattle.dap_fields.specs.Spelling.{AreBytes}
-use Rattle.dap_msg.specs.Items.{Item, ItemAt}
+use Rattle.dap_msg.specs.declared.items.Item.{Item}
+use Rattle.dap_msg.specs.Items.{ItemAt}
 use Rattle.dap_msg.specs.Blocked.{all_joined}
 use Rattle.nsp_link.specs.declared.link.Got.{Got}
 use Rattle.nsp_link.specs.declared.fault.LinkFault.{LinkFault}
 use Rattle.nsp_link.specs.declared.fault.LinkFault.TheVariants as fault
 use Rattle.nsp_link.specs.Link.{LinkValue}
-use Rattle.nsp_link.specs.Sending.{MayQueueAll, SendAllFault}
+use Rattle.nsp_link.specs.Sending.{may_queue, SendAllFault}
 use Rattle.dap_accessed.specs.Standing.{Files}
 use Rattle.dap_accessed.specs.Inner.Present.{Present, present_of}
 use Rattle.dap_accessed.specs.Groups.{stands_after}
@@ -19,12 +20,14 @@ use Rattle.dap_end.specs.declared.fault.TakeFault.{TakeFault}
 use Rattle.dap_end.specs.Ports.{gone_on, posted}
 use Rattle.dap_end.specs.Going.{StandFrom}
 use Rattle.dap_end.specs.Serving.{ServingValue, Past, IsAfter, ServedOne, PostedAll, answers_to}
-use Rattle.dap_end.specs.Taking.{ServedOn, begins, goes, ServedUp, IsServed, ServeFault, ServesAll, serves, GoesOn, with_port}
+use Rattle.dap_end.specs.Taking.{ServedOn, begins, goes, ServedUp, IsServed, ServeFault, ServesAll, serves, GoesOn}
 use Rattle.dap_end.specs.Turns.{Takes}
 use Rattle.dap_end.specs.Wanting.{is_want, took_wanting}
 use Rattle.dap_msg.proofs.ForCallers.{one_item}
+use Rattle.nsp_link.proofs.ForCallers.{may_queue_parts}
 use Rattle.dap_end.proofs.Proceeding.{up_grew, fault_grew}
 use Rattle.dap_end.proofs.Turning.{DoAlike, no_want, wants_none, did_apart, failed_same, went_same, took_same}
+use Rattle.dap_end.specs.Inner.ServingView.{with_port}
 
 -- ---- Lists.
 
@@ -96,10 +99,10 @@ running : (b : Bool) → IsTrue b → b ≡ false → ⊥
 running b t e = true≢false (sym t ∙ e)
 
 -- what may be handed over isn't refused
-pub may_or_not : (v : LinkValue) (messages : List (List ℕ)) (f : LinkFault) → f ≢ fault.NoMemory → MayQueueAll v messages → SendAllFault v messages f → ⊥
-may_or_not v messages fault.Failed want may h = running v.failed h may.0
-may_or_not v messages fault.MessageTooLong want may h = omega (arith, may.1 h.1.0 [] h.1.1, h.1.2)
-may_or_not v messages fault.Exhausted want may h = omega (arith, may.2, h.2)
+pub may_or_not : (v : LinkValue) (messages : List (List ℕ)) (f : LinkFault) → f ≢ fault.NoMemory → IsTrue (may_queue v messages) → SendAllFault v messages f → ⊥
+may_or_not v messages fault.Failed want may h = running v.failed h (may_queue_parts v messages may).0
+may_or_not v messages fault.MessageTooLong want may h = omega (arith, (may_queue_parts v messages may).1 h.1.0 [] h.1.1, h.1.2)
+may_or_not v messages fault.Exhausted want may h = omega (arith, (may_queue_parts v messages may).2, h.2)
 may_or_not v messages fault.NoMemory want may h = want refl
 may_or_not v messages f want may h = absurd h
 
@@ -143,7 +146,7 @@ fault_after past old new f h u = let g = (fault_grew old new (end_fault.Link f) 
 pub up_or_not : (past : Past) (old one two : ServingValue) (f : LinkFault) → IsAfter past old → f ≢ fault.NoMemory → ServedUp old one → IsServed one → ServeFault old two (end_fault.Link f) → ⊥
 up_or_not past old one two f h want a d (inl b) =
     let last = serves_once past old a.0 two h a.2 b.0 (up_stops old one a d) (stops_refused two f want b.1) in
-    may_or_not two.port.link two.port.outbox f want (subst (λ (v : ServingValue). MayQueueAll v.port.link v.port.outbox) last a.3.may) b.1
+    may_or_not two.port.link two.port.outbox f want (subst (λ (v : ServingValue). IsTrue (may_queue v.port.link v.port.outbox)) last a.3.may) b.1
 up_or_not past old one two f h want a d (inr b) = want b.0
 
 pub fault_one : (past : Past) (old one two : ServingValue) (f g : LinkFault) → IsAfter past old → f ≢ fault.NoMemory → g ≢ fault.NoMemory → ServeFault old one (end_fault.Link f) → ServeFault old two (end_fault.Link g) → (one ≡ two) × (f ≡ g)

@@ -1,22 +1,24 @@
 -- Writing segments, one after another.
-use Rattle.std.proofs.Common.{◌≡◌, ℕ, ◌+◌, arith, refl, sym, ◌∙◌, subst, ap, append_assoc, List, [], ◌∷◌, ◌++◌, length, inl, inr, add-zero, true, false}
+use Rattle.std.proofs.Common.{◌≡◌, ℕ, ◌+◌, arith, refl, sym, ◌∙◌, subst, ap, append_assoc, List, [], ◌∷◌, ◌++◌, length, inl, inr, add-zero, true, false, IsTrue}
 use Rattle.std.specs.Prelude.{Some, None, Option, Result, Ok, Err, IfOk, IfErr, OnOk, OnErr, IfSome, Bool}
 use Rattle.std.specs.Global.{Vec}
 use Rattle.std.proofs.lemmas.List.{append-nil, length-append}
 use Rattle.nsp_link.specs.declared.link.Got.{Got}
 use Rattle.nsp_link.specs.declared.fault.LinkFault.{LinkFault}
-use Rattle.nsp_link.specs.Link.{LinkValue, Sends, Writes, MaySend}
+use Rattle.nsp_link.specs.Link.{LinkValue, Sends, Writes, may_send}
 use Rattle.nsp_link.specs.Sending.{WritesNext, WritesSent}
+use Rattle.nsp_link.proofs.ForCallers.{may_send_parts}
 use Rattle.dap_end.specs.Ports.{PortValue, with_link}
 use Rattle.nsp_link.specs.declared.fault.LinkFault.TheVariants as fault
-use Rattle.dap_end.specs.Writing.{AreWritten, IsWithin, IsFull, sent_more, WroteMore, WroteAll, wants_ack, AnsweredAll, AnsweredPart}
+use Rattle.dap_end.specs.Writing.{AreWritten, IsWithin, sent_more, WroteMore, Behind, wants_ack, WroteAnswer, WrotePart}
 use Rattle.dap_end.specs.Inner.Answered.{Acknowledged}
 
 -- ---- One.
 
-one_segment : (p new : PortValue) (bytes : List ℕ) → MaySend p.link → new ≡ sent_more p 1 → WritesSent p.link (Some (p.link.sent + 1)) bytes → WroteMore p new (bytes ∷ [])
+one_segment : (p new : PortValue) (bytes : List ℕ) → IsTrue (may_send p.link) → new ≡ sent_more p 1 → WritesSent p.link (Some (p.link.sent + 1)) bytes → WroteMore p new (bytes ∷ [])
 one_segment p new bytes may sent writes =
-    record { sent = sent; writes = λ handed sends. (writes handed sends, tt); within = λ some. subst (λ (q : PortValue). IsWithin q.link) (sym sent) (omega arith, omega arith) }
+    let parts = may_send_parts p.link may in
+    record { sent = sent; writes = λ handed sends. (writes handed sends, tt); within = λ some. subst (λ (q : PortValue). IsWithin q.link) (sym sent) (omega (arith, parts.0), omega (arith, parts.1)) }
 
 pub wrote_next : (p : PortValue) (link : LinkValue) (r : Result (Option (Vec ℕ)) LinkFault) → IfOk r (λ o. IfSome o (λ b. WritesNext p.link link b.items))
     → IfOk r (λ o. IfSome o (λ b. WritesSent p.link (Some (p.link.sent + 1)) b.items)) → IfOk r (λ o. IfSome o (λ b. WroteMore p (with_link p link) (b.items ∷ [])))
@@ -40,7 +42,7 @@ written-more v handed k (p ∷ packets) bytes h w =
 pub wrote_nothing : (p : PortValue) → WroteMore p p []
 wrote_nothing p = record { sent = ap (λ (n : ℕ). with_link p (record p.link { sent = n })) (sym (add-zero p.link.sent)); writes = λ handed h. tt; within = λ some. absurd (omega arith) }
 
-pub wrote_none : (p : PortValue) (out : List (List ℕ)) → WroteAll p p out out
+pub wrote_none : (p : PortValue) (out : List (List ℕ)) → Behind out out (WroteMore p p)
 wrote_none p out = ([], sym (append-nil out), wrote_nothing p)
 
 still_sends : (a : PortValue) (n : ℕ) (handed : List (List ℕ)) → Sends a.link handed → Sends (sent_more a n).link handed
@@ -59,18 +61,18 @@ wrote_then a b c packets bytes m w =
           (w.writes handed (subst (λ (p : PortValue). Sends p.link handed) (sym m.sent) (still_sends a (length packets) handed h))).0));
     }
 
-pub wrote_more : (a b c : PortValue) (out all new : List (List ℕ)) (bytes : List ℕ) → WroteAll a b out all → WroteMore b c (bytes ∷ []) → new ≡ all ++ bytes ∷ [] → WroteAll a c out new
+pub wrote_more : (a b c : PortValue) (out all new : List (List ℕ)) (bytes : List ℕ) → Behind out all (WroteMore a b) → WroteMore b c (bytes ∷ []) → new ≡ all ++ bytes ∷ [] → Behind out new (WroteMore a c)
 wrote_more a b c out all new bytes m w is =
     (m.0 ++ bytes ∷ [], is ∙ ap (λ (l : List (List ℕ)). l ++ bytes ∷ []) m.1 ∙ append_assoc out m.0 (bytes ∷ []), wrote_then a b c m.0 bytes m.2 w)
 
 -- ---- An answer.
 
 -- how many were written
-pub written_count : (old new : PortValue) (out all : List (List ℕ)) → (w : WroteAll old new out all) → length all ≡ length out + length w.0
+pub written_count : (old new : PortValue) (out all : List (List ℕ)) → (w : Behind out all (WroteMore old new)) → length all ≡ length out + length w.0
 written_count old new out all w = ap length w.1 ∙ length-append out w.0
 
 -- one acknowledgement more is written, or none
-answered_by : (old new : PortValue) (got : Got) (out all after : List (List ℕ)) (wants : Bool) → (w : WroteAll old new out all) → IsFull new.link → wants_ack got (length w.0) ≡ wants → Acknowledged new wants all after → AnsweredAll old new got out after
+answered_by : (old new : PortValue) (got : Got) (out all after : List (List ℕ)) (wants : Bool) → (w : Behind out all (WroteMore old new)) → may_send new.link ≡ false → wants_ack got (length w.0) ≡ wants → Acknowledged new wants all after → Behind out after (WroteAnswer old new got)
 answered_by old new got out all after false w full e a = (
   w.0,
   a ∙ w.1,
@@ -94,17 +96,17 @@ answered_by old new got out all after true w full e a = (
   },
 )
 
-pub answered : (old new : PortValue) (got : Got) (out all after : List (List ℕ)) (count : ℕ) (r : Result (Unit {0}) LinkFault) → (w : WroteAll old new out all) → IsFull new.link → length w.0 ≡ count
-    → OnOk r (Acknowledged new (wants_ack got count) all after) → OnOk r (AnsweredAll old new got out after)
+pub answered : (old new : PortValue) (got : Got) (out all after : List (List ℕ)) (count : ℕ) (r : Result (Unit {0}) LinkFault) → (w : Behind out all (WroteMore old new)) → may_send new.link ≡ false → length w.0 ≡ count
+    → OnOk r (Acknowledged new (wants_ack got count) all after) → OnOk r (Behind out after (WroteAnswer old new got))
 answered old new got out all after count (Ok u) w full long a = answered_by old new got out all after (wants_ack got count) w full (ap (wants_ack got) long) a
 answered old new got out all after count (Err f) w full long a = tt
 
 -- memory was wanting for a segment, or for it
-pub part_emit : (old new : PortValue) (got : Got) (out all : List (List ℕ)) (f : LinkFault) → WroteAll old new out all → (f ≡ fault.NoMemory) × MaySend new.link → (f ≡ fault.NoMemory) × AnsweredPart old new got out all
-part_emit old new got out all f w h = (h.0, record { packets = w.0; behind = w.1; wrote = w.2; why = inl h.1 })
+pub part_emit : (old new : PortValue) (got : Got) (out all : List (List ℕ)) (f : LinkFault) → Behind out all (WroteMore old new) → (f ≡ fault.NoMemory) × IsTrue (may_send new.link) → (f ≡ fault.NoMemory) × Behind out all (WrotePart old new got)
+part_emit old new got out all f w h = (h.0, (w.0, w.1, (w.2, inl h.1)))
 
-pub part_ack : (old new : PortValue) (got : Got) (out all after : List (List ℕ)) (count : ℕ) (r : Result (Unit {0}) LinkFault) → (w : WroteAll old new out all) → length w.0 ≡ count → OnErr r (wants_ack got count ≡ true)
-    → IfErr r (λ f. f ≡ fault.NoMemory) → OnErr r (after ≡ all) → IfErr r (λ f. (f ≡ fault.NoMemory) × AnsweredPart old new got out after)
+pub part_ack : (old new : PortValue) (got : Got) (out all after : List (List ℕ)) (count : ℕ) (r : Result (Unit {0}) LinkFault) → (w : Behind out all (WroteMore old new)) → length w.0 ≡ count → OnErr r (wants_ack got count ≡ true)
+    → IfErr r (λ f. f ≡ fault.NoMemory) → OnErr r (after ≡ all) → IfErr r (λ f. (f ≡ fault.NoMemory) × Behind out after (WrotePart old new got))
 part_ack old new got out all after count (Ok u) w long wants h same = tt
 part_ack old new got out all after count (Err f) w long wants h same =
-    (h, record { packets = w.0; behind = same ∙ w.1; wrote = w.2; why = inr (ap (wants_ack got) long ∙ wants) })
+    (h, (w.0, same ∙ w.1, (w.2, inr (ap (wants_ack got) long ∙ wants))))

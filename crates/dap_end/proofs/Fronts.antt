@@ -4,7 +4,8 @@ use Rattle.std.specs.Prelude.{drop}
 use Rattle.std.proofs.lemmas.List.{take-append-drop}
 use Rattle.std.specs.List.{AllByRecursion}
 use Rattle.dap_fields.specs.Spelling.{AreBytes}
-use Rattle.dap_msg.specs.Items.{Item, Items, ItemsFrom}
+use Rattle.dap_msg.specs.declared.items.Item.{Item}
+use Rattle.dap_msg.specs.Items.{Items, ItemsFrom}
 use Rattle.dap_msg.proofs.ForCallers.{one_item, have_items}
 use Rattle.nsp_link.specs.Link.{LinkValue, Stands}
 use Rattle.dap_end.specs.Ports.{oldest}

@@ -5,7 +5,8 @@ use Rattle.std.proofs.lemmas.Bool.{cases_eq, ne_eqb}
 use Rattle.std.proofs.lemmas.List.{append-nil}
 use Rattle.std.specs.List.{AllByRecursion}
 use Rattle.dap_fields.specs.Spelling.{AreBytes}
-use Rattle.dap_msg.specs.Items.{Item, ItemAt, Items, ItemsFrom}
+use Rattle.dap_msg.specs.declared.items.Item.{Item}
+use Rattle.dap_msg.specs.Items.{ItemAt, Items, ItemsFrom}
 use Rattle.dap_end.specs.Ports.{oldest}
 use Rattle.dap_end.specs.Going.{StandFrom, AreItemsOf, GoneThrough}
 

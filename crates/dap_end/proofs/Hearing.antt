@@ -12,7 +12,7 @@ use Rattle.dap_end.specs.Writing.{sent_more, WroteMore}
 use Rattle.dap_end.specs.Asking.{AskingValue, AskingPast, HasAsked, AskedOne, HandedAll, nothing_asked, asked_one}
 use Rattle.dap_end.specs.Runs.{RunsBy}
 use Rattle.dap_end.specs.Headline.{Written, numbered, WroteOne, AreWrittenOf, EndEvent, Came, GoesOn, Again, Acks, AnyBytes, IsFromPeer}
-use Rattle.dap_end.specs.Hearing.{AskingEvent, Asks, By, AskingStepped, AskingRuns, requests_in, AskingPromises}
+use Rattle.dap_end.specs.Hearing.{AskingEvent, Asks, By, AskingStepped, AskingRuns, requests_in}
 use Rattle.dap_end.proofs.Taking.{grown}
 use Rattle.dap_end.proofs.Asked.{ReadMore, still_received, still_sent, read_grows}
 use Rattle.dap_end.proofs.Packets.{all_written, still_written, written_on, numbered_written, one_written}
@@ -137,10 +137,10 @@ pub asked_nothing : (v : AskingValue) → HasAsked nothing_asked v → Asked_So 
 asked_nothing v h = record { past = nothing_asked; is = h; asked = refl; told = refl; packets = tt }
 
 pub run_promises : (events : List AskingEvent) (old new : AskingValue) (reports : List Report) (wrote : List Written) → HasAsked nothing_asked old → AskingRuns AnyBytes old events new reports wrote
-    → (past : AskingPast) × HasAsked past new × AskingPromises (requests_in events) reports past new wrote
+    → (past : AskingPast) × HasAsked past new × (past.requests ≡ requests_in events) × (reports ≡ Told past.requests past.answers) × AreWrittenOf new.port.link past.handed wrote
 run_promises events old new reports wrote h r =
     let t = run_so AnyBytes events [] (old, [], []) (new, reports, wrote) r (asked_nothing old h) in
-    (t.past, t.is, record { asked = t.asked; told = t.told; handed = (new.port.outbox, t.is.waiting); messages = t.is.messages; packets = t.packets })
+    (t.past, t.is, t.asked, t.told, t.packets)
 
 -- ---- From a peer.
 

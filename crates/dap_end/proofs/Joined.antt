@@ -2,14 +2,14 @@
 use Rattle.std.proofs.Common.{◌≡◌, ℕ, zero, suc, ◌+◌, ◌-◌, ◌<◌, ◌≤◌, arith, refl, sym, ◌∙◌, subst, ap, append_assoc, List, [], ◌∷◌, ◌++◌, length, map, inl, inr}
 use Rattle.std.specs.Prelude.{Option, Some, IfSome, All}
 use Rattle.std.proofs.lemmas.List.{append-nil, map-append}
-use Rattle.dap_msg.specs.Message.{Message}
-use Rattle.dap_msg.specs.Items.{Item, Whole}
+use Rattle.dap_msg.specs.declared.message.Message.{Message}
+use Rattle.dap_msg.specs.declared.items.Item.{Item}
+use Rattle.dap_msg.specs.declared.items.Item.TheVariants.{Whole}
 use Rattle.dap_msg.specs.Blocked.{NspMessage, joined, Blocked, all_joined, messages_in, AllFit}
 use Rattle.dap_msg.proofs.ForCallers.{are_items}
 use Rattle.nsp_link.specs.declared.link.LinkSetup.{LinkSetup}
-use Rattle.nsp_link.specs.Link.{LinkValue, Stands, Sends, new_link, with_inbox}
-use Rattle.nsp_link.specs.Sending.{AreShort}
-use Rattle.nsp_link.proofs.ForCallers.{stands_new}
+use Rattle.nsp_link.specs.Link.{LinkValue, Stands, Sends, new_link, with_inbox, AreShort}
+use Rattle.nsp_link.proofs.ForCallers.{stands_new, may_queue_parts}
 use Rattle.dap_accessed.specs.Standing.{Files}
 use Rattle.dap_accessed.specs.Present.{Present}
 use Rattle.dap_accessed.specs.Groups.{Answers, After, added, limit_for}
@@ -23,7 +23,6 @@ use Rattle.nsp_link.specs.Receiving.{Receives}
 use Rattle.dap_end.specs.Going.{AreItemsOf, AreFrontOf}
 use Rattle.dap_end.specs.Writing.{AreWritten, WroteMore}
 use Rattle.dap_end.specs.Serving.{ServingValue, Past, IsAfter, answers_to, nothing_yet}
-use Rattle.dap_end.specs.Taking.{with_port}
 use Rattle.dap_end.specs.Asking.{AskingValue, AskingPast, HasAsked, nothing_asked, asked_one}
 use Rattle.dap_end.specs.Runs.{RunsBy}
 use Rattle.dap_end.specs.Headline.{Written, numbered, WroteOne, AreWrittenOf, EndEvent, Came, GoesOn, Again, Acks}
@@ -39,6 +38,7 @@ use Rattle.dap_end.proofs.Packets.{all_written, written_on, numbered_written, on
 use Rattle.dap_end.proofs.Running.{in_append, answers_from, went_written}
 use Rattle.dap_end.proofs.Hearing.{HandedOver}
 use Rattle.dap_end.proofs.Ways.{AreTrue, IsWay, AreJoined, swapped, comes, moved, Moves, works, counts_numbered}
+use Rattle.dap_end.specs.Inner.ServingView.{with_port}
 
 -- ---- The items of NSP messages that are messages joined.
 
@@ -357,7 +357,7 @@ hands past old heard handed h (inr k) =
       answers = refl;
       more = heard.port.outbox;
       more_is = refl;
-      short = one.may.1;
+      short = (may_queue_parts heard.port.link heard.port.outbox one.may).1;
       given = refl;
       link = refl;
       same = λ size messages given s. record { taken = s.taken; held = s.held };

@@ -1,7 +1,8 @@
 -- What an end that serves did, through its calls; and that it did nothing before a segment came.
 use Rattle.std.proofs.Common.{◌≡◌, ℕ, ◌<◌, arith, refl, sym, ◌∙◌, subst, ap, Bool, true, false, List, [], ◌∷◌, ◌++◌, length, inl, inr}
 use Rattle.std.specs.Prelude.{◌⊎◌, ◌+◌, ◌==◌, ◌&&◌, drop, Result, Ok, Err, nat_lt, if◌then◌else◌}
-use Rattle.nsp_seg.specs.Packets.{PacketValue, segment, data_ack}
+use Rattle.nsp_seg.specs.declared.packet.Packet.{Packet}
+use Rattle.nsp_seg.specs.declared.packet.Packet.TheVariants.{Segment, DataAck}
 use Rattle.nsp_link.specs.declared.link.Got.{Got}
 use Rattle.nsp_link.specs.declared.fault.LinkFault.{LinkFault}
 use Rattle.nsp_link.specs.Cutting.{Piece}
@@ -19,11 +20,12 @@ use Rattle.dap_end.specs.declared.fault.TakeFault.{TakeFault}
 use Rattle.dap_end.specs.declared.fault.TakeFault.TheVariants as take_fault
 use Rattle.dap_end.specs.Ports.{PortValue, HasCome, with_link}
 use Rattle.dap_end.specs.Writing.{sent_more}
-use Rattle.dap_end.specs.Serving.{ServingValue, Past, IsAfter, IsStill, ServedOne, PostedAll, nothing_yet}
-use Rattle.dap_end.specs.Turns.{WroteThen, TookIn, Takes}
-use Rattle.dap_end.specs.Taking.{ServedOn, begins, goes, ServedUp, ServeFault, serves, GoesOn, with_port}
+use Rattle.dap_end.specs.Serving.{ServingValue, Past, IsAfter, ServedOne, PostedAll, nothing_yet}
+use Rattle.dap_end.specs.Turns.{WroteThen, TookIn, Takes, Still}
+use Rattle.dap_end.specs.Taking.{ServedOn, begins, goes, ServedUp, ServeFault, serves, GoesOn}
 use Rattle.dap_end.proofs.Refusing.{taken_count}
 use Rattle.dap_end.proofs.Determined.{no_next}
+use Rattle.dap_end.specs.Inner.ServingView.{with_port}
 
 -- ---- A packet.
 
@@ -60,9 +62,9 @@ stopped_comes : (v : LinkValue) (ends : Bool) → Comes v (if ends then failed_l
 stopped_comes v true = inr (refl, refl, refl)
 stopped_comes v false = stays v
 
-received_comes : (old new : LinkValue) (p : PacketValue) (r : Result Got LinkFault) → Received old p r new → Comes old new
-received_comes old new (segment s) (Ok got) (_, (_, _, acks)) = along old new _ acks.2 (in_comes old (segment_of old s.number) (piece_of s))
-received_comes old new (data_ack s) (Ok got) (_, (_, acks)) = along old new _ acks.2 (inr (refl, refl, refl))
+received_comes : (old new : LinkValue) (p : Packet) (r : Result Got LinkFault) → Received old p r new → Comes old new
+received_comes old new (Segment s) (Ok got) (_, (_, _, acks)) = along old new _ acks.2 (in_comes old (segment_of old s.number) (piece_of s))
+received_comes old new (DataAck s) (Ok got) (_, (_, acks)) = along old new _ acks.2 (inr (refl, refl, refl))
 received_comes old new p (Err e) (_, left) = along old new _ left (stopped_comes old (is_end e))
 
 bytes_come : (old new : LinkValue) (bytes : List ℕ) (r : Result Got LinkFault) → ReceivedBytes old new bytes r → Comes old new
@@ -79,13 +81,13 @@ comes_by false old new bytes r e h = bytes_come old new bytes r (h.any e)
 abbrev pub IsKnown : ServingValue → Type 0
 IsKnown v = (past : Past) × IsAfter past v × (HasCome v.port ⊎ ((past ≡ nothing_yet past.first) × (v.port.link.coming.inbox ≡ [])))
 
-known_by : (old : ServingValue) (link : LinkValue) → Comes old.port.link link → IsStill old (with_port old (with_link old.port link)) → IsKnown old → IsKnown (with_port old (with_link old.port link))
+known_by : (old : ServingValue) (link : LinkValue) → Comes old.port.link link → Still IsAfter old (with_port old (with_link old.port link)) → IsKnown old → IsKnown (with_port old (with_link old.port link))
 known_by old link (inl came) still (past, h, c) = (past, still past h, inl came)
 known_by old link (inr same) still (past, h, inl (inl lt)) = (past, still past h, inl (inl (subst (λ (n : ℕ). 0 < n) (sym same.0) lt)))
 known_by old link (inr same) still (past, h, inl (inr lt)) = (past, still past h, inl (inr (subst (λ (l : List (ℕ × Piece)). 0 < length l) (sym same.1) lt)))
 known_by old link (inr same) still (past, h, inr none) = (past, still past h, inr (none.0, same.2 ∙ none.1))
 
-known_in : (old : ServingValue) (link : LinkValue) (bytes : List ℕ) (r : Result Got LinkFault) → Receives old.port.link link bytes r → IsStill old (with_port old (with_link old.port link)) → IsKnown old → IsKnown (with_port old (with_link old.port link))
+known_in : (old : ServingValue) (link : LinkValue) (bytes : List ℕ) (r : Result Got LinkFault) → Receives old.port.link link bytes r → Still IsAfter old (with_port old (with_link old.port link)) → IsKnown old → IsKnown (with_port old (with_link old.port link))
 known_in old link bytes r h still k = known_by old link (comes_by old.port.link.failed old.port.link link bytes r refl h) still k
 
 posted_known : (v new : ServingValue) (n : ℕ) → PostedAll v new n → IsKnown v → IsKnown new
@@ -115,8 +117,8 @@ fault_known a b (end_fault.Link f) (inl h) k = on_known a b h.0 k
 fault_known a b (end_fault.Link f) (inr h) k = up_known a b h.1 k
 fault_known a b (end_fault.Read f) h k = absurd h
 
-wrote_known : (old new : ServingValue) (wrote : PortValue → PortValue → Type 0) → (w : WroteThen serves wrote old new) → (n : ℕ) → new.port ≡ sent_more w.mid.port n → IsKnown old → IsKnown new
-wrote_known old new wrote w n sent k =
+wrote_known : (old new : ServingValue) (out all : List (List ℕ)) (wrote : PortValue → PortValue → List (List ℕ) → Type 0) → (w : WroteThen serves wrote old new out all) → (n : ℕ) → new.port ≡ sent_more w.mid.port n → IsKnown old → IsKnown new
+wrote_known old new out all wrote w n sent k =
     let (past, h, did) = up_known old w.mid w.done.0 k in (
       past,
       w.still past h,
@@ -127,20 +129,20 @@ wrote_known old new wrote w n sent k =
     )
 
 pub going_known : (old new : ServingValue) (out all : List (List ℕ)) (r : Result (Unit {0}) LinkFault) → GoesOn old new out all r → IsKnown old → IsKnown new
-going_known old new out all (Ok u) h k = wrote_known old new _ h.0 _ h.0.wrote.0.2.sent k
+going_known old new out all (Ok u) h k = wrote_known old new out all _ h.0 _ h.0.wrote.2.0.sent k
 going_known old new out all (Err f) (inl h) k = fault_known old new (end_fault.Link f) h.0 k
-going_known old new out all (Err f) (inr h) k = wrote_known old new _ h.1 _ h.1.wrote.0.2.sent k
+going_known old new out all (Err f) (inr h) k = wrote_known old new out all _ h.1 _ h.1.wrote.2.0.sent k
 
 in_known : (old new : ServingValue) (bytes : List ℕ) (r : Result Got LinkFault) → TookIn serves old new bytes r → IsKnown old → IsKnown new
 in_known old new bytes r t k =
-    let still : IsStill old (with_port old (with_link old.port new.port.link)) = subst (IsStill old) t.rest t.still in
+    let still : Still IsAfter old (with_port old (with_link old.port new.port.link)) = subst (Still IsAfter old) t.rest t.still in
     subst IsKnown (sym t.rest) (known_in old new.port.link bytes r t.receives still k)
 
 pub taking_known : (old new : ServingValue) (bytes : List ℕ) (out all : List (List ℕ)) (r : Result Got TakeFault) → Takes serves old new bytes out all r → IsKnown old → IsKnown new
-taking_known old new bytes out all (Ok got) t k = wrote_known t.0 new _ t.2 _ t.2.wrote.2.wrote.sent (in_known old t.0 bytes (Ok got) t.1 k)
+taking_known old new bytes out all (Ok got) t k = wrote_known t.0 new out all _ t.2 _ t.2.wrote.2.wrote.sent (in_known old t.0 bytes (Ok got) t.1 k)
 taking_known old new bytes out all (Err (take_fault.Refused f)) t k = in_known old new bytes (Err f) t.0 k
 taking_known old new bytes out all (Err (take_fault.Unfinished got f)) (mid, t, inl h) k = fault_known mid new f h.0 (in_known old mid bytes (Ok got) t k)
-taking_known old new bytes out all (Err (take_fault.Unfinished got f)) (mid, t, inr h) k = wrote_known mid new _ h.1 _ h.1.wrote.wrote.sent (in_known old mid bytes (Ok got) t k)
+taking_known old new bytes out all (Err (take_fault.Unfinished got f)) (mid, t, inr h) k = wrote_known mid new out all _ h.1 _ h.1.wrote.2.0.sent (in_known old mid bytes (Ok got) t k)
 
 pub new_known : (first : _) (v : ServingValue) → IsAfter (nothing_yet first) v → v.port.link.coming.inbox ≡ [] → IsKnown v
 new_known first v h none = (nothing_yet first, h, inr (refl, none))

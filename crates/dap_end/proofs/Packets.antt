@@ -38,4 +38,4 @@ one_written v handed k w sends h =
 
 -- an acknowledgement
 pub ack_written : (v : LinkValue) (bytes : List ℕ) → IsSpelling (ack_packet_of v) bytes → WritesSent v None bytes
-ack_written v bytes h = λ messages sends. (ack_packet_of v, refl, h.0, h.1)
+ack_written v bytes h = λ messages sends. (ack_packet_of v, refl, h)

@@ -1,23 +1,26 @@
 -- Serving, handing over and writing, one after another.
-use Rattle.std.proofs.Common.{◌≡◌, ℕ, ◌+◌, ◌-◌, ◌<◌, ◌≤◌, arith, refl, sym, ◌∙◌, subst, ap, append_assoc, List, [], ◌∷◌, ◌++◌, length, inl, inr, eq-eqb, false}
+use Rattle.std.proofs.Common.{◌≡◌, ℕ, ◌+◌, ◌-◌, ◌<◌, ◌≤◌, arith, refl, sym, ◌∙◌, subst, ap, append_assoc, List, [], ◌∷◌, ◌++◌, length, inl, inr, eq-eqb, false, IsTrue}
 use Rattle.std.specs.Prelude.{All, ◌==◌, if◌then◌else◌, Result, Ok, Err, OnOk, IfErr}
 use Rattle.std.proofs.lemmas.Bool.{cases_eq, ne_eqb}
 use Rattle.std.proofs.lemmas.List.{append-nil}
 use Rattle.std.proofs.lemmas.List.Elements.{All-append}
-use Rattle.dap_msg.specs.Items.{Item, IsPlace}
+use Rattle.dap_msg.specs.declared.items.Item.{Item}
+use Rattle.dap_msg.specs.Items.{IsPlace}
 use Rattle.nsp_link.specs.declared.fault.LinkFault.{LinkFault}
 use Rattle.nsp_link.specs.declared.fault.LinkFault.TheVariants as fault
-use Rattle.nsp_link.specs.Link.{LinkValue, Stands, MaySend, with_inbox}
-use Rattle.nsp_link.specs.Sending.{AreShort}
+use Rattle.nsp_link.specs.Link.{LinkValue, Stands, may_send, with_inbox, AreShort}
 use Rattle.dap_end.specs.Inner.Pasts.{served}
 use Rattle.dap_end.specs.declared.fault.EndFault.{EndFault}
 use Rattle.dap_end.specs.declared.fault.EndFault.TheVariants as end_fault
 use Rattle.dap_end.specs.Ports.{PortValue, posted}
-use Rattle.dap_end.specs.Serving.{ServingValue, Past, IsAfter, ServedOne, PostedAll, MayServe, IsStill}
-use Rattle.dap_end.specs.Writing.{sent_more, IsFull, WroteAll}
-use Rattle.dap_end.specs.Taking.{Grew, ServedMore, ServedOn, begins, goes, ServedUp, IsServed, ServeFault, serves, GoesOn, with_port}
+use Rattle.dap_end.specs.Serving.{ServingValue, Past, IsAfter, ServedOne, PostedAll, MayServe}
+use Rattle.dap_end.specs.Writing.{sent_more, Behind, WroteMore}
+use Rattle.dap_end.specs.Taking.{Grew, ServedMore, ServedOn, begins, goes, ServedUp, IsServed, ServeFault, serves, GoesOn}
 use Rattle.dap_end.proofs.ServingOne.{port_given}
 use Rattle.dap_end.proofs.Turning.{went_by}
+use Rattle.dap_end.specs.Turns.{Still}
+use Rattle.dap_end.specs.Inner.ServingView.{with_port}
+use Rattle.nsp_link.proofs.ForCallers.{may_queue_parts}
 
 -- ---- Serving and handing over.
 
@@ -74,7 +77,7 @@ more_posted v new n p =
     (record {
       link = refl;
       own = refl;
-      past = λ past h. (record past { handed = past.handed ++ v.port.outbox }, posted_grew past v p.may.1 (subst (IsAfter (record past { handed = past.handed ++ v.port.outbox })) p.posted (p.past past h)));
+      past = λ past h. (record past { handed = past.handed ++ v.port.outbox }, posted_grew past v (may_queue_parts v.port.link v.port.outbox p.may).1 (subst (IsAfter (record past { handed = past.handed ++ v.port.outbox })) p.posted (p.past past h)));
     })
 
 -- what left, and what is left
@@ -137,7 +140,7 @@ none_waits v new n p = ap (λ (x : ServingValue). x.port.outbox) p.posted
 
 -- a link to which something was handed runs
 pub works_here : (old new : ServingValue) (n : ℕ) → PostedAll old new n → new.port.link.failed ≡ false
-works_here old new n p = ap (λ (v : ServingValue). v.port.link.failed) p.posted ∙ p.may.0
+works_here old new n p = ap (λ (v : ServingValue). v.port.link.failed) p.posted ∙ (may_queue_parts old.port.link old.port.outbox p.may).0
 
 -- ---- How much is left to serve.
 
@@ -171,18 +174,18 @@ falls old new n s =
 
 -- ---- Writing.
 
-pub still_sent : (v : ServingValue) (n : ℕ) → IsStill v (with_port v (sent_more v.port n))
+pub still_sent : (v : ServingValue) (n : ℕ) → Still IsAfter v (with_port v (sent_more v.port n))
 still_sent v n = λ past h. record { serving = h.serving; gone = h.gone; sends = record { queue = h.sends.queue; acked = h.sends.acked }; answers = h.answers; fit = h.fit }
 
-pub still_by : (v : ServingValue) (port : PortValue) (n : ℕ) → port ≡ sent_more v.port n → IsStill v (with_port v port)
-still_by v port n e = subst (λ (p : PortValue). IsStill v (with_port v p)) (sym e) (still_sent v n)
+pub still_by : (v : ServingValue) (port : PortValue) (n : ℕ) → port ≡ sent_more v.port n → Still IsAfter v (with_port v port)
+still_by v port n e = subst (λ (p : PortValue). Still IsAfter v (with_port v p)) (sym e) (still_sent v n)
 
 served_still : (v : ServingValue) (port : PortValue) (n : ℕ) → port ≡ sent_more v.port n → IsServed v → IsServed (with_port v port)
 served_still v port n e h = (ap (λ (p : PortValue). p.link.coming.inbox) e ∙ h.0, ap (λ (p : PortValue). p.outbox) e ∙ h.1)
 
 -- all was served, and then segments were written
-pub gone_by : (old served : ServingValue) (port : PortValue) (out all : List (List ℕ)) (r : Result (Unit {0}) LinkFault) → ServedUp old served → IsServed served → WroteAll served.port port out all → OnOk r (IsFull port.link)
-    → IfErr r (λ f. (f ≡ fault.NoMemory) × MaySend port.link) → GoesOn old (with_port served port) out all r
+pub gone_by : (old served : ServingValue) (port : PortValue) (out all : List (List ℕ)) (r : Result (Unit {0}) LinkFault) → ServedUp old served → IsServed served → Behind out all (WroteMore served.port port) → OnOk r (may_send port.link ≡ false)
+    → IfErr r (λ f. (f ≡ fault.NoMemory) × IsTrue (may_send port.link)) → GoesOn old (with_port served port) out all r
 gone_by old served port out all (Ok u) m d w full why =
     (went_by serves old served (with_port served port) out all (Ok u) (m, d) refl (still_by served port) w full why, served_still served port _ w.2.sent d)
 gone_by old served port out all (Err f) m d w full why = went_by serves old served (with_port served port) out all (Err f) (m, d) refl (still_by served port) w full why

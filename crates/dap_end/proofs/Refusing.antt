@@ -4,7 +4,8 @@ use Rattle.std.specs.Prelude.{◌≢◌, ◌==◌, ◌⊎◌, Option, Some, Resu
 use Rattle.std.proofs.lemmas.Bool.{eq-eqb}
 use Rattle.dap_fields.specs.Spelling.{AreBytes}
 use Rattle.nsp_seg.specs.declared.packet.SegFault.{SegFault}
-use Rattle.nsp_seg.specs.Packets.{PacketValue, segment, data_ack}
+use Rattle.nsp_seg.specs.declared.packet.Packet.{Packet}
+use Rattle.nsp_seg.specs.declared.packet.Packet.TheVariants.{Segment, DataAck}
 use Rattle.nsp_seg.proofs.ForCallers.{spells-one, spells-apart, fault-one}
 use Rattle.nsp_link.specs.declared.link.Got.{Got}
 use Rattle.nsp_link.specs.declared.link.Got.TheVariants.{Accepted}
@@ -86,10 +87,10 @@ acks_one old mid one two number a b =
     let counts : a.0 ≡ b.0 = (let both = sym a.1 ∙ b.1 in cc) in
     a.2 ∙ ap (forgotten mid) counts ∙ sym b.2
 
-received_one : (old one two : LinkValue) (p : PacketValue) (g h : Got) → Received old p (Ok g) one → Received old p (Ok h) two → (g ≡ h) × (one ≡ two)
-received_one old one two (segment s) g h (_, (a, _, acks)) (_, (b, _, others)) =
+received_one : (old one two : LinkValue) (p : Packet) (g h : Got) → Received old p (Ok g) one → Received old p (Ok h) two → (g ≡ h) × (one ≡ two)
+received_one old one two (Segment s) g h (_, (a, _, acks)) (_, (b, _, others)) =
     (a ∙ sym b, acks_one old (taking_in old (segment_of old s.number) (piece_of s)) one two (first_ack s.ack1 s.ack2) acks others)
-received_one old one two (data_ack s) g h (_, (a, acks)) (_, (b, others)) = (a ∙ sym b, acks_one old old one two (first_ack (Some s.ack1) s.ack2) acks others)
+received_one old one two (DataAck s) g h (_, (a, acks)) (_, (b, others)) = (a ∙ sym b, acks_one old old one two (first_ack (Some s.ack1) s.ack2) acks others)
 
 -- the next segment and those that follow it aren't refused where they were taken
 next_apart : (old one : LinkValue) (k : ℕ) (p : Piece) (g : Got) (e : LinkFault) (count : ℕ) → e ≢ NoMemory → one.coming.received ≤ most_segments → k ≡ old.coming.received + 1
@@ -101,25 +102,25 @@ next_apart old one k p g e count ne few next same fits left out =
     taken_apart old.setup.max_message old.coming (run old p) e ne (fits (same ∙ got)) (subst (λ (n : ℕ). n ≤ most_segments) (ap (λ (v : LinkValue). v.coming.received) left ∙ all) few) out
 
 -- a packet that was taken isn't refused
-taken_or_not : (old one two : LinkValue) (p : PacketValue) (g : Got) (e : LinkFault) → e ≢ NoMemory → one.coming.received ≤ most_segments → Received old p (Ok g) one → Received old p (Err e) two → ⊥
-taken_or_not old one two (segment s) g e ne few a (inl (out, _), _) = out a.0
-taken_or_not old one two (segment s) g e ne few (_, (_, _, acks)) (inr (_, inl (none, _)), _) = let none-is : ⊥ = (let both = sym none ∙ acks.1 in cc) in none-is
-taken_or_not old one two (segment s) g e ne few (_, (same, fits, acks)) (inr (_, inr (_, inl (next, out))), _) =
+taken_or_not : (old one two : LinkValue) (p : Packet) (g : Got) (e : LinkFault) → e ≢ NoMemory → one.coming.received ≤ most_segments → Received old p (Ok g) one → Received old p (Err e) two → ⊥
+taken_or_not old one two (Segment s) g e ne few a (inl (out, _), _) = out a.0
+taken_or_not old one two (Segment s) g e ne few (_, (_, _, acks)) (inr (_, inl (none, _)), _) = let none-is : ⊥ = (let both = sym none ∙ acks.1 in cc) in none-is
+taken_or_not old one two (Segment s) g e ne few (_, (same, fits, acks)) (inr (_, inr (_, inl (next, out))), _) =
     next_apart old one (segment_of old s.number) (piece_of s) g e acks.0 ne few next same fits acks.2 out
-taken_or_not old one two (segment s) g e ne few a (inr (_, inr (_, inr (_, memory))), _) = ne memory
-taken_or_not old one two (data_ack s) g e ne few a (inl (out, _), _) = out a.0
-taken_or_not old one two (data_ack s) g e ne few (_, (_, acks)) (inr (_, (none, _)), _) = let none-is : ⊥ = (let both = sym none ∙ acks.1 in cc) in none-is
+taken_or_not old one two (Segment s) g e ne few a (inr (_, inr (_, inr (_, memory))), _) = ne memory
+taken_or_not old one two (DataAck s) g e ne few a (inl (out, _), _) = out a.0
+taken_or_not old one two (DataAck s) g e ne few (_, (_, acks)) (inr (_, (none, _)), _) = let none-is : ⊥ = (let both = sym none ∙ acks.1 in cc) in none-is
 
-refuses_same : (old : LinkValue) (p : PacketValue) (e f : LinkFault) → e ≢ NoMemory → f ≢ NoMemory → Refuses old p e → Refuses old p f → e ≡ f
-refuses_same old (segment s) e f ne nf (inl a) (inl b) = a.1 ∙ sym b.1
-refuses_same old (segment s) e f ne nf (inl a) (inr (believed, _)) = absurd (believed a.0)
-refuses_same old (segment s) e f ne nf (inr (believed, _)) (inl b) = absurd (believed b.0)
-refuses_same old (segment s) e f ne nf (inr (_, inl a)) (inr (_, inl b)) = refuses_one old.setup.max_message old.coming (run old (piece_of s)) e f ne nf a.1 b.1
-refuses_same old (segment s) e f ne nf (inr (_, inl a)) (inr (_, inr b)) = absurd (nf b.1)
-refuses_same old (segment s) e f ne nf (inr (_, inr a)) (inr b) = absurd (ne a.1)
-refuses_same old (data_ack s) e f ne nf a b = a.1 ∙ sym b.1
+refuses_same : (old : LinkValue) (p : Packet) (e f : LinkFault) → e ≢ NoMemory → f ≢ NoMemory → Refuses old p e → Refuses old p f → e ≡ f
+refuses_same old (Segment s) e f ne nf (inl a) (inl b) = a.1 ∙ sym b.1
+refuses_same old (Segment s) e f ne nf (inl a) (inr (believed, _)) = absurd (believed a.0)
+refuses_same old (Segment s) e f ne nf (inr (believed, _)) (inl b) = absurd (believed b.0)
+refuses_same old (Segment s) e f ne nf (inr (_, inl a)) (inr (_, inl b)) = refuses_one old.setup.max_message old.coming (run old (piece_of s)) e f ne nf a.1 b.1
+refuses_same old (Segment s) e f ne nf (inr (_, inl a)) (inr (_, inr b)) = absurd (nf b.1)
+refuses_same old (Segment s) e f ne nf (inr (_, inr a)) (inr b) = absurd (ne a.1)
+refuses_same old (DataAck s) e f ne nf a b = a.1 ∙ sym b.1
 
-not_taken : (old one two : LinkValue) (p : PacketValue) (e f : LinkFault) → e ≢ NoMemory → f ≢ NoMemory → Received old p (Err e) one → Received old p (Err f) two → (e ≡ f) × (one ≡ two)
+not_taken : (old one two : LinkValue) (p : Packet) (e f : LinkFault) → e ≢ NoMemory → f ≢ NoMemory → Received old p (Err e) one → Received old p (Err f) two → (e ≡ f) × (one ≡ two)
 not_taken old one two p e f ne nf (out, left) (also, right) =
     let same : e ≡ f = reason out also in
     (same, left ∙ ap (λ (x : LinkFault). stopped x old) same ∙ sym right)
@@ -139,7 +140,7 @@ failed_by f = Err f
 abbrev malformed_by : SegFault → Result Got LinkFault
 malformed_by f = Err (Malformed f)
 
-packet_same : (old one two : LinkValue) (p : PacketValue) (r s : Result Got LinkFault) → r ≢ Err NoMemory → s ≢ Err NoMemory → one.coming.received ≤ most_segments → two.coming.received ≤ most_segments
+packet_same : (old one two : LinkValue) (p : Packet) (r s : Result Got LinkFault) → r ≢ Err NoMemory → s ≢ Err NoMemory → one.coming.received ≤ most_segments → two.coming.received ≤ most_segments
     → Received old p r one → Received old p s two → (r ≡ s) × (one ≡ two)
 packet_same old one two p (Ok g) (Ok h) nr ns few less a b =
     let same = received_one old one two p g h a b in (ap got_by same.0, same.1)
@@ -158,7 +159,7 @@ bytes_same old one two bytes r s fits nr ns few less (inl a) (inl b) =
 bytes_same old one two bytes r s fits nr ns few less (inl a) (inr b) = absurd (spells-apart b.0 a.0 bytes fits b.1 a.2)
 bytes_same old one two bytes r s fits nr ns few less (inr a) (inl b) = absurd (spells-apart a.0 b.0 bytes fits a.1 b.2)
 bytes_same old one two bytes r s fits nr ns few less (inr a) (inr b) =
-    packet_same old one two a.0 r s nr ns few less a.2 (subst (λ (p : PacketValue). Received old p s two) (spells-one b.0 a.0 bytes b.1 a.1) b.2)
+    packet_same old one two a.0 r s nr ns few less a.2 (subst (λ (p : Packet). Received old p s two) (spells-one b.0 a.0 bytes b.1 a.1) b.2)
 
 receives_by : (failed : Bool) (old one two : LinkValue) (bytes : List ℕ) (r s : Result Got LinkFault) → old.failed ≡ failed → AreBytes bytes → r ≢ Err NoMemory → s ≢ Err NoMemory
     → Receives old one bytes r → Receives old two bytes s → (r ≡ s) × (one ≡ two)

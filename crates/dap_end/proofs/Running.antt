@@ -2,8 +2,8 @@
 use Rattle.std.proofs.Common.{◌≡◌, ℕ, ◌+◌, ◌<◌, refl, sym, ◌∙◌, subst, ap, append_assoc, true, false, List, [], ◌∷◌, ◌++◌, length, inl, inr}
 use Rattle.std.specs.Prelude.{Bool, ◌-◌, Option, Some, None, Result, Ok, Err}
 use Rattle.std.proofs.lemmas.List.{append-nil, map-append}
-use Rattle.dap_msg.specs.Items.{Item}
-use Rattle.dap_msg.specs.Message.{Message}
+use Rattle.dap_msg.specs.declared.items.Item.{Item}
+use Rattle.dap_msg.specs.declared.message.Message.{Message}
 use Rattle.dap_msg.specs.Blocked.{NspMessage, Blocked, messages_in}
 use Rattle.dap_msg.proofs.ForCallers.{messages_in-Blocked}
 use Rattle.nsp_link.specs.declared.link.Got.{Got}
@@ -12,25 +12,25 @@ use Rattle.nsp_link.proofs.ForCallers.{is_delivered}
 use Rattle.nsp_link.specs.Link.{LinkValue, Stands, IsSpelling, with_inbox}
 use Rattle.nsp_link.specs.Sending.{WritesSent, ack_packet_of}
 use Rattle.dap_accessed.specs.Standing.{Files}
-use Rattle.dap_accessed.specs.Present.{Present}
 use Rattle.dap_accessed.specs.Groups.{Answers, added, limit_for}
 use Rattle.dap_accessed.proofs.ForCallers.{Answers-more}
 use Rattle.dap_end.specs.declared.fault.EndFault.{EndFault}
 use Rattle.dap_end.specs.Ports.{PortValue}
 use Rattle.nsp_link.specs.Receiving.{Receives}
 use Rattle.dap_end.specs.Going.{AreFrontOf}
-use Rattle.dap_end.specs.Writing.{sent_more, wants_ack, WroteMore, WroteAll}
+use Rattle.dap_end.specs.Writing.{sent_more, wants_ack, WroteMore}
 use Rattle.dap_end.specs.Serving.{ServingValue, Past, IsAfter, answers_to, nothing_yet, ServedOne, PostedAll}
 use Rattle.dap_end.specs.Turns.{WroteThen, WentOn, TookIn, TookThen}
-use Rattle.dap_end.specs.Taking.{ServedMore, with_port, ServeFault, serves}
+use Rattle.dap_end.specs.Taking.{ServedMore, ServeFault, serves}
 use Rattle.dap_end.specs.Runs.{RunsBy}
-use Rattle.dap_end.specs.Headline.{Written, numbered, bytes_of, WroteOne, EndEvent, Came, GoesOn, Again, Acks, AnyBytes, EndStepped, Stepped, Runs, AreWrittenOf, Promises, IsFromPeer, AreCalls}
+use Rattle.dap_end.specs.Headline.{Written, numbered, bytes_of, WroteOne, EndEvent, Came, GoesOn, Again, Acks, AnyBytes, EndStepped, Stepped, Runs, AreWrittenOf, IsFromPeer, AreCalls}
 use Rattle.dap_end.proofs.Taking.{grown}
 use Rattle.dap_end.proofs.Afterwards.{after_received}
 use Rattle.dap_end.proofs.Fronts.{served_front}
 use Rattle.dap_end.proofs.Packets.{all_written, still_written, written_on, numbered_written, one_written, ack_written}
 use Rattle.dap_end.proofs.Emitting.{wrote_nothing}
 use Rattle.dap_end.proofs.Proceeding.{still_sent, more_none, more_served, more_posted, up_grew, fault_grew}
+use Rattle.dap_end.specs.Inner.ServingView.{with_port}
 
 -- ---- The answers.
 
@@ -57,15 +57,6 @@ pub record Did (first : Files) (v : ServingValue) (wrote : List Written) : Type 
   pub is : IsAfter past v
   pub had : past.first ≡ first
   pub packets : AreWrittenOf v.port.link past.handed wrote
-
-pub promises : (first : Files) (v : ServingValue) (wrote : List Written) → (d : Did first v wrote) → Promises d.past v wrote
-promises first v wrote d =
-    record {
-      files = ap (λ (p : Present). p.files) d.is.serving;
-      answers = (v.port.outbox, d.is.answers);
-      messages = answers_from v.accessed.own d.past.first [] d.past.items;
-      packets = d.packets;
-    }
 
 no_more : (first : Files) (v : ServingValue) (wrote ws : List Written) → ws ≡ [] → Did first v wrote → Did first v (wrote ++ ws)
 no_more first v wrote ws none d = subst (Did first v) (sym (ap (λ (l : List Written). wrote ++ l) none ∙ append-nil wrote)) d
@@ -227,7 +218,7 @@ numbered_bytes k a (p ∷ packets) = ap (λ (l : List (List ℕ)). p ∷ l) (num
 behind : (out all packets : List (List ℕ)) (k a : ℕ) → all ≡ out ++ packets → all ≡ out ++ bytes_of (numbered k a packets)
 behind out all packets k a e = e ∙ ap (λ (l : List (List ℕ)). out ++ l) (sym (numbered_bytes k a packets))
 
-pub going_is : (old new : ServingValue) (out all : List (List ℕ)) → WroteThen serves (λ p q. WroteAll p q out all) old new → AreCalls old (GoesOn ∷ []) new out all
+pub going_is : (old new : ServingValue) (out all : List (List ℕ)) → WroteThen serves WroteMore old new out all → AreCalls old (GoesOn ∷ []) new out all
 going_is old new out all w =
     (_, one_event old new GoesOn _ (w.mid, w.wrote.0, up_grew old w.mid w.done.0, w.wrote.2, w.rest, refl), behind out all w.wrote.0 _ _ w.wrote.1)
 
@@ -272,7 +263,7 @@ stopped_is old new out all f h same = ([], one_event old new GoesOn [] (served_o
 
 pub halting_is : (old new : ServingValue) (out all : List (List ℕ)) (f : EndFault) → WentOn serves old new out all (Err f) → AreCalls old (GoesOn ∷ []) new out all
 halting_is old new out all f (inl h) = stopped_is old new out all f h.0 h.1
-halting_is old new out all f (inr h) = let w = h.1 in going_is old new out all (record { mid = w.mid; done = w.done; rest = w.rest; still = w.still; wrote = w.wrote.0 })
+halting_is old new out all f (inr h) = let w = h.1 in going_is old new out all (record { mid = w.mid; done = w.done; rest = w.rest; still = w.still; wrote = (w.wrote.0, w.wrote.1, w.wrote.2.0) })
 
 pub part_is : (old new : ServingValue) (bytes : List ℕ) (got : Got) (out all : List (List ℕ)) (f : EndFault) → TookThen serves old new bytes got out all (Err f) → AreCalls old (Came bytes ∷ GoesOn ∷ []) new out all
 part_is old new bytes got out all f (mid, t, inl h) =
@@ -280,7 +271,7 @@ part_is old new bytes got out all f (mid, t, inl h) =
 part_is old new bytes got out all f (mid, t, inr h) =
     let w = h.1 in
     took_by old mid new bytes (GoesOn ∷ []) out all (came old mid bytes (Ok got) t)
-    (going_is mid new out all (record { mid = w.mid; done = w.done; rest = w.rest; still = w.still; wrote = (w.wrote.packets, w.wrote.behind, w.wrote.wrote) }))
+    (going_is mid new out all (record { mid = w.mid; done = w.done; rest = w.rest; still = w.still; wrote = (w.wrote.0, w.wrote.1, w.wrote.2.0) }))
 
 pub refusing_is : (old new : ServingValue) (bytes : List ℕ) (f : LinkFault) → TookIn serves old new bytes (Err f) → Runs AnyBytes old (Came bytes ∷ []) new []
 refusing_is old new bytes f t = one_event old new (Came bytes) [] (came old new bytes (Err f) t)

@@ -2,7 +2,8 @@
 use Rattle.std.proofs.Common.{◌≡◌, ℕ, arith, refl, sym, ◌∙◌, subst, ap, append_assoc, true, false, List, [], ◌∷◌, ◌++◌, inl, inr}
 use Rattle.std.specs.Prelude.{Bool, ◌+◌, ◌==◌, Result, Ok, Err, if◌then◌else◌}
 use Rattle.std.proofs.lemmas.List.{append-nil}
-use Rattle.nsp_seg.specs.Packets.{PacketValue, segment, data_ack}
+use Rattle.nsp_seg.specs.declared.packet.Packet.{Packet}
+use Rattle.nsp_seg.specs.declared.packet.Packet.TheVariants.{Segment, DataAck}
 use Rattle.nsp_link.specs.declared.link.Got.{Got}
 use Rattle.nsp_link.specs.declared.fault.LinkFault.{LinkFault}
 use Rattle.nsp_link.specs.Cutting.{Piece}
@@ -51,11 +52,11 @@ stopped_by v false = same v
 forgotten_grown : (old mid : LinkValue) (count : ℕ) → Grown old mid → Grown old (forgotten mid count)
 forgotten_grown old mid count g = record { more = g.more; inbox = g.inbox; setup = g.setup }
 
-received : (old new : LinkValue) (p : PacketValue) (r : Result Got LinkFault) → Received old p r new → Grown old new
-received old new (segment s) (Ok got) (_, (_, _, acks)) =
+received : (old new : LinkValue) (p : Packet) (r : Result Got LinkFault) → Received old p r new → Grown old new
+received old new (Segment s) (Ok got) (_, (_, _, acks)) =
     let mid = taking_in old (segment_of old s.number) (piece_of s) in
     along old new _ acks.2 (forgotten_grown old mid acks.0 (in_grown old (segment_of old s.number) (piece_of s)))
-received old new (data_ack s) (Ok got) (_, (_, acks)) = along old new _ acks.2 (forgotten_grown old old acks.0 (same old))
+received old new (DataAck s) (Ok got) (_, (_, acks)) = along old new _ acks.2 (forgotten_grown old old acks.0 (same old))
 received old new p (Err e) (_, left) = along old new _ left (stopped_by old (is_end e))
 
 from_bytes : (old new : LinkValue) (bytes : List ℕ) (r : Result Got LinkFault) → ReceivedBytes old new bytes r → Grown old new

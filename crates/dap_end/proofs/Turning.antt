@@ -1,22 +1,22 @@
 -- What both ends do alike: how it comes about, and that it follows from what the end did and what came, want of memory aside.
-use Rattle.std.proofs.Common.{◌≡◌, ◌≢◌, ℕ, refl, sym, ◌∙◌, subst, ap, false, true≢false, List, inl, inr}
+use Rattle.std.proofs.Common.{◌≡◌, ◌≢◌, ℕ, refl, sym, ◌∙◌, subst, ap, false, true≢false, List, ◌++◌, inl, inr, IsTrue}
 use Rattle.std.specs.Prelude.{Result, Ok, Err, OnOk, IfErr}
 use Rattle.dap_fields.specs.Spelling.{AreBytes}
 use Rattle.nsp_link.specs.declared.link.Got.{Got}
 use Rattle.nsp_link.specs.declared.fault.LinkFault.{LinkFault}
 use Rattle.nsp_link.specs.declared.fault.LinkFault.TheVariants as fault
-use Rattle.nsp_link.specs.Link.{Sends, MaySend}
+use Rattle.nsp_link.specs.Link.{Sends, may_send}
 use Rattle.nsp_link.specs.Receiving.{Receives}
 use Rattle.dap_end.specs.declared.fault.EndFault.{EndFault}
 use Rattle.dap_end.specs.declared.fault.EndFault.TheVariants as end_fault
 use Rattle.dap_end.specs.declared.fault.TakeFault.{TakeFault}
 use Rattle.dap_end.specs.declared.fault.TakeFault.TheVariants as take_fault
 use Rattle.dap_end.specs.Ports.{PortValue, with_link}
-use Rattle.dap_end.specs.Writing.{IsFull, sent_more, WroteAll, AnsweredAll, AnsweredPart}
+use Rattle.dap_end.specs.Writing.{sent_more, Behind, WroteMore, WroteAnswer, WrotePart}
 use Rattle.dap_end.specs.Turns.{EndOf, DidAndWrote, WentOn, Answered, TookIn, TookThen, Takes}
 use Rattle.dap_end.specs.Wanting.{is_want, went_wanting, took_wanting}
 use Rattle.dap_end.specs.Inner.Answered.{ended_by}
-use Rattle.dap_end.proofs.Writing.{all_wrote, answered_one}
+use Rattle.dap_end.proofs.Writing.{wrote_one, answer_one}
 use Rattle.dap_end.proofs.Refusing.{receives_same}
 
 -- ---- How it comes about.
@@ -29,14 +29,14 @@ abbrev pub StaysSent : {V : Type 0} → EndOf V → V → V → Type 0
 StaysSent end mid new = (n : ℕ) → end.port new ≡ sent_more (end.port mid) n → end.still mid new
 
 pub went_by : {V : Type 0} (end : EndOf V) (old mid new : V) (out all : List (List ℕ)) (r : Result (Unit {0}) LinkFault) → end.does old mid → new ≡ end.with_port mid (end.port new) → StaysSent end mid new
-    → WroteAll (end.port mid) (end.port new) out all → OnOk r (IsFull (end.port new).link) → IfErr r (λ f. (f ≡ fault.NoMemory) × MaySend (end.port new).link) → WentOn end old new out all (ended_by r)
-went_by end old mid new out all (Ok u) done rest still w full why = record { mid = mid; done = done; rest = rest; still = still _ w.2.sent; wrote = (w, full) }
-went_by end old mid new out all (Err f) done rest still w full why = inr (ap linked why.0, record { mid = mid; done = done; rest = rest; still = still _ w.2.sent; wrote = (w, why.1) })
+    → Behind out all (WroteMore (end.port mid) (end.port new)) → OnOk r (may_send (end.port new).link ≡ false) → IfErr r (λ f. (f ≡ fault.NoMemory) × IsTrue (may_send (end.port new).link)) → WentOn end old new out all (ended_by r)
+went_by end old mid new out all (Ok u) done rest still w full why = record { mid = mid; done = done; rest = rest; still = still _ w.2.sent; wrote = (w.0, w.1, (w.2, full)) }
+went_by end old mid new out all (Err f) done rest still w full why = inr (ap linked why.0, record { mid = mid; done = done; rest = rest; still = still _ w.2.sent; wrote = (w.0, w.1, (w.2, why.1)) })
 
 pub answered_by : {V : Type 0} (end : EndOf V) (old mid new : V) (got : Got) (out all : List (List ℕ)) (r : Result (Unit {0}) LinkFault) → end.does old mid → new ≡ end.with_port mid (end.port new) → StaysSent end mid new
-    → OnOk r (AnsweredAll (end.port mid) (end.port new) got out all) → IfErr r (λ f. (f ≡ fault.NoMemory) × AnsweredPart (end.port mid) (end.port new) got out all) → Answered end old new got out all (ended_by r)
+    → OnOk r (Behind out all (WroteAnswer (end.port mid) (end.port new) got)) → IfErr r (λ f. (f ≡ fault.NoMemory) × Behind out all (WrotePart (end.port mid) (end.port new) got)) → Answered end old new got out all (ended_by r)
 answered_by end old mid new got out all (Ok u) done rest still w why = record { mid = mid; done = done; rest = rest; still = still _ w.2.wrote.sent; wrote = w }
-answered_by end old mid new got out all (Err f) done rest still w why = inr (ap linked why.0, record { mid = mid; done = done; rest = rest; still = still _ why.1.wrote.sent; wrote = why.1 })
+answered_by end old mid new got out all (Err f) done rest still w why = inr (ap linked why.0, record { mid = mid; done = done; rest = rest; still = still _ why.1.2.0.sent; wrote = why.1 })
 
 -- ---- Results.
 
@@ -102,25 +102,25 @@ sent_sends : (p q : PortValue) (n : ℕ) (handed : List (List ℕ)) → q ≡ se
 sent_sends p q n handed e s = subst (λ (x : PortValue). Sends x.link handed) (sym e) (record { queue = s.queue; acked = s.acked })
 
 abbrev Relation : Type 1
-Relation = PortValue → PortValue → Type 0
+Relation = PortValue → PortValue → List (List ℕ) → Type 0
 
 module _ {V : Type 0} (e d : EndOf V) (alike : V → V → Type 0) (known : V → Type 0) (told : Type 0) (by : DoAlike e d alike known told) where
   moved_to : (a b one two : V) (p q : PortValue) → alike a b → one ≡ e.with_port a p → two ≡ d.with_port b q → p ≡ q → alike one two
   moved_to a b one two p q like ra rb same =
       subst (λ (v : V). alike v two) (sym ra) (subst (λ (v : V). alike (e.with_port a p) v) (sym rb) (by.moved a b p q like same))
 
-  did_same : (whole part as_whole as_part : Relation) (out xs ys : List (List ℕ)) → ((p one two : PortValue) (handed : List (List ℕ)) → Sends p.link handed → whole p one → as_whole p two → (one ≡ two) × (xs ≡ ys))
-      → ((p q : PortValue) → whole p q → (n : ℕ) × (q ≡ sent_more p n)) → (old other one two : V) (r s : Result (Unit {0}) EndFault) → known old → alike old other → went_wanting r ≡ false → went_wanting s ≡ false
-      → DidAndWrote e whole part (xs ≡ out) old one r → DidAndWrote d as_whole as_part (ys ≡ out) other two s → alike one two × (r ≡ s) × (xs ≡ ys) × told × known one
+  did_same : (whole part as_whole as_part : Relation) (out xs ys : List (List ℕ)) → ((p one two : PortValue) (handed some more : List (List ℕ)) → Sends p.link handed → whole p one some → as_whole p two more → (one ≡ two) × (some ≡ more))
+      → ((p q : PortValue) (some : List (List ℕ)) → whole p q some → (n : ℕ) × (q ≡ sent_more p n)) → (old other one two : V) (r s : Result (Unit {0}) EndFault) → known old → alike old other → went_wanting r ≡ false → went_wanting s ≡ false
+      → DidAndWrote e whole part old one out xs r → DidAndWrote d as_whole as_part other two out ys s → alike one two × (r ≡ s) × (xs ≡ ys) × told × known one
   did_same whole part as_whole as_part out xs ys same count old other one two (Ok u) (Ok w) k like nr ns a b =
       let t = by.does old other a.mid b.mid k like a.done b.done in
       let sent = by.sends a.mid t.2 in
-      let wb : as_whole (e.port a.mid) (d.port two) = subst (λ (p : PortValue). as_whole p (d.port two)) (sym (by.port a.mid b.mid t.0)) b.wrote in
-      let w = same (e.port a.mid) (e.port one) (d.port two) sent.0 sent.1 a.wrote wb in
-      let n = count (e.port a.mid) (e.port one) a.wrote in (
+      let wb : as_whole (e.port a.mid) (d.port two) b.wrote.0 = subst (λ (p : PortValue). as_whole p (d.port two) b.wrote.0) (sym (by.port a.mid b.mid t.0)) b.wrote.2 in
+      let w = same (e.port a.mid) (e.port one) (d.port two) sent.0 a.wrote.0 b.wrote.0 sent.1 a.wrote.2 wb in
+      let n = count (e.port a.mid) (e.port one) a.wrote.0 a.wrote.2 in (
         moved_to a.mid b.mid one two _ _ t.0 a.rest b.rest w.0,
         refl,
-        w.1,
+        a.wrote.1 ∙ ap (λ (l : List (List ℕ)). out ++ l) w.1 ∙ sym b.wrote.1,
         t.1,
         by.stays a.mid one _ t.2 a.rest a.still (λ handed s. sent_sends (e.port a.mid) (e.port one) n.0 handed n.1 s),
       )
@@ -136,12 +136,12 @@ module _ {V : Type 0} (e d : EndOf V) (alike : V → V → Type 0) (known : V �
   pub went_same : (old other one two : V) (out xs ys : List (List ℕ)) (r s : Result (Unit {0}) EndFault) → known old → alike old other → went_wanting r ≡ false → went_wanting s ≡ false
       → WentOn e old one out xs r → WentOn d other two out ys s → alike one two × (r ≡ s) × (xs ≡ ys) × told × known one
   went_same old other one two out xs ys r s k like nr ns a b =
-      did_same _ _ _ _ out xs ys (λ p one two handed sends w v. all_wrote p one two handed out xs ys sends w.0 v.0 w.1 v.1) (λ p q w. (_, w.0.2.sent)) old other one two r s k like nr ns a b
+      did_same _ _ _ _ out xs ys (λ p one two handed some more sends w v. wrote_one p one two handed some more sends w.0 v.0 w.1 v.1) (λ p q some w. (_, w.0.sent)) old other one two r s k like nr ns a b
 
   answered_same : (old other one two : V) (got : Got) (out xs ys : List (List ℕ)) (r s : Result (Unit {0}) EndFault) → known old → alike old other → went_wanting r ≡ false → went_wanting s ≡ false
       → Answered e old one got out xs r → Answered d other two got out ys s → alike one two × (r ≡ s) × (xs ≡ ys) × told × known one
   answered_same old other one two got out xs ys r s k like nr ns a b =
-      did_same _ _ _ _ out xs ys (λ p one two handed sends w v. answered_one p one two handed got out xs ys sends w v) (λ p q w. (_, w.2.wrote.sent)) old other one two r s k like nr ns a b
+      did_same _ _ _ _ out xs ys (λ p one two handed some more sends w v. answer_one p one two handed got some more sends w v) (λ p q some w. (_, w.wrote.sent)) old other one two r s k like nr ns a b
 
   in_same : (old other one two : V) (bytes : List ℕ) (r s : Result Got LinkFault) → AreBytes bytes → known old → alike old other → r ≢ Err fault.NoMemory → s ≢ Err fault.NoMemory
       → TookIn e old one bytes r → TookIn d other two bytes s → (r ≡ s) × alike one two × known one

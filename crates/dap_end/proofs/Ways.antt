@@ -6,15 +6,15 @@ use Rattle.std.specs.declared.cmp.Ordering.TheVariants.{Less, Equal, Greater}
 use Rattle.std.specs.Ordering.{match_ordering}
 use Rattle.std.proofs.lemmas.Bool.{cases_eq, ne_eqb}
 use Rattle.std.proofs.lemmas.List.Elements.{All-append}
-use Rattle.nsp_seg.specs.Packets.{PacketValue, Spells}
+use Rattle.nsp_seg.specs.declared.packet.Packet.{Packet}
+use Rattle.nsp_seg.specs.Packets.{Spells}
 use Rattle.nsp_link.specs.declared.link.Got.{Got}
 use Rattle.nsp_link.specs.declared.fault.LinkFault.{LinkFault}
 use Rattle.nsp_link.specs.declared.link.LinkSetup.{LinkSetup}
 use Rattle.nsp_link.specs.Limits.{largest_window}
 use Rattle.nsp_link.specs.Cutting.{Piece, cut}
 use Rattle.nsp_link.specs.Holding.{following}
-use Rattle.nsp_link.specs.Link.{LinkValue, IsBetween, IsTimely, IsDue, Stands, Writes, Delivered, taken_after, held_after, with_inbox}
-use Rattle.nsp_link.specs.Sending.{AreShort}
+use Rattle.nsp_link.specs.Link.{LinkValue, IsBetween, IsTimely, IsDue, Stands, Writes, Delivered, taken_after, held_after, with_inbox, AreShort}
 use Rattle.nsp_link.proofs.ForCallers.{inserted, written_spells, stands_more, is_delivered}
 use Rattle.nsp_link.specs.Receiving.{Receives}
 use Rattle.dap_end.specs.Headline.{Written, numbered, AreWrittenOf}
@@ -171,7 +171,7 @@ near_by sent n (Some k) le was = omega arith
 
 -- a packet of the wire is due
 record Due (from to : LinkValue) (handed given : List (List ℕ)) (w : Written) : Type 0 where
-  packet : PacketValue
+  packet : Packet
   spelled : Spells packet w.bytes
   is : IsDue to from.setup.seg_size handed given packet w.segment w.acks
 

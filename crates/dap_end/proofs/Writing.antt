@@ -1,20 +1,22 @@
 -- The packets that are written follow from what was handed over.
-use Rattle.std.proofs.Common.{◌≡◌, ℕ, ◌+◌, ◌<◌, arith, refl, sym, ◌∙◌, subst, ap, true, false, List, [], ◌∷◌, ◌++◌, length, inl, inr}
+use Rattle.std.proofs.Common.{◌≡◌, ℕ, ◌+◌, ◌<◌, arith, refl, sym, ◌∙◌, subst, ap, true, false, List, [], ◌∷◌, ◌++◌, length, inl, inr, true≢false}
 use Rattle.std.specs.Prelude.{Bool, Some}
 use Rattle.std.proofs.lemmas.Bool.{cases_lt}
 use Rattle.nsp_seg.specs.Packets.{spelling}
 use Rattle.nsp_link.specs.declared.link.Got.{Got}
 use Rattle.nsp_link.specs.Cutting.{cut}
-use Rattle.nsp_link.specs.Link.{LinkValue, Sends, IsSpelling}
+use Rattle.nsp_link.specs.Link.{LinkValue, Sends, IsSpelling, may_send}
 use Rattle.nsp_link.specs.Sending.{ack_packet_of}
-use Rattle.nsp_link.proofs.ForCallers.{written_one}
+use Rattle.nsp_link.proofs.ForCallers.{may_send_by, written_one}
 use Rattle.dap_end.specs.Ports.{PortValue}
-use Rattle.dap_end.specs.Writing.{AreWritten, IsWithin, IsFull, sent_more, WroteMore, WroteAll, WroteAnswer, AnsweredAll, wants_ack}
+use Rattle.dap_end.specs.Writing.{AreWritten, IsWithin, sent_more, WroteMore, WroteAnswer, wants_ack}
 
-counts_one : (p : PortValue) (n m : ℕ) → IsFull (sent_more p n).link → (0 < m → IsWithin (sent_more p m).link) → (n < m) → ⊥
-counts_one p n m full within lt = let w = within (omega arith) in full (omega (arith, w.0, lt), omega (arith, w.1, lt))
+counts_one : (p : PortValue) (n m : ℕ) → may_send (sent_more p n).link ≡ false → (0 < m → IsWithin (sent_more p m).link) → (n < m) → ⊥
+counts_one p n m full within lt =
+    let w = within (omega arith) in
+    let may = may_send_by (sent_more p n).link (omega (arith, w.0, lt)) (omega (arith, w.1, lt)) in true≢false (sym may ∙ full)
 
-count_one : (p : PortValue) (n m : ℕ) → IsFull (sent_more p n).link → IsFull (sent_more p m).link → (0 < n → IsWithin (sent_more p n).link) → (0 < m → IsWithin (sent_more p m).link) → n ≡ m
+count_one : (p : PortValue) (n m : ℕ) → may_send (sent_more p n).link ≡ false → may_send (sent_more p m).link ≡ false → (0 < n → IsWithin (sent_more p n).link) → (0 < m → IsWithin (sent_more p m).link) → n ≡ m
 count_one p n m a b wa wb =
     elim (cases_lt n m) [
       | inl lt ↦ absurd (counts_one p n m a wb lt)
@@ -39,18 +41,14 @@ acks_same got written v w true one two e same qa ka qb kb =
     let bytes : a.0 ≡ b.0 = a.2.1 ∙ ap (λ (l : LinkValue). spelling (ack_packet_of l)) same ∙ sym b.2.1 in
     a.1 ∙ ap (λ (l : List ℕ). written ++ l ∷ []) bytes ∙ sym b.1
 
-pub wrote_one : (p one two : PortValue) (handed xs ys : List (List ℕ)) → Sends p.link handed → WroteMore p one xs → WroteMore p two ys → IsFull one.link → IsFull two.link → (one ≡ two) × (xs ≡ ys)
+pub wrote_one : (p one two : PortValue) (handed xs ys : List (List ℕ)) → Sends p.link handed → WroteMore p one xs → WroteMore p two ys → may_send one.link ≡ false → may_send two.link ≡ false → (one ≡ two) × (xs ≡ ys)
 wrote_one p one two handed xs ys sends a b fa fb =
-    let full_a = subst (λ (q : PortValue). IsFull q.link) a.sent fa in
-    let full_b = subst (λ (q : PortValue). IsFull q.link) b.sent fb in
+    let full_a = subst (λ (q : PortValue). may_send q.link ≡ false) a.sent fa in
+    let full_b = subst (λ (q : PortValue). may_send q.link ≡ false) b.sent fb in
     let within_a : 0 < length xs → IsWithin (sent_more p (length xs)).link = subst (λ (q : PortValue). 0 < length xs → IsWithin q.link) a.sent a.within in
     let within_b : 0 < length ys → IsWithin (sent_more p (length ys)).link = subst (λ (q : PortValue). 0 < length ys → IsWithin q.link) b.sent b.within in
     let count : length xs ≡ length ys = count_one p (length xs) (length ys) full_a full_b within_a within_b in
     (a.sent ∙ ap (sent_more p) count ∙ sym b.sent, packets_one p.link handed (p.link.sent + 1) xs ys count (a.writes handed sends) (b.writes handed sends))
-
-pub all_wrote : (p one two : PortValue) (handed out xs ys : List (List ℕ)) → Sends p.link handed → WroteAll p one out xs → WroteAll p two out ys → IsFull one.link → IsFull two.link → (one ≡ two) × (xs ≡ ys)
-all_wrote p one two handed out xs ys sends a b fa fb =
-    let same = wrote_one p one two handed a.0 b.0 sends a.2 b.2 fa fb in (same.0, a.1 ∙ ap (λ (l : List (List ℕ)). out ++ l) same.1 ∙ sym b.1)
 
 pub answer_one : (p one two : PortValue) (handed : List (List ℕ)) (got : Got) (xs ys : List (List ℕ)) → Sends p.link handed → WroteAnswer p one got xs → WroteAnswer p two got ys → (one ≡ two) × (xs ≡ ys)
 answer_one p one two handed got xs ys sends a b =
@@ -62,7 +60,3 @@ answer_one p one two handed got xs ys sends a b =
           (λ e. b.quiet (ap (λ (l : List (List ℕ)). wants_ack got (length l)) (sym written) ∙ e) ∙ sym written)
           (λ e. (let k = b.acks (ap (λ (l : List (List ℕ)). wants_ack got (length l)) (sym written) ∙ e) in (k.0, k.1 ∙ ap (λ (l : List (List ℕ)). l ++ k.0 ∷ []) (sym written), k.2))),
     )
-
-pub answered_one : (p one two : PortValue) (handed : List (List ℕ)) (got : Got) (out xs ys : List (List ℕ)) → Sends p.link handed → AnsweredAll p one got out xs → AnsweredAll p two got out ys → (one ≡ two) × (xs ≡ ys)
-answered_one p one two handed got out xs ys sends a b =
-    let same = answer_one p one two handed got a.0 b.0 sends a.2 b.2 in (same.0, a.1 ∙ ap (λ (l : List (List ℕ)). out ++ l) same.1 ∙ sym b.1)

@@ -1,10 +1,10 @@
 -- The end that asks, before any peer.
-use Rattle.std.specs.Prelude.{◌≡◌, ◌≢◌, ◌⊎◌, ℕ, ◌<◌, Result, Ok, Err, List, [], ◌∷◌, ◌++◌, length, true, false, Option, Some, None, option_to_list}
+use Rattle.std.specs.Prelude.{◌≡◌, ◌≢◌, ◌⊎◌, ℕ, ◌<◌, Result, Ok, Err, List, [], ◌∷◌, ◌++◌, length, true, false, Option, Some, None, option_to_list, IsTrue}
 use Rattle.std.specs.List.{AllByRecursion}
-use Rattle.dap_msg.specs.Items.{Item}
+use Rattle.dap_msg.specs.declared.items.Item.{Item}
 use Rattle.dap_msg.specs.Blocked.{NspMessage, Blocked, all_joined, messages_in, AllFit}
 use Rattle.nsp_link.specs.Link.{Sends}
-use Rattle.nsp_link.specs.Sending.{MayQueueAll, SendAllFault}
+use Rattle.nsp_link.specs.Sending.{may_queue, SendAllFault}
 use Rattle.dap_accessing.specs.Request.{Request}
 use Rattle.dap_accessing.specs.declared.report.Report.{Report}
 use Rattle.dap_accessing.specs.declared.fault.ReadFault.{ReadFault}
@@ -20,7 +20,8 @@ use Rattle.dap_end.specs.declared.fault.EndFault.{EndFault}
 use Rattle.dap_end.specs.declared.fault.EndFault.TheVariants as end_fault
 use Rattle.dap_end.specs.Ports.{PortValue, gone_on, posted}
 use Rattle.dap_end.specs.Going.{GoneThrough, given_then, NextItem}
-use Rattle.dap_end.specs.Turns.{EndOf}
+use Rattle.dap_end.specs.Turns.{EndOf, Still}
+use Rattle.dap_end.specs.Writing.{Behind}
 
 pub record AskingValue : Type 0 where
   pub port : PortValue
@@ -50,9 +51,6 @@ pub record HasAsked (past : AskingPast) (v : AskingValue) : Type 0 where
   pub fit : AllFit (messages_in past.asked)
   pub full : AllByRecursion (λ packet. packet ≢ []) past.asked
 
-abbrev pub HasStill : AskingValue → AskingValue → Type 0
-HasStill old new = (past : AskingPast) → HasAsked past old → HasAsked past new
-
 -- ---- Asking.
 
 -- one request more, with its messages joined as far as the peer's limit goes
@@ -74,7 +72,7 @@ pub record AskedOne (request : Request) (old new : AskingValue) (n : ℕ) : Type
 
 -- all that waited was handed to the link
 pub record HandedAll (old new : AskingValue) (n : ℕ) : Type 0 where
-  pub may : MayQueueAll old.port.link old.port.outbox
+  pub may : IsTrue (may_queue old.port.link old.port.outbox)
   pub posted : new ≡ record old { port = posted old.port }
   pub count : n ≡ length old.port.outbox
   pub past : (past : AskingPast) → HasAsked past old → HasAsked (record past { handed = past.handed ++ old.port.outbox }) new
@@ -111,18 +109,14 @@ pub data ReadOn : AskingValue → AskingValue → List Report → Type 0 where
   goes : {old new : AskingValue} {all : List Report} (mid : AskingValue) (report : Option Report) (more : List Report)
       → ReadOne old mid report → ReadOn mid new more → all ≡ option_to_list report ++ more → ReadOn old new all
 
--- they stand behind those that were there
-abbrev pub ReadAll : (old new : AskingValue) → (before all : List Report) → Type 0
-ReadAll old new before all = (reports : List Report) × (all ≡ before ++ reports) × ReadOn old new reports
-
 -- Some were read, and then memory was wanting for one that came, or it was refused.
 abbrev pub ReadPart : (old new : AskingValue) → (before all : List Report) → ReadFault → Type 0
 ReadPart old new before all f =
-    ((f ≡ read_fault.NoMemory) × ReadAll old new before all × (0 < length new.port.link.coming.inbox))
-    ⊎ ((mid : AskingValue) × ReadAll old mid before all × ReadNone mid new f)
+    ((f ≡ read_fault.NoMemory) × Behind before all (ReadOn old new) × (0 < length new.port.link.coming.inbox))
+    ⊎ ((mid : AskingValue) × Behind before all (ReadOn old mid) × ReadNone mid new f)
 
 abbrev pub ReadsAll : (old new : AskingValue) → (before reports : List Report) → Result (Unit {0}) ReadFault → Type 0
-ReadsAll old new before reports (Ok done) = ReadAll old new before reports × (new.port.link.coming.inbox ≡ [])
+ReadsAll old new before reports (Ok done) = Behind before reports (ReadOn old new) × (new.port.link.coming.inbox ≡ [])
 ReadsAll old new before reports (Err f) = ReadPart old new before reports f
 
 -- ---- Going on, and taking.
@@ -143,7 +137,7 @@ asks before reports =
     record {
       port = λ v. v.port;
       with_port = λ v port. record v { port = port };
-      still = HasStill;
+      still = Still HasAsked;
       does = λ old new. HeardAll old new before reports;
       stops = λ old new f. HearFault old new before reports f;
       quiet = reports ≡ before;

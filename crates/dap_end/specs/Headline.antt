@@ -2,16 +2,15 @@
 -- are those of a peer.
 use Rattle.std.specs.Prelude.{◌≡◌, ℕ, ◌+◌, ◌-◌, ◌<◌, List, [], ◌∷◌, ◌++◌, map, Option, Some, None, Result}
 use Rattle.std.specs.List.{AllByRecursion}
-use Rattle.dap_msg.specs.Blocked.{all_joined, messages_in}
-use Rattle.nsp_seg.specs.Packets.{PacketValue, Spells}
+use Rattle.nsp_seg.specs.declared.packet.Packet.{Packet}
+use Rattle.nsp_seg.specs.Packets.{Spells}
 use Rattle.nsp_link.specs.declared.link.Got.{Got}
 use Rattle.nsp_link.specs.declared.fault.LinkFault.{LinkFault}
 use Rattle.nsp_link.specs.Link.{LinkValue, IsOfPeer, Writes}
 use Rattle.nsp_link.specs.Sending.{WritesSent}
-use Rattle.dap_accessed.specs.Groups.{After, Answers}
 use Rattle.dap_end.specs.Ports.{with_link}
 use Rattle.nsp_link.specs.Receiving.{Receives}
-use Rattle.dap_end.specs.Serving.{ServingValue, Past, answers_to}
+use Rattle.dap_end.specs.Serving.{ServingValue}
 use Rattle.dap_end.specs.Turns.{EndOf}
 use Rattle.dap_end.specs.Runs.{RunsBy}
 use Rattle.dap_end.specs.Taking.{ServedMore, serves}
@@ -85,17 +84,9 @@ AreCalls old events new out all = (wrote : List Written) × Runs AnyBytes old ev
 abbrev pub AreWrittenOf : LinkValue → (handed : List (List ℕ)) → List Written → Type 0
 AreWrittenOf v handed wrote = AllByRecursion (λ w. Writes v handed w.segment w.acks w.bytes) wrote
 
--- The files are those after what was served; what was handed over is a front of the answers to it, joined to NSP messages;
--- and the packets carry it.
-pub record Promises (past : Past) (v : ServingValue) (wrote : List Written) : Type 0 where
-  pub files : v.accessed.files ≡ After v.accessed.own past.first past.items
-  pub answers : (rest : List (List ℕ)) × (past.handed ++ rest ≡ all_joined (answers_to v.accessed.own past.first [] past.items))
-  pub messages : messages_in (answers_to v.accessed.own past.first [] past.items) ≡ Answers v.accessed.own past.first past.items
-  pub packets : AreWrittenOf v.port.link past.handed wrote
-
 -- ---- A peer.
 
 -- the bytes are a packet of a peer that cuts these NSP messages by this size
 abbrev pub IsFromPeer : (size : ℕ) (messages : List (List ℕ)) → LinkValue → List ℕ → Type 0
 IsFromPeer size messages v bytes =
-    (packet : PacketValue) × (segment : Option ℕ) × (acks : ℕ) × Spells packet bytes × IsOfPeer v size messages packet segment acks
+    (packet : Packet) × (segment : Option ℕ) × (acks : ℕ) × Spells packet bytes × IsOfPeer v size messages packet segment acks

@@ -1,14 +1,12 @@
 -- What an end that asks promises over every list of its calls, whatever bytes come, up to the first answer that has no place.
 use Rattle.std.specs.Prelude.{◌≡◌, ◌⊎◌, ℕ, List, [], ◌∷◌, ◌++◌}
-use Rattle.dap_msg.specs.Blocked.{all_joined, messages_in}
 use Rattle.dap_accessing.specs.Request.{Request}
 use Rattle.dap_accessing.specs.declared.report.Report.{Report}
-use Rattle.dap_accessing.specs.Asked.{Asked}
-use Rattle.dap_accessing.specs.Told.{Told}
-use Rattle.dap_end.specs.Asking.{AskingValue, AskingPast, AskedOne, HandedAll, ReadAll, asks}
+use Rattle.dap_end.specs.Asking.{AskingValue, AskedOne, HandedAll, ReadOn, asks}
+use Rattle.dap_end.specs.Writing.{Behind}
 use Rattle.dap_end.specs.Runs.{RunsBy}
 use Rattle.nsp_link.specs.Link.{LinkValue}
-use Rattle.dap_end.specs.Headline.{Written, bytes_of, EndEvent, EndStepped, AnyBytes, AreWrittenOf}
+use Rattle.dap_end.specs.Headline.{Written, bytes_of, EndEvent, EndStepped, AnyBytes}
 
 -- A request was asked, or what happens to either end.
 pub data AskingEvent : Type 0 where
@@ -17,7 +15,7 @@ pub data AskingEvent : Type 0 where
 
 -- answers were read, whose reports stand behind those before, and then all that waited was handed over, or none
 abbrev pub HeardMore : (before after : List Report) → AskingValue → AskingValue → Type 0
-HeardMore before after old new = (heard : AskingValue) × ReadAll old heard before after × ((new ≡ heard) ⊎ ((n : ℕ) × HandedAll heard new n))
+HeardMore before after old new = (heard : AskingValue) × Behind before after (ReadOn old heard) × ((new ≡ heard) ⊎ ((n : ℕ) × HandedAll heard new n))
 
 -- the end, with its reports and its packets so far: those of the event stand behind them
 abbrev pub AskingStepped : (comes : LinkValue → List ℕ → Type 0) → AskingValue × List Report × List Written → AskingEvent → List Written → AskingValue × List Report × List Written → Type 0
@@ -39,12 +37,3 @@ abbrev pub requests_in : List AskingEvent → List Request
 requests_in [] = []
 requests_in (Asks request ∷ events) = request ∷ requests_in events
 requests_in (_ ∷ events) = requests_in events
-
--- The requests are those that were asked, and the reports are those that the definition tells of them and of the answers read;
--- what was handed over is a front of the requests' messages, joined to NSP messages; and the packets carry it.
-pub record AskingPromises (requests : List Request) (reports : List Report) (past : AskingPast) (v : AskingValue) (wrote : List Written) : Type 0 where
-  pub asked : past.requests ≡ requests
-  pub told : reports ≡ Told past.requests past.answers
-  pub handed : (rest : List (List ℕ)) × (past.handed ++ rest ≡ all_joined past.asked)
-  pub messages : messages_in past.asked ≡ Asked v.accessing.own past.requests
-  pub packets : AreWrittenOf v.port.link past.handed wrote

@@ -1,13 +1,12 @@
 -- The end that serves, before any peer.
-use Rattle.std.specs.Prelude.{◌≡◌, ◌⊎◌, ℕ, ◌<◌, List, [], ◌∷◌, ◌++◌, length}
-use Rattle.dap_msg.specs.Items.{Item}
+use Rattle.std.specs.Prelude.{◌≡◌, ◌⊎◌, ℕ, ◌<◌, List, [], ◌∷◌, ◌++◌, length, IsTrue}
+use Rattle.dap_msg.specs.declared.items.Item.{Item}
 use Rattle.dap_msg.specs.Blocked.{NspMessage, Blocked, all_joined, AllFit}
 use Rattle.nsp_link.specs.Link.{Sends}
-use Rattle.nsp_link.specs.Sending.{MayQueueAll}
+use Rattle.nsp_link.specs.Sending.{may_queue}
 use Rattle.dap_accessed.specs.Standing.{Files}
 use Rattle.dap_accessed.specs.Groups.{Answers, added, limit_for}
 use Rattle.dap_accessed.specs.Present.{Present, StandsAfter}
-use Rattle.dap_accessed.specs.Adding.{AddRefused, RecordRefused}
 use Rattle.dap_accessed.specs.declared.fault.AddFault.{AddFault}
 use Rattle.dap_accessed.specs.declared.fault.AddFault.TheVariants as fault
 use Rattle.dap_end.specs.Ports.{PortValue, gone_on, posted, HasCome}
@@ -43,19 +42,12 @@ pub record IsAfter (past : Past) (v : ServingValue) : Type 0 where
   -- each answer has a spelling
   pub fit : AllFit (Answers v.accessed.own past.first past.items)
 
-abbrev pub IsStill : ServingValue → ServingValue → Type 0
-IsStill old new = (past : Past) → IsAfter past old → IsAfter past new
-
 -- ---- Files that the end is given.
 
--- before a segment came as well as before the peer's Config was served
-abbrev pub NotAdded : ServingValue → List ℕ → AddFault → Type 0
-NotAdded v name fault.Busy = HasCome v.port ⊎ AddRefused v.accessed name fault.Busy
-NotAdded v name f = (HasCome v.port → ⊥) × AddRefused v.accessed name f
-
-abbrev pub NotStored : ServingValue → ℕ → List ℕ → AddFault → Type 0
-NotStored v n body fault.Busy = HasCome v.port ⊎ RecordRefused v.accessed n body fault.Busy
-NotStored v n body f = (HasCome v.port → ⊥) × RecordRefused v.accessed n body f
+-- Why nothing is added: a segment came, which counts as that the end is busy, or the accessed end refuses it so.
+abbrev pub NotGiven : ServingValue → (Refused : AddFault → Type 0) → AddFault → Type 0
+NotGiven v Refused fault.Busy = HasCome v.port ⊎ Refused fault.Busy
+NotGiven v Refused f = (HasCome v.port → ⊥) × Refused f
 
 -- the end that did nothing on this link had these files at first
 abbrev pub IsGiven : ServingValue → ServingValue → Type 0
@@ -80,7 +72,7 @@ pub record ServedOne (old new : ServingValue) (n : ℕ) : Type 0 where
 
 -- all that waited was handed to the link
 pub record PostedAll (old new : ServingValue) (n : ℕ) : Type 0 where
-  pub may : MayQueueAll old.port.link old.port.outbox
+  pub may : IsTrue (may_queue old.port.link old.port.outbox)
   pub posted : new ≡ record old { port = posted old.port }
   pub count : n ≡ length old.port.outbox
   pub past : (past : Past) → IsAfter past old → IsAfter (record past { handed = past.handed ++ old.port.outbox }) new

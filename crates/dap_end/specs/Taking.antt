@@ -1,15 +1,15 @@
 -- Taking a packet in, and doing at once all that it lets the end that serves do.
 use Rattle.std.specs.Prelude.{◌≡◌, ◌⊎◌, ℕ, List, [], ◌++◌, Result, Ok, Err}
-use Rattle.dap_msg.specs.Items.{Item}
+use Rattle.dap_msg.specs.declared.items.Item.{Item}
 use Rattle.nsp_link.specs.declared.fault.LinkFault.{LinkFault}
 use Rattle.nsp_link.specs.declared.fault.LinkFault.TheVariants as fault
-use Rattle.nsp_link.specs.Link.{Stands, with_inbox}
-use Rattle.nsp_link.specs.Sending.{AreShort, SendAllFault}
+use Rattle.nsp_link.specs.Link.{Stands, with_inbox, AreShort}
+use Rattle.nsp_link.specs.Sending.{SendAllFault}
 use Rattle.dap_end.specs.declared.fault.EndFault.{EndFault}
 use Rattle.dap_end.specs.declared.fault.EndFault.TheVariants as end_fault
-use Rattle.dap_end.specs.Ports.{PortValue}
-use Rattle.dap_end.specs.Turns.{EndOf, WentOn}
-use Rattle.dap_end.specs.Serving.{ServingValue, Past, IsAfter, IsStill, MayServe, PostedAll, ServedOne}
+use Rattle.dap_end.specs.Writing.{Behind}
+use Rattle.dap_end.specs.Turns.{EndOf, WentOn, Still}
+use Rattle.dap_end.specs.Serving.{ServingValue, Past, IsAfter, MayServe, PostedAll, ServedOne}
 
 -- ---- Serving all.
 
@@ -18,7 +18,7 @@ pub record Grew (past now : Past) (old new : ServingValue) : Type 0 where
   pub is : IsAfter now new
   pub first : now.first ≡ past.first
   pub items : (more : List Item) × (now.items ≡ past.items ++ more)
-  pub handed : (more : List (List ℕ)) × (now.handed ≡ past.handed ++ more) × AreShort old.port.link more
+  pub handed : Behind past.handed now.handed (AreShort old.port.link)
   -- what left the link was served
   pub given : now.given ++ new.port.link.coming.inbox ≡ past.given ++ old.port.link.coming.inbox
   pub stands : (size : ℕ) (messages : List (List ℕ)) → Stands old.port.link size messages past.given
@@ -57,15 +57,12 @@ ServesAll old new (Err f) = ServeFault old new (end_fault.Link f)
 
 -- ---- Going on, and taking.
 
-abbrev pub with_port : ServingValue → PortValue → ServingValue
-with_port v port = record v { port = port }
-
 abbrev pub serves : EndOf ServingValue
 serves =
     record {
       port = λ v. v.port;
-      with_port = with_port;
-      still = IsStill;
+      with_port = λ v port. record v { port = port };
+      still = Still IsAfter;
       does = λ old new. ServesAll old new (Ok tt);
       stops = ServeFault;
       quiet = Unit {0};

@@ -1,10 +1,14 @@
 -- The packets that an end writes.
-use Rattle.std.specs.Prelude.{◌≡◌, ◌⊎◌, ℕ, ◌+◌, ◌<◌, ◌≤◌, ◌==◌, Bool, true, false, List, [], ◌∷◌, ◌++◌, length, Some}
+use Rattle.std.specs.Prelude.{◌≡◌, ◌⊎◌, ℕ, ◌+◌, ◌<◌, ◌≤◌, ◌==◌, Bool, true, false, List, [], ◌∷◌, ◌++◌, length, Some, IsTrue}
 use Rattle.nsp_link.specs.declared.link.Got.{Got}
 use Rattle.nsp_link.specs.declared.link.Got.TheVariants.{AckOnly}
-use Rattle.nsp_link.specs.Link.{LinkValue, Sends, Writes, MaySend, IsSpelling}
+use Rattle.nsp_link.specs.Link.{LinkValue, Sends, Writes, may_send, IsSpelling}
 use Rattle.nsp_link.specs.Sending.{ack_packet_of}
 use Rattle.dap_end.specs.Ports.{PortValue, with_link}
+
+-- those that stand behind the ones that were there are so
+abbrev pub Behind : {A : Type 0} → (out all : List A) → (Are : List A → Type 0) → Type 0
+Behind {A} out all Are = (more : List A) × (all ≡ out ++ more) × Are more
 
 -- these are the packets of the segments of what was handed over, in order from this number on
 abbrev pub AreWritten : LinkValue → (handed : List (List ℕ)) → (from : ℕ) → List (List ℕ) → Type 0
@@ -26,14 +30,6 @@ pub record WroteMore (old new : PortValue) (packets : List (List ℕ)) : Type 0 
   pub writes : (handed : List (List ℕ)) → Sends old.link handed → AreWritten old.link handed (old.link.sent + 1) packets
   pub within : 0 < length packets → IsWithin new.link
 
--- no segment that was never sent may be written
-abbrev pub IsFull : LinkValue → Type 0
-IsFull v = MaySend v → ⊥
-
--- they stand behind those that were there
-abbrev pub WroteAll : (old new : PortValue) → (out all : List (List ℕ)) → Type 0
-WroteAll old new out all = (packets : List (List ℕ)) × (all ≡ out ++ packets) × WroteMore old new packets
-
 -- ---- What answers a packet.
 
 -- a segment came, and none is written that acknowledges it
@@ -46,17 +42,12 @@ wants_ack got written = written == 0
 pub record WroteAnswer (old new : PortValue) (got : Got) (packets : List (List ℕ)) : Type 0 where
   pub written : List (List ℕ)
   pub wrote : WroteMore old new written
-  pub full : IsFull new.link
+  pub full : may_send new.link ≡ false
   pub quiet : wants_ack got (length written) ≡ false → packets ≡ written
   pub acks : wants_ack got (length written) ≡ true
       → (bytes : List ℕ) × (packets ≡ written ++ bytes ∷ []) × IsSpelling (ack_packet_of new.link) bytes
 
-abbrev pub AnsweredAll : (old new : PortValue) → Got → (out all : List (List ℕ)) → Type 0
-AnsweredAll old new got out all = (packets : List (List ℕ)) × (all ≡ out ++ packets) × WroteAnswer old new got packets
-
 -- Some of them were written, and a segment that the window allows is left, or the acknowledgement.
-pub record AnsweredPart (old new : PortValue) (got : Got) (out all : List (List ℕ)) : Type 0 where
-  pub packets : List (List ℕ)
-  pub behind : all ≡ out ++ packets
-  pub wrote : WroteMore old new packets
-  pub why : MaySend new.link ⊎ (wants_ack got (length packets) ≡ true)
+abbrev pub WrotePart : (old new : PortValue) → Got → (packets : List (List ℕ)) → Type 0
+WrotePart old new got packets =
+    WroteMore old new packets × (IsTrue (may_send new.link) ⊎ (wants_ack got (length packets) ≡ true))

@@ -4,8 +4,8 @@ ghost use Rattle.std.specs.Prelude.{◌≡◌, ◌≢◌, ◌≤◌, ◌<◌, �
 ghost use Rattle.dap_msg.specs.BothEnds.{four_bytes, least_buffer};
 ghost use Rattle.dap_msg.specs.Blocked.{bodies};
 ghost use Rattle.nsp_link.specs.Limits.{largest_limit};
-ghost use Rattle.nsp_link.specs.Link.{IsSetup, SetupFault, MaySend, IsSpelling};
-ghost use Rattle.nsp_link.specs.Sending.{NextFault, MayQueueAll, SendAllFault, WritesSent, ack_packet_of};
+ghost use Rattle.nsp_link.specs.Link.{IsSetup, SetupFault, may_send, IsSpelling};
+ghost use Rattle.nsp_link.specs.Sending.{NextFault, may_queue, SendAllFault, WritesSent, ack_packet_of};
 ghost use Rattle.nsp_link.specs.declared.fault.LinkFault.TheVariants.{Failed, NoSuchSegment, MessageTooLong};
 ghost use Rattle.nsp_link.specs.declared.fault.LinkFault.TheVariants as fault;
 ghost use Rattle.dap_accessing.specs.Asked.{messages_of};
@@ -16,9 +16,9 @@ ghost use Rattle.dap_accessing.specs.declared.fault.AskFault.TheVariants as ask_
 ghost use Rattle.dap_fields.specs.Spelling.{AreBytes};
 ghost use Rattle.dap_end.specs.Ports.{new_port, oldest, with_link};
 ghost use Rattle.nsp_link.specs.Receiving.{Receives};
-ghost use Rattle.dap_end.specs.Writing.{WroteMore};
-ghost use Rattle.dap_end.specs.Asking.{HasAsked, HasStill, AskedOne, HandedAll, ReadOne, ReadNone, ReadNext, ReadAll, ReadPart, HeardAll, HearFault, asks, nothing_asked};
-ghost use Rattle.dap_end.specs.Turns.{Answered, WentOn, Takes};
+ghost use Rattle.dap_end.specs.Writing.{Behind, WroteMore};
+ghost use Rattle.dap_end.specs.Asking.{HasAsked, AskedOne, HandedAll, ReadOne, ReadNone, ReadNext, ReadOn, ReadPart, HeardAll, HearFault, asks, nothing_asked};
+ghost use Rattle.dap_end.specs.Turns.{Answered, WentOn, Takes, Still};
 ghost use Rattle.dap_end.specs.Inner.Answered.{ended_by};
 ghost use Rattle.dap_end.specs.Inner.Kept.{IsPort};
 ghost use Rattle.dap_end.specs.Inner.AskingView.{asking_of};
@@ -153,7 +153,7 @@ impl AskingEnd {
           port = with_link self.old.port self.new.port.link;
         } }
         ensures receives { Receives self.old.port.link self.new.port.link packet.now result }
-        ensures still { HasStill self.old self.new }
+        ensures still { Still HasAsked self.old self.new }
     {
         self.port.receive(packet)
     }
@@ -200,7 +200,8 @@ impl AskingEnd {
     /// Reads all that came, and adds the reports behind those in `reports` (own). Refused as `read` is; what was read before
     /// that stays so.
     pub fn read_all(&mut self, reports: &mut Vec<Report>) -> Result<(), ReadFault>
-        ensures ok { OnOk result (ReadAll self.old self.new reports.old.items reports.new.items) }
+        ensures ok { OnOk result (Behind reports.old.items reports.new.items
+            (ReadOn self.old self.new)) }
         ensures all { OnOk result (self.new.port.link.coming.inbox ≡ []) }
         ensures err { IfErr result (ReadPart self.old self.new reports.old.items
             reports.new.items) }
@@ -305,7 +306,7 @@ impl AskingEnd {
     /// The same of messages that the link takes, as [`nsp_link::LinkEnd::check_messages`] tells: they aren't looked at
     /// again, and are moved behind those in `handed`. Refused for want of memory alone, with nothing changed. Own.
     pub fn post_into(&mut self, handed: &mut Vec<Vec<u8>>) -> Result<usize, LinkFault>
-        requires { MayQueueAll self.old.port.link self.old.port.outbox }
+        requires { IsTrue (may_queue self.old.port.link self.old.port.outbox) }
         ensures ok { IfOk result (λ n. HandedAll self.old self.new n) }
         ensures moved { OnOk result (bodies handed.new.items
             ≡ bodies handed.old.items ++ self.old.port.outbox) }
@@ -320,11 +321,11 @@ impl AskingEnd {
     pub fn emit(&mut self) -> Result<Option<Vec<u8>>, LinkFault>
         ensures rest { self.new ≡ record self.old { port = self.new.port } }
         ensures nothing { result ≡ Ok None
-            → (self.new ≡ self.old) × (MaySend self.old.port.link → ⊥) }
+            → (self.new ≡ self.old) × (may_send self.old.port.link ≡ false) }
         ensures wrote { IfOk result
             (λ o. IfSome o (λ v. WroteMore self.old.port self.new.port (v.items ∷ []))) }
         ensures err { IfErr result (λ f. (self.new ≡ self.old) × NextFault self.old.port.link f) }
-        ensures still { HasStill self.old self.new }
+        ensures still { Still HasAsked self.old self.new }
     {
         self.port.emit()
     }
@@ -333,11 +334,11 @@ impl AskingEnd {
     /// at again. Refused for want of memory alone, with nothing changed. Own.
     pub fn write_next(&mut self) -> Result<Vec<u8>, LinkFault>
         requires works { self.old.port.link.failed ≡ false }
-        requires may { MaySend self.old.port.link }
+        requires may { IsTrue (may_send self.old.port.link) }
         ensures rest { self.new ≡ record self.old { port = self.new.port } }
         ensures wrote { IfOk result (λ v. WroteMore self.old.port self.new.port (v.items ∷ [])) }
         ensures err { IfErr result (λ f. (self.new ≡ self.old) × (f ≡ fault.NoMemory)) }
-        ensures still { HasStill self.old self.new }
+        ensures still { Still HasAsked self.old self.new }
     {
         self.port.write_next()
     }

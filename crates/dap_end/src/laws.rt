@@ -8,7 +8,11 @@ ghost use Rattle.nsp_link.specs.declared.fault.LinkFault.{LinkFault as TheFault}
 ghost use Rattle.nsp_link.specs.Link.{IsSpelling};
 ghost use Rattle.nsp_link.specs.declared.fault.LinkFault.TheVariants as fault;
 ghost use Rattle.nsp_link.specs.Sending.{SendAllFault, WritesSent, ack_packet_of};
+ghost use Rattle.dap_msg.specs.Blocked.{messages_in};
+ghost use Rattle.dap_msg.specs.declared.items.Item.{Item};
 ghost use Rattle.dap_accessed.specs.Standing.{Files};
+ghost use Rattle.dap_accessed.specs.Groups.{After, Answers};
+ghost use Rattle.dap_accessing.specs.Told.{Told};
 ghost use Rattle.dap_accessing.specs.Request.{Request as TheRequest};
 ghost use Rattle.dap_accessing.specs.declared.report.Report.{Report as TheReport};
 ghost use Rattle.dap_accessing.specs.declared.fault.ReadFault.{ReadFault as TheReadFault};
@@ -18,27 +22,32 @@ ghost use Rattle.dap_end.specs.declared.fault.EndFault.TheVariants as end_fault;
 ghost use Rattle.dap_end.specs.declared.fault.TakeFault.{TakeFault as TheTakeFault};
 ghost use Rattle.dap_end.specs.Ports.{PortValue, new_port};
 ghost use Rattle.dap_end.specs.Going.{AreFrontOf};
-ghost use Rattle.dap_end.specs.Serving.{ServingValue, Past, IsAfter, ServedOne, PostedAll, nothing_yet};
-ghost use Rattle.dap_end.specs.Writing.{WroteMore, WroteAll};
+ghost use Rattle.dap_end.specs.Serving.{ServingValue, Past, IsAfter, ServedOne, PostedAll, answers_to, nothing_yet};
+ghost use Rattle.dap_end.specs.Writing.{WroteMore};
 ghost use Rattle.dap_end.specs.Turns.{WroteThen, WentOn, TookIn, TookThen, Takes};
 ghost use Rattle.dap_end.specs.Taking as serving;
-ghost use Rattle.dap_end.specs.Taking.{serves, with_port};
+ghost use Rattle.dap_end.specs.Taking.{serves};
 ghost use Rattle.dap_end.specs.Wanting.{took_wanting, went_wanting};
 ghost use Rattle.dap_end.specs.Asking as asking;
 ghost use Rattle.dap_end.specs.Asking.{asks, AreAlike, AskingValue, AskingPast, HasAsked, HasDone, AskedOne, HandedAll, ReadOne, nothing_asked};
 ghost use Rattle.dap_end.specs.Runs.{RunsBy};
-ghost use Rattle.dap_end.specs.Headline.{Written, EndEvent, Came, GoesOn, Again, Acks, AnyBytes, IsFromPeer, Runs, AreCalls, Promises, numbered};
-ghost use Rattle.dap_end.specs.Hearing.{AskingEvent, Asks, By, AskingRuns, AreAskingCalls, AskingPromises, requests_in};
+ghost use Rattle.dap_end.specs.Headline.{Written, EndEvent, Came, GoesOn, Again, Acks, AnyBytes, IsFromPeer, Runs, AreCalls, AreWrittenOf, numbered};
+ghost use Rattle.dap_end.specs.Hearing.{AskingEvent, Asks, By, AskingRuns, AreAskingCalls, requests_in};
 ghost use Rattle.dap_end.specs.Joined.{Pair, PairEvent, PairStepped, AreOpposite, AreNew, PairHeadline};
 
 /// Whatever bytes come to an end that served nothing yet, and whatever it was called to do, there is a list of items that it
 /// served: its files are those after them, what it handed to its link is a front of the answers to them, and each packet
 /// that it wrote carries its segment of that. Own.
 pub fn every_run_is_served()
-    ensures { (first : Files) (events : List EndEvent) (old new : ServingValue)
+    ensures served { (first : Files) (events : List EndEvent) (old new : ServingValue)
         (wrote : List Written) → IsAfter (nothing_yet first) old
         → Runs AnyBytes old events new wrote
-        → (past : Past) × IsAfter past new × (past.first ≡ first) × Promises past new wrote }
+        → (past : Past) × IsAfter past new × (past.first ≡ first)
+        × (new.accessed.files ≡ After new.accessed.own past.first past.items)
+        × AreWrittenOf new.port.link past.handed wrote }
+    // What is joined to NSP messages are all answers, in order.
+    ensures joined { (own : ℕ) (first : Files) (items : List Item)
+        → messages_in (answers_to own first [] items) ≡ Answers own first items }
 {}
 
 /// Where the packets are those of a peer that sends some NSP messages, lost, repeated and reordered as they may be, what the
@@ -58,7 +67,7 @@ pub fn calls_are_runs()
         → Runs AnyBytes old (GoesOn ∷ []) new [] }
     ensures post { (old new : ServingValue) (n : ℕ) → PostedAll old new n
         → Runs AnyBytes old (GoesOn ∷ []) new [] }
-    ensures emit { (old new : ServingValue) (bytes : List ℕ) → new ≡ with_port old new.port
+    ensures emit { (old new : ServingValue) (bytes : List ℕ) → new ≡ record old { port = new.port }
         → WroteMore old.port new.port (bytes ∷ []) → Runs AnyBytes old (GoesOn ∷ []) new
         (numbered (old.port.link.sent + 1) old.port.link.coming.received (bytes ∷ [])) }
     ensures resend { (v : ServingValue) (i : ℕ) (bytes : List ℕ)
@@ -76,7 +85,7 @@ pub fn calls_are_runs()
           acks = v.port.link.coming.received;
         } ∷ []) }
     ensures go_on { (old new : ServingValue) (out all : List (List ℕ))
-        → WroteThen serves (λ p q. WroteAll p q out all) old new
+        → WroteThen serves WroteMore old new out all
         → AreCalls old (GoesOn ∷ []) new out all }
     ensures halted { (old new : ServingValue) (out all : List (List ℕ)) (f : TheEndFault)
         → WentOn serves old new out all (Err f) → AreCalls old (GoesOn ∷ []) new out all }
@@ -118,7 +127,7 @@ pub fn asking_calls_are_runs()
         } ∷ []) }
     ensures go_on { (old new : AskingValue) (out all : List (List ℕ))
         (before after : List TheReport)
-        → WroteThen (asks before after) (λ p q. WroteAll p q out all) old new
+        → WroteThen (asks before after) WroteMore old new out all
         → AreAskingCalls old (By GoesOn ∷ []) new out all before after }
     ensures take { (old new : AskingValue) (bytes : List ℕ) (got : TheGot) (out all : List (List ℕ))
         (before after : List TheReport)
@@ -212,8 +221,9 @@ pub fn every_run_is_told()
     ensures { (events : List AskingEvent) (old new : AskingValue) (reports : List TheReport)
         (wrote : List Written) → HasAsked nothing_asked old
         → AskingRuns AnyBytes old events new reports wrote
-        → (past : AskingPast) × HasAsked past new
-        × AskingPromises (requests_in events) reports past new wrote }
+        → (past : AskingPast) × HasAsked past new × (past.requests ≡ requests_in events)
+        × (reports ≡ Told past.requests past.answers)
+        × AreWrittenOf new.port.link past.handed wrote }
 {}
 
 /// Where the packets are those of a peer that sends some NSP messages, lost, repeated and reordered as they may be, the

@@ -1,14 +1,14 @@
 //! One end of a link, with the NSP messages that wait to be handed to it, and the place in the oldest one that came.
 
-ghost use Rattle.std.specs.Prelude.{◌≡◌, ◌≢◌, ◌+◌, ◌-◌, ◌<◌, ◌≤◌, ◌∷◌, ◌++◌, [], ℕ, List, Ok, Some, None, length, false, true, IfOk, IfErr, IfSome, OnOk, OnErr, slice_get};
+ghost use Rattle.std.specs.Prelude.{◌≡◌, ◌≢◌, ◌+◌, ◌-◌, ◌<◌, ◌≤◌, ◌∷◌, ◌++◌, [], ℕ, List, Ok, Some, None, length, false, true, IfOk, IfErr, IfSome, OnOk, OnErr, slice_get, IsTrue};
 ghost use Rattle.nsp_link.specs.Limits.{largest_limit};
-ghost use Rattle.nsp_link.specs.Link.{IsSetup, SetupFault, IsLink, MaySend, with_inbox};
-ghost use Rattle.nsp_link.specs.Sending.{NextFault, MayQueueAll, SendAllFault};
+ghost use Rattle.nsp_link.specs.Link.{IsSetup, SetupFault, IsLink, may_send, with_inbox};
+ghost use Rattle.nsp_link.specs.Sending.{NextFault, may_queue, SendAllFault};
 ghost use Rattle.nsp_link.specs.declared.fault.LinkFault.TheVariants.{MessageTooLong, NoMemory};
 ghost use Rattle.std.specs.Prelude.{◌==◌};
 ghost use Rattle.dap_fields.specs.Spelling.{AreBytes};
 ghost use Rattle.dap_msg.specs.Blocked.{bodies};
-ghost use Rattle.dap_end.specs.Writing.{WroteMore, WroteAll, AnsweredAll, AnsweredPart, IsFull, sent_more, wants_ack};
+ghost use Rattle.dap_end.specs.Writing.{WroteMore, Behind, WroteAnswer, WrotePart, sent_more, wants_ack};
 ghost use Rattle.nsp_link.specs.Receiving.{Receives};
 ghost use Rattle.dap_end.specs.Ports.{new_port, with_link, posted, gone_on, HasCome};
 ghost use Rattle.dap_end.specs.Inner.Kept.{IsPort};
@@ -90,7 +90,7 @@ impl Port {
 
     /// The packet of the next segment that was never sent.
     pub(crate) fn emit(&mut self) -> Result<Option<Vec<u8>>, LinkFault>
-        ensures nothing { result ≡ Ok None → (self.new ≡ self.old) × (MaySend self.old.link → ⊥) }
+        ensures nothing { result ≡ Ok None → (self.new ≡ self.old) × (may_send self.old.link ≡ false) }
         ensures wrote { IfOk result
             (λ o. IfSome o (λ v. WroteMore self.old self.new (v.items ∷ []))) }
         ensures sent { (n : ℕ) × (self.new ≡ sent_more self.old n) }
@@ -103,7 +103,7 @@ impl Port {
     /// The packet of the next segment, of a link that runs and lets it be sent.
     pub(crate) fn write_next(&mut self) -> Result<Vec<u8>, LinkFault>
         requires works { self.old.link.failed ≡ false }
-        requires may { MaySend self.old.link }
+        requires may { IsTrue (may_send self.old.link) }
         ensures wrote { IfOk result (λ v. WroteMore self.old self.new (v.items ∷ [])) }
         ensures sent { (n : ℕ) × (self.new ≡ sent_more self.old n) }
         ensures err { IfErr result (λ f. (self.new ≡ self.old) × (f ≡ NoMemory)) }
@@ -115,8 +115,8 @@ impl Port {
     /// Whether no segment that was never sent may be written.
     fn is_full(&self) -> bool
         ensures link { IsLink self.now.link }
-        ensures yes { result ≡ true → IsFull self.now.link }
-        ensures no { result ≡ false → MaySend self.now.link }
+        ensures yes { result ≡ true → may_send self.now.link ≡ false }
+        ensures no { result ≡ false → IsTrue (may_send self.now.link) }
     {
         let _ = self.link.unacked();
         !self.link.may_send()
@@ -126,9 +126,10 @@ impl Port {
     pub(crate) fn emit_all(&mut self, out: &mut Vec<Vec<u8>>) -> Result<(), LinkFault>
         requires kept { IsPort self.old }
         requires works { self.old.link.failed ≡ false }
-        ensures wrote { WroteAll self.old self.new (bodies out.old.items) (bodies out.new.items) }
-        ensures all { OnOk result (IsFull self.new.link) }
-        ensures err { IfErr result (λ f. (f ≡ NoMemory) × MaySend self.new.link) }
+        ensures wrote { Behind (bodies out.old.items) (bodies out.new.items)
+            (WroteMore self.old self.new) }
+        ensures all { OnOk result (may_send self.new.link ≡ false) }
+        ensures err { IfErr result (λ f. (f ≡ NoMemory) × IsTrue (may_send self.new.link)) }
         ensures kept { IsPort self.new }
     {
         'segments: loop {
@@ -149,10 +150,10 @@ impl Port {
     pub(crate) fn answer(&mut self, got: Got, out: &mut Vec<Vec<u8>>) -> Result<(), LinkFault>
         requires kept { IsPort self.old }
         requires works { self.old.link.failed ≡ false }
-        ensures ok { OnOk result (AnsweredAll self.old self.new got (bodies out.old.items)
-            (bodies out.new.items)) }
-        ensures err { IfErr result (λ f. (f ≡ NoMemory) × AnsweredPart self.old self.new got
-            (bodies out.old.items) (bodies out.new.items)) }
+        ensures ok { OnOk result (Behind (bodies out.old.items) (bodies out.new.items)
+            (WroteAnswer self.old self.new got)) }
+        ensures err { IfErr result (λ f. (f ≡ NoMemory) × Behind (bodies out.old.items)
+            (bodies out.new.items) (WrotePart self.old self.new got)) }
         ensures kept { IsPort self.new }
     {
         let before = out.len();
@@ -189,7 +190,7 @@ impl Port {
         requires { IsPort self.old }
         ensures ok { IfOk result (λ n. (self.new ≡ posted self.old)
             × (n ≡ length self.old.outbox)) }
-        ensures may { OnOk result (MayQueueAll self.old.link self.old.outbox) }
+        ensures may { OnOk result (IsTrue (may_queue self.old.link self.old.outbox)) }
         ensures kept { IsPort self.new }
         ensures err { IfErr result (λ f. (self.new ≡ self.old)
             × SendAllFault self.old.link self.old.outbox f) }
@@ -203,10 +204,10 @@ impl Port {
     /// Hands over all that waits, which the link takes.
     pub(crate) fn post_checked(&mut self) -> Result<usize, LinkFault>
         requires kept { IsPort self.old }
-        requires may { MayQueueAll self.old.link self.old.outbox }
+        requires may { IsTrue (may_queue self.old.link self.old.outbox) }
         ensures ok { IfOk result (λ n. (self.new ≡ posted self.old)
             × (n ≡ length self.old.outbox)) }
-        ensures may { OnOk result (MayQueueAll self.old.link self.old.outbox) }
+        ensures may { OnOk result (IsTrue (may_queue self.old.link self.old.outbox)) }
         ensures kept { IsPort self.new }
         ensures err { IfErr result (λ f. (self.new ≡ self.old) × (f ≡ NoMemory)) }
         ensures some { OnErr result (self.old.outbox ≢ []) }
@@ -224,10 +225,10 @@ impl Port {
     /// The same, and moves what waited behind what `handed` has.
     pub(crate) fn post_into(&mut self, handed: &mut Vec<Vec<u8>>) -> Result<usize, LinkFault>
         requires kept { IsPort self.old }
-        requires may { MayQueueAll self.old.link self.old.outbox }
+        requires may { IsTrue (may_queue self.old.link self.old.outbox) }
         ensures ok { IfOk result (λ n. (self.new ≡ posted self.old)
             × (n ≡ length self.old.outbox)) }
-        ensures may { OnOk result (MayQueueAll self.old.link self.old.outbox) }
+        ensures may { OnOk result (IsTrue (may_queue self.old.link self.old.outbox)) }
         ensures moved { OnOk result (bodies handed.new.items
             ≡ bodies handed.old.items ++ self.old.outbox) }
         ensures kept { IsPort self.new }

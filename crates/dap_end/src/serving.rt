@@ -5,18 +5,18 @@ ghost use Rattle.dap_msg.specs.BothEnds.{least_buffer};
 ghost use Rattle.dap_msg.specs.Blocked.{bodies};
 ghost use Rattle.rec_file.specs.Shapes.{is_shape};
 ghost use Rattle.nsp_link.specs.Limits.{largest_limit};
-ghost use Rattle.nsp_link.specs.Link.{IsSetup, SetupFault, MaySend, IsSpelling};
-ghost use Rattle.nsp_link.specs.Sending.{NextFault, MayQueueAll, SendAllFault, WritesSent, ack_packet_of};
+ghost use Rattle.nsp_link.specs.Link.{IsSetup, SetupFault, may_send, IsSpelling};
+ghost use Rattle.nsp_link.specs.Sending.{NextFault, may_queue, SendAllFault, WritesSent, ack_packet_of};
 ghost use Rattle.nsp_link.specs.declared.fault.LinkFault.TheVariants.{Failed, NoSuchSegment, MessageTooLong};
 ghost use Rattle.nsp_link.specs.declared.fault.LinkFault.TheVariants as fault;
 ghost use Rattle.dap_accessed.specs.Groups.{After};
-ghost use Rattle.dap_accessed.specs.Adding.{MayAdd, MayAddRecord, with_new_file, with_record};
+ghost use Rattle.dap_accessed.specs.Adding.{MayAdd, MayAddRecord, AddRefused, RecordRefused, with_new_file, with_record};
 ghost use Rattle.dap_end.specs.Ports.{HasCome, new_port, with_link};
 ghost use Rattle.nsp_link.specs.Receiving.{Receives};
 ghost use Rattle.dap_end.specs.Writing.{WroteMore};
-ghost use Rattle.dap_end.specs.Serving.{Past, IsAfter, IsStill, NotAdded, NotStored, IsGiven, MayServe, ServedOne, PostedAll, nothing_yet};
-ghost use Rattle.dap_end.specs.Taking.{ServedUp, IsServed, ServeFault, GoesOn, serves, with_port};
-ghost use Rattle.dap_end.specs.Turns.{Answered, Takes};
+ghost use Rattle.dap_end.specs.Serving.{Past, IsAfter, NotGiven, IsGiven, MayServe, ServedOne, PostedAll, nothing_yet};
+ghost use Rattle.dap_end.specs.Taking.{ServedUp, IsServed, ServeFault, GoesOn, serves};
+ghost use Rattle.dap_end.specs.Turns.{Answered, Takes, Still};
 ghost use Rattle.dap_end.specs.Inner.Answered.{ended_by};
 ghost use Rattle.dap_end.specs.declared.fault.EndFault.TheVariants as end_fault;
 ghost use Rattle.dap_end.specs.Inner.Kept.{IsPort};
@@ -112,7 +112,7 @@ impl ServingEnd {
         ensures given { OnOk result (IsGiven self.old self.new) }
         ensures port { self.new.port ≡ self.old.port }
         ensures own { self.new.accessed.own ≡ self.old.accessed.own }
-        ensures refused { IfErr result (λ f. NotAdded self.old name.now f) }
+        ensures refused { IfErr result (NotGiven self.old (AddRefused self.old.accessed name.now)) }
         ensures unchanged { OnErr result (self.new ≡ self.old) }
     {
         if self.port.has_come() {
@@ -134,7 +134,8 @@ impl ServingEnd {
         ensures given { OnOk result (IsGiven self.old self.new) }
         ensures port { self.new.port ≡ self.old.port }
         ensures own { self.new.accessed.own ≡ self.old.accessed.own }
-        ensures refused { IfErr result (λ f. NotStored self.old number body.now f) }
+        ensures refused { IfErr result
+            (NotGiven self.old (RecordRefused self.old.accessed number body.now)) }
         ensures unchanged { OnErr result (self.new ≡ self.old) }
     {
         if self.port.has_come() {
@@ -145,10 +146,11 @@ impl ServingEnd {
 
     /// Takes a packet in, as [`nsp_link::LinkEnd::receive`] does; nothing is served by that.
     pub fn receive(&mut self, packet: &[u8]) -> Result<Got, LinkFault>
-        ensures rest { self.new ≡ with_port self.old
-            (with_link self.old.port self.new.port.link) }
+        ensures rest { self.new ≡ record self.old {
+          port = with_link self.old.port self.new.port.link;
+        } }
         ensures receives { Receives self.old.port.link self.new.port.link packet.now result }
-        ensures still { IsStill self.old self.new }
+        ensures still { Still IsAfter self.old self.new }
     {
         self.port.receive(packet)
     }
@@ -181,7 +183,7 @@ impl ServingEnd {
     /// The same of messages that the link takes, as [`nsp_link::LinkEnd::check_messages`] tells: they aren't looked at
     /// again. Refused for want of memory alone, with nothing changed. Own.
     pub fn post_checked(&mut self) -> Result<usize, LinkFault>
-        requires { MayQueueAll self.old.port.link self.old.port.outbox }
+        requires { IsTrue (may_queue self.old.port.link self.old.port.outbox) }
         ensures ok { IfOk result (λ n. PostedAll self.old self.new n) }
         ensures err { IfErr result (λ f. (self.new ≡ self.old) × (f ≡ fault.NoMemory)) }
     {
@@ -191,13 +193,13 @@ impl ServingEnd {
     /// The packet of the next segment that was never sent, or none where none waits or the window is full, as
     /// [`nsp_link::LinkEnd::next_packet`] writes it (NSP 4.0.0, data segment message).
     pub fn emit(&mut self) -> Result<Option<Vec<u8>>, LinkFault>
-        ensures rest { self.new ≡ with_port self.old self.new.port }
+        ensures rest { self.new ≡ record self.old { port = self.new.port } }
         ensures nothing { result ≡ Ok None
-            → (self.new ≡ self.old) × (MaySend self.old.port.link → ⊥) }
+            → (self.new ≡ self.old) × (may_send self.old.port.link ≡ false) }
         ensures wrote { IfOk result
             (λ o. IfSome o (λ v. WroteMore self.old.port self.new.port (v.items ∷ []))) }
         ensures err { IfErr result (λ f. (self.new ≡ self.old) × NextFault self.old.port.link f) }
-        ensures still { IsStill self.old self.new }
+        ensures still { Still IsAfter self.old self.new }
     {
         self.port.emit()
     }
@@ -206,11 +208,11 @@ impl ServingEnd {
     /// at again. Refused for want of memory alone, with nothing changed. Own.
     pub fn write_next(&mut self) -> Result<Vec<u8>, LinkFault>
         requires works { self.old.port.link.failed ≡ false }
-        requires may { MaySend self.old.port.link }
-        ensures rest { self.new ≡ with_port self.old self.new.port }
+        requires may { IsTrue (may_send self.old.port.link) }
+        ensures rest { self.new ≡ record self.old { port = self.new.port } }
         ensures wrote { IfOk result (λ v. WroteMore self.old.port self.new.port (v.items ∷ [])) }
         ensures err { IfErr result (λ f. (self.new ≡ self.old) × (f ≡ fault.NoMemory)) }
-        ensures still { IsStill self.old self.new }
+        ensures still { Still IsAfter self.old self.new }
     {
         self.port.write_next()
     }

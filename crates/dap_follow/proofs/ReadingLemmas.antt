@@ -8,27 +8,27 @@ use Rattle.dap_listing.specs.Listing.{heading}
 use Rattle.dap_listing.specs.Lines.{Capture}
 use Rattle.dap_listing.specs.Packets.{IsSeen, Seen, seen_line}
 use Rattle.dap_listing.specs.declared.lines.Direction.{Direction}
-use Rattle.dap_follow.specs.Streams.{Packet, came_as, stream_of}
+use Rattle.dap_follow.specs.Streams.{Captured, came_as, stream_of}
 use Rattle.dap_follow.specs.Following.{IsCaptured}
 use Rattle.dap_follow.specs.Inner.Keeping.{KeepsAll}
 use Rattle.dap_follow.specs.Inner.Reading.{Reads, line_texts}
 use Rattle.dap_follow.specs.declared.reading.Reading.{Reading}
 use Rattle.dap_follow.proofs.KeepingLemmas.{keeps_aside}
 
-line_texts-snoc : (n : ℕ) (packets : List Packet) (x : Packet) → line_texts n (packets ++ x ∷ []) ≡ line_texts n packets ++ (heading (n + length packets) x.0 ++ seen_line x.1) ∷ []
+line_texts-snoc : (n : ℕ) (packets : List Captured) (x : Captured) → line_texts n (packets ++ x ∷ []) ≡ line_texts n packets ++ (heading (n + length packets) x.0 ++ seen_line x.1) ∷ []
 line_texts-snoc n [] x = ap (λ (k : ℕ). (heading k x.0 ++ seen_line x.1) ∷ []) (sym (add-zero n))
 line_texts-snoc n (p ∷ packets) x =
     let same : n + 1 + length packets ≡ n + length (p ∷ packets) = omega arith in
     ap (λ l. (heading n p.0 ++ seen_line p.1) ∷ l) (line_texts-snoc (n + 1) packets x ∙ ap (λ (k : ℕ). line_texts (n + 1) packets ++ (heading k x.0 ++ seen_line x.1) ∷ []) same)
 
-length-line_texts : (n : ℕ) (packets : List Packet) → length (line_texts n packets) ≡ length packets
+length-line_texts : (n : ℕ) (packets : List Captured) → length (line_texts n packets) ≡ length packets
 length-line_texts n [] = refl
 length-line_texts n (p ∷ packets) = ap suc (length-line_texts (n + 1) packets)
 
-pub count_is : (packets : List Packet) (r : Reading) → Reads packets r → length r.lines.items ≡ length packets
+pub count_is : (packets : List Captured) (r : Reading) → Reads packets r → length r.lines.items ≡ length packets
 count_is packets r reads = sym (length-map r.lines.items (λ (line : Vec ℕ). line.items)) ∙ ap length reads.lines ∙ length-line_texts 1 packets
 
-pub reads_more : (packets : List Packet) (way : Direction) (seen : Seen) (old new : Reading) (line : Vec ℕ) (number : ℕ) → Reads packets old
+pub reads_more : (packets : List Captured) (way : Direction) (seen : Seen) (old new : Reading) (line : Vec ℕ) (number : ℕ) → Reads packets old
     → KeepsAll (packets ++ (way, seen) ∷ []) new.streams → new.lines.items ≡ old.lines.items ++ line ∷ [] → line.items ≡ heading number way ++ seen_line seen
     → number ≡ length old.lines.items + 1 → Reads (packets ++ (way, seen) ∷ []) new
 reads_more packets way seen old new line number reads streams pushed is at =
@@ -40,13 +40,13 @@ reads_more packets way seen old new line number reads streams pushed is at =
       streams = streams;
     }
 
-pub aside_fault : (packets : List Packet) (way : Direction) (seen : Seen) (old new : Reading) → Reads packets old → (stream_of (way, seen) ≡ None)
+pub aside_fault : (packets : List Captured) (way : Direction) (seen : Seen) (old new : Reading) → Reads packets old → (stream_of (way, seen) ≡ None)
     → ((s : _) → came_as s (1 + length packets) (way, seen) ≡ None) → new.streams ≡ old.streams → KeepsAll (packets ++ (way, seen) ∷ []) new.streams
 aside_fault packets way seen old new reads of_none none same = rw same (keeps_aside packets (way, seen) old.streams of_none none reads.streams)
 
 -- ---- the packets of captures
 
-pub seen_more : (captures : List Capture) (packets : List Packet) (way : Direction) (digits bytes : List ℕ) (seen : Seen) → AllZip IsCaptured captures packets
+pub seen_more : (captures : List Capture) (packets : List Captured) (way : Direction) (digits bytes : List ℕ) (seen : Seen) → AllZip IsCaptured captures packets
     → decode_of digits ≡ Ok bytes → IsSeen seen bytes → AllZip IsCaptured (captures ++ (way, digits) ∷ []) (packets ++ (way, seen) ∷ [])
 seen_more [] [] way digits bytes seen all decoded is = ((refl, (bytes, decoded, is)), tt)
 seen_more [] (p ∷ packets) way digits bytes seen all decoded is = absurd all

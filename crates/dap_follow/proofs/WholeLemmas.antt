@@ -14,7 +14,7 @@ use Rattle.std.proofs.lemmas.List.{append_assoc, append-nil, map-append, take_al
 use Rattle.std.proofs.lemmas.Map.Keys.{IsStrictlyIncreasing-from_sorted}
 use Rattle.dap_listing.specs.Listing.{heading}
 use Rattle.dap_listing.specs.Packets.{seen_line}
-use Rattle.dap_follow.specs.Streams.{ArePlaced, Came, IsOrdered, Packet, came_in, first_place}
+use Rattle.dap_follow.specs.Streams.{ArePlaced, Came, IsOrdered, Captured, came_in, first_place}
 use Rattle.dap_follow.specs.Joined.{Message, messages, pieces}
 use Rattle.dap_follow.specs.Following.{ArePacketLines, all_rest_lines, rest_lines, no_more, one_more}
 use Rattle.dap_follow.specs.Inner.Keeping.{KeepsEach, KeepsStream}
@@ -32,7 +32,7 @@ use Rattle.dap_follow.proofs.JoiningLemmas.{under_both}
 none_some : {X : Type 0} (x : X) → None ≡ Some x → ⊥
 none_some x e = cc
 
-pub kept_one : (packets : List Packet) (i : ℕ) (keys : List Stream) (places : List Places) (d : Places) → KeepsEach packets keys places → i < length places
+pub kept_one : (packets : List Captured) (i : ℕ) (keys : List Stream) (places : List Places) (d : Places) → KeepsEach packets keys places → i < length places
     → (s : Stream) × (slice_get keys i ≡ Some s) × KeepsStream packets s (get_or places i d)
 kept_one packets i [] [] d each below = absurd (omega arith)
 kept_one packets i [] (p ∷ places) d each below = absurd each
@@ -85,7 +85,7 @@ unfolding IsStrictlySortedBy
 sorted_places [] rises = tt
 sorted_places (c ∷ cs) rises = (sorted_each c.place cs rises.0, sorted_places cs rises.1)
 
-is_ordered : (packets : List Packet) (s : Stream) (p : Places) → KeepsStream packets s p → IsOrdered (came_in s packets) (values p.ordered.items)
+is_ordered : (packets : List Captured) (s : Stream) (p : Places) → KeepsStream packets s p → IsOrdered (came_in s packets) (values p.ordered.items)
 is_ordered packets s p k = record {
   placed = k.keeps.placed;
   are_placed = subst (λ (l : List Came). ArePlaced (first_place l) l k.keeps.placed) (sym k.are) k.keeps.are_placed;
@@ -93,7 +93,7 @@ is_ordered packets s p k = record {
   same = k.keeps.same;
 }
 
-pub are_ordered : (packets : List Packet) (keys : List Stream) (places : List Places) → KeepsEach packets keys places → AllZip (λ stream. IsOrdered (came_in stream packets)) keys (ordered_of places)
+pub are_ordered : (packets : List Captured) (keys : List Stream) (places : List Places) → KeepsEach packets keys places → AllZip (λ stream. IsOrdered (came_in stream packets)) keys (ordered_of places)
 are_ordered packets [] [] each = tt
 are_ordered packets [] (p ∷ places) each = absurd each
 are_ordered packets (s ∷ keys) [] each = absurd each
@@ -110,7 +110,7 @@ nil_cons x xs e = cc
 same_parts : (a b : List ℕ) (xs ys : List (List ℕ)) → a ∷ xs ≡ b ∷ ys → (a ≡ b) × (xs ≡ ys)
 same_parts a b xs ys e = ((let first : a ≡ b = cc in first), (let rest : xs ≡ ys = cc in rest))
 
-pub packet_lines : (all : List Message) (n : ℕ) (packets : List Packet) (olds news : List (Vec ℕ)) → map (λ (v : Vec ℕ). v.items) olds ≡ line_texts n packets → UnderAll all n olds news
+pub packet_lines : (all : List Message) (n : ℕ) (packets : List Captured) (olds news : List (Vec ℕ)) → map (λ (v : Vec ℕ). v.items) olds ≡ line_texts n packets → UnderAll all n olds news
     → ArePacketLines all n packets (texts_of news)
 packet_lines all n [] [] [] are under = no_more
 packet_lines all n [] [] (v ∷ news) are under = absurd under
@@ -124,7 +124,7 @@ packet_lines all n (p ∷ packets) (o ∷ olds) (v ∷ news) are under =
     subst (λ (l : List ℕ). ArePacketLines all n (p ∷ packets) (l ++ texts_of news)) (sym text)
     (one_more here.0 (texts_of news) here.1 (packet_lines all (n + 1) packets olds news parts.1 under.1))
 
-pub key_there : (packets : List Packet) (i : ℕ) (keys : List Stream) (places : List Places) → KeepsEach packets keys places → i < length places → slice_get keys i ≡ None → ⊥
+pub key_there : (packets : List Captured) (i : ℕ) (keys : List Stream) (places : List Places) → KeepsEach packets keys places → i < length places → slice_get keys i ≡ None → ⊥
 key_there packets i [] [] each below none = absurd (omega arith)
 key_there packets i [] (p ∷ places) each below none = each
 key_there packets i (s ∷ keys) [] each below none = each

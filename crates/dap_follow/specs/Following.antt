@@ -5,19 +5,19 @@ use Rattle.std.specs.Fmt.{decimal}
 use Rattle.hex.specs.Hex.{decode_of}
 use Rattle.dap_text.specs.Text.{line_feed, word_text}
 use Rattle.dap_listing.specs.Gives.{Gives}
-use Rattle.dap_listing.specs.Listing.{arrow_text, captures, heading, packet_limit, line_faults}
+use Rattle.dap_listing.specs.Listing.{arrow_text, captures, heading, packet_limit, faults_from}
 use Rattle.dap_listing.specs.Lines.{Capture}
 use Rattle.dap_listing.specs.Messages.{IsMessagesText}
 use Rattle.dap_listing.specs.Packets.{IsSeen, seen_line}
 use Rattle.dap_listing.specs.declared.fault.CaptureFault.{CaptureFault}
 use Rattle.dap_listing.specs.declared.fault.Outcome.{Outcome}
 use Rattle.dap_listing.specs.declared.fault.Outcome.TheVariants.{Good}
-use Rattle.dap_follow.specs.Streams.{IsOrdered, Packet, Placed, came_in, streams}
+use Rattle.dap_follow.specs.Streams.{IsOrdered, Captured, Placed, came_in, streams}
 use Rattle.dap_follow.specs.Joined.{Message, Piece, is_message, messages, payload, pieces, tail}
 use Rattle.dap_follow.specs.declared.streams.Stream.{Stream}
 
 -- what was captured is this
-abbrev pub IsCaptured : Capture → Packet → Type 0
+abbrev pub IsCaptured : Capture → Captured → Type 0
 IsCaptured capture packet =
     (packet.0 ≡ capture.0) × ((bytes : List ℕ) × (decode_of capture.1 ≡ Ok bytes) × IsSeen packet.1 bytes)
 
@@ -39,9 +39,9 @@ pub data AreMessageLines : List Message → List ℕ → Type 0 where
       → AreMessageLines (m ∷ others) (message_heading m.piece ++ lines ++ rest)
 
 -- under each packet stand the messages that are whole with it; the first packet has the number
-pub data ArePacketLines (all : List Message) : ℕ → List Packet → List ℕ → Type 0 where
+pub data ArePacketLines (all : List Message) : ℕ → List Captured → List ℕ → Type 0 where
   no_more : {number : ℕ} → ArePacketLines all number [] []
-  one_more : {number : ℕ} {packet : Packet} {others : List Packet} (lines rest : List ℕ)
+  one_more : {number : ℕ} {packet : Captured} {others : List Captured} (lines rest : List ℕ)
       → AreMessageLines (filter (λ m. m.packet == number) all) lines → ArePacketLines all (number + 1) others rest
       → ArePacketLines all number (packet ∷ others) (heading number packet.0 ++ seen_line packet.1 ++ lines ++ rest)
 
@@ -73,7 +73,7 @@ all_rest_lines streams ordered = flat_map (λ (stream, segments). rest_lines str
 
 -- the lines of the packets, and behind them what is left of each stream
 pub record IsFollowed (captured : List Capture) (text : List ℕ) : Type 0 where
-  pub packets : List Packet
+  pub packets : List Captured
   pub ordered : List (List Placed)
   pub lines : List ℕ
   pub are_seen : AllZip IsCaptured captured packets
@@ -84,4 +84,4 @@ pub record IsFollowed (captured : List Capture) (text : List ℕ) : Type 0 where
 -- what the listing of an input answers
 abbrev pub FollowGives : List ℕ → Option (List ℕ) → Option (List ℕ) → Result Outcome CaptureFault → Type 0
 FollowGives input =
-    Gives (line_faults packet_limit input) (λ outcome text. (outcome ≡ Good) × IsFollowed (captures packet_limit input) text) input
+    Gives (faults_from packet_limit 1 input) (λ outcome text. (outcome ≡ Good) × IsFollowed (captures packet_limit input) text) input

@@ -3,20 +3,21 @@ use Rattle.std.specs.Prelude.{◌≡◌, ℕ, ◌+◌, ◌%◌, ◌≤◌, ◌==
 use Rattle.std.specs.List.{filter_map, find, enumerate_from}
 use Rattle.std.specs.List.Sorted.{IsStrictlyIncreasing}
 use Rattle.indexmap.specs.IndexSet.{insert_all}
-use Rattle.nsp_seg.specs.Packets.{SegmentValue, segment}
+use Rattle.nsp_seg.specs.declared.packet.SegmentFields.{SegmentFields}
+use Rattle.nsp_seg.specs.declared.packet.Packet.TheVariants.{Segment}
 use Rattle.dap_listing.specs.Packets.{Seen}
 use Rattle.dap_listing.specs.declared.lines.Direction.{Direction}
 use Rattle.dap_listing.specs.declared.lines.Direction.TheVariants.{Right, Left}
 use Rattle.dap_follow.specs.declared.streams.Stream.{Stream}
 
 -- what was captured, and the way that it went
-abbrev pub Packet : Type 0
-Packet = Direction × Seen
+abbrev pub Captured : Type 0
+Captured = Direction × Seen
 
 -- ---- streams: the segments that go one way between two ends
 
-abbrev pub stream_of : Packet → Option Stream
-stream_of (way, Ok (segment s)) = Some (record { way = way; dst = s.dst; src = s.src })
+abbrev pub stream_of : Captured → Option Stream
+stream_of (way, Ok (Segment s)) = Some (record { way = way; dst = s.dst; src = s.src })
 stream_of _ = None
 
 abbrev pub is_same_way : Direction → Direction → Bool
@@ -28,22 +29,22 @@ abbrev pub is_same : Stream → Stream → Bool
 is_same a b = is_same_way a.way b.way && (a.dst == b.dst) && (a.src == b.src)
 
 -- each once, in the order in which they appear
-abbrev pub streams : List Packet → List Stream
+abbrev pub streams : List Captured → List Stream
 streams packets = insert_all is_same [] (filter_map stream_of packets)
 
 -- a segment, and the number of its packet
 pub record Came : Type 0 where
   pub packet : ℕ
-  pub segment : SegmentValue
+  pub segment : SegmentFields
 
 -- the segment of a packet, where it is of the stream
-abbrev pub came_as : Stream → ℕ → Packet → Option Came
-came_as stream number (way, Ok (segment s)) =
+abbrev pub came_as : Stream → ℕ → Captured → Option Came
+came_as stream number (way, Ok (Segment s)) =
     if is_same stream (record { way = way; dst = s.dst; src = s.src }) then Some (record { packet = number; segment = s }) else None
 came_as stream number _ = None
 
 -- the segments of a stream, as they came
-abbrev pub came_in : Stream → List Packet → List Came
+abbrev pub came_in : Stream → List Captured → List Came
 came_in stream packets = filter_map (λ (number, packet). came_as stream number packet) (enumerate_from 1 packets)
 
 -- ---- places

@@ -2,7 +2,7 @@
 
 ghost use Rattle.std.specs.Prelude.{◌≡◌, ◌≤◌, ◌++◌, [], IfErr, IfOk, IfSome, OnOk, length};
 ghost use Rattle.dap_listing.specs.Gives.{IsFirst, KeepsUnwritten, TakesWithinLimit};
-ghost use Rattle.dap_listing.specs.Listing.{captures, line_faults, packet_limit};
+ghost use Rattle.dap_listing.specs.Listing.{captures, packet_limit, faults_from};
 ghost use Rattle.dap_follow.specs.Following.{FollowGives, IsFollowed};
 ghost use Rattle.dap_follow.specs.Inner.Reading.{FirstThenWants, WantsOrFirst};
 ghost use Rattle.dap_follow.specs.Inner.Whole.{KeepsFew, ListsAll, texts_of};
@@ -58,7 +58,7 @@ fn join(alloc: Global, lines: &[Vec<u8>], rest: &[u8]) -> Result<Vec<u8>, AllocE
 fn follow_lines(alloc: Global, input: &[u8]) -> Result<Vec<u8>, CaptureFault>
     requires { length input.now ≤ INPUT_LIMIT }
     ensures whole { IfOk result (λ text. IsFollowed (captures packet_limit input.now) text.items) }
-    ensures clean { OnOk result (line_faults packet_limit input.now ≡ []) }
+    ensures clean { OnOk result (faults_from packet_limit 1 input.now ≡ []) }
     ensures fault { IfErr result (WantsOrFirst input.now) }
 {
     let Reading { mut lines, streams } = read_packets(alloc, input)?;
@@ -69,8 +69,8 @@ fn follow_lines(alloc: Global, input: &[u8]) -> Result<Vec<u8>, CaptureFault>
 /// Whether no line of an input is at fault, or else the first fault.
 fn check_lines(input: &[u8]) -> Result<(), CaptureFault>
     requires { length input.now ≤ INPUT_LIMIT }
-    ensures good { OnOk result (line_faults packet_limit input.now ≡ []) }
-    ensures fault { IfErr result (IsFirst (line_faults packet_limit input.now)) }
+    ensures good { OnOk result (faults_from packet_limit 1 input.now ≡ []) }
+    ensures fault { IfErr result (IsFirst (faults_from packet_limit 1 input.now)) }
 {
     let mut at = 1;
     let mut rest = input;
@@ -85,7 +85,7 @@ fn check_lines(input: &[u8]) -> Result<(), CaptureFault>
 fn follow_input(alloc: Global, input: &[u8]) -> Result<Vec<u8>, CaptureFault>
     requires { length input.now ≤ INPUT_LIMIT }
     ensures whole { IfOk result (λ text. IsFollowed (captures packet_limit input.now) text.items) }
-    ensures clean { OnOk result (line_faults packet_limit input.now ≡ []) }
+    ensures clean { OnOk result (faults_from packet_limit 1 input.now ≡ []) }
     ensures fault { IfErr result (FirstThenWants input.now) }
 {
     match follow_lines(alloc, input) {

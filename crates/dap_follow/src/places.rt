@@ -4,8 +4,7 @@ ghost use Rattle.std.specs.Prelude.{◌≡◌, ◌≤◌, ◌<◌, ◌+◌, ◌%
 ghost use Rattle.dap_follow.specs.Inner.Placing.{IsPutIn, Rises};
 ghost use Rattle.dap_follow.specs.Inner.Keeping.{IsAdded};
 
-use dap_listing::Carried;
-use nsp_seg::Seq12;
+use nsp_seg::{SegmentFields, Seq12};
 use std::alloc::{AllocError, Global};
 
 /// So many numbers of segments there are (NSP 4.0.0, segment numbers).
@@ -70,7 +69,7 @@ impl<'a> Places<'a> {
     }
 
     /// Takes the segment of a packet, unless another stands in its place.
-    pub(crate) fn add(&mut self, packet: usize, segment: &Carried<'a>) -> Result<(), AllocError>
+    pub(crate) fn add(&mut self, packet: usize, segment: &SegmentFields<'a>) -> Result<(), AllocError>
         requires low { 4096 ≤ self.old.highest }
         requires high { self.old.highest < 2 ^ 62 }
         requires rises { Rises self.old.ordered.items }
@@ -82,7 +81,7 @@ impl<'a> Places<'a> {
             packet,
             first: segment.first,
             last: segment.last,
-            payload: segment.payload,
+            payload: segment.payload.0,
         };
         put_in(&mut self.ordered, counted)?;
         self.highest = self.highest.max(place);

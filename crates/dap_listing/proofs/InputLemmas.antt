@@ -2,7 +2,8 @@
 use Rattle.std.proofs.Common.{◌≡◌, ◌≤◌, ◌+◌, ℕ, List, [], ◌++◌, length, Option, refl, arith, length-append}
 use Rattle.std.specs.Io.KnownBytes.{Consumes}
 use Rattle.std.proofs.KnownBytes.{Consumes-nil, Consumes-trans}
-use Rattle.dap_listing.specs.Gives.{TakesWithinLimit, input_limit}
+use Rattle.linewise.specs.Talks.{longest}
+use Rattle.dap_listing.specs.Gives.{TakesWithinLimit}
 use Rattle.dap_listing.specs.Inner.Input.{TakesBehind}
 
 -- so many of the known bytes, from the front
@@ -19,11 +20,11 @@ unfolding HasTaken
 taken_more count later old now new came before read counted =
     (before.0 ++ came, omega (arith, before.1, counted, length-append before.0 came), Consumes-trans old now new before.0 came before.2 read)
 
-pub taken_within : (count : ℕ) (old now : Option (List ℕ)) → HasTaken count old now → count ≤ input_limit + 1 → TakesWithinLimit old now
+pub taken_within : (count : ℕ) (old now : Option (List ℕ)) → HasTaken count old now → count ≤ longest + 1 → TakesWithinLimit old now
 unfolding HasTaken
 taken_within count old now before within = (before.0, before.2, omega (arith, before.1, within))
 
-pub takes_none : (count : ℕ) (known : Option (List ℕ)) → count ≤ input_limit → TakesBehind count known known
+pub takes_none : (count : ℕ) (known : Option (List ℕ)) → count ≤ longest → TakesBehind count known known
 unfolding TakesBehind
 takes_none count known within = ([], Consumes-nil known, omega (arith, within))
 

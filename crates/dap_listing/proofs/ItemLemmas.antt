@@ -2,8 +2,10 @@
 use Rattle.std.proofs.Common.{◌≡◌, ◌<◌, ◌≤◌, ◌+◌, ◌-◌, ◌*◌, ℕ, List, length, take, drop, get_or, refl, ap, sym, subst, ◌∙◌, arith}
 use Rattle.std.proofs.lemmas.List.{drop-drop, drop-take, ext_get_or, length-drop, length-take, get_or-take, get_or-drop, take_all}
 use Rattle.dap_msg.specs.Decoding.{SpellsMessage, StandsInFront}
-use Rattle.dap_msg.specs.Items.{Item, Whole, Malformed, ItemAt}
-use Rattle.dap_msg.specs.Message.{Message}
+use Rattle.dap_msg.specs.declared.items.Item.{Item}
+use Rattle.dap_msg.specs.declared.items.Item.TheVariants.{Whole, Malformed}
+use Rattle.dap_msg.specs.Items.{ItemAt}
+use Rattle.dap_msg.specs.declared.message.Message.{Message}
 use Rattle.dap_msg.specs.declared.message.Message.TheVariants.{Config, Attrib, Access, Control, Contran, Ack, Accomp, Filedata, Status, Other}
 use Rattle.dap_msg.proofs.ForCallers.{other_record}
 use Rattle.dap_listing.specs.Captured.{AreDecoded, Spell, bytes_of}

@@ -2,7 +2,8 @@
 use Rattle.std.proofs.Common.{◌≡◌, ◌<◌, ◌++◌, ℕ, List, [], ◌∷◌, length, ap, ◌∙◌, sym, subst}
 use Rattle.std.specs.List.{flat_map}
 use Rattle.std.proofs.lemmas.List.{append_assoc, append-nil}
-use Rattle.dap_msg.specs.Items.{Item, ItemAt, ItemsFrom, Items}
+use Rattle.dap_msg.specs.declared.items.Item.{Item}
+use Rattle.dap_msg.specs.Items.{ItemAt, ItemsFrom, Items}
 use Rattle.dap_listing.specs.Messages.{IsMessagesText, item_line}
 
 -- `done` is what stands before the lines of the items from the place on
@@ -24,7 +25,7 @@ pub ends_here : (bytes : List ℕ) (at next : ℕ) (item : Item) (done old text 
 ends_here bytes at next item done old text new here end goes_on so_far appended =
     let all = goes_on (item ∷ []) (subst (ItemAt bytes at item) end here) in (
       done ++ item_line item,
-      record { items = all.0; listed = all.1; joined = sym (all.2 ∙ ap (λ t. done ++ t) (append-nil (item_line item))) },
+      (all.0, all.1, sym (all.2 ∙ ap (λ t. done ++ t) (append-nil (item_line item)))),
       appended ∙ ap (λ t. t ++ item_line item) so_far ∙ append_assoc old done (item_line item),
     )
 

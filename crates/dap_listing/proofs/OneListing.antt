@@ -4,7 +4,9 @@ use Rattle.std.specs.List.{concat, flat_map}
 use Rattle.std.specs.Fmt.{decimal}
 use Rattle.hex.proofs.HexLemmas.{decode_of-ok, decode_of-same}
 use Rattle.dap_msg.proofs.ForCallers.{have_items}
-use Rattle.nsp_seg.specs.Packets.{SegmentValue, segment, data_ack, Spells, marks, optional_ack}
+use Rattle.nsp_seg.specs.declared.packet.SegmentFields.{SegmentFields}
+use Rattle.nsp_seg.specs.Packets.{Spells, marks, optional_ack}
+use Rattle.nsp_seg.specs.declared.packet.Packet.TheVariants.{Segment, DataAck}
 use Rattle.std.specs.Int.{w16, to_le_bytes}
 use Rattle.nsp_seg.proofs.ForCallers.{spells-one, spells-apart, fault-one}
 use Rattle.dap_listing.specs.Messages.{IsMessagesText, item_line}
@@ -23,7 +25,7 @@ AreBytes bytes = (i : ℕ) → get_or bytes i 0 < 256
 one_text : (bytes a b : List ℕ) → AreBytes bytes → IsMessagesText bytes a → IsMessagesText bytes b → a ≡ b
 one_text bytes a b are lines others =
     let all = have_items bytes are in
-    lines.joined ∙ ap (flat_map item_line) (all.only lines.items lines.listed ∙ sym (all.only others.items others.listed)) ∙ sym others.joined
+    lines.2 ∙ ap (flat_map item_line) (all.only lines.0 lines.1 ∙ sym (all.only others.0 others.1)) ∙ sym others.2
 
 one_of_segment : (first last : Bool) (payload a b : List ℕ) → AreBytes payload → SegmentMessages first last payload a → SegmentMessages first last payload b → a ≡ b
 one_of_segment true true payload a b are lines lines' = one_text payload a b are lines lines'
@@ -34,7 +36,7 @@ behind : (front payload : List ℕ) → AreBytes (front ++ payload) → AreBytes
 behind [] payload are i = are i
 behind (b ∷ front) payload are i = behind front payload (λ k. are (suc k)) i
 
-payload_of : (s : SegmentValue) (bytes : List ℕ) → AreBytes bytes → Spells (segment s) bytes → AreBytes s.payload
+payload_of : (s : SegmentFields) (bytes : List ℕ) → AreBytes bytes → Spells (Segment s) bytes → AreBytes s.payload
 payload_of s bytes are spelled =
     behind (marks s.first s.last ∷ [] ++ to_le_bytes w16 s.dst ++ to_le_bytes w16 s.src ++ optional_ack s.ack1 ++ optional_ack s.ack2
     ++ to_le_bytes w16 (0x1000 * spelled.free + s.number)) s.payload (subst AreBytes spelled.spelled are)
@@ -46,8 +48,8 @@ one_seen bytes (Err fault) (Ok p) are is other = absurd (spells-apart p fault by
 one_seen bytes (Err fault) (Err fault') are is other = ap Err (fault-one fault fault' bytes are is other)
 
 one_of_seen : (seen : Seen) (bytes a b : List ℕ) → AreBytes bytes → IsSeen seen bytes → SeenMessages seen a → SeenMessages seen b → a ≡ b
-one_of_seen (Ok (segment s)) bytes a b are is lines lines' = one_of_segment s.first s.last s.payload a b (payload_of s bytes are is) lines lines'
-one_of_seen (Ok (data_ack v)) bytes a b are is none none' = none ∙ sym none'
+one_of_seen (Ok (Segment s)) bytes a b are is lines lines' = one_of_segment s.first s.last s.payload a b (payload_of s bytes are is) lines lines'
+one_of_seen (Ok (DataAck v)) bytes a b are is none none' = none ∙ sym none'
 one_of_seen (Err fault) bytes a b are is none none' = none ∙ sym none'
 
 one_packet : (bytes a b : List ℕ) → AreBytes bytes → IsPacketText bytes a → IsPacketText bytes b → a ≡ b

@@ -2,7 +2,9 @@
 use Rattle.std.proofs.Common.{◌≡◌, ◌<◌, ◌≤◌, ◌+◌, ◌-◌, ◌*◌, ℕ, List, length, take, drop, get_or, Ok, refl, ap, sym, ◌∙◌, arith, inl, inr}
 use Rattle.std.proofs.lemmas.Bool.{cases_lt}
 use Rattle.std.proofs.lemmas.List.{ext_get_or, length-drop, take_all, get_or-take, get_or-drop}
-use Rattle.nsp_seg.specs.Packets.{SegmentValue, segment, Spells}
+use Rattle.nsp_seg.specs.declared.packet.SegmentFields.{SegmentFields}
+use Rattle.nsp_seg.specs.Packets.{Spells}
+use Rattle.nsp_seg.specs.declared.packet.Packet.TheVariants.{Segment}
 use Rattle.nsp_seg.proofs.ForCallers.{carrying, other_payload, head_few}
 use Rattle.dap_listing.specs.Packets.{seen_line}
 use Rattle.dap_listing.specs.Captured.{AreDecoded, Spell, bytes_of}
@@ -32,13 +34,13 @@ rest_decoded digits room known head spell start within decoded i low high =
     ∙ decoded (head + i) (omega arith) (omega (arith, high)) ∙ sym (get_or-drop head (bytes_of digits) i 0)
     ∙ ap (λ (l : List ℕ). get_or l i 0) (sym (rest_of digits (length room) head spell start).1)
 
-same_line : (s : SegmentValue) (payload : List ℕ) → length payload ≡ length s.payload → seen_line (Ok (segment (carrying s payload))) ≡ seen_line (Ok (segment s))
+same_line : (s : SegmentFields) (payload : List ℕ) → length payload ≡ length s.payload → seen_line (Ok (Segment (carrying s payload))) ≡ seen_line (Ok (Segment s))
 same_line s payload same = rw same refl
 
 -- A segment that is decoded up to its payload is that of the bytes themselves, with the payload that they end with.
-pub segment_is : (digits room : List ℕ) (known head : ℕ) (s : SegmentValue) → Spell digits (length room) → AreDecoded digits 0 known room
-    → length room ≤ known + length s.payload → Spells (segment s) room → head ≡ length room - length s.payload
-    → Spells (segment (carrying s (drop head (bytes_of digits)))) (bytes_of digits) × (seen_line (Ok (segment (carrying s (drop head (bytes_of digits))))) ≡ seen_line (Ok (segment s)))
+pub segment_is : (digits room : List ℕ) (known head : ℕ) (s : SegmentFields) → Spell digits (length room) → AreDecoded digits 0 known room
+    → length room ≤ known + length s.payload → Spells (Segment s) room → head ≡ length room - length s.payload
+    → Spells (Segment (carrying s (drop head (bytes_of digits)))) (bytes_of digits) × (seen_line (Ok (Segment (carrying s (drop head (bytes_of digits))))) ≡ seen_line (Ok (Segment s)))
 segment_is digits room known head s spell decoded reached spells at =
     let bytes : List ℕ = bytes_of digits in
     let o = other_payload s room spells in
@@ -58,9 +60,9 @@ same_first digits room known spell decoded end =
     ]
 
 -- a segment whose first bytes are decoded is that of the digits, with the bytes that its payload's digits spell
-pub told_segment : (digits room : List ℕ) (known : ℕ) (s : SegmentValue) → Spell digits (length room) → AreDecoded digits 0 known room
-    → known ≡ front_of (length room) → Spells (segment s) room
-    → Spells (segment (carrying s (bytes_of (take (length digits - 2 * (length room - length s.payload)) (drop (2 * (length room - length s.payload)) digits))))) (bytes_of digits)
+pub told_segment : (digits room : List ℕ) (known : ℕ) (s : SegmentFields) → Spell digits (length room) → AreDecoded digits 0 known room
+    → known ≡ front_of (length room) → Spells (Segment s) room
+    → Spells (Segment (carrying s (bytes_of (take (length digits - 2 * (length room - length s.payload)) (drop (2 * (length room - length s.payload)) digits))))) (bytes_of digits)
 told_segment digits room known s spell decoded end spells =
     let o = other_payload s room spells in
     let head : ℕ = length room - length s.payload in

@@ -50,9 +50,9 @@ pub first_fault : (listed : Listed) (count : ℕ) (known unread : Option (List �
 first_fault listed count None unread is_last bytes progress fault stands end first small = tt
 first_fault listed count (Some input) None is_last bytes progress fault stands end first small = absurd stands
 first_fault listed count (Some input) (Some rest) is_last bytes progress (BadLine number) stands end first small =
-    record { small = omega (arith, stands.0, small); first = rw stands.1.faults ((first rest end).0) }
+    (omega (arith, stands.0, small), rw stands.1.faults ((first rest end).0))
 first_fault listed count (Some input) (Some rest) is_last bytes progress TooLarge stands end first small =
-    inr (record { small = omega (arith, stands.0, small); first = rw stands.1.faults ((first rest end).0) })
+    inr (omega (arith, stands.0, small), rw stands.1.faults ((first rest end).0))
 first_fault listed count (Some input) (Some rest) is_last bytes progress ReadFailed stands end first small = tt
 first_fault listed count (Some input) (Some rest) is_last bytes progress NoMemory stands end first small = tt
 first_fault listed count (Some input) (Some rest) is_last bytes progress WriteFailed stands end first small = (first rest end).1
@@ -64,12 +64,11 @@ pub stands_whole : (listed : Listed) (count : ℕ) (known unread : Option (List 
 stands_whole listed count None unread bytes progress stands end none small = tt
 stands_whole listed count (Some input) None bytes progress stands end none small = absurd stands
 stands_whole listed count (Some input) (Some rest) bytes progress stands end none small =
-    let left : bytes ++ rest ≡ [] = ap (λ l. bytes ++ l) end ∙ append-nil bytes ∙ none in
-    record {
-      small = omega (arith, stands.0, ap length end, small);
-      no_fault = stands.1.faults ∙ rw left refl;
-      text_is = λ wants. rw (append-nil progress.text.items) at (stands.1.listing wants [] (rw left no_more));
-    }
+    let left : bytes ++ rest ≡ [] = ap (λ l. bytes ++ l) end ∙ append-nil bytes ∙ none in (
+      omega (arith, stands.0, ap length end, small),
+      stands.1.faults ∙ rw left refl,
+      λ wants. rw (append-nil progress.text.items) at (stands.1.listing wants [] (rw left no_more)),
+    )
 
 pub at_end : (came : ℕ) (unread : Option (List ℕ)) → (came ≡ 0 → IsAtEnd unread) → (came == 0) ≡ true → IsAtEnd unread
 at_end came unread end none = end (eqb-true came 0 none)

@@ -1,16 +1,15 @@
--- Captured packets of the program, and the digits that they were read from.
+-- Captured packets, and the digits that they were read from.
 use Rattle.std.specs.Prelude.{◌≡◌, ℕ, ◌+◌, ◌*◌, ◌/◌, ◌<◌, ◌≤◌, List, [], ◌∷◌, length, get_or, Result, Ok, Err}
 use Rattle.std.specs.List.{AllPass}
 use Rattle.std.specs.Result.{result_unwrap_or}
 use Rattle.hex.specs.Hex.{decode_of, is_hex_digit}
-use Rattle.nsp_seg.specs.Packets.{SegmentValue, segment, data_ack}
+use Rattle.nsp_seg.specs.declared.packet.Packet.{Packet}
+use Rattle.nsp_seg.specs.declared.packet.SegmentFields.{SegmentFields}
+use Rattle.nsp_seg.specs.declared.packet.Packet.TheVariants.{Segment}
 use Rattle.nsp_seg.specs.declared.packet.SegFault.{SegFault}
 use Rattle.dap_listing.specs.Listing.{captures, faults_from, packet_limit}
 use Rattle.dap_listing.specs.Packets.{Seen}
 use Rattle.dap_listing.specs.declared.captures.Found.{Found}
-use Rattle.dap_listing.specs.declared.packet.Carried.{Carried}
-use Rattle.dap_listing.specs.declared.packet.Captured.{Captured}
-use Rattle.dap_listing.specs.declared.packet.Captured.TheVariants.{Segment, DataAck}
 
 -- hex digits of so many bytes
 abbrev pub Spell : List ℕ → ℕ → Type 0
@@ -25,28 +24,18 @@ abbrev pub AreDecoded : List ℕ → ℕ → ℕ → List ℕ → Type 0
 AreDecoded digits from to bytes =
     (i : ℕ) → from ≤ i → i < to → get_or bytes i 0 ≡ get_or (bytes_of digits) i 0
 
--- a segment of the program, without where the digits of its payload lie
-abbrev pub carried_value : Carried → SegmentValue
-carried_value c = record {
-  first = c.first;
-  last = c.last;
-  dst = c.dst;
-  src = c.src;
-  ack1 = c.ack1;
-  ack2 = c.ack2;
-  number = c.number;
-  payload = bytes_of c.payload.now;
-}
+-- a segment whose payload stood there as hex digits
+abbrev pub carried_by : SegmentFields → SegmentFields
+carried_by s = record s { payload = bytes_of s.payload }
 
 -- what the program reads
-abbrev pub seen_value : Result Captured SegFault → Seen
-seen_value (Ok (Segment c)) = Ok (segment (carried_value c))
-seen_value (Ok (DataAck dst src ack1 ack2)) = Ok (data_ack (record { dst = dst; src = src; ack1 = ack1; ack2 = ack2 }))
-seen_value (Err fault) = Err fault
+abbrev pub seen_value : Result Packet SegFault → Seen
+seen_value (Ok (Segment s)) = Ok (Segment (carried_by s))
+seen_value read = read
 
 -- what stands for a payload are hex digits of bytes
-abbrev pub HasDigits : Result Captured SegFault → Type 0
-HasDigits (Ok (Segment c)) = Spell c.payload.now (length c.payload.now / 2)
+abbrev pub HasDigits : Result Packet SegFault → Type 0
+HasDigits (Ok (Segment s)) = Spell s.payload (length s.payload / 2)
 HasDigits _ = Unit {0}
 
 -- ---- the captured packets of an input, one after another

@@ -8,10 +8,6 @@ use Rattle.dap_listing.specs.declared.fault.Outcome.TheVariants.{Good, Stopped}
 use Rattle.dap_listing.specs.declared.fault.CaptureFault.{CaptureFault}
 use Rattle.dap_listing.specs.declared.fault.CaptureFault.TheVariants.{BadLine, TooLarge, ReadFailed, WriteFailed, NoMemory}
 
--- the most bytes of an input: those of the longest line
-abbrev pub input_limit : ℕ
-input_limit = longest
-
 -- a fault that a line can have
 abbrev pub IsOfLine : CaptureFault → Type 0
 IsOfLine (BadLine number) = Unit {0}
@@ -22,27 +18,24 @@ IsOfLine _ = ⊥
 abbrev pub IsFirst : List CaptureFault → CaptureFault → Type 0
 IsFirst faults fault = (slice_get faults 0 ≡ Some fault) × IsOfLine fault
 
--- why known bytes can't be read whole: too many are told as such, and no fault is one of a line or of a writer
+-- why known bytes can't be read whole: more than the longest line may have are told as such, and no fault is one of a line or of a writer
 abbrev pub IsReadFault : Option (List ℕ) → CaptureFault → Type 0
-IsReadFault known TooLarge = IfSome known (λ bytes. input_limit < length bytes)
+IsReadFault known TooLarge = IfSome known (λ bytes. longest < length bytes)
 IsReadFault known ReadFailed = Unit {0}
 IsReadFault known NoMemory = Unit {0}
 IsReadFault known _ = ⊥
 
--- A front of a reader's known bytes is taken, no longer than an input may be and one byte more.
+-- A front of a reader's known bytes is taken, no longer than an input may be, which is as long as a line, and one byte more.
 abbrev pub TakesWithinLimit : Option (List ℕ) → Option (List ℕ) → Type 0
-TakesWithinLimit old new = (taken : List ℕ) × Consumes old new taken × (length taken ≤ input_limit + 1)
+TakesWithinLimit old new = (taken : List ℕ) × Consumes old new taken × (length taken ≤ longest + 1)
 
 -- a text of an input whose lines have no fault
-pub record IsTextOf (faults : List CaptureFault) (IsText : List ℕ → Type 0) (input text : List ℕ) : Type 0 where
-  pub small : length input ≤ input_limit
-  pub no_fault : faults ≡ []
-  pub text_is : IsText text
+abbrev pub IsTextOf : List CaptureFault → (List ℕ → Type 0) → (input text : List ℕ) → Type 0
+IsTextOf faults IsText input text = (length input ≤ longest) × (faults ≡ []) × IsText text
 
 -- the first fault of the input's lines, of an input within the limit
-pub record HasLineFault (faults : List CaptureFault) (input : List ℕ) (fault : CaptureFault) : Type 0 where
-  pub small : length input ≤ input_limit
-  pub first : slice_get faults 0 ≡ Some fault
+abbrev pub HasLineFault : List CaptureFault → (input : List ℕ) → CaptureFault → Type 0
+HasLineFault faults input fault = (length input ≤ longest) × (slice_get faults 0 ≡ Some fault)
 
 -- What a run over an input answers, and how the known bytes of the writer change from old to new: by the faults of the
 -- input's lines, and the texts that go with an outcome.
@@ -53,7 +46,7 @@ Gives faults IsText input old new (Ok outcome) =
 Gives faults IsText input old new (Err (BadLine number)) =
     HasLineFault faults input (BadLine number) × Keeps old new
 Gives faults IsText input old new (Err TooLarge) =
-    ((input_limit < length input) ⊎ HasLineFault faults input TooLarge) × Keeps old new
+    ((longest < length input) ⊎ HasLineFault faults input TooLarge) × Keeps old new
 Gives faults IsText input old new (Err WriteFailed) =
     (outcome : Outcome) × (text : List ℕ) × IsTextOf faults (IsText outcome) input text × WritesFront old new text
 Gives faults IsText input old new (Err _) = Keeps old new
@@ -69,3 +62,7 @@ status_of (Ok Stopped) = 1
 status_of (Err (BadLine number)) = 1
 status_of (Err TooLarge) = 1
 status_of (Err _) = 3
+
+-- a run answers so, with some outcome, and its status is that of it
+abbrev pub HasStatus : (Result Outcome CaptureFault → Type 0) → ℕ → Type 0
+HasStatus Answers status = (outcome : Result Outcome CaptureFault) × Answers outcome × (status ≡ status_of outcome)

@@ -23,10 +23,6 @@ abbrev pub faults_from : ℕ → ℕ → List ℕ → List CaptureFault
 faults_from limit number bytes =
     filter_map (λ (place, line). option_map (λ fault. fault place) (result_err (line_of limit line))) (enumerate_from number (lines bytes))
 
--- those of an input
-abbrev pub line_faults : ℕ → List ℕ → List CaptureFault
-line_faults limit input = faults_from limit 1 input
-
 -- what was captured, in order
 abbrev pub captures : ℕ → List ℕ → List Capture
 captures limit input = filter_map (λ line. result_unwrap_or (line_of limit line) None) (lines input)
@@ -70,13 +66,7 @@ IsListing listed input Stopped text = ⊥
 -- what a listing of the input answers
 abbrev pub ListingGives : Listed → List ℕ → Option (List ℕ) → Option (List ℕ)
     → Result Outcome CaptureFault → Type 0
-ListingGives listed input = Gives (line_faults (limit_of listed) input) (IsListing listed input) input
-
-abbrev pub ShowGives : List ℕ → Option (List ℕ) → Option (List ℕ) → Result Outcome CaptureFault → Type 0
-ShowGives = ListingGives Packets
-
-abbrev pub MessagesGive : List ℕ → Option (List ℕ) → Option (List ℕ) → Result Outcome CaptureFault → Type 0
-MessagesGive = ListingGives Messages
+ListingGives listed input = Gives (faults_from (limit_of listed) 1 input) (IsListing listed input) input
 
 -- No input has two listings of a kind.
 abbrev pub HasOneListing : Type 0

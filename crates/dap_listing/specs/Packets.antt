@@ -2,7 +2,9 @@
 use Rattle.std.specs.Prelude.{◌≡◌, ◌&&◌, MatchBool, ℕ, Bool, true, false, List, [], ◌∷◌, ◌++◌, length, codes, Option, Some, None, Result, Ok, Err}
 use Rattle.std.specs.List.{concat}
 use Rattle.std.specs.Fmt.{decimal}
-use Rattle.nsp_seg.specs.Packets.{PacketValue, segment, data_ack, Spells, HasFault}
+use Rattle.nsp_seg.specs.declared.packet.Packet.{Packet}
+use Rattle.nsp_seg.specs.Packets.{Spells, HasFault}
+use Rattle.nsp_seg.specs.declared.packet.Packet.TheVariants.{Segment, DataAck}
 use Rattle.nsp_seg.specs.declared.packet.AckField.{AckField}
 use Rattle.nsp_seg.specs.declared.packet.SegFault.{SegFault}
 use Rattle.dap_text.specs.Answers.{fault_line}
@@ -27,23 +29,23 @@ mark_text false false = codes "middle"
 
 -- a packet, or why captured bytes are none
 abbrev pub Seen : Type 0
-Seen = Result PacketValue SegFault
+Seen = Result Packet SegFault
 
 abbrev pub IsSeen : Seen → List ℕ → Type 0
 IsSeen (Ok packet) bytes = Spells packet bytes
 IsSeen (Err fault) bytes = HasFault fault bytes
 
 abbrev pub seen_line : Seen → List ℕ
-seen_line (Ok (segment s)) = concat (
+seen_line (Ok (Segment s)) = concat (
     codes "segment " ∷ mark_text s.first s.last ∷ codes " dst=" ∷ word_text s.dst ∷ codes " src=" ∷ word_text s.src
     ∷ codes " seg=" ∷ decimal s.number ∷ codes " acks=" ∷ acks_text s.ack1 s.ack2 ∷ codes " len=" ∷ decimal (length s.payload) ∷ line_feed ∷ [])
-seen_line (Ok (data_ack a)) = concat (
+seen_line (Ok (DataAck a)) = concat (
     codes "ack dst=" ∷ word_text a.dst ∷ codes " src=" ∷ word_text a.src ∷ codes " acks=" ∷ acks_text (Some a.ack1) a.ack2 ∷ line_feed ∷ [])
 seen_line (Err fault) = fault_line fault
 
 -- the messages of a segment are listed where it holds a whole NSP message
 abbrev pub SeenMessages : Seen → List ℕ → Type 0
-SeenMessages (Ok (segment s)) lines = MatchBool (s.first && s.last) (IsMessagesText s.payload lines) (lines ≡ [])
+SeenMessages (Ok (Segment s)) lines = MatchBool (s.first && s.last) (IsMessagesText s.payload lines) (lines ≡ [])
 SeenMessages _ lines = lines ≡ []
 
 -- the line of what the bytes are, and those of its messages

@@ -1,7 +1,7 @@
 //! The runs over what a reader gives.
 ghost use Rattle.std.specs.Prelude.{IfSome};
 ghost use Rattle.dap_listing.specs.Gives.{KeepsUnwritten, TakesWithinLimit};
-ghost use Rattle.dap_listing.specs.Listing.{ListingGives, MessagesGive, ShowGives};
+ghost use Rattle.dap_listing.specs.Listing.{ListingGives};
 
 use crate::listing::{Listed, list_input};
 use crate::output::write_text;
@@ -38,7 +38,8 @@ pub fn show<R: Read, W: Write>(
     writer: &mut W,
 ) -> Result<Outcome, CaptureFault>
     ensures listing { IfSome (R.remaining reader.old)
-        (λ input. ShowGives input (W.contents writer.old) (W.contents writer.new) result) }
+        (λ input. ListingGives Listed.Packets input
+        (W.contents writer.old) (W.contents writer.new) result) }
     ensures unwritten { KeepsUnwritten result (W.contents writer.old) (W.contents writer.new) }
     ensures taken { TakesWithinLimit (R.remaining reader.old) (R.remaining reader.new) }
 {
@@ -54,7 +55,8 @@ pub fn messages<R: Read, W: Write>(
     writer: &mut W,
 ) -> Result<Outcome, CaptureFault>
     ensures listing { IfSome (R.remaining reader.old)
-        (λ input. MessagesGive input (W.contents writer.old) (W.contents writer.new) result) }
+        (λ input. ListingGives Listed.Messages input
+        (W.contents writer.old) (W.contents writer.new) result) }
     ensures unwritten { KeepsUnwritten result (W.contents writer.old) (W.contents writer.new) }
     ensures taken { TakesWithinLimit (R.remaining reader.old) (R.remaining reader.new) }
 {

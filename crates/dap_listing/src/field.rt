@@ -1,14 +1,13 @@
 //! The fields of messages with a menu, as a listing names them.
 
-ghost use Rattle.std.specs.Prelude.{◌≡◌, ◌++◌, ◌∷◌, [], OnOk, codes, length};
+ghost use Rattle.std.specs.Prelude.{◌≡◌, ◌++◌, ◌∷◌, [], OnOk, codes, length, option_copied};
 ghost use Rattle.std.specs.List.{concat, flat_map};
-ghost use Rattle.dap_msg.specs.Message.{seen_attributes, seen_control};
 ghost use Rattle.dap_text.specs.Adding.{Adds};
 ghost use Rattle.dap_listing.specs.Messages.{attributes_text, control_text};
 ghost use Rattle.dap_text.specs.Text.{line_feed};
 ghost use Rattle.dap_listing.specs.Inner.Fields.{field_text};
 
-use dap_msg::{Attributes, ControlFields};
+use dap_msg::{Attributes, Bytes, ControlFields};
 use dap_text::{push_image, push_number, push_str};
 use itoa::Integer;
 use std::alloc::AllocError;
@@ -23,9 +22,19 @@ pub(crate) enum Field<'a> {
     Image(&'static str, Option<&'a [u8]>),
 }
 
+/// The bytes of an image, where it is there.
+fn image<'a>(value: &Option<Bytes<'a>>) -> Option<&'a [u8]>
+    ensures { option_copied result ≡ value.now }
+{
+    match value {
+        Some(image) => Some(image.0),
+        None => None,
+    }
+}
+
 /// The fields of Attributes in the order of their menu bits.
-pub(crate) fn attributes_fields<'a>(a: &Attributes<&'a [u8]>) -> [Field<'a>; 21]
-    ensures { flat_map field_text result ≡ attributes_text (seen_attributes a.now) }
+pub(crate) fn attributes_fields<'a>(a: &Attributes<'a>) -> [Field<'a>; 21]
+    ensures { flat_map field_text result ≡ attributes_text a.now }
 {
     [
         Field::Word("datatype", a.datatype),
@@ -34,34 +43,34 @@ pub(crate) fn attributes_fields<'a>(a: &Attributes<&'a [u8]>) -> [Field<'a>; 21]
         Field::Long("rat", a.rat),
         Field::Word("bls", a.bls),
         Field::Word("mrs", a.mrs),
-        Field::Image("alq", a.alq),
+        Field::Image("alq", image(&a.alq)),
         Field::Byte("bks", a.bks),
         Field::Byte("fsz", a.fsz),
-        Field::Image("mrn", a.mrn),
-        Field::Image("runsys", a.runsys),
+        Field::Image("mrn", image(&a.mrn)),
+        Field::Image("runsys", image(&a.runsys)),
         Field::Word("deq", a.deq),
         Field::Quad("fop", a.fop),
         Field::Byte("bsz", a.bsz),
         Field::Quad("dev", a.dev),
         Field::Quad("sdc", a.sdc),
         Field::Word("lrl", a.lrl),
-        Field::Image("hbk", a.hbk),
-        Field::Image("ebk", a.ebk),
+        Field::Image("hbk", image(&a.hbk)),
+        Field::Image("ebk", image(&a.ebk)),
         Field::Word("ffb", a.ffb),
-        Field::Image("sbn", a.sbn),
+        Field::Image("sbn", image(&a.sbn)),
     ]
 }
 
 /// The fields of Control after its function, likewise.
-pub(crate) fn control_fields<'a>(c: &ControlFields<&'a [u8]>) -> [Field<'a>; 6]
-    ensures { flat_map field_text result ≡ control_text (seen_control c.now) }
+pub(crate) fn control_fields<'a>(c: &ControlFields<'a>) -> [Field<'a>; 6]
+    ensures { flat_map field_text result ≡ control_text c.now }
 {
     [
         Field::Byte("rac", c.rac),
-        Field::Image("key", c.key),
+        Field::Image("key", image(&c.key)),
         Field::Byte("krf", c.krf),
         Field::Quad("rop", c.rop),
-        Field::Image("hsh", c.hsh),
+        Field::Image("hsh", image(&c.hsh)),
         Field::Long("display", c.display),
     ]
 }

@@ -21,6 +21,7 @@ pub use fault::{CaptureFault, Outcome, finish};
 pub use input::{INPUT_LIMIT, read_input};
 pub use laws::listings_are_one;
 pub use lines::{Direction, next_line};
+pub use listing::Listed;
 pub use message::push_messages;
 pub use output::write_text;
-pub use packet::{Captured, Carried, push_seen, read_packet};
+pub use packet::{push_seen, read_packet};

@@ -23,9 +23,9 @@ use dap_text::{find_byte, is_hex_text, push_number, push_str};
 use std::alloc::{AllocError, Global};
 use std::io::Read;
 
-/// What the lines of an input hold.
+/// What the lines of an input hold, as the contracts of [`crate::show`] and [`crate::messages`] say it (own).
 #[derive(Clone, Copy, Debug, PartialEq, Eq)]
-pub(crate) enum Listed {
+pub enum Listed {
     /// NSP packets.
     Packets,
     /// NSP messages.

@@ -3,8 +3,6 @@
 ghost use Rattle.std.specs.Prelude.{◌≡◌, ◌≤◌, ◌/◌, ◌++◌, ℕ, List, OnOk, codes, length};
 ghost use Rattle.std.specs.Option.{option_map_or};
 ghost use Rattle.std.specs.Fmt.{decimal};
-ghost use Rattle.dap_msg.specs.Items.{seen_item};
-ghost use Rattle.dap_msg.specs.Message.{seen};
 ghost use Rattle.dap_msg.specs.declared.message.Message.TheVariants.{Access, Attrib, Config, Control, Filedata, Other, Status};
 ghost use Rattle.dap_text.specs.Adding.{Adds};
 ghost use Rattle.dap_text.specs.Adding.{AddsSome};
@@ -62,19 +60,15 @@ fn push_wanted(text: &mut Vec<u8>, fac: u32, shr: u32, display: u32) -> Result<(
 
 /// Appends the line of a message. The digits are those of its record, where it is a Data message.
 #[inline(always)]
-fn push_message(
-    text: &mut Vec<u8>,
-    message: &Message<&[u8]>,
-    digits: &[u8],
-) -> Result<(), AllocError>
+fn push_message(text: &mut Vec<u8>, message: &Message<'_>, digits: &[u8]) -> Result<(), AllocError>
     requires { Spell digits.now (length digits.now / 2) }
     ensures { OnOk result (Adds text.old text.new
-        (message_line (with_record (seen message.now) (bytes_of digits.now)))) }
+        (message_line (with_record message.now (bytes_of digits.now)))) }
 {
     match message {
         Message::Config(config) => push_config(text, *config),
-        Message::Attrib(attributes) => push_attributes(text, *attributes),
-        Message::Control(control) => push_control(text, *control),
+        Message::Attrib(attributes) => push_attributes(text, attributes),
+        Message::Control(control) => push_control(text, control),
         Message::Contran { func } => {
             push_number(text, "  continue func=", *func)?;
             push_str(text, "\n")
@@ -87,10 +81,10 @@ fn push_message(
             push_check(text, complete.check)?;
             push_str(text, "\n")
         }
-        Message::Access(access) => push_access(text, *access),
-        Message::Filedata { recnum, .. } => push_data(text, recnum, digits),
-        Message::Status(status) => push_status(text, *status),
-        Message::Other { number, body } => push_other(text, *number, body),
+        Message::Access(access) => push_access(text, access),
+        Message::Filedata { recnum, .. } => push_data(text, recnum.0, digits),
+        Message::Status(status) => push_status(text, status),
+        Message::Other { number, body } => push_other(text, *number, body.0),
     }
 }
 
@@ -117,36 +111,38 @@ fn push_config(text: &mut Vec<u8>, config: Configuration) -> Result<(), AllocErr
 
 /// Appends the line of an Access message.
 #[inline(always)]
-fn push_access(text: &mut Vec<u8>, access: AccessFields<&[u8]>) -> Result<(), AllocError>
-    ensures { OnOk result (Adds text.old text.new (message_line (seen (Access access.entry)))) }
+fn push_access(text: &mut Vec<u8>, access: &AccessFields<'_>) -> Result<(), AllocError>
+    ensures { OnOk result (Adds text.old text.new (message_line (Access access.now))) }
 {
+    let name = &access.name;
+    let password = &access.password;
     push_number(text, "  access func=", access.func)?;
     push_number(text, " opt=", access.opt)?;
-    push_image(text, " name=", access.name)?;
+    push_image(text, " name=", name.0)?;
     push_str(text, " ")?;
     push_wanted(text, access.fac, access.shr, access.display)?;
-    push_number(text, " password=", access.password.len())?;
+    push_number(text, " password=", password.0.len())?;
     push_str(text, "\n")
 }
 
 /// Appends the line of an Attributes message.
 #[inline(never)]
-fn push_attributes(text: &mut Vec<u8>, attributes: Attributes<&[u8]>) -> Result<(), AllocError>
+fn push_attributes(text: &mut Vec<u8>, attributes: &Attributes<'_>) -> Result<(), AllocError>
     ensures { OnOk result (Adds text.old text.new
-        (message_line (seen (Attrib attributes.entry)))) }
+        (message_line (Attrib attributes.now))) }
 {
     push_str(text, "  attributes")?;
-    push_fields(text, &attributes_fields(&attributes))
+    push_fields(text, &attributes_fields(attributes))
 }
 
 /// Appends the line of a Control message.
 #[inline(never)]
-fn push_control(text: &mut Vec<u8>, control: ControlFields<&[u8]>) -> Result<(), AllocError>
+fn push_control(text: &mut Vec<u8>, control: &ControlFields<'_>) -> Result<(), AllocError>
     ensures { OnOk result (Adds text.old text.new
-        (message_line (seen (Control control.entry)))) }
+        (message_line (Control control.now))) }
 {
     push_number(text, "  control func=", control.func)?;
-    push_fields(text, &control_fields(&control))
+    push_fields(text, &control_fields(control))
 }
 
 /// Appends the line of a Data message, whose record the digits spell.
@@ -161,13 +157,13 @@ fn push_data(text: &mut Vec<u8>, recnum: &[u8], digits: &[u8]) -> Result<(), All
 }
 
 /// Appends the line of a Status message.
-fn push_status(text: &mut Vec<u8>, status: StatusFields<&[u8]>) -> Result<(), AllocError>
-    ensures { OnOk result (Adds text.old text.new (message_line (seen (Status status.entry)))) }
+fn push_status(text: &mut Vec<u8>, status: &StatusFields<'_>) -> Result<(), AllocError>
+    ensures { OnOk result (Adds text.old text.new (message_line (Status status.now))) }
 {
     push_word(text, "  status ", status.code)?;
-    push_image(text, " rfa=", status.rfa)?;
-    push_image(text, " recnum=", status.recnum)?;
-    push_image(text, " stv=", status.stv)?;
+    push_image(text, " rfa=", status.rfa.0)?;
+    push_image(text, " recnum=", status.recnum.0)?;
+    push_image(text, " stv=", status.stv.0)?;
     push_str(text, "\n")
 }
 
@@ -208,10 +204,10 @@ fn push_fault(text: &mut Vec<u8>, fault: MsgFault) -> Result<(), AllocError>
 
 /// How many bytes of a record end an item: only a Data message has some.
 fn record_size(item: &Item<'_>) -> usize
-    ensures { result ≡ size_of_record (seen_item item.now) }
+    ensures { result ≡ size_of_record item.now }
 {
     match item {
-        Item::Whole(Message::Filedata { payload, .. }) => payload.len(),
+        Item::Whole(Message::Filedata { payload, .. }) => payload.0.len(),
         Item::Whole(_) | Item::Malformed(_) => 0,
     }
 }
@@ -222,7 +218,7 @@ fn record_size(item: &Item<'_>) -> usize
 fn push_item(text: &mut Vec<u8>, item: &Item<'_>, digits: &[u8]) -> Result<(), AllocError>
     requires { Spell digits.now (length digits.now / 2) }
     ensures { OnOk result (Adds text.old text.new
-        (item_line (item_with_record (seen_item item.now) (bytes_of digits.now)))) }
+        (item_line (item_with_record item.now (bytes_of digits.now)))) }
 {
     match item {
         Item::Whole(message) => push_message(text, message, digits),

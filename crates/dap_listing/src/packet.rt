@@ -4,16 +4,16 @@ ghost use Rattle.std.specs.Prelude.{◌≡◌, ◌≤◌, ◌/◌, ◌++◌, ◌
 ghost use Rattle.std.specs.List.{concat};
 ghost use Rattle.dap_text.specs.Text.{word_text};
 ghost use Rattle.dap_text.specs.Adding.{Adds, AddsSome};
-ghost use Rattle.dap_listing.specs.Captured.{AreDecoded, HasDigits, Spell, bytes_of, carried_value, seen_value};
+ghost use Rattle.dap_listing.specs.Captured.{AreDecoded, HasDigits, Spell, bytes_of, carried_by, seen_value};
 ghost use Rattle.dap_listing.specs.Inner.Decoding.{IsBehind, front_of};
 ghost use Rattle.dap_listing.specs.Packets.{IsPacketText, IsSeen, ack_text, acks_text, mark_text, seen_line};
 ghost use Rattle.dap_listing.specs.Inner.Messages.{SegmentMessages};
-ghost use Rattle.nsp_seg.specs.Packets.{data_ack, segment};
+ghost use Rattle.nsp_seg.specs.declared.packet.Packet.TheVariants.{DataAck, Segment};
 
 use crate::decode::{FRONT, decode_to};
 use crate::message::push_messages;
 use dap_text::{push_number, push_packet_fault, push_str, push_word};
-use nsp_seg::{AckField, Packet, SegFault, Seq12, decode_packet};
+use nsp_seg::{AckField, AckFields, Packet, Payload, SegFault, SegmentFields, decode_packet};
 use std::alloc::AllocError;
 
 /// Appends an acknowledgement field.
@@ -51,36 +51,14 @@ fn push_ends(text: &mut Vec<u8>, dst: u16, src: u16) -> Result<(), AllocError>
     push_word(text, " src=", src)
 }
 
-/// A data segment (NSP 4.0.0, data segment message), and the hex digits of its payload.
-#[derive(Clone, Copy, Debug, PartialEq)]
-pub struct Carried<'a> {
-    pub first: bool,
-    pub last: bool,
-    pub dst: u16,
-    pub src: u16,
-    pub ack1: Option<AckField>,
-    pub ack2: Option<AckField>,
-    pub number: Seq12,
-    pub payload: &'a [u8],
-}
-
-/// A captured packet.
-#[derive(Clone, Copy, Debug, PartialEq)]
-pub enum Captured<'a> {
-    Segment(Carried<'a>),
-    /// NSP 4.0.0, data acknowledgement message.
-    DataAck {
-        dst: u16,
-        src: u16,
-        ack1: AckField,
-        ack2: Option<AckField>,
-    },
-}
-
 /// Appends the line of a segment, which carries so many bytes.
-fn push_segment(text: &mut Vec<u8>, line: &Carried<'_>, count: usize) -> Result<(), AllocError>
-    requires { count ≡ length (bytes_of line.now.payload.now) }
-    ensures { OnOk result (Adds text.old text.new (seen_line (Ok (segment (carried_value line.now))))) }
+fn push_segment(
+    text: &mut Vec<u8>,
+    line: &SegmentFields<'_>,
+    count: usize,
+) -> Result<(), AllocError>
+    requires { count ≡ length (bytes_of line.now.payload) }
+    ensures { OnOk result (Adds text.old text.new (seen_line (Ok (Segment (carried_by line.now))))) }
 {
     push_str(text, "segment ")?;
     push_str(text, mark_word(line.first, line.last))?;
@@ -126,24 +104,17 @@ fn push_whole(
 }
 
 /// Appends the line of a packet that only acknowledges.
-fn push_ack(
-    text: &mut Vec<u8>,
-    dst: u16,
-    src: u16,
-    ack1: AckField,
-    ack2: Option<AckField>,
-) -> Result<(), AllocError>
-    ensures { OnOk result (Adds text.old text.new
-        (seen_line (Ok (data_ack (record { dst = dst; src = src; ack1 = ack1; ack2 = ack2 }))))) }
+fn push_ack(text: &mut Vec<u8>, ack: AckFields) -> Result<(), AllocError>
+    ensures { OnOk result (Adds text.old text.new (seen_line (Ok (DataAck ack)))) }
 {
     push_str(text, "ack")?;
-    push_ends(text, dst, src)?;
-    push_acks(text, Some(ack1), ack2)?;
+    push_ends(text, ack.dst, ack.src)?;
+    push_acks(text, Some(ack.ack1), ack.ack2)?;
     push_str(text, "\n")
 }
 
 /// What the bytes of the digits are, which those in front tell: these are decoded, all up to a payload.
-fn see<'a>(digits: &'a [u8], bytes: &mut [u8]) -> Result<Captured<'a>, SegFault>
+fn see<'a>(digits: &'a [u8], bytes: &mut [u8]) -> Result<Packet<'a>, SegFault>
     requires { Spell digits.now (length bytes.old) }
     ensures size { length bytes.new ≡ length bytes.old }
     ensures decoded { AreDecoded digits.now 0 (front_of (length bytes.new)) bytes.new }
@@ -153,50 +124,27 @@ fn see<'a>(digits: &'a [u8], bytes: &mut [u8]) -> Result<Captured<'a>, SegFault>
 {
     let _known = decode_to(digits, bytes, 0, FRONT);
     match decode_packet(bytes) {
-        Ok(
-            Packet::Segment {
-                first,
-                last,
-                dst,
-                src,
-                ack1,
-                ack2,
-                number,
-                payload,
-            },
-        ) => {
-            let head = bytes.len() - payload.len();
-            Ok(Captured::Segment(Carried {
-                first,
-                last,
-                dst,
-                src,
-                ack1,
-                ack2,
-                number,
-                payload: &digits[2 * head..],
+        Ok(Packet::Segment(segment)) => {
+            let head = bytes.len() - segment.payload.0.len();
+            Ok(Packet::Segment(SegmentFields {
+                first: segment.first,
+                last: segment.last,
+                dst: segment.dst,
+                src: segment.src,
+                ack1: segment.ack1,
+                ack2: segment.ack2,
+                number: segment.number,
+                payload: Payload(&digits[2 * head..]),
             }))
         }
-        Ok(
-            Packet::DataAck {
-                dst,
-                src,
-                ack1,
-                ack2,
-            },
-        ) => Ok(Captured::DataAck {
-            dst,
-            src,
-            ack1,
-            ack2,
-        }),
+        Ok(Packet::DataAck(ack)) => Ok(Packet::DataAck(ack)),
         Err(fault) => Err(fault),
     }
 }
 
-/// What the bytes are that the hex digits spell (NSP 4.0.0, data segment and data acknowledgement messages). The room is
-/// for the bytes. Own. Takes no memory.
-pub fn read_packet<'a>(digits: &'a [u8], room: &mut [u8]) -> Result<Captured<'a>, SegFault>
+/// What the bytes are that the hex digits spell (NSP 4.0.0, data segment and data acknowledgement messages); of a
+/// segment's payload its digits are told. The room is for the bytes. Own. Takes no memory.
+pub fn read_packet<'a>(digits: &'a [u8], room: &mut [u8]) -> Result<Packet<'a>, SegFault>
     requires { Spell digits.now (length room.old) }
     ensures size { length room.new ≡ length room.old }
     ensures seen { IsSeen (seen_value result) (bytes_of digits.now) }
@@ -205,26 +153,22 @@ pub fn read_packet<'a>(digits: &'a [u8], room: &mut [u8]) -> Result<Captured<'a>
     see(digits, room)
 }
 
-/// Appends the line of a packet.
-fn push_line(text: &mut Vec<u8>, packet: &Captured<'_>) -> Result<(), AllocError>
+/// Appends the line of a packet, whose payload stands there as its digits.
+fn push_line(text: &mut Vec<u8>, packet: &Packet<'_>) -> Result<(), AllocError>
     requires { HasDigits (Ok packet.now) }
     ensures { OnOk result (Adds text.old text.new (seen_line (seen_value (Ok packet.now)))) }
 {
     match packet {
-        Captured::Segment(line) => push_segment(text, line, line.payload.len() / 2),
-        Captured::DataAck {
-            dst,
-            src,
-            ack1,
-            ack2,
-        } => push_ack(text, *dst, *src, *ack1, *ack2),
+        Packet::Segment(line) => push_segment(text, line, line.payload.0.len() / 2),
+        Packet::DataAck(ack) => push_ack(text, *ack),
     }
 }
 
-/// Appends the line of a packet, or of bytes that are none. Refused for want of memory alone. Own.
+/// Appends the line of a packet, whose payload stands there as its hex digits, or of bytes that are none. Refused for
+/// want of memory alone. Own.
 pub fn push_seen(
     text: &mut Vec<u8>,
-    seen: &Result<Captured<'_>, SegFault>,
+    seen: &Result<Packet<'_>, SegFault>,
 ) -> Result<(), AllocError>
     requires { HasDigits seen.now }
     ensures { OnOk result (Adds text.old text.new (seen_line (seen_value seen.now))) }
@@ -245,8 +189,8 @@ pub(crate) fn push_packet(
     ensures { OnOk result (AddsSome text.old text.new (IsPacketText (bytes_of digits.now))) }
 {
     match see(digits, bytes) {
-        Ok(Captured::Segment(line)) => {
-            let count = line.payload.len() / 2;
+        Ok(Packet::Segment(line)) => {
+            let count = line.payload.0.len() / 2;
             push_segment(text, &line, count)?;
             let known = FRONT.min(bytes.len());
             let head = bytes.len() - count;
@@ -254,19 +198,12 @@ pub(crate) fn push_packet(
                 text,
                 line.first,
                 line.last,
-                line.payload,
+                line.payload.0,
                 &mut bytes[head..],
                 known - head,
             )
         }
-        Ok(
-            Captured::DataAck {
-                dst,
-                src,
-                ack1,
-                ack2,
-            },
-        ) => push_ack(text, dst, src, ack1, ack2),
+        Ok(Packet::DataAck(ack)) => push_ack(text, ack),
         Err(fault) => push_packet_fault(text, fault),
     }
 }

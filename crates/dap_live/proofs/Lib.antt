@@ -1,5 +1,4 @@
 mod AgainLemmas
-mod LeftLemmas
 pub mod OneLine
 pub mod OneServing
 pub mod OneAsking

@@ -2,7 +2,7 @@
 use Rattle.std.proofs.Common.{◌≡◌, ◌≢◌, ℕ, refl, sym, ◌∙◌, subst, ap, true, false, true≢false, List, [], ◌++◌, length, inl, inr}
 use Rattle.std.specs.Prelude.{MatchBool, ◌&&◌, ◌||◌, not, nat_lt, Bool, Option, Some, None, Result, Ok, Err}
 use Rattle.hex.specs.Hex.{IsBytes as AreBytes}
-use Rattle.dap_msg.specs.Items.{Item}
+use Rattle.dap_msg.specs.declared.items.Item.{Item}
 use Rattle.nsp_link.specs.declared.link.Got.{Got}
 use Rattle.nsp_link.specs.declared.link.LinkSetup.{LinkSetup}
 use Rattle.nsp_link.specs.declared.fault.LinkFault.TheVariants.{Failed}
@@ -37,8 +37,9 @@ use Rattle.dap_live.specs.declared.orders.Order.TheVariants as order
 use Rattle.dap_live.specs.Orders.{order_of, setup_anew}
 use Rattle.dap_live.specs.Sending.{AllAgain, SaysAck, has_message, is_left, waits_of}
 use Rattle.dap_live.specs.Texts.{ask_refusal, end_refusal, link_refusal, packets_text, reports_text, taken_said}
-use Rattle.dap_live.specs.Asking.{GoesOn, GoesOnIf, Resends, AsksIt, AsksNot, Asks, Renewed, OnEnd, Does, DoesAll, Ends, answered, waiting, came_by, front_text, goes_on}
+use Rattle.dap_live.specs.Asking.{GoesOn, Resends, AsksIt, AsksNot, Asks, Renewed, OnEnd, Does, DoesAll, Ends, answered, waiting, came_by, goes_on}
 use Rattle.dap_live.specs.Both.{DoesOrder, Renews, Stays, TakesPacket, gone_said}
+use Rattle.dap_live.specs.Inner.Saying.{front_text}
 use Rattle.dap_live.specs.OneText.{AreSameAsking}
 use Rattle.dap_live.proofs.OneLine.{Fits, line_fits, all_again, ack_one, end_wants, taken_wants, setup_apart, setup_one, one_answer}
 
@@ -97,17 +98,21 @@ gone_wants (Err f) want = end_wants f want
 going_same : (old other : AskingValue) (before : List Report) (front said more : List ℕ) (one two : Asking) (m n : Came) → HasDone old → AreAlike old other → outcome m ≢ NoMemory → outcome n ≢ NoMemory
     → GoesOn old before front one said m → GoesOn other before front two more n → One one two said more m n
 going_same old other before front said more one two m n d like nm nn x y =
-    let wx = gone_wants x.gone (λ e. nm (ap outcome x.ends ∙ e)) in
-    let wy = gone_wants y.gone (λ e. nn (ap outcome y.ends ∙ e)) in
+    let wx = gone_wants x.gone (λ e. nm (ap outcome x.ended ∙ e)) in
+    let wy = gone_wants y.gone (λ e. nn (ap outcome y.ended ∙ e)) in
     let t = going_alike old other one.end two.end [] x.packets y.packets before one.reports.items two.reports.items x.gone y.gone d like wx wy x.went y.went in (
       t.0,
       t.3,
       x.says ∙ ap (λ (r : Result (Unit {0}) EndFault). front ++ (reports_text one.reports.items ++ (packets_text x.packets ++ (gone_said end_refusal r).0))) t.1
           ∙ ap (λ (l : List (List ℕ)). front ++ (reports_text one.reports.items ++ (packets_text l ++ (gone_said end_refusal y.gone).0))) t.2
           ∙ ap (λ (l : List Report). front ++ (reports_text l ++ (packets_text y.packets ++ (gone_said end_refusal y.gone).0))) t.3 ∙ sym y.says,
-      x.ends ∙ ap (λ (r : Result (Unit {0}) EndFault). Told ((gone_said end_refusal r).1)) t.1 ∙ sym y.ends,
+      x.ended ∙ ap (λ (r : Result (Unit {0}) EndFault). Told ((gone_said end_refusal r).1)) t.1 ∙ sym y.ended,
       t.4,
     )
+
+abbrev GoesOnIf : Bool → AskingValue → List Report → List ℕ → Asking → List ℕ → Came → Type 0
+GoesOnIf left old before front new text came =
+    MatchBool left (GoesOn old before front new text came) ((new.end ≡ old) × (new.reports.items ≡ before) × (text ≡ front ++ reports_text before) × (came ≡ Told Done))
 
 going_if : (left : Bool) (old other : AskingValue) (before : List Report) (front said more : List ℕ) (one two : Asking) (m n : Came) → HasDone old → AreAlike old other → outcome m ≢ NoMemory → outcome n ≢ NoMemory
     → GoesOnIf left old before front one said m → GoesOnIf left other before front two more n → One one two said more m n
@@ -185,7 +190,7 @@ only_failed request v ask.WrongPhase e r = absurd (true≢false (sym e ∙ r.0))
 only_failed request v ask.TooLarge e r = absurd (true≢false (sym e ∙ r.0))
 only_failed request v ask.NoMemory e r = absurd (true≢false (sym e ∙ r.0))
 
-not_want : (old : Asking) (request : Request) (new : Asking) (text : List ℕ) (m : Came) (f : AskFault) → outcome m ≢ NoMemory → AsksNot old request new text m f → f ≢ ask.NoMemory
+not_want : (old : Asking) (request : Request) (new : Asking) (text : List ℕ) (m : Came) (f : AskFault) → outcome m ≢ NoMemory → AsksNot old new text m f → f ≢ ask.NoMemory
 not_want old request new text m ask.Busy want h e = (let apart : ⊥ = cc in apart)
 not_want old request new text m ask.NoMemory want h e = want (ap outcome h.2)
 not_want old request new text m ask.Failed want h e = (let apart : ⊥ = cc in apart)
@@ -197,7 +202,7 @@ said_why : (old other one two : Asking) (said more : List ℕ) (m n : Came) (f :
 said_why old other one two said more m n f same x y = (stay old other one two same x.0 y.0, x.1 ∙ sym y.1, x.2 ∙ sym y.2)
 
 not_one : (old other one two : Asking) (request : Request) (said more : List ℕ) (m n : Came) (f : AskFault) → AreSameAsking old other → OnEnd old one → OnEnd other two → outcome m ≢ NoMemory → outcome n ≢ NoMemory
-    → AsksNot old request one said m f → AsksNot other request two more n f → Two one two said more m n
+    → AsksNot old one said m f → AsksNot other two more n f → Two one two said more m n
 not_one old other one two request said more m n ask.Busy same rx ry nm nn x y =
     let there : GoesOn other.end old.reports.items (front_text front.Busy) two more n = subst (λ (l : List Report). GoesOn other.end l (front_text front.Busy) two more n) (sym same.2) y in
     on_end old other one two said more m n same rx ry (going_same old.end other.end old.reports.items (front_text front.Busy) said more one two m n same.3 same.0 nm nn x there)
@@ -221,7 +226,7 @@ it_one old other one two request said more m n past h same rx ry nm nn x y =
 
 -- it was asked of one, and refused by the other
 it_apart : (old other one two : Asking) (request : Request) (said more : List ℕ) (m n : Came) (past : AskingPast) (f : AskFault) → HasAsked past old.end → AreAlike old.end other.end → outcome n ≢ NoMemory → AsksIt old request one said m
-    → AskRefused request other.end.accessing f → AsksNot other request two more n f → ⊥
+    → AskRefused request other.end.accessing f → AsksNot other two more n f → ⊥
 it_apart old other one two request said more m n past f h like nn x r y =
     let here = alike_same old.end other.end like h.asking.works in
     let there : AskRefused request old.end.accessing f = subst (λ (v : AskingValue). AskRefused request v.accessing f) (sym here) r in
@@ -241,12 +246,12 @@ running_one old other one two request said more m n same (inl d) nm nn (rx, inr 
     let there : AskRefused request old.end.accessing y.0 = subst (λ (v : AskingValue). AskRefused request v.accessing y.0) (sym here) y.1 in
     let why = ask_why old.end.accessing.own d.0.requests d.0.answers request x.0 y.0 (not_want old request one said m x.0 nm x.2) (not_want other request two more n y.0 nn y.2)
     (refused_by request old.end d.0 x.0 d.1 x.1) (refused_by request old.end d.0 y.0 d.1 there) in
-    not_one old other one two request said more m n x.0 same rx ry nm nn x.2 (subst (λ (f : AskFault). AsksNot other request two more n f) (sym why) y.2)
+    not_one old other one two request said more m n x.0 same rx ry nm nn x.2 (subst (λ (f : AskFault). AsksNot other two more n f) (sym why) y.2)
 running_one old other one two request said more m n same (inr d) nm nn (rx, inl x) (ry, y) = absurd (true≢false (sym d.0 ∙ x.2.asks.works))
 running_one old other one two request said more m n same (inr d) nm nn (rx, inr x) (ry, inl y) = absurd (true≢false (sym d.0 ∙ same.0.2 ∙ y.2.asks.works))
 running_one old other one two request said more m n same (inr d) nm nn (rx, inr x) (ry, inr y) =
     let why : x.0 ≡ y.0 = only_failed request old.end x.0 d.0 x.1 ∙ sym (only_failed request other.end y.0 (sym same.0.2 ∙ d.0) y.1) in
-    not_one old other one two request said more m n x.0 same rx ry nm nn x.2 (subst (λ (f : AskFault). AsksNot other request two more n f) (sym why) y.2)
+    not_one old other one two request said more m n x.0 same rx ry nm nn x.2 (subst (λ (f : AskFault). AsksNot other two more n f) (sym why) y.2)
 
 ask_one : (failed : Bool) (old other one two : Asking) (request : Request) (said more : List ℕ) (m n : Came) → AreSameAsking old other → outcome m ≢ NoMemory → outcome n ≢ NoMemory
     → MatchBool failed (Stays (Untold Done) old one m × (said ≡ (link_refusal Failed).0)) (Asks old request one said m)

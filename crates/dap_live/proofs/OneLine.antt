@@ -1,6 +1,6 @@
 -- What both ends say to a line is one text.
 use Rattle.std.proofs.Common.{◌≡◌, ◌≢◌, ℕ, ◌+◌, ◌<◌, ◌≤◌, ◌%◌, ◌==◌, arith, refl, sym, ◌∙◌, subst, ap, true, false, true≢false, List, [], ◌∷◌, length, inl, inr}
-use Rattle.std.specs.Prelude.{MatchBool, Bool, Option, Some, None, Result, Ok, Err, codes, option_map, if◌then◌else◌}
+use Rattle.std.specs.Prelude.{MatchBool, Bool, Option, Some, None, Result, Ok, Err, bytes_eq, codes, option_map, if◌then◌else◌}
 use Rattle.std.specs.Option.{option_and_then, option_or}
 use Rattle.std.specs.Result.{result_ok}
 use Rattle.hex.specs.Hex.{IsBytes as AreBytes}
@@ -23,7 +23,7 @@ use Rattle.dap_end.specs.declared.fault.EndFault.TheVariants as end
 use Rattle.dap_end.specs.declared.fault.TakeFault.{TakeFault}
 use Rattle.dap_end.specs.declared.fault.TakeFault.TheVariants as take
 use Rattle.dap_end.specs.Wanting.{is_want, took_wanting}
-use Rattle.dap_text.specs.Words.{Words, ends, field, hex_of, is, is_hex_text, long, one_of, word, words_of}
+use Rattle.dap_text.specs.Words.{Words, ends, field, hex_of, is_hex_text, long, one_of, word, words_of}
 use Rattle.dap_text.specs.Filed.{file_of, record_of}
 use Rattle.dap_text.specs.Requests.{request_of}
 use Rattle.linewise.specs.declared.talking.Became.{Became}
@@ -85,7 +85,7 @@ either_fits (Some order) other h k = h
 -- a form of line, behind its first word
 form_fits : (name : List ℕ) (next : Words → Option Order) → ((words : Words) → Fits (next words)) → (words : Words) → Fits (word name next words)
 form_fits name next h [] = tt
-form_fits name next h (w ∷ words) = if_fits (is w name) (next words) (h words)
+form_fits name next h (w ∷ words) = if_fits (bytes_eq w name) (next words) (h words)
   where
     if_fits : (b : Bool) (o : Option Order) → Fits o → Fits (if b then o else None)
     if_fits true o k = k

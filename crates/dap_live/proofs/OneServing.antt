@@ -16,11 +16,11 @@ use Rattle.dap_accessed.specs.declared.fault.AddFault.TheVariants as add
 use Rattle.dap_accessed.specs.Standing.{Files}
 use Rattle.dap_accessed.specs.Inner.Present.{Present, present_of}
 use Rattle.dap_accessed.specs.Groups.{stands_after}
-use Rattle.dap_accessed.specs.Adding.{IsFresh, IsLate, MayAdd, MayAddRecord}
+use Rattle.dap_accessed.specs.Adding.{IsFresh, IsLate, MayAdd, MayAddRecord, AddRefused, RecordRefused}
 use Rattle.dap_end.specs.declared.fault.TakeFault.{TakeFault}
 use Rattle.dap_end.specs.Ports.{PortValue, HasCome, new_port}
-use Rattle.dap_end.specs.Serving.{ServingValue, Past, IsAfter, NotAdded, NotStored, nothing_yet}
-use Rattle.dap_end.specs.Taking.{serves}
+use Rattle.dap_end.specs.Serving.{ServingValue, Past, IsAfter, NotGiven, nothing_yet}
+use Rattle.dap_end.specs.Taking.{GoesOn as Went, serves}
 use Rattle.dap_end.proofs.ForCallers.{going_one, taking_one, new_known, going_known, taking_known}
 use Rattle.dap_text.specs.declared.filed.FileLine.{FileLine}
 use Rattle.dap_text.specs.declared.filed.RecordLine.{RecordLine}
@@ -36,8 +36,9 @@ use Rattle.dap_live.specs.declared.orders.Order.TheVariants as order
 use Rattle.dap_live.specs.Orders.{order_of, setup_anew}
 use Rattle.dap_live.specs.Sending.{SaysAck, UnlessFailed, is_left, waits_of}
 use Rattle.dap_live.specs.Texts.{add_refusal, link_refusal, packets_text, taken_said}
-use Rattle.dap_live.specs.Serving.{GoesOn, GoesOnIf, Resends, Renewed, Added, AddsShaped, AddsFile, AddsRecord, OnEnd, Does, answered, waiting}
-use Rattle.dap_live.specs.Both.{DoesOrder, Renews, Stays, TakesPacket, gone_said}
+use Rattle.dap_live.specs.Serving.{Resends, Renewed, Added, AddsFile, AddsRecord, OnEnd, Does, answered, waiting}
+use Rattle.dap_live.specs.Both.{DoesOrder, Renews, SaysGone, Stays, TakesPacket, gone_said}
+use Rattle.dap_live.specs.Inner.Saying.{AddsShaped}
 use Rattle.dap_live.specs.OneText.{HasServed, AreSameServing}
 use Rattle.dap_live.proofs.OneLine.{Fits, line_fits, all_again, ack_one, taken_wants, setup_apart, setup_one, one_answer}
 
@@ -64,21 +65,27 @@ packet_one end one two bytes said more b c fits k nb nc x y =
 gone_want : (r : Result (Unit {0}) LinkFault) → (gone_said link_refusal r).1 ≢ NoMemory → r ≢ Err fault.NoMemory
 gone_want r want e = want (ap (λ k. (gone_said link_refusal k).1) e)
 
+abbrev GoesOn : ServingValue → List ℕ → ServingValue → List ℕ → Became → Type 0
+GoesOn old front new text became = SaysGone (Went old new []) link_refusal (λ became. became) front [] text became
+
+abbrev GoesOnIf : Bool → ServingValue → List ℕ → ServingValue → List ℕ → Became → Type 0
+GoesOnIf left old front new text became = MatchBool left (GoesOn old front new text became) (Stays Done old new became × (text ≡ front))
+
 going_same : (end one two : ServingValue) (front said more : List ℕ) (b c : Became) → HasServed end → b ≢ NoMemory → c ≢ NoMemory
     → GoesOn end front one said b → GoesOn end front two more c → One one two said more b c
 going_same end one two front said more b c k nb nc x y =
-    let t = going_one k.0 end one two [] x.packets y.packets x.gone y.gone k.1 (gone_want x.gone (λ e. nb (x.ends ∙ e))) (gone_want y.gone (λ e. nc (y.ends ∙ e))) x.went y.went in (
+    let t = going_one k.0 end one two [] x.packets y.packets x.gone y.gone k.1 (gone_want x.gone (λ e. nb (x.ended ∙ e))) (gone_want y.gone (λ e. nc (y.ended ∙ e))) x.went y.went in (
       t.0,
       x.says ∙ ap (λ (r : Result (Unit {0}) LinkFault). front ++ (packets_text x.packets ++ (gone_said link_refusal r).0)) t.1
           ∙ ap (λ (l : List (List ℕ)). front ++ (packets_text l ++ (gone_said link_refusal y.gone).0)) t.2 ∙ sym y.says,
-      x.ends ∙ ap (λ k. (gone_said link_refusal k).1) t.1 ∙ sym y.ends,
+      x.ended ∙ ap (λ k. (gone_said link_refusal k).1) t.1 ∙ sym y.ended,
       going_known end one [] x.packets x.gone x.went k,
     )
 
 going_if : (left : Bool) (end one two : ServingValue) (front said more : List ℕ) (b c : Became) → HasServed end → b ≢ NoMemory → c ≢ NoMemory
     → GoesOnIf left end front one said b → GoesOnIf left end front two more c → One one two said more b c
 going_if true end one two front said more b c k nb nc x y = going_same end one two front said more b c k nb nc x y
-going_if false end one two front said more b c k nb nc x y = (x.0 ∙ sym y.0, x.1 ∙ sym y.1, x.2 ∙ sym y.2, subst HasServed (sym x.0) k)
+going_if false end one two front said more b c k nb nc x y = (x.0.0 ∙ sym y.0.0, x.1 ∙ sym y.1, x.0.1 ∙ sym y.0.1, subst HasServed (sym x.0.0) k)
 
 resend_one : (failed : Bool) (end one two : ServingValue) (said more : List ℕ) (b c : Became) → HasServed end → b ≢ NoMemory → c ≢ NoMemory
     → MatchBool failed (Stays Done end one b × (said ≡ (link_refusal Failed).0)) (Resends end one said b)
@@ -157,14 +164,14 @@ why_one end one two said more b c f g k e x y =
 apart : (end : ServingValue) → HasServed end → IsFresh end.accessed → IsLate end.accessed → ⊥
 apart end k fresh late = late.isnt k.0.first k.0.items k.1.serving (fresh.is k.0.first k.0.items k.1.serving)
 
-file_apart : (end : ServingValue) (name : List ℕ) (f : AddFault) → HasServed end → f ≢ add.NoMemory → (HasCome end.port → ⊥) → MayAdd end.accessed name → NotAdded end name f → ⊥
+file_apart : (end : ServingValue) (name : List ℕ) (f : AddFault) → HasServed end → f ≢ add.NoMemory → (HasCome end.port → ⊥) → MayAdd end.accessed name → NotGiven end (AddRefused end.accessed name) f → ⊥
 file_apart end name add.Busy k want idle may (inl came) = idle came
 file_apart end name add.Busy k want idle may (inr late) = apart end k may.0 late
 file_apart end name add.FileExists k want idle may h = h.1.1 may.1
 file_apart end name add.NoMemory k want idle may h = want refl
 file_apart end name f k want idle may h = absurd h.1
 
-file_why : (end : ServingValue) (name : List ℕ) (f g : AddFault) → HasServed end → f ≢ add.NoMemory → g ≢ add.NoMemory → NotAdded end name f → NotAdded end name g → f ≡ g
+file_why : (end : ServingValue) (name : List ℕ) (f g : AddFault) → HasServed end → f ≢ add.NoMemory → g ≢ add.NoMemory → NotGiven end (AddRefused end.accessed name) f → NotGiven end (AddRefused end.accessed name) g → f ≡ g
 file_why end name add.Busy add.Busy k nf ng x y = refl
 file_why end name add.Busy add.FileExists k nf ng (inl came) y = absurd (y.0 came)
 file_why end name add.Busy add.FileExists k nf ng (inr late) y = absurd (apart end k y.1.0 late)
@@ -206,7 +213,7 @@ two_why o v w e f = (let both = sym e ∙ f in cc)
 none_why : (o : Option Refusal) (v : Refusal) → o ≡ None → o ≡ Some v → ⊥
 none_why o v e f = (let both = sym e ∙ f in cc)
 
-record_apart : (end : ServingValue) (n : ℕ) (body : List ℕ) (f : AddFault) → HasServed end → f ≢ add.NoMemory → (HasCome end.port → ⊥) → MayAddRecord end.accessed n body → NotStored end n body f → ⊥
+record_apart : (end : ServingValue) (n : ℕ) (body : List ℕ) (f : AddFault) → HasServed end → f ≢ add.NoMemory → (HasCome end.port → ⊥) → MayAddRecord end.accessed n body → NotGiven end (RecordRefused end.accessed n body) f → ⊥
 record_apart end n body add.Busy k want idle may (inl came) = idle came
 record_apart end n body add.Busy k want idle may (inr late) = apart end k may.0 late
 record_apart end n body add.NoFile k want idle may h = no_file end.accessed.files may.1 h.1.1
@@ -214,7 +221,7 @@ record_apart end n body (add.Record why) k want idle may h = none_why _ why may.
 record_apart end n body add.NoMemory k want idle may h = want refl
 record_apart end n body f k want idle may h = absurd h.1
 
-record_why : (end : ServingValue) (n : ℕ) (body : List ℕ) (f g : AddFault) → HasServed end → f ≢ add.NoMemory → g ≢ add.NoMemory → NotStored end n body f → NotStored end n body g → f ≡ g
+record_why : (end : ServingValue) (n : ℕ) (body : List ℕ) (f g : AddFault) → HasServed end → f ≢ add.NoMemory → g ≢ add.NoMemory → NotGiven end (RecordRefused end.accessed n body) f → NotGiven end (RecordRefused end.accessed n body) g → f ≡ g
 record_why end n body add.Busy add.Busy k nf ng x y = refl
 record_why end n body add.Busy add.NoFile k nf ng (inl came) y = absurd (y.0 came)
 record_why end n body add.Busy add.NoFile k nf ng (inr late) y = absurd (apart end k y.1.0 late)

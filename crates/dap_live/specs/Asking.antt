@@ -8,7 +8,6 @@ use Rattle.dap_accessing.specs.declared.report.Report.{Report}
 use Rattle.dap_accessing.specs.declared.fault.AskFault.{AskFault}
 use Rattle.dap_accessing.specs.declared.fault.AskFault.TheVariants.{Busy}
 use Rattle.dap_accessing.specs.Calls.{AskRefused}
-use Rattle.dap_end.specs.declared.fault.EndFault.{EndFault}
 use Rattle.dap_end.specs.declared.fault.TakeFault.{TakeFault}
 use Rattle.dap_end.specs.declared.fault.TakeFault.TheVariants as take
 use Rattle.dap_end.specs.Ports.{new_port}
@@ -24,12 +23,9 @@ use Rattle.dap_live.specs.declared.orders.Order.{Order}
 use Rattle.dap_live.specs.declared.orders.Order.TheVariants as order
 use Rattle.dap_live.specs.Orders.{order_of, setup_anew}
 use Rattle.dap_live.specs.Sending.{AllAgain, SaysAck, UnlessFailed, has_message, is_left, waits_of}
-use Rattle.dap_live.specs.declared.asking.Front.{Front}
-use Rattle.dap_live.specs.declared.asking.Front.TheVariants.{Asked}
-use Rattle.dap_live.specs.declared.asking.Front.TheVariants as front
 use Rattle.dap_text.specs.Text.{line_feed}
-use Rattle.dap_live.specs.Texts.{ask_refusal, end_refusal, packets_text, refused_line, reports_text}
-use Rattle.dap_live.specs.Both.{DoesOrder, Renews, Stays, TakesPacket, gone_said}
+use Rattle.dap_live.specs.Texts.{ask_refusal, end_refusal, packets_text, reports_text}
+use Rattle.dap_live.specs.Both.{DoesOrder, Renews, SaysGone, Stays, TakesPacket}
 
 -- only the end moved, and reports came
 abbrev pub OnEnd : Asking → Asking → Type 0
@@ -44,46 +40,37 @@ came_by _ became = Told became
 
 -- ---- A request.
 
-abbrev pub front_text : Front → List ℕ
-front_text (Asked count) = concat (codes "asked " ∷ decimal count ∷ line_feed ∷ [])
-front_text front.Busy = refused_line (codes "ask-busy")
-
 -- This is said first, and then what going on comes to.
-pub record GoesOn (old : AskingValue) (before : List Report) (front : List ℕ) (new : Asking) (text : List ℕ) (came : Came) : Type 0 where
-  pub gone : Result (Unit {0}) EndFault
-  pub packets : List (List ℕ)
-  pub went : WentOn (asks before new.reports.items) old new.end [] packets gone
-  pub says : text ≡ front ++ (reports_text new.reports.items ++ (packets_text packets ++ (gone_said end_refusal gone).0))
-  pub ends : came ≡ Told (gone_said end_refusal gone).1
+abbrev pub GoesOn : (old : AskingValue) → (before : List Report) → (front : List ℕ) → Asking → List ℕ → Came → Type 0
+GoesOn old before front new text came =
+    SaysGone (WentOn (asks before new.reports.items) old new.end []) end_refusal Told front new.reports.items text came
 
 -- The end would do something by going on, memory aside. What came is read before what waits is handed over, and an end that
 -- an unexpected answer failed does nothing more.
 abbrev pub goes_on : AskingValue → Bool
 goes_on end = not end.accessing.failed && (has_message end.port.link || is_left end.port.link end.port.outbox)
 
--- it does, or the reports that wait are told alone
-abbrev pub GoesOnIf : (left : Bool) → AskingValue → (before : List Report) → (front : List ℕ) → Asking → List ℕ → Came → Type 0
-GoesOnIf left old before front new text came = MatchBool left (GoesOn old before front new text came)
-    ((new.end ≡ old) × (new.reports.items ≡ before) × (text ≡ front ++ reports_text before) × (came ≡ Told Done))
-
--- behind the packets of all segments that aren't acknowledged
+-- behind the packets of all segments that aren't acknowledged it does so, or the reports that wait are told alone
 abbrev pub Resends : Asking → Asking → List ℕ → Came → Type 0
 Resends old new text came = OnEnd old new × ((packets : List (List ℕ)) × AllAgain old.end.port.link packets
-    × GoesOnIf (goes_on old.end) old.end old.reports.items (packets_text packets) new text came)
+    × MatchBool (goes_on old.end) (GoesOn old.end old.reports.items (packets_text packets) new text came)
+    ((new.end ≡ old.end) × (new.reports.items ≡ old.reports.items)
+    × (text ≡ packets_text packets ++ reports_text old.reports.items) × (came ≡ Told Done)))
 
 -- it was asked, and its messages are on their way
 abbrev pub AsksIt : Asking → Request → Asking → List ℕ → Came → Type 0
 AsksIt old request new text came =
-    (count : ℕ) × (mid : AskingValue) × AskedOne request old.end mid count × GoesOn mid old.reports.items (front_text (Asked count)) new text came
+    (count : ℕ) × (mid : AskingValue) × AskedOne request old.end mid count
+    × GoesOn mid old.reports.items (concat (codes "asked " ∷ decimal count ∷ line_feed ∷ [])) new text came
 
 -- It wasn't. Where a report is due still, what is on its way goes on.
-abbrev pub AsksNot : Asking → Request → Asking → List ℕ → Came → AskFault → Type 0
-AsksNot old request new text came Busy = GoesOn old.end old.reports.items (front_text front.Busy) new text came
-AsksNot old request new text came f = (new ≡ old) × (text ≡ (ask_refusal f).0) × (came ≡ Untold (ask_refusal f).1)
+abbrev pub AsksNot : Asking → Asking → List ℕ → Came → AskFault → Type 0
+AsksNot old new text came Busy = GoesOn old.end old.reports.items (ask_refusal Busy).0 new text came
+AsksNot old new text came f = (new ≡ old) × (text ≡ (ask_refusal f).0) × (came ≡ Untold (ask_refusal f).1)
 
 abbrev pub Asks : Asking → Request → Asking → List ℕ → Came → Type 0
 Asks old request new text came = OnEnd old new × (AsksIt old request new text came
-    ⊎ ((f : AskFault) × AskRefused request old.end.accessing f × AsksNot old request new text came f))
+    ⊎ ((f : AskFault) × AskRefused request old.end.accessing f × AsksNot old new text came f))
 
 -- ---- A new link.
 
@@ -115,13 +102,10 @@ Ends (Untold was) old new became = (new ≡ old) × (became ≡ was)
 abbrev pub DoesAll : Asking → Order → Asking → List ℕ → Became → Type 0
 DoesAll old o new text became = (mid : Asking) × (came : Came) × Does old o mid text came × Ends came mid new became
 
--- it would do something by going on, or has reports to tell
-abbrev pub is_behind : Asking → Bool
-is_behind asking = goes_on asking.end || nat_lt 0 (length asking.reports.items)
-
 -- where memory is refused to the text, the reports still wait
 abbrev pub answered : Asking → List ℕ → Asking → List ℕ → Became → Type 0
 answered old line new text became = DoesOrder Does DoesAll old (order_of line) new text became
 
+-- it would do something by going on, or has reports to tell
 abbrev pub waiting : Asking → ℕ
-waiting asking = waits_of asking.end.port.link (is_behind asking)
+waiting asking = waits_of asking.end.port.link (goes_on asking.end || nat_lt 0 (length asking.reports.items))

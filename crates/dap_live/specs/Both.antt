@@ -1,5 +1,5 @@
 -- What both ends do alike by a line, and what they say.
-use Rattle.std.specs.Prelude.{◌≡◌, ◌⊎◌, ℕ, List, [], Result, Ok, Err, Option, Some, None}
+use Rattle.std.specs.Prelude.{◌≡◌, ◌⊎◌, ◌++◌, ℕ, List, [], Result, Ok, Err, Option, Some, None}
 use Rattle.nsp_link.specs.declared.link.Got.{Got}
 use Rattle.nsp_link.specs.declared.link.LinkSetup.{LinkSetup}
 use Rattle.nsp_link.specs.declared.fault.LinkFault.{LinkFault}
@@ -10,7 +10,7 @@ use Rattle.dap_end.specs.Turns.{EndOf, Takes}
 use Rattle.linewise.specs.declared.talking.Became.{Became}
 use Rattle.linewise.specs.declared.talking.Became.TheVariants.{Done, BadLine, NoMemory}
 use Rattle.dap_live.specs.declared.orders.Order.{Order}
-use Rattle.dap_live.specs.Texts.{LineAnswer, link_refusal, taken_said}
+use Rattle.dap_live.specs.Texts.{LineAnswer, link_refusal, packets_text, reports_text, taken_said}
 
 -- A packet was taken in, and all done that it lets the end do, or it was refused; the answer has these reports.
 pub record TakesPacket {V C : Type 0} (end : EndOf V) (reports : List Report) (ends : Result Got TakeFault → Became → C)
@@ -27,6 +27,15 @@ pub record TakesPacket {V C : Type 0} (end : EndOf V) (reports : List Report) (e
 abbrev pub gone_said : {F : Type 0} → (refusal : F → LineAnswer) → Result (Unit {0}) F → LineAnswer
 gone_said refusal (Ok done) = ([], Done)
 gone_said refusal (Err f) = refusal f
+
+-- What an end says by going on, behind this front: the reports, the packets, and why not all was done.
+pub record SaysGone {F C : Type 0} (Went : List (List ℕ) → Result (Unit {0}) F → Type 0) (refusal : F → LineAnswer)
+    (ends : Became → C) (front : List ℕ) (reports : List Report) (text : List ℕ) (came : C) : Type 0 where
+  pub gone : Result (Unit {0}) F
+  pub packets : List (List ℕ)
+  pub went : Went packets gone
+  pub says : text ≡ front ++ (reports_text reports ++ (packets_text packets ++ (gone_said refusal gone).0))
+  pub ended : came ≡ ends (gone_said refusal gone).1
 
 -- ---- A new link.
 

@@ -1,26 +1,13 @@
 -- What a link sends again, and what it waits for.
-use Rattle.std.specs.Prelude.{◌≡◌, MatchBool, ℕ, ◌+◌, ◌-◌, Bool, not, ◌||◌, ◌&&◌, nat_le, nat_lt, List, [], ◌∷◌, length, Some, if◌then◌else◌}
-use Rattle.std.specs.List.{list_all}
-use Rattle.nsp_link.specs.Cutting.{cut}
-use Rattle.nsp_link.specs.Limits.{most_segments}
-use Rattle.nsp_link.specs.Link.{LinkValue, IsSpelling}
-use Rattle.nsp_link.specs.Sending.{WritesSent, ack_packet_of}
+use Rattle.std.specs.Prelude.{◌≡◌, MatchBool, ℕ, ◌+◌, ◌-◌, Bool, ◌||◌, ◌&&◌, nat_lt, List, [], ◌∷◌, length, Some, if◌then◌else◌}
+use Rattle.nsp_link.specs.Link.{LinkValue, IsSpelling, may_send}
+use Rattle.nsp_link.specs.Sending.{WritesSent, ack_packet_of, may_queue}
 use Rattle.nsp_link.specs.declared.fault.LinkFault.TheVariants.{Failed}
 use Rattle.dap_live.specs.Texts.{link_refusal, packet_text}
-
--- a segment waits that was never sent, and the window has room
-abbrev pub may_send : LinkValue → Bool
-may_send link = nat_lt link.sent (link.acked + length link.queue) && nat_lt link.sent (link.acked + link.setup.window)
 
 -- an NSP message that came is left
 abbrev pub has_message : LinkValue → Bool
 has_message link = nat_lt 0 (length link.coming.inbox)
-
--- memory aside, the link takes these NSP messages: it runs, each is short enough, and their segments are few enough
-abbrev pub may_queue : LinkValue → List (List ℕ) → Bool
-may_queue link messages = not link.failed
-    && (list_all (λ m. nat_le (length m) link.setup.max_message) messages
-    && nat_le (link.acked + length link.queue + length (cut link.setup.seg_size messages)) most_segments)
 
 -- The link takes the NSP messages that wait; and one waits, or one that came is left, or a segment may be sent. It is so only
 -- behind want of memory: else all this is done at once.

@@ -1,15 +1,12 @@
 -- What the end that serves does by a line, and what it says.
-use Rattle.std.specs.Prelude.{◌≡◌, ◌⊎◌, ◌++◌, ℕ, Bool, MatchBool, List, [], Result, MatchOption}
-use Rattle.nsp_link.specs.declared.fault.LinkFault.{LinkFault}
-use Rattle.rec_file.specs.declared.shapes.Shape.{Shape}
+use Rattle.std.specs.Prelude.{◌≡◌, ◌⊎◌, ℕ, MatchBool, List, [], MatchOption}
 use Rattle.rec_file.specs.Shapes.{checked_shape}
-use Rattle.dap_msg.specs.Codes.{stscode, reason_number}
-use Rattle.dap_msg.specs.declared.codes.Reason.TheVariants.{BadAttributes}
+use Rattle.dap_msg.specs.Codes.{stscode, reasons}
 use Rattle.dap_accessed.specs.Standing.{Files}
-use Rattle.dap_accessed.specs.Adding.{MayAdd, MayAddRecord, with_new_file, with_record}
+use Rattle.dap_accessed.specs.Adding.{MayAdd, MayAddRecord, AddRefused, RecordRefused, with_new_file, with_record}
 use Rattle.dap_accessed.specs.declared.fault.AddFault.{AddFault}
 use Rattle.dap_end.specs.Ports.{HasCome, new_port}
-use Rattle.dap_end.specs.Serving.{ServingValue, IsAfter, IsGiven, NotAdded, NotStored, nothing_yet}
+use Rattle.dap_end.specs.Serving.{ServingValue, IsAfter, IsGiven, NotGiven, nothing_yet}
 use Rattle.dap_end.specs.Taking.{GoesOn as Went, serves}
 use Rattle.linewise.specs.declared.talking.Became.{Became}
 use Rattle.linewise.specs.declared.talking.Became.TheVariants.{Done, BadLine}
@@ -23,26 +20,16 @@ use Rattle.dap_live.specs.declared.orders.Order.TheVariants as order
 use Rattle.dap_live.specs.Orders.{order_of, setup_anew}
 use Rattle.dap_live.specs.Sending.{AllAgain, SaysAck, UnlessFailed, is_left, waits_of}
 use Rattle.dap_live.specs.Texts.{add_refusal, link_refusal, packets_text, status_line}
-use Rattle.dap_live.specs.Both.{DoesOrder, Renews, Stays, TakesPacket, gone_said}
+use Rattle.dap_live.specs.Both.{DoesOrder, Renews, SaysGone, Stays, TakesPacket}
 
 -- ---- Going on.
 
--- This is said first, and then what going on comes to.
-pub record GoesOn (old : ServingValue) (front : List ℕ) (new : ServingValue) (text : List ℕ) (became : Became) : Type 0 where
-  pub gone : Result (Unit {0}) LinkFault
-  pub packets : List (List ℕ)
-  pub went : Went old new [] packets gone
-  pub says : text ≡ front ++ (packets_text packets ++ (gone_said link_refusal gone).0)
-  pub ends : became ≡ (gone_said link_refusal gone).1
-
--- only where something is left
-abbrev pub GoesOnIf : (left : Bool) → ServingValue → List ℕ → ServingValue → List ℕ → Became → Type 0
-GoesOnIf left old front new text became = MatchBool left (GoesOn old front new text became) ((new ≡ old) × (text ≡ front) × (became ≡ Done))
-
--- behind the packets of all segments that aren't acknowledged
+-- behind the packets of all segments that aren't acknowledged, where something is left
 abbrev pub Resends : ServingValue → ServingValue → List ℕ → Became → Type 0
 Resends old new text became = (packets : List (List ℕ)) × AllAgain old.port.link packets
-    × GoesOnIf (is_left old.port.link old.port.outbox) old (packets_text packets) new text became
+    × MatchBool (is_left old.port.link old.port.outbox)
+    (SaysGone (Went old new []) link_refusal (λ became. became) (packets_text packets) [] text became)
+    (Stays Done old new became × (text ≡ packets_text packets))
 
 -- ---- A new link.
 
@@ -70,18 +57,17 @@ Adds May files Why old new text became =
     (May × (new.accessed.files ≡ files) × Added old new text became)
     ⊎ ((f : AddFault) × Why f × (new ≡ old) × (text ≡ (add_refusal f).0) × (became ≡ (add_refusal f).1))
 
-abbrev pub AddsShaped : ServingValue → List ℕ → Shape → ServingValue → List ℕ → Became → Type 0
-AddsShaped old name shape = Adds (MayAdd old.accessed name) (with_new_file name shape old.accessed.files) (NotAdded old name) old
-
 -- where the attributes are none of a file, they are told before all else
 abbrev pub AddsFile : ServingValue → FileLine → ServingValue → List ℕ → Became → Type 0
 AddsFile old file new text became = MatchOption (checked_shape file.org file.rfm file.mrs file.mrn)
-    ((new ≡ old) × (text ≡ status_line stscode.access_refused (reason_number BadAttributes)) × (became ≡ Done))
-    (λ shape. AddsShaped old file.name shape new text became)
+    ((new ≡ old) × (text ≡ status_line stscode.access_refused reasons.bad_attributes) × (became ≡ Done))
+    (λ shape. Adds (MayAdd old.accessed file.name) (with_new_file file.name shape old.accessed.files)
+    (NotGiven old (AddRefused old.accessed file.name)) old new text became)
 
 abbrev pub AddsRecord : ServingValue → RecordLine → ServingValue → List ℕ → Became → Type 0
 AddsRecord old r =
-    Adds (MayAddRecord old.accessed r.number r.body) (with_record r.number r.body old.accessed.files) (NotStored old r.number r.body) old
+    Adds (MayAddRecord old.accessed r.number r.body) (with_record r.number r.body old.accessed.files)
+    (NotGiven old (RecordRefused old.accessed r.number r.body)) old
 
 -- ---- A line.
 

@@ -7,7 +7,6 @@ use Rattle.nsp_link.specs.declared.link.Got.{Got}
 use Rattle.nsp_link.specs.declared.fault.LinkFault.{LinkFault}
 use Rattle.nsp_link.specs.declared.fault.LinkFault.TheVariants as fault
 use Rattle.dap_msg.specs.Codes as codes_of
-use Rattle.dap_msg.specs.declared.codes.Reason.TheVariants as reason
 use Rattle.dap_accessed.specs.declared.fault.AddFault.{AddFault}
 use Rattle.dap_accessed.specs.declared.fault.AddFault.TheVariants as add
 use Rattle.dap_accessed.specs.Replies.{reason_of}
@@ -91,7 +90,7 @@ status_line code why = refused_text code why ++ line_feed
 
 abbrev pub add_refusal : AddFault → LineAnswer
 add_refusal add.Busy = refused (codes "busy")
-add_refusal add.FileExists = (status_line codes_of.stscode.access_refused (codes_of.reason_number reason.FileExists), Done)
+add_refusal add.FileExists = (status_line codes_of.stscode.access_refused codes_of.reasons.file_exists, Done)
 add_refusal add.NoFile = (status_line codes_of.stscode.file_not_found 0, Done)
 add_refusal (add.Record why) = (status_line codes_of.stscode.record_refused (reason_of why), Done)
 add_refusal add.NoMemory = wanting

@@ -1,6 +1,6 @@
 //! The end that asks, over lines.
 
-ghost use Rattle.std.specs.Prelude.{◌≡◌, ◌≢◌, ◌≤◌, ◌++◌, ◌⊎◌, [], ℕ, List, Some, OnOk, OnErr, IfOk, IfErr};
+ghost use Rattle.std.specs.Prelude.{◌≡◌, ◌≢◌, ◌≤◌, ◌++◌, ◌⊎◌, [], ℕ, List, Some, OnOk, OnErr, IfOk, IfErr, MatchBool, ◌||◌, nat_lt, length};
 ghost use Rattle.dap_msg.specs.BothEnds.{least_buffer};
 ghost use Rattle.dap_msg.specs.Blocked.{bodies};
 ghost use Rattle.nsp_link.specs.Link.{SetupFault};
@@ -11,7 +11,8 @@ ghost use Rattle.dap_text.specs.Adding.{Adds};
 ghost use Rattle.dap_live.specs.declared.asking.Came.{Came as TheCame};
 ghost use Rattle.dap_live.specs.Texts.{end_refusal, packets_text, reports_text};
 ghost use Rattle.dap_live.specs.Both.{DoesOrder, Reaches, gone_said};
-ghost use Rattle.dap_live.specs.Asking.{Asks, Does, DoesAll, Ends, GoesOn, GoesOnIf, OnEnd, Resends, came_by, front_text, goes_on as goes_on_by, is_behind as is_behind_by};
+ghost use Rattle.dap_live.specs.Asking.{Asks, Does, DoesAll, Ends, GoesOn, OnEnd, Resends, came_by, goes_on as goes_on_by};
+ghost use Rattle.dap_live.specs.Inner.Saying.{front_text};
 
 use crate::orders::{Anew, Order, read_order, set_up};
 use crate::sending::{has_message, is_left, push_again, say_ack, waits};
@@ -212,11 +213,18 @@ fn go_on_again(asking: &mut Asking, text: &mut Vec<u8>) -> Result<Came, AllocErr
 /// Goes on where something is left, or tells the reports that wait.
 fn go_on_if_left(asking: &mut Asking, text: &mut Vec<u8>) -> Result<Came, AllocError>
     ensures end { OnEnd asking.old asking.new }
-    ensures ok { IfOk result (GoesOnIf (goes_on_by asking.old.end) asking.old.end
-        asking.old.reports.items text.old.items asking.new text.new.items) }
+    ensures ok { IfOk result (λ came. MatchBool (goes_on_by asking.old.end)
+        (GoesOn asking.old.end asking.old.reports.items text.old.items asking.new text.new.items
+        came)
+        ((asking.new.end ≡ asking.old.end) × (asking.new.reports.items ≡ asking.old.reports.items)
+        × (text.new.items ≡ text.old.items ++ reports_text asking.old.reports.items)
+        × (came ≡ Came.Told Became.Done))) }
     ensures err { OnErr result ((said : List ℕ) × (came : TheCame)
-        × GoesOnIf (goes_on_by asking.old.end) asking.old.end asking.old.reports.items
-        text.old.items asking.new said came) }
+        × MatchBool (goes_on_by asking.old.end)
+        (GoesOn asking.old.end asking.old.reports.items text.old.items asking.new said came)
+        ((asking.new.end ≡ asking.old.end) × (asking.new.reports.items ≡ asking.old.reports.items)
+        × (said ≡ text.old.items ++ reports_text asking.old.reports.items)
+        × (came ≡ Came.Told Became.Done))) }
 {
     if goes_on(&asking.end) {
         go_on_again(asking, text)
@@ -354,7 +362,7 @@ fn answer_order(asking: &mut Asking, order: Option<Order<'_>>, text: &mut Vec<u8
 
 /// Whether the end would do something by going on, or has reports to tell.
 fn is_behind(asking: &Asking) -> bool
-    ensures { result ≡ is_behind_by asking.now }
+    ensures { result ≡ (goes_on_by asking.now.end || nat_lt 0 (length asking.now.reports.items)) }
 {
     goes_on(&asking.end) || !asking.reports.is_empty()
 }

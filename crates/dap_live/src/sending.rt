@@ -3,7 +3,8 @@
 ghost use Rattle.std.specs.Prelude.{◌≡◌, ◌++◌, [], OnOk, OnErr, IfOk};
 ghost use Rattle.dap_msg.specs.Blocked.{bodies};
 ghost use Rattle.dap_text.specs.Adding.{Adds};
-ghost use Rattle.dap_live.specs.Sending.{AllAgain, SaysAck, has_message as has_message_on, is_left as is_left_of, may_queue as may_queue_on, may_send as may_send_on, waits_of};
+ghost use Rattle.nsp_link.specs.Sending.{may_queue as may_queue_on};
+ghost use Rattle.dap_live.specs.Sending.{AllAgain, SaysAck, has_message as has_message_on, is_left as is_left_of, waits_of};
 ghost use Rattle.dap_live.specs.Inner.Again.{AddsAgain, AddsOneAgain};
 
 use crate::texts::{push_link_refusal, push_packet};
@@ -16,13 +17,6 @@ pub(crate) fn has_message(link: &LinkEnd) -> bool
     ensures { result ≡ has_message_on link.now }
 {
     link.peek_message().is_some()
-}
-
-/// Whether a segment may be written that was never sent.
-fn may_send(link: &LinkEnd) -> bool
-    ensures { result ≡ may_send_on link.now }
-{
-    link.may_send()
 }
 
 /// Whether the link takes these NSP messages, memory aside.
@@ -39,7 +33,7 @@ fn may_queue(link: &LinkEnd, messages: &[Vec<u8>]) -> bool
 pub(crate) fn is_left(link: &LinkEnd, outbox: &[Vec<u8>]) -> bool
     ensures { result ≡ is_left_of link.now (bodies outbox.now) }
 {
-    may_queue(link, outbox) && (!outbox.is_empty() || has_message(link) || may_send(link))
+    may_queue(link, outbox) && (!outbox.is_empty() || has_message(link) || link.may_send())
 }
 
 /// How many packets would be sent again, and one more where something is left.

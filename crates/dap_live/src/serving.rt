@@ -1,6 +1,6 @@
 //! The end that serves, over lines.
 
-ghost use Rattle.std.specs.Prelude.{◌≡◌, ◌≤◌, ◌⊎◌, ◌++◌, [], ℕ, List, Some, OnOk, OnErr, IfOk, IfErr, IsTrue};
+ghost use Rattle.std.specs.Prelude.{◌≡◌, ◌≤◌, ◌⊎◌, ◌++◌, [], ℕ, List, Some, OnOk, OnErr, IfOk, IfErr, IsTrue, MatchBool};
 ghost use Rattle.dap_msg.specs.BothEnds.{least_buffer};
 ghost use Rattle.dap_msg.specs.Blocked.{bodies};
 ghost use Rattle.nsp_link.specs.Link.{SetupFault};
@@ -14,15 +14,15 @@ ghost use Rattle.rec_file.specs.Shapes.{is_shape};
 ghost use Rattle.linewise.specs.declared.talking.Became.{Became as TheBecame};
 ghost use Rattle.dap_live.specs.Sending.{UnlessFailed, is_left as is_left_of};
 ghost use Rattle.dap_live.specs.Texts.{link_refusal, packets_text};
-ghost use Rattle.dap_live.specs.Both.{DoesOrder, Reaches, Stays, TakesPacket, gone_said};
-ghost use Rattle.dap_live.specs.Inner.Saying.{AddsSaid};
-ghost use Rattle.dap_live.specs.Serving.{AddsFile, AddsRecord, AddsShaped, Does, GoesOn, GoesOnIf, Resends};
+ghost use Rattle.dap_live.specs.Both.{DoesOrder, Reaches, SaysGone, Stays, TakesPacket, gone_said};
+ghost use Rattle.dap_live.specs.Inner.Saying.{AddsSaid, AddsShaped};
+ghost use Rattle.dap_live.specs.Serving.{AddsFile, AddsRecord, Does, Resends};
 
 use crate::orders::{Anew, Order, read_order, set_up};
 use crate::sending::{is_left, push_again, say_ack, waits};
 use crate::texts::{push_add_refusal, push_link_refusal, push_packets, push_status, push_taken};
 use dap_end::{ServingEnd, TakeFault};
-use dap_msg::codes::{ACCESS_REFUSED, Reason};
+use dap_msg::codes::{ACCESS_REFUSED, REASON_BAD_ATTRIBUTES};
 use dap_text::{FileLine, RecordLine, Text, push_files};
 use linewise::{Answers, Became};
 use nsp_link::{Got, LinkFault, LinkSetup};
@@ -114,9 +114,11 @@ fn go_on_behind(
     end: &mut ServingEnd,
     text: &mut Vec<u8>,
 ) -> Result<Became, AllocError>
-    ensures ok { IfOk result (GoesOn end.old text.old.items end.new text.new.items) }
+    ensures ok { IfOk result (SaysGone (Went end.old end.new []) link_refusal (λ became. became)
+        text.old.items [] text.new.items) }
     ensures err { OnErr result ((said : List ℕ) × (became : TheBecame)
-        × GoesOn end.old text.old.items end.new said became) }
+        × SaysGone (Went end.old end.new []) link_refusal (λ became. became) text.old.items []
+        said became) }
 {
     let mut packets = Vec::new(alloc);
     let gone = go_on(end, &mut packets);
@@ -136,11 +138,16 @@ fn go_on_if_left(
     end: &mut ServingEnd,
     text: &mut Vec<u8>,
 ) -> Result<Became, AllocError>
-    ensures ok { IfOk result (GoesOnIf (is_left_of end.old.port.link end.old.port.outbox) end.old
-        text.old.items end.new text.new.items) }
+    ensures ok { IfOk result (λ became.
+        MatchBool (is_left_of end.old.port.link end.old.port.outbox)
+        (SaysGone (Went end.old end.new []) link_refusal (λ became. became) text.old.items []
+        text.new.items became)
+        (Stays Became.Done end.old end.new became × (text.new.items ≡ text.old.items))) }
     ensures err { OnErr result ((said : List ℕ) × (became : TheBecame)
-        × GoesOnIf (is_left_of end.old.port.link end.old.port.outbox) end.old text.old.items
-        end.new said became) }
+        × MatchBool (is_left_of end.old.port.link end.old.port.outbox)
+        (SaysGone (Went end.old end.new []) link_refusal (λ became. became) text.old.items []
+        said became)
+        (Stays Became.Done end.old end.new became × (said ≡ text.old.items))) }
 {
     if is_behind(end) {
         go_on_behind(alloc, end, text)
@@ -228,7 +235,7 @@ fn add_file(
     let shape = match Shape::check(file.org, file.rfm, file.mrs, u64::from(file.mrn)) {
         Some(shape) => shape,
         None => {
-            push_status(text, ACCESS_REFUSED, Reason::BadAttributes.number())?;
+            push_status(text, ACCESS_REFUSED, REASON_BAD_ATTRIBUTES)?;
             return Ok(Became::Done);
         }
     };

@@ -2,23 +2,21 @@
 
 ghost use Rattle.std.specs.Prelude.{◌≡◌, ◌++◌, OnOk, IfOk};
 ghost use Rattle.dap_msg.specs.Blocked.{bodies};
-ghost use Rattle.dap_accessed.specs.Replies.{reason_of};
 ghost use Rattle.nsp_link.specs.declared.fault.LinkFault.TheVariants as fault;
 ghost use Rattle.dap_text.specs.Adding.{Adds};
 ghost use Rattle.dap_live.specs.Texts.{add_refusal, ask_refusal, end_refusal, got_line, link_refusal, packet_text, packets_text, read_refusal, refused, refused_line, reports_text, report_line, status_line, taken_said};
 ghost use Rattle.dap_live.specs.Inner.Saying.{AddsSaid};
 
-use dap_accessed::AddFault;
+use dap_accessed::{AddFault, reason_number};
 use dap_accessing::{AskFault, ReadFault, Report};
 use dap_end::{EndFault, TakeFault};
-use dap_msg::codes::{ACCESS_REFUSED, FILE_NOT_FOUND, RECORD_REFUSED, Reason};
+use dap_msg::codes::{ACCESS_REFUSED, FILE_NOT_FOUND, REASON_FILE_EXISTS, RECORD_REFUSED};
 use dap_text::{
     ask_word, got_word, push_hex, push_number, push_packet_fault, push_report, push_str, push_word,
 };
 use linewise::Became;
 use nsp_link::{Got, LinkFault};
 use nsp_seg::SegFault;
-use rec_file::Refusal;
 use std::alloc::AllocError;
 
 /// The line of a packet to send.
@@ -150,24 +148,6 @@ pub(crate) fn push_status(text: &mut Vec<u8>, code: u16, reason: u8) -> Result<(
     push_str(text, "\n")
 }
 
-/// The number of a reason, 0 where the refusal has none.
-fn reason_number(refusal: Refusal) -> u8
-    ensures { result ≡ reason_of refusal }
-{
-    match refusal {
-        Refusal::NotPermitted => Reason::NotPermitted.number(),
-        Refusal::NoCurrent => Reason::NoCurrent.number(),
-        Refusal::RecordNotFound => Reason::RecordNotFound.number(),
-        Refusal::RecordExists => Reason::RecordExists.number(),
-        Refusal::NumberOutOfRange => Reason::NumberOutOfRange.number(),
-        Refusal::BadLength => Reason::BadLength.number(),
-        Refusal::BadAccessMode => Reason::BadAccessMode.number(),
-        Refusal::DeleteNotAllowed => Reason::DeleteNotAllowed.number(),
-        Refusal::BadKey => Reason::BadKey.number(),
-        Refusal::EndOfFile | Refusal::NoMemory => 0,
-    }
-}
-
 /// Says that nothing is added, by a code and a reason.
 fn refuse_by(text: &mut Vec<u8>, code: u16, reason: u8) -> Result<Became, AllocError>
     ensures { IfOk result (AddsSaid text.old text.new (status_line code reason, Became.Done)) }
@@ -183,7 +163,7 @@ pub(crate) fn push_add_refusal(text: &mut Vec<u8>, fault: AddFault) -> Result<Be
     match fault {
         AddFault::NoMemory => Ok(Became::NoMemory),
         AddFault::Busy => refuse(text, "busy"),
-        AddFault::FileExists => refuse_by(text, ACCESS_REFUSED, Reason::FileExists.number()),
+        AddFault::FileExists => refuse_by(text, ACCESS_REFUSED, REASON_FILE_EXISTS),
         AddFault::NoFile => refuse_by(text, FILE_NOT_FOUND, 0),
         AddFault::Record(why) => refuse_by(text, RECORD_REFUSED, reason_number(why)),
     }

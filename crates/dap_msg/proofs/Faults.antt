@@ -1,16 +1,13 @@
 -- No fault is want of memory.
 use Rattle.std.proofs.Common.{◌≡◌, ◌≢◌, ℕ, ◌==◌, ◌^◌, Bool, true, false, List, [], ◌∷◌, sym, ap, ◌∙◌, inl, inr}
-use Rattle.std.specs.Borrow.{Bor}
 use Rattle.std.specs.Prelude.{Option, Some, None, Result, Ok, Err, IfErr, nat_lt, if◌then◌else◌}
 use Rattle.dap_msg.specs.declared.fault.FaultKind.{FaultKind}
 use Rattle.dap_msg.specs.declared.fault.FaultKind.TheVariants.{Truncated, TooLong, BadFlags, BadStream, UnknownType, BadMenu, NoMemory}
 use Rattle.dap_msg.specs.declared.fault.MsgFault.{MsgFault}
-use Rattle.dap_msg.specs.declared.message.Message.{Message as HeldMessage}
 use Rattle.dap_msg.specs.Grammar.{Kind, ValueOf, FaultyField, Part, Must, When, OrElse, UnlessEnd, Remainder, PartValue, FaultyPart, Grammar, Done, Next, Faulty}
 use Rattle.dap_msg.specs.Message.{Message}
 use Rattle.dap_msg.specs.Formats.{any, refuses_bits, flags_are_known, header, configuration, attributes, access, control, continuation, acknowledge, completion, file_data, status, other, operand}
 use Rattle.dap_msg.specs.Decoding.{IsFault, IsDecoded}
-use Rattle.dap_msg.specs.Answer.{seen_answer}
 
 abbrev IsCalmRefusal : {V : Type 0} → (V → Option FaultKind) → Type 0
 IsCalmRefusal {V = V} refuses = (v : V) → refuses v ≢ Some NoMemory
@@ -131,6 +128,6 @@ fault_calm bytes kind offset (inl h) = grammar_calm header bytes kind offset cal
 fault_calm bytes kind offset (inr (s, inl h)) = λ e. truncated (sym h.kind_is ∙ e)
 fault_calm bytes kind offset (inr (s, inr h)) = grammar_calm (operand s.head.number) h.body kind h.within (calm_operand s.head.number) h.fault
 
-pub never_no_memory : (bytes : List ℕ) (result : Result (HeldMessage (Bor (List ℕ)) × ℕ) MsgFault) → IsDecoded bytes (seen_answer result) → IfErr result (λ f. f.kind ≢ NoMemory)
+pub never_no_memory : (bytes : List ℕ) (result : Result (Message × ℕ) MsgFault) → IsDecoded bytes result → IfErr result (λ f. f.kind ≢ NoMemory)
 never_no_memory bytes (Ok x) a = tt
 never_no_memory bytes (Err f) a = fault_calm bytes f.kind f.offset a.0

@@ -4,11 +4,8 @@ use Rattle.std.proofs.lemmas.List.{take-append-drop, length-append, length-take}
 use Rattle.dap_fields.specs.Spelling.{AreBytes}
 use Rattle.dap_msg.specs.declared.fault.MsgFault.{MsgFault}
 use Rattle.dap_msg.specs.declared.fault.FaultKind.{FaultKind}
-use Rattle.std.specs.Borrow.{Bor}
 use Rattle.std.specs.Prelude.{IfOk, IfErr}
-use Rattle.dap_msg.specs.declared.message.Message.{Message as HeldMessage}
-use Rattle.dap_msg.specs.Message.{Message, seen}
-use Rattle.dap_msg.specs.Answer.{seen_answer}
+use Rattle.dap_msg.specs.Message.{Message}
 use Rattle.dap_msg.specs.Decoding.{StandsInFront, IsDecoded}
 use Rattle.dap_msg.specs.Items.{Item, Whole, Malformed, ItemAt}
 use Rattle.dap_msg.proofs.Fields.{AreBytes-back}
@@ -23,11 +20,11 @@ stands_some m n bytes h =
     let s = h.spelled.start in
     omega (arith, ap length s.joined, length-append s.front s.rest, length-take n bytes, h.there, (header_room s.head s.front s.rest s.header).fixed)
 
-pub some_read : (bytes : List ℕ) (result : Result (HeldMessage (Bor (List ℕ)) × ℕ) MsgFault) → IsDecoded bytes (seen_answer result) → IfOk result (λ x. 2 ≤ x.1)
-some_read bytes (Ok x) h = stands_some (seen x.0) x.1 bytes h
+pub some_read : (bytes : List ℕ) (result : Result (Message × ℕ) MsgFault) → IsDecoded bytes result → IfOk result (λ x. 2 ≤ x.1)
+some_read bytes (Ok x) h = stands_some x.0 x.1 bytes h
 some_read bytes (Err f) h = tt
 
-pub fault_told : (bytes : List ℕ) (result : Result (HeldMessage (Bor (List ℕ)) × ℕ) MsgFault) → AreBytes bytes → IsDecoded bytes (seen_answer result) → IfErr result (λ f. f.offset ≤ length bytes)
+pub fault_told : (bytes : List ℕ) (result : Result (Message × ℕ) MsgFault) → AreBytes bytes → IsDecoded bytes result → IfErr result (λ f. f.offset ≤ length bytes)
 fault_told bytes (Ok x) fits h = tt
 fault_told bytes (Err f) fits h = (fault_only bytes f.kind f.offset fits h.0).0
 

@@ -1,17 +1,14 @@
 -- What a format says of each of its values holds of what it spells. So a message with a closed spelling fits.
 use Rattle.std.proofs.Common.{◌≡◌, ℕ, ◌+◌, ◌^◌, ◌<◌, ◌≤◌, ◌==◌, List, [], ◌∷◌, ◌++◌, length, take, true, false, Bool, refl, sym, ap, subst, arith, inl, inr, lit≤, lit<, length-append}
-use Rattle.std.specs.Borrow.{Bor}
 use Rattle.std.specs.Prelude.{Option, Some, None, Result, Ok, Err, IfOk, ◌↔◌, if◌then◌else◌}
 use Rattle.std.proofs.Math.Nat.{pow-succ', pow-le-pow_right}
 use Rattle.std.proofs.lemmas.Bool.Decides.{nat_tests}
 use Rattle.dap_fields.specs.Spelling.{groups_value, AreGroups, ExValue}
 use Rattle.dap_msg.specs.declared.fault.MsgFault.{MsgFault}
-use Rattle.dap_msg.specs.declared.message.Message.{Message as HeldMessage}
 use Rattle.dap_msg.specs.Grammar.{Kind, Byte, Word, Extensible, Image, ValueOf, SpellsField, Part, Must, When, OrElse, UnlessEnd, Remainder, PartValue, SpellsPart, Grammar, Done, Next, Spells}
-use Rattle.dap_msg.specs.Message.{Header, Message, Filedata, Other, seen, length_of}
+use Rattle.dap_msg.specs.Message.{Header, Message, Filedata, Other, length_of}
 use Rattle.dap_msg.specs.Formats.{refuses_type, header, configuration, attributes, access, control, continuation, acknowledge, completion, file_data, status, other, operand, type_number}
 use Rattle.dap_msg.specs.Decoding.{HasLength, SpellsMessage, IsDecoded, IsSpelled}
-use Rattle.dap_msg.specs.Answer.{seen_answer}
 use Rattle.dap_msg.specs.Canon.{Fits}
 use Rattle.dap_msg.specs.Inner.Canon.{operand_bytes}
 use Rattle.dap_msg.specs.Inner.Fitting.{FitsField, FitsOption, FieldsFit, KeepsLimits}
@@ -157,6 +154,6 @@ limits m f =
     record { fields = v.1.0; length = operand_short m (0 + length s.rest) v.1.0 v.1.1 (omega (arith, short)) }
 
 -- a message that was read is one that some bytes are
-pub read_spelled : (bytes : List ℕ) (result : Result (HeldMessage (Bor (List ℕ)) × ℕ) MsgFault) → IsDecoded bytes (seen_answer result) → IfOk result (λ x. IsSpelled (seen x.0))
+pub read_spelled : (bytes : List ℕ) (result : Result (Message × ℕ) MsgFault) → IsDecoded bytes result → IfOk result (λ x. IsSpelled x.0)
 read_spelled bytes (Ok x) a = (take x.1 bytes, a.closed, a.spelled)
 read_spelled bytes (Err f) a = tt

@@ -1,20 +1,10 @@
 -- What stands in an NSP message: DAP messages, one after another.
 use Rattle.std.specs.Prelude.{◌≡◌, ℕ, ◌+◌, ◌<◌, ◌⊎◌, List, [], ◌∷◌, length, drop}
-use Rattle.dap_msg.specs.declared.fault.MsgFault.{MsgFault}
-use Rattle.dap_msg.specs.declared.items.Item.{Item as LentItem}
-use Rattle.dap_msg.specs.declared.items.Item.TheVariants as lent
-use Rattle.dap_msg.specs.Message.{Message, seen}
-use Rattle.dap_msg.specs.Decoding.{IsSpelled, StandsInFront, IsFault, type_in_front}
-
 -- A message; or the rest of the NSP message, of which no message can be read, with its first fault. The fault's
 -- offset is counted from the start of the NSP message.
-pub data Item : Type 0 where
-  Whole : Message → Item
-  Malformed : (fault : MsgFault) → Item
-
-abbrev pub seen_item : LentItem → Item
-seen_item (lent.Whole message) = Whole (seen message)
-seen_item (lent.Malformed fault) = Malformed fault
+pub use Rattle.dap_msg.specs.declared.items.Item.{Item}
+pub use Rattle.dap_msg.specs.declared.items.Item.TheVariants.{Whole, Malformed}
+use Rattle.dap_msg.specs.Decoding.{IsSpelled, StandsInFront, IsFault, type_in_front}
 
 -- a place at which an item begins; an NSP message without bytes has one too
 abbrev pub IsPlace : ℕ → List ℕ → Type 0

@@ -1,7 +1,6 @@
 //! What both ends say of limits and numbers, and the messages that both of them write.
 
 ghost use Rattle.std.specs.Prelude.{◌≡◌, ◌≤◌, ◌<◌, ◌^◌, length};
-ghost use Rattle.dap_msg.specs.Message.{seen, seen_attributes};
 ghost use Rattle.dap_msg.specs.BothEnds as both;
 
 use crate::message::{Attributes, Completion, Configuration, Message};
@@ -56,10 +55,10 @@ pub fn number_of(image: &[u8]) -> u64
     dap_fields::number_of(image)
 }
 
-impl<'a> Attributes<&'a [u8]> {
+impl<'a> Attributes<'a> {
     /// Attributes with no field (DAP 5.6.0, Attributes message). Takes no memory.
-    pub fn none() -> Attributes<&'a [u8]>
-        ensures { seen_attributes result ≡ both.no_attributes }
+    pub fn none() -> Attributes<'a>
+        ensures { result ≡ both.no_attributes }
     {
         Attributes {
             datatype: None,
@@ -87,11 +86,11 @@ impl<'a> Attributes<&'a [u8]> {
     }
 }
 
-impl<'a> Message<&'a [u8]> {
+impl<'a> Message<'a> {
     /// The Config that each end sends, with its BUFSIZ in bytes (DAP 5.6.0, Configuration message; its values are
     /// own). Takes no memory.
-    pub fn config_of(bufsiz: u16) -> Message<&'a [u8]>
-        ensures { seen result ≡ both.config_of bufsiz }
+    pub fn config_of(bufsiz: u16) -> Message<'a>
+        ensures { result ≡ both.config_of bufsiz }
     {
         Message::Config(Configuration {
             bufsiz,
@@ -107,8 +106,8 @@ impl<'a> Message<&'a [u8]> {
     }
 
     /// An Access Complete with this CMPFUNC and nothing else (DAP 5.6.0, Access Complete message). Takes no memory.
-    pub fn complete_with(func: u8) -> Message<&'a [u8]>
-        ensures { seen result ≡ both.complete_with func }
+    pub fn complete_with(func: u8) -> Message<'a>
+        ensures { result ≡ both.complete_with func }
     {
         Message::Accomp(Completion {
             func,

@@ -96,12 +96,37 @@ pub const MACCODE_SUCCESS: u8 = 1;
 pub const SUCCESS: u16 = 0x1000;
 /// An Access to open finds no file of the name.
 pub const FILE_NOT_FOUND: u16 = 0x4032;
-/// An Access is refused, for the [`Reason`] in STV.
+/// An Access is refused, for the reason in STV.
 pub const ACCESS_REFUSED: u16 = 0x4000;
-/// An operation on a record is refused, for the [`Reason`] in STV.
+/// An operation on a record is refused, for the reason in STV.
 pub const RECORD_REFUSED: u16 = 0x5000;
 /// No record follows.
 pub const END_OF_FILE: u16 = 0x5027;
+
+/// STV (own): the one byte beside [`ACCESS_REFUSED`] and [`RECORD_REFUSED`]. There is a file of the name.
+pub const REASON_FILE_EXISTS: u8 = 1;
+/// The file was not opened for the operation.
+pub const REASON_NOT_PERMITTED: u8 = 2;
+/// No record is current.
+pub const REASON_NO_CURRENT: u8 = 3;
+/// There is no record of the number.
+pub const REASON_RECORD_NOT_FOUND: u8 = 4;
+/// There is a record of the number.
+pub const REASON_RECORD_EXISTS: u8 = 5;
+/// No record may have the number.
+pub const REASON_NUMBER_OUT_OF_RANGE: u8 = 6;
+/// No record of the file may have this length.
+pub const REASON_BAD_LENGTH: u8 = 7;
+/// The file's records are not found so.
+pub const REASON_BAD_ACCESS_MODE: u8 = 8;
+/// Nothing is removed from a file of this organization.
+pub const REASON_DELETE_NOT_ALLOWED: u8 = 9;
+/// The record's Data message is longer than the peer takes.
+pub const REASON_TOO_LARGE_FOR_BUFFER: u8 = 10;
+/// No file has these attributes.
+pub const REASON_BAD_ATTRIBUTES: u8 = 11;
+/// The key is no number.
+pub const REASON_BAD_KEY: u8 = 12;
 
 const UNSUPPORTED: u16 = 0x2000;
 
@@ -191,55 +216,7 @@ pub fn names_the_numbers()
     ensures access_refused { ACCESS_REFUSED ≡ codes.stscode.access_refused }
     ensures record_refused { RECORD_REFUSED ≡ codes.stscode.record_refused }
     ensures end_of_file { END_OF_FILE ≡ codes.stscode.end_of_file }
+    ensures reason_file_exists { REASON_FILE_EXISTS ≡ codes.reasons.file_exists }
+    ensures reason_too_large_for_buffer { REASON_TOO_LARGE_FOR_BUFFER ≡ codes.reasons.too_large_for_buffer }
+    ensures reason_bad_attributes { REASON_BAD_ATTRIBUTES ≡ codes.reasons.bad_attributes }
 {}
-
-/// Why an operation is refused (own): the one byte of STV beside [`ACCESS_REFUSED`] and [`RECORD_REFUSED`].
-#[derive(Clone, Copy, Debug, PartialEq, Eq)]
-pub enum Reason {
-    /// There is a file of the name.
-    FileExists,
-    /// The file was not opened for the operation.
-    NotPermitted,
-    /// No record is current.
-    NoCurrent,
-    /// There is no record of the number.
-    RecordNotFound,
-    /// There is a record of the number.
-    RecordExists,
-    /// No record may have the number.
-    NumberOutOfRange,
-    /// No record of the file may have this length.
-    BadLength,
-    /// The file's records are not found so.
-    BadAccessMode,
-    /// Nothing is removed from a file of this organization.
-    DeleteNotAllowed,
-    /// The record's Data message is longer than the peer takes.
-    TooLargeForBuffer,
-    /// No file has these attributes.
-    BadAttributes,
-    /// The key is no number.
-    BadKey,
-}
-
-impl Reason {
-    /// The byte that stands for the reason, 1 to 12 (own). Takes no memory.
-    pub fn number(self) -> u8
-        ensures { result ≡ codes.reason_number self }
-    {
-        match self {
-            Reason::FileExists => 1,
-            Reason::NotPermitted => 2,
-            Reason::NoCurrent => 3,
-            Reason::RecordNotFound => 4,
-            Reason::RecordExists => 5,
-            Reason::NumberOutOfRange => 6,
-            Reason::BadLength => 7,
-            Reason::BadAccessMode => 8,
-            Reason::DeleteNotAllowed => 9,
-            Reason::TooLargeForBuffer => 10,
-            Reason::BadAttributes => 11,
-            Reason::BadKey => 12,
-        }
-    }
-}

@@ -2,7 +2,7 @@
 
 ghost use Rattle.std.specs.Prelude.{ℕ, ◌≡◌, ◌≤◌, ◌<◌, ◌+◌, ◌^◌, ◌++◌, length, is_some, map, vec_len, vec_capacity};
 ghost use Rattle.dap_fields.specs.Writing.{shortest};
-ghost use Rattle.dap_msg.specs.Message.{Accomp, Attrib, Control, seen, seen_attributes, seen_control};
+ghost use Rattle.dap_msg.specs.Message.{Accomp, Attrib, Control};
 ghost use Rattle.dap_msg.specs.Formats.{header_bytes};
 ghost use Rattle.dap_msg.specs.Canon.{canon, Fits};
 ghost use Rattle.dap_msg.specs.Inner.Canon.{operand_bytes, option_bytes, bits_of};
@@ -173,13 +173,13 @@ fn write_message(
 
 /// The field of a menu.
 #[inline(always)]
-fn option_field<'a, T, K: Kind<'a, T>>(field: Optional<K>, value: Option<T>) -> Field<'a>
+fn option_field<'a, T, K: Kind<'a, T>>(field: Optional<K>, value: &Option<T>) -> Field<'a>
     requires known { K.is_known field.1 }
-    requires fits { FitsOption (K.kind field.1) (K.seen_option field.1 value) }
+    requires fits { FitsOption (K.kind field.1) (K.seen_option field.1 value.now) }
     ensures bytes { bytes_of result
-        ≡ option_bytes (K.kind field.1) (K.seen_option field.1 value) }
+        ≡ option_bytes (K.kind field.1) (K.seen_option field.1 value.now) }
     ensures can { CanWrite result }
-    ensures there { is_there result ≡ is_some (K.seen_option field.1 value) }
+    ensures there { is_there result ≡ is_some (K.seen_option field.1 value.now) }
 {
     match value {
         Some(value) => field.1.field(value),
@@ -238,54 +238,54 @@ fn completion_fields<'a>(here: Completion) -> [Field<'a>; 3]
 
 /// The fields of a Control, in order, with their menu.
 #[inline(always)]
-fn control_fields(here: ControlFields<&[u8]>) -> [Field<'_>; 8]
-    requires { FieldsFit (Control (seen_control here)) }
-    ensures bytes { fields_bytes result ≡ operand_bytes (Control (seen_control here.entry)) }
+fn control_fields<'a>(here: &ControlFields<'a>) -> [Field<'a>; 8]
+    requires { FieldsFit (Control here.now) }
+    ensures bytes { fields_bytes result ≡ operand_bytes (Control here.now) }
     ensures can { CanWriteAll result }
 {
     let mut fields = [
         Field::Byte(here.func),
         Field::Absent,
-        option_field(menu::RAC, here.rac),
-        option_field(menu::KEY, here.key),
-        option_field(menu::KRF, here.krf),
-        option_field(menu::ROP, here.rop),
-        option_field(menu::HSH, here.hsh),
-        option_field(menu::DISPLAY, here.display),
+        option_field(menu::RAC, &here.rac),
+        option_field(menu::KEY, &here.key),
+        option_field(menu::KRF, &here.krf),
+        option_field(menu::ROP, &here.rop),
+        option_field(menu::HSH, &here.hsh),
+        option_field(menu::DISPLAY, &here.display),
     ];
     fields[1] = menu_field(&fields[2..]);
     fields
 }
 
 /// The fields of an Attributes message, in order, behind their menu.
-fn attributes_fields(here: Attributes<&[u8]>) -> [Field<'_>; 22]
-    requires { FieldsFit (Attrib (seen_attributes here)) }
-    ensures bytes { fields_bytes result ≡ operand_bytes (Attrib (seen_attributes here.entry)) }
+fn attributes_fields<'a>(here: &Attributes<'a>) -> [Field<'a>; 22]
+    requires { FieldsFit (Attrib here.now) }
+    ensures bytes { fields_bytes result ≡ operand_bytes (Attrib here.now) }
     ensures can { CanWriteAll result }
 {
     let mut fields = [
         Field::Absent,
-        option_field(menu::DATATYPE, here.datatype),
-        option_field(menu::ORG, here.org),
-        option_field(menu::RFM, here.rfm),
-        option_field(menu::RAT, here.rat),
-        option_field(menu::BLS, here.bls),
-        option_field(menu::MRS, here.mrs),
-        option_field(menu::ALQ, here.alq),
-        option_field(menu::BKS, here.bks),
-        option_field(menu::FSZ, here.fsz),
-        option_field(menu::MRN, here.mrn),
-        option_field(menu::RUNSYS, here.runsys),
-        option_field(menu::DEQ, here.deq),
-        option_field(menu::FOP, here.fop),
-        option_field(menu::BSZ, here.bsz),
-        option_field(menu::DEV, here.dev),
-        option_field(menu::SDC, here.sdc),
-        option_field(menu::LRL, here.lrl),
-        option_field(menu::HBK, here.hbk),
-        option_field(menu::EBK, here.ebk),
-        option_field(menu::FFB, here.ffb),
-        option_field(menu::SBN, here.sbn),
+        option_field(menu::DATATYPE, &here.datatype),
+        option_field(menu::ORG, &here.org),
+        option_field(menu::RFM, &here.rfm),
+        option_field(menu::RAT, &here.rat),
+        option_field(menu::BLS, &here.bls),
+        option_field(menu::MRS, &here.mrs),
+        option_field(menu::ALQ, &here.alq),
+        option_field(menu::BKS, &here.bks),
+        option_field(menu::FSZ, &here.fsz),
+        option_field(menu::MRN, &here.mrn),
+        option_field(menu::RUNSYS, &here.runsys),
+        option_field(menu::DEQ, &here.deq),
+        option_field(menu::FOP, &here.fop),
+        option_field(menu::BSZ, &here.bsz),
+        option_field(menu::DEV, &here.dev),
+        option_field(menu::SDC, &here.sdc),
+        option_field(menu::LRL, &here.lrl),
+        option_field(menu::HBK, &here.hbk),
+        option_field(menu::EBK, &here.ebk),
+        option_field(menu::FFB, &here.ffb),
+        option_field(menu::SBN, &here.sbn),
     ];
     fields[0] = menu_field(&fields[1..]);
     fields
@@ -294,7 +294,7 @@ fn attributes_fields(here: Attributes<&[u8]>) -> [Field<'_>; 22]
 /// What is made of the fields of the message's operand, which are in order.
 macro_rules! with_fields {
     ($message:expr, $make:ident $(, $more:expr)*) => {
-        match *$message {
+        match $message {
             Message::Config(here) => {
                 let fields = &[
                     Field::Word(here.bufsiz),
@@ -314,31 +314,31 @@ macro_rules! with_fields {
                 let fields = &[
                     Field::Byte(here.func),
                     Field::Extensible(u128::from(here.opt)),
-                    Field::Image(here.name),
+                    Field::Image(here.name.0),
                     Field::Extensible(u128::from(here.fac)),
                     Field::Extensible(u128::from(here.shr)),
                     Field::Extensible(u128::from(here.display)),
-                    Field::Image(here.password),
+                    Field::Image(here.password.0),
                 ];
                 $make(fields $(, $more)*)
             }
             Message::Control(here) => $make(&control_fields(here) $(, $more)*),
-            Message::Contran { func } => $make(&[Field::Byte(func)] $(, $more)*),
+            Message::Contran { func } => $make(&[Field::Byte(*func)] $(, $more)*),
             Message::Ack => $make(&[] $(, $more)*),
-            Message::Accomp(here) => $make(&completion_fields(here) $(, $more)*),
+            Message::Accomp(here) => $make(&completion_fields(*here) $(, $more)*),
             Message::Filedata { recnum, payload } => {
-                $make(&[Field::Image(recnum), Field::Rest(payload)] $(, $more)*)
+                $make(&[Field::Image(recnum.0), Field::Rest(payload.0)] $(, $more)*)
             }
             Message::Status(here) => {
                 let fields = &[
                     Field::Word(here.code),
-                    Field::Image(here.rfa),
-                    Field::Image(here.recnum),
-                    Field::Image(here.stv),
+                    Field::Image(here.rfa.0),
+                    Field::Image(here.recnum.0),
+                    Field::Image(here.stv.0),
                 ];
                 $make(fields $(, $more)*)
             }
-            Message::Other { body, .. } => $make(&[Field::Rest(body)] $(, $more)*),
+            Message::Other { body, .. } => $make(&[Field::Rest(body.0)] $(, $more)*),
         }
     };
 }
@@ -346,10 +346,10 @@ macro_rules! with_fields {
 /// Appends a message as [`encode_counted`] does.
 #[tactic(auto, unfolding(crate::specs::Inner::Canon::canon))]
 #[inline(always)]
-fn encode_here(message: &Message<&[u8]>, len: usize, out: &mut Vec<u8>) -> Result<(), MsgFault>
-    requires fits { KeepsLimits (seen message.now) }
-    requires counted { len ≡ length (canon (seen message.now)) }
-    ensures appends { AppendsMessage (canon (seen message.now)) out.old out.new result }
+fn encode_here(message: &Message<'_>, len: usize, out: &mut Vec<u8>) -> Result<(), MsgFault>
+    requires fits { KeepsLimits message.now }
+    requires counted { len ≡ length (canon message.now) }
+    ensures appends { AppendsMessage (canon message.now) out.old out.new result }
     ensures capacity { vec_capacity out.old ≤ vec_capacity out.new }
 {
     with_fields!(message, write_message, message.number(), len, out)
@@ -358,10 +358,10 @@ fn encode_here(message: &Message<&[u8]>, len: usize, out: &mut Vec<u8>) -> Resul
 /// The same. A call clears the room for the fields of all messages that it may meet: so those with the most fields are
 /// written apart.
 #[inline(never)]
-fn encode_apart(message: &Message<&[u8]>, len: usize, out: &mut Vec<u8>) -> Result<(), MsgFault>
-    requires fits { KeepsLimits (seen message.now) }
-    requires counted { len ≡ length (canon (seen message.now)) }
-    ensures appends { AppendsMessage (canon (seen message.now)) out.old out.new result }
+fn encode_apart(message: &Message<'_>, len: usize, out: &mut Vec<u8>) -> Result<(), MsgFault>
+    requires fits { KeepsLimits message.now }
+    requires counted { len ≡ length (canon message.now) }
+    ensures appends { AppendsMessage (canon message.now) out.old out.new result }
     ensures capacity { vec_capacity out.old ≤ vec_capacity out.new }
 {
     encode_here(message, len, out)
@@ -369,13 +369,13 @@ fn encode_apart(message: &Message<&[u8]>, len: usize, out: &mut Vec<u8>) -> Resu
 
 /// Appends a message of `len` bytes, as [`encode`] does. They aren't counted again.
 pub(crate) fn encode_counted(
-    message: &Message<&[u8]>,
+    message: &Message<'_>,
     len: usize,
     out: &mut Vec<u8>,
 ) -> Result<(), MsgFault>
-    requires fits { Fits (seen message.now) }
-    requires counted { len ≡ length (canon (seen message.now)) }
-    ensures appends { AppendsMessage (canon (seen message.now)) out.old out.new result }
+    requires fits { Fits message.now }
+    requires counted { len ≡ length (canon message.now) }
+    ensures appends { AppendsMessage (canon message.now) out.old out.new result }
     ensures capacity { vec_capacity out.old ≤ vec_capacity out.new }
 {
     match message {
@@ -392,27 +392,27 @@ pub(crate) fn encode_counted(
 ///
 /// The message must fit, as [`fits`] tells. The only refusal is `FaultKind::NoMemory`, with type and offset 0, which
 /// comes only where `out` lacked the room and leaves it unchanged. Room is reserved once, and none is given back.
-pub fn encode(message: &Message<&[u8]>, out: &mut Vec<u8>) -> Result<(), MsgFault>
-    requires { Fits (seen message.now) }
-    ensures appends { AppendsMessage (canon (seen message.now)) out.old out.new result }
+pub fn encode(message: &Message<'_>, out: &mut Vec<u8>) -> Result<(), MsgFault>
+    requires { Fits message.now }
+    ensures appends { AppendsMessage (canon message.now) out.old out.new result }
     ensures capacity { vec_capacity out.old ≤ vec_capacity out.new }
 {
     encode_counted(message, encoded_len(message), out)
 }
 
 /// The bytes of the operand.
-fn operand_len(message: &Message<&[u8]>) -> usize
-    requires { KeepsLimits (seen message.now) }
-    ensures { result ≡ length (operand_bytes (seen message.now)) }
+fn operand_len(message: &Message<'_>) -> usize
+    requires { KeepsLimits message.now }
+    ensures { result ≡ length (operand_bytes message.now) }
 {
     with_fields!(message, fields_len)
 }
 
 /// The number of bytes that [`encode`] appends for a message that fits (own; DAP 5.6.0, message formats). Takes no
 /// memory.
-pub fn encoded_len(message: &Message<&[u8]>) -> usize
-    requires { Fits (seen message.now) }
-    ensures { result ≡ length (canon (seen message.now)) }
+pub fn encoded_len(message: &Message<'_>) -> usize
+    requires { Fits message.now }
+    ensures { result ≡ length (canon message.now) }
 {
     message_len(operand_len(message))
 }

@@ -1,20 +1,20 @@
 //! Whether a message has a spelling.
 
 ghost use Rattle.std.specs.Prelude.{◌<◌, ◌^◌, ◌↔◌, length, IsTrue};
-ghost use Rattle.dap_msg.specs.Message.{Attrib, Config, Control, seen, seen_attributes, seen_control};
+ghost use Rattle.dap_msg.specs.Message.{Accomp, Attrib, Config, Control};
 ghost use Rattle.dap_msg.specs.Canon.{Fits};
 ghost use Rattle.dap_msg.specs.Inner.Canon.{operand_bytes};
 ghost use Rattle.dap_msg.specs.Inner.Fitting.{FieldsFit, FitsOption};
 
 use crate::codes::{GREATEST_TYPE, TYPE_STATUS};
 use crate::field;
-use crate::kind::Kind;
+use crate::kind::{Byte, Kind, Word};
 use crate::menu::{self, Optional};
-use crate::message::{Attributes, Configuration, ControlFields, Message};
+use crate::message::{Attributes, Completion, Configuration, ControlFields, Message};
 
 /// Whether a field of a menu fits, where it is there.
-fn option_fits<'a, T, K: Kind<'a, T>>(field: Optional<K>, value: Option<T>) -> bool
-    ensures { IsTrue result ↔ FitsOption (K.kind field.1) (K.seen_option field.1 value) }
+fn option_fits<'a, T, K: Kind<'a, T>>(field: Optional<K>, value: &Option<T>) -> bool
+    ensures { IsTrue result ↔ FitsOption (K.kind field.1) (K.seen_option field.1 value.now) }
 {
     match value {
         Some(value) => field.1.fits(value),
@@ -26,62 +26,84 @@ fn option_fits<'a, T, K: Kind<'a, T>>(field: Optional<K>, value: Option<T>) -> b
 fn configuration_fits(here: Configuration) -> bool
     ensures { IsTrue result ↔ FieldsFit (Config here) }
 {
-    field::SYSCAP.fits(here.syscap)
+    field::SYSCAP.fits(&here.syscap)
+}
+
+/// Whether each value of an Access Complete fits its field.
+fn completion_fits(here: Completion) -> bool
+    ensures { IsTrue result ↔ FieldsFit (Accomp here) }
+{
+    field::FOP.fits(&here.fop)
 }
 
 /// Whether each value of an Attributes message fits its field.
-fn attributes_fit(here: Attributes<&[u8]>) -> bool
-    ensures { IsTrue result ↔ FieldsFit (Attrib (seen_attributes here.entry)) }
+fn attributes_fit(here: &Attributes<'_>) -> bool
+    ensures { IsTrue result ↔ FieldsFit (Attrib here.now) }
 {
-    option_fits(menu::DATATYPE, here.datatype)
-        && option_fits(menu::RAT, here.rat)
-        && option_fits(menu::ALQ, here.alq)
-        && option_fits(menu::MRN, here.mrn)
-        && option_fits(menu::RUNSYS, here.runsys)
-        && option_fits(menu::FOP, here.fop)
-        && option_fits(menu::DEV, here.dev)
-        && option_fits(menu::SDC, here.sdc)
-        && option_fits(menu::HBK, here.hbk)
-        && option_fits(menu::EBK, here.ebk)
-        && option_fits(menu::SBN, here.sbn)
+    option_fits(menu::DATATYPE, &here.datatype)
+        && option_fits(menu::ORG, &here.org)
+        && option_fits(menu::RFM, &here.rfm)
+        && option_fits(menu::RAT, &here.rat)
+        && option_fits(menu::BLS, &here.bls)
+        && option_fits(menu::MRS, &here.mrs)
+        && option_fits(menu::ALQ, &here.alq)
+        && option_fits(menu::BKS, &here.bks)
+        && option_fits(menu::FSZ, &here.fsz)
+        && option_fits(menu::MRN, &here.mrn)
+        && option_fits(menu::RUNSYS, &here.runsys)
+        && option_fits(menu::DEQ, &here.deq)
+        && option_fits(menu::FOP, &here.fop)
+        && option_fits(menu::BSZ, &here.bsz)
+        && option_fits(menu::DEV, &here.dev)
+        && option_fits(menu::SDC, &here.sdc)
+        && option_fits(menu::LRL, &here.lrl)
+        && option_fits(menu::HBK, &here.hbk)
+        && option_fits(menu::EBK, &here.ebk)
+        && option_fits(menu::FFB, &here.ffb)
+        && option_fits(menu::SBN, &here.sbn)
 }
 
 /// Whether each value of a Control fits its field.
-fn control_fits(here: ControlFields<&[u8]>) -> bool
-    ensures { IsTrue result ↔ FieldsFit (Control (seen_control here.entry)) }
+fn control_fits(here: &ControlFields<'_>) -> bool
+    ensures { IsTrue result ↔ FieldsFit (Control here.now) }
 {
-    option_fits(menu::KEY, here.key)
-        && option_fits(menu::ROP, here.rop)
-        && option_fits(menu::HSH, here.hsh)
-        && option_fits(menu::DISPLAY, here.display)
+    Byte.fits(&here.func)
+        && option_fits(menu::RAC, &here.rac)
+        && option_fits(menu::KEY, &here.key)
+        && option_fits(menu::KRF, &here.krf)
+        && option_fits(menu::ROP, &here.rop)
+        && option_fits(menu::HSH, &here.hsh)
+        && option_fits(menu::DISPLAY, &here.display)
 }
 
-/// Whether each value fits its field. Those that fill their type need no test.
-fn fields_fit(message: Message<&[u8]>) -> bool
-    ensures { IsTrue result ↔ FieldsFit (seen message.entry) }
+/// Whether each value fits its field.
+fn fields_fit(message: &Message<'_>) -> bool
+    ensures { IsTrue result ↔ FieldsFit message.now }
 {
     match message {
-        Message::Config(here) => configuration_fits(here),
+        Message::Config(here) => configuration_fits(*here),
         Message::Attrib(here) => attributes_fit(here),
         Message::Access(here) => {
-            field::ACCOPT.fits(here.opt)
-                && field::FILESPEC.fits(here.name)
-                && field::FAC.fits(here.fac)
-                && field::SHR.fits(here.shr)
-                && field::DISPLAY.fits(here.display)
-                && field::PASSWORD.fits(here.password)
+            Byte.fits(&here.func)
+                && field::ACCOPT.fits(&here.opt)
+                && field::FILESPEC.fits(&here.name)
+                && field::FAC.fits(&here.fac)
+                && field::SHR.fits(&here.shr)
+                && field::DISPLAY.fits(&here.display)
+                && field::PASSWORD.fits(&here.password)
         }
         Message::Control(here) => control_fits(here),
-        Message::Contran { .. } => true,
+        Message::Contran { func } => Byte.fits(func),
         Message::Ack => true,
-        Message::Accomp(here) => field::FOP.fits(here.fop),
+        Message::Accomp(here) => completion_fits(*here),
         Message::Filedata { recnum, .. } => field::RECNUM.fits(recnum),
         Message::Status(here) => {
-            field::RFA.fits(here.rfa)
-                && field::RECNUM.fits(here.recnum)
-                && field::STV.fits(here.stv)
+            Word.fits(&here.code)
+                && field::RFA.fits(&here.rfa)
+                && field::RECNUM.fits(&here.recnum)
+                && field::STV.fits(&here.stv)
         }
-        Message::Other { number, .. } => number > TYPE_STATUS && number <= GREATEST_TYPE,
+        Message::Other { number, .. } => *number > TYPE_STATUS && *number <= GREATEST_TYPE,
     }
 }
 
@@ -89,13 +111,13 @@ fn fields_fit(message: Message<&[u8]>) -> bool
 const LONGEST_OPERAND: usize = 65535;
 
 /// Whether the operand of a message whose values fit has a length that can be told.
-fn operand_fits(message: &Message<&[u8]>) -> bool
-    requires { FieldsFit (seen message.now) }
-    ensures { IsTrue result ↔ (length (operand_bytes (seen message.now)) < 2 ^ 16) }
+fn operand_fits(message: &Message<'_>) -> bool
+    requires { FieldsFit message.now }
+    ensures { IsTrue result ↔ (length (operand_bytes message.now) < 2 ^ 16) }
 {
-    match *message {
-        Message::Filedata { recnum, payload } => payload.len() < LONGEST_OPERAND - recnum.len(),
-        Message::Other { body, .. } => body.len() <= LONGEST_OPERAND,
+    match message {
+        Message::Filedata { recnum, payload } => payload.0.len() < LONGEST_OPERAND - recnum.0.len(),
+        Message::Other { body, .. } => body.0.len() <= LONGEST_OPERAND,
         _ => true,
     }
 }
@@ -103,8 +125,8 @@ fn operand_fits(message: &Message<&[u8]>) -> bool
 /// Whether the message has a spelling, the condition of [`crate::encode`]: every value fits its field, the number of an
 /// `Other` is 10 to 16, and the operand has at most 65,535 bytes (the fields are those of DAP 5.6.0, message formats).
 /// Takes no memory.
-pub fn fits(message: &Message<&[u8]>) -> bool
-    ensures { IsTrue result ↔ Fits (seen message.now) }
+pub fn fits(message: &Message<'_>) -> bool
+    ensures { IsTrue result ↔ Fits message.now }
 {
-    fields_fit(*message) && operand_fits(message)
+    fields_fit(message) && operand_fits(message)
 }

@@ -1,10 +1,11 @@
 //! The operands of the messages.
 
-ghost use Rattle.dap_msg.specs.Message.{seen, seen_attributes};
+ghost use Rattle.std.specs.Prelude.{◌≡◌};
 ghost use Rattle.dap_msg.specs.Formats.{access, acknowledge, attributes, completion, configuration, continuation, control, file_data, other, status};
 ghost use Rattle.dap_msg.specs.Inner.Attributes.{later_attributes};
-ghost use Rattle.dap_msg.specs.Inner.Reading.{place, value_at, Gives};
+ghost use Rattle.dap_msg.specs.Inner.Reading.{place, value_at};
 
+use crate::bytes::Bytes;
 use crate::fault::Fault;
 use crate::kind::{Byte, Word};
 use crate::message::{
@@ -16,8 +17,8 @@ use crate::{field, menu};
 /// The Acknowledge, whatever its operand is.
 #[tactic(auto, unfolding(crate::specs::Formats::acknowledge))]
 #[inline(always)]
-pub(crate) fn read_acknowledge(cursor: Cursor<'_>) -> Result<Message<&[u8]>, Fault>
-    ensures { Gives seen result (value_at acknowledge (place cursor.entry)) }
+pub(crate) fn read_acknowledge(cursor: Cursor<'_>) -> Result<Message<'_>, Fault>
+    ensures { result ≡ value_at acknowledge (place cursor.entry) }
 {
     let _ignored = cursor;
     Ok(Message::Ack)
@@ -26,13 +27,13 @@ pub(crate) fn read_acknowledge(cursor: Cursor<'_>) -> Result<Message<&[u8]>, Fau
 /// The Status that the operand spells; RFA, RECNUM and STV may be absent.
 #[tactic(auto, unfolding(crate::specs::Formats::status))]
 #[inline(always)]
-pub(crate) fn read_status(mut cursor: Cursor<'_>) -> Result<Message<&[u8]>, Fault>
-    ensures { Gives seen result (value_at status (place cursor.entry)) }
+pub(crate) fn read_status(mut cursor: Cursor<'_>) -> Result<Message<'_>, Fault>
+    ensures { result ≡ value_at status (place cursor.entry) }
 {
     let code = cursor.read(Word)?;
-    let rfa = cursor.or_else(field::RFA, &[])?;
-    let recnum = cursor.or_else(field::RECNUM, &[])?;
-    let stv = cursor.or_else(field::STV, &[])?;
+    let rfa = cursor.or_else(field::RFA, Bytes(&[]))?;
+    let recnum = cursor.or_else(field::RECNUM, Bytes(&[]))?;
+    let stv = cursor.or_else(field::STV, Bytes(&[]))?;
     Ok(Message::Status(StatusFields {
         code,
         rfa,
@@ -44,8 +45,8 @@ pub(crate) fn read_status(mut cursor: Cursor<'_>) -> Result<Message<&[u8]>, Faul
 /// The Control that the operand spells.
 #[tactic(auto, unfolding(crate::specs::Formats::control))]
 #[inline(always)]
-pub(crate) fn read_control(mut cursor: Cursor<'_>) -> Result<Message<&[u8]>, Fault>
-    ensures { Gives seen result (value_at control (place cursor.entry)) }
+pub(crate) fn read_control(mut cursor: Cursor<'_>) -> Result<Message<'_>, Fault>
+    ensures { result ≡ value_at control (place cursor.entry) }
 {
     let func = cursor.read(Byte)?;
     let bits = cursor.menu_of(menu::CTLMENU)?;
@@ -69,8 +70,8 @@ pub(crate) fn read_control(mut cursor: Cursor<'_>) -> Result<Message<&[u8]>, Fau
 /// The Attributes that the operand spells.
 #[tactic(auto, unfolding(crate::specs::Formats::attributes, crate::specs::Inner::Attributes::later_attributes))]
 #[inline(always)]
-pub(crate) fn read_attributes(mut cursor: Cursor<'_>) -> Result<Message<&[u8]>, Fault>
-    ensures { Gives seen result (value_at attributes (place cursor.entry)) }
+pub(crate) fn read_attributes(mut cursor: Cursor<'_>) -> Result<Message<'_>, Fault>
+    ensures { result ≡ value_at attributes (place cursor.entry) }
 {
     let bits = cursor.menu_of(menu::ATTMENU)?;
     let datatype = cursor.option_of(bits, menu::DATATYPE)?;
@@ -104,11 +105,10 @@ pub(crate) fn read_attributes(mut cursor: Cursor<'_>) -> Result<Message<&[u8]>, 
 #[inline(always)]
 fn read_later_attributes<'a>(
     bits: u64,
-    first: Attributes<&'a [u8]>,
+    first: Attributes<'a>,
     mut cursor: Cursor<'a>,
-) -> Result<Message<&'a [u8]>, Fault>
-    ensures { Gives seen result
-        (value_at (later_attributes bits (seen_attributes first.entry)) (place cursor.entry)) }
+) -> Result<Message<'a>, Fault>
+    ensures { result ≡ value_at (later_attributes bits first.entry) (place cursor.entry) }
 {
     let runsys = cursor.option_of(bits, menu::RUNSYS)?;
     let deq = cursor.option_of(bits, menu::DEQ)?;
@@ -140,8 +140,8 @@ fn read_later_attributes<'a>(
 /// The Config that the operand spells.
 #[tactic(auto, unfolding(crate::specs::Formats::configuration))]
 #[inline(always)]
-pub(crate) fn read_configuration(mut cursor: Cursor<'_>) -> Result<Message<&[u8]>, Fault>
-    ensures { Gives seen result (value_at configuration (place cursor.entry)) }
+pub(crate) fn read_configuration(mut cursor: Cursor<'_>) -> Result<Message<'_>, Fault>
+    ensures { result ≡ value_at configuration (place cursor.entry) }
 {
     let bufsiz = cursor.read(Word)?;
     let ostype = cursor.read(Byte)?;
@@ -168,8 +168,8 @@ pub(crate) fn read_configuration(mut cursor: Cursor<'_>) -> Result<Message<&[u8]
 /// The Access that the operand spells; the fields behind FILESPEC may be absent.
 #[tactic(auto, unfolding(crate::specs::Formats::access))]
 #[inline(always)]
-pub(crate) fn read_access(mut cursor: Cursor<'_>) -> Result<Message<&[u8]>, Fault>
-    ensures { Gives seen result (value_at access (place cursor.entry)) }
+pub(crate) fn read_access(mut cursor: Cursor<'_>) -> Result<Message<'_>, Fault>
+    ensures { result ≡ value_at access (place cursor.entry) }
 {
     let func = cursor.read(Byte)?;
     let opt = cursor.read(field::ACCOPT)?;
@@ -177,7 +177,7 @@ pub(crate) fn read_access(mut cursor: Cursor<'_>) -> Result<Message<&[u8]>, Faul
     let fac = cursor.or_else(field::FAC, 0)?;
     let shr = cursor.or_else(field::SHR, 0)?;
     let display = cursor.or_else(field::DISPLAY, 0)?;
-    let password = cursor.or_else(field::PASSWORD, &[])?;
+    let password = cursor.or_else(field::PASSWORD, Bytes(&[]))?;
     Ok(Message::Access(AccessFields {
         func,
         opt,
@@ -192,8 +192,8 @@ pub(crate) fn read_access(mut cursor: Cursor<'_>) -> Result<Message<&[u8]>, Faul
 /// The Continue Transfer that the operand spells.
 #[tactic(auto, unfolding(crate::specs::Formats::continuation))]
 #[inline(always)]
-pub(crate) fn read_continuation(mut cursor: Cursor<'_>) -> Result<Message<&[u8]>, Fault>
-    ensures { Gives seen result (value_at continuation (place cursor.entry)) }
+pub(crate) fn read_continuation(mut cursor: Cursor<'_>) -> Result<Message<'_>, Fault>
+    ensures { result ≡ value_at continuation (place cursor.entry) }
 {
     let func = cursor.read(Byte)?;
     Ok(Message::Contran { func })
@@ -202,8 +202,8 @@ pub(crate) fn read_continuation(mut cursor: Cursor<'_>) -> Result<Message<&[u8]>
 /// The Access Complete that the operand spells; FOP and the checksum may be absent.
 #[tactic(auto, unfolding(crate::specs::Formats::completion))]
 #[inline(always)]
-pub(crate) fn read_completion(mut cursor: Cursor<'_>) -> Result<Message<&[u8]>, Fault>
-    ensures { Gives seen result (value_at completion (place cursor.entry)) }
+pub(crate) fn read_completion(mut cursor: Cursor<'_>) -> Result<Message<'_>, Fault>
+    ensures { result ≡ value_at completion (place cursor.entry) }
 {
     let func = cursor.read(Byte)?;
     let fop = cursor.or_else(field::FOP, 0)?;
@@ -214,24 +214,24 @@ pub(crate) fn read_completion(mut cursor: Cursor<'_>) -> Result<Message<&[u8]>, 
 /// The Filedata that the operand spells: all that stands behind RECNUM is its payload.
 #[tactic(auto, unfolding(crate::specs::Formats::file_data))]
 #[inline(always)]
-pub(crate) fn read_file_data(mut cursor: Cursor<'_>) -> Result<Message<&[u8]>, Fault>
-    ensures { Gives seen result (value_at file_data (place cursor.entry)) }
+pub(crate) fn read_file_data(mut cursor: Cursor<'_>) -> Result<Message<'_>, Fault>
+    ensures { result ≡ value_at file_data (place cursor.entry) }
 {
     let recnum = cursor.read(field::RECNUM)?;
     Ok(Message::Filedata {
         recnum,
-        payload: cursor.rest,
+        payload: Bytes(cursor.rest),
     })
 }
 
 /// The message of another type, with its operand as it stands.
 #[tactic(auto, unfolding(crate::specs::Formats::other))]
 #[inline(always)]
-pub(crate) fn read_other(number: u8, cursor: Cursor<'_>) -> Result<Message<&[u8]>, Fault>
-    ensures { Gives seen result (value_at (other number) (place cursor.entry)) }
+pub(crate) fn read_other(number: u8, cursor: Cursor<'_>) -> Result<Message<'_>, Fault>
+    ensures { result ≡ value_at (other number) (place cursor.entry) }
 {
     Ok(Message::Other {
         number,
-        body: cursor.rest,
+        body: Bytes(cursor.rest),
     })
 }

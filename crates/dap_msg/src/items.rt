@@ -1,17 +1,17 @@
 //! What stands in an NSP message.
 
 ghost use Rattle.std.specs.Prelude.{◌≡◌, ◌<◌, ℕ, ◌≤◌, length};
-ghost use Rattle.dap_msg.specs.Items.{Item as TheItem, ItemAt, ItemFits, seen_item};
+ghost use Rattle.dap_msg.specs.Items.{Item as TheItem, ItemAt, ItemFits};
 
 use crate::decoding::decode;
 use crate::fault::MsgFault;
 use crate::message::Message;
 
 /// What stands at a place of an NSP message (own).
-#[derive(Clone, Copy, Debug, PartialEq, Eq)]
+#[derive(Clone, Drop, Debug, PartialEq)]
 pub enum Item<'a> {
     /// A message.
-    Whole(Message<&'a [u8]>),
+    Whole(Message<'a>),
     /// The rest of the NSP message, of which no message can be read, with its first fault. The fault's offset is
     /// counted in bytes from the start of the NSP message, and [`crate::status_for`] gives the code of the Status
     /// that answers it.
@@ -24,12 +24,12 @@ pub enum Item<'a> {
 #[inline(always)]
 pub fn item_at(nsp_message: &[u8], at: usize) -> (Item<'_>, usize)
     requires { at ≤ length nsp_message.now }
-    ensures exact { ItemAt nsp_message.now at (seen_item result.0) result.1 }
+    ensures exact { ItemAt nsp_message.now at result.0 result.1 }
     ensures only { (item : TheItem) (next : ℕ) → ItemAt nsp_message.now at item next
-        → (item ≡ seen_item result.0) × (next ≡ result.1) }
+        → (item ≡ result.0) × (next ≡ result.1) }
     ensures within { result.1 ≤ length nsp_message.now }
     ensures further { at < length nsp_message.now → at < result.1 }
-    ensures fields { ItemFits (seen_item result.0) }
+    ensures fields { ItemFits result.0 }
 {
     let (_before, rest) = nsp_message.split_at(at);
     match decode(rest) {

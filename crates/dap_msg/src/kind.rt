@@ -1,6 +1,6 @@
 //! The kinds of fields: how the fields of each are read, written and tested.
 
-ghost use Rattle.std.specs.Prelude.{◌≡◌, ◌≤◌, ◌<◌, ◌^◌, ℕ, Option, Some, None, option_copied, length, IfOk, refl, ◌↔◌, IsTrue, true};
+ghost use Rattle.std.specs.Prelude.{◌≡◌, ◌≤◌, ◌<◌, ◌^◌, ℕ, Option, Some, None, length, IfOk, refl, ◌↔◌, IsTrue, true};
 ghost use Rattle.std.proofs.Common.{lit≤};
 ghost use Rattle.dap_msg.specs.Grammar as kinds;
 ghost use Rattle.dap_msg.specs.Grammar.{ValueOf, field_bytes};
@@ -8,6 +8,7 @@ ghost use Rattle.dap_msg.specs.Inner.Reading.{field_at, Gives};
 ghost use Rattle.dap_msg.specs.Inner.Fields.{bytes_of, CanWrite, is_there};
 ghost use Rattle.dap_msg.specs.Inner.Fitting.{FitsField};
 
+use crate::bytes::Bytes;
 use crate::encoding::Field;
 use dap_fields::{FieldFault, ex_fits, read_ex, read_image, read_u8, read_u16};
 
@@ -29,16 +30,16 @@ pub(crate) trait Kind<'a, T>: Copy {
         ensures there { IfOk result (λ x. x.1 ≤ length bytes.now) };
 
     /// The field of a value that fits.
-    fn field(self, value: T) -> Field<'a>
+    fn field(self, value: &T) -> Field<'a>
         requires known { is_known self }
-        requires fits { FitsField (kind self) (seen self value) }
-        ensures bytes { bytes_of result ≡ field_bytes (kind self) (seen self value) }
+        requires fits { FitsField (kind self) (seen self value.now) }
+        ensures bytes { bytes_of result ≡ field_bytes (kind self) (seen self value.now) }
         ensures can { CanWrite result }
         ensures there { is_there result ≡ true };
 
     /// Whether a value has a spelling.
-    fn fits(self, value: T) -> bool
-        ensures { IsTrue result ↔ FitsField (kind self) (seen self value) };
+    fn fits(self, value: &T) -> bool
+        ensures { IsTrue result ↔ FitsField (kind self) (seen self value.now) };
 
     ghost none: { (k : Self) → seen_option k None ≡ None };
 
@@ -67,12 +68,13 @@ impl<'a> Kind<'a, u8> for Byte {
     }
 
     #[inline(always)]
-    fn field(self, value: u8) -> Field<'a> {
-        Field::Byte(value)
+    fn field(self, value: &u8) -> Field<'a> {
+        Field::Byte(*value)
     }
 
     #[inline(always)]
-    fn fits(self, _value: u8) -> bool {
+    fn fits(self, value: &u8) -> bool {
+        let _any = *value;
         true
     }
 }
@@ -99,12 +101,13 @@ impl<'a> Kind<'a, u16> for Word {
     }
 
     #[inline(always)]
-    fn field(self, value: u16) -> Field<'a> {
-        Field::Word(value)
+    fn field(self, value: &u16) -> Field<'a> {
+        Field::Word(*value)
     }
 
     #[inline(always)]
-    fn fits(self, _value: u16) -> bool {
+    fn fits(self, value: &u16) -> bool {
+        let _any = *value;
         true
     }
 }
@@ -113,31 +116,34 @@ impl<'a> Kind<'a, u16> for Word {
 #[derive(Clone, Copy)]
 pub(crate) struct Image(pub usize);
 
-impl<'a> Kind<'a, &'a [u8]> for Image {
+impl<'a> Kind<'a, Bytes<'a>> for Image {
     ghost kind = { λ k. kinds.Image k.0 };
 
     ghost is_known = { λ k. (1 ≤ k.0) × (k.0 ≤ 255) };
 
-    ghost seen = { λ k v. v.now };
+    ghost seen = { λ k v. v };
 
-    ghost seen_option = { λ k v. option_copied v };
+    ghost seen_option = { λ k v. v };
 
     ghost none = { λ k. refl };
 
     ghost some = { λ k v. refl };
 
-    fn read(self, bytes: &'a [u8]) -> Result<(&'a [u8], usize), FieldFault> {
-        read_image(bytes, self.0)
+    fn read(self, bytes: &'a [u8]) -> Result<(Bytes<'a>, usize), FieldFault> {
+        match read_image(bytes, self.0) {
+            Ok((image, len)) => Ok((Bytes(image), len)),
+            Err(fault) => Err(fault),
+        }
     }
 
     #[inline(always)]
-    fn field(self, value: &'a [u8]) -> Field<'a> {
-        Field::Image(value)
+    fn field(self, value: &Bytes<'a>) -> Field<'a> {
+        Field::Image(value.0)
     }
 
     #[inline(always)]
-    fn fits(self, value: &'a [u8]) -> bool {
-        value.len() <= self.0
+    fn fits(self, value: &Bytes<'a>) -> bool {
+        value.0.len() <= self.0
     }
 }
 
@@ -190,12 +196,12 @@ impl<'a, N: Number> Kind<'a, N> for Extensible {
     }
 
     #[inline(always)]
-    fn field(self, value: N) -> Field<'a> {
+    fn field(self, value: &N) -> Field<'a> {
         Field::Extensible(value.wide())
     }
 
     #[inline(always)]
-    fn fits(self, value: N) -> bool {
+    fn fits(self, value: &N) -> bool {
         ex_fits(value.wide(), self.0)
     }
 }

@@ -7,6 +7,7 @@
 
 mod blocking;
 mod both_ends;
+mod bytes;
 pub mod codes;
 mod decoding;
 mod encoding;
@@ -28,6 +29,7 @@ pub use blocking::{append_blocked, append_counted, append_message, blocks_in_ste
 pub use both_ends::{
     GREATEST_MESSAGE, LEAST_BUFFER, is_too_small, limit_of, names_the_limits, number_of,
 };
+pub use bytes::Bytes;
 pub use decoding::decode;
 pub use encoding::{encode, encoded_len};
 pub use fault::{FaultKind, MsgFault};

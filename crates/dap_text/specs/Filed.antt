@@ -1,5 +1,5 @@
 -- The lines of a file and of a record, as they are printed, read back.
-use Rattle.std.specs.Prelude.{◌≡◌, ◌≤◌, ◌++◌, ℕ, List, [], true, codes, if◌then◌else◌, Option, Some, None}
+use Rattle.std.specs.Prelude.{◌≡◌, ◌≤◌, ◌++◌, ℕ, List, [], true, codes, bytes_eq, if◌then◌else◌, Option, Some, None}
 use Rattle.dap_fields.specs.Spelling.{AreBytes}
 use Rattle.dap_msg.specs.Codes.{org, rfm}
 use Rattle.rec_file.specs.Limits.{greatest_number}
@@ -7,41 +7,34 @@ use Rattle.rec_file.specs.Shapes.{checked_shape, is_shape}
 use Rattle.rec_file.specs.declared.shapes.Shape.{Shape}
 use Rattle.dap_text.specs.Tables.{file_line, record_line}
 use Rattle.dap_text.specs.Text.{line_feed}
-use Rattle.dap_text.specs.Words.{Words, ends, field, is, long, short, text_of, word, words_of}
+use Rattle.dap_text.specs.Words.{Words, ends, field, long, short, text_of, word, words_of}
 use Rattle.dap_text.specs.declared.filed.FileLine.{FileLine}
 use Rattle.dap_text.specs.declared.filed.RecordLine.{RecordLine}
 
 -- ORG by its word
 abbrev pub org_of : List ℕ → Option ℕ
 org_of word =
-    if is word (codes "seq") then Some org.sequential
-    else if is word (codes "rel") then Some org.relative
+    if bytes_eq word (codes "seq") then Some org.sequential
+    else if bytes_eq word (codes "rel") then Some org.relative
     else None
 
 -- RFM by its word
 abbrev pub rfm_of : List ℕ → Option ℕ
 rfm_of word =
-    if is word (codes "fixed") then Some rfm.fixed
-    else if is word (codes "variable") then Some rfm.variable
+    if bytes_eq word (codes "fixed") then Some rfm.fixed
+    else if bytes_eq word (codes "variable") then Some rfm.variable
     else None
 
--- NAME ORG RFM MRS MRN
-abbrev pub attributes_of : Words → Option FileLine
-attributes_of =
-    field text_of (λ name. field org_of (λ org. field rfm_of (λ rfm. field short (λ mrs. field long (λ mrn.
-    ends (record { name = name; org = org; rfm = rfm; mrs = mrs; mrn = mrn }))))))
-
--- `file`, and the attributes
+-- `file`, and NAME ORG RFM MRS MRN
 abbrev pub file_of : List ℕ → Option FileLine
-file_of line = word (codes "file") attributes_of (words_of line)
+file_of line =
+    word (codes "file") (field text_of (λ name. field org_of (λ org. field rfm_of (λ rfm. field short (λ mrs. field long (λ mrn.
+    ends (record { name = name; org = org; rfm = rfm; mrs = mrs; mrn = mrn }))))))) (words_of line)
 
--- N BODY
-abbrev pub numbered_of : Words → Option RecordLine
-numbered_of = field long (λ number. field text_of (λ body. ends (record { number = number; body = body })))
-
--- two empty words, as the line begins with two spaces, and the record
+-- two empty words, as the line begins with two spaces, and N BODY
 abbrev pub record_of : List ℕ → Option RecordLine
-record_of line = word [] (word [] numbered_of) (words_of line)
+record_of line =
+    word [] (word [] (field long (λ number. field text_of (λ body. ends (record { number = number; body = body }))))) (words_of line)
 
 -- ---- What is printed is read back.
 

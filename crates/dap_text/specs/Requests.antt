@@ -4,17 +4,7 @@ use Rattle.dap_accessing.specs.Request.{Request}
 use Rattle.dap_accessing.specs.declared.request.Request.TheVariants as request
 use Rattle.dap_accessing.specs.declared.request.By.TheVariants.{Next, Key, Rfa}
 use Rattle.dap_accessing.specs.declared.request.How.TheVariants.{Again, Skip, Abort}
-use Rattle.dap_text.specs.Words.{Words, access, byte, ends, field, long, one_of, short, text_of, texts_of, word}
-
--- NAME ORG RFM MRS MRN FAC
-abbrev pub create_of : Words → Option Request
-create_of =
-    field text_of (λ name. field byte (λ org. field byte (λ rfm. field short (λ mrs. field long (λ mrn. field access (λ fac.
-    ends (request.Create name org rfm mrs mrn fac)))))))
-
--- NAME FAC
-abbrev pub open_of : Words → Option Request
-open_of = field text_of (λ name. field access (λ fac. ends (request.OpenFile name fac)))
+use Rattle.dap_text.specs.Words.{Words, decimal_of, ends, field, long, one_of, short, text_of, texts_of, word}
 
 -- nothing, or `key N`, or `rfa N`
 abbrev pub get_of : Words → Option Request
@@ -31,14 +21,6 @@ put_of = one_of (
     ∷ word (codes "key") (field long (λ number. field text_of (λ body. ends (request.Put (Some number) body))))
     ∷ [])
 
--- BODY
-abbrev pub update_of : Words → Option Request
-update_of = field text_of (λ body. ends (request.Update body))
-
--- BODY ..
-abbrev pub store_of : Words → Option Request
-store_of bodies = option_map request.Store (texts_of bodies)
-
 -- `again`, `skip` or `abort`
 abbrev pub continue_of : Words → Option Request
 continue_of = one_of (
@@ -51,16 +33,18 @@ continue_of = one_of (
 abbrev pub request_of : Words → Option Request
 request_of = one_of (
     word (codes "hello") (ends request.Hello)
-    ∷ word (codes "create") create_of
-    ∷ word (codes "open") open_of
+    ∷ word (codes "create")
+    (field text_of (λ name. field (decimal_of 255) (λ org. field (decimal_of 255) (λ rfm. field short (λ mrs.
+    field long (λ mrn. field (decimal_of 15) (λ fac. ends (request.Create name org rfm mrs mrn fac))))))))
+    ∷ word (codes "open") (field text_of (λ name. field (decimal_of 15) (λ fac. ends (request.OpenFile name fac))))
     ∷ word (codes "connect") (ends request.Connect)
     ∷ word (codes "get") get_of
     ∷ word (codes "put") put_of
-    ∷ word (codes "update") update_of
+    ∷ word (codes "update") (field text_of (λ body. ends (request.Update body)))
     ∷ word (codes "delete") (ends request.Delete)
     ∷ word (codes "rewind") (ends request.Rewind)
     ∷ word (codes "fetch") (ends request.Fetch)
-    ∷ word (codes "store") store_of
+    ∷ word (codes "store") (λ bodies. option_map request.Store (texts_of bodies))
     ∷ word (codes "continue") continue_of
     ∷ word (codes "close") (ends request.Close)
     ∷ word (codes "purge") (ends request.Purge)

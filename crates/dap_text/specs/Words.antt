@@ -43,10 +43,6 @@ texts_of (word ∷ words) = option_map (λ p. p.0 ∷ p.1) (option_zip (text_of 
 abbrev pub Words : Type 0
 Words = List (List ℕ)
 
--- the word is this one
-abbrev pub is : List ℕ → List ℕ → Bool
-is word name = bytes_eq word name
-
 -- nothing follows
 abbrev pub ends : {X : Type 0} → X → Words → Option X
 ends x [] = Some x
@@ -55,7 +51,7 @@ ends x (word ∷ words) = None
 -- the first word is this one, and then what follows
 abbrev pub word : {X : Type 0} → List ℕ → (Words → Option X) → Words → Option X
 word name next [] = None
-word name next (w ∷ words) = if is w name then next words else None
+word name next (w ∷ words) = if bytes_eq w name then next words else None
 
 -- a word is read, and then what follows
 abbrev pub field : {X Y : Type 0} → (List ℕ → Option X) → (X → Words → Option Y) → Words → Option Y
@@ -69,14 +65,8 @@ one_of (form ∷ forms) words = option_or (form words) (one_of forms words)
 
 -- numbers, by the widest value of their fields
 
-abbrev pub byte : List ℕ → Option ℕ
-byte word = decimal_of 255 word
-
 abbrev pub short : List ℕ → Option ℕ
 short word = decimal_of 65535 word
 
 abbrev pub long : List ℕ → Option ℕ
 long word = decimal_of 4294967295 word
-
-abbrev pub access : List ℕ → Option ℕ
-access word = decimal_of 15 word

@@ -1,7 +1,7 @@
 //! The lines of files and records, read back.
 
 ghost use Rattle.std.specs.Prelude.{◌≡◌};
-ghost use Rattle.dap_text.specs.Filed.{attributes_of, file_of, numbered_of, org_of, record_of, rfm_of};
+ghost use Rattle.dap_text.specs.Filed.{file_of, org_of, record_of, rfm_of};
 
 use crate::words::{Text, Words, is, read_number, read_text};
 use dap_msg::codes::{ORG_RELATIVE, ORG_SEQUENTIAL, RFM_FIXED, RFM_VARIABLE};
@@ -50,10 +50,16 @@ fn read_rfm(word: &[u8]) -> Option<u8>
     }
 }
 
-/// `NAME ORG RFM MRS MRN`
-fn read_attributes<'a>(mut words: Words<'a>) -> Option<FileLine<'a>>
-    ensures { result ≡ attributes_of words.entry }
+/// The file that a line says, `file NAME seq|rel fixed|variable MRS MRN`, or None where it says none. Whether files
+/// of such a shape are there is not asked. It takes no memory. Own.
+#[tactic(auto, using(crate::proofs::RequestLemmas::ends_none))]
+pub fn read_file_line(line: &[u8]) -> Option<FileLine<'_>>
+    ensures { result ≡ file_of line.now }
 {
+    let mut words = Words::of(line);
+    if !is(words.next()?, "file") {
+        return None;
+    }
     let name = read_text(words.next()?)?;
     let org = read_org(words.next()?)?;
     let rfm = read_rfm(words.next()?)?;
@@ -69,28 +75,6 @@ fn read_attributes<'a>(mut words: Words<'a>) -> Option<FileLine<'a>>
     })
 }
 
-/// The file that a line says, `file NAME seq|rel fixed|variable MRS MRN`, or None where it says none. Whether files
-/// of such a shape are there is not asked. It takes no memory. Own.
-pub fn read_file_line(line: &[u8]) -> Option<FileLine<'_>>
-    ensures { result ≡ file_of line.now }
-{
-    let mut words = Words::of(line);
-    match words.next()? {
-        b"file" => read_attributes(words),
-        _ => None,
-    }
-}
-
-/// `N BODY`
-fn read_numbered<'a>(mut words: Words<'a>) -> Option<RecordLine<'a>>
-    ensures { result ≡ numbered_of words.entry }
-{
-    let number = read_number(words.next()?, u32::MAX)?;
-    let body = read_text(words.next()?)?;
-    words.end()?;
-    Some(RecordLine { number, body })
-}
-
 /// The record that a line says, `  N BODY`, or None where it says none. It takes no memory. Own.
 pub fn read_record_line(line: &[u8]) -> Option<RecordLine<'_>>
     ensures { result ≡ record_of line.now }
@@ -99,5 +83,8 @@ pub fn read_record_line(line: &[u8]) -> Option<RecordLine<'_>>
     if !words.next()?.is_empty() || !words.next()?.is_empty() {
         return None;
     }
-    read_numbered(words)
+    let number = read_number(words.next()?, u32::MAX)?;
+    let body = read_text(words.next()?)?;
+    words.end()?;
+    Some(RecordLine { number, body })
 }

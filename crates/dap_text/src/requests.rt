@@ -1,8 +1,9 @@
 //! The request that words say.
 
 ghost use Rattle.std.specs.Prelude.{◌≡◌};
-ghost use Rattle.dap_text.specs.Requests.{continue_of, create_of, get_of, open_of, put_of, update_of, request_of};
-ghost use Rattle.dap_text.specs.Words.{ends};
+ghost use Rattle.dap_accessing.specs.declared.request.Request.TheVariants as request;
+ghost use Rattle.dap_text.specs.Requests.{continue_of, get_of, put_of, request_of};
+ghost use Rattle.dap_text.specs.Words.{decimal_of, ends, field, long, short, text_of};
 
 use crate::words::{Text, Texts, Words, is, read_number, read_text, read_texts};
 use dap_accessing::{By, How, Octets, OctetsList, Request};
@@ -24,7 +25,10 @@ fn read_plain<'a>(words: Words<'a>, request: RequestText<'a>) -> Option<RequestT
 /// `NAME ORG RFM MRS MRN FAC`
 #[tactic(auto, using(crate::proofs::RequestLemmas::ends_none))]
 fn read_create<'a>(mut words: Words<'a>) -> Option<RequestText<'a>>
-    ensures { result ≡ create_of words.entry }
+    ensures { result ≡ field text_of (λ name. field (decimal_of 255) (λ org.
+        field (decimal_of 255) (λ rfm. field short (λ mrs. field long (λ mrn.
+        field (decimal_of 15) (λ fac. ends (request.Create name org rfm mrs mrn fac)))))))
+        words.entry }
 {
     let name = Octets(read_text(words.next()?)?);
     let org = read_number(words.next()?, 255)? as u8;
@@ -45,7 +49,8 @@ fn read_create<'a>(mut words: Words<'a>) -> Option<RequestText<'a>>
 
 /// `NAME FAC`
 fn read_open<'a>(mut words: Words<'a>) -> Option<RequestText<'a>>
-    ensures { result ≡ open_of words.entry }
+    ensures { result ≡ field text_of
+        (λ name. field (decimal_of 15) (λ fac. ends (request.OpenFile name fac))) words.entry }
 {
     let name = Octets(read_text(words.next()?)?);
     let fac = read_number(words.next()?, ACCESS_MOST)?;
@@ -90,7 +95,7 @@ fn read_put<'a>(mut words: Words<'a>) -> Option<RequestText<'a>>
 
 /// `BODY`
 fn read_update<'a>(mut words: Words<'a>) -> Option<RequestText<'a>>
-    ensures { result ≡ update_of words.entry }
+    ensures { result ≡ field text_of (λ body. ends (request.Update body)) words.entry }
 {
     let body = Octets(read_text(words.next()?)?);
     words.end()?;

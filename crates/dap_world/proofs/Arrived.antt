@@ -5,7 +5,7 @@ use Rattle.std.proofs.lemmas.List.{length-append, length-map, append-nil, map-ap
 use Rattle.std.proofs.lemmas.Bool.{ne_eqb}
 use Rattle.std.proofs.lemmas.Option.{slice_get_past, slice_get-get_or}
 use Rattle.std.proofs.lemmas.Grind.{common_steps}
-use Rattle.dap_msg.specs.Message.{Message}
+use Rattle.dap_msg.specs.declared.message.Message.{Message}
 use Rattle.dap_msg.specs.Canon.{canon}
 use Rattle.dap_msg.specs.Blocked.{NspMessage, joined, all_joined, messages_in, AllFit}
 use Rattle.nsp_link.specs.Cutting.{cut, count_of}

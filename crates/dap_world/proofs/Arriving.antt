@@ -2,7 +2,9 @@
 use Rattle.std.proofs.Common.{◌≡◌, ℕ, zero, suc, ◌+◌, ◌≤◌, Bool, true, false, arith, refl, ◌∙◌, subst, List, [], ◌∷◌}
 use Rattle.std.specs.Prelude.{◌||◌, Option, Some, None, IfSome, slice_get}
 use Rattle.std.specs.List.{AllByRecursion}
-use Rattle.nsp_seg.specs.Packets.{PacketValue, Spells, segment, data_ack}
+use Rattle.nsp_seg.specs.declared.packet.Packet.{Packet}
+use Rattle.nsp_seg.specs.Packets.{Spells}
+use Rattle.nsp_seg.specs.declared.packet.Packet.TheVariants.{Segment, DataAck}
 use Rattle.nsp_link.specs.Limits.{largest_window, most_segments}
 use Rattle.nsp_link.specs.Link.{LinkValue, IsBetween, IsDue, taken_after}
 use Rattle.nsp_link.specs.Cutting.{cut}
@@ -25,7 +27,7 @@ AllNear v wire = AllByRecursion (IsNear v) wire
 
 -- the packet is due at the link, as one of a peer that cuts these messages by this size
 pub record IsDueAs (v : LinkValue) (size : ℕ) (messages given : List (List ℕ)) (w : Wired) : Type 0 where
-  pub value : PacketValue
+  pub value : Packet
   pub spelled : Spells value w.packet.items
   pub due : IsDue v size messages given value w.segment w.acks
   pub few : taken_after v w.segment ≤ most_segments
@@ -35,9 +37,9 @@ all_at P [] j x all e = let no : ⊥ = cc in absurd no
 all_at {X} P (y ∷ xs) zero x all e = let same : y ≡ x = cc in subst P same all.0
 all_at P (y ∷ xs) (suc j) x all e = all_at P xs j x all.1 e
 
-between : (src dst src' dst' : ℕ) (p : PacketValue) → src ≡ src' → dst ≡ dst' → IsBetween src dst p → IsBetween src' dst' p
-between src dst src' dst' (segment s) e e' h = (h.0 ∙ e, h.1 ∙ e')
-between src dst src' dst' (data_ack s) e e' h = (h.0 ∙ e, h.1 ∙ e')
+between : (src dst src' dst' : ℕ) (p : Packet) → src ≡ src' → dst ≡ dst' → IsBetween src dst p → IsBetween src' dst' p
+between src dst src' dst' (Segment s) e e' h = (h.0 ∙ e, h.1 ∙ e')
+between src dst src' dst' (DataAck s) e e' h = (h.0 ∙ e, h.1 ∙ e')
 
 pub young_segment : (taken : ℕ) (k : Option ℕ) → is_old_segment taken k ≡ false → IfSome k (λ n. taken + 1 ≤ n + 2047)
 young_segment taken None e = tt

@@ -1,8 +1,9 @@
 -- No NSP message is longer than its receiver takes.
 use Rattle.std.proofs.Common.{ℕ, ◌≤◌, List, [], ◌∷◌, ◌++◌, length, map, Some, None, sym, subst, ap, arith, lit<}
-use Rattle.dap_msg.specs.Message.{Message}
+use Rattle.dap_msg.specs.declared.message.Message.{Message}
 use Rattle.dap_msg.specs.Canon.{canon}
-use Rattle.dap_msg.specs.Items.{Item, Whole}
+use Rattle.dap_msg.specs.declared.items.Item.{Item}
+use Rattle.dap_msg.specs.declared.items.Item.TheVariants.{Whole}
 use Rattle.dap_msg.specs.Codes.{cmpfunc}
 use Rattle.dap_msg.specs.BothEnds.{complete_with}
 use Rattle.dap_msg.specs.Sendable.{AreSendable}

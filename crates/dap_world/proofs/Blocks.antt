@@ -1,7 +1,7 @@
 -- The NSP messages that both ends have to send.
 use Rattle.std.proofs.Common.{◌≡◌, ℕ, zero, suc, refl, sym, ◌∙◌, ap, append_assoc, List, [], ◌∷◌, ◌++◌, drop}
 use Rattle.std.proofs.lemmas.List.{append-nil}
-use Rattle.dap_msg.specs.Message.{Message}
+use Rattle.dap_msg.specs.declared.message.Message.{Message}
 use Rattle.dap_msg.specs.Blocked.{NspMessage, Blocked, messages_in}
 use Rattle.dap_msg.proofs.ForCallers.{messages_in-Blocked}
 use Rattle.dap_accessing.specs.Request.{Request}

@@ -14,8 +14,8 @@ use Rattle.nsp_link.specs.declared.link.Got.{Got}
 use Rattle.nsp_link.specs.declared.fault.LinkFault.{LinkFault}
 use Rattle.dap_end.specs.Ports.{PortValue, with_link as port_with}
 use Rattle.nsp_link.specs.Receiving.{Receives}
-use Rattle.dap_end.specs.Asking.{AskingValue, HasStill}
-use Rattle.dap_end.specs.Serving.{ServingValue, IsStill}
+use Rattle.dap_end.specs.Asking.{AskingValue, HasAsked}
+use Rattle.dap_end.specs.Serving.{ServingValue, IsAfter}
 use Rattle.nsp_link.proofs.ForCallers.{closes, keeps, IsDelivered, is_delivered}
 use Rattle.dap_world.specs.declared.event.End.{End}
 use Rattle.dap_world.specs.declared.event.End.TheVariants.{A, B}
@@ -39,6 +39,7 @@ use Rattle.dap_world.proofs.Kept.{kept-step}
 use Rattle.dap_world.proofs.Ways.{takes, told_gives, told_takes}
 use Rattle.dap_world.proofs.Arriving.{AllNear, IsDueAs, due}
 use Rattle.dap_world.proofs.Wrote.{AreAfter, AreThen, StaysAt, asking_parts, serving_parts, at_a, at_b, none_more}
+use Rattle.dap_end.specs.Turns.{Still}
 
 -- ---- What is near.
 
@@ -268,7 +269,7 @@ delivered_to p end j v r h (inr some) still =
     (took p end j h some.0 some.1 some.2 v some.3 some.4 still)
 
 pub delivered_a : (p : Parts) (v : AskingValue) (j : ℕ) (r : Result Step WorldFault) → AreParts p → v ≡ record (asking_end p) { port = port_with (port_of p.a) v.port.link }
-    → Delivery p.a.link v.port.link p.b.wire j r → HasStill (asking_end p) v → AreThen p (event.Deliver A j) (asking_parts p v p.a.posted p.a.wire) r
+    → Delivery p.a.link v.port.link p.b.wire j r → Still HasAsked (asking_end p) v → AreThen p (event.Deliver A j) (asking_parts p v p.a.posted p.a.wire) r
 delivered_a p v j r h rest comes still =
     let port : v.port ≡ port_with (port_of p.a) v.port.link = ap (λ (x : AskingValue). x.port) rest in
     let is : side_of v.port p.a.posted p.a.wire ≡ record p.a { link = v.port.link } = ap (λ (x : PortValue). side_of x p.a.posted p.a.wire) port in
@@ -278,7 +279,7 @@ delivered_a p v j r h rest comes still =
     (delivered_to p A j v.port.link r h comes (subst (λ (s : SideValue). StaysAt p A s) is stays)))
 
 pub delivered_b : (p : Parts) (v : ServingValue) (j : ℕ) (r : Result Step WorldFault) → AreParts p → v ≡ record (serving_end p) { port = port_with (port_of p.b) v.port.link }
-    → Delivery p.b.link v.port.link p.a.wire j r → IsStill (serving_end p) v → AreThen p (event.Deliver B j) (serving_parts p v p.b.posted p.b.wire) r
+    → Delivery p.b.link v.port.link p.a.wire j r → Still IsAfter (serving_end p) v → AreThen p (event.Deliver B j) (serving_parts p v p.b.posted p.b.wire) r
 delivered_b p v j r h rest comes still =
     let port : v.port ≡ port_with (port_of p.b) v.port.link = ap (λ (x : ServingValue). x.port) rest in
     let is : side_of v.port p.b.posted p.b.wire ≡ record p.b { link = v.port.link } = ap (λ (x : PortValue). side_of x p.b.posted p.b.wire) port in

@@ -3,7 +3,7 @@ use Rattle.std.proofs.Common.{◌≡◌, ℕ, zero, suc, ◌+◌, ◌≤◌, ari
 use Rattle.std.specs.Prelude.{nat_le, ◌-◌, Some, if◌then◌else◌, slice_get}
 use Rattle.std.proofs.lemmas.List.{take-append-le, take_more, length-append, append-nil}
 use Rattle.std.proofs.lemmas.Option.{slice_get_within, get_or_from_slice_get}
-use Rattle.dap_msg.specs.Message.{Message}
+use Rattle.dap_msg.specs.declared.message.Message.{Message}
 use Rattle.dap_msg.specs.Blocked.{NspMessage, joined, messages_in}
 use Rattle.nsp_link.specs.Cutting.{count_of}
 use Rattle.dap_end.proofs.ForCallers.{in_append}

@@ -5,8 +5,8 @@ use Rattle.std.specs.List.{AllByRecursion}
 use Rattle.std.proofs.lemmas.List.{length-append, map-append, take-append-drop, take_all, drop_all, take-take, length-drop, drop-map, append-nil, append_assoc}
 use Rattle.std.proofs.lemmas.List.Elements.{All-append}
 use Rattle.std.proofs.Math.Seq.{drop-append_seam}
-use Rattle.dap_msg.specs.Message.{Message}
-use Rattle.dap_msg.specs.Items.{Whole}
+use Rattle.dap_msg.specs.declared.message.Message.{Message}
+use Rattle.dap_msg.specs.declared.items.Item.TheVariants.{Whole}
 use Rattle.dap_msg.specs.Blocked.{NspMessage, joined, all_joined, messages_in}
 use Rattle.dap_accessed.specs.Groups.{Answers}
 use Rattle.dap_accessing.specs.Told.{Told}
@@ -14,7 +14,7 @@ use Rattle.nsp_link.specs.Cutting.{Piece, cut}
 use Rattle.nsp_link.specs.Limits.{most_segments}
 use Rattle.nsp_link.specs.Link.{LinkValue, Sends, Writes}
 use Rattle.nsp_link.specs.Sending.{queued_link}
-use Rattle.nsp_link.proofs.ForCallers.{writes_more, stands_more, sends_all}
+use Rattle.nsp_link.proofs.ForCallers.{writes_more, stands_more, sends_all, may_queue_parts}
 use Rattle.dap_end.specs.Ports.{posted as port_posted}
 use Rattle.dap_end.specs.Asking.{AskingValue, AskingPast, HasAsked, HandedAll}
 use Rattle.dap_end.specs.Serving.{ServingValue, Past, IsAfter, PostedAll}
@@ -236,7 +236,7 @@ pub post_a : (p : Parts) (v : AskingValue) (posted : ℕ) (handed : List (List �
     → AreThen p (event.Post A) (record (asking_parts p v posted p.a.wire) { handed = handed }) r
 post_a p v posted handed (Ok answer) h so all moved same err =
     let goes : HandsOver p A = λ past has. subst (λ (x : AskingValue). HasAsked (record past { handed = past.handed ++ p.a.outbox }) x) all.posted (all.past past has) in
-    let done = posted_step p A h so.2 all.may.2 goes in
+    let done = posted_step p A h so.2 (may_queue_parts p.a.link p.a.outbox all.may).2 goes in
     rw (so.0, all.posted, so.1, moved) done
 post_a p v posted handed (Err f) h so all moved same err = rw (same.0, same.1, same.2) (h, post_refused p A f h err)
 
@@ -246,6 +246,6 @@ pub post_b : (p : Parts) (v : ServingValue) (posted : ℕ) (r : Result Step Worl
     → AreThen p (event.Post B) (serving_parts p v posted p.b.wire) r
 post_b p v posted (Ok answer) h so handed same err =
     let goes : HandsOver p B = λ past is. subst (λ (x : ServingValue). IsAfter (record past { handed = past.handed ++ p.b.outbox }) x) handed.posted (handed.past past is) in
-    let done = posted_step p B h so.2 handed.may.2 goes in
+    let done = posted_step p B h so.2 (may_queue_parts p.b.link p.b.outbox handed.may).2 goes in
     rw (so.0, handed.posted, so.1) done
 post_b p v posted (Err f) h so handed same err = rw (same.0, same.1) (h, post_refused p B f h err)

@@ -1,8 +1,9 @@
 -- A packet that was put on a wire.
-use Rattle.std.proofs.Common.{◌≡◌, ℕ, arith, ◌∙◌, ap, subst, List, [], ◌∷◌, ◌++◌, length}
+use Rattle.std.proofs.Common.{◌≡◌, ℕ, arith, ◌∙◌, ap, subst, List, [], ◌∷◌, ◌++◌, length, IsTrue}
 use Rattle.std.specs.Prelude.{Option}
-use Rattle.nsp_link.specs.Link.{LinkValue, MaySend}
+use Rattle.nsp_link.specs.Link.{LinkValue, may_send}
 use Rattle.nsp_link.specs.Sending.{WritesSent}
+use Rattle.nsp_link.proofs.ForCallers.{may_send_by}
 use Rattle.dap_end.specs.Ports.{PortValue}
 use Rattle.dap_end.specs.Writing.{IsWithin, WroteMore}
 use Rattle.dap_world.specs.declared.side.Wired.{Wired}
@@ -23,5 +24,5 @@ wrote_put v old mid new w k answer same wire place segment acks writes =
     }
 
 -- one segment was written, so one might be
-pub may_wrote : (old new : PortValue) (bytes : List ℕ) → WroteMore old new (bytes ∷ []) → MaySend old.link
-may_wrote old new bytes w = let within = subst (λ (p : PortValue). IsWithin p.link) w.sent (w.within (omega arith)) in (omega arith, omega arith)
+pub may_wrote : (old new : PortValue) (bytes : List ℕ) → WroteMore old new (bytes ∷ []) → IsTrue (may_send old.link)
+may_wrote old new bytes w = let within = subst (λ (p : PortValue). IsWithin p.link) w.sent (w.within (omega arith)) in may_send_by old.link (omega arith) (omega arith)

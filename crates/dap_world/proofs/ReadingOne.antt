@@ -3,8 +3,9 @@ use Rattle.std.proofs.Common.{◌≡◌, ◌≢◌, ℕ, ◌+◌, ◌^◌, ◌�
 use Rattle.std.specs.Prelude.{◌==◌, if◌then◌else◌, option_to_list, Option, Some, None, Ok, Err, slice_get}
 use Rattle.std.proofs.lemmas.List.{length-append, map-append, append-nil}
 use Rattle.std.proofs.lemmas.Bool.{ne_eqb}
-use Rattle.dap_msg.specs.Message.{Message}
-use Rattle.dap_msg.specs.Items.{Item, Whole}
+use Rattle.dap_msg.specs.declared.message.Message.{Message}
+use Rattle.dap_msg.specs.declared.items.Item.{Item}
+use Rattle.dap_msg.specs.declared.items.Item.TheVariants.{Whole}
 use Rattle.dap_msg.specs.Blocked.{messages_in}
 use Rattle.dap_accessed.specs.Groups.{Answers}
 use Rattle.dap_accessing.specs.Present as accessing

@@ -2,7 +2,7 @@
 use Rattle.std.proofs.Common.{◌≡◌, ℕ, zero, suc, ◌+◌, ◌-◌, ◌≤◌, ◌<◌, arith, refl, sym, ◌∙◌, subst, ap, true, false, List, [], ◌∷◌, length, inl, inr}
 use Rattle.std.specs.Prelude.{nat_le, if◌then◌else◌, None, Err, slice_get}
 use Rattle.std.proofs.lemmas.Bool.{cases_lt}
-use Rattle.dap_msg.specs.Message.{Message}
+use Rattle.dap_msg.specs.declared.message.Message.{Message}
 use Rattle.dap_msg.specs.Blocked.{NspMessage, joined, messages_in}
 use Rattle.nsp_link.specs.Cutting.{count_of}
 use Rattle.dap_world.specs.declared.event.End.TheVariants.{A, B}

@@ -1,10 +1,11 @@
 -- A packet that an end writes is a step of the machine.
-use Rattle.std.proofs.Common.{◌≡◌, ℕ, ◌+◌, ◌-◌, ◌≤◌, ◌<◌, arith, refl, sym, ◌∙◌, subst, ap, List, [], ◌∷◌, ◌++◌, length, false}
+use Rattle.std.proofs.Common.{◌≡◌, ℕ, ◌+◌, ◌-◌, ◌≤◌, ◌<◌, arith, refl, sym, ◌∙◌, subst, ap, List, [], ◌∷◌, ◌++◌, length, false, true≢false, IsTrue}
 use Rattle.std.specs.Prelude.{Option, Some, None, Result, Ok, Err, IfOk, IfErr, OnOk}
 use Rattle.std.proofs.lemmas.List.{length-map, map-append}
 use Rattle.nsp_link.specs.Link as link
 use Rattle.nsp_link.specs.Link.{Sends, Writes}
 use Rattle.nsp_link.specs.Cutting.{cut}
+use Rattle.nsp_link.proofs.ForCallers.{may_send_by, may_send_parts}
 use Rattle.dap_world.specs.declared.event.End.{End}
 use Rattle.dap_world.specs.declared.event.End.TheVariants.{A, B}
 use Rattle.dap_world.specs.declared.event.Event.{Event}
@@ -20,8 +21,8 @@ use Rattle.dap_accessed.specs.Present as accessed
 use Rattle.dap_accessing.specs.Present as accessing
 use Rattle.dap_end.specs.Ports.{PortValue}
 use Rattle.dap_end.specs.Writing.{sent_more}
-use Rattle.dap_end.specs.Asking.{AskingValue, HasStill}
-use Rattle.dap_end.specs.Serving.{ServingValue, IsStill}
+use Rattle.dap_end.specs.Asking.{AskingValue, HasAsked}
+use Rattle.dap_end.specs.Serving.{ServingValue, IsAfter}
 use Rattle.dap_world.specs.declared.side.Wired.{Wired}
 use Rattle.dap_world.specs.Wires.{sending_of}
 use Rattle.dap_world.specs.Inner.Sides.{SideValue, port_of, side_of, WroteOne, EmitFault, ResendFault}
@@ -30,11 +31,12 @@ use Rattle.dap_msg.specs.Blocked.{NspMessage}
 use Rattle.dap_world.proofs.Counting.{segments-handed, queued}
 use Rattle.dap_world.proofs.Kept.{kept-step}
 use Rattle.dap_world.proofs.Ways.{told_writes, told_sent, wrote_side}
+use Rattle.dap_end.specs.Turns.{Still}
 
 -- whatever the end was after, it is after that still
 abbrev pub StaysAt : Parts → End → SideValue → Type 0
-StaysAt p A s = HasStill (asking_end p) (record { port = port_of s; accessing = p.accessing })
-StaysAt p B s = IsStill (serving_end p) (record { port = port_of s; accessed = p.accessed })
+StaysAt p A s = Still HasAsked (asking_end p) (record { port = port_of s; accessing = p.accessing })
+StaysAt p B s = Still IsAfter (serving_end p) (record { port = port_of s; accessed = p.accessed })
 
 -- the machine wrote what the end wrote
 wrote_is : (s : SideValue) (packets : List NspMessage) (sent : ℕ) (w : Wired) → w.acks ≡ s.link.coming.received → wrote (end_state s packets) sent w.segment ≡ end_state (wrote_side s sent w) packets
@@ -102,19 +104,19 @@ abbrev pub AreThen : Parts → Event → Parts → Result Step WorldFault → Ty
 AreThen p e q answer = AreParts q × Went (state_of p) e answer (state_of q)
 
 -- only the port of an end moved, and its wire
-pub at_a : (p : Parts) (e : Event) (v : AskingValue) (wire : List Wired) (r : Result Step WorldFault) → v ≡ record (asking_end p) { port = v.port } → HasStill (asking_end p) v
+pub at_a : (p : Parts) (e : Event) (v : AskingValue) (wire : List Wired) (r : Result Step WorldFault) → v ≡ record (asking_end p) { port = v.port } → Still HasAsked (asking_end p) v
     → (StaysAt p A (side_of v.port p.a.posted wire) → AreAfter p A e (side_of v.port p.a.posted wire) r) → AreThen p e (asking_parts p v p.a.posted wire) r
 unfolding Steps Refuses
 at_a p e v wire r rest still after =
     subst (λ (x : accessing.Present). AreThen p e (record p { a = side_of v.port p.a.posted wire; accessing = x }) r) (sym (ap (λ (x : AskingValue). x.accessing) rest))
-    (after (subst (λ (x : AskingValue). HasStill (asking_end p) x) rest still))
+    (after (subst (λ (x : AskingValue). Still HasAsked (asking_end p) x) rest still))
 
-pub at_b : (p : Parts) (e : Event) (v : ServingValue) (wire : List Wired) (r : Result Step WorldFault) → v ≡ record (serving_end p) { port = v.port } → IsStill (serving_end p) v
+pub at_b : (p : Parts) (e : Event) (v : ServingValue) (wire : List Wired) (r : Result Step WorldFault) → v ≡ record (serving_end p) { port = v.port } → Still IsAfter (serving_end p) v
     → (StaysAt p B (side_of v.port p.b.posted wire) → AreAfter p B e (side_of v.port p.b.posted wire) r) → AreThen p e (serving_parts p v p.b.posted wire) r
 unfolding Steps Refuses
 at_b p e v wire r rest still after =
     subst (λ (x : accessed.Present). AreThen p e (record p { b = side_of v.port p.b.posted wire; accessed = x }) r) (sym (ap (λ (x : ServingValue). x.accessed) rest))
-    (after (subst (λ (x : ServingValue). IsStill (serving_end p) x) rest still))
+    (after (subst (λ (x : ServingValue). Still IsAfter (serving_end p) x) rest still))
 
 same_side : (p : Parts) (end : End) → with_side p end (side p end) ≡ p
 same_side p A = refl
@@ -164,21 +166,26 @@ segments_there p B h =
     ∙ ap (λ n. length (cut n h.from_b.handed)) (sym h.alike.size)
     ∙ sym (queued p.b.link h.from_b.handed h.from_b.way.sends)
 
-pub can : (p : Parts) (end : End) → AreParts p → link.MaySend (side p end).link → MayEmit (state_of p) end
+pub can : (p : Parts) (end : End) → AreParts p → IsTrue (link.may_send (side p end).link) → MayEmit (state_of p) end
 can p A h m =
     let there = segments_there p A h in
-    (omega (arith, there, m.0), omega (arith, m.1, h.world.from_a.counts.acked_taken, h.world.from_a.counts.taken_sent))
+    let may = may_send_parts p.a.link m in
+    (omega (arith, there, may.0), omega (arith, may.1, h.world.from_a.counts.acked_taken, h.world.from_a.counts.taken_sent))
 can p B h m =
     let there = segments_there p B h in
-    (omega (arith, there, m.0), omega (arith, m.1, h.alike.window, h.world.from_b.counts.acked_taken, h.world.from_b.counts.taken_sent))
+    let may = may_send_parts p.b.link m in
+    (omega (arith, there, may.0), omega (arith, may.1, h.alike.window, h.world.from_b.counts.acked_taken, h.world.from_b.counts.taken_sent))
 
-pub cannot : (p : Parts) (end : End) → AreParts p → (link.MaySend (side p end).link → ⊥) → MayEmit (state_of p) end → ⊥
+denied_by : (v : link.LinkValue) → link.may_send v ≡ false → v.sent < v.acked + length v.queue → v.sent < v.acked + v.setup.window → ⊥
+denied_by v denied waits room = true≢false (sym (may_send_by v waits room) ∙ denied)
+
+pub cannot : (p : Parts) (end : End) → AreParts p → (link.may_send (side p end).link ≡ false) → MayEmit (state_of p) end → ⊥
 cannot p A h denied m =
     let there = segments_there p A h in
-    denied (omega (arith, there, m.0), omega (arith, m.1, h.world.from_a.counts.acked_taken, h.world.from_a.counts.taken_sent))
+    denied_by p.a.link denied (omega (arith, there, m.0)) (omega (arith, m.1, h.world.from_a.counts.acked_taken, h.world.from_a.counts.taken_sent))
 cannot p B h denied m =
     let there = segments_there p B h in
-    denied (omega (arith, there, m.0), omega (arith, m.1, h.alike.window, h.world.from_b.counts.acked_taken, h.world.from_b.counts.taken_sent))
+    denied_by p.b.link denied (omega (arith, there, m.0)) (omega (arith, m.1, h.alike.window, h.world.from_b.counts.acked_taken, h.world.from_b.counts.taken_sent))
 
 same_sent : (p : Parts) (end : End) → (end_of (state_of p) end).sent ≡ (side p end).link.sent
 same_sent p A = refl
@@ -192,7 +199,7 @@ emits p B m = (m, refl, refl)
 
 emitted : (p : Parts) (end : End) (s : SideValue) (r : Result Step WorldFault) → AreParts p
     → OnOk r (s ≡ record (side p end) { link = record (side p end).link { sent = (side p end).link.sent + 1 }; wire = s.wire })
-    → IfOk r (λ answer. link.MaySend (side p end).link × WroteOne (side p end).link (side p end).wire s.wire (Some ((side p end).link.sent + 1)) answer)
+    → IfOk r (λ answer. IsTrue (link.may_send (side p end).link) × WroteOne (side p end).link (side p end).wire s.wire (Some ((side p end).link.sent + 1)) answer)
     → IfErr r (λ f. (s ≡ side p end) × EmitFault (side p end).link f) → StaysAt p end s → AreAfter p end (event.Emit end) s r
 unfolding Steps Refuses
 emitted p end s (Ok answer) h is ok err still = one_more p end (event.Emit end) _ _ s answer h is ok.1 still (emits p end (can p end h ok.0))
@@ -217,14 +224,14 @@ unsent_side s port wire (Err f) err =
     (ap (λ (x : PortValue). side_of x s.posted wire) err.0 ∙ ap (λ (l : List Wired). record s { wire = l }) err.1, err.2)
 
 pub emitted_a : (p : Parts) (v : AskingValue) (wire : List Wired) (r : Result Step WorldFault) → AreParts p → v ≡ record (asking_end p) { port = v.port }
-    → IfOk r (λ answer. link.MaySend p.a.link × WroteOne p.a.link p.a.wire wire (Some (p.a.link.sent + 1)) answer) → OnOk r (v.port ≡ sent_more (port_of p.a) 1)
-    → IfErr r (λ f. (v.port ≡ port_of p.a) × (wire ≡ p.a.wire) × EmitFault p.a.link f) → HasStill (asking_end p) v → AreThen p (event.Emit A) (asking_parts p v p.a.posted wire) r
+    → IfOk r (λ answer. IsTrue (link.may_send p.a.link) × WroteOne p.a.link p.a.wire wire (Some (p.a.link.sent + 1)) answer) → OnOk r (v.port ≡ sent_more (port_of p.a) 1)
+    → IfErr r (λ f. (v.port ≡ port_of p.a) × (wire ≡ p.a.wire) × EmitFault p.a.link f) → Still HasAsked (asking_end p) v → AreThen p (event.Emit A) (asking_parts p v p.a.posted wire) r
 emitted_a p v wire r h rest ok sent err still =
     at_a p (event.Emit A) v wire r rest still (emitted p A (side_of v.port p.a.posted wire) r h (sent_side p.a v.port wire r sent) ok (unsent_side p.a v.port wire r err))
 
 pub emitted_b : (p : Parts) (v : ServingValue) (wire : List Wired) (r : Result Step WorldFault) → AreParts p → v ≡ record (serving_end p) { port = v.port }
-    → IfOk r (λ answer. link.MaySend p.b.link × WroteOne p.b.link p.b.wire wire (Some (p.b.link.sent + 1)) answer) → OnOk r (v.port ≡ sent_more (port_of p.b) 1)
-    → IfErr r (λ f. (v.port ≡ port_of p.b) × (wire ≡ p.b.wire) × EmitFault p.b.link f) → IsStill (serving_end p) v → AreThen p (event.Emit B) (serving_parts p v p.b.posted wire) r
+    → IfOk r (λ answer. IsTrue (link.may_send p.b.link) × WroteOne p.b.link p.b.wire wire (Some (p.b.link.sent + 1)) answer) → OnOk r (v.port ≡ sent_more (port_of p.b) 1)
+    → IfErr r (λ f. (v.port ≡ port_of p.b) × (wire ≡ p.b.wire) × EmitFault p.b.link f) → Still IsAfter (serving_end p) v → AreThen p (event.Emit B) (serving_parts p v p.b.posted wire) r
 emitted_b p v wire r h rest ok sent err still =
     at_b p (event.Emit B) v wire r rest still (emitted p B (side_of v.port p.b.posted wire) r h (sent_side p.b v.port wire r sent) ok (unsent_side p.b v.port wire r err))
 

@@ -1,7 +1,7 @@
 -- The headline: what was sent, taken, filed and reported, whatever the network did.
 use Rattle.std.specs.Prelude.{ℕ, ◌≡◌, ◌≤◌, List, [], ◌++◌, length, map, take}
-use Rattle.dap_msg.specs.Message.{Message}
-use Rattle.dap_msg.specs.Items.{Whole}
+use Rattle.dap_msg.specs.declared.message.Message.{Message}
+use Rattle.dap_msg.specs.declared.items.Item.TheVariants.{Whole}
 use Rattle.dap_accessed.specs.Standing.{Files}
 use Rattle.dap_accessed.specs.Groups.{Answers, After}
 use Rattle.dap_accessing.specs.Request.{Request}

@@ -1,6 +1,6 @@
 -- A stretch without loss.
 use Rattle.std.specs.Prelude.{◌≡◌, ◌==◌, ◌⊎◌, ℕ, ◌+◌, ◌*◌, ◌-◌, ◌≤◌, ◌<◌, if◌then◌else◌, List, [], length, map, take, Some, slice_get}
-use Rattle.dap_msg.specs.Items.{Whole}
+use Rattle.dap_msg.specs.declared.items.Item.TheVariants.{Whole}
 use Rattle.dap_accessed.specs.Groups.{Answers}
 use Rattle.dap_accessing.specs.Asked.{Asked}
 use Rattle.dap_accessing.specs.Phase.{IsRefused}

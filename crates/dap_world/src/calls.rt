@@ -1,20 +1,21 @@
 //! What an event is to the end that it is at: one call of it.
 
-ghost use Rattle.std.specs.Prelude.{◌≡◌, ◌<◌, ◌≤◌, ◌+◌, ◌++◌, ◌∷◌, [], length, IfOk, IfErr, Some, OnOk, OnErr, vec_len, vec_capacity, false};
+ghost use Rattle.std.specs.Prelude.{◌≡◌, ◌<◌, ◌≤◌, ◌+◌, ◌++◌, ◌∷◌, [], length, IfOk, IfErr, Some, OnOk, OnErr, vec_len, vec_capacity, false, IsTrue};
 ghost use Rattle.dap_msg.specs.BothEnds.{four_bytes};
 ghost use Rattle.dap_msg.specs.Blocked.{bodies};
 ghost use Rattle.nsp_link.specs.Limits.{most_segments};
-ghost use Rattle.nsp_link.specs.Link.{MaySend};
-ghost use Rattle.nsp_link.specs.Sending.{MayQueueAll};
+ghost use Rattle.nsp_link.specs.Link.{may_send};
+ghost use Rattle.nsp_link.specs.Sending.{may_queue};
 ghost use Rattle.dap_accessing.specs.Calls.{IsAdmittedBy};
 ghost use Rattle.dap_accessing.specs.Inner.Outgoing.{number_carried};
 ghost use Rattle.dap_accessing.specs.Inner.Prepared.{IsPrepared};
 ghost use Rattle.dap_end.specs.Ports.{with_link};
 ghost use Rattle.dap_end.specs.Writing.{sent_more};
 ghost use Rattle.dap_end.specs.Serving as serving;
-ghost use Rattle.dap_end.specs.Serving.{IsStill};
+ghost use Rattle.dap_end.specs.Serving.{IsAfter};
 ghost use Rattle.dap_end.specs.Asking as asking;
-ghost use Rattle.dap_end.specs.Asking.{HasStill};
+ghost use Rattle.dap_end.specs.Asking.{HasAsked};
+ghost use Rattle.dap_end.specs.Turns.{Still};
 ghost use Rattle.dap_world.specs.Inner.Sides.{AreShort, AskFaultOf, AskedSo, EmitFault, KeptSo, PostFault, PostedSo, WroteOne};
 ghost use Rattle.dap_world.specs.Inner.Ways.{Delivery, delivered_as};
 ghost use Rattle.dap_world.specs.declared.event.WorldFault.TheVariants.{NoMemory};
@@ -231,13 +232,13 @@ fn keep(reports: &mut Vec<Report>, report: Option<Report>) -> Step
 fn emit_a(end: &mut AskingEnd, wire: &mut Vec<Wired>) -> Result<Step, WorldFault>
     requires { end.old.port.link.failed ≡ false }
     ensures rest { end.new ≡ record end.old { port = end.new.port } }
-    ensures ok { IfOk result (λ answer. MaySend end.old.port.link
+    ensures ok { IfOk result (λ answer. IsTrue (may_send end.old.port.link)
         × WroteOne end.old.port.link wire.old.items wire.new.items
         (Some (end.old.port.link.sent + 1)) answer) }
     ensures sent { OnOk result (end.new.port ≡ sent_more end.old.port 1) }
     ensures err { IfErr result (λ f. (end.new.port ≡ end.old.port)
         × (wire.new.items ≡ wire.old.items) × EmitFault end.old.port.link f) }
-    ensures still { HasStill end.old end.new }
+    ensures still { Still HasAsked end.old end.new }
 {
     let number = next_number(end.link(), wire)?;
     let acks = end.link().received_count();
@@ -251,13 +252,13 @@ fn emit_a(end: &mut AskingEnd, wire: &mut Vec<Wired>) -> Result<Step, WorldFault
 fn emit_b(end: &mut ServingEnd, wire: &mut Vec<Wired>) -> Result<Step, WorldFault>
     requires { end.old.port.link.failed ≡ false }
     ensures rest { end.new ≡ record end.old { port = end.new.port } }
-    ensures ok { IfOk result (λ answer. MaySend end.old.port.link
+    ensures ok { IfOk result (λ answer. IsTrue (may_send end.old.port.link)
         × WroteOne end.old.port.link wire.old.items wire.new.items
         (Some (end.old.port.link.sent + 1)) answer) }
     ensures sent { OnOk result (end.new.port ≡ sent_more end.old.port 1) }
     ensures err { IfErr result (λ f. (end.new.port ≡ end.old.port)
         × (wire.new.items ≡ wire.old.items) × EmitFault end.old.port.link f) }
-    ensures still { IsStill end.old end.new }
+    ensures still { Still IsAfter end.old end.new }
 {
     let number = next_number(end.link(), wire)?;
     let acks = end.link().received_count();
@@ -271,7 +272,7 @@ fn emit_b(end: &mut ServingEnd, wire: &mut Vec<Wired>) -> Result<Step, WorldFaul
 fn deliver_a(end: &mut AskingEnd, wire: &[Wired], j: usize) -> Result<Step, WorldFault>
     ensures rest { end.new ≡ record end.old { port = with_link end.old.port end.new.port.link } }
     ensures comes { Delivery end.old.port.link end.new.port.link wire.now j result }
-    ensures still { HasStill end.old end.new }
+    ensures still { Still HasAsked end.old end.new }
 {
     match due(end.link(), wire, j) {
         Ok(wired) => delivered(end.receive(&wired.packet)),
@@ -283,7 +284,7 @@ fn deliver_a(end: &mut AskingEnd, wire: &[Wired], j: usize) -> Result<Step, Worl
 fn deliver_b(end: &mut ServingEnd, wire: &[Wired], j: usize) -> Result<Step, WorldFault>
     ensures rest { end.new ≡ record end.old { port = with_link end.old.port end.new.port.link } }
     ensures comes { Delivery end.old.port.link end.new.port.link wire.now j result }
-    ensures still { IsStill end.old end.new }
+    ensures still { Still IsAfter end.old end.new }
 {
     match due(end.link(), wire, j) {
         Ok(wired) => delivered(end.receive(&wired.packet)),

@@ -1,10 +1,10 @@
 //! What the ends wrote, and what is stale of it.
 
-ghost use Rattle.std.specs.Prelude.{◌≡◌, ◌≢◌, ◌<◌, ◌≤◌, ◌+◌, ◌-◌, ◌++◌, ◌||◌, ◌∷◌, [], length, vec_len, vec_capacity, Some, Ok, IfOk, IfErr, OnOk, OnErr, IsErrOf, slice_get, false, true};
+ghost use Rattle.std.specs.Prelude.{◌≡◌, ◌≢◌, ◌<◌, ◌≤◌, ◌+◌, ◌-◌, ◌++◌, ◌||◌, ◌∷◌, [], length, vec_len, vec_capacity, Some, Ok, IfOk, IfErr, OnOk, OnErr, IsErrOf, slice_get, false, true, IsTrue};
 ghost use Rattle.dap_msg.specs.Blocked.{bodies};
 ghost use Rattle.nsp_link.specs.Limits.{most_segments};
-ghost use Rattle.nsp_link.specs.Link.{MaySend, IsSpelling};
-ghost use Rattle.nsp_link.specs.Sending.{WritesSent, MayQueueAll, ack_packet_of};
+ghost use Rattle.nsp_link.specs.Link.{may_send, IsSpelling};
+ghost use Rattle.nsp_link.specs.Sending.{WritesSent, may_queue, ack_packet_of};
 ghost use Rattle.nsp_link.specs.declared.fault.LinkFault.TheVariants.{NoSuchSegment};
 ghost use Rattle.nsp_link.specs.declared.fault.LinkFault.TheVariants as link_fault;
 ghost use Rattle.dap_world.specs.Machine.{is_old};
@@ -48,7 +48,7 @@ pub(crate) fn put(wire: &mut Vec<Wired>, packet: Vec<u8>, segment: Option<u64>, 
 
 /// The number of the next segment, for which the wire has room.
 pub(crate) fn next_number(link: &LinkEnd, wire: &mut Vec<Wired>) -> Result<u64, WorldFault>
-    ensures ok { IfOk result (λ k. MaySend link.now × (k ≡ link.now.sent + 1)) }
+    ensures ok { IfOk result (λ k. IsTrue (may_send link.now) × (k ≡ link.now.sent + 1)) }
     ensures room { OnOk result (vec_len wire.new < vec_capacity wire.new) }
     ensures same { wire.new.items ≡ wire.old.items }
     ensures err { IfErr result (EmitFault link.now) }
@@ -156,7 +156,7 @@ pub(crate) fn may_post(link: &LinkEnd, waiting: &[Vec<u8>]) -> Result<(), WorldF
     requires running { link.now.failed ≡ false }
     requires short { AreShort link.now.setup.max_message (bodies waiting.now) }
     ensures some { OnOk result (0 < length waiting.now) }
-    ensures may { OnOk result (MayQueueAll link.now (bodies waiting.now)) }
+    ensures may { OnOk result (IsTrue (may_queue link.now (bodies waiting.now))) }
     ensures err { IfErr result (λ f. (f ≢ NoMemory)
         × PostFault link.now (bodies waiting.now) f) }
 {

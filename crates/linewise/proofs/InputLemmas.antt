@@ -6,11 +6,10 @@ use Rattle.memchr.specs.Find.{IsFirstByte, is_byte}
 use Rattle.std.specs.Io.KnownBytes.{IsAtEnd}
 use Rattle.std.specs.Io.BufRead.{first_line, drop_through}
 use Rattle.std.proofs.BufReadLemmas.{take_through-nil, take_through_nonempty}
-use Rattle.linewise.specs.Talks.{without_end}
 use Rattle.linewise.specs.declared.input.Kept.{Kept}
 use Rattle.linewise.specs.declared.input.Kept.TheVariants.{All as whole, TooLong, NoMemory}
 use Rattle.linewise.specs.declared.input.Line.{Line}
-use Rattle.linewise.specs.Inner.Kept.{Holds, HoldsAs, HasRead}
+use Rattle.linewise.specs.Inner.Kept.{Holds, HoldsAs, HasRead, without_end}
 
 is_it : (x : ℕ) → x ≡ 10 → eqb x 10 ≡ true
 is_it x same = eq-eqb x 10 same

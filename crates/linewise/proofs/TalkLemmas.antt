@@ -1,5 +1,5 @@
 -- How a talk begins, goes on and ends.
-use Rattle.std.proofs.Common.{◌≡◌, ◌<◌, ◌++◌, ℕ, Bool, ◌||◌, false, List, [], length, take, sym, subst, refl, Option, Some, None, IfSome}
+use Rattle.std.proofs.Common.{◌≡◌, ◌<◌, ◌++◌, ℕ, Bool, ◌||◌, false, List, [], length, sym, subst, refl, Option, Some, None, IfSome}
 use Rattle.std.specs.Io.KnownBytes.{Appends, Keeps, IsAtEnd}
 use Rattle.std.specs.Io.BufRead.{first_line, drop_through}
 use Rattle.std.proofs.KnownBytes.{Appends-nil, Appends-trans, Appends-kept, Keeps-refl}
@@ -9,7 +9,7 @@ use Rattle.linewise.specs.declared.talking.TalkFault.{TalkFault}
 use Rattle.linewise.specs.declared.talking.TalkFault.TheVariants.{ReadFailed, WriteFailed}
 use Rattle.linewise.specs.declared.talking.Next.{Next}
 use Rattle.linewise.specs.declared.talking.Next.TheVariants.{Over, Line}
-use Rattle.linewise.specs.Talks.{Answering, SaysTo, Fails, Talked, StopsBefore, BreaksOff, is_bad}
+use Rattle.linewise.specs.Talks.{Answering, SaysTo, Fails, Talked, is_bad}
 use Rattle.linewise.specs.Inner.Steps.{HasTalked, Says, Breaks, Goes, Ends}
 
 module _ {E : Type 0} (answered : Answering E) (waiting : E → ℕ) where
@@ -53,28 +53,14 @@ module _ {E : Type 0} (answered : Answering E) (waiting : E → ℕ) where
   fails old now next None written left holds last bad f before end = _
   fails old now next (Some input) written left holds last bad WriteFailed before end =
       let broke : Breaks answered waiting now (first_line before.0) next holds last = rw before.2 at end in
-      let front = broke.3 in
-      record {
-        now = now;
-        rest = before.0;
-        said = before.1;
-        more = broke.1;
-        bad = bad;
-        became = broke.0;
-        count = front.0;
-        talked = before.4;
-        answers = broke.2;
-        front = front.1;
-        holds_front = Appends-trans written holds last before.1 (take front.0 broke.1) before.3 front.2;
-      }
-  fails old now next (Some input) written left holds last bad ReadFailed before end =
-      record {
-        rest = before.0;
-        said = before.1;
-        bad = bad;
-        talked = subst (λ e. Talked answered waiting old input e before.0 before.1 bad) (sym end.0) before.4;
-        holds_said = Appends-kept written holds last before.1 before.3 end.1;
-      }
+      (now, holds, (before.0, before.1, bad, before.4, before.3), broke.0, broke.1, broke.2, broke.3)
+  fails old now next (Some input) written left holds last bad ReadFailed before end = (
+    before.0,
+    before.1,
+    bad,
+    subst (λ e. Talked answered waiting old input e before.0 before.1 bad) (sym end.0) before.4,
+    Appends-kept written holds last before.1 before.3 end.1,
+  )
 
   -- the last round ends a talk too
   pub gives_up : (old now : E) (unread written left holds : Option (List ℕ)) (bad : Bool)

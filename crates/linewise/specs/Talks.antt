@@ -1,8 +1,9 @@
 -- What an end and a partner say to each other, line by line.
-use Rattle.std.specs.Prelude.{◌≡◌, ◌≢◌, ◌⊎◌, ℕ, ◌<◌, ◌≤◌, ◌==◌, Bool, true, false, ◌||◌, List, [], ◌∷◌, ◌++◌, length, take, codes, if◌then◌else◌, Some, None, Option}
+use Rattle.std.specs.Prelude.{◌≡◌, ◌≢◌, ◌⊎◌, ℕ, ◌<◌, ◌≤◌, ◌==◌, Bool, true, false, ◌||◌, List, [], ◌∷◌, ◌++◌, length, codes, Some, None, Option}
 use Rattle.std.specs.Fmt.{decimal}
 use Rattle.std.specs.Io.KnownBytes.{Appends}
-use Rattle.std.specs.Io.BufRead.{first_line, drop_through, ends_with_byte, strip_last}
+use Rattle.std.specs.Io.BufRead.{first_line, drop_through}
+use Rattle.linewise.specs.Output.{WritesFront}
 use Rattle.linewise.specs.declared.talking.Became.{Became}
 use Rattle.linewise.specs.declared.talking.Became.TheVariants.{Done, BadLine, NoMemory}
 use Rattle.linewise.specs.declared.talking.TalkFault.{TalkFault}
@@ -18,10 +19,6 @@ longest = 16777216
 abbrev pub is_skipped : List ℕ → Bool
 is_skipped [] = true
 is_skipped (first ∷ others) = first == 35
-
--- a line without the line feed, or carriage return and line feed, at its end
-abbrev pub without_end : List ℕ → List ℕ
-without_end line = if ends_with_byte 10 line then strip_last 13 (strip_last 10 line) else strip_last 10 line
 
 -- ---- An answer.
 
@@ -96,29 +93,15 @@ HaveOneText answered waiting AreSame =
     → (t : Talked answered waiting one input new [] text bad) (u : Talked answered waiting other input end [] more worse)
     → NeverWants t → NeverWants u → (text ≡ more) × (bad ≡ worse)
 
--- The writer failed at an answer, of which it holds a front behind those before it.
-pub record BreaksOff {E : Type 0} (answered : Answering E) (waiting : E → ℕ) (old : E) (input : List ℕ) (new : E) (written holds : Option (List ℕ)) : Type 0 where
-  pub now : E
-  pub rest : List ℕ
-  pub said : List ℕ
-  pub more : List ℕ
-  pub bad : Bool
-  pub became : Option Became
-  pub count : ℕ
-  pub talked : Talked answered waiting old input now rest said bad
-  pub answers : SaysTo answered waiting now (first_line rest) new more became
-  pub front : count ≤ length more
-  pub holds_front : Appends written holds (said ++ take count more)
-
 -- The lines up to some rest were answered, and nothing else was written.
-pub record StopsBefore {E : Type 0} (answered : Answering E) (waiting : E → ℕ) (old : E) (input : List ℕ) (new : E) (written holds : Option (List ℕ)) : Type 0 where
-  pub rest : List ℕ
-  pub said : List ℕ
-  pub bad : Bool
-  pub talked : Talked answered waiting old input new rest said bad
-  pub holds_said : Appends written holds said
+abbrev pub StopsBefore : {E : Type 0} → Answering E → (E → ℕ) → E → List ℕ → E → (written holds : Option (List ℕ)) → Type 0
+StopsBefore answered waiting old input new written holds =
+    (rest said : List ℕ) × (bad : Bool) × Talked answered waiting old input new rest said bad × Appends written holds said
 
--- what was said where a talk ended before its input did
+-- What was said where a talk ended before its input did: where the writer failed, it holds a front of one answer more.
 abbrev pub Fails : {E : Type 0} → Answering E → (E → ℕ) → E → List ℕ → E → Option (List ℕ) → Option (List ℕ) → TalkFault → Type 0
-Fails answered waiting old input new written holds WriteFailed = BreaksOff answered waiting old input new written holds
+Fails {E} answered waiting old input new written holds WriteFailed =
+    (now : E) × (held : Option (List ℕ)) × (before : StopsBefore answered waiting old input now written held)
+    × (became : Option Became) × (more : List ℕ)
+    × SaysTo answered waiting now (first_line before.0) new more became × WritesFront held holds more
 Fails answered waiting old input new written holds ReadFailed = StopsBefore answered waiting old input new written holds

@@ -3,8 +3,8 @@
 ghost use Rattle.std.specs.Prelude.{◌≡◌, ◌≢◌, ℕ, Bool, List, [], ◌∷◌, ◌++◌, ◌<◌, ◌≤◌, length, true, false, Some, None, IfOk, IfErr, OnOk, OnErr, IfSome};
 ghost use Rattle.std.specs.Io.KnownBytes.{Appends, Keeps, IsAtEnd};
 ghost use Rattle.std.specs.Io.BufRead.{first_line, drop_through, strip_last};
-ghost use Rattle.linewise.specs.Talks.{AnswersLine, Fails, Talked, is_bad as is_bad_line, is_skipped as says_nothing, without_end as ended};
-ghost use Rattle.linewise.specs.Inner.Kept.{Holds};
+ghost use Rattle.linewise.specs.Talks.{AnswersLine, Fails, Talked, is_bad as is_bad_line, is_skipped as says_nothing};
+ghost use Rattle.linewise.specs.Inner.Kept.{Holds, without_end as ended};
 ghost use Rattle.linewise.specs.Inner.Steps.{Breaks, Ends, Goes, Says};
 
 use crate::input::{Kept, LONGEST, Line, read_line};

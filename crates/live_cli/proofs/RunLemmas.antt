@@ -1,9 +1,11 @@
 -- What the program's command line makes of words, and what holds where a reader's bytes are known.
-use Rattle.std.proofs.Common.{◌≡◌, ◌∙◌, ap, refl, inr, ℕ, List, [], ◌∷◌, true, codes, Err}
-use Rattle.std.specs.Prelude.{Option, Some, None, IfSome}
+use Rattle.std.proofs.Common.{◌≡◌, ◌∙◌, refl, inr, ℕ, List, [], ◌∷◌, true, codes, Err}
+use Rattle.std.specs.Prelude.{Option, Some, None, IfSome, fold}
+use Rattle.std.specs.Fmt.{digits}
 use Rattle.std.specs.Io.KnownBytes.{Keeps}
 use Rattle.hex.specs.Hex.{decode_pairs}
-use Rattle.clap.specs.Words.{Text, fault_of, is_simple, is_simple_and_free}
+use Rattle.clap.specs.Words.{Text, fault_of, is_simple, is_simple_and_free, new_app, with_subcommand}
+use Rattle.cli_faults.specs.Programs.{new_program}
 use Rattle.clap.proofs.OnLiterals.{clap_on_literals}
 use Rattle.live_cli.specs.declared.words.Role.{Role}
 use Rattle.live_cli.specs.declared.words.Role.TheVariants.{Serve, Ask}
@@ -11,38 +13,46 @@ use Rattle.live_cli.specs.declared.words.Task.{Task}
 use Rattle.live_cli.specs.declared.words.Task.TheVariants.{End, Follow}
 use Rattle.dap_listing.specs.declared.fault.CaptureFault.TheVariants.{NoMemory}
 use Rattle.live_cli.specs.Running.{TaskGives}
-use Rattle.live_cli.specs.Words.{daplive, task_of, usual, word_of}
+use Rattle.live_cli.specs.Words.{daplive, task_of, usual}
+use Rattle.live_cli.specs.Inner.CommandLine.{end_line_by}
 
 pub some_from : {X : Type 0} {P Q : X → Type 0} (o : Option X) → IfSome o P → ((x : X) → P x → Q x) → IfSome o Q
 some_from None holds next = tt
 some_from (Some x) holds next = next x holds
 
+-- the command line, with the digits of what is usual
+pub daplive_by : daplive ≡ fold with_subcommand (new_program (codes "daplive"))
+    ((end_line_by (codes "serve") (codes "0202") (codes "0101")).top ∷ (end_line_by (codes "ask") (codes "0101") (codes "0202")).top
+    ∷ (new_app (codes "follow")).top ∷ [])
+unfolding digits
+daplive_by = refl
+
 pub is_simple_line : is_simple daplive ≡ true
-unfolding clap_on_literals
+unfolding clap_on_literals digits
 is_simple_line = refl
 
 pub is_free_line : is_simple_and_free daplive ≡ true
-unfolding clap_on_literals
+unfolding clap_on_literals digits
 is_free_line = refl
 
 -- on the word of an end alone
-pub no_fault : (program : Text) (role : Role) → fault_of daplive (program ∷ word_of role ∷ []) ≡ []
-unfolding clap_on_literals
+pub no_fault : (program : Text) (role : Role) → fault_of daplive (program ∷ (usual role).0 ∷ []) ≡ []
+unfolding clap_on_literals digits
 no_fault program Serve = refl
 no_fault program Ask = refl
 
-pub names_usual : (program : Text) (role : Role) → task_of (program ∷ word_of role ∷ []) ≡ Some (End (usual role))
-unfolding clap_on_literals decode_pairs
+pub names_usual : (program : Text) (role : Role) → task_of (program ∷ (usual role).0 ∷ []) ≡ Some (End (usual role).1)
+unfolding clap_on_literals decode_pairs digits
 names_usual program Serve = refl
 names_usual program Ask = refl
 
 -- and on that of the listing
 pub no_fault_follow : (program : Text) → fault_of daplive (program ∷ codes "follow" ∷ []) ≡ []
-unfolding clap_on_literals
+unfolding clap_on_literals digits
 no_fault_follow program = refl
 
 pub names_follow : (program : Text) → task_of (program ∷ codes "follow" ∷ []) ≡ Some Follow
-unfolding clap_on_literals
+unfolding clap_on_literals digits
 names_follow program = refl
 
 -- want of memory, of whatever input

@@ -1,11 +1,9 @@
 -- What the program answers to an input, and its exit status.
-use Rattle.std.specs.Prelude.{◌≡◌, ◌⊎◌, ℕ, Bool, List, [], if◌then◌else◌, Option, Result}
+use Rattle.std.specs.Prelude.{◌≡◌, ◌⊎◌, ℕ, Bool, List, [], if◌then◌else◌, Option}
 use Rattle.std.specs.Io.KnownBytes.{Appends, Keeps}
 use Rattle.nsp_link.specs.declared.link.LinkSetup.{LinkSetup}
 use Rattle.dap_follow.specs.Following.{FollowGives}
-use Rattle.dap_listing.specs.Gives as listing
-use Rattle.dap_listing.specs.declared.fault.CaptureFault.{CaptureFault}
-use Rattle.dap_listing.specs.declared.fault.Outcome.{Outcome}
+use Rattle.dap_listing.specs.Gives.{HasStatus}
 use Rattle.dap_end.specs.Ports.{PortValue, new_port}
 use Rattle.dap_end.specs.Serving.{IsAfter, nothing_yet}
 use Rattle.dap_end.specs.Asking.{HasAsked, nothing_asked}
@@ -50,16 +48,8 @@ GivesAs Serve o input written holds status =
 GivesAs Ask o input written holds status =
     (first : Asking) × IsNewAsking o first × AnswersAll asking.answered asking.waiting first input written holds status
 
--- what an end that is set up so answers, or nothing was written, for want of memory
-abbrev pub RunGives : Options → List ℕ → (written holds : Option (List ℕ)) → ℕ → Type 0
-RunGives o input written holds status = GivesAs o.role o input written holds status ⊎ (Keeps written holds × (status ≡ 3))
-
--- what the listing of a capture answers, and its exit status
-abbrev pub ListingGives : List ℕ → (written holds : Option (List ℕ)) → ℕ → Type 0
-ListingGives input written holds status =
-    (outcome : Result Outcome CaptureFault) × FollowGives input written holds outcome × (status ≡ listing.status_of outcome)
-
--- what the program answers
+-- What the program answers, and its exit status: what an end that is set up so answers, or nothing was written, for want of
+-- memory; or the listing of a capture.
 abbrev pub TaskGives : Task → List ℕ → (written holds : Option (List ℕ)) → ℕ → Type 0
-TaskGives (End options) = RunGives options
-TaskGives Follow = ListingGives
+TaskGives (End o) input written holds status = GivesAs o.role o input written holds status ⊎ (Keeps written holds × (status ≡ 3))
+TaskGives Follow input written holds status = HasStatus (FollowGives input written holds) status

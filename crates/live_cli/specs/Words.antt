@@ -1,17 +1,24 @@
 -- What the words of the program name.
-use Rattle.std.specs.Prelude.{ℕ, List, [], ◌∷◌, true, codes, fold, if◌then◌else◌, pos, max, Option, Some, None, option_map, option_and_then}
+use Rattle.std.specs.Prelude.{ℕ, List, [], ◌∷◌, codes, bytes_eq, fold, if◌then◌else◌, pos, max, Option, Some, option_map, option_and_then}
+use Rattle.std.specs.Fmt.{decimal}
 use Rattle.clap.specs.Words.{App, Row, Rule, Text, first_of, new_app, new_rule, subcommand_of, with_rule, with_subcommand}
-use Rattle.clap.specs.Simple.{on_top}
+use Rattle.cli_faults.specs.Programs.{new_program}
 use Rattle.clap.specs.declared.builder.value_parser.ValueParser.TheVariants as parser
 use Rattle.dap_msg.specs.BothEnds.{greatest_message, least_buffer}
 use Rattle.nsp_link.specs.Limits.{largest_segment, largest_window}
-use Rattle.dap_text.specs.Words.{is, short}
+use Rattle.dap_text.specs.Text.{word_text}
+use Rattle.dap_text.specs.Words.{short}
 use Rattle.dap_live.specs.Orders.{address_of}
 use Rattle.live_cli.specs.declared.words.Options.{Options}
 use Rattle.live_cli.specs.declared.words.Role.{Role}
 use Rattle.live_cli.specs.declared.words.Role.TheVariants.{Serve, Ask}
 use Rattle.live_cli.specs.declared.words.Task.{Task}
 use Rattle.live_cli.specs.declared.words.Task.TheVariants.{End, Follow}
+
+-- the word of an end, and how it is set up by that word alone
+abbrev pub usual : Role → Text × Options
+usual Serve = (codes "serve", record { role = Serve; local = 514; remote = 257; segment = 512; window = 8; buffer = 1024 })
+usual Ask = (codes "ask", record { role = Ask; local = 257; remote = 514; segment = 512; window = 8; buffer = 1024 })
 
 -- ---- The command line, in the words of `clap`.
 
@@ -23,40 +30,33 @@ option name usual = record (new_rule name) { long = Some name; value_names = 1; 
 abbrev pub number : Text → (usual : Text) → (least most : ℕ) → Rule
 number name usual least most = record (option name usual) { parser = Some (parser.Signed (pos least) (pos most)) }
 
--- the words behind the name of an end
-abbrev pub end_line : (name local remote : Text) → App
-end_line name local remote =
-    fold with_rule (new_app name)
-    (option (codes "local") local ∷ option (codes "remote") remote ∷ number (codes "segment") (codes "512") 1 largest_segment
-    ∷ number (codes "window") (codes "8") 1 largest_window ∷ number (codes "buffer") (codes "1024") least_buffer greatest_message ∷ [])
+-- the word of an end, and the options behind it, of which these are usual
+abbrev pub end_line : Text × Options → App
+end_line (word, o) = fold with_rule (new_app word)
+    (option (codes "local") (word_text o.local) ∷ option (codes "remote") (word_text o.remote)
+    ∷ number (codes "segment") (decimal o.segment) 1 largest_segment ∷ number (codes "window") (decimal o.window) 1 largest_window
+    ∷ number (codes "buffer") (decimal o.buffer) least_buffer greatest_message ∷ [])
 
 -- all words: one of three names is wanted
 abbrev pub daplive : App
-daplive =
-    fold with_subcommand (on_top (λ top. record top { subcommand_required = true; disable_help_subcommand = true }) (new_app (codes "daplive")))
-    ((end_line (codes "serve") (codes "0202") (codes "0101")).top ∷ (end_line (codes "ask") (codes "0101") (codes "0202")).top
-    ∷ (new_app (codes "follow")).top ∷ [])
+daplive = fold with_subcommand (new_program (codes "daplive"))
+    ((end_line (usual Serve)).top ∷ (end_line (usual Ask)).top ∷ (new_app (codes "follow")).top ∷ [])
 
 -- ---- What they say.
 
-abbrev pub bind : {X Y : Type 0} → Option X → (X → Option Y) → Option Y
-bind o next = option_and_then next o
-
-abbrev pub address_in : Text → List Row → Option ℕ
-address_in name rows = option_and_then address_of (first_of name rows)
-
-abbrev pub number_in : Text → List Row → Option ℕ
-number_in name rows = option_and_then short (first_of name rows)
+-- an option's value is read, and then what follows
+abbrev pub value : {X : Type 0} → List Row → (read : Text → Option ℕ) → (name : Text) → (ℕ → Option X) → Option X
+value rows read name next = option_and_then next (option_and_then read (first_of name rows))
 
 -- How an end is set up: each address is four hex digits, each number decimal digits. Those of a buffer have 64 at least,
 -- else they are at fault.
 abbrev pub options_of : Role → List Row → Option Options
 options_of role rows =
-    bind (address_in (codes "local") rows) (λ local.
-    bind (address_in (codes "remote") rows) (λ remote.
-    bind (number_in (codes "segment") rows) (λ segment.
-    bind (number_in (codes "window") rows) (λ window.
-    bind (number_in (codes "buffer") rows) (λ buffer.
+    value rows address_of (codes "local") (λ local.
+    value rows address_of (codes "remote") (λ remote.
+    value rows short (codes "segment") (λ segment.
+    value rows short (codes "window") (λ window.
+    value rows short (codes "buffer") (λ buffer.
     Some (record {
       role = role;
       local = local;
@@ -68,19 +68,10 @@ options_of role rows =
 
 abbrev pub task_in : Text × List Row → Option Task
 task_in p =
-    if is p.0 (codes "serve") then option_map End (options_of Serve p.1)
-    else if is p.0 (codes "ask") then option_map End (options_of Ask p.1)
+    if bytes_eq p.0 (codes "serve") then option_map End (options_of Serve p.1)
+    else if bytes_eq p.0 (codes "ask") then option_map End (options_of Ask p.1)
     else Some Follow
 
 -- what the words name, the program's name first, where nothing is at fault in them
 abbrev pub task_of : List Text → Option Task
 task_of words = option_and_then task_in (subcommand_of daplive words)
-
--- the word of an end, and how it is set up by that word alone
-abbrev pub word_of : Role → Text
-word_of Serve = codes "serve"
-word_of Ask = codes "ask"
-
-abbrev pub usual : Role → Options
-usual Serve = record { role = Serve; local = 514; remote = 257; segment = 512; window = 8; buffer = 1024 }
-usual Ask = record { role = Ask; local = 257; remote = 514; segment = 512; window = 8; buffer = 1024 }

@@ -8,9 +8,9 @@ ghost use Rattle.dap_msg.specs.BothEnds.{least_buffer};
 ghost use Rattle.live_cli.specs.declared.words.Task.{Task as TheTask};
 ghost use Rattle.live_cli.specs.declared.words.Role.TheVariants as role;
 ghost use Rattle.live_cli.specs.declared.words.Role.{Role as TheRole};
-ghost use Rattle.live_cli.specs.Running.{AnswersAll, GivesAs, ListingGives, RunGives, TaskGives, setup_of};
+ghost use Rattle.live_cli.specs.Running.{AnswersAll, GivesAs, TaskGives, setup_of};
 ghost use Rattle.live_cli.specs.Inner.CommandLine.{HasRoom};
-ghost use Rattle.live_cli.specs.Words.{daplive, task_of, usual, word_of};
+ghost use Rattle.live_cli.specs.Words.{daplive, task_of, usual};
 
 use crate::words::{Options, Role, Task, read_words};
 use clap::error::ErrorKind;
@@ -125,7 +125,7 @@ pub fn run_options<R: BufRead, W: Write, E: Write>(
     error_writer: &mut E,
 ) -> u8
     requires { least_buffer ≤ options.buffer }
-    ensures { IfSome (R.remaining reader.old) (λ input. RunGives options input
+    ensures { IfSome (R.remaining reader.old) (λ input. TaskGives (Task.End options) input
         (W.contents writer.old) (W.contents writer.new) result) }
 {
     match options.role {
@@ -183,12 +183,12 @@ pub fn run_words<R: BufRead, W: Write, E: Write>(
         → IfSome (R.remaining reader.old) (λ input. TaskGives task input
         (W.contents writer.old) (W.contents writer.new) result) }
     ensures usual { (program : List ℕ) (role : TheRole)
-        → map string_bytes words.now ≡ program ∷ word_of role ∷ []
-        → IfSome (R.remaining reader.old) (λ input. RunGives (usual role) input
+        → map string_bytes words.now ≡ program ∷ (usual role).0 ∷ []
+        → IfSome (R.remaining reader.old) (λ input. TaskGives (Task.End (usual role).1) input
         (W.contents writer.old) (W.contents writer.new) result) }
     ensures follow { (program : List ℕ)
         → map string_bytes words.now ≡ program ∷ codes "follow" ∷ []
-        → IfSome (R.remaining reader.old) (λ input. ListingGives input
+        → IfSome (R.remaining reader.old) (λ input. TaskGives Task.Follow input
         (W.contents writer.old) (W.contents writer.new) result) }
     ensures digits { fault_of daplive (map string_bytes words.now) ≡ []
         → task_of (map string_bytes words.now) ≡ None

@@ -1,13 +1,14 @@
 //! What the words say.
 
-ghost use Rattle.std.specs.Prelude.{◌≡◌, ◌≤◌, false, IfErr, IfOk, IfSome, Some, codes, map, option_map, pos, string_bytes};
+ghost use Rattle.std.specs.Prelude.{◌≡◌, ◌≤◌, false, IfErr, IfOk, IfSome, Some, codes, map, option_and_then, option_map, pos, string_bytes};
 ghost use Rattle.clap.specs.Words.{FailsBy, app_of, fault_of, first_of, found_of, kind_of, new_app, rows_of, rule_of};
 ghost use Rattle.clap.specs.declared.builder.value_parser.ValueParser.TheVariants as parser;
 ghost use Rattle.dap_msg.specs.BothEnds.{greatest_message, least_buffer};
 ghost use Rattle.nsp_link.specs.Limits.{largest_segment, largest_window};
 ghost use Rattle.clap.specs.declared.builder.command.Command.TheViews.{out-Command};
 ghost use Rattle.dap_text.specs.Words.{short};
-ghost use Rattle.live_cli.specs.Words.{daplive, option as option_rule, options_of, address_in as address_in_rows, number_in as number_in_rows, task_in as task_of_rows, task_of};
+ghost use Rattle.dap_live.specs.Orders.{address_of};
+ghost use Rattle.live_cli.specs.Words.{daplive, option as option_rule, options_of, task_in as task_of_rows, task_of};
 ghost use Rattle.live_cli.specs.Inner.CommandLine.{HasAddresses, HasLimits, HasRoom, IsCommandLine, IsEndLine};
 
 use clap::builder::ValueParser;
@@ -267,7 +268,8 @@ fn text_in<'a>(matches: &ArgMatches<'a>, name: &str) -> Option<&'a str>
 
 /// An address, by four hex digits.
 fn address_in(matches: &ArgMatches<'_>, name: &str) -> Option<u16>
-    ensures { result ≡ address_in_rows name.now (rows_of (found_of matches.now)) }
+    ensures { result
+        ≡ option_and_then address_of (first_of name.now (rows_of (found_of matches.now))) }
 {
     match text_in(matches, name) {
         Some(text) => read_address(text.as_bytes()),
@@ -277,7 +279,7 @@ fn address_in(matches: &ArgMatches<'_>, name: &str) -> Option<u16>
 
 /// A number, by decimal digits.
 fn number_in(matches: &ArgMatches<'_>, name: &str) -> Option<u16>
-    ensures { result ≡ number_in_rows name.now (rows_of (found_of matches.now)) }
+    ensures { result ≡ option_and_then short (first_of name.now (rows_of (found_of matches.now))) }
 {
     match text_in(matches, name) {
         Some(text) => read_short(text),

@@ -6,8 +6,7 @@ use Rattle.std.proofs.lemmas.List.{take_min, length-drop, append-nil, map-append
 use Rattle.std.specs.Int.{div_ceil}
 use Rattle.std.proofs.lemmas.List.FromFn.{map-range_with_len_more, length-map-range_with_len}
 use Rattle.std.proofs.lemmas.List.Elements.{All-cons, All-nil}
-use Rattle.nsp_link.specs.Link.{LinkValue}
-use Rattle.nsp_link.specs.Sending.{AreShort}
+use Rattle.nsp_link.specs.Link.{LinkValue, AreShort}
 use Rattle.std.specs.List.{range_with_len}
 use Rattle.nsp_link.specs.Inner.Pieces.{Segment}
 use Rattle.nsp_link.specs.Inner.Pieces.{piece, pieces}

@@ -3,7 +3,10 @@ use Rattle.std.proofs.Common.{◌≡◌, ℕ, ◌+◌, ◌-◌, ◌<◌, ◌≤�
 use Rattle.std.specs.Prelude.{slice_get, MatchResult, nat_lt, ◌&&◌}
 use Rattle.std.proofs.lemmas.Bool.{lt-ltb, le-ltb, cases_lt, cases_eq, eq-eqb, ne_eqb}
 use Rattle.nsp_seg.specs.Numbers.{residue}
-use Rattle.nsp_seg.specs.Packets.{PacketValue, SegmentValue, AckValue, segment, data_ack}
+use Rattle.nsp_seg.specs.declared.packet.Packet.{Packet}
+use Rattle.nsp_seg.specs.declared.packet.SegmentFields.{SegmentFields}
+use Rattle.nsp_seg.specs.declared.packet.Packet.TheVariants.{Segment, DataAck}
+use Rattle.nsp_seg.specs.declared.packet.AckFields.{AckFields}
 use Rattle.nsp_link.specs.declared.fault.LinkFault.{LinkFault}
 use Rattle.nsp_link.specs.declared.fault.LinkFault.TheVariants.{Malformed}
 use Rattle.nsp_link.specs.declared.link.Got.{Got}
@@ -73,26 +76,26 @@ abbrev pub Due : LinkValue → LinkValue → Result Got LinkFault → ℕ → Li
 Due old new (Ok got) size messages given k a = (got ≡ got_of old.coming.received k) × Delivered old new k a × Stands new size messages given
 Due old new (Err e) size messages given k a = MayRefuse old k e × (new ≡ old)
 
-count_is : (old : LinkValue) (size : ℕ) (messages given : List (List ℕ)) (p : PacketValue) (k : Option ℕ) (a count : ℕ) (number : Option ℕ) → IsLink old → IsDue old size messages given p k a → number ≡ Some (residue a) → newly_acked old number ≡ Some count → count ≡ max old.acked a - old.acked
+count_is : (old : LinkValue) (size : ℕ) (messages given : List (List ℕ)) (p : Packet) (k : Option ℕ) (a count : ℕ) (number : Option ℕ) → IsLink old → IsDue old size messages given p k a → number ≡ Some (residue a) → newly_acked old number ≡ Some count → count ≡ max old.acked a - old.acked
 count_is old size messages given p k a count number link due e newly =
     let is = newly_acked-of old a link.acked (omega (arith, link.within, link.setup.3)) due.2.believable due.2.fresh.1 in
     let f = rw e at newly in
     (cc)
 
-count_some : (old : LinkValue) (size : ℕ) (messages given : List (List ℕ)) (p : PacketValue) (k : Option ℕ) (a : ℕ) (number : Option ℕ) → IsLink old → IsDue old size messages given p k a → number ≡ Some (residue a) → newly_acked old number ≡ None → ⊥
+count_some : (old : LinkValue) (size : ℕ) (messages given : List (List ℕ)) (p : Packet) (k : Option ℕ) (a : ℕ) (number : Option ℕ) → IsLink old → IsDue old size messages given p k a → number ≡ Some (residue a) → newly_acked old number ≡ None → ⊥
 count_some old size messages given p k a number link due e newly =
     let is = newly_acked-of old a link.acked (omega (arith, link.within, link.setup.3)) due.2.believable due.2.fresh.1 in
     let f = rw e at newly in
     cc
 
-due_ack : (old new : LinkValue) (r : Result Got LinkFault) (size : ℕ) (messages given : List (List ℕ)) (s : AckValue) (a : ℕ) → IsLink old → IsDue old size messages given (data_ack s) None a → Received old (data_ack s) r new → Due old new r size messages given None a
+due_ack : (old new : LinkValue) (r : Result Got LinkFault) (size : ℕ) (messages given : List (List ℕ)) (s : AckFields) (a : ℕ) → IsLink old → IsDue old size messages given (DataAck s) None a → Received old (DataAck s) r new → Due old new r size messages given None a
 due_ack old new (Ok got) size messages given s a link due (_, (same, (count, newly, e))) =
-    let is = count_is old size messages given (data_ack s) None a count _ link due due.2.carries newly in
+    let is = count_is old size messages given (DataAck s) None a count _ link due due.2.carries newly in
     (same, rw e (delivered_with old old.coming old.held count None a (record { first = false; last = false; payload = [] }) is refl refl), rw e (stands_forgotten old count size messages given due.1))
 due_ack old new (Err e) size messages given s a link due (inl (out, _), _) = absurd (out due.2.way)
-due_ack old new (Err e) size messages given s a link due (inr (_, (none, _)), _) = absurd (count_some old size messages given (data_ack s) None a _ link due due.2.carries none)
+due_ack old new (Err e) size messages given s a link due (inr (_, (none, _)), _) = absurd (count_some old size messages given (DataAck s) None a _ link due due.2.carries none)
 
-module _ (old : LinkValue) (size : ℕ) (messages given : List (List ℕ)) (s : SegmentValue) (n a : ℕ) (link : IsLink old) (due : IsDue old size messages given (segment s) (Some n) a) where
+module _ (old : LinkValue) (size : ℕ) (messages given : List (List ℕ)) (s : SegmentFields) (n a : ℕ) (link : IsLink old) (due : IsDue old size messages given (Segment s) (Some n) a) where
   found : segment_of old s.number ≡ n
   found = rw due.2.carries.2 (segment_found old n due.2.fresh.0 due.2.near)
 
@@ -134,13 +137,13 @@ module _ (old : LinkValue) (size : ℕ) (messages given : List (List ℕ)) (s : 
             (inr (x.0, next, rw test over), left ∙ ap (λ (f : LinkFault). stopped f old) x.0)
       ]
 
-  due_segment : (new : LinkValue) (r : Result Got LinkFault) → Received old (segment s) r new → Due old new r size messages given (Some n) a
+  due_segment : (new : LinkValue) (r : Result Got LinkFault) → Received old (Segment s) r new → Due old new r size messages given (Some n) a
   due_segment new (Ok got) (_, (same, _, (count, newly, e))) =
-      let is = count_is old size messages given (segment s) (Some n) a count _ link due due.2.carries.3 newly in
+      let is = count_is old size messages given (Segment s) (Some n) a count _ link due due.2.carries.3 newly in
       let left : new ≡ forgotten (taking_in old n (piece_of s)) count = e ∙ ap (λ (k : ℕ). forgotten (taking_in old k (piece_of s)) count) found in
       (same ∙ ap (λ (k : ℕ). got_of old.coming.received (Some k)) found, rw left (delivered_in old (piece_of s) count n a is), rw left (stands_forgotten (taking_in old n (piece_of s)) count size messages given stands_in))
   due_segment new (Err e) (inl (out, _), _) = absurd (out due.2.way)
-  due_segment new (Err e) (inr (_, inl (none, _)), _) = absurd (count_some old size messages given (segment s) (Some n) a _ link due due.2.carries.3 none)
+  due_segment new (Err e) (inr (_, inl (none, _)), _) = absurd (count_some old size messages given (Segment s) (Some n) a _ link due due.2.carries.3 none)
   due_segment new (Err e) (inr (_, inr (_, inl (next, out))), left) = due_not_taken new e (sym found ∙ next) out left
   due_segment new (Err e) (inr (_, inr (_, inr (keeps, memory))), left) =
       let keeps-it = subst (λ (k : ℕ). Keeps old k) found keeps in
@@ -148,11 +151,11 @@ module _ (old : LinkValue) (size : ℕ) (messages given : List (List ℕ)) (s : 
       (inl (memory, inr keeps-it, rw apart link.few_taken), left ∙ ap (λ (f : LinkFault). stopped f old) memory)
 
 -- a packet that is due does what the definition says
-pub due_received : (old new : LinkValue) (r : Result Got LinkFault) (size : ℕ) (messages given : List (List ℕ)) (p : PacketValue) (k : Option ℕ) (a : ℕ) → IsLink old → IsDue old size messages given p k a → Received old p r new → Due old new r size messages given k a
-due_received old new r size messages given (segment s) (Some n) a link due rec = due_segment old size messages given s n a link due new r rec
-due_received old new r size messages given (segment s) None a link due rec = absurd due.2.carries
-due_received old new r size messages given (data_ack s) None a link due rec = due_ack old new r size messages given s a link due rec
-due_received old new r size messages given (data_ack s) (Some n) a link due rec = absurd due.2.carries
+pub due_received : (old new : LinkValue) (r : Result Got LinkFault) (size : ℕ) (messages given : List (List ℕ)) (p : Packet) (k : Option ℕ) (a : ℕ) → IsLink old → IsDue old size messages given p k a → Received old p r new → Due old new r size messages given k a
+due_received old new r size messages given (Segment s) (Some n) a link due rec = due_segment old size messages given s n a link due new r rec
+due_received old new r size messages given (Segment s) None a link due rec = absurd due.2.carries
+due_received old new r size messages given (DataAck s) None a link due rec = due_ack old new r size messages given s a link due rec
+due_received old new r size messages given (DataAck s) (Some n) a link due rec = absurd due.2.carries
 
 -- the same, in the words of the clause
 pub due_matched : (old new : LinkValue) (r : Result Got LinkFault) (size : ℕ) (messages given : List (List ℕ)) (k : Option ℕ) (a : ℕ) → Due old new r size messages given k a
@@ -162,12 +165,12 @@ due_matched old new (Ok got) size messages given k a d = d
 due_matched old new (Err e) size messages given k a d = d
 
 -- a packet that was read is not malformed
-pub received_read : (old new : LinkValue) (p : PacketValue) (r : Result Got LinkFault) (f : SegFault) → Received old p r new → r ≡ Err (Malformed f) → ⊥
+pub received_read : (old new : LinkValue) (p : Packet) (r : Result Got LinkFault) (f : SegFault) → Received old p r new → r ≡ Err (Malformed f) → ⊥
 received_read old new p (Ok got) f rec e = cc
 received_read old new p (Err g) f (inl out, _) e = cc
-received_read old new (segment s) (Err g) f (inr (_, inl out), _) e = cc
-received_read old new (segment s) (Err g) f (inr (_, inr (_, inl out)), _) e =
+received_read old new (Segment s) (Err g) f (inr (_, inl out), _) e = cc
+received_read old new (Segment s) (Err g) f (inr (_, inr (_, inl out)), _) e =
     let same : g ≡ Malformed f = (cc) in
     subst (λ (h : LinkFault). RefusesAll old.setup.max_message old.coming (run old (piece_of s)) h) same out.1
-received_read old new (segment s) (Err g) f (inr (_, inr (_, inr out)), _) e = cc
-received_read old new (data_ack s) (Err g) f (inr out, _) e = cc
+received_read old new (Segment s) (Err g) f (inr (_, inr (_, inr out)), _) e = cc
+received_read old new (DataAck s) (Err g) f (inr out, _) e = cc

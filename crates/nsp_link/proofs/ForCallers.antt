@@ -1,6 +1,7 @@
 -- What the crates above may cite of this one's proofs. No other file here is for them.
 use Rattle.std.proofs.Common.{◌≡◌, ℕ, ◌+◌, max, List, [], ◌++◌, length, drop, Option, ap, ◌∙◌, arith}
-use Rattle.nsp_seg.specs.Packets.{PacketValue, Spells}
+use Rattle.nsp_seg.specs.declared.packet.Packet.{Packet}
+use Rattle.nsp_seg.specs.Packets.{Spells}
 use Rattle.nsp_link.specs.declared.link.LinkSetup.{LinkSetup}
 use Rattle.nsp_link.specs.Cutting.{Piece, cut}
 use Rattle.nsp_link.specs.Holding.{following, closed_up}
@@ -13,10 +14,12 @@ use Rattle.nsp_link.specs.Sending.{queued_link}
 use Rattle.nsp_link.proofs.Growing as growing
 use Rattle.nsp_link.proofs.Numbers as by_number
 use Rattle.nsp_link.proofs.Written as written
+-- what an end may do, part by part
+pub use Rattle.nsp_link.proofs.Allowed.{may_send_by, may_send_parts, may_queue_by, may_queue_parts}
 
 -- what is written is a packet between these addresses that carries the k-th segment, or none, and a
 pub written_spells : (src dst : ℕ) (pieces : List Piece) (k : Option ℕ) (a : ℕ) (bytes : List ℕ) → IsWritten src dst pieces k a bytes
-    → (p : PacketValue) × Spells p bytes × IsBetween src dst p × Carries p pieces k a
+    → (p : Packet) × Spells p bytes × IsBetween src dst p × Carries p pieces k a
 written_spells = written.written_spells
 
 -- it is one list of bytes
@@ -28,7 +31,7 @@ pub writes_more : (v : LinkValue) (ms more : List (List ℕ)) (k : Option ℕ) (
 writes_more = growing.writes_more
 
 -- what a packet carries stays so when messages are sent behind
-pub carries_more : (p : PacketValue) (size : ℕ) (ms more : List (List ℕ)) (k : Option ℕ) (a : ℕ) → Carries p (cut size ms) k a → Carries p (cut size (ms ++ more)) k a
+pub carries_more : (p : Packet) (size : ℕ) (ms more : List (List ℕ)) (k : Option ℕ) (a : ℕ) → Carries p (cut size ms) k a → Carries p (cut size (ms ++ more)) k a
 carries_more = growing.carries_more
 
 -- what was taken stays the first of the messages when more are sent

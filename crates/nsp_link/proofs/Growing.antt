@@ -5,7 +5,8 @@ use Rattle.std.proofs.lemmas.Bool.{cases_lt}
 use Rattle.std.proofs.lemmas.Grind.{flat_map-append}
 use Rattle.std.proofs.lemmas.List.{length-append, take-append-le, get_or_append_left, take_all, drop-append-le}
 use Rattle.std.proofs.lemmas.Option.{slice_get_within, get_or_from_slice_get, slice_get-get_or}
-use Rattle.nsp_seg.specs.Packets.{PacketValue, segment, data_ack}
+use Rattle.nsp_seg.specs.declared.packet.Packet.{Packet}
+use Rattle.nsp_seg.specs.declared.packet.Packet.TheVariants.{Segment, DataAck}
 use Rattle.nsp_link.specs.Cutting.{Piece, cut, cut_message}
 use Rattle.std.specs.List.{AllByRecursion}
 use Rattle.nsp_link.specs.declared.link.LinkSetup.{LinkSetup}
@@ -24,14 +25,14 @@ kept_place xs ys i p at =
     let here = get_or_from_slice_get xs i p p at in
     slice_get-get_or (xs ++ ys) i p (omega arith) ∙ ap (λ (q : Piece). Some q) (get_or_append_left xs ys p i lt ∙ here)
 
-pub carries_more : (p : PacketValue) (size : ℕ) (ms more : List (List ℕ)) (k : Option ℕ) (a : ℕ) → Carries p (cut size ms) k a → Carries p (cut size (ms ++ more)) k a
-carries_more (segment s) size ms more (Some k) a c = (c.0, rw (cut-append size ms more) (kept_place (cut size ms) (cut size more) (k - 1) _ c.1), c.2, c.3)
-carries_more (segment s) size ms more None a c = c
-carries_more (data_ack s) size ms more None a c = c
-carries_more (data_ack s) size ms more (Some k) a c = c
+pub carries_more : (p : Packet) (size : ℕ) (ms more : List (List ℕ)) (k : Option ℕ) (a : ℕ) → Carries p (cut size ms) k a → Carries p (cut size (ms ++ more)) k a
+carries_more (Segment s) size ms more (Some k) a c = (c.0, rw (cut-append size ms more) (kept_place (cut size ms) (cut size more) (k - 1) _ c.1), c.2, c.3)
+carries_more (Segment s) size ms more None a c = c
+carries_more (DataAck s) size ms more None a c = c
+carries_more (DataAck s) size ms more (Some k) a c = c
 
 pub written_longer : (src dst : ℕ) (pieces more : List Piece) (k : Option ℕ) (a : ℕ) (bytes : List ℕ) → IsWritten src dst pieces k a bytes → IsWritten src dst (pieces ++ more) k a bytes
-written_longer src dst pieces more (Some k) a bytes (p, is, fits, e) = (p, (is.0, is.1, kept_place pieces more (k - 1) is.0 is.2, is.3), fits, e)
+written_longer src dst pieces more (Some k) a bytes (p, is, spells) = (p, (is.0, is.1, kept_place pieces more (k - 1) is.0 is.2, is.3), spells)
 written_longer src dst pieces more None a bytes w = w
 
 pub writes_more : (v : LinkValue) (ms more : List (List ℕ)) (k : Option ℕ) (a : ℕ) (bytes : List ℕ) → Writes v ms k a bytes → Writes v (ms ++ more) k a bytes

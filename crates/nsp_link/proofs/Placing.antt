@@ -6,7 +6,8 @@ use Rattle.nsp_link.specs.Inner.Pieces.{Segment}
 use Rattle.std.proofs.Common.{subst}
 use Rattle.nsp_seg.specs.Numbers.{residue}
 use Rattle.nsp_seg.specs.declared.packet.AckField.{AckField}
-use Rattle.nsp_seg.specs.Packets.{PacketValue, segment}
+use Rattle.nsp_seg.specs.declared.packet.Packet.{Packet}
+use Rattle.nsp_seg.specs.declared.packet.Packet.TheVariants as packet
 use Rattle.nsp_link.specs.Link.{LinkValue, IsSpelling, acknowledging}
 use Rattle.nsp_link.specs.Sending.{segment_packet}
 use Rattle.nsp_link.specs.Cutting.{Piece}
@@ -26,12 +27,12 @@ piece_read items place s p lt read at =
 -- the packet that the code makes is the definition's
 pub packet_is : (v : LinkValue) (s : Segment) (p : Piece) (ack : AckField) (dst src number k : ℕ) (payload : List ℕ)
     → piece s ≡ p → payload ≡ s.payload → ack ≡ acknowledging v.coming.received → number ≡ residue k → dst ≡ v.setup.remote → src ≡ v.setup.local
-    → segment (record { first = s.first; last = s.last; dst = dst; src = src; ack1 = Some ack; ack2 = None; number = number; payload = payload }) ≡ segment_packet v p k
+    → packet.Segment (record { first = s.first; last = s.last; dst = dst; src = src; ack1 = Some ack; ack2 = None; number = number; payload = payload }) ≡ segment_packet v p k
 packet_is v s p ack dst src number k payload same bytes acks numbers to from =
     rw (bytes, acks, numbers, to, from) (ap (λ (q : Piece). segment_packet v q k) same)
 
-pub spelling_same : (p q : PacketValue) (bytes : List ℕ) → p ≡ q → IsSpelling p bytes → IsSpelling q bytes
-spelling_same p q bytes e s = subst (λ (x : PacketValue). IsSpelling x bytes) e s
+pub spelling_same : (p q : Packet) (bytes : List ℕ) → p ≡ q → IsSpelling p bytes → IsSpelling q bytes
+spelling_same p q bytes e s = subst (λ (x : Packet). IsSpelling x bytes) e s
 
 pub if_err_and : {X E : Type 0} (r : Result X E) (P Q : E → Type 0) → IsErrAnd r P → ((e : E) → P e → Q e) → IfErr r Q
 if_err_and (Ok x) P Q h f = tt

@@ -8,7 +8,8 @@ use Rattle.nsp_link.specs.Link.{LinkValue, Sends, Writes, forgotten}
 use Rattle.std.proofs.Common.{Result, Ok, Err, inl, inr}
 use Rattle.std.proofs.lemmas.Bool.{cases_lt, lt-ltb, le-ltb}
 use Rattle.nsp_seg.specs.Numbers.{residue}
-use Rattle.nsp_seg.specs.Packets.{PacketValue, segment, data_ack}
+use Rattle.nsp_seg.specs.declared.packet.Packet.{Packet}
+use Rattle.nsp_seg.specs.declared.packet.Packet.TheVariants.{Segment, DataAck}
 use Rattle.nsp_link.specs.declared.fault.LinkFault.{LinkFault}
 use Rattle.nsp_link.specs.declared.link.Got.{Got}
 use Rattle.nsp_link.specs.Link.{IsLink, failed_link, first_ack, piece_of}
@@ -26,7 +27,7 @@ writes_segment v messages bytes place lt spelled sends =
     let same : get_or pieces (v.acked + place) d ≡ p = sym (get_or-drop v.acked pieces place d) ∙ ap (λ (q : List Piece). get_or q place d) (sym sends.queue) in
     let back : (v.acked + 1 + place) - 1 ≡ v.acked + place = omega arith in
     let there : slice_get pieces ((v.acked + 1 + place) - 1) ≡ Some p = rw back (slice_get-get_or pieces (v.acked + place) d long ∙ ap (λ (q : Piece). Some q) same) in
-    (segment_packet v p (v.acked + 1 + place), (p, omega arith, there, refl), (spelled p at).0, (spelled p at).1)
+    (segment_packet v p (v.acked + 1 + place), (p, omega arith, there, refl), spelled p at)
 
 -- what is acknowledged is forgotten
 pub sends_forgotten : (v : LinkValue) (messages : List (List ℕ)) (count : ℕ) → count ≤ length v.queue → Sends v messages → Sends (forgotten v count) messages
@@ -67,7 +68,7 @@ sends_stopped v e messages sends = elim (is_end e) as (λ b. Sends (cond b (fail
 ]
 
 -- whatever comes, the messages sent stay
-pub sends_received : (old new : LinkValue) (p : PacketValue) (r : Result Got LinkFault) (messages : List (List ℕ)) → IsLink old → Received old p r new → Sends old messages → Sends new messages
-sends_received old new (segment s) (Ok got) messages link (_, (_, _, acks)) sends = sends_acked old (taking_in old (segment_of old s.number) (piece_of s)) new (first_ack s.ack1 s.ack2) messages link refl refl refl acks sends
-sends_received old new (data_ack s) (Ok got) messages link (_, (_, acks)) sends = sends_acked old old new (first_ack (Some s.ack1) s.ack2) messages link refl refl refl acks sends
+pub sends_received : (old new : LinkValue) (p : Packet) (r : Result Got LinkFault) (messages : List (List ℕ)) → IsLink old → Received old p r new → Sends old messages → Sends new messages
+sends_received old new (Segment s) (Ok got) messages link (_, (_, _, acks)) sends = sends_acked old (taking_in old (segment_of old s.number) (piece_of s)) new (first_ack s.ack1 s.ack2) messages link refl refl refl acks sends
+sends_received old new (DataAck s) (Ok got) messages link (_, (_, acks)) sends = sends_acked old old new (first_ack (Some s.ack1) s.ack2) messages link refl refl refl acks sends
 sends_received old new p (Err e) messages link (_, left) sends = rw left (sends_stopped old e messages sends)

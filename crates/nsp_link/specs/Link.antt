@@ -6,7 +6,10 @@ use Rattle.std.specs.Ordering.{nat_cmp}
 use Rattle.std.specs.BTreeSet.{insert_key}
 use Rattle.nsp_seg.specs.Numbers.{residue}
 use Rattle.nsp_seg.specs.declared.packet.AckField.{AckField}
-use Rattle.nsp_seg.specs.Packets.{PacketValue, SegmentValue, segment, data_ack, FitsFields, spelling}
+use Rattle.nsp_seg.specs.declared.packet.Packet.{Packet}
+use Rattle.nsp_seg.specs.declared.packet.SegmentFields.{SegmentFields}
+use Rattle.nsp_seg.specs.Packets.{FitsFields, spelling}
+use Rattle.nsp_seg.specs.declared.packet.Packet.TheVariants.{Segment, DataAck}
 use Rattle.nsp_link.specs.declared.link.LinkSetup.{LinkSetup}
 use Rattle.nsp_link.specs.declared.link.Got.{Got}
 use Rattle.nsp_link.specs.declared.link.Got.TheVariants.{Accepted, Repeat, Early, AckOnly}
@@ -64,6 +67,10 @@ pub record IsLink (v : LinkValue) : Type 0 where
 abbrev pub failed_link : LinkValue → LinkValue
 failed_link v = record v { failed = true }
 
+-- every message is short enough for this end
+abbrev pub AreShort : LinkValue → List (List ℕ) → Type 0
+AreShort v messages = All (λ m. length m ≤ v.setup.max_message) messages
+
 -- ---- sending
 
 -- These are the messages sent: what is queued are their segments after those that are acknowledged.
@@ -80,8 +87,8 @@ abbrev pub SendsMore : LinkValue → LinkValue → List (List ℕ) → Type 0
 SendsMore old new more = (messages : List (List ℕ)) → Sends old messages → Sends new (messages ++ more)
 
 -- a segment waits, and the window has room
-abbrev pub MaySend : LinkValue → Type 0
-MaySend v = (v.sent < v.acked + length v.queue) × (v.sent < v.acked + v.setup.window)
+abbrev pub may_send : LinkValue → Bool
+may_send v = nat_lt v.sent (v.acked + length v.queue) && nat_lt v.sent (v.acked + v.setup.window)
 
 -- ---- packets on the way
 
@@ -93,20 +100,20 @@ plain_ack (Some a) = if a.qual == 0 then Some a.number else None
 abbrev pub first_ack : Option AckField → Option AckField → Option ℕ
 first_ack ack1 ack2 = option_or (plain_ack ack1) (plain_ack ack2)
 
-abbrev pub piece_of : SegmentValue → Piece
+abbrev pub piece_of : SegmentFields → Piece
 piece_of s = record { first = s.first; last = s.last; payload = s.payload }
 
 -- The packet is the k-th of these segments, numbered from 1, or only an acknowledgement, and
 -- acknowledges the first a segments of the other direction.
-abbrev pub Carries : PacketValue → List Piece → Option ℕ → ℕ → Type 0
-Carries (segment s) pieces (Some k) a =
+abbrev pub Carries : Packet → List Piece → Option ℕ → ℕ → Type 0
+Carries (Segment s) pieces (Some k) a =
     (1 ≤ k) × (slice_get pieces (k - 1) ≡ Some (piece_of s)) × (s.number ≡ residue k) × (first_ack s.ack1 s.ack2 ≡ Some (residue a))
-Carries (data_ack s) pieces None a = first_ack (Some s.ack1) s.ack2 ≡ Some (residue a)
+Carries (DataAck s) pieces None a = first_ack (Some s.ack1) s.ack2 ≡ Some (residue a)
 Carries _ pieces _ a = ⊥
 
-abbrev pub IsBetween : ℕ → ℕ → PacketValue → Type 0
-IsBetween src dst (segment s) = (s.src ≡ src) × (s.dst ≡ dst)
-IsBetween src dst (data_ack s) = (s.src ≡ src) × (s.dst ≡ dst)
+abbrev pub IsBetween : ℕ → ℕ → Packet → Type 0
+IsBetween src dst (Segment s) = (s.src ≡ src) × (s.dst ≡ dst)
+IsBetween src dst (DataAck s) = (s.src ≡ src) × (s.dst ≡ dst)
 
 -- ---- packets as an end writes them
 
@@ -115,8 +122,8 @@ abbrev pub acknowledging : ℕ → AckField
 acknowledging a = record { qual = 0; number = residue a }
 
 -- the k-th segment as it is written, from one address to the other
-abbrev pub written_segment : ℕ → ℕ → Piece → ℕ → ℕ → PacketValue
-written_segment src dst piece k a = segment (record {
+abbrev pub written_segment : ℕ → ℕ → Piece → ℕ → ℕ → Packet
+written_segment src dst piece k a = Segment (record {
   first = piece.first;
   last = piece.last;
   dst = dst;
@@ -128,24 +135,24 @@ written_segment src dst piece k a = segment (record {
 })
 
 -- what is written that only acknowledges
-abbrev pub written_ack : ℕ → ℕ → ℕ → PacketValue
-written_ack src dst a = data_ack (record { dst = dst; src = src; ack1 = acknowledging a; ack2 = None })
+abbrev pub written_ack : ℕ → ℕ → ℕ → Packet
+written_ack src dst a = DataAck (record { dst = dst; src = src; ack1 = acknowledging a; ack2 = None })
 
 -- The one packet that is written of the k-th of these segments, numbered from 1, or of none, and of an
 -- acknowledgement of the first a segments of the other direction.
-abbrev pub IsPacketOf : ℕ → ℕ → List Piece → Option ℕ → ℕ → PacketValue → Type 0
+abbrev pub IsPacketOf : ℕ → ℕ → List Piece → Option ℕ → ℕ → Packet → Type 0
 IsPacketOf src dst pieces (Some k) a p =
     (piece : Piece) × (1 ≤ k) × (slice_get pieces (k - 1) ≡ Some piece) × (p ≡ written_segment src dst piece k a)
 IsPacketOf src dst pieces None a p = p ≡ written_ack src dst a
 
 -- the bytes are a packet's as it is written, bit by bit
-abbrev pub IsSpelling : PacketValue → List ℕ → Type 0
+abbrev pub IsSpelling : Packet → List ℕ → Type 0
 IsSpelling p bytes = FitsFields p × (bytes ≡ spelling p)
 
 -- the bytes are that packet's: these values leave no other
 abbrev pub IsWritten : ℕ → ℕ → List Piece → Option ℕ → ℕ → List ℕ → Type 0
 IsWritten src dst pieces k a bytes =
-    (p : PacketValue) × IsPacketOf src dst pieces k a p × FitsFields p × (bytes ≡ spelling p)
+    (p : Packet) × IsPacketOf src dst pieces k a p × IsSpelling p bytes
 
 -- what this end writes of the k-th segment of the messages sent, or of none, and of the first a
 abbrev pub Writes : LinkValue → List (List ℕ) → Option ℕ → ℕ → List ℕ → Type 0
@@ -228,9 +235,9 @@ Delivered old new k a =
 -- A packet of a peer, which cuts these messages, none longer than this end takes, by this size: the k-th of their segments
 -- or none, with an acknowledgement of the first a of this end's. It isn't stale, and not further ahead than the numbers
 -- tell.
-pub record IsOfPeer (v : LinkValue) (size : ℕ) (messages : List (List ℕ)) (p : PacketValue) (k : Option ℕ) (a : ℕ) : Type 0 where
+pub record IsOfPeer (v : LinkValue) (size : ℕ) (messages : List (List ℕ)) (p : Packet) (k : Option ℕ) (a : ℕ) : Type 0 where
   pub positive : 0 < size
-  pub short : All (λ m. length m ≤ v.setup.max_message) messages
+  pub short : AreShort v messages
   pub way : IsBetween v.setup.remote v.setup.local p
   pub carries : Carries p (cut size messages) k a
   pub fresh : IsTimely v k a
@@ -238,7 +245,7 @@ pub record IsOfPeer (v : LinkValue) (size : ℕ) (messages : List (List ℕ)) (p
   pub believable : a ≤ v.sent
 
 -- The end hasn't failed and stands after some of the peer's messages, and the packet is of that peer.
-abbrev pub IsDue : LinkValue → (size : ℕ) → (messages given : List (List ℕ)) → PacketValue → Option ℕ → ℕ → Type 0
+abbrev pub IsDue : LinkValue → (size : ℕ) → (messages given : List (List ℕ)) → Packet → Option ℕ → ℕ → Type 0
 IsDue v size messages given p k a = (v.failed ≡ false) × Stands v size messages given × IsOfPeer v size messages p k a
 
 -- The refusals of a packet that is due: only one that is taken in or kept needs memory, and one with

@@ -4,7 +4,9 @@ use Rattle.nsp_seg.specs.Numbers.{residue}
 use Rattle.nsp_link.specs.declared.fault.LinkFault.{LinkFault}
 use Rattle.nsp_link.specs.declared.fault.LinkFault.TheVariants.{WrongLink, BadSequence, MessageTooLong, NoMemory, Failed, Malformed}
 use Rattle.nsp_seg.specs.declared.packet.SegFault.{SegFault}
-use Rattle.nsp_seg.specs.Packets.{PacketValue, segment, data_ack, Spells, HasFault}
+use Rattle.nsp_seg.specs.declared.packet.Packet.{Packet}
+use Rattle.nsp_seg.specs.Packets.{Spells, HasFault}
+use Rattle.nsp_seg.specs.declared.packet.Packet.TheVariants.{Segment, DataAck}
 use Rattle.nsp_link.specs.declared.link.Got.{Got}
 use Rattle.nsp_link.specs.declared.link.Got.TheVariants.{Accepted, AckOnly}
 use Rattle.nsp_link.specs.Cutting.{Piece}
@@ -56,22 +58,22 @@ abbrev pub NotTaken : LinkValue → ℕ → Piece → LinkFault → Type 0
 NotTaken v k p e = ((k ≡ v.coming.received + 1) × RefusesAll v.setup.max_message v.coming (run v p) e) ⊎ (Keeps v k × (e ≡ NoMemory))
 
 -- why a packet from the other end is refused: its acknowledgement comes before its segment
-abbrev pub Refuses : LinkValue → PacketValue → LinkFault → Type 0
-Refuses v (segment s) e =
+abbrev pub Refuses : LinkValue → Packet → LinkFault → Type 0
+Refuses v (Segment s) e =
     ((newly_acked v (first_ack s.ack1 s.ack2) ≡ None) × (e ≡ BadSequence))
     ⊎ ((newly_acked v (first_ack s.ack1 s.ack2) ≢ None) × NotTaken v (segment_of v s.number) (piece_of s) e)
-Refuses v (data_ack s) e = (newly_acked v (first_ack (Some s.ack1) s.ack2) ≡ None) × (e ≡ BadSequence)
+Refuses v (DataAck s) e = (newly_acked v (first_ack (Some s.ack1) s.ack2) ≡ None) × (e ≡ BadSequence)
 
 -- how a packet from the other end is answered, and what the end is afterwards
-abbrev pub Takes : LinkValue → PacketValue → Got → LinkValue → Type 0
-Takes old (segment s) got new =
+abbrev pub Takes : LinkValue → Packet → Got → LinkValue → Type 0
+Takes old (Segment s) got new =
     let k = segment_of old s.number in
     (got ≡ got_of old.coming.received (Some k)) × (got ≡ Accepted → AllFit old.setup.max_message old.coming (run old (piece_of s)))
     × Acknowledges old (first_ack s.ack1 s.ack2) (taking_in old k (piece_of s)) new
-Takes old (data_ack s) got new = (got ≡ AckOnly) × Acknowledges old (first_ack (Some s.ack1) s.ack2) old new
+Takes old (DataAck s) got new = (got ≡ AckOnly) × Acknowledges old (first_ack (Some s.ack1) s.ack2) old new
 
 -- What an end that hasn't failed does with any packet: what it answers, and what it is afterwards.
-abbrev pub Received : LinkValue → PacketValue → Result Got LinkFault → LinkValue → Type 0
+abbrev pub Received : LinkValue → Packet → Result Got LinkFault → LinkValue → Type 0
 Received old p (Ok got) new = IsBetween old.setup.remote old.setup.local p × Takes old p got new
 Received old p (Err e) new =
     let way = IsBetween old.setup.remote old.setup.local p in
@@ -83,14 +85,14 @@ Received old p (Err e) new =
 abbrev pub ReceivedBytes : (old new : LinkValue) → List ℕ → Result Got LinkFault → Type 0
 ReceivedBytes old new bytes result =
     ((f : SegFault) × (result ≡ Err (Malformed f)) × HasFault f bytes × (new ≡ old))
-    ⊎ ((p : PacketValue) × Spells p bytes × Received old p result new)
+    ⊎ ((p : Packet) × Spells p bytes × Received old p result new)
 
 -- A packet that is due from a peer that sends these NSP messages: what it is answered follows from the number of its
 -- segment, and the link takes just the messages whose last segment has come, each once and in order. Only memory, or the
 -- limit of 2^40 segments, refuses it, and then nothing has changed.
 abbrev pub ReceivedDue : (old new : LinkValue) → List ℕ → Result Got LinkFault → Type 0
 ReceivedDue old new bytes result =
-    (size : ℕ) (messages given : List (List ℕ)) (p : PacketValue) (k : Option ℕ) (a : ℕ)
+    (size : ℕ) (messages given : List (List ℕ)) (p : Packet) (k : Option ℕ) (a : ℕ)
     → Spells p bytes → IsDue old size messages given p k a
     → MatchResult result
     (λ got. (got ≡ got_of old.coming.received k) × Delivered old new k a × Stands new size messages given)

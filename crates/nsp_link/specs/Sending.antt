@@ -1,17 +1,18 @@
 -- What is queued and written.
-use Rattle.std.specs.Prelude.{◌≡◌, ◌⊎◌, ℕ, ◌+◌, ◌-◌, ◌<◌, ◌≤◌, ◌++◌, ◌≢◌, false, IsTrue, List, [], length, All, slice_index_or, slice_get, Option, Some}
-use Rattle.nsp_seg.specs.Packets.{PacketValue}
+use Rattle.std.specs.Prelude.{◌≡◌, ◌⊎◌, ℕ, ◌+◌, ◌-◌, ◌<◌, ◌++◌, ◌≢◌, Bool, false, not, ◌&&◌, nat_le, IsTrue, List, [], length, slice_index_or, slice_get, Option, Some}
+use Rattle.std.specs.List.{list_all}
+use Rattle.nsp_seg.specs.declared.packet.Packet.{Packet}
 use Rattle.nsp_link.specs.declared.fault.LinkFault.{LinkFault}
 use Rattle.nsp_link.specs.declared.fault.LinkFault.TheVariants.{MessageTooLong, Failed, Exhausted, NoMemory}
 use Rattle.nsp_link.specs.Cutting.{Piece, cut}
 use Rattle.nsp_link.specs.Limits.{most_segments}
-use Rattle.nsp_link.specs.Link.{LinkValue, MaySend, Sends, Writes, IsSpelling, written_segment, written_ack}
+use Rattle.nsp_link.specs.Link.{LinkValue, AreShort, may_send, Sends, Writes, IsSpelling, written_segment, written_ack}
 
 -- a segment under its number
-abbrev pub segment_packet : LinkValue → Piece → ℕ → PacketValue
+abbrev pub segment_packet : LinkValue → Piece → ℕ → Packet
 segment_packet v piece number = written_segment v.setup.local v.setup.remote piece number v.coming.received
 
-abbrev pub ack_packet_of : LinkValue → PacketValue
+abbrev pub ack_packet_of : LinkValue → Packet
 ack_packet_of v = written_ack v.setup.local v.setup.remote v.coming.received
 
 -- the bytes are the segment at this place of the queue, if one stands there, under this number
@@ -22,11 +23,11 @@ WritesQueued v place number bytes =
 -- The next segment was written: it counts as sent, and nothing else changed.
 abbrev pub WritesNext : LinkValue → LinkValue → List ℕ → Type 0
 WritesNext old new bytes =
-    MaySend old × (new ≡ record old { sent = old.sent + 1 }) × WritesQueued old (old.sent - old.acked) (old.sent + 1) bytes
+    IsTrue (may_send old) × (new ≡ record old { sent = old.sent + 1 }) × WritesQueued old (old.sent - old.acked) (old.sent + 1) bytes
 
 -- why the next segment isn't written
 abbrev pub NextFault : LinkValue → LinkFault → Type 0
-NextFault v e = ((e ≡ NoMemory) × MaySend v) ⊎ ((e ≡ Failed) × IsTrue v.failed)
+NextFault v e = ((e ≡ NoMemory) × IsTrue (may_send v)) ⊎ ((e ≡ Failed) × IsTrue v.failed)
 
 -- of whatever messages were sent, the bytes are what this end writes of their k-th segment, or of none
 abbrev pub WritesSent : LinkValue → Option ℕ → List ℕ → Type 0
@@ -36,13 +37,11 @@ WritesSent v k bytes = (messages : List (List ℕ)) → Sends v messages → Wri
 abbrev pub queued_link : LinkValue → List Piece → LinkValue
 queued_link v pieces = record v { queue = v.queue ++ pieces }
 
--- every message is short enough for this end
-abbrev pub AreShort : LinkValue → List (List ℕ) → Type 0
-AreShort v messages = All (λ m. length m ≤ v.setup.max_message) messages
-
-abbrev pub MayQueueAll : LinkValue → List (List ℕ) → Type 0
-MayQueueAll v messages =
-    (v.failed ≡ false) × AreShort v messages × (v.acked + length v.queue + length (cut v.setup.seg_size messages) ≤ most_segments)
+-- memory aside, the end takes these messages: it runs, each is short enough, and their segments are few enough
+abbrev pub may_queue : LinkValue → List (List ℕ) → Bool
+may_queue v messages =
+    not v.failed && (list_all (λ m. nat_le (length m) v.setup.max_message) messages
+    && nat_le (v.acked + length v.queue + length (cut v.setup.seg_size messages)) most_segments)
 
 -- why messages are not sent, none of them, in the order of the tests
 abbrev pub SendAllFault : LinkValue → List (List ℕ) → LinkFault → Type 0
@@ -51,5 +50,5 @@ SendAllFault v messages MessageTooLong =
     (v.failed ≡ false) × ((k : ℕ) × (k < length messages) × (v.setup.max_message < length (slice_index_or messages k [])))
 SendAllFault v messages Exhausted =
     (v.failed ≡ false) × AreShort v messages × (most_segments < v.acked + length v.queue + length (cut v.setup.seg_size messages))
-SendAllFault v messages NoMemory = MayQueueAll v messages × (messages ≢ [])
+SendAllFault v messages NoMemory = IsTrue (may_queue v messages) × (messages ≢ [])
 SendAllFault v messages _ = ⊥

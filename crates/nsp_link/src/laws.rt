@@ -5,7 +5,7 @@ ghost use Rattle.std.specs.Ordering.{nat_cmp};
 ghost use Rattle.std.specs.Map.{keys_of};
 ghost use Rattle.std.specs.BTreeSet.{insert_key};
 ghost use Rattle.nsp_seg.specs.Numbers.{residue};
-ghost use Rattle.nsp_seg.specs.Packets.{PacketValue};
+ghost use Rattle.nsp_seg.specs.declared.packet.Packet.{Packet};
 ghost use Rattle.nsp_link.specs.declared.link.LinkSetup.{LinkSetup};
 ghost use Rattle.nsp_link.specs.Cutting.{Piece, cut};
 ghost use Rattle.nsp_link.specs.Holding.{following, closed_up};
@@ -16,7 +16,7 @@ ghost use Rattle.nsp_link.specs.Separation.{IsSegmentNear, IsAckNear};
 
 /// What is said of the messages sent stays true when more are sent, and holds of a new end (own).
 pub fn messages_only_grow()
-    ensures carries { (p : PacketValue) (size : ℕ) (messages more : List (List ℕ))
+    ensures carries { (p : Packet) (size : ℕ) (messages more : List (List ℕ))
         (k : Option ℕ) (a : ℕ)
         → Carries p (cut size messages) k a → Carries p (cut size (messages ++ more)) k a }
     ensures writes { (v : LinkValue) (messages more : List (List ℕ)) (k : Option ℕ) (a : ℕ)

@@ -2,7 +2,8 @@
 
 ghost use Rattle.std.specs.Prelude.{◌≡◌, ◌+◌, ◌<◌, ◌≤◌, ◌++◌, [], ◌∷◌, length, drop, Ok, Err, Some, None, IfOk, IfErr, OnOk, OnErr, IsTrue, MatchOption, MatchResult, ℕ, List, false};
 ghost use Rattle.nsp_seg.specs.declared.packet.SegFault.{SegFault};
-ghost use Rattle.nsp_seg.specs.Packets.{Spells, view, PacketValue, HasFault};
+ghost use Rattle.nsp_seg.specs.declared.packet.Packet.{Packet};
+ghost use Rattle.nsp_seg.specs.Packets.{Spells, HasFault};
 ghost use Rattle.nsp_link.specs.declared.fault.LinkFault.TheVariants.{BadSequence, Failed, NoMemory, WrongLink, Malformed};
 ghost use Rattle.nsp_link.specs.declared.link.Got.TheVariants.{Accepted};
 ghost use Rattle.nsp_link.specs.Coming.{AllFit, RefusesAll};
@@ -51,7 +52,7 @@ impl LinkEnd {
     pub fn receive(&mut self, packet: &[u8]) -> Result<Got, LinkFault>
         ensures failed { IsTrue self.old.failed → (result ≡ Err Failed) × (self.new ≡ self.old) }
         // Any packet, by the numbers that it shows.
-        ensures any { self.old.failed ≡ false → (p : PacketValue) → Spells p packet.now
+        ensures any { self.old.failed ≡ false → (p : Packet) → Spells p packet.now
             → Received self.old p result self.new }
         // All bytes: they are malformed, which changes nothing, or they are a packet.
         ensures whole { self.old.failed ≡ false
@@ -77,7 +78,7 @@ impl LinkEnd {
 
     /// Takes in a packet that was read. A fault which shows that the two ends have lost each other ends the link.
     fn receive_packet(&mut self, packet: &Packet<'_>) -> Result<Got, LinkFault>
-        ensures { Received self.old (view packet.now) result self.new }
+        ensures { Received self.old packet.now result self.new }
     {
         let result = self.take_packet(packet);
         if let Err(fault) = result
@@ -90,41 +91,27 @@ impl LinkEnd {
 
     /// Takes in a packet that was read; where it is refused, nothing changes.
     fn take_packet(&mut self, packet: &Packet<'_>) -> Result<Got, LinkFault>
-        ensures ok { IfOk result (λ got. Received self.old (view packet.now) (Ok got) self.new) }
+        ensures ok { IfOk result (λ got. Received self.old packet.now (Ok got) self.new) }
         ensures err { IfErr result
-            (λ e. Received self.old (view packet.now) (Err e) (stopped e self.old)) }
+            (λ e. Received self.old packet.now (Err e) (stopped e self.old)) }
         ensures unchanged { OnErr result (self.new ≡ self.old) }
     {
-        match *packet {
-            Packet::DataAck {
-                dst,
-                src,
-                ack1,
-                ack2,
-            } => {
-                self.check_address(dst, src)?;
-                let count = self.believe(Some(ack1), ack2)?;
+        match packet {
+            Packet::DataAck(ack) => {
+                self.check_address(ack.dst, ack.src)?;
+                let count = self.believe(Some(ack.ack1), ack.ack2)?;
                 self.forget(count);
                 Ok(Got::AckOnly)
             }
-            Packet::Segment {
-                first,
-                last,
-                dst,
-                src,
-                ack1,
-                ack2,
-                number,
-                payload,
-            } => {
-                self.check_address(dst, src)?;
-                let count = self.believe(ack1, ack2)?;
+            Packet::Segment(segment) => {
+                self.check_address(segment.dst, segment.src)?;
+                let count = self.believe(segment.ack1, segment.ack2)?;
                 let piece = Piece {
-                    first,
-                    last,
-                    payload,
+                    first: segment.first,
+                    last: segment.last,
+                    payload: segment.payload.0,
                 };
-                let got = self.take_segment(number, &piece)?;
+                let got = self.take_segment(segment.number, &piece)?;
                 self.forget(count);
                 Ok(got)
             }

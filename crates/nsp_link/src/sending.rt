@@ -1,18 +1,18 @@
 //! Sending: messages queued as segments, and the packets that an end writes.
 
 ghost use Rattle.std.specs.Prelude.{◌≡◌, ◌≢◌, ◌+◌, ◌-◌, ◌<◌, ◌≤◌, [], ◌∷◌, length, map, Ok, Some, None, IfOk, IfErr, IfSome, OnOk, IsOk, IsTrue, IsErrOf, ℕ, List, false, true};
-ghost use Rattle.nsp_seg.specs.Packets.{IsWritable, view};
+ghost use Rattle.nsp_seg.specs.Packets.{IsWritable};
 ghost use Rattle.nsp_link.specs.declared.fault.LinkFault.TheVariants.{Failed, NoMemory, NoSuchSegment};
 ghost use Rattle.nsp_link.specs.Cutting.{cut, cut_message};
 ghost use Rattle.nsp_link.specs.Limits.{most_segments};
-ghost use Rattle.nsp_link.specs.Link.{SendsStill, SendsMore, StandsStill, MaySend, Writes, IsSpelling, acknowledging};
-ghost use Rattle.nsp_link.specs.Sending.{WritesQueued, WritesSent, WritesNext, NextFault, ack_packet_of, queued_link, SendAllFault, MayQueueAll};
+ghost use Rattle.nsp_link.specs.Link.{SendsStill, SendsMore, StandsStill, may_send, Writes, IsSpelling, acknowledging};
+ghost use Rattle.nsp_link.specs.Sending.{WritesQueued, WritesSent, WritesNext, NextFault, ack_packet_of, queued_link, SendAllFault, may_queue};
 
 use crate::cutting::{check_all, queue_all, queue_message, segment_count};
 use crate::fault::LinkFault;
 use crate::incoming::MOST_SEGMENTS;
 use crate::link::LinkEnd;
-use nsp_seg::{AckField, Packet, Seq12, encode_packet};
+use nsp_seg::{AckField, AckFields, Packet, Payload, SegmentFields, Seq12, encode_packet};
 
 impl LinkEnd {
     /// Queues the segments of a message: one for each `seg_size` bytes or part of that, and one of no bytes
@@ -23,7 +23,7 @@ impl LinkEnd {
     pub fn send(&mut self, message: &[u8]) -> Result<(), LinkFault>
         ensures ok { OnOk result
             (self.new ≡ queued_link self.old (cut_message self.old.setup.seg_size message.now)) }
-        ensures fits { OnOk result (MayQueueAll self.old (message.now ∷ [])) }
+        ensures fits { OnOk result (IsTrue (may_queue self.old (message.now ∷ []))) }
         ensures stands { StandsStill self.old self.new }
         ensures sends { OnOk result (SendsMore self.old self.new (message.now ∷ [])) }
         ensures err { IfErr result
@@ -56,7 +56,7 @@ impl LinkEnd {
     pub fn send_all(&mut self, messages: &[Vec<u8>]) -> Result<(), LinkFault>
         ensures ok { OnOk result (self.new
             ≡ queued_link self.old (cut self.old.setup.seg_size (map (λ v. v.items) messages.now))) }
-        ensures fits { OnOk result (MayQueueAll self.old (map (λ v. v.items) messages.now)) }
+        ensures fits { OnOk result (IsTrue (may_queue self.old (map (λ v. v.items) messages.now))) }
         ensures stands { StandsStill self.old self.new }
         ensures sends { OnOk result
             (SendsMore self.old self.new (map (λ v. v.items) messages.now)) }
@@ -72,7 +72,7 @@ impl LinkEnd {
     /// The same of messages that `check_messages` lets through: they aren't looked at again. Refused for want of memory
     /// alone, with nothing changed (own).
     pub fn send_checked(&mut self, messages: &[Vec<u8>]) -> Result<(), LinkFault>
-        requires { MayQueueAll self.old (map (λ v. v.items) messages.now) }
+        requires { IsTrue (may_queue self.old (map (λ v. v.items) messages.now)) }
         ensures ok { OnOk result (self.new
             ≡ queued_link self.old (cut self.old.setup.seg_size (map (λ v. v.items) messages.now))) }
         ensures stands { StandsStill self.old self.new }
@@ -92,8 +92,9 @@ impl LinkEnd {
     }
 
     /// Whether `send_all` would take the messages, memory aside; refused as there (own). It takes no memory.
+    #[tactic(auto, using(crate::proofs::Allowed::queueing))]
     pub fn check_messages(&self, messages: &[Vec<u8>]) -> Result<(), LinkFault>
-        ensures ok { OnOk result (MayQueueAll self.now (map (λ v. v.items) messages.now)) }
+        ensures ok { OnOk result (IsTrue (may_queue self.now (map (λ v. v.items) messages.now))) }
         ensures empty { self.now.failed ≡ false → messages.now ≡ [] → IsOk result }
         ensures err { IfErr result
             (λ e. (e ≢ NoMemory) × SendAllFault self.now (map (λ v. v.items) messages.now) e) }
@@ -115,8 +116,7 @@ impl LinkEnd {
     /// Whether a segment that was never sent waits and the window has room, so that `next_packet` writes one,
     /// unless the end has failed (own). It takes no memory.
     pub fn may_send(&self) -> bool
-        ensures yes { result ≡ true → MaySend self.now }
-        ensures no { result ≡ false → MaySend self.now → ⊥ }
+        ensures { result ≡ may_send self.now }
     {
         let place = self.unacked();
         place < self.queue.len() && place < self.setup.window
@@ -132,7 +132,7 @@ impl LinkEnd {
         ensures err { IfErr result (λ e. e ≡ NoMemory) }
     {
         let segment = &self.queue[place];
-        let packet = Packet::Segment {
+        let packet = Packet::Segment(SegmentFields {
             first: segment.first,
             last: segment.last,
             dst: self.setup.remote,
@@ -140,8 +140,8 @@ impl LinkEnd {
             ack1: Some(self.acknowledgement()),
             ack2: None,
             number: Seq12::of(self.acked + 1 + place as u64),
-            payload: &segment.payload,
-        };
+            payload: Payload(&segment.payload),
+        });
         self.written(&packet)
     }
 
@@ -157,8 +157,8 @@ impl LinkEnd {
 
     /// The packet as it is spelled.
     fn written(&self, packet: &Packet<'_>) -> Result<Vec<u8>, LinkFault>
-        requires { IsWritable (view packet.now) }
-        ensures ok { IfOk result (λ v. IsSpelling (view packet.now) v.items) }
+        requires { IsWritable packet.now }
+        ensures ok { IfOk result (λ v. IsSpelling packet.now v.items) }
         ensures err { IfErr result (λ e. e ≡ NoMemory) }
     {
         let mut out = Vec::new(self.alloc);
@@ -170,7 +170,7 @@ impl LinkEnd {
     /// (NSP 4.0.0, data segment message). It acknowledges all segments that were taken. Refused, with nothing
     /// changed: `Failed`; `NoMemory`, where there is one to send.
     pub fn next_packet(&mut self) -> Result<Option<Vec<u8>>, LinkFault>
-        ensures nothing { result ≡ Ok None → (self.new ≡ self.old) × (MaySend self.old → ⊥) }
+        ensures nothing { result ≡ Ok None → (self.new ≡ self.old) × (may_send self.old ≡ false) }
         ensures segment { IfOk result (λ o. IfSome o
             (λ v. WritesNext self.old self.new v.items)) }
         ensures carries { IfOk result (λ o. IfSome o
@@ -194,7 +194,7 @@ impl LinkEnd {
     /// at again. Refused for want of memory alone, with nothing changed (own).
     pub fn write_next(&mut self) -> Result<Vec<u8>, LinkFault>
         requires works { self.old.failed ≡ false }
-        requires may { MaySend self.old }
+        requires may { IsTrue (may_send self.old) }
         ensures segment { IfOk result (λ v. WritesNext self.old self.new v.items) }
         ensures carries { IfOk result
             (λ v. WritesSent self.old (Some (self.old.sent + 1)) v.items) }
@@ -242,12 +242,12 @@ impl LinkEnd {
         if self.failed {
             return Err(LinkFault::Failed);
         }
-        let packet = Packet::DataAck {
+        let packet = Packet::DataAck(AckFields {
             dst: self.setup.remote,
             src: self.setup.local,
             ack1: self.acknowledgement(),
             ack2: None,
-        };
+        });
         self.written(&packet)
     }
 }

@@ -3,7 +3,7 @@ use Rattle.std.proofs.Common.{◌≡◌, ℕ, ◌<◌, ◌≤◌, List, [], ◌�
 use Rattle.std.proofs.lemmas.Bool.{lt-ltb, le-ltb, ne_eqb, cases_Bool}
 use Rattle.nsp_seg.specs.declared.packet.SegFault.{SegFault}
 use Rattle.nsp_seg.specs.declared.packet.SegFault.TheVariants.{Truncated, Trailing, NotHere, BadNumber, NoMemory}
-use Rattle.nsp_seg.specs.Packets.{PacketValue, HasFault, IsUsedFlag, IsSegmentFlag, IsAckFlag, IsFieldDue, IsShort, MayNotFollow, MayNotBeNumber}
+use Rattle.nsp_seg.specs.Packets.{Packet, HasFault, IsUsedFlag, IsSegmentFlag, IsAckFlag, IsFieldDue, IsShort, MayNotFollow, MayNotBeNumber}
 use Rattle.nsp_seg.specs.Inner.Reading.{tail_of, segment_of, second_of, data_ack_of, read, Gives}
 use Rattle.nsp_seg.proofs.Faults.{IsBytes, high_word, low_word, is_segment, used_of}
 
@@ -138,6 +138,5 @@ read-fault (BadNumber at) bytes fits h =
 read-fault NoMemory bytes fits h = absurd h
 
 -- a result that gives what is read of bytes at fault
-pub given-faulty : {X : Type 0} (v : X → PacketValue) (r : Result X SegFault) (f : SegFault) (bytes : List ℕ) → IsBytes bytes → Gives v r (read bytes) → HasFault f bytes → r ≡ Err f
-given-faulty v (Ok x) f bytes fits g h = let e = read-fault f bytes fits h in absurd cc
-given-faulty v (Err e) f bytes fits g h = let same = read-fault f bytes fits h in cc
+pub given-faulty : (r : Result Packet SegFault) (f : SegFault) (bytes : List ℕ) → IsBytes bytes → r ≡ read bytes → HasFault f bytes → r ≡ Err f
+given-faulty r f bytes fits g h = g ∙ read-fault f bytes fits h

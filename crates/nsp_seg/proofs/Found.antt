@@ -1,12 +1,12 @@
 -- What is read is spelled so.
-use Rattle.std.proofs.Common.{◌≡◌, ℕ, suc, ◌+◌, ◌*◌, ◌/◌, ◌%◌, ◌<◌, ◌≤◌, List, [], ◌∷◌, ◌++◌, Option, Some, None, Result, Ok, Err, refl, ap, arith, inl, inr, ◌==◌, ◌||◌}
+use Rattle.std.proofs.Common.{sym, ◌≡◌, ℕ, suc, ◌+◌, ◌*◌, ◌/◌, ◌%◌, ◌<◌, ◌≤◌, List, [], ◌∷◌, ◌++◌, Option, Some, None, Result, Ok, Err, refl, ap, arith, inl, inr, ◌==◌, ◌||◌}
 use Rattle.std.specs.Prelude.{IfSome, IfOk}
 use Rattle.byteorder.specs.Endian.{little_bytes}
 use Rattle.std.proofs.lemmas.Bool.{cases_lt, cases_eq, cases_Bool, lt-ltb, le-ltb, eq-eqb, ne_eqb}
 use Rattle.nsp_seg.specs.declared.packet.AckField.{AckField}
 use Rattle.nsp_seg.specs.declared.packet.SegFault.{SegFault}
 use Rattle.nsp_seg.specs.Numbers.{residue}
-use Rattle.nsp_seg.specs.Packets.{PacketValue, Spells, AckFits, Beside, optional_ack, marks, IsSegmentFlag}
+use Rattle.nsp_seg.specs.Packets.{Packet, Spells, AckFits, Beside, optional_ack, marks, IsSegmentFlag}
 use Rattle.nsp_seg.specs.Inner.Reading.{◌>>=◌, tail_of, segment_of, second_of, data_ack_of, read, Gives}
 use Rattle.nsp_seg.proofs.Faults.{IsBytes, high_word, low_word, is_segment, used_of}
 
@@ -113,7 +113,7 @@ residue-small : (n : ℕ) → residue n < 4096
 unfolding residue
 residue-small n = omega arith
 
-segment_found : (flag : ℕ) (bytes : List ℕ) (p : PacketValue) → IsSegmentFlag flag → IsBytes bytes → segment_of flag bytes ≡ Ok p → Spells p (flag ∷ bytes)
+segment_found : (flag : ℕ) (bytes : List ℕ) (p : Packet) → IsSegmentFlag flag → IsBytes bytes → segment_of flag bytes ≡ Ok p → Spells p (flag ∷ bytes)
 unfolding segment_of
 segment_found flag [] p used fits e = absurd cc
 segment_found flag (x ∷ []) p used fits e = absurd cc
@@ -148,7 +148,7 @@ second_ack_found (b0 ∷ b1 ∷ x ∷ rest) b fits e =
       | inr le ↦ let g = rw (le-ltb b1 128 le) at e in absurd cc
     ]
 
-ack_found : (bytes : List ℕ) (p : PacketValue) → IsBytes bytes → data_ack_of bytes ≡ Ok p → Spells p (0x04 ∷ bytes)
+ack_found : (bytes : List ℕ) (p : Packet) → IsBytes bytes → data_ack_of bytes ≡ Ok p → Spells p (0x04 ∷ bytes)
 unfolding data_ack_of
 ack_found [] p fits e = absurd cc
 ack_found (x ∷ []) p fits e = absurd cc
@@ -171,7 +171,7 @@ ack_found (d0 ∷ d1 ∷ s0 ∷ s1 ∷ a0 ∷ a1 ∷ rest) p fits e =
           })
     ]
 
-pub read_found : (bytes : List ℕ) (p : PacketValue) → IsBytes bytes → read bytes ≡ Ok p → Spells p bytes
+pub read_found : (bytes : List ℕ) (p : Packet) → IsBytes bytes → read bytes ≡ Ok p → Spells p bytes
 unfolding read
 read_found [] p fits e = absurd cc
 read_found (flag ∷ rest) p fits e =
@@ -183,6 +183,6 @@ read_found (flag ∷ rest) p fits e =
       ]
     ]
 
-pub given-found : {X : Type 0} (v : X → PacketValue) (r : Result X SegFault) (bytes : List ℕ) → IsBytes bytes → Gives v r (read bytes) → IfOk r (λ x. Spells (v x) bytes)
-given-found v (Ok x) bytes fits g = read_found bytes (v x) fits g
-given-found v (Err f) bytes fits g = tt
+pub given-found : (r : Result Packet SegFault) (bytes : List ℕ) → IsBytes bytes → r ≡ read bytes → IfOk r (λ p. Spells p bytes)
+given-found (Ok p) bytes fits g = read_found bytes p fits (sym g)
+given-found (Err f) bytes fits g = tt

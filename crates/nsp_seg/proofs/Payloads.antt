@@ -5,10 +5,12 @@ use Rattle.byteorder.specs.Endian.{little_bytes}
 use Rattle.nsp_seg.specs.declared.packet.AckField.{AckField}
 use Rattle.nsp_seg.specs.declared.packet.SegFault.{SegFault}
 use Rattle.nsp_seg.specs.declared.packet.SegFault.TheVariants.{Truncated, Trailing, NotHere, BadNumber, NoMemory}
-use Rattle.nsp_seg.specs.Packets.{SegmentValue, AckValue, segment, data_ack, marks, optional_ack, Spells, HasFault, IsFieldDue, IsShort, MayNotFollow, MayNotBeNumber}
+use Rattle.nsp_seg.specs.declared.packet.AckFields.{AckFields}
+use Rattle.nsp_seg.specs.declared.packet.Packet.TheVariants.{Segment, DataAck}
+use Rattle.nsp_seg.specs.Packets.{SegmentFields, marks, optional_ack, Spells, HasFault, IsFieldDue, IsShort, MayNotFollow, MayNotBeNumber}
 
 -- the segment with another payload
-abbrev pub carrying : SegmentValue → List ℕ → SegmentValue
+abbrev pub carrying : SegmentFields → List ℕ → SegmentFields
 carrying s payload = record {
   first = s.first;
   last = s.last;
@@ -21,16 +23,16 @@ carrying s payload = record {
 }
 
 -- what stands in front of the payload
-abbrev head_with : ℕ → SegmentValue → List ℕ
+abbrev head_with : ℕ → SegmentFields → List ℕ
 head_with free s =
     marks s.first s.last ∷ [] ++ little_bytes 2 s.dst ++ little_bytes 2 s.src ++ optional_ack s.ack1 ++ optional_ack s.ack2
     ++ little_bytes 2 (0x1000 * free + s.number)
 
 -- A payload is the last of its segment. Bytes that begin as the segment does up to the payload are that segment, with
 -- the payload that stands there.
-pub other_payload : (s : SegmentValue) (one : List ℕ) → Spells (segment s) one
+pub other_payload : (s : SegmentFields) (one : List ℕ) → Spells (Segment s) one
     → (start : ℕ) × (start + length s.payload ≡ length one)
-    × ((two : List ℕ) → take start two ≡ take start one → Spells (segment (carrying s (drop start two))) two)
+    × ((two : List ℕ) → take start two ≡ take start one → Spells (Segment (carrying s (drop start two))) two)
 other_payload s one h =
     let head : List ℕ = head_with h.free s in
     let start : ℕ = length head in
@@ -52,7 +54,7 @@ ack_few None = omega arith
 ack_few (Some a) = omega arith
 
 -- at most 11 bytes stand in front of a payload
-pub head_few : (s : SegmentValue) (one : List ℕ) → Spells (segment s) one → length one ≤ 11 + length s.payload
+pub head_few : (s : SegmentFields) (one : List ℕ) → Spells (Segment s) one → length one ≤ 11 + length s.payload
 head_few s one h =
     let one : List ℕ = optional_ack s.ack1 in
     let two : List ℕ = optional_ack s.ack2 in
@@ -72,7 +74,7 @@ same_short (suc n) (x ∷ one) (y ∷ two) short same =
     cc
 
 -- an acknowledgement ends there
-pub other_ack : (a : AckValue) (one two : List ℕ) → Spells (data_ack a) one → take 11 two ≡ take 11 one → Spells (data_ack a) two
+pub other_ack : (a : AckFields) (one two : List ℕ) → Spells (DataAck a) one → take 11 two ≡ take 11 one → Spells (DataAck a) two
 other_ack a one two h same = rw (same_short 11 one two (omega (arith, ap length h.spelled, ack_few a.ack2)) same) h
 
 -- ---- Faults.

@@ -3,38 +3,11 @@ use Rattle.std.specs.Prelude.{◌≡◌, ℕ, ◌+◌, ◌*◌, ◌<◌, ◌≤�
 use Rattle.std.specs.Option.{option_map_or}
 use Rattle.byteorder.specs.Endian.{little_bytes}
 use Rattle.nsp_seg.specs.declared.packet.AckField.{AckField}
-use Rattle.nsp_seg.specs.declared.packet.Packet.{Packet}
-use Rattle.nsp_seg.specs.declared.packet.Packet.TheVariants as packet
+pub use Rattle.nsp_seg.specs.declared.packet.SegmentFields.{SegmentFields}
+pub use Rattle.nsp_seg.specs.declared.packet.Packet.{Packet}
+use Rattle.nsp_seg.specs.declared.packet.Packet.TheVariants.{Segment, DataAck}
 use Rattle.nsp_seg.specs.declared.packet.SegFault.{SegFault}
 use Rattle.nsp_seg.specs.declared.packet.SegFault.TheVariants.{Truncated, Trailing, NotHere, BadNumber, NoMemory}
-
--- what a data segment says
-pub record SegmentValue : Type 0 where
-  pub first : Bool
-  pub last : Bool
-  pub dst : ℕ
-  pub src : ℕ
-  pub ack1 : Option AckField
-  pub ack2 : Option AckField
-  pub number : ℕ
-  pub payload : List ℕ
-
--- what a data acknowledgement says
-pub record AckValue : Type 0 where
-  pub dst : ℕ
-  pub src : ℕ
-  pub ack1 : AckField
-  pub ack2 : Option AckField
-
--- a packet, wherever its payload lies
-pub data PacketValue : Type 0 where
-  segment : SegmentValue → PacketValue
-  data_ack : AckValue → PacketValue
-
-abbrev pub view : Packet → PacketValue
-view (packet.Segment first last dst src ack1 ack2 number payload) =
-    segment (record { first = first; last = last; dst = dst; src = src; ack1 = ack1; ack2 = ack2; number = number; payload = payload.now })
-view (packet.DataAck dst src ack1 ack2) = data_ack (record { dst = dst; src = src; ack1 = ack1; ack2 = ack2 })
 
 -- ---- spelling
 
@@ -50,15 +23,15 @@ abbrev pub optional_ack : Option AckField → List ℕ
 optional_ack a = option_map_or ack_bytes a []
 
 -- The bytes of a packet. Bits 12 to 14 of a segment's number are free, and bit 15 is clear.
-abbrev pub spelling_with : ℕ → PacketValue → List ℕ
-spelling_with free (segment p) =
+abbrev pub spelling_with : ℕ → Packet → List ℕ
+spelling_with free (Segment p) =
     marks p.first p.last ∷ [] ++ little_bytes 2 p.dst ++ little_bytes 2 p.src ++ optional_ack p.ack1 ++ optional_ack p.ack2
     ++ little_bytes 2 (0x1000 * free + p.number) ++ p.payload
-spelling_with free (data_ack p) =
+spelling_with free (DataAck p) =
     0x04 ∷ [] ++ little_bytes 2 p.dst ++ little_bytes 2 p.src ++ ack_bytes p.ack1 ++ optional_ack p.ack2
 
 -- what is written
-abbrev pub spelling : PacketValue → List ℕ
+abbrev pub spelling : Packet → List ℕ
 spelling p = spelling_with 0 p
 
 abbrev pub AckFits : AckField → Type 0
@@ -71,21 +44,21 @@ Beside None (Some b) = ⊥
 Beside (Some a) second = Unit {0}
 
 -- each value fits its field
-abbrev pub FitsFields : PacketValue → Type 0
-FitsFields (segment p) =
+abbrev pub FitsFields : Packet → Type 0
+FitsFields (Segment p) =
     (p.dst < 2 ^ 16) × (p.src < 2 ^ 16) × IfSome p.ack1 AckFits × IfSome p.ack2 AckFits × Beside p.ack1 p.ack2 × (p.number < 4096)
-FitsFields (data_ack p) = (p.dst < 2 ^ 16) × (p.src < 2 ^ 16) × AckFits p.ack1 × IfSome p.ack2 AckFits
+FitsFields (DataAck p) = (p.dst < 2 ^ 16) × (p.src < 2 ^ 16) × AckFits p.ack1 × IfSome p.ack2 AckFits
 
 -- What a caller has to see to before a packet is written: the other values fit by their types.
 abbrev pub QualFits : AckField → Type 0
 QualFits a = a.qual < 8
 
-abbrev pub IsWritable : PacketValue → Type 0
-IsWritable (segment p) = IfSome p.ack1 QualFits × IfSome p.ack2 QualFits × Beside p.ack1 p.ack2
-IsWritable (data_ack p) = QualFits p.ack1 × IfSome p.ack2 QualFits
+abbrev pub IsWritable : Packet → Type 0
+IsWritable (Segment p) = IfSome p.ack1 QualFits × IfSome p.ack2 QualFits × Beside p.ack1 p.ack2
+IsWritable (DataAck p) = QualFits p.ack1 × IfSome p.ack2 QualFits
 
 -- The bytes, all of them, are this packet's: its fields, joined.
-pub record Spells (p : PacketValue) (bytes : List ℕ) : Type 0 where
+pub record Spells (p : Packet) (bytes : List ℕ) : Type 0 where
   pub fits : FitsFields p
   pub free : ℕ
   pub few : free < 8

@@ -1,12 +1,12 @@
 //! Bytes to packets.
 
-ghost use Rattle.std.specs.Prelude.{◌≡◌, Err, IsOkAnd, IfOk, IfErr};
-ghost use Rattle.nsp_seg.specs.Packets.{PacketValue, Spells, HasFault, view};
+ghost use Rattle.std.specs.Prelude.{◌≡◌, Ok, Err, IfOk, IfErr};
+ghost use Rattle.nsp_seg.specs.Packets.{Packet, Spells, HasFault};
 ghost use Rattle.nsp_seg.specs.Inner.Reading.{Gives, word_at, ack_of, tail_of, segment_of, second_of, data_ack_of, read};
 
 use crate::packet::{
-    ACK_FIELD, ACK_FIELD_HIGH, AckField, FIRST, FlagKind, LAST, Packet, QUAL_UNIT, SegFault,
-    flag_kind,
+    ACK_FIELD, ACK_FIELD_HIGH, AckField, AckFields, FIRST, FlagKind, LAST, Packet, Payload,
+    QUAL_UNIT, SegFault, SegmentFields, flag_kind,
 };
 use crate::seq12::Seq12;
 use byteorder::{ByteOrder, LittleEndian};
@@ -62,7 +62,7 @@ fn take_tail(bytes: &[u8]) -> Result<Tail<'_>, SegFault>
 /// The segment with this flag byte in front of these bytes.
 #[tactic(auto, unfolding(crate::specs::Inner::Reading::segment_of))]
 fn segment(flag: u8, bytes: &[u8]) -> Result<Packet<'_>, SegFault>
-    ensures { Gives view result (segment_of flag bytes.now) }
+    ensures { result ≡ segment_of flag bytes.now }
 {
     let (dst, rest) = take_word(bytes, 1)?;
     let (src, rest) = take_word(rest, 3)?;
@@ -70,7 +70,7 @@ fn segment(flag: u8, bytes: &[u8]) -> Result<Packet<'_>, SegFault>
         Ok(tail) => tail,
         Err(fault) => return Err(fault),
     };
-    Ok(Packet::Segment {
+    Ok(Packet::Segment(SegmentFields {
         first: flag == FIRST || flag == FIRST + LAST,
         last: flag == LAST || flag == FIRST + LAST,
         dst,
@@ -78,8 +78,8 @@ fn segment(flag: u8, bytes: &[u8]) -> Result<Packet<'_>, SegFault>
         ack1,
         ack2,
         number: Seq12::of(u64::from(word)),
-        payload,
-    })
+        payload: Payload(payload),
+    }))
 }
 
 /// What follows the first field of an acknowledgement, from offset 7 on.
@@ -99,7 +99,7 @@ fn second_ack(bytes: &[u8]) -> Result<Option<AckField>, SegFault>
 /// The data acknowledgement with these bytes behind its flag byte.
 #[tactic(auto, unfolding(crate::specs::Inner::Reading::data_ack_of))]
 fn data_ack(bytes: &[u8]) -> Result<Packet<'_>, SegFault>
-    ensures { Gives view result (data_ack_of bytes.now) }
+    ensures { result ≡ data_ack_of bytes.now }
 {
     let (dst, rest) = take_word(bytes, 1)?;
     let (src, rest) = take_word(rest, 3)?;
@@ -108,18 +108,18 @@ fn data_ack(bytes: &[u8]) -> Result<Packet<'_>, SegFault>
         return Err(SegFault::BadNumber(5));
     };
     let ack2 = second_ack(rest)?;
-    Ok(Packet::DataAck {
+    Ok(Packet::DataAck(AckFields {
         dst,
         src,
         ack1,
         ack2,
-    })
+    }))
 }
 
 /// The packet that the bytes spell, or their fault.
 #[tactic(auto, unfolding(crate::specs::Inner::Reading::read))]
 fn packet(bytes: &[u8]) -> Result<Packet<'_>, SegFault>
-    ensures { Gives view result (read bytes.now) }
+    ensures { result ≡ read bytes.now }
 {
     match bytes {
         [] => Err(SegFault::Truncated(0)),
@@ -136,8 +136,8 @@ fn packet(bytes: &[u8]) -> Result<Packet<'_>, SegFault>
 /// acknowledgement message; other messages are not read here: own).
 pub fn decode_packet(bytes: &[u8]) -> Result<Packet<'_>, SegFault>
     // What is spelled is read, and what is read is spelled.
-    ensures only { (p : PacketValue) → Spells p bytes.now → IsOkAnd result (λ q. view q ≡ p) }
-    ensures found { IfOk result (λ p. Spells (view p) bytes.now) }
+    ensures only { (p : Packet) → Spells p bytes.now → result ≡ Ok p }
+    ensures found { IfOk result (λ p. Spells p bytes.now) }
     // A fault of the bytes is told, and what is told is a fault of the bytes.
     ensures fault_found { (f : SegFault) → HasFault f bytes.now → result ≡ Err f }
     ensures fault { IfErr result (λ f. HasFault f bytes.now) }

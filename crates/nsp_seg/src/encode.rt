@@ -2,7 +2,7 @@
 
 ghost use Rattle.std.specs.Prelude.{◌≡◌, ◌+◌, ◌<◌, ◌≤◌, ◌++◌, ◌*◌, length, vec_len, vec_capacity, OnOk, OnErr, IsErrOf, IsOk, IfSome, ◌∷◌, [], IsOkUnless};
 ghost use Rattle.byteorder.specs.Endian.{little_bytes};
-ghost use Rattle.nsp_seg.specs.Packets.{view, spelling, FitsFields, AckFits, IsWritable, optional_ack, ack_bytes, QualFits};
+ghost use Rattle.nsp_seg.specs.Packets.{spelling, FitsFields, AckFits, IsWritable, optional_ack, ack_bytes, QualFits};
 ghost use Rattle.nsp_seg.specs.declared.packet.SegFault.TheVariants.{NoMemory};
 
 use crate::packet::{ACK_FIELD, AckField, DATA_ACK, FIRST, LAST, Packet, QUAL_UNIT, SegFault};
@@ -63,57 +63,38 @@ fn optional_len(ack: &Option<AckField>) -> usize
 
 /// The bytes of a packet.
 fn packet_len(packet: &Packet<'_>) -> usize
-    ensures { result ≡ length (spelling (view packet.now)) }
+    ensures { result ≡ length (spelling packet.now) }
 {
     match packet {
-        Packet::Segment {
-            ack1,
-            ack2,
-            payload,
-            ..
-        } => { 7 + optional_len(ack1) + optional_len(ack2) + payload.len() }
-        Packet::DataAck { ack2, .. } => 7 + optional_len(ack2),
+        Packet::Segment(s) => 7 + optional_len(&s.ack1) + optional_len(&s.ack2) + s.payload.0.len(),
+        Packet::DataAck(a) => 7 + optional_len(&a.ack2),
     }
 }
 
 /// Appends a packet, for which there is room.
 fn put_packet(out: &mut Vec<u8>, packet: &Packet<'_>)
-    requires writable { IsWritable (view packet.now) }
-    requires room { vec_len out.old + length (spelling (view packet.now)) ≤ vec_capacity out.old }
-    ensures items { out.new.items ≡ out.old.items ++ spelling (view packet.now) }
+    requires writable { IsWritable packet.now }
+    requires room { vec_len out.old + length (spelling packet.now) ≤ vec_capacity out.old }
+    ensures items { out.new.items ≡ out.old.items ++ spelling packet.now }
     ensures capacity { vec_capacity out.old ≤ vec_capacity out.new }
-    ensures fits { FitsFields (view packet.now) }
+    ensures fits { FitsFields packet.now }
 {
     match packet {
-        Packet::Segment {
-            first,
-            last,
-            dst,
-            src,
-            ack1,
-            ack2,
-            number,
-            payload,
-        } => {
-            out.push_reserved(if *first { FIRST } else { 0 } + if *last { LAST } else { 0 });
-            put_word(out, *dst);
-            put_word(out, *src);
-            put_optional_ack(out, *ack1);
-            put_optional_ack(out, *ack2);
-            put_word(out, number.get());
-            out.extend_from_slice(payload).unwrap();
+        Packet::Segment(s) => {
+            out.push_reserved(if s.first { FIRST } else { 0 } + if s.last { LAST } else { 0 });
+            put_word(out, s.dst);
+            put_word(out, s.src);
+            put_optional_ack(out, s.ack1);
+            put_optional_ack(out, s.ack2);
+            put_word(out, s.number.get());
+            out.extend_from_slice(s.payload.0).unwrap();
         }
-        Packet::DataAck {
-            dst,
-            src,
-            ack1,
-            ack2,
-        } => {
+        Packet::DataAck(a) => {
             out.push_reserved(DATA_ACK);
-            put_word(out, *dst);
-            put_word(out, *src);
-            put_ack(out, *ack1);
-            put_optional_ack(out, *ack2);
+            put_word(out, a.dst);
+            put_word(out, a.src);
+            put_ack(out, a.ack1);
+            put_optional_ack(out, a.ack2);
         }
     }
 }
@@ -124,12 +105,12 @@ fn put_packet(out: &mut Vec<u8>, packet: &Packet<'_>)
 /// has the room already; no room is given back (NSP 4.0.0, data segment message and data
 /// acknowledgement message).
 pub fn encode_packet(packet: &Packet<'_>, out: &mut Vec<u8>) -> Result<(), SegFault>
-    requires { IsWritable (view packet.now) }
-    ensures ok { OnOk result (out.new.items ≡ out.old.items ++ spelling (view packet.now)) }
-    ensures fits { OnOk result (FitsFields (view packet.now)) }
+    requires { IsWritable packet.now }
+    ensures ok { OnOk result (out.new.items ≡ out.old.items ++ spelling packet.now) }
+    ensures fits { OnOk result (FitsFields packet.now) }
     ensures err { OnErr result (out.new.items ≡ out.old.items) }
     ensures fault { IsOkUnless result NoMemory }
-    ensures room { vec_len out.old + length (spelling (view packet.now)) ≤ vec_capacity out.old
+    ensures room { vec_len out.old + length (spelling packet.now) ≤ vec_capacity out.old
         → IsOk result }
     ensures capacity { vec_capacity out.old ≤ vec_capacity out.new }
 {

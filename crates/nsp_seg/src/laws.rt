@@ -3,21 +3,21 @@
 ghost use Rattle.std.specs.Prelude.{◌≡◌, ◌+◌, ◌-◌, ◌<◌, ◌⊎◌, ℕ, List, slice_index};
 ghost use Rattle.nsp_seg.specs.declared.packet.SegFault.{SegFault};
 ghost use Rattle.nsp_seg.specs.Numbers.{residue, distance};
-ghost use Rattle.nsp_seg.specs.Packets.{PacketValue, Spells, FitsFields, HasFault, spelling};
+ghost use Rattle.nsp_seg.specs.Packets.{Packet, Spells, FitsFields, HasFault, spelling};
 
 /// Bytes spell one packet or have one fault, never both; and what is written of a packet whose values
 /// fit spells that packet and no other. So what `encode_packet` appended is read back by
 /// `decode_packet` (own).
 pub fn packets_are_exact()
     ensures some { (bytes : List ℕ) → ((i : ℕ) → slice_index bytes i < 256)
-        → ((p : PacketValue) × Spells p bytes) ⊎ ((f : SegFault) × HasFault f bytes) }
-    ensures one { (p q : PacketValue) (bytes : List ℕ) → Spells p bytes → Spells q bytes → p ≡ q }
+        → ((p : Packet) × Spells p bytes) ⊎ ((f : SegFault) × HasFault f bytes) }
+    ensures one { (p q : Packet) (bytes : List ℕ) → Spells p bytes → Spells q bytes → p ≡ q }
     ensures one_fault { (f g : SegFault) (bytes : List ℕ) → ((i : ℕ) → slice_index bytes i < 256)
         → HasFault f bytes → HasFault g bytes → f ≡ g }
-    ensures apart { (p : PacketValue) (f : SegFault) (bytes : List ℕ)
+    ensures apart { (p : Packet) (f : SegFault) (bytes : List ℕ)
         → ((i : ℕ) → slice_index bytes i < 256) → Spells p bytes → HasFault f bytes → ⊥ }
-    ensures written { (p : PacketValue) → FitsFields p → Spells p (spelling p) }
-    ensures read_back { (p q : PacketValue) → FitsFields p → Spells q (spelling p) → q ≡ p }
+    ensures written { (p : Packet) → FitsFields p → Spells p (spelling p) }
+    ensures read_back { (p q : Packet) → FitsFields p → Spells q (spelling p) → q ≡ p }
 {}
 
 /// Numbers that go round: `ahead_of` of two residues is the distance of the whole numbers, and two

@@ -11,7 +11,9 @@ mod seq12;
 pub use decode::decode_packet;
 pub use encode::encode_packet;
 pub use laws::{packets_are_exact, residues_separate};
-pub use packet::{AckField, FlagKind, Packet, SegFault, flag_kind};
+pub use packet::{
+    AckField, AckFields, FlagKind, Packet, Payload, SegFault, SegmentFields, flag_kind,
+};
 pub use seq12::Seq12;
 
 #[cfg(test)]

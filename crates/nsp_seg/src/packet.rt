@@ -6,6 +6,7 @@ ghost use Rattle.nsp_seg.specs.Flags.{flag_kind_of};
 
 use crate::seq12::Seq12;
 use std::alloc::AllocError;
+use std::marker::Model;
 use thiserror::Error;
 
 /// The first byte of a data acknowledgement (NSP 4.0.0, MSGFLG).
@@ -31,29 +32,66 @@ pub struct AckField {
     pub number: Seq12,
 }
 
-/// A packet (NSP 4.0.0, data segments and their acknowledgement); its payload lies in the bytes that were read. A
-/// second acknowledgement field stands only beside a first.
+/// The payload of a segment, which contracts see as a list of numbers (own).
+#[derive(Clone, Drop, Debug)]
+pub struct Payload<'a>(pub &'a [u8]);
+
+impl<'a> Model for Payload<'a> {
+    ghost use Rattle.std.specs.Prelude.{List, ℕ};
+
+    ghost Value = { List ℕ };
+
+    ghost view = { λ p. p.0.now };
+}
+
+impl<'a> PartialEq for Payload<'a> {
+    ghost use Rattle.std.specs.Prelude.{nat_eq};
+    ghost use Rattle.std.specs.Cmp.Lexicographic.{pointwise};
+    ghost use Rattle.std.specs.Cmp.Rules.{comparing};
+    ghost use Rattle.std.proofs.Common.{rules};
+
+    ghost eq = { pointwise nat_eq };
+
+    ghost laws = { Prim.search (comparing, rules) };
+
+    fn eq(&self, other: &Payload<'a>) -> bool {
+        self.0 == other.0
+    }
+}
+
+/// A data segment (NSP 4.0.0, data segment message).
+#[derive(Clone, Drop, Debug, PartialEq)]
+pub struct SegmentFields<'a> {
+    /// Whether it is the first segment of its message, and the last.
+    pub first: bool,
+    pub last: bool,
+    /// To whom and from whom: the link addresses.
+    pub dst: u16,
+    pub src: u16,
+    /// Up to two acknowledgement fields; the second stands only beside the first.
+    pub ack1: Option<AckField>,
+    pub ack2: Option<AckField>,
+    pub number: Seq12,
+    /// Its bytes, which may be none.
+    pub payload: Payload<'a>,
+}
+
+/// A data acknowledgement (NSP 4.0.0, data acknowledgement message).
 #[derive(Clone, Copy, Debug, PartialEq, Eq)]
+pub struct AckFields {
+    /// To whom and from whom: the link addresses.
+    pub dst: u16,
+    pub src: u16,
+    /// One or two fields.
+    pub ack1: AckField,
+    pub ack2: Option<AckField>,
+}
+
+/// A packet (NSP 4.0.0, data segments and their acknowledgement).
+#[derive(Clone, Drop, Debug, PartialEq)]
 pub enum Packet<'a> {
-    /// NSP 4.0.0, data segment message: whether it is the first and the last segment of its message, to
-    /// whom and from whom, up to two acknowledgement fields, its number and its bytes, which may be none.
-    Segment {
-        first: bool,
-        last: bool,
-        dst: u16,
-        src: u16,
-        ack1: Option<AckField>,
-        ack2: Option<AckField>,
-        number: Seq12,
-        payload: &'a [u8],
-    },
-    /// NSP 4.0.0, data acknowledgement message: to whom and from whom, and one or two fields.
-    DataAck {
-        dst: u16,
-        src: u16,
-        ack1: AckField,
-        ack2: Option<AckField>,
-    },
+    Segment(SegmentFields<'a>),
+    DataAck(AckFields),
 }
 
 /// Why bytes are no packet; an offset counts bytes from their start (own).

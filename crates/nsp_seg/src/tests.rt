@@ -15,56 +15,33 @@ fn segment_both_ways(rt: HostRuntime) -> Result<(), Fail> {
     let mut out = Vec::new(rt.alloc());
     assert!(rt; encode_packet(&packet, &mut out).is_ok());
     assert_eq!(rt; out.as_slice(), ONLY_SEGMENT.as_slice());
-    let Packet::Segment {
-        first,
-        last,
-        dst,
-        src,
-        ack1,
-        ack2,
-        number,
-        payload,
-    } = packet
-    else {
+    let Packet::Segment(segment) = packet else {
         return Err(Fail::from("no segment"));
     };
-    assert!(rt; first && last);
-    assert_eq!(rt; (dst, src), (0x0102, 0x0304));
+    assert!(rt; segment.first && segment.last);
+    assert_eq!(rt; (segment.dst, segment.src), (0x0102, 0x0304));
     assert_eq!(rt;
-        ack1,
+        segment.ack1,
         Some(AckField {
             qual: 0,
             number: Seq12::of(5)
         })
     );
-    assert!(rt; ack2.is_none());
-    assert_eq!(rt; number.get(), 1);
-    assert_eq!(rt; payload, [6, 2, 0].as_slice());
+    assert!(rt; segment.ack2.is_none());
+    assert_eq!(rt; segment.number.get(), 1);
+    assert_eq!(rt; segment.payload.0, [6, 2, 0].as_slice());
     Ok(())
 }
 
 #[test]
 fn acknowledgement_both_ways(rt: HostRuntime) -> Result<(), Fail> {
-    let Ok(
-        Packet::DataAck {
-            dst,
-            src,
-            ack1,
-            ack2,
-        },
-    ) = decode_packet(&ACKNOWLEDGEMENT)
-    else {
+    let Ok(Packet::DataAck(ack)) = decode_packet(&ACKNOWLEDGEMENT) else {
         return Err(Fail::from("no acknowledgement"));
     };
-    assert_eq!(rt; (dst, src), (0x0102, 0x0304));
-    assert_eq!(rt; (ack1.qual, ack1.number.get()), (0, 4095));
-    assert!(rt; ack2.is_none());
-    let packet = Packet::DataAck {
-        dst,
-        src,
-        ack1,
-        ack2,
-    };
+    assert_eq!(rt; (ack.dst, ack.src), (0x0102, 0x0304));
+    assert_eq!(rt; (ack.ack1.qual, ack.ack1.number.get()), (0, 4095));
+    assert!(rt; ack.ack2.is_none());
+    let packet = Packet::DataAck(ack);
     let mut out = Vec::with_capacity(rt.alloc(), 7)?;
     assert!(rt; encode_packet(&packet, &mut out).is_ok());
     assert_eq!(rt; out.as_slice(), ACKNOWLEDGEMENT.as_slice());
@@ -105,24 +82,15 @@ fn faults_at_their_offsets(rt: HostRuntime) {
 #[test]
 fn two_fields_and_free_bits(rt: HostRuntime) -> Result<(), Fail> {
     let both = [0x20, 2, 1, 4, 3, 5, 0x80, 6, 0xA0, 7, 0x70, 0x41];
-    let Ok(
-        Packet::Segment {
-            ack1,
-            ack2,
-            number,
-            payload,
-            ..
-        },
-    ) = decode_packet(&both)
-    else {
+    let Ok(Packet::Segment(segment)) = decode_packet(&both) else {
         return Err(Fail::from("no segment"));
     };
-    let one = ack1.ok_or("the first field")?;
-    let two = ack2.ok_or("the second field")?;
+    let one = segment.ack1.ok_or("the first field")?;
+    let two = segment.ack2.ok_or("the second field")?;
     assert_eq!(rt; (one.qual, one.number.get()), (0, 5));
     assert_eq!(rt; (two.qual, two.number.get()), (2, 6));
-    assert_eq!(rt; number.get(), 7);
-    assert_eq!(rt; payload.len(), 1);
+    assert_eq!(rt; segment.number.get(), 7);
+    assert_eq!(rt; segment.payload.0.len(), 1);
     Ok(())
 }
 

@@ -1,8 +1,8 @@
 -- What is known of a map's lowest and highest numbers, from what it has at each number.
 use Rattle.std.proofs.Common.{◌≡◌, ℕ, zero, suc, ◌+◌, ◌<◌, map, [], ◌∷◌, is_some, arith, ◌≤◌, List, Some, None, IsSome, refl, sym, ap, subst, ◌∙◌}
 use Rattle.std.specs.FinMap.{get, entries, entries_sorted, get-entries}
-use Rattle.rec_file.specs.Files.{Records, lowest_from, highest_of, last_of, records_from}
-use Rattle.rec_file.proofs.Rising.{at, IsRising, find_is_at, rising_from_sorted, first_of_some, first_of_none, last_of_some, last_of_none, at_tail, at_first, below_last, from_some, from_none, first_there}
+use Rattle.rec_file.specs.Files.{Records, lowest_from, highest_of, records_from}
+use Rattle.rec_file.proofs.Rising.{at, IsRising, last_of, find_is_at, rising_from_sorted, first_of_some, first_of_none, last_of_some, last_of_none, at_tail, at_first, below_last, from_some, from_none, first_there}
 
 pub get_is_at : (m : Records) (q : ℕ) → get m q ≡ at (entries m) q
 get_is_at m q = get-entries m q ∙ find_is_at (entries m) q

@@ -1,5 +1,5 @@
 -- What an operation on a stream does to a file and to the stream.
-use Rattle.std.specs.Prelude.{◌≡◌, ℕ, ◌+◌, Bool, true, false, not, ◌&&◌, ◌||◌, nat_le, nat_eq, List, [], ◌∷◌, length, Option, None, Some, is_none, unwrap_or, Result, Ok, Err, IsOk, MatchBool, if◌then◌else◌}
+use Rattle.std.specs.Prelude.{◌≡◌, ℕ, ◌+◌, Bool, true, false, not, ◌&&◌, ◌||◌, nat_le, nat_eq, List, [], ◌∷◌, length, Option, None, Some, is_none, unwrap_or, Result, Ok, Err, IsOk, option_and_then, MatchBool, if◌then◌else◌}
 use Rattle.std.specs.FinMap.{get}
 use Rattle.rec_file.specs.declared.shapes.Shape.{Shape}
 use Rattle.rec_file.specs.declared.refusals.Refusal.{Refusal}
@@ -30,23 +30,14 @@ out_of_range shape n = nat_eq n 0 || not (nat_le n (limit_of shape))
 abbrev pub is_free : FileVal → ℕ → Bool
 is_free file n = is_none (get file.records n)
 
--- a number that isn't occupied counts as none
-abbrev pub if_occupied : FileVal → Option ℕ → Option ℕ
-if_occupied file None = None
-if_occupied file (Some n) = if is_free file n then None else Some n
-
--- the number of the current record
+-- the number of the current record, where it is occupied
 abbrev pub current_of : FileVal → StreamVal → Option ℕ
-current_of file stream = if_occupied file stream.current
+current_of file stream = option_and_then (λ n. if is_free file n then None else Some n) stream.current
 
--- the record of a number that may be none, where it is there
-abbrev pub record_at : FileVal → Option ℕ → List ℕ
-record_at file None = []
-record_at file (Some n) = unwrap_or (get file.records n) []
-
--- in a sequential file the length stays
+-- in a sequential file the length stays that of the current record
 abbrev pub keeps_length : FileVal → Option ℕ → List ℕ → Bool
-keeps_length file current body = not (is_seq file.shape.org) || nat_eq (length body) (length (record_at file current))
+keeps_length file current body =
+    not (is_seq file.shape.org) || nat_eq (length body) (length (unwrap_or (option_and_then (get file.records) current) []))
 
 -- the number that a put without a key takes
 abbrev pub free_place : FileVal → StreamVal → ℕ
@@ -146,25 +137,18 @@ abbrev pub act : Operation → FileVal → StreamVal → Outcome
 act operation file stream = outcome_of (first_refusal (refusals_of operation file stream)) operation file stream
 
 -- the file, the stream and the answer are those of the outcome
-pub record IsOutcome (outcome : Outcome) (file : FileVal) (stream : StreamVal) (reply : Result ℕ Refusal) : Type 0 where
-  pub same_file : file ≡ outcome.file
-  pub same_stream : stream ≡ outcome.stream
-  pub same_reply : reply ≡ outcome.reply
-
--- nothing has changed, though the operation was not to be refused
-pub record LacksMemory (outcome : Outcome) (old_file : FileVal) (old_stream : StreamVal) (file : FileVal) (stream : StreamVal) : Type 0 where
-  pub same_file : file ≡ old_file
-  pub same_stream : stream ≡ old_stream
-  pub allowed : IsOk outcome.reply
+abbrev pub IsOutcome : Outcome → FileVal → StreamVal → Result ℕ Refusal → Type 0
+IsOutcome outcome file stream reply = (file ≡ outcome.file) × (stream ≡ outcome.stream) × (reply ≡ outcome.reply)
 
 -- whether the answer is want of memory
 abbrev pub is_no_memory : Result ℕ Refusal → Bool
 is_no_memory (Err NoMemory) = true
 is_no_memory _ = false
 
--- an operation that needs memory has its outcome, or lacks memory
+-- An operation that needs memory has its outcome; or it lacks memory, and nothing has changed, though it was not to be
+-- refused.
 abbrev pub Acts : Operation → FileVal → StreamVal → FileVal → StreamVal → Result ℕ Refusal → Type 0
 Acts operation old_file old_stream file stream reply =
     MatchBool (is_no_memory reply)
-    (LacksMemory (act operation old_file old_stream) old_file old_stream file stream)
+    ((file ≡ old_file) × (stream ≡ old_stream) × IsOk (act operation old_file old_stream).reply)
     (IsOutcome (act operation old_file old_stream) file stream reply)

@@ -1,5 +1,6 @@
 -- A record file as a value: a shape, and a finite map from numbers to records.
-use Rattle.std.specs.Prelude.{ℕ, ◌≤◌, nat_le, List, [], ◌∷◌, length, filter, slice_get, Option, IsSome, IsTrue, IfSome}
+use Rattle.std.specs.Prelude.{ℕ, ◌≤◌, nat_le, List, length, filter, slice_get, unwrap_or, Option, None, IsSome, IsTrue, IfSome}
+use Rattle.std.specs.List.{last_or}
 use Rattle.std.specs.Ordering.{nat_cmp}
 use Rattle.std.specs.FinMap.{FinMap, get, keys, entries, insert, remove}
 use Rattle.rec_file.specs.declared.shapes.Shape.{Shape}
@@ -13,19 +14,13 @@ pub record FileVal : Type 0 where
   pub shape : Shape
   pub records : Records
 
--- the last of a list of numbers, and 0 where it is empty
-abbrev pub last_of : List ℕ → ℕ
-last_of [] = 0
-last_of (n ∷ []) = n
-last_of (n ∷ m ∷ ns) = last_of (m ∷ ns)
-
 -- the lowest occupied number from n on: the keys of a finite map stand in order
 abbrev pub lowest_from : Records → ℕ → Option ℕ
 lowest_from m n = slice_get (filter (nat_le n) (keys m)) 0
 
--- the highest occupied number, and 0 where there is none
+-- the highest occupied number, the last of the keys, and 0 where there is none
 abbrev pub highest_of : Records → ℕ
-highest_of m = last_of (keys m)
+highest_of m = unwrap_or (last_or None (keys m)) 0
 
 -- the records from number n on, in order
 abbrev pub records_from : Records → ℕ → List (ℕ × List ℕ)

@@ -1,6 +1,6 @@
 -- What an end keeps of the items that it served: it stands as after any list of items that leaves just this.
 use Rattle.std.specs.Prelude.{ℕ, ◌≡◌, Bool, ◌&&◌, if◌then◌else◌, List, Option, Some, None}
-use Rattle.dap_msg.specs.Items.{Item}
+use Rattle.dap_msg.specs.declared.items.Item.{Item}
 use Rattle.rec_file.specs.declared.shapes.Shape.{Shape}
 use Rattle.rec_file.specs.Acts.{StreamVal}
 use Rattle.dap_accessed.specs.declared.phase.OpenFile.{OpenFile}

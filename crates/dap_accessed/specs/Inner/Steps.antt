@@ -2,8 +2,8 @@
 use Rattle.std.specs.Prelude.{ℕ, ◌≡◌, ◌<◌, ◌≤◌, ◌==◌, nat_lt, if◌then◌else◌, Bool, true, false, [], ◌∷◌, length, IfSome, IsTrue, Result, Ok, Err}
 use Rattle.dap_msg.specs.BothEnds.{config_of, least_buffer}
 use Rattle.dap_msg.specs.Codes as codes
-use Rattle.dap_msg.specs.Items.{Item}
-use Rattle.dap_msg.specs.Message.{Message, seen_control}
+use Rattle.dap_msg.specs.declared.items.Item.{Item}
+use Rattle.dap_msg.specs.declared.message.Message.{Message}
 use Rattle.dap_msg.specs.declared.message.Message.TheVariants.{Control, Contran, Filedata}
 use Rattle.rec_file.specs.Acts.{act, delete_record}
 use Rattle.rec_file.specs.Shapes.{is_shape}
@@ -40,10 +40,10 @@ done (steps.Access func name fac) p =
 done (steps.Purge opened) p =
     record { present = record p { files = purged opened p.files; phase = phases.Ready }; answers = completed ∷ [] }
 done (steps.Get opened stream control) p =
-    does p (record_got (get_pick (the_file p.files opened) stream (seen_control control)) (scene_in p) opened stream)
+    does p (record_got (get_pick (the_file p.files opened) stream control) (scene_in p) opened stream)
 done (steps.Fetch opened stream) p = does p (fetch (scene_in p) opened stream)
 done (steps.Expect opened stream control) p =
-    begins p (phases.PutDue opened stream (put_key (the_file p.files opened) stream (seen_control control)))
+    begins p (phases.PutDue opened stream (put_key (the_file p.files opened) stream control))
 done (steps.Put opened stream key body) p =
     does p (changed (Putting key) (scene_in p) opened stream body.now)
 done (steps.Update opened stream body) p = does p (changed Updating (scene_in p) opened stream body.now)

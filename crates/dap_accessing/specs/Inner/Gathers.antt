@@ -3,7 +3,8 @@ use Rattle.std.specs.Prelude.{ℕ, nat_le, if◌then◌else◌, List, [], ◌∷
 use Rattle.std.specs.Option.{option_or}
 use Rattle.dap_msg.specs.Codes as codes
 use Rattle.dap_msg.specs.declared.message.Message.TheVariants.{Attrib, Accomp, Filedata, Status, Other}
-use Rattle.dap_msg.specs.Items.{Item, Whole}
+use Rattle.dap_msg.specs.declared.items.Item.{Item}
+use Rattle.dap_msg.specs.declared.items.Item.TheVariants.{Whole}
 use Rattle.dap_msg.specs.BothEnds.{number_of}
 use Rattle.rec_file.specs.Limits.{greatest_number}
 use Rattle.dap_accessing.specs.declared.report.Report.{Report}

@@ -1,9 +1,9 @@
 -- What one answer does to what an end keeps.
 use Rattle.std.specs.Prelude.{ℕ, ◌≡◌, ◌≤◌, ◌⊎◌, true, List, [], ◌∷◌, ◌++◌, length, Option, Some, None, unwrap_or, if◌then◌else◌, Result, Ok, Err}
 use Rattle.dap_msg.specs.Codes as codes
-use Rattle.dap_msg.specs.Message.{Message}
+use Rattle.dap_msg.specs.declared.message.Message.{Message}
 use Rattle.dap_msg.specs.declared.message.Message.TheVariants.{Attrib, Filedata, Status}
-use Rattle.dap_msg.specs.Items.{Item}
+use Rattle.dap_msg.specs.declared.items.Item.{Item}
 use Rattle.dap_accessing.specs.Request.{Request}
 use Rattle.dap_accessing.specs.declared.request.Request.TheVariants as request
 use Rattle.dap_accessing.specs.declared.report.Report.{Report}

@@ -1,8 +1,9 @@
 -- Parts of what answers come to, by names of their own.
 use Rattle.std.specs.Prelude.{ℕ, Bool, ◌==◌, if◌then◌else◌, List, Option, is_some}
 use Rattle.dap_msg.specs.Codes as codes
-use Rattle.dap_msg.specs.Message.{Attributes, StatusFields}
-use Rattle.dap_msg.specs.Items.{Item}
+use Rattle.dap_msg.specs.declared.message.Attributes.{Attributes}
+use Rattle.dap_msg.specs.declared.message.StatusFields.{StatusFields}
+use Rattle.dap_msg.specs.declared.items.Item.{Item}
 use Rattle.dap_msg.specs.BothEnds.{with_defaults}
 use Rattle.dap_accessing.specs.declared.report.Report.{Report}
 use Rattle.dap_accessing.specs.declared.report.Report.TheVariants as report

@@ -1,6 +1,5 @@
 -- What `prepare` finds and makes, and `ask_prepared` needs.
 use Rattle.std.specs.Prelude.{◌≡◌, ◌≤◌, true, false, None}
-use Rattle.dap_msg.specs.Message.{seen}
 use Rattle.dap_msg.specs.Sendable.{AreSendable}
 use Rattle.dap_msg.specs.BothEnds.{greatest_message}
 use Rattle.dap_accessing.specs.declared.asking.Prepared.{Prepared}
@@ -8,7 +7,7 @@ use Rattle.dap_accessing.specs.Request.{Request}
 use Rattle.dap_accessing.specs.Asked.{messages_of}
 use Rattle.dap_accessing.specs.Phase.{phase_fits}
 use Rattle.dap_accessing.specs.Present.{Present}
-use Rattle.dap_accessing.specs.Inner.Outgoing.{AreCounted, outgoing_messages, seen_option}
+use Rattle.dap_accessing.specs.Inner.Outgoing.{AreCounted, outgoing_messages}
 
 -- the end may ask the request as it stands: the request is admissible by what the end keeps
 pub record MayAsk (old : Present) (request : Request) : Type 0 where
@@ -22,4 +21,4 @@ pub record MayAsk (old : Present) (request : Request) : Type 0 where
 pub record IsPrepared (old : Present) (request : Request) (p : Prepared) : Type 0 where
   pub may : MayAsk old request
   pub messages : outgoing_messages p.outgoing ≡ messages_of old.own request
-  pub counted : AreCounted (seen p.outgoing.first) (seen_option p.outgoing.last) p.counts
+  pub counted : AreCounted p.outgoing.first p.outgoing.last p.counts

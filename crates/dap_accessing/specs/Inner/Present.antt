@@ -1,7 +1,7 @@
 -- What an end keeps of its requests and answers: it stands as after any that leave just this.
 use Rattle.std.specs.Prelude.{ℕ, ◌+◌, ◌≡◌, ◌≤◌, Bool, false, if◌then◌else◌, List, ◌++◌, length, Option, Some, None}
 use Rattle.std.specs.Option.{option_or}
-use Rattle.dap_msg.specs.Items.{Item}
+use Rattle.dap_msg.specs.declared.items.Item.{Item}
 use Rattle.dap_accessing.specs.Request.{Request}
 use Rattle.dap_accessing.specs.declared.report.Report.TheVariants as report
 use Rattle.dap_accessing.specs.declared.phase.Phase.{Phase}

@@ -1,7 +1,7 @@
 -- What an end did, once one item more was handled; and NSP messages none of which is empty.
 use Rattle.std.specs.Prelude.{◌≢◌, ℕ, List, [], ◌∷◌, ◌++◌}
 use Rattle.std.specs.List.{AllByRecursion}
-use Rattle.dap_msg.specs.Items.{Item}
+use Rattle.dap_msg.specs.declared.items.Item.{Item}
 use Rattle.dap_msg.specs.Blocked.{NspMessage}
 use Rattle.dap_end.specs.Going.{given_then}
 use Rattle.dap_end.specs.Serving.{Past}

@@ -1,11 +1,11 @@
 -- What the program keeps of the streams of a capture.
 use Rattle.std.specs.Prelude.{◌≡◌, ◌<◌, ◌≤◌, ◌+◌, ◌*◌, ◌/◌, ◌%◌, ◌^◌, ◌⊎◌, ⊤, ℕ, true, false, List, [], ◌∷◌, ◌++◌, length, map, max, slice_get, Some, Ok}
 use Rattle.std.specs.List.{AllByRecursion, IsDistinct, list_any}
-use Rattle.nsp_seg.specs.Packets.{segment}
+use Rattle.nsp_seg.specs.declared.packet.Packet.TheVariants.{Segment}
 use Rattle.dap_listing.specs.declared.lines.Direction.{Direction}
-use Rattle.dap_listing.specs.Captured.{Spell, carried_value}
-use Rattle.dap_listing.specs.declared.packet.Carried.{Carried}
-use Rattle.dap_follow.specs.Streams.{ArePlaced, Came, Packet, Placed, at, came_in, is_same, put_at, streams}
+use Rattle.dap_listing.specs.Captured.{Spell, carried_by}
+use Rattle.nsp_seg.specs.declared.packet.SegmentFields.{SegmentFields}
+use Rattle.dap_follow.specs.Streams.{ArePlaced, Came, Captured, Placed, at, came_in, is_same, put_at, streams}
 use Rattle.dap_follow.specs.Inner.Placing.{IsPutIn, Rises, counted_value}
 use Rattle.dap_follow.specs.declared.places.Counted.{Counted}
 use Rattle.dap_follow.specs.declared.places.Places.{Places}
@@ -13,17 +13,17 @@ use Rattle.dap_follow.specs.declared.streams.Stream.{Stream}
 use Rattle.dap_follow.specs.declared.streams.Streams.{Streams}
 
 -- a segment of the program, and the number of its packet
-abbrev pub came : ℕ → Carried → Came
-came packet c = record { packet = packet; segment = carried_value c }
+abbrev pub came : ℕ → SegmentFields → Came
+came packet c = record { packet = packet; segment = carried_by c }
 
 -- a segment was put in its place, which is near the highest before it
-pub record IsAdded (packet : ℕ) (c : Carried) (old new : Places) : Type 0 where
+pub record IsAdded (packet : ℕ) (c : SegmentFields) (old new : Places) : Type 0 where
   pub counted : Counted
   pub low : old.highest ≤ counted.place + 2047
   pub high : counted.place ≤ old.highest + 2048
   pub number : counted.place % 4096 ≡ c.number
   pub value : counted_value counted ≡ put_at counted.place (came packet c)
-  pub digits : counted.payload.now ≡ c.payload.now
+  pub digits : counted.payload.now ≡ c.payload
   pub packet_is : counted.packet ≡ packet
   pub put : IsPutIn old.ordered.items counted new.ordered.items
   pub highest : new.highest ≡ max old.highest counted.place
@@ -46,7 +46,7 @@ pub record Keeps (start : ℕ) (before : List Came) (p : Places) : Type 0 where
   pub same : (place : ℕ) → at place (map counted_value p.ordered.items) ≡ at place placed
 
 -- the segments of a stream of some packets, of which there is a first
-pub record KeepsStream (packets : List Packet) (stream : Stream) (p : Places) : Type 0 where
+pub record KeepsStream (packets : List Captured) (stream : Stream) (p : Places) : Type 0 where
   pub first : Came
   pub others : List Came
   pub are : came_in stream packets ≡ first ∷ others
@@ -56,23 +56,23 @@ pub record KeepsStream (packets : List Packet) (stream : Stream) (p : Places) : 
   pub high : p.highest ≤ 8192 + 2048 * length packets
 
 -- those of each stream
-abbrev pub KeepsEach : List Packet → List Stream → List Places → Type 0
+abbrev pub KeepsEach : List Captured → List Stream → List Places → Type 0
 KeepsEach packets [] [] = ⊤
 KeepsEach packets (stream ∷ others) (p ∷ rest) = KeepsStream packets stream p × KeepsEach packets others rest
 KeepsEach packets [] (p ∷ rest) = ⊥
 KeepsEach packets (stream ∷ others) [] = ⊥
 
 -- the streams of packets, and the segments of each
-pub record KeepsAll (packets : List Packet) (s : Streams) : Type 0 where
+pub record KeepsAll (packets : List Captured) (s : Streams) : Type 0 where
   pub names : s.names.keys ≡ streams packets
   pub each : KeepsEach packets (streams packets) s.places.items
 
 -- some packets of which these are kept, and another behind them, whose number is small
 abbrev pub KeepsSome : ℕ → Streams → Type 0
-KeepsSome packet s = (packets : List Packet) × KeepsAll packets s × (packet ≡ length packets + 1) × (packet < 2 ^ 32)
+KeepsSome packet s = (packets : List Captured) × KeepsAll packets s × (packet ≡ length packets + 1) × (packet < 2 ^ 32)
 
-abbrev pub segment_packet : Direction → Carried → Packet
-segment_packet way c = (way, Ok (segment (carried_value c)))
+abbrev pub segment_packet : Direction → SegmentFields → Captured
+segment_packet way c = (way, Ok (Segment (carried_by c)))
 
 -- the same stream stands there
 abbrev pub HasAt : Stream → ℕ → List Stream → Type 0

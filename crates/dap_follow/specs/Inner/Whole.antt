@@ -2,7 +2,7 @@
 use Rattle.std.specs.Prelude.{◌≡◌, ℕ, List, length, map}
 use Rattle.std.specs.List.{flat_map}
 use Rattle.std.specs.Global.{Vec}
-use Rattle.dap_follow.specs.Streams.{Packet, Placed}
+use Rattle.dap_follow.specs.Streams.{Captured, Placed}
 use Rattle.dap_follow.specs.Joined.{messages}
 use Rattle.dap_follow.specs.Following.{all_rest_lines}
 use Rattle.dap_follow.specs.Inner.Keeping.{KeepsAll}
@@ -12,7 +12,7 @@ use Rattle.dap_follow.specs.declared.streams.Streams.{Streams}
 
 -- some packets of which there are so many
 abbrev pub KeepsFew : ℕ → Streams → Type 0
-KeepsFew count s = (packets : List Packet) × KeepsAll packets s × (length packets ≡ count)
+KeepsFew count s = (packets : List Captured) × KeepsAll packets s × (length packets ≡ count)
 
 -- the segments of each stream, in order
 abbrev pub ordered_of : List Places → List (List Placed)

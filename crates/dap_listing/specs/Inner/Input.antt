@@ -1,13 +1,13 @@
 -- What the reading of an input takes, and when it fails.
 use Rattle.std.specs.Prelude.{ℕ, List, ◌<◌, ◌≤◌, ◌+◌, length, Option, IfSome}
 use Rattle.std.specs.Io.KnownBytes.{Consumes}
-use Rattle.dap_listing.specs.Gives.{input_limit}
+use Rattle.linewise.specs.Talks.{longest}
 use Rattle.dap_listing.specs.declared.fault.CaptureFault.{CaptureFault}
 use Rattle.dap_listing.specs.declared.fault.CaptureFault.TheVariants.{TooLarge, ReadFailed}
 
 -- a front of the known bytes is taken, behind so many that were taken before
 unfoldable pub TakesBehind : ℕ → Option (List ℕ) → Option (List ℕ) → Type 0
-TakesBehind count old new = (taken : List ℕ) × Consumes old new taken × (count + length taken ≤ input_limit + 1)
+TakesBehind count old new = (taken : List ℕ) × Consumes old new taken × (count + length taken ≤ longest + 1)
 
 -- why what stands behind so many bytes can't be read, where no memory is taken
 abbrev pub IsFaultAfter : ℕ → Option (List ℕ) → CaptureFault → Type 0

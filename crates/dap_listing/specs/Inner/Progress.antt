@@ -1,8 +1,9 @@
 -- How far a listing came.
 use Rattle.std.specs.Prelude.{◌≡◌, ◌<◌, ◌+◌, ◌++◌, ◌⊎◌, ⊤, ℕ, false, List, length, Option, Some, None, Result, Ok, Err}
 use Rattle.std.specs.Global.{Vec}
-use Rattle.dap_listing.specs.Gives.{HasLineFault, IsTextOf, input_limit}
-use Rattle.dap_listing.specs.Listing.{CaptureLines, IsListing, captures, limit_of, line_faults, faults_from}
+use Rattle.linewise.specs.Talks.{longest}
+use Rattle.dap_listing.specs.Gives.{HasLineFault, IsTextOf}
+use Rattle.dap_listing.specs.Listing.{CaptureLines, IsListing, captures, limit_of, faults_from}
 use Rattle.dap_listing.specs.declared.fault.Outcome.TheVariants.{Good}
 use Rattle.dap_listing.specs.declared.fault.CaptureFault.{CaptureFault}
 use Rattle.dap_listing.specs.declared.fault.CaptureFault.TheVariants.{BadLine, TooLarge, ReadFailed, WriteFailed, NoMemory}
@@ -11,7 +12,7 @@ use Rattle.dap_listing.specs.declared.listing.Listed.{Listed}
 
 -- the listing of an input, of which the rest is still to be listed
 pub record IsUnderWay (listed : Listed) (input rest : List ℕ) (progress : Progress) : Type 0 where
-  pub faults : line_faults (limit_of listed) input ≡ faults_from (limit_of listed) progress.at rest
+  pub faults : faults_from (limit_of listed) 1 input ≡ faults_from (limit_of listed) progress.at rest
   pub listing : progress.wants ≡ false → (more : List ℕ) → CaptureLines listed progress.number (captures (limit_of listed) rest) more
       → CaptureLines listed 1 (captures (limit_of listed) input) (progress.text.items ++ more)
 
@@ -25,18 +26,18 @@ StandsAt listed count None unread bytes progress = ⊤
 -- The input was read to its end. No line is at fault, and the text is the listing, unless memory was wanting for it.
 abbrev pub IsWhole : Listed → List ℕ → Progress → Type 0
 IsWhole listed input progress =
-    IsTextOf (line_faults (limit_of listed) input) (λ text. progress.wants ≡ false → IsListing listed input Good text) input progress.text.items
+    IsTextOf (faults_from (limit_of listed) 1 input) (λ text. progress.wants ≡ false → IsListing listed input Good text) input progress.text.items
 
 -- a fault that is told of an input
 abbrev pub IsInputFault : Listed → List ℕ → CaptureFault → Type 0
-IsInputFault listed input (BadLine number) = HasLineFault (line_faults (limit_of listed) input) input (BadLine number)
+IsInputFault listed input (BadLine number) = HasLineFault (faults_from (limit_of listed) 1 input) input (BadLine number)
 IsInputFault listed input TooLarge =
-    (input_limit < length input) ⊎ HasLineFault (line_faults (limit_of listed) input) input TooLarge
+    (longest < length input) ⊎ HasLineFault (faults_from (limit_of listed) 1 input) input TooLarge
 IsInputFault listed input ReadFailed = Unit {0}
 IsInputFault listed input NoMemory = Unit {0}
 IsInputFault listed input WriteFailed = ⊥
 
 -- what a listing of the input answers before it is written
 abbrev pub TextGives : Listed → List ℕ → Result (Vec ℕ) CaptureFault → Type 0
-TextGives listed input (Ok text) = IsTextOf (line_faults (limit_of listed) input) (IsListing listed input Good) input text.items
+TextGives listed input (Ok text) = IsTextOf (faults_from (limit_of listed) 1 input) (IsListing listed input Good) input text.items
 TextGives listed input (Err fault) = IsInputFault listed input fault

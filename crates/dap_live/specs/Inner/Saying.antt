@@ -1,10 +1,29 @@
 -- What is said behind a text.
-use Rattle.std.specs.Prelude.{◌≡◌, ℕ}
+use Rattle.std.specs.Prelude.{◌≡◌, ℕ, List, [], ◌∷◌, codes}
+use Rattle.std.specs.List.{concat}
+use Rattle.std.specs.Fmt.{decimal}
 use Rattle.std.specs.Global.{Vec}
-use Rattle.dap_text.specs.Adding.{Adds}
+use Rattle.dap_text.specs.Adding as adding
+use Rattle.dap_text.specs.Text.{line_feed}
+use Rattle.rec_file.specs.declared.shapes.Shape.{Shape}
+use Rattle.dap_accessed.specs.Adding.{MayAdd, AddRefused, with_new_file}
+use Rattle.dap_end.specs.Serving.{ServingValue, NotGiven}
 use Rattle.linewise.specs.declared.talking.Became.{Became}
-use Rattle.dap_live.specs.Texts.{LineAnswer}
+use Rattle.dap_live.specs.Texts.{LineAnswer, refused_line}
+use Rattle.dap_live.specs.Serving.{Adds}
+use Rattle.dap_live.specs.declared.asking.Front.{Front}
+use Rattle.dap_live.specs.declared.asking.Front.TheVariants.{Asked, Busy}
 
 -- the text of what is said is added, and this is what it became
 abbrev pub AddsSaid : (old new : Vec ℕ) → LineAnswer → Became → Type 0
-AddsSaid old new said became = Adds old new said.0 × (became ≡ said.1)
+AddsSaid old new said became = adding.Adds old new said.0 × (became ≡ said.1)
+
+-- what is said before what going on comes to
+abbrev pub front_text : Front → List ℕ
+front_text (Asked count) = concat (codes "asked " ∷ decimal count ∷ line_feed ∷ [])
+front_text Busy = refused_line (codes "ask-busy")
+
+-- a file of a shape is added, or it is told why not
+abbrev pub AddsShaped : ServingValue → (name : List ℕ) → Shape → ServingValue → List ℕ → Became → Type 0
+AddsShaped old name shape =
+    Adds (MayAdd old.accessed name) (with_new_file name shape old.accessed.files) (NotGiven old (AddRefused old.accessed name)) old

@@ -1,6 +1,6 @@
 //! The numbers of codes, and what both ends say of limits.
 
-use dap_msg::codes::{Reason, invalid, out_of_place, unsupported};
+use dap_msg::codes::{REASON_BAD_KEY, REASON_FILE_EXISTS, invalid, out_of_place, unsupported};
 use dap_msg::{GREATEST_MESSAGE, Message, encoded_len, fits, is_too_small, limit_of, number_of};
 
 #[test]
@@ -10,8 +10,8 @@ fn codes_by_the_type_of_a_message(rt: HostRuntime) {
     assert_eq!(rt; invalid(1), 0x9040);
     assert_eq!(rt; invalid(7), 0x91c0);
     assert_eq!(rt; out_of_place(4), 0xa004);
-    assert_eq!(rt; Reason::FileExists.number(), 1);
-    assert_eq!(rt; Reason::BadKey.number(), 12);
+    assert_eq!(rt; REASON_FILE_EXISTS, 1);
+    assert_eq!(rt; REASON_BAD_KEY, 12);
 }
 
 #[test]

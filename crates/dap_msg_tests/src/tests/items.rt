@@ -2,7 +2,7 @@
 
 use dap_msg::{ControlFields, FaultKind, Item, Message, MsgFault, item_at};
 
-const GET: Message<&'static [u8]> = Message::Control(ControlFields {
+const GET: Message<'static> = Message::Control(ControlFields {
     func: 1,
     rac: Some(0),
     key: None,
@@ -24,38 +24,44 @@ const NO_TYPE: MsgFault = MsgFault {
     offset: 0,
 };
 
+/// What stands at a place.
+#[derive(Clone, Copy)]
+enum Found {
+    Get,
+    Ack,
+    Fault(MsgFault),
+}
+
+fn item_of(found: Found) -> Item<'static> {
+    match found {
+        Found::Get => Item::Whole(GET),
+        Found::Ack => Item::Whole(Message::Ack),
+        Found::Fault(fault) => Item::Malformed(fault),
+    }
+}
+
 /// Bytes, a place in them, what stands there, and where it ends.
-const ITEMS: &[(&[u8], usize, Item<'static>, usize)] = &[
+const ITEMS: &[(&[u8], usize, Found, usize)] = &[
     // A message after another.
-    (&[4, 2, 3, 1, 1, 0, 6, 2, 0], 0, Item::Whole(GET), 6),
-    (
-        &[4, 2, 3, 1, 1, 0, 6, 2, 0],
-        6,
-        Item::Whole(Message::Ack),
-        9,
-    ),
+    (&[4, 2, 3, 1, 1, 0, 6, 2, 0], 0, Found::Get, 6),
+    (&[4, 2, 3, 1, 1, 0, 6, 2, 0], 6, Found::Ack, 9),
     // A message without LENGTH is the last.
-    (&[6, 2, 0, 6, 0, 6, 2, 0], 3, Item::Whole(Message::Ack), 8),
+    (&[6, 2, 0, 6, 0, 6, 2, 0], 3, Found::Ack, 8),
     // A fault is counted from the start.
-    (
-        &[6, 2, 0, 8, 2, 5, 0, 0x41],
-        0,
-        Item::Whole(Message::Ack),
-        3,
-    ),
+    (&[6, 2, 0, 8, 2, 5, 0, 0x41], 0, Found::Ack, 3),
     (
         &[6, 2, 0, 8, 2, 5, 0, 0x41],
         3,
-        Item::Malformed(DATA_CUT_SHORT),
+        Found::Fault(DATA_CUT_SHORT),
         8,
     ),
     // No bytes are one fault.
-    (&[], 0, Item::Malformed(NO_TYPE), 0),
+    (&[], 0, Found::Fault(NO_TYPE), 0),
 ];
 
 #[test]
 fn items(rt: HostRuntime) {
-    for (bytes, at, item, end) in ITEMS {
-        assert_eq!(rt; item_at(bytes, *at), (*item, *end));
+    for (bytes, at, found, end) in ITEMS {
+        assert_eq!(rt; item_at(bytes, *at), (item_of(*found), *end));
     }
 }

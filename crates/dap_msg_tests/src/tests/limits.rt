@@ -2,7 +2,7 @@
 
 use bitflags::Flags;
 use dap_msg::{
-    AccessFields, Attributes, Completion, Configuration, ControlFields, FileAccess, Message,
+    AccessFields, Attributes, Bytes, Completion, Configuration, ControlFields, FileAccess, Message,
     StatusFields, fits,
 };
 use std::test::Fail;
@@ -36,8 +36,11 @@ const I_255: &[u8] = &[0; 255];
 
 const I_256: &[u8] = &[0; 256];
 
-fn data<'a>(recnum: &'a [u8], payload: &'a [u8]) -> Message<&'a [u8]> {
-    Message::Filedata { recnum, payload }
+fn data<'a>(recnum: &'a [u8], payload: &'a [u8]) -> Message<'a> {
+    Message::Filedata {
+        recnum: Bytes(recnum),
+        payload: Bytes(payload),
+    }
 }
 
 /// A record number, the length of a record, and whether the message fits.
@@ -76,7 +79,7 @@ const OTHERS: &[(u8, usize, bool)] = &[
 
 /// Whether a message of no known layout with so much of an operand fits.
 fn fits_other(number: u8, operand: &[u8], length: usize) -> Option<bool> {
-    let body = operand.get(..length)?;
+    let body = Bytes(operand.get(..length)?);
     Some(fits(&Message::Other { number, body }))
 }
 
@@ -202,18 +205,18 @@ const ATTRIBUTES: &[AttributesRow] = &[
 #[test]
 fn of_attributes(rt: HostRuntime) {
     for (datatype, rat, alq, mrn, runsys, fop, dev, sdc, hbk, ebk, sbn, good) in ATTRIBUTES {
-        let attributes: Attributes<&[u8]> = Attributes {
+        let attributes = Attributes {
             datatype: Some(*datatype),
             rat: Some(*rat),
-            alq: Some(alq),
-            mrn: Some(mrn),
-            runsys: Some(runsys),
+            alq: Some(Bytes(alq)),
+            mrn: Some(Bytes(mrn)),
+            runsys: Some(Bytes(runsys)),
             fop: Some(*fop),
             dev: Some(*dev),
             sdc: Some(*sdc),
-            hbk: Some(hbk),
-            ebk: Some(ebk),
-            sbn: Some(sbn),
+            hbk: Some(Bytes(hbk)),
+            ebk: Some(Bytes(ebk)),
+            sbn: Some(Bytes(sbn)),
             ..Attributes::none()
         };
         assert_eq!(rt; fits(&Message::Attrib(attributes)), *good);
@@ -234,14 +237,14 @@ const ACCESS: &[(u64, &[u8], u32, u32, u32, &[u8], bool)] = &[
 #[test]
 fn of_access(rt: HostRuntime) {
     for (opt, name, fac, shr, display, password, good) in ACCESS {
-        let access: Message<&[u8]> = Message::Access(AccessFields {
+        let access = Message::Access(AccessFields {
             func: 1,
             opt: *opt,
-            name,
+            name: Bytes(name),
             fac: *fac,
             shr: *shr,
             display: *display,
-            password,
+            password: Bytes(password),
         });
         assert_eq!(rt; fits(&access), *good);
     }
@@ -259,13 +262,13 @@ const CONTROL: &[(&[u8], u64, &[u8], u32, bool)] = &[
 #[test]
 fn of_control(rt: HostRuntime) {
     for (key, rop, hsh, display, good) in CONTROL {
-        let control: ControlFields<&[u8]> = ControlFields {
+        let control = ControlFields {
             func: 1,
             rac: None,
-            key: Some(key),
+            key: Some(Bytes(key)),
             krf: None,
             rop: Some(*rop),
-            hsh: Some(hsh),
+            hsh: Some(Bytes(hsh)),
             display: Some(*display),
         };
         assert_eq!(rt; fits(&Message::Control(control)), *good);
@@ -283,11 +286,11 @@ const STATUS: &[(&[u8], &[u8], &[u8], bool)] = &[
 #[test]
 fn of_status(rt: HostRuntime) {
     for (rfa, recnum, stv, good) in STATUS {
-        let status: Message<&[u8]> = Message::Status(StatusFields {
+        let status = Message::Status(StatusFields {
             code: 0,
-            rfa,
-            recnum,
-            stv,
+            rfa: Bytes(rfa),
+            recnum: Bytes(recnum),
+            stv: Bytes(stv),
         });
         assert_eq!(rt; fits(&status), *good);
     }

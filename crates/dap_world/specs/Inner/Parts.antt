@@ -1,7 +1,8 @@
 -- What a world holds, and the state of the machine for which it stands.
 use Rattle.std.specs.Prelude.{◌≡◌, ◌⊎◌, ℕ, ◌+◌, ◌≤◌, List, [], ◌∷◌, ◌++◌, length, map, take, drop}
-use Rattle.dap_msg.specs.Message.{Message}
-use Rattle.dap_msg.specs.Items.{Item, Whole}
+use Rattle.dap_msg.specs.declared.message.Message.{Message}
+use Rattle.dap_msg.specs.declared.items.Item.{Item}
+use Rattle.dap_msg.specs.declared.items.Item.TheVariants.{Whole}
 use Rattle.dap_msg.specs.Blocked.{NspMessage, joined, Blocked, all_joined, messages_in, AllFit}
 use Rattle.nsp_link.specs.declared.link.LinkSetup.{LinkSetup}
 use Rattle.std.specs.Map.{keys_of}

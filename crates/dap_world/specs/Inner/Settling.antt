@@ -6,7 +6,7 @@ use Rattle.dap_world.specs.declared.event.Event.TheVariants as event
 use Rattle.dap_world.specs.declared.event.WorldFault.{WorldFault}
 use Rattle.dap_world.specs.Runs.{Runs}
 use Rattle.dap_world.specs.Machine.{State, EndState, Sending, MayEmit, next_to_read, posted, reported, end_of, sent_by, other, with_end}
-use Rattle.dap_msg.specs.Message.{Message}
+use Rattle.dap_msg.specs.declared.message.Message.{Message}
 use Rattle.dap_world.specs.Settling.{FinishFault, IsEmpty, RanBy, unacked}
 use Rattle.dap_world.specs.declared.event.End.TheVariants.{A, B}
 

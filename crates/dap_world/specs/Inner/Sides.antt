@@ -1,6 +1,6 @@
 -- What the world keeps of an end beside the end itself, and what one event adds to that.
-use Rattle.std.specs.Prelude.{◌≡◌, ◌≢◌, ℕ, ◌+◌, ◌-◌, ◌<◌, ◌≤◌, List, [], ◌∷◌, ◌++◌, length, Option, Some, None, All}
-use Rattle.nsp_link.specs.Link.{LinkValue, MaySend}
+use Rattle.std.specs.Prelude.{◌≡◌, ◌≢◌, ℕ, ◌+◌, ◌-◌, ◌<◌, ◌≤◌, List, [], ◌∷◌, ◌++◌, length, Option, Some, None, All, IsTrue, false}
+use Rattle.nsp_link.specs.Link.{LinkValue, may_send}
 use Rattle.nsp_link.specs.Cutting.{cut}
 use Rattle.nsp_link.specs.Limits.{most_segments}
 use Rattle.nsp_link.specs.Sending.{WritesSent}
@@ -42,8 +42,8 @@ pub record WroteOne (v : LinkValue) (old new : List Wired) (k : Option ℕ) (ans
 
 -- why no new segment is written
 abbrev pub EmitFault : LinkValue → WorldFault → Type 0
-EmitFault v fault.NothingToDo = MaySend v → ⊥
-EmitFault v fault.NoMemory = MaySend v
+EmitFault v fault.NothingToDo = may_send v ≡ false
+EmitFault v fault.NoMemory = IsTrue (may_send v)
 EmitFault v _ = ⊥
 
 -- why no segment is written again

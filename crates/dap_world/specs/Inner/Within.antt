@@ -1,8 +1,8 @@
 -- Messages, and the limit that an end knows, within a buffer.
 use Rattle.std.specs.Prelude.{ℕ, ◌≡◌, ◌≤◌, List, [], ◌∷◌, ◌++◌, length}
-use Rattle.dap_msg.specs.Message.{Message}
+use Rattle.dap_msg.specs.declared.message.Message.{Message}
 use Rattle.dap_msg.specs.Canon.{canon}
-use Rattle.dap_msg.specs.Items.{Item}
+use Rattle.dap_msg.specs.declared.items.Item.{Item}
 use Rattle.dap_accessed.specs.Groups.{limit_for}
 use Rattle.dap_accessing.specs.Request.{Request}
 use Rattle.dap_world.specs.Agreement.{items_of}

@@ -1,6 +1,6 @@
 -- What is true of every world.
 use Rattle.std.specs.Prelude.{ℕ, ◌≡◌, ◌+◌, ◌≤◌, ◌<◌, List, [], ◌∷◌, ◌++◌, length, map, Option, Some, None}
-use Rattle.dap_msg.specs.Items.{Whole}
+use Rattle.dap_msg.specs.declared.items.Item.TheVariants.{Whole}
 use Rattle.dap_msg.specs.Blocked.{messages_in}
 use Rattle.dap_accessed.specs.Groups.{Answers}
 use Rattle.dap_accessing.specs.Asked.{Asked}

@@ -1,8 +1,8 @@
 -- What is kept of a line while it is read.
-use Rattle.std.specs.Prelude.{◌≡◌, ◌≢◌, ℕ, ◌+◌, ◌<◌, ◌≤◌, Bool, true, All, List, [], ◌++◌, length, Option, Result, Ok, IfSome, OnSome, vec_len}
+use Rattle.std.specs.Prelude.{◌≡◌, ◌≢◌, ℕ, ◌+◌, ◌<◌, ◌≤◌, Bool, true, All, List, [], ◌++◌, length, Option, Result, Ok, IfSome, OnSome, vec_len, if◌then◌else◌}
 use Rattle.std.specs.Io.{StopsAt, IsEmptyOrEndsWith}
 use Rattle.std.specs.Io.KnownBytes.{Consumes, IsAtEnd}
-use Rattle.std.specs.Io.BufRead.{take_through, DropsThrough}
+use Rattle.std.specs.Io.BufRead.{take_through, ends_with_byte, strip_last, DropsThrough}
 use Rattle.std.specs.Global.{Vec}
 use Rattle.linewise.specs.Talks.{longest}
 use Rattle.linewise.specs.declared.input.Kept.{Kept}
@@ -20,6 +20,10 @@ Holds line read = HoldsAs line.kept line.bytes.items read
 
 abbrev pub HoldsMore : Line → Line → List ℕ → Type 0
 HoldsMore old new more = (read : List ℕ) → Holds old read → Holds new (read ++ more)
+
+-- a line without the line feed, or carriage return and line feed, at its end
+abbrev pub without_end : List ℕ → List ℕ
+without_end line = if ends_with_byte 10 line then strip_last 13 (strip_last 10 line) else strip_last 10 line
 
 -- Some bytes were taken of the reader, and are kept so. They go no further than the first line feed, and to it, or to the
 -- end, where the line is done.

@@ -1,13 +1,13 @@
 -- How the command line is built, and what it names.
-use Rattle.std.specs.Prelude.{◌≡◌, ◌≤◌, ◌∷◌, true, false, codes}
+use Rattle.std.specs.Prelude.{◌≡◌, ◌≤◌, [], ◌∷◌, true, false, codes, fold}
 use Rattle.clap.specs.declared.builder.command.Command.{Command}
 use Rattle.clap.specs.declared.builder.command.Command.TheViews.{out-Command}
-use Rattle.clap.specs.Words.{App, Text, app_of, with_rule}
+use Rattle.clap.specs.Words.{App, Text, app_of, new_app, with_rule}
 use Rattle.dap_msg.specs.BothEnds.{greatest_message, least_buffer}
 use Rattle.nsp_link.specs.Limits.{largest_segment, largest_window}
 use Rattle.live_cli.specs.declared.words.Task.{Task}
 use Rattle.live_cli.specs.declared.words.Task.TheVariants.{End, Follow}
-use Rattle.live_cli.specs.Words.{daplive, end_line, number, option}
+use Rattle.live_cli.specs.Words.{daplive, number, option}
 
 -- the command is another with more words, none of them global
 pub record Becomes (before : Command) (line : App) (command : Command) : Type 0 where
@@ -27,9 +27,16 @@ HasLimits before =
     (number (codes "window") (codes "8") 1 largest_window))
     (number (codes "buffer") (codes "1024") least_buffer greatest_message))
 
+-- the words behind the name of an end, with the digits of its usual addresses
+abbrev pub end_line_by : (name own other : Text) → App
+end_line_by name own other =
+    fold with_rule (new_app name)
+    (option (codes "local") own ∷ option (codes "remote") other ∷ number (codes "segment") (codes "512") 1 largest_segment
+    ∷ number (codes "window") (codes "8") 1 largest_window ∷ number (codes "buffer") (codes "1024") least_buffer greatest_message ∷ [])
+
 -- a command that is the command line of an end
 pub record IsEndLine (name own other : Text) (command : Command) : Type 0 where
-  pub app : app_of command ≡ end_line name own other
+  pub app : app_of command ≡ end_line_by name own other
   pub local : (out-Command command).has_globals ≡ false
 
 -- a command that is the program's command line

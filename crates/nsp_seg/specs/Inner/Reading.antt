@@ -4,14 +4,15 @@ use Rattle.nsp_seg.specs.declared.packet.AckField.{AckField}
 use Rattle.nsp_seg.specs.declared.packet.SegFault.{SegFault}
 use Rattle.nsp_seg.specs.declared.packet.SegFault.TheVariants.{Truncated, Trailing, NotHere, BadNumber}
 use Rattle.nsp_seg.specs.Numbers.{residue}
-use Rattle.nsp_seg.specs.Packets.{PacketValue, segment, data_ack}
+use Rattle.nsp_seg.specs.Packets.{Packet}
+use Rattle.nsp_seg.specs.declared.packet.Packet.TheVariants.{Segment, DataAck}
 
 infixl 10 ◌>>=◌
 abbrev pub ◌>>=◌ : {A B : Type 0} → Result A SegFault → (A → Result B SegFault) → Result B SegFault
 (Ok x) >>= f = f x
 (Err e) >>= f = Err e
 
--- what a function returned, seen by view, is what reading gives
+-- what a function returned, seen without where it lies in memory, is what reading gives
 abbrev pub Gives : {X Y : Type 0} → (X → Y) → Result X SegFault → Result Y SegFault → Type 0
 Gives view (Ok x) read = read ≡ Ok (view x)
 Gives view (Err e) read = read ≡ Err e
@@ -36,12 +37,12 @@ tail_of bytes = do
       three ← word_at 9 two.1
       if nat_lt three.0 0x8000 then Ok (ack_of one.0, ack_of two.0, three.0, three.1) else Err (BadNumber 9)))
 
-unfoldable pub segment_of : ℕ → List ℕ → Result PacketValue SegFault
+unfoldable pub segment_of : ℕ → List ℕ → Result Packet SegFault
 segment_of flag bytes = do
   dst ← word_at 1 bytes
   src ← word_at 3 dst.1
   tail ← tail_of src.1
-  Ok (segment (record { first = flag == 0x20 || flag == 0x60; last = flag == 0x40 || flag == 0x60; dst = dst.0; src = src.0; ack1 = tail.0; ack2 = tail.1; number = residue tail.2; payload = tail.3 }))
+  Ok (Segment (record { first = flag == 0x20 || flag == 0x60; last = flag == 0x40 || flag == 0x60; dst = dst.0; src = src.0; ack1 = tail.0; ack2 = tail.1; number = residue tail.2; payload = tail.3 }))
 
 unfoldable pub second_of : List ℕ → Result (Option AckField) SegFault
 second_of [] = Ok None
@@ -53,16 +54,16 @@ abbrev pub or_bad : Option AckField → Result AckField SegFault
 or_bad None = Err (BadNumber 5)
 or_bad (Some a) = Ok a
 
-unfoldable pub data_ack_of : List ℕ → Result PacketValue SegFault
+unfoldable pub data_ack_of : List ℕ → Result Packet SegFault
 data_ack_of bytes = do
   dst ← word_at 1 bytes
   src ← word_at 3 dst.1
   one ← word_at 5 src.1
   ack1 ← or_bad (ack_of one.0)
   ack2 ← second_of one.1
-  Ok (data_ack (record { dst = dst.0; src = src.0; ack1 = ack1; ack2 = ack2 }))
+  Ok (DataAck (record { dst = dst.0; src = src.0; ack1 = ack1; ack2 = ack2 }))
 
-unfoldable pub read : List ℕ → Result PacketValue SegFault
+unfoldable pub read : List ℕ → Result Packet SegFault
 read [] = Err (Truncated 0)
 read (flag ∷ rest) =
     if flag == 0x00 || flag == 0x20 || flag == 0x40 || flag == 0x60 then segment_of flag rest else

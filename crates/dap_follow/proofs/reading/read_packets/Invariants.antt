@@ -1,8 +1,8 @@
 use Rattle.std.proofs.Common.{◌≡◌, ◌≤◌, ◌+◌, ◌++◌, List, length, vec_len}
 use Rattle.std.specs.List.{AllZip}
-use Rattle.dap_listing.specs.Listing.{captures, faults_from, line_faults, packet_limit}
+use Rattle.dap_listing.specs.Listing.{captures, faults_from, packet_limit}
 use Rattle.dap_listing.specs.Lines.{Capture}
-use Rattle.dap_follow.specs.Streams.{Packet}
+use Rattle.dap_follow.specs.Streams.{Captured}
 use Rattle.dap_follow.specs.Following.{IsCaptured}
 use Rattle.dap_follow.specs.Inner.Reading.{Reads}
 use Rattle.dap_follow.proofs.reading.read_packets.Given as goal
@@ -11,9 +11,9 @@ abbrev pub invariant-loop-reading : goal.invariant-loop-reading
 invariant-loop-reading l = record {
   room : vec_len l.room ≡ 4096;
   lines : l.at + length l.rest ≤ 1 + length l.input;
-  so_far : (packets : List Packet) × (done : List Capture) × AllZip IsCaptured done packets × (captures packet_limit l.input ≡ done ++ captures packet_limit l.rest)
+  so_far : (packets : List Captured) × (done : List Capture) × AllZip IsCaptured done packets × (captures packet_limit l.input ≡ done ++ captures packet_limit l.rest)
       × Reads packets l.reading × (length packets + length l.rest ≤ length l.input);
-  clean : line_faults packet_limit l.input ≡ faults_from packet_limit l.at l.rest;
+  clean : faults_from packet_limit 1 l.input ≡ faults_from packet_limit l.at l.rest;
 }
 
 abbrev pub decreases-loop-reading : goal.decreases-loop-reading

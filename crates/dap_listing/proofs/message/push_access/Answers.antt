@@ -11,17 +11,17 @@ pub returns : goal.returns
 returns c =
     let t0 = c.args.text.now.items in
     let t1 = c.push_number.new.text.items in
-    let p1 : List ℕ = codes "  access func=" ++ decimal c.args.access.func in
+    let p1 : List ℕ = codes "  access func=" ++ decimal c.args.access.now.func in
     let t2 = c.push_number-2.new.text.items in
-    let p2 : List ℕ = codes " opt=" ++ decimal c.args.access.opt in
+    let p2 : List ℕ = codes " opt=" ++ decimal c.args.access.now.opt in
     let t3 = c.push_image.new.text.items in
-    let p3 : List ℕ = codes " name=" ++ image_text c.args.access.name.now in
+    let p3 : List ℕ = codes " name=" ++ image_text c.args.access.now.name in
     let t4 = c.push_str.new.text.items in
     let p4 : List ℕ = codes " " in
     let t5 = c.push_wanted.new.text.items in
-    let p5 : List ℕ = wanted_text c.args.access.fac c.args.access.shr c.args.access.display in
+    let p5 : List ℕ = wanted_text c.args.access.now.fac c.args.access.now.shr c.args.access.now.display in
     let t6 = c.push_number-3.new.text.items in
-    let p6 : List ℕ = codes " password=" ++ decimal (length c.args.access.password.now) in
+    let p6 : List ℕ = codes " password=" ++ decimal (length c.args.access.now.password) in
     let end = c.push_str-2.new.text.items in
     let ends : OnOk c.push_str-2.result (end ≡ t6 ++ line_feed) = search rules in
-    on_ok_weaker c.push_str-2.result (λ ended. appended_twice t0 t1 end p1 (p2 ++ (p3 ++ (p4 ++ (p5 ++ (p6 ++ (line_feed)))))) c.in_ok-push_number.ensures (appended_twice t1 t2 end p2 (p3 ++ (p4 ++ (p5 ++ (p6 ++ (line_feed))))) c.in_ok-push_number-2.ensures (appended_twice t2 t3 end p3 (p4 ++ (p5 ++ (p6 ++ (line_feed)))) c.in_ok-push_image.ensures (appended_twice t3 t4 end p4 (p5 ++ (p6 ++ (line_feed))) c.in_ok-push_str.ensures (appended_twice t4 t5 end p5 (p6 ++ (line_feed)) c.in_ok-push_wanted.ensures (appended_twice t5 t6 end p6 (line_feed) c.in_ok-push_number-3.ensures ended)))))) ends
+    on_ok_weaker c.push_str-2.result (λ ended. appended_twice t0 t1 end p1 (p2 ++ (p3 ++ (p4 ++ (p5 ++ (p6 ++ (line_feed)))))) c.in_ok-push_number.ensures (appended_twice t1 t2 end p2 (p3 ++ (p4 ++ (p5 ++ (p6 ++ (line_feed))))) c.in_ok-push_number-2.ensures (appended_twice t2 t3 end p3 (p4 ++ (p5 ++ (p6 ++ (line_feed)))) (rw c.name.view_is at c.in_ok-push_image.ensures) (appended_twice t3 t4 end p4 (p5 ++ (p6 ++ (line_feed))) c.in_ok-push_str.ensures (appended_twice t4 t5 end p5 (p6 ++ (line_feed)) c.in_ok-push_wanted.ensures (appended_twice t5 t6 end p6 (line_feed) (rw c.password.view_is at c.in_ok-push_number-3.ensures) ended)))))) ends

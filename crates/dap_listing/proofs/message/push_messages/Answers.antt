@@ -1,6 +1,5 @@
 use Rattle.std.proofs.Common.{◌≡◌, ◌≤◌, ◌<◌, ◌-◌, ◌++◌, ℕ, [], length, arith, sym, refl, ap}
 use Rattle.std.proofs.lemmas.List.{append-nil}
-use Rattle.dap_msg.specs.Items.{seen_item}
 use Rattle.dap_listing.specs.Messages.{item_line}
 use Rattle.dap_listing.specs.Captured.{AreDecoded, bytes_of}
 use Rattle.dap_listing.proofs.DigitLemmas.{count_of}
@@ -20,22 +19,22 @@ items-init c = record {
 
 pub overflow_sub-start : goal.overflow_sub-start
 overflow_sub-start c =
-    let item = seen_item c.item_at-next.result.0 in
-    let within = size_within item c.decode_to-known.new.bytes c.items.at c.item_at-next.result.1 c.item_at-next.ensures.exact in
+    let item = c.item_at-item.result.0 in
+    let within = size_within item c.decode_to-known.new.bytes c.items.at c.item_at-item.result.1 c.item_at-item.ensures.exact in
     omega (arith, within, c.record_size.ensures)
 
 pub returns-then-next-nsp_message : goal.returns-then-next-nsp_message
 returns-then-next-nsp_message c =
     let digits = c.args.digits.now in
     let room = c.decode_to-known.new.bytes in
-    let next = c.item_at-next.result.1 in
-    let item = seen_item c.item_at-next.result.0 in
+    let next = c.item_at-item.result.1 in
+    let item = c.item_at-item.result.0 in
     let size = c.decode_to-known.ensures.size in
     let spelled = c.items.invariant.spelled in
     let decoded : AreDecoded digits c.items.at c.decode_to-known.result room =
     c.decode_to-known.ensures.decoded c.items.at (λ i low high. c.items.invariant.decoded i low (omega (arith, low, high, c.max.ensures))) in
     let read = read_is item digits room c.items.at next c.decode_to-known.result (next - c.record_size.result) (spelled.0, omega (arith, spelled.1, size))
-    c.item_at-next.ensures.within c.item_at-next.ensures.exact (ap (λ (k : ℕ). next - k) c.record_size.ensures) c.if-known-start.false decoded in
+    c.item_at-item.ensures.within c.item_at-item.ensures.exact (ap (λ (k : ℕ). next - k) c.record_size.ensures) c.if-known-start.false decoded in
     let so_far = c.items.invariant.so_far in
     let end : next ≡ length (bytes_of digits) = omega (arith, c.if-next-nsp_message.true, count_of digits (length c.items.nsp_message) spelled, size) in
     ends_here (bytes_of digits) c.items.at next _ so_far.0 c.args.text.now.items _ _ read.1 end so_far.2 so_far.1 c.in_ok-push_item.ensures
@@ -44,18 +43,18 @@ pub items-preserved : goal.items-preserved
 items-preserved c =
     let digits = c.args.digits.now in
     let room = c.decode_to-known.new.bytes in
-    let next = c.item_at-next.result.1 in
-    let item = seen_item c.item_at-next.result.0 in
+    let next = c.item_at-item.result.1 in
+    let item = c.item_at-item.result.0 in
     let size = c.decode_to-known.ensures.size in
     let spelled = c.items.invariant.spelled in
     let decoded : AreDecoded digits c.items.at c.decode_to-known.result room =
     c.decode_to-known.ensures.decoded c.items.at (λ i low high. c.items.invariant.decoded i low (omega (arith, low, high, c.max.ensures))) in
     let read = read_is item digits room c.items.at next c.decode_to-known.result (next - c.record_size.result) (spelled.0, omega (arith, spelled.1, size))
-    c.item_at-next.ensures.within c.item_at-next.ensures.exact (ap (λ (k : ℕ). next - k) c.record_size.ensures) c.if-known-start.false decoded in
+    c.item_at-item.ensures.within c.item_at-item.ensures.exact (ap (λ (k : ℕ). next - k) c.record_size.ensures) c.if-known-start.false decoded in
     let so_far = c.items.invariant.so_far in
-    let within : next ≤ length room = c.item_at-next.ensures.within in
+    let within : next ≤ length room = c.item_at-item.ensures.within in
     let below : next < length room = omega (arith, c.if-next-nsp_message.false, within) in
-    let further : c.items.at < next = c.item_at-next.ensures.further (omega (arith, c.items.invariant.before_end (omega (arith, below)), size)) in
+    let further : c.items.at < next = c.item_at-item.ensures.further (omega (arith, c.items.invariant.before_end (omega (arith, below)), size)) in
     let below_all : next < length (bytes_of digits) = omega (arith, below, count_of digits (length c.items.nsp_message) spelled, size) in
     record {
       inside = within;

@@ -13,5 +13,5 @@ returns-clause-err c =
     err_always c.push_gone.result (
       c.args.text.now.items ++ (reports_text c.go_on-gone.new.reports.items ++ (packets_text packets ++ (gone_said end_refusal gone).0)),
       Told (gone_said end_refusal gone).1,
-      record { gone = gone; packets = packets; went = c.go_on-gone.ensures; says = refl; ends = refl },
+      record { gone = gone; packets = packets; went = c.go_on-gone.ensures; says = refl; ended = refl },
     )

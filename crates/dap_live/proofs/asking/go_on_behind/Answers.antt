@@ -2,7 +2,7 @@ use Rattle.std.proofs.Common.{refl, ◌++◌}
 use Rattle.dap_msg.specs.Blocked.{bodies}
 use Rattle.dap_live.specs.declared.asking.Came.TheVariants.{Told}
 use Rattle.dap_live.specs.Texts.{end_refusal, packets_text, reports_text}
-use Rattle.dap_live.specs.Asking.{front_text}
+use Rattle.dap_live.specs.Inner.Saying.{front_text}
 use Rattle.dap_live.specs.Both.{gone_said}
 use Rattle.dap_live.proofs.ResultLemmas.{err_always}
 use Rattle.dap_live.proofs.asking.go_on_behind.Goals as goal
@@ -14,7 +14,7 @@ returns-in_err-push_front-clause-err c =
     err_always c.from_residual.result (
       front_text c.args.front ++ (reports_text c.go_on-gone.new.reports.items ++ (packets_text packets ++ (gone_said end_refusal gone).0)),
       Told (gone_said end_refusal gone).1,
-      record { gone = gone; packets = packets; went = c.go_on-gone.ensures; says = refl; ends = refl },
+      record { gone = gone; packets = packets; went = c.go_on-gone.ensures; says = refl; ended = refl },
     )
 
 pub returns-clause-err : goal.returns-clause-err
@@ -24,5 +24,5 @@ returns-clause-err c =
     err_always c.push_gone.result (
       front_text c.args.front ++ (reports_text c.go_on-gone.new.reports.items ++ (packets_text packets ++ (gone_said end_refusal gone).0)),
       Told (gone_said end_refusal gone).1,
-      record { gone = gone; packets = packets; went = c.go_on-gone.ensures; says = refl; ends = refl },
+      record { gone = gone; packets = packets; went = c.go_on-gone.ensures; says = refl; ended = refl },
     )

@@ -1,9 +1,9 @@
-use Rattle.std.proofs.Common.{sym, ◌∙◌, ◌++◌}
+use Rattle.std.proofs.Common.{refl, sym, ◌∙◌, ◌++◌}
 use Rattle.linewise.specs.declared.talking.Became.TheVariants.{Done}
 use Rattle.dap_live.specs.declared.asking.Came.TheVariants.{Told}
 use Rattle.dap_live.specs.Texts.{reports_text}
 use Rattle.dap_live.proofs.ResultLemmas.{err_always, err_from}
-use Rattle.dap_live.proofs.ReachLemmas.{asking_goes, asking_stays}
+use Rattle.dap_live.proofs.ReachLemmas.{where_left, where_none}
 use Rattle.dap_live.proofs.asking.go_on_if_left.Goals as goal
 
 pub returns-in_err-push_reports-clause-err : goal.returns-in_err-push_reports-clause-err
@@ -11,10 +11,10 @@ returns-in_err-push_reports-clause-err c =
     err_always c.from_residual.result (
       c.args.text.now.items ++ reports_text c.args.asking.now.reports.items,
       Told Done,
-      asking_stays _ (sym c.goes_on.ensures ∙ c.if-goes_on.false) c.args.asking.now c.args.text.now.items,
+      where_none _ (sym c.goes_on.ensures ∙ c.if-goes_on.false) _ _ (refl, refl, refl, refl),
     )
 
 pub returns-then-goes_on-clause-err : goal.returns-then-goes_on-clause-err
 returns-then-goes_on-clause-err c =
     err_from c.go_on_again.result c.go_on_again.ensures.err
-    (λ done. (done.0, done.1, asking_goes _ (sym c.goes_on.ensures ∙ c.if-goes_on.true) _ _ _ _ done.0 done.1 done.2))
+    (λ done. (done.0, done.1, where_left _ (sym c.goes_on.ensures ∙ c.if-goes_on.true) _ _ done.2))

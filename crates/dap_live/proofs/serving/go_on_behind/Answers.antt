@@ -12,5 +12,5 @@ returns-clause-err c =
     err_always c.push_gone.result (
       c.args.text.now.items ++ (packets_text packets ++ (gone_said link_refusal gone).0),
       (gone_said link_refusal gone).1,
-      record { gone = gone; packets = packets; went = c.go_on-gone.ensures; says = refl; ends = refl },
+      record { gone = gone; packets = packets; went = c.go_on-gone.ensures; says = refl; ended = refl },
     )

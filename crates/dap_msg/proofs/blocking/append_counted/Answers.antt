@@ -1,6 +1,5 @@
 use Rattle.std.proofs.Common.{◌≡◌, ◌∙◌, ◌-◌, ◌++◌, length, arith, refl, suc, ap, true}
 use Rattle.std.specs.Vec.{with_item}
-use Rattle.dap_msg.specs.Message.{seen}
 use Rattle.dap_msg.specs.Canon.{canon}
 use Rattle.dap_msg.specs.Blocked.{room_after, bodies}
 use Rattle.dap_msg.proofs.Blocks.{no_room, some_there, joined_last}
@@ -14,7 +13,7 @@ index_mut-requires c = grind (arith, some_there, c.has_room.ensures, c.if-has_ro
 
 pub returns-then-has_room : goal.returns-then-has_room
 returns-then-has_room c =
-    let m = canon (seen c.args.message.now) in
+    let m = canon c.args.message.now in
     let full : room_after c.args.limit c.args.list.now.items (length m) ≡ true = cc in
     let last : length c.args.list.now.items ≡ suc (c.len-last.result - 1) = grind (arith, some_there, c.has_room.ensures, c.if-has_room.true, c.deref.ensures.value, c.args.list.now.ok.0, c.len-last.ensures) in
     joined_last c.args.limit c.args.list.now (with_item c.args.list.now (c.len-last.result - 1) c.encode_counted.new.out) (c.len-last.result - 1) c.index_mut.result.now c.encode_counted.new.out m c.encode_counted.result refl
@@ -22,6 +21,6 @@ returns-then-has_room c =
 
 pub returns : goal.returns
 returns c =
-    let m = canon (seen c.args.message.now) in
+    let m = canon c.args.message.now in
     ap bodies c.in_ok-push.ensures.items
     ∙ no_room c.args.limit c.args.list.now.items c.encode_counted-2.new.out m (c.in_ok-encode_counted.ensures.appends ∙ ap (λ l. l ++ m) c.new-first.ensures.items) cc

@@ -1,11 +1,10 @@
-use Rattle.std.proofs.Common.{rules, arith, ◌≡◌, ℕ, List, Bor}
+use Rattle.std.proofs.Common.{rules, arith, ◌≡◌, ℕ, List}
 use Rattle.dap_msg.specs.declared.message.Message.{Message}
 use Rattle.dap_msg.specs.declared.message.Message.TheVariants.{Filedata, Other}
-use Rattle.dap_msg.specs.Message.{seen}
 use Rattle.dap_msg.proofs.Sizes.{IsPlainMessage, plain_short}
 use Rattle.dap_msg.proofs.fitting.operand_fits.Goals as goal
 
-plain : (m : Message (Bor (List ℕ))) → ((x x' : Bor (List ℕ)) → m ≡ Filedata x x' → ⊥) → ((x : ℕ) (x' : Bor (List ℕ)) → m ≡ Other x x' → ⊥) → IsPlainMessage (seen m)
+plain : (m : Message) → ((x x' : List ℕ) → m ≡ Filedata x x' → ⊥) → ((x : ℕ) (x' : List ℕ) → m ≡ Other x x' → ⊥) → IsPlainMessage m
 plain m none none' = grind (arith, none, none')
 
 pub returns-in_default : goal.returns-in_default

@@ -1,6 +1,5 @@
 use Rattle.std.proofs.Common.{◌≡◌, ◌+◌, ℕ, List, length, drop, Err, refl, subst, arith}
 use Rattle.dap_msg.specs.declared.fault.MsgFault.{MsgFault}
-use Rattle.dap_msg.specs.Message.{seen}
 use Rattle.dap_msg.specs.Decoding.{StandsInFront, IsFault, IsDecoded, type_in_front}
 use Rattle.dap_msg.specs.Items.{Whole, Malformed, ItemAt}
 use Rattle.dap_msg.proofs.Listing.{one_item}
@@ -11,8 +10,8 @@ malformed bytes rest at f e h = (f.offset, subst (λ b. IsFault b f.kind f.offse
 
 pub returns-in-Ok-clause-only : goal.returns-in-Ok-clause-only
 returns-in-Ok-clause-only c = λ item next h.
-    one_item c.args.nsp_message.now c.args.at (Whole (seen c.in-Ok.message)) item (c.args.at + c.in-Ok.len) next (λ i. omega (arith, c.type_inv.nsp_message i))
-    (c.in-Ok.len, subst (λ b. StandsInFront (seen c.in-Ok.message) c.in-Ok.len b) c.split_at.ensures.back c.in-Ok.ensures.exact, refl) h
+    one_item c.args.nsp_message.now c.args.at (Whole c.in-Ok.message) item (c.args.at + c.in-Ok.len) next (λ i. omega (arith, c.type_inv.nsp_message i))
+    (c.in-Ok.len, subst (λ b. StandsInFront c.in-Ok.message c.in-Ok.len b) c.split_at.ensures.back c.in-Ok.ensures.exact, refl) h
 
 pub returns-in-Err-clause-exact : goal.returns-in-Err-clause-exact
 returns-in-Err-clause-exact c = malformed c.args.nsp_message.now _ c.args.at c.in-Err.fault c.split_at.ensures.back c.in-Err.ensures.exact

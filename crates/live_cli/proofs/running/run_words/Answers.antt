@@ -1,4 +1,4 @@
-use Rattle.std.proofs.Common.{◌≡◌, rules, map, string_bytes, codes, ap, subst, ◌∙◌, inl, inr, refl}
+use Rattle.std.proofs.Common.{◌≡◌, rules, map, string_bytes, ap, subst, ◌∙◌, inl, inr, refl}
 use Rattle.std.specs.Prelude.{IfSome, Some, None}
 use Rattle.clap.specs.Words.{fault_of}
 use Rattle.cli_faults.proofs.ForCallers.{memory_or_help, memory_or_mistake, only_memory}
@@ -19,7 +19,7 @@ returns-in-Err g c =
     let new = g.W.Write.contents c.refuse.new.writer in
     record {
       named = λ task none named. refused task input old new c.refuse.result (c.refuse.ensures.memory (only_memory kinds e none has));
-      usual = λ program role words. refused (End (usual role)) input old new c.refuse.result
+      usual = λ program role words. refused (End (usual role).1) input old new c.refuse.result
           (c.refuse.ensures.memory (only_memory kinds e (ap (fault_of daplive) words ∙ no_fault program role) has));
       follow = λ program words. refused Follow input old new c.refuse.result
           (c.refuse.ensures.memory (only_memory kinds e (ap (fault_of daplive) words ∙ no_fault_follow program) has));
@@ -45,7 +45,7 @@ pub returns-in-Ok-Some-clause-usual : goal.returns-in-Ok-Some-clause-usual
 returns-in-Ok-Some-clause-usual g c program role named =
     let words = map string_bytes c.args.words.now in
     let named_first : Some c.in-Ok-Some.task ≡ task_of words = search rules in
-    let same = one_task words c.in-Ok-Some.task (End (usual role)) named_first (ap task_of named ∙ names_usual program role) in
+    let same = one_task words c.in-Ok-Some.task (End (usual role).1) named_first (ap task_of named ∙ names_usual program role) in
     subst (λ (task : Task). IfSome (g.R.Read.remaining c.args.reader.now) (λ input. TaskGives task input (g.W.Write.contents c.args.writer.now) (g.W.Write.contents c.run_task.new.writer) c.run_task.result)) same c.run_task.ensures
 
 pub returns-in-Ok-Some-clause-follow : goal.returns-in-Ok-Some-clause-follow
@@ -59,7 +59,7 @@ pub returns-in-Ok-None-clause-usual : goal.returns-in-Ok-None-clause-usual
 returns-in-Ok-None-clause-usual g c program role named =
     let words = map string_bytes c.args.words.now in
     let none : None ≡ task_of words = search rules in
-    absurd (none_named words (End (usual role)) none (ap task_of named ∙ names_usual program role))
+    absurd (none_named words (End (usual role).1) none (ap task_of named ∙ names_usual program role))
 
 pub returns-in-Ok-None-clause-follow : goal.returns-in-Ok-None-clause-follow
 returns-in-Ok-None-clause-follow g c program named =

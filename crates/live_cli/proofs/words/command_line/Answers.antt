@@ -1,7 +1,6 @@
-use Rattle.std.proofs.Common.{◌∙◌, ap, sym, rules, false, ◌||◌}
+use Rattle.std.proofs.Common.{◌∙◌, ap, sym, rules}
 use Rattle.clap.specs.Words.{App, app_of, with_subcommand}
-use Rattle.clap.specs.declared.builder.command.Command.TheViews.{out-Command}
-use Rattle.live_cli.specs.Words.{end_line}
+use Rattle.live_cli.proofs.RunLemmas.{daplive_by}
 use Rattle.live_cli.proofs.words.command_line.Goals as goal
 
 pub returns-clause-line : goal.returns-clause-line
@@ -14,7 +13,7 @@ returns-clause-line c =
     let app = third.shape c.follow_command.ensures.local
     ∙ ap (λ (a : App). with_subcommand a (app_of c.follow_command.result).top) (second.shape ask.local
     ∙ ap (λ (a : App). with_subcommand a (app_of c.in_ok-end_command-2.field-0).top) (first.shape serve.local))
-    ∙ search rules in
+    ∙ search rules ∙ sym daplive_by in
     record {
       app = app;
       local = search rules;

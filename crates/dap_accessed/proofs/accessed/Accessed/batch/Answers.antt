@@ -10,7 +10,7 @@ use Rattle.dap_accessed.specs.Inner.Moves.{plain_memory, scene_in}
 use Rattle.rec_file.specs.AnyFiles.{any_value}
 use Rattle.rec_file.specs.Files.{records_from}
 use Rattle.dap_msg.specs.Canon.{file_data_size}
-use Rattle.dap_msg.specs.Message.{Message}
+use Rattle.dap_msg.specs.declared.message.Message.{Message}
 use Rattle.dap_msg.specs.declared.message.Message.TheVariants.{Filedata}
 use Rattle.dap_accessed.specs.Present.{Present}
 use Rattle.dap_accessed.specs.Inner.Written.{Answered}

@@ -1,5 +1,4 @@
 use Rattle.std.proofs.Common.{ap, ◌∙◌, subst, arith}
-use Rattle.dap_msg.specs.Items.{seen_item}
 use Rattle.dap_msg.specs.Blocked.{Blocked, all_joined, AllFit}
 use Rattle.dap_accessed.proofs.StepIs.{stands-more, answers-are, same-own}
 use Rattle.dap_accessed.proofs.Silent.{silent-is}
@@ -8,7 +7,7 @@ use Rattle.dap_accessed.proofs.accessed.Accessed.serve_item.Goals as goal
 
 pub returns-clause-serves : goal.returns-clause-serves
 returns-clause-serves c bytes at there =
-    let item = seen_item c.args.item in
+    let item = c.args.item in
     let old = c.args.self.now in
     let moves = c.in_ok-answers.ensures.ok in
     record {
@@ -25,4 +24,4 @@ returns-clause-serves c bytes at there =
     }
 
 pub returns-in_err-answers-clause-unrefused : goal.returns-in_err-answers-clause-unrefused
-returns-in_err-answers-clause-unrefused c = λ first items h none. (let taken = c.in_err-answers.ensures.silent (silent-is c.args.self.now first items (seen_item c.args.item) h none) in cc)
+returns-in_err-answers-clause-unrefused c = λ first items h none. (let taken = c.in_err-answers.ensures.silent (silent-is c.args.self.now first items c.args.item h none) in cc)

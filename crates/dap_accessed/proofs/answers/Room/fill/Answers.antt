@@ -2,7 +2,7 @@ use Rattle.std.proofs.Common.{◌∷◌, ◌++◌, [], ap, ◌∙◌, subst, Lis
 use Rattle.std.specs.Global.{Vec}
 use Rattle.dap_msg.specs.Canon.{canon}
 use Rattle.dap_msg.specs.BothEnds.{least_buffer}
-use Rattle.dap_msg.specs.Message.{Message}
+use Rattle.dap_msg.specs.declared.message.Message.{Message}
 use Rattle.dap_msg.specs.Blocked.{bodies}
 use Rattle.dap_msg.specs.Written.{AppendsMessage}
 use Rattle.dap_accessed.specs.Inner.Written.{message_of, most_bytes}

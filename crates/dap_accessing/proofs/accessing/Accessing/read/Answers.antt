@@ -1,6 +1,5 @@
 use Rattle.std.proofs.Common.{◌∙◌, ap, sym, subst, refl, true}
-use Rattle.dap_msg.specs.Items.{ItemAt, ItemFits, seen_item}
-use Rattle.dap_msg.specs.Message.{seen}
+use Rattle.dap_msg.specs.Items.{ItemAt, ItemFits}
 use Rattle.dap_accessing.specs.Present.{Present}
 use Rattle.dap_msg.proofs.ForCallers.{fields_fit}
 use Rattle.dap_accessing.proofs.Numbers.{short_numbers}
@@ -9,20 +8,20 @@ use Rattle.dap_accessing.proofs.accessing.Accessing.read.Goals as goal
 
 pub returns-in_default-clause-refused : goal.returns-in_default-clause-refused
 returns-in_default-clause-refused c =
-    rest_refused c.args.nsp_message.now c.args.at c.in_default.field-0 c.item_at-next.result.1 c.args.self.now (record c.args.self.now { failed = true }) (ap (λ (v : Present). v.failed) (sym c.self.view_is) ∙ c.if-self.false)
-    (subst (λ i. ItemAt c.args.nsp_message.now c.args.at (seen_item i) c.item_at-next.result.1) c.in_default.is c.item_at-next.ensures.exact) refl
+    rest_refused c.args.nsp_message.now c.args.at c.in_default.field-0 c.item_at-item.result.1 c.args.self.now (record c.args.self.now { failed = true }) (ap (λ (v : Present). v.failed) (sym c.self.view_is) ∙ c.if-self.false)
+    (subst (λ i. ItemAt c.args.nsp_message.now c.args.at i c.item_at-item.result.1) c.in_default.is c.item_at-item.ensures.exact) refl
 
 pub returns-in-Err-clause-refused : goal.returns-in-Err-clause-refused
 returns-in-Err-clause-refused c =
-    taken_refused c.args.nsp_message.now c.args.at (seen c.in-Whole.message) c.item_at-next.result.1 c.args.self.now c.take.new.self c.in-Err.fault (ap (λ (v : Present). v.failed) (sym c.self.view_is) ∙ c.if-self.false)
-    (subst (λ i. ItemAt c.args.nsp_message.now c.args.at (seen_item i) c.item_at-next.result.1) c.in-Whole.is c.item_at-next.ensures.exact) c.in-Err.ensures.takes
+    taken_refused c.args.nsp_message.now c.args.at c.in-Whole.message c.item_at-item.result.1 c.args.self.now c.take.new.self c.in-Err.fault (ap (λ (v : Present). v.failed) (sym c.self.view_is) ∙ c.if-self.false)
+    (subst (λ i. ItemAt c.args.nsp_message.now c.args.at i c.item_at-item.result.1) c.in-Whole.is c.item_at-item.ensures.exact) c.in-Err.ensures.takes
 
 pub returns-in-Ok-clause-reads : goal.returns-in-Ok-clause-reads
 returns-in-Ok-clause-reads c =
-    taken_read c.args.nsp_message.now c.args.at (seen c.in-Whole.message) c.item_at-next.result.1 c.args.self.now c.take.new.self c.in-Ok.report (ap (λ (v : Present). v.failed) (sym c.self.view_is) ∙ c.if-self.false)
-    (subst (λ i. ItemAt c.args.nsp_message.now c.args.at (seen_item i) c.item_at-next.result.1) c.in-Whole.is c.item_at-next.ensures.exact) c.in-Ok.ensures.takes
+    taken_read c.args.nsp_message.now c.args.at c.in-Whole.message c.item_at-item.result.1 c.args.self.now c.take.new.self c.in-Ok.report (ap (λ (v : Present). v.failed) (sym c.self.view_is) ∙ c.if-self.false)
+    (subst (λ i. ItemAt c.args.nsp_message.now c.args.at i c.item_at-item.result.1) c.in-Whole.is c.item_at-item.ensures.exact) c.in-Ok.ensures.takes
 
 pub take-requires : goal.take-requires
 take-requires c = record {
-  short = short_numbers (seen c.in-Whole.message) (fields_fit (seen c.in-Whole.message) (subst (λ i. ItemFits (seen_item i)) c.in-Whole.is c.item_at-next.ensures.fields));
+  short = short_numbers c.in-Whole.message (fields_fit c.in-Whole.message (subst (λ i. ItemFits i) c.in-Whole.is c.item_at-item.ensures.fields));
 }

@@ -1,5 +1,5 @@
-use Rattle.std.proofs.Common.{sym, subst}
-use Rattle.nsp_link.specs.Link.{LinkValue, MaySend}
+use Rattle.std.proofs.Common.{◌≡◌, ◌∙◌, sym, subst, false, IsTrue}
+use Rattle.nsp_link.specs.Link.{LinkValue, may_send}
 use Rattle.dap_world.specs.declared.event.End.TheVariants.{A, B}
 use Rattle.dap_world.specs.Inner.WorldView.{parts_of}
 use Rattle.dap_world.proofs.Wrote.{can, cannot}
@@ -9,14 +9,14 @@ pub returns-in-A : goal.returns-in-A
 returns-in-A c =
     rw (← c.self.view_is, c.in-A.is)
     (record {
-      yes = λ e. can (parts_of c.self.inside) A c.self.invariant (subst (λ (v : LinkValue). MaySend v) c.link.ensures (c.may_send.ensures.yes e));
-      no = λ e. cannot (parts_of c.self.inside) A c.self.invariant (λ may. c.may_send.ensures.no e (subst (λ (v : LinkValue). MaySend v) (sym c.link.ensures) may));
+      yes = λ e. can (parts_of c.self.inside) A c.self.invariant (subst (λ (v : LinkValue). IsTrue (may_send v)) c.link.ensures (sym c.may_send.ensures ∙ e));
+      no = λ e. cannot (parts_of c.self.inside) A c.self.invariant (subst (λ (v : LinkValue). may_send v ≡ false) c.link.ensures (sym c.may_send.ensures ∙ e));
     })
 
 pub returns-in-B : goal.returns-in-B
 returns-in-B c =
     rw (← c.self.view_is, c.in-B.is)
     (record {
-      yes = λ e. can (parts_of c.self.inside) B c.self.invariant (subst (λ (v : LinkValue). MaySend v) c.link-in-B.ensures (c.may_send-in-B.ensures.yes e));
-      no = λ e. cannot (parts_of c.self.inside) B c.self.invariant (λ may. c.may_send-in-B.ensures.no e (subst (λ (v : LinkValue). MaySend v) (sym c.link-in-B.ensures) may));
+      yes = λ e. can (parts_of c.self.inside) B c.self.invariant (subst (λ (v : LinkValue). IsTrue (may_send v)) c.link-in-B.ensures (sym c.may_send-in-B.ensures ∙ e));
+      no = λ e. cannot (parts_of c.self.inside) B c.self.invariant (subst (λ (v : LinkValue). may_send v ≡ false) c.link-in-B.ensures (sym c.may_send-in-B.ensures ∙ e));
     })

@@ -8,4 +8,4 @@ use Rattle.nsp_link.proofs.link.LinkEnd.ack_packet.Goals as goal
 pub returns-clause-carries : goal.returns-clause-carries
 returns-clause-carries c =
     let ok : IfOk c.written.result (λ v. IsSpelling (ack_packet_of c.args.self.now) v.items) = search rules in
-    if_ok_map c.written.result _ _ ok (λ v spelled messages. (ack_packet_of c.args.self.now, refl, spelled.0, spelled.1))
+    if_ok_map c.written.result _ _ ok (λ v spelled messages. (ack_packet_of c.args.self.now, refl, spelled))
