@@ -69,7 +69,11 @@ impl<'a> Places<'a> {
     }
 
     /// Takes the segment of a packet, unless another stands in its place.
-    pub(crate) fn add(&mut self, packet: usize, segment: &SegmentFields<'a>) -> Result<(), AllocError>
+    pub(crate) fn add(
+        &mut self,
+        packet: usize,
+        segment: &SegmentFields<'a>,
+    ) -> Result<(), AllocError>
         requires low { 4096 ≤ self.old.highest }
         requires high { self.old.highest < 2 ^ 62 }
         requires rises { Rises self.old.ordered.items }

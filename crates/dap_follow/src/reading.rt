@@ -6,8 +6,8 @@ ghost use Rattle.dap_follow.specs.Inner.Reading.{Reads, ReadsAll, ReadsFew, Read
 
 use crate::streams::Streams;
 use dap_listing::{
-    CaptureFault, Direction, INPUT_LIMIT, PACKET_LIMIT, next_packet, push_heading,
-    push_seen, read_packet,
+    CaptureFault, Direction, INPUT_LIMIT, PACKET_LIMIT, next_packet, push_heading, push_seen,
+    read_packet,
 };
 use nsp_seg::Packet;
 use std::alloc::{AllocError, Global};

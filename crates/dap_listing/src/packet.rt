@@ -166,10 +166,7 @@ fn push_line(text: &mut Vec<u8>, packet: &Packet<'_>) -> Result<(), AllocError>
 
 /// Appends the line of a packet, whose payload stands there as its hex digits, or of bytes that are none. Refused for
 /// want of memory alone. Own.
-pub fn push_seen(
-    text: &mut Vec<u8>,
-    seen: &Result<Packet<'_>, SegFault>,
-) -> Result<(), AllocError>
+pub fn push_seen(text: &mut Vec<u8>, seen: &Result<Packet<'_>, SegFault>) -> Result<(), AllocError>
     requires { HasDigits seen.now }
     ensures { OnOk result (Adds text.old text.new (seen_line (seen_value seen.now))) }
 {

@@ -30,7 +30,7 @@ push_whole-requires-clause-decoded c =
     let decoded = rest_decoded digits room known head spell (omega (arith, behind.2, spell.1)) (omega arith) seen.decoded in
     let same_known : known ≡ c.min-known.result = sym c.min-known.ensures in
     subst (λ (s : SegmentFields). (i : ℕ) → 0 ≤ i → i < c.min-known.result - (length room - length s.payload / 2)
-        → get_or (take (length room - (length room - length s.payload / 2)) (drop (length room - length s.payload / 2) room)) i 0 ≡ get_or (bytes_of s.payload) i 0)
+    → get_or (take (length room - (length room - length s.payload / 2)) (drop (length room - length s.payload / 2) room)) i 0 ≡ get_or (bytes_of s.payload) i 0)
     (sym c.line.view_is)
     (subst (λ (n : ℕ). (i : ℕ) → 0 ≤ i → i < n - (length room - length payload / 2) → get_or (take (length room - (length room - length payload / 2)) (drop (length room - length payload / 2) room)) i 0 ≡ get_or (bytes_of payload) i 0) same_known
     (subst (λ (k : ℕ). (i : ℕ) → 0 ≤ i → i < known - k → get_or (take (length room - k) (drop k room)) i 0 ≡ get_or (bytes_of payload) i 0) same
