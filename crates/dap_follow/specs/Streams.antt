@@ -16,8 +16,11 @@ Captured = Direction × Seen
 
 -- ---- streams: the segments that go one way between two ends
 
+abbrev pub stream_by : Direction → SegmentFields → Stream
+stream_by way s = record { way = way; dst = s.dst; src = s.src }
+
 abbrev pub stream_of : Captured → Option Stream
-stream_of (way, Ok (Segment s)) = Some (record { way = way; dst = s.dst; src = s.src })
+stream_of (way, Ok (Segment s)) = Some (stream_by way s)
 stream_of _ = None
 
 abbrev pub is_same_way : Direction → Direction → Bool
@@ -40,7 +43,7 @@ pub record Came : Type 0 where
 -- the segment of a packet, where it is of the stream
 abbrev pub came_as : Stream → ℕ → Captured → Option Came
 came_as stream number (way, Ok (Segment s)) =
-    if is_same stream (record { way = way; dst = s.dst; src = s.src }) then Some (record { packet = number; segment = s }) else None
+    if is_same stream (stream_by way s) then Some (record { packet = number; segment = s }) else None
 came_as stream number _ = None
 
 -- the segments of a stream, as they came

@@ -1,5 +1,6 @@
 -- What the lines of a capture say.
 use Rattle.std.specs.Prelude.{◌≡◌, ℕ, ◌*◌, ◌-◌, ◌==◌, ◌&&◌, nat_le, List, [], ◌∷◌, drop, if◌then◌else◌, length, Option, Some, None, Result, Ok, Err}
+use Rattle.linewise.specs.Talks.{is_skipped}
 use Rattle.dap_text.specs.Words.{is_hex_text}
 use Rattle.dap_listing.specs.declared.fault.CaptureFault.{CaptureFault}
 use Rattle.dap_listing.specs.declared.fault.CaptureFault.TheVariants.{BadLine, TooLarge}
@@ -19,15 +20,17 @@ abbrev pub digits_line : ℕ → Direction → List ℕ → Line
 digits_line limit direction digits =
     if is_hex_text digits then (if nat_le (length digits) (2 * limit) then Ok (Some (direction, digits)) else Err (λ number. TooLarge)) else Err BadLine
 
--- An empty line and one that begins with `#` say nothing. The others are `> ` or `< ` and hex digits.
-abbrev pub line_of : ℕ → List ℕ → Line
-line_of limit [] = Ok None
-line_of limit (first ∷ []) = if first == 35 then Ok None else Err BadLine
-line_of limit (first ∷ second ∷ digits) =
-    if first == 35 then Ok None
-    else if first == 62 && second == 32 then digits_line limit Right digits
+-- `> ` or `< ` and hex digits
+abbrev pub capture_line : ℕ → List ℕ → Line
+capture_line limit (first ∷ second ∷ digits) =
+    if first == 62 && second == 32 then digits_line limit Right digits
     else if first == 60 && second == 32 then digits_line limit Left digits
     else Err BadLine
+capture_line limit _ = Err BadLine
+
+-- one that says nothing captures nothing
+abbrev pub line_of : ℕ → List ℕ → Line
+line_of limit line = if is_skipped line then Ok None else capture_line limit line
 
 -- the end of some bytes
 abbrev pub IsEnd : List ℕ → List ℕ → Type 0

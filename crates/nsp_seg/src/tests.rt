@@ -35,16 +35,18 @@ fn segment_both_ways(rt: HostRuntime) -> Result<(), Fail> {
 
 #[test]
 fn acknowledgement_both_ways(rt: HostRuntime) -> Result<(), Fail> {
-    let Ok(Packet::DataAck(ack)) = decode_packet(&ACKNOWLEDGEMENT) else {
+    let Ok(packet) = decode_packet(&ACKNOWLEDGEMENT) else {
+        return Err(Fail::from("no packet"));
+    };
+    let mut out = Vec::with_capacity(rt.alloc(), 7)?;
+    assert!(rt; encode_packet(&packet, &mut out).is_ok());
+    assert_eq!(rt; out.as_slice(), ACKNOWLEDGEMENT.as_slice());
+    let Packet::DataAck(ack) = packet else {
         return Err(Fail::from("no acknowledgement"));
     };
     assert_eq!(rt; (ack.dst, ack.src), (0x0102, 0x0304));
     assert_eq!(rt; (ack.ack1.qual, ack.ack1.number.get()), (0, 4095));
     assert!(rt; ack.ack2.is_none());
-    let packet = Packet::DataAck(ack);
-    let mut out = Vec::with_capacity(rt.alloc(), 7)?;
-    assert!(rt; encode_packet(&packet, &mut out).is_ok());
-    assert_eq!(rt; out.as_slice(), ACKNOWLEDGEMENT.as_slice());
     Ok(())
 }
 
