@@ -11,7 +11,7 @@ use Rattle.dap_msg.specs.Inner.Whole.{message_at, told}
 use Rattle.dap_msg.specs.Canon.{canon, Fits}
 use Rattle.dap_msg.specs.Blocked.{joined, AllFit}
 use Rattle.dap_msg.specs.Items.{Item, Whole, Malformed, ItemAt, ItemsFrom}
-use Rattle.dap_msg.specs.Laws.{IsReadInPlace, AreItems, HasItems}
+use Rattle.dap_msg.specs.Laws.{AreItems, HasItems}
 use Rattle.dap_msg.proofs.Messages.{exact}
 use Rattle.dap_msg.proofs.Canonical.{canon_stands}
 use Rattle.dap_msg.proofs.Values.{limits}
@@ -24,8 +24,9 @@ placed m fits before after next e =
     let stands = canon_stands m (limits m fits) after in
     (length (canon m), subst (λ (b : List ℕ). StandsInFront m (length (canon m)) b) (sym (drop_at before (canon m ++ after) (length before) refl)) stands, e)
 
-pub read_in_place : (m : Message) → Fits m → IsReadInPlace m
-read_in_place m fits = λ before after. placed m fits before after (length before + length (canon m)) refl
+-- wherever what is written of a message stands, the message is the item there, and what follows begins behind it
+pub read_in_place : (m : Message) → Fits m → (before after : List ℕ) → ItemAt (before ++ (canon m ++ after)) (length before) (Whole m) (length before + length (canon m))
+read_in_place m fits before after = placed m fits before after (length before + length (canon m)) refl
 
 listed_from : (before : List ℕ) (m : Message) (messages : List Message) → AllFit (m ∷ messages) → ItemsFrom (before ++ joined (m ∷ messages)) (length before) (map (λ x. Whole x) (m ∷ messages))
 listed_from before m [] fit = placed m fit.0 before [] _ (omega (arith, length-append before (canon m ++ []), length-append (canon m) []))

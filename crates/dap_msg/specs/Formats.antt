@@ -4,7 +4,7 @@ use Rattle.dap_msg.specs.Codes.{types, greatest_type}
 use Rattle.dap_msg.specs.declared.fault.FaultKind.{FaultKind}
 use Rattle.dap_msg.specs.declared.fault.FaultKind.TheVariants.{BadFlags, BadStream, UnknownType, BadMenu}
 use Rattle.dap_msg.specs.Grammar.{Kind, Byte, Word, Extensible, Image, Part, Must, When, OrElse, UnlessEnd, Remainder, Grammar, Done, Next, ◌>>=◌}
-use Rattle.dap_msg.specs.Message.{Header, Message, configuration_of, attributes_by, Config, Attrib, Access, Control, Contran, Ack, Accomp, Filedata, Status, Other}
+use Rattle.dap_msg.specs.Message.{Header, Message, Config, Attrib, Access, Control, Contran, Ack, Accomp, Filedata, Status, Other}
 
 -- any value of the field will do
 abbrev pub any : {V : Type 0} → V → Option FaultKind
@@ -41,43 +41,44 @@ ending x = Next (Remainder false) (λ ignored. Done x)
 
 unfoldable pub configuration : Grammar Message
 configuration = do
-  bufsiz ← must Word
-  ostype ← must Byte
-  filesys ← must Byte
-  vernum ← must Byte
-  econum ← must Byte
-  usrnum ← must Byte
-  softver ← must Byte
-  usrsoft ← must Byte
-  syscap ← must (Extensible 12)
-  ending (configuration_of bufsiz ostype filesys vernum econum usrnum softver usrsoft syscap)
+  ending (Config (record {
+    bufsiz = (← must Word);
+    ostype = (← must Byte);
+    filesys = (← must Byte);
+    vernum = (← must Byte);
+    econum = (← must Byte);
+    usrnum = (← must Byte);
+    softver = (← must Byte);
+    usrsoft = (← must Byte);
+    syscap = (← must (Extensible 12));
+  }))
 
 unfoldable pub attributes : Grammar Message
 attributes = do
   bits ← menu 6 21
-  datatype ← optional bits 0 (Extensible 2)
-  org ← optional bits 1 Byte
-  rfm ← optional bits 2 Byte
-  rat ← optional bits 3 (Extensible 3)
-  bls ← optional bits 4 Word
-  mrs ← optional bits 5 Word
-  alq ← optional bits 6 (Image 5)
-  bks ← optional bits 7 Byte
-  fsz ← optional bits 8 Byte
-  mrn ← optional bits 9 (Image 5)
-  runsys ← optional bits 10 (Image 40)
-  deq ← optional bits 11 Word
-  fop ← optional bits 12 (Extensible 6)
-  bsz ← optional bits 13 Byte
-  dev ← optional bits 14 (Extensible 6)
-  sdc ← optional bits 15 (Extensible 6)
-  lrl ← optional bits 16 Word
-  hbk ← optional bits 17 (Image 5)
-  ebk ← optional bits 18 (Image 5)
-  ffb ← optional bits 19 Word
-  sbn ← optional bits 20 (Image 5)
-  ending (Attrib (
-      attributes_by datatype org rfm rat bls mrs alq bks fsz mrn runsys deq fop bsz dev sdc lrl hbk ebk ffb sbn))
+  ending (Attrib (record {
+    datatype = (← optional bits 0 (Extensible 2));
+    org = (← optional bits 1 Byte);
+    rfm = (← optional bits 2 Byte);
+    rat = (← optional bits 3 (Extensible 3));
+    bls = (← optional bits 4 Word);
+    mrs = (← optional bits 5 Word);
+    alq = (← optional bits 6 (Image 5));
+    bks = (← optional bits 7 Byte);
+    fsz = (← optional bits 8 Byte);
+    mrn = (← optional bits 9 (Image 5));
+    runsys = (← optional bits 10 (Image 40));
+    deq = (← optional bits 11 Word);
+    fop = (← optional bits 12 (Extensible 6));
+    bsz = (← optional bits 13 Byte);
+    dev = (← optional bits 14 (Extensible 6));
+    sdc = (← optional bits 15 (Extensible 6));
+    lrl = (← optional bits 16 Word);
+    hbk = (← optional bits 17 (Image 5));
+    ebk = (← optional bits 18 (Image 5));
+    ffb = (← optional bits 19 Word);
+    sbn = (← optional bits 20 (Image 5));
+  }))
 
 unfoldable pub access : Grammar Message
 access = do

@@ -37,8 +37,7 @@ pub use file_access::FileAccess;
 pub use fitting::fits;
 pub use items::{Item, item_at};
 pub use laws::{
-    has_items, lists_messages, measures_file_data, one_item_stands, reads_back, reads_in_place,
-    writes_canon,
+    has_items, lists_messages, measures_file_data, one_item_stands, reads_back, writes_canon,
 };
 pub use message::{
     AccessFields, Attributes, Completion, Configuration, ControlFields, Message, StatusFields,
