@@ -3,20 +3,17 @@ use Rattle.std.proofs.Common.{◌≡◌, ℕ, ◌<◌, ◌≤◌, List, [], ◌�
 use Rattle.std.proofs.lemmas.Bool.{lt-ltb, le-ltb, ne_eqb, cases_Bool}
 use Rattle.nsp_seg.specs.declared.packet.SegFault.{SegFault}
 use Rattle.nsp_seg.specs.declared.packet.SegFault.TheVariants.{Truncated, Trailing, NotHere, BadNumber, NoMemory}
-use Rattle.nsp_seg.specs.Packets.{Packet, HasFault, IsUsedFlag, IsSegmentFlag, IsAckFlag, IsFieldDue, IsShort, MayNotFollow, MayNotBeNumber}
+use Rattle.nsp_seg.specs.Packets.{Packet, HasFault, IsUsedFlag, IsFieldDue, IsShort, MayNotFollow, MayNotBeNumber}
 use Rattle.nsp_seg.specs.Inner.Reading.{tail_of, segment_of, second_of, data_ack_of, read, Gives}
-use Rattle.nsp_seg.proofs.Faults.{IsBytes, high_word, low_word, is_segment, used_of}
+use Rattle.nsp_seg.proofs.Faults.{IsBytes, IsSegmentFlag, IsAckFlag, high_word, low_word, is_segment, used_of, of_segment, of_ack}
 
 read-segment : (flag : ℕ) (rest : List ℕ) → IsSegmentFlag flag → read (flag ∷ rest) ≡ segment_of flag rest
 unfolding read
-read-segment flag rest (inl e) = rw e refl
-read-segment flag rest (inr (inl e)) = rw e refl
-read-segment flag rest (inr (inr (inl e))) = rw e refl
-read-segment flag rest (inr (inr (inr e))) = rw e refl
+read-segment flag rest h = rw (of_segment flag h) refl
 
 read-ack : (flag : ℕ) (rest : List ℕ) → IsAckFlag flag → read (flag ∷ rest) ≡ data_ack_of rest
 unfolding read
-read-ack flag rest e = rw e refl
+read-ack flag rest h = rw (of_ack flag h) refl
 
 -- a field of both kinds of packet
 read-used : (flag : ℕ) (rest : List ℕ) (f : SegFault) → IsUsedFlag flag → segment_of flag rest ≡ Err f → data_ack_of rest ≡ Err f → read (flag ∷ rest) ≡ Err f
@@ -86,7 +83,7 @@ unfolding read
 not_here_read flag rest unused =
     elim (cases_Bool (is_segment flag)) [
       | inl t ↦ absurd (unused (inl (used_of flag t)))
-      | inr n ↦ rw (n, ne_eqb flag 0x04 (λ four. unused (inr four))) refl
+      | inr n ↦ rw (n, ne_eqb flag 0x04 (λ four. unused (inr (rw four refl)))) refl
     ]
 
 bad_number_read : (front rest : List ℕ) (low high : ℕ) → low < 256 → MayNotBeNumber front high → read (front ++ low ∷ high ∷ rest) ≡ Err (BadNumber (length front))

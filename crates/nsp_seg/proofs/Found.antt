@@ -2,13 +2,13 @@
 use Rattle.std.proofs.Common.{sym, ◌≡◌, ℕ, suc, ◌+◌, ◌*◌, ◌/◌, ◌%◌, ◌<◌, ◌≤◌, List, [], ◌∷◌, ◌++◌, Option, Some, None, Result, Ok, Err, refl, ap, arith, inl, inr, ◌==◌, ◌||◌}
 use Rattle.std.specs.Prelude.{IfSome, IfOk}
 use Rattle.byteorder.specs.Endian.{little_bytes}
-use Rattle.std.proofs.lemmas.Bool.{cases_lt, cases_eq, cases_Bool, lt-ltb, le-ltb, eq-eqb, ne_eqb}
+use Rattle.std.proofs.lemmas.Bool.{or_cases, eqb-true, cases_lt, cases_eq, cases_Bool, lt-ltb, le-ltb, eq-eqb, ne_eqb}
 use Rattle.nsp_seg.specs.declared.packet.AckField.{AckField}
 use Rattle.nsp_seg.specs.declared.packet.SegFault.{SegFault}
 use Rattle.nsp_seg.specs.Numbers.{residue}
-use Rattle.nsp_seg.specs.Packets.{Packet, Spells, AckFits, Beside, optional_ack, marks, IsSegmentFlag}
+use Rattle.nsp_seg.specs.Packets.{Packet, Spells, AckFits, Beside, optional_ack, marks}
 use Rattle.nsp_seg.specs.Inner.Reading.{◌>>=◌, tail_of, segment_of, second_of, data_ack_of, read, Gives}
-use Rattle.nsp_seg.proofs.Faults.{IsBytes, high_word, low_word, is_segment, used_of}
+use Rattle.nsp_seg.proofs.Faults.{IsBytes, IsSegmentFlag, high_word, low_word, is_segment, used_of, of_segment}
 
 low_cell : (low high : ℕ) → low < 256 → high < 256 → (low + 256 * high) % 256 ≡ low
 low_cell low high l h = omega arith
@@ -96,10 +96,14 @@ tail_found (a0 ∷ a1 ∷ rest) t fits e =
     ]
 
 marks_of : (flag : ℕ) → IsSegmentFlag flag → marks (flag == 0x20 || flag == 0x60) (flag == 0x40 || flag == 0x60) ≡ flag
-marks_of flag (inl h) = rw h refl
-marks_of flag (inr (inl h)) = rw h refl
-marks_of flag (inr (inr (inl h))) = rw h refl
-marks_of flag (inr (inr (inr h))) = rw h refl
+marks_of flag h =
+    elim (or_cases (flag == 0x00 || flag == 0x20 || flag == 0x40) (flag == 0x60) (of_segment flag h)) [
+      | inl e3 ↦ elim (or_cases (flag == 0x00 || flag == 0x20) (flag == 0x40) e3) [
+        | inl e2 ↦ elim (or_cases (flag == 0x00) (flag == 0x20) e2) [ inl e1 ↦ rw (eqb-true _ _ e1) refl | inr e1 ↦ rw (eqb-true _ _ e1) refl ]
+        | inr e2 ↦ rw (eqb-true _ _ e2) refl
+      ]
+      | inr e3 ↦ rw (eqb-true _ _ e3) refl
+    ]
 
 bind_ok : {A B : Type 0} (r : Result A SegFault) (g : A → B) (p : B) → (r >>= (λ x. Ok (g x))) ≡ Ok p → (x : A) × (r ≡ Ok x) × (g x ≡ p)
 bind_ok (Ok x) g p e = (x, refl, cc)

@@ -6,8 +6,10 @@ use Rattle.nsp_seg.specs.declared.packet.AckField.{AckField}
 pub use Rattle.nsp_seg.specs.declared.packet.SegmentFields.{SegmentFields}
 pub use Rattle.nsp_seg.specs.declared.packet.Packet.{Packet}
 use Rattle.nsp_seg.specs.declared.packet.Packet.TheVariants.{Segment, DataAck}
+use Rattle.nsp_seg.specs.declared.packet.FlagKind.TheVariants as kind
 use Rattle.nsp_seg.specs.declared.packet.SegFault.{SegFault}
 use Rattle.nsp_seg.specs.declared.packet.SegFault.TheVariants.{Truncated, Trailing, NotHere, BadNumber, NoMemory}
+use Rattle.nsp_seg.specs.Flags.{flag_kind_of}
 
 -- ---- spelling
 
@@ -66,14 +68,9 @@ pub record Spells (p : Packet) (bytes : List ℕ) : Type 0 where
 
 -- ---- faults
 
-abbrev pub IsSegmentFlag : ℕ → Type 0
-IsSegmentFlag flag = (flag ≡ 0x00) ⊎ (flag ≡ 0x20) ⊎ (flag ≡ 0x40) ⊎ (flag ≡ 0x60)
-
-abbrev pub IsAckFlag : ℕ → Type 0
-IsAckFlag flag = flag ≡ 0x04
-
+-- the first byte is that of a packet that is used here
 abbrev pub IsUsedFlag : ℕ → Type 0
-IsUsedFlag flag = IsSegmentFlag flag ⊎ IsAckFlag flag
+IsUsedFlag flag = (flag_kind_of flag ≡ kind.Segment) ⊎ (flag_kind_of flag ≡ kind.DataAck)
 
 -- These bytes are whole fields with allowed values, and another field has to follow them. A number
 -- whose high byte is 128 or more is an acknowledgement field.
@@ -82,8 +79,8 @@ IsFieldDue [] = Unit {0}
 IsFieldDue (flag ∷ []) = IsUsedFlag flag
 IsFieldDue (flag ∷ _ ∷ _ ∷ []) = IsUsedFlag flag
 IsFieldDue (flag ∷ _ ∷ _ ∷ _ ∷ _ ∷ []) = IsUsedFlag flag
-IsFieldDue (flag ∷ _ ∷ _ ∷ _ ∷ _ ∷ _ ∷ high1 ∷ []) = IsSegmentFlag flag × (128 ≤ high1)
-IsFieldDue (flag ∷ _ ∷ _ ∷ _ ∷ _ ∷ _ ∷ high1 ∷ _ ∷ high2 ∷ []) = IsSegmentFlag flag × (128 ≤ high1) × (128 ≤ high2)
+IsFieldDue (flag ∷ _ ∷ _ ∷ _ ∷ _ ∷ _ ∷ high1 ∷ []) = (flag_kind_of flag ≡ kind.Segment) × (128 ≤ high1)
+IsFieldDue (flag ∷ _ ∷ _ ∷ _ ∷ _ ∷ _ ∷ high1 ∷ _ ∷ high2 ∷ []) = (flag_kind_of flag ≡ kind.Segment) × (128 ≤ high1) × (128 ≤ high2)
 IsFieldDue _ = ⊥
 
 -- a field of its size is not whole here: the first has one byte, the others two
@@ -93,15 +90,15 @@ IsShort (_ ∷ _) rest = length rest < 2
 
 -- these bytes are a whole acknowledgement, and these may not follow it
 abbrev pub MayNotFollow : List ℕ → List ℕ → Type 0
-MayNotFollow (flag ∷ _ ∷ _ ∷ _ ∷ _ ∷ _ ∷ high1 ∷ []) (_ ∷ high2 ∷ _) = IsAckFlag flag × (128 ≤ high1) × (high2 < 128)
-MayNotFollow (flag ∷ _ ∷ _ ∷ _ ∷ _ ∷ _ ∷ high1 ∷ []) (_ ∷ []) = IsAckFlag flag × (128 ≤ high1)
-MayNotFollow (flag ∷ _ ∷ _ ∷ _ ∷ _ ∷ _ ∷ high1 ∷ _ ∷ high2 ∷ []) (_ ∷ _) = IsAckFlag flag × (128 ≤ high1) × (128 ≤ high2)
+MayNotFollow (flag ∷ _ ∷ _ ∷ _ ∷ _ ∷ _ ∷ high1 ∷ []) (_ ∷ high2 ∷ _) = (flag_kind_of flag ≡ kind.DataAck) × (128 ≤ high1) × (high2 < 128)
+MayNotFollow (flag ∷ _ ∷ _ ∷ _ ∷ _ ∷ _ ∷ high1 ∷ []) (_ ∷ []) = (flag_kind_of flag ≡ kind.DataAck) × (128 ≤ high1)
+MayNotFollow (flag ∷ _ ∷ _ ∷ _ ∷ _ ∷ _ ∷ high1 ∷ _ ∷ high2 ∷ []) (_ ∷ _) = (flag_kind_of flag ≡ kind.DataAck) × (128 ≤ high1) × (128 ≤ high2)
 MayNotFollow _ _ = ⊥
 
 -- a number with this high byte may not follow these bytes
 abbrev pub MayNotBeNumber : List ℕ → ℕ → Type 0
-MayNotBeNumber (flag ∷ _ ∷ _ ∷ _ ∷ _ ∷ []) high = IsAckFlag flag × (high < 128)
-MayNotBeNumber (flag ∷ _ ∷ _ ∷ _ ∷ _ ∷ _ ∷ high1 ∷ _ ∷ high2 ∷ []) high = IsSegmentFlag flag × (128 ≤ high1) × (128 ≤ high2) × (128 ≤ high)
+MayNotBeNumber (flag ∷ _ ∷ _ ∷ _ ∷ _ ∷ []) high = (flag_kind_of flag ≡ kind.DataAck) × (high < 128)
+MayNotBeNumber (flag ∷ _ ∷ _ ∷ _ ∷ _ ∷ _ ∷ high1 ∷ _ ∷ high2 ∷ []) high = (flag_kind_of flag ≡ kind.Segment) × (128 ≤ high1) × (128 ≤ high2) × (128 ≤ high)
 MayNotBeNumber _ _ = ⊥
 
 -- The fault of bytes that are no packet. What stands in front of the offset is whole and allowed.
