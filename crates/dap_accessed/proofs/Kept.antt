@@ -6,7 +6,7 @@ use Rattle.std.specs.FinMap.{get}
 use Rattle.rec_file.specs.declared.refusals.Refusal.{Refusal}
 use Rattle.rec_file.specs.Shapes.{is_seq, limit_of, allows_length}
 use Rattle.rec_file.specs.Files.{FileVal, IsFile, highest_of}
-use Rattle.rec_file.specs.Acts.{Operation, get_record, put_record, update_record, delete_record, StreamVal, out_of_range, is_free, current_of, keeps_length, free_place, refusals_of, first_refusal, file_after, outcome_of, act}
+use Rattle.rec_file.specs.Acts.{Operation, get_record, put_record, update_record, delete_record, StreamVal, out_of_range, is_free, current_of, keeps_length, free_place, refusals_of, first_refusal, target_number, done, outcome_of, act}
 use Rattle.rec_file.proofs.ForCallers.{IsFile-placed, IsFile-replaced, IsFile-removed}
 
 pub passed : (b : Bool) (r : Refusal) (rest : Option Refusal) → (if b then Some r else rest) ≡ None → (b ≡ false) × (rest ≡ None)
@@ -47,6 +47,10 @@ if_occupied file current = option_and_then (λ n. if is_free file n then None el
 occupied : (file : FileVal) (current : Option ℕ) → is_none (if_occupied file current) ≡ false → IsSome (get file.records (unwrap_or (if_occupied file current) 0))
 occupied file None h = cc
 occupied file (Some n) h = there file n (is_free file n) refl h
+
+-- the file after an operation that isn't refused
+abbrev file_after : Operation → FileVal → StreamVal → FileVal
+file_after op file stream = (done op (target_number op file stream) file stream).file
 
 after-keeps : (op : Operation) (file : FileVal) (stream : StreamVal) → IsFile file → first_refusal (refusals_of op file stream) ≡ None → IsFile (file_after op file stream)
 after-keeps (get_record pick) file stream h e = h

@@ -1,5 +1,6 @@
 -- What an operation on a stream does to a file and to the stream.
 use Rattle.std.specs.Prelude.{◌≡◌, ℕ, ◌+◌, Bool, true, false, not, ◌&&◌, ◌||◌, nat_le, nat_eq, List, [], ◌∷◌, length, Option, None, Some, is_none, unwrap_or, Result, Ok, Err, IsOk, option_and_then, MatchBool, if◌then◌else◌}
+use Rattle.std.specs.Option.{option_map_or}
 use Rattle.std.specs.FinMap.{get}
 use Rattle.rec_file.specs.declared.shapes.Shape.{Shape}
 use Rattle.rec_file.specs.declared.refusals.Refusal.{Refusal}
@@ -99,38 +100,27 @@ abbrev pub first_refusal : List (Bool × Refusal) → Option Refusal
 first_refusal [] = None
 first_refusal (row ∷ rows) = if row.0 then Some row.1 else first_refusal rows
 
--- the file after an operation that isn't refused
-abbrev pub file_after : Operation → FileVal → StreamVal → FileVal
-file_after (get_record pick) file stream = file
-file_after (put_record key body) file stream = stored file (target_number (put_record key body) file stream) body
-file_after (update_record body) file stream = stored file (target_number (update_record body) file stream) body
-file_after delete_record file stream = removed file (target_number delete_record file stream)
-
--- where the stream reads next after such an operation
-abbrev pub next_after : Operation → FileVal → StreamVal → ℕ
-next_after (get_record pick) file stream = target_number (get_record pick) file stream + 1
-next_after (put_record None body) file stream = if is_seq file.shape.org then stream.next else stream.next + 1
-next_after _ file stream = stream.next
-
--- the current record after such an operation: a get alone makes one
-abbrev pub current_after : Operation → FileVal → StreamVal → Option ℕ
-current_after (get_record pick) file stream = Some (target_number (get_record pick) file stream)
-current_after _ file stream = None
-
 -- what an operation leaves, and its answer
 pub record Outcome : Type 0 where
   pub file : FileVal
   pub stream : StreamVal
   pub reply : Result ℕ Refusal
 
+-- it was about the record under n, and leaves this file, where the stream reads next, and its current record
+abbrev pub leaves : ℕ → FileVal → StreamVal → (next : ℕ) → (current : Option ℕ) → Outcome
+leaves n file stream next current = record { file = file; stream = record stream { next = next; current = current }; reply = Ok n }
+
+-- an operation about the record under n that isn't refused: a get alone makes a current record
+abbrev pub done : Operation → ℕ → FileVal → StreamVal → Outcome
+done (get_record pick) n file stream = leaves n file stream (n + 1) (Some n)
+done (put_record key body) n file stream =
+    leaves n (stored file n body) stream (option_map_or (λ k. stream.next) key (if is_seq file.shape.org then stream.next else stream.next + 1)) None
+done (update_record body) n file stream = leaves n (stored file n body) stream stream.next None
+done delete_record n file stream = leaves n (removed file n) stream stream.next None
+
 -- a refused operation leaves the file, and no current record
 abbrev pub outcome_of : Option Refusal → Operation → FileVal → StreamVal → Outcome
-outcome_of None operation file stream =
-    record {
-      file = file_after operation file stream;
-      stream = record stream { next = next_after operation file stream; current = current_after operation file stream };
-      reply = Ok (target_number operation file stream);
-    }
+outcome_of None operation file stream = done operation (target_number operation file stream) file stream
 outcome_of (Some refusal) operation file stream = record { file = file; stream = record stream { current = None }; reply = Err refusal }
 
 abbrev pub act : Operation → FileVal → StreamVal → Outcome
