@@ -1,5 +1,5 @@
 -- What becomes of a packet that is due: the numbers that go round tell which it is.
-use Rattle.std.proofs.Common.{◌≡◌, ℕ, ◌+◌, ◌-◌, ◌<◌, ◌≤◌, max, List, [], length, Option, Some, None, Result, Ok, Err, refl, sym, ap, ◌∙◌, arith, true, false, inl, inr, cond, subst, ◌==◌}
+use Rattle.std.proofs.Common.{◌≡◌, ◌⊎◌, ℕ, ◌+◌, ◌-◌, ◌<◌, ◌≤◌, max, List, length, Option, Some, None, Result, Ok, Err, refl, sym, ap, ◌∙◌, arith, true, false, inl, inr, cond, subst}
 use Rattle.std.specs.Prelude.{slice_get, MatchResult, nat_lt, ◌&&◌}
 use Rattle.std.proofs.lemmas.Bool.{lt-ltb, le-ltb, cases_lt, cases_eq, eq-eqb, ne_eqb}
 use Rattle.nsp_seg.specs.Numbers.{residue}
@@ -8,17 +8,19 @@ use Rattle.nsp_seg.specs.declared.packet.SegmentFields.{SegmentFields}
 use Rattle.nsp_seg.specs.declared.packet.Packet.TheVariants.{Segment, DataAck}
 use Rattle.nsp_seg.specs.declared.packet.AckFields.{AckFields}
 use Rattle.nsp_link.specs.declared.fault.LinkFault.{LinkFault}
-use Rattle.nsp_link.specs.declared.fault.LinkFault.TheVariants.{Malformed}
+use Rattle.nsp_link.specs.declared.fault.LinkFault.TheVariants.{Malformed, Exhausted, NoMemory}
 use Rattle.nsp_link.specs.declared.link.Got.{Got}
 use Rattle.nsp_seg.specs.declared.packet.SegFault.{SegFault}
-use Rattle.nsp_link.specs.Cutting.{Piece, cut}
+use Rattle.nsp_link.specs.Cutting.{cut}
 use Rattle.std.specs.List.{AllByRecursion}
-use Rattle.nsp_link.specs.Coming.{Coming, taken_all, AllFit, RefusesAll}
+use Rattle.nsp_link.specs.Coming.{taken_all, AllFit, RefusesAll}
 use Rattle.nsp_link.specs.Holding.{following}
-use Rattle.nsp_link.specs.Limits.{most_segments}
-use Rattle.nsp_link.specs.Link.{LinkValue, IsLink, IsDue, Stands, HasTaken, Delivered, MayRefuse, Keeps, got_of, taken_after, held_after, piece_of, forgotten}
+use Rattle.nsp_link.specs.Link.{LinkValue, IsLink, Stands, got_of, piece_of, forgotten}
+use Rattle.nsp_link.specs.Inner.Due.{IsDue}
+use Rattle.nsp_link.specs.Inner.Whole.{HasTaken}
 use Rattle.nsp_link.specs.Receiving.{newly_acked, segment_of, taking_in, run, stopped, Received}
-use Rattle.nsp_link.proofs.Taking.{AreNext, takes_all, received-all, refuses-all}
+use Rattle.nsp_link.proofs.Taking.{AreNext, fits_all, refuses-all}
+use Rattle.nsp_link.proofs.Taken.{taken_more, whole_of}
 use Rattle.nsp_link.proofs.Held.{inserted, following_next, all_drop, all_inserted}
 
 -- Separation: a number less than 4,096 from another is found from the two residues alone.
@@ -43,38 +45,20 @@ newly_acked-of v a ordered window believable fresh =
     ]
 
 -- a number less than 2,048 from the next one's says which segment it is
-segment_found : (v : LinkValue) (k : ℕ) → v.coming.received + 1 ≤ k + 2047 → k ≤ v.coming.received + 2047 → segment_of v (residue k) ≡ k
+pub segment_found : (v : LinkValue) (k : ℕ) → v.coming.received + 1 ≤ k + 2047 → k ≤ v.coming.received + 2047 → segment_of v (residue k) ≡ k
 segment_found v k fresh near =
     elim (cases_lt k (v.coming.received + 1)) [
       | inl lt ↦ rw (behind k (v.coming.received + 1) lt (omega arith), le-ltb (4096 - (v.coming.received + 1 - k)) 2048 (omega arith)) (omega arith)
       | inr le ↦ rw (ahead k (v.coming.received + 1) le (omega arith), lt-ltb (k - (v.coming.received + 1)) 2048 (omega arith)) (omega arith)
     ]
 
--- an end that took in this, holds these early segments, and forgot what is acknowledged
-delivered_with : (old : LinkValue) (c : Coming) (held : List (ℕ × Piece)) (count : ℕ) (k : Option ℕ) (a : ℕ) (p : Piece) → count ≡ max old.acked a - old.acked → c.received ≡ taken_after old k → held ≡ held_after old k p
-    → Delivered old (forgotten (record old { coming = c; held = held }) count) k a
-delivered_with old c held count k a p e on keeps =
-    let same : count ≡ a - old.acked = omega arith in
-    (on, (p, ap (λ (n : ℕ). forgotten (record old { coming = c; held = held }) n) same ∙ ap (λ (hs : List (ℕ × Piece)). record (forgotten old (a - old.acked)) { coming = c; held = hs }) keeps))
-
-delivered_in : (old : LinkValue) (p : Piece) (count k a : ℕ) → count ≡ max old.acked a - old.acked → Delivered old (forgotten (taking_in old k p) count) (Some k) a
-delivered_in old p count k a e =
-    let c : Coming = cond (k == old.coming.received + 1) (taken_all old.coming (run old p)) old.coming in
-    let on : c.received ≡ taken_after old (Some k) = elim (cases_eq k (old.coming.received + 1)) [
-      | inl next ↦
-          let same : following (old.coming.received + 1) old.held ≡ following k old.held = ap (λ (n : ℕ). following n old.held) (sym next) in
-          rw (eq-eqb k (old.coming.received + 1) next) (received-all old.coming (run old p) ∙ omega (arith, ap length same, next))
-      | inr ne ↦ rw (ne_eqb k (old.coming.received + 1) ne) refl
-    ] in
-    delivered_with old c (held_after old (Some k) p) count (Some k) a p e on refl
-
 stands_forgotten : (v : LinkValue) (count size : ℕ) (messages given : List (List ℕ)) → Stands v size messages given → Stands (forgotten v count) size messages given
 stands_forgotten v count size messages given st = record { taken = st.taken; held = st.held }
 
 -- what the definition says of a packet that is due
 abbrev pub Due : LinkValue → LinkValue → Result Got LinkFault → ℕ → List (List ℕ) → List (List ℕ) → Option ℕ → ℕ → Type 0
-Due old new (Ok got) size messages given k a = (got ≡ got_of old.coming.received k) × Delivered old new k a × Stands new size messages given
-Due old new (Err e) size messages given k a = MayRefuse old k e × (new ≡ old)
+Due old new (Ok got) size messages given k a = (got ≡ got_of old.coming.received k) × (new.acked ≡ max old.acked a) × Stands new size messages given
+Due old new (Err e) size messages given k a = ((e ≡ NoMemory) ⊎ (e ≡ Exhausted)) × (new ≡ old)
 
 count_is : (old : LinkValue) (size : ℕ) (messages given : List (List ℕ)) (p : Packet) (k : Option ℕ) (a count : ℕ) (number : Option ℕ) → IsLink old → IsDue old size messages given p k a → number ≡ Some (residue a) → newly_acked old number ≡ Some count → count ≡ max old.acked a - old.acked
 count_is old size messages given p k a count number link due e newly =
@@ -91,7 +75,7 @@ count_some old size messages given p k a number link due e newly =
 due_ack : (old new : LinkValue) (r : Result Got LinkFault) (size : ℕ) (messages given : List (List ℕ)) (s : AckFields) (a : ℕ) → IsLink old → IsDue old size messages given (DataAck s) None a → Received old (DataAck s) r new → Due old new r size messages given None a
 due_ack old new (Ok got) size messages given s a link due (_, (same, (count, newly, e))) =
     let is = count_is old size messages given (DataAck s) None a count _ link due due.2.carries newly in
-    (same, rw e (delivered_with old old.coming old.held count None a (record { first = false; last = false; payload = [] }) is refl refl), rw e (stands_forgotten old count size messages given due.1))
+    (same, ap (λ (v : LinkValue). v.acked) e ∙ omega (arith, is), rw e (stands_forgotten old count size messages given due.1))
 due_ack old new (Err e) size messages given s a link due (inl (out, _), _) = absurd (out due.2.way)
 due_ack old new (Err e) size messages given s a link due (inr (_, (none, _)), _) = absurd (count_some old size messages given (DataAck s) None a _ link due due.2.carries none)
 
@@ -105,8 +89,9 @@ module _ (old : LinkValue) (size : ℕ) (messages given : List (List ℕ)) (s : 
   next_taken e =
       let back : n - 1 ≡ old.coming.received = omega arith in
       let at : slice_get (cut size messages) old.coming.received ≡ Some (piece_of s) = rw back at due.2.carries.1 in
-      takes_all old.coming size messages given (run old (piece_of s)) old.setup.max_message due.2.positive due.2.short due.1.taken
-      (at, following_next (old.coming.received + 1) (cut size messages) old.held due.1.held)
+      let next : AreNext (cut size messages) old.coming.received (run old (piece_of s)) = (at, following_next (old.coming.received + 1) (cut size messages) old.held due.1.held) in
+      let whole = whole_of old.coming size messages given due.2.positive due.1.taken in
+      (fits_all old.coming size messages given (run old (piece_of s)) old.setup.max_message due.2.positive due.2.short whole next, taken_more old.coming size messages given (run old (piece_of s)) due.1.taken next)
 
   stands_in : Stands (taking_in old n (piece_of s)) size messages given
   stands_in = elim (cases_eq n (old.coming.received + 1)) [
@@ -126,29 +111,20 @@ module _ (old : LinkValue) (size : ℕ) (messages given : List (List ℕ)) (s : 
   -- the next one isn't taken: what is refused leaves the end as it was
   due_not_taken : (new : LinkValue) (e : LinkFault) → n ≡ old.coming.received + 1 → RefusesAll old.setup.max_message old.coming (run old (piece_of s)) e → new ≡ stopped e old → Due old new (Err e) size messages given (Some n) a
   due_not_taken new e next out left =
-      let test : (n == old.coming.received + 1) ≡ true = eq-eqb n (old.coming.received + 1) next in
-      let same : following (old.coming.received + 1) old.held ≡ following n old.held = ap (λ (k : ℕ). following k old.held) (sym next) in
       elim (refuses-all old.setup.max_message old.coming (run old (piece_of s)) e (next_taken next).0 out) [
-        | inl m ↦
-            let few : n + length (following n old.held) ≤ most_segments = omega (arith, m.1, ap length same, next) in
-            (inl (m.0, inl next, rw test few), left ∙ ap (λ (f : LinkFault). stopped f old) m.0)
-        | inr x ↦
-            let over : most_segments < n + length (following n old.held) = omega (arith, x.1, ap length same, next) in
-            (inr (x.0, next, rw test over), left ∙ ap (λ (f : LinkFault). stopped f old) x.0)
+        | inl m ↦ (inl m.0, left ∙ ap (λ (f : LinkFault). stopped f old) m.0)
+        | inr x ↦ (inr x.0, left ∙ ap (λ (f : LinkFault). stopped f old) x.0)
       ]
 
   due_segment : (new : LinkValue) (r : Result Got LinkFault) → Received old (Segment s) r new → Due old new r size messages given (Some n) a
   due_segment new (Ok got) (_, (same, _, (count, newly, e))) =
       let is = count_is old size messages given (Segment s) (Some n) a count _ link due due.2.carries.3 newly in
       let left : new ≡ forgotten (taking_in old n (piece_of s)) count = e ∙ ap (λ (k : ℕ). forgotten (taking_in old k (piece_of s)) count) found in
-      (same ∙ ap (λ (k : ℕ). got_of old.coming.received (Some k)) found, rw left (delivered_in old (piece_of s) count n a is), rw left (stands_forgotten (taking_in old n (piece_of s)) count size messages given stands_in))
+      (same ∙ ap (λ (k : ℕ). got_of old.coming.received (Some k)) found, ap (λ (v : LinkValue). v.acked) e ∙ omega (arith, is), rw left (stands_forgotten (taking_in old n (piece_of s)) count size messages given stands_in))
   due_segment new (Err e) (inl (out, _), _) = absurd (out due.2.way)
   due_segment new (Err e) (inr (_, inl (none, _)), _) = absurd (count_some old size messages given (Segment s) (Some n) a _ link due due.2.carries.3 none)
   due_segment new (Err e) (inr (_, inr (_, inl (next, out))), left) = due_not_taken new e (sym found ∙ next) out left
-  due_segment new (Err e) (inr (_, inr (_, inr (keeps, memory))), left) =
-      let keeps-it = subst (λ (k : ℕ). Keeps old k) found keeps in
-      let apart : (n == old.coming.received + 1) ≡ false = ne_eqb n (old.coming.received + 1) (λ x. omega (arith, keeps-it.0)) in
-      (inl (memory, inr keeps-it, rw apart link.few_taken), left ∙ ap (λ (f : LinkFault). stopped f old) memory)
+  due_segment new (Err e) (inr (_, inr (_, inr (keeps, memory))), left) = (inl memory, left ∙ ap (λ (f : LinkFault). stopped f old) memory)
 
 -- a packet that is due does what the definition says
 pub due_received : (old new : LinkValue) (r : Result Got LinkFault) (size : ℕ) (messages given : List (List ℕ)) (p : Packet) (k : Option ℕ) (a : ℕ) → IsLink old → IsDue old size messages given p k a → Received old p r new → Due old new r size messages given k a
@@ -159,8 +135,8 @@ due_received old new r size messages given (DataAck s) (Some n) a link due rec =
 
 -- the same, in the words of the clause
 pub due_matched : (old new : LinkValue) (r : Result Got LinkFault) (size : ℕ) (messages given : List (List ℕ)) (k : Option ℕ) (a : ℕ) → Due old new r size messages given k a
-    → MatchResult r (λ got. (got ≡ got_of old.coming.received k) × Delivered old new k a × Stands new size messages given)
-    (λ e. MayRefuse old k e × (new ≡ old))
+    → MatchResult r (λ got. (got ≡ got_of old.coming.received k) × (new.acked ≡ max old.acked a) × Stands new size messages given)
+    (λ e. ((e ≡ NoMemory) ⊎ (e ≡ Exhausted)) × (new ≡ old))
 due_matched old new (Ok got) size messages given k a d = d
 due_matched old new (Err e) size messages given k a d = d
 

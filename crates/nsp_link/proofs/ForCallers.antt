@@ -1,5 +1,5 @@
 -- What the crates above may cite of this one's proofs. No other file here is for them.
-use Rattle.std.proofs.Common.{◌≡◌, ℕ, ◌+◌, max, List, [], ◌++◌, length, drop, Option, ap, ◌∙◌, arith}
+use Rattle.std.proofs.Common.{◌≡◌, ℕ, ◌+◌, max, List, [], ◌∷◌, ◌++◌, length, drop, Option, ap, ◌∙◌, arith}
 use Rattle.nsp_seg.specs.declared.packet.Packet.{Packet}
 use Rattle.nsp_seg.specs.Packets.{Spells}
 use Rattle.nsp_link.specs.declared.link.LinkSetup.{LinkSetup}
@@ -9,7 +9,12 @@ use Rattle.std.specs.Ordering.{nat_cmp}
 use Rattle.std.specs.Map.{keys_of}
 use Rattle.std.specs.BTreeSet.{insert_key}
 pub use Rattle.nsp_link.proofs.Held.{inserted}
-use Rattle.nsp_link.specs.Link.{LinkValue, IsBetween, Carries, IsWritten, Writes, Sends, Stands, new_link, Delivered, taken_after, held_after}
+use Rattle.nsp_link.specs.Link.{LinkValue, IsBetween, Carries, IsWritten, Writes, Sends, Stands, new_link, held_after, with_inbox}
+use Rattle.nsp_link.specs.Inner.Due.{Delivered, taken_after}
+-- a packet that is due, by the counts for which its numbers stand
+pub use Rattle.nsp_link.proofs.Came.{came_due}
+-- what an end stands after, by the messages that are whole and the one that is begun; and back
+pub use Rattle.nsp_link.proofs.Taken.{whole_of, taken_of}
 use Rattle.nsp_link.specs.Sending.{queued_link}
 use Rattle.nsp_link.proofs.Growing as growing
 use Rattle.nsp_link.proofs.Numbers as by_number
@@ -37,6 +42,10 @@ carries_more = growing.carries_more
 -- what was taken stays the first of the messages when more are sent
 pub stands_more : (v : LinkValue) (size : ℕ) (ms more given : List (List ℕ)) → Stands v size ms given → Stands v size (ms ++ more) given
 stands_more = growing.stands_more
+
+-- the oldest message that waits is handed out
+pub stands_given : (v : LinkValue) (bytes : List ℕ) (later : List (List ℕ)) (size : ℕ) (messages given : List (List ℕ)) → v.coming.inbox ≡ bytes ∷ later → Stands v size messages given → Stands (with_inbox v later) size messages (given ++ bytes ∷ [])
+stands_given = growing.stands_given
 
 -- a new end stands before any messages
 pub stands_new : (s : LinkSetup) (size : ℕ) (ms : List (List ℕ)) → Stands (new_link s) size ms []

@@ -1,22 +1,18 @@
 -- What is said of the messages sent stays true when more are sent.
-use Rattle.std.proofs.Common.{◌≡◌, ℕ, ◌+◌, ◌-◌, List, [], ◌∷◌, ◌++◌, length, take, get_or, Option, Some, None, refl, sym, ap, ◌∙◌, arith, inl, inr}
+use Rattle.std.proofs.Common.{◌≡◌, ℕ, ◌-◌, List, [], ◌∷◌, ◌++◌, take, Option, Some, None, refl, sym, ap, ◌∙◌, arith, append_assoc}
 use Rattle.std.specs.Prelude.{slice_get}
-use Rattle.std.proofs.lemmas.Bool.{cases_lt}
-use Rattle.std.proofs.lemmas.Grind.{flat_map-append}
-use Rattle.std.proofs.lemmas.List.{length-append, take-append-le, get_or_append_left, take_all, drop-append-le}
+use Rattle.std.proofs.lemmas.List.{length-append, take-append-le, get_or_append_left, drop-append-le}
 use Rattle.std.proofs.lemmas.Option.{slice_get_within, get_or_from_slice_get, slice_get-get_or}
 use Rattle.nsp_seg.specs.declared.packet.Packet.{Packet}
 use Rattle.nsp_seg.specs.declared.packet.Packet.TheVariants.{Segment, DataAck}
-use Rattle.nsp_link.specs.Cutting.{Piece, cut, cut_message}
+use Rattle.nsp_link.specs.Cutting.{Piece, cut}
 use Rattle.std.specs.List.{AllByRecursion}
 use Rattle.nsp_link.specs.declared.link.LinkSetup.{LinkSetup}
-use Rattle.nsp_link.specs.Link.{LinkValue, Carries, IsWritten, Writes, IsWhole, Stands, Sends, begun, new_link}
+use Rattle.nsp_link.specs.Coming.{nothing_came, taken_all}
+use Rattle.nsp_link.specs.Link.{LinkValue, Carries, IsWritten, Writes, Stands, Sends, new_link, with_inbox}
 use Rattle.nsp_link.specs.Sending.{queued_link}
-use Rattle.nsp_link.proofs.Taking.{length-cut-more, count-positive}
-
-cut-append : (size : ℕ) (ms more : List (List ℕ)) → cut size (ms ++ more) ≡ cut size ms ++ cut size more
-unfolding cut
-cut-append size ms more = flat_map-append (cut_message size) ms more
+use Rattle.nsp_link.proofs.Taking.{cut-append}
+use Rattle.nsp_link.proofs.Taken.{taken_few, taken_given}
 
 kept_place : (xs ys : List Piece) (i : ℕ) (p : Piece) → slice_get xs i ≡ Some p → slice_get (xs ++ ys) i ≡ Some p
 kept_place xs ys i p at =
@@ -38,67 +34,23 @@ written_longer src dst pieces more None a bytes w = w
 pub writes_more : (v : LinkValue) (ms more : List (List ℕ)) (k : Option ℕ) (a : ℕ) (bytes : List ℕ) → Writes v ms k a bytes → Writes v (ms ++ more) k a bytes
 writes_more v ms more k a bytes w = rw (cut-append v.setup.seg_size ms more) (written_longer v.setup.local v.setup.remote (cut v.setup.seg_size ms) (cut v.setup.seg_size more) k a bytes w)
 
-begun_more : (size : ℕ) (ms more : List (List ℕ)) (r n : ℕ) → IsWhole size ms r n → begun size ms r n ≡ begun size (ms ++ more) r n
-begun_more size ms more r n w =
-    let front : take n (ms ++ more) ≡ take n ms = take-append-le n ms more w.some in
-    elim (cases_lt n (length ms)) [
-      | inl lt ↦ rw (front, get_or_append_left ms more [] n lt) refl
-      | inr le ↦
-          let all : take n ms ≡ ms = take_all n ms le in
-          let same : length (cut size (take n ms)) ≡ length (cut size ms) = ap (λ (xs : List (List ℕ)). length (cut size xs)) all in
-          let some = w.all in
-          let over : r - length (cut size (take n ms)) ≡ 0 = omega arith in
-          rw (front, over) refl
-    ]
-
-whole_more : (size : ℕ) (ms more : List (List ℕ)) (r n : ℕ) → IsWhole size ms r n → IsWhole size (ms ++ more) r n
-whole_more size ms more r n w =
-    let front : take n (ms ++ more) ≡ take n ms = take-append-le n ms more w.some in
-    let longer = length-append ms more in
-    let cuts : length (cut size (ms ++ more)) ≡ length (cut size ms) + length (cut size more) = ap length (cut-append size ms more) ∙ length-append (cut size ms) (cut size more) in
-    let all = w.all in
-    let some = w.some in
-    record {
-      some = omega arith;
-      whole = rw front w.whole;
-      next = λ lt. elim (cases_lt n (length ms)) [
-        | inl inside ↦ rw (take-append-le (n + 1) ms more (omega arith)) (w.next inside)
-        | inr le ↦
-            let same : length (cut size (take n (ms ++ more))) ≡ length (cut size ms) = ap (λ (xs : List (List ℕ)). length (cut size xs)) (front ∙ take_all n ms le) in
-            omega (arith, same, length-cut-more size (ms ++ more) n lt, count-positive size (length (get_or (ms ++ more) n [])))
-      ];
-      all = omega arith;
-    }
-
 held_more : (xs ys : List Piece) (held : List (ℕ × Piece)) → AllByRecursion (λ h. slice_get xs (h.0 - 1) ≡ Some h.1) held → AllByRecursion (λ h. slice_get (xs ++ ys) (h.0 - 1) ≡ Some h.1) held
 held_more xs ys [] all = tt
 held_more xs ys (h ∷ hs) all = (kept_place xs ys (h.0 - 1) h.1 all.0, held_more xs ys hs all.1)
 
 pub stands_more : (v : LinkValue) (size : ℕ) (ms more given : List (List ℕ)) → Stands v size ms given → Stands v size (ms ++ more) given
 stands_more v size ms more given st =
-    let had = st.taken in
+    let joined = cut-append size ms more in
+    let few = taken_few v.coming size ms given st.taken in
     record {
-      taken = record {
-        count = had.count;
-        whole = whole_more size ms more v.coming.received had.count had.whole;
-        inbox = had.inbox ∙ sym (take-append-le had.count ms more had.whole.some);
-        partial = had.partial ∙ begun_more size ms more v.coming.received had.count had.whole;
-      };
-      held = rw (cut-append size ms more) (held_more (cut size ms) (cut size more) v.held st.held);
+      taken = ap (taken_all nothing_came) (ap (take v.coming.received) joined ∙ take-append-le v.coming.received (cut size ms) (cut size more) few) ∙ st.taken;
+      held = rw joined (held_more (cut size ms) (cut size more) v.held st.held);
     }
 
 -- a new end stands before any messages
 pub stands_new : (s : LinkSetup) (size : ℕ) (ms : List (List ℕ)) → Stands (new_link s) size ms []
-unfolding cut
-stands_new s size ms = record {
-  taken = record {
-    count = 0;
-    whole = record { some = omega arith; whole = omega arith; next = λ lt. omega (arith, length-cut-more size ms 0 lt, count-positive size (length (get_or ms 0 []))); all = omega arith };
-    inbox = refl;
-    partial = refl;
-  };
-  held = tt;
-}
+unfolding taken_all
+stands_new s size ms = record { taken = refl; held = tt }
 
 pub sends_new : (s : LinkSetup) → Sends (new_link s) []
 unfolding cut
@@ -112,3 +64,10 @@ sends_all v messages more sends =
       queue = rw (joined, drop-append-le v.acked (cut v.setup.seg_size messages) (cut v.setup.seg_size more) sends.acked, sends.queue) refl;
       acked = rw joined (omega (arith, length-append (cut v.setup.seg_size messages) (cut v.setup.seg_size more), sends.acked));
     }
+
+-- the oldest message that waits is handed out
+pub stands_given : (v : LinkValue) (bytes : List ℕ) (later : List (List ℕ)) (size : ℕ) (messages given : List (List ℕ)) → v.coming.inbox ≡ bytes ∷ later → Stands v size messages given → Stands (with_inbox v later) size messages (given ++ bytes ∷ [])
+stands_given v bytes later size messages given inbox st = record {
+  taken = taken_given v.coming size messages given (given ++ bytes ∷ []) later (ap (λ (ms : List (List ℕ)). given ++ ms) inbox ∙ sym (append_assoc given (bytes ∷ []) later)) st.taken;
+  held = st.held;
+}

@@ -4,10 +4,12 @@ pub mod Placing
 pub mod Taking
 pub mod Held
 pub mod Joining
+pub mod Taken
 pub mod Runs
 pub mod Keeping
 pub mod Giving
 pub mod Delivering
+pub mod Came
 pub mod Writing
 pub mod Growing
 pub mod Written

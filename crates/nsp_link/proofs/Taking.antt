@@ -11,7 +11,7 @@ use Rattle.std.proofs.lemmas.List.Elements.{All-get_or}
 use Rattle.std.proofs.lemmas.List.FromFn.{get_or-map-range_with_len}
 use Rattle.std.proofs.lemmas.Option.{slice_get_within, get_or_from_slice_get}
 use Rattle.nsp_link.specs.Cutting.{Piece, count_of, piece_at, cut_message, cut}
-use Rattle.nsp_link.specs.Link.{IsWhole, HasTaken, begun}
+use Rattle.nsp_link.specs.Inner.Whole.{IsWhole, HasWhole, begun}
 use Rattle.nsp_link.specs.Coming.{Coming, body_with, taken, taken_all, AllFit, Misfits, MisfitsOne, RefusesAll, FitsBehind}
 use Rattle.nsp_link.specs.declared.fault.LinkFault.{LinkFault}
 use Rattle.nsp_link.specs.declared.fault.LinkFault.TheVariants.{BadSetup, Malformed, WrongLink, BadSequence, MessageTooLong, Failed, Exhausted, NoSuchSegment, NoMemory}
@@ -37,6 +37,10 @@ count-reaches size len pos =
     let bounds = div_ceil_times len size pos in
     let up : q * size ≤ max 1 q * size = mul-le-mul_right size (omega arith) in
     omega arith
+
+pub cut-append : (size : ℕ) (ms more : List (List ℕ)) → cut size (ms ++ more) ≡ cut size ms ++ cut size more
+unfolding cut
+cut-append size ms more = flat_map-append (cut_message size) ms more
 
 -- the segments of one message more
 pub cut-more : (size : ℕ) (messages : List (List ℕ)) (n : ℕ) → n < length messages → cut size (take (n + 1) messages) ≡ cut size (take n messages) ++ cut_message size (get_or messages n [])
@@ -101,9 +105,9 @@ opens (suc over) xs = rw (ne_eqb (suc over) 0 (λ e. omega arith)) refl
 pub record TakesNext (v : Coming) (size : ℕ) (messages given : List (List ℕ)) (s : Piece) (limit : ℕ) : Type 0 where
   pub mark : s.first ≡ is_none v.partial
   pub short : length (body_with v s.payload) ≤ limit
-  pub stands : HasTaken (taken v s) size messages given
+  pub stands : HasWhole (taken v s) size messages given
 
-module _ (v : Coming) (size : ℕ) (messages given : List (List ℕ)) (s : Piece) (pos : 0 < size) (st : HasTaken v size messages given)
+module _ (v : Coming) (size : ℕ) (messages given : List (List ℕ)) (s : Piece) (pos : 0 < size) (st : HasWhole v size messages given)
     (at : slice_get (cut size messages) v.received ≡ Some s) (nx : NextIs size messages v.received st.count s) where
   body-is : body_with v s.payload ≡ take (size * (nx.over + 1)) (get_or messages st.count [])
   unfolding piece_at
@@ -130,7 +134,7 @@ module _ (v : Coming) (size : ℕ) (messages given : List (List ℕ)) (s : Piece
   inside : v.received < length (cut size messages)
   inside = slice_get_within (cut size messages) v.received s at
 
-  stands-part : (nx.over + 1 ≡ count_of size (length (get_or messages st.count [])) → ⊥) → HasTaken (record { received = v.received + 1; partial = Some (body_with v s.payload); inbox = v.inbox }) size messages given
+  stands-part : (nx.over + 1 ≡ count_of size (length (get_or messages st.count [])) → ⊥) → HasWhole (record { received = v.received + 1; partial = Some (body_with v s.payload); inbox = v.inbox }) size messages given
   stands-part part =
       let longer = length-cut-more size messages st.count nx.more in
       let place = nx.place in
@@ -146,7 +150,7 @@ module _ (v : Coming) (size : ℕ) (messages given : List (List ℕ)) (s : Piece
         partial = rw (begun_is size messages (v.received + 1) st.count (nx.over + 1) next, some, body-is) refl;
       }
 
-  stands-whole : nx.over + 1 ≡ count_of size (length (get_or messages st.count [])) → HasTaken (record { received = v.received + 1; partial = None; inbox = v.inbox ++ body_with v s.payload ∷ [] }) size messages given
+  stands-whole : nx.over + 1 ≡ count_of size (length (get_or messages st.count [])) → HasWhole (record { received = v.received + 1; partial = None; inbox = v.inbox ++ body_with v s.payload ∷ [] }) size messages given
   stands-whole done =
       let m = get_or messages st.count [] in
       let longer = length-cut-more size messages st.count nx.more in
@@ -168,20 +172,26 @@ module _ (v : Coming) (size : ℕ) (messages given : List (List ℕ)) (s : Piece
         partial = sym (begun_is size messages (v.received + 1) (st.count + 1) 0 next);
       }
 
-pub takes_next : (v : Coming) (size : ℕ) (messages given : List (List ℕ)) (s : Piece) (limit : ℕ) → 0 < size → All (λ m. length m ≤ limit) messages → HasTaken v size messages given → slice_get (cut size messages) v.received ≡ Some s → TakesNext v size messages given s limit
+pub stands_next : (v : Coming) (size : ℕ) (messages given : List (List ℕ)) (s : Piece) → 0 < size → HasWhole v size messages given → slice_get (cut size messages) v.received ≡ Some s → HasWhole (taken v s) size messages given
+stands_next v size messages given s pos st at =
+    let nx = next_is size messages v.received st.count s st.whole at in
+    let m = get_or messages st.count [] in
+    let last = last-is v size messages given s pos st at nx in
+    elim (cases_eq (nx.over + 1) (count_of size (length m))) [
+      | inl done ↦ rw (last, eq-eqb _ _ done) (stands-whole v size messages given s pos st at nx done)
+      | inr part ↦ rw (last, ne_eqb _ _ part) (stands-part v size messages given s pos st at nx part)
+    ]
+
+pub takes_next : (v : Coming) (size : ℕ) (messages given : List (List ℕ)) (s : Piece) (limit : ℕ) → 0 < size → All (λ m. length m ≤ limit) messages → HasWhole v size messages given → slice_get (cut size messages) v.received ≡ Some s → TakesNext v size messages given s limit
 takes_next v size messages given s limit pos short st at =
     let nx = next_is size messages v.received st.count s st.whole at in
     let m = get_or messages st.count [] in
     let few : length m ≤ limit = All-get_or (λ (m : List ℕ). length m ≤ limit) messages st.count [] nx.more short in
     let body = body-is v size messages given s pos st at nx in
-    let last = last-is v size messages given s pos st at nx in
     record {
       mark = mark-is v size messages given s pos st at nx;
       short = rw body (omega (arith, few, length-take (size * (nx.over + 1)) m));
-      stands = elim (cases_eq (nx.over + 1) (count_of size (length m))) [
-        | inl done ↦ rw (last, eq-eqb _ _ done) (stands-whole v size messages given s pos st at nx done)
-        | inr part ↦ rw (last, ne_eqb _ _ part) (stands-part v size messages given s pos st at nx part)
-      ];
+      stands = stands_next v size messages given s pos st at;
     }
 
 -- ---- several segments
@@ -191,14 +201,12 @@ unfoldable pub AreNext : List Piece → ℕ → List Piece → Type 0
 AreNext segments r [] = Unit {0}
 AreNext segments r (p ∷ ps) = (slice_get segments r ≡ Some p) × AreNext segments (r + 1) ps
 
-pub takes_all : (c : Coming) (size : ℕ) (messages given : List (List ℕ)) (ps : List Piece) (limit : ℕ) → 0 < size → All (λ m. length m ≤ limit) messages → HasTaken c size messages given → AreNext (cut size messages) c.received ps
-    → AllFit limit c ps × HasTaken (taken_all c ps) size messages given
-unfolding AreNext taken_all AllFit
-takes_all c size messages given [] limit pos short st are = (tt, st)
-takes_all c size messages given (p ∷ ps) limit pos short st are =
+pub fits_all : (c : Coming) (size : ℕ) (messages given : List (List ℕ)) (ps : List Piece) (limit : ℕ) → 0 < size → All (λ m. length m ≤ limit) messages → HasWhole c size messages given → AreNext (cut size messages) c.received ps → AllFit limit c ps
+unfolding AreNext AllFit
+fits_all c size messages given [] limit pos short st are = tt
+fits_all c size messages given (p ∷ ps) limit pos short st are =
     let one = takes_next c size messages given p limit pos short st are.0 in
-    let rest = takes_all (taken c p) size messages given ps limit pos short one.stands are.1 in
-    (((one.mark, one.short), rest.0), rest.1)
+    ((one.mark, one.short), fits_all (taken c p) size messages given ps limit pos short one.stands are.1)
 
 pub received-all : (c : Coming) (ps : List Piece) → (taken_all c ps).received ≡ c.received + length ps
 unfolding taken_all

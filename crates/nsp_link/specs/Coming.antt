@@ -12,6 +12,10 @@ pub record Coming : Type 0 where
   pub partial : Option (List ℕ)
   pub inbox : List (List ℕ)
 
+-- nothing came yet
+abbrev pub nothing_came : Coming
+nothing_came = record { received = 0; partial = None; inbox = [] }
+
 -- the bytes of the message to which a segment belongs, so far
 abbrev pub body_with : Coming → List ℕ → List ℕ
 body_with c payload = unwrap_or c.partial [] ++ payload

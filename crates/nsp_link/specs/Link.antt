@@ -1,5 +1,5 @@
 -- One end of a link, as its callers see it.
-use Rattle.std.specs.Prelude.{◌≡◌, ◌≢◌, ◌⊎◌, ℕ, ◌+◌, ◌-◌, ◌*◌, ◌<◌, ◌≤◌, ◌==◌, Bool, true, false, List, [], ◌∷◌, ◌++◌, length, take, drop, Option, Some, None, IfSome, unwrap_or, nat_lt, if◌then◌else◌, slice_get, slice_index_or, All, ◌&&◌}
+use Rattle.std.specs.Prelude.{◌≡◌, ◌≢◌, ◌⊎◌, ℕ, ◌+◌, ◌-◌, ◌<◌, ◌≤◌, ◌==◌, Bool, true, false, List, [], ◌∷◌, ◌++◌, length, take, drop, Option, Some, None, IfSome, unwrap_or, nat_lt, if◌then◌else◌, slice_get, All, ◌&&◌}
 use Rattle.std.specs.Option.{option_or}
 use Rattle.std.specs.List.{AllByRecursion}
 use Rattle.std.specs.Ordering.{nat_cmp}
@@ -14,9 +14,9 @@ use Rattle.nsp_link.specs.declared.link.LinkSetup.{LinkSetup}
 use Rattle.nsp_link.specs.declared.link.Got.{Got}
 use Rattle.nsp_link.specs.declared.link.Got.TheVariants.{Accepted, Repeat, Early, AckOnly}
 use Rattle.nsp_link.specs.declared.fault.LinkFault.{LinkFault}
-use Rattle.nsp_link.specs.declared.fault.LinkFault.TheVariants.{BadSetup, Exhausted, NoMemory}
+use Rattle.nsp_link.specs.declared.fault.LinkFault.TheVariants.{BadSetup, NoMemory}
 use Rattle.nsp_link.specs.Cutting.{Piece, cut}
-use Rattle.nsp_link.specs.Coming.{Coming}
+use Rattle.nsp_link.specs.Coming.{Coming, nothing_came, taken_all}
 use Rattle.nsp_link.specs.Holding.{AreHeld, following}
 use Rattle.nsp_link.specs.Limits.{largest_segment, largest_window, greatest_age, least_limit, largest_limit, most_segments}
 
@@ -47,7 +47,7 @@ new_link s = record {
   sent = 0;
   acked = 0;
   queue = [];
-  coming = record { received = 0; partial = None; inbox = [] };
+  coming = nothing_came;
   held = [];
   failed = false;
 }
@@ -160,29 +160,10 @@ Writes v messages k a bytes = IsWritten v.setup.local v.setup.remote (cut v.setu
 
 -- ---- taking
 
--- Of the first r segments of these messages just the first n messages are whole.
-pub record IsWhole (size : ℕ) (messages : List (List ℕ)) (r n : ℕ) : Type 0 where
-  pub some : n ≤ length messages
-  pub whole : length (cut size (take n messages)) ≤ r
-  pub next : n < length messages → r < length (cut size (take (n + 1) messages))
-  pub all : r ≤ length (cut size messages)
-
--- the bytes of those of the first r segments whose message, the one after the first n, isn't whole
-abbrev pub begun : ℕ → List (List ℕ) → ℕ → ℕ → Option (List ℕ)
-begun size messages r n =
-    let over = r - length (cut size (take n messages)) in
-    if over == 0 then None else Some (take (size * over) (slice_index_or messages n []))
-
--- The first segments of these messages, cut by this size, are taken, and these are handed out.
-pub record HasTaken (c : Coming) (size : ℕ) (messages given : List (List ℕ)) : Type 0 where
-  pub count : ℕ
-  pub whole : IsWhole size messages c.received count
-  pub inbox : given ++ c.inbox ≡ take count messages
-  pub partial : c.partial ≡ begun size messages c.received count
-
--- An end that has taken its first segments of these messages, holds others of them, and has handed these out.
+-- An end that has taken the first segments of these messages, cut by this size, and holds others of them. Those taken, one
+-- after another from nothing on, come to what it has, with the messages that it handed out in front of those that wait.
 pub record Stands (v : LinkValue) (size : ℕ) (messages given : List (List ℕ)) : Type 0 where
-  pub taken : HasTaken v.coming size messages given
+  pub taken : taken_all nothing_came (take v.coming.received (cut size messages)) ≡ record v.coming { inbox = given ++ v.coming.inbox }
   pub held : AllByRecursion (λ h. slice_get (cut size messages) (h.0 - 1) ≡ Some h.1) v.held
 
 -- whatever was taken and handed out, it is so still
@@ -205,11 +186,6 @@ abbrev pub got_of : ℕ → Option ℕ → Got
 got_of received None = AckOnly
 got_of received (Some k) = if k == received + 1 then Accepted else (if nat_lt received k then Early else Repeat)
 
--- how many segments are taken once the k-th came: the next one, and all held ones that follow it without a hole
-abbrev pub taken_after : LinkValue → Option ℕ → ℕ
-taken_after v None = v.coming.received
-taken_after v (Some k) = if k == v.coming.received + 1 then k + length (following k v.held) else v.coming.received
-
 -- the end keeps the k-th segment, which is early, for later
 abbrev pub Keeps : LinkValue → ℕ → Type 0
 Keeps v k = (v.coming.received + 1 < k) × (k < v.coming.received + 1 + v.setup.window) × AllByRecursion (λ h. h.0 ≢ k) v.held
@@ -226,12 +202,6 @@ held_after v (Some k) p =
 abbrev pub forgotten : LinkValue → ℕ → LinkValue
 forgotten v count = record v { acked = v.acked + count; queue = drop count v.queue }
 
--- An end took in the k-th segment, or none, and an acknowledgement of the first a.
-abbrev pub Delivered : LinkValue → LinkValue → Option ℕ → ℕ → Type 0
-Delivered old new k a =
-    (new.coming.received ≡ taken_after old k)
-    × ((p : Piece) × (new ≡ record (forgotten old (a - old.acked)) { coming = new.coming; held = held_after old k p }))
-
 -- A packet of a peer, which cuts these messages, none longer than this end takes, by this size: the k-th of their segments
 -- or none, with an acknowledgement of the first a of this end's. It isn't stale, and not further ahead than the numbers
 -- tell.
@@ -243,15 +213,3 @@ pub record IsOfPeer (v : LinkValue) (size : ℕ) (messages : List (List ℕ)) (p
   pub fresh : IsTimely v k a
   pub near : IfSome k (λ n. n ≤ v.coming.received + largest_window)
   pub believable : a ≤ v.sent
-
--- The end hasn't failed and stands after some of the peer's messages, and the packet is of that peer.
-abbrev pub IsDue : LinkValue → (size : ℕ) → (messages given : List (List ℕ)) → Packet → Option ℕ → ℕ → Type 0
-IsDue v size messages given p k a = (v.failed ≡ false) × Stands v size messages given × IsOfPeer v size messages p k a
-
--- The refusals of a packet that is due: only one that is taken in or kept needs memory, and one with
--- which the segments taken would be too many is exhausted.
-abbrev pub MayRefuse : LinkValue → Option ℕ → LinkFault → Type 0
-MayRefuse v None e = ⊥
-MayRefuse v (Some k) e =
-    ((e ≡ NoMemory) × ((k ≡ v.coming.received + 1) ⊎ Keeps v k) × (taken_after v (Some k) ≤ most_segments))
-    ⊎ ((e ≡ Exhausted) × (k ≡ v.coming.received + 1) × (most_segments < taken_after v (Some k)))

@@ -1,6 +1,6 @@
 //! Laws of the definitions, for whoever keeps the lists.
 
-ghost use Rattle.std.specs.Prelude.{◌≡◌, ◌≤◌, ◌+◌, [], ◌++◌, ℕ, List, Option, length, drop};
+ghost use Rattle.std.specs.Prelude.{◌≡◌, ◌<◌, ◌≤◌, ◌+◌, [], ◌++◌, ℕ, List, Option, length, take, drop};
 ghost use Rattle.std.specs.Ordering.{nat_cmp};
 ghost use Rattle.std.specs.Map.{keys_of};
 ghost use Rattle.std.specs.BTreeSet.{insert_key};
@@ -28,6 +28,17 @@ pub fn messages_only_grow()
     ensures new_stands { (s : LinkSetup) (size : ℕ) (messages : List (List ℕ))
         → Stands (new_link s) size messages [] }
     ensures new_sends { (s : LinkSetup) → Sends (new_link s) [] }
+{}
+
+/// What an end stands after are whole messages, each once and in order: those that it handed out, and then those that wait,
+/// are the first of the messages, as many as are whole in the segments that it took (own).
+pub fn whole_messages_are_taken()
+    ensures { (v : LinkValue) (size : ℕ) (messages given : List (List ℕ)) → 0 < size
+        → Stands v size messages given
+        → (n : ℕ) × (given ++ v.coming.inbox ≡ take n messages)
+        × (length (cut size (take n messages)) ≤ v.coming.received)
+        × (n < length messages
+        → v.coming.received < length (cut size (take (n + 1) messages))) }
 {}
 
 /// What isn't stale is told by its 12-bit number. With the counts of a link in order, a segment that was

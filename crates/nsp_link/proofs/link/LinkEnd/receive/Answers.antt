@@ -17,12 +17,12 @@ pub returns-in-Err-clause-any : goal.returns-in-Err-clause-any
 returns-in-Err-clause-any c = λ running p spelled. let no = c.in-Err.ensures.only p spelled in absurd cc
 
 pub returns-in-Ok-clause-due : goal.returns-in-Ok-clause-due
-returns-in-Ok-clause-due c = λ size messages given p k a spelled due.
+returns-in-Ok-clause-due c = λ size messages given p k a spelled running stands peer.
     let link = subst (λ (v : LinkValue). IsLink v) c.self.view_is c.self.invariant.link in
     let same = same_ok (c.in-Ok.ensures.only p spelled) in
     let rec = subst (λ (q : Packet). Received c.args.self.now q c.receive_packet.result c.receive_packet.new.self) same c.receive_packet.ensures in
     due_matched c.args.self.now c.receive_packet.new.self c.receive_packet.result size messages given k a
-    (due_received c.args.self.now c.receive_packet.new.self c.receive_packet.result size messages given p k a link due rec)
+    (due_received c.args.self.now c.receive_packet.new.self c.receive_packet.result size messages given p k a link (running, stands, peer) rec)
 
 pub returns-in-Ok-clause-sends : goal.returns-in-Ok-clause-sends
 returns-in-Ok-clause-sends c = λ messages sends.
@@ -31,3 +31,6 @@ returns-in-Ok-clause-sends c = λ messages sends.
 
 pub returns-in-Ok-clause-malformed : goal.returns-in-Ok-clause-malformed
 returns-in-Ok-clause-malformed c = λ f e. absurd (received_read c.args.self.now c.receive_packet.new.self _ c.receive_packet.result f c.receive_packet.ensures e)
+
+pub returns-in-Err-clause-due : goal.returns-in-Err-clause-due
+returns-in-Err-clause-due c = λ size messages given p k a spelled running stands peer. let no = c.in-Err.ensures.only p spelled in absurd cc
