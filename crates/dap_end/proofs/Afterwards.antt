@@ -1,5 +1,5 @@
 -- What the calls of a serving end leave of what it did.
-use Rattle.std.proofs.Common.{◌≡◌, ℕ, sym, ◌∙◌, subst, ap, List, ◌++◌, length, IsTrue}
+use Rattle.std.proofs.Common.{refl, ◌≡◌, ℕ, sym, ◌∙◌, subst, ap, List, ◌++◌, length, IsTrue}
 use Rattle.std.specs.Prelude.{Result, Ok, Err, IfOk, OnOk}
 use Rattle.std.proofs.lemmas.List.{append-nil}
 use Rattle.nsp_link.specs.declared.fault.LinkFault.{LinkFault}
@@ -36,11 +36,12 @@ after_posted past v h =
     }
 
 pub posted_all : (v : ServingValue) (port : PortValue) (r : Result ℕ LinkFault) → OnOk r (IsTrue (may_queue v.port.link v.port.outbox)) → IfOk r (λ n. (port ≡ posted v.port) × (n ≡ length v.port.outbox)) → IfOk r (λ n. PostedAll v (serving_of port v.accessed) n)
-posted_all v port (Ok n) may h =
-    record {
-      may = may;
-      posted = ap (λ (p : PortValue). serving_of p v.accessed) h.0;
-      count = h.1;
-      past = λ past a. subst (λ (p : PortValue). IsAfter (record past { handed = past.handed ++ v.port.outbox }) (serving_of p v.accessed)) (sym h.0) (after_posted past v a);
-    }
+posted_all v port (Ok n) may h = ((may, h.0, h.1), refl)
 posted_all v port (Err f) may h = h
+
+-- the end then
+pub posted_is : (old new : ServingValue) (n : ℕ) → PostedAll old new n → new ≡ record old { port = posted old.port }
+posted_is old new n h = h.1 ∙ ap (λ (p : PortValue). record old { port = p }) h.0.1
+
+pub posted_past : (old new : ServingValue) (n : ℕ) → PostedAll old new n → (past : Past) → IsAfter past old → IsAfter (record past { handed = past.handed ++ old.port.outbox }) new
+posted_past old new n h past a = subst (IsAfter (record past { handed = past.handed ++ old.port.outbox })) (sym (posted_is old new n h)) (after_posted past old a)

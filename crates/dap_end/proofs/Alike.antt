@@ -25,11 +25,12 @@ use Rattle.dap_end.specs.declared.fault.EndFault.{EndFault}
 use Rattle.dap_end.specs.declared.fault.EndFault.TheVariants as end_fault
 use Rattle.dap_end.specs.declared.fault.TakeFault.{TakeFault}
 use Rattle.dap_end.specs.Ports.{PortValue, gone_on, posted}
-use Rattle.dap_end.specs.Asking.{AskingValue, AskingPast, HasAsked, AskedOne, HandedAll, ReadOne, ReadNone, ReadOn, begins, goes, ReadPart, ReadsAll, HeardAll, HearFault, asks, AreAlike, HasDone, asked_one}
+use Rattle.dap_end.specs.Asking.{AskingValue, AskingPast, HasAsked, AskedOne, HandedAll, ReadOne, ReadNone, ReadOn, begins, goes, ReadPart, ReadsAll, HeardAll, HearFault, asks, AreAlike, HasDone}
 use Rattle.dap_end.specs.Writing.{Behind}
 use Rattle.dap_end.specs.Turns.{WentOn, Takes, Still}
 use Rattle.dap_end.specs.Wanting.{is_want, went_wanting, took_wanting}
-use Rattle.dap_end.proofs.Asked.{read_grows}
+use Rattle.dap_end.proofs.Asked.{asked_past, handed_is, handed_past, read_grows}
+use Rattle.dap_end.specs.Inner.Pasts.{asked_one}
 use Rattle.dap_end.proofs.Determined.{may_or_not, refused_one, no_next}
 use Rattle.dap_end.proofs.Turning.{DoAlike, no_want, went_same, took_same}
 
@@ -40,7 +41,7 @@ asking_one past request old one two n m h a b =
     let limit : a.asks.limit ≡ b.asks.limit = a.asks.is_limit past.requests past.answers h.asking ∙ sym (b.asks.is_limit past.requests past.answers h.asking) in
     let messages : a.messages ≡ b.messages = a.asks.spelled ∙ ap (λ (n : ℕ). all_joined (Blocked n (messages_of old.accessing.own request))) limit ∙ sym b.asks.spelled in
     let now = asked_one past old.accessing.own request in
-    let present : one.accessing ≡ two.accessing = one_present now.requests now.answers one.accessing two.accessing (a.past past h).asking (b.past past h).asking (a.own ∙ sym b.own) in
+    let present : one.accessing ≡ two.accessing = one_present now.requests now.answers one.accessing two.accessing (asked_past request old one n a past h).asking (asked_past request old two m b past h).asking (a.own ∙ sym b.own) in
     let port : one.port ≡ two.port = a.port ∙ ap (λ (l : List (List ℕ)). record old.port { outbox = old.port.outbox ++ l }) messages ∙ sym b.port in (
       ap (λ (p : PortValue). record one { port = p }) port ∙ ap (λ (x : Present). record two { accessing = x }) present,
       a.count ∙ ap length messages ∙ sym b.count,
@@ -177,15 +178,15 @@ unread old new before all f want (inl h) = absurd (want h.0)
 unread old new before all f want (inr h) = h
 
 handed_done : (v new : AskingValue) (n : ℕ) → HandedAll v new n → HasDone v → HasDone new
-handed_done v new n h (inl d) = inl (_, h.past d.0 d.1)
+handed_done v new n h (inl d) = inl (_, handed_past v new n h d.0 d.1)
 handed_done v new n h (inr d) =
-    subst HasDone (sym h.posted) (inr (d.0, (d.1.0 ++ v.port.outbox, sends_all v.port.link d.1.0 v.port.outbox d.1.1)))
+    subst HasDone (sym (handed_is v new n h)) (inr (d.0, (d.1.0 ++ v.port.outbox, sends_all v.port.link d.1.0 v.port.outbox d.1.1)))
 
 heard_alike : (old other one two : AskingValue) (before xs ys : List Report) → HasDone old → AreAlike old other → HeardAll old one before xs → HeardAll other two before ys → AreAlike one two × (xs ≡ ys) × HasDone one
 heard_alike old other one two before xs ys d like a b =
     let t = read_alike old other a.0 b.0 before xs ys d like a.2.0 b.2.0 (λ p. stops_empty a.0 a.2.1) (λ p. stops_empty b.0 b.2.1) in
     let there = alike_port a.0 b.0 (posted a.0.port) (posted b.0.port) t.0 (ap posted t.0.0) in (
-      subst (λ (v : AskingValue). AreAlike v two) (sym a.3.posted) (subst (λ (v : AskingValue). AreAlike (record a.0 { port = posted a.0.port }) v) (sym b.3.posted) there),
+      subst (λ (v : AskingValue). AreAlike v two) (sym (handed_is a.0 one a.1 a.3)) (subst (λ (v : AskingValue). AreAlike (record a.0 { port = posted a.0.port }) v) (sym (handed_is b.0 two b.1 b.3)) there),
       t.1,
       handed_done a.0 one a.1 a.3 t.2,
     )
@@ -200,7 +201,7 @@ empty_apart old other one mid two before xs ys f d like want ra none rb n =
 heard_apart : (old other one two : AskingValue) (before xs ys : List Report) (f : EndFault) → HasDone old → AreAlike old other → is_want f ≡ false → HeardAll old one before xs → HearFault other two before ys f → ⊥
 heard_apart old other one two before xs ys (end_fault.Link f) d like want a b =
     let t = read_alike old other a.0 two before xs ys d like a.2.0 b.0.0 (λ p. stops_empty a.0 a.2.1) (λ p. stops_empty two b.0.1) in
-    may_or_not two.port.link two.port.outbox f (no_want f want) (subst (λ (p : PortValue). IsTrue (may_queue p.link p.outbox)) t.0.0 a.3.may) b.1
+    may_or_not two.port.link two.port.outbox f (no_want f want) (subst (λ (p : PortValue). IsTrue (may_queue p.link p.outbox)) t.0.0 a.3.0.0) b.1
 heard_apart old other one two before xs ys (end_fault.Read f) d like want a b =
     let u = unread other two before ys f (no_read_want f want) b in
     empty_apart old other a.0 u.0 two before xs ys f d like (no_read_want f want) a.2.0 a.2.1 u.1 u.2

@@ -13,7 +13,7 @@ use Rattle.dap_msg.specs.Sendable.{AreSendable}
 use Rattle.dap_msg.specs.Blocked.{NspMessage, joined, Blocked, blocked_after, all_joined, messages_in, AllFit, AllWithin, IsWithin}
 use Rattle.dap_msg.proofs.ForCallers.{messages_in-Blocked, within_limit}
 use Rattle.nsp_link.specs.declared.fault.LinkFault.{LinkFault}
-use Rattle.nsp_link.specs.Link.{LinkValue, SendsStill, Stands, with_inbox}
+use Rattle.nsp_link.specs.Link.{LinkValue, Sends, SendsStill, Stands, with_inbox}
 use Rattle.nsp_link.specs.Sending.{may_queue, SendAllFault}
 use Rattle.nsp_link.proofs.ForCallers.{sends_all, may_queue_parts}
 use Rattle.dap_accessed.specs.Served.{AllAtMost}
@@ -25,7 +25,7 @@ use Rattle.dap_accessing.specs.Told.{Told}
 use Rattle.dap_accessing.specs.Phase.{limit_after}
 use Rattle.dap_accessing.specs.Present.{Present}
 use Rattle.dap_accessing.specs.Calls.{Asks, Reads}
-use Rattle.dap_end.specs.Inner.Pasts.{AreFull, read_one}
+use Rattle.dap_end.specs.Inner.Pasts.{AreFull, asked_one, read_one}
 use Rattle.dap_end.specs.declared.fault.EndFault.TheVariants as end_fault
 use Rattle.dap_end.specs.Ports.{PortValue, with_link, posted, gone_on}
 use Rattle.dap_end.specs.Writing.{Behind, sent_more}
@@ -66,14 +66,15 @@ after_handed past v h =
     }
 
 pub handed_all : (v : AskingValue) (port : PortValue) (r : Result ℕ LinkFault) → OnOk r (IsTrue (may_queue v.port.link v.port.outbox)) → IfOk r (λ n. (port ≡ posted v.port) × (n ≡ length v.port.outbox)) → IfOk r (λ n. HandedAll v (asking_of port v.accessing) n)
-handed_all v port (Ok n) may h =
-    record {
-      may = may;
-      posted = ap (λ (p : PortValue). asking_of p v.accessing) h.0;
-      count = h.1;
-      past = λ past a. subst (λ (p : PortValue). HasAsked (record past { handed = past.handed ++ v.port.outbox }) (asking_of p v.accessing)) (sym h.0) (after_handed past v a);
-    }
+handed_all v port (Ok n) may h = ((may, h.0, h.1), refl)
 handed_all v port (Err f) may h = tt
+
+-- the end then
+pub handed_is : (old new : AskingValue) (n : ℕ) → HandedAll old new n → new ≡ record old { port = posted old.port }
+handed_is old new n h = h.1 ∙ ap (λ (p : PortValue). record old { port = p }) h.0.1
+
+pub handed_past : (old new : AskingValue) (n : ℕ) → HandedAll old new n → (past : AskingPast) → HasAsked past old → HasAsked (record past { handed = past.handed ++ old.port.outbox }) new
+handed_past old new n h past a = subst (HasAsked (record past { handed = past.handed ++ old.port.outbox })) (sym (handed_is old new n h)) (after_handed past old a)
 
 -- ---- A request.
 
@@ -111,22 +112,29 @@ asks_one request old after messages outbox n asks own is count =
       own = own;
       port = ap (λ (l : List (List ℕ)). record old.port { outbox = l }) is;
       count = count;
-      past = λ past h. (let limit = limit_after (Told past.requests past.answers) in
-          let block = Blocked limit (messages_of old.accessing.own request) in
-          let is_limit : asks.limit ≡ limit = asks.is_limit past.requests past.answers h.asking in record {
-            asking = asks.stands past.requests past.answers h.asking;
-            gone = h.gone;
-            sends = h.sends;
-            messages = in_append past.asked block ∙ ap (λ (l : List Message). messages_in past.asked ++ l) (messages_in-Blocked limit (messages_of old.accessing.own request))
-                ∙ ap (λ (l : List Message). l ++ messages_of old.accessing.own request) h.messages
-                ∙ sym (Asked-more old.accessing.own past.requests request) ∙ ap (λ (k : ℕ). Asked k (past.requests ++ request ∷ [])) (sym own);
-            waiting = ap (λ (l : List (List ℕ)). past.handed ++ l) is ∙ sym (append_assoc past.handed old.port.outbox messages)
-                ∙ ap (λ (l : List (List ℕ)). l ++ messages) h.waiting ∙ ap (λ (l : List (List ℕ)). all_joined past.asked ++ l) (asks.spelled ∙ ap (λ (n : ℕ). all_joined (Blocked n (messages_of old.accessing.own request))) is_limit) ∙ sym (map-append joined past.asked block);
-            fit =
-                subst AllFit (sym (in_append past.asked block ∙ ap (λ (l : List Message). messages_in past.asked ++ l) (messages_in-Blocked limit (messages_of old.accessing.own request))))
-                (fit-both (messages_in past.asked) (messages_of old.accessing.own request) h.fit (sendable-fit _ (messages_of old.accessing.own request) (asks.admissible past.requests past.answers h.asking).2));
-            full = full-both past.asked block h.full (full-blocked limit (messages_of old.accessing.own request));
-          });
+    }
+
+pub asked_past : (request : Request) (old new : AskingValue) (n : ℕ) → AskedOne request old new n → (past : AskingPast) → HasAsked past old → HasAsked (asked_one past old.accessing.own request) new
+asked_past request old new n a past h =
+    let asks = a.asks in
+    let messages = a.messages in
+    let limit = limit_after (Told past.requests past.answers) in
+    let block = Blocked limit (messages_of old.accessing.own request) in
+    let is_limit : asks.limit ≡ limit = asks.is_limit past.requests past.answers h.asking in
+    let outbox : new.port.outbox ≡ old.port.outbox ++ messages = ap (λ (p : PortValue). p.outbox) a.port in
+    record {
+      asking = asks.stands past.requests past.answers h.asking;
+      gone = subst (λ (p : PortValue). GoneThrough past.given p.link.coming.inbox p.place past.answers) (sym a.port) h.gone;
+      sends = subst (λ (p : PortValue). Sends p.link past.handed) (sym a.port) h.sends;
+      messages = in_append past.asked block ∙ ap (λ (l : List Message). messages_in past.asked ++ l) (messages_in-Blocked limit (messages_of old.accessing.own request))
+          ∙ ap (λ (l : List Message). l ++ messages_of old.accessing.own request) h.messages
+          ∙ sym (Asked-more old.accessing.own past.requests request) ∙ ap (λ (k : ℕ). Asked k (past.requests ++ request ∷ [])) (sym a.own);
+      waiting = ap (λ (l : List (List ℕ)). past.handed ++ l) outbox ∙ sym (append_assoc past.handed old.port.outbox messages)
+          ∙ ap (λ (l : List (List ℕ)). l ++ messages) h.waiting ∙ ap (λ (l : List (List ℕ)). all_joined past.asked ++ l) (asks.spelled ∙ ap (λ (n : ℕ). all_joined (Blocked n (messages_of old.accessing.own request))) is_limit) ∙ sym (map-append joined past.asked block);
+      fit =
+          subst AllFit (sym (in_append past.asked block ∙ ap (λ (l : List Message). messages_in past.asked ++ l) (messages_in-Blocked limit (messages_of old.accessing.own request))))
+          (fit-both (messages_in past.asked) (messages_of old.accessing.own request) h.fit (sendable-fit _ (messages_of old.accessing.own request) (asks.admissible past.requests past.answers h.asking).2));
+      full = full-both past.asked block h.full (full-blocked limit (messages_of old.accessing.own request));
     }
 
 -- none of its NSP messages is longer than an end takes
@@ -331,7 +339,7 @@ still_sent v port n e =
 
 -- a link to which something was handed runs
 pub works_after : (old new : AskingValue) (n : ℕ) → HandedAll old new n → new.port.link.failed ≡ false
-works_after old new n h = ap (λ (v : AskingValue). v.port.link.failed) h.posted ∙ (may_queue_parts old.port.link old.port.outbox h.may).0
+works_after old new n h = ap (λ (v : AskingValue). v.port.link.failed) (handed_is old new n h) ∙ (may_queue_parts old.port.link old.port.outbox h.0.0).0
 
 pub heard_only : (old heard new : AskingValue) (before reports : List Report) (f : LinkFault) → Behind before reports (ReadOn old heard) → heard.port.link.coming.inbox ≡ [] → (new ≡ heard) × SendAllFault heard.port.link heard.port.outbox f → HearFault old new before reports (end_fault.Link f)
 heard_only old heard new before reports f read done h =

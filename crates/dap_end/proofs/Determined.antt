@@ -25,6 +25,7 @@ use Rattle.dap_end.specs.Turns.{Takes}
 use Rattle.dap_end.specs.Wanting.{is_want, took_wanting}
 use Rattle.dap_msg.proofs.ForCallers.{one_item}
 use Rattle.nsp_link.proofs.ForCallers.{may_queue_parts}
+use Rattle.dap_end.proofs.Afterwards.{posted_is, posted_past}
 use Rattle.dap_end.proofs.Proceeding.{up_grew, fault_grew}
 use Rattle.dap_end.proofs.Turning.{DoAlike, no_want, wants_none, did_apart, failed_same, went_same, took_same}
 use Rattle.dap_end.specs.Inner.ServingView.{with_port}
@@ -82,9 +83,9 @@ serves_once past old one two h begins begins a b = refl
 serves_once past old one two h begins (goes p m k n x y on) a b = absurd (a p m k n x y)
 serves_once past old one two h (goes p m k n x y on) begins a b = absurd (b p m k n x y)
 serves_once past old one two h (goes p m k n x y on) (goes q l j i z w other) a b =
-    let posted : q ≡ p = z.posted ∙ sym x.posted in
+    let posted : q ≡ p = posted_is old q j z ∙ sym (posted_is old p k x) in
     let now = record past { handed = past.handed ++ old.port.outbox } in
-    let after = x.past past h in
+    let after = posted_past old p k x past h in
     let same = serving_one now p m l n i after y (subst (λ (v : ServingValue). ServedOne v l i) posted w) in
     serves_once (served now y.one.bytes y.one.item y.one.next) m one two (y.past now after) on (subst (λ (v : ServingValue). ServedOn v two) (sym same.0) other) a b
 
@@ -93,7 +94,7 @@ no_next bytes later e = cc
 
 -- nothing that came is left
 stops_empty : (v : ServingValue) → v.port.link.coming.inbox ≡ [] → Stops v
-stops_empty v none = λ posted mid k n x y. no_next y.one.bytes y.one.later (sym (ap (λ (w : ServingValue). w.port.link.coming.inbox) x.posted ∙ none) ∙ y.one.came)
+stops_empty v none = λ posted mid k n x y. no_next y.one.bytes y.one.later (sym (ap (λ (w : ServingValue). w.port.link.coming.inbox) (posted_is v posted k x) ∙ none) ∙ y.one.came)
 
 running : (b : Bool) → IsTrue b → b ≡ false → ⊥
 running b t e = true≢false (sym t ∙ e)
@@ -126,16 +127,16 @@ refused_one v messages fault.NoMemory g nf ng a b = absurd (nf refl)
 refused_one v messages f g nf ng a b = absurd a
 
 stops_refused : (v : ServingValue) (f : LinkFault) → f ≢ fault.NoMemory → SendAllFault v.port.link v.port.outbox f → Stops v
-stops_refused v f want h = λ posted mid k n x y. may_or_not v.port.link v.port.outbox f want x.may h
+stops_refused v f want h = λ posted mid k n x y. may_or_not v.port.link v.port.outbox f want x.0.0 h
 
 -- where all is served, the last one was handed over
 up_stops : (old new : ServingValue) → (u : ServedUp old new) → IsServed new → Stops u.0
-up_stops old new u d = stops_empty u.0 (sym (ap (λ (v : ServingValue). v.port.link.coming.inbox) u.3.posted) ∙ d.0)
+up_stops old new u d = stops_empty u.0 (sym (ap (λ (v : ServingValue). v.port.link.coming.inbox) (posted_is u.0 new u.1 u.3)) ∙ d.0)
 
 pub up_one : (past : Past) (old one two : ServingValue) → IsAfter past old → ServedUp old one → ServedUp old two → IsServed one → IsServed two → one ≡ two
 up_one past old one two h a b da db =
     let last = serves_once past old a.0 b.0 h a.2 b.2 (up_stops old one a da) (up_stops old two b db) in
-    a.3.posted ∙ ap (λ (v : ServingValue). record v { port = posted v.port }) last ∙ sym b.3.posted
+    posted_is a.0 one a.1 a.3 ∙ ap (λ (v : ServingValue). record v { port = posted v.port }) last ∙ sym (posted_is b.0 two b.1 b.3)
 
 pub up_after : (past : Past) (old new : ServingValue) → IsAfter past old → ServedUp old new → (now : Past) × IsAfter now new
 up_after past old new h u = let g = (up_grew old new u).past past h in (g.0, g.1.is)
@@ -146,7 +147,7 @@ fault_after past old new f h u = let g = (fault_grew old new (end_fault.Link f) 
 pub up_or_not : (past : Past) (old one two : ServingValue) (f : LinkFault) → IsAfter past old → f ≢ fault.NoMemory → ServedUp old one → IsServed one → ServeFault old two (end_fault.Link f) → ⊥
 up_or_not past old one two f h want a d (inl b) =
     let last = serves_once past old a.0 two h a.2 b.0 (up_stops old one a d) (stops_refused two f want b.1) in
-    may_or_not two.port.link two.port.outbox f want (subst (λ (v : ServingValue). IsTrue (may_queue v.port.link v.port.outbox)) last a.3.may) b.1
+    may_or_not two.port.link two.port.outbox f want (subst (λ (v : ServingValue). IsTrue (may_queue v.port.link v.port.outbox)) last a.3.0.0) b.1
 up_or_not past old one two f h want a d (inr b) = want b.0
 
 pub fault_one : (past : Past) (old one two : ServingValue) (f g : LinkFault) → IsAfter past old → f ≢ fault.NoMemory → g ≢ fault.NoMemory → ServeFault old one (end_fault.Link f) → ServeFault old two (end_fault.Link g) → (one ≡ two) × (f ≡ g)

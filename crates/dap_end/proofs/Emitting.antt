@@ -10,7 +10,7 @@ use Rattle.nsp_link.specs.Sending.{WritesNext, WritesSent}
 use Rattle.nsp_link.proofs.ForCallers.{may_send_parts}
 use Rattle.dap_end.specs.Ports.{PortValue, with_link}
 use Rattle.nsp_link.specs.declared.fault.LinkFault.TheVariants as fault
-use Rattle.dap_end.specs.Writing.{AreWritten, IsWithin, sent_more, WroteMore, Behind, wants_ack, WroteAnswer, WrotePart}
+use Rattle.dap_end.specs.Writing.{AreSegments, IsWithin, sent_more, WroteMore, Behind, wants_ack, WroteAnswer, WrotePart}
 use Rattle.dap_end.specs.Inner.Answered.{Acknowledged}
 
 -- ---- One.
@@ -18,7 +18,7 @@ use Rattle.dap_end.specs.Inner.Answered.{Acknowledged}
 one_segment : (p new : PortValue) (bytes : List ℕ) → IsTrue (may_send p.link) → new ≡ sent_more p 1 → WritesSent p.link (Some (p.link.sent + 1)) bytes → WroteMore p new (bytes ∷ [])
 one_segment p new bytes may sent writes =
     let parts = may_send_parts p.link may in
-    record { sent = sent; writes = λ handed sends. (writes handed sends, tt); within = λ some. subst (λ (q : PortValue). IsWithin q.link) (sym sent) (omega (arith, parts.0), omega (arith, parts.1)) }
+    record { sent = sent; writes = (writes, tt); within = λ some. subst (λ (q : PortValue). IsWithin q.link) (sym sent) (omega (arith, parts.0), omega (arith, parts.1)) }
 
 pub wrote_next : (p : PortValue) (link : LinkValue) (r : Result (Option (Vec ℕ)) LinkFault) → IfOk r (λ o. IfSome o (λ b. WritesNext p.link link b.items))
     → IfOk r (λ o. IfSome o (λ b. WritesSent p.link (Some (p.link.sent + 1)) b.items)) → IfOk r (λ o. IfSome o (λ b. WroteMore p (with_link p link) (b.items ∷ [])))
@@ -33,14 +33,13 @@ wrote_known p link (Err f) next sent = tt
 
 -- ---- Several.
 
-written-more : (v : LinkValue) (handed : List (List ℕ)) (k : ℕ) (packets : List (List ℕ)) (bytes : List ℕ) → AreWritten v handed k packets → Writes v handed (Some (k + length packets)) v.coming.received bytes
-    → AreWritten v handed k (packets ++ bytes ∷ [])
-written-more v handed k [] bytes h w = (subst (λ (n : ℕ). Writes v handed (Some n) v.coming.received bytes) (add-zero k) w, tt)
-written-more v handed k (p ∷ packets) bytes h w =
-    (h.0, written-more v handed (k + 1) packets bytes h.1 (subst (λ (n : ℕ). Writes v handed (Some n) v.coming.received bytes) (omega arith) w))
+pub segments_more : (v : LinkValue) (k : ℕ) (packets : List (List ℕ)) (bytes : List ℕ) → AreSegments v k packets → WritesSent v (Some (k + length packets)) bytes
+    → AreSegments v k (packets ++ bytes ∷ [])
+segments_more v k [] bytes h w = (subst (λ (n : ℕ). WritesSent v (Some n) bytes) (add-zero k) w, tt)
+segments_more v k (p ∷ packets) bytes h w = (h.0, segments_more v (k + 1) packets bytes h.1 (subst (λ (n : ℕ). WritesSent v (Some n) bytes) (omega arith) w))
 
 pub wrote_nothing : (p : PortValue) → WroteMore p p []
-wrote_nothing p = record { sent = ap (λ (n : ℕ). with_link p (record p.link { sent = n })) (sym (add-zero p.link.sent)); writes = λ handed h. tt; within = λ some. absurd (omega arith) }
+wrote_nothing p = record { sent = ap (λ (n : ℕ). with_link p (record p.link { sent = n })) (sym (add-zero p.link.sent)); writes = tt; within = λ some. absurd (omega arith) }
 
 pub wrote_none : (p : PortValue) (out : List (List ℕ)) → Behind out out (WroteMore p p)
 wrote_none p out = ([], sym (append-nil out), wrote_nothing p)
@@ -54,11 +53,11 @@ wrote_then a b c packets bytes m w =
       sent = w.sent ∙ ap (λ (p : PortValue). sent_more p 1) m.sent
           ∙ ap (λ (n : ℕ). with_link a (record a.link { sent = n })) (let long = length-append packets (bytes ∷ []) in omega arith);
       within = λ some. w.within (omega arith);
-      writes = λ handed h.
-          written-more a.link handed (a.link.sent + 1) packets bytes (m.writes handed h)
-          (subst (λ (n : ℕ). Writes a.link handed (Some n) a.link.coming.received bytes) (omega arith)
+      writes =
+          segments_more a.link (a.link.sent + 1) packets bytes m.writes (λ handed h.
+          subst (λ (n : ℕ). Writes a.link handed (Some n) a.link.coming.received bytes) (omega arith)
           (subst (λ (p : PortValue). Writes p.link handed (Some (p.link.sent + 1)) p.link.coming.received bytes) m.sent
-          (w.writes handed (subst (λ (p : PortValue). Sends p.link handed) (sym m.sent) (still_sends a (length packets) handed h))).0));
+          (w.writes.0 handed (subst (λ (p : PortValue). Sends p.link handed) (sym m.sent) (still_sends a (length packets) handed h)))));
     }
 
 pub wrote_more : (a b c : PortValue) (out all new : List (List ℕ)) (bytes : List ℕ) → Behind out all (WroteMore a b) → WroteMore b c (bytes ∷ []) → new ≡ all ++ bytes ∷ [] → Behind out new (WroteMore a c)

@@ -16,6 +16,12 @@ pub use Rattle.dap_end.proofs.Asked.{few_blocked}
 -- messages have spellings: those of two lists, of a front, of the rest
 pub use Rattle.dap_end.proofs.ServingOne.{fit-both}
 pub use Rattle.dap_end.proofs.Joined.{front_fit, back_fit}
+-- what a request that was asked, and what was handed over, leave
+pub use Rattle.dap_end.proofs.Asked.{asked_past, handed_is, handed_past}
+pub use Rattle.dap_end.proofs.Afterwards.{posted_is, posted_past}
+-- the packets of one segment more; segments have one list of packets
+pub use Rattle.dap_end.proofs.Emitting.{segments_more}
+pub use Rattle.dap_end.proofs.Writing.{segments_one}
 -- what a call answers and leaves follows from the end and the call
 pub use Rattle.dap_end.proofs.Determined.{going_one, taking_one}
 pub use Rattle.dap_end.proofs.Alike.{alike_of, alike_back, alike_same, alike_done, has_sent, asking_one, going_alike, taking_alike}

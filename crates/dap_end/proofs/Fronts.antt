@@ -8,6 +8,7 @@ use Rattle.dap_msg.specs.declared.items.Item.{Item}
 use Rattle.dap_msg.specs.Items.{Items, ItemsFrom}
 use Rattle.dap_msg.proofs.ForCallers.{one_item, have_items}
 use Rattle.nsp_link.specs.Link.{LinkValue, Stands}
+use Rattle.nsp_link.proofs.ForCallers.{whole_of}
 use Rattle.dap_end.specs.Ports.{oldest}
 use Rattle.dap_end.specs.Going.{StandFrom, AreItemsOf, GoneThrough, AreFrontOf}
 
@@ -54,8 +55,9 @@ gone_front given inbox rest place items g = λ all k.
           ∙ sym (append_assoc g.done g.begun next.0) ∙ ap (λ (l : List Item). l ++ next.0) (sym g.all),
     )
 
-pub served_front : (v : LinkValue) (size : ℕ) (messages given : List (List ℕ)) (place : ℕ) (items : List Item) → Stands v size messages given → GoneThrough given v.coming.inbox place items → AreFrontOf messages items
-served_front v size messages given place items s g =
-    let rest = drop s.taken.count messages in
-    let is : given ++ (v.coming.inbox ++ rest) ≡ messages = sym (append_assoc given v.coming.inbox rest) ∙ ap (λ (l : List (List ℕ)). l ++ rest) s.taken.inbox ∙ take-append-drop s.taken.count messages in
+pub served_front : (v : LinkValue) (size : ℕ) (messages given : List (List ℕ)) (place : ℕ) (items : List Item) → 0 < size → Stands v size messages given → GoneThrough given v.coming.inbox place items → AreFrontOf messages items
+served_front v size messages given place items pos s g =
+    let w = whole_of v.coming size messages given pos s.taken in
+    let rest = drop w.count messages in
+    let is : given ++ (v.coming.inbox ++ rest) ≡ messages = sym (append_assoc given v.coming.inbox rest) ∙ ap (λ (l : List (List ℕ)). l ++ rest) w.inbox ∙ take-append-drop w.count messages in
     subst (λ (l : List (List ℕ)). AreFrontOf l items) is (gone_front given v.coming.inbox rest place items g)

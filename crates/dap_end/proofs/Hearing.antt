@@ -1,5 +1,5 @@
 -- What a list of an asking end's calls leaves.
-use Rattle.std.proofs.Common.{◌≡◌, ℕ, ◌+◌, refl, sym, ◌∙◌, subst, ap, append_assoc, false, List, [], ◌∷◌, ◌++◌, length, inl, inr}
+use Rattle.std.proofs.Common.{◌≡◌, ℕ, ◌+◌, ◌<◌, refl, sym, ◌∙◌, subst, ap, append_assoc, false, List, [], ◌∷◌, ◌++◌, length, inl, inr}
 use Rattle.std.specs.Prelude.{◌⊎◌, Option}
 use Rattle.std.proofs.lemmas.List.{append-nil}
 use Rattle.nsp_link.specs.Link.{LinkValue, Stands}
@@ -9,14 +9,15 @@ use Rattle.dap_accessing.specs.Told.{Told}
 use Rattle.dap_end.specs.Ports.{PortValue}
 use Rattle.dap_end.specs.Going.{AreFrontOf}
 use Rattle.dap_end.specs.Writing.{sent_more, WroteMore}
-use Rattle.dap_end.specs.Asking.{AskingValue, AskingPast, HasAsked, AskedOne, HandedAll, nothing_asked, asked_one}
+use Rattle.dap_end.specs.Asking.{AskingValue, AskingPast, HasAsked, AskedOne, HandedAll, asks, nothing_asked}
 use Rattle.dap_end.specs.Runs.{RunsBy}
 use Rattle.dap_end.specs.Headline.{Written, numbered, WroteOne, AreWrittenOf, EndEvent, Came, GoesOn, Again, Acks, AnyBytes, IsFromPeer}
-use Rattle.dap_end.specs.Hearing.{AskingEvent, Asks, By, AskingStepped, AskingRuns, requests_in}
+use Rattle.dap_end.specs.Hearing.{AskingEvent, Asks, By, HeardMore, AskingStepped, AskingRuns, requests_in}
+use Rattle.dap_end.specs.Inner.Pasts.{asked_one}
 use Rattle.dap_end.proofs.Taking.{grown}
-use Rattle.dap_end.proofs.Asked.{ReadMore, still_received, still_sent, read_grows}
+use Rattle.dap_end.proofs.Asked.{ReadMore, asked_past, handed_is, handed_past, still_received, still_sent, read_grows}
 use Rattle.dap_end.proofs.Packets.{all_written, still_written, written_on, numbered_written, one_written}
-use Rattle.dap_end.proofs.Running.{StandsThen, then_stands, sent_link}
+use Rattle.dap_end.proofs.Running.{StandsThen, then_stands, sent_link, some_size, some_peer, stepped_by}
 use Rattle.dap_end.proofs.Fronts.{served_front}
 
 -- what the end did: these requests were asked, these reports told, and these packets written
@@ -71,11 +72,11 @@ handed_so requests reports wrote old new (inl same) t = subst (Asked_So requests
 handed_so requests reports wrote old new (inr h) t =
     record {
       past = record t.past { handed = t.past.handed ++ old.port.outbox };
-      is = h.1.past t.past t.is;
+      is = handed_past old new h.0 h.1 t.past t.is;
       asked = t.asked;
       told = t.told;
       packets =
-          subst (λ (v : AskingValue). AreWrittenOf v.port.link (t.past.handed ++ old.port.outbox) wrote) (sym h.1.posted)
+          subst (λ (v : AskingValue). AreWrittenOf v.port.link (t.past.handed ++ old.port.outbox) wrote) (sym (handed_is old new h.0 h.1))
           (still_written old.port.link t.past.handed old.port.outbox wrote t.packets);
     }
 
@@ -83,7 +84,7 @@ sent_so : (requests : List Request) (reports : List Report) (wrote ws : List Wri
     → ws ≡ numbered (old.port.link.sent + 1) old.port.link.coming.received packets → Asked_So requests reports wrote old → Asked_So requests reports (wrote ++ ws) new
 sent_so requests reports wrote ws old new packets w e is t =
     let after : AreWrittenOf old.port.link t.past.handed ws =
-    subst (AreWrittenOf old.port.link t.past.handed) (sym is) (numbered_written old.port.link t.past.handed (old.port.link.sent + 1) packets (w.writes t.past.handed t.is.sends)) in
+    subst (AreWrittenOf old.port.link t.past.handed) (sym is) (numbered_written old.port.link t.past.handed (old.port.link.sent + 1) packets t.is.sends w.writes) in
     record {
       past = t.past;
       is = subst (HasAsked t.past) (sym e) (still_sent old new.port (length packets) w.sent t.past t.is);
@@ -115,7 +116,7 @@ step_so comes requests (old, reports, wrote) (new, after, all) (Asks request) ws
     let a = s.1 in
     record {
       past = asked_one t.past old.accessing.own request;
-      is = a.past t.past t.is;
+      is = asked_past request old new s.0 a t.past t.is;
       asked = ap (λ (l : List Request). l ++ request ∷ []) t.asked;
       told = s.3 ∙ t.told ∙ sym (a.asks.told t.past.requests t.past.answers t.is.asking);
       packets = subst (λ (p : PortValue). AreWrittenOf p.link t.past.handed all) (sym a.port) (subst (AreWrittenOf old.port.link t.past.handed) (sym s.4) t.packets);
@@ -151,7 +152,7 @@ record Listens (size : ℕ) (messages : List (List ℕ)) (v : AskingValue) : Typ
 
 handed_stands : (v : AskingValue) (size : ℕ) (messages given : List (List ℕ)) (new : AskingValue) (n : ℕ) → HandedAll v new n → StandsThen v.port.link size messages given → StandsThen new.port.link size messages given
 handed_stands v size messages given new n h s =
-    subst (λ (w : AskingValue). StandsThen w.port.link size messages given) (sym h.posted) (record { taken = s.0.taken; held = s.0.held }, s.1)
+    subst (λ (w : AskingValue). StandsThen w.port.link size messages given) (sym (handed_is v new n h)) (record { taken = s.0.taken; held = s.0.held }, s.1)
 
 asked_stands : (v : AskingValue) (size : ℕ) (messages given : List (List ℕ)) (new : AskingValue) (request : Request) (n : ℕ) → AskedOne request v new n → StandsThen v.port.link size messages given → StandsThen new.port.link size messages given
 asked_stands v size messages given new request n a s = subst (λ p. StandsThen p.link size messages given) (sym a.port) s
@@ -159,7 +160,7 @@ asked_stands v size messages given new request n a s = subst (λ p. StandsThen p
 handed_listens : (size : ℕ) (messages : List (List ℕ)) (old new : AskingValue) → HandedOver old new → Listens size messages old → Listens size messages new
 handed_listens size messages old new (inl same) t = subst (Listens size messages) (sym same) t
 handed_listens size messages old new (inr h) t =
-    record { past = record t.past { handed = t.past.handed ++ old.port.outbox }; is = h.1.past t.past t.is; stands = handed_stands old size messages t.past.given new h.0 h.1 t.stands }
+    record { past = record t.past { handed = t.past.handed ++ old.port.outbox }; is = handed_past old new h.0 h.1 t.past t.is; stands = handed_stands old size messages t.past.given new h.0 h.1 t.stands }
 
 sent_listens : (size : ℕ) (messages : List (List ℕ)) (old new : AskingValue) (packets : List (List ℕ)) → WroteMore old.port new.port packets → new ≡ record old { port = new.port } → Listens size messages old → Listens size messages new
 sent_listens size messages old new packets w e t =
@@ -173,7 +174,7 @@ step_listens size messages (old, _, _) (new, _, _) (By (Came bytes)) ws (s, e) t
     subst (Listens size messages) (sym s.3)
     (record { past = t.past; is = still_received old s.1 g s.2.sends t.past t.is; stands = then_stands old.port.link s.1 size messages t.past.given bytes s.0 s.6 t.stands s.2 })
 step_listens size messages (old, _, _) (new, _, _) (Asks request) ws s t =
-    record { past = asked_one t.past old.accessing.own request; is = s.1.past t.past t.is; stands = asked_stands old size messages t.past.given new request s.0 s.1 t.stands }
+    record { past = asked_one t.past old.accessing.own request; is = asked_past request old new s.0 s.1 t.past t.is; stands = asked_stands old size messages t.past.given new request s.0 s.1 t.stands }
 step_listens size messages (old, _, _) (new, _, _) (By GoesOn) ws (s, e) t =
     let (heard, read, over) = s.2 in
     let m = read_grows old heard read.0 read.2 in
@@ -184,12 +185,19 @@ step_listens size messages (old, _, _) (new, _, _) (By GoesOn) ws (s, e) t =
 step_listens size messages (old, _, _) (new, _, _) (By (Again i)) ws (s, e) t = subst (Listens size messages) (sym s.3) t
 step_listens size messages (old, _, _) (new, _, _) (By Acks) ws (s, e) t = subst (Listens size messages) (sym s.2) t
 
+pub asking_runs_by : (size : ℕ) (messages : List (List ℕ)) (events : List AskingEvent) (old new : SoFar) → RunsBy (AskingStepped (IsFromPeer size messages)) old events new → RunsBy (AskingStepped (IsFromPeer (some_size size) messages)) old events new
+asking_runs_by size messages [] old new r = r
+asking_runs_by size messages (Asks request ∷ events) old new r = (r.0, r.1, r.2, asking_runs_by size messages events r.0 new r.3)
+asking_runs_by size messages (By event ∷ events) old new r =
+    let step = stepped_by (asks old.1 r.0.1) (HeardMore old.1 r.0.1) (IsFromPeer size messages) (IsFromPeer (some_size size) messages) old.0 r.0.0 event r.1 (some_peer size messages) r.2.0 in
+    (r.0, r.1, (step, r.2.1), asking_runs_by size messages events r.0 new r.3)
+
 run_listens : (size : ℕ) (messages : List (List ℕ)) (events : List AskingEvent) (old new : SoFar) → RunsBy (AskingStepped (IsFromPeer size messages)) old events new → Listens size messages old.0 → Listens size messages new.0
 run_listens size messages [] old new r h = subst (λ (x : SoFar). Listens size messages x.0) (sym r) h
 run_listens size messages (event ∷ events) old new r h = run_listens size messages events r.0 new r.3 (step_listens size messages old r.0 event r.1 r.2 h)
 
-pub run_hears : (size : ℕ) (messages : List (List ℕ)) (events : List AskingEvent) (old new : AskingValue) (reports : List Report) (wrote : List Written) → HasAsked nothing_asked old → Stands old.port.link size messages [] → old.port.link.failed ≡ false
+pub run_hears : (size : ℕ) (messages : List (List ℕ)) (events : List AskingEvent) (old new : AskingValue) (reports : List Report) (wrote : List Written) → 0 < size → HasAsked nothing_asked old → Stands old.port.link size messages [] → old.port.link.failed ≡ false
     → AskingRuns (IsFromPeer size messages) old events new reports wrote → (past : AskingPast) × HasAsked past new × AreFrontOf messages past.answers
-run_hears size messages events old new reports wrote h stands works r =
+run_hears size messages events old new reports wrote pos h stands works r =
     let t = run_listens size messages events (old, [], []) (new, reports, wrote) r (record { past = nothing_asked; is = h; stands = (stands, works) }) in
-    (t.past, t.is, served_front new.port.link size messages t.past.given new.port.place t.past.answers t.stands.0 t.is.gone)
+    (t.past, t.is, served_front new.port.link size messages t.past.given new.port.place t.past.answers pos t.stands.0 t.is.gone)

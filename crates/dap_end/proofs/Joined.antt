@@ -21,18 +21,19 @@ use Rattle.dap_end.specs.Inner.Pasts.{AreFull}
 use Rattle.dap_end.specs.Ports.{PortValue}
 use Rattle.nsp_link.specs.Receiving.{Receives}
 use Rattle.dap_end.specs.Going.{AreItemsOf, AreFrontOf}
-use Rattle.dap_end.specs.Writing.{AreWritten, WroteMore}
+use Rattle.dap_end.specs.Writing.{AreSegments, WroteMore}
 use Rattle.dap_end.specs.Serving.{ServingValue, Past, IsAfter, answers_to, nothing_yet}
-use Rattle.dap_end.specs.Asking.{AskingValue, AskingPast, HasAsked, nothing_asked, asked_one}
+use Rattle.dap_end.specs.Asking.{AskingValue, AskingPast, HasAsked, nothing_asked}
 use Rattle.dap_end.specs.Runs.{RunsBy}
 use Rattle.dap_end.specs.Headline.{Written, numbered, WroteOne, AreWrittenOf, EndEvent, Came, GoesOn, Again, Acks}
 use Rattle.dap_end.specs.Hearing.{AskingEvent, Asks, By, requests_in}
 use Rattle.dap_end.specs.Joined.{Pair, AreOpposite, AreNew, PairEvent, AtA, AtB, PairStepped, PairHeadline}
+use Rattle.dap_end.specs.Inner.Pasts.{asked_one}
 use Rattle.dap_end.proofs.Taking.{grown}
 use Rattle.dap_end.proofs.Afterwards.{after_received}
 use Rattle.dap_end.proofs.Proceeding.{none_short, still_sent}
 use Rattle.dap_end.proofs.Fronts.{served_front}
-use Rattle.dap_end.proofs.Asked.{full-blocked, full-both, read_grows, still_received}
+use Rattle.dap_end.proofs.Asked.{asked_past, handed_is, handed_past, full-blocked, full-both, read_grows, still_received}
 use Rattle.dap_end.proofs.Asked as asked
 use Rattle.dap_end.proofs.Packets.{all_written, written_on, numbered_written, one_written}
 use Rattle.dap_end.proofs.Running.{in_append, answers_from, went_written}
@@ -136,11 +137,11 @@ pub headline : (first : Files) (p : Pair) → IsLinked first p → PairHeadline 
 headline first p j =
     let own = p.b.accessed.own in
     let t = first_ones j.asked.asked j.asked.handed p.a.port.outbox j.served.items j.asking.full j.asking.fit j.asking.waiting
-    (served_front p.b.port.link p.a.port.link.setup.seg_size j.asked.handed j.served.given p.b.port.place j.served.items j.ways.there.stands j.serving.gone) in
+    (served_front p.b.port.link p.a.port.link.setup.seg_size j.asked.handed j.served.given p.b.port.place j.served.items j.ways.there.positive j.ways.there.stands j.serving.gone) in
     let packets = answers_to own j.served.first [] j.served.items in
     let answers : messages_in packets ≡ Answers own j.served.first j.served.items = answers_from own j.served.first [] j.served.items in
     let r = first_ones packets j.served.handed p.b.port.outbox j.asked.answers (answers_full own j.served.first [] j.served.items) (subst AllFit (sym answers) j.serving.fit) j.serving.answers
-    (served_front p.a.port.link p.b.port.link.setup.seg_size j.served.handed j.asked.given p.a.port.place j.asked.answers j.ways.back.stands j.asking.gone) in
+    (served_front p.a.port.link p.b.port.link.setup.seg_size j.served.handed j.asked.given p.a.port.place j.asked.answers j.ways.back.positive j.ways.back.stands j.asking.gone) in
     record {
       taken = t.taken;
       taken_in_order = (t.rest, t.split ∙ j.asking.messages ∙ ap (Asked p.a.accessing.own) j.requests);
@@ -232,7 +233,7 @@ goes a b link new port from_a from_b to_a to_b more given now wire_a wire_b pack
     let moves : Moves a link.coming.inbox link.queue sent = within_by a link sent n counts refl within j.there.within in
     let same_sent : link.sent ≡ a.sent = ap (λ (l : LinkValue). l.sent) counts in
     let same_received : link.coming.received ≡ a.coming.received = ap (λ (l : LinkValue). l.coming.received) counts in
-    let wrote : AreWrittenOf link now ws = numbered_written link now (link.sent + 1) packets (subst (λ (l : LinkValue). AreWritten l now (l.sent + 1) packets) at (w.writes now (subst (λ (l : LinkValue). Sends l now) (sym at) sends))) in
+    let wrote : AreWrittenOf link now ws = numbered_written link now (link.sent + 1) packets sends (subst (λ (l : LinkValue). AreSegments l (l.sent + 1) packets) at w.writes) in
     let all : AreWrittenOf new.link now (wire_a ++ ws) = went_written a link new.link from_a more now wire_a ws counts is (new_is ∙ ap (λ (k : ℕ). record link { sent = k }) (sym (ap (λ (l : LinkValue). l.sent) new_is))) j.there.packets wrote in
     let stands' : Stands (moved a link.coming.inbox link.queue sent) b.setup.seg_size from_b given =
     subst (λ (l : LinkValue). Stands l b.setup.seg_size from_b given) (same_front a link sent counts) (record { taken = stands.taken; held = stands.held }) in
@@ -349,15 +350,15 @@ hands past old heard handed h (inl same) =
     (record { now = past; is = h; requests = refl; answers = refl; more = []; more_is = sym (append-nil past.handed); short = none_short heard.port.link; given = refl; link = refl; same = λ size messages given s. s })
 hands past old heard handed h (inr k) =
     let one = k.1 in
-    subst (Hands past old heard) (sym one.posted)
+    subst (Hands past old heard) (sym (handed_is heard handed k.0 one))
     (record {
       now = record past { handed = past.handed ++ heard.port.outbox };
-      is = subst (HasAsked (record past { handed = past.handed ++ heard.port.outbox })) one.posted (one.past past h);
+      is = subst (HasAsked (record past { handed = past.handed ++ heard.port.outbox })) (handed_is heard handed k.0 one) (handed_past heard handed k.0 one past h);
       requests = refl;
       answers = refl;
       more = heard.port.outbox;
       more_is = refl;
-      short = (may_queue_parts heard.port.link heard.port.outbox one.may).1;
+      short = (may_queue_parts heard.port.link heard.port.outbox one.0.0).1;
       given = refl;
       link = refl;
       same = λ size messages given s. record { taken = s.taken; held = s.held };
@@ -393,7 +394,7 @@ asks first old new (Asks request) ws s j =
     subst (IsLinked first) (sym s.1)
     (record {
       asked = asked_one j.asked old.a.accessing.own request;
-      asking = a.past j.asked j.asking;
+      asking = asked_past request old.a new.a t.0 a j.asked j.asking;
       served = j.served;
       serving = j.serving;
       had = j.had;

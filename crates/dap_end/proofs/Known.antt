@@ -23,6 +23,7 @@ use Rattle.dap_end.specs.Writing.{sent_more}
 use Rattle.dap_end.specs.Serving.{ServingValue, Past, IsAfter, ServedOne, PostedAll, nothing_yet}
 use Rattle.dap_end.specs.Turns.{WroteThen, TookIn, Takes, Still}
 use Rattle.dap_end.specs.Taking.{ServedOn, begins, goes, ServedUp, ServeFault, serves, GoesOn}
+use Rattle.dap_end.proofs.Afterwards.{posted_is, posted_past}
 use Rattle.dap_end.proofs.Refusing.{taken_count}
 use Rattle.dap_end.proofs.Determined.{no_next}
 use Rattle.dap_end.specs.Inner.ServingView.{with_port}
@@ -92,13 +93,13 @@ known_in old link bytes r h still k = known_by old link (comes_by old.port.link.
 
 posted_known : (v new : ServingValue) (n : ℕ) → PostedAll v new n → IsKnown v → IsKnown new
 posted_known v new n p (past, h, inl came) =
-    (record past { handed = past.handed ++ v.port.outbox }, p.past past h, inl (subst (λ (w : ServingValue). HasCome w.port) (sym p.posted) came))
+    (record past { handed = past.handed ++ v.port.outbox }, posted_past v new n p past h, inl (subst (λ (w : ServingValue). HasCome w.port) (sym (posted_is v new n p)) came))
 posted_known v new n p (past, h, inr none) =
     let first = nothing_yet past.first in
     let there : IsAfter first v = subst (λ (q : Past). IsAfter q v) none.0 h in
     let outbox : v.port.outbox ≡ [] = there.answers in
-    let after : IsAfter first new = subst (λ (l : List (List ℕ)). IsAfter (record first { handed = l }) new) outbox (p.past first there) in
-    (first, after, inr (refl, ap (λ (w : ServingValue). w.port.link.coming.inbox) p.posted ∙ none.1))
+    let after : IsAfter first new = subst (λ (l : List (List ℕ)). IsAfter (record first { handed = l }) new) outbox (posted_past v new n p first there) in
+    (first, after, inr (refl, ap (λ (w : ServingValue). w.port.link.coming.inbox) (posted_is v new n p) ∙ none.1))
 
 served_known : (v new : ServingValue) (n : ℕ) → ServedOne v new n → IsKnown v → IsKnown new
 served_known v new n s (past, h, inl came) =

@@ -6,7 +6,7 @@ use Rattle.nsp_link.specs.declared.link.LinkSetup.{LinkSetup}
 use Rattle.nsp_link.specs.Link.{LinkValue, Sends, Writes, IsWritten, IsSpelling}
 use Rattle.nsp_link.specs.Sending.{WritesSent, ack_packet_of}
 use Rattle.nsp_link.proofs.ForCallers.{writes_more}
-use Rattle.dap_end.specs.Writing.{AreWritten}
+use Rattle.dap_end.specs.Writing.{AreSegments}
 use Rattle.dap_end.specs.Headline.{Written, numbered, WroteOne, AreWrittenOf}
 use Rattle.dap_end.proofs.Taking.{Grown}
 
@@ -28,9 +28,9 @@ written_on old new g handed (w ∷ ws) h = (
 )
 
 -- segments one after another
-pub numbered_written : (v : LinkValue) (handed : List (List ℕ)) (k : ℕ) (packets : List (List ℕ)) → AreWritten v handed k packets → AreWrittenOf v handed (numbered k v.coming.received packets)
-numbered_written v handed k [] h = tt
-numbered_written v handed k (p ∷ packets) h = (h.0, numbered_written v handed (k + 1) packets h.1)
+pub numbered_written : (v : LinkValue) (handed : List (List ℕ)) (k : ℕ) (packets : List (List ℕ)) → Sends v handed → AreSegments v k packets → AreWrittenOf v handed (numbered k v.coming.received packets)
+numbered_written v handed k [] sends h = tt
+numbered_written v handed k (p ∷ packets) sends h = (h.0 handed sends, numbered_written v handed (k + 1) packets sends h.1)
 
 pub one_written : (v : LinkValue) (handed : List (List ℕ)) (k : Option ℕ) (w : Written) → Sends v handed → WroteOne v k w → Writes v handed w.segment w.acks w.bytes
 one_written v handed k w sends h =

@@ -16,6 +16,7 @@ use Rattle.dap_end.specs.Ports.{PortValue, posted}
 use Rattle.dap_end.specs.Serving.{ServingValue, Past, IsAfter, ServedOne, PostedAll, MayServe}
 use Rattle.dap_end.specs.Writing.{sent_more, Behind, WroteMore}
 use Rattle.dap_end.specs.Taking.{Grew, ServedMore, ServedOn, begins, goes, ServedUp, IsServed, ServeFault, serves, GoesOn}
+use Rattle.dap_end.proofs.Afterwards.{posted_is, posted_past}
 use Rattle.dap_end.proofs.ServingOne.{port_given}
 use Rattle.dap_end.proofs.Turning.{went_by}
 use Rattle.dap_end.specs.Turns.{Still}
@@ -73,11 +74,11 @@ posted_grew past v short h =
 
 pub more_posted : (v new : ServingValue) (n : ℕ) → PostedAll v new n → ServedMore v new
 more_posted v new n p =
-    subst (ServedMore v) (sym p.posted)
+    subst (ServedMore v) (sym (posted_is v new n p))
     (record {
       link = refl;
       own = refl;
-      past = λ past h. (record past { handed = past.handed ++ v.port.outbox }, posted_grew past v (may_queue_parts v.port.link v.port.outbox p.may).1 (subst (IsAfter (record past { handed = past.handed ++ v.port.outbox })) p.posted (p.past past h)));
+      past = λ past h. (record past { handed = past.handed ++ v.port.outbox }, posted_grew past v (may_queue_parts v.port.link v.port.outbox p.0.0).1 (subst (IsAfter (record past { handed = past.handed ++ v.port.outbox })) (posted_is v new n p) (posted_past v new n p past h)));
     })
 
 -- what left, and what is left
@@ -136,11 +137,11 @@ pub all_served : (v : ServingValue) → v.port.outbox ≡ [] → (MayServe v →
 all_served v idle none = (no_more v v.port.link.coming.inbox refl idle none, idle)
 
 pub none_waits : (v new : ServingValue) (n : ℕ) → PostedAll v new n → new.port.outbox ≡ []
-none_waits v new n p = ap (λ (x : ServingValue). x.port.outbox) p.posted
+none_waits v new n p = ap (λ (x : ServingValue). x.port.outbox) (posted_is v new n p)
 
 -- a link to which something was handed runs
 pub works_here : (old new : ServingValue) (n : ℕ) → PostedAll old new n → new.port.link.failed ≡ false
-works_here old new n p = ap (λ (v : ServingValue). v.port.link.failed) p.posted ∙ (may_queue_parts old.port.link old.port.outbox p.may).0
+works_here old new n p = ap (λ (v : ServingValue). v.port.link.failed) (posted_is old new n p) ∙ (may_queue_parts old.port.link old.port.outbox p.0.0).0
 
 -- ---- How much is left to serve.
 

@@ -1,6 +1,6 @@
 -- What a list of a serving end's calls leaves.
-use Rattle.std.proofs.Common.{◌≡◌, ℕ, ◌+◌, ◌<◌, refl, sym, ◌∙◌, subst, ap, append_assoc, true, false, List, [], ◌∷◌, ◌++◌, length, inl, inr}
-use Rattle.std.specs.Prelude.{Bool, ◌-◌, Option, Some, None, Result, Ok, Err}
+use Rattle.std.proofs.Common.{◌≡◌, ℕ, ◌+◌, ◌<◌, arith, refl, sym, ◌∙◌, subst, ap, append_assoc, true, false, List, [], ◌∷◌, ◌++◌, length, inl, inr}
+use Rattle.std.specs.Prelude.{Bool, max, ◌-◌, Option, Some, None, Result, Ok, Err}
 use Rattle.std.proofs.lemmas.List.{append-nil, map-append}
 use Rattle.dap_msg.specs.declared.items.Item.{Item}
 use Rattle.dap_msg.specs.declared.message.Message.{Message}
@@ -8,7 +8,7 @@ use Rattle.dap_msg.specs.Blocked.{NspMessage, Blocked, messages_in}
 use Rattle.dap_msg.proofs.ForCallers.{messages_in-Blocked}
 use Rattle.nsp_link.specs.declared.link.Got.{Got}
 use Rattle.nsp_link.specs.declared.fault.LinkFault.{LinkFault}
-use Rattle.nsp_link.proofs.ForCallers.{is_delivered}
+use Rattle.nsp_link.proofs.ForCallers.{is_delivered, came_due}
 use Rattle.nsp_link.specs.Link.{LinkValue, Stands, IsSpelling, with_inbox}
 use Rattle.nsp_link.specs.Sending.{WritesSent, ack_packet_of}
 use Rattle.dap_accessed.specs.Standing.{Files}
@@ -20,7 +20,7 @@ use Rattle.nsp_link.specs.Receiving.{Receives}
 use Rattle.dap_end.specs.Going.{AreFrontOf}
 use Rattle.dap_end.specs.Writing.{sent_more, wants_ack, WroteMore}
 use Rattle.dap_end.specs.Serving.{ServingValue, Past, IsAfter, answers_to, nothing_yet, ServedOne, PostedAll}
-use Rattle.dap_end.specs.Turns.{WroteThen, WentOn, TookIn, TookThen}
+use Rattle.dap_end.specs.Turns.{EndOf, WroteThen, WentOn, TookIn, TookThen}
 use Rattle.dap_end.specs.Taking.{ServedMore, ServeFault, serves}
 use Rattle.dap_end.specs.Runs.{RunsBy}
 use Rattle.dap_end.specs.Headline.{Written, numbered, bytes_of, WroteOne, EndEvent, Came, GoesOn, Again, Acks, AnyBytes, EndStepped, Stepped, Runs, AreWrittenOf, IsFromPeer, AreCalls}
@@ -89,7 +89,7 @@ went old served new packets first wrote ws m w e is d =
     let more = m.past d.past d.is in
     let now = more.0 in
     let here : IsAfter now new = subst (IsAfter now) (sym (e ∙ ap (with_port served) w.sent)) (still_sent served (length packets) now more.1.is) in
-    let after : AreWrittenOf served.port.link now.handed ws = subst (AreWrittenOf served.port.link now.handed) (sym is) (numbered_written served.port.link now.handed (served.port.link.sent + 1) packets (w.writes now.handed more.1.is.sends)) in
+    let after : AreWrittenOf served.port.link now.handed ws = subst (AreWrittenOf served.port.link now.handed) (sym is) (numbered_written served.port.link now.handed (served.port.link.sent + 1) packets more.1.is.sends w.writes) in
     record {
       past = now;
       is = here;
@@ -142,10 +142,31 @@ StandsThen link size messages given = Stands link size messages given × (link.f
 pub then_stands : (old link : LinkValue) (size : ℕ) (messages given : List (List ℕ)) (bytes : List ℕ) (r : Result Got LinkFault) → IsFromPeer size messages old bytes → StandsThen old size messages given → Receives old link bytes r
     → StandsThen link size messages given
 then_stands old link size messages given bytes (Ok got) f s h =
-    let told = h.due size messages given f.0 f.1 f.2 f.3 (s.1, s.0, f.4) in (told.2, (is_delivered old link f.1 f.2 told.1).failed ∙ s.1)
+    let told = came_due old link bytes (Ok got) size messages given f.0 f.1 f.2 h f.3 (s.1, s.0, f.4) in (told.2, (is_delivered old link f.1 f.2 told.1).failed ∙ s.1)
 then_stands old link size messages given bytes (Err e) f s h =
-    let told = h.due size messages given f.0 f.1 f.2 f.3 (s.1, s.0, f.4) in
+    let told = came_due old link bytes (Err e) size messages given f.0 f.1 f.2 h f.3 (s.1, s.0, f.4) in
     subst (λ (l : LinkValue). StandsThen l size messages given) (sym told.1) s
+
+-- A packet comes from a peer whose size is above 0. So of one whose size is 0 none comes, and it may have any size.
+abbrev pub some_size : ℕ → ℕ
+some_size size = max 1 size
+
+pub some_peer : (size : ℕ) (messages : List (List ℕ)) (v : LinkValue) (bytes : List ℕ) → IsFromPeer size messages v bytes → IsFromPeer (some_size size) messages v bytes
+some_peer size messages v bytes f =
+    let same : size ≡ some_size size = omega (arith, f.4.positive) in
+    subst (λ (n : ℕ). IsFromPeer n messages v bytes) same f
+
+pub stepped_by : {V : Type 0} (end : EndOf V) (does : V → V → Type 0) (here there : LinkValue → List ℕ → Type 0) (old new : V) (event : EndEvent) (ws : List Written) → ((v : LinkValue) (bytes : List ℕ) → here v bytes → there v bytes)
+    → EndStepped end does here old event new ws → EndStepped end does there old event new ws
+stepped_by end does here there old new (Came bytes) ws comes t = (t.0, t.1, t.2, t.3, t.4, t.5, comes (end.port old).link bytes t.6)
+stepped_by end does here there old new GoesOn ws comes t = t
+stepped_by end does here there old new (Again i) ws comes t = t
+stepped_by end does here there old new Acks ws comes t = t
+
+pub runs_by : (size : ℕ) (messages : List (List ℕ)) (events : List EndEvent) (old new : Wrote) → RunsBy (Stepped (IsFromPeer size messages)) old events new → RunsBy (Stepped (IsFromPeer (some_size size) messages)) old events new
+runs_by size messages [] old new r = r
+runs_by size messages (event ∷ events) old new r =
+    (r.0, r.1, (stepped_by serves ServedMore (IsFromPeer size messages) (IsFromPeer (some_size size) messages) old.0 r.0.0 event r.1 (some_peer size messages) r.2.0, r.2.1), runs_by size messages events r.0 new r.3)
 
 went_hears : (old served new : ServingValue) (sent size : ℕ) (messages : List (List ℕ)) (first : Files) → ServedMore old served → new ≡ with_port served (sent_more served.port sent) → Hears size messages first old
     → Hears size messages first new
@@ -176,11 +197,11 @@ run_hears : (events : List EndEvent) (old new : Wrote) (size : ℕ) (messages : 
 run_hears [] old new size messages first r h = subst (λ (x : Wrote). Hears size messages first x.0) (sym r) h
 run_hears (event ∷ events) old new size messages first r h = run_hears events r.0 new size messages first r.3 (step_hears old.0 r.0.0 event r.1 size messages first r.2.0 h)
 
-pub run_from : (events : List EndEvent) (old new : ServingValue) (wrote : List Written) (size : ℕ) (messages : List (List ℕ)) (past : Past) → IsAfter past old → Stands old.port.link size messages past.given → old.port.link.failed ≡ false
+pub run_from : (events : List EndEvent) (old new : ServingValue) (wrote : List Written) (size : ℕ) (messages : List (List ℕ)) (past : Past) → 0 < size → IsAfter past old → Stands old.port.link size messages past.given → old.port.link.failed ≡ false
     → Runs (IsFromPeer size messages) old events new wrote → (now : Past) × IsAfter now new × (now.first ≡ past.first) × AreFrontOf messages now.items
-run_from events old new wrote size messages past is stands works r =
+run_from events old new wrote size messages past pos is stands works r =
     let h = run_hears events (old, []) (new, wrote) size messages past.first r (record { past = past; is = is; had = refl; stands = stands; works = works }) in
-    (h.past, h.is, h.had, served_front new.port.link size messages h.past.given new.port.place h.past.items h.stands h.is.gone)
+    (h.past, h.is, h.had, served_front new.port.link size messages h.past.given new.port.place h.past.items pos h.stands h.is.gone)
 
 -- ---- Calls are runs.
 

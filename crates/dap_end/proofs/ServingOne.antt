@@ -1,5 +1,5 @@
 -- One item was served.
-use Rattle.std.proofs.Common.{◌≡◌, ℕ, ◌<◌, ◌≤◌, arith, refl, sym, ◌∙◌, subst, ap, append_assoc, Bool, true, false, List, [], ◌∷◌, ◌++◌, length, inl, inr, eq-eqb}
+use Rattle.std.proofs.Common.{◌≡◌, ℕ, ◌<◌, ◌≤◌, arith, refl, sym, ◌∙◌, subst, ap, Bool, true, false, List, [], ◌∷◌, ◌++◌, length, inl, inr, eq-eqb}
 use Rattle.std.specs.Prelude.{◌==◌, if◌then◌else◌, Some, None, slice_get}
 use Rattle.std.proofs.lemmas.Bool.{cases_eq, ne_eqb}
 use Rattle.std.proofs.lemmas.List.{append-nil, map-append}
@@ -10,6 +10,7 @@ use Rattle.dap_msg.specs.Items.{ItemAt, IsPlace}
 use Rattle.dap_msg.specs.Blocked.{NspMessage, Blocked, all_joined, bodies, joined, AllFit}
 use Rattle.dap_msg.specs.declared.message.Message.{Message}
 use Rattle.nsp_link.specs.Link.{Stands, with_inbox}
+use Rattle.nsp_link.proofs.ForCallers.{stands_given}
 use Rattle.dap_accessed.specs.Groups.{Answers, added, limit_for}
 use Rattle.dap_accessed.proofs.ForCallers.{Answers-more}
 use Rattle.dap_accessed.specs.Present.{Present}
@@ -51,23 +52,13 @@ gone_by p new false bytes later next inbox h = h.0 refl
 pub gone_is : (p new : PortValue) (bytes : List ℕ) (later : List (List ℕ)) (next : ℕ) (last : Bool) → last ≡ (next == length bytes) → p.link.coming.inbox ≡ bytes ∷ later → GoesOn p new last next → new ≡ gone_on p bytes later next
 gone_is p new bytes later next last is inbox h = gone_by p new (next == length bytes) bytes later next inbox (subst (λ (b : Bool). GoesOn p new b next) is h)
 
--- ---- The link gives the message away at its end.
-
-stands_given : (p : PortValue) (bytes : List ℕ) (later : List (List ℕ)) (size : ℕ) (messages given : List (List ℕ)) → p.link.coming.inbox ≡ bytes ∷ later
-    → Stands p.link size messages given → Stands (with_inbox p.link later) size messages (given ++ bytes ∷ [])
-stands_given p bytes later size messages given inbox h =
-    record {
-      taken = record { count = h.taken.count; whole = h.taken.whole; inbox = append_assoc given (bytes ∷ []) later ∙ ap (λ (l : List (List ℕ)). given ++ l) (sym inbox) ∙ h.taken.inbox; partial = h.taken.partial };
-      held = h.held;
-    }
-
 -- ---- The step.
 
 pub port_given : (p : PortValue) (bytes : List ℕ) (later : List (List ℕ)) (next size : ℕ) (messages given : List (List ℕ)) → p.link.coming.inbox ≡ bytes ∷ later → Stands p.link size messages given
     → Stands (gone_on p bytes later next).link size messages (given_then given bytes next)
 port_given p bytes later next size messages given inbox h =
     elim (cases_eq next (length bytes)) [
-      | inl end ↦ rw (eq-eqb next (length bytes) end) (stands_given p bytes later size messages given inbox h)
+      | inl end ↦ rw (eq-eqb next (length bytes) end) (stands_given p.link bytes later size messages given inbox h)
       | inr inside ↦ rw (ne_eqb next (length bytes) inside) h
     ]
 

@@ -14,8 +14,9 @@ use Rattle.nsp_link.specs.declared.link.LinkSetup.{LinkSetup}
 use Rattle.nsp_link.specs.Limits.{largest_window}
 use Rattle.nsp_link.specs.Cutting.{Piece, cut}
 use Rattle.nsp_link.specs.Holding.{following}
-use Rattle.nsp_link.specs.Link.{LinkValue, IsBetween, IsTimely, IsDue, Stands, Writes, Delivered, taken_after, held_after, with_inbox, AreShort}
-use Rattle.nsp_link.proofs.ForCallers.{inserted, written_spells, stands_more, is_delivered}
+use Rattle.nsp_link.specs.Link.{LinkValue, IsBetween, IsTimely, Stands, Writes, held_after, with_inbox, AreShort}
+use Rattle.nsp_link.specs.Inner.Due.{IsDue, Delivered, taken_after}
+use Rattle.nsp_link.proofs.ForCallers.{inserted, written_spells, stands_more, is_delivered, came_due}
 use Rattle.nsp_link.specs.Receiving.{Receives}
 use Rattle.dap_end.specs.Headline.{Written, numbered, AreWrittenOf}
 
@@ -224,7 +225,7 @@ pub comes : (a b new : LinkValue) (from_a from_b to_a to_b : List (List ℕ)) (w
 comes a b new from_a from_b to_a to_b wire_a wire_b j w (Ok got) join at timely h packets =
     let true_w = true_at a.sent a.coming.received wire_a j w join.there.counts at in
     let f = due_at a b from_a to_b wire_a w join.there join.works_b join.back.taken_sent true_w (written_at a from_a wire_a j w join.there.packets at) timely in
-    let told = h.due a.setup.seg_size from_a to_b f.packet w.segment w.acks f.spelled f.is in
+    let told = came_due b new w.bytes (Ok got) a.setup.seg_size from_a to_b f.packet w.segment w.acks h f.spelled f.is in
     record {
       there = takes a b new from_a to_b wire_a w.segment w.acks join.there true_w.segment told.1 told.2;
       back = hears b new a from_b to_a wire_b w.segment w.acks join.back true_w.acks told.1 packets;
@@ -234,7 +235,7 @@ comes a b new from_a from_b to_a to_b wire_a wire_b j w (Ok got) join at timely 
 comes a b new from_a from_b to_a to_b wire_a wire_b j w (Err e) join at timely h packets =
     let true_w = true_at a.sent a.coming.received wire_a j w join.there.counts at in
     let f = due_at a b from_a to_b wire_a w join.there join.works_b join.back.taken_sent true_w (written_at a from_a wire_a j w join.there.packets at) timely in
-    let told = h.due a.setup.seg_size from_a to_b f.packet w.segment w.acks f.spelled f.is in
+    let told = came_due b new w.bytes (Err e) a.setup.seg_size from_a to_b f.packet w.segment w.acks h f.spelled f.is in
     subst (λ (v : LinkValue). AreJoined a v from_a from_b to_a to_b wire_a wire_b) (sym told.1) join
 
 -- ---- An end does something by itself.

@@ -9,7 +9,7 @@ use Rattle.nsp_link.specs.Link.{LinkValue, Sends, IsSpelling, may_send}
 use Rattle.nsp_link.specs.Sending.{ack_packet_of}
 use Rattle.nsp_link.proofs.ForCallers.{may_send_by, written_one}
 use Rattle.dap_end.specs.Ports.{PortValue}
-use Rattle.dap_end.specs.Writing.{AreWritten, IsWithin, sent_more, WroteMore, WroteAnswer, wants_ack}
+use Rattle.dap_end.specs.Writing.{AreSegments, IsWithin, sent_more, WroteMore, WroteAnswer, wants_ack}
 
 counts_one : (p : PortValue) (n m : ℕ) → may_send (sent_more p n).link ≡ false → (0 < m → IsWithin (sent_more p m).link) → (n < m) → ⊥
 counts_one p n m full within lt =
@@ -23,13 +23,13 @@ count_one p n m a b wa wb =
       | inr le ↦ (elim (cases_lt m n) [ inl lt ↦ absurd (counts_one p m n b wa lt) | inr other ↦ omega arith ])
     ]
 
-packets_one : (v : LinkValue) (handed : List (List ℕ)) (k : ℕ) (one two : List (List ℕ)) → length one ≡ length two → AreWritten v handed k one → AreWritten v handed k two → one ≡ two
-packets_one v handed k [] [] e a b = refl
-packets_one v handed k [] (y ∷ two) e a b = absurd (omega arith)
-packets_one v handed k (x ∷ one) [] e a b = absurd (omega arith)
-packets_one v handed k (x ∷ one) (y ∷ two) e a b =
-    ap (λ (z : List ℕ). z ∷ one) (written_one v.setup.local v.setup.remote (cut v.setup.seg_size handed) (Some k) v.coming.received x y a.0 b.0)
-    ∙ ap (λ (l : List (List ℕ)). y ∷ l) (packets_one v handed (k + 1) one two (omega arith) a.1 b.1)
+pub segments_one : (v : LinkValue) (handed : List (List ℕ)) (k : ℕ) (one two : List (List ℕ)) → Sends v handed → length one ≡ length two → AreSegments v k one → AreSegments v k two → one ≡ two
+segments_one v handed k [] [] sends e a b = refl
+segments_one v handed k [] (y ∷ two) sends e a b = absurd (omega arith)
+segments_one v handed k (x ∷ one) [] sends e a b = absurd (omega arith)
+segments_one v handed k (x ∷ one) (y ∷ two) sends e a b =
+    ap (λ (z : List ℕ). z ∷ one) (written_one v.setup.local v.setup.remote (cut v.setup.seg_size handed) (Some k) v.coming.received x y (a.0 handed sends) (b.0 handed sends))
+    ∙ ap (λ (l : List (List ℕ)). y ∷ l) (segments_one v handed (k + 1) one two sends (omega arith) a.1 b.1)
 
 acks_same : (got : Got) (written : List (List ℕ)) (v w : LinkValue) (wants : Bool) (one two : List (List ℕ)) → wants_ack got (length written) ≡ wants → v ≡ w
     → (wants_ack got (length written) ≡ false → one ≡ written) → (wants_ack got (length written) ≡ true → (bytes : List ℕ) × (one ≡ written ++ bytes ∷ []) × IsSpelling (ack_packet_of v) bytes)
@@ -48,7 +48,7 @@ wrote_one p one two handed xs ys sends a b fa fb =
     let within_a : 0 < length xs → IsWithin (sent_more p (length xs)).link = subst (λ (q : PortValue). 0 < length xs → IsWithin q.link) a.sent a.within in
     let within_b : 0 < length ys → IsWithin (sent_more p (length ys)).link = subst (λ (q : PortValue). 0 < length ys → IsWithin q.link) b.sent b.within in
     let count : length xs ≡ length ys = count_one p (length xs) (length ys) full_a full_b within_a within_b in
-    (a.sent ∙ ap (sent_more p) count ∙ sym b.sent, packets_one p.link handed (p.link.sent + 1) xs ys count (a.writes handed sends) (b.writes handed sends))
+    (a.sent ∙ ap (sent_more p) count ∙ sym b.sent, segments_one p.link handed (p.link.sent + 1) xs ys sends count a.writes b.writes)
 
 pub answer_one : (p one two : PortValue) (handed : List (List ℕ)) (got : Got) (xs ys : List (List ℕ)) → Sends p.link handed → WroteAnswer p one got xs → WroteAnswer p two got ys → (one ≡ two) × (xs ≡ ys)
 answer_one p one two handed got xs ys sends a b =

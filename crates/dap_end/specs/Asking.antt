@@ -1,24 +1,23 @@
 -- The end that asks, before any peer.
-use Rattle.std.specs.Prelude.{◌≡◌, ◌≢◌, ◌⊎◌, ℕ, ◌<◌, Result, Ok, Err, List, [], ◌∷◌, ◌++◌, length, true, false, Option, Some, None, option_to_list, IsTrue}
+use Rattle.std.specs.Prelude.{◌≡◌, ◌≢◌, ◌⊎◌, ℕ, ◌<◌, Result, Ok, Err, List, [], ◌∷◌, ◌++◌, length, true, false, Option, Some, None, option_to_list}
 use Rattle.std.specs.List.{AllByRecursion}
 use Rattle.dap_msg.specs.declared.items.Item.{Item}
-use Rattle.dap_msg.specs.Blocked.{NspMessage, Blocked, all_joined, messages_in, AllFit}
+use Rattle.dap_msg.specs.Blocked.{NspMessage, all_joined, messages_in, AllFit}
 use Rattle.nsp_link.specs.Link.{Sends}
-use Rattle.nsp_link.specs.Sending.{may_queue, SendAllFault}
+use Rattle.nsp_link.specs.Sending.{SendAllFault}
 use Rattle.dap_accessing.specs.Request.{Request}
 use Rattle.dap_accessing.specs.declared.report.Report.{Report}
 use Rattle.dap_accessing.specs.declared.fault.ReadFault.{ReadFault}
 use Rattle.dap_accessing.specs.declared.fault.ReadFault.TheVariants as read_fault
-use Rattle.dap_accessing.specs.Asked.{Asked, messages_of}
+use Rattle.dap_accessing.specs.Asked.{Asked}
 use Rattle.dap_accessing.specs.Told.{Told}
-use Rattle.dap_accessing.specs.Phase.{limit_after}
 use Rattle.dap_accessing.specs.Present.{Present, StandsAfter}
 use Rattle.dap_accessing.specs.Calls.{Asks, ReadRefused}
 use Rattle.dap_end.specs.declared.asking.Heard.{Heard}
 use Rattle.dap_end.specs.declared.asking.Heard.TheVariants as heard
 use Rattle.dap_end.specs.declared.fault.EndFault.{EndFault}
 use Rattle.dap_end.specs.declared.fault.EndFault.TheVariants as end_fault
-use Rattle.dap_end.specs.Ports.{PortValue, gone_on, posted}
+use Rattle.dap_end.specs.Ports.{PortValue, gone_on, HandsOver}
 use Rattle.dap_end.specs.Going.{GoneThrough, given_then, NextItem}
 use Rattle.dap_end.specs.Turns.{EndOf, Still}
 use Rattle.dap_end.specs.Writing.{Behind}
@@ -53,14 +52,6 @@ pub record HasAsked (past : AskingPast) (v : AskingValue) : Type 0 where
 
 -- ---- Asking.
 
--- one request more, with its messages joined as far as the peer's limit goes
-abbrev pub asked_one : AskingPast → (own : ℕ) → Request → AskingPast
-asked_one past own request =
-    record past {
-      requests = past.requests ++ request ∷ [];
-      asked = past.asked ++ Blocked (limit_after (Told past.requests past.answers)) (messages_of own request);
-    }
-
 -- The request was asked: its messages wait, so many NSP messages.
 pub record AskedOne (request : Request) (old new : AskingValue) (n : ℕ) : Type 0 where
   pub messages : List (List ℕ)
@@ -68,14 +59,9 @@ pub record AskedOne (request : Request) (old new : AskingValue) (n : ℕ) : Type
   pub own : new.accessing.own ≡ old.accessing.own
   pub port : new.port ≡ record old.port { outbox = old.port.outbox ++ messages }
   pub count : n ≡ length messages
-  pub past : (past : AskingPast) → HasAsked past old → HasAsked (asked_one past old.accessing.own request) new
 
--- all that waited was handed to the link
-pub record HandedAll (old new : AskingValue) (n : ℕ) : Type 0 where
-  pub may : IsTrue (may_queue old.port.link old.port.outbox)
-  pub posted : new ≡ record old { port = posted old.port }
-  pub count : n ≡ length old.port.outbox
-  pub past : (past : AskingPast) → HasAsked past old → HasAsked (record past { handed = past.handed ++ old.port.outbox }) new
+abbrev pub HandedAll : AskingValue → AskingValue → ℕ → Type 0
+HandedAll old new n = HandsOver old.port new.port n × (new ≡ record old { port = new.port })
 
 -- ---- Reading.
 

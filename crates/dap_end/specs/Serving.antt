@@ -1,15 +1,14 @@
 -- The end that serves, before any peer.
-use Rattle.std.specs.Prelude.{◌≡◌, ◌⊎◌, ℕ, ◌<◌, List, [], ◌∷◌, ◌++◌, length, IsTrue}
+use Rattle.std.specs.Prelude.{◌≡◌, ◌⊎◌, ℕ, ◌<◌, List, [], ◌∷◌, ◌++◌, length}
 use Rattle.dap_msg.specs.declared.items.Item.{Item}
 use Rattle.dap_msg.specs.Blocked.{NspMessage, Blocked, all_joined, AllFit}
 use Rattle.nsp_link.specs.Link.{Sends}
-use Rattle.nsp_link.specs.Sending.{may_queue}
 use Rattle.dap_accessed.specs.Standing.{Files}
 use Rattle.dap_accessed.specs.Groups.{Answers, added, limit_for}
 use Rattle.dap_accessed.specs.Present.{Present, StandsAfter}
 use Rattle.dap_accessed.specs.declared.fault.AddFault.{AddFault}
 use Rattle.dap_accessed.specs.declared.fault.AddFault.TheVariants as fault
-use Rattle.dap_end.specs.Ports.{PortValue, gone_on, posted, HasCome}
+use Rattle.dap_end.specs.Ports.{PortValue, gone_on, HandsOver, HasCome}
 use Rattle.dap_end.specs.Going.{GoneThrough, given_then, NextItem}
 
 pub record ServingValue : Type 0 where
@@ -70,9 +69,5 @@ pub record ServedOne (old new : ServingValue) (n : ℕ) : Type 0 where
 
 -- ---- Handing over.
 
--- all that waited was handed to the link
-pub record PostedAll (old new : ServingValue) (n : ℕ) : Type 0 where
-  pub may : IsTrue (may_queue old.port.link old.port.outbox)
-  pub posted : new ≡ record old { port = posted old.port }
-  pub count : n ≡ length old.port.outbox
-  pub past : (past : Past) → IsAfter past old → IsAfter (record past { handed = past.handed ++ old.port.outbox }) new
+abbrev pub PostedAll : ServingValue → ServingValue → ℕ → Type 0
+PostedAll old new n = HandsOver old.port new.port n × (new ≡ record old { port = new.port })

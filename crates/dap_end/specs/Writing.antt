@@ -2,18 +2,18 @@
 use Rattle.std.specs.Prelude.{◌≡◌, ◌⊎◌, ℕ, ◌+◌, ◌<◌, ◌≤◌, ◌==◌, Bool, true, false, List, [], ◌∷◌, ◌++◌, length, Some, IsTrue}
 use Rattle.nsp_link.specs.declared.link.Got.{Got}
 use Rattle.nsp_link.specs.declared.link.Got.TheVariants.{AckOnly}
-use Rattle.nsp_link.specs.Link.{LinkValue, Sends, Writes, may_send, IsSpelling}
-use Rattle.nsp_link.specs.Sending.{ack_packet_of}
+use Rattle.nsp_link.specs.Link.{LinkValue, may_send, IsSpelling}
+use Rattle.nsp_link.specs.Sending.{WritesSent, ack_packet_of}
 use Rattle.dap_end.specs.Ports.{PortValue, with_link}
 
 -- those that stand behind the ones that were there are so
 abbrev pub Behind : {A : Type 0} → (out all : List A) → (Are : List A → Type 0) → Type 0
 Behind {A} out all Are = (more : List A) × (all ≡ out ++ more) × Are more
 
--- these are the packets of the segments of what was handed over, in order from this number on
-abbrev pub AreWritten : LinkValue → (handed : List (List ℕ)) → (from : ℕ) → List (List ℕ) → Type 0
-AreWritten v handed k [] = Unit {0}
-AreWritten v handed k (bytes ∷ packets) = Writes v handed (Some k) v.coming.received bytes × AreWritten v handed (k + 1) packets
+-- of whatever was handed over, these are the packets of its segments, in order from this number on
+abbrev pub AreSegments : LinkValue → (from : ℕ) → List (List ℕ) → Type 0
+AreSegments v k [] = Unit {0}
+AreSegments v k (bytes ∷ packets) = WritesSent v (Some k) bytes × AreSegments v (k + 1) packets
 
 -- so many segments more count as sent
 abbrev pub sent_more : PortValue → ℕ → PortValue
@@ -23,11 +23,10 @@ sent_more p n = with_link p (record p.link { sent = p.link.sent + n })
 abbrev pub IsWithin : LinkValue → Type 0
 IsWithin v = (v.sent ≤ v.acked + length v.queue) × (v.sent ≤ v.acked + v.setup.window)
 
--- The next segments were written, no more than there are and the window allows: of whatever was handed over, these are
--- their packets.
+-- The next segments were written, no more than there are and the window allows.
 pub record WroteMore (old new : PortValue) (packets : List (List ℕ)) : Type 0 where
   pub sent : new ≡ sent_more old (length packets)
-  pub writes : (handed : List (List ℕ)) → Sends old.link handed → AreWritten old.link handed (old.link.sent + 1) packets
+  pub writes : AreSegments old.link (old.link.sent + 1) packets
   pub within : 0 < length packets → IsWithin new.link
 
 -- ---- What answers a packet.

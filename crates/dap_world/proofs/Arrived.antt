@@ -9,7 +9,9 @@ use Rattle.dap_msg.specs.declared.message.Message.{Message}
 use Rattle.dap_msg.specs.Canon.{canon}
 use Rattle.dap_msg.specs.Blocked.{NspMessage, joined, all_joined, messages_in, AllFit}
 use Rattle.nsp_link.specs.Cutting.{cut, count_of}
-use Rattle.nsp_link.specs.Link.{LinkValue, IsWhole, with_inbox}
+use Rattle.nsp_link.specs.Link.{LinkValue, with_inbox}
+use Rattle.nsp_link.specs.Inner.Whole.{IsWhole, HasWhole}
+use Rattle.nsp_link.proofs.ForCallers.{whole_of, stands_given}
 use Rattle.dap_world.specs.Machine.{arrived}
 use Rattle.dap_world.specs.Inner.Sides.{SideValue, port_of, side_of}
 use Rattle.dap_world.specs.Inner.Ways.{IsWay}
@@ -167,20 +169,24 @@ module _ (from to : SideValue) (packets : List NspMessage) (count : ℕ) (h : Is
   handed_are : h.handed ≡ all_joined (take from.posted packets)
   handed_are = handed-bytes from.posted h.handed from.outbox packets h.posted h.bytes
 
-  -- what was given away and waits is a front of what was handed over
-  given_and : all_joined h.gone ++ to.link.coming.inbox ≡ take h.way.stands.taken.count (all_joined h.gone ++ all_joined h.among.rest)
-  given_and =
-      h.way.stands.taken.inbox ∙ ap (take h.way.stands.taken.count) (handed_are ∙ ap all_joined h.among.split ∙ map-append joined h.gone h.among.rest)
+  -- what came, by the messages
+  whole : HasWhole to.link.coming from.link.setup.seg_size h.handed (all_joined h.gone)
+  whole = whole_of to.link.coming from.link.setup.seg_size h.handed (all_joined h.gone) h.way.size h.way.stands.taken
 
-  came_whole : arrived from.link.setup.seg_size to.link.coming.received (take from.posted packets) ≡ take h.way.stands.taken.count (take from.posted packets)
+  -- what was given away and waits is a front of what was handed over
+  given_and : all_joined h.gone ++ to.link.coming.inbox ≡ take whole.count (all_joined h.gone ++ all_joined h.among.rest)
+  given_and =
+      whole.inbox ∙ ap (take whole.count) (handed_are ∙ ap all_joined h.among.split ∙ map-append joined h.gone h.among.rest)
+
+  came_whole : arrived from.link.setup.seg_size to.link.coming.received (take from.posted packets) ≡ take whole.count (take from.posted packets)
   came_whole =
-      arrived_is from.link.setup.seg_size to.link.coming.received h.way.stands.taken.count (take from.posted packets)
-      (subst (λ (l : List (List ℕ)). IsWhole from.link.setup.seg_size l to.link.coming.received h.way.stands.taken.count) handed_are h.way.stands.taken.whole)
+      arrived_is from.link.setup.seg_size to.link.coming.received whole.count (take from.posted packets)
+      (subst (λ (l : List (List ℕ)). IsWhole from.link.setup.seg_size l to.link.coming.received whole.count) handed_are whole.whole)
 
   -- the oldest that waits has the next message
   pub find_next : (bytes : List ℕ) (later : List (List ℕ)) → AreFull (take from.posted packets) → AllFit (messages_in (take from.posted packets)) → to.link.coming.inbox ≡ bytes ∷ later → Next from to packets count bytes
   find_next bytes later full fit inbox =
-      let c = h.way.stands.taken.count in
+      let c = whole.count in
       let front = front_of (all_joined h.gone) later (all_joined h.among.rest) bytes c (subst (λ (l : List (List ℕ)). all_joined h.gone ++ l ≡ take c (all_joined h.gone ++ all_joined h.among.rest)) inbox given_and) in
       let w = waits h.gone h.among.rest bytes later c front in
       let split : take from.posted packets ≡ h.gone ++ w.p ∷ w.after = h.among.split ∙ ap (λ (l : List NspMessage). h.gone ++ l) w.is in
@@ -214,8 +220,8 @@ module _ (from to : SideValue) (packets : List NspMessage) (count : ℕ) (h : Is
   -- nothing waits: there is no next message
   pub none_next : to.link.coming.inbox ≡ [] → slice_get (messages_in (arrived from.link.setup.seg_size to.link.coming.received (take from.posted packets))) count ≡ None
   none_next empty =
-      let c = h.way.stands.taken.count in
-      let some = h.way.stands.taken.whole.some in
+      let c = whole.count in
+      let some = whole.whole.some in
       let front : all_joined h.gone ++ [] ≡ take c (all_joined h.gone ++ all_joined h.among.rest) = subst (λ (l : List (List ℕ)). all_joined h.gone ++ l ≡ take c (all_joined h.gone ++ all_joined h.among.rest)) empty given_and in
       let long : length h.handed ≡ length (all_joined h.gone ++ all_joined h.among.rest) = ap length (handed_are ∙ ap all_joined h.among.split ∙ map-append joined h.gone h.among.rest) in
       let is : c ≡ length h.gone = front_none (all_joined h.gone) (all_joined h.among.rest) c (omega (arith, some, long)) front ∙ length-map h.gone joined in
@@ -244,15 +250,7 @@ gave from v given messages bytes later inbox way =
       there = way.there;
       back = way.back;
       sends = way.sends;
-      stands = record {
-        taken = record {
-          count = way.stands.taken.count;
-          whole = way.stands.taken.whole;
-          inbox = append_assoc given (bytes ∷ []) later ∙ ap (λ (l : List (List ℕ)). given ++ l) (sym inbox) ∙ way.stands.taken.inbox;
-          partial = way.stands.taken.partial;
-        };
-        held = way.stands.held;
-      };
+      stands = stands_given v bytes later from.link.setup.seg_size messages given inbox way.stands;
       short = way.short;
       few = way.few;
       wire = way.wire;

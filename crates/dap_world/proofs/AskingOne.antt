@@ -38,7 +38,7 @@ use Rattle.dap_world.specs.Runs.{Went}
 use Rattle.dap_world.specs.Inner.Worlds.{IsWorld}
 use Rattle.dap_end.specs.Ports.{PortValue}
 use Rattle.dap_end.specs.Asking.{AskingValue, AskedOne, HasAsked}
-use Rattle.dap_end.proofs.ForCallers.{Asked-more, sendable-fit}
+use Rattle.dap_end.proofs.ForCallers.{Asked-more, asked_past, sendable-fit}
 use Rattle.dap_world.specs.Inner.Sides.{AreShort, AskFaultOf, AskedSo, side_of}
 use Rattle.dap_world.specs.Inner.Parts.{Parts, AreParts, IsAskedAll, IsServedAll, IsTold, asks, answers, asking_end, serving_end, served_items, answer_packets, asked_packets, end_state, state_of}
 use Rattle.dap_world.proofs.Counting.{counted}
@@ -204,7 +204,7 @@ asked_step p r v n requests h o told =
     let asking : IsAskedAll (asking_end q) (p.requests ++ r ∷ []) read = (
       now,
       subst (λ (port : PortValue). HasAsked now (record { port = port; accessing = record v.accessing { own = p.accessing.own } })) o.port
-          (subst (λ (y : accessing.Present). HasAsked now (record { port = v.port; accessing = y })) own (o.past past h.asking.1)),
+          (subst (λ (y : accessing.Present). HasAsked now (record { port = v.port; accessing = y })) own (asked_past r (asking_end p) v n o past h.asking.1)),
     ) in
     let parts : AreParts q = parts_asked p h r m o.messages v.accessing more_is asking in
     let count : length (asking_of (state_of p) r) ≡ n = sym (length-map (asking_of (state_of p) r) joined) ∙ ap length (sym spelled) ∙ sym o.count in

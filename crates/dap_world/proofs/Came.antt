@@ -9,14 +9,15 @@ use Rattle.nsp_link.specs.Holding.{closed_up, following}
 use Rattle.std.specs.Map.{keys_of}
 use Rattle.nsp_link.specs.Limits.{most_segments, largest_window, largest_limit}
 use Rattle.nsp_link.specs.declared.link.LinkSetup.{LinkSetup}
-use Rattle.nsp_link.specs.Link.{LinkValue, Sends, Delivered, Keeps, MayRefuse, got_of, taken_after, held_after}
+use Rattle.nsp_link.specs.Link.{LinkValue, Sends, Keeps, got_of, held_after}
+use Rattle.nsp_link.specs.Inner.Due.{Delivered, MayRefuse, taken_after}
 use Rattle.nsp_link.specs.declared.link.Got.{Got}
 use Rattle.nsp_link.specs.declared.fault.LinkFault.{LinkFault}
 use Rattle.dap_end.specs.Ports.{PortValue, with_link as port_with}
 use Rattle.nsp_link.specs.Receiving.{Receives}
 use Rattle.dap_end.specs.Asking.{AskingValue, HasAsked}
 use Rattle.dap_end.specs.Serving.{ServingValue, IsAfter}
-use Rattle.nsp_link.proofs.ForCallers.{closes, keeps, IsDelivered, is_delivered}
+use Rattle.nsp_link.proofs.ForCallers.{closes, keeps, IsDelivered, is_delivered, came_due}
 use Rattle.dap_world.specs.declared.event.End.{End}
 use Rattle.dap_world.specs.declared.event.End.TheVariants.{A, B}
 use Rattle.dap_world.specs.declared.event.Event.TheVariants as event
@@ -244,10 +245,10 @@ module _ (p : Parts) (end : End) (j : ℕ) (h : AreParts p) (w : Wired) (at : sl
   took v (Ok got) receives still =
       let way = any_way p end h in
       let d = due_so way.0 way.1 way.2 in
-      let came = receives.due _ way.0 way.1 d.value w.segment w.acks d.spelled d.due in
+      let came = came_due _ v _ (Ok got) _ way.0 way.1 d.value w.segment w.acks receives d.spelled d.due in
       let on : (messages given : List (List ℕ)) → IsWay (side p (other end)) (side p end).link messages given → IsWay (side p (other end)) v messages given =
       λ messages given way. (let d = due_so messages given way in
-      takes (side p (other end)) (side p end).link v messages given w.segment w.acks way came.1 (receives.due _ messages given d.value w.segment w.acks d.spelled d.due).2) in
+      takes (side p (other end)) (side p end).link v messages given w.segment w.acks way came.1 (came_due _ v _ (Ok got) _ messages given d.value w.segment w.acks receives d.spelled d.due).2) in
       let went : Steps (state_of p) (event.Deliver end j) (step.Delivered got) (state_of (with_link p end v)) =
       subst (λ (x : State). Steps (state_of p) (event.Deliver end j) (step.Delivered got) x) (delivered_is p end w v (below p end j w h at) came.1)
       (subst (λ (g : Got). Steps (state_of p) (event.Deliver end j) (step.Delivered g) (with_end (state_of p) end (delivered true (end_of (state_of p) end) (sending_of w)))) (sym came.0) (steps p end j w at young)) in
@@ -255,7 +256,7 @@ module _ (p : Parts) (end : End) (j : ℕ) (h : AreParts p) (w : Wired) (at : sl
   took v (Err f) receives still =
       let way = any_way p end h in
       let d = due_so way.0 way.1 way.2 in
-      let none = receives.due _ way.0 way.1 d.value w.segment w.acks d.spelled d.due in
+      let none = came_due _ v _ (Err f) _ way.0 way.1 d.value w.segment w.acks receives d.spelled d.due in
       none_more p end (event.Deliver end j) (record (side p end) { link = v }) fault.NoMemory h (ap (λ (x : LinkValue). record (side p end) { link = x }) none.1)
       ((_, _, steps p end j w at young, takes_some (side p end).link w.segment (not_exhausted (side p end).link w.segment f d.few none.0)), refl)
 

@@ -7,7 +7,8 @@ use Rattle.nsp_link.specs.Limits.{most_segments}
 use Rattle.nsp_link.specs.Cutting.{cut}
 use Rattle.nsp_link.specs.declared.link.LinkSetup.{LinkSetup}
 use Rattle.nsp_link.proofs.ForCallers.{is_delivered}
-use Rattle.nsp_link.specs.Link.{LinkValue, Sends, Stands, Writes, IsWritten, Delivered}
+use Rattle.nsp_link.specs.Link.{LinkValue, Sends, Stands, Writes, IsWritten}
+use Rattle.nsp_link.specs.Inner.Due.{Delivered}
 use Rattle.dap_world.specs.declared.side.Wired.{Wired}
 use Rattle.dap_world.specs.Inner.Sides.{SideValue, AreShort}
 use Rattle.dap_world.specs.Inner.Ways.{IsWay}
@@ -86,10 +87,7 @@ writes_more from to messages given sent w way written =
 pub stands_same : (v w : LinkValue) (size : ℕ) (messages given : List (List ℕ)) → w ≡ record v { sent = w.sent; acked = w.acked; queue = w.queue } → Stands v size messages given → Stands w size messages given
 stands_same v w size messages given same stands =
     subst (λ (x : LinkValue). Stands x size messages given) (sym same)
-    (record {
-      taken = record { count = stands.taken.count; whole = stands.taken.whole; inbox = stands.taken.inbox; partial = stands.taken.partial };
-      held = stands.held;
-    })
+    (record { taken = stands.taken; held = stands.held })
 
 pub still_way : (from : SideValue) (v w : LinkValue) (messages given : List (List ℕ)) → w ≡ record v { sent = w.sent; acked = w.acked; queue = w.queue } → IsWay from v messages given → IsWay from w messages given
 still_way from v w messages given same way =

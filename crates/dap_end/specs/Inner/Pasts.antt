@@ -2,7 +2,11 @@
 use Rattle.std.specs.Prelude.{◌≢◌, ℕ, List, [], ◌∷◌, ◌++◌}
 use Rattle.std.specs.List.{AllByRecursion}
 use Rattle.dap_msg.specs.declared.items.Item.{Item}
-use Rattle.dap_msg.specs.Blocked.{NspMessage}
+use Rattle.dap_msg.specs.Blocked.{NspMessage, Blocked}
+use Rattle.dap_accessing.specs.Request.{Request}
+use Rattle.dap_accessing.specs.Asked.{messages_of}
+use Rattle.dap_accessing.specs.Told.{Told}
+use Rattle.dap_accessing.specs.Phase.{limit_after}
 use Rattle.dap_end.specs.Going.{given_then}
 use Rattle.dap_end.specs.Serving.{Past}
 use Rattle.dap_end.specs.Asking.{AskingPast}
@@ -12,6 +16,14 @@ served past bytes item next = record past { given = given_then past.given bytes 
 
 abbrev pub read_one : AskingPast → (bytes : List ℕ) → Item → (next : ℕ) → AskingPast
 read_one past bytes item next = record past { given = given_then past.given bytes next; answers = past.answers ++ item ∷ [] }
+
+-- one request more, with its messages joined as far as the peer's limit goes
+abbrev pub asked_one : AskingPast → (own : ℕ) → Request → AskingPast
+asked_one past own request =
+    record past {
+      requests = past.requests ++ request ∷ [];
+      asked = past.asked ++ Blocked (limit_after (Told past.requests past.answers)) (messages_of own request);
+    }
 
 -- each NSP message has a message
 abbrev pub AreFull : List NspMessage → Type 0
