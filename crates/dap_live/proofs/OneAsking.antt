@@ -22,7 +22,7 @@ use Rattle.dap_end.specs.Ports.{PortValue, new_port}
 use Rattle.dap_end.specs.Asking.{AskingValue, AskingPast, HasAsked, AskedOne, AreAlike, HasDone, asks, nothing_asked}
 use Rattle.dap_end.specs.Turns.{Takes}
 use Rattle.dap_end.specs.Wanting.{went_wanting}
-use Rattle.dap_end.proofs.ForCallers.{alike_of, alike_same, has_sent, asking_one, going_alike, taking_alike}
+use Rattle.dap_end.proofs.ForCallers.{alike_of, alike_same, asked_past, has_sent, asking_one, going_alike, taking_alike}
 use Rattle.linewise.specs.declared.talking.Became.{Became}
 use Rattle.linewise.specs.declared.talking.Became.TheVariants.{Done, NoMemory}
 use Rattle.linewise.specs.Talks.{HaveOneText}
@@ -37,7 +37,7 @@ use Rattle.dap_live.specs.declared.orders.Order.TheVariants as order
 use Rattle.dap_live.specs.Orders.{order_of, setup_anew}
 use Rattle.dap_live.specs.Sending.{AllAgain, SaysAck, has_message, is_left, waits_of}
 use Rattle.dap_live.specs.Texts.{ask_refusal, end_refusal, link_refusal, packets_text, reports_text, taken_said}
-use Rattle.dap_live.specs.Asking.{GoesOn, Resends, AsksIt, AsksNot, Asks, Renewed, OnEnd, Does, DoesAll, Ends, answered, waiting, came_by, goes_on}
+use Rattle.dap_live.specs.Asking.{GoesOn, Resends, AsksIt, AsksNot, Asks, IsNew, OnEnd, Does, DoesAll, Ends, answered, waiting, came_by, goes_on}
 use Rattle.dap_live.specs.Both.{DoesOrder, Renews, Stays, TakesPacket, gone_said}
 use Rattle.dap_live.specs.Inner.Saying.{front_text}
 use Rattle.dap_live.specs.OneText.{AreSameAsking}
@@ -222,7 +222,7 @@ it_one old other one two request said more m n past h same rx ry nm nn x y =
     subst (λ (k : ℕ). GoesOn y.1 old.reports.items (front_text (front.Asked k)) two more n) (sym t.1)
     (subst (λ (l : List Report). GoesOn y.1 l (front_text (front.Asked y.0)) two more n) (sym same.2) y.3) in
     on_end old other one two said more m n same rx ry
-    (going_same x.1 y.1 old.reports.items (front_text (front.Asked x.0)) said more one two m n (inl (_, x.2.past past h)) (alike_of x.1 y.1 t.0) nm nn x.3 there)
+    (going_same x.1 y.1 old.reports.items (front_text (front.Asked x.0)) said more one two m n (inl (_, asked_past request old.end x.1 x.0 x.2 past h)) (alike_of x.1 y.1 t.0) nm nn x.3 there)
 
 -- it was asked of one, and refused by the other
 it_apart : (old other one two : Asking) (request : Request) (said more : List ℕ) (m n : Came) (past : AskingPast) (f : AskFault) → HasAsked past old.end → AreAlike old.end other.end → outcome n ≢ NoMemory → AsksIt old request one said m
@@ -261,21 +261,24 @@ ask_one false old other one two request said more m n same nm nn x y = running_o
 
 -- ---- A new link.
 
-renewed_one : (old other one two : Asking) (anew : Anew) → AreSameAsking old other → Renewed old anew one → Renewed other anew two → AreSameAsking one two
+abbrev NewBy : Asking → Anew → Asking → Type 0
+NewBy old anew new = IsNew (setup_anew old.setup anew) old.end.accessing.own new
+
+renewed_one : (old other one two : Asking) (anew : Anew) → AreSameAsking old other → NewBy old anew one → NewBy other anew two → AreSameAsking one two
 renewed_one old other one two anew same x y =
     let setup : setup_anew old.setup anew ≡ setup_anew other.setup anew = ap (λ (s : LinkSetup). setup_anew s anew) same.1 in
-    let port : one.end.port ≡ two.end.port = x.port ∙ ap new_port setup ∙ sym y.port in
-    let own : one.end.accessing.own ≡ two.end.accessing.own = x.own ∙ same.0.1 ∙ sym y.own in
-    let accessing : one.end.accessing ≡ two.end.accessing = one_present [] [] one.end.accessing two.end.accessing x.after.asking y.after.asking own in (
+    let port : one.end.port ≡ two.end.port = x.2.0 ∙ ap new_port setup ∙ sym y.2.0 in
+    let own : one.end.accessing.own ≡ two.end.accessing.own = x.2.1 ∙ same.0.1 ∙ sym y.2.1 in
+    let accessing : one.end.accessing ≡ two.end.accessing = one_present [] [] one.end.accessing two.end.accessing x.0.asking y.0.asking own in (
       (port, own, ap (λ (p : Present). p.failed) accessing, λ works. accessing),
-      x.setup ∙ setup ∙ sym y.setup,
-      x.reports ∙ sym y.reports,
-      inl (nothing_asked, x.after),
+      x.2.2 ∙ setup ∙ sym y.2.2,
+      x.1 ∙ sym y.1,
+      inl (nothing_asked, x.0),
     )
 
 renew_one : (old other one two : Asking) (anew : Anew) (said more : List ℕ) (m n : Came) → AreSameAsking old other → outcome m ≢ NoMemory → outcome n ≢ NoMemory
-    → Renews Untold (setup_anew old.setup anew) (Renewed old anew one) old one said m
-    → Renews Untold (setup_anew other.setup anew) (Renewed other anew two) other two more n → Two one two said more m n
+    → Renews Untold (setup_anew old.setup anew) (NewBy old anew one) old one said m
+    → Renews Untold (setup_anew other.setup anew) (NewBy other anew two) other two more n → Two one two said more m n
 renew_one old other one two anew said more m n same nm nn (inl x) (inl y) = (renewed_one old other one two anew same x.0 y.0, x.2 ∙ sym y.2, x.3 ∙ sym y.3)
 renew_one old other one two anew said more m n same nm nn (inl x) (inr y) =
     let setup : setup_anew other.setup anew ≡ setup_anew old.setup anew = ap (λ (s : LinkSetup). setup_anew s anew) (sym same.1) in

@@ -13,10 +13,8 @@ use Rattle.nsp_link.specs.declared.link.LinkSetup.{LinkSetup}
 use Rattle.nsp_link.specs.declared.fault.LinkFault.{LinkFault}
 use Rattle.nsp_link.specs.declared.fault.LinkFault.TheVariants as fault
 use Rattle.nsp_link.specs.declared.fault.LinkFault.TheVariants.{Failed}
-use Rattle.nsp_link.specs.Cutting.{cut}
 use Rattle.nsp_link.specs.Link.{LinkValue, Sends, IsSetup, IsSpelling, SetupFault}
 use Rattle.nsp_link.specs.Sending.{ack_packet_of}
-use Rattle.nsp_link.proofs.ForCallers.{written_one}
 use Rattle.dap_accessing.specs.declared.fault.ReadFault.TheVariants as read
 use Rattle.dap_end.specs.declared.fault.EndFault.{EndFault}
 use Rattle.dap_end.specs.declared.fault.EndFault.TheVariants as end
@@ -30,11 +28,12 @@ use Rattle.linewise.specs.declared.talking.Became.{Became}
 use Rattle.linewise.specs.declared.talking.Became.TheVariants.{Done, BadLine, NoMemory}
 use Rattle.linewise.proofs.ForCallers.{OneAnswer}
 use Rattle.linewise.specs.Talks.{Answering, AnswersLine, IsUnread, is_skipped, longest, said_of}
+use Rattle.dap_end.proofs.ForCallers.{segments_one}
 use Rattle.dap_live.specs.declared.orders.Anew.TheVariants.{Same, Between, Cut}
 use Rattle.dap_live.specs.declared.orders.Order.{Order}
 use Rattle.dap_live.specs.declared.orders.Order.TheVariants as order
 use Rattle.dap_live.specs.Orders.{address_of, anew_of, between_of, order_forms, order_of, packet_of}
-use Rattle.dap_live.specs.Sending.{AreAgain, AllAgain, SaysAck}
+use Rattle.dap_live.specs.Sending.{AllAgain, SaysAck}
 use Rattle.dap_accessing.specs.declared.report.Report.{Report}
 use Rattle.dap_live.specs.Texts.{end_refusal, link_refusal, packet_text, taken_said}
 
@@ -149,18 +148,8 @@ line_fits line = all_fit (order_forms line) (forms_fit line) (words_of line)
 
 -- ---- What a link sends again.
 
-again_one : (link : LinkValue) (handed : List (List ℕ)) (place : ℕ) (xs ys : List (List ℕ)) → Sends link handed → length xs ≡ length ys → AreAgain link place xs
-    → AreAgain link place ys → xs ≡ ys
-again_one link handed place [] [] sends e a b = refl
-again_one link handed place [] (y ∷ ys) sends e a b = absurd (omega arith)
-again_one link handed place (x ∷ xs) [] sends e a b = absurd (omega arith)
-again_one link handed place (x ∷ xs) (y ∷ ys) sends e a b =
-    ap (λ (z : List ℕ). z ∷ xs)
-    (written_one link.setup.local link.setup.remote (cut link.setup.seg_size handed) (Some (link.acked + 1 + place)) link.coming.received x y (a.0 handed sends) (b.0 handed sends))
-    ∙ ap (λ (l : List (List ℕ)). y ∷ l) (again_one link handed (place + 1) xs ys sends (omega arith) a.1 b.1)
-
 pub all_again : (link : LinkValue) (handed xs ys : List (List ℕ)) → Sends link handed → AllAgain link xs → AllAgain link ys → xs ≡ ys
-all_again link handed xs ys sends a b = again_one link handed 0 xs ys sends (a.1 ∙ sym b.1) a.0 b.0
+all_again link handed xs ys sends a b = segments_one link handed (link.acked + 1) xs ys sends (a.1 ∙ sym b.1) a.0 b.0
 
 ack_by : (failed : Bool) (link : LinkValue) (xs ys : List ℕ)
     → MatchBool failed (Unit {0} × (xs ≡ (link_refusal Failed).0)) ((bytes : List ℕ) × IsSpelling (ack_packet_of link) bytes × (xs ≡ packet_text bytes))

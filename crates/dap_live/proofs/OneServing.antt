@@ -36,7 +36,7 @@ use Rattle.dap_live.specs.declared.orders.Order.TheVariants as order
 use Rattle.dap_live.specs.Orders.{order_of, setup_anew}
 use Rattle.dap_live.specs.Sending.{SaysAck, UnlessFailed, is_left, waits_of}
 use Rattle.dap_live.specs.Texts.{add_refusal, link_refusal, packets_text, taken_said}
-use Rattle.dap_live.specs.Serving.{Resends, Renewed, Added, AddsFile, AddsRecord, OnEnd, Does, answered, waiting}
+use Rattle.dap_live.specs.Serving.{Resends, IsNew, Added, AddsFile, AddsRecord, OnEnd, Does, answered, waiting}
 use Rattle.dap_live.specs.Both.{DoesOrder, Renews, SaysGone, Stays, TakesPacket, gone_said}
 use Rattle.dap_live.specs.Inner.Saying.{AddsShaped}
 use Rattle.dap_live.specs.OneText.{HasServed, AreSameServing}
@@ -111,20 +111,24 @@ Two one two said more b c = AreSameServing one two × (said ≡ more) × (b ≡ 
 stay : (old other one two : Serving) → AreSameServing old other → one ≡ old → two ≡ other → AreSameServing one two
 stay old other one two same e f = subst (λ (s : Serving). AreSameServing s two) (sym e) (subst (λ (s : Serving). AreSameServing old s) (sym f) same)
 
-renewed_one : (old other one two : Serving) (anew : Anew) → AreSameServing old other → Renewed old anew one → Renewed other anew two → AreSameServing one two
+-- over the same files
+abbrev NewBy : Serving → Anew → Serving → Type 0
+NewBy old anew new = IsNew (setup_anew old.setup anew) old.end.accessed.own old.end.accessed.files new
+
+renewed_one : (old other one two : Serving) (anew : Anew) → AreSameServing old other → NewBy old anew one → NewBy other anew two → AreSameServing one two
 renewed_one old other one two anew same x y =
     let setup : setup_anew old.setup anew ≡ setup_anew other.setup anew = ap (λ (s : LinkSetup). setup_anew s anew) same.1 in
     let files : old.end.accessed.files ≡ other.end.accessed.files = ap (λ (v : ServingValue). v.accessed.files) same.0 in
     let own : old.end.accessed.own ≡ other.end.accessed.own = ap (λ (v : ServingValue). v.accessed.own) same.0 in
-    let after : IsAfter (nothing_yet old.end.accessed.files) two.end = subst (λ (f : Files). IsAfter (nothing_yet f) two.end) (sym files) y.after in (
-      anew_one old.end.accessed.files one.end two.end (x.port ∙ ap new_port setup ∙ sym y.port) (x.own ∙ own ∙ sym y.own) x.after after,
-      x.setup ∙ setup ∙ sym y.setup,
-      new_known old.end.accessed.files one.end x.after (ap (λ (p : PortValue). p.link.coming.inbox) x.port),
+    let after : IsAfter (nothing_yet old.end.accessed.files) two.end = subst (λ (f : Files). IsAfter (nothing_yet f) two.end) (sym files) y.0 in (
+      anew_one old.end.accessed.files one.end two.end (x.1.0 ∙ ap new_port setup ∙ sym y.1.0) (x.1.1 ∙ own ∙ sym y.1.1) x.0 after,
+      x.1.2 ∙ setup ∙ sym y.1.2,
+      new_known old.end.accessed.files one.end x.0 (ap (λ (p : PortValue). p.link.coming.inbox) x.1.0),
     )
 
 renew_one : (old other one two : Serving) (anew : Anew) (said more : List ℕ) (b c : Became) → AreSameServing old other → b ≢ NoMemory → c ≢ NoMemory
-    → Renews (λ became. became) (setup_anew old.setup anew) (Renewed old anew one) old one said b
-    → Renews (λ became. became) (setup_anew other.setup anew) (Renewed other anew two) other two more c → Two one two said more b c
+    → Renews (λ became. became) (setup_anew old.setup anew) (NewBy old anew one) old one said b
+    → Renews (λ became. became) (setup_anew other.setup anew) (NewBy other anew two) other two more c → Two one two said more b c
 renew_one old other one two anew said more b c same nb nc (inl x) (inl y) = (renewed_one old other one two anew same x.0 y.0, x.2 ∙ sym y.2, x.3 ∙ sym y.3)
 renew_one old other one two anew said more b c same nb nc (inl x) (inr y) =
     let setup : setup_anew other.setup anew ≡ setup_anew old.setup anew = ap (λ (s : LinkSetup). setup_anew s anew) (sym same.1) in

@@ -10,7 +10,6 @@ use Rattle.dap_accessing.specs.declared.fault.AskFault.TheVariants.{Busy}
 use Rattle.dap_accessing.specs.Calls.{AskRefused}
 use Rattle.dap_end.specs.declared.fault.TakeFault.{TakeFault}
 use Rattle.dap_end.specs.declared.fault.TakeFault.TheVariants as take
-use Rattle.dap_end.specs.Ports.{new_port}
 use Rattle.dap_end.specs.Asking.{AskingValue, AskedOne, HasAsked, asks, nothing_asked}
 use Rattle.dap_end.specs.Turns.{WentOn}
 use Rattle.linewise.specs.declared.talking.Became.{Became}
@@ -18,14 +17,14 @@ use Rattle.linewise.specs.declared.talking.Became.TheVariants.{Done, BadLine}
 use Rattle.dap_live.specs.declared.asking.Asking.{Asking}
 use Rattle.dap_live.specs.declared.asking.Came.{Came}
 use Rattle.dap_live.specs.declared.asking.Came.TheVariants.{Told, Untold}
-use Rattle.dap_live.specs.declared.orders.Anew.{Anew}
+use Rattle.nsp_link.specs.declared.link.LinkSetup.{LinkSetup}
 use Rattle.dap_live.specs.declared.orders.Order.{Order}
 use Rattle.dap_live.specs.declared.orders.Order.TheVariants as order
 use Rattle.dap_live.specs.Orders.{order_of, setup_anew}
 use Rattle.dap_live.specs.Sending.{AllAgain, SaysAck, UnlessFailed, has_message, is_left, waits_of}
 use Rattle.dap_text.specs.Text.{line_feed}
 use Rattle.dap_live.specs.Texts.{ask_refusal, end_refusal, packets_text, reports_text}
-use Rattle.dap_live.specs.Both.{DoesOrder, Renews, SaysGone, Stays, TakesPacket}
+use Rattle.dap_live.specs.Both.{DoesOrder, IsSetUp, Renews, SaysGone, Stays, TakesPacket}
 
 -- only the end moved, and reports came
 abbrev pub OnEnd : Asking → Asking → Type 0
@@ -74,13 +73,9 @@ Asks old request new text came = OnEnd old new × (AsksIt old request new text c
 
 -- ---- A new link.
 
--- it was made, and nothing was asked on it
-pub record Renewed (old : Asking) (anew : Anew) (new : Asking) : Type 0 where
-  pub after : HasAsked nothing_asked new.end
-  pub port : new.end.port ≡ new_port (setup_anew old.setup anew)
-  pub own : new.end.accessing.own ≡ old.end.accessing.own
-  pub setup : new.setup ≡ setup_anew old.setup anew
-  pub reports : new.reports.items ≡ []
+-- a new end on a link that is set up so
+abbrev pub IsNew : LinkSetup → (buffer : ℕ) → Asking → Type 0
+IsNew setup buffer a = HasAsked nothing_asked a.end × (a.reports.items ≡ []) × IsSetUp setup buffer a.end.port a.end.accessing.own a.setup
 
 -- ---- A line.
 
@@ -90,7 +85,8 @@ Does old (order.Packet bytes) new text came =
     OnEnd old new × TakesPacket (asks old.reports.items new.reports.items) new.reports.items came_by old.end bytes new.end text came
 Does old order.Resend new text came = UnlessFailed old.end.port.link text (Stays (Untold Done) old new came) (Resends old new text came)
 Does old order.Ack new text came = Stays (Untold Done) old new came × SaysAck old.end.port.link text
-Does old (order.New anew) new text came = Renews Untold (setup_anew old.setup anew) (Renewed old anew new) old new text came
+Does old (order.New anew) new text came =
+    let setup = setup_anew old.setup anew in Renews Untold setup (IsNew setup old.end.accessing.own new) old new text came
 Does old (order.Ask request) new text came = UnlessFailed old.end.port.link text (Stays (Untold Done) old new came) (Asks old request new text came)
 Does old _ new text came = (new ≡ old) × (text ≡ []) × (came ≡ Untold BadLine)
 

@@ -6,6 +6,7 @@ use Rattle.nsp_link.specs.declared.fault.LinkFault.{LinkFault}
 use Rattle.nsp_link.specs.Link.{IsSetup, SetupFault}
 use Rattle.dap_accessing.specs.declared.report.Report.{Report}
 use Rattle.dap_end.specs.declared.fault.TakeFault.{TakeFault}
+use Rattle.dap_end.specs.Ports.{PortValue, new_port}
 use Rattle.dap_end.specs.Turns.{EndOf, Takes}
 use Rattle.linewise.specs.declared.talking.Became.{Became}
 use Rattle.linewise.specs.declared.talking.Became.TheVariants.{Done, BadLine, NoMemory}
@@ -38,6 +39,10 @@ pub record SaysGone {F C : Type 0} (Went : List (List ℕ) → Result (Unit {0})
   pub ended : came ≡ ends (gone_said refusal gone).1
 
 -- ---- A new link.
+
+-- a new end's port, buffer and setup
+abbrev pub IsSetUp : LinkSetup → (buffer : ℕ) → PortValue → (own : ℕ) → LinkSetup → Type 0
+IsSetUp setup buffer port own its = (port ≡ new_port setup) × (own ≡ buffer) × (its ≡ setup)
 
 -- it is made, or this setup is refused
 abbrev pub Renews : {E C : Type 0} → (ends : Became → C) → LinkSetup → (Renewed : Type 0) → (old new : E) → (text : List ℕ) → C → Type 0

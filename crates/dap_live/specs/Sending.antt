@@ -1,7 +1,8 @@
 -- What a link sends again, and what it waits for.
-use Rattle.std.specs.Prelude.{◌≡◌, MatchBool, ℕ, ◌+◌, ◌-◌, Bool, ◌||◌, ◌&&◌, nat_lt, List, [], ◌∷◌, length, Some, if◌then◌else◌}
+use Rattle.std.specs.Prelude.{◌≡◌, MatchBool, ℕ, ◌+◌, ◌-◌, Bool, ◌||◌, ◌&&◌, nat_lt, List, length, if◌then◌else◌}
 use Rattle.nsp_link.specs.Link.{LinkValue, IsSpelling, may_send}
-use Rattle.nsp_link.specs.Sending.{WritesSent, ack_packet_of, may_queue}
+use Rattle.nsp_link.specs.Sending.{ack_packet_of, may_queue}
+use Rattle.dap_end.specs.Writing.{AreSegments}
 use Rattle.nsp_link.specs.declared.fault.LinkFault.TheVariants.{Failed}
 use Rattle.dap_live.specs.Texts.{link_refusal, packet_text}
 
@@ -18,15 +19,9 @@ is_left link outbox = may_queue link outbox && (nat_lt 0 (length outbox) || (has
 abbrev pub waits_of : LinkValue → (left : Bool) → ℕ
 waits_of link left = if link.failed then 0 else link.sent - link.acked + (if left then 1 else 0)
 
--- the packets of the segments that aren't acknowledged, from this place on, the oldest at place 0
-abbrev pub AreAgain : LinkValue → (place : ℕ) → List (List ℕ) → Type 0
-AreAgain link place [] = Unit {0}
-AreAgain link place (bytes ∷ packets) =
-    WritesSent link (Some (link.acked + 1 + place)) bytes × AreAgain link (place + 1) packets
-
--- all of them
+-- the packets of all segments that aren't acknowledged, the oldest first
 abbrev pub AllAgain : LinkValue → List (List ℕ) → Type 0
-AllAgain link packets = AreAgain link 0 packets × (length packets ≡ link.sent - link.acked)
+AllAgain link packets = AreSegments link (link.acked + 1) packets × (length packets ≡ link.sent - link.acked)
 
 -- on a link that has failed nothing is done but that it is told, else this
 abbrev pub UnlessFailed : LinkValue → (text : List ℕ) → (nothing this : Type 0) → Type 0

@@ -5,7 +5,8 @@ use Rattle.dap_msg.specs.Codes.{stscode, reasons}
 use Rattle.dap_accessed.specs.Standing.{Files}
 use Rattle.dap_accessed.specs.Adding.{MayAdd, MayAddRecord, AddRefused, RecordRefused, with_new_file, with_record}
 use Rattle.dap_accessed.specs.declared.fault.AddFault.{AddFault}
-use Rattle.dap_end.specs.Ports.{HasCome, new_port}
+use Rattle.nsp_link.specs.declared.link.LinkSetup.{LinkSetup}
+use Rattle.dap_end.specs.Ports.{HasCome}
 use Rattle.dap_end.specs.Serving.{ServingValue, IsAfter, IsGiven, NotGiven, nothing_yet}
 use Rattle.dap_end.specs.Taking.{GoesOn as Went, serves}
 use Rattle.linewise.specs.declared.talking.Became.{Became}
@@ -14,13 +15,12 @@ use Rattle.dap_text.specs.declared.filed.FileLine.{FileLine}
 use Rattle.dap_text.specs.declared.filed.RecordLine.{RecordLine}
 use Rattle.dap_text.specs.Tables.{files_text}
 use Rattle.dap_live.specs.declared.serving.Serving.{Serving}
-use Rattle.dap_live.specs.declared.orders.Anew.{Anew}
 use Rattle.dap_live.specs.declared.orders.Order.{Order}
 use Rattle.dap_live.specs.declared.orders.Order.TheVariants as order
 use Rattle.dap_live.specs.Orders.{order_of, setup_anew}
 use Rattle.dap_live.specs.Sending.{AllAgain, SaysAck, UnlessFailed, is_left, waits_of}
 use Rattle.dap_live.specs.Texts.{add_refusal, link_refusal, packets_text, status_line}
-use Rattle.dap_live.specs.Both.{DoesOrder, Renews, SaysGone, Stays, TakesPacket}
+use Rattle.dap_live.specs.Both.{DoesOrder, IsSetUp, Renews, SaysGone, Stays, TakesPacket}
 
 -- ---- Going on.
 
@@ -33,12 +33,9 @@ Resends old new text became = (packets : List (List ℕ)) × AllAgain old.port.l
 
 -- ---- A new link.
 
--- it was made, over the same files
-pub record Renewed (old : Serving) (anew : Anew) (new : Serving) : Type 0 where
-  pub after : IsAfter (nothing_yet old.end.accessed.files) new.end
-  pub port : new.end.port ≡ new_port (setup_anew old.setup anew)
-  pub own : new.end.accessed.own ≡ old.end.accessed.own
-  pub setup : new.setup ≡ setup_anew old.setup anew
+-- a new end on a link that is set up so, with these files
+abbrev pub IsNew : LinkSetup → (buffer : ℕ) → Files → Serving → Type 0
+IsNew setup buffer files s = IsAfter (nothing_yet files) s.end × IsSetUp setup buffer s.end.port s.end.accessed.own s.setup
 
 -- ---- Files that it is given.
 
@@ -82,7 +79,8 @@ Does old order.Resend new text became =
     OnEnd old new × UnlessFailed old.end.port.link text (Stays Done old.end new.end became) (Resends old.end new.end text became)
 Does old order.Ack new text became = Stays Done old new became × SaysAck old.end.port.link text
 Does old (order.New anew) new text became =
-    Renews (λ became. became) (setup_anew old.setup anew) (Renewed old anew new) old new text became
+    let setup = setup_anew old.setup anew in
+    Renews (λ became. became) setup (IsNew setup old.end.accessed.own old.end.accessed.files new) old new text became
 Does old order.Files new text became = Stays Done old new became × (text ≡ files_text old.end.accessed.files)
 Does old (order.File file) new text became = OnEnd old new × AddsFile old.end file new.end text became
 Does old (order.Record r) new text became = OnEnd old new × AddsRecord old.end r new.end text became

@@ -4,9 +4,6 @@ use Rattle.std.specs.Io.KnownBytes.{Appends, Keeps}
 use Rattle.nsp_link.specs.declared.link.LinkSetup.{LinkSetup}
 use Rattle.dap_follow.specs.Following.{FollowGives}
 use Rattle.dap_listing.specs.Gives.{HasStatus}
-use Rattle.dap_end.specs.Ports.{PortValue, new_port}
-use Rattle.dap_end.specs.Serving.{IsAfter, nothing_yet}
-use Rattle.dap_end.specs.Asking.{HasAsked, nothing_asked}
 use Rattle.linewise.specs.Talks.{Answering, Talked, Fails}
 use Rattle.linewise.specs.declared.talking.TalkFault.{TalkFault}
 use Rattle.dap_live.specs.declared.serving.Serving.{Serving}
@@ -23,18 +20,6 @@ use Rattle.live_cli.specs.declared.words.Task.TheVariants.{End, Follow}
 abbrev pub setup_of : Options → LinkSetup
 setup_of o = record { local = o.local; remote = o.remote; seg_size = o.segment; window = o.window; max_message = 65535 }
 
--- a new end's port, buffer and setup are those of the options
-abbrev pub IsSetUp : Options → PortValue → (own : ℕ) → LinkSetup → Type 0
-IsSetUp o port own setup = (port ≡ new_port (setup_of o)) × (own ≡ o.buffer) × (setup ≡ setup_of o)
-
--- a new end that serves, without files
-abbrev pub IsNewServing : Options → Serving → Type 0
-IsNewServing o s = IsAfter (nothing_yet []) s.end × IsSetUp o s.end.port s.end.accessed.own s.setup
-
--- a new end of which nothing was asked
-abbrev pub IsNewAsking : Options → Asking → Type 0
-IsNewAsking o a = HasAsked nothing_asked a.end × (a.reports.items ≡ []) × IsSetUp o a.end.port a.end.accessing.own a.setup
-
 -- all lines of the input were answered by this end, or those up to where the reader or the writer failed
 abbrev pub AnswersAll : {E : Type 0} → Answering E → (E → ℕ) → E → List ℕ → (written holds : Option (List ℕ)) → ℕ → Type 0
 AnswersAll {E} answered waiting first input written holds status =
@@ -44,9 +29,9 @@ AnswersAll {E} answered waiting first input written holds status =
 
 abbrev pub GivesAs : Role → Options → List ℕ → (written holds : Option (List ℕ)) → ℕ → Type 0
 GivesAs Serve o input written holds status =
-    (first : Serving) × IsNewServing o first × AnswersAll serving.answered serving.waiting first input written holds status
+    (first : Serving) × serving.IsNew (setup_of o) o.buffer [] first × AnswersAll serving.answered serving.waiting first input written holds status
 GivesAs Ask o input written holds status =
-    (first : Asking) × IsNewAsking o first × AnswersAll asking.answered asking.waiting first input written holds status
+    (first : Asking) × asking.IsNew (setup_of o) o.buffer first × AnswersAll asking.answered asking.waiting first input written holds status
 
 -- What the program answers, and its exit status: what an end that is set up so answers, or nothing was written, for want of
 -- memory; or the listing of a capture.

@@ -1,5 +1,6 @@
 use Rattle.std.proofs.Common.{◌++◌, ◌∷◌, [], length-append, arith, sym}
-use Rattle.dap_live.proofs.AgainLemmas.{again_behind, adds_one}
+use Rattle.dap_live.proofs.AgainLemmas.{adds_one}
+use Rattle.dap_end.proofs.ForCallers.{segments_more}
 use Rattle.dap_live.proofs.sending.push_again.Goals as goal
 
 pub loop-place-preserved : goal.loop-place-preserved
@@ -7,7 +8,7 @@ loop-place-preserved c =
     let (packets, again, count, text) = c.loop-place.invariant in
     let (bytes, writes, adds) = c.in_ok-push_one_again.ensures in (
       packets ++ bytes ∷ [],
-      again_behind _ packets bytes again (rw (sym count) at writes),
+      segments_more _ _ packets bytes again (rw (sym count) at writes),
       omega (arith, length-append packets (bytes ∷ []), count),
       adds_one _ _ _ packets bytes text adds,
     )

@@ -1,8 +1,8 @@
-use Rattle.std.proofs.Common.{◌≡◌, ℕ, List, length}
+use Rattle.std.proofs.Common.{◌≡◌, ℕ, ◌+◌, List, length}
 use Rattle.dap_text.specs.Adding.{Adds}
 use Rattle.dap_live.specs.Texts.{packets_text}
-use Rattle.dap_live.specs.Sending.{AreAgain}
+use Rattle.dap_end.specs.Writing.{AreSegments}
 use Rattle.dap_live.proofs.sending.push_again.Given as goal
 
 abbrev pub invariant-loop-place : goal.invariant-loop-place
-invariant-loop-place l = (packets : List (List ℕ)) × AreAgain l.link 0 packets × (length packets ≡ l.place) × Adds l.initial.text l.text (packets_text packets)
+invariant-loop-place l = (packets : List (List ℕ)) × AreSegments l.link (l.link.acked + 1) packets × (length packets ≡ l.place) × Adds l.initial.text l.text (packets_text packets)
