@@ -12,9 +12,9 @@ use Rattle.indexmap.specs.IndexSet.{insert_all, insert_key}
 use Rattle.nsp_seg.specs.declared.packet.Packet.TheVariants.{Segment, DataAck}
 use Rattle.dap_listing.specs.declared.lines.Direction.{Direction}
 use Rattle.dap_listing.specs.declared.lines.Direction.TheVariants.{Right, Left}
-use Rattle.dap_follow.specs.Streams.{Came, Captured, came_as, came_in, is_same, is_same_way, stream_of, streams}
+use Rattle.dap_follow.specs.Streams.{Came, Captured, came_as, came_in, is_same, is_same_way, streams}
 use Rattle.dap_follow.specs.declared.streams.Stream.{Stream}
-use Rattle.dap_follow.specs.Inner.Keeping.{HasAt}
+use Rattle.dap_follow.specs.Inner.Keeping.{stream_of, HasAt}
 use Rattle.std.specs.Prelude.{slice_get}
 use Rattle.dap_follow.specs.contracts.streams.StreamPartialEq.TheImpl as impl
 

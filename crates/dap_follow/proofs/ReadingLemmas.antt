@@ -8,9 +8,9 @@ use Rattle.dap_listing.specs.Listing.{heading}
 use Rattle.dap_listing.specs.Lines.{Capture}
 use Rattle.dap_listing.specs.Packets.{IsSeen, Seen, seen_line}
 use Rattle.dap_listing.specs.declared.lines.Direction.{Direction}
-use Rattle.dap_follow.specs.Streams.{Captured, came_as, stream_of}
+use Rattle.dap_follow.specs.Streams.{Captured, came_as}
 use Rattle.dap_follow.specs.Following.{IsCaptured}
-use Rattle.dap_follow.specs.Inner.Keeping.{KeepsAll}
+use Rattle.dap_follow.specs.Inner.Keeping.{stream_of, KeepsAll}
 use Rattle.dap_follow.specs.Inner.Reading.{Reads, line_texts}
 use Rattle.dap_follow.specs.declared.reading.Reading.{Reading}
 use Rattle.dap_follow.proofs.KeepingLemmas.{keeps_aside}

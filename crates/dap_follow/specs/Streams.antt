@@ -1,5 +1,5 @@
 -- The data segments of a capture, stream by stream and in the order of their places. Own.
-use Rattle.std.specs.Prelude.{◌≡◌, ℕ, ◌+◌, ◌%◌, ◌≤◌, ◌==◌, ◌&&◌, Bool, true, false, List, [], ◌∷◌, map, max, if◌then◌else◌, Option, Some, None, Ok}
+use Rattle.std.specs.Prelude.{◌≡◌, ℕ, ◌+◌, ◌%◌, ◌≤◌, ◌==◌, ◌&&◌, Bool, true, false, List, [], ◌∷◌, map, max, if◌then◌else◌, Option, Some, None, option_map, option_and_then, Ok}
 use Rattle.std.specs.List.{filter_map, find, enumerate_from}
 use Rattle.std.specs.List.Sorted.{IsStrictlyIncreasing}
 use Rattle.indexmap.specs.IndexSet.{insert_all}
@@ -16,12 +16,10 @@ Captured = Direction × Seen
 
 -- ---- streams: the segments that go one way between two ends
 
-abbrev pub stream_by : Direction → SegmentFields → Stream
-stream_by way s = record { way = way; dst = s.dst; src = s.src }
-
-abbrev pub stream_of : Captured → Option Stream
-stream_of (way, Ok (Segment s)) = Some (stream_by way s)
-stream_of _ = None
+-- the stream of a captured segment, and the segment
+abbrev pub segment_in : Captured → Option (Stream × SegmentFields)
+segment_in (way, Ok (Segment s)) = Some (record { way = way; dst = s.dst; src = s.src }, s)
+segment_in _ = None
 
 abbrev pub is_same_way : Direction → Direction → Bool
 is_same_way Right Right = true
@@ -33,7 +31,7 @@ is_same a b = is_same_way a.way b.way && (a.dst == b.dst) && (a.src == b.src)
 
 -- each once, in the order in which they appear
 abbrev pub streams : List Captured → List Stream
-streams packets = insert_all is_same [] (filter_map stream_of packets)
+streams packets = insert_all is_same [] (filter_map (λ packet. option_map (λ p. p.0) (segment_in packet)) packets)
 
 -- a segment, and the number of its packet
 pub record Came : Type 0 where
@@ -42,9 +40,8 @@ pub record Came : Type 0 where
 
 -- the segment of a packet, where it is of the stream
 abbrev pub came_as : Stream → ℕ → Captured → Option Came
-came_as stream number (way, Ok (Segment s)) =
-    if is_same stream (stream_by way s) then Some (record { packet = number; segment = s }) else None
-came_as stream number _ = None
+came_as stream number packet =
+    option_and_then (λ p. if is_same stream p.0 then Some (record { packet = number; segment = p.1 }) else None) (segment_in packet)
 
 -- the segments of a stream, as they came
 abbrev pub came_in : Stream → List Captured → List Came

@@ -1,16 +1,20 @@
 -- What the program keeps of the streams of a capture.
-use Rattle.std.specs.Prelude.{◌≡◌, ◌<◌, ◌≤◌, ◌+◌, ◌*◌, ◌/◌, ◌%◌, ◌^◌, ◌⊎◌, ⊤, ℕ, true, false, List, [], ◌∷◌, ◌++◌, length, map, max, slice_get, Some, Ok}
+use Rattle.std.specs.Prelude.{◌≡◌, ◌<◌, ◌≤◌, ◌+◌, ◌*◌, ◌/◌, ◌%◌, ◌^◌, ◌⊎◌, ⊤, ℕ, true, false, List, [], ◌∷◌, ◌++◌, length, map, max, slice_get, Option, Some, option_map, Ok}
 use Rattle.std.specs.List.{AllByRecursion, IsDistinct, list_any}
 use Rattle.nsp_seg.specs.declared.packet.Packet.TheVariants.{Segment}
 use Rattle.dap_listing.specs.declared.lines.Direction.{Direction}
 use Rattle.dap_listing.specs.Captured.{Spell, carried_by}
 use Rattle.nsp_seg.specs.declared.packet.SegmentFields.{SegmentFields}
-use Rattle.dap_follow.specs.Streams.{ArePlaced, Came, Captured, Placed, at, came_in, is_same, put_at, streams}
+use Rattle.dap_follow.specs.Streams.{ArePlaced, Came, Captured, Placed, at, came_in, is_same, put_at, segment_in, streams}
 use Rattle.dap_follow.specs.Inner.Placing.{IsPutIn, Rises, counted_value}
 use Rattle.dap_follow.specs.declared.places.Counted.{Counted}
 use Rattle.dap_follow.specs.declared.places.Places.{Places}
 use Rattle.dap_follow.specs.declared.streams.Stream.{Stream}
 use Rattle.dap_follow.specs.declared.streams.Streams.{Streams}
+
+-- the stream of a captured segment
+abbrev pub stream_of : Captured → Option Stream
+stream_of packet = option_map (λ p. p.0) (segment_in packet)
 
 -- a segment of the program, and the number of its packet
 abbrev pub came : ℕ → SegmentFields → Came

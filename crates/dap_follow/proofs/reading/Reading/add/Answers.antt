@@ -3,8 +3,8 @@ use Rattle.std.proofs.lemmas.Result.{on_ok_weaker}
 use Rattle.dap_listing.specs.Captured.{HasDigits, seen_value}
 use Rattle.dap_listing.specs.Listing.{heading}
 use Rattle.dap_listing.specs.Packets.{Seen, seen_line}
-use Rattle.dap_follow.specs.Streams.{came_as, stream_of}
-use Rattle.dap_follow.specs.Inner.Keeping.{KeepsAll}
+use Rattle.dap_follow.specs.Streams.{came_as}
+use Rattle.dap_follow.specs.Inner.Keeping.{stream_of, KeepsAll}
 use Rattle.dap_follow.proofs.KeepingLemmas.{keeps_aside}
 use Rattle.dap_follow.proofs.ReadingLemmas.{count_is, reads_more}
 use Rattle.dap_follow.proofs.reading.Reading.add.Goals as goal
