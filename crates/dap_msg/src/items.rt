@@ -8,7 +8,7 @@ use crate::fault::MsgFault;
 use crate::message::Message;
 
 /// What stands at a place of an NSP message (own).
-#[derive(Clone, Drop, Debug, PartialEq)]
+#[derive(Drop, Debug, PartialEq)]
 pub enum Item<'a> {
     /// A message.
     Whole(Message<'a>),

@@ -31,7 +31,7 @@ pub struct Configuration {
 /// The fields of an Attributes message, each of them there exactly where its bit of ATTMENU is set
 /// (DAP 5.6.0, Attributes message). Images are in the order in which they stand in the message; those that
 /// stand for a number have the least byte first.
-#[derive(Clone, Drop, Debug, PartialEq)]
+#[derive(Drop, Debug, PartialEq)]
 pub struct Attributes<'a> {
     /// DATATYPE: bit 0 ASCII, bit 1 image. An extensible field of at most 2 bytes, so below 2^14.
     pub datatype: Option<u16>,
@@ -78,7 +78,7 @@ pub struct Attributes<'a> {
 }
 
 /// The fields of an Access message (DAP 5.6.0, Access message).
-#[derive(Clone, Drop, Debug, PartialEq)]
+#[derive(Drop, Debug, PartialEq)]
 pub struct AccessFields<'a> {
     /// ACCFUNC: 1 open or 2 create a file.
     pub func: u8,
@@ -98,7 +98,7 @@ pub struct AccessFields<'a> {
 
 /// The fields of a Control message (DAP 5.6.0, Control message). Those after the first are there exactly where
 /// their bit of CTLMENU is set.
-#[derive(Clone, Drop, Debug, PartialEq)]
+#[derive(Drop, Debug, PartialEq)]
 pub struct ControlFields<'a> {
     /// CTLFUNC: 1 GET, 2 CONNECT, 3 UPDATE, 4 PUT, 5 DELETE, 6 REWIND.
     pub func: u8,
@@ -128,7 +128,7 @@ pub struct Completion {
 }
 
 /// The fields of a Status message (DAP 5.6.0, Status message).
-#[derive(Clone, Drop, Debug, PartialEq)]
+#[derive(Drop, Debug, PartialEq)]
 pub struct StatusFields<'a> {
     /// MACCODE and MICCODE.
     pub code: u16,
@@ -141,7 +141,7 @@ pub struct StatusFields<'a> {
 }
 
 /// A DAP message (DAP 5.6.0, message formats). Names and limits of fields are those of that document's messages.
-#[derive(Clone, Drop, Debug, PartialEq)]
+#[derive(Drop, Debug, PartialEq)]
 pub enum Message<'a> {
     /// Type 1, Configuration.
     Config(Configuration),
