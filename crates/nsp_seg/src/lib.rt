@@ -15,6 +15,3 @@ pub use packet::{
     AckField, AckFields, FlagKind, Packet, Payload, SegFault, SegmentFields, flag_kind,
 };
 pub use seq12::Seq12;
-
-#[cfg(test)]
-mod tests;
