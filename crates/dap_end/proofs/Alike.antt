@@ -24,12 +24,15 @@ use Rattle.dap_end.specs.Inner.Pasts.{read_one}
 use Rattle.dap_end.specs.declared.fault.EndFault.{EndFault}
 use Rattle.dap_end.specs.declared.fault.EndFault.TheVariants as end_fault
 use Rattle.dap_end.specs.declared.fault.TakeFault.{TakeFault}
-use Rattle.dap_end.specs.Ports.{PortValue, gone_on, posted}
+use Rattle.dap_end.specs.Ports.{PortValue, gone_on, posted, with_link}
 use Rattle.dap_end.specs.Asking.{AskingValue, AskingPast, HasAsked, AskedOne, HandedAll, ReadOne, ReadNone, ReadOn, begins, goes, ReadPart, ReadsAll, HeardAll, HearFault, asks, AreAlike, HasDone}
-use Rattle.dap_end.specs.Writing.{Behind}
-use Rattle.dap_end.specs.Turns.{WentOn, Takes, Still}
-use Rattle.dap_end.specs.Wanting.{is_want, went_wanting, took_wanting}
-use Rattle.dap_end.proofs.Asked.{asked_past, handed_is, handed_past, read_grows}
+use Rattle.dap_end.specs.Writing.{Behind, sent_more}
+use Rattle.dap_end.specs.Turns.{WentOn, Takes}
+use Rattle.dap_end.specs.Inner.Pasts.{Still}
+use Rattle.dap_end.specs.Wanting.{is_want, why}
+use Rattle.dap_end.specs.Inner.Wanting.{went_wanting, took_wanting}
+use Rattle.dap_end.proofs.Taking.{grown}
+use Rattle.dap_end.proofs.Asked.{asked_past, handed_is, handed_past, read_grows, still_received, still_sent}
 use Rattle.dap_end.specs.Inner.Pasts.{asked_one}
 use Rattle.dap_end.proofs.Determined.{may_or_not, refused_one, no_next}
 use Rattle.dap_end.proofs.Turning.{DoAlike, no_want, went_same, took_same}
@@ -272,9 +275,10 @@ stopped_alike old other one two before xs ys (end_fault.Read f) (end_fault.Read 
 
 -- ---- Going on, and taking.
 
-stays_done : (old new : AskingValue) (port : PortValue) → HasDone old → new ≡ record old { port = port } → Still HasAsked old new → ((handed : List (List ℕ)) → Sends old.port.link handed → Sends new.port.link handed) → HasDone new
-stays_done old new port (inl d) rest still sends = inl (d.0, still d.0 d.1)
-stays_done old new port (inr d) rest still sends = inr (ap (λ (v : AskingValue). v.accessing.failed) rest ∙ d.0, (d.1.0, sends d.1.0 d.1.1))
+stays_done : (old new : AskingValue) (port : PortValue) → HasDone old → new ≡ record old { port = port } → Still HasAsked old (record old { port = port }) → ((handed : List (List ℕ)) → Sends old.port.link handed → Sends port.link handed) → HasDone new
+stays_done old new port (inl d) rest still sends = inl (d.0, subst (HasAsked d.0) (sym rest) (still d.0 d.1))
+stays_done old new port (inr d) rest still sends =
+    inr (ap (λ (v : AskingValue). v.accessing.failed) rest ∙ d.0, (d.1.0, subst (λ (v : AskingValue). Sends v.port.link d.1.0) (sym rest) (sends d.1.0 d.1.1)))
 
 asks_alike : (before rs ss : List Report) → DoAlike (asks before rs) (asks before ss) AreAlike HasDone (rs ≡ ss)
 asks_alike before rs ss =
@@ -282,7 +286,11 @@ asks_alike before rs ss =
       port = λ a b like. like.0;
       moved = λ a b p q like same. alike_port a b p q like same;
       sends = has_sent;
-      stays = λ old new p d rest still sends. stays_done old new p d rest still sends;
+      took = λ old new bytes r d h rest. (
+          let g = grown old.port.link new.port.link bytes r h in
+          stays_done old new (with_link old.port new.port.link) d rest (still_received old new.port.link g h.sends) h.sends
+          );
+      wrote = λ old new n d rest. stays_done old new (sent_more old.port n) d rest (still_sent old (sent_more old.port n) n refl) (λ handed s. record { queue = s.queue; acked = s.acked });
       does = λ old other one two d like a b. heard_alike old other one two before rs ss d like a b;
       stops = λ old other one two f g d like nf ng a b. stopped_alike old other one two before rs ss f g d like nf ng a b;
       apart = λ old other one two f d like n a b. heard_apart old other one two before rs ss f d like n a b;

@@ -37,7 +37,7 @@ use Rattle.dap_end.proofs.Taking.{Grown}
 use Rattle.dap_end.proofs.Going.{gone_stays}
 use Rattle.dap_end.proofs.ServingOne.{port_given, port_gone, all_short, fit-both}
 use Rattle.dap_end.proofs.Proceeding.{work, less_left}
-use Rattle.dap_end.specs.Turns.{Still}
+use Rattle.dap_end.specs.Inner.Pasts.{Still}
 
 -- a packet came
 pub still_received : (v : AskingValue) (link : LinkValue) → Grown v.port.link link → SendsStill v.port.link link → Still HasAsked v (record v { port = with_link v.port link })

@@ -131,7 +131,7 @@ pub halting_is : (old new : AskingValue) (out all : List (List ℕ)) (before aft
     → AreAskingCalls old (By GoesOn ∷ []) new out all before after
 halting_is old new out all before after f (inl h) other = read_only old new out all before after (heard_part old new before after f h.0 other) h.1
 halting_is old new out all before after f (inr h) other =
-    let w = h.1 in going_is old new out all before after (record { mid = w.mid; done = w.done; rest = w.rest; still = w.still; wrote = (w.wrote.0, w.wrote.1, w.wrote.2.0) })
+    let w = h.1 in going_is old new out all before after (record { mid = w.mid; done = w.done; rest = w.rest; wrote = (w.wrote.0, w.wrote.1, w.wrote.2.0) })
 
 pub unfinished_is : (old new : AskingValue) (bytes : List ℕ) (got : Got) (out all : List (List ℕ)) (before after : List Report) (f : EndFault) → TookThen (asks before after) old new bytes got out all (Err f) → f ≢ end_fault.Read read_fault.Unexpected
     → AreAskingCalls old (By (Came bytes) ∷ By GoesOn ∷ []) new out all before after
@@ -140,4 +140,4 @@ unfinished_is old new bytes got out all before after f (mid, t, inl h) other =
 unfinished_is old new bytes got out all before after f (mid, t, inr h) other =
     let w = h.1 in
     took_by old mid new bytes (By GoesOn ∷ []) out all before after (came old mid bytes before after (Ok got) t)
-    (going_is mid new out all before after (record { mid = w.mid; done = w.done; rest = w.rest; still = w.still; wrote = (w.wrote.0, w.wrote.1, w.wrote.2.0) }))
+    (going_is mid new out all before after (record { mid = w.mid; done = w.done; rest = w.rest; wrote = (w.wrote.0, w.wrote.1, w.wrote.2.0) }))

@@ -22,11 +22,13 @@ use Rattle.dap_end.specs.Going.{StandFrom}
 use Rattle.dap_end.specs.Serving.{ServingValue, Past, IsAfter, ServedOne, PostedAll, answers_to}
 use Rattle.dap_end.specs.Taking.{ServedOn, begins, goes, ServedUp, IsServed, ServeFault, ServesAll, serves, GoesOn}
 use Rattle.dap_end.specs.Turns.{Takes}
-use Rattle.dap_end.specs.Wanting.{is_want, took_wanting}
+use Rattle.dap_end.specs.Wanting.{is_want}
+use Rattle.dap_end.specs.Inner.Wanting.{took_wanting}
 use Rattle.dap_msg.proofs.ForCallers.{one_item}
 use Rattle.nsp_link.proofs.ForCallers.{may_queue_parts}
-use Rattle.dap_end.proofs.Afterwards.{posted_is, posted_past}
-use Rattle.dap_end.proofs.Proceeding.{up_grew, fault_grew}
+use Rattle.dap_end.proofs.Taking.{grown}
+use Rattle.dap_end.proofs.Afterwards.{after_received, posted_is, posted_past}
+use Rattle.dap_end.proofs.Proceeding.{up_grew, fault_grew, still_sent}
 use Rattle.dap_end.proofs.Turning.{DoAlike, no_want, wants_none, did_apart, failed_same, went_same, took_same}
 use Rattle.dap_end.specs.Inner.ServingView.{with_port}
 
@@ -198,7 +200,8 @@ serves_alike =
       port = λ a b e. ap (λ (v : ServingValue). v.port) e;
       moved = λ a b p q e same. ap (with_port a) same ∙ ap (λ (v : ServingValue). with_port v q) e;
       sends = λ v k. (k.0.handed, k.1.sends);
-      stays = λ old new p k rest still sends. (k.0, still k.0 k.1);
+      took = λ old new bytes r k h rest. (k.0, subst (IsAfter k.0) (sym rest) (after_received k.0 old new.port.link (grown old.port.link new.port.link bytes r h) h.sends k.1));
+      wrote = λ old new n k rest. (k.0, subst (IsAfter k.0) (sym rest) (still_sent old n k.0 k.1));
       does = up_alike;
       stops = fault_alike;
       apart = up_apart;

@@ -21,9 +21,12 @@ use Rattle.dap_end.specs.declared.fault.TakeFault.TheVariants as take_fault
 use Rattle.dap_end.specs.Ports.{PortValue, HasCome, with_link}
 use Rattle.dap_end.specs.Writing.{sent_more}
 use Rattle.dap_end.specs.Serving.{ServingValue, Past, IsAfter, ServedOne, PostedAll, nothing_yet}
-use Rattle.dap_end.specs.Turns.{WroteThen, TookIn, Takes, Still}
+use Rattle.dap_end.specs.Turns.{WroteThen, TookIn, Takes}
+use Rattle.dap_end.specs.Inner.Pasts.{Still}
 use Rattle.dap_end.specs.Taking.{ServedOn, begins, goes, ServedUp, ServeFault, serves, GoesOn}
-use Rattle.dap_end.proofs.Afterwards.{posted_is, posted_past}
+use Rattle.dap_end.proofs.Taking.{grown}
+use Rattle.dap_end.proofs.Afterwards.{after_received, posted_is, posted_past}
+use Rattle.dap_end.proofs.Proceeding.{still_by}
 use Rattle.dap_end.proofs.Refusing.{taken_count}
 use Rattle.dap_end.proofs.Determined.{no_next}
 use Rattle.dap_end.specs.Inner.ServingView.{with_port}
@@ -122,7 +125,7 @@ wrote_known : (old new : ServingValue) (out all : List (List ℕ)) (wrote : Port
 wrote_known old new out all wrote w n sent k =
     let (past, h, did) = up_known old w.mid w.done.0 k in (
       past,
-      w.still past h,
+      subst (IsAfter past) (sym w.rest) (still_by w.mid new.port n sent past h),
       elim did [
         | inl came ↦ inl (subst (λ (p : PortValue). HasCome p) (sym sent) came)
         | inr none ↦ inr (none.0, ap (λ (p : PortValue). p.link.coming.inbox) sent ∙ none.1)
@@ -136,7 +139,7 @@ going_known old new out all (Err f) (inr h) k = wrote_known old new out all _ h.
 
 in_known : (old new : ServingValue) (bytes : List ℕ) (r : Result Got LinkFault) → TookIn serves old new bytes r → IsKnown old → IsKnown new
 in_known old new bytes r t k =
-    let still : Still IsAfter old (with_port old (with_link old.port new.port.link)) = subst (Still IsAfter old) t.rest t.still in
+    let still : Still IsAfter old (with_port old (with_link old.port new.port.link)) = λ past h. after_received past old new.port.link (grown old.port.link new.port.link bytes r t.receives) t.receives.sends h in
     subst IsKnown (sym t.rest) (known_in old new.port.link bytes r t.receives still k)
 
 pub taking_known : (old new : ServingValue) (bytes : List ℕ) (out all : List (List ℕ)) (r : Result Got TakeFault) → Takes serves old new bytes out all r → IsKnown old → IsKnown new

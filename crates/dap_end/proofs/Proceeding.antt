@@ -19,7 +19,7 @@ use Rattle.dap_end.specs.Taking.{Grew, ServedMore, ServedOn, begins, goes, Serve
 use Rattle.dap_end.proofs.Afterwards.{posted_is, posted_past}
 use Rattle.dap_end.proofs.ServingOne.{port_given}
 use Rattle.dap_end.proofs.Turning.{went_by}
-use Rattle.dap_end.specs.Turns.{Still}
+use Rattle.dap_end.specs.Inner.Pasts.{Still}
 use Rattle.dap_end.specs.Inner.ServingView.{with_port}
 use Rattle.nsp_link.proofs.ForCallers.{may_queue_parts}
 
@@ -188,5 +188,5 @@ served_still v port n e h = (ap (λ (p : PortValue). p.link.coming.inbox) e ∙ 
 pub gone_by : (old served : ServingValue) (port : PortValue) (out all : List (List ℕ)) (r : Result (Unit {0}) LinkFault) → ServedUp old served → IsServed served → Behind out all (WroteMore served.port port) → OnOk r (may_send port.link ≡ false)
     → IfErr r (λ f. (f ≡ fault.NoMemory) × IsTrue (may_send port.link)) → GoesOn old (with_port served port) out all r
 gone_by old served port out all (Ok u) m d w full why =
-    (went_by serves old served (with_port served port) out all (Ok u) (m, d) refl (still_by served port) w full why, served_still served port _ w.2.sent d)
-gone_by old served port out all (Err f) m d w full why = went_by serves old served (with_port served port) out all (Err f) (m, d) refl (still_by served port) w full why
+    (went_by serves old served (with_port served port) out all (Ok u) (m, d) refl w full why, served_still served port _ w.2.sent d)
+gone_by old served port out all (Err f) m d w full why = went_by serves old served (with_port served port) out all (Err f) (m, d) refl w full why

@@ -284,7 +284,7 @@ stopped_is old new out all f h same = ([], one_event old new GoesOn [] (served_o
 
 pub halting_is : (old new : ServingValue) (out all : List (List ℕ)) (f : EndFault) → WentOn serves old new out all (Err f) → AreCalls old (GoesOn ∷ []) new out all
 halting_is old new out all f (inl h) = stopped_is old new out all f h.0 h.1
-halting_is old new out all f (inr h) = let w = h.1 in going_is old new out all (record { mid = w.mid; done = w.done; rest = w.rest; still = w.still; wrote = (w.wrote.0, w.wrote.1, w.wrote.2.0) })
+halting_is old new out all f (inr h) = let w = h.1 in going_is old new out all (record { mid = w.mid; done = w.done; rest = w.rest; wrote = (w.wrote.0, w.wrote.1, w.wrote.2.0) })
 
 pub part_is : (old new : ServingValue) (bytes : List ℕ) (got : Got) (out all : List (List ℕ)) (f : EndFault) → TookThen serves old new bytes got out all (Err f) → AreCalls old (Came bytes ∷ GoesOn ∷ []) new out all
 part_is old new bytes got out all f (mid, t, inl h) =
@@ -292,7 +292,7 @@ part_is old new bytes got out all f (mid, t, inl h) =
 part_is old new bytes got out all f (mid, t, inr h) =
     let w = h.1 in
     took_by old mid new bytes (GoesOn ∷ []) out all (came old mid bytes (Ok got) t)
-    (going_is mid new out all (record { mid = w.mid; done = w.done; rest = w.rest; still = w.still; wrote = (w.wrote.0, w.wrote.1, w.wrote.2.0) }))
+    (going_is mid new out all (record { mid = w.mid; done = w.done; rest = w.rest; wrote = (w.wrote.0, w.wrote.1, w.wrote.2.0) }))
 
 pub refusing_is : (old new : ServingValue) (bytes : List ℕ) (f : LinkFault) → TookIn serves old new bytes (Err f) → Runs AnyBytes old (Came bytes ∷ []) new []
 refusing_is old new bytes f t = one_event old new (Came bytes) [] (came old new bytes (Err f) t)

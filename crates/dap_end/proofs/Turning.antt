@@ -14,7 +14,8 @@ use Rattle.dap_end.specs.declared.fault.TakeFault.TheVariants as take_fault
 use Rattle.dap_end.specs.Ports.{PortValue, with_link}
 use Rattle.dap_end.specs.Writing.{sent_more, Behind, WroteMore, WroteAnswer, WrotePart}
 use Rattle.dap_end.specs.Turns.{EndOf, DidAndWrote, WentOn, Answered, TookIn, TookThen, Takes}
-use Rattle.dap_end.specs.Wanting.{is_want, went_wanting, took_wanting}
+use Rattle.dap_end.specs.Wanting.{is_want, why}
+use Rattle.dap_end.specs.Inner.Wanting.{went_wanting, took_wanting}
 use Rattle.dap_end.specs.Inner.Answered.{ended_by}
 use Rattle.dap_end.proofs.Writing.{wrote_one, answer_one}
 use Rattle.dap_end.proofs.Refusing.{receives_same}
@@ -24,19 +25,15 @@ use Rattle.dap_end.proofs.Refusing.{receives_same}
 abbrev linked : LinkFault → EndFault
 linked f = end_fault.Link f
 
--- what only packets were written of stays
-abbrev pub StaysSent : {V : Type 0} → EndOf V → V → V → Type 0
-StaysSent end mid new = (n : ℕ) → end.port new ≡ sent_more (end.port mid) n → end.still mid new
-
-pub went_by : {V : Type 0} (end : EndOf V) (old mid new : V) (out all : List (List ℕ)) (r : Result (Unit {0}) LinkFault) → end.does old mid → new ≡ end.with_port mid (end.port new) → StaysSent end mid new
+pub went_by : {V : Type 0} (end : EndOf V) (old mid new : V) (out all : List (List ℕ)) (r : Result (Unit {0}) LinkFault) → end.does old mid → new ≡ end.with_port mid (end.port new)
     → Behind out all (WroteMore (end.port mid) (end.port new)) → OnOk r (may_send (end.port new).link ≡ false) → IfErr r (λ f. (f ≡ fault.NoMemory) × IsTrue (may_send (end.port new).link)) → WentOn end old new out all (ended_by r)
-went_by end old mid new out all (Ok u) done rest still w full why = record { mid = mid; done = done; rest = rest; still = still _ w.2.sent; wrote = (w.0, w.1, (w.2, full)) }
-went_by end old mid new out all (Err f) done rest still w full why = inr (ap linked why.0, record { mid = mid; done = done; rest = rest; still = still _ w.2.sent; wrote = (w.0, w.1, (w.2, why.1)) })
+went_by end old mid new out all (Ok u) done rest w full why = record { mid = mid; done = done; rest = rest; wrote = (w.0, w.1, (w.2, full)) }
+went_by end old mid new out all (Err f) done rest w full why = inr (ap linked why.0, record { mid = mid; done = done; rest = rest; wrote = (w.0, w.1, (w.2, why.1)) })
 
-pub answered_by : {V : Type 0} (end : EndOf V) (old mid new : V) (got : Got) (out all : List (List ℕ)) (r : Result (Unit {0}) LinkFault) → end.does old mid → new ≡ end.with_port mid (end.port new) → StaysSent end mid new
+pub answered_by : {V : Type 0} (end : EndOf V) (old mid new : V) (got : Got) (out all : List (List ℕ)) (r : Result (Unit {0}) LinkFault) → end.does old mid → new ≡ end.with_port mid (end.port new)
     → OnOk r (Behind out all (WroteAnswer (end.port mid) (end.port new) got)) → IfErr r (λ f. (f ≡ fault.NoMemory) × Behind out all (WrotePart (end.port mid) (end.port new) got)) → Answered end old new got out all (ended_by r)
-answered_by end old mid new got out all (Ok u) done rest still w why = record { mid = mid; done = done; rest = rest; still = still _ w.2.wrote.sent; wrote = w }
-answered_by end old mid new got out all (Err f) done rest still w why = inr (ap linked why.0, record { mid = mid; done = done; rest = rest; still = still _ why.1.2.0.sent; wrote = why.1 })
+answered_by end old mid new got out all (Ok u) done rest w why = record { mid = mid; done = done; rest = rest; wrote = w }
+answered_by end old mid new got out all (Err f) done rest w why = inr (ap linked why.0, record { mid = mid; done = done; rest = rest; wrote = why.1 })
 
 -- ---- Results.
 
@@ -84,6 +81,16 @@ pub wants_none : (f : LinkFault) → f ≢ fault.NoMemory → is_want (end_fault
 wants_none fault.NoMemory n = absurd (n refl)
 wants_none f n = refl
 
+-- a result in which memory wasn't wanting
+pub went_well : (r : Result (Unit {0}) EndFault) → IfErr r (λ f. is_want f ≡ false) → went_wanting r ≡ false
+went_well (Ok u) n = refl
+went_well (Err f) n = n
+
+pub took_well : (r : Result Got TakeFault) → IfErr r (λ f. is_want (why f) ≡ false) → took_wanting r ≡ false
+took_well (Ok got) n = refl
+took_well (Err (take_fault.Refused f)) n = n
+took_well (Err (take_fault.Unfinished got f)) n = n
+
 -- ---- It is determined.
 
 -- Two ends that are alike do alike: all of it, or they stop alike.
@@ -91,15 +98,13 @@ pub record DoAlike {V : Type 0} (e d : EndOf V) (alike : V → V → Type 0) (kn
   pub port : (a b : V) → alike a b → e.port a ≡ d.port b
   pub moved : (a b : V) (p q : PortValue) → alike a b → p ≡ q → alike (e.with_port a p) (d.with_port b q)
   pub sends : (v : V) → known v → (handed : List (List ℕ)) × Sends (e.port v).link handed
-  pub stays : (old new : V) (p : PortValue) → known old → new ≡ e.with_port old p → e.still old new → ((handed : List (List ℕ)) → Sends (e.port old).link handed → Sends (e.port new).link handed) → known new
+  pub took : (old new : V) (bytes : List ℕ) (r : Result Got LinkFault) → known old → Receives (e.port old).link (e.port new).link bytes r → new ≡ e.with_port old (with_link (e.port old) (e.port new).link) → known new
+  pub wrote : (old new : V) (n : ℕ) → known old → new ≡ e.with_port old (sent_more (e.port old) n) → known new
   pub does : (old other one two : V) → known old → alike old other → e.does old one → d.does other two → alike one two × told × known one
   pub stops : (old other one two : V) (f g : EndFault) → known old → alike old other → is_want f ≡ false → is_want g ≡ false → e.stops old one f → d.stops other two g → alike one two × (f ≡ g) × told × known one
   pub apart : (old other one two : V) (f : EndFault) → known old → alike old other → is_want f ≡ false → e.does old one → d.stops other two f → ⊥
   pub apart_back : (old other one two : V) (f : EndFault) → known old → alike old other → is_want f ≡ false → e.stops old one f → d.does other two → ⊥
   pub quiet : e.quiet → d.quiet → told
-
-sent_sends : (p q : PortValue) (n : ℕ) (handed : List (List ℕ)) → q ≡ sent_more p n → Sends p.link handed → Sends q.link handed
-sent_sends p q n handed e s = subst (λ (x : PortValue). Sends x.link handed) (sym e) (record { queue = s.queue; acked = s.acked })
 
 abbrev Relation : Type 1
 Relation = PortValue → PortValue → List (List ℕ) → Type 0
@@ -122,7 +127,7 @@ module _ {V : Type 0} (e d : EndOf V) (alike : V → V → Type 0) (known : V �
         refl,
         a.wrote.1 ∙ ap (λ (l : List (List ℕ)). out ++ l) w.1 ∙ sym b.wrote.1,
         t.1,
-        by.stays a.mid one _ t.2 a.rest a.still (λ handed s. sent_sends (e.port a.mid) (e.port one) n.0 handed n.1 s),
+        by.wrote a.mid one n.0 t.2 (a.rest ∙ ap (e.with_port a.mid) n.1),
       )
   did_same whole part as_whole as_part out xs ys same count old other one two (Ok u) (Err g) k like nr ns a (inl b) = absurd (by.apart old other a.mid two g k like ns a.done b.0)
   did_same whole part as_whole as_part out xs ys same count old other one two (Ok u) (Err g) k like nr ns a (inr b) = absurd (true≢false (sym (ap is_want b.0) ∙ ns))
@@ -150,7 +155,7 @@ module _ {V : Type 0} (e d : EndOf V) (alike : V → V → Type 0) (known : V �
       let rb : Receives (e.port old).link (d.port two).link bytes s = subst (λ (p : PortValue). Receives p.link (d.port two).link bytes s) (sym port) b.receives in
       let t = receives_same (e.port old).link (e.port one).link (d.port two).link bytes r s fits nr ns a.receives rb in
       let there = ap (with_link (e.port old)) t.1 ∙ ap (λ (p : PortValue). with_link p (d.port two).link) port in
-      (t.0, moved_to old other one two _ _ like a.rest b.rest there, by.stays old one _ k a.rest a.still a.receives.sends)
+      (t.0, moved_to old other one two _ _ like a.rest b.rest there, by.took old one bytes r k a.receives a.rest)
 
   then_same : (old other one two : V) (bytes : List ℕ) (g h : Got) (out xs ys : List (List ℕ)) (r s : Result (Unit {0}) EndFault) → AreBytes bytes → known old → alike old other → went_wanting r ≡ false → went_wanting s ≡ false
       → TookThen e old one bytes g out xs r → TookThen d other two bytes h out ys s → alike one two × ((g ≡ h) × (r ≡ s)) × (xs ≡ ys) × told × known one

@@ -19,7 +19,7 @@ use Rattle.dap_end.specs.declared.fault.EndFault.{EndFault}
 use Rattle.dap_end.specs.declared.fault.EndFault.TheVariants as end_fault
 use Rattle.dap_end.specs.Ports.{PortValue, gone_on, HandsOver}
 use Rattle.dap_end.specs.Going.{GoneThrough, given_then, NextItem}
-use Rattle.dap_end.specs.Turns.{EndOf, Still}
+use Rattle.dap_end.specs.Turns.{EndOf}
 use Rattle.dap_end.specs.Writing.{Behind}
 
 pub record AskingValue : Type 0 where
@@ -123,7 +123,6 @@ asks before reports =
     record {
       port = λ v. v.port;
       with_port = λ v port. record v { port = port };
-      still = Still HasAsked;
       does = λ old new. HeardAll old new before reports;
       stops = λ old new f. HearFault old new before reports f;
       quiet = reports ≡ before;

@@ -8,3 +8,4 @@ pub mod AskingInside
 pub mod Stored
 pub mod Answered
 pub mod Pasts
+pub mod Wanting

@@ -8,7 +8,7 @@ use Rattle.nsp_link.specs.Sending.{SendAllFault}
 use Rattle.dap_end.specs.declared.fault.EndFault.{EndFault}
 use Rattle.dap_end.specs.declared.fault.EndFault.TheVariants as end_fault
 use Rattle.dap_end.specs.Writing.{Behind}
-use Rattle.dap_end.specs.Turns.{EndOf, WentOn, Still}
+use Rattle.dap_end.specs.Turns.{EndOf, WentOn}
 use Rattle.dap_end.specs.Serving.{ServingValue, Past, IsAfter, MayServe, PostedAll, ServedOne}
 
 -- ---- Serving all.
@@ -62,7 +62,6 @@ serves =
     record {
       port = λ v. v.port;
       with_port = λ v port. record v { port = port };
-      still = Still IsAfter;
       does = λ old new. ServesAll old new (Ok tt);
       stops = ServeFault;
       quiet = Unit {0};

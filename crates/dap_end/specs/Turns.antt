@@ -12,15 +12,10 @@ use Rattle.dap_end.specs.declared.fault.TakeFault.TheVariants as take_fault
 use Rattle.dap_end.specs.Ports.{PortValue, with_link}
 use Rattle.dap_end.specs.Writing.{Behind, WroteMore, WroteAnswer, WrotePart}
 
--- each past that fits the first fits the second
-abbrev pub Still : {P V : Type 0} → (Fits : P → V → Type 0) → (old new : V) → Type 0
-Still {P} Fits old new = (past : P) → Fits past old → Fits past new
-
 -- One of the two ends.
 pub record EndOf (V : Type 0) : Type 1 where
   pub port : V → PortValue
   pub with_port : V → PortValue → V
-  pub still : V → V → Type 0  -- each past that fits the first fits the second
   pub does : V → V → Type 0  -- all that came was gone through, and all that waited was handed over
   pub stops : V → V → EndFault → Type 0  -- why not all was, and what is done then
   pub quiet : Type 0  -- nothing is told
@@ -31,7 +26,6 @@ pub record WroteThen {V : Type 0} (end : EndOf V) (writes : PortValue → PortVa
   pub mid : V
   pub done : end.does old mid
   pub rest : new ≡ end.with_port mid (end.port new)
-  pub still : end.still mid new
   pub wrote : Behind out all (writes (end.port mid) (end.port new))
 
 -- All was done, and the whole was written; or not all was done, and nothing written; or memory was wanting for a packet,
@@ -55,7 +49,6 @@ Answered end old new got = DidAndWrote end (λ p q. WroteAnswer p q got) (λ p q
 pub record TookIn {V : Type 0} (end : EndOf V) (old new : V) (bytes : List ℕ) (result : Result Got LinkFault) : Type 0 where
   pub receives : Receives (end.port old).link (end.port new).link bytes result
   pub rest : new ≡ end.with_port old (with_link (end.port old) (end.port new).link)
-  pub still : end.still old new
 
 -- it was taken in, and then answered
 abbrev pub TookThen : {V : Type 0} → EndOf V → (old new : V) → (bytes : List ℕ) → Got → (out all : List (List ℕ)) → Result (Unit {0}) EndFault → Type 0

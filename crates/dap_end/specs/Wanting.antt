@@ -1,6 +1,5 @@
--- Whether memory was wanting, by what a call came to.
-use Rattle.std.specs.Prelude.{Bool, true, false, Result, Ok, Err}
-use Rattle.nsp_link.specs.declared.link.Got.{Got}
+-- What is want of memory, by why a call stopped.
+use Rattle.std.specs.Prelude.{Bool, true, false}
 use Rattle.nsp_link.specs.declared.fault.LinkFault.TheVariants as fault
 use Rattle.dap_accessing.specs.declared.fault.ReadFault.TheVariants as read_fault
 use Rattle.dap_end.specs.declared.fault.EndFault.{EndFault}
@@ -13,11 +12,7 @@ is_want (end_fault.Link fault.NoMemory) = true
 is_want (end_fault.Read read_fault.NoMemory) = true
 is_want _ = false
 
-abbrev pub went_wanting : Result (Unit {0}) EndFault → Bool
-went_wanting (Ok done) = false
-went_wanting (Err f) = is_want f
-
-abbrev pub took_wanting : Result Got TakeFault → Bool
-took_wanting (Ok got) = false
-took_wanting (Err (take_fault.Refused f)) = is_want (end_fault.Link f)
-took_wanting (Err (take_fault.Unfinished got f)) = is_want f
+-- why taking a packet stopped
+abbrev pub why : TakeFault → EndFault
+why (take_fault.Refused f) = end_fault.Link f
+why (take_fault.Unfinished got f) = f

@@ -17,8 +17,8 @@ ghost use Rattle.dap_fields.specs.Spelling.{AreBytes};
 ghost use Rattle.dap_end.specs.Ports.{new_port, oldest, with_link};
 ghost use Rattle.nsp_link.specs.Receiving.{Receives};
 ghost use Rattle.dap_end.specs.Writing.{Behind, WroteMore};
-ghost use Rattle.dap_end.specs.Asking.{HasAsked, AskedOne, HandedAll, ReadOne, ReadNone, ReadNext, ReadOn, ReadPart, HeardAll, HearFault, asks, nothing_asked};
-ghost use Rattle.dap_end.specs.Turns.{Answered, WentOn, Takes, Still};
+ghost use Rattle.dap_end.specs.Asking.{AskingPast, HasAsked, AskedOne, HandedAll, ReadOne, ReadNone, ReadNext, ReadOn, ReadPart, HeardAll, HearFault, asks, nothing_asked};
+ghost use Rattle.dap_end.specs.Turns.{Answered, WentOn, Takes};
 ghost use Rattle.dap_end.specs.Inner.Answered.{ended_by};
 ghost use Rattle.dap_end.specs.Inner.Kept.{IsPort};
 ghost use Rattle.dap_end.specs.Inner.AskingView.{asking_of};
@@ -153,7 +153,7 @@ impl AskingEnd {
           port = with_link self.old.port self.new.port.link;
         } }
         ensures receives { Receives self.old.port.link self.new.port.link packet.now result }
-        ensures still { Still HasAsked self.old self.new }
+        ensures still { (past : AskingPast) → HasAsked past self.old → HasAsked past self.new }
     {
         self.port.receive(packet)
     }
@@ -325,7 +325,7 @@ impl AskingEnd {
         ensures wrote { IfOk result
             (λ o. IfSome o (λ v. WroteMore self.old.port self.new.port (v.items ∷ []))) }
         ensures err { IfErr result (λ f. (self.new ≡ self.old) × NextFault self.old.port.link f) }
-        ensures still { Still HasAsked self.old self.new }
+        ensures still { (past : AskingPast) → HasAsked past self.old → HasAsked past self.new }
     {
         self.port.emit()
     }
@@ -338,7 +338,7 @@ impl AskingEnd {
         ensures rest { self.new ≡ record self.old { port = self.new.port } }
         ensures wrote { IfOk result (λ v. WroteMore self.old.port self.new.port (v.items ∷ [])) }
         ensures err { IfErr result (λ f. (self.new ≡ self.old) × (f ≡ fault.NoMemory)) }
-        ensures still { Still HasAsked self.old self.new }
+        ensures still { (past : AskingPast) → HasAsked past self.old → HasAsked past self.new }
     {
         self.port.write_next()
     }

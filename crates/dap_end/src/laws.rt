@@ -1,6 +1,6 @@
 //! Laws over the definitions alone. Each function does nothing: its contract is the law.
 
-ghost use Rattle.std.specs.Prelude.{◌≡◌, ◌≢◌, ◌+◌, ◌-◌, ◌<◌, ℕ, List, [], ◌∷◌, ◌++◌, Option, Some, None, Result, Ok, Err, false, option_to_list};
+ghost use Rattle.std.specs.Prelude.{◌≡◌, ◌≢◌, ◌+◌, ◌-◌, ◌<◌, ℕ, List, [], ◌∷◌, ◌++◌, Option, Some, None, Result, Ok, Err, IfErr, false, option_to_list};
 ghost use Rattle.dap_fields.specs.Spelling.{AreBytes};
 ghost use Rattle.nsp_link.specs.declared.link.LinkSetup.{LinkSetup as TheSetup};
 ghost use Rattle.nsp_link.specs.declared.link.Got.{Got as TheGot};
@@ -27,7 +27,7 @@ ghost use Rattle.dap_end.specs.Writing.{WroteMore};
 ghost use Rattle.dap_end.specs.Turns.{WroteThen, WentOn, TookIn, TookThen, Takes};
 ghost use Rattle.dap_end.specs.Taking as serving;
 ghost use Rattle.dap_end.specs.Taking.{serves};
-ghost use Rattle.dap_end.specs.Wanting.{took_wanting, went_wanting};
+ghost use Rattle.dap_end.specs.Wanting.{is_want, why};
 ghost use Rattle.dap_end.specs.Asking as asking;
 ghost use Rattle.dap_end.specs.Asking.{asks, AreAlike, AskingValue, AskingPast, HasAsked, HasDone, AskedOne, HandedAll, ReadOne, nothing_asked};
 ghost use Rattle.dap_end.specs.Runs.{RunsBy};
@@ -180,7 +180,7 @@ pub fn asking_is_determined()
         → AreAlike one two × (r ≡ s) × (rs ≡ ss) × HasDone one }
     ensures go_on { (old other one two : AskingValue) (out xs ys : List (List ℕ))
         (before rs ss : List TheReport) (r s : Result (Unit {0}) TheEndFault) → HasDone old
-        → AreAlike old other → went_wanting r ≡ false → went_wanting s ≡ false
+        → AreAlike old other → IfErr r (λ f. is_want f ≡ false) → IfErr s (λ f. is_want f ≡ false)
         → WentOn (asks before rs) old one out xs r → WentOn (asks before ss) other two out ys s
         → AreAlike one two × (r ≡ s) × (xs ≡ ys) × (rs ≡ ss) × HasDone one }
 {}
@@ -190,13 +190,14 @@ pub fn asking_is_determined()
 pub fn taking_is_determined()
     ensures serving { (past : Past) (old one two : ServingValue) (bytes : List ℕ)
         (out xs ys : List (List ℕ)) (r s : Result TheGot TheTakeFault) → AreBytes bytes
-        → IsAfter past old → took_wanting r ≡ false → took_wanting s ≡ false
+        → IsAfter past old → IfErr r (λ f. is_want (why f) ≡ false)
+        → IfErr s (λ f. is_want (why f) ≡ false)
         → Takes serves old one bytes out xs r → Takes serves old two bytes out ys s
         → (one ≡ two) × (r ≡ s) × (xs ≡ ys) }
     ensures asking { (old other one two : AskingValue) (bytes : List ℕ)
         (out xs ys : List (List ℕ)) (before rs ss : List TheReport)
         (r s : Result TheGot TheTakeFault) → AreBytes bytes → HasDone old → AreAlike old other
-        → took_wanting r ≡ false → took_wanting s ≡ false
+        → IfErr r (λ f. is_want (why f) ≡ false) → IfErr s (λ f. is_want (why f) ≡ false)
         → Takes (asks before rs) old one bytes out xs r
         → Takes (asks before ss) other two bytes out ys s
         → AreAlike one two × (r ≡ s) × (xs ≡ ys) × (rs ≡ ss) × HasDone one }

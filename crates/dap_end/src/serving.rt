@@ -16,7 +16,7 @@ ghost use Rattle.nsp_link.specs.Receiving.{Receives};
 ghost use Rattle.dap_end.specs.Writing.{WroteMore};
 ghost use Rattle.dap_end.specs.Serving.{Past, IsAfter, NotGiven, IsGiven, MayServe, ServedOne, PostedAll, nothing_yet};
 ghost use Rattle.dap_end.specs.Taking.{ServedUp, IsServed, ServeFault, GoesOn, serves};
-ghost use Rattle.dap_end.specs.Turns.{Answered, Takes, Still};
+ghost use Rattle.dap_end.specs.Turns.{Answered, Takes};
 ghost use Rattle.dap_end.specs.Inner.Answered.{ended_by};
 ghost use Rattle.dap_end.specs.declared.fault.EndFault.TheVariants as end_fault;
 ghost use Rattle.dap_end.specs.Inner.Kept.{IsPort};
@@ -150,7 +150,7 @@ impl ServingEnd {
           port = with_link self.old.port self.new.port.link;
         } }
         ensures receives { Receives self.old.port.link self.new.port.link packet.now result }
-        ensures still { Still IsAfter self.old self.new }
+        ensures still { (past : Past) → IsAfter past self.old → IsAfter past self.new }
     {
         self.port.receive(packet)
     }
@@ -199,7 +199,7 @@ impl ServingEnd {
         ensures wrote { IfOk result
             (λ o. IfSome o (λ v. WroteMore self.old.port self.new.port (v.items ∷ []))) }
         ensures err { IfErr result (λ f. (self.new ≡ self.old) × NextFault self.old.port.link f) }
-        ensures still { Still IsAfter self.old self.new }
+        ensures still { (past : Past) → IsAfter past self.old → IsAfter past self.new }
     {
         self.port.emit()
     }
@@ -212,7 +212,7 @@ impl ServingEnd {
         ensures rest { self.new ≡ record self.old { port = self.new.port } }
         ensures wrote { IfOk result (λ v. WroteMore self.old.port self.new.port (v.items ∷ [])) }
         ensures err { IfErr result (λ f. (self.new ≡ self.old) × (f ≡ fault.NoMemory)) }
-        ensures still { Still IsAfter self.old self.new }
+        ensures still { (past : Past) → IsAfter past self.old → IsAfter past self.new }
     {
         self.port.write_next()
     }

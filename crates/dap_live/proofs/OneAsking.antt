@@ -21,7 +21,7 @@ use Rattle.dap_end.specs.declared.fault.TakeFault.TheVariants as take
 use Rattle.dap_end.specs.Ports.{PortValue, new_port}
 use Rattle.dap_end.specs.Asking.{AskingValue, AskingPast, HasAsked, AskedOne, AreAlike, HasDone, asks, nothing_asked}
 use Rattle.dap_end.specs.Turns.{Takes}
-use Rattle.dap_end.specs.Wanting.{went_wanting}
+use Rattle.dap_end.specs.Inner.Wanting.{went_wanting}
 use Rattle.dap_end.proofs.ForCallers.{alike_of, alike_same, asked_past, has_sent, asking_one, going_alike, taking_alike}
 use Rattle.linewise.specs.declared.talking.Became.{Became}
 use Rattle.linewise.specs.declared.talking.Became.TheVariants.{Done, NoMemory}

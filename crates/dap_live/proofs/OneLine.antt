@@ -20,7 +20,8 @@ use Rattle.dap_end.specs.declared.fault.EndFault.{EndFault}
 use Rattle.dap_end.specs.declared.fault.EndFault.TheVariants as end
 use Rattle.dap_end.specs.declared.fault.TakeFault.{TakeFault}
 use Rattle.dap_end.specs.declared.fault.TakeFault.TheVariants as take
-use Rattle.dap_end.specs.Wanting.{is_want, took_wanting}
+use Rattle.dap_end.specs.Wanting.{is_want}
+use Rattle.dap_end.specs.Inner.Wanting.{took_wanting}
 use Rattle.dap_text.specs.Words.{Words, ends, field, hex_of, is_hex_text, long, one_of, word, words_of}
 use Rattle.dap_text.specs.Filed.{file_of, record_of}
 use Rattle.dap_text.specs.Requests.{request_of}

@@ -40,7 +40,7 @@ use Rattle.dap_world.proofs.Kept.{kept-step}
 use Rattle.dap_world.proofs.Ways.{takes, told_gives, told_takes}
 use Rattle.dap_world.proofs.Arriving.{AllNear, IsDueAs, due}
 use Rattle.dap_world.proofs.Wrote.{AreAfter, AreThen, StaysAt, asking_parts, serving_parts, at_a, at_b, none_more}
-use Rattle.dap_end.specs.Turns.{Still}
+use Rattle.dap_end.specs.Inner.Pasts.{Still}
 
 -- ---- What is near.
 

@@ -31,7 +31,7 @@ use Rattle.dap_msg.specs.Blocked.{NspMessage}
 use Rattle.dap_world.proofs.Counting.{segments-handed, queued}
 use Rattle.dap_world.proofs.Kept.{kept-step}
 use Rattle.dap_world.proofs.Ways.{told_writes, told_sent, wrote_side}
-use Rattle.dap_end.specs.Turns.{Still}
+use Rattle.dap_end.specs.Inner.Pasts.{Still}
 
 -- whatever the end was after, it is after that still
 abbrev pub StaysAt : Parts → End → SideValue → Type 0

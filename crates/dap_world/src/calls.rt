@@ -15,7 +15,7 @@ ghost use Rattle.dap_end.specs.Serving as serving;
 ghost use Rattle.dap_end.specs.Serving.{IsAfter};
 ghost use Rattle.dap_end.specs.Asking as asking;
 ghost use Rattle.dap_end.specs.Asking.{HasAsked};
-ghost use Rattle.dap_end.specs.Turns.{Still};
+ghost use Rattle.dap_end.specs.Inner.Pasts.{Still};
 ghost use Rattle.dap_world.specs.Inner.Sides.{AreShort, AskFaultOf, AskedSo, EmitFault, KeptSo, PostFault, PostedSo, WroteOne};
 ghost use Rattle.dap_world.specs.Inner.Ways.{Delivery, delivered_as};
 ghost use Rattle.dap_world.specs.declared.event.WorldFault.TheVariants.{NoMemory};

@@ -1,4 +1,4 @@
--- What an end did, once one item more was handled; and NSP messages none of which is empty.
+-- What an end did, once one item more was handled, and what leaves it as it was; and NSP messages none of which is empty.
 use Rattle.std.specs.Prelude.{◌≢◌, ℕ, List, [], ◌∷◌, ◌++◌}
 use Rattle.std.specs.List.{AllByRecursion}
 use Rattle.dap_msg.specs.declared.items.Item.{Item}
@@ -10,6 +10,10 @@ use Rattle.dap_accessing.specs.Phase.{limit_after}
 use Rattle.dap_end.specs.Going.{given_then}
 use Rattle.dap_end.specs.Serving.{Past}
 use Rattle.dap_end.specs.Asking.{AskingPast}
+
+-- each past that fits the first fits the second
+abbrev pub Still : {P V : Type 0} → (Fits : P → V → Type 0) → (old new : V) → Type 0
+Still {P} Fits old new = (past : P) → Fits past old → Fits past new
 
 abbrev pub served : Past → (bytes : List ℕ) → Item → (next : ℕ) → Past
 served past bytes item next = record past { given = given_then past.given bytes next; items = past.items ++ item ∷ [] }

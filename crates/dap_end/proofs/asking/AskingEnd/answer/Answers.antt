@@ -4,7 +4,6 @@ use Rattle.dap_end.specs.Turns.{Answered}
 use Rattle.dap_end.specs.Asking.{HeardAll, asks}
 use Rattle.dap_end.specs.Inner.AskingInside.{asking_view}
 use Rattle.dap_end.proofs.Turning.{answered_by}
-use Rattle.dap_end.proofs.Asked.{still_sent}
 use Rattle.dap_end.proofs.asking.AskingEnd.answer.Goals as goal
 
 pub returns : goal.returns
@@ -14,4 +13,4 @@ returns c =
     let heard = asking_view c.self.inside in
     let hears = subst (λ v. HeardAll old v c.args.reports.now.items c.hear_all.new.reports.items) (sym c.self.view_is) c.in_ok-hear_all.ensures.ok in
     subst (Answered end old _ c.args.got (bodies c.args.out.now.items) (bodies c.answer.new.out.items)) (sym c.ended.ensures)
-    (answered_by end old heard _ c.args.got (bodies c.args.out.now.items) (bodies c.answer.new.out.items) c.answer.result hears refl (still_sent heard c.answer.new.self) c.answer.ensures.ok c.answer.ensures.err)
+    (answered_by end old heard _ c.args.got (bodies c.args.out.now.items) (bodies c.answer.new.out.items) c.answer.result hears refl c.answer.ensures.ok c.answer.ensures.err)

@@ -4,7 +4,6 @@ use Rattle.dap_end.specs.Turns.{WentOn}
 use Rattle.dap_end.specs.Asking.{HeardAll, asks}
 use Rattle.dap_end.specs.Inner.AskingInside.{asking_view}
 use Rattle.dap_end.proofs.Turning.{went_by}
-use Rattle.dap_end.proofs.Asked.{still_sent}
 use Rattle.dap_end.proofs.asking.AskingEnd.go_on.Goals as goal
 
 pub returns : goal.returns
@@ -14,4 +13,4 @@ returns c =
     let heard = asking_view c.self.inside in
     let hears = subst (λ v. HeardAll old v c.args.reports.now.items c.hear_all.new.reports.items) (sym c.self.view_is) c.in_ok-hear_all.ensures.ok in
     subst (WentOn end old _ (bodies c.args.out.now.items) (bodies c.emit_all.new.out.items)) (sym c.ended.ensures)
-    (went_by end old heard _ (bodies c.args.out.now.items) (bodies c.emit_all.new.out.items) c.emit_all.result hears refl (still_sent heard c.emit_all.new.self) c.emit_all.ensures.wrote c.emit_all.ensures.all c.emit_all.ensures.err)
+    (went_by end old heard _ (bodies c.args.out.now.items) (bodies c.emit_all.new.out.items) c.emit_all.result hears refl c.emit_all.ensures.wrote c.emit_all.ensures.all c.emit_all.ensures.err)
