@@ -20,16 +20,16 @@ use Rattle.dap_end.specs.declared.fault.TakeFault.{TakeFault}
 use Rattle.dap_end.specs.Ports.{gone_on, posted}
 use Rattle.dap_end.specs.Going.{StandFrom}
 use Rattle.dap_end.specs.Serving.{ServingValue, Past, IsAfter, ServedOne, PostedAll, answers_to}
-use Rattle.dap_end.specs.Taking.{ServedOn, begins, goes, ServedUp, IsServed, ServeFault, ServesAll, serves, GoesOn}
-use Rattle.dap_end.specs.Turns.{Takes}
+use Rattle.dap_end.specs.Taking.{ServedOn, begins, goes, ServedUp, IsServed, ServeFault, ServesAll, serves}
+use Rattle.dap_end.specs.Turns.{WentOn, Takes}
 use Rattle.dap_end.specs.Wanting.{is_want}
-use Rattle.dap_end.specs.Inner.Wanting.{took_wanting}
+use Rattle.dap_end.specs.Inner.Wanting.{went_wanting, took_wanting}
 use Rattle.dap_msg.proofs.ForCallers.{one_item}
 use Rattle.nsp_link.proofs.ForCallers.{may_queue_parts}
 use Rattle.dap_end.proofs.Taking.{grown}
 use Rattle.dap_end.proofs.Afterwards.{after_received, posted_is, posted_past}
 use Rattle.dap_end.proofs.Proceeding.{up_grew, fault_grew, still_sent}
-use Rattle.dap_end.proofs.Turning.{DoAlike, no_want, wants_none, did_apart, failed_same, went_same, took_same}
+use Rattle.dap_end.proofs.Turning.{DoAlike, no_want, went_same, took_same}
 use Rattle.dap_end.specs.Inner.ServingView.{with_port}
 
 -- ---- Lists.
@@ -211,24 +211,10 @@ serves_alike =
       quiet = λ a b. tt;
     }
 
-link_same : (f g : LinkFault) → end_fault.Link f ≡ end_fault.Link g → f ≡ g
-link_same f g e = cc
-
-pub going_one : (past : Past) (old one two : ServingValue) (out xs ys : List (List ℕ)) (r s : Result (Unit {0}) LinkFault) → IsAfter past old → r ≢ Err fault.NoMemory → s ≢ Err fault.NoMemory → GoesOn old one out xs r → GoesOn old two out ys s
+pub going_one : (past : Past) (old one two : ServingValue) (out xs ys : List (List ℕ)) (r s : Result (Unit {0}) EndFault) → IsAfter past old → went_wanting r ≡ false → went_wanting s ≡ false → WentOn serves old one out xs r → WentOn serves old two out ys s
     → (one ≡ two) × (r ≡ s) × (xs ≡ ys)
-going_one past old one two out xs ys (Ok u) (Ok w) h nr ns a b =
-    let t = went_same _ _ _ _ _ serves_alike old old one two out xs ys (Ok tt) (Ok tt) (past, h) refl refl refl a.0 b.0 in (t.0, refl, t.2)
-going_one past old one two out xs ys (Ok u) (Err g) h nr ns a b =
-    let n = wants_none g (λ k. ns (ap failed_by k)) in
-    absurd (did_apart (end_fault.Link g) (went_same _ _ _ _ _ serves_alike old old one two out xs ys (Ok tt) (Err (end_fault.Link g)) (past, h) refl refl n a.0 b).1)
-going_one past old one two out xs ys (Err f) (Ok w) h nr ns a b =
-    let n = wants_none f (λ k. nr (ap failed_by k)) in
-    absurd (did_apart (end_fault.Link f) (sym (went_same _ _ _ _ _ serves_alike old old one two out xs ys (Err (end_fault.Link f)) (Ok tt) (past, h) refl n refl a b.0).1))
-going_one past old one two out xs ys (Err f) (Err g) h nr ns a b =
-    let nf = wants_none f (λ k. nr (ap failed_by k)) in
-    let ng = wants_none g (λ k. ns (ap failed_by k)) in
-    let t = went_same _ _ _ _ _ serves_alike old old one two out xs ys (Err (end_fault.Link f)) (Err (end_fault.Link g)) (past, h) refl nf ng a b in
-    (t.0, ap failed_by (link_same f g (failed_same (end_fault.Link f) (end_fault.Link g) t.1)), t.2)
+going_one past old one two out xs ys r s h nr ns a b =
+    let t = went_same _ _ _ _ _ serves_alike old old one two out xs ys r s (past, h) refl nr ns a b in (t.0, t.1, t.2)
 
 pub taking_one : (past : Past) (old one two : ServingValue) (bytes : List ℕ) (r s : Result Got TakeFault) (out xs ys : List (List ℕ)) → AreBytes bytes → IsAfter past old → took_wanting r ≡ false → took_wanting s ≡ false
     → Takes serves old one bytes out xs r → Takes serves old two bytes out ys s → (one ≡ two) × (r ≡ s) × (xs ≡ ys)

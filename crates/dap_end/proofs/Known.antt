@@ -21,9 +21,9 @@ use Rattle.dap_end.specs.declared.fault.TakeFault.TheVariants as take_fault
 use Rattle.dap_end.specs.Ports.{PortValue, HasCome, with_link}
 use Rattle.dap_end.specs.Writing.{sent_more}
 use Rattle.dap_end.specs.Serving.{ServingValue, Past, IsAfter, ServedOne, PostedAll, nothing_yet}
-use Rattle.dap_end.specs.Turns.{WroteThen, TookIn, Takes}
+use Rattle.dap_end.specs.Turns.{WroteThen, TookIn, Takes, WentOn}
 use Rattle.dap_end.specs.Inner.Pasts.{Still}
-use Rattle.dap_end.specs.Taking.{ServedOn, begins, goes, ServedUp, ServeFault, serves, GoesOn}
+use Rattle.dap_end.specs.Taking.{ServedOn, begins, goes, ServedUp, ServeFault, serves}
 use Rattle.dap_end.proofs.Taking.{grown}
 use Rattle.dap_end.proofs.Afterwards.{after_received, posted_is, posted_past}
 use Rattle.dap_end.proofs.Proceeding.{still_by}
@@ -132,9 +132,9 @@ wrote_known old new out all wrote w n sent k =
       ],
     )
 
-pub going_known : (old new : ServingValue) (out all : List (List ℕ)) (r : Result (Unit {0}) LinkFault) → GoesOn old new out all r → IsKnown old → IsKnown new
-going_known old new out all (Ok u) h k = wrote_known old new out all _ h.0 _ h.0.wrote.2.0.sent k
-going_known old new out all (Err f) (inl h) k = fault_known old new (end_fault.Link f) h.0 k
+pub going_known : (old new : ServingValue) (out all : List (List ℕ)) (r : Result (Unit {0}) EndFault) → WentOn serves old new out all r → IsKnown old → IsKnown new
+going_known old new out all (Ok u) h k = wrote_known old new out all _ h _ h.wrote.2.0.sent k
+going_known old new out all (Err f) (inl h) k = fault_known old new f h.0 k
 going_known old new out all (Err f) (inr h) k = wrote_known old new out all _ h.1 _ h.1.wrote.2.0.sent k
 
 in_known : (old new : ServingValue) (bytes : List ℕ) (r : Result Got LinkFault) → TookIn serves old new bytes r → IsKnown old → IsKnown new

@@ -15,10 +15,12 @@ use Rattle.dap_end.specs.declared.fault.EndFault.TheVariants as end_fault
 use Rattle.dap_end.specs.Ports.{PortValue, posted}
 use Rattle.dap_end.specs.Serving.{ServingValue, Past, IsAfter, ServedOne, PostedAll, MayServe}
 use Rattle.dap_end.specs.Writing.{sent_more, Behind, WroteMore}
-use Rattle.dap_end.specs.Taking.{Grew, ServedMore, ServedOn, begins, goes, ServedUp, IsServed, ServeFault, serves, GoesOn}
+use Rattle.dap_end.specs.Taking.{Grew, ServedMore, ServedOn, begins, goes, ServedUp, IsServed, ServeFault, serves}
 use Rattle.dap_end.proofs.Afterwards.{posted_is, posted_past}
 use Rattle.dap_end.proofs.ServingOne.{port_given}
 use Rattle.dap_end.proofs.Turning.{went_by}
+use Rattle.dap_end.specs.Turns.{WentOn}
+use Rattle.std.specs.Result.{result_map_both}
 use Rattle.dap_end.specs.Inner.Pasts.{Still}
 use Rattle.dap_end.specs.Inner.ServingView.{with_port}
 use Rattle.nsp_link.proofs.ForCallers.{may_queue_parts}
@@ -186,7 +188,9 @@ served_still v port n e h = (ap (λ (p : PortValue). p.link.coming.inbox) e ∙ 
 
 -- all was served, and then segments were written
 pub gone_by : (old served : ServingValue) (port : PortValue) (out all : List (List ℕ)) (r : Result (Unit {0}) LinkFault) → ServedUp old served → IsServed served → Behind out all (WroteMore served.port port) → OnOk r (may_send port.link ≡ false)
-    → IfErr r (λ f. (f ≡ fault.NoMemory) × IsTrue (may_send port.link)) → GoesOn old (with_port served port) out all r
-gone_by old served port out all (Ok u) m d w full why =
-    (went_by serves old served (with_port served port) out all (Ok u) (m, d) refl w full why, served_still served port _ w.2.sent d)
+    → IfErr r (λ f. (f ≡ fault.NoMemory) × IsTrue (may_send port.link)) → WentOn serves old (with_port served port) out all (result_map_both (λ done. done) end_fault.Link r)
+gone_by old served port out all (Ok u) m d w full why = went_by serves old served (with_port served port) out all (Ok u) (m, d) refl w full why
 gone_by old served port out all (Err f) m d w full why = went_by serves old served (with_port served port) out all (Err f) (m, d) refl w full why
+
+pub gone_served : (old served : ServingValue) (port : PortValue) (out all : List (List ℕ)) → IsServed served → Behind out all (WroteMore served.port port) → IsServed (with_port served port)
+gone_served old served port out all d w = served_still served port _ w.2.sent d

@@ -58,10 +58,10 @@ done_by = Ok tt
 abbrev failed_by : EndFault → Result (Unit {0}) EndFault
 failed_by f = Err f
 
-pub did_apart : (f : EndFault) → done_by ≡ failed_by f → ⊥
+did_apart : (f : EndFault) → done_by ≡ failed_by f → ⊥
 did_apart f e = cc
 
-pub failed_same : (f g : EndFault) → failed_by f ≡ failed_by g → f ≡ g
+failed_same : (f g : EndFault) → failed_by f ≡ failed_by g → f ≡ g
 failed_same f g e = cc
 
 abbrev took : Got → Result Got TakeFault
@@ -76,10 +76,6 @@ unfinished got f = Err (take_fault.Unfinished got f)
 -- what is no want isn't this
 pub no_want : (f : LinkFault) → is_want (end_fault.Link f) ≡ false → f ≢ fault.NoMemory
 no_want f e k = true≢false (sym (ap (λ (x : LinkFault). is_want (end_fault.Link x)) k) ∙ e)
-
-pub wants_none : (f : LinkFault) → f ≢ fault.NoMemory → is_want (end_fault.Link f) ≡ false
-wants_none fault.NoMemory n = absurd (n refl)
-wants_none f n = refl
 
 -- a result in which memory wasn't wanting
 pub went_well : (r : Result (Unit {0}) EndFault) → IfErr r (λ f. is_want f ≡ false) → went_wanting r ≡ false

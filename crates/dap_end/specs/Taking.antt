@@ -8,7 +8,7 @@ use Rattle.nsp_link.specs.Sending.{SendAllFault}
 use Rattle.dap_end.specs.declared.fault.EndFault.{EndFault}
 use Rattle.dap_end.specs.declared.fault.EndFault.TheVariants as end_fault
 use Rattle.dap_end.specs.Writing.{Behind}
-use Rattle.dap_end.specs.Turns.{EndOf, WentOn}
+use Rattle.dap_end.specs.Turns.{EndOf}
 use Rattle.dap_end.specs.Serving.{ServingValue, Past, IsAfter, MayServe, PostedAll, ServedOne}
 
 -- ---- Serving all.
@@ -66,7 +66,3 @@ serves =
       stops = ServeFault;
       quiet = Unit {0};
     }
-
-abbrev pub GoesOn : (old new : ServingValue) → (out all : List (List ℕ)) → Result (Unit {0}) LinkFault → Type 0
-GoesOn old new out all (Ok done) = WentOn serves old new out all (Ok tt) × IsServed new
-GoesOn old new out all (Err f) = WentOn serves old new out all (Err (end_fault.Link f))

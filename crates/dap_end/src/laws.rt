@@ -160,9 +160,9 @@ pub fn serving_is_determined()
         → s ≢ Err fault.NoMemory → serving.ServesAll old one r → serving.ServesAll old two s
         → (one ≡ two) × (r ≡ s) }
     ensures go_on { (past : Past) (old one two : ServingValue) (out xs ys : List (List ℕ))
-        (r s : Result (Unit {0}) TheFault) → IsAfter past old → r ≢ Err fault.NoMemory
-        → s ≢ Err fault.NoMemory → serving.GoesOn old one out xs r
-        → serving.GoesOn old two out ys s → (one ≡ two) × (r ≡ s) × (xs ≡ ys) }
+        (r s : Result (Unit {0}) TheEndFault) → IsAfter past old → IfErr r (λ f. is_want f ≡ false)
+        → IfErr s (λ f. is_want f ≡ false) → WentOn serves old one out xs r
+        → WentOn serves old two out ys s → (one ≡ two) × (r ≡ s) × (xs ≡ ys) }
 {}
 
 /// A request that is asked, an answer that is read, and whatever an end that asks does by itself leave one end, one list of

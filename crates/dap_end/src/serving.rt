@@ -1,6 +1,7 @@
 //! The end that serves.
 
 ghost use Rattle.std.specs.Prelude.{◌≡◌, ◌≢◌, ◌≤◌, ◌<◌, ◌+◌, ◌-◌, ◌++◌, ◌∷◌, ℕ, [], Ok, Some, None, false, IfOk, IfErr, IfSome, OnOk, OnErr, IsErrOf, IsTrue, MatchOption};
+ghost use Rattle.std.specs.Result.{result_map_both};
 ghost use Rattle.dap_msg.specs.BothEnds.{least_buffer};
 ghost use Rattle.dap_msg.specs.Blocked.{bodies};
 ghost use Rattle.rec_file.specs.Shapes.{is_shape};
@@ -15,8 +16,8 @@ ghost use Rattle.dap_end.specs.Ports.{HasCome, new_port, with_link};
 ghost use Rattle.nsp_link.specs.Receiving.{Receives};
 ghost use Rattle.dap_end.specs.Writing.{WroteMore};
 ghost use Rattle.dap_end.specs.Serving.{Past, IsAfter, NotGiven, IsGiven, MayServe, ServedOne, PostedAll, nothing_yet};
-ghost use Rattle.dap_end.specs.Taking.{ServedUp, IsServed, ServeFault, GoesOn, serves};
-ghost use Rattle.dap_end.specs.Turns.{Answered, Takes};
+ghost use Rattle.dap_end.specs.Taking.{ServedUp, IsServed, ServeFault, serves};
+ghost use Rattle.dap_end.specs.Turns.{Answered, Takes, WentOn};
 ghost use Rattle.dap_end.specs.Inner.Answered.{ended_by};
 ghost use Rattle.dap_end.specs.declared.fault.EndFault.TheVariants as end_fault;
 ghost use Rattle.dap_end.specs.Inner.Kept.{IsPort};
@@ -241,7 +242,9 @@ impl ServingEnd {
     /// as the window allows, behind the packets in `out` (own). Refused as `post` is, or for want of memory. What was done
     /// before that stays done, and the same call goes on.
     pub fn go_on(&mut self, out: &mut Vec<Vec<u8>>) -> Result<(), LinkFault>
-        ensures { GoesOn self.old self.new (bodies out.old.items) (bodies out.new.items) result }
+        ensures went { WentOn serves self.old self.new (bodies out.old.items) (bodies out.new.items)
+            (result_map_both (λ done. done) end_fault.Link result) }
+        ensures served { OnOk result (IsServed self.new) }
     {
         self.serve_all()?;
         self.port.emit_all(out)

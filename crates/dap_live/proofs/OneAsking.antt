@@ -21,7 +21,6 @@ use Rattle.dap_end.specs.declared.fault.TakeFault.TheVariants as take
 use Rattle.dap_end.specs.Ports.{PortValue, new_port}
 use Rattle.dap_end.specs.Asking.{AskingValue, AskingPast, HasAsked, AskedOne, AreAlike, HasDone, asks, nothing_asked}
 use Rattle.dap_end.specs.Turns.{Takes}
-use Rattle.dap_end.specs.Inner.Wanting.{went_wanting}
 use Rattle.dap_end.proofs.ForCallers.{alike_of, alike_same, asked_past, has_sent, asking_one, going_alike, taking_alike}
 use Rattle.linewise.specs.declared.talking.Became.{Became}
 use Rattle.linewise.specs.declared.talking.Became.TheVariants.{Done, NoMemory}
@@ -36,12 +35,12 @@ use Rattle.dap_live.specs.declared.orders.Order.{Order}
 use Rattle.dap_live.specs.declared.orders.Order.TheVariants as order
 use Rattle.dap_live.specs.Orders.{order_of, setup_anew}
 use Rattle.dap_live.specs.Sending.{AllAgain, SaysAck, has_message, is_left, waits_of}
-use Rattle.dap_live.specs.Texts.{ask_refusal, end_refusal, link_refusal, packets_text, reports_text, taken_said}
+use Rattle.dap_live.specs.Texts.{ask_refusal, link_refusal, packets_text, reports_text, taken_said}
 use Rattle.dap_live.specs.Asking.{GoesOn, Resends, AsksIt, AsksNot, Asks, IsNew, OnEnd, Does, DoesAll, Ends, answered, waiting, came_by, goes_on}
 use Rattle.dap_live.specs.Both.{DoesOrder, Renews, Stays, TakesPacket, gone_said}
 use Rattle.dap_live.specs.Inner.Saying.{front_text}
 use Rattle.dap_live.specs.OneText.{AreSameAsking}
-use Rattle.dap_live.proofs.OneLine.{Fits, line_fits, all_again, ack_one, end_wants, taken_wants, setup_apart, setup_one, one_answer}
+use Rattle.dap_live.proofs.OneLine.{Fits, line_fits, all_again, ack_one, taken_wants, setup_apart, setup_one, one_answer, gone_wants}
 
 -- what became of a line
 abbrev outcome : Came → Became
@@ -91,10 +90,6 @@ packet_one old other one two bytes said more m n fits same nm nn (rx, x) (ry, y)
 
 -- ---- Going on.
 
-gone_wants : (r : Result (Unit {0}) EndFault) → (gone_said end_refusal r).1 ≢ NoMemory → went_wanting r ≡ false
-gone_wants (Ok done) want = refl
-gone_wants (Err f) want = end_wants f want
-
 going_same : (old other : AskingValue) (before : List Report) (front said more : List ℕ) (one two : Asking) (m n : Came) → HasDone old → AreAlike old other → outcome m ≢ NoMemory → outcome n ≢ NoMemory
     → GoesOn old before front one said m → GoesOn other before front two more n → One one two said more m n
 going_same old other before front said more one two m n d like nm nn x y =
@@ -103,10 +98,10 @@ going_same old other before front said more one two m n d like nm nn x y =
     let t = going_alike old other one.end two.end [] x.packets y.packets before one.reports.items two.reports.items x.gone y.gone d like wx wy x.went y.went in (
       t.0,
       t.3,
-      x.says ∙ ap (λ (r : Result (Unit {0}) EndFault). front ++ (reports_text one.reports.items ++ (packets_text x.packets ++ (gone_said end_refusal r).0))) t.1
-          ∙ ap (λ (l : List (List ℕ)). front ++ (reports_text one.reports.items ++ (packets_text l ++ (gone_said end_refusal y.gone).0))) t.2
-          ∙ ap (λ (l : List Report). front ++ (reports_text l ++ (packets_text y.packets ++ (gone_said end_refusal y.gone).0))) t.3 ∙ sym y.says,
-      x.ended ∙ ap (λ (r : Result (Unit {0}) EndFault). Told ((gone_said end_refusal r).1)) t.1 ∙ sym y.ended,
+      x.says ∙ ap (λ (r : Result (Unit {0}) EndFault). front ++ (reports_text one.reports.items ++ (packets_text x.packets ++ (gone_said r).0))) t.1
+          ∙ ap (λ (l : List (List ℕ)). front ++ (reports_text one.reports.items ++ (packets_text l ++ (gone_said y.gone).0))) t.2
+          ∙ ap (λ (l : List Report). front ++ (reports_text l ++ (packets_text y.packets ++ (gone_said y.gone).0))) t.3 ∙ sym y.says,
+      x.ended ∙ ap (λ (r : Result (Unit {0}) EndFault). Told ((gone_said r).1)) t.1 ∙ sym y.ended,
       t.4,
     )
 

@@ -21,7 +21,7 @@ use Rattle.dap_end.specs.declared.fault.EndFault.TheVariants as end
 use Rattle.dap_end.specs.declared.fault.TakeFault.{TakeFault}
 use Rattle.dap_end.specs.declared.fault.TakeFault.TheVariants as take
 use Rattle.dap_end.specs.Wanting.{is_want}
-use Rattle.dap_end.specs.Inner.Wanting.{took_wanting}
+use Rattle.dap_end.specs.Inner.Wanting.{went_wanting, took_wanting}
 use Rattle.dap_text.specs.Words.{Words, ends, field, hex_of, is_hex_text, long, one_of, word, words_of}
 use Rattle.dap_text.specs.Filed.{file_of, record_of}
 use Rattle.dap_text.specs.Requests.{request_of}
@@ -36,6 +36,7 @@ use Rattle.dap_live.specs.declared.orders.Order.TheVariants as order
 use Rattle.dap_live.specs.Orders.{address_of, anew_of, between_of, order_forms, order_of, packet_of}
 use Rattle.dap_live.specs.Sending.{AllAgain, SaysAck}
 use Rattle.dap_accessing.specs.declared.report.Report.{Report}
+use Rattle.dap_live.specs.Both.{gone_said}
 use Rattle.dap_live.specs.Texts.{end_refusal, link_refusal, packet_text, taken_said}
 
 -- ---- A packet's line says bytes.
@@ -174,6 +175,10 @@ pub end_wants : (f : EndFault) → (end_refusal f).1 ≢ NoMemory → is_want f 
 end_wants (end.Link f) want = link_wants f want
 end_wants (end.Read read.NoMemory) want = absurd (want refl)
 end_wants (end.Read f) want = refl
+
+pub gone_wants : (r : Result (Unit {0}) EndFault) → (gone_said r).1 ≢ NoMemory → went_wanting r ≡ false
+gone_wants (Ok done) want = refl
+gone_wants (Err f) want = end_wants f want
 
 pub taken_wants : (r : Result Got TakeFault) (reports : List Report) (packets : List (List ℕ)) → (taken_said r reports packets).1 ≢ NoMemory → took_wanting r ≡ false
 taken_wants (Ok got) reports packets want = refl

@@ -20,7 +20,8 @@ use Rattle.dap_accessed.specs.Adding.{IsFresh, IsLate, MayAdd, MayAddRecord, Add
 use Rattle.dap_end.specs.declared.fault.TakeFault.{TakeFault}
 use Rattle.dap_end.specs.Ports.{PortValue, HasCome, new_port}
 use Rattle.dap_end.specs.Serving.{ServingValue, Past, IsAfter, NotGiven, nothing_yet}
-use Rattle.dap_end.specs.Taking.{GoesOn as Went, serves}
+use Rattle.dap_end.specs.Taking.{serves}
+use Rattle.dap_end.specs.declared.fault.EndFault.{EndFault}
 use Rattle.dap_end.proofs.ForCallers.{going_one, taking_one, new_known, going_known, taking_known}
 use Rattle.dap_text.specs.declared.filed.FileLine.{FileLine}
 use Rattle.dap_text.specs.declared.filed.RecordLine.{RecordLine}
@@ -40,7 +41,7 @@ use Rattle.dap_live.specs.Serving.{Resends, IsNew, Added, AddsFile, AddsRecord, 
 use Rattle.dap_live.specs.Both.{DoesOrder, Renews, SaysGone, Stays, TakesPacket, gone_said}
 use Rattle.dap_live.specs.Inner.Saying.{AddsShaped}
 use Rattle.dap_live.specs.OneText.{HasServed, AreSameServing}
-use Rattle.dap_live.proofs.OneLine.{Fits, line_fits, all_again, ack_one, taken_wants, setup_apart, setup_one, one_answer}
+use Rattle.dap_live.proofs.OneLine.{Fits, line_fits, all_again, ack_one, gone_wants, taken_wants, setup_apart, setup_one, one_answer}
 
 -- what a call leaves and says: one end, which did something through its calls, one text, and one outcome
 abbrev One : (one two : ServingValue) → (said more : List ℕ) → (b c : Became) → Type 0
@@ -62,11 +63,8 @@ packet_one end one two bytes said more b c fits k nb nc x y =
 
 -- ---- Going on.
 
-gone_want : (r : Result (Unit {0}) LinkFault) → (gone_said link_refusal r).1 ≢ NoMemory → r ≢ Err fault.NoMemory
-gone_want r want e = want (ap (λ k. (gone_said link_refusal k).1) e)
-
 abbrev GoesOn : ServingValue → List ℕ → ServingValue → List ℕ → Became → Type 0
-GoesOn old front new text became = SaysGone (Went old new []) link_refusal (λ became. became) front [] text became
+GoesOn old front new text became = SaysGone serves [] (λ became. became) old front new text became
 
 abbrev GoesOnIf : Bool → ServingValue → List ℕ → ServingValue → List ℕ → Became → Type 0
 GoesOnIf left old front new text became = MatchBool left (GoesOn old front new text became) (Stays Done old new became × (text ≡ front))
@@ -74,11 +72,11 @@ GoesOnIf left old front new text became = MatchBool left (GoesOn old front new t
 going_same : (end one two : ServingValue) (front said more : List ℕ) (b c : Became) → HasServed end → b ≢ NoMemory → c ≢ NoMemory
     → GoesOn end front one said b → GoesOn end front two more c → One one two said more b c
 going_same end one two front said more b c k nb nc x y =
-    let t = going_one k.0 end one two [] x.packets y.packets x.gone y.gone k.1 (gone_want x.gone (λ e. nb (x.ended ∙ e))) (gone_want y.gone (λ e. nc (y.ended ∙ e))) x.went y.went in (
+    let t = going_one k.0 end one two [] x.packets y.packets x.gone y.gone k.1 (gone_wants x.gone (λ e. nb (x.ended ∙ e))) (gone_wants y.gone (λ e. nc (y.ended ∙ e))) x.went y.went in (
       t.0,
-      x.says ∙ ap (λ (r : Result (Unit {0}) LinkFault). front ++ (packets_text x.packets ++ (gone_said link_refusal r).0)) t.1
-          ∙ ap (λ (l : List (List ℕ)). front ++ (packets_text l ++ (gone_said link_refusal y.gone).0)) t.2 ∙ sym y.says,
-      x.ended ∙ ap (λ k. (gone_said link_refusal k).1) t.1 ∙ sym y.ended,
+      x.says ∙ ap (λ (r : Result (Unit {0}) EndFault). front ++ (packets_text x.packets ++ (gone_said r).0)) t.1
+          ∙ ap (λ (l : List (List ℕ)). front ++ (packets_text l ++ (gone_said y.gone).0)) t.2 ∙ sym y.says,
+      x.ended ∙ ap (λ k. (gone_said k).1) t.1 ∙ sym y.ended,
       going_known end one [] x.packets x.gone x.went k,
     )
 

@@ -11,7 +11,6 @@ use Rattle.dap_accessing.specs.Calls.{AskRefused}
 use Rattle.dap_end.specs.declared.fault.TakeFault.{TakeFault}
 use Rattle.dap_end.specs.declared.fault.TakeFault.TheVariants as take
 use Rattle.dap_end.specs.Asking.{AskingValue, AskedOne, HasAsked, asks, nothing_asked}
-use Rattle.dap_end.specs.Turns.{WentOn}
 use Rattle.linewise.specs.declared.talking.Became.{Became}
 use Rattle.linewise.specs.declared.talking.Became.TheVariants.{Done, BadLine}
 use Rattle.dap_live.specs.declared.asking.Asking.{Asking}
@@ -23,7 +22,7 @@ use Rattle.dap_live.specs.declared.orders.Order.TheVariants as order
 use Rattle.dap_live.specs.Orders.{order_of, setup_anew}
 use Rattle.dap_live.specs.Sending.{AllAgain, SaysAck, UnlessFailed, has_message, is_left, waits_of}
 use Rattle.dap_text.specs.Text.{line_feed}
-use Rattle.dap_live.specs.Texts.{ask_refusal, end_refusal, packets_text, reports_text}
+use Rattle.dap_live.specs.Texts.{ask_refusal, packets_text, reports_text}
 use Rattle.dap_live.specs.Both.{DoesOrder, IsSetUp, Renews, SaysGone, Stays, TakesPacket}
 
 -- only the end moved, and reports came
@@ -42,7 +41,7 @@ came_by _ became = Told became
 -- This is said first, and then what going on comes to.
 abbrev pub GoesOn : (old : AskingValue) → (before : List Report) → (front : List ℕ) → Asking → List ℕ → Came → Type 0
 GoesOn old before front new text came =
-    SaysGone (WentOn (asks before new.reports.items) old new.end []) end_refusal Told front new.reports.items text came
+    SaysGone (asks before new.reports.items) new.reports.items Told old front new.end text came
 
 -- The end would do something by going on, memory aside. What came is read before what waits is handed over, and an end that
 -- an unexpected answer failed does nothing more.

@@ -5,13 +5,14 @@ use Rattle.nsp_link.specs.declared.link.LinkSetup.{LinkSetup}
 use Rattle.nsp_link.specs.declared.fault.LinkFault.{LinkFault}
 use Rattle.nsp_link.specs.Link.{IsSetup, SetupFault}
 use Rattle.dap_accessing.specs.declared.report.Report.{Report}
+use Rattle.dap_end.specs.declared.fault.EndFault.{EndFault}
 use Rattle.dap_end.specs.declared.fault.TakeFault.{TakeFault}
 use Rattle.dap_end.specs.Ports.{PortValue, new_port}
-use Rattle.dap_end.specs.Turns.{EndOf, Takes}
+use Rattle.dap_end.specs.Turns.{EndOf, Takes, WentOn}
 use Rattle.linewise.specs.declared.talking.Became.{Became}
 use Rattle.linewise.specs.declared.talking.Became.TheVariants.{Done, BadLine, NoMemory}
 use Rattle.dap_live.specs.declared.orders.Order.{Order}
-use Rattle.dap_live.specs.Texts.{LineAnswer, link_refusal, packets_text, reports_text, taken_said}
+use Rattle.dap_live.specs.Texts.{LineAnswer, end_refusal, link_refusal, packets_text, reports_text, taken_said}
 
 -- A packet was taken in, and all done that it lets the end do, or it was refused; the answer has these reports.
 pub record TakesPacket {V C : Type 0} (end : EndOf V) (reports : List Report) (ends : Result Got TakeFault → Became → C)
@@ -25,18 +26,18 @@ pub record TakesPacket {V C : Type 0} (end : EndOf V) (reports : List Report) (e
 -- ---- Going on.
 
 -- what is said last
-abbrev pub gone_said : {F : Type 0} → (refusal : F → LineAnswer) → Result (Unit {0}) F → LineAnswer
-gone_said refusal (Ok done) = ([], Done)
-gone_said refusal (Err f) = refusal f
+abbrev pub gone_said : Result (Unit {0}) EndFault → LineAnswer
+gone_said (Ok done) = ([], Done)
+gone_said (Err f) = end_refusal f
 
 -- What an end says by going on, behind this front: the reports, the packets, and why not all was done.
-pub record SaysGone {F C : Type 0} (Went : List (List ℕ) → Result (Unit {0}) F → Type 0) (refusal : F → LineAnswer)
-    (ends : Became → C) (front : List ℕ) (reports : List Report) (text : List ℕ) (came : C) : Type 0 where
-  pub gone : Result (Unit {0}) F
+pub record SaysGone {V C : Type 0} (end : EndOf V) (reports : List Report) (ends : Became → C)
+    (old : V) (front : List ℕ) (new : V) (text : List ℕ) (came : C) : Type 0 where
+  pub gone : Result (Unit {0}) EndFault
   pub packets : List (List ℕ)
-  pub went : Went packets gone
-  pub says : text ≡ front ++ (reports_text reports ++ (packets_text packets ++ (gone_said refusal gone).0))
-  pub ended : came ≡ ends (gone_said refusal gone).1
+  pub went : WentOn end old new [] packets gone
+  pub says : text ≡ front ++ (reports_text reports ++ (packets_text packets ++ (gone_said gone).0))
+  pub ended : came ≡ ends (gone_said gone).1
 
 -- ---- A new link.
 

@@ -8,7 +8,7 @@ use Rattle.dap_accessed.specs.declared.fault.AddFault.{AddFault}
 use Rattle.nsp_link.specs.declared.link.LinkSetup.{LinkSetup}
 use Rattle.dap_end.specs.Ports.{HasCome}
 use Rattle.dap_end.specs.Serving.{ServingValue, IsAfter, IsGiven, NotGiven, nothing_yet}
-use Rattle.dap_end.specs.Taking.{GoesOn as Went, serves}
+use Rattle.dap_end.specs.Taking.{serves}
 use Rattle.linewise.specs.declared.talking.Became.{Became}
 use Rattle.linewise.specs.declared.talking.Became.TheVariants.{Done, BadLine}
 use Rattle.dap_text.specs.declared.filed.FileLine.{FileLine}
@@ -19,7 +19,7 @@ use Rattle.dap_live.specs.declared.orders.Order.{Order}
 use Rattle.dap_live.specs.declared.orders.Order.TheVariants as order
 use Rattle.dap_live.specs.Orders.{order_of, setup_anew}
 use Rattle.dap_live.specs.Sending.{AllAgain, SaysAck, UnlessFailed, is_left, waits_of}
-use Rattle.dap_live.specs.Texts.{add_refusal, link_refusal, packets_text, status_line}
+use Rattle.dap_live.specs.Texts.{add_refusal, packets_text, status_line}
 use Rattle.dap_live.specs.Both.{DoesOrder, IsSetUp, Renews, SaysGone, Stays, TakesPacket}
 
 -- ---- Going on.
@@ -28,7 +28,7 @@ use Rattle.dap_live.specs.Both.{DoesOrder, IsSetUp, Renews, SaysGone, Stays, Tak
 abbrev pub Resends : ServingValue → ServingValue → List ℕ → Became → Type 0
 Resends old new text became = (packets : List (List ℕ)) × AllAgain old.port.link packets
     × MatchBool (is_left old.port.link old.port.outbox)
-    (SaysGone (Went old new []) link_refusal (λ became. became) (packets_text packets) [] text became)
+    (SaysGone serves [] (λ became. became) old (packets_text packets) new text became)
     (Stays Done old new became × (text ≡ packets_text packets))
 
 -- ---- A new link.

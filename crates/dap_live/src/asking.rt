@@ -17,8 +17,7 @@ ghost use Rattle.dap_live.specs.Inner.Saying.{front_text};
 use crate::orders::{Anew, Order, read_order, set_up};
 use crate::sending::{has_message, is_left, push_again, say_ack, waits};
 use crate::texts::{
-    push_ask_refusal, push_end_refusal, push_link_refusal, push_packets, push_refused,
-    push_reports, push_taken,
+    push_ask_refusal, push_gone, push_link_refusal, push_refused, push_reports, push_taken,
 };
 use dap_accessing::{AskFault, Report, Request};
 use dap_end::{AskingEnd, EndFault, TakeFault};
@@ -126,24 +125,19 @@ fn go_on(
     end.go_on(packets, reports)
 }
 
-/// What going on came to.
-fn push_gone(
+/// What going on came to, behind the reports.
+fn push_told(
     text: &mut Vec<u8>,
     gone: Result<(), EndFault>,
     reports: &Vec<Report>,
     packets: &Vec<Vec<u8>>,
 ) -> Result<Came, AllocError>
     ensures text { OnOk result (Adds text.old text.new (reports_text reports.now.items
-        ++ (packets_text (bodies packets.now.items) ++ (gone_said end_refusal gone).0))) }
-    ensures came { IfOk result (λ came. came ≡ Came.Told (gone_said end_refusal gone).1) }
+        ++ (packets_text (bodies packets.now.items) ++ (gone_said gone).0))) }
+    ensures came { IfOk result (λ came. came ≡ Came.Told (gone_said gone).1) }
 {
     push_reports(text, reports)?;
-    push_packets(text, packets)?;
-    let became = match gone {
-        Ok(()) => Became::Done,
-        Err(fault) => push_end_refusal(text, fault)?,
-    };
-    Ok(Came::Told(became))
+    Ok(Came::Told(push_gone(text, gone, packets)?))
 }
 
 /// What is said before what going on comes to.
@@ -180,7 +174,7 @@ fn go_on_behind(asking: &mut Asking, front: Front, text: &mut Vec<u8>) -> Result
     let mut packets = Vec::new(asking.alloc);
     let gone = go_on(&mut asking.end, &mut packets, &mut asking.reports);
     push_front(text, front)?;
-    push_gone(text, gone, &asking.reports, &packets)
+    push_told(text, gone, &asking.reports, &packets)
 }
 
 /// Whether an unexpected answer failed the end.
@@ -207,7 +201,7 @@ fn go_on_again(asking: &mut Asking, text: &mut Vec<u8>) -> Result<Came, AllocErr
 {
     let mut packets = Vec::new(asking.alloc);
     let gone = go_on(&mut asking.end, &mut packets, &mut asking.reports);
-    push_gone(text, gone, &asking.reports, &packets)
+    push_told(text, gone, &asking.reports, &packets)
 }
 
 /// Goes on where something is left, or tells the reports that wait.

@@ -6,22 +6,21 @@ ghost use Rattle.dap_msg.specs.Blocked.{bodies};
 ghost use Rattle.nsp_link.specs.Link.{SetupFault};
 ghost use Rattle.dap_end.specs.Ports.{new_port};
 ghost use Rattle.dap_end.specs.Serving.{IsAfter, nothing_yet};
-ghost use Rattle.dap_end.specs.Taking.{GoesOn as Went, serves};
-ghost use Rattle.dap_end.specs.Turns.{Takes};
+ghost use Rattle.dap_end.specs.Taking.{serves};
+ghost use Rattle.dap_end.specs.Turns.{Takes, WentOn};
 ghost use Rattle.dap_text.specs.Adding.{Adds};
 ghost use Rattle.dap_text.specs.Tables.{files_text};
 ghost use Rattle.rec_file.specs.Shapes.{is_shape};
 ghost use Rattle.linewise.specs.declared.talking.Became.{Became as TheBecame};
 ghost use Rattle.dap_live.specs.Sending.{UnlessFailed, is_left as is_left_of};
-ghost use Rattle.dap_live.specs.Texts.{link_refusal, packets_text};
-ghost use Rattle.dap_live.specs.Both.{DoesOrder, Reaches, SaysGone, Stays, TakesPacket, gone_said};
-ghost use Rattle.dap_live.specs.Inner.Saying.{AddsSaid, AddsShaped};
+ghost use Rattle.dap_live.specs.Both.{DoesOrder, Reaches, SaysGone, Stays, TakesPacket};
+ghost use Rattle.dap_live.specs.Inner.Saying.{AddsShaped};
 ghost use Rattle.dap_live.specs.Serving.{AddsFile, AddsRecord, Does, Resends};
 
 use crate::orders::{Anew, Order, read_order, set_up};
 use crate::sending::{is_left, push_again, say_ack, waits};
-use crate::texts::{push_add_refusal, push_link_refusal, push_packets, push_status, push_taken};
-use dap_end::{ServingEnd, TakeFault};
+use crate::texts::{push_add_refusal, push_gone, push_link_refusal, push_status, push_taken};
+use dap_end::{EndFault, ServingEnd, TakeFault};
 use dap_msg::codes::{ACCESS_REFUSED, REASON_BAD_ATTRIBUTES};
 use dap_text::{FileLine, RecordLine, Text, push_files};
 use linewise::{Answers, Became};
@@ -83,28 +82,13 @@ fn take_packet(
 }
 
 /// Serves, hands over and writes what is left.
-fn go_on(end: &mut ServingEnd, packets: &mut Vec<Vec<u8>>) -> Result<(), LinkFault>
+fn go_on(end: &mut ServingEnd, packets: &mut Vec<Vec<u8>>) -> Result<(), EndFault>
     requires { packets.old.items ≡ [] }
-    ensures { Went end.old end.new [] (bodies packets.new.items) result }
+    ensures { WentOn serves end.old end.new [] (bodies packets.new.items) result }
 {
-    end.go_on(packets)
-}
-
-/// What going on came to.
-fn push_gone(
-    text: &mut Vec<u8>,
-    gone: Result<(), LinkFault>,
-    packets: &Vec<Vec<u8>>,
-) -> Result<Became, AllocError>
-    ensures { IfOk result (AddsSaid text.old text.new (
-      packets_text (bodies packets.now.items) ++ (gone_said link_refusal gone).0,
-      (gone_said link_refusal gone).1,
-    )) }
-{
-    push_packets(text, packets)?;
-    match gone {
-        Ok(()) => Ok(Became::Done),
-        Err(fault) => push_link_refusal(text, fault),
+    match end.go_on(packets) {
+        Ok(()) => Ok(()),
+        Err(fault) => Err(EndFault::Link(fault)),
     }
 }
 
@@ -114,11 +98,10 @@ fn go_on_behind(
     end: &mut ServingEnd,
     text: &mut Vec<u8>,
 ) -> Result<Became, AllocError>
-    ensures ok { IfOk result (SaysGone (Went end.old end.new []) link_refusal (λ became. became)
-        text.old.items [] text.new.items) }
+    ensures ok { IfOk result (SaysGone serves [] (λ became. became) end.old text.old.items
+        end.new text.new.items) }
     ensures err { OnErr result ((said : List ℕ) × (became : TheBecame)
-        × SaysGone (Went end.old end.new []) link_refusal (λ became. became) text.old.items []
-        said became) }
+        × SaysGone serves [] (λ became. became) end.old text.old.items end.new said became) }
 {
     let mut packets = Vec::new(alloc);
     let gone = go_on(end, &mut packets);
@@ -140,13 +123,11 @@ fn go_on_if_left(
 ) -> Result<Became, AllocError>
     ensures ok { IfOk result (λ became.
         MatchBool (is_left_of end.old.port.link end.old.port.outbox)
-        (SaysGone (Went end.old end.new []) link_refusal (λ became. became) text.old.items []
-        text.new.items became)
+        (SaysGone serves [] (λ became. became) end.old text.old.items end.new text.new.items became)
         (Stays Became.Done end.old end.new became × (text.new.items ≡ text.old.items))) }
     ensures err { OnErr result ((said : List ℕ) × (became : TheBecame)
         × MatchBool (is_left_of end.old.port.link end.old.port.outbox)
-        (SaysGone (Went end.old end.new []) link_refusal (λ became. became) text.old.items []
-        said became)
+        (SaysGone serves [] (λ became. became) end.old text.old.items end.new said became)
         (Stays Became.Done end.old end.new became × (said ≡ text.old.items))) }
 {
     if is_behind(end) {

@@ -5,6 +5,7 @@ ghost use Rattle.dap_msg.specs.Blocked.{bodies};
 ghost use Rattle.nsp_link.specs.declared.fault.LinkFault.TheVariants as fault;
 ghost use Rattle.dap_text.specs.Adding.{Adds};
 ghost use Rattle.dap_live.specs.Texts.{add_refusal, ask_refusal, end_refusal, got_line, link_refusal, packet_text, packets_text, read_refusal, refused, refused_line, reports_text, report_line, status_line, taken_said};
+ghost use Rattle.dap_live.specs.Both.{gone_said};
 ghost use Rattle.dap_live.specs.Inner.Saying.{AddsSaid};
 
 use dap_accessed::{AddFault, reason_number};
@@ -29,7 +30,7 @@ pub(crate) fn push_packet(text: &mut Vec<u8>, packet: &[u8]) -> Result<(), Alloc
 }
 
 /// The lines of packets to send.
-pub(crate) fn push_packets(text: &mut Vec<u8>, packets: &Vec<Vec<u8>>) -> Result<(), AllocError>
+fn push_packets(text: &mut Vec<u8>, packets: &Vec<Vec<u8>>) -> Result<(), AllocError>
     ensures { OnOk result (Adds text.old text.new (packets_text (bodies packets.now.items))) }
 {
     for packet in packets.iter() {
@@ -120,12 +121,30 @@ fn push_read_refusal(text: &mut Vec<u8>, fault: ReadFault) -> Result<Became, All
 }
 
 /// Says why an end didn't do all that there was to do.
-pub(crate) fn push_end_refusal(text: &mut Vec<u8>, fault: EndFault) -> Result<Became, AllocError>
+fn push_end_refusal(text: &mut Vec<u8>, fault: EndFault) -> Result<Became, AllocError>
     ensures { IfOk result (AddsSaid text.old text.new (end_refusal fault)) }
 {
     match fault {
         EndFault::Link(fault) => push_link_refusal(text, fault),
         EndFault::Read(fault) => push_read_refusal(text, fault),
+    }
+}
+
+/// Says what going on came to: its packets, and why not all was done.
+pub(crate) fn push_gone(
+    text: &mut Vec<u8>,
+    gone: Result<(), EndFault>,
+    packets: &Vec<Vec<u8>>,
+) -> Result<Became, AllocError>
+    ensures { IfOk result (AddsSaid text.old text.new (
+      packets_text (bodies packets.now.items) ++ (gone_said gone).0,
+      (gone_said gone).1,
+    )) }
+{
+    push_packets(text, packets)?;
+    match gone {
+        Ok(()) => Ok(Became::Done),
+        Err(fault) => push_end_refusal(text, fault),
     }
 }
 

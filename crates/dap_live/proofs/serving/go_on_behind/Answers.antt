@@ -1,6 +1,6 @@
 use Rattle.std.proofs.Common.{refl, ◌++◌}
 use Rattle.dap_msg.specs.Blocked.{bodies}
-use Rattle.dap_live.specs.Texts.{link_refusal, packets_text}
+use Rattle.dap_live.specs.Texts.{packets_text}
 use Rattle.dap_live.specs.Both.{gone_said}
 use Rattle.dap_live.proofs.ResultLemmas.{err_always}
 use Rattle.dap_live.proofs.serving.go_on_behind.Goals as goal
@@ -10,7 +10,7 @@ returns-clause-err c =
     let gone = c.go_on-gone.result in
     let packets = bodies c.go_on-gone.new.packets.items in
     err_always c.push_gone.result (
-      c.args.text.now.items ++ (packets_text packets ++ (gone_said link_refusal gone).0),
-      (gone_said link_refusal gone).1,
+      c.args.text.now.items ++ (packets_text packets ++ (gone_said gone).0),
+      (gone_said gone).1,
       record { gone = gone; packets = packets; went = c.go_on-gone.ensures; says = refl; ended = refl },
     )

@@ -5,7 +5,7 @@ use Rattle.dap_end.specs.Inner.ServingInside.{serving_view}
 use Rattle.dap_end.proofs.Proceeding.{gone_by}
 use Rattle.dap_end.proofs.serving.ServingEnd.go_on.Goals as goal
 
-pub returns : goal.returns
-returns c =
+pub returns-clause-went : goal.returns-clause-went
+returns-clause-went c =
     gone_by c.args.self.now (serving_view c.self.inside) c.emit_all.new.self (bodies c.args.out.now.items) (bodies c.emit_all.new.out.items) c.emit_all.result
     (subst (ServedUp c.args.self.now) (sym c.self.view_is) c.in_ok-serve_all.ensures.ok) (subst IsServed (sym c.self.view_is) c.in_ok-serve_all.ensures.all) c.emit_all.ensures.wrote c.emit_all.ensures.all c.emit_all.ensures.err
