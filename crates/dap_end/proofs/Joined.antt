@@ -157,9 +157,9 @@ new_way : (s t : LinkSetup) → AreOpposite s t → IsWay (new_link s) (new_link
 new_way s t o =
     record {
       positive = omega (arith, o.good.0);
-      there = o.there;
-      back = o.back;
-      limit = o.limit;
+      there = sym (ap (λ (x : LinkSetup). x.remote) o.facing);
+      back = sym (ap (λ (x : LinkSetup). x.local) o.facing);
+      limit = sym (ap (λ (x : LinkSetup). x.max_message) o.facing);
       stands = stands_new t s.seg_size [];
       short = none_short (new_link t);
       packets = tt;
@@ -172,7 +172,15 @@ new_way s t o =
     }
 
 turned : (s t : LinkSetup) → AreOpposite s t → AreOpposite t s
-turned s t o = record { good = o.other_good; other_good = o.good; there = sym o.back; back = sym o.there; limit = sym o.limit }
+turned s t o =
+    record {
+      good = o.other_good;
+      other_good = o.good;
+      facing =
+          ap (λ (x : ℕ). record s { local = x }) (sym (ap (λ (x : LinkSetup). x.remote) o.facing))
+          ∙ ap (λ (x : ℕ). record s { local = t.remote; remote = x }) (sym (ap (λ (x : LinkSetup). x.local) o.facing))
+          ∙ ap (λ (x : ℕ). record s { local = t.remote; remote = t.local; max_message = x }) (sym (ap (λ (x : LinkSetup). x.max_message) o.facing));
+    }
 
 pub new_pair : (s t : LinkSetup) (first : Files) (p : Pair) → AreOpposite s t → AreNew s t first p → IsLinked first p
 new_pair s t first p o n =

@@ -25,13 +25,11 @@ pub record Pair : Type 0 where
   pub requests : List Request
   pub reports : List Report
 
--- the setups of the two ends of one link
+-- the setups of the two ends of one link: but for their segments and windows they differ in the addresses, exchanged
 pub record AreOpposite (s t : LinkSetup) : Type 0 where
   pub good : IsSetup s
   pub other_good : IsSetup t
-  pub there : s.local ≡ t.remote
-  pub back : s.remote ≡ t.local
-  pub limit : s.max_message ≡ t.max_message
+  pub facing : t ≡ record s { local = s.remote; remote = s.local; seg_size = t.seg_size; window = t.window }
 
 -- both are new, the one that serves with these files
 pub record AreNew (s t : LinkSetup) (first : Files) (p : Pair) : Type 0 where
