@@ -17,7 +17,7 @@ use Rattle.dap_end.specs.Ports.{PortValue}
 use Rattle.dap_end.specs.Writing.{wants_ack, WroteMore, Behind}
 use Rattle.dap_end.specs.Asking.{AskingValue, AskedOne, HandedAll, ReadOne, begins, goes as reads_first, ReadOn, HeardAll, HearFault, ReadNone, ReadPart, asks}
 use Rattle.dap_end.specs.Turns.{WroteThen, WentOn, TookIn, TookThen}
-use Rattle.dap_end.specs.Headline.{Written, numbered, bytes_of, Came, GoesOn, Again, Acks, AnyBytes}
+use Rattle.dap_end.specs.Headline.{Written, numbered, bytes_of, Came, GoesOn, Repeats, AnyBytes}
 use Rattle.dap_end.specs.Hearing.{AskingEvent, Asks, By, AskingStepped, AskingRuns, AreAskingCalls}
 use Rattle.dap_end.proofs.Packets.{ack_written}
 use Rattle.dap_end.proofs.Emitting.{wrote_nothing}
@@ -42,15 +42,15 @@ pub writing_is : (old new : AskingValue) (bytes : List ℕ) → new ≡ record o
 writing_is old new bytes rest w = one_event old new (By GoesOn) [] _ ((old, bytes ∷ [], (old, ([], refl, begins), inl refl), w, rest, refl), refl)
 
 pub again_is : (v : AskingValue) (i : ℕ) (bytes : List ℕ) → i < v.port.link.sent - v.port.link.acked → WritesSent v.port.link (Some (v.port.link.acked + 1 + i)) bytes
-    → AskingRuns AnyBytes v (By (Again i) ∷ []) v [] (record { bytes = bytes; segment = Some (v.port.link.acked + 1 + i); acks = v.port.link.coming.received } ∷ [])
-again_is v i bytes lt w = one_event v v (By (Again i)) [] _ ((record { bytes = bytes; segment = Some (v.port.link.acked + 1 + i); acks = v.port.link.coming.received }, lt, (refl, refl, w), refl, refl, refl), refl)
+    → AskingRuns AnyBytes v (By (Repeats (Some i)) ∷ []) v [] (record { bytes = bytes; segment = Some (v.port.link.acked + 1 + i); acks = v.port.link.coming.received } ∷ [])
+again_is v i bytes lt w = one_event v v (By (Repeats (Some i))) [] _ ((record { bytes = bytes; segment = Some (v.port.link.acked + 1 + i); acks = v.port.link.coming.received }, lt, (refl, refl, w), refl, refl, refl), refl)
 
 ack_step : (v : AskingValue) (reports : List Report) (before : List Written) (bytes : List ℕ) → IsSpelling (ack_packet_of v.port.link) bytes
-    → (let w : Written = record { bytes = bytes; segment = None; acks = v.port.link.coming.received } in AskingStepped AnyBytes (v, reports, before) (By Acks) (w ∷ []) (v, reports, before ++ w ∷ []))
-ack_step v reports before bytes s = ((record { bytes = bytes; segment = None; acks = v.port.link.coming.received }, (refl, refl, ack_written v.port.link bytes s), refl, refl, refl), refl)
+    → (let w : Written = record { bytes = bytes; segment = None; acks = v.port.link.coming.received } in AskingStepped AnyBytes (v, reports, before) (By (Repeats None)) (w ∷ []) (v, reports, before ++ w ∷ []))
+ack_step v reports before bytes s = ((record { bytes = bytes; segment = None; acks = v.port.link.coming.received }, tt, (refl, refl, ack_written v.port.link bytes s), refl, refl, refl), refl)
 
-pub ack_is : (v : AskingValue) (bytes : List ℕ) → IsSpelling (ack_packet_of v.port.link) bytes → AskingRuns AnyBytes v (By Acks ∷ []) v [] (record { bytes = bytes; segment = None; acks = v.port.link.coming.received } ∷ [])
-ack_is v bytes s = one_event v v (By Acks) [] _ (ack_step v [] [] bytes s)
+pub ack_is : (v : AskingValue) (bytes : List ℕ) → IsSpelling (ack_packet_of v.port.link) bytes → AskingRuns AnyBytes v (By (Repeats None) ∷ []) v [] (record { bytes = bytes; segment = None; acks = v.port.link.coming.received } ∷ [])
+ack_is v bytes s = one_event v v (By (Repeats None)) [] _ (ack_step v [] [] bytes s)
 
 -- all was read and handed over, and these segments written
 goes : (old heard new : AskingValue) (before after : List Report) (packets : List (List ℕ)) → (h : HeardAll old heard before after) → WroteMore heard.port new.port packets → new ≡ record heard { port = new.port }
@@ -83,7 +83,7 @@ answered_is old heard new got out all packets written before after true h rest w
     let a = acks e in
     let first = numbered (heard.port.link.sent + 1) heard.port.link.coming.received written in
     let last : Written = record { bytes = a.0; segment = None; acks = new.port.link.coming.received } in (
-      By GoesOn ∷ By Acks ∷ [],
+      By GoesOn ∷ By (Repeats None) ∷ [],
       (
         h.2.0.0,
         first ++ last ∷ [],

@@ -11,7 +11,7 @@ use Rattle.dap_end.specs.Going.{AreFrontOf}
 use Rattle.dap_end.specs.Writing.{sent_more, WroteMore}
 use Rattle.dap_end.specs.Asking.{AskingValue, AskingPast, HasAsked, AskedOne, HandedAll, asks, nothing_asked}
 use Rattle.dap_end.specs.Runs.{RunsBy}
-use Rattle.dap_end.specs.Headline.{Written, numbered, WroteOne, AreWrittenOf, EndEvent, Came, GoesOn, Again, Acks, AnyBytes, IsFromPeer}
+use Rattle.dap_end.specs.Headline.{Written, numbered, WroteOne, AreWrittenOf, EndEvent, Came, GoesOn, Repeats, AnyBytes, IsFromPeer}
 use Rattle.dap_end.specs.Hearing.{AskingEvent, Asks, By, HeardMore, AskingStepped, AskingRuns, requests_in}
 use Rattle.dap_end.specs.Inner.Pasts.{asked_one}
 use Rattle.dap_end.proofs.Taking.{grown}
@@ -108,8 +108,7 @@ end_so comes requests (old, reports, wrote) (new, after, all) GoesOn ws (s, e) t
     let (heard, read, over) = s.2 in
     let told = subst (λ (l : List Report). Asked_So requests l wrote heard) (sym read.1) (heard_so requests reports read.0 wrote old heard (read_grows old heard read.0 read.2) t) in
     subst (λ (l : List Written). Asked_So requests after l new) (sym e) (sent_so requests after wrote ws s.0 new s.1 s.3 s.4 s.5 (handed_so requests after wrote heard s.0 over told))
-end_so comes requests (old, reports, wrote) (new, after, all) (Again i) ws (s, e) t = one_so requests reports after wrote all ws old new _ s.0 s.2 s.3 s.5 s.4 e t
-end_so comes requests (old, reports, wrote) (new, after, all) Acks ws (s, e) t = one_so requests reports after wrote all ws old new _ s.0 s.1 s.2 s.4 s.3 e t
+end_so comes requests (old, reports, wrote) (new, after, all) (Repeats k) ws (s, e) t = one_so requests reports after wrote all ws old new _ s.0 s.2 s.3 s.5 s.4 e t
 
 step_so : (comes : LinkValue → List ℕ → Type 0) (requests : List Request) (old new : SoFar) (event : AskingEvent) (ws : List Written) → AskingStepped comes old event ws new → Asked_So requests old.1 old.2 old.0 → Asked_So (requests ++ new_requests event) new.1 new.2 new.0
 step_so comes requests (old, reports, wrote) (new, after, all) (Asks request) ws s t =
@@ -182,8 +181,7 @@ step_listens size messages (old, _, _) (new, _, _) (By GoesOn) ws (s, e) t =
     let works : heard.port.link.failed ≡ false = ap (λ (l : LinkValue). l.failed) m.link ∙ t.stands.1 in
     let here : Listens size messages heard = record { past = g.0; is = g.1.is; stands = (g.1.stands size messages t.stands.0, works) } in
     sent_listens size messages s.0 new s.1 s.3 s.4 (handed_listens size messages heard s.0 over here)
-step_listens size messages (old, _, _) (new, _, _) (By (Again i)) ws (s, e) t = subst (Listens size messages) (sym s.3) t
-step_listens size messages (old, _, _) (new, _, _) (By Acks) ws (s, e) t = subst (Listens size messages) (sym s.2) t
+step_listens size messages (old, _, _) (new, _, _) (By (Repeats k)) ws (s, e) t = subst (Listens size messages) (sym s.3) t
 
 pub asking_runs_by : (size : ℕ) (messages : List (List ℕ)) (events : List AskingEvent) (old new : SoFar) → RunsBy (AskingStepped (IsFromPeer size messages)) old events new → RunsBy (AskingStepped (IsFromPeer (some_size size) messages)) old events new
 asking_runs_by size messages [] old new r = r

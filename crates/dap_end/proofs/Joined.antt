@@ -1,6 +1,6 @@
 -- Two ends keep the headline.
 use Rattle.std.proofs.Common.{◌≡◌, ℕ, zero, suc, ◌+◌, ◌-◌, ◌<◌, ◌≤◌, arith, refl, sym, ◌∙◌, subst, ap, append_assoc, List, [], ◌∷◌, ◌++◌, length, map, inl, inr}
-use Rattle.std.specs.Prelude.{Option, Some, IfSome, All}
+use Rattle.std.specs.Prelude.{None, Option, Some, IfSome, All}
 use Rattle.std.proofs.lemmas.List.{append-nil, map-append}
 use Rattle.dap_msg.specs.declared.message.Message.{Message}
 use Rattle.dap_msg.specs.declared.items.Item.{Item}
@@ -25,7 +25,7 @@ use Rattle.dap_end.specs.Writing.{AreSegments, WroteMore}
 use Rattle.dap_end.specs.Serving.{ServingValue, Past, IsAfter, answers_to, nothing_yet}
 use Rattle.dap_end.specs.Asking.{AskingValue, AskingPast, HasAsked, nothing_asked}
 use Rattle.dap_end.specs.Runs.{RunsBy}
-use Rattle.dap_end.specs.Headline.{Written, numbered, WroteOne, AreWrittenOf, EndEvent, Came, GoesOn, Again, Acks}
+use Rattle.dap_end.specs.Headline.{Written, numbered, WroteOne, AreWrittenOf, EndEvent, Came, GoesOn, Repeats}
 use Rattle.dap_end.specs.Hearing.{AskingEvent, Asks, By, requests_in}
 use Rattle.dap_end.specs.Joined.{Pair, AreOpposite, AreNew, PairEvent, AtA, AtB, PairStepped, PairHeadline}
 use Rattle.dap_end.specs.Inner.Pasts.{asked_one}
@@ -313,8 +313,8 @@ serves first old new GoesOn ws s j =
           subst (λ (l : List Written). AreJoined old.a.port.link new.b.port.link j.asked.handed now.handed j.asked.given now.given old.from_a l) (sym (s.0.1 ∙ ap (λ (l : List Written). old.from_b ++ l) t.5))
           (swapped new.b.port.link old.a.port.link now.handed j.asked.handed now.given j.asked.given _ old.from_a ways);
     })
-serves first old new (Again i) ws ((t, at), e) j = wrote_b first old new ws t.0 _ t.2 t.3 t.4 (again_sent old.b.port.link i t.1) at e j
-serves first old new Acks ws ((t, at), e) j = wrote_b first old new ws t.0 _ t.1 t.2 t.3 tt at e j
+serves first old new (Repeats (Some i)) ws ((t, at), e) j = wrote_b first old new ws t.0 _ t.2 t.3 t.4 (again_sent old.b.port.link i t.1) at e j
+serves first old new (Repeats None) ws ((t, at), e) j = wrote_b first old new ws t.0 _ t.2 t.3 t.4 tt at e j
 
 -- ---- The end that asks is called.
 
@@ -436,8 +436,8 @@ asks first old new (By GoesOn) ws s j =
       told = all.1 ∙ ap (λ (l : List Report). l ++ all.0) j.told ∙ sym g.told ∙ ap (λ (l : List Request). Told l read.0.answers) (sym (h.requests ∙ g.requests)) ∙ ap (Told h.now.requests) (sym h.answers);
       ways = subst (λ (l : List Written). AreJoined new.a.port.link old.b.port.link h.now.handed j.served.handed h.now.given j.served.given l old.from_b) (sym (s.0.1 ∙ ap (λ (l : List Written). old.from_a ++ l) t.5)) ways;
     })
-asks first old new (By (Again i)) ws ((t, at), e) j = wrote_a first old new (By (Again i)) ws t.0 _ t.2 t.3 t.5 t.4 (again_sent old.a.port.link i t.1) refl at e j
-asks first old new (By Acks) ws ((t, at), e) j = wrote_a first old new (By Acks) ws t.0 _ t.1 t.2 t.4 t.3 tt refl at e j
+asks first old new (By (Repeats (Some i))) ws ((t, at), e) j = wrote_a first old new (By (Repeats (Some i))) ws t.0 _ t.2 t.3 t.5 t.4 (again_sent old.a.port.link i t.1) refl at e j
+asks first old new (By (Repeats None)) ws ((t, at), e) j = wrote_a first old new (By (Repeats None)) ws t.0 _ t.2 t.3 t.5 t.4 tt refl at e j
 
 -- ---- All events.
 

@@ -23,7 +23,7 @@ use Rattle.dap_end.specs.Serving.{ServingValue, Past, IsAfter, answers_to, nothi
 use Rattle.dap_end.specs.Turns.{EndOf, WroteThen, WentOn, TookIn, TookThen}
 use Rattle.dap_end.specs.Taking.{ServedMore, ServeFault, serves}
 use Rattle.dap_end.specs.Runs.{RunsBy}
-use Rattle.dap_end.specs.Headline.{Written, numbered, bytes_of, WroteOne, EndEvent, Came, GoesOn, Again, Acks, AnyBytes, EndStepped, Stepped, Runs, AreWrittenOf, IsFromPeer, AreCalls}
+use Rattle.dap_end.specs.Headline.{Written, numbered, bytes_of, WroteOne, EndEvent, Came, GoesOn, Repeats, AnyBytes, EndStepped, Stepped, Runs, AreWrittenOf, IsFromPeer, AreCalls}
 use Rattle.dap_end.proofs.Taking.{grown}
 use Rattle.dap_end.proofs.Afterwards.{after_received}
 use Rattle.dap_end.proofs.Fronts.{served_front}
@@ -112,8 +112,7 @@ step_end comes old new (Came bytes) first wrote ws t d =
     (subst (λ (v : ServingValue). Did first v wrote) (sym t.3)
     (record { past = d.past; is = after_received d.past old t.1 g t.2.sends d.is; had = d.had; packets = written_on old.port.link t.1 g d.past.handed wrote d.packets }))
 step_end comes old new GoesOn first wrote ws t d = went old t.0 new t.1 first wrote ws t.2 t.3 t.4 t.5 d
-step_end comes old new (Again i) first wrote ws t d = one_more first old new wrote ws _ t.0 t.2 t.3 t.4 d
-step_end comes old new Acks first wrote ws t d = one_more first old new wrote ws _ t.0 t.1 t.2 t.3 d
+step_end comes old new (Repeats k) first wrote ws t d = one_more first old new wrote ws _ t.0 t.2 t.3 t.4 d
 
 step : (comes : LinkValue → List ℕ → Type 0) (old new : Wrote) (event : EndEvent) (first : Files) (ws : List Written) → Stepped comes old event ws new → Did first old.0 old.1 → Did first new.0 new.1
 step comes (old, wrote) (new, all) event first ws (t, e) d = subst (Did first new) (sym e) (step_end comes old new event first wrote ws t d)
@@ -160,8 +159,7 @@ pub stepped_by : {V : Type 0} (end : EndOf V) (does : V → V → Type 0) (here 
     → EndStepped end does here old event new ws → EndStepped end does there old event new ws
 stepped_by end does here there old new (Came bytes) ws comes t = (t.0, t.1, t.2, t.3, t.4, t.5, comes (end.port old).link bytes t.6)
 stepped_by end does here there old new GoesOn ws comes t = t
-stepped_by end does here there old new (Again i) ws comes t = t
-stepped_by end does here there old new Acks ws comes t = t
+stepped_by end does here there old new (Repeats k) ws comes t = t
 
 pub runs_by : (size : ℕ) (messages : List (List ℕ)) (events : List EndEvent) (old new : Wrote) → RunsBy (Stepped (IsFromPeer size messages)) old events new → RunsBy (Stepped (IsFromPeer (some_size size) messages)) old events new
 runs_by size messages [] old new r = r
@@ -190,8 +188,7 @@ step_hears old new (Came bytes) ws size messages first t h =
     subst (Hears size messages first) (sym t.3)
     (record { past = h.past; is = after_received h.past old t.1 g t.2.sends h.is; had = h.had; stands = s.0; works = s.1 })
 step_hears old new GoesOn ws size messages first t h = went_hears old t.0 new (length t.1) size messages first t.2 (t.4 ∙ ap (with_port t.0) t.3.sent) h
-step_hears old new (Again i) ws size messages first t h = subst (Hears size messages first) (sym t.3) h
-step_hears old new Acks ws size messages first t h = subst (Hears size messages first) (sym t.2) h
+step_hears old new (Repeats k) ws size messages first t h = subst (Hears size messages first) (sym t.3) h
 
 run_hears : (events : List EndEvent) (old new : Wrote) (size : ℕ) (messages : List (List ℕ)) (first : Files) → RunsBy (Stepped (IsFromPeer size messages)) old events new → Hears size messages first old.0 → Hears size messages first new.0
 run_hears [] old new size messages first r h = subst (λ (x : Wrote). Hears size messages first x.0) (sym r) h
@@ -222,14 +219,14 @@ pub writing_is : (old new : ServingValue) (bytes : List ℕ) → new ≡ with_po
 writing_is old new bytes rest w = one_event old new GoesOn _ (old, bytes ∷ [], more_none old, w, rest, refl)
 
 pub again_is : (v : ServingValue) (i : ℕ) (bytes : List ℕ) → i < v.port.link.sent - v.port.link.acked → WritesSent v.port.link (Some (v.port.link.acked + 1 + i)) bytes
-    → Runs AnyBytes v (Again i ∷ []) v (record { bytes = bytes; segment = Some (v.port.link.acked + 1 + i); acks = v.port.link.coming.received } ∷ [])
-again_is v i bytes lt w = one_event v v (Again i) _ (record { bytes = bytes; segment = Some (v.port.link.acked + 1 + i); acks = v.port.link.coming.received }, lt, (refl, refl, w), refl, refl, tt)
+    → Runs AnyBytes v (Repeats (Some i) ∷ []) v (record { bytes = bytes; segment = Some (v.port.link.acked + 1 + i); acks = v.port.link.coming.received } ∷ [])
+again_is v i bytes lt w = one_event v v (Repeats (Some i)) _ (record { bytes = bytes; segment = Some (v.port.link.acked + 1 + i); acks = v.port.link.coming.received }, lt, (refl, refl, w), refl, refl, tt)
 
-ack_step : (v : ServingValue) (bytes : List ℕ) → IsSpelling (ack_packet_of v.port.link) bytes → Stepping AnyBytes v Acks v (record { bytes = bytes; segment = None; acks = v.port.link.coming.received } ∷ [])
-ack_step v bytes s = (record { bytes = bytes; segment = None; acks = v.port.link.coming.received }, (refl, refl, ack_written v.port.link bytes s), refl, refl, tt)
+ack_step : (v : ServingValue) (bytes : List ℕ) → IsSpelling (ack_packet_of v.port.link) bytes → Stepping AnyBytes v (Repeats None) v (record { bytes = bytes; segment = None; acks = v.port.link.coming.received } ∷ [])
+ack_step v bytes s = (record { bytes = bytes; segment = None; acks = v.port.link.coming.received }, tt, (refl, refl, ack_written v.port.link bytes s), refl, refl, tt)
 
-pub ack_is : (v : ServingValue) (bytes : List ℕ) → IsSpelling (ack_packet_of v.port.link) bytes → Runs AnyBytes v (Acks ∷ []) v (record { bytes = bytes; segment = None; acks = v.port.link.coming.received } ∷ [])
-ack_is v bytes s = one_event v v Acks _ (ack_step v bytes s)
+pub ack_is : (v : ServingValue) (bytes : List ℕ) → IsSpelling (ack_packet_of v.port.link) bytes → Runs AnyBytes v (Repeats None ∷ []) v (record { bytes = bytes; segment = None; acks = v.port.link.coming.received } ∷ [])
+ack_is v bytes s = one_event v v (Repeats None) _ (ack_step v bytes s)
 
 pub numbered_bytes : (k a : ℕ) (packets : List (List ℕ)) → bytes_of (numbered k a packets) ≡ packets
 numbered_bytes k a [] = refl
@@ -265,7 +262,7 @@ answered_is old served new got out all packets written true m rest w is e quiet 
     let a = acks e in
     let first = numbered (served.port.link.sent + 1) served.port.link.coming.received written in
     let last : Written = record { bytes = a.0; segment = None; acks = new.port.link.coming.received } in (
-      GoesOn ∷ Acks ∷ [],
+      GoesOn ∷ Repeats None ∷ [],
       (
         first ++ last ∷ [],
         ((new, first), first, ((served, written, m, w, rest, refl), refl), ((new, first ++ last ∷ []), last ∷ [], (ack_step new a.0 a.2, refl), refl)),

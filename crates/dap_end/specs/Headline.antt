@@ -1,6 +1,6 @@
 -- What an end that serves promises over every list of its calls, whatever bytes come, and what it promises where the packets
 -- are those of a peer.
-use Rattle.std.specs.Prelude.{◌≡◌, ℕ, ◌+◌, ◌-◌, ◌<◌, List, [], ◌∷◌, ◌++◌, map, Option, Some, None, Result}
+use Rattle.std.specs.Prelude.{◌≡◌, ℕ, ◌+◌, ◌-◌, ◌<◌, List, [], ◌∷◌, ◌++◌, map, Option, Some, Result, IfSome, option_map}
 use Rattle.std.specs.List.{AllByRecursion}
 use Rattle.nsp_seg.specs.declared.packet.Packet.{Packet}
 use Rattle.nsp_seg.specs.Packets.{Spells}
@@ -39,13 +39,12 @@ WroteOne v k w = (w.segment ≡ k) × (w.acks ≡ v.coming.received) × WritesSe
 
 -- ---- Calls.
 
--- A packet came; the end did what it does by itself, or some of it; it wrote a segment again that isn't acknowledged, or
--- an acknowledgement.
+-- A packet came; the end did what it does by itself, or some of it; it wrote a segment again that isn't acknowledged, by its
+-- place among these, or none: an acknowledgement.
 pub data EndEvent : Type 0 where
   Came : List ℕ → EndEvent
   GoesOn : EndEvent
-  Again : ℕ → EndEvent
-  Acks : EndEvent
+  Repeats : Option ℕ → EndEvent
 
 -- what each leaves of either end, and the packets that it writes, where the end does so by itself before it writes, and such
 -- bytes may come to its link
@@ -56,11 +55,10 @@ EndStepped end does comes old (Came bytes) new wrote =
 EndStepped {V} end does comes old GoesOn new wrote =
     (mid : V) × (packets : List (List ℕ)) × does old mid × WroteMore (end.port mid) (end.port new) packets × (new ≡ end.with_port mid (end.port new))
     × (wrote ≡ numbered ((end.port mid).link.sent + 1) (end.port mid).link.coming.received packets)
-EndStepped end does comes old (Again i) new wrote =
+EndStepped end does comes old (Repeats k) new wrote =
     let v = (end.port old).link in
-    (w : Written) × (i < v.sent - v.acked) × WroteOne v (Some (v.acked + 1 + i)) w × (new ≡ old) × (wrote ≡ w ∷ []) × end.quiet
-EndStepped end does comes old Acks new wrote =
-    (w : Written) × WroteOne (end.port old).link None w × (new ≡ old) × (wrote ≡ w ∷ []) × end.quiet
+    (w : Written) × IfSome k (λ i. i < v.sent - v.acked) × WroteOne v (option_map (λ i. v.acked + 1 + i) k) w
+    × (new ≡ old) × (wrote ≡ w ∷ []) × end.quiet
 
 -- whatever bytes come
 abbrev pub AnyBytes : LinkValue → List ℕ → Type 0

@@ -31,7 +31,7 @@ ghost use Rattle.dap_end.specs.Wanting.{is_want, why};
 ghost use Rattle.dap_end.specs.Asking as asking;
 ghost use Rattle.dap_end.specs.Asking.{asks, AreAlike, AskingValue, AskingPast, HasAsked, HasDone, AskedOne, HandedAll, ReadOne, nothing_asked};
 ghost use Rattle.dap_end.specs.Runs.{RunsBy};
-ghost use Rattle.dap_end.specs.Headline.{Written, EndEvent, Came, GoesOn, Again, Acks, AnyBytes, IsFromPeer, Runs, AreCalls, AreWrittenOf, numbered};
+ghost use Rattle.dap_end.specs.Headline.{Written, EndEvent, Came, GoesOn, Repeats, AnyBytes, IsFromPeer, Runs, AreCalls, AreWrittenOf, numbered};
 ghost use Rattle.dap_end.specs.Hearing.{AskingEvent, Asks, By, AskingRuns, AreAskingCalls, requests_in};
 ghost use Rattle.dap_end.specs.Joined.{Pair, PairEvent, PairStepped, AreOpposite, AreNew, PairHeadline};
 
@@ -73,13 +73,13 @@ pub fn calls_are_runs()
     ensures resend { (v : ServingValue) (i : ℕ) (bytes : List ℕ)
         → i < v.port.link.sent - v.port.link.acked
         → WritesSent v.port.link (Some (v.port.link.acked + 1 + i)) bytes
-        → Runs AnyBytes v (Again i ∷ []) v (record {
+        → Runs AnyBytes v (Repeats (Some i) ∷ []) v (record {
           bytes = bytes;
           segment = Some (v.port.link.acked + 1 + i);
           acks = v.port.link.coming.received;
         } ∷ []) }
     ensures ack { (v : ServingValue) (bytes : List ℕ) → IsSpelling (ack_packet_of v.port.link) bytes
-        → Runs AnyBytes v (Acks ∷ []) v (record {
+        → Runs AnyBytes v (Repeats None ∷ []) v (record {
           bytes = bytes;
           segment = None;
           acks = v.port.link.coming.received;
@@ -114,13 +114,13 @@ pub fn asking_calls_are_runs()
     ensures resend { (v : AskingValue) (i : ℕ) (bytes : List ℕ)
         → i < v.port.link.sent - v.port.link.acked
         → WritesSent v.port.link (Some (v.port.link.acked + 1 + i)) bytes
-        → AskingRuns AnyBytes v (By (Again i) ∷ []) v [] (record {
+        → AskingRuns AnyBytes v (By (Repeats (Some i)) ∷ []) v [] (record {
           bytes = bytes;
           segment = Some (v.port.link.acked + 1 + i);
           acks = v.port.link.coming.received;
         } ∷ []) }
     ensures ack { (v : AskingValue) (bytes : List ℕ) → IsSpelling (ack_packet_of v.port.link) bytes
-        → AskingRuns AnyBytes v (By Acks ∷ []) v [] (record {
+        → AskingRuns AnyBytes v (By (Repeats None) ∷ []) v [] (record {
           bytes = bytes;
           segment = None;
           acks = v.port.link.coming.received;
