@@ -108,7 +108,7 @@ fn holds<F: RecordFile>(file: &F, number: u32, body: &[u8]) -> bool {
     file.lookup(number) == Some(body)
 }
 
-static THREE_NUMBERS: Script = &[
+const THREE_NUMBERS: Script = &[
     (Call::Put(Some(3), b"a"), Ok(3)),
     (Call::Put(Some(3), b"a"), Err(Refusal::RecordExists)),
     (Call::Put(Some(4), b"a"), Err(Refusal::NumberOutOfRange)),
@@ -135,7 +135,7 @@ fn a_relative_file_of_three_numbers(rt: HostRuntime) {
     three_numbers(&rt, &mut AnyFile::new(rt.alloc(), shape));
 }
 
-static TWO_BYTES: Script = &[
+const TWO_BYTES: Script = &[
     (Call::Put(None, b"A"), Err(Refusal::BadLength)),
     (Call::Put(None, b"AB"), Ok(1)),
     (Call::Delete, Err(Refusal::DeleteNotAllowed)),
@@ -153,15 +153,15 @@ fn a_sequential_file_of_two_bytes(rt: HostRuntime) {
     two_bytes(&rt, &mut AnyFile::new(rt.alloc(), PAIRS));
 }
 
-static ONE_PUT: Script = &[(Call::Put(None, b"A"), Ok(1))];
+const ONE_PUT: Script = &[(Call::Put(None, b"A"), Ok(1))];
 
-static UPDATED: Script = &[
+const UPDATED: Script = &[
     (Call::Get(Pick::Next), Ok(1)),
     (Call::Update(b"B"), Ok(1)),
     (Call::Update(b"C"), Err(Refusal::NoCurrent)),
 ];
 
-static TOO_LONG: Script = &[
+const TOO_LONG: Script = &[
     (Call::Rewind, Ok(1)),
     (Call::Get(Pick::Next), Ok(1)),
     (Call::Update(b"BC"), Err(Refusal::BadLength)),
@@ -186,7 +186,7 @@ fn a_record_is_updated_once(rt: HostRuntime) {
     updated_once(&rt, &mut AnyFile::new(rt.alloc(), SEQUENTIAL));
 }
 
-static FOUR_PUTS: Script = &[
+const FOUR_PUTS: Script = &[
     (Call::Put(Some(2147483647), b"last"), Ok(2147483647)),
     (Call::Put(Some(65), b"b"), Ok(65)),
     (Call::Put(Some(64), b"a"), Ok(64)),
@@ -194,7 +194,7 @@ static FOUR_PUTS: Script = &[
 ];
 
 /// Numbers, and the first record from each on.
-static FIRSTS: &[(u32, Option<u32>)] = &[
+const FIRSTS: &[(u32, Option<u32>)] = &[
     (0, Some(1)),
     (1, Some(1)),
     (2, Some(64)),
@@ -205,7 +205,7 @@ static FIRSTS: &[(u32, Option<u32>)] = &[
 ];
 
 /// Records that are removed, and then the pages, the greatest number, and the first record from 2 on.
-static REMOVALS: &[(u32, (usize, u32, Option<u32>))] = &[
+const REMOVALS: &[(u32, (usize, u32, Option<u32>))] = &[
     (64, (3, 2147483647, Some(65))),
     (2147483647, (2, 65, Some(65))),
 ];
@@ -252,7 +252,7 @@ fn pages_of_four_records(rt: HostRuntime) {
     four_records(&rt, &mut RelFile::new(rt.alloc(), RELATIVE));
 }
 
-static SEQUENTIAL_REFUSALS: Script = &[
+const SEQUENTIAL_REFUSALS: Script = &[
     (Call::Get(Pick::Next), Err(Refusal::EndOfFile)),
     (Call::Put(None, b"abc"), Err(Refusal::BadLength)),
     (Call::Put(None, b"ab"), Ok(1)),
@@ -288,7 +288,7 @@ fn sequential_refusals<F: RecordFile>(rt: &impl Abort, file: &mut F) {
     not_permitted(rt, file);
 }
 
-static NOT_PERMITTED: Script = &[
+const NOT_PERMITTED: Script = &[
     (Call::Get(Pick::Next), Err(Refusal::NotPermitted)),
     (Call::Get(Pick::Key(0)), Err(Refusal::NotPermitted)),
     (Call::Get(Pick::Rfa(0)), Err(Refusal::NotPermitted)),
@@ -313,7 +313,7 @@ fn each_refusal_of_a_sequential_file(rt: HostRuntime) {
     sequential_refusals(&rt, &mut AnyFile::new(rt.alloc(), shape));
 }
 
-static RELATIVE_REFUSALS: Script = &[
+const RELATIVE_REFUSALS: Script = &[
     (Call::Get(Pick::Next), Err(Refusal::EndOfFile)),
     (Call::Get(Pick::Key(0)), Err(Refusal::NumberOutOfRange)),
     (Call::Get(Pick::Key(4)), Err(Refusal::NumberOutOfRange)),
@@ -356,15 +356,15 @@ fn relative_refusals<F: RecordFile>(rt: &impl Abort, file: &mut F) {
     two_streams(rt, file);
 }
 
-static FIRST_READ: Script = &[(Call::Get(Pick::Key(1)), Ok(1))];
+const FIRST_READ: Script = &[(Call::Get(Pick::Key(1)), Ok(1))];
 
-static REMOVED: Script = &[
+const REMOVED: Script = &[
     (Call::Update(b"abc"), Err(Refusal::NoCurrent)),
     (Call::Put(Some(1), b"a"), Ok(1)),
     (Call::Get(Pick::Key(1)), Ok(1)),
 ];
 
-static REMOVED_AGAIN: Script = &[(Call::Delete, Err(Refusal::NoCurrent))];
+const REMOVED_AGAIN: Script = &[(Call::Delete, Err(Refusal::NoCurrent))];
 
 /// What another stream removes is current no more.
 fn two_streams<F: RecordFile>(rt: &impl Abort, file: &mut F) {
@@ -400,7 +400,7 @@ fn the_longest_record(rt: HostRuntime) {
     longest(&rt, &mut AnyFile::new(rt.alloc(), RELATIVE));
 }
 
-static AT_THE_END: Script = &[
+const AT_THE_END: Script = &[
     (Call::Put(None, b"z"), Ok(2147483647)),
     (Call::Tell, Ok(2147483648)),
     (Call::Get(Pick::Next), Err(Refusal::EndOfFile)),
@@ -423,7 +423,7 @@ fn a_stream_at_its_end(rt: HostRuntime) {
 }
 
 /// ORG, RFM, MRS and MRN, and the shape that they name: whether it is sequential, and its limits.
-static SHAPES: &[(u8, u8, u16, u64, Option<(bool, u16, u32)>)] = &[
+const SHAPES: &[(u8, u8, u16, u64, Option<(bool, u16, u32)>)] = &[
     (0, 1, 1, 0, Some((true, 1, 0))),
     (0, 2, 0, 2147483647, Some((true, 0, 0))),
     (16, 2, 32767, 2147483647, Some((false, 32767, 2147483647))),
@@ -440,7 +440,7 @@ static SHAPES: &[(u8, u8, u16, u64, Option<(bool, u16, u32)>)] = &[
 ];
 
 /// Lengths of a record, and whether the shape allows them.
-static LENGTHS: &[(Shape, usize, bool)] = &[
+const LENGTHS: &[(Shape, usize, bool)] = &[
     (PAIRS, 1, false),
     (PAIRS, 2, true),
     (RELATIVE, 32767, true),
@@ -469,7 +469,7 @@ fn allow_lengths(rt: &impl Abort) {
     }
 }
 
-static KEYS: &[(&[u8], Result<u32, Refusal>)] = &[
+const KEYS: &[(&[u8], Result<u32, Refusal>)] = &[
     (&[], Err(Refusal::BadKey)),
     (&[1], Ok(1)),
     (&[1, 2], Ok(513)),
