@@ -467,7 +467,7 @@ fn is_answer(served: &Served, answer: &[u8]) -> bool {
 /// Serves one message, all of these bytes: its answers are this NSP message, or none where it is empty.
 fn says(rt: &impl Abort, end: &mut Accessed, message: &[u8], answer: &[u8]) {
     let served = serve_at(rt, end, message, 0);
-    assert_eq!(rt; served.next, message.len(), "behind {message:?}");
+    assert!(rt; served.next == message.len(), "behind {message:?}");
     assert!(rt;
         is_answer(&served, answer),
         "at {message:?}: {:?}",
@@ -482,13 +482,18 @@ fn play(rt: &impl Abort, end: &mut Accessed, script: &[(&[u8], &[u8])]) {
     }
 }
 
-/// Serves one message, all of these bytes: its answers are these NSP messages.
+/// Serves one message, all of these bytes: its answers are these two NSP messages.
 fn gives(rt: &impl Abort, end: &mut Accessed, message: &[u8], packets: &[&[u8]]) {
     let served = serve_at(rt, end, message, 0);
-    assert_eq!(rt; served.next, message.len());
-    assert_eq!(rt; served.answers.len(), packets.len(), "{:?}", served.answers);
-    for (answer, packet) in served.answers.iter().zip(packets) {
-        assert_eq!(rt; answer.as_slice(), *packet);
+    assert!(rt; served.next == message.len());
+    assert!(rt; are_answers(&served, packets), "{:?}", served.answers);
+}
+
+/// The answers are these two NSP messages.
+fn are_answers(served: &Served, packets: &[&[u8]]) -> bool {
+    match (served.answers.as_slice(), packets) {
+        ([first, second], [one, two]) => first.as_slice() == *one && second.as_slice() == *two,
+        _ => false,
     }
 }
 
@@ -497,19 +502,19 @@ fn serve_all(rt: &impl Abort, end: &mut Accessed, bytes: &[u8], steps: Steps) {
     let mut at = 0;
     for (next, answer, seen) in steps {
         let served = serve_at(rt, end, bytes, at);
-        assert_eq!(rt; served.next, *next);
-        assert!(rt; is_answer(&served, answer), "at {at}");
+        let is_so = served.next == *next && is_answer(&served, answer);
+        assert!(rt; is_so, "at {at}");
         look(rt, end, *seen);
-        at = served.next;
+        at = *next;
     }
-    assert_eq!(rt; at, bytes.len());
+    assert!(rt; at == bytes.len());
 }
 
 /// The end is seen so.
 fn look(rt: &impl Abort, end: &Accessed, seen: Seen) {
     match seen {
         Seen::Nothing => {}
-        Seen::Holds(count, highest) => assert_eq!(rt; held(end), (count, highest)),
+        Seen::Holds(count, highest) => assert!(rt; held(end) == (count, highest)),
         Seen::Names(names) => is_named(rt, end, names),
         Seen::Has(records) => has(rt, end, records),
     }
@@ -525,25 +530,42 @@ fn session(rt: &(impl AllocGlobal + Abort), parts: &[(Script, Seen)]) -> Accesse
     end
 }
 
+/// Plays this session by a new end.
+fn plays(rt: &(impl AllocGlobal + Abort), parts: Session) {
+    session(rt, parts);
+}
+
 /// These are the names of the files, in the order in which they were made.
 fn is_named(rt: &impl Abort, end: &Accessed, names: &[&[u8]]) {
-    let files = end.files();
-    assert_eq!(rt; files.count(), names.len());
+    assert!(rt; end.files().count() == names.len());
     for (at, name) in names.iter().enumerate() {
-        assert!(rt; at < files.count());
-        assert_eq!(rt; files.name(at), *name);
-        assert_eq!(rt; files.find(*name), Some(at));
+        assert!(rt; is_name(end, at, name), "name {at}");
     }
+}
+
+/// The file at a place has this name, and is found by it.
+fn is_name(end: &Accessed, at: usize, name: &[u8]) -> bool {
+    let files = end.files();
+    at < files.count() && files.name(at) == name && files.find(name) == Some(at)
 }
 
 /// The first file has just these records.
 fn has(rt: &impl Abort, end: &Accessed, records: &[(u32, &[u8])]) {
-    assert!(rt; end.files().count() > 0);
-    let file = end.files().file(0);
     let mut next = 1;
     for (number, body) in records {
-        assert_eq!(rt; first_record(file, next), Some((*number, *body)));
+        assert!(rt;
+            first_from(end, next) == Some((*number, *body)),
+            "record {number}"
+        );
         next = number.saturating_add(1);
     }
-    assert_eq!(rt; first_record(file, next), None);
+    assert!(rt; end.files().count() > 0 && first_from(end, next).is_none());
+}
+
+/// The first record of the first file, from a number on.
+fn first_from(end: &Accessed, from: u32) -> Option<(u32, &[u8])> {
+    if end.files().count() == 0 {
+        return None;
+    }
+    first_record(end.files().file(0), from)
 }

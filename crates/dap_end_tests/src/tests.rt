@@ -185,13 +185,30 @@ fn is_added(end: &mut ServingEnd, name: Bytes, wanted: Result<(), AddFault>) -> 
     end.add(name, shape) == wanted
 }
 
+/// Whether the packet comes to this, and these packets answer it.
+fn is_answered(
+    alloc: Global,
+    end: &mut ServingEnd,
+    packet: Bytes,
+    got: Result<Got, TakeFault>,
+    wanted: &[Bytes],
+) -> bool {
+    let mut out = Vec::new(alloc);
+    end.take(packet, &mut out) == got && are(&out, wanted)
+}
+
+/// Whether these packets are written where the end goes on.
+fn goes_on(alloc: Global, end: &mut ServingEnd, wanted: &[Bytes]) -> bool {
+    let mut out = Vec::new(alloc);
+    end.go_on(&mut out).is_ok() && are(&out, wanted)
+}
+
 /// Whether the line comes to what it says.
 fn is_so(alloc: Global, end: &mut ServingEnd, line: Line) -> bool {
-    let mut out = Vec::new(alloc);
     match line {
-        Take(packet, got, wanted) => end.take(packet, &mut out) == got && are(&out, wanted),
+        Take(packet, got, wanted) => is_answered(alloc, end, packet, got, wanted),
         Waits(count, failed) => {
-            end.link().unacked() == count && end.link().has_failed() == failed
+            (end.link().unacked(), end.link().has_failed()) == (count, failed)
         }
         Ack(wanted) => is_packet(end.ack(), wanted),
         Resend(place, wanted) => is_packet(end.resend(place), wanted),
@@ -203,7 +220,7 @@ fn is_so(alloc: Global, end: &mut ServingEnd, line: Line) -> bool {
         Serve(count) => end.serve() == Ok(count),
         Post(count) => end.post() == Ok(count),
         Emit(wanted) => is_emitted(end.emit(), wanted),
-        GoOn(wanted) => end.go_on(&mut out).is_ok() && are(&out, wanted),
+        GoOn(wanted) => goes_on(alloc, end, wanted),
     }
 }
 
@@ -224,53 +241,79 @@ const MALFORMED: &[Bytes] = &[CUT_SHORT, LINK_SERVICE];
 fn malformed_packets(rt: HostRuntime) -> Result<(), Fail> {
     let mut end = ServingEnd::new(rt.alloc(), 1024, SERVING)?;
     for packet in MALFORMED {
-        let mut out = Vec::new(rt.alloc());
-        let answer = end.take(packet, &mut out);
-        let is_malformed = matches!(answer, Err(TakeFault::Refused(LinkFault::Malformed(_))));
-        assert!(rt; is_malformed && out.is_empty());
+        assert!(rt; is_malformed(rt.alloc(), &mut end, packet));
     }
     Ok(())
+}
+
+/// Whether the packet is refused as malformed, and nothing answers it.
+fn is_malformed(alloc: Global, end: &mut ServingEnd, packet: Bytes) -> bool {
+    let mut out = Vec::new(alloc);
+    let answer = end.take(packet, &mut out);
+    matches!(answer, Err(TakeFault::Refused(LinkFault::Malformed(_)))) && out.is_empty()
 }
 
 fn is_ready(reports: &[Report]) -> bool {
     matches!(reports, [Report::Ready(1024)])
 }
 
+/// Whether the first request is asked once, and its packet written.
+fn asks(alloc: Global, end: &mut AskingEnd) -> bool {
+    let mut out = Vec::new(alloc);
+    let mut reports = Vec::new(alloc);
+    end.ask(&Request::Hello) == Ok(1)
+        && end.ask(&Request::Hello) == Err(AskFault::Busy)
+        && end.go_on(&mut out, &mut reports).is_ok()
+        && are(&out, &[HELLO])
+        && reports.is_empty()
+}
+
+/// Whether its answer is reported and acknowledged.
+fn is_welcomed(alloc: Global, end: &mut AskingEnd) -> bool {
+    let mut out = Vec::new(alloc);
+    let mut reports = Vec::new(alloc);
+    end.take(WELCOME, &mut out, &mut reports) == Ok(Got::Accepted)
+        && are(&out, &[ACK_BY_ASKING])
+        && is_ready(&reports)
+        && end.link().unacked() == 0
+}
+
+/// Whether an answer without a place isn't read, and nothing is asked after it.
+fn is_stopped(alloc: Global, end: &mut AskingEnd) -> bool {
+    let mut out = Vec::new(alloc);
+    let mut reports = Vec::new(alloc);
+    let unread = end.take(UNEXPECTED, &mut out, &mut reports);
+    matches!(
+        unread,
+        Err(TakeFault::Unfinished(Got::Accepted, EndFault::Read(_)))
+    ) && end.ask(&Request::Connect) == Err(AskFault::Failed)
+}
+
+/// Whether the end asks again once its link is renewed, step by step.
+fn asks_again(alloc: Global, end: &mut AskingEnd) -> bool {
+    end.renew(alloc, ASKING).is_ok()
+        && end.ask(&Request::Hello) == Ok(1)
+        && end.post() == Ok(1)
+        && is_emitted(end.emit(), Some(HELLO))
+        && is_packet(end.resend(0), Ok(HELLO))
+}
+
+/// Whether it then reads the answer, step by step.
+fn reads(end: &mut AskingEnd) -> bool {
+    end.receive(WELCOME) == Ok(Got::Accepted)
+        && matches!(end.read(), Ok(Heard::Report(Report::Ready(1024))))
+        && matches!(end.read(), Ok(Heard::Nothing))
+        && is_packet(end.ack(), Ok(ACK_BY_ASKING))
+}
+
 #[test]
 fn an_end_that_asks(rt: HostRuntime) -> Result<(), Fail> {
     let mut end = AskingEnd::new(rt.alloc(), 1024, ASKING)?;
-    let mut out = Vec::new(rt.alloc());
-    let mut reports = Vec::new(rt.alloc());
-    assert_eq!(rt; end.ask(&Request::Hello), Ok(1));
-    assert_eq!(rt; end.ask(&Request::Hello), Err(AskFault::Busy));
-    assert!(rt; end.go_on(&mut out, &mut reports).is_ok());
-    assert!(rt; are(&out, &[HELLO]));
-    let mut answer = Vec::new(rt.alloc());
-    assert_eq!(rt;
-        end.take(WELCOME, &mut answer, &mut reports),
-        Ok(Got::Accepted)
-    );
-    assert!(rt; are(&answer, &[ACK_BY_ASKING]) && is_ready(&reports));
-    assert_eq!(rt; end.link().unacked(), 0);
-    // An answer without a place, and all that is asked after it.
-    let mut none = Vec::new(rt.alloc());
-    let unread = end.take(UNEXPECTED, &mut none, &mut reports);
-    assert!(rt;
-        matches!(
-            unread,
-            Err(TakeFault::Unfinished(Got::Accepted, EndFault::Read(_)))
-        )
-    );
-    assert_eq!(rt; end.ask(&Request::Connect), Err(AskFault::Failed));
-    assert!(rt; end.renew(rt.alloc(), ASKING).is_ok());
-    assert_eq!(rt; end.ask(&Request::Hello), Ok(1));
-    assert_eq!(rt; end.post(), Ok(1));
-    assert!(rt; is_emitted(end.emit(), Some(HELLO)));
-    assert!(rt; is_packet(end.resend(0), Ok(HELLO)));
-    assert_eq!(rt; end.receive(WELCOME), Ok(Got::Accepted));
-    assert!(rt; matches!(end.read(), Ok(Heard::Report(Report::Ready(1024)))));
-    assert!(rt; matches!(end.read(), Ok(Heard::Nothing)));
-    assert!(rt; is_packet(end.ack(), Ok(ACK_BY_ASKING)));
+    assert!(rt; asks(rt.alloc(), &mut end));
+    assert!(rt; is_welcomed(rt.alloc(), &mut end));
+    assert!(rt; is_stopped(rt.alloc(), &mut end));
+    assert!(rt; asks_again(rt.alloc(), &mut end));
+    assert!(rt; reads(&mut end));
     Ok(())
 }
 
@@ -320,46 +363,73 @@ fn takes(alloc: Global, end: &mut ServingEnd, number: u8, message: Bytes) -> Res
     Ok(end.take(&packet, &mut out) == Ok(Got::Accepted))
 }
 
+/// Whether the end takes each of these messages.
+fn takes_each(alloc: Global, end: &mut ServingEnd, messages: &[Bytes]) -> Result<bool, Fail> {
+    let mut number = 1;
+    for message in messages {
+        if !takes(alloc, end, number, message)? {
+            return Ok(false);
+        }
+        number = number.saturating_add(1);
+    }
+    Ok(true)
+}
+
+/// Whether the end's link is renewed, and greets a peer; so many files are there.
+fn is_renewed(alloc: Global, end: &mut ServingEnd, files: usize) -> bool {
+    end.renew(alloc, SERVING).is_ok()
+        && (end.files().count(), end.link().unacked()) == (files, 0)
+        && is_answered(alloc, end, HELLO, Ok(Got::Accepted), &[WELCOME])
+}
+
+/// Whether a new end is renewed once it has served these messages.
+fn is_renewed_behind(alloc: Global, messages: &[Bytes], files: usize) -> Result<bool, Fail> {
+    let mut end = ServingEnd::new(alloc, 1024, SERVING)?;
+    Ok(takes_each(alloc, &mut end, messages)? && is_renewed(alloc, &mut end, files))
+}
+
 #[test]
 fn a_new_link_in_each_phase(rt: HostRuntime) -> Result<(), Fail> {
-    let alloc = rt.alloc();
-    for (messages, files) in PHASES {
-        let mut end = ServingEnd::new(alloc, 1024, SERVING)?;
-        let mut number = 1;
-        for message in *messages {
-            let is_taken = takes(alloc, &mut end, number, message)?;
-            assert!(&rt; is_taken);
-            number = number.saturating_add(1);
-        }
-        assert!(&rt; end.renew(alloc, SERVING).is_ok());
-        assert_eq!(&rt; end.files().count(), *files);
-        assert_eq!(&rt; end.link().unacked(), 0);
-        let mut out = Vec::new(alloc);
-        assert_eq!(&rt; end.take(HELLO, &mut out), Ok(Got::Accepted));
-        assert!(&rt; are(&out, &[WELCOME]));
+    for (at, (messages, files)) in PHASES.iter().enumerate() {
+        let so = is_renewed_behind(rt.alloc(), messages, *files)?;
+        assert!(rt; so, "phase {at}");
     }
     Ok(())
+}
+
+const SHORT: LinkSetup = LinkSetup {
+    max_message: 64,
+    ..SERVING
+};
+
+/// A packet with a message of 65 bytes.
+fn longer(alloc: Global) -> Result<Vec<u8>, Fail> {
+    let mut packet = Vec::from_slice(alloc, b"\x60\x02\x02\x01\x01\x00\x80\x01\x00")?;
+    packet.extend_from_slice(RECORD)?;
+    packet.extend_from_slice(b"A")?;
+    Ok(packet)
+}
+
+/// Whether the packet is refused as too long, and fails the link.
+fn fails_by(alloc: Global, end: &mut ServingEnd, packet: &[u8]) -> bool {
+    let mut out = Vec::new(alloc);
+    let refused = TakeFault::Refused(LinkFault::MessageTooLong);
+    end.take(packet, &mut out) == Err(refused) && end.link().has_failed() && out.is_empty()
+}
+
+/// Whether all that would write is refused.
+fn writes_nothing(end: &mut ServingEnd) -> bool {
+    is_packet(end.ack(), Err(LinkFault::Failed))
+        && is_packet(end.resend(0), Err(LinkFault::Failed))
+        && end.post() == Err(LinkFault::Failed)
+        && end.emit() == Err(LinkFault::Failed)
 }
 
 /// A message longer than the setup lets be fails the link, and what would write is refused then.
 #[test]
 fn a_message_that_is_too_long(rt: HostRuntime) -> Result<(), Fail> {
-    let alloc = rt.alloc();
-    let short = LinkSetup {
-        max_message: 64,
-        ..SERVING
-    };
-    let mut end = ServingEnd::new(alloc, 1024, short)?;
-    let mut packet = Vec::from_slice(alloc, b"\x60\x02\x02\x01\x01\x00\x80\x01\x00")?;
-    packet.extend_from_slice(RECORD)?;
-    packet.extend_from_slice(b"A")?;
-    let mut out = Vec::new(alloc);
-    let refused = TakeFault::Refused(LinkFault::MessageTooLong);
-    assert_eq!(rt; end.take(&packet, &mut out), Err(refused));
-    assert!(rt; end.link().has_failed() && out.is_empty());
-    assert!(rt; is_packet(end.ack(), Err(LinkFault::Failed)));
-    assert!(rt; is_packet(end.resend(0), Err(LinkFault::Failed)));
-    assert_eq!(rt; end.post(), Err(LinkFault::Failed));
-    assert!(rt; end.emit() == Err(LinkFault::Failed));
+    let packet = longer(rt.alloc())?;
+    let mut end = ServingEnd::new(rt.alloc(), 1024, SHORT)?;
+    assert!(rt; fails_by(rt.alloc(), &mut end, &packet) && writes_nothing(&mut end));
     Ok(())
 }

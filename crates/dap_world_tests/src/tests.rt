@@ -10,13 +10,16 @@ mod rows;
 mod scripts;
 
 use calls::{
-    acknowledgement, apply, ask, begin, count_unacked, direct, finish, run, taken, written,
+    ack, acknowledgement, apply, ask, begin, count_unacked, deliver, direct, emit, finish, post,
+    read, run, serve, taken, written,
 };
 use dap_text::{Words, push_hex, push_report, read_number, read_request};
 use dap_world::{
     End, Event, Got, RecordFile, Report, Request, Step, World, WorldFault, WorldSetup,
 };
 use files::{Files, holds};
+use finishing::{Row, Settled, is_finished, settles_so, stops_so};
+use random::play_schedule;
 use std::alloc::Global;
 use std::process::Abort;
 use std::test::Fail;
@@ -35,6 +38,21 @@ enum Do {
     Deliver(End, usize),
     Serve,
     Read,
+}
+
+/// Many events at once. Requests are the words of a schedule, and reports are what is printed of them.
+#[derive(Clone, Copy)]
+enum Many {
+    /// Requests over a clean network, each with its report.
+    Turns(&'static [Told]),
+    /// A request whose packets may be lost, behind others over a clean network.
+    Lost(Row),
+    /// Segments that are settled.
+    Settles(Settled),
+    /// Requests over a clean network, what they come to, and how many are asked and reported.
+    Stops(&'static [&'static str], Result<(), (usize, WorldFault)>, usize),
+    /// A schedule that is drawn by lot.
+    Drawn(u32),
 }
 
 /// What a script says. Requests are the words of a schedule, and reports are what is printed of them.
@@ -62,6 +80,8 @@ enum Line {
     Took(u64),
     /// All is finished.
     Finishes,
+    /// Many events come to what is said of them.
+    Comes(Many),
     /// Events one after the other, what they come to, whether the world is fresh then, and how many requests were
     /// asked, messages sent, and messages read.
     Runs(&'static [Do], Result<(), (usize, WorldFault)>, (bool, usize, usize, u64)),
@@ -190,6 +210,21 @@ fn is_written(
     }
 }
 
+/// Whether the event writes a packet with these bytes to this place.
+fn writes(
+    alloc: Global,
+    world: &mut World,
+    what: Do,
+    end: End,
+    place: usize,
+    digits: &str,
+) -> Result<bool, WorldFault> {
+    Ok(
+        happen(alloc, world, what) == Ok(Step::Packet(place))
+            && is_written(alloc, world, end, place, digits)?,
+    )
+}
+
 /// Whether the newest report is printed so.
 fn is_newest(alloc: Global, world: &World, words: &str) -> Result<bool, WorldFault> {
     match world.reports().last() {
@@ -219,33 +254,37 @@ fn turn(
     serves: usize,
     reads: usize,
 ) -> Result<(), WorldFault> {
-    let (asked, answered) = (written(world, End::A), written(world, End::B));
     ask(world, request(alloc, words)?)?;
-    apply(world, &Event::Post(End::A))?;
-    apply(world, &Event::Emit(End::A))?;
-    apply(world, &Event::Deliver(End::B, asked))?;
-    for _ in 0..serves {
-        apply(world, &Event::Serve)?;
-    }
-    apply(world, &Event::Post(End::B))?;
-    apply(world, &Event::Emit(End::B))?;
-    apply(world, &Event::Deliver(End::A, answered))?;
-    for _ in 0..reads {
-        apply(world, &Event::Read)?;
-    }
+    post(world, End::A)?;
+    carry(world, End::A, End::B)?;
+    serve(world, serves)?;
+    post(world, End::B)?;
+    carry(world, End::B, End::A)?;
+    read(world, reads)
+}
+
+/// Emits the next segment of one end, and delivers it to the other.
+fn carry(world: &mut World, from: End, to: End) -> Result<(), WorldFault> {
+    let place = written(world, from);
+    emit(world, from)?;
+    deliver(world, to, place)?;
+    Ok(())
+}
+
+/// B acknowledges what it took, and the acknowledgement is delivered.
+fn acknowledge(world: &mut World) -> Result<(), WorldFault> {
+    let place = written(world, End::B);
+    ack(world, End::B)?;
+    deliver(world, End::A, place)?;
     Ok(())
 }
 
 /// Emits and delivers the next segments of A, with an acknowledgement after each window.
 fn bring(world: &mut World, segments: usize) -> Result<(), WorldFault> {
     for sent in 0..segments {
-        let place = written(world, End::A);
-        apply(world, &Event::Emit(End::A))?;
-        apply(world, &Event::Deliver(End::B, place))?;
+        carry(world, End::A, End::B)?;
         if sent % 127 == 126 {
-            let back = written(world, End::B);
-            apply(world, &Event::Ack(End::B))?;
-            apply(world, &Event::Deliver(End::A, back))?;
+            acknowledge(world)?;
         }
     }
     Ok(())
@@ -265,15 +304,51 @@ fn turns_so(alloc: Global, world: &mut World, line: Line) -> Result<bool, WorldF
     let Line::Turn(words, sent, serves, answered, reads, told) = line else {
         return Ok(false);
     };
-    let (asks, answers) = (written(world, End::A), written(world, End::B));
-    let before = world.reports().len();
+    let places = places(world);
     turn(alloc, world, words, serves, reads)?;
-    Ok(
-        is_written(alloc, world, End::A, asks, sent)?
-            && is_written(alloc, world, End::B, answers, answered)?
-            && world.reports().len() == before + 1
-            && is_newest(alloc, world, told)?,
+    Ok(are_written(alloc, world, places, sent, answered)? && is_newest(alloc, world, told)?)
+}
+
+/// The places of the next packets of A and of B, and of the next report.
+fn places(world: &World) -> (usize, usize, usize) {
+    (
+        written(world, End::A),
+        written(world, End::B),
+        world.reports().len(),
     )
+}
+
+/// Whether one packet of A and one of B were written at these places, and one report told.
+fn are_written(
+    alloc: Global,
+    world: &World,
+    places: (usize, usize, usize),
+    sent: &str,
+    answered: &str,
+) -> Result<bool, WorldFault> {
+    let (asks, answers, reports) = places;
+    Ok(
+        reports.checked_add(1) == Some(world.reports().len())
+            && is_written(alloc, world, End::A, asks, sent)?
+            && is_written(alloc, world, End::B, answers, answered)?,
+    )
+}
+
+/// Whether requests over a clean network have their reports, and there are no others.
+fn turn_out(alloc: Global, world: &mut World, turns: &[Told]) -> Result<bool, WorldFault> {
+    let came = direct(world, &all_of(alloc, turns)?);
+    Ok(came == Ok(()) && are_told(alloc, world.reports(), turns)?)
+}
+
+/// Whether many events come to what is said of them.
+fn come_so(alloc: Global, world: &mut World, many: Many) -> Result<bool, WorldFault> {
+    match many {
+        Many::Turns(turns) => turn_out(alloc, world, turns),
+        Many::Lost(row) => is_finished(alloc, world, row),
+        Many::Settles(row) => settles_so(alloc, world, row),
+        Many::Stops(list, wanted, count) => stops_so(alloc, world, list, wanted, count),
+        Many::Drawn(schedule) => play_schedule(alloc, world, schedule),
+    }
 }
 
 /// Whether what the line says of many events is so.
@@ -282,12 +357,21 @@ fn go_so(alloc: Global, world: &mut World, line: Line) -> Result<bool, WorldFaul
         Line::Direct(list) => Ok(direct(world, &all(alloc, list)?) == Ok(())),
         Line::Brings(segments) => bring(world, segments).map(|()| true),
         Line::Finishes => finish(world).map(|_events| true),
+        Line::Comes(many) => come_so(alloc, world, many),
         Line::Runs(list, wanted, seen) => {
-            let events = events(alloc, list)?;
-            Ok(run(world, &events) == wanted && counts(world)? == seen)
+            Ok(run(world, &events(alloc, list)?) == wanted && counts(world)? == seen)
         }
         line => turns_so(alloc, world, line),
     }
+}
+
+/// The segments of A that aren't acknowledged, the reports, and the messages that B has served.
+fn tallies(world: &World) -> Result<(usize, usize, usize), WorldFault> {
+    Ok((
+        count_unacked(world, End::A),
+        world.reports().len(),
+        world.taken()?.len(),
+    ))
 }
 
 /// Whether what the line says is so.
@@ -295,15 +379,10 @@ fn is_so(alloc: Global, world: &mut World, line: Line) -> Result<bool, WorldFaul
     Ok(match line {
         Line::Does(what, answer) => happen(alloc, world, what) == answer,
         Line::Writes(what, end, place, digits) => {
-            happen(alloc, world, what) == Ok(Step::Packet(place))
-                && is_written(alloc, world, end, place, digits)?
+            writes(alloc, world, what, end, place, digits)?
         }
         Line::Reports(words) => is_newest(alloc, world, words)?,
-        Line::Counts(unacked, reports, taken) => {
-            count_unacked(world, End::A) == unacked
-                && world.reports().len() == reports
-                && world.taken()?.len() == taken
-        }
+        Line::Counts(unacked, reports, taken) => tallies(world)? == (unacked, reports, taken),
         Line::Took(segments) => taken(world, End::B) == segments,
         Line::Holds(number, body) => is_held(world, number, body),
         Line::Has(files) => holds(world.files(), files),
@@ -312,15 +391,17 @@ fn is_so(alloc: Global, world: &mut World, line: Line) -> Result<bool, WorldFaul
     })
 }
 
-/// Plays a script in a new world: how many messages are sent then, and how many taken.
+/// How many messages are sent, how many taken, and how many requests asked.
+type Tally = (usize, usize, usize);
+
+/// Plays a script in a new world.
 fn play(
     rt: &(impl AllocGlobal + Abort),
     setup: WorldSetup,
     script: &[Line],
-) -> Result<(usize, usize), WorldFault> {
+) -> Result<Tally, WorldFault> {
     let mut world = begin(rt.alloc(), setup)?;
-    go_on(rt, &mut world, script)?;
-    Ok((world.sent()?.len(), world.taken()?.len()))
+    go_on(rt, &mut world, script)
 }
 
 /// Plays a script in a world.
@@ -328,10 +409,15 @@ fn go_on(
     rt: &(impl AllocGlobal + Abort),
     world: &mut World,
     script: &[Line],
-) -> Result<(), WorldFault> {
+) -> Result<Tally, WorldFault> {
     for (at, line) in script.iter().enumerate() {
         let so = is_so(rt.alloc(), world, *line)?;
         assert!(rt; so, "at line {at}");
     }
-    Ok(())
+    exchanged(world)
+}
+
+fn exchanged(world: &World) -> Result<Tally, WorldFault> {
+    let (sent, taken) = (world.sent()?.len(), world.taken()?.len());
+    Ok((sent, taken, world.requests().len()))
 }

@@ -2,6 +2,7 @@
 
 use nsp_link::{Got, LinkEnd, LinkFault, LinkSetup};
 use std::alloc::Global;
+use std::process::Abort;
 use std::test::Fail;
 
 const A: LinkSetup = LinkSetup {
@@ -99,7 +100,10 @@ const FIRST: Bytes = &[0x20, 2, 2, 1, 1, 0, 0x80, 1, 0, 7];
 
 const SECOND: Bytes = &[0, 2, 2, 1, 1, 0, 0x80, 2, 0, 8];
 
-const SCRIPTS: &[(LinkSetup, &[Line])] = &[
+/// Setups, and what is asked of an end with each.
+type Scripts = &'static [(LinkSetup, &'static [Line])];
+
+const SENT: Scripts = &[
     // A message is sent in one packet.
     (
         A,
@@ -124,6 +128,9 @@ const SCRIPTS: &[(LinkSetup, &[Line])] = &[
             Take(None),
         ],
     ),
+];
+
+const WINDOW: Scripts = &[
     // The window holds back.
     (
         NARROW,
@@ -141,6 +148,9 @@ const SCRIPTS: &[(LinkSetup, &[Line])] = &[
             Counts(2, 3, 0, 0, 0),
         ],
     ),
+];
+
+const SEGMENTS: Scripts = &[
     // A message in three segments, and what acknowledges them.
     (
         LinkSetup { seg_size: 2, ..A },
@@ -154,6 +164,9 @@ const SCRIPTS: &[(LinkSetup, &[Line])] = &[
             Counts(0, 3, 0, 0, 0),
         ],
     ),
+];
+
+const DISORDER: Scripts = &[
     // They come in another order, and again.
     (
         B,
@@ -171,6 +184,9 @@ const SCRIPTS: &[(LinkSetup, &[Line])] = &[
             Ack(Ok(&[0x04, 1, 1, 2, 2, 3, 0x80])),
         ],
     ),
+];
+
+const FAILING: Scripts = &[
     // What wasn't sent is acknowledged.
     (
         A,
@@ -193,6 +209,9 @@ const SCRIPTS: &[(LinkSetup, &[Line])] = &[
             Counts(0, 0, 0, 0, 0),
         ],
     ),
+];
+
+const LENGTHS: Scripts = &[
     // A message that is too long comes, and one that just isn't.
     (
         SHORT_A,
@@ -206,6 +225,9 @@ const SCRIPTS: &[(LinkSetup, &[Line])] = &[
         SHORT_A,
         &[Receive(LONGEST, ACCEPTED), Counts(0, 0, 1, 64, 0)],
     ),
+];
+
+const OTHER_LINKS: Scripts = &[
     // Packets to another link, and from another.
     (
         A,
@@ -222,6 +244,9 @@ const SCRIPTS: &[(LinkSetup, &[Line])] = &[
             Receive(&[0x60, 1, 1, 2, 2, 0, 0x80, 1, 0], ACCEPTED),
         ],
     ),
+];
+
+const ROUND: Scripts = &[
     // Once round all numbers.
     (
         B,
@@ -236,6 +261,9 @@ const SCRIPTS: &[(LinkSetup, &[Line])] = &[
             Counts(0, 0, 4096, 0, 0),
         ],
     ),
+];
+
+const COMING_EARLY: Scripts = &[
     // What comes early is held.
     (
         LinkSetup { window: 4, ..B },
@@ -258,6 +286,9 @@ const SCRIPTS: &[(LinkSetup, &[Line])] = &[
         LinkSetup { window: 1, ..B },
         &[Come(2, 2, Got::Early), Counts(0, 0, 0, 0, 0)],
     ),
+];
+
+const WIDEST: Scripts = &[
     // The widest window. At last segment 1 is too old to be told from segment 4,097: it is held as that one, and
     // taken behind segment 4,096.
     (
@@ -290,6 +321,9 @@ const SCRIPTS: &[(LinkSetup, &[Line])] = &[
             Counts(0, 2047, 0, 0, 0),
         ],
     ),
+];
+
+const HELD: Scripts = &[
     // The second segment of a message ends it, though its third is held.
     (
         B,
@@ -311,6 +345,9 @@ const SCRIPTS: &[(LinkSetup, &[Line])] = &[
             Counts(0, 0, 1, 1, 1),
         ],
     ),
+];
+
+const HELD_LONG: Scripts = &[
     (
         SHORT_B,
         &[
@@ -347,6 +384,9 @@ const SCRIPTS: &[(LinkSetup, &[Line])] = &[
             Counts(0, 0, 1, 1, 1),
         ],
     ),
+];
+
+const TOGETHER: Scripts = &[
     // All messages are sent, or none.
     (
         SHORT_A,
@@ -372,6 +412,20 @@ fn messages(alloc: Global, list: &[Bytes]) -> Result<Vec<Vec<u8>>, LinkFault> {
         all.push(Vec::from_slice(alloc, bytes)?)?;
     }
     Ok(all)
+}
+
+/// What the end answers where all of these are sent.
+fn send_all(
+    alloc: Global,
+    end: &mut LinkEnd,
+    list: &[Bytes],
+) -> Result<Result<(), LinkFault>, LinkFault> {
+    Ok(end.send_all(&messages(alloc, list)?))
+}
+
+/// What the end answers where all of these are checked.
+fn check(alloc: Global, end: &LinkEnd, list: &[Bytes]) -> Result<Result<(), LinkFault>, LinkFault> {
+    Ok(end.check_messages(&messages(alloc, list)?))
 }
 
 fn fill(end: &mut LinkEnd, sent: usize, written: usize) -> Result<bool, LinkFault> {
@@ -439,8 +493,8 @@ fn counts(end: &LinkEnd) -> (usize, u64, u64, usize, usize) {
 fn is_so(alloc: Global, end: &mut LinkEnd, line: Line) -> Result<bool, LinkFault> {
     Ok(match line {
         Send(message, answer) => end.send(message) == answer,
-        SendAll(list, answer) => end.send_all(&messages(alloc, list)?) == answer,
-        Check(list, answer) => end.check_messages(&messages(alloc, list)?) == answer,
+        SendAll(list, answer) => send_all(alloc, end, list)? == answer,
+        Check(list, answer) => check(alloc, end, list)? == answer,
         MaySend(may) => end.may_send() == may,
         Next(wanted) => is_next(end, wanted),
         Resend(place, wanted) => is_packet(end.resend(place), wanted),
@@ -463,20 +517,103 @@ fn first_wrong(
     script: &[Line],
 ) -> Result<Option<usize>, LinkFault> {
     let mut end = LinkEnd::new(alloc, setup)?;
+    play(alloc, &mut end, script)
+}
+
+/// Plays a script, up to the first line that isn't so.
+fn play(alloc: Global, end: &mut LinkEnd, script: &[Line]) -> Result<Option<usize>, LinkFault> {
     for (at, line) in script.iter().enumerate() {
-        if !is_so(alloc, &mut end, *line)? {
+        if !is_so(alloc, end, *line)? {
             return Ok(Some(at));
         }
     }
     Ok(None)
 }
 
-#[test]
-fn scripts(rt: HostRuntime) -> Result<(), Fail> {
-    for (at, (setup, script)) in SCRIPTS.iter().enumerate() {
+/// Each line of these scripts is so.
+fn follow(rt: &(impl AllocGlobal + Abort), scripts: Scripts) -> Result<(), LinkFault> {
+    for (at, (setup, script)) in scripts.iter().enumerate() {
         let wrong = first_wrong(rt.alloc(), *setup, script)?;
         assert!(rt; wrong.is_none(), "script {at}, line {wrong:?}");
     }
+    Ok(())
+}
+
+#[test]
+fn a_message_in_one_packet(rt: HostRuntime) -> Result<(), Fail> {
+    follow(&rt, SENT)?;
+    Ok(())
+}
+
+#[test]
+fn a_window_that_holds_back(rt: HostRuntime) -> Result<(), Fail> {
+    follow(&rt, WINDOW)?;
+    Ok(())
+}
+
+#[test]
+fn a_message_in_segments(rt: HostRuntime) -> Result<(), Fail> {
+    follow(&rt, SEGMENTS)?;
+    Ok(())
+}
+
+#[test]
+fn segments_in_another_order(rt: HostRuntime) -> Result<(), Fail> {
+    follow(&rt, DISORDER)?;
+    Ok(())
+}
+
+#[test]
+fn links_that_fail(rt: HostRuntime) -> Result<(), Fail> {
+    follow(&rt, FAILING)?;
+    Ok(())
+}
+
+#[test]
+fn messages_that_are_too_long(rt: HostRuntime) -> Result<(), Fail> {
+    follow(&rt, LENGTHS)?;
+    Ok(())
+}
+
+#[test]
+fn packets_of_other_links(rt: HostRuntime) -> Result<(), Fail> {
+    follow(&rt, OTHER_LINKS)?;
+    Ok(())
+}
+
+#[test]
+fn numbers_once_round(rt: HostRuntime) -> Result<(), Fail> {
+    follow(&rt, ROUND)?;
+    Ok(())
+}
+
+#[test]
+fn segments_that_come_early(rt: HostRuntime) -> Result<(), Fail> {
+    follow(&rt, COMING_EARLY)?;
+    Ok(())
+}
+
+#[test]
+fn the_widest_window(rt: HostRuntime) -> Result<(), Fail> {
+    follow(&rt, WIDEST)?;
+    Ok(())
+}
+
+#[test]
+fn what_is_held_and_wrong(rt: HostRuntime) -> Result<(), Fail> {
+    follow(&rt, HELD)?;
+    Ok(())
+}
+
+#[test]
+fn what_is_held_and_too_long(rt: HostRuntime) -> Result<(), Fail> {
+    follow(&rt, HELD_LONG)?;
+    Ok(())
+}
+
+#[test]
+fn messages_sent_together(rt: HostRuntime) -> Result<(), Fail> {
+    follow(&rt, TOGETHER)?;
     Ok(())
 }
 
@@ -513,12 +650,19 @@ fn made(
 fn limits_of_a_setup(rt: HostRuntime) {
     for (seg_size, window, max_message, good) in LIMITS {
         let answer = made(rt.alloc(), *seg_size, *window, *max_message);
-        let wanted = if *good {
-            Ok(())
-        } else {
-            Err(LinkFault::BadSetup)
-        };
-        assert_eq!(rt; answer, wanted);
+        assert!(rt;
+            answer == wanted(*good),
+            "{seg_size} {window} {max_message}"
+        );
+    }
+}
+
+/// What a good setup comes to, and a bad one.
+fn wanted(good: bool) -> Result<(), LinkFault> {
+    if good {
+        Ok(())
+    } else {
+        Err(LinkFault::BadSetup)
     }
 }
 
@@ -531,30 +675,50 @@ fn is_answered(alloc: Global, bytes: &[u8]) -> Result<bool, LinkFault> {
     };
     let mut end = LinkEnd::new(alloc, setup)?;
     let answer = end.receive(bytes);
-    let is_failed = end.ack_packet().is_err();
-    Ok(match answer {
+    Ok(fits_answer(answer, end.ack_packet().is_err()))
+}
+
+/// Whether the answer goes with a link that failed, or didn't.
+fn fits_answer(answer: Result<Got, LinkFault>, is_failed: bool) -> bool {
+    match answer {
         Ok(_) => !is_failed,
         Err(LinkFault::BadSequence | LinkFault::MessageTooLong) => is_failed,
         Err(LinkFault::Malformed(_) | LinkFault::WrongLink) => !is_failed,
         Err(_) => false,
-    })
+    }
 }
 
 /// Whether the bytes are answered with each part of them cut off, and with each of them changed to any other.
 fn are_answered(alloc: Global, bytes: &[u8]) -> Result<bool, LinkFault> {
     let mut changed = Vec::from_slice(alloc, bytes)?;
     for at in 0..bytes.len() {
-        let mut good = is_answered(alloc, &bytes[..at])?;
-        for change in 1..=255 {
-            changed[at] = bytes[at] ^ change;
-            good &= is_answered(alloc, &changed)?;
-        }
-        changed[at] = bytes[at];
-        if !good {
+        let good = is_answered(alloc, &bytes[..at])?;
+        if !(good && are_changes_answered(alloc, &mut changed, at)?) {
             return Ok(false);
         }
     }
     Ok(true)
+}
+
+/// Whether the bytes are answered with the one at this place changed to any other.
+fn are_changes_answered(alloc: Global, bytes: &mut [u8], at: usize) -> Result<bool, LinkFault> {
+    let Some(own) = bytes.get(at).copied() else {
+        return Ok(false);
+    };
+    let mut good = true;
+    for change in 1..=255 {
+        put(bytes, at, own ^ change);
+        good &= is_answered(alloc, bytes)?;
+    }
+    put(bytes, at, own);
+    Ok(good)
+}
+
+/// Sets the byte at this place, if there is one.
+fn put(bytes: &mut [u8], at: usize, value: u8) {
+    if let Some(byte) = bytes.get_mut(at) {
+        *byte = value;
+    }
 }
 
 const SEGMENT: Bytes = &[0x60, 2, 1, 4, 3, 5, 0x80, 1, 0, 6, 2, 0];

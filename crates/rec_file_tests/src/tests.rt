@@ -52,7 +52,7 @@ const THREE: Shape = Shape {
 
 static LONG: [u8; 32768] = [7; 32768];
 
-#[derive(Clone, Copy, Debug)]
+#[derive(Clone, Copy)]
 enum Call {
     Get(Pick),
     Put(Option<u32>, &'static [u8]),
@@ -73,15 +73,19 @@ fn play<F: RecordFile>(
     stream: &mut Stream,
     script: &[(Call, Result<u32, Refusal>)],
 ) {
-    for (call, answer) in script {
-        let reply = match *call {
-            Call::Get(pick) => stream.get(file, pick),
-            Call::Put(key, body) => stream.put(file, key, body),
-            Call::Update(body) => stream.update(file, body),
-            Call::Delete => stream.delete(file),
-            call => Ok(moved(stream, call)),
-        };
-        assert_eq!(rt; reply, *answer, "at {call:?}");
+    for (at, (call, answer)) in script.iter().enumerate() {
+        assert!(rt; reply(file, stream, *call) == *answer, "at line {at}");
+    }
+}
+
+/// What a call answers.
+fn reply<F: RecordFile>(file: &mut F, stream: &mut Stream, call: Call) -> Result<u32, Refusal> {
+    match call {
+        Call::Get(pick) => stream.get(file, pick),
+        Call::Put(key, body) => stream.put(file, key, body),
+        Call::Update(body) => stream.update(file, body),
+        Call::Delete => stream.delete(file),
+        call => Ok(moved(stream, call)),
     }
 }
 
@@ -96,11 +100,8 @@ fn moved(stream: &mut Stream, call: Call) -> u32 {
 }
 
 fn get_and_delete<F: RecordFile>(rt: &impl Abort, file: &mut F, stream: &mut Stream, number: u32) {
-    let calls = [
-        (Call::Get(Pick::Key(number)), Ok(number)),
-        (Call::Delete, Ok(number)),
-    ];
-    play(rt, file, stream, &calls);
+    let got = stream.get(file, Pick::Key(number));
+    assert!(rt; got == Ok(number) && stream.delete(file) == Ok(number));
 }
 
 fn holds<F: RecordFile>(file: &F, number: u32, body: &[u8]) -> bool {
@@ -203,6 +204,12 @@ const FIRSTS: &[(u32, Option<u32>)] = &[
     (4294967295, None),
 ];
 
+/// Records that are removed, and then the pages, the greatest number, and the first record from 2 on.
+const REMOVALS: &[(u32, (usize, u32, Option<u32>))] = &[
+    (64, (3, 2147483647, Some(65))),
+    (2147483647, (2, 65, Some(65))),
+];
+
 /// The record of a number is there, and is removed.
 fn removes(rt: &impl Abort, file: &mut RelFile, number: u32) {
     assert!(rt; !file.shape().is_sequential());
@@ -210,24 +217,39 @@ fn removes(rt: &impl Abort, file: &mut RelFile, number: u32) {
     assert!(rt; file.lookup(number).is_none());
 }
 
+/// The pages, the greatest number, and the first record from 2 on.
+fn sizes(file: &RelFile) -> (usize, u32, Option<u32>) {
+    (file.page_count(), file.highest(), file.first_from(2))
+}
+
+/// The first record from each of some numbers on.
+fn begins_at(rt: &impl Abort, file: &RelFile, firsts: &[(u32, Option<u32>)]) {
+    for (from, first) in firsts {
+        assert!(rt; file.first_from(*from) == *first, "from {from}");
+    }
+}
+
+/// The records are removed, each with what is then left.
+fn removes_each(rt: &impl Abort, file: &mut RelFile) {
+    for (number, left) in REMOVALS {
+        removes(rt, file, *number);
+        assert!(rt; sizes(file) == *left, "behind {number}");
+    }
+}
+
+/// Four records are put, found and removed.
+fn four_records(rt: &impl Abort, file: &mut RelFile) {
+    assert!(rt; sizes(file) == (0, 0, None));
+    play(rt, file, &mut Stream::new(ALL), FOUR_PUTS);
+    assert!(rt; sizes(file) == (3, 2147483647, Some(64)));
+    begins_at(rt, file, FIRSTS);
+    assert!(rt; holds(file, 1, b"") && file.lookup(2).is_none());
+    removes_each(rt, file);
+}
+
 #[test]
 fn pages_of_four_records(rt: HostRuntime) {
-    let mut file = RelFile::new(rt.alloc(), RELATIVE);
-    let mut stream = Stream::new(ALL);
-    assert_eq!(rt; file.page_count(), 0);
-    play(&rt, &mut file, &mut stream, FOUR_PUTS);
-    assert_eq!(rt; file.page_count(), 3);
-    for (from, first) in FIRSTS {
-        assert_eq!(rt; file.first_from(*from), *first, "from {from}");
-    }
-    assert!(rt; holds(&file, 1, b""));
-    assert_eq!(rt; file.lookup(2), None);
-    removes(&rt, &mut file, 64);
-    assert_eq!(rt; file.first_from(2), Some(65));
-    assert_eq!(rt; file.page_count(), 3);
-    removes(&rt, &mut file, 2147483647);
-    assert_eq!(rt; file.highest(), 65);
-    assert_eq!(rt; file.page_count(), 2);
+    four_records(&rt, &mut RelFile::new(rt.alloc(), RELATIVE));
 }
 
 const SEQUENTIAL_REFUSALS: Script = &[
@@ -291,7 +313,7 @@ fn each_refusal_of_a_sequential_file(rt: HostRuntime) {
     sequential_refusals(&rt, &mut AnyFile::new(rt.alloc(), shape));
 }
 
-const RELATIVE_REFUSALS: [(Call, Result<u32, Refusal>); 33] = [
+const RELATIVE_REFUSALS: Script = &[
     (Call::Get(Pick::Next), Err(Refusal::EndOfFile)),
     (Call::Get(Pick::Key(0)), Err(Refusal::NumberOutOfRange)),
     (Call::Get(Pick::Key(4)), Err(Refusal::NumberOutOfRange)),
@@ -328,11 +350,13 @@ const RELATIVE_REFUSALS: [(Call, Result<u32, Refusal>); 33] = [
 ];
 
 fn relative_refusals<F: RecordFile>(rt: &impl Abort, file: &mut F) {
-    play(rt, file, &mut Stream::new(ALL), &RELATIVE_REFUSALS);
+    play(rt, file, &mut Stream::new(ALL), RELATIVE_REFUSALS);
     assert!(rt; holds(file, 1, b"zz"));
     not_permitted(rt, file);
     two_streams(rt, file);
 }
+
+const FIRST_READ: Script = &[(Call::Get(Pick::Key(1)), Ok(1))];
 
 const REMOVED: Script = &[
     (Call::Update(b"abc"), Err(Refusal::NoCurrent)),
@@ -346,7 +370,7 @@ const REMOVED_AGAIN: Script = &[(Call::Delete, Err(Refusal::NoCurrent))];
 fn two_streams<F: RecordFile>(rt: &impl Abort, file: &mut F) {
     let mut first = Stream::new(ALL);
     let mut second = Stream::new(ALL);
-    play(rt, file, &mut first, &[(Call::Get(Pick::Key(1)), Ok(1))]);
+    play(rt, file, &mut first, FIRST_READ);
     get_and_delete(rt, file, &mut second, 1);
     play(rt, file, &mut first, REMOVED);
     get_and_delete(rt, file, &mut second, 1);
@@ -359,22 +383,16 @@ fn each_refusal_of_a_relative_file(rt: HostRuntime) {
     relative_refusals(&rt, &mut AnyFile::new(rt.alloc(), THREE));
 }
 
-fn first_len<F: RecordFile>(file: &F, from: u32) -> Option<(u32, usize)> {
+fn first_len(file: &AnyFile, from: u32) -> Option<(u32, usize)> {
     first_record(file, from).map(|(number, body)| (number, body.len()))
 }
 
-fn longest<F: RecordFile>(rt: &impl Abort, file: &mut F) {
-    play(
-        rt,
-        file,
-        &mut Stream::new(ALL),
-        &[
-            (Call::Put(None, &LONG), Err(Refusal::BadLength)),
-            (Call::Put(None, &LONG[1..]), Ok(1)),
-        ],
-    );
-    assert_eq!(rt; first_len(file, 0), Some((1, 32767)));
-    assert_eq!(rt; first_len(file, 2), None);
+fn longest(rt: &impl Abort, file: &mut AnyFile) {
+    let mut stream = Stream::new(ALL);
+    let longer = stream.put(file, None, &LONG);
+    let longest = stream.put(file, None, &LONG[1..]);
+    assert!(rt; longer == Err(Refusal::BadLength) && longest == Ok(1));
+    assert!(rt; first_len(file, 0) == Some((1, 32767)) && first_len(file, 2).is_none());
 }
 
 #[test]
@@ -392,17 +410,16 @@ const AT_THE_END: Script = &[
     (Call::Delete, Err(Refusal::NoCurrent)),
 ];
 
+fn at_its_end(rt: &impl Abort, file: &mut RelFile) {
+    let mut stream = Stream::new(ALL);
+    assert!(rt; stream.rights() == ALL);
+    stream.seek(MAX_NUMBER);
+    play(rt, file, &mut stream, AT_THE_END);
+}
+
 #[test]
 fn a_stream_at_its_end(rt: HostRuntime) {
-    let mut stream = Stream::new(ALL);
-    assert_eq!(rt; stream.rights(), ALL);
-    stream.seek(MAX_NUMBER);
-    play(
-        &rt,
-        &mut RelFile::new(rt.alloc(), RELATIVE),
-        &mut stream,
-        AT_THE_END,
-    );
+    at_its_end(&rt, &mut RelFile::new(rt.alloc(), RELATIVE));
 }
 
 /// ORG, RFM, MRS and MRN, and the shape that they name: whether it is sequential, and its limits.
@@ -422,19 +439,34 @@ const SHAPES: &[(u8, u8, u16, u64, Option<(bool, u16, u32)>)] = &[
     (16, 2, 0, 18446744073709551615, None),
 ];
 
+/// Lengths of a record, and whether the shape allows them.
+const LENGTHS: &[(Shape, usize, bool)] = &[
+    (PAIRS, 1, false),
+    (PAIRS, 2, true),
+    (RELATIVE, 32767, true),
+    (RELATIVE, 32768, false),
+];
+
+/// Whether the shape that these attributes name is sequential, and its limits.
+fn shown(org: u8, rfm: u8, mrs: u16, mrn: u64) -> Option<(bool, u16, u32)> {
+    let shape = Shape::check(org, rfm, mrs, mrn)?;
+    Some((shape.is_sequential(), shape.mrs, shape.mrn))
+}
+
 #[test]
 fn shapes_that_attributes_name(rt: HostRuntime) {
-    for (org, rfm, mrs, mrn, kept) in SHAPES {
-        let shape = Shape::check(*org, *rfm, *mrs, *mrn);
-        let shown = shape.map(|s| (s.is_sequential(), s.mrs, s.mrn));
-        assert_eq!(rt; shown, *kept, "at {org} {rfm} {mrs} {mrn}");
+    for (at, (org, rfm, mrs, mrn, kept)) in SHAPES.iter().enumerate() {
+        assert!(rt; shown(*org, *rfm, *mrs, *mrn) == *kept, "at line {at}");
     }
-    assert_eq!(rt; (RELATIVE.limit(), THREE.limit()), (2147483647, 3));
-    assert_eq!(rt; (PAIRS.allows(1), PAIRS.allows(2)), (false, true));
-    assert_eq!(rt;
-        (RELATIVE.allows(32767), RELATIVE.allows(32768)),
-        (true, false)
-    );
+    assert!(rt; (RELATIVE.limit(), THREE.limit()) == (2147483647, 3));
+    allow_lengths(&rt);
+}
+
+/// Each shape allows these lengths, or doesn't.
+fn allow_lengths(rt: &impl Abort) {
+    for (shape, length, allowed) in LENGTHS {
+        assert!(rt; shape.allows(*length) == *allowed, "{length}");
+    }
 }
 
 const KEYS: &[(&[u8], Result<u32, Refusal>)] = &[
@@ -450,7 +482,7 @@ const KEYS: &[(&[u8], Result<u32, Refusal>)] = &[
 #[test]
 fn keys_of_one_to_four_bytes(rt: HostRuntime) {
     for (key, number) in KEYS {
-        assert_eq!(rt; key_number(key), *number);
+        assert!(rt; key_number(key) == *number, "{key:?}");
     }
 }
 
@@ -489,14 +521,113 @@ fn count_pages(map: &Map) -> usize {
     count
 }
 
+fn highest_of(map: &Map) -> u32 {
+    map.last_key_value().map_or(0, |(number, _)| *number)
+}
+
+/// Whether the pages answer as the map does for a number.
+fn is_same(pages: &RelFile, map: &Map, number: u32) -> bool {
+    pages.first_from(number) == first_of(map, number)
+        && pages.lookup(number) == map.get(&number).copied()
+}
+
 fn same_records(rt: &impl Abort, pages: &RelFile, map: &Map) {
-    let highest = map.last_key_value().map(|(number, _)| *number);
-    assert_eq!(rt; pages.highest(), highest.unwrap_or(0));
+    assert!(rt; pages.highest() == highest_of(map));
+    assert!(rt; pages.page_count() == count_pages(map));
     for number in 0..400 {
-        assert_eq!(rt; pages.first_from(number), first_of(map, number));
-        assert_eq!(rt; pages.lookup(number), map.get(&number).copied());
+        assert!(rt; is_same(pages, map, number), "at {number}");
     }
-    assert_eq!(rt; pages.page_count(), count_pages(map));
+}
+
+/// What a put of the number answers, for what the map holds.
+fn wanted_put(map: &Map, number: u32) -> Result<u32, Refusal> {
+    if map.contains_key(&number) {
+        Err(Refusal::RecordExists)
+    } else {
+        Ok(number)
+    }
+}
+
+/// A put to the pages and to the map.
+fn put_to_both(
+    rt: &impl Abort,
+    stream: &mut Stream,
+    pages: &mut RelFile,
+    map: &mut Map,
+    number: u32,
+) -> Result<(), Fail> {
+    let put = stream.put(pages, Some(number), b"put");
+    assert!(rt; put == wanted_put(map, number), "at {number}");
+    if put.is_ok() {
+        map.insert(number, b"put")?;
+    }
+    Ok(())
+}
+
+/// A pick of one step: the next record, or the one under the number.
+fn pick_at(step: u32, number: u32) -> Pick {
+    if step % 2 == 0 {
+        Pick::Next
+    } else {
+        Pick::Key(number)
+    }
+}
+
+/// What an update or a delete answers behind a get that answered so.
+fn behind(got: Result<u32, Refusal>) -> Result<u32, Refusal> {
+    got.map_err(|_| Refusal::NoCurrent)
+}
+
+/// A delete from the pages and from the map, behind a get that answered so.
+fn delete_from_both(
+    rt: &impl Abort,
+    stream: &mut Stream,
+    pages: &mut RelFile,
+    map: &mut Map,
+    got: Result<u32, Refusal>,
+) {
+    assert!(rt; stream.delete(pages) == behind(got), "behind {got:?}");
+    if let Ok(number) = got {
+        map.remove(&number);
+    }
+}
+
+/// An update of the pages and of the map, behind a get that answered so.
+fn update_both(
+    rt: &impl Abort,
+    stream: &mut Stream,
+    pages: &mut RelFile,
+    map: &mut Map,
+    got: Result<u32, Refusal>,
+) -> Result<(), Fail> {
+    let updated = stream.update(pages, b"updated");
+    assert!(rt; updated == behind(got), "behind {got:?}");
+    if let Ok(number) = got {
+        map.insert(number, b"updated")?;
+    }
+    Ok(())
+}
+
+/// One step of the script.
+fn take_step(
+    rt: &impl Abort,
+    stream: &mut Stream,
+    pages: &mut RelFile,
+    map: &mut Map,
+    step: u32,
+    number: u32,
+) -> Result<(), Fail> {
+    if step % 5 < 2 {
+        return put_to_both(rt, stream, pages, map, number);
+    }
+    let pick = pick_at(step, number);
+    let got = picked(map, pick, stream.next());
+    assert!(rt; stream.get(pages, pick) == got, "at {number}");
+    if step % 3 == 0 {
+        delete_from_both(rt, stream, pages, map, got);
+        return Ok(());
+    }
+    update_both(rt, stream, pages, map, got)
 }
 
 /// The pages answer as a map does to a long script of scattered numbers.
@@ -509,35 +640,7 @@ fn pages_answer_as_a_map(rt: HostRuntime) -> Result<(), Fail> {
     for step in 0..1500u32 {
         seed = seed.wrapping_mul(1664525).wrapping_add(1013904223);
         let number = (seed >> 8) % 300 + 1;
-        if step % 5 < 2 {
-            let put = stream.put(&mut pages, Some(number), b"put");
-            if map.contains_key(&number) {
-                assert_eq!(rt; put, Err(Refusal::RecordExists));
-            } else {
-                assert_eq!(rt; put, Ok(number));
-                map.insert(number, b"put")?;
-            }
-            continue;
-        }
-        let pick = if step % 2 == 0 {
-            Pick::Next
-        } else {
-            Pick::Key(number)
-        };
-        let got = picked(&map, pick, stream.next());
-        assert_eq!(rt; stream.get(&pages, pick), got);
-        let want = got.map_err(|_| Refusal::NoCurrent);
-        if step % 3 == 0 {
-            assert_eq!(rt; stream.delete(&mut pages), want);
-            if let Ok(number) = got {
-                map.remove(&number);
-            }
-        } else {
-            assert_eq!(rt; stream.update(&mut pages, b"updated"), want);
-            if let Ok(number) = got {
-                map.insert(number, b"updated")?;
-            }
-        }
+        take_step(&rt, &mut stream, &mut pages, &mut map, step, number)?;
         if step % 50 == 0 {
             same_records(&rt, &pages, &map);
         }

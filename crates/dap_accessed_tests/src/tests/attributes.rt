@@ -124,11 +124,23 @@ const NOT_KEPT: Session = &[(
 )];
 
 #[test]
-fn kept_replaced_and_used_up(rt: HostRuntime) {
-    session(&rt, REPLACED);
-    session(&rt, USED_UP);
-    session(&rt, KEPT);
-    session(&rt, NOT_KEPT);
+fn replaced_by_the_next(rt: HostRuntime) {
+    plays(&rt, REPLACED);
+}
+
+#[test]
+fn used_up_by_an_access(rt: HostRuntime) {
+    plays(&rt, USED_UP);
+}
+
+#[test]
+fn kept_until_an_access(rt: HostRuntime) {
+    plays(&rt, KEPT);
+}
+
+#[test]
+fn not_kept_before_a_config(rt: HostRuntime) {
+    plays(&rt, NOT_KEPT);
 }
 
 const OPENED_FIXED: &[u8] = &[2, 2, 0x0b, 0xa6, 4, 0, 1, 5, 0, 4, 0, 0, 0, 0, 6, 2, 0];
@@ -189,20 +201,28 @@ const BAD: Script = &[
 /// Makes a file by each of these attributes, in a new end.
 fn makes(rt: &(impl AllocGlobal + Abort), attributes: Script) {
     for (asked, answer) in attributes {
-        let mut end = Accessed::new(rt.alloc(), 1024);
-        says(rt, &mut end, CONFIG, CONFIG);
-        says(rt, &mut end, asked, NOTHING);
-        says(rt, &mut end, MAKE_1, answer);
-        if *answer == BAD_ATTRIBUTES {
-            look(rt, &end, Seen::Holds(0, 0));
-        } else {
-            says(rt, &mut end, CLOSE, COMPLETED);
-        }
+        make(rt, &mut Accessed::new(rt.alloc(), 1024), asked, answer);
+    }
+}
+
+/// Makes a file by these attributes.
+fn make(rt: &impl Abort, end: &mut Accessed, asked: &[u8], answer: &[u8]) {
+    says(rt, end, CONFIG, CONFIG);
+    says(rt, end, asked, NOTHING);
+    says(rt, end, MAKE_1, answer);
+    if answer == BAD_ATTRIBUTES {
+        look(rt, end, Seen::Holds(0, 0));
+    } else {
+        says(rt, end, CLOSE, COMPLETED);
     }
 }
 
 #[test]
-fn missing_or_bad(rt: HostRuntime) {
+fn some_missing(rt: HostRuntime) {
     makes(&rt, MISSING);
+}
+
+#[test]
+fn bad_ones(rt: HostRuntime) {
     makes(&rt, BAD);
 }

@@ -54,40 +54,75 @@ const PUTS_ALONE: Session = &[(ON_RELATIVE_1, Seen::Nothing)];
 
 const GETS_ALONE: Session = &[(ON_RELATIVE_2, Seen::Nothing)];
 
-/// A start, Controls, and how each is refused: a PUT is at its Filedata.
-const NO_NUMBER: &[(Session, &[&[u8]], &[u8])] = &[
-    (RELATIVE_START, GETS_BY_KEY, BAD_KEY),
-    (RELATIVE_START, GETS_FROM_KEY, BAD_KEY),
-    (RELATIVE_START, GETS_WITHOUT_MODE, BAD_MODE),
-    (RELATIVE_START, PUTS_BY_KEY, BAD_KEY),
-    (RELATIVE_START, PUTS_FROM_KEY, BAD_MODE),
-    (RELATIVE_START, PUTS_WITHOUT_MODE, BAD_MODE),
-    (SEQUENTIAL_START, GETS_BY_KEY, BAD_MODE),
-    (SEQUENTIAL_START, GETS_FROM_KEY, BAD_KEY),
-    (SEQUENTIAL_START, PUTS_BY_KEY, BAD_MODE),
-    (PUTS_ALONE, GETS_BY_KEY, NOT_PERMITTED),
-    (PUTS_ALONE, GETS_FROM_KEY, NOT_PERMITTED),
-    (PUTS_ALONE, GETS_WITHOUT_MODE, NOT_PERMITTED),
-    (GETS_ALONE, PUTS_NEXT, NOT_PERMITTED),
-    (GETS_ALONE, PUTS_BY_KEY, NOT_PERMITTED),
-    (GETS_ALONE, PUTS_FROM_KEY, NOT_PERMITTED),
-    (GETS_ALONE, PUTS_WITHOUT_MODE, NOT_PERMITTED),
+/// Controls, and how each is refused: a PUT is at its Filedata.
+type Refusals = &'static [(&'static [&'static [u8]], &'static [u8])];
+
+const OF_A_RELATIVE_FILE: Refusals = &[
+    (GETS_BY_KEY, BAD_KEY),
+    (GETS_FROM_KEY, BAD_KEY),
+    (GETS_WITHOUT_MODE, BAD_MODE),
+    (PUTS_BY_KEY, BAD_KEY),
+    (PUTS_FROM_KEY, BAD_MODE),
+    (PUTS_WITHOUT_MODE, BAD_MODE),
 ];
 
-#[test]
-fn that_spell_no_number(rt: HostRuntime) {
-    for (start, controls, refusal) in NO_NUMBER {
-        let mut end = session(&rt, start);
-        for control in *controls {
-            if control.get(3) == Some(&4) {
-                says(&rt, &mut end, control, NOTHING);
-                says(&rt, &mut end, DATA_B, refusal);
-            } else {
-                says(&rt, &mut end, control, refusal);
-            }
-        }
-        has(&rt, &end, &[]);
+const OF_A_SEQUENTIAL_FILE: Refusals = &[
+    (GETS_BY_KEY, BAD_MODE),
+    (GETS_FROM_KEY, BAD_KEY),
+    (PUTS_BY_KEY, BAD_MODE),
+];
+
+const OF_GETS: Refusals = &[
+    (GETS_BY_KEY, NOT_PERMITTED),
+    (GETS_FROM_KEY, NOT_PERMITTED),
+    (GETS_WITHOUT_MODE, NOT_PERMITTED),
+];
+
+const OF_PUTS: Refusals = &[
+    (PUTS_NEXT, NOT_PERMITTED),
+    (PUTS_BY_KEY, NOT_PERMITTED),
+    (PUTS_FROM_KEY, NOT_PERMITTED),
+    (PUTS_WITHOUT_MODE, NOT_PERMITTED),
+];
+
+/// Each of these is refused by a new end with this start.
+fn refuses_all(rt: &(impl AllocGlobal + Abort), start: Session, rows: Refusals) {
+    for (controls, refusal) in rows {
+        refuses_each(rt, &mut session(rt, start), controls, refusal);
     }
+}
+
+#[test]
+fn that_spell_no_number_of_a_relative_file(rt: HostRuntime) {
+    refuses_all(&rt, RELATIVE_START, OF_A_RELATIVE_FILE);
+}
+
+#[test]
+fn that_spell_no_number_of_a_sequential_file(rt: HostRuntime) {
+    refuses_all(&rt, SEQUENTIAL_START, OF_A_SEQUENTIAL_FILE);
+}
+
+#[test]
+fn that_spell_no_number_without_the_right_to_get(rt: HostRuntime) {
+    refuses_all(&rt, PUTS_ALONE, OF_GETS);
+}
+
+#[test]
+fn that_spell_no_number_without_the_right_to_put(rt: HostRuntime) {
+    refuses_all(&rt, GETS_ALONE, OF_PUTS);
+}
+
+/// Each Control is refused so, and no record is there.
+fn refuses_each(rt: &impl Abort, end: &mut Accessed, controls: &[&[u8]], refusal: &[u8]) {
+    for control in controls {
+        if control.get(3) == Some(&4) {
+            says(rt, end, control, NOTHING);
+            says(rt, end, DATA_B, refusal);
+        } else {
+            says(rt, end, control, refusal);
+        }
+    }
+    has(rt, end, &[]);
 }
 
 const OF_ONE_TO_FOUR_BYTES: Session = &[
@@ -141,7 +176,11 @@ const NOT_LOOKED_AT: Session = &[
 ];
 
 #[test]
-fn of_one_to_four_bytes_or_not_looked_at(rt: HostRuntime) {
-    session(&rt, OF_ONE_TO_FOUR_BYTES);
-    session(&rt, NOT_LOOKED_AT);
+fn spelled_by_one_to_four_bytes(rt: HostRuntime) {
+    plays(&rt, OF_ONE_TO_FOUR_BYTES);
+}
+
+#[test]
+fn without_a_use(rt: HostRuntime) {
+    plays(&rt, NOT_LOOKED_AT);
 }

@@ -55,12 +55,16 @@ const TOO_LARGE_ALONE: Script = &[(GET, TOO_LARGE), (FETCH, TOO_LARGE)];
 #[test]
 fn of_a_record_for_the_peer(rt: HostRuntime) {
     for (bufsiz, put, len, front) in ALONE {
-        let mut end = with_one(&rt, *bufsiz, put, *len);
-        if front.is_empty() {
-            play(&rt, &mut end, TOO_LARGE_ALONE);
-        } else {
-            says(&rt, &mut end, GET, &padded(&rt, front, *len));
-        }
+        gets_one(&rt, &mut with_one(&rt, *bufsiz, put, *len), front, *len);
+    }
+}
+
+/// A GET is answered by so many `a` behind this front, or is refused where that is empty.
+fn gets_one(rt: &(impl AllocGlobal + Abort), end: &mut Accessed, front: &[u8], len: usize) {
+    if front.is_empty() {
+        play(rt, end, TOO_LARGE_ALONE);
+    } else {
+        says(rt, end, GET, &padded(rt, front, len));
     }
 }
 
@@ -73,22 +77,12 @@ const JOINED: &[(u16, &[u8], usize, &[u8], bool)] = &[
     (64, &[8, 2, 57, 0], 56, &[8, 2, 61, 4, 1, 0, 0, 0], false),
 ];
 
-/// A Fetch is answered by these two NSP messages.
-fn fetches_two(rt: &impl Abort, end: &mut Accessed, first: &[u8], second: &[u8]) {
-    let served = serve_at(rt, end, FETCH, 0);
-    let are_these = match served.answers.as_slice() {
-        [one, two] => one.as_slice() == first && two.as_slice() == second,
-        _ => false,
-    };
-    assert!(rt; are_these, "{:?}", served.answers);
-}
-
 /// A Fetch is answered by this Filedata and the Status of the end, in one NSP message or in two.
 fn fetches(rt: &(impl AllocGlobal + Abort), end: &mut Accessed, record: &[u8], joined: bool) {
     if joined {
         says(rt, end, FETCH, &with_end(rt, record));
     } else {
-        fetches_two(rt, end, record, ENDED);
+        gives(rt, end, FETCH, &[record, ENDED]);
     }
 }
 
@@ -102,35 +96,58 @@ fn with_end(rt: &(impl AllocGlobal + Abort), record: &[u8]) -> Vec<u8> {
 #[test]
 fn of_answers_that_are_joined(rt: HostRuntime) {
     for (bufsiz, put, len, front, joined) in JOINED {
-        let mut end = with_one(&rt, *bufsiz, put, *len);
         let record = padded(&rt, front, *len);
-        fetches(&rt, &mut end, &record, *joined);
+        fetches(
+            &rt,
+            &mut with_one(&rt, *bufsiz, put, *len),
+            &record,
+            *joined,
+        );
     }
-    // Without a BUFSIZ an NSP message has 65,535 bytes at the most.
-    let mut end = with_one(&rt, 0, &[8, 6, 0, 0x80, 0], 32767);
-    says(&rt, &mut end, PUT, NOTHING);
-    let second = padded(&rt, &[8, 6, 0xf0, 0x7f, 0], 32751);
-    says(&rt, &mut end, &second, DONE_2);
-    let long = padded(&rt, &[8, 6, 4, 0x80, 4, 1, 0, 0, 0], 32767);
-    let short = padded(&rt, &[8, 6, 0xf4, 0x7f, 4, 2, 0, 0, 0], 32751);
-    fetches_two(&rt, &mut end, &long, &with_end(&rt, &short));
 }
 
 #[test]
+fn of_an_nsp_message(rt: HostRuntime) {
+    fill_a_message(&rt, &mut with_one(&rt, 0, LONGEST, 32767));
+}
+
+/// The front of a Filedata with the longest record, and what follows it without a BUFSIZ.
+const LONGEST: &[u8] = &[8, 6, 0, 0x80, 0];
+
+const SECOND: &[u8] = &[8, 6, 0xf0, 0x7f, 0];
+
+const FOUND_LONGEST: &[u8] = &[8, 6, 4, 0x80, 4, 1, 0, 0, 0];
+
+const FOUND_SECOND: &[u8] = &[8, 6, 0xf4, 0x7f, 4, 2, 0, 0, 0];
+
+/// Without a BUFSIZ an NSP message has 65,535 bytes at the most.
+fn fill_a_message(rt: &(impl AllocGlobal + Abort), end: &mut Accessed) {
+    says(rt, end, PUT, NOTHING);
+    says(rt, end, &padded(rt, SECOND, 32751), DONE_2);
+    let long = padded(rt, FOUND_LONGEST, 32767);
+    let short = with_end(rt, &padded(rt, FOUND_SECOND, 32751));
+    gives(rt, end, FETCH, &[&long, &short]);
+}
+
+/// A Control that takes a record, and how one that is too long is refused: the file stays.
+const ABOVE: &[(&[u8], &[u8])] = &[
+    (PUT, BAD_LENGTH),
+    (STORE, &[9, 2, 0x0a, 0, 0x50, 0, 4, 1, 0, 0, 0, 1, 7]),
+];
+
+#[test]
 fn of_records(rt: HostRuntime) {
-    let mut end = with_one(&rt, 65535, &[8, 6, 0, 0x80, 0], 32767);
     let above = padded(&rt, &[8, 6, 1, 0x80, 0], 32768);
-    says(&rt, &mut end, PUT, NOTHING);
-    says(&rt, &mut end, &above, BAD_LENGTH);
-    look(&rt, &end, Seen::Holds(1, 1));
-    says(&rt, &mut end, STORE, NOTHING);
-    says(
-        &rt,
-        &mut end,
-        &above,
-        &[9, 2, 0x0a, 0, 0x50, 0, 4, 1, 0, 0, 0, 1, 7],
-    );
-    look(&rt, &end, Seen::Holds(1, 1));
+    refuses(&rt, &mut with_one(&rt, 65535, LONGEST, 32767), &above);
+}
+
+/// Refuses this Filedata behind each Control.
+fn refuses(rt: &impl Abort, end: &mut Accessed, above: &[u8]) {
+    for (control, refusal) in ABOVE {
+        says(rt, end, control, NOTHING);
+        says(rt, end, above, refusal);
+        look(rt, end, Seen::Holds(1, 1));
+    }
 }
 
 const OWN_BUFFER: Script = &[
@@ -147,9 +164,13 @@ fn of_the_own_buffer(rt: HostRuntime) {
     let mut end = Accessed::new(rt.alloc(), 64);
     play(&rt, &mut end, OWN_BUFFER);
     let got = serve_at(&rt, &mut end, GET, 0);
-    let is_whole = match got.answers.as_slice() {
+    assert!(rt; is_whole(&got), "{:?}", got.answers);
+}
+
+/// The answer is the whole record of 200 bytes.
+fn is_whole(got: &Served) -> bool {
+    match got.answers.as_slice() {
         [only] => only.len() == 208 && only.starts_with(&[8, 2, 205, 4, 1, 0, 0, 0]),
         _ => false,
-    };
-    assert!(rt; is_whole, "{:?}", got.answers);
+    }
 }

@@ -26,7 +26,7 @@ const BAD_BYTES: Cases = &[
     (Stage::Stopped, Stage::Stopped, BAD),
 ];
 
-const NO_BYTES: &[(Stage, Stage)] = &[
+const NOTHING_SERVED: &[(Stage, Stage)] = &[
     (Stage::Fresh, Stage::Fresh),
     (Stage::Ready, Stage::Ready),
     (Stage::Connected, Stage::Connected),
@@ -36,16 +36,26 @@ const NO_BYTES: &[(Stage, Stage)] = &[
 #[test]
 fn in_each_phase(rt: HostRuntime) {
     each_alone(&rt, BAD_BYTES);
-    for (from, to) in NO_BYTES {
-        let mut end = brought(&rt, *from);
-        let served = match end.serve(&[], 0) {
-            Ok(served) => served,
-            Err(_) => end.serve(&[], 0).expect(&rt, "the second call"),
-        };
-        assert_eq!(rt; served.next, 0);
-        assert!(rt; is_answer(&served, &[9, 2, 5, 0, 0x80, 0, 0, 0]));
-        stands(&rt, &mut end, *to);
+}
+
+#[test]
+fn no_bytes(rt: HostRuntime) {
+    for (from, to) in NOTHING_SERVED {
+        serves_nothing(&rt, &mut brought(&rt, *from), *to);
     }
+}
+
+/// The answer to no bytes.
+const TOO_SHORT: &[u8] = &[9, 2, 5, 0, 0x80, 0, 0, 0];
+
+/// Serves no bytes, which leave this phase.
+fn serves_nothing(rt: &impl Abort, end: &mut Accessed, to: Stage) {
+    let served = match end.serve(&[], 0) {
+        Ok(served) => served,
+        Err(_) => end.serve(&[], 0).expect(rt, "the second call"),
+    };
+    assert!(rt; served.next == 0 && is_answer(&served, TOO_SHORT));
+    stands(rt, end, to);
 }
 
 /// An Acknowledge, a PUT, and a Filedata that is longer than the rest.
@@ -54,7 +64,7 @@ const CUT: &[u8] = &[6, 2, 0, 4, 2, 3, 4, 1, 0, 8, 2, 9, 0, 0x41, 6, 2, 0];
 const CUT_STEPS: Steps = &[
     (3, MISPLACED_ACKNOWLEDGE, Seen::Nothing),
     (9, NOTHING, Seen::Nothing),
-    (17, &[9, 2, 5, 0, 0x82, 0, 0, 0], Seen::Nothing),
+    (17, &[9, 2, 5, 0, 0x82, 0, 0, 0], Seen::Has(&[(1, b"A")])),
 ];
 
 /// A PUT, and a Filedata without a length, to which the rest belongs.
@@ -64,6 +74,8 @@ const UNTIL_THE_END_STEPS: Steps = &[
     (6, NOTHING, Seen::Has(&[(1, b"A")])),
     (12, DONE_2, Seen::Has(&[(1, b"A"), (2, &[6, 2, 0])])),
 ];
+
+const CUT_OR_LONG: &[(&[u8], Steps)] = &[(CUT, CUT_STEPS), (UNTIL_THE_END, UNTIL_THE_END_STEPS)];
 
 const OPENING: &[u8] = &[
     1, 2, 10, 0x40, 0, 7, 3, 5, 6, 0, 0, 0, 0, 2, 2, 0x0b, 0xa6, 4, 0, 2, 0, 0, 4, 0, 0, 0, 0, 3,
@@ -90,14 +102,19 @@ const RECORD_STEPS: Steps = &[
 ];
 
 #[test]
-fn several_messages_in_one_nsp_message(rt: HostRuntime) {
-    let mut cut = brought(&rt, Stage::Connected);
-    serve_all(&rt, &mut cut, CUT, CUT_STEPS);
-    has(&rt, &cut, &[(1, b"A")]);
-    let mut until_the_end = brought(&rt, Stage::Connected);
-    serve_all(&rt, &mut until_the_end, UNTIL_THE_END, UNTIL_THE_END_STEPS);
-    // A whole session in two.
-    let mut end = Accessed::new(rt.alloc(), 64);
-    serve_all(&rt, &mut end, OPENING, OPENING_STEPS);
-    serve_all(&rt, &mut end, RECORDS, RECORD_STEPS);
+fn messages_cut_or_until_the_end(rt: HostRuntime) {
+    for (bytes, steps) in CUT_OR_LONG {
+        serve_all(&rt, &mut brought(&rt, Stage::Connected), bytes, steps);
+    }
+}
+
+#[test]
+fn a_session_in_two_nsp_messages(rt: HostRuntime) {
+    in_two(&rt, &mut Accessed::new(rt.alloc(), 64));
+}
+
+/// A whole session in two.
+fn in_two(rt: &impl Abort, end: &mut Accessed) {
+    serve_all(rt, end, OPENING, OPENING_STEPS);
+    serve_all(rt, end, RECORDS, RECORD_STEPS);
 }

@@ -21,8 +21,7 @@ fn takes(rt: &impl Abort, end: &mut Accessed, bufsiz: u16) {
 
 /// An end without files tells its own.
 fn tells(rt: &impl Abort, end: &mut Accessed, bufsiz: u16) {
-    assert_eq!(rt; held(end), (0, 0));
-    assert_eq!(rt; end.files().find(b""), None);
+    assert!(rt; held(end) == (0, 0) && end.files().find(b"").is_none());
     says(rt, end, CONFIG, &config_of(bufsiz));
 }
 
@@ -32,10 +31,14 @@ const LARGE_ENOUGH: &[u16] = &[0, 64, 65, 4096, 4097, 65535];
 const OWN: &[u16] = &[64, 65, 1024, 4096, 65535];
 
 #[test]
-fn the_buffers_of_the_peer(rt: HostRuntime) {
+fn buffers_of_the_peer_that_are_too_small(rt: HostRuntime) {
     for bufsiz in 1..64 {
         refuses(&rt, &mut Accessed::new(rt.alloc(), 1024), bufsiz);
     }
+}
+
+#[test]
+fn buffers_of_the_peer_that_are_large_enough(rt: HostRuntime) {
     for bufsiz in LARGE_ENOUGH {
         takes(&rt, &mut Accessed::new(rt.alloc(), 1024), *bufsiz);
     }
@@ -50,7 +53,7 @@ fn the_buffer_of_the_end(rt: HostRuntime) {
 
 #[test]
 fn a_peer_of_another_system(rt: HostRuntime) {
-    session(&rt, OTHER_SYSTEM);
+    plays(&rt, OTHER_SYSTEM);
 }
 
 /// Accesses to `F` with an unknown function; to open what isn't there; to make what is there.
@@ -133,9 +136,13 @@ const NAMES: Session = &[
 ];
 
 #[test]
-fn accesses_that_are_refused_and_names(rt: HostRuntime) {
-    session(&rt, REFUSED);
-    session(&rt, NAMES);
+fn accesses_that_are_refused(rt: HostRuntime) {
+    plays(&rt, REFUSED);
+}
+
+#[test]
+fn names_of_files(rt: HostRuntime) {
+    plays(&rt, NAMES);
 }
 
 /// A relative file that has the record `A` under 1.
@@ -318,16 +325,29 @@ fn gives_rights(
     for (access, answers) in cases {
         let mut end = session(rt, start);
         says(rt, &mut end, access, OPENED_RELATIVE);
-        assert_eq!(rt; messages.len(), answers.len());
-        for (message, answer) in messages.iter().zip(*answers) {
-            says(rt, &mut end, message, answer);
-        }
+        says_each(rt, &mut end, messages, answers);
+    }
+}
+
+/// Serves these messages, each with its answer.
+fn says_each(rt: &impl Abort, end: &mut Accessed, messages: &[&[u8]], answers: &[&[u8]]) {
+    assert!(rt; messages.len() == answers.len());
+    for (message, answer) in messages.iter().zip(answers) {
+        says(rt, end, message, answer);
     }
 }
 
 #[test]
-fn rights(rt: HostRuntime) {
+fn rights_of_a_file_that_is_opened(rt: HostRuntime) {
     gives_rights(&rt, THERE, ASKED_OF_OPEN, OF_OPEN);
+}
+
+#[test]
+fn rights_of_a_file_that_is_made(rt: HostRuntime) {
     gives_rights(&rt, BEFORE_MAKE, ASKED_OF_MAKE, OF_MAKE);
-    session(&rt, NO_FAC);
+}
+
+#[test]
+fn rights_without_a_fac(rt: HostRuntime) {
+    plays(&rt, NO_FAC);
 }

@@ -100,7 +100,7 @@ pub(crate) type Cases = &'static [(Stage, Stage, Script)];
 fn alone(rt: &impl Abort, end: &mut Accessed, message: &[u8], answer: &[u8], to: Stage) {
     let before = held(end);
     says(rt, end, message, answer);
-    assert_eq!(rt; held(end), before, "at {message:?}");
+    assert!(rt; held(end) == before, "at {message:?}");
     stands(rt, end, to);
 }
 
@@ -190,13 +190,22 @@ const PASSED_OVER: Cases = &[
 #[test]
 fn messages_that_have_no_place(rt: HostRuntime) {
     for (from, to, types) in OUT_OF_PLACE {
-        for (number, message, answer) in BY_TYPE {
-            if types.contains(number) {
-                alone(&rt, &mut brought(&rt, *from), message, answer, *to);
-            }
+        each_of_types(&rt, *from, *to, types);
+    }
+}
+
+#[test]
+fn messages_that_are_passed_over(rt: HostRuntime) {
+    each_alone(&rt, PASSED_OVER);
+}
+
+/// Serves a message of each of these types by a new end in the first phase, which is left in the second.
+fn each_of_types(rt: &(impl AllocGlobal + Abort), from: Stage, to: Stage, types: &[u8]) {
+    for (number, message, answer) in BY_TYPE {
+        if types.contains(number) {
+            alone(rt, &mut brought(rt, from), message, answer, to);
         }
     }
-    each_alone(&rt, PASSED_OVER);
 }
 
 const UNKNOWN_CONTROLS: Script = &[
@@ -306,10 +315,22 @@ const CONTINUES: Cases = &[
 ];
 
 #[test]
-fn controls_and_continue_transfers_in_each_place(rt: HostRuntime) {
+fn controls_in_each_place(rt: HostRuntime) {
     each_alone(&rt, CONTROLS);
+}
+
+#[test]
+fn continue_transfers_in_each_place(rt: HostRuntime) {
     each_alone(&rt, CONTINUES);
-    let mut end = brought(&rt, Stage::Stopped);
-    says(&rt, &mut end, SKIP, ENDED);
-    stands(&rt, &mut end, Stage::Connected);
+}
+
+#[test]
+fn a_skip_to_the_end(rt: HostRuntime) {
+    skips_to_the_end(&rt, &mut brought(&rt, Stage::Stopped));
+}
+
+/// Skips the record at which it stopped, and is connected then.
+fn skips_to_the_end(rt: &impl Abort, end: &mut Accessed) {
+    says(rt, end, SKIP, ENDED);
+    stands(rt, end, Stage::Connected);
 }

@@ -107,11 +107,23 @@ const SEQUENTIAL_PUTS: Session = &[
 ];
 
 #[test]
-fn gets_and_puts_by_each_access_mode(rt: HostRuntime) {
-    session(&rt, GETS);
-    session(&rt, SEQUENTIAL_GETS);
-    session(&rt, PUTS);
-    session(&rt, SEQUENTIAL_PUTS);
+fn gets_by_each_access_mode(rt: HostRuntime) {
+    plays(&rt, GETS);
+}
+
+#[test]
+fn gets_from_a_sequential_file(rt: HostRuntime) {
+    plays(&rt, SEQUENTIAL_GETS);
+}
+
+#[test]
+fn puts_by_each_access_mode(rt: HostRuntime) {
+    plays(&rt, PUTS);
+}
+
+#[test]
+fn puts_to_a_sequential_file(rt: HostRuntime) {
+    plays(&rt, SEQUENTIAL_PUTS);
 }
 
 /// Fields that are not looked at.
@@ -163,19 +175,30 @@ const CURRENT: Session = &[
             (DATA_B, DONE_1),
             // None is current behind an UPDATE.
             (DELETE, NO_CURRENT),
-            // Nor behind a refused GET.
+        ],
+        Seen::Has(&[(1, b"B"), (3, b"C")]),
+    ),
+];
+
+/// None is current behind what is refused, nor behind a REWIND.
+const CURRENT_NO_MORE: Session = &[
+    (ON_RELATIVE_15, Seen::Nothing),
+    (TWO, Seen::Nothing),
+    (
+        &[
+            // Behind a refused GET.
             (GET_3, FOUND_3_C),
             (GET_2, RECORD_NOT_FOUND),
             (DELETE, NO_CURRENT),
             (GET_3, FOUND_3_C),
             (&[4, 2, 8, 1, 3, 4, 4, 3, 0, 0, 0], BAD_MODE),
             (DELETE, NO_CURRENT),
-            // Nor behind a refused PUT.
+            // Behind a refused PUT.
             (GET_3, FOUND_3_C),
             (&[4, 2, 8, 4, 3, 2, 4, 2, 0, 0, 0], NOTHING),
             (DATA_A, BAD_MODE),
             (DELETE, NO_CURRENT),
-            // Nor behind a REWIND.
+            // Behind a REWIND.
             (GET_3, FOUND_3_C),
             (REWIND, REWOUND),
             (DELETE, NO_CURRENT),
@@ -184,7 +207,7 @@ const CURRENT: Session = &[
             (TRY_AGAIN, MISPLACED_CONTINUE),
             (DELETE, DONE_3),
         ],
-        Seen::Has(&[(1, b"B")]),
+        Seen::Has(&[(1, b"A")]),
     ),
 ];
 
@@ -228,9 +251,26 @@ const LARGE: Session = &[
 ];
 
 #[test]
-fn what_is_current_too_large_or_not_looked_at(rt: HostRuntime) {
-    session(&rt, BESIDES);
-    session(&rt, CURRENT);
-    session(&rt, SEQUENTIAL_DELETE);
-    session(&rt, LARGE);
+fn what_is_not_looked_at(rt: HostRuntime) {
+    plays(&rt, BESIDES);
+}
+
+#[test]
+fn what_is_current(rt: HostRuntime) {
+    plays(&rt, CURRENT);
+}
+
+#[test]
+fn what_is_current_behind_refusals(rt: HostRuntime) {
+    plays(&rt, CURRENT_NO_MORE);
+}
+
+#[test]
+fn a_delete_from_a_sequential_file(rt: HostRuntime) {
+    plays(&rt, SEQUENTIAL_DELETE);
+}
+
+#[test]
+fn what_is_too_large(rt: HostRuntime) {
+    plays(&rt, LARGE);
 }

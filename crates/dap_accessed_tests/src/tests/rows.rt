@@ -21,8 +21,7 @@ const ONE_RECORD: Session = &[
 
 #[test]
 fn a_relative_file(rt: HostRuntime) {
-    let end = session(&rt, ONE_RECORD);
-    assert_eq!(rt; end.files().find(b"f"), None);
+    assert!(rt; session(&rt, ONE_RECORD).files().find(b"f").is_none());
 }
 
 const PUT_AND_DATA: &[u8] = &[4, 2, 3, 4, 1, 0, 8, 2, 2, 0, 0x41];
@@ -56,12 +55,16 @@ fn serves_at_last(rt: &impl Abort, end: &mut Accessed, message: &[u8], answer: &
 /// All that grows here grows in `serve`, so any one growth may be refused.
 #[test]
 fn one_record_and_one_status_where_memory_is_refused(rt: HostRuntime) {
-    let mut end = Accessed::new(rt.alloc(), 1024);
+    puts_one(&rt, &mut Accessed::new(rt.alloc(), 1024));
+}
+
+/// Puts the record, whatever is refused.
+fn puts_one(rt: &impl Abort, end: &mut Accessed) {
     for (message, answer, seen) in ONE_PUT {
-        look(&rt, &end, *seen);
-        serves_at_last(&rt, &mut end, message, answer, *seen);
+        look(rt, end, *seen);
+        serves_at_last(rt, end, message, answer, *seen);
     }
-    look(&rt, &end, Seen::Has(&[(1, b"A")]));
+    has(rt, end, &[(1, b"A")]);
 }
 
 const GET_AND_ACKNOWLEDGE: &[u8] = &[4, 2, 3, 1, 1, 0, 6, 2, 0];
@@ -76,11 +79,14 @@ const TO_PUT: Session = &[(ON_SEQUENTIAL_1, Seen::Nothing)];
 const TO_GET: Session = &[(ON_SEQUENTIAL_2, Seen::Nothing)];
 
 #[test]
-fn two_messages_in_one_nsp_message(rt: HostRuntime) {
-    let mut puts = session(&rt, TO_PUT);
-    serve_all(&rt, &mut puts, PUT_AND_DATA, PUT_THEN_DATA);
-    let mut gets = session(&rt, TO_GET);
-    serve_all(&rt, &mut gets, GET_AND_ACKNOWLEDGE, GET_THEN_ACKNOWLEDGE);
+fn a_put_and_its_data_in_one_nsp_message(rt: HostRuntime) {
+    serve_all(&rt, &mut session(&rt, TO_PUT), PUT_AND_DATA, PUT_THEN_DATA);
+}
+
+#[test]
+fn a_get_and_an_acknowledge_in_one_nsp_message(rt: HostRuntime) {
+    let end = &mut session(&rt, TO_GET);
+    serve_all(&rt, end, GET_AND_ACKNOWLEDGE, GET_THEN_ACKNOWLEDGE);
 }
 
 /// Records of 10, 200 and 10 bytes, and a fetch by a peer with BUFSIZ 64.
@@ -198,11 +204,23 @@ const UPDATED: Session = &[
 ];
 
 #[test]
-fn refused_stores_a_dropped_put_and_an_update(rt: HostRuntime) {
-    session(&rt, REFUSED);
-    session(&rt, TAKEN_UP_AGAIN);
-    session(&rt, DROPPED);
-    session(&rt, UPDATED);
+fn a_refused_store(rt: HostRuntime) {
+    plays(&rt, REFUSED);
+}
+
+#[test]
+fn a_store_that_goes_on(rt: HostRuntime) {
+    plays(&rt, TAKEN_UP_AGAIN);
+}
+
+#[test]
+fn a_dropped_put(rt: HostRuntime) {
+    plays(&rt, DROPPED);
+}
+
+#[test]
+fn an_update(rt: HostRuntime) {
+    plays(&rt, UPDATED);
 }
 
 const READY: Session = &[
@@ -227,10 +245,18 @@ const UNKNOWN: Session = &[(
 )];
 
 #[test]
-fn bad_flags_and_an_unknown_control(rt: HostRuntime) {
-    session(&rt, READY);
-    session(&rt, PUT_DUE);
-    session(&rt, UNKNOWN);
+fn bad_flags_before_a_file(rt: HostRuntime) {
+    plays(&rt, READY);
+}
+
+#[test]
+fn bad_flags_where_data_is_due(rt: HostRuntime) {
+    plays(&rt, PUT_DUE);
+}
+
+#[test]
+fn an_unknown_control(rt: HostRuntime) {
+    plays(&rt, UNKNOWN);
 }
 
 const FOUR_PUTS: Script = &[
@@ -257,9 +283,16 @@ const FOUR_FETCHED: &[&[u8]] = &[
 ];
 
 #[test]
-fn fetches_that_skip_are_given_up_or_take_two_nsp_messages(rt: HostRuntime) {
-    session(&rt, SKIPPED);
-    session(&rt, GIVEN_UP);
-    let mut end = session(&rt, FOUR_RECORDS);
-    gives(&rt, &mut end, FETCH, FOUR_FETCHED);
+fn a_fetch_that_skips(rt: HostRuntime) {
+    plays(&rt, SKIPPED);
+}
+
+#[test]
+fn a_fetch_that_is_given_up(rt: HostRuntime) {
+    plays(&rt, GIVEN_UP);
+}
+
+#[test]
+fn a_fetch_of_two_nsp_messages(rt: HostRuntime) {
+    gives(&rt, &mut session(&rt, FOUR_RECORDS), FETCH, FOUR_FETCHED);
 }

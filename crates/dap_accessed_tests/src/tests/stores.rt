@@ -108,11 +108,22 @@ const ALL_STEPS: Steps = &[
 ];
 
 #[test]
-fn with_refusals(rt: HostRuntime) {
-    session(&rt, ORDINALS);
-    session(&rt, IN_A_RELATIVE_FILE);
-    session(&rt, WITHOUT_THE_RIGHT);
-    // All messages of a Store in one NSP message.
-    let mut end = session(&rt, START);
-    serve_all(&rt, &mut end, ALL, ALL_STEPS);
+fn with_ordinals(rt: HostRuntime) {
+    plays(&rt, ORDINALS);
+}
+
+#[test]
+fn refused_by_a_relative_file(rt: HostRuntime) {
+    plays(&rt, IN_A_RELATIVE_FILE);
+}
+
+#[test]
+fn that_are_not_permitted(rt: HostRuntime) {
+    plays(&rt, WITHOUT_THE_RIGHT);
+}
+
+/// All messages of a Store in one NSP message.
+#[test]
+fn in_one_nsp_message(rt: HostRuntime) {
+    serve_all(&rt, &mut session(&rt, START), ALL, ALL_STEPS);
 }

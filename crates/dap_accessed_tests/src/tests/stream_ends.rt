@@ -9,8 +9,13 @@ fn plays_on(rt: &impl Abort, end: &mut Accessed, parts: Session, stay: bool) {
     for (script, seen) in parts {
         play(rt, end, script);
         look(rt, end, *seen);
-        assert!(rt; !stay || held(end) == before);
+        stays(rt, end, before, stay);
     }
+}
+
+/// The files are as before, where they have to stay.
+fn stays(rt: &impl Abort, end: &Accessed, before: (usize, u32), stay: bool) {
+    assert!(rt; !stay || held(end) == before);
 }
 
 /// Plays these parts from each of these phases.
@@ -76,9 +81,17 @@ const NOT_COMPLETED: Cases = &[
 ];
 
 #[test]
-fn a_close_an_end_of_stream_and_other_completions(rt: HostRuntime) {
+fn a_close(rt: HostRuntime) {
     from_each(&rt, OPEN, CLOSED, true);
+}
+
+#[test]
+fn an_end_of_stream(rt: HostRuntime) {
     from_each(&rt, STREAMING, STREAM_ENDED, true);
+}
+
+#[test]
+fn other_completions(rt: HostRuntime) {
     each_alone(&rt, NOT_COMPLETED);
 }
 
@@ -120,9 +133,17 @@ const NOT_PURGED: Session = &[
 ];
 
 #[test]
-fn a_purge_of_a_file_that_was_made_or_was_there(rt: HostRuntime) {
+fn a_purge_of_a_file_that_was_made(rt: HostRuntime) {
     from_each(&rt, OF_A_NEW_FILE, PURGED, false);
-    session(&rt, PURGED_WHILE_DROPPING);
+}
+
+#[test]
+fn a_purge_while_dropping(rt: HostRuntime) {
+    plays(&rt, PURGED_WHILE_DROPPING);
+}
+
+#[test]
+fn a_purge_of_a_file_that_was_there(rt: HostRuntime) {
     from_each(&rt, OF_AN_OLD_FILE, NOT_PURGED, true);
 }
 
@@ -159,10 +180,11 @@ const PURGED_AMONG_OTHERS: Session = &[
 
 #[test]
 fn a_purge_among_others(rt: HostRuntime) {
-    let mut end = brought(&rt, Stage::Connected);
-    for (script, seen) in PURGED_AMONG_OTHERS {
-        play(&rt, &mut end, script);
-        look(&rt, &end, *seen);
-    }
-    assert_eq!(rt; end.files().find(b"G"), None);
+    purges_one(&rt, &mut brought(&rt, Stage::Connected));
+}
+
+/// Purges `G`, and then no other.
+fn purges_one(rt: &impl Abort, end: &mut Accessed) {
+    plays_on(rt, end, PURGED_AMONG_OTHERS, false);
+    assert!(rt; end.files().find(b"G").is_none());
 }

@@ -107,10 +107,26 @@ const STOPPED: Session = &[
 ];
 
 #[test]
-fn to_the_end_or_stopped_more_than_once(rt: HostRuntime) {
-    session(&rt, OVER_THE_BORDERS_OF_PAGES);
-    session(&rt, FROM_WHERE_THE_STREAM_IS);
-    session(&rt, WITHOUT_RECORDS);
-    session(&rt, WITHOUT_THE_RIGHT);
-    session(&rt, STOPPED);
+fn over_pages(rt: HostRuntime) {
+    plays(&rt, OVER_THE_BORDERS_OF_PAGES);
+}
+
+#[test]
+fn from_the_place_of_the_stream(rt: HostRuntime) {
+    plays(&rt, FROM_WHERE_THE_STREAM_IS);
+}
+
+#[test]
+fn of_no_records(rt: HostRuntime) {
+    plays(&rt, WITHOUT_RECORDS);
+}
+
+#[test]
+fn that_are_not_permitted(rt: HostRuntime) {
+    plays(&rt, WITHOUT_THE_RIGHT);
+}
+
+#[test]
+fn stopped_more_than_once(rt: HostRuntime) {
+    plays(&rt, STOPPED);
 }

@@ -24,27 +24,36 @@ pub(crate) fn direct(world: &mut World, requests: &[Request]) -> Result<(), (usi
     world.direct(requests)
 }
 
-/// What requests over a clean network came to in a new world.
-pub(crate) fn directed(
-    alloc: Global,
-    setup: WorldSetup,
-    requests: &[Request],
-) -> Result<(World, Result<(), (usize, WorldFault)>), WorldFault> {
-    let mut world = World::new(alloc, setup)?;
-    let came = world.direct(requests);
-    Ok((world, came))
+pub(crate) fn post(world: &mut World, end: End) -> Result<Step, WorldFault> {
+    world.apply(&Event::Post(end))
 }
 
-/// The world after requests over a clean network, each with its report.
-pub(crate) fn after(
-    alloc: Global,
-    setup: WorldSetup,
-    requests: &[Request],
-) -> Result<World, WorldFault> {
-    match directed(alloc, setup, requests)? {
-        (world, Ok(())) => Ok(world),
-        (_world, Err((_place, fault))) => Err(fault),
+pub(crate) fn emit(world: &mut World, end: End) -> Result<Step, WorldFault> {
+    world.apply(&Event::Emit(end))
+}
+
+pub(crate) fn ack(world: &mut World, end: End) -> Result<Step, WorldFault> {
+    world.apply(&Event::Ack(end))
+}
+
+pub(crate) fn deliver(world: &mut World, end: End, place: usize) -> Result<Step, WorldFault> {
+    world.apply(&Event::Deliver(end, place))
+}
+
+/// B serves so many messages.
+pub(crate) fn serve(world: &mut World, times: usize) -> Result<(), WorldFault> {
+    for _ in 0..times {
+        world.apply(&Event::Serve)?;
     }
+    Ok(())
+}
+
+/// A reads so many messages.
+pub(crate) fn read(world: &mut World, times: usize) -> Result<(), WorldFault> {
+    for _ in 0..times {
+        world.apply(&Event::Read)?;
+    }
+    Ok(())
 }
 
 pub(crate) fn settle(world: &mut World, end: End) -> Result<usize, WorldFault> {

@@ -2,14 +2,14 @@
 //! a clean network.
 
 use super::Do::*;
-use super::calls::{after, directed, finish, settle, taken};
+use super::calls::{deliver, direct, emit, finish, post, settle, taken};
 use super::*;
 use dap_world::AskFault;
 use dap_world::End::{A, B};
 
 /// Requests over a clean network, then one whose packets may be lost, and then all is finished.
 #[derive(Clone, Copy)]
-struct Row {
+pub(crate) struct Row {
     /// Segment size, window and both buffers.
     setup: (usize, usize, u16, u16),
     /// The requests with their reports; only the last one is not over a clean network.
@@ -31,89 +31,108 @@ const LOG: Told = (CREATE_LOG, "opened 0 2 0 0");
 
 const CONNECTED: Told = ("connect", "connected");
 
-const ROWS: &[Row] = &[
-    // The only packet of a put is lost: four events settle it, two serve it, five bring the answer, and one
-    // reads it.
-    Row {
-        setup: (512, 8, 1024, 1024),
-        turns: &[
-            READY,
-            ("create 46 0 2 0 0 1", "opened 0 2 0 0"),
-            CONNECTED,
-            ("put 41", "done 1"),
-        ],
-        lost: &[Post(A), Emit(A)],
-        events: 12,
-        files: &[(b"F", &[(1, b"A")])],
-    },
-    // The put was served, and its answer is lost, as is every acknowledgement.
-    Row {
-        setup: (512, 8, 1024, 1024),
-        turns: &[READY, LOG, CONNECTED, ("put 41", "done 1")],
-        lost: &[
-            Post(A),
-            Emit(A),
-            Deliver(B, 6),
-            Serve,
-            Serve,
-            Post(B),
-            Emit(B),
-        ],
-        events: 9,
-        files: &[(b"L", &[(1, b"A")])],
-    },
-    // A transfer stopped at a record that is too long, and its answer is lost: four events settle each end, and
-    // two messages are read.
-    Row {
-        setup: (512, 8, 64, 1024),
-        turns: &[
-            READY,
-            LOG,
-            CONNECTED,
-            ("put 30313233343536373839", "done 1"),
-            ("put {2d}73", "done 2"),
-            ("rewind", "done 0"),
-            ("fetch", "batch 1 stopped 1:30313233343536373839"),
-        ],
-        lost: &[Post(A), Emit(A), Deliver(B, 12), Serve, Post(B), Emit(B)],
-        events: 10,
-        files: &[(b"L", &[(1, b"0123456789"), (2, &[b'-'; 73])])],
-    },
-    // A request in two pieces, of which the second came and the first is lost: six events settle them.
-    Row {
-        setup: (8, 4, 1024, 1024),
-        turns: &[READY],
-        lost: &[Post(A), Emit(A), Emit(A), Deliver(B, 1)],
-        events: 17,
-        files: &[],
-    },
-    // Two of three pieces of a store are lost: six events settle them, four bring the third, four serve the
-    // messages, five bring the answer, and one reads it.
-    Row {
-        setup: (8, 4, 1024, 1024),
-        turns: &[READY, LOG, CONNECTED, ("store 41 4242", "stored")],
-        lost: &[Post(A), Emit(A), Emit(A)],
-        events: 20,
-        files: &[(b"L", &[(1, b"A"), (2, b"BB")])],
-    },
-];
+/// The only packet of a put is lost: four events settle it, two serve it, five bring the answer, and one
+/// reads it.
+const PUT: Row = Row {
+    setup: (512, 8, 1024, 1024),
+    turns: &[
+        READY,
+        ("create 46 0 2 0 0 1", "opened 0 2 0 0"),
+        CONNECTED,
+        ("put 41", "done 1"),
+    ],
+    lost: &[Post(A), Emit(A)],
+    events: 12,
+    files: &[(b"F", &[(1, b"A")])],
+};
+
+/// The put was served, and its answer is lost, as is every acknowledgement.
+const SERVED: Row = Row {
+    setup: (512, 8, 1024, 1024),
+    turns: &[READY, LOG, CONNECTED, ("put 41", "done 1")],
+    lost: &[
+        Post(A),
+        Emit(A),
+        Deliver(B, 6),
+        Serve,
+        Serve,
+        Post(B),
+        Emit(B),
+    ],
+    events: 9,
+    files: &[(b"L", &[(1, b"A")])],
+};
+
+/// A transfer stopped at a record that is too long, and its answer is lost: four events settle each end, and
+/// two messages are read.
+const STOPPED: Row = Row {
+    setup: (512, 8, 64, 1024),
+    turns: &[
+        READY,
+        LOG,
+        CONNECTED,
+        ("put 30313233343536373839", "done 1"),
+        ("put {2d}73", "done 2"),
+        ("rewind", "done 0"),
+        ("fetch", "batch 1 stopped 1:30313233343536373839"),
+    ],
+    lost: &[Post(A), Emit(A), Deliver(B, 12), Serve, Post(B), Emit(B)],
+    events: 10,
+    files: &[(b"L", &[(1, b"0123456789"), (2, &[b'-'; 73])])],
+};
+
+/// A request in two pieces, of which the second came and the first is lost: six events settle them.
+const PIECES: Row = Row {
+    setup: (8, 4, 1024, 1024),
+    turns: &[READY],
+    lost: &[Post(A), Emit(A), Emit(A), Deliver(B, 1)],
+    events: 17,
+    files: &[],
+};
+
+/// Two of three pieces of a store are lost: six events settle them, four bring the third, four serve the
+/// messages, five bring the answer, and one reads it.
+const STORE: Row = Row {
+    setup: (8, 4, 1024, 1024),
+    turns: &[READY, LOG, CONNECTED, ("store 41 4242", "stored")],
+    lost: &[Post(A), Emit(A), Emit(A)],
+    events: 20,
+    files: &[(b"L", &[(1, b"A"), (2, b"BB")])],
+};
 
 /// Whether what was lost is finished as the row says.
-fn is_finished(alloc: Global, world: &mut World, row: Row) -> Result<bool, WorldFault> {
-    for what in row.lost {
-        happen(alloc, world, *what)?;
+pub(crate) fn is_finished(alloc: Global, world: &mut World, row: Row) -> Result<bool, WorldFault> {
+    let Some(((words, _report), before)) = row.turns.split_last() else {
+        return Ok(false);
+    };
+    if direct(world, &all_of(alloc, before)?) != Ok(()) {
+        return Ok(false);
     }
-    let (events, more) = (finish(world)?, finish(world)?);
+    happen(alloc, world, Ask(words))?;
+    happen_all(alloc, world, row.lost)?;
     Ok(
-        events == row.events
-            && more == 0
+        finish_twice(world)? == (row.events, 0)
             && are_told(alloc, world.reports(), row.turns)?
             && holds(world.files(), row.files),
     )
 }
 
-/// Whether all comes to what the row says.
-fn comes_so(alloc: Global, row: Row) -> Result<bool, WorldFault> {
+/// One event after the other.
+fn happen_all(alloc: Global, world: &mut World, list: &[Do]) -> Result<(), WorldFault> {
+    for what in list {
+        happen(alloc, world, *what)?;
+    }
+    Ok(())
+}
+
+/// How many events finish it, and how many more do then.
+pub(crate) fn finish_twice(world: &mut World) -> Result<(usize, usize), WorldFault> {
+    let events = finish(world)?;
+    Ok((events, finish(world)?))
+}
+
+/// All comes to what the row says.
+fn comes_so(rt: &(impl AllocGlobal + Abort), row: Row) -> Result<(), WorldFault> {
     let (seg_size, window, bufsiz_a, bufsiz_b) = row.setup;
     let setup = WorldSetup {
         seg_size,
@@ -121,20 +140,37 @@ fn comes_so(alloc: Global, row: Row) -> Result<bool, WorldFault> {
         bufsiz_a,
         bufsiz_b,
     };
-    let Some(((words, _report), direct)) = row.turns.split_last() else {
-        return Ok(false);
-    };
-    let mut world = after(alloc, setup, &all_of(alloc, direct)?)?;
-    happen(alloc, &mut world, Ask(words))?;
-    is_finished(alloc, &mut world, row)
+    let _counts = play(rt, setup, &[Line::Comes(Many::Lost(row))])?;
+    Ok(())
 }
 
 #[test]
-fn all_come_to_their_reports(rt: HostRuntime) -> Result<(), Fail> {
-    for (at, row) in ROWS.iter().enumerate() {
-        let so = comes_so(rt.alloc(), *row)?;
-        assert!(rt; so, "row {at}");
-    }
+fn a_put_that_is_lost(rt: HostRuntime) -> Result<(), Fail> {
+    comes_so(&rt, PUT)?;
+    Ok(())
+}
+
+#[test]
+fn an_answer_that_is_lost(rt: HostRuntime) -> Result<(), Fail> {
+    comes_so(&rt, SERVED)?;
+    Ok(())
+}
+
+#[test]
+fn an_answer_of_a_transfer_that_is_lost(rt: HostRuntime) -> Result<(), Fail> {
+    comes_so(&rt, STOPPED)?;
+    Ok(())
+}
+
+#[test]
+fn a_first_piece_that_is_lost(rt: HostRuntime) -> Result<(), Fail> {
+    comes_so(&rt, PIECES)?;
+    Ok(())
+}
+
+#[test]
+fn pieces_of_a_store_that_are_lost(rt: HostRuntime) -> Result<(), Fail> {
+    comes_so(&rt, STORE)?;
     Ok(())
 }
 
@@ -161,36 +197,36 @@ const STOPS: &[(u16, &[&str], Result<(), (usize, WorldFault)>, usize)] = &[
     ),
 ];
 
-/// What requests come to in a new world, and how many are asked and reported.
-fn stop(
+/// Whether requests over a clean network come to this, and so many are asked and reported.
+pub(crate) fn stops_so(
     alloc: Global,
-    bufsiz_b: u16,
+    world: &mut World,
     list: &[&str],
-) -> Result<(Result<(), (usize, WorldFault)>, usize, usize), WorldFault> {
-    let setup = WorldSetup {
-        seg_size: 512,
-        window: 8,
-        bufsiz_a: 1024,
-        bufsiz_b,
-    };
-    let requests = all(alloc, list)?;
-    let (world, came) = directed(alloc, setup, &requests)?;
-    Ok((came, world.requests().len(), world.reports().len()))
+    wanted: Result<(), (usize, WorldFault)>,
+    count: usize,
+) -> Result<bool, WorldFault> {
+    let came = direct(world, &all(alloc, list)?);
+    Ok(came == wanted && (world.requests().len(), world.reports().len()) == (count, count))
 }
 
 #[test]
 fn requests_stop_at_one_that_is_refused(rt: HostRuntime) -> Result<(), Fail> {
     for (bufsiz_b, list, wanted, count) in STOPS {
-        let (came, asked, told) = stop(rt.alloc(), *bufsiz_b, list)?;
-        assert_eq!(rt; came, *wanted);
-        assert_eq!(rt; (asked, told), (*count, *count));
+        let setup = WorldSetup {
+            seg_size: 512,
+            window: 8,
+            bufsiz_a: 1024,
+            bufsiz_b: *bufsiz_b,
+        };
+        let line = Line::Comes(Many::Stops(list, *wanted, *count));
+        let _counts = play(&rt, setup, &[line])?;
     }
     Ok(())
 }
 
 /// Segments of one byte that are written, and then settled.
 #[derive(Clone, Copy)]
-struct Settled {
+pub(crate) struct Settled {
     window: usize,
     direct: &'static [&'static str],
     /// What is asked then, and how many of its segments are written.
@@ -235,14 +271,20 @@ const SETTLED: &[Settled] = &[
 ];
 
 fn write(world: &mut World, row: Settled) -> Result<(), WorldFault> {
-    apply(world, &Event::Post(A))?;
+    post(world, A)?;
     for _ in 0..row.written {
-        apply(world, &Event::Emit(A))?;
+        emit(world, A)?;
     }
     if row.came {
-        for place in 0..row.written {
-            apply(world, &Event::Deliver(B, place))?;
-        }
+        bring_all(world, row.written)?;
+    }
+    Ok(())
+}
+
+/// Delivers the first packets of A.
+fn bring_all(world: &mut World, packets: usize) -> Result<(), WorldFault> {
+    for place in 0..packets {
+        deliver(world, B, place)?;
     }
     Ok(())
 }
@@ -252,35 +294,45 @@ fn counts(world: &World) -> (usize, usize, u64) {
 }
 
 /// Whether the end of A is settled as the row says.
-fn is_settled(world: &mut World, row: Settled) -> Result<bool, WorldFault> {
+pub(crate) fn settles_so(
+    alloc: Global,
+    world: &mut World,
+    row: Settled,
+) -> Result<bool, WorldFault> {
+    if direct(world, &all(alloc, row.direct)?) != Ok(()) {
+        return Ok(false);
+    }
+    happen(alloc, world, Ask(row.asked))?;
     write(world, row)?;
-    let (events, more) = (settle(world, A)?, settle(world, A)?);
     Ok(
-        events == row.events
-            && more == 0
+        settle_twice(world)? == (row.events, 0)
             && count_unacked(world, A) == 0
             && counts(world) == row.counts,
     )
 }
 
-/// Whether the row is so.
-fn settles_so(alloc: Global, row: Settled) -> Result<bool, WorldFault> {
+/// How many events settle A's end, and how many more do then.
+fn settle_twice(world: &mut World) -> Result<(usize, usize), WorldFault> {
+    let events = settle(world, A)?;
+    Ok((events, settle(world, A)?))
+}
+
+/// The row is so.
+fn plays_row(rt: &(impl AllocGlobal + Abort), row: Settled) -> Result<(), WorldFault> {
     let setup = WorldSetup {
         seg_size: 1,
         window: row.window,
         bufsiz_a: 4096,
         bufsiz_b: 4096,
     };
-    let mut world = after(alloc, setup, &all(alloc, row.direct)?)?;
-    happen(alloc, &mut world, Ask(row.asked))?;
-    is_settled(&mut world, row)
+    let _counts = play(rt, setup, &[Line::Comes(Many::Settles(row))])?;
+    Ok(())
 }
 
 #[test]
 fn settled_ends(rt: HostRuntime) -> Result<(), Fail> {
-    for (at, row) in SETTLED.iter().enumerate() {
-        let so = settles_so(rt.alloc(), *row)?;
-        assert!(rt; so, "row {at}");
+    for row in SETTLED {
+        plays_row(&rt, *row)?;
     }
     Ok(())
 }

@@ -2,7 +2,7 @@
 
 ghost use Rattle.std.specs.Prelude.{◌<◌};
 
-use super::calls::{after, finish};
+use super::finishing::finish_twice;
 use super::*;
 use dap_world::{AnyFile, FileTable};
 
@@ -81,15 +81,21 @@ fn draw_event(world: &World, seed: &mut u32) -> Do {
 fn play_drawn(alloc: Global, world: &mut World, seed: &mut u32) -> usize {
     let mut asked: usize = 0;
     for _ in 0..draw(seed, MOST_EVENTS) {
-        if let Some((words, _report)) = TURNS.get(asked) {
-            if happen(alloc, world, Do::Ask(words)).is_ok() {
-                asked = asked.saturating_add(1);
-            }
+        if asks(alloc, world, asked) {
+            asked = asked.saturating_add(1);
         }
         let what = draw_event(world, seed);
         let _ = happen(alloc, world, what);
     }
     asked
+}
+
+/// Whether the request at this place is asked.
+fn asks(alloc: Global, world: &mut World, place: usize) -> bool {
+    match TURNS.get(place) {
+        Some((words, _report)) => happen(alloc, world, Do::Ask(words)).is_ok(),
+        None => false,
+    }
 }
 
 /// Whether two files have the same records.
@@ -117,35 +123,50 @@ fn are_same(one: &FileTable, other: &FileTable) -> bool {
 
 /// Whether a world, once it is finished, is what so many requests over a clean network come to.
 fn comes_clean(alloc: Global, world: &mut World, asked: usize) -> Result<bool, WorldFault> {
-    finish(world)?;
-    let more = finish(world)?;
+    let (_events, more) = finish_twice(world)?;
     let turns = TURNS.get(..asked).unwrap_or(TURNS);
-    let other = after(alloc, SETUP, &all_of(alloc, turns)?)?;
+    Ok(more == 0 && is_clean(alloc, world, turns)?)
+}
+
+/// Whether a world is what these turns over a clean network come to.
+fn is_clean(alloc: Global, world: &World, turns: &[Told]) -> Result<bool, WorldFault> {
+    let mut other = begin(alloc, SETUP)?;
+    are_alike(alloc, world, &mut other, turns)
+}
+
+/// Whether a world has the reports of these turns, and the files that they leave in another, which is new.
+fn are_alike(
+    alloc: Global,
+    world: &World,
+    other: &mut World,
+    turns: &[Told],
+) -> Result<bool, WorldFault> {
     Ok(
-        more == 0
-            && are_told(alloc, world.reports(), turns)?
-            && are_told(alloc, other.reports(), turns)?
+        are_told(alloc, world.reports(), turns)?
+            && turn_out(alloc, other, turns)?
             && are_same(world.files(), other.files()),
     )
 }
 
-/// Plays a schedule that is drawn by lot: how many requests were asked, and whether it comes to what it should.
-fn play_schedule(alloc: Global, schedule: u32) -> Result<(usize, bool), WorldFault> {
+/// Plays a schedule that is drawn by lot: whether it comes to what it should.
+pub(crate) fn play_schedule(
+    alloc: Global,
+    world: &mut World,
+    schedule: u32,
+) -> Result<bool, WorldFault> {
     let mut seed = schedule.wrapping_mul(7919).wrapping_add(1);
-    let mut world = begin(alloc, SETUP)?;
-    let asked = play_drawn(alloc, &mut world, &mut seed);
-    let so = comes_clean(alloc, &mut world, asked)?;
-    Ok((asked, so))
+    let asked = play_drawn(alloc, world, &mut seed);
+    comes_clean(alloc, world, asked)
 }
 
 #[test]
 fn whatever_was_lost(rt: HostRuntime) -> Result<(), Fail> {
     let mut most = 0;
     for schedule in 0..SCHEDULES {
-        let (asked, so) = play_schedule(rt.alloc(), schedule)?;
-        assert!(rt; so, "schedule {schedule}");
+        let line = Line::Comes(Many::Drawn(schedule));
+        let (_sent, _taken, asked) = play(&rt, SETUP, &[line])?;
         most = asked.max(most);
     }
-    assert_eq!(rt; most, TURNS.len());
+    assert!(rt; most == TURNS.len());
     Ok(())
 }

@@ -87,13 +87,21 @@ const SETUP: WorldSetup = WorldSetup {
     bufsiz_b: 1024,
 };
 
-const SCRIPTS: &[&[Line]] = &[FRESH, WAITING, RUNS];
+#[test]
+fn events_of_a_new_world(rt: HostRuntime) -> Result<(), Fail> {
+    let _counts = play(&rt, SETUP, FRESH)?;
+    Ok(())
+}
 
 #[test]
-fn events_without_a_step(rt: HostRuntime) -> Result<(), Fail> {
-    for script in SCRIPTS {
-        let _counts = play(&rt, SETUP, script)?;
-    }
+fn events_while_more_waits(rt: HostRuntime) -> Result<(), Fail> {
+    let _counts = play(&rt, SETUP, WAITING)?;
+    Ok(())
+}
+
+#[test]
+fn runs_that_stop(rt: HostRuntime) -> Result<(), Fail> {
+    let _counts = play(&rt, SETUP, RUNS)?;
     Ok(())
 }
 
@@ -118,10 +126,18 @@ fn sizes_of_worlds(rt: HostRuntime) -> Result<(), Fail> {
             bufsiz_a: *bufsiz_a,
             bufsiz_b: *bufsiz_b,
         };
-        match begin(rt.alloc(), setup) {
-            Ok(world) => assert!(rt; *good && world.is_fresh()),
-            Err(fault) => assert!(rt; !*good && fault == WorldFault::BadSetup),
-        }
+        assert!(rt; is_answered(play(&rt, setup, NEW), *good));
     }
     Ok(())
+}
+
+/// A world in which nothing has happened.
+const NEW: &[Line] = &[Runs(&[], Ok(()), (true, 0, 0, 0))];
+
+/// Whether a good setup made a world, and another none.
+fn is_answered(made: Result<Tally, WorldFault>, good: bool) -> bool {
+    match made {
+        Ok(_) => good,
+        Err(fault) => !good && fault == WorldFault::BadSetup,
+    }
 }
