@@ -281,7 +281,7 @@ const EARLY: &[u8] = &[0, 2, 1, 4, 3, 0, 0x80, 3, 0, 0x43];
 const BEFORE: &[&[&[u8]]] = &[&[EARLY], &[BEGINS, EARLY], &[BEGINS_LONG, EARLY]];
 
 /// What may become of a packet.
-const WORDS: [&str; 9] = [
+const WORDS: &[&str] = &[
     "accepted",
     "repeats",
     "early",
@@ -365,7 +365,21 @@ impl Taking for Received {
     }
 }
 
-/// Alters each packet that comes to an end which has sent, and tells what became of them.
+/// Alters each packet that comes to an end which has sent and got packets, and tells what became of them.
+fn alter_behind(
+    received: &mut Received,
+    counts: &mut Counts,
+    text: &mut Text,
+) -> Result<(), Trouble> {
+    alter_each(received.alloc, PACKETS, received, counts)?;
+    for (word, count) in WORDS.iter().zip(&received.counts) {
+        text.note(word, *count);
+    }
+    text.put(b"\n");
+    Ok(())
+}
+
+/// Alters each packet that comes to an end, behind each of what came before.
 pub fn alter_received(alloc: Global, text: &mut Text) -> Result<Counts, Trouble> {
     let mut counts = Counts::new();
     for before in BEFORE {
@@ -374,11 +388,7 @@ pub fn alter_received(alloc: Global, text: &mut Text) -> Result<Counts, Trouble>
             before: *before,
             counts: [0; 9],
         };
-        alter_each(alloc, PACKETS, &mut received, &mut counts)?;
-        for (word, count) in WORDS.iter().zip(&received.counts) {
-            text.note(word, *count);
-        }
-        text.put(b"\n");
+        alter_behind(&mut received, &mut counts, text)?;
     }
     Ok(counts)
 }

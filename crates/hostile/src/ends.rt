@@ -7,7 +7,7 @@ use crate::requests::request;
 use crate::texts::Text;
 use dap_accessed::Accessed;
 use dap_accessing::{Accessing, AskFault, By, How, Request};
-use std::alloc::{AllocError, Global};
+use std::alloc::Global;
 
 /// The buffer of each end.
 const BUFFER: u16 = 1024;
@@ -21,19 +21,19 @@ pub struct Serving {
 }
 
 impl Serving {
-    pub fn new(alloc: Global, messages: &'static [&'static [u8]]) -> Result<Serving, AllocError> {
-        let answers = Text::new(alloc)?;
-        Ok(Serving {
+    pub fn new(alloc: Global, messages: &'static [&'static [u8]]) -> Serving {
+        Serving {
             end: Accessed::new(alloc, BUFFER),
             messages,
-            answers,
-        })
+            answers: Text::new(alloc),
+        }
     }
 }
 
 impl Growing for Serving {
     fn call(&mut self, place: usize) -> Result<(), Trouble> {
         let message = at(self.messages, place)?;
+        self.answers.reserve()?;
         let served = self.end.serve(message, 0)?;
         self.answers.note_all("answer", &served.answers);
         Ok(())
@@ -63,16 +63,14 @@ pub struct Asking {
 }
 
 impl Asking {
-    pub fn new(alloc: Global, lines: &'static [Line]) -> Result<Asking, AllocError> {
-        let messages = Text::new(alloc)?;
-        let reports = Text::new(alloc)?;
-        Ok(Asking {
+    pub fn new(alloc: Global, lines: &'static [Line]) -> Asking {
+        Asking {
             alloc,
             end: Accessing::new(alloc, BUFFER),
             lines,
-            messages,
-            reports,
-        })
+            messages: Text::new(alloc),
+            reports: Text::new(alloc),
+        }
     }
 }
 
@@ -109,7 +107,10 @@ const PROBES: [Request; 5] = [
 
 impl Growing for Asking {
     fn call(&mut self, place: usize) -> Result<(), Trouble> {
-        match at(self.lines, place)? {
+        let line = at(self.lines, place)?;
+        self.messages.reserve()?;
+        self.reports.reserve()?;
+        match line {
             Line::Ask(words) => {
                 let messages = ask(self.alloc, &mut self.end, words)?;
                 self.messages.note_all("message", &messages);

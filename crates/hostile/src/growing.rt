@@ -133,6 +133,17 @@ pub fn at<T: Copy>(table: &[T], place: usize) -> Result<T, Trouble> {
     }
 }
 
+/// Puts what was made in its place.
+pub fn put<T: Drop>(place: &mut Option<T>, made: T) {
+    *place = Some(made);
+}
+
+/// What was made, where the rest is done too.
+pub fn when<T: Drop>(done: Result<(), Trouble>, made: T) -> Result<T, Trouble> {
+    done?;
+    Ok(made)
+}
+
 /// How a run ended early.
 #[derive(Clone, Copy)]
 pub enum Ending {
@@ -194,14 +205,15 @@ pub struct Seen {
 
 impl Seen {
     pub fn new(alloc: Global, out: Stdout, told: Stderr) -> Result<Seen, AllocError> {
-        let before = Text::new(alloc)?;
-        let after = Text::new(alloc)?;
-        Ok(Seen {
-            before,
-            after,
+        let mut seen = Seen {
+            before: Text::new(alloc),
+            after: Text::new(alloc),
             out,
             told,
-        })
+        };
+        seen.before.reserve()?;
+        seen.after.reserve()?;
+        Ok(seen)
     }
 
     /// Keeps what the readers answer before a call.

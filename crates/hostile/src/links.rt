@@ -1,10 +1,10 @@
 //! Two ends of a link.
 
-use crate::growing::{Growing, Trouble, at};
+use crate::growing::{Growing, Trouble, at, put};
 use crate::reading::look_at_link;
 use crate::texts::Text;
 use nsp_link::{Got, LinkEnd, LinkFault, LinkSetup};
-use std::alloc::{AllocError, Global};
+use std::alloc::Global;
 
 /// Which end.
 #[derive(Clone, Copy)]
@@ -157,20 +157,20 @@ pub struct Links {
 }
 
 impl Links {
-    pub fn new(alloc: Global) -> Result<Links, AllocError> {
-        let got = Text::new(alloc)?;
-        Ok(Links {
+    pub fn new(alloc: Global) -> Links {
+        Links {
             alloc,
             pair: None,
             packets: Vec::new(alloc),
-            got,
-        })
+            got: Text::new(alloc),
+        }
     }
 
-    /// Makes the ends, and room for the packets.
+    /// Makes the ends, and room for what they give.
     fn begin(&mut self) -> Result<(), Trouble> {
         self.packets.reserve(ACTS.len())?;
-        let _none = self.pair.replace(new_pair(self.alloc)?);
+        self.got.reserve()?;
+        put(&mut self.pair, new_pair(self.alloc)?);
         Ok(())
     }
 }

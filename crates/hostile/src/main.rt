@@ -111,14 +111,14 @@ fn grow_files(alloc: Global, seen: &mut Seen) -> Result<(), Ending> {
 
 /// The calls on links.
 fn grow_links(alloc: Global, seen: &mut Seen) -> Result<(), Ending> {
-    make_all("a link", Links::new(alloc)?, seen)?;
+    make_all("a link", Links::new(alloc), seen)?;
     make_all("both ends", Peers::new(alloc), seen)
 }
 
 /// The calls on ends that are sent messages.
 fn grow_serving(alloc: Global, seen: &mut Seen) -> Result<(), Ending> {
     for (name, messages) in SERVED {
-        make_all(name, Serving::new(alloc, messages)?, seen)?;
+        make_all(name, Serving::new(alloc, messages), seen)?;
     }
     Ok(())
 }
@@ -126,7 +126,7 @@ fn grow_serving(alloc: Global, seen: &mut Seen) -> Result<(), Ending> {
 /// The calls on ends that ask.
 fn grow_asking(alloc: Global, seen: &mut Seen) -> Result<(), Ending> {
     for (name, lines) in ASKED {
-        make_all(name, Asking::new(alloc, lines)?, seen)?;
+        make_all(name, Asking::new(alloc, lines), seen)?;
     }
     Ok(())
 }
@@ -134,7 +134,7 @@ fn grow_asking(alloc: Global, seen: &mut Seen) -> Result<(), Ending> {
 /// The calls on worlds.
 fn grow_worlds(alloc: Global, seen: &mut Seen) -> Result<(), Ending> {
     for (name, setup, script, shows_wires) in WORLDS {
-        let playing = Playing::new(alloc, *setup, script, *shows_wires)?;
+        let playing = Playing::new(alloc, *setup, script, *shows_wires);
         make_all(name, playing, seen)?;
     }
     make_all(
@@ -193,7 +193,8 @@ fn fail_devices(alloc: Global, text: &mut Text) -> Result<(), Trouble> {
 
 /// Alters bytes and fails devices, and writes what was told until the end, or until something went wrong.
 fn go_wrong(alloc: Global, out: &mut Stdout) -> Result<(), Ending> {
-    let mut text = Text::new(alloc)?;
+    let mut text = Text::new(alloc);
+    text.reserve()?;
     let mut done = alter(alloc, &mut text);
     if done.is_ok() {
         done = fail_devices(alloc, &mut text);

@@ -1,6 +1,6 @@
 //! The end that asks and the end that serves, each with its link, over a line between them.
 
-use crate::growing::{Growing, Trouble, at};
+use crate::growing::{Growing, Trouble, at, put};
 use crate::links::{keep, keep_next, packet_of};
 use crate::reading::{look_at_files, look_at_link, look_at_reports};
 use crate::requests::request;
@@ -310,7 +310,7 @@ impl Peers {
 
     /// Makes both ends.
     fn begin(&mut self) -> Result<(), Trouble> {
-        let _none = self.pair.replace(new_pair(self.alloc)?);
+        put(&mut self.pair, new_pair(self.alloc)?);
         Ok(())
     }
 

@@ -16,11 +16,16 @@ pub struct Text {
 }
 
 impl Text {
-    pub fn new(alloc: Global) -> Result<Text, AllocError> {
-        Ok(Text {
-            bytes: Vec::with_capacity(alloc, MOST)?,
+    pub fn new(alloc: Global) -> Text {
+        Text {
+            bytes: Vec::new(alloc),
             is_short: false,
-        })
+        }
+    }
+
+    /// Makes room for all that readers answer.
+    pub fn reserve(&mut self) -> Result<(), AllocError> {
+        Ok(self.bytes.reserve(MOST.saturating_sub(self.bytes.len()))?)
     }
 
     pub fn clear(&mut self) {

@@ -1,6 +1,6 @@
 //! Both ends over both links, event by event.
 
-use crate::growing::{Growing, Trouble};
+use crate::growing::{Growing, Trouble, put, when};
 use crate::reading::{look_at_files, look_at_link, look_at_reports};
 use crate::requests::request;
 use crate::texts::Text;
@@ -184,26 +184,21 @@ pub struct Playing {
 
 impl Playing {
     /// What is settled after a refusal is written once more, so there the wires are not shown.
-    pub fn new(
-        alloc: Global,
-        setup: WorldSetup,
-        script: Script,
-        shows_wires: bool,
-    ) -> Result<Playing, AllocError> {
-        let steps = Text::new(alloc)?;
-        Ok(Playing {
+    pub fn new(alloc: Global, setup: WorldSetup, script: Script, shows_wires: bool) -> Playing {
+        Playing {
             alloc,
             setup,
             world: None,
             script,
             shows_wires,
-            steps,
-        })
+            steps: Text::new(alloc),
+        }
     }
 
-    /// Makes the world.
+    /// Makes the world, and room for the steps.
     fn begin(&mut self) -> Result<(), Trouble> {
-        let _none = self.world.replace(World::new(self.alloc, self.setup)?);
+        self.steps.reserve()?;
+        put(&mut self.world, World::new(self.alloc, self.setup)?);
         Ok(())
     }
 }
@@ -376,8 +371,8 @@ fn direct(alloc: Global, world: &mut World) -> Result<(), Trouble> {
 /// A new world, directed.
 fn directed(alloc: Global, setup: WorldSetup) -> Result<World, Trouble> {
     let mut world = World::new(alloc, setup)?;
-    direct(alloc, &mut world)?;
-    Ok(world)
+    let done = direct(alloc, &mut world);
+    when(done, world)
 }
 
 impl Growing for Directing {
@@ -385,7 +380,7 @@ impl Growing for Directing {
         if place > 0 {
             return Err(Trouble::Over);
         }
-        let _none = self.world.replace(directed(self.alloc, self.setup)?);
+        put(&mut self.world, directed(self.alloc, self.setup)?);
         Ok(())
     }
 
