@@ -365,21 +365,15 @@ impl Taking for Received {
     }
 }
 
-/// Alters each packet that comes to an end which has sent and got packets, and tells what became of them.
-fn alter_behind(
-    received: &mut Received,
-    counts: &mut Counts,
-    text: &mut Text,
-) -> Result<(), Trouble> {
-    alter_each(received.alloc, PACKETS, received, counts)?;
-    for (word, count) in WORDS.iter().zip(&received.counts) {
+/// Tells how many packets became what, as a line.
+fn note_words(counts: &[u64], text: &mut Text) {
+    for (word, count) in WORDS.iter().zip(counts) {
         text.note(word, *count);
     }
     text.put(b"\n");
-    Ok(())
 }
 
-/// Alters each packet that comes to an end, behind each of what came before.
+/// Alters each packet that comes to an end which has sent and got packets, and tells what became of them.
 pub fn alter_received(alloc: Global, text: &mut Text) -> Result<Counts, Trouble> {
     let mut counts = Counts::new();
     for before in BEFORE {
@@ -388,7 +382,8 @@ pub fn alter_received(alloc: Global, text: &mut Text) -> Result<Counts, Trouble>
             before: *before,
             counts: [0; 9],
         };
-        alter_behind(&mut received, &mut counts, text)?;
+        alter_each(alloc, PACKETS, &mut received, &mut counts)?;
+        note_words(&received.counts, text);
     }
     Ok(counts)
 }

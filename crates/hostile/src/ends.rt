@@ -88,12 +88,23 @@ pub fn ask(alloc: Global, end: &mut Accessing, words: &str) -> Result<Vec<Vec<u8
     asked(end.ask(&request))
 }
 
-/// Hears an answer, and notes its report where there is one.
-fn hear(end: &mut Accessing, answer: &[u8], reports: &mut Text) -> Result<(), Trouble> {
-    if let Some(report) = &end.read(answer, 0)?.report {
-        look_at_report(report, reports);
+impl Asking {
+    /// Asks a request, and notes its messages.
+    fn ask(&mut self, words: &str) -> Result<(), Trouble> {
+        self.messages.reserve()?;
+        let messages = ask(self.alloc, &mut self.end, words)?;
+        self.messages.note_all("message", &messages);
+        Ok(())
     }
-    Ok(())
+
+    /// Hears an answer, and notes its report where there is one.
+    fn hear(&mut self, answer: &[u8]) -> Result<(), Trouble> {
+        self.reports.reserve()?;
+        if let Some(report) = &self.end.read(answer, 0)?.report {
+            look_at_report(report, &mut self.reports);
+        }
+        Ok(())
+    }
 }
 
 /// Requests of each phase: what an end says of them tells where it stands.
@@ -107,17 +118,10 @@ const PROBES: [Request; 5] = [
 
 impl Growing for Asking {
     fn call(&mut self, place: usize) -> Result<(), Trouble> {
-        let line = at(self.lines, place)?;
-        self.messages.reserve()?;
-        self.reports.reserve()?;
-        match line {
-            Line::Ask(words) => {
-                let messages = ask(self.alloc, &mut self.end, words)?;
-                self.messages.note_all("message", &messages);
-            }
-            Line::Hear(answer) => hear(&mut self.end, answer, &mut self.reports)?,
+        match at(self.lines, place)? {
+            Line::Ask(words) => self.ask(words),
+            Line::Hear(answer) => self.hear(answer),
         }
-        Ok(())
     }
 
     fn look(&self, seen: &mut Text) {

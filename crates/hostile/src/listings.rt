@@ -114,7 +114,19 @@ fn words(alloc: Global, word: &str) -> Result<[String; 2], Trouble> {
     Ok([program, String::from_str(alloc, word)?])
 }
 
-/// Runs the program with a word, over room for what it tells.
+/// Runs the program with words, over room for what it tells.
+fn run_words_over<R: Read, W: Write>(
+    alloc: Global,
+    words: &[String],
+    reader: &mut R,
+    writer: &mut W,
+) -> Result<End, Trouble> {
+    let mut told = Vec::with_capacity(alloc, MOST_TOLD)?;
+    let status = run_words(alloc, words, reader, writer, &mut told);
+    end_of(status, &told)
+}
+
+/// Runs the program with a word.
 fn run_word<R: Read, W: Write>(
     alloc: Global,
     word: &str,
@@ -122,9 +134,7 @@ fn run_word<R: Read, W: Write>(
     writer: &mut W,
 ) -> Result<End, Trouble> {
     let words = words(alloc, word)?;
-    let mut told = Vec::with_capacity(alloc, MOST_TOLD)?;
-    let status = run_words(alloc, &words, reader, writer, &mut told);
-    end_of(status, &told)
+    run_words_over(alloc, &words, reader, writer)
 }
 
 /// How a call of the library ended.

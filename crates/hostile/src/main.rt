@@ -137,11 +137,13 @@ fn grow_worlds(alloc: Global, seen: &mut Seen) -> Result<(), Ending> {
         let playing = Playing::new(alloc, *setup, script, *shows_wires);
         make_all(name, playing, seen)?;
     }
-    make_all(
-        "a world that is directed",
-        Directing::new(alloc, ROOMY),
-        seen,
-    )
+    Ok(())
+}
+
+/// The call on a world that is directed.
+fn grow_directed(alloc: Global, seen: &mut Seen) -> Result<(), Ending> {
+    let directing = Directing::new(alloc, ROOMY);
+    make_all("a world that is directed", directing, seen)
 }
 
 /// The listings and the words of the program.
@@ -160,6 +162,7 @@ fn grow(alloc: Global, seen: &mut Seen) -> Result<(), Ending> {
     grow_serving(alloc, seen)?;
     grow_asking(alloc, seen)?;
     grow_worlds(alloc, seen)?;
+    grow_directed(alloc, seen)?;
     grow_listings(alloc, seen)
 }
 
