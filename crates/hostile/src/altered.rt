@@ -1,17 +1,15 @@
 //! Packets and messages that were cut, or of which one byte was changed.
 
 use crate::bytes::{MESSAGES, PACKETS, RECORDS, STORING};
-use crate::ends::{ASKED_RECORDS, ASKED_STORING, Line};
-use crate::growing::{Ending, Trouble};
-use crate::requests::request;
+use crate::ends::{ASKED_RECORDS, ASKED_STORING, Line, ask};
+use crate::growing::Trouble;
+use crate::texts::Text;
 use dap_accessed::Accessed;
 use dap_accessing::{Accessing, ReadFault};
 use dap_msg::decode;
 use nsp_link::{Got, LinkEnd, LinkFault, LinkSetup};
 use nsp_seg::decode_packet;
 use std::alloc::Global;
-use std::io;
-use std::io::Write;
 
 /// The buffer of each end.
 const BUFFER: u16 = 1024;
@@ -23,7 +21,7 @@ pub trait Taking {
 }
 
 /// What became of the bytes.
-#[derive(Clone, Copy, Debug, PartialEq, Eq)]
+#[derive(Clone, Copy)]
 pub enum Outcome {
     /// They were taken.
     Taken,
@@ -60,18 +58,42 @@ impl Counts {
         *count = count.saturating_add(1);
     }
 
-    /// Writes the counts in a line.
-    pub fn write<W: Write>(&self, name: &str, out: &mut W) -> io::Result<()> {
-        let Counts {
-            taken,
-            refused,
-            failed,
-        } = *self;
-        writeln!(
-            out,
-            "{name}: {taken} taken, {refused} refused, {failed} failed"
-        )
+    /// Appends the counts, as a line.
+    pub fn note(&self, name: &str, text: &mut Text) {
+        text.put(name.as_bytes());
+        text.put(b":");
+        text.show(&self.taken);
+        text.put(b" taken,");
+        text.show(&self.refused);
+        text.put(b" refused,");
+        text.show(&self.failed);
+        text.put(b" failed\n");
     }
+}
+
+/// Puts a byte in its place.
+fn put(bytes: &mut [u8], place: usize, value: u8) {
+    if let Some(byte) = bytes.get_mut(place) {
+        *byte = value;
+    }
+}
+
+/// Gives each change of the byte at this place, and puts the right one back.
+fn change<T: Taking>(
+    bytes: &mut [u8],
+    place: usize,
+    right: u8,
+    taking: &mut T,
+    counts: &mut Counts,
+) -> Result<(), Trouble> {
+    for value in 0..=255 {
+        if value != right {
+            put(bytes, place, value);
+            counts.add(taking.take(bytes)?);
+        }
+    }
+    put(bytes, place, right);
+    Ok(())
 }
 
 /// Gives each proper prefix of the bytes, and each change of one of them.
@@ -86,20 +108,18 @@ pub fn alter<T: Taking>(
     }
     let mut altered = Vec::from_slice(alloc, bytes)?;
     for (place, right) in bytes.iter().enumerate() {
-        for value in 0..=255 {
-            if value == *right {
-                continue;
-            }
-            if let Some(byte) = altered.get_mut(place) {
-                *byte = value;
-            }
-            counts.add(taking.take(&altered)?);
-        }
-        if let Some(byte) = altered.get_mut(place) {
-            *byte = *right;
-        }
+        change(&mut altered, place, *right, taking, counts)?;
     }
     Ok(())
+}
+
+/// They were taken, or refused.
+fn whether_taken(is_whole: bool) -> Outcome {
+    if is_whole {
+        Outcome::Taken
+    } else {
+        Outcome::Refused
+    }
 }
 
 /// Reads a message, or a packet.
@@ -110,26 +130,32 @@ struct Decoding {
 
 impl Taking for Decoding {
     fn take(&mut self, bytes: &[u8]) -> Result<Outcome, Trouble> {
-        let is_whole = if self.is_packet {
+        Ok(whether_taken(if self.is_packet {
             decode_packet(bytes).is_ok()
         } else {
             decode(bytes).is_ok()
-        };
-        Ok(if is_whole {
-            Outcome::Taken
-        } else {
-            Outcome::Refused
-        })
+        }))
     }
 }
 
-/// Alters all messages, and all packets.
+/// Alters each of the list.
+fn alter_each<T: Taking>(
+    alloc: Global,
+    list: &[&[u8]],
+    taking: &mut T,
+    counts: &mut Counts,
+) -> Result<(), Trouble> {
+    for bytes in list {
+        alter(alloc, bytes, taking, counts)?;
+    }
+    Ok(())
+}
+
+/// Alters all messages, or all packets.
 pub fn alter_all(alloc: Global, is_packet: bool) -> Result<Counts, Trouble> {
     let mut counts = Counts::new();
     let list = if is_packet { PACKETS } else { MESSAGES };
-    for bytes in list {
-        alter(alloc, bytes, &mut Decoding { is_packet }, &mut counts)?;
-    }
+    alter_each(alloc, list, &mut Decoding { is_packet }, &mut counts)?;
     Ok(counts)
 }
 
@@ -140,17 +166,19 @@ struct Served {
     before: &'static [&'static [u8]],
 }
 
+/// The end is sent messages, and one more.
+fn serve_more(end: &mut Accessed, before: &[&[u8]], bytes: &[u8]) -> Result<Outcome, Trouble> {
+    for message in before {
+        end.serve(message, 0)?;
+    }
+    end.serve(bytes, 0)?;
+    Ok(whether_taken(decode(bytes).is_ok()))
+}
+
 impl Taking for Served {
     fn take(&mut self, bytes: &[u8]) -> Result<Outcome, Trouble> {
         let mut end = Accessed::new(self.alloc, BUFFER);
-        for message in self.before {
-            end.serve(message, 0)?;
-        }
-        end.serve(bytes, 0)?;
-        Ok(match decode(bytes) {
-            Ok(_) => Outcome::Taken,
-            Err(_) => Outcome::Refused,
-        })
+        serve_more(&mut end, self.before, bytes)
     }
 }
 
@@ -177,8 +205,7 @@ struct Heard {
 fn follow(alloc: Global, end: &mut Accessing, line: Line) -> Result<(), Trouble> {
     match line {
         Line::Ask(words) => {
-            let request = request(alloc, words)?;
-            end.ask(&request)?;
+            ask(alloc, end, words)?;
         }
         Line::Hear(answer) => {
             end.read(answer, 0)?;
@@ -187,17 +214,32 @@ fn follow(alloc: Global, end: &mut Accessing, line: Line) -> Result<(), Trouble>
     Ok(())
 }
 
+/// The end hears one answer more.
+fn hear(end: &mut Accessing, answer: &[u8]) -> Result<Outcome, Trouble> {
+    match end.read(answer, 0) {
+        Ok(_) => Ok(Outcome::Taken),
+        Err(ReadFault::Unexpected) => Ok(Outcome::Failed),
+        Err(_) => Err(Trouble::Wrong),
+    }
+}
+
+/// The end asks and hears what the lines say, and hears one answer more.
+fn hear_more(
+    alloc: Global,
+    end: &mut Accessing,
+    lines: &[Line],
+    answer: &[u8],
+) -> Result<Outcome, Trouble> {
+    for line in lines {
+        follow(alloc, end, *line)?;
+    }
+    hear(end, answer)
+}
+
 impl Taking for Heard {
     fn take(&mut self, bytes: &[u8]) -> Result<Outcome, Trouble> {
         let mut end = Accessing::new(self.alloc, BUFFER);
-        for line in self.before {
-            follow(self.alloc, &mut end, *line)?;
-        }
-        match end.read(bytes, 0) {
-            Ok(_) => Ok(Outcome::Taken),
-            Err(ReadFault::Unexpected) => Ok(Outcome::Failed),
-            Err(_) => Err(Trouble::Wrong),
-        }
+        hear_more(self.alloc, &mut end, self.before, bytes)
     }
 }
 
@@ -239,7 +281,7 @@ const EARLY: &[u8] = &[0, 2, 1, 4, 3, 0, 0x80, 3, 0, 0x43];
 const BEFORE: &[&[&[u8]]] = &[&[EARLY], &[BEGINS, EARLY], &[BEGINS_LONG, EARLY]];
 
 /// What may become of a packet.
-const WORDS: [&str; 9] = [
+const WORDS: &[&str] = &[
     "accepted",
     "repeats",
     "early",
@@ -274,45 +316,65 @@ struct Received {
     counts: [u64; 9],
 }
 
-impl Received {
-    /// The end before the packet.
-    fn end(&self) -> Result<LinkEnd, LinkFault> {
-        let mut end = LinkEnd::new(self.alloc, SETUP)?;
-        end.send(b"eight segments, of four bytes..")?;
-        for _ in 0..SETUP.window {
-            end.next_packet()?;
-        }
-        for packet in self.before {
-            end.receive(packet)?;
-        }
-        Ok(end)
+/// The end has sent, and gets the packets.
+fn prepare(end: &mut LinkEnd, before: &[&[u8]]) -> Result<(), LinkFault> {
+    end.send(b"eight segments, of four bytes..")?;
+    for _ in 0..SETUP.window {
+        end.next_packet()?;
     }
+    for packet in before {
+        end.receive(packet)?;
+    }
+    Ok(())
+}
+
+/// What became of a packet that was received so; an end that failed refuses all.
+fn outcome_of(
+    received: Result<Got, LinkFault>,
+    end: &mut LinkEnd,
+    bytes: &[u8],
+) -> Result<Outcome, Trouble> {
+    match received {
+        Ok(_) => Ok(Outcome::Taken),
+        Err(LinkFault::Malformed(_) | LinkFault::WrongLink) => Ok(Outcome::Refused),
+        Err(LinkFault::BadSequence | LinkFault::MessageTooLong)
+            if end.receive(bytes) == Err(LinkFault::Failed) => { Ok(Outcome::Failed) }
+        Err(_) => Err(Trouble::Wrong),
+    }
+}
+
+/// The end has sent and got packets, and gets one more, which is counted.
+fn receive_more(
+    end: &mut LinkEnd,
+    before: &[&[u8]],
+    bytes: &[u8],
+    counts: &mut [u64],
+) -> Result<Outcome, Trouble> {
+    prepare(end, before)?;
+    let received = end.receive(bytes);
+    if let Some(count) = counts.get_mut(word_of(received)) {
+        *count = count.saturating_add(1);
+    }
+    outcome_of(received, end, bytes)
 }
 
 impl Taking for Received {
     fn take(&mut self, bytes: &[u8]) -> Result<Outcome, Trouble> {
-        let mut end = self.end()?;
-        let received = end.receive(bytes);
-        if let Some(count) = self.counts.get_mut(word_of(received)) {
-            *count = count.saturating_add(1);
-        }
-        match received {
-            Ok(_) => Ok(Outcome::Taken),
-            Err(LinkFault::BadSequence | LinkFault::MessageTooLong) => {
-                if end.receive(bytes) == Err(LinkFault::Failed) {
-                    Ok(Outcome::Failed)
-                } else {
-                    Err(Trouble::Wrong)
-                }
-            }
-            Err(LinkFault::Malformed(_) | LinkFault::WrongLink) => Ok(Outcome::Refused),
-            Err(_) => Err(Trouble::Wrong),
-        }
+        let mut end = LinkEnd::new(self.alloc, SETUP)?;
+        receive_more(&mut end, self.before, bytes, &mut self.counts)
     }
 }
 
-/// Alters each packet that comes to an end which has sent, and writes what became of them.
-pub fn alter_received<W: Write>(alloc: Global, out: &mut W) -> Result<Counts, Ending> {
+/// Tells how many packets became what, as a line.
+fn note_words(counts: &[u64], text: &mut Text) {
+    for (word, count) in WORDS.iter().zip(counts) {
+        text.note(word, *count);
+    }
+    text.put(b"\n");
+}
+
+/// Alters each packet that comes to an end which has sent and got packets, and tells what became of them.
+pub fn alter_received(alloc: Global, text: &mut Text) -> Result<Counts, Trouble> {
     let mut counts = Counts::new();
     for before in BEFORE {
         let mut received = Received {
@@ -320,13 +382,8 @@ pub fn alter_received<W: Write>(alloc: Global, out: &mut W) -> Result<Counts, En
             before: *before,
             counts: [0; 9],
         };
-        for packet in PACKETS {
-            alter(alloc, packet, &mut received, &mut counts)?;
-        }
-        for (word, count) in WORDS.iter().zip(&received.counts) {
-            write!(out, " {word}={count}")?;
-        }
-        writeln!(out)?;
+        alter_each(alloc, PACKETS, &mut received, &mut counts)?;
+        note_words(&received.counts, text);
     }
     Ok(counts)
 }

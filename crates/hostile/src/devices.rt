@@ -48,7 +48,7 @@ impl Read for EndlessReader {
 }
 
 /// What is wrong with a faulty writer.
-#[derive(Clone, Copy, PartialEq, Eq)]
+#[derive(Clone, Copy)]
 enum Fault {
     /// Its last call fails.
     Error,
@@ -85,7 +85,7 @@ impl Write for FaultyWriter {
     }
 
     fn flush(&mut self) -> io::Result<()> {
-        if self.fault == Fault::Flush {
+        if matches!(self.fault, Fault::Flush) {
             return Err(io::Error::from(ErrorKind::Other));
         }
         Ok(())
@@ -105,6 +105,16 @@ fn unread(row: Row, fault: CaptureFault) -> Left {
     }
 }
 
+/// Wants a run to have left this.
+fn wants(ended: Result<End, Trouble>, written: &[u8], want: (End, &[u8])) -> Result<(), Trouble> {
+    let (end, text) = want;
+    if ended? == end && written == text {
+        Ok(())
+    } else {
+        Err(Trouble::Wrong)
+    }
+}
+
 /// Runs an engine over an input that comes in pieces and fails at a call, and wants what it leaves.
 fn reads(alloc: Global, row: Row, step: usize, fail_at: usize, want: Left) -> Result<(), Trouble> {
     let (engine, bytes, _end, _text) = row;
@@ -115,12 +125,8 @@ fn reads(alloc: Global, row: Row, step: usize, fail_at: usize, want: Left) -> Re
         fail_at,
     };
     let mut writer = Vec::new(alloc);
-    let end = run(alloc, engine, &mut reader, &mut writer)?;
-    if (end, writer.as_slice()) == want {
-        Ok(())
-    } else {
-        Err(Trouble::Wrong)
-    }
+    let ended = run(alloc, engine, &mut reader, &mut writer);
+    wants(ended, &writer, want)
 }
 
 /// Runs an engine over an input without an end, and wants it to be too large, where it is read at all.
@@ -128,14 +134,12 @@ fn reads_without_end(alloc: Global, row: Row, step: usize) -> Result<(), Trouble
     let (engine, input, _end, _text) = row;
     let mut reader = EndlessReader { step, given: 0 };
     let mut writer = Vec::new(alloc);
-    let end = run(alloc, engine, &mut reader, &mut writer)?;
+    let ended = run(alloc, engine, &mut reader, &mut writer);
     let given = if input.is_empty() { 0 } else { 16_777_217 };
-    let want = unread(row, CaptureFault::TooLarge);
-    if (end, writer.as_slice()) == want && reader.given == given {
-        Ok(())
-    } else {
-        Err(Trouble::Wrong)
+    if reader.given != given {
+        return Err(Trouble::Wrong);
     }
+    wants(ended, &writer, unread(row, CaptureFault::TooLarge))
 }
 
 /// Runs an engine with a writer, and wants a failed write behind a front of the text, where it fails.
@@ -146,8 +150,7 @@ fn writes(
     fail_at: usize,
     fault: Fault,
 ) -> Result<(), Trouble> {
-    let (engine, input, sound_end, text) = row;
-    let mut reader = input;
+    let (engine, mut reader, sound_end, text) = row;
     let mut writer = FaultyWriter {
         held: Vec::new(alloc),
         step,
@@ -155,18 +158,14 @@ fn writes(
         fail_at,
         fault,
     };
-    let end = run(alloc, engine, &mut reader, &mut writer)?;
-    let want = if text.is_empty() || fault == Fault::Sound {
+    let ended = run(alloc, engine, &mut reader, &mut writer);
+    let end = if text.is_empty() || matches!(fault, Fault::Sound) {
         sound_end
     } else {
         End::Fault(CaptureFault::WriteFailed)
     };
     let front = text.len().min(step.saturating_mul(fail_at));
-    if end == want && writer.held.as_slice() == &text[..front] {
-        Ok(())
-    } else {
-        Err(Trouble::Wrong)
-    }
+    wants(ended, &writer.held, (end, &text[..front]))
 }
 
 /// Each row over readers that give a byte a call, or a few, and fail at each call in turn; and over those

@@ -1,14 +1,13 @@
 //! The end that asks and the end that holds the files, each by itself.
 
 use crate::bytes::*;
-use crate::growing::{Came, Growing, Trouble, note_bytes};
+use crate::growing::{Growing, Trouble, at};
 use crate::reading::{look_at_files, look_at_report};
 use crate::requests::request;
+use crate::texts::Text;
 use dap_accessed::Accessed;
-use dap_accessing::{Accessing, By, How, Report, Request};
-use std::alloc::{AllocError, Global};
-use std::io;
-use std::io::Write;
+use dap_accessing::{Accessing, AskFault, By, How, Request};
+use std::alloc::Global;
 
 /// The buffer of each end.
 const BUFFER: u16 = 1024;
@@ -18,37 +17,31 @@ const BUFFER: u16 = 1024;
 pub struct Serving {
     end: Accessed,
     messages: &'static [&'static [u8]],
-    answers: Vec<Vec<u8>>,
+    answers: Text,
 }
 
 impl Serving {
-    pub fn new(alloc: Global, messages: &'static [&'static [u8]]) -> Result<Serving, AllocError> {
-        Ok(Serving {
+    pub fn new(alloc: Global, messages: &'static [&'static [u8]]) -> Serving {
+        Serving {
             end: Accessed::new(alloc, BUFFER),
             messages,
-            answers: Vec::with_capacity(alloc, 64)?,
-        })
+            answers: Text::new(alloc),
+        }
     }
 }
 
 impl Growing for Serving {
-    fn call(&mut self, place: usize) -> Result<Came, Trouble> {
-        let Some(message) = self.messages.get(place) else {
-            return Ok(Came::Over);
-        };
+    fn call(&mut self, place: usize) -> Result<(), Trouble> {
+        let message = at(self.messages, place)?;
+        self.answers.reserve()?;
         let served = self.end.serve(message, 0)?;
-        for answer in served.answers {
-            self.answers.push(answer)?;
-        }
-        Ok(Came::Done)
+        self.answers.note_all("answer", &served.answers);
+        Ok(())
     }
 
-    fn look(&self, seen: &mut Vec<u8>) -> io::Result<()> {
-        look_at_files(self.end.files(), seen)?;
-        for answer in &self.answers {
-            note_bytes(seen, "answer", answer)?;
-        }
-        Ok(())
+    fn look(&self, seen: &mut Text) {
+        look_at_files(self.end.files(), seen);
+        seen.put(self.answers.as_slice());
     }
 }
 
@@ -65,39 +58,50 @@ pub struct Asking {
     alloc: Global,
     end: Accessing,
     lines: &'static [Line],
-    messages: Vec<Vec<u8>>,
-    reports: Vec<Report>,
+    messages: Text,
+    reports: Text,
 }
 
 impl Asking {
-    pub fn new(alloc: Global, lines: &'static [Line]) -> Result<Asking, AllocError> {
-        Ok(Asking {
+    pub fn new(alloc: Global, lines: &'static [Line]) -> Asking {
+        Asking {
             alloc,
             end: Accessing::new(alloc, BUFFER),
             lines,
-            messages: Vec::with_capacity(alloc, 64)?,
-            reports: Vec::with_capacity(alloc, 64)?,
-        })
-    }
-
-    /// Asks a request, and keeps its messages.
-    fn ask(&mut self, words: &str) -> Result<(), Trouble> {
-        let request = request(self.alloc, words)?;
-        match self.end.ask(&request) {
-            Ok(messages) => {
-                for message in messages {
-                    self.messages.push(message)?;
-                }
-                Ok(())
-            }
-            Err(fault) => Err(Trouble::from(fault)),
+            messages: Text::new(alloc),
+            reports: Text::new(alloc),
         }
     }
+}
 
-    /// Hears an answer, and keeps its report where there is one.
+/// What the end came to.
+fn asked(asked: Result<Vec<Vec<u8>>, AskFault>) -> Result<Vec<Vec<u8>>, Trouble> {
+    match asked {
+        Ok(messages) => Ok(messages),
+        Err(fault) => Err(Trouble::from(fault)),
+    }
+}
+
+/// Asks a request; its messages.
+pub fn ask(alloc: Global, end: &mut Accessing, words: &str) -> Result<Vec<Vec<u8>>, Trouble> {
+    let request = request(alloc, words)?;
+    asked(end.ask(&request))
+}
+
+impl Asking {
+    /// Asks a request, and notes its messages.
+    fn ask(&mut self, words: &str) -> Result<(), Trouble> {
+        self.messages.reserve()?;
+        let messages = ask(self.alloc, &mut self.end, words)?;
+        self.messages.note_all("message", &messages);
+        Ok(())
+    }
+
+    /// Hears an answer, and notes its report where there is one.
     fn hear(&mut self, answer: &[u8]) -> Result<(), Trouble> {
-        if let Some(report) = self.end.read(answer, 0)?.report {
-            self.reports.push(report)?;
+        self.reports.reserve()?;
+        if let Some(report) = &self.end.read(answer, 0)?.report {
+            look_at_report(report, &mut self.reports);
         }
         Ok(())
     }
@@ -113,28 +117,19 @@ const PROBES: [Request; 5] = [
 ];
 
 impl Growing for Asking {
-    fn call(&mut self, place: usize) -> Result<Came, Trouble> {
-        let Some(line) = self.lines.get(place) else {
-            return Ok(Came::Over);
-        };
-        match *line {
-            Line::Ask(words) => self.ask(words)?,
-            Line::Hear(answer) => self.hear(answer)?,
+    fn call(&mut self, place: usize) -> Result<(), Trouble> {
+        match at(self.lines, place)? {
+            Line::Ask(words) => self.ask(words),
+            Line::Hear(answer) => self.hear(answer),
         }
-        Ok(Came::Done)
     }
 
-    fn look(&self, seen: &mut Vec<u8>) -> io::Result<()> {
+    fn look(&self, seen: &mut Text) {
         for probe in &PROBES {
-            write!(seen, " {:?}", self.end.check(probe))?;
+            seen.show(&self.end.check(probe));
         }
-        for message in &self.messages {
-            note_bytes(seen, "message", message)?;
-        }
-        for report in &self.reports {
-            look_at_report(report, seen)?;
-        }
-        Ok(())
+        seen.put(self.messages.as_slice());
+        seen.put(self.reports.as_slice());
     }
 }
 

@@ -1,10 +1,10 @@
 //! Files of both organizations, and streams over them.
 
-use crate::growing::{Came, Growing, Trouble, note};
+use crate::growing::{Ending, Growing, Trouble, at};
 use crate::reading::look_at_file;
-use rec_file::{AnyFile, Pick, RecordFile, Rights, Shape, Stream};
+use crate::texts::Text;
+use rec_file::{AnyFile, Pick, RecordFile, Refusal, Rights, Shape, Stream};
 use std::alloc::Global;
-use std::io;
 
 /// What is done to a file.
 #[derive(Clone, Copy)]
@@ -50,6 +50,14 @@ pub const RELATIVE: u8 = 16;
 
 const VARIABLE: u8 = 2;
 
+/// All rights.
+const RIGHTS: Rights = Rights {
+    get: true,
+    put: true,
+    upd: true,
+    del: true,
+};
+
 /// A file with a stream over it, and what is done to it.
 #[derive(Drop)]
 pub struct Filing {
@@ -59,17 +67,13 @@ pub struct Filing {
 }
 
 impl Filing {
-    pub fn new(alloc: Global, org: u8, acts: &'static [Act]) -> Option<Filing> {
-        let shape = Shape::check(org, VARIABLE, 0, 0)?;
-        let rights = Rights {
-            get: true,
-            put: true,
-            upd: true,
-            del: true,
+    pub fn new(alloc: Global, org: u8, acts: &'static [Act]) -> Result<Filing, Ending> {
+        let Some(shape) = Shape::check(org, VARIABLE, 0, 0) else {
+            return Err(Ending::Wrong);
         };
-        Some(Filing {
+        Ok(Filing {
             file: AnyFile::new(alloc, shape),
-            stream: Stream::new(rights),
+            stream: Stream::new(RIGHTS),
             acts,
         })
     }
@@ -103,32 +107,33 @@ fn replace(file: &mut AnyFile, number: u32, body: &[u8]) -> Result<(), Trouble> 
     }
 }
 
-/// Does one act to the file, or to the stream.
-fn perform(file: &mut AnyFile, stream: &mut Stream, act: Act) -> Result<(), Trouble> {
-    let done = match act {
-        Act::Place(number, body) => return place(file, number, body),
-        Act::Replace(number, body) => return replace(file, number, body),
-        Act::Get(pick) => stream.get(file, pick),
-        Act::Put(key, body) => stream.put(file, key, body),
-        Act::Update(body) => stream.update(file, body),
-    };
-    match done {
+/// What became of a call on a stream.
+fn done(streamed: Result<u32, Refusal>) -> Result<(), Trouble> {
+    match streamed {
         Ok(_number) => Ok(()),
         Err(refusal) => Err(Trouble::from(refusal)),
     }
 }
 
+/// Does one act to the file, or to the stream.
+fn perform(file: &mut AnyFile, stream: &mut Stream, act: Act) -> Result<(), Trouble> {
+    match act {
+        Act::Place(number, body) => place(file, number, body),
+        Act::Replace(number, body) => replace(file, number, body),
+        Act::Get(pick) => done(stream.get(file, pick)),
+        Act::Put(key, body) => done(stream.put(file, key, body)),
+        Act::Update(body) => done(stream.update(file, body)),
+    }
+}
+
 impl Growing for Filing {
-    fn call(&mut self, place: usize) -> Result<Came, Trouble> {
-        let Some(next) = self.acts.get(place) else {
-            return Ok(Came::Over);
-        };
-        perform(&mut self.file, &mut self.stream, *next)?;
-        Ok(Came::Done)
+    fn call(&mut self, place: usize) -> Result<(), Trouble> {
+        let act = at(self.acts, place)?;
+        perform(&mut self.file, &mut self.stream, act)
     }
 
-    fn look(&self, seen: &mut Vec<u8>) -> io::Result<()> {
-        note(seen, "next", u64::from(self.stream.next()))?;
-        look_at_file(&self.file, seen)
+    fn look(&self, seen: &mut Text) {
+        seen.note("next", u64::from(self.stream.next()));
+        look_at_file(&self.file, seen);
     }
 }

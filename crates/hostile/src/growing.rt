@@ -1,5 +1,6 @@
 //! Calls that may want memory: each is made again where it did, and changed nothing.
 
+use crate::texts::Text;
 use dap_accessed::NoMemory;
 use dap_accessing::{AskFault, ReadFault};
 use dap_fields::FieldFault;
@@ -10,11 +11,10 @@ use nsp_seg::SegFault;
 use rec_file::Refusal;
 use std::alloc::{AllocError, AllocFailed, Global};
 use std::io;
-use std::io::Write;
-use thiserror::Error;
+use std::io::{Stderr, Stdout, Write};
 
 /// Why a call gave nothing.
-#[derive(Clone, Copy, Debug, PartialEq, Eq)]
+#[derive(Clone, Copy)]
 pub enum Trouble {
     /// It wanted memory, and all readers have to answer as before it.
     Wants,
@@ -24,6 +24,21 @@ pub enum Trouble {
     Unready,
     /// It was refused for another reason.
     Wrong,
+    /// There is no call of this place.
+    Over,
+}
+
+impl Trouble {
+    /// What is told behind the call that was made again.
+    fn text(self) -> &'static str {
+        match self {
+            Trouble::Wants => ": Wants",
+            Trouble::Stopped => ": Stopped",
+            Trouble::Unready => ": Unready",
+            Trouble::Wrong => ": Wrong",
+            Trouble::Over => ": Over",
+        }
+    }
 }
 
 impl From<AllocError> for Trouble {
@@ -101,40 +116,60 @@ impl From<WorldFault> for Trouble {
     }
 }
 
-/// Whether there was a call to make.
-#[derive(Clone, Copy, Debug, PartialEq, Eq)]
-pub enum Came {
-    Done,
-    Over,
-}
-
 /// What is called, and what its readers answer.
 pub trait Growing {
     /// Makes the call of this place, from 0.
-    fn call(&mut self, place: usize) -> Result<Came, Trouble>;
+    fn call(&mut self, place: usize) -> Result<(), Trouble>;
 
     /// Appends what all readers answer.
-    fn look(&self, seen: &mut Vec<u8>) -> io::Result<()>;
+    fn look(&self, seen: &mut Text);
+}
+
+/// What stands at this place of a table of calls.
+pub fn at<T: Copy>(table: &[T], place: usize) -> Result<T, Trouble> {
+    match table.get(place) {
+        Some(found) => Ok(*found),
+        None => Err(Trouble::Over),
+    }
+}
+
+/// Puts what was made in its place.
+pub fn put<T: Drop>(place: &mut Option<T>, made: T) {
+    *place = Some(made);
+}
+
+/// What was made, where the rest is done too.
+pub fn when<T: Drop>(done: Result<(), Trouble>, made: T) -> Result<T, Trouble> {
+    done?;
+    Ok(made)
 }
 
 /// How a run ended early.
-#[derive(Clone, Copy, Debug, PartialEq, Eq, Error)]
+#[derive(Clone, Copy)]
 pub enum Ending {
     /// A call wanted memory twice, and changed nothing.
-    #[error("wanted memory twice, and changed nothing")]
     Twice,
     /// What a call is given wanted memory twice.
-    #[error("could not be made: what it is given wanted memory twice")]
     UnreadyTwice,
     /// A call that wanted memory changed what the readers answer.
-    #[error("wanted memory, and CHANGED what the readers answer")]
     Changed,
     /// A call was refused for another reason.
-    #[error("was REFUSED for another reason than want of memory")]
     Wrong,
     /// There was no memory to begin with, or nothing can be written.
-    #[error("no memory to begin with, or nothing can be written")]
     Unable,
+}
+
+impl Ending {
+    /// What is told behind the call.
+    fn text(self) -> &'static str {
+        match self {
+            Ending::Twice => " wanted memory twice, and changed nothing",
+            Ending::UnreadyTwice => " could not be made: what it is given wanted memory twice",
+            Ending::Changed => " wanted memory, and CHANGED what the readers answer",
+            Ending::Wrong => " was REFUSED for another reason than want of memory",
+            Ending::Unable => " no memory to begin with, or nothing can be written",
+        }
+    }
 }
 
 impl From<io::Error> for Ending {
@@ -152,64 +187,93 @@ impl From<AllocError> for Ending {
 impl From<Trouble> for Ending {
     fn from(trouble: Trouble) -> Ending {
         match trouble {
-            Trouble::Wrong => Ending::Wrong,
+            Trouble::Wrong | Trouble::Over => Ending::Wrong,
             Trouble::Unready => Ending::UnreadyTwice,
             Trouble::Wants | Trouble::Stopped => Ending::Twice,
         }
     }
 }
 
-/// What the readers answered before a call and after it.
+/// What the readers answered before a call and after it, and where that is written and told.
 #[derive(Drop)]
 pub struct Seen {
-    before: Vec<u8>,
-    after: Vec<u8>,
+    before: Text,
+    after: Text,
+    out: Stdout,
+    told: Stderr,
 }
 
-/// The most bytes that the readers answer.
-const MOST_SEEN: usize = 65_536;
-
 impl Seen {
-    pub fn new(alloc: Global) -> Result<Seen, AllocError> {
-        let before = Vec::with_capacity(alloc, MOST_SEEN)?;
-        let after = Vec::with_capacity(alloc, MOST_SEEN)?;
-        Ok(Seen { before, after })
+    pub fn new(alloc: Global, out: Stdout, told: Stderr) -> Result<Seen, AllocError> {
+        let mut seen = Seen {
+            before: Text::new(alloc),
+            after: Text::new(alloc),
+            out,
+            told,
+        };
+        seen.before.reserve()?;
+        seen.after.reserve()?;
+        Ok(seen)
     }
 
     /// Keeps what the readers answer before a call.
-    fn look_before<G: Growing>(&mut self, subject: &G) -> io::Result<()> {
+    fn look_before<G: Growing>(&mut self, subject: &G) -> Result<(), Ending> {
         self.before.clear();
-        subject.look(&mut self.before)
+        subject.look(&mut self.before);
+        if self.before.is_whole() {
+            Ok(())
+        } else {
+            Err(Ending::Unable)
+        }
     }
 
-    /// Writes what the readers answer in the end.
-    fn write_last<G: Growing, W: Write>(&mut self, subject: &G, out: &mut W) -> Result<(), Ending> {
-        self.look_before(subject)?;
-        out.write_all(&self.before)?;
-        out.write_all(b"\n")?;
-        Ok(())
-    }
-
-    /// Whether the readers answer what they did before the call.
-    fn is_unchanged<G: Growing>(&mut self, subject: &G) -> io::Result<bool> {
+    /// Looks that the readers answer what they did before the call.
+    fn look_after<G: Growing>(&mut self, subject: &G) -> Result<(), Ending> {
         self.after.clear();
-        subject.look(&mut self.after)?;
-        Ok(self.before.as_slice() == self.after.as_slice())
+        subject.look(&mut self.after);
+        if !self.after.is_whole() {
+            Err(Ending::Unable)
+        } else if self.before.as_slice() == self.after.as_slice() {
+            Ok(())
+        } else {
+            Err(Ending::Changed)
+        }
     }
-}
 
-/// Appends a number behind its word.
-pub fn note(seen: &mut Vec<u8>, word: &str, number: u64) -> io::Result<()> {
-    write!(seen, " {word}={number}")
-}
-
-/// Appends bytes in hex behind their word.
-pub fn note_bytes(seen: &mut Vec<u8>, word: &str, bytes: &[u8]) -> io::Result<()> {
-    write!(seen, "\n  {word} ")?;
-    for byte in bytes {
-        write!(seen, "{byte:02x}")?;
+    /// Writes how many calls there were, and what the readers answer in the end.
+    fn write(&mut self, name: &str, count: usize) -> io::Result<()> {
+        let line = &mut self.after;
+        line.clear();
+        line.put(name.as_bytes());
+        line.put(b":");
+        line.show(&count);
+        line.put(b" calls\n");
+        line.put(self.before.as_slice());
+        line.put(b"\n");
+        line.write(&mut self.out)
     }
-    Ok(())
+
+    /// Tells of a call that gave nothing at first, and how it ended.
+    fn tell(
+        &mut self,
+        name: &str,
+        place: usize,
+        first: Trouble,
+        ended: Result<(), Ending>,
+    ) -> io::Result<()> {
+        let (front, text) = match ended {
+            Ok(()) => ("again: ", first.text()),
+            Err(ending) => ("", ending.text()),
+        };
+        let line = &mut self.after;
+        line.clear();
+        line.put(front.as_bytes());
+        line.put(name.as_bytes());
+        line.show(&place);
+        line.put(text.as_bytes());
+        line.put(b"\n");
+        line.write(&mut self.told)
+    }
 }
 
 /// What became of a call that wanted memory, made again where nothing has changed.
@@ -217,76 +281,66 @@ fn again<G: Growing>(
     subject: &mut G,
     place: usize,
     seen: &mut Seen,
-    first: Trouble,
-) -> Result<Came, Ending> {
-    let goes_on = first == Trouble::Stopped;
-    if first == Trouble::Wrong {
-        return Err(Ending::Wrong);
+    goes_on: bool,
+) -> Result<(), Ending> {
+    if !goes_on {
+        seen.look_after(subject)?;
     }
-    if !goes_on && !seen.is_unchanged(subject)? {
-        return Err(Ending::Changed);
-    }
-    let second = match subject.call(place) {
-        Ok(came) => return Ok(came),
-        Err(second) => second,
+    let Err(second) = subject.call(place) else {
+        return Ok(());
     };
-    if !goes_on && !seen.is_unchanged(subject)? {
-        return Err(Ending::Changed);
+    if !goes_on {
+        seen.look_after(subject)?;
     }
     Err(Ending::from(second))
 }
 
-/// Makes a call, and tells where it wanted memory.
-fn call_surely<G: Growing, E: Write>(
+/// Makes a call again that gave nothing, and tells of it.
+fn call_again<G: Growing>(
     name: &str,
     subject: &mut G,
     place: usize,
     seen: &mut Seen,
-    told: &mut E,
-) -> Result<Came, Ending> {
-    seen.look_before(subject)?;
-    let first = match subject.call(place) {
-        Ok(came) => return Ok(came),
-        Err(first) => first,
-    };
-    match again(subject, place, seen, first) {
-        Ok(came) => {
-            writeln!(told, "again: {name} {place}: {first:?}")?;
-            Ok(came)
-        }
-        Err(ending) => {
-            writeln!(told, "{name} {place} {ending}")?;
-            Err(ending)
-        }
-    }
-}
-
-/// Makes all calls in turn; how many they were.
-fn make_calls<G: Growing, E: Write>(
-    name: &str,
-    subject: &mut G,
-    seen: &mut Seen,
-    told: &mut E,
-) -> Result<usize, Ending> {
-    for place in 0..usize::MAX {
-        match call_surely(name, subject, place, seen, told) {
-            Ok(Came::Done) => {}
-            Ok(Came::Over) => return Ok(place),
-            Err(ending) => return Err(ending),
-        }
-    }
-    Ok(usize::MAX)
-}
-
-/// Makes all calls in turn, and writes how many they were and what the readers answer at the end.
-pub fn make_all<G: Growing, W: Write, E: Write>(
-    name: &str,
-    subject: &mut G,
-    seen: &mut Seen,
-    out: &mut W,
-    told: &mut E,
+    first: Trouble,
 ) -> Result<(), Ending> {
-    let count = make_calls(name, subject, seen, told)?;
-    writeln!(out, "{name}: {count} calls")?;
-    seen.write_last(subject, out)
+    let ended = match first {
+        Trouble::Wrong => Err(Ending::Wrong),
+        Trouble::Stopped => again(subject, place, seen, true),
+        _ => again(subject, place, seen, false),
+    };
+    seen.tell(name, place, first, ended)?;
+    ended
+}
+
+/// Makes the call of a place, where there is one, and tells where it wanted memory.
+fn call_surely<G: Growing>(
+    name: &str,
+    subject: &mut G,
+    place: usize,
+    seen: &mut Seen,
+) -> Result<bool, Ending> {
+    seen.look_before(subject)?;
+    match subject.call(place) {
+        Ok(()) => {}
+        Err(Trouble::Over) => return Ok(false),
+        Err(first) => call_again(name, subject, place, seen, first)?,
+    }
+    Ok(true)
+}
+
+/// Makes all calls in turn, and writes how many they were and what the readers answer in the end.
+pub fn make_all<G: Growing + Drop>(
+    name: &str,
+    mut subject: G,
+    seen: &mut Seen,
+) -> Result<(), Ending> {
+    let mut count = 0;
+    for place in 0..usize::MAX {
+        count = place;
+        if !call_surely(name, &mut subject, place, seen)? {
+            break;
+        }
+    }
+    seen.write(name, count)?;
+    Ok(())
 }

@@ -1,11 +1,10 @@
 //! Two ends of a link.
 
-use crate::growing::{Came, Growing, Trouble, note_bytes};
+use crate::growing::{Growing, Trouble, at, put};
 use crate::reading::look_at_link;
+use crate::texts::Text;
 use nsp_link::{Got, LinkEnd, LinkFault, LinkSetup};
-use std::alloc::{AllocError, Global};
-use std::io;
-use std::io::Write;
+use std::alloc::Global;
 
 /// Which end.
 #[derive(Clone, Copy)]
@@ -82,57 +81,52 @@ fn new_pair(alloc: Global) -> Result<Pair, LinkFault> {
     Ok(Pair { a, b })
 }
 
-/// What an end gave.
-#[derive(Drop)]
-enum Gave {
-    Nothing,
-    Packet(Vec<u8>),
-    Got(Got),
+/// Keeps a packet that an end wrote, for which there is room.
+pub fn keep(
+    packets: &mut Vec<Vec<u8>>,
+    written: Result<Vec<u8>, LinkFault>,
+) -> Result<(), Trouble> {
+    Ok(packets.push(written?)?)
 }
 
-/// The next packet of an end, which has one.
-fn next(end: &mut LinkEnd) -> Result<Gave, Trouble> {
-    match end.next_packet()? {
-        Some(packet) => Ok(Gave::Packet(packet)),
+/// Keeps the next packet of an end, which has one.
+pub fn keep_next(
+    packets: &mut Vec<Vec<u8>>,
+    written: Result<Option<Vec<u8>>, LinkFault>,
+) -> Result<(), Trouble> {
+    match written? {
+        Some(packet) => keep(packets, Ok(packet)),
         None => Err(Trouble::Wrong),
     }
 }
 
-/// The packet of the segment at this place of the queue.
-fn resend(end: &LinkEnd, place: usize) -> Result<Gave, Trouble> {
-    let packet = end.resend(place)?;
-    Ok(Gave::Packet(packet))
+/// The packet of a place, which is there.
+pub fn packet_of(packets: &[Vec<u8>], place: usize) -> &[u8] {
+    match packets.get(place) {
+        Some(packet) => packet,
+        None => &[],
+    }
 }
 
-/// The acknowledgement that an end writes.
-fn acknowledge(end: &LinkEnd) -> Result<Gave, Trouble> {
-    let packet = end.ack_packet()?;
-    Ok(Gave::Packet(packet))
+/// Notes what became of a packet.
+fn note_got(got: &mut Text, received: Result<Got, LinkFault>) -> Result<(), Trouble> {
+    got.show(&received?);
+    Ok(())
 }
 
-/// Takes in a packet, which is there.
-fn receive(end: &mut LinkEnd, packet: Option<&Vec<u8>>) -> Result<Gave, Trouble> {
-    let Some(packet) = packet else {
-        return Err(Trouble::Wrong);
-    };
-    let got = end.receive(packet)?;
-    Ok(Gave::Got(got))
-}
-
-/// Queues a message.
-fn send(end: &mut LinkEnd, message: &[u8]) -> Result<Gave, Trouble> {
-    end.send(message)?;
-    Ok(Gave::Nothing)
-}
-
-/// Queues all messages, or none.
-fn send_all(alloc: Global, end: &mut LinkEnd, list: &[&[u8]]) -> Result<Gave, Trouble> {
+/// Copies of the messages.
+fn copies(alloc: Global, list: &[&[u8]]) -> Result<Vec<Vec<u8>>, Trouble> {
     let mut all = Vec::new(alloc);
     for message in list {
         all.push(Vec::from_slice(alloc, message)?)?;
     }
-    end.send_all(&all)?;
-    Ok(Gave::Nothing)
+    Ok(all)
+}
+
+/// Queues all messages, or none.
+fn send_all(alloc: Global, end: &mut LinkEnd, list: &[&[u8]]) -> Result<(), Trouble> {
+    let all = copies(alloc, list)?;
+    Ok(end.send_all(&all)?)
 }
 
 /// One act of an end.
@@ -140,15 +134,16 @@ fn perform(
     alloc: Global,
     end: &mut LinkEnd,
     act: Act,
-    packets: &[Vec<u8>],
-) -> Result<Gave, Trouble> {
+    packets: &mut Vec<Vec<u8>>,
+    got: &mut Text,
+) -> Result<(), Trouble> {
     match act {
-        Act::Send(message) => send(end, message),
+        Act::Send(message) => Ok(end.send(message)?),
         Act::SendAll(list) => send_all(alloc, end, list),
-        Act::Next => next(end),
-        Act::Resend(place) => resend(end, place),
-        Act::Acknowledge => acknowledge(end),
-        Act::Receive(place) => receive(end, packets.get(place)),
+        Act::Next => keep_next(packets, end.next_packet()),
+        Act::Resend(place) => keep(packets, end.resend(place)),
+        Act::Acknowledge => keep(packets, end.ack_packet()),
+        Act::Receive(place) => note_got(got, end.receive(packet_of(packets, place))),
     }
 }
 
@@ -158,58 +153,47 @@ pub struct Links {
     alloc: Global,
     pair: Option<Pair>,
     packets: Vec<Vec<u8>>,
-    got: Vec<Got>,
+    got: Text,
 }
 
 impl Links {
-    pub fn new(alloc: Global) -> Result<Links, AllocError> {
-        Ok(Links {
+    pub fn new(alloc: Global) -> Links {
+        Links {
             alloc,
             pair: None,
-            packets: Vec::with_capacity(alloc, ACTS.len())?,
-            got: Vec::with_capacity(alloc, ACTS.len())?,
-        })
+            packets: Vec::new(alloc),
+            got: Text::new(alloc),
+        }
     }
 
-    /// Keeps what an end gave.
-    fn keep(&mut self, gave: Gave) -> Result<(), Trouble> {
-        match gave {
-            Gave::Nothing => {}
-            Gave::Packet(packet) => self.packets.push(packet)?,
-            Gave::Got(got) => self.got.push(got)?,
-        }
+    /// Makes the ends, and room for what they give.
+    fn begin(&mut self) -> Result<(), Trouble> {
+        self.packets.reserve(ACTS.len())?;
+        self.got.reserve()?;
+        put(&mut self.pair, new_pair(self.alloc)?);
         Ok(())
     }
 }
 
 impl Growing for Links {
-    fn call(&mut self, place: usize) -> Result<Came, Trouble> {
+    fn call(&mut self, place: usize) -> Result<(), Trouble> {
         let Some(pair) = &mut self.pair else {
-            self.pair = Some(new_pair(self.alloc)?);
-            return Ok(Came::Done);
+            return self.begin();
         };
-        let Some((end, act)) = ACTS.get(place.saturating_sub(1)) else {
-            return Ok(Came::Over);
+        let (end, act) = at(ACTS, place.saturating_sub(1))?;
+        let end = match end {
+            End::A => &mut pair.a,
+            End::B => &mut pair.b,
         };
-        let gave = match end {
-            End::A => perform(self.alloc, &mut pair.a, *act, &self.packets)?,
-            End::B => perform(self.alloc, &mut pair.b, *act, &self.packets)?,
-        };
-        self.keep(gave)?;
-        Ok(Came::Done)
+        perform(self.alloc, end, act, &mut self.packets, &mut self.got)
     }
 
-    fn look(&self, seen: &mut Vec<u8>) -> io::Result<()> {
+    fn look(&self, seen: &mut Text) {
         if let Some(pair) = &self.pair {
-            look_at_link(&pair.a, seen)?;
-            look_at_link(&pair.b, seen)?;
+            look_at_link(&pair.a, seen);
+            look_at_link(&pair.b, seen);
         }
-        for packet in &self.packets {
-            note_bytes(seen, "packet", packet)?;
-        }
-        for got in &self.got {
-            write!(seen, " {got:?}")?;
-        }
-        Ok(())
+        seen.note_all("packet", &self.packets);
+        seen.put(self.got.as_slice());
     }
 }

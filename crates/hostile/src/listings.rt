@@ -1,11 +1,11 @@
 //! Listings and schedules, as calls of the library and as words of the program.
 
-use crate::growing::{Came, Growing, Trouble};
+use crate::growing::{Growing, Trouble, at};
+use crate::texts::Text;
 use dap_capture::schedule;
 use dap_cli::run_words;
 use dap_listing::{CaptureFault, Outcome, messages, show};
 use std::alloc::{AllocError, Global};
-use std::io;
 use std::io::{Read, Write};
 
 /// What is run over an input.
@@ -98,23 +98,52 @@ const ENDS: &[(u8, &[u8], End)] = &[
 /// The most bytes that the program tells.
 const MOST_TOLD: usize = 1024;
 
-/// Runs the program with a word, over room for what it tells.
+/// What an exit status and what was told say of the end.
+fn end_of(status: u8, told: &[u8]) -> Result<End, Trouble> {
+    for (its_status, line, end) in ENDS {
+        if status == *its_status && told == *line {
+            return Ok(*end);
+        }
+    }
+    Err(Trouble::Wrong)
+}
+
+/// The program's name, and a word.
+fn words(alloc: Global, word: &str) -> Result<[String; 2], Trouble> {
+    let program = String::from_str(alloc, "dapnsp")?;
+    Ok([program, String::from_str(alloc, word)?])
+}
+
+/// Runs the program with words, over room for what it tells.
+fn run_words_over<R: Read, W: Write>(
+    alloc: Global,
+    words: &[String],
+    reader: &mut R,
+    writer: &mut W,
+) -> Result<End, Trouble> {
+    let mut told = Vec::with_capacity(alloc, MOST_TOLD)?;
+    let status = run_words(alloc, words, reader, writer, &mut told);
+    end_of(status, &told)
+}
+
+/// Runs the program with a word.
 fn run_word<R: Read, W: Write>(
     alloc: Global,
     word: &str,
     reader: &mut R,
     writer: &mut W,
 ) -> Result<End, Trouble> {
-    let program = String::from_str(alloc, "dapnsp")?;
-    let words = [program, String::from_str(alloc, word)?];
-    let mut told = Vec::with_capacity(alloc, MOST_TOLD)?;
-    let status = run_words(alloc, &words, reader, writer, &mut told);
-    for (its_status, line, end) in ENDS {
-        if status == *its_status && told.as_slice() == *line {
-            return Ok(*end);
-        }
-    }
-    Err(Trouble::Wrong)
+    let words = words(alloc, word)?;
+    run_words_over(alloc, &words, reader, writer)
+}
+
+/// How a call of the library ended.
+fn ended(outcome: Result<Outcome, CaptureFault>) -> Result<End, Trouble> {
+    Ok(match outcome {
+        Ok(Outcome::Good) => End::Good,
+        Ok(Outcome::Stopped) => End::Stopped,
+        Err(fault) => End::Fault(fault),
+    })
 }
 
 /// Runs an engine.
@@ -124,17 +153,12 @@ pub fn run<R: Read, W: Write>(
     reader: &mut R,
     writer: &mut W,
 ) -> Result<End, Trouble> {
-    let outcome = match engine {
-        Engine::Show => show(alloc, reader, writer),
-        Engine::Msg => messages(alloc, reader, writer),
-        Engine::Run => schedule(alloc, reader, writer),
-        Engine::Word(word) => return run_word(alloc, word, reader, writer),
-    };
-    Ok(match outcome {
-        Ok(Outcome::Good) => End::Good,
-        Ok(Outcome::Stopped) => End::Stopped,
-        Err(fault) => End::Fault(fault),
-    })
+    match engine {
+        Engine::Show => ended(show(alloc, reader, writer)),
+        Engine::Msg => ended(messages(alloc, reader, writer)),
+        Engine::Run => ended(schedule(alloc, reader, writer)),
+        Engine::Word(word) => run_word(alloc, word, reader, writer),
+    }
 }
 
 /// What was written of a table.
@@ -157,20 +181,16 @@ impl Listing {
 }
 
 impl Growing for Listing {
-    fn call(&mut self, place: usize) -> Result<Came, Trouble> {
-        let Some((engine, input, end, text)) = self.rows.get(place) else {
-            return Ok(Came::Over);
-        };
-        let mut reader = *input;
-        match run(self.alloc, *engine, &mut reader, &mut self.written)? {
-            came if came == *end && self.written.ends_with(text) => Ok(Came::Done),
+    fn call(&mut self, place: usize) -> Result<(), Trouble> {
+        let (engine, mut reader, end, text) = at(self.rows, place)?;
+        match run(self.alloc, engine, &mut reader, &mut self.written)? {
+            came if came == end && self.written.ends_with(text) => Ok(()),
             End::Fault(CaptureFault::NoMemory) => Err(Trouble::Wants),
             _ => Err(Trouble::Wrong),
         }
     }
 
-    fn look(&self, seen: &mut Vec<u8>) -> io::Result<()> {
-        seen.extend_from_slice(&self.written)?;
-        Ok(())
+    fn look(&self, seen: &mut Text) {
+        seen.put(&self.written);
     }
 }

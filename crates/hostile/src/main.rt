@@ -17,6 +17,7 @@ mod listings;
 mod peers;
 mod reading;
 mod requests;
+mod texts;
 mod worlds;
 mod writers;
 
@@ -25,13 +26,14 @@ use dap_world::WorldSetup;
 use devices::{read_all, write_all};
 use ends::{ASKED_RECORDS, ASKED_STORING, ASKED_TRANSFER, Asking, Line, Serving};
 use files::{Act, BY_NUMBER, Filing, IN_ORDER, RELATIVE, SEQUENTIAL};
-use growing::{Ending, Seen, make_all};
+use growing::{Ending, Seen, Trouble, make_all};
 use links::Links;
 use listings::{ENGINES, Listing, Row, WORDS};
 use peers::Peers;
 use std::alloc::Global;
-use std::io::{Read, Write};
+use std::io::{Read, Stdout};
 use std::process::ExitCode;
+use texts::Text;
 use worlds::{Directing, LOST, Playing, SETTLING, STOPPING, Script};
 use writers::Writers;
 
@@ -94,204 +96,136 @@ const LISTED: &[(&str, &[Row])] = &[
     ("words of the program", WORDS),
 ];
 
-/// All writers.
-fn write<W: Write, E: Write>(
-    alloc: Global,
-    seen: &mut Seen,
-    out: &mut W,
-    told: &mut E,
-) -> Result<(), Ending> {
-    let mut writers = Writers::new(alloc)?;
-    make_all("writers", &mut writers, seen, out, told)
-}
+/// What is said of runs over readers, and over writers.
+const READERS: &[u8] = b" readers that fail, give little or never end:";
 
-/// A file.
-fn file<W: Write, E: Write>(
-    alloc: Global,
-    (name, org, acts): (&str, u8, &'static [Act]),
-    seen: &mut Seen,
-    out: &mut W,
-    told: &mut E,
-) -> Result<(), Ending> {
-    match Filing::new(alloc, org, acts) {
-        Some(mut file) => make_all(name, &mut file, seen, out, told),
-        None => Err(Ending::Wrong),
+const WRITERS: &[u8] = b" writers that fail, take little or nothing:";
+
+/// The calls on files.
+fn grow_files(alloc: Global, seen: &mut Seen) -> Result<(), Ending> {
+    for (name, org, acts) in FILES {
+        make_all(name, Filing::new(alloc, *org, acts)?, seen)?;
     }
+    Ok(())
 }
 
-/// A link.
-fn link<W: Write, E: Write>(
-    alloc: Global,
-    seen: &mut Seen,
-    out: &mut W,
-    told: &mut E,
-) -> Result<(), Ending> {
-    let mut links = Links::new(alloc)?;
-    make_all("a link", &mut links, seen, out, told)
+/// The calls on links.
+fn grow_links(alloc: Global, seen: &mut Seen) -> Result<(), Ending> {
+    make_all("a link", Links::new(alloc), seen)?;
+    make_all("both ends", Peers::new(alloc), seen)
 }
 
-/// Both ends with their links.
-fn peer<W: Write, E: Write>(
-    alloc: Global,
-    seen: &mut Seen,
-    out: &mut W,
-    told: &mut E,
-) -> Result<(), Ending> {
-    make_all("both ends", &mut Peers::new(alloc), seen, out, told)
-}
-
-/// An end that is sent messages.
-fn serve<W: Write, E: Write>(
-    alloc: Global,
-    (name, messages): (&str, &'static [&'static [u8]]),
-    seen: &mut Seen,
-    out: &mut W,
-    told: &mut E,
-) -> Result<(), Ending> {
-    let mut serving = Serving::new(alloc, messages)?;
-    make_all(name, &mut serving, seen, out, told)
-}
-
-/// An end that asks.
-fn ask<W: Write, E: Write>(
-    alloc: Global,
-    (name, lines): (&str, &'static [Line]),
-    seen: &mut Seen,
-    out: &mut W,
-    told: &mut E,
-) -> Result<(), Ending> {
-    let mut asking = Asking::new(alloc, lines)?;
-    make_all(name, &mut asking, seen, out, told)
-}
-
-/// A world.
-fn play<W: Write, E: Write>(
-    alloc: Global,
-    (name, setup, script, shows_wires): (&str, WorldSetup, Script, bool),
-    seen: &mut Seen,
-    out: &mut W,
-    told: &mut E,
-) -> Result<(), Ending> {
-    let mut playing = Playing::new(alloc, setup, script, shows_wires)?;
-    make_all(name, &mut playing, seen, out, told)
-}
-
-/// A world that is directed.
-fn direct<W: Write, E: Write>(
-    alloc: Global,
-    seen: &mut Seen,
-    out: &mut W,
-    told: &mut E,
-) -> Result<(), Ending> {
-    let mut directing = Directing::new(alloc, ROOMY);
-    make_all("a world that is directed", &mut directing, seen, out, told)
-}
-
-/// What is listed and scheduled.
-fn list<W: Write, E: Write>(
-    alloc: Global,
-    (name, rows): (&str, &'static [Row]),
-    seen: &mut Seen,
-    out: &mut W,
-    told: &mut E,
-) -> Result<(), Ending> {
-    let mut listing = Listing::new(alloc, rows)?;
-    make_all(name, &mut listing, seen, out, told)
-}
-
-/// The calls of all ends.
-fn grow_ends<W: Write, E: Write>(
-    alloc: Global,
-    seen: &mut Seen,
-    out: &mut W,
-    told: &mut E,
-) -> Result<(), Ending> {
-    for row in SERVED {
-        serve(alloc, *row, seen, out, told)?;
+/// The calls on ends that are sent messages.
+fn grow_serving(alloc: Global, seen: &mut Seen) -> Result<(), Ending> {
+    for (name, messages) in SERVED {
+        make_all(name, Serving::new(alloc, messages), seen)?;
     }
-    for row in ASKED {
-        ask(alloc, *row, seen, out, told)?;
+    Ok(())
+}
+
+/// The calls on ends that ask.
+fn grow_asking(alloc: Global, seen: &mut Seen) -> Result<(), Ending> {
+    for (name, lines) in ASKED {
+        make_all(name, Asking::new(alloc, lines), seen)?;
     }
-    for row in WORLDS {
-        play(alloc, *row, seen, out, told)?;
+    Ok(())
+}
+
+/// The calls on worlds.
+fn grow_worlds(alloc: Global, seen: &mut Seen) -> Result<(), Ending> {
+    for (name, setup, script, shows_wires) in WORLDS {
+        let playing = Playing::new(alloc, *setup, script, *shows_wires);
+        make_all(name, playing, seen)?;
+    }
+    Ok(())
+}
+
+/// The call on a world that is directed.
+fn grow_directed(alloc: Global, seen: &mut Seen) -> Result<(), Ending> {
+    let directing = Directing::new(alloc, ROOMY);
+    make_all("a world that is directed", directing, seen)
+}
+
+/// The listings and the words of the program.
+fn grow_listings(alloc: Global, seen: &mut Seen) -> Result<(), Ending> {
+    for (name, rows) in LISTED {
+        make_all(name, Listing::new(alloc, rows)?, seen)?;
     }
     Ok(())
 }
 
 /// Makes all growing calls, and writes what the readers answer in the end.
-fn grow<W: Write, E: Write>(alloc: Global, out: &mut W, told: &mut E) -> Result<(), Ending> {
-    let mut seen = Seen::new(alloc)?;
-    write(alloc, &mut seen, out, told)?;
-    for row in FILES {
-        file(alloc, *row, &mut seen, out, told)?;
-    }
-    link(alloc, &mut seen, out, told)?;
-    peer(alloc, &mut seen, out, told)?;
-    grow_ends(alloc, &mut seen, out, told)?;
-    direct(alloc, &mut seen, out, told)?;
-    for row in LISTED {
-        list(alloc, *row, &mut seen, out, told)?;
-    }
+fn grow(alloc: Global, seen: &mut Seen) -> Result<(), Ending> {
+    make_all("writers", Writers::new(alloc)?, seen)?;
+    grow_files(alloc, seen)?;
+    grow_links(alloc, seen)?;
+    grow_serving(alloc, seen)?;
+    grow_asking(alloc, seen)?;
+    grow_worlds(alloc, seen)?;
+    grow_directed(alloc, seen)?;
+    grow_listings(alloc, seen)
+}
+
+/// Alters messages, packets and answers, and tells what became of them.
+fn alter(alloc: Global, text: &mut Text) -> Result<(), Trouble> {
+    alter_all(alloc, false)?.note("altered messages", text);
+    alter_all(alloc, true)?.note("altered packets", text);
+    alter_served(alloc)?.note("altered messages served", text);
+    alter_heard(alloc)?.note("altered answers read", text);
+    alter_received(alloc, text)?.note("altered packets received", text);
     Ok(())
 }
 
-/// Alters messages, packets and answers, and writes what became of them.
-fn alter<W: Write>(alloc: Global, out: &mut W) -> Result<(), Ending> {
-    alter_all(alloc, false)?.write("altered messages", out)?;
-    alter_all(alloc, true)?.write("altered packets", out)?;
-    alter_served(alloc)?.write("altered messages served", out)?;
-    alter_heard(alloc)?.write("altered answers read", out)?;
-    alter_received(alloc, out)?.write("altered packets received", out)?;
-    Ok(())
+/// Tells how many runs there were.
+fn note_runs(what: &[u8], runs: u64, text: &mut Text) {
+    text.put(what);
+    text.show(&runs);
+    text.put(b" runs\n");
 }
 
-/// Runs the listings over devices at fault, and writes how many runs that were.
-fn fail_devices<W: Write>(alloc: Global, out: &mut W) -> Result<(), Ending> {
+/// Runs the listings over devices at fault, and tells how many runs that were.
+fn fail_devices(alloc: Global, text: &mut Text) -> Result<(), Trouble> {
     for (name, rows) in LISTED {
-        writeln!(out, "{name}, devices at fault:")?;
-        let runs = read_all(alloc, rows)?;
-        writeln!(
-            out,
-            " readers that fail, give little or never end: {runs} runs"
-        )?;
-        let runs = write_all(alloc, rows)?;
-        writeln!(
-            out,
-            " writers that fail, take little or nothing: {runs} runs"
-        )?;
+        text.put(name.as_bytes());
+        text.put(b", devices at fault:\n");
+        note_runs(READERS, read_all(alloc, rows)?, text);
+        note_runs(WRITERS, write_all(alloc, rows)?, text);
     }
     Ok(())
+}
+
+/// Alters bytes and fails devices, and writes what was told until the end, or until something went wrong.
+fn go_wrong(alloc: Global, out: &mut Stdout) -> Result<(), Ending> {
+    let mut text = Text::new(alloc);
+    text.reserve()?;
+    let mut done = alter(alloc, &mut text);
+    if done.is_ok() {
+        done = fail_devices(alloc, &mut text);
+    }
+    text.write(out)?;
+    Ok(done?)
 }
 
 /// All of it, or with any input the growing calls alone.
-fn run<R: Read, W: Write, E: Write>(
-    alloc: Global,
-    reader: &mut R,
-    out: &mut W,
-    told: &mut E,
-) -> Result<(), Ending> {
+fn run(rt: HostRuntime) -> Result<(), Ending> {
+    let alloc = rt.alloc();
     let mut word = [0; 16];
-    let is_growth_alone = reader.read(&mut word)? > 0;
-    grow(alloc, out, told)?;
-    if !is_growth_alone {
-        alter(alloc, out)?;
-        fail_devices(alloc, out)?;
+    let is_growth_alone = rt.stdin().read(&mut word)? > 0;
+    let mut seen = Seen::new(alloc, rt.stdout(), rt.stderr())?;
+    grow(alloc, &mut seen)?;
+    if is_growth_alone {
+        return Ok(());
     }
-    Ok(())
+    go_wrong(alloc, &mut rt.stdout())
 }
 
 fn main(rt: HostRuntime) -> ExitCode {
-    match run(
-        rt.alloc(),
-        &mut rt.stdin(),
-        &mut rt.stdout(),
-        &mut rt.stderr(),
-    ) {
+    match run(rt) {
         Ok(()) => ExitCode::SUCCESS,
         Err(Ending::Twice) => ExitCode::from(4),
         Err(Ending::UnreadyTwice) => ExitCode::from(3),
         Err(Ending::Unable) => {
-            let _ = eprintln!(rt; "{}", Ending::Unable);
+            let _ = eprintln!(rt; "no memory to begin with, or nothing can be written");
             ExitCode::from(3)
         }
         Err(Ending::Changed | Ending::Wrong) => ExitCode::FAILURE,

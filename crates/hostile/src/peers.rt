@@ -1,46 +1,46 @@
 //! The end that asks and the end that serves, each with its link, over a line between them.
 
-use crate::growing::{Came, Growing, Trouble, note_bytes};
-use crate::reading::{look_at_files, look_at_link, look_at_report};
+use crate::growing::{Growing, Trouble, at, put};
+use crate::links::{keep, keep_next, packet_of};
+use crate::reading::{look_at_files, look_at_link, look_at_reports};
 use crate::requests::request;
+use crate::texts::Text;
 use dap_accessed::AddFault;
 use dap_accessing::{ReadFault, Report};
 use dap_end::{AskingEnd, EndFault, Heard, ServingEnd, TakeFault};
 use nsp_link::{LinkFault, LinkSetup};
 use rec_file::{Refusal, Shape};
 use std::alloc::Global;
-use std::io;
 
 /// The buffer of each end.
 const BUFFER: u16 = 1024;
 
-/// What is done. Each packet that an end writes is kept, in order from 0.
+/// What an end does with its link. Each packet that it writes is kept, in order from 0.
+#[derive(Clone, Copy)]
+enum Deed {
+    Takes(usize),
+    Receives(usize),
+    GoesOn,
+    Posts,
+    Emits,
+    Resends(usize),
+    Acknowledges,
+    Renews,
+}
+
+use Deed::*;
+
+/// What is done.
 #[derive(Clone, Copy)]
 enum Act {
     /// The end that serves is given a relative file, and a record of it.
     Add(&'static [u8]),
     AddRecord(u32, &'static [u8]),
-    /// The end that asks.
     Ask(&'static str),
-    AskingTakes(usize),
-    AskingReceives(usize),
     Read,
-    AskingGoesOn,
-    AskingPosts,
-    AskingEmits,
-    AskingResends(usize),
-    AskingAcknowledges,
-    AskingRenews,
-    /// The end that serves.
-    ServingTakes(usize),
-    ServingReceives(usize),
     Serve,
-    ServingGoesOn,
-    ServingPosts,
-    ServingEmits,
-    ServingResends(usize),
-    ServingAcknowledges,
-    ServingRenews,
+    Asking(Deed),
+    Serving(Deed),
 }
 
 use Act::*;
@@ -51,65 +51,69 @@ const ACTS: &[Act] = &[
     AddRecord(3, b"three"),
     AddRecord(1, b"one"),
     Ask("hello"),
-    AskingGoesOn,
-    ServingTakes(0),
-    ServingTakes(1),
-    AskingTakes(1),
-    AskingTakes(2),
-    ServingTakes(3),
+    Asking(GoesOn),
+    Serving(Takes(0)),
+    Serving(Takes(1)),
+    Asking(Takes(1)),
+    Asking(Takes(2)),
+    Serving(Takes(3)),
     Ask("open 46 15"),
-    AskingPosts,
-    AskingEmits,
-    AskingEmits,
-    ServingReceives(5),
-    ServingReceives(4),
+    Asking(Posts),
+    Asking(Emits),
+    Asking(Emits),
+    Serving(Receives(5)),
+    Serving(Receives(4)),
     Serve,
     Serve,
-    ServingPosts,
-    ServingEmits,
-    ServingEmits,
-    ServingEmits,
-    ServingResends(1),
-    AskingReceives(6),
-    AskingReceives(3),
-    AskingReceives(5),
+    Serving(Posts),
+    Serving(Emits),
+    Serving(Emits),
+    Serving(Emits),
+    Serving(Resends(1)),
+    Asking(Receives(6)),
+    Asking(Receives(3)),
+    Asking(Receives(5)),
     Read,
     Read,
-    AskingAcknowledges,
-    ServingReceives(6),
+    Asking(Acknowledges),
+    Serving(Receives(6)),
     Ask("connect"),
-    AskingGoesOn,
-    AskingResends(0),
-    ServingTakes(8),
-    ServingTakes(7),
-    ServingAcknowledges,
-    AskingTakes(7),
+    Asking(GoesOn),
+    Asking(Resends(0)),
+    Serving(Takes(8)),
+    Serving(Takes(7)),
+    Serving(Acknowledges),
+    Asking(Takes(7)),
     Ask("get"),
-    AskingGoesOn,
-    ServingReceives(10),
-    ServingGoesOn,
-    AskingTakes(10),
-    AskingTakes(11),
-    ServingRenews,
-    AskingRenews,
+    Asking(GoesOn),
+    Serving(Receives(10)),
+    Serving(GoesOn),
+    Asking(Takes(10)),
+    Asking(Takes(11)),
+    Serving(Renews),
+    Asking(Renews),
     Ask("hello"),
-    AskingGoesOn,
-    ServingTakes(13),
-    ServingTakes(14),
-    AskingTakes(13),
-    AskingTakes(14),
+    Asking(GoesOn),
+    Serving(Takes(13)),
+    Serving(Takes(14)),
+    Asking(Takes(13)),
+    Asking(Takes(14)),
 ];
 
-/// The limits of the link of an end with these addresses.
-fn setup(local: u16, remote: u16) -> LinkSetup {
-    LinkSetup {
-        local,
-        remote,
-        seg_size: 8,
-        window: 8,
-        max_message: 65_535,
-    }
-}
+/// The limits of the links of both ends.
+const ASKING: LinkSetup = LinkSetup {
+    local: 0x0101,
+    remote: 0x0202,
+    seg_size: 8,
+    window: 8,
+    max_message: 65_535,
+};
+
+const SERVING: LinkSetup = LinkSetup {
+    local: ASKING.remote,
+    remote: ASKING.local,
+    ..ASKING
+};
 
 /// What is left to do where memory was wanted behind a part of the way.
 fn stopped(is_memory: bool) -> Trouble {
@@ -156,47 +160,17 @@ struct Pair {
 
 /// Both ends, new.
 fn new_pair(alloc: Global) -> Result<Pair, LinkFault> {
-    let asking = AskingEnd::new(alloc, BUFFER, setup(0x0101, 0x0202))?;
-    let serving = ServingEnd::new(alloc, BUFFER, setup(0x0202, 0x0101))?;
+    let asking = AskingEnd::new(alloc, BUFFER, ASKING)?;
+    let serving = ServingEnd::new(alloc, BUFFER, SERVING)?;
     Ok(Pair { asking, serving })
-}
-
-/// Both ends, what they wrote, and what was reported.
-#[derive(Drop)]
-pub struct Peers {
-    alloc: Global,
-    pair: Option<Pair>,
-    by_asking: Vec<Vec<u8>>,
-    by_serving: Vec<Vec<u8>>,
-    reports: Vec<Report>,
-}
-
-/// The packet of a place.
-fn packet(packets: &[Vec<u8>], place: usize) -> Result<&[u8], Trouble> {
-    match packets.get(place) {
-        Some(packet) => Ok(packet),
-        None => Err(Trouble::Wrong),
-    }
-}
-
-/// Keeps what was written, for which there is room.
-fn keep(packets: &mut Vec<Vec<u8>>, written: Option<Vec<u8>>) -> Result<(), Trouble> {
-    match written {
-        Some(packet) => {
-            packets.push(packet)?;
-            Ok(())
-        }
-        None => Err(Trouble::Wrong),
-    }
 }
 
 /// Adds an empty file of this name.
 fn add(end: &mut ServingEnd, name: &[u8]) -> Result<(), Trouble> {
-    let Some(shape) = Shape::check(16, 2, 0, 3) else {
-        return Err(Trouble::Wrong);
-    };
-    end.add(name, shape)?;
-    Ok(())
+    match Shape::check(16, 2, 0, 3) {
+        Some(shape) => Ok(end.add(name, shape)?),
+        None => Err(Trouble::Wrong),
+    }
 }
 
 /// Asks the request of these words.
@@ -210,11 +184,10 @@ fn ask(alloc: Global, end: &mut AskingEnd, words: &str) -> Result<(), Trouble> {
 fn read(end: &mut AskingEnd, reports: &mut Vec<Report>) -> Result<(), Trouble> {
     reports.reserve(1)?;
     match end.read()? {
-        Heard::Report(report) => reports.push(report)?,
-        Heard::Part => {}
-        Heard::Nothing => return Err(Trouble::Wrong),
+        Heard::Report(report) => Ok(reports.push(report)?),
+        Heard::Part => Ok(()),
+        Heard::Nothing => Err(Trouble::Wrong),
     }
-    Ok(())
 }
 
 /// Serves one message, which is there.
@@ -223,6 +196,73 @@ fn serve(end: &mut ServingEnd) -> Result<(), Trouble> {
         Some(_) => Ok(()),
         None => Err(Trouble::Wrong),
     }
+}
+
+/// The end that asks takes a packet.
+fn asking_takes(
+    end: &mut AskingEnd,
+    packet: &[u8],
+    out: &mut Vec<Vec<u8>>,
+    reports: &mut Vec<Report>,
+) -> Result<(), Trouble> {
+    end.take(packet, out, reports)?;
+    Ok(())
+}
+
+/// The end that serves takes a packet.
+fn serving_takes(
+    end: &mut ServingEnd,
+    packet: &[u8],
+    out: &mut Vec<Vec<u8>>,
+) -> Result<(), Trouble> {
+    end.take(packet, out)?;
+    Ok(())
+}
+
+/// The end that serves goes on.
+fn serving_goes_on(end: &mut ServingEnd, out: &mut Vec<Vec<u8>>) -> Result<(), Trouble> {
+    match end.go_on(out) {
+        Ok(()) => Ok(()),
+        Err(fault) => Err(stopped(fault == LinkFault::NoMemory)),
+    }
+}
+
+/// What the end that asks writes, for which there is room.
+fn asking_writes(end: &mut AskingEnd, deed: Deed, out: &mut Vec<Vec<u8>>) -> Result<(), Trouble> {
+    out.reserve(1)?;
+    match deed {
+        Emits => keep_next(out, end.emit()),
+        Resends(place) => keep(out, end.resend(place)),
+        _ => keep(out, end.ack()),
+    }
+}
+
+/// What the end that serves writes, for which there is room.
+fn serving_writes(end: &mut ServingEnd, deed: Deed, out: &mut Vec<Vec<u8>>) -> Result<(), Trouble> {
+    out.reserve(1)?;
+    match deed {
+        Emits => keep_next(out, end.emit()),
+        Resends(place) => keep(out, end.resend(place)),
+        _ => keep(out, end.ack()),
+    }
+}
+
+/// What a call on a link came to, apart from its number.
+fn linked<T: Copy>(done: Result<T, LinkFault>) -> Result<(), Trouble> {
+    match done {
+        Ok(_) => Ok(()),
+        Err(fault) => Err(Trouble::from(fault)),
+    }
+}
+
+/// Both ends, what they wrote, and what was reported.
+#[derive(Drop)]
+pub struct Peers {
+    alloc: Global,
+    pair: Option<Pair>,
+    by_asking: Vec<Vec<u8>>,
+    by_serving: Vec<Vec<u8>>,
+    reports: Vec<Report>,
 }
 
 impl Peers {
@@ -236,133 +276,74 @@ impl Peers {
         }
     }
 
-    /// What the end that asks does.
-    fn act_asking(&mut self, act: Act) -> Result<(), Trouble> {
-        let (Some(pair), out) = (&mut self.pair, &mut self.by_asking) else {
+    /// What the end that asks does with its link.
+    fn asking_does(&mut self, deed: Deed) -> Result<(), Trouble> {
+        let Some(Pair { asking: end, .. }) = &mut self.pair else {
             return Err(Trouble::Wrong);
         };
-        let end = &mut pair.asking;
-        match act {
-            Ask(words) => ask(self.alloc, end, words)?,
-            AskingTakes(place) => {
-                end.take(packet(&self.by_serving, place)?, out, &mut self.reports)?;
-            }
-            AskingReceives(place) => {
-                end.receive(packet(&self.by_serving, place)?)?;
-            }
-            Read => read(end, &mut self.reports)?,
-            AskingGoesOn => end.go_on(out, &mut self.reports)?,
-            AskingPosts => {
-                end.post()?;
-            }
-            AskingEmits => {
-                out.reserve(1)?;
-                keep(out, end.emit()?)?;
-            }
-            AskingResends(place) => {
-                out.reserve(1)?;
-                keep(out, Some(end.resend(place)?))?;
-            }
-            AskingAcknowledges => {
-                out.reserve(1)?;
-                keep(out, Some(end.ack()?))?;
-            }
-            _ => end.renew(self.alloc, setup(0x0101, 0x0202))?,
+        let (from, out) = (&self.by_serving, &mut self.by_asking);
+        match deed {
+            Takes(place) => asking_takes(end, packet_of(from, place), out, &mut self.reports),
+            Receives(place) => linked(end.receive(packet_of(from, place))),
+            GoesOn => Ok(end.go_on(out, &mut self.reports)?),
+            Posts => linked(end.post()),
+            Renews => linked(end.renew(self.alloc, ASKING)),
+            _ => asking_writes(end, deed, out),
         }
+    }
+
+    /// What the end that serves does with its link.
+    fn serving_does(&mut self, deed: Deed) -> Result<(), Trouble> {
+        let Some(Pair { serving: end, .. }) = &mut self.pair else {
+            return Err(Trouble::Wrong);
+        };
+        let (from, out) = (&self.by_asking, &mut self.by_serving);
+        match deed {
+            Takes(place) => serving_takes(end, packet_of(from, place), out),
+            Receives(place) => linked(end.receive(packet_of(from, place))),
+            GoesOn => serving_goes_on(end, out),
+            Posts => linked(end.post()),
+            Renews => linked(end.renew(self.alloc, SERVING)),
+            _ => serving_writes(end, deed, out),
+        }
+    }
+
+    /// Makes both ends.
+    fn begin(&mut self) -> Result<(), Trouble> {
+        put(&mut self.pair, new_pair(self.alloc)?);
         Ok(())
     }
 
-    /// What the end that serves does.
-    fn act_serving(&mut self, act: Act) -> Result<(), Trouble> {
-        let (Some(pair), out) = (&mut self.pair, &mut self.by_serving) else {
-            return Err(Trouble::Wrong);
+    /// Does one act.
+    fn perform(&mut self, act: Act) -> Result<(), Trouble> {
+        let Some(pair) = &mut self.pair else {
+            return self.begin();
         };
-        let end = &mut pair.serving;
         match act {
-            Add(name) => add(end, name)?,
-            AddRecord(number, body) => end.add_record(number, body)?,
-            ServingTakes(place) => {
-                end.take(packet(&self.by_asking, place)?, out)?;
-            }
-            ServingReceives(place) => {
-                end.receive(packet(&self.by_asking, place)?)?;
-            }
-            Serve => serve(end)?,
-            ServingGoesOn => {
-                if let Err(fault) = end.go_on(out) {
-                    return Err(stopped(fault == LinkFault::NoMemory));
-                }
-            }
-            ServingPosts => {
-                end.post()?;
-            }
-            ServingEmits => {
-                out.reserve(1)?;
-                keep(out, end.emit()?)?;
-            }
-            ServingResends(place) => {
-                out.reserve(1)?;
-                keep(out, Some(end.resend(place)?))?;
-            }
-            ServingAcknowledges => {
-                out.reserve(1)?;
-                keep(out, Some(end.ack()?))?;
-            }
-            _ => end.renew(self.alloc, setup(0x0202, 0x0101))?,
+            Add(name) => add(&mut pair.serving, name),
+            AddRecord(number, body) => Ok(pair.serving.add_record(number, body)?),
+            Ask(words) => ask(self.alloc, &mut pair.asking, words),
+            Read => read(&mut pair.asking, &mut self.reports),
+            Serve => serve(&mut pair.serving),
+            Asking(deed) => self.asking_does(deed),
+            Serving(deed) => self.serving_does(deed),
         }
-        Ok(())
     }
-}
-
-/// Whether it is the end that asks which does this.
-fn is_asking(act: Act) -> bool {
-    matches!(
-        act,
-        Ask(_)
-            | AskingTakes(_)
-            | AskingReceives(_)
-            | Read
-            | AskingGoesOn
-            | AskingPosts
-            | AskingEmits
-            | AskingResends(_)
-            | AskingAcknowledges
-            | AskingRenews
-    )
 }
 
 impl Growing for Peers {
-    fn call(&mut self, place: usize) -> Result<Came, Trouble> {
-        if self.pair.is_none() {
-            self.pair = Some(new_pair(self.alloc)?);
-            return Ok(Came::Done);
-        }
-        let Some(act) = ACTS.get(place.saturating_sub(1)) else {
-            return Ok(Came::Over);
-        };
-        if is_asking(*act) {
-            self.act_asking(*act)?;
-        } else {
-            self.act_serving(*act)?;
-        }
-        Ok(Came::Done)
+    fn call(&mut self, place: usize) -> Result<(), Trouble> {
+        self.perform(at(ACTS, place.saturating_sub(1))?)
     }
 
-    fn look(&self, seen: &mut Vec<u8>) -> io::Result<()> {
+    fn look(&self, seen: &mut Text) {
         if let Some(pair) = &self.pair {
-            look_at_link(pair.asking.link(), seen)?;
-            look_at_link(pair.serving.link(), seen)?;
-            look_at_files(pair.serving.files(), seen)?;
+            look_at_link(pair.asking.link(), seen);
+            look_at_link(pair.serving.link(), seen);
+            look_at_files(pair.serving.files(), seen);
         }
-        for packet in &self.by_asking {
-            note_bytes(seen, "asking", packet)?;
-        }
-        for packet in &self.by_serving {
-            note_bytes(seen, "serving", packet)?;
-        }
-        for report in &self.reports {
-            look_at_report(report, seen)?;
-        }
-        Ok(())
+        seen.note_all("asking", &self.by_asking);
+        seen.note_all("serving", &self.by_serving);
+        look_at_reports(&self.reports, seen);
     }
 }

@@ -1,88 +1,128 @@
 //! What the readers of files, reports and ends answer.
 
-use crate::growing::{note, note_bytes};
+use crate::texts::Text;
 use dap_accessed::FileTable;
-use dap_accessing::{Ending, Report};
+use dap_accessing::{Ending, Octets, Report};
 use nsp_link::LinkEnd;
 use rec_file::{RecordFile, first_record};
-use std::io;
-use std::io::Write;
+use std::fmt::Debug;
+
+/// The shape of a file.
+fn look_at_shape<F: RecordFile>(file: &F, seen: &mut Text) {
+    let shape = file.shape();
+    seen.put(b"\n");
+    seen.show(&shape.org);
+    seen.show(&shape.format);
+    seen.note("mrs", u64::from(shape.mrs));
+    seen.note("mrn", u64::from(shape.mrn));
+}
+
+/// A record.
+fn look_at_record(number: u64, body: &[u8], seen: &mut Text) {
+    seen.note("record", number);
+    seen.note_bytes("body", body);
+}
 
 /// The shape and the records of a file.
-pub fn look_at_file<F: RecordFile>(file: &F, seen: &mut Vec<u8>) -> io::Result<()> {
-    let shape = file.shape();
-    write!(seen, "\n {:?} {:?}", shape.org, shape.format)?;
-    note(seen, "mrs", u64::from(shape.mrs))?;
-    note(seen, "mrn", u64::from(shape.mrn))?;
-    note(seen, "highest", u64::from(file.highest()))?;
+pub fn look_at_file<F: RecordFile>(file: &F, seen: &mut Text) {
+    look_at_shape(file, seen);
+    seen.note("highest", u64::from(file.highest()));
     let mut from = 1;
     for _ in 0..u32::MAX {
         let Some((number, body)) = first_record(file, from) else {
             break;
         };
-        note(seen, "record", u64::from(number))?;
-        note_bytes(seen, "body", body)?;
+        look_at_record(u64::from(number), body, seen);
         from = number + 1;
     }
-    Ok(())
 }
 
 /// All files.
-pub fn look_at_files(files: &FileTable, seen: &mut Vec<u8>) -> io::Result<()> {
+pub fn look_at_files(files: &FileTable, seen: &mut Text) {
     for at in 0..files.count() {
-        note_bytes(seen, "file", files.name(at))?;
-        look_at_file(files.file(at), seen)?;
+        seen.note_bytes("file", files.name(at));
+        look_at_file(files.file(at), seen);
     }
-    Ok(())
 }
 
 /// How a batch ended.
-fn look_at_ending(ending: Ending, seen: &mut Vec<u8>) -> io::Result<()> {
+fn look_at_ending(ending: Ending, seen: &mut Text) {
     match ending {
-        Ending::Complete => write!(seen, " complete"),
-        Ending::Stopped => write!(seen, " stopped"),
-        Ending::Refused(code, reason) => write!(seen, " refused {code} {reason}"),
+        Ending::Complete => seen.put(b" complete"),
+        Ending::Stopped => seen.put(b" stopped"),
+        Ending::Refused(code, reason) => {
+            seen.put(b" refused");
+            seen.show(&code);
+            seen.show(&reason);
+        }
     }
 }
 
+/// A batch.
+fn look_at_batch(bodies: &[(u64, Octets)], ending: Ending, seen: &mut Text) {
+    seen.put(b"\n batch");
+    for (number, body) in bodies {
+        look_at_record(*number, &body.0, seen);
+    }
+    look_at_ending(ending, seen);
+}
+
+/// What is known of a file that was opened.
+fn look_at_opened(org: u8, rfm: u8, mrs: u16, mrn: u32, seen: &mut Text) {
+    seen.put(b"\n opened");
+    seen.show(&org);
+    seen.show(&rfm);
+    seen.show(&mrs);
+    seen.show(&mrn);
+}
+
+/// A word in a line of its own, and what is behind it.
+fn look_at<T: Debug>(word: &[u8], value: &T, seen: &mut Text) {
+    seen.put(b"\n ");
+    seen.put(word);
+    seen.show(value);
+}
+
 /// A report.
-pub fn look_at_report(report: &Report, seen: &mut Vec<u8>) -> io::Result<()> {
+pub fn look_at_report(report: &Report, seen: &mut Text) {
     match report {
-        Report::Ready(bufsiz) => write!(seen, "\n ready {bufsiz}"),
-        Report::Opened { org, rfm, mrs, mrn } => write!(seen, "\n opened {org} {rfm} {mrs} {mrn}"),
-        Report::Connected => write!(seen, "\n connected"),
+        Report::Ready(bufsiz) => look_at(b"ready", bufsiz, seen),
+        Report::Opened { org, rfm, mrs, mrn } => look_at_opened(*org, *rfm, *mrs, *mrn, seen),
+        Report::Connected => seen.put(b"\n connected"),
         Report::Found { number, body } => {
-            write!(seen, "\n found {number}")?;
-            note_bytes(seen, "body", &body.0)
+            look_at(b"found", number, seen);
+            seen.note_bytes("body", &body.0);
         }
-        Report::Done(number) => write!(seen, "\n done {number}"),
-        Report::EndOfFile => write!(seen, "\n end-of-file"),
-        Report::Refused(code, reason) => write!(seen, "\n refused {code} {reason}"),
-        Report::Batch { bodies, ending } => {
-            write!(seen, "\n batch")?;
-            for (number, body) in &bodies.0 {
-                note(seen, "record", *number)?;
-                note_bytes(seen, "body", &body.0)?;
-            }
-            look_at_ending(*ending, seen)
+        Report::Done(number) => look_at(b"done", number, seen),
+        Report::EndOfFile => seen.put(b"\n end-of-file"),
+        Report::Refused(code, reason) => {
+            look_at(b"refused", code, seen);
+            seen.show(reason);
         }
-        Report::Stored(refusal) => write!(seen, "\n stored {refusal:?}"),
-        Report::Closed => write!(seen, "\n closed"),
+        Report::Batch { bodies, ending } => look_at_batch(&bodies.0, *ending, seen),
+        Report::Stored(refusal) => look_at(b"stored", refusal, seen),
+        Report::Closed => seen.put(b"\n closed"),
+    }
+}
+
+/// All reports.
+pub fn look_at_reports(reports: &[Report], seen: &mut Text) {
+    for report in reports {
+        look_at_report(report, seen);
     }
 }
 
 /// An end of a link.
-pub fn look_at_link(link: &LinkEnd, seen: &mut Vec<u8>) -> io::Result<()> {
-    note(seen, "sent", link.sent_count())?;
-    note(seen, "unacknowledged", link.unacked() as u64)?;
-    note(seen, "taken", link.received_count())?;
-    note(seen, "held", link.held_count() as u64)?;
-    note(seen, "partial", link.partial_len() as u64)?;
+pub fn look_at_link(link: &LinkEnd, seen: &mut Text) {
+    seen.note("sent", link.sent_count());
+    seen.note("unacknowledged", link.unacked() as u64);
+    seen.note("taken", link.received_count());
+    seen.note("held", link.held_count() as u64);
+    seen.note("partial", link.partial_len() as u64);
     if link.may_send() {
-        write!(seen, " may-send")?;
+        seen.put(b" may-send");
     }
-    match link.peek_message() {
-        Some(message) => note_bytes(seen, "message", message),
-        None => Ok(()),
+    if let Some(message) = link.peek_message() {
+        seen.note_bytes("message", message);
     }
 }

@@ -1,13 +1,12 @@
 //! Both ends over both links, event by event.
 
-use crate::growing::{Came, Growing, Trouble, note, note_bytes};
-use crate::reading::{look_at_files, look_at_link, look_at_report};
+use crate::growing::{Growing, Trouble, put, when};
+use crate::reading::{look_at_files, look_at_link, look_at_reports};
 use crate::requests::request;
+use crate::texts::Text;
 use End::{A, B};
 use dap_world::{End, Event, Request, Step, World, WorldFault, WorldSetup};
 use std::alloc::{AllocError, Global};
-use std::io;
-use std::io::Write;
 
 /// What happens.
 #[derive(Clone, Copy, Drop)]
@@ -180,129 +179,142 @@ pub struct Playing {
     world: Option<World>,
     script: Script,
     shows_wires: bool,
-    steps: Vec<Step>,
+    steps: Text,
 }
 
 impl Playing {
     /// What is settled after a refusal is written once more, so there the wires are not shown.
-    pub fn new(
-        alloc: Global,
-        setup: WorldSetup,
-        script: Script,
-        shows_wires: bool,
-    ) -> Result<Playing, AllocError> {
-        Ok(Playing {
+    pub fn new(alloc: Global, setup: WorldSetup, script: Script, shows_wires: bool) -> Playing {
+        Playing {
             alloc,
             setup,
             world: None,
             script,
             shows_wires,
-            steps: Vec::with_capacity(alloc, 256)?,
-        })
+            steps: Text::new(alloc),
+        }
+    }
+
+    /// Makes the world, and room for the steps.
+    fn begin(&mut self) -> Result<(), Trouble> {
+        self.steps.reserve()?;
+        put(&mut self.world, World::new(self.alloc, self.setup)?);
+        Ok(())
     }
 }
 
 /// What is refused on its way goes on from the last event that happened.
-fn stops(fault: WorldFault) -> Trouble {
-    match fault {
-        WorldFault::NoMemory => Trouble::Stopped,
-        _ => Trouble::Wrong,
+fn ran(ran: Result<usize, WorldFault>) -> Result<(), Trouble> {
+    match ran {
+        Ok(_count) => Ok(()),
+        Err(WorldFault::NoMemory) => Err(Trouble::Stopped),
+        Err(_) => Err(Trouble::Wrong),
     }
 }
 
+/// Notes what came of an event.
+fn note_step(steps: &mut Text, step: Result<Step, WorldFault>) -> Result<(), Trouble> {
+    steps.show(&step?);
+    Ok(())
+}
+
+/// Asks the request of these words, as an event.
+fn ask(alloc: Global, world: &mut World, words: &str, steps: &mut Text) -> Result<(), Trouble> {
+    let event = Event::Ask(request(alloc, words)?);
+    note_step(steps, world.apply(&event))
+}
+
+/// Asks the request of these words by itself.
+fn give(alloc: Global, world: &mut World, words: &str, steps: &mut Text) -> Result<(), Trouble> {
+    let request = request(alloc, words)?;
+    note_step(steps, world.ask(request))
+}
+
+/// The place of the last packet that an end wrote.
+fn last(world: &World, end: End) -> usize {
+    world.wire(end).len().saturating_sub(1)
+}
+
 /// The event of an act.
-fn event(alloc: Global, world: &World, act: Act) -> Result<Event, Trouble> {
-    Ok(match act {
-        Act::Ask(words) => Event::Ask(request(alloc, words)?),
+fn event(world: &World, act: Act) -> Event {
+    match act {
         Act::Post(end) => Event::Post(end),
         Act::Emit(end) => Event::Emit(end),
         Act::Resend(end, place) => Event::Resend(end, place),
         Act::Acknowledge(end) => Event::Ack(end),
-        Act::Take(A) => Event::Deliver(A, world.wire(B).len().saturating_sub(1)),
-        Act::Take(B) => Event::Deliver(B, world.wire(A).len().saturating_sub(1)),
+        Act::Take(A) => Event::Deliver(A, last(world, B)),
+        Act::Take(B) => Event::Deliver(B, last(world, A)),
         Act::Serve => Event::Serve,
         _ => Event::Read,
-    })
+    }
 }
 
-/// What came of an act, where it is one event.
-fn happen(alloc: Global, world: &mut World, act: Act) -> Result<Option<Step>, Trouble> {
-    let ran = match act {
-        Act::Settle(end) => world.settle(end),
-        Act::Finish => world.finish(),
-        Act::Give(words) => {
-            let step = world.ask(request(alloc, words)?)?;
-            return Ok(Some(step));
+/// Does one act, and notes what came of it, where it is one event.
+fn perform(alloc: Global, world: &mut World, act: Act, steps: &mut Text) -> Result<(), Trouble> {
+    match act {
+        Act::Settle(end) => ran(world.settle(end)),
+        Act::Finish => ran(world.finish()),
+        Act::Give(words) => give(alloc, world, words, steps),
+        Act::Ask(words) => ask(alloc, world, words, steps),
+        _ => {
+            let event = event(world, act);
+            note_step(steps, world.apply(&event))
         }
-        act => {
-            let event = event(alloc, world, act)?;
-            let step = world.apply(&event)?;
-            return Ok(Some(step));
-        }
-    };
-    match ran {
-        Ok(_count) => Ok(None),
-        Err(fault) => Err(stops(fault)),
+    }
+}
+
+/// Appends messages, where there was room for them.
+fn note_messages(word: &str, list: Result<Vec<Vec<u8>>, AllocError>, seen: &mut Text) {
+    match list {
+        Ok(messages) => seen.note_all(word, &messages),
+        Err(_) => seen.miss(),
     }
 }
 
 /// Appends what the readers of a world answer.
-fn look_at_world(world: &World, seen: &mut Vec<u8>) -> io::Result<()> {
+fn look_at_world(world: &World, seen: &mut Text) {
     for request in world.requests() {
-        write!(seen, "\n {request:?}")?;
+        seen.put(b"\n");
+        seen.show(request);
     }
-    note(seen, "read", world.read_count())?;
-    for message in &world.sent()? {
-        note_bytes(seen, "sent", message)?;
-    }
-    for message in &world.taken()? {
-        note_bytes(seen, "taken", message)?;
-    }
-    for report in world.reports() {
-        look_at_report(report, seen)?;
-    }
-    look_at_files(world.files(), seen)
+    seen.note("read", world.read_count());
+    note_messages("sent", world.sent(), seen);
+    note_messages("taken", world.taken(), seen);
+    look_at_reports(world.reports(), seen);
+    look_at_files(world.files(), seen);
 }
 
 /// Appends what the readers of an end of a world answer.
-fn look_at_side(world: &World, end: End, seen: &mut Vec<u8>) -> io::Result<()> {
-    look_at_link(world.link(end), seen)?;
+fn look_at_side(world: &World, end: End, seen: &mut Text) {
+    look_at_link(world.link(end), seen);
     for wired in world.wire(end) {
-        note_bytes(seen, "packet", &wired.packet)?;
-        note(seen, "segment", wired.segment.unwrap_or(0))?;
-        note(seen, "acks", wired.acks)?;
+        seen.note_bytes("packet", &wired.packet);
+        seen.note("segment", wired.segment.unwrap_or(0));
+        seen.note("acks", wired.acks);
     }
-    Ok(())
 }
 
 impl Growing for Playing {
-    fn call(&mut self, place: usize) -> Result<Came, Trouble> {
+    fn call(&mut self, place: usize) -> Result<(), Trouble> {
         let Some(world) = &mut self.world else {
-            self.world = Some(World::new(self.alloc, self.setup)?);
-            return Ok(Came::Done);
+            return self.begin();
         };
-        let Some(act) = act_at(self.script, place.saturating_sub(1)) else {
-            return Ok(Came::Over);
-        };
-        if let Some(step) = happen(self.alloc, world, act)? {
-            self.steps.push(step)?;
+        match act_at(self.script, place.saturating_sub(1)) {
+            Some(act) => perform(self.alloc, world, act, &mut self.steps),
+            None => Err(Trouble::Over),
         }
-        Ok(Came::Done)
     }
 
-    fn look(&self, seen: &mut Vec<u8>) -> io::Result<()> {
+    fn look(&self, seen: &mut Text) {
         let Some(world) = &self.world else {
-            return Ok(());
+            return;
         };
-        look_at_world(world, seen)?;
-        if !self.shows_wires {
-            return Ok(());
+        look_at_world(world, seen);
+        if self.shows_wires {
+            seen.put(self.steps.as_slice());
+            look_at_side(world, A, seen);
+            look_at_side(world, B, seen);
         }
-        for step in &self.steps {
-            write!(seen, " {step:?}")?;
-        }
-        look_at_side(world, A, seen)?;
-        look_at_side(world, B, seen)
     }
 }
 
@@ -344,29 +356,37 @@ fn requests(alloc: Global) -> Result<Vec<Request>, Trouble> {
     Ok(all)
 }
 
+/// Directs a world, which is new.
+fn direct(alloc: Global, world: &mut World) -> Result<(), Trouble> {
+    let list = requests(alloc)?;
+    if !world.is_fresh() {
+        return Err(Trouble::Wrong);
+    }
+    match world.direct(&list) {
+        Ok(()) => Ok(()),
+        Err((_place, fault)) => Err(Trouble::from(fault)),
+    }
+}
+
+/// A new world, directed.
+fn directed(alloc: Global, setup: WorldSetup) -> Result<World, Trouble> {
+    let mut world = World::new(alloc, setup)?;
+    let done = direct(alloc, &mut world);
+    when(done, world)
+}
+
 impl Growing for Directing {
-    fn call(&mut self, place: usize) -> Result<Came, Trouble> {
+    fn call(&mut self, place: usize) -> Result<(), Trouble> {
         if place > 0 {
-            return Ok(Came::Over);
+            return Err(Trouble::Over);
         }
-        let mut world = World::new(self.alloc, self.setup)?;
-        let list = requests(self.alloc)?;
-        if !world.is_fresh() {
-            return Err(Trouble::Wrong);
-        }
-        match world.direct(&list) {
-            Ok(()) => {
-                self.world = Some(world);
-                Ok(Came::Done)
-            }
-            Err((_place, fault)) => Err(Trouble::from(fault)),
-        }
+        put(&mut self.world, directed(self.alloc, self.setup)?);
+        Ok(())
     }
 
-    fn look(&self, seen: &mut Vec<u8>) -> io::Result<()> {
-        match &self.world {
-            Some(world) => look_at_world(world, seen),
-            None => Ok(()),
+    fn look(&self, seen: &mut Text) {
+        if let Some(world) = &self.world {
+            look_at_world(world, seen);
         }
     }
 }

@@ -1,12 +1,12 @@
 //! The writers of fields, messages and packets.
 
 use crate::bytes::{MESSAGES, PACKETS};
-use crate::growing::{Came, Growing, Trouble, note_bytes};
+use crate::growing::{Growing, Trouble, at};
+use crate::texts::Text;
 use dap_fields::{FieldFault, write_ex, write_image, write_u8, write_u16};
 use dap_msg::{append_blocked, decode, encode, fits};
 use nsp_seg::{decode_packet, encode_packet};
 use std::alloc::{AllocError, Global};
-use std::io;
 
 /// What stands in front of all that is written.
 const FRONT: &[u8] = b"front";
@@ -45,69 +45,54 @@ fn write_field(place: usize, out: &mut Vec<u8>) -> Result<(), FieldFault> {
 /// Writes the message that the bytes spell.
 fn write_message(bytes: &[u8], out: &mut Vec<u8>) -> Result<(), Trouble> {
     match decode(bytes) {
-        Ok((message, _len)) if fits(&message) => encode(&message, out)?,
-        _ => return Err(Trouble::Wrong),
+        Ok((message, _len)) if fits(&message) => Ok(encode(&message, out)?),
+        _ => Err(Trouble::Wrong),
     }
-    Ok(())
 }
 
 /// Writes the packet that the bytes spell.
 fn write_packet(bytes: &[u8], out: &mut Vec<u8>) -> Result<(), Trouble> {
-    let Ok(packet) = decode_packet(bytes) else {
-        return Err(Trouble::Wrong);
-    };
-    encode_packet(&packet, out)?;
-    Ok(())
+    match decode_packet(bytes) {
+        Ok(packet) => Ok(encode_packet(&packet, out)?),
+        Err(_) => Err(Trouble::Wrong),
+    }
 }
 
 /// The fields that are written.
 const FIELDS: usize = 4;
 
 /// Writes what has this place, where there is something.
-fn write(place: usize, out: &mut Vec<u8>) -> Result<Came, Trouble> {
+fn write(place: usize, out: &mut Vec<u8>) -> Result<(), Trouble> {
     if place < FIELDS {
-        write_field(place, out)?;
-        return Ok(Came::Done);
+        return Ok(write_field(place, out)?);
     }
     let place = place - FIELDS;
-    if let Some(bytes) = MESSAGES.get(place) {
-        write_message(bytes, out)?;
-        return Ok(Came::Done);
+    match MESSAGES.get(place) {
+        Some(bytes) => write_message(bytes, out),
+        None => write_packet(at(PACKETS, place - MESSAGES.len())?, out),
     }
-    let Some(bytes) = PACKETS.get(place - MESSAGES.len()) else {
-        return Ok(Came::Over);
-    };
-    write_packet(bytes, out)?;
-    Ok(Came::Done)
+}
+
+/// Writes what has this place behind the front, which stays where it is refused.
+fn write_behind(place: usize, out: &mut Vec<u8>) -> Result<(), Trouble> {
+    let written = write(place, out);
+    if written.is_err() && out.as_slice() != FRONT {
+        return Err(Trouble::Wrong);
+    }
+    written
 }
 
 impl Growing for Writers {
-    fn call(&mut self, place: usize) -> Result<Came, Trouble> {
+    fn call(&mut self, place: usize) -> Result<(), Trouble> {
         let mut out = Vec::from_slice(self.alloc, FRONT)?;
-        match write(place, &mut out) {
-            Ok(Came::Over) => Ok(Came::Over),
-            Ok(Came::Done) => {
-                append_blocked(self.alloc, &mut self.blocked, &out, 64)?;
-                self.written.push(out)?;
-                Ok(Came::Done)
-            }
-            Err(trouble) => {
-                if out.as_slice() == FRONT {
-                    Err(trouble)
-                } else {
-                    Err(Trouble::Wrong)
-                }
-            }
-        }
+        write_behind(place, &mut out)?;
+        append_blocked(self.alloc, &mut self.blocked, &out, 64)?;
+        self.written.push(out)?;
+        Ok(())
     }
 
-    fn look(&self, seen: &mut Vec<u8>) -> io::Result<()> {
-        for written in &self.written {
-            note_bytes(seen, "written", written)?;
-        }
-        for blocked in &self.blocked {
-            note_bytes(seen, "blocked", blocked)?;
-        }
-        Ok(())
+    fn look(&self, seen: &mut Text) {
+        seen.note_all("written", &self.written);
+        seen.note_all("blocked", &self.blocked);
     }
 }
