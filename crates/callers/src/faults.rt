@@ -1,6 +1,6 @@
 //! What each fault of the libraries prints.
 
-use crate::trouble::Trouble;
+use crate::trouble::Lines;
 use dap_accessed::{AddFault, NoMemory};
 use dap_accessing::{AskFault, ReadFault};
 use dap_end::{EndFault, TakeFault};
@@ -12,7 +12,6 @@ use nsp_link::{Got, LinkFault};
 use nsp_seg::SegFault;
 use rec_file::Refusal;
 use std::error::Error;
-use std::io::Write;
 
 const OF_FIELDS: &[FieldFault] = &[
     FieldFault::Truncated,
@@ -117,27 +116,26 @@ const OF_WORLDS: &[WorldFault] = &[
 const OF_TALKS: &[TalkFault] = &[TalkFault::ReadFailed, TalkFault::WriteFailed];
 
 /// Prints faults of one type, each in a line.
-fn print<E: Error, W: Write>(of: &str, faults: &[E], out: &mut W) -> Result<(), Trouble> {
+fn print<E: Error>(of: &str, faults: &[E], out: &mut Lines) {
     for fault in faults {
-        writeln!(out, "faults: {of}: {fault}")?;
+        out.line(format_args!("faults: {of}: {fault}"));
     }
-    Ok(())
 }
 
 /// Prints the faults of the libraries, from the lowest on.
-pub fn call<W: Write>(out: &mut W) -> Result<(), Trouble> {
-    print("field", OF_FIELDS, out)?;
-    print("kind", KINDS, out)?;
-    print("message", OF_MESSAGES, out)?;
-    print("packet", OF_PACKETS, out)?;
-    print("link", OF_LINKS, out)?;
-    print("stream", OF_STREAMS, out)?;
-    print("request", OF_REQUESTS, out)?;
-    print("answer", OF_ANSWERS, out)?;
-    print("serving", OF_SERVING, out)?;
-    print("adding", OF_ADDING, out)?;
-    print("end", OF_ENDS, out)?;
-    print("taking", OF_TAKING, out)?;
-    print("world", OF_WORLDS, out)?;
-    print("talk", OF_TALKS, out)
+pub fn call(out: &mut Lines) {
+    print("field", OF_FIELDS, out);
+    print("kind", KINDS, out);
+    print("message", OF_MESSAGES, out);
+    print("packet", OF_PACKETS, out);
+    print("link", OF_LINKS, out);
+    print("stream", OF_STREAMS, out);
+    print("request", OF_REQUESTS, out);
+    print("answer", OF_ANSWERS, out);
+    print("serving", OF_SERVING, out);
+    print("adding", OF_ADDING, out);
+    print("end", OF_ENDS, out);
+    print("taking", OF_TAKING, out);
+    print("world", OF_WORLDS, out);
+    print("talk", OF_TALKS, out);
 }

@@ -1,9 +1,8 @@
 //! `nsp_link`: one end sends a message, the other takes it.
 
-use crate::trouble::Trouble;
+use crate::trouble::{Lines, Trouble};
 use nsp_link::{LinkEnd, LinkSetup};
 use std::alloc::Global;
-use std::io::Write;
 
 /// The limits of an end with these addresses.
 fn setup(local: u16, remote: u16) -> LinkSetup {
@@ -29,24 +28,46 @@ fn send(alloc: Global, sender: &mut LinkEnd, message: &[u8]) -> Result<Vec<Vec<u
 }
 
 /// Takes a packet.
-fn take<W: Write>(end: &mut LinkEnd, packet: &[u8], out: &mut W) -> Result<(), Trouble> {
+fn take(end: &mut LinkEnd, packet: &[u8], out: &mut Lines) -> Result<(), Trouble> {
     let got = end.receive(packet)?;
-    writeln!(out, "links: {got:?}")?;
+    out.line(format_args!("links: {got:?}"));
+    Ok(())
+}
+
+/// The message is taken, and acknowledged.
+fn finish(sender: &mut LinkEnd, receiver: &mut LinkEnd, out: &mut Lines) -> Result<(), Trouble> {
+    if let Some(message) = receiver.take_message() {
+        out.line(format_args!("links: a message of {} bytes", message.len()));
+    }
+    let acknowledgement = receiver.ack_packet()?;
+    take(sender, &acknowledgement, out)
+}
+
+/// The packets come in the other order.
+fn take_all(end: &mut LinkEnd, packets: &[Vec<u8>], out: &mut Lines) -> Result<(), Trouble> {
+    for packet in packets.iter().rev() {
+        take(end, packet, out)?;
+    }
+    Ok(())
+}
+
+/// A message goes from the one end to the other.
+fn exchange(
+    alloc: Global,
+    sender: &mut LinkEnd,
+    receiver: &mut LinkEnd,
+    out: &mut Lines,
+) -> Result<(), Trouble> {
+    let packets = send(alloc, sender, b"segment")?;
+    take_all(receiver, &packets, out)?;
+    finish(sender, receiver, out)?;
+    out.line(format_args!("links: {} unacknowledged", sender.unacked()));
     Ok(())
 }
 
 /// A message in two segments, of which the second comes first.
-pub fn call<W: Write>(alloc: Global, out: &mut W) -> Result<(), Trouble> {
+pub fn call(alloc: Global, out: &mut Lines) -> Result<(), Trouble> {
     let mut sender = LinkEnd::new(alloc, setup(1, 2))?;
     let mut receiver = LinkEnd::new(alloc, setup(2, 1))?;
-    for packet in send(alloc, &mut sender, b"segment")?.iter().rev() {
-        take(&mut receiver, packet, out)?;
-    }
-    if let Some(message) = receiver.take_message() {
-        writeln!(out, "links: a message of {} bytes", message.len())?;
-    }
-    let acknowledgement = receiver.ack_packet()?;
-    take(&mut sender, &acknowledgement, out)?;
-    writeln!(out, "links: {} unacknowledged", sender.unacked())?;
-    Ok(())
+    exchange(alloc, &mut sender, &mut receiver, out)
 }

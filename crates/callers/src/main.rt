@@ -12,12 +12,11 @@ mod trouble;
 mod worlds;
 
 use std::alloc::Global;
-use std::io::Write;
 use std::process::ExitCode;
-use trouble::Trouble;
+use trouble::{Lines, Trouble};
 
 /// Calls each library.
-fn call_all<W: Write>(alloc: Global, out: &mut W) -> Result<(), Trouble> {
+fn call_all(alloc: Global, out: &mut Lines) -> Result<(), Trouble> {
     messages::call(alloc, out)?;
     links::call(alloc, out)?;
     files::call(alloc, out)?;
@@ -25,15 +24,20 @@ fn call_all<W: Write>(alloc: Global, out: &mut W) -> Result<(), Trouble> {
     serving::call(alloc, out)?;
     ends::call(alloc, out)?;
     worlds::call(alloc, out)?;
-    faults::call(out)
+    faults::call(out);
+    Ok(())
 }
 
 fn main(rt: HostRuntime) -> ExitCode {
-    match call_all(rt.alloc(), &mut rt.stdout()) {
-        Ok(()) => ExitCode::SUCCESS,
-        Err(Trouble(why)) => {
-            let _ = eprintln!(rt; "{why}");
-            ExitCode::FAILURE
-        }
-    }
+    let mut out = Lines {
+        out: rt.stdout(),
+        is_short: false,
+    };
+    let why = match call_all(rt.alloc(), &mut out) {
+        Ok(()) if !out.is_short => return ExitCode::SUCCESS,
+        Ok(()) => "standard output",
+        Err(Trouble(why)) => why,
+    };
+    let _ = eprintln!(rt; "{why}");
+    ExitCode::FAILURE
 }

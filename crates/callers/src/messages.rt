@@ -1,24 +1,23 @@
 //! `dap_msg`: a DAP message is read and written.
 
-use crate::trouble::Trouble;
+use crate::trouble::{Lines, Trouble};
 use dap_msg::{Bytes, Message, decode, encode, fits};
 use std::alloc::Global;
-use std::io::Write;
 
 /// A Control message that connects a record stream, and an Acknowledge behind it.
 const BYTES: &[u8] = &[4, 2, 2, 2, 0, 6, 2, 0];
 
 /// Reads the message in front.
-fn read<W: Write>(bytes: &[u8], out: &mut W) -> Result<(), Trouble> {
+fn read(bytes: &[u8], out: &mut Lines) -> Result<(), Trouble> {
     let (message, next) = decode(bytes)?;
     if let Message::Control(control) = message {
-        writeln!(out, "messages: CTLFUNC {}, next at {next}", control.func)?;
+        out.line(format_args!("messages: CTLFUNC {}, next at {next}", control.func));
     }
     Ok(())
 }
 
 /// Writes a record, where it is one that a message can have.
-fn write<W: Write>(alloc: Global, body: &[u8], out: &mut W) -> Result<(), Trouble> {
+fn write(alloc: Global, body: &[u8], out: &mut Lines) -> Result<(), Trouble> {
     let message = Message::Filedata {
         recnum: Bytes(&[]),
         payload: Bytes(body),
@@ -27,12 +26,12 @@ fn write<W: Write>(alloc: Global, body: &[u8], out: &mut W) -> Result<(), Troubl
     if fits(&message) {
         encode(&message, &mut bytes)?;
     }
-    writeln!(out, "messages: a record in {} bytes", bytes.len())?;
+    out.line(format_args!("messages: a record in {} bytes", bytes.len()));
     Ok(())
 }
 
 /// Reads a message and writes another.
-pub fn call<W: Write>(alloc: Global, out: &mut W) -> Result<(), Trouble> {
+pub fn call(alloc: Global, out: &mut Lines) -> Result<(), Trouble> {
     read(BYTES, out)?;
     write(alloc, b"a record", out)
 }

@@ -1,9 +1,8 @@
 //! `dap_accessed`: the end that serves, without a link.
 
-use crate::trouble::Trouble;
+use crate::trouble::{Lines, Trouble};
 use dap_accessed::Accessed;
 use std::alloc::Global;
-use std::io::Write;
 
 /// A Configuration; an Access that makes the file `F`, for get and put; one that opens `G`, which isn't there.
 const MESSAGES: &[&[u8]] = &[
@@ -14,19 +13,24 @@ const MESSAGES: &[&[u8]] = &[
 ];
 
 /// Serves a message.
-fn serve<W: Write>(end: &mut Accessed, message: &[u8], out: &mut W) -> Result<(), Trouble> {
+fn serve(end: &mut Accessed, message: &[u8], out: &mut Lines) -> Result<(), Trouble> {
     for answer in end.serve(message, 0)?.answers {
-        writeln!(out, "serving: an answer of {} bytes", answer.len())?;
+        out.line(format_args!("serving: an answer of {} bytes", answer.len()));
     }
     Ok(())
 }
 
 /// Serves each.
-pub fn call<W: Write>(alloc: Global, out: &mut W) -> Result<(), Trouble> {
-    let mut end = Accessed::new(alloc, 1024);
+fn serve_all(end: &mut Accessed, out: &mut Lines) -> Result<(), Trouble> {
     for message in MESSAGES {
-        serve(&mut end, message, out)?;
+        serve(end, message, out)?;
     }
-    writeln!(out, "serving: {} files", end.files().count())?;
+    out.line(format_args!("serving: {} files", end.files().count()));
     Ok(())
+}
+
+/// A new end serves them.
+pub fn call(alloc: Global, out: &mut Lines) -> Result<(), Trouble> {
+    let mut end = Accessed::new(alloc, 1024);
+    serve_all(&mut end, out)
 }

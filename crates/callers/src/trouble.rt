@@ -1,4 +1,4 @@
-//! What ends a caller.
+//! What ends a caller, and where it prints.
 
 use dap_accessed::NoMemory;
 use dap_accessing::{AskFault, ReadFault};
@@ -8,7 +8,24 @@ use dap_world::WorldFault;
 use nsp_link::LinkFault;
 use rec_file::Refusal;
 use std::alloc::{AllocError, AllocFailed};
-use std::io;
+use std::fmt::Display;
+use std::io::{Stdout, Write};
+
+/// Lines of standard output, and whether one of them wasn't written.
+#[derive(Drop)]
+pub struct Lines {
+    pub out: Stdout,
+    pub is_short: bool,
+}
+
+impl Lines {
+    /// Prints a line.
+    pub fn line<T: Display + Drop>(&mut self, line: T) {
+        if writeln!(self.out, "{line}").is_err() {
+            self.is_short = true;
+        }
+    }
+}
 
 /// What refused, in a word.
 pub struct Trouble(pub &'static str);
@@ -22,12 +39,6 @@ impl<T: Drop> From<AllocFailed<T>> for Trouble {
 impl From<AllocError> for Trouble {
     fn from(_e: AllocError) -> Trouble {
         Trouble("no memory")
-    }
-}
-
-impl From<io::Error> for Trouble {
-    fn from(_e: io::Error) -> Trouble {
-        Trouble("standard output")
     }
 }
 

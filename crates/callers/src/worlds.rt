@@ -1,9 +1,8 @@
 //! `dap_world`: both ends, both links and the network.
 
-use crate::trouble::Trouble;
+use crate::trouble::{Lines, Trouble};
 use dap_world::{End, Event, Request, World, WorldSetup};
 use std::alloc::Global;
-use std::io::Write;
 
 const SETUP: WorldSetup = WorldSetup {
     seg_size: 512,
@@ -13,27 +12,34 @@ const SETUP: WorldSetup = WorldSetup {
 };
 
 /// Plays an event.
-fn play<W: Write>(world: &mut World, event: &Event, out: &mut W) -> Result<(), Trouble> {
+fn play(world: &mut World, event: &Event, out: &mut Lines) -> Result<(), Trouble> {
     let step = world.apply(event)?;
-    writeln!(out, "worlds: {step:?}")?;
+    out.line(format_args!("worlds: {step:?}"));
+    Ok(())
+}
+
+/// What happens: a packet is written twice and comes once.
+const EVENTS: [Event; 5] = [
+    Event::Ask(Request::Hello),
+    Event::Post(End::A),
+    Event::Emit(End::A),
+    Event::Resend(End::A, 0),
+    Event::Deliver(End::B, 1),
+];
+
+/// Plays all events, and finishes the rest.
+fn play_all(world: &mut World, out: &mut Lines) -> Result<(), Trouble> {
+    for event in &EVENTS {
+        play(world, event, out)?;
+    }
+    let count = world.finish()?;
+    let reports = world.reports().len();
+    out.line(format_args!("worlds: {count} events more, {reports} reports"));
     Ok(())
 }
 
 /// A packet is written twice and comes once, and the rest is finished.
-pub fn call<W: Write>(alloc: Global, out: &mut W) -> Result<(), Trouble> {
+pub fn call(alloc: Global, out: &mut Lines) -> Result<(), Trouble> {
     let mut world = World::new(alloc, SETUP)?;
-    let events = [
-        Event::Ask(Request::Hello),
-        Event::Post(End::A),
-        Event::Emit(End::A),
-        Event::Resend(End::A, 0),
-        Event::Deliver(End::B, 1),
-    ];
-    for event in &events {
-        play(&mut world, event, out)?;
-    }
-    let count = world.finish()?;
-    let reports = world.reports().len();
-    writeln!(out, "worlds: {count} events more, {reports} reports")?;
-    Ok(())
+    play_all(&mut world, out)
 }
