@@ -22,7 +22,7 @@ const N: Outcome = Outcome::HasNoPlace;
 
 /// One answer of each kind, in the order of types; Accomp 1 and 2; of Status a refusal, a success and the
 /// end of a file; one that is malformed; and the types from 10 to 16.
-const ANSWERS: [&'static [u8]; 20] = [
+const ANSWERS: &[&[u8]] = &[
     &CONFIG,
     &ATTRIBUTES,
     &[3, 2, 8, 2, 0, 1, 0x46, 7, 0, 0, 0],
@@ -164,14 +164,17 @@ fn comes_to(end: &mut Accessing, answer: &[u8], expected: Outcome) -> bool {
         Ok((None, _)) => matches!(expected, Outcome::Waits),
         Ok((Some(_), _)) => matches!(expected, Outcome::Reports),
         Err(ReadFault::Unexpected) => {
-            let asked = end.ask(&Request::Rewind).err();
-            let heard = reply_to(end, answer, 0).err();
-            matches!(expected, Outcome::HasNoPlace)
-                && asked == Some(AskFault::Failed)
-                && heard == Some(ReadFault::Failed)
+            matches!(expected, Outcome::HasNoPlace) && has_failed(end, answer)
         }
         Err(_) => false,
     }
+}
+
+/// Whether a further request and a further answer are refused.
+fn has_failed(end: &mut Accessing, answer: &[u8]) -> bool {
+    let asked = end.ask(&Request::Rewind).err();
+    let heard = reply_to(end, answer, 0).err();
+    asked == Some(AskFault::Failed) && heard == Some(ReadFault::Failed)
 }
 
 /// Each of the answers comes to what the row says, behind these scripts.
@@ -180,9 +183,9 @@ fn hears_each(
     scripts: &[Script],
     row: &[Outcome],
 ) -> Result<(), AllocError> {
-    for (answer, expected) in ANSWERS.iter().zip(row) {
+    for (at, (answer, expected)) in ANSWERS.iter().zip(row).enumerate() {
         let mut end = play(rt, 1024, scripts)?;
-        assert!(rt; comes_to(&mut end, answer, *expected), "{answer:?}");
+        assert!(rt; comes_to(&mut end, answer, *expected), "answer {at}");
     }
     Ok(())
 }
@@ -546,28 +549,115 @@ const LARGEST: Script = &[
     Line::Asks(CREATE_F),
 ];
 
+const REFUSED_ALL: Session = &[REFUSALS, REFUSALS_OF_RECORDS];
+
+const REASONED: Session = &[HELLO, CREATE, CONNECT, REASONS, NUMBERS];
+
+const ENDED: Session = &[HELLO, CREATE, CONNECT, ENDINGS];
+
+const ENDED_BEHIND_A_STOP: Session = &[HELLO, CREATE, CONNECT, ENDINGS_BEHIND_A_STOP];
+
+const STORED: Session = &[HELLO, CREATE, CONNECT, STORES];
+
+const DESCRIBED: Session = &[HELLO, ATTRIBUTES_HEARD];
+
+const ONE_TOO_MANY: Session = &[HELLO, TOO_MANY];
+
+const SOME_TOO_MANY: Session = &[HELLO, FAR_TOO_MANY];
+
+const MOST_TOO_MANY: Session = &[HELLO, ALL_TOO_MANY];
+
+const CREATED: Session = &[HELLO, CREATES, IGNORED, HAS_ATTRIBUTES, IGNORED, IS_OPENED];
+
+const OPENED: Session = &[HELLO, OPENS, IGNORED, HAS_ATTRIBUTES, IGNORED, IS_OPENED];
+
+const UNBOUNDED: Session = &[NO_LIMIT];
+
+const BOUNDED: Session = &[SMALLEST];
+
+const BROAD: Session = &[LARGEST];
+
 #[test]
-fn reports(rt: HostRuntime) -> Result<(), Fail> {
-    play_each(
-        &rt,
-        1024,
-        &[
-            &[REFUSALS, REFUSALS_OF_RECORDS],
-            &[HELLO, CREATE, CONNECT, REASONS, NUMBERS],
-            &[HELLO, CREATE, CONNECT, ENDINGS],
-            &[HELLO, CREATE, CONNECT, ENDINGS_BEHIND_A_STOP],
-            &[HELLO, CREATE, CONNECT, STORES],
-            &[HELLO, ATTRIBUTES_HEARD],
-            &[HELLO, TOO_MANY],
-            &[HELLO, FAR_TOO_MANY],
-            &[HELLO, ALL_TOO_MANY],
-            &[HELLO, CREATES, IGNORED, HAS_ATTRIBUTES, IGNORED, IS_OPENED],
-            &[HELLO, OPENS, IGNORED, HAS_ATTRIBUTES, IGNORED, IS_OPENED],
-            &[NO_LIMIT],
-            &[SMALLEST],
-            &[LARGEST],
-        ],
-    )?;
+fn refusals_in_each_phase(rt: HostRuntime) -> Result<(), Fail> {
+    play(&rt, 1024, REFUSED_ALL)?;
+    Ok(())
+}
+
+#[test]
+fn reasons_and_numbers(rt: HostRuntime) -> Result<(), Fail> {
+    play(&rt, 1024, REASONED)?;
+    Ok(())
+}
+
+#[test]
+fn endings_of_a_fetch(rt: HostRuntime) -> Result<(), Fail> {
+    play(&rt, 1024, ENDED)?;
+    Ok(())
+}
+
+#[test]
+fn endings_of_a_fetch_that_stopped(rt: HostRuntime) -> Result<(), Fail> {
+    play(&rt, 1024, ENDED_BEHIND_A_STOP)?;
+    Ok(())
+}
+
+#[test]
+fn reports_of_stores(rt: HostRuntime) -> Result<(), Fail> {
+    play(&rt, 1024, STORED)?;
+    Ok(())
+}
+
+#[test]
+fn attributes_that_are_heard(rt: HostRuntime) -> Result<(), Fail> {
+    play(&rt, 1024, DESCRIBED)?;
+    Ok(())
+}
+
+#[test]
+fn a_number_that_is_too_large(rt: HostRuntime) -> Result<(), Fail> {
+    play(&rt, 1024, ONE_TOO_MANY)?;
+    Ok(())
+}
+
+#[test]
+fn a_number_that_is_far_too_large(rt: HostRuntime) -> Result<(), Fail> {
+    play(&rt, 1024, SOME_TOO_MANY)?;
+    Ok(())
+}
+
+#[test]
+fn the_largest_number(rt: HostRuntime) -> Result<(), Fail> {
+    play(&rt, 1024, MOST_TOO_MANY)?;
+    Ok(())
+}
+
+#[test]
+fn what_is_ignored_by_a_create(rt: HostRuntime) -> Result<(), Fail> {
+    play(&rt, 1024, CREATED)?;
+    Ok(())
+}
+
+#[test]
+fn what_is_ignored_by_an_open(rt: HostRuntime) -> Result<(), Fail> {
+    play(&rt, 1024, OPENED)?;
+    Ok(())
+}
+
+#[test]
+fn a_peer_without_a_limit(rt: HostRuntime) -> Result<(), Fail> {
+    play(&rt, 1024, UNBOUNDED)?;
+    Ok(())
+}
+
+#[test]
+fn a_peer_with_the_smallest_buffer(rt: HostRuntime) -> Result<(), Fail> {
+    play(&rt, 1024, BOUNDED)?;
+    Ok(())
+}
+
+#[test]
+fn a_peer_with_the_largest_buffer(rt: HostRuntime) -> Result<(), Fail> {
+    play(&rt, 1024, BROAD)?;
     Ok(())
 }
 

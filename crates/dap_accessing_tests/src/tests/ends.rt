@@ -80,6 +80,9 @@ pub(super) enum Line {
 
 pub(super) type Script = &'static [Line];
 
+/// The scripts that a new end follows one after the other.
+pub(super) type Session = &'static [Script];
+
 /// The file `F` of the Attributes above, with FAC 7.
 pub(super) const CREATE_F: Ask = Ask::Create(b"F", 16, 2, 0, 3, 7);
 
@@ -244,23 +247,29 @@ fn sends(end: &mut Accessing, request: &Request, expected: &[u8]) -> bool {
     }
 }
 
+/// Whether the request is asked, in its steps.
+fn asks(end: &mut Accessing, request: &Request) -> bool {
+    let number = request.number();
+    if end.check(request).is_err() {
+        return false;
+    }
+    match end.prepare(request, &number) {
+        Ok(prepared) => end.ask_prepared(request, prepared).is_ok(),
+        Err(_) => false,
+    }
+}
+
+/// Whether the request is refused so.
+fn refuses(end: &mut Accessing, request: &Request, fault: AskFault) -> bool {
+    end.check(request).err() == Some(fault) && end.ask(request).err() == Some(fault)
+}
+
 /// Whether the end does what the line says.
 fn does(alloc: Global, end: &mut Accessing, line: Line) -> Result<bool, AllocError> {
     Ok(match line {
         Line::Sends(ask, bytes) => sends(end, &request(alloc, ask)?, bytes),
-        Line::Asks(ask) => {
-            let request = request(alloc, ask)?;
-            let number = request.number();
-            end.check(&request).is_ok()
-                && match end.prepare(&request, &number) {
-                    Ok(prepared) => end.ask_prepared(&request, prepared).is_ok(),
-                    Err(_) => false,
-                }
-        }
-        Line::Refuses(ask, fault) => {
-            let request = request(alloc, ask)?;
-            end.check(&request).err() == Some(fault) && end.ask(&request).err() == Some(fault)
-        }
+        Line::Asks(ask) => asks(end, &request(alloc, ask)?),
+        Line::Refuses(ask, fault) => refuses(end, &request(alloc, ask)?, fault),
         Line::Hears(bytes, expected) => hears(end, bytes, 0, bytes.len(), expected),
         Line::HearsAt(bytes, at, next, expected) => hears(end, bytes, at, next, expected),
     })
@@ -301,19 +310,4 @@ pub(super) fn play(
         follow(rt, &mut end, script)?;
     }
     Ok(end)
-}
-
-/// A new end for each list of scripts does what they say.
-pub(super) fn play_each(
-    rt: &(impl AllocGlobal + Abort),
-    bufsiz: u16,
-    sessions: &[&[Script]],
-) -> Result<(), AllocError>
-    requires low { 64 ≤ bufsiz }
-    requires high { bufsiz ≤ greatest_message }
-{
-    for scripts in sessions {
-        play(rt, bufsiz, scripts)?;
-    }
-    Ok(())
 }

@@ -60,17 +60,27 @@ const RIGHTS: Script = &[
     ),
 ];
 
+const REFUSED_IN_ORDER: Session = &[IN_ORDER];
+
+const REFUSED_RIGHTS: Session = &[HELLO, RIGHTS];
+
+const REFUSED_BEHIND_A_FAULT: Session = &[HELLO, CREATE, CONNECT, WRONG_ANSWER];
+
 #[test]
-fn refusals(rt: HostRuntime) -> Result<(), Fail> {
-    play_each(
-        &rt,
-        1024,
-        &[
-            &[IN_ORDER],
-            &[HELLO, RIGHTS],
-            &[HELLO, CREATE, CONNECT, WRONG_ANSWER],
-        ],
-    )?;
+fn refusals_in_their_order(rt: HostRuntime) -> Result<(), Fail> {
+    play(&rt, 1024, REFUSED_IN_ORDER)?;
+    Ok(())
+}
+
+#[test]
+fn refused_rights(rt: HostRuntime) -> Result<(), Fail> {
+    play(&rt, 1024, REFUSED_RIGHTS)?;
+    Ok(())
+}
+
+#[test]
+fn refusals_behind_a_wrong_answer(rt: HostRuntime) -> Result<(), Fail> {
+    play(&rt, 1024, REFUSED_BEHIND_A_FAULT)?;
     Ok(())
 }
 
@@ -82,7 +92,7 @@ fn bytes(len: usize) -> &'static [u8] {
 }
 
 /// A request with a name or record of some length in bytes.
-#[derive(Clone, Copy, Drop, Debug)]
+#[derive(Clone, Copy, Drop)]
 enum Long {
     Name,
     Put,
@@ -190,14 +200,32 @@ fn is_spelled(end: &mut Accessing, request: &Request, front: &[u8], back: &[u8])
 
 #[test]
 fn lengths_within_the_limit(rt: HostRuntime) -> Result<(), Fail> {
-    for (bufsiz, kind, len, expected) in LENGTHS {
-        let mut end = end_for(&rt, *bufsiz, *kind)?;
-        let request = request(rt.alloc(), *kind, *len)?;
-        assert_eq!(rt; lengths(&mut end, &request), *expected, "{kind:?} of {len}");
+    for (at, (bufsiz, kind, len, expected)) in LENGTHS.iter().enumerate() {
+        let found = lengths_of(&rt, *bufsiz, *kind, *len)?;
+        assert!(rt; found == *expected, "line {at}");
     }
-    let mut end = end_for(&rt, 65_535, Long::Put)?;
-    let longest = request(rt.alloc(), Long::Put, 32_767)?;
-    let front = [4, 2, 3, 4, 1, 0, 8, 6, 0, 0x80, 0];
-    assert!(rt; is_spelled(&mut end, &longest, &front, bytes(32_767)));
+    assert!(rt; spells_longest(&rt)?);
     Ok(())
 }
+
+/// How long the NSP messages of the request are, in bytes, where the peer has this BUFSIZ.
+fn lengths_of(
+    rt: &(impl AllocGlobal + Abort),
+    bufsiz: u16,
+    kind: Long,
+    len: usize,
+) -> Result<Result<(usize, usize, usize), AskFault>, AllocError> {
+    let mut end = end_for(rt, bufsiz, kind)?;
+    let request = request(rt.alloc(), kind, len)?;
+    Ok(lengths(&mut end, &request))
+}
+
+/// Whether a PUT of the longest record is spelled as it should be.
+fn spells_longest(rt: &(impl AllocGlobal + Abort)) -> Result<bool, AllocError> {
+    let mut end = end_for(rt, 65_535, Long::Put)?;
+    let longest = request(rt.alloc(), Long::Put, 32_767)?;
+    Ok(is_spelled(&mut end, &longest, FRONT, bytes(32_767)))
+}
+
+/// What stands before the longest record where it is put.
+const FRONT: &[u8] = &[4, 2, 3, 4, 1, 0, 8, 6, 0, 0x80, 0];

@@ -179,29 +179,39 @@ const PURGE: Script = &[
     Line::Hears(&COMPLETED, Heard::Closed),
 ];
 
-const REQUESTS: &'static [Script] = &[FILES, RECORDS, BATCHES];
+const REQUESTS: Session = &[FILES, RECORDS, BATCHES];
 
-const PHASES_AND_CLOSING: &'static [&'static [Script]] = &[
-    &[
-        NOT_FRESH,
-        HELLO,
-        NOT_READY,
-        CREATE,
-        NOT_OPENED,
-        CONNECT,
-        NOT_CONNECTED,
-        STOP,
-        NOT_STOPPED,
-    ],
-    &[
-        HELLO, CREATE, CLOSE, CREATE, CONNECT, CLOSE, CREATE, CONNECT, STOP, CLOSE, CREATE, PURGE,
-        CREATE, CONNECT, PURGE, CREATE, CONNECT, STOP, PURGE, CREATE,
-    ],
+const PHASES: Session = &[
+    NOT_FRESH,
+    HELLO,
+    NOT_READY,
+    CREATE,
+    NOT_OPENED,
+    CONNECT,
+    NOT_CONNECTED,
+    STOP,
+    NOT_STOPPED,
+];
+
+const CLOSINGS: Session = &[
+    HELLO, CREATE, CLOSE, CREATE, CONNECT, CLOSE, CREATE, CONNECT, STOP, CLOSE, CREATE, PURGE,
+    CREATE, CONNECT, PURGE, CREATE, CONNECT, STOP, PURGE, CREATE,
 ];
 
 #[test]
 fn each_request(rt: HostRuntime) -> Result<(), Fail> {
     play(&rt, 64, REQUESTS)?;
-    play_each(&rt, 1024, PHASES_AND_CLOSING)?;
+    Ok(())
+}
+
+#[test]
+fn what_each_phase_refuses(rt: HostRuntime) -> Result<(), Fail> {
+    play(&rt, 1024, PHASES)?;
+    Ok(())
+}
+
+#[test]
+fn what_closes_a_file(rt: HostRuntime) -> Result<(), Fail> {
+    play(&rt, 1024, CLOSINGS)?;
     Ok(())
 }

@@ -236,21 +236,33 @@ const FOUR_RECORDS: Script = &[
     ),
 ];
 
-const FETCHES: &'static [&'static [Script]] = &[
-    &[HELLO_SHORT, CREATE_TO_FETCH, CONNECT, STOP_BEHIND_ONE, SKIP],
-    &[
-        HELLO_SHORT,
-        CREATE_TO_FETCH,
-        CONNECT,
-        STOP_BEHIND_ONE,
-        GIVE_UP,
-    ],
-    &[HELLO_SHORT, CREATE_TO_FETCH, CONNECT, FOUR_RECORDS],
+const SKIPPED: Session = &[HELLO_SHORT, CREATE_TO_FETCH, CONNECT, STOP_BEHIND_ONE, SKIP];
+
+const GIVEN_UP: Session = &[
+    HELLO_SHORT,
+    CREATE_TO_FETCH,
+    CONNECT,
+    STOP_BEHIND_ONE,
+    GIVE_UP,
 ];
 
+const FETCHED: Session = &[HELLO_SHORT, CREATE_TO_FETCH, CONNECT, FOUR_RECORDS];
+
 #[test]
-fn fetches(rt: HostRuntime) -> Result<(), Fail> {
-    play_each(&rt, 64, FETCHES)?;
+fn a_fetch_that_skips(rt: HostRuntime) -> Result<(), Fail> {
+    play(&rt, 64, SKIPPED)?;
+    Ok(())
+}
+
+#[test]
+fn a_fetch_that_is_given_up(rt: HostRuntime) -> Result<(), Fail> {
+    play(&rt, 64, GIVEN_UP)?;
+    Ok(())
+}
+
+#[test]
+fn a_fetch_of_four_records(rt: HostRuntime) -> Result<(), Fail> {
+    play(&rt, 64, FETCHED)?;
     Ok(())
 }
 
@@ -274,18 +286,58 @@ const TO_THE_END: Script = &[
     Line::HearsAt(&WITHOUT_LENGTH, 3, 13, Heard::Found(3, &[6, 2, 0])),
 ];
 
-const ALL_FILES: &'static [&'static [Script]] = &[
-    &[HELLO, CREATE, CONNECT, THREE_NUMBERS],
-    &[HELLO, FILES],
-    &[HELLO, CREATE_TO_PUT, CONNECT, PUT],
-    &[HELLO, CREATE_TO_PUT, CONNECT, PUT_AND_OPEN, CONNECT, UPDATE],
-    &[HELLO, CREATE_SHORT, CONNECT, STORE],
-    &[HELLO, CREATE, MALFORMED],
-    &[HELLO, CREATE, TO_THE_END],
-];
+const THREE: Session = &[HELLO, CREATE, CONNECT, THREE_NUMBERS];
+
+const OPENED: Session = &[HELLO, FILES];
+
+const ONE_PUT: Session = &[HELLO, CREATE_TO_PUT, CONNECT, PUT];
+
+const UPDATED: Session = &[HELLO, CREATE_TO_PUT, CONNECT, PUT_AND_OPEN, CONNECT, UPDATE];
+
+const STORED: Session = &[HELLO, CREATE_SHORT, CONNECT, STORE];
+
+const CUT: Session = &[HELLO, CREATE, MALFORMED];
+
+const UNTIL_THE_END: Session = &[HELLO, CREATE, TO_THE_END];
 
 #[test]
-fn files(rt: HostRuntime) -> Result<(), Fail> {
-    play_each(&rt, 1024, ALL_FILES)?;
+fn a_file_of_three_numbers(rt: HostRuntime) -> Result<(), Fail> {
+    play(&rt, 1024, THREE)?;
+    Ok(())
+}
+
+#[test]
+fn files_that_are_opened(rt: HostRuntime) -> Result<(), Fail> {
+    play(&rt, 1024, OPENED)?;
+    Ok(())
+}
+
+#[test]
+fn a_put(rt: HostRuntime) -> Result<(), Fail> {
+    play(&rt, 1024, ONE_PUT)?;
+    Ok(())
+}
+
+#[test]
+fn an_update(rt: HostRuntime) -> Result<(), Fail> {
+    play(&rt, 1024, UPDATED)?;
+    Ok(())
+}
+
+#[test]
+fn a_store(rt: HostRuntime) -> Result<(), Fail> {
+    play(&rt, 1024, STORED)?;
+    Ok(())
+}
+
+#[test]
+fn a_malformed_rest(rt: HostRuntime) -> Result<(), Fail> {
+    play(&rt, 1024, CUT)?;
+    Ok(())
+}
+
+#[test]
+fn a_record_until_the_end(rt: HostRuntime) -> Result<(), Fail> {
+    play(&rt, 1024, UNTIL_THE_END)?;
     Ok(())
 }
