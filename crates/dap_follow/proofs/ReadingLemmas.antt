@@ -1,10 +1,14 @@
 -- What was read of a capture, packet after packet.
-use Rattle.std.proofs.Common.{◌≡◌, ◌+◌, ◌++◌, ℕ, List, [], ◌∷◌, length, suc, map, None, Ok, refl, sym, ap, ◌∙◌, add-zero, arith}
+use Rattle.std.proofs.Common.{◌≡◌, ◌≢◌, ◌+◌, ◌++◌, ℕ, List, [], ◌∷◌, length, suc, map, None, Ok, refl, sym, ap, ◌∙◌, add-zero, arith}
+use Rattle.std.specs.Prelude.{Result, Err, IfErr, IsErrAnd, Some, slice_get}
 use Rattle.std.specs.Global.{Vec}
 use Rattle.std.specs.List.{AllZip}
 use Rattle.std.proofs.lemmas.List.{map-append, length-map}
 use Rattle.hex.specs.Hex.{decode_of}
 use Rattle.dap_listing.specs.Listing.{heading}
+use Rattle.dap_listing.specs.declared.fault.CaptureFault.{CaptureFault}
+use Rattle.dap_listing.specs.declared.fault.CaptureFault.TheVariants.{BadLine, TooLarge, ReadFailed, WriteFailed, NoMemory}
+use Rattle.dap_listing.specs.Inner.Firsts.{IsFirst}
 use Rattle.dap_listing.specs.Lines.{Capture}
 use Rattle.dap_listing.specs.Packets.{IsSeen, Seen, seen_line}
 use Rattle.dap_listing.specs.declared.lines.Direction.{Direction}
@@ -52,3 +56,17 @@ seen_more [] [] way digits bytes seen all decoded is = ((refl, (bytes, decoded, 
 seen_more [] (p ∷ packets) way digits bytes seen all decoded is = absurd all
 seen_more (c ∷ captures) [] way digits bytes seen all decoded is = absurd all
 seen_more (c ∷ captures) (p ∷ packets) way digits bytes seen all decoded is = (all.0, seen_more captures packets way digits bytes seen all.1 decoded is)
+
+-- ---- Faults.
+
+-- the first fault of lines is one that a line can have
+pub is_first : (faults : List CaptureFault) (f : CaptureFault) → slice_get faults 0 ≡ Some f → (f ≢ NoMemory) × (f ≢ ReadFailed) × (f ≢ WriteFailed) → IsFirst faults f
+is_first faults (BadLine number) e o = (e, tt)
+is_first faults TooLarge e o = (e, tt)
+is_first faults ReadFailed e o = absurd (o.1 refl)
+is_first faults WriteFailed e o = absurd (o.2 refl)
+is_first faults NoMemory e o = absurd (o.0 refl)
+
+pub if_err_and : {A : Type 0} (r : Result A CaptureFault) (P Q : CaptureFault → Type 0) → IsErrAnd r P → ((f : CaptureFault) → P f → Q f) → IfErr r Q
+if_err_and (Ok a) P Q h g = tt
+if_err_and (Err f) P Q h g = g f h

@@ -8,16 +8,6 @@ use Rattle.dap_listing.specs.declared.fault.Outcome.TheVariants.{Good, Stopped}
 use Rattle.dap_listing.specs.declared.fault.CaptureFault.{CaptureFault}
 use Rattle.dap_listing.specs.declared.fault.CaptureFault.TheVariants.{BadLine, TooLarge, ReadFailed, WriteFailed, NoMemory}
 
--- a fault that a line can have
-abbrev pub IsOfLine : CaptureFault → Type 0
-IsOfLine (BadLine number) = Unit {0}
-IsOfLine TooLarge = Unit {0}
-IsOfLine _ = ⊥
-
--- the first of the faults, which a line can have
-abbrev pub IsFirst : List CaptureFault → CaptureFault → Type 0
-IsFirst faults fault = (slice_get faults 0 ≡ Some fault) × IsOfLine fault
-
 -- why known bytes can't be read whole: more than the longest line may have are told as such, and no fault is one of a line or of a writer
 abbrev pub IsReadFault : Option (List ℕ) → CaptureFault → Type 0
 IsReadFault known TooLarge = IfSome known (λ bytes. longest < length bytes)

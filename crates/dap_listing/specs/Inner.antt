@@ -7,3 +7,4 @@ pub mod Lines
 pub mod Decoding
 pub mod Messages
 pub mod Fields
+pub mod Firsts

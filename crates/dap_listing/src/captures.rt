@@ -1,8 +1,8 @@
 //! The captured packets of an input, one after another.
 
-ghost use Rattle.std.specs.Prelude.{◌≡◌, ◌<◌, ◌+◌, ◌^◌, IfErr, IfOk, MatchOption, OnOk, codes, length};
+ghost use Rattle.std.specs.Prelude.{◌≡◌, ◌≢◌, ◌<◌, ◌+◌, ◌^◌, IfErr, IfOk, MatchOption, OnOk, Some, codes, length, slice_get};
 ghost use Rattle.dap_listing.specs.Captured.{HasNone, IsNext};
-ghost use Rattle.dap_listing.specs.Gives.{IsFirst};
+ghost use Rattle.dap_listing.specs.declared.fault.CaptureFault.TheVariants.{NoMemory, ReadFailed, WriteFailed};
 ghost use Rattle.dap_listing.specs.Listing.{arrow_text, faults_from, heading, packet_limit};
 ghost use Rattle.dap_text.specs.Adding.{Adds};
 
@@ -32,7 +32,10 @@ pub fn next_packet<'a>(at: usize, bytes: &'a [u8]) -> Result<Option<Found<'a>>, 
     requires { at + length bytes.now < 2 ^ 32 }
     ensures found { IfOk result
         (λ found. MatchOption found (HasNone at bytes.now) (IsNext at bytes.now)) }
-    ensures fault { IfErr result (IsFirst (faults_from packet_limit at bytes.now)) }
+    ensures first { IfErr result
+        (λ fault. slice_get (faults_from packet_limit at bytes.now) 0 ≡ Some fault) }
+    ensures of_line { IfErr result
+        (λ fault. (fault ≢ NoMemory) × (fault ≢ ReadFailed) × (fault ≢ WriteFailed)) }
 {
     let mut at = at;
     let mut rest = bytes;

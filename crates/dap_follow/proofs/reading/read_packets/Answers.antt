@@ -1,10 +1,12 @@
-use Rattle.std.proofs.Common.{arith, rules, ◌/◌, ◌++◌, ◌∷◌, [], List, length, length-append, refl, sym, ap, ◌∙◌}
+use Rattle.std.proofs.Common.{◌≡◌, subst, inr, arith, rules, ◌/◌, ◌++◌, ◌∷◌, [], List, length, length-append, refl, sym, ap, ◌∙◌}
+use Rattle.std.specs.Prelude.{slice_get, Some}
 use Rattle.std.proofs.lemmas.List.{append_assoc}
 use Rattle.dap_listing.specs.Captured.{bytes_of}
 use Rattle.dap_listing.specs.Listing.{captures, packet_limit}
 use Rattle.dap_listing.specs.Lines.{Capture}
 use Rattle.dap_listing.proofs.ForCallers.{decoded}
-use Rattle.dap_follow.proofs.ReadingLemmas.{seen_more}
+use Rattle.dap_listing.specs.declared.fault.CaptureFault.{CaptureFault}
+use Rattle.dap_follow.proofs.ReadingLemmas.{seen_more, is_first, if_err_and}
 use Rattle.dap_follow.proofs.reading.read_packets.Goals as goal
 
 pub loop-reading-init : goal.loop-reading-init
@@ -38,3 +40,9 @@ loop-reading-preserved c =
       );
       clean = c.loop-reading.invariant.clean ∙ next.clean;
     }
+
+pub returns-in_err-found-clause-fault : goal.returns-in_err-found-clause-fault
+returns-in_err-found-clause-fault c =
+    let fault = c.in_err-found.field-0.0 in
+    let first = subst (λ (l : List CaptureFault). slice_get l 0 ≡ Some fault) (sym c.loop-reading.invariant.clean) c.in_err-found.ensures.first in
+    if_err_and c.from_residual-in_err-found.result _ _ c.from_residual-in_err-found.ensures.1 (λ e is. rw is (inr (is_first _ fault first c.in_err-found.ensures.of_line)))
