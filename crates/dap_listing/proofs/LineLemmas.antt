@@ -7,7 +7,7 @@ use Rattle.std.proofs.lemmas.List.Quantifiers.{position-Some}
 use Rattle.std.proofs.lemmas.List.Sums.{position_or_len_is, fails_before_first, passes_at_first, split_at_first}
 use Rattle.std.proofs.lemmas.Grind.{common_steps}
 use Rattle.std.proofs.lemmas.Bool.Decides.{nat_tests}
-use Rattle.dap_listing.specs.Lines.{IsEnd}
+use Rattle.dap_listing.specs.Inner.Cutting.{IsEnd}
 
 abbrev is_line_feed : ℕ → Bool
 is_line_feed byte = byte == 10

@@ -8,13 +8,6 @@ use Rattle.dap_listing.specs.declared.fault.Outcome.TheVariants.{Good, Stopped}
 use Rattle.dap_listing.specs.declared.fault.CaptureFault.{CaptureFault}
 use Rattle.dap_listing.specs.declared.fault.CaptureFault.TheVariants.{BadLine, TooLarge, ReadFailed, WriteFailed, NoMemory}
 
--- why known bytes can't be read whole: more than the longest line may have are told as such, and no fault is one of a line or of a writer
-abbrev pub IsReadFault : Option (List ℕ) → CaptureFault → Type 0
-IsReadFault known TooLarge = IfSome known (λ bytes. longest < length bytes)
-IsReadFault known ReadFailed = Unit {0}
-IsReadFault known NoMemory = Unit {0}
-IsReadFault known _ = ⊥
-
 -- A front of a reader's known bytes is taken, no longer than an input may be, which is as long as a line, and one byte more.
 abbrev pub TakesWithinLimit : Option (List ℕ) → Option (List ℕ) → Type 0
 TakesWithinLimit old new = (taken : List ℕ) × Consumes old new taken × (length taken ≤ longest + 1)

@@ -1,5 +1,5 @@
 -- What the lines of a capture say.
-use Rattle.std.specs.Prelude.{◌≡◌, ℕ, ◌*◌, ◌-◌, ◌==◌, ◌&&◌, nat_le, List, [], ◌∷◌, drop, if◌then◌else◌, length, Option, Some, None, Result, Ok, Err}
+use Rattle.std.specs.Prelude.{ℕ, ◌*◌, ◌==◌, ◌&&◌, nat_le, List, [], ◌∷◌, if◌then◌else◌, length, Option, Some, None, Result, Ok, Err}
 use Rattle.linewise.specs.Talks.{is_skipped}
 use Rattle.dap_text.specs.Words.{is_hex_text}
 use Rattle.dap_listing.specs.declared.fault.CaptureFault.{CaptureFault}
@@ -31,7 +31,3 @@ capture_line limit _ = Err BadLine
 -- one that says nothing captures nothing
 abbrev pub line_of : ℕ → List ℕ → Line
 line_of limit line = if is_skipped line then Ok None else capture_line limit line
-
--- the end of some bytes
-abbrev pub IsEnd : List ℕ → List ℕ → Type 0
-IsEnd bytes rest = rest ≡ drop (length bytes - length rest) bytes

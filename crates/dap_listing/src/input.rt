@@ -1,7 +1,9 @@
 //! Reading a whole input.
-ghost use Rattle.std.specs.Prelude.{◌≡◌, ◌≤◌, ◌<◌, ◌+◌, IfOk, IfErr, OnOk, IfSome, length, take, true};
+ghost use Rattle.std.specs.Prelude.{◌≡◌, ◌≤◌, ◌<◌, ◌+◌, ◌⊎◌, IfOk, IfErr, IsErrOf, OnOk, IfSome, length, take, true};
 ghost use Rattle.std.specs.Io.KnownBytes.{Consumes, IsAtEnd};
-ghost use Rattle.dap_listing.specs.Gives.{IsReadFault, TakesWithinLimit};
+ghost use Rattle.linewise.specs.Talks.{longest};
+ghost use Rattle.dap_listing.specs.Gives.{TakesWithinLimit};
+ghost use Rattle.dap_listing.specs.declared.fault.CaptureFault.TheVariants.{NoMemory, ReadFailed, TooLarge};
 ghost use Rattle.dap_listing.specs.Inner.Input.{IsFaultAfter, TakesBehind};
 
 use crate::CaptureFault;
@@ -94,7 +96,10 @@ pub fn read_input<R: Read>(alloc: Global, reader: &mut R) -> Result<Vec<u8>, Cap
     ensures end { OnOk result (IsAtEnd (R.remaining reader.new)) }
     ensures limit { IfOk result (λ input. length input.items ≤ INPUT_LIMIT) }
     ensures taken { TakesWithinLimit (R.remaining reader.old) (R.remaining reader.new) }
-    ensures fault { IfErr result (IsReadFault (R.remaining reader.old)) }
+    ensures too_large { IsErrOf result TooLarge
+        → IfSome (R.remaining reader.old) (λ bytes. longest < length bytes) }
+    ensures fault { IfErr result
+        (λ fault. (fault ≡ TooLarge) ⊎ ((fault ≡ ReadFailed) ⊎ (fault ≡ NoMemory))) }
 {
     let mut input = Vec::new(alloc);
     let mut chunk = [0; CHUNK];

@@ -1,10 +1,10 @@
 //! The lines of a capture.
 
-ghost use Rattle.std.specs.Prelude.{ℕ, ◌≡◌, ◌<◌, length, MatchOption, IfSome, IfNone, [], ◌∷◌, true, false};
+ghost use Rattle.std.specs.Prelude.{ℕ, ◌≡◌, ◌<◌, ◌-◌, drop, length, MatchOption, IfSome, IfNone, [], ◌∷◌, true, false};
 ghost use Rattle.std.specs.Str.Lines.{lines, strip_carriage_return};
-ghost use Rattle.dap_listing.specs.Lines.{IsEnd, line_of};
+ghost use Rattle.dap_listing.specs.Lines.{line_of};
 ghost use Rattle.dap_listing.specs.Inner.Lines.{line_of_head};
-ghost use Rattle.dap_listing.specs.Inner.Cutting.{HasNoEnd, IsCut};
+ghost use Rattle.dap_listing.specs.Inner.Cutting.{HasNoEnd, IsCut, IsEnd};
 
 use dap_text::find_byte;
 
@@ -44,7 +44,8 @@ pub fn next_line(bytes: &[u8]) -> Option<(&[u8], &[u8])>
     ensures first { MatchOption result (bytes.now ≡ [])
         (λ cut. (lines bytes.now ≡ cut.0.now ∷ lines cut.1.now)
         × (length cut.1.now < length bytes.now)) }
-    ensures end { IfSome result (λ cut. IsEnd bytes.now cut.1.now) }
+    ensures end { IfSome result
+        (λ cut. cut.1.now ≡ drop (length bytes.now - length cut.1.now) bytes.now) }
 {
     if bytes.is_empty() {
         return None;

@@ -4,12 +4,12 @@ ghost use Rattle.std.specs.Prelude.{◌≡◌, ◌≢◌, ◌≤◌, ◌<◌, �
 ghost use Rattle.dap_listing.specs.Gives.{TakesWithinLimit};
 ghost use Rattle.dap_listing.specs.Inner.Adding.{AddsCapture};
 ghost use Rattle.dap_text.specs.Adding.{AddsSome};
-ghost use Rattle.dap_listing.specs.Inner.Cutting.{FaultsGoOn, HasNoEnd, IsFirstFault, ListingGoesOn};
+ghost use Rattle.dap_listing.specs.Inner.Cutting.{FaultsGoOn, HasNoEnd, IsEnd, IsFirstFault, ListingGoesOn};
 ghost use Rattle.dap_listing.specs.Captured.{Spell, bytes_of};
 ghost use Rattle.dap_listing.specs.Inner.Progress.{IsInputFault, IsWhole, TextGives};
 ghost use Rattle.dap_listing.specs.declared.fault.CaptureFault.TheVariants.{NoMemory, WriteFailed};
 ghost use Rattle.dap_text.specs.Words.{is_hex_text as is_spelled};
-ghost use Rattle.dap_listing.specs.Lines.{IsEnd, digits_line, line_of};
+ghost use Rattle.dap_listing.specs.Lines.{digits_line, line_of};
 ghost use Rattle.dap_listing.specs.Listing.{IsCapturedText, limit_of};
 ghost use Rattle.dap_listing.specs.Inner.Lines.{fault_of_line};
 

@@ -1,5 +1,5 @@
 -- Lines that are taken off the front of bytes behind which others may follow.
-use Rattle.std.specs.Prelude.{◌≡◌, ◌++◌, ◌∷◌, ◌==◌, ℕ, Bool, true, List, [], None}
+use Rattle.std.specs.Prelude.{◌≡◌, ◌++◌, ◌∷◌, ◌==◌, ◌-◌, ℕ, Bool, true, List, [], None, drop, length}
 use Rattle.std.specs.List.{position}
 use Rattle.std.specs.Str.Lines.{lines}
 use Rattle.dap_listing.specs.Listing.{captures, faults_from, limit_of, CaptureLines}
@@ -38,3 +38,7 @@ ListingGoesOn listed is_last number bytes old later rest new =
 -- no line of the bytes has its end there
 abbrev pub HasNoEnd : List ℕ → Type 0
 HasNoEnd bytes = position (λ byte. byte == 10) bytes ≡ None
+
+-- the end of some bytes
+abbrev pub IsEnd : List ℕ → List ℕ → Type 0
+IsEnd bytes rest = rest ≡ drop (length bytes - length rest) bytes
