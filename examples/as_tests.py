@@ -1,5 +1,5 @@
 #!/usr/bin/env python3
-"""Writes the examples as a table of tests, crates/dap_cli/src/run/examples.rt.
+"""Writes the examples as a table of tests, crates/dap_cli_tests/src/examples.rt.
 
 usage: as_tests.py            writes the table
        as_tests.py --check    ends with status 1 where the table isn't that of the examples, or the
@@ -9,7 +9,7 @@ import pathlib
 import sys
 
 HERE = pathlib.Path(__file__).resolve().parent
-TABLE = HERE.parent / "crates/dap_cli/src/run/examples.rt"
+TABLE = HERE.parent / "crates/dap_cli_tests/src/examples.rt"
 
 # the command of each kind of input, and the examples that end with status 1
 COMMANDS = {".capture": "show", ".messages": "msg", ".schedule": "run"}
@@ -27,7 +27,7 @@ def table():
         "//! The examples of `examples/`, as `examples/as_tests.py` writes them.",
         "",
         "/// A command, an input, the exit status, and what is written.",
-        "pub(super) const EXAMPLES: &[(&str, &[u8], u8, &[u8])] = &[",
+        "pub(crate) const EXAMPLES: &[(&str, &[u8], u8, &[u8])] = &[",
     ]
     for file in sorted(HERE.iterdir()):
         if file.suffix in COMMANDS:

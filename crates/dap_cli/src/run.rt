@@ -172,8 +172,3 @@ pub fn run_words<R: Read, W: Write, E: Write>(
         Err(error) => refuse(alloc, error, writer, error_writer),
     }
 }
-
-#[cfg(test)]
-mod examples;
-#[cfg(test)]
-mod tests;

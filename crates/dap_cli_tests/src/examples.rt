@@ -1,7 +1,7 @@
 //! The examples of `examples/`, as `examples/as_tests.py` writes them.
 
 /// A command, an input, the exit status, and what is written.
-pub(super) const EXAMPLES: &[(&str, &[u8], u8, &[u8])] = &[
+pub(crate) const EXAMPLES: &[(&str, &[u8], u8, &[u8])] = &[
     (
         "run",
         b"# A message in three segments, delivered out of order.\nsetup 5 8 1024 1024\nask hello\npost a\n\n# 13 bytes, so segments of 5, 5 and 3 bytes, in packets 0 to 2.\nemit a\nemit a\nemit a\n\n# The last comes first: it is early, and B holds it. So is the next one. The first closes the gap, and\n# B takes all three.\ndeliver b 2\ndeliver b 1\ndeliver b 0\nserve\npost b\nemit b\nemit b\nemit b\ndeliver a 0\ndeliver a 1\ndeliver a 2\nread\n\n# A acknowledges what it took: the packet has no segment.\nack a\ndeliver b 3\n",

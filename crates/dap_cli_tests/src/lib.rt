@@ -1,0 +1,7 @@
+//! Tests of `dap_cli`. They stand in a crate of their own, since a crate with tests is proved twice.
+#![tactic(auto)]
+
+#[cfg(test)]
+mod examples;
+#[cfg(test)]
+mod tests;
