@@ -5,24 +5,29 @@ use dap_msg::{GREATEST_MESSAGE, Message, encoded_len, fits, is_too_small, limit_
 
 #[test]
 fn codes_by_the_type_of_a_message(rt: HostRuntime) {
-    assert_eq!(rt; unsupported(3), 0x20c0);
-    assert_eq!(rt; unsupported(4), 0x2100);
-    assert_eq!(rt; invalid(1), 0x9040);
-    assert_eq!(rt; invalid(7), 0x91c0);
-    assert_eq!(rt; out_of_place(4), 0xa004);
-    assert_eq!(rt; REASON_FILE_EXISTS, 1);
-    assert_eq!(rt; REASON_BAD_KEY, 12);
+    assert!(rt; (unsupported(3), unsupported(4)) == (0x20c0, 0x2100));
+    assert!(rt; (invalid(1), invalid(7), out_of_place(4)) == (0x9040, 0x91c0, 0xa004));
+    assert!(rt; (REASON_FILE_EXISTS, REASON_BAD_KEY) == (1, 12));
 }
+
+/// Sizes of buffers, and whether each is too small.
+const BUFFERS: &[(u16, bool)] = &[(63, true), (64, false), (0, false)];
 
 #[test]
 fn limits_and_numbers(rt: HostRuntime) {
-    assert_eq!(rt; limit_of(0), GREATEST_MESSAGE);
-    assert_eq!(rt; limit_of(1024), 1024);
-    assert!(rt; is_too_small(63));
-    assert!(rt; !is_too_small(64));
-    assert!(rt; !is_too_small(0));
-    assert_eq!(rt; number_of(&[1, 2]), 513);
-    let complete = Message::complete_with(2);
-    assert!(rt; fits(&complete));
-    assert_eq!(rt; encoded_len(&complete), 5);
+    for (bufsiz, small) in BUFFERS {
+        assert!(rt; is_too_small(*bufsiz) == *small, "{bufsiz}");
+    }
+    assert!(rt; (limit_of(0), limit_of(1024)) == (GREATEST_MESSAGE, 1024));
+    assert!(rt; number_of(&[1, 2]) == 513);
+    assert!(rt; length(&Message::complete_with(2)) == Some(5));
+}
+
+/// How many bytes the message has, where it fits.
+fn length(message: &Message<'_>) -> Option<usize> {
+    if fits(message) {
+        Some(encoded_len(message))
+    } else {
+        None
+    }
 }

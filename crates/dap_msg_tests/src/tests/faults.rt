@@ -45,8 +45,8 @@ const FAULTS: &[(&[u8], (FaultKind, u8, usize, u16))] = &[
 
 #[test]
 fn faults(rt: HostRuntime) {
-    for (bytes, fault) in FAULTS {
-        assert_eq!(rt; fault_of(bytes), Some(*fault));
+    for (at, (bytes, fault)) in FAULTS.iter().enumerate() {
+        assert!(rt; fault_of(bytes) == Some(*fault), "row {at}");
     }
 }
 
@@ -61,6 +61,6 @@ fn of_a_message_cut_short(rt: HostRuntime) {
             1 => (Truncated, 2, 1, 0x8080),
             _ => (Truncated, 2, 2, 0x8080),
         };
-        assert_eq!(rt; fault_of(&ATTRIBUTES[..len]), Some(fault));
+        assert!(rt; fault_of(&ATTRIBUTES[..len]) == Some(fault), "of {len}");
     }
 }

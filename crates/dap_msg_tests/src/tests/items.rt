@@ -61,7 +61,8 @@ const ITEMS: &[(&[u8], usize, Found, usize)] = &[
 
 #[test]
 fn items(rt: HostRuntime) {
-    for (bytes, at, found, end) in ITEMS {
-        assert_eq!(rt; item_at(bytes, *at), (item_of(*found), *end));
+    for (row, (bytes, at, found, end)) in ITEMS.iter().enumerate() {
+        let (item, behind) = item_at(bytes, *at);
+        assert!(rt; item == item_of(*found) && behind == *end, "row {row}");
     }
 }

@@ -62,7 +62,8 @@ fn fits_record(recnum: &[u8], record: &[u8], length: usize) -> Option<bool> {
 fn of_a_record(rt: HostRuntime) -> Result<(), Fail> {
     let record = Vec::from_elem(rt.alloc(), 0, 65535)?;
     for (recnum, length, good) in RECORDS {
-        assert_eq!(rt; fits_record(recnum, &record, *length), Some(*good));
+        let fits = fits_record(recnum, &record, *length);
+        assert!(rt; fits == Some(*good), "of {length}");
     }
     Ok(())
 }
@@ -87,7 +88,8 @@ fn fits_other(number: u8, operand: &[u8], length: usize) -> Option<bool> {
 fn of_other_messages(rt: HostRuntime) -> Result<(), Fail> {
     let operand = Vec::from_elem(rt.alloc(), 0, 65536)?;
     for (number, length, good) in OTHERS {
-        assert_eq!(rt; fits_other(*number, &operand, *length), Some(*good));
+        let fits = fits_other(*number, &operand, *length);
+        assert!(rt; fits == Some(*good), "of {length}");
     }
     Ok(())
 }
@@ -204,23 +206,29 @@ const ATTRIBUTES: &[AttributesRow] = &[
 
 #[test]
 fn of_attributes(rt: HostRuntime) {
-    for (datatype, rat, alq, mrn, runsys, fop, dev, sdc, hbk, ebk, sbn, good) in ATTRIBUTES {
-        let attributes = Attributes {
-            datatype: Some(*datatype),
-            rat: Some(*rat),
-            alq: Some(Bytes(alq)),
-            mrn: Some(Bytes(mrn)),
-            runsys: Some(Bytes(runsys)),
-            fop: Some(*fop),
-            dev: Some(*dev),
-            sdc: Some(*sdc),
-            hbk: Some(Bytes(hbk)),
-            ebk: Some(Bytes(ebk)),
-            sbn: Some(Bytes(sbn)),
-            ..Attributes::none()
-        };
-        assert_eq!(rt; fits(&Message::Attrib(attributes)), *good);
+    for (at, row) in ATTRIBUTES.iter().enumerate() {
+        assert!(rt; attributes_are_so(*row), "row {at}");
     }
+}
+
+/// Whether Attributes with these values fit as the row says.
+fn attributes_are_so(row: AttributesRow) -> bool {
+    let (datatype, rat, alq, mrn, runsys, fop, dev, sdc, hbk, ebk, sbn, good) = row;
+    let attributes = Attributes {
+        datatype: Some(datatype),
+        rat: Some(rat),
+        alq: Some(Bytes(alq)),
+        mrn: Some(Bytes(mrn)),
+        runsys: Some(Bytes(runsys)),
+        fop: Some(fop),
+        dev: Some(dev),
+        sdc: Some(sdc),
+        hbk: Some(Bytes(hbk)),
+        ebk: Some(Bytes(ebk)),
+        sbn: Some(Bytes(sbn)),
+        ..Attributes::none()
+    };
+    fits(&Message::Attrib(attributes)) == good
 }
 
 /// OPT, NAME, FAC, SHR, DISPLAY and PASSWORD.
@@ -246,7 +254,7 @@ fn of_access(rt: HostRuntime) {
             display: *display,
             password: Bytes(password),
         });
-        assert_eq!(rt; fits(&access), *good);
+        assert!(rt; fits(&access) == *good);
     }
 }
 
@@ -271,7 +279,7 @@ fn of_control(rt: HostRuntime) {
             hsh: Some(Bytes(hsh)),
             display: Some(*display),
         };
-        assert_eq!(rt; fits(&Message::Control(control)), *good);
+        assert!(rt; fits(&Message::Control(control)) == *good);
     }
 }
 
@@ -292,7 +300,7 @@ fn of_status(rt: HostRuntime) {
             recnum: Bytes(recnum),
             stv: Bytes(stv),
         });
-        assert_eq!(rt; fits(&status), *good);
+        assert!(rt; fits(&status) == *good);
     }
 }
 
@@ -310,26 +318,30 @@ fn of_configuration_and_completion(rt: HostRuntime) {
             usrsoft: 0,
             syscap,
         });
-        assert_eq!(rt; fits(&config), good);
+        assert!(rt; fits(&config) == good);
         let complete = Message::Accomp(Completion {
             func: 1,
             fop,
             check: None,
         });
-        assert_eq!(rt; fits(&complete), good);
+        assert!(rt; fits(&complete) == good);
     }
 }
 
 #[test]
 fn the_operations_of_a_file(rt: HostRuntime) {
     let access = FileAccess::PUT | FileAccess::DELETE;
-    assert_eq!(rt; access.bits(), 5);
-    assert!(rt; access.contains(FileAccess::PUT));
-    assert!(rt; !access.contains(FileAccess::GET));
-    assert_eq!(rt; FileAccess::from_bits(16), None);
-    let access = FileAccess::of_fac(0x10a);
-    assert!(rt; access.allows_get());
-    assert!(rt; access.allows_update());
-    assert!(rt; !access.allows_put());
-    assert!(rt; !access.allows_delete());
+    assert!(rt; access.contains(FileAccess::PUT) && !access.contains(FileAccess::GET));
+    assert!(rt; access.bits() == 5 && FileAccess::from_bits(16).is_none());
+    assert!(rt; operations(FileAccess::of_fac(0x10a)) == (true, true, false, false));
+}
+
+/// Whether a file's records may be read, replaced, put and deleted.
+fn operations(access: FileAccess) -> (bool, bool, bool, bool) {
+    (
+        access.allows_get(),
+        access.allows_update(),
+        access.allows_put(),
+        access.allows_delete(),
+    )
 }
