@@ -88,22 +88,37 @@ fn answer<R: Read>(
 fn writers_that_fail(rt: HostRuntime) {
     for kind in KINDS {
         for (engine, input, writes, front) in WRITING {
-            let mut reader = *input;
-            let (outcome, held) = answer(rt.alloc(), *engine, &mut reader, *kind, *writes);
-            assert!(&rt; outcome == Err(CaptureFault::WriteFailed));
-            assert_eq!(&rt; held.as_slice(), *front);
+            assert!(&rt; fails_behind(rt.alloc(), *engine, input, *kind, *writes, front));
         }
     }
+}
+
+/// Whether the engine tells that a write failed, and has written this by then.
+fn fails_behind(
+    alloc: Global,
+    engine: Engine,
+    input: &[u8],
+    kind: ErrorKind,
+    writes: usize,
+    front: &[u8],
+) -> bool {
+    let mut reader = input;
+    let (outcome, held) = answer(alloc, engine, &mut reader, kind, writes);
+    outcome == Err(CaptureFault::WriteFailed) && held.as_slice() == front
 }
 
 #[test]
 fn readers_that_fail(rt: HostRuntime) {
     for kind in KINDS {
         for engine in [Engine::Show, Engine::Msg, Engine::Run] {
-            let mut reader = breaking(rt.alloc(), *kind, 0);
-            let (outcome, held) = answer(rt.alloc(), engine, &mut reader, *kind, 200);
-            assert!(&rt; outcome == Err(CaptureFault::ReadFailed));
-            assert!(&rt; held.is_empty());
+            assert!(&rt; fails_to_read(rt.alloc(), engine, *kind));
         }
     }
+}
+
+/// Whether the engine tells that a read failed, and has written nothing.
+fn fails_to_read(alloc: Global, engine: Engine, kind: ErrorKind) -> bool {
+    let mut reader = breaking(alloc, kind, 0);
+    let (outcome, held) = answer(alloc, engine, &mut reader, kind, 200);
+    outcome == Err(CaptureFault::ReadFailed) && held.is_empty()
 }

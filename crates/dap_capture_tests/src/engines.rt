@@ -63,5 +63,5 @@ pub(crate) fn gives(
     let mut writer = Vec::new(alloc);
     let outcome = run(alloc, engine, &mut reader, &mut writer);
     assert!(rt; outcome == want);
-    assert_eq!(rt; writer.as_slice(), text);
+    assert!(rt; writer.as_slice() == text, "of {input:?}: {writer:?}");
 }
