@@ -259,10 +259,10 @@ impl Seen {
         name: &str,
         place: usize,
         first: Trouble,
-        ended: Result<(), Ending>,
+        ended: Result<bool, Ending>,
     ) -> io::Result<()> {
         let (front, text) = match ended {
-            Ok(()) => ("again: ", first.text()),
+            Ok(_) => ("again: ", first.text()),
             Err(ending) => ("", ending.text()),
         };
         let line = &mut self.after;
@@ -276,18 +276,20 @@ impl Seen {
     }
 }
 
-/// What became of a call that wanted memory, made again where nothing has changed.
+/// What became of a call that wanted memory, made again where nothing has changed: whether there is one.
 fn again<G: Growing>(
     subject: &mut G,
     place: usize,
     seen: &mut Seen,
     goes_on: bool,
-) -> Result<(), Ending> {
+) -> Result<bool, Ending> {
     if !goes_on {
         seen.look_after(subject)?;
     }
-    let Err(second) = subject.call(place) else {
-        return Ok(());
+    let second = match subject.call(place) {
+        Ok(()) => return Ok(true),
+        Err(Trouble::Over) => return Ok(false),
+        Err(second) => second,
     };
     if !goes_on {
         seen.look_after(subject)?;
@@ -295,14 +297,14 @@ fn again<G: Growing>(
     Err(Ending::from(second))
 }
 
-/// Makes a call again that gave nothing, and tells of it.
+/// Makes a call again that gave nothing, and tells of it; whether there is one.
 fn call_again<G: Growing>(
     name: &str,
     subject: &mut G,
     place: usize,
     seen: &mut Seen,
     first: Trouble,
-) -> Result<(), Ending> {
+) -> Result<bool, Ending> {
     let ended = match first {
         Trouble::Wrong => Err(Ending::Wrong),
         Trouble::Stopped => again(subject, place, seen, true),
@@ -321,11 +323,10 @@ fn call_surely<G: Growing>(
 ) -> Result<bool, Ending> {
     seen.look_before(subject)?;
     match subject.call(place) {
-        Ok(()) => {}
-        Err(Trouble::Over) => return Ok(false),
-        Err(first) => call_again(name, subject, place, seen, first)?,
+        Ok(()) => Ok(true),
+        Err(Trouble::Over) => Ok(false),
+        Err(first) => call_again(name, subject, place, seen, first),
     }
-    Ok(true)
 }
 
 /// Makes all calls in turn, and writes how many they were and what the readers answer in the end.
