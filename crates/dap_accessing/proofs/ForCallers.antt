@@ -30,3 +30,5 @@ pub use Rattle.dap_accessing.proofs.Laws.{each_told}
 pub use Rattle.dap_accessing.proofs.Laws.{none_due}
 -- what an end keeps follows from the requests and answers
 pub use Rattle.dap_accessing.proofs.One.{one_present}
+-- where a request is in a phase of its list, the table has it there
+pub use Rattle.dap_accessing.proofs.Phases.{fits-where}

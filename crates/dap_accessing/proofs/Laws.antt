@@ -14,13 +14,16 @@ use Rattle.dap_accessing.specs.Told.{Hearing, Reports, Waits, Unexpected, hear, 
 use Rattle.dap_msg.specs.BothEnds.{greatest_message}
 use Rattle.dap_accessing.specs.declared.phase.Phase.TheVariants.{Fresh}
 use Rattle.dap_msg.specs.Sendable.{AreSendable}
-use Rattle.dap_accessing.specs.Phase.{phase_next, phase_after, limit_next, limit_after, IsNoneDue, phase_fits, IsRefused}
+use Rattle.dap_accessing.specs.Phase.{phase_next, phase_after, limit_next, limit_after, phases_for, IsNoneDue, IsRefused}
 use Rattle.dap_accessing.specs.Inner.Hears.{pending_of, HasNoPlace, HasPlace, Takes}
 use Rattle.dap_accessing.specs.Inner.Present.{Present, StandsAfter, FitsDue}
 use Rattle.dap_accessing.specs.Inner.Gathers.{gather}
 use Rattle.dap_accessing.specs.Calls.{IsAdmittedBy, Asks, Reads, ReadRefused}
 use Rattle.dap_accessing.specs.Inner.Prepared.{MayAsk}
 use Rattle.dap_msg.specs.Blocked.{Blocked, all_joined}
+use Rattle.std.specs.List.{IsAmong}
+use Rattle.dap_accessing.specs.Inner.Phases.{phase_fits}
+use Rattle.dap_accessing.proofs.Phases.{fits-where, where-fits}
 use Rattle.dap_accessing.specs.Asked.{messages_of}
 use Rattle.dap_accessing.specs.declared.fault.AskFault.TheVariants as fault
 use Rattle.dap_accessing.specs.declared.fault.ReadFault.{ReadFault}
@@ -302,19 +305,22 @@ refuse_busy request old some requests answers s = let p = some_of old.pending so
 in_phase : (request : Request) (old : Present) (b : Bool) → phase_fits old.phase request ≡ b → (requests : List Request) (answers : List Item) → StandsAfter requests answers old → phase_fits (phase_after (Told requests answers)) request ≡ b
 in_phase request old b e requests answers s = ap (λ ph. phase_fits ph request) (sym s.phase) ∙ e
 
+is_in_phase : (request : Request) (old : Present) → phase_fits old.phase request ≡ true → (requests : List Request) (answers : List Item) → StandsAfter requests answers old → IsAmong (phases_for request) (phase_after (Told requests answers))
+is_in_phase request old e requests answers s = where-fits (phase_after (Told requests answers)) request (in_phase request old true e requests answers s)
+
 pub refuse_phase : (request : Request) (old : Present) → is_some old.pending ≡ false → phase_fits old.phase request ≡ false → (requests : List Request) (answers : List Item) → StandsAfter requests answers old → IsRefused old.own requests answers request fault.WrongPhase
 refuse_phase request old none wrong requests answers s =
-    (nothing_due old (none_of old.pending none) requests answers s, λ e. let f : false ≡ true = sym (in_phase request old false wrong requests answers s) ∙ e in cc)
+    (nothing_due old (none_of old.pending none) requests answers s, λ e. let f : false ≡ true = sym (in_phase request old false wrong requests answers s) ∙ fits-where request (phase_after (Told requests answers)) e in cc)
 
 pub refuse_large : (request : Request) (old : Present) → is_some old.pending ≡ false → phase_fits old.phase request ≡ true → (AreSendable old.limit (messages_of old.own request) → ⊥)
     → (requests : List Request) (answers : List Item) → StandsAfter requests answers old → IsRefused old.own requests answers request fault.TooLarge
 refuse_large request old none right large requests answers s =
-    (nothing_due old (none_of old.pending none) requests answers s, in_phase request old true right requests answers s, λ e. large (subst (λ n. AreSendable n (messages_of old.own request)) (sym s.limit) e))
+    (nothing_due old (none_of old.pending none) requests answers s, is_in_phase request old right requests answers s, λ e. large (subst (λ n. AreSendable n (messages_of old.own request)) (sym s.limit) e))
 
 pub admit : (request : Request) (old : Present) → MayAsk old request → IsAdmittedBy old request
 admit request old may = λ requests answers s. (
   nothing_due old may.none_due requests answers s,
-  in_phase request old true may.in_phase requests answers s,
+  is_in_phase request old may.in_phase requests answers s,
   subst (λ n. AreSendable n (messages_of old.own request)) s.limit may.sendable,
 )
 

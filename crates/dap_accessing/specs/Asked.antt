@@ -1,18 +1,15 @@
 -- The messages of a request.
-use Rattle.std.specs.Prelude.{ℕ, List, [], ◌∷◌, ◌++◌, map, Option, Some, None}
+use Rattle.std.specs.Prelude.{ℕ, List, [], ◌∷◌, ◌++◌, map, flat_map, Option, Some, None}
 use Rattle.dap_msg.specs.declared.message.Message.{Message}
 use Rattle.dap_msg.specs.declared.message.Message.TheVariants.{Attrib, Access, Control, Contran, Filedata}
 use Rattle.dap_msg.specs.Codes as codes
-use Rattle.dap_msg.specs.BothEnds.{four_bytes, config_of, complete_with, no_attributes}
+use Rattle.dap_msg.specs.BothEnds.{four_bytes, attributes_of, config_of, complete_with, no_attributes}
 use Rattle.dap_accessing.specs.declared.request.By.{By}
 use Rattle.dap_accessing.specs.declared.request.By.TheVariants.{Next, Key, Rfa}
 use Rattle.dap_accessing.specs.declared.request.How.{How}
 use Rattle.dap_accessing.specs.declared.request.How.TheVariants.{Again, Skip, Abort}
 use Rattle.dap_accessing.specs.Request.{Request}
 use Rattle.dap_accessing.specs.declared.request.Request.TheVariants.{Hello, Create, OpenFile, Connect, Get, Put, Update, Delete, Rewind, Fetch, Store, Continue, Close, Purge}
-
-abbrev pub attributes : Option ℕ → Option ℕ → Option ℕ → Option (List ℕ) → Message
-attributes org rfm mrs mrn = Attrib (record no_attributes { org = org; rfm = rfm; mrs = mrs; mrn = mrn })
 
 abbrev pub access : ℕ → List ℕ → ℕ → Message
 access func name fac =
@@ -31,9 +28,6 @@ abbrev pub put_at : Option ℕ → Message
 put_at None = control codes.ctlfunc.put (Some codes.rac.sequential) None
 put_at (Some n) = control codes.ctlfunc.put (Some codes.rac.keyed) (Some (four_bytes n))
 
-abbrev pub unnumbered_record : List ℕ → Message
-unnumbered_record body = Filedata [] body
-
 abbrev pub how_to_go_on : How → ℕ
 how_to_go_on Again = codes.confunc.again
 how_to_go_on Skip = codes.confunc.skip
@@ -43,22 +37,21 @@ how_to_go_on Abort = codes.confunc.abort
 abbrev pub messages_of : ℕ → Request → List Message
 messages_of own Hello = config_of own ∷ []
 messages_of own (Create name org rfm mrs mrn fac) =
-    attributes (Some org) (Some rfm) (Some mrs) (Some (four_bytes mrn)) ∷ access codes.accfunc.creating name fac ∷ []
-messages_of own (OpenFile name fac) = attributes None None None None ∷ access codes.accfunc.opening name fac ∷ []
+    attributes_of org rfm mrs mrn ∷ access codes.accfunc.creating name fac ∷ []
+messages_of own (OpenFile name fac) = Attrib no_attributes ∷ access codes.accfunc.opening name fac ∷ []
 messages_of own Connect = control codes.ctlfunc.connect None None ∷ []
 messages_of own (Get by) = get_by by ∷ []
-messages_of own (Put key body) = put_at key ∷ unnumbered_record body ∷ []
-messages_of own (Update body) = control codes.ctlfunc.update (Some codes.rac.sequential) None ∷ unnumbered_record body ∷ []
+messages_of own (Put key body) = put_at key ∷ Filedata [] body ∷ []
+messages_of own (Update body) = control codes.ctlfunc.update (Some codes.rac.sequential) None ∷ Filedata [] body ∷ []
 messages_of own Delete = control codes.ctlfunc.delete (Some codes.rac.sequential) None ∷ []
 messages_of own Rewind = control codes.ctlfunc.rewind (Some codes.rac.sequential) None ∷ []
 messages_of own Fetch = control codes.ctlfunc.get (Some codes.rac.whole_file) None ∷ []
 messages_of own (Store bodies) =
-    (control codes.ctlfunc.put (Some codes.rac.whole_file) None ∷ map unnumbered_record bodies) ++ complete_with codes.cmpfunc.end_of_stream ∷ []
+    (control codes.ctlfunc.put (Some codes.rac.whole_file) None ∷ map (Filedata []) bodies) ++ complete_with codes.cmpfunc.end_of_stream ∷ []
 messages_of own (Continue how) = Contran (how_to_go_on how) ∷ []
 messages_of own Close = complete_with codes.cmpfunc.close ∷ []
 messages_of own Purge = complete_with codes.cmpfunc.purge ∷ []
 
 -- the messages of all requests, in order
 abbrev pub Asked : ℕ → List Request → List Message
-Asked own [] = []
-Asked own (request ∷ requests) = messages_of own request ++ Asked own requests
+Asked own requests = flat_map (messages_of own) requests

@@ -5,3 +5,4 @@ pub mod Gathers
 pub mod Hears
 pub mod Outgoing
 pub mod Prepared
+pub mod Phases

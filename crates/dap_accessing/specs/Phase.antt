@@ -1,10 +1,11 @@
 -- The phase and the peer's limit follow from the reports; which requests may be asked follows from these.
-use Rattle.std.specs.Prelude.{◌≡◌, ℕ, Bool, true, false, List, fold}
+use Rattle.std.specs.Prelude.{◌≡◌, ℕ, List, [], ◌∷◌, fold}
+use Rattle.std.specs.List.{IsAmong}
 use Rattle.dap_msg.specs.declared.items.Item.{Item}
 use Rattle.dap_msg.specs.BothEnds.{limit_of, greatest_message}
 use Rattle.dap_msg.specs.Sendable.{AreSendable}
 use Rattle.dap_accessing.specs.Request.{Request}
-use Rattle.dap_accessing.specs.declared.request.Request.TheVariants.{Hello, Create, OpenFile, Connect, Get, Put, Update, Delete, Rewind, Fetch, Store, Continue, Close, Purge}
+use Rattle.dap_accessing.specs.declared.request.Request.TheVariants.{Hello, Create, OpenFile, Connect, Continue, Close, Purge}
 use Rattle.dap_accessing.specs.declared.report.Report.{Report}
 use Rattle.dap_accessing.specs.declared.report.Report.TheVariants as report
 use Rattle.dap_accessing.specs.declared.report.Ending.TheVariants as ending
@@ -38,33 +39,22 @@ abbrev pub limit_after : List Report → ℕ
 limit_after reports = fold limit_next greatest_message reports
 
 -- the phases in which a request is asked
-abbrev pub phase_fits : Phase → Request → Bool
-phase_fits Fresh Hello = true
-phase_fits Ready (Create _ _ _ _ _ _) = true
-phase_fits Ready (OpenFile _ _) = true
-phase_fits Opened Connect = true
-phase_fits Opened Close = true
-phase_fits Opened Purge = true
-phase_fits Stopped (Continue _) = true
-phase_fits Stopped Close = true
-phase_fits Stopped Purge = true
-phase_fits Connected (Get _) = true
-phase_fits Connected (Put _ _) = true
-phase_fits Connected (Update _) = true
-phase_fits Connected Delete = true
-phase_fits Connected Rewind = true
-phase_fits Connected Fetch = true
-phase_fits Connected (Store _) = true
-phase_fits Connected Close = true
-phase_fits Connected Purge = true
-phase_fits _ _ = false
+abbrev pub phases_for : Request → List Phase
+phases_for Hello = Fresh ∷ []
+phases_for (Create _ _ _ _ _ _) = Ready ∷ []
+phases_for (OpenFile _ _) = Ready ∷ []
+phases_for Connect = Opened ∷ []
+phases_for (Continue _) = Stopped ∷ []
+phases_for Close = Opened ∷ Connected ∷ Stopped ∷ []
+phases_for Purge = Opened ∷ Connected ∷ Stopped ∷ []
+phases_for _ = Connected ∷ []
 
 -- after these answers no report is due
 abbrev pub IsNoneDue : List Request → List Item → Type 0
 IsNoneDue requests answers = due_after requests answers ≡ NothingDue
 
 abbrev pub IsInPhase : List Request → List Item → Request → Type 0
-IsInPhase requests answers request = phase_fits (phase_after (Told requests answers)) request ≡ true
+IsInPhase requests answers request = IsAmong (phases_for request) (phase_after (Told requests answers))
 
 -- a request is admissible after requests and answers
 abbrev pub IsAdmissible : ℕ → List Request → List Item → Request → Type 0

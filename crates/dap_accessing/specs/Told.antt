@@ -9,7 +9,7 @@ use Rattle.dap_msg.specs.declared.items.Item.TheVariants.{Whole}
 use Rattle.dap_msg.specs.BothEnds.{number_of, is_too_small, with_defaults}
 use Rattle.rec_file.specs.Limits.{greatest_number}
 use Rattle.dap_accessing.specs.Request.{Request}
-use Rattle.dap_accessing.specs.declared.request.Request.TheVariants.{Hello, Create, OpenFile, Connect, Get, Put, Update, Delete, Rewind, Fetch, Store, Continue, Close, Purge}
+use Rattle.dap_accessing.specs.declared.request.Request.TheVariants.{Hello, Create, OpenFile, Connect, Get, Fetch, Store, Continue, Close, Purge}
 use Rattle.dap_accessing.specs.declared.report.Report.{Report}
 use Rattle.dap_accessing.specs.declared.report.Report.TheVariants as report
 use Rattle.dap_accessing.specs.declared.report.Ending.{Ending}
@@ -136,15 +136,12 @@ hear (Create _ _ _ _ _ _) answers = hear_attributes answers
 hear (OpenFile _ _) answers = hear_attributes answers
 hear Connect answers = hear_ack report.Connected answers
 hear (Get _) answers = hear_record answers
-hear (Put _ _) answers = hear_done answers
-hear (Update _) answers = hear_done answers
-hear Delete answers = hear_done answers
-hear Rewind answers = hear_done answers
 hear Fetch answers = hear_batch answers
 hear (Store _) answers = hear_stored answers
 hear (Continue _) answers = hear_batch answers
 hear Close answers = hear_completed report.Closed answers
 hear Purge answers = hear_completed report.Closed answers
+hear _ answers = hear_done answers  -- Put, Update, Delete and Rewind
 
 -- What is due after requests and answers: nothing; more answers to a request, after these; or an answer had no place.
 pub data Due : Type 0 where

@@ -1,11 +1,11 @@
 //! The messages of a request.
 
-ghost use Rattle.std.specs.Prelude.{◌≡◌, ◌≤◌, ◌<◌, ◌↔◌, ℕ, None, length, map, IsTrue, IfOk, IfSome};
-ghost use Rattle.dap_msg.specs.BothEnds.{four_bytes};
+ghost use Rattle.std.specs.Prelude.{◌≡◌, ◌≤◌, ◌<◌, ◌↔◌, ℕ, [], None, length, map, IsTrue, IfOk, IfSome};
+ghost use Rattle.dap_msg.specs.BothEnds.{attributes_of, four_bytes};
+ghost use Rattle.dap_msg.specs.declared.message.Message.TheVariants.{Filedata};
 ghost use Rattle.dap_msg.specs.Blocked.{AddsOne};
 ghost use Rattle.dap_msg.specs.Canon.{canon, file_data_size, Fits};
 ghost use Rattle.dap_accessing.specs.Asked as asked;
-ghost use Rattle.dap_accessing.specs.Asked.{unnumbered_record};
 ghost use Rattle.dap_accessing.specs.Inner.Outgoing.{AreCounted, IsBlocked, number_carried, first_of, bodies_of, last_of, outgoing_messages};
 ghost use Rattle.dap_msg.specs.Sendable.{IsSendable, AreSendable};
 
@@ -48,20 +48,15 @@ impl Request {
     }
 }
 
-/// An Attributes message with these fields alone.
-fn attributes(
-    org: Option<u8>,
-    rfm: Option<u8>,
-    mrs: Option<u16>,
-    mrn: Option<Bytes<'_>>,
-) -> Message<'_>
-    ensures { result ≡ asked.attributes org rfm mrs mrn.entry }
+/// The Attributes of a file: ORG, RFM, MRS, and MRN in these bytes.
+fn attributes(org: u8, rfm: u8, mrs: u16, mrn: &[u8]) -> Message<'_>
+    ensures { (n : ℕ) → mrn.now ≡ four_bytes n → result ≡ attributes_of org rfm mrs n }
 {
     Message::Attrib(Attributes {
-        org,
-        rfm,
-        mrs,
-        mrn,
+        org: Some(org),
+        rfm: Some(rfm),
+        mrs: Some(mrs),
+        mrn: Some(Bytes(mrn)),
         ..Attributes::none()
     })
 }
@@ -98,7 +93,7 @@ fn control(func: u8, rac: Option<u8>, key: Option<Bytes<'_>>) -> Message<'_>
 
 /// The Filedata of a record, without a number.
 fn record(body: &Octets) -> Message<'_>
-    ensures { result ≡ asked.unnumbered_record body.now }
+    ensures { result ≡ Filedata [] body.now }
 {
     Message::Filedata {
         recnum: Bytes(&[]),
@@ -114,9 +109,9 @@ fn first_message<'a>(own: u16, request: &'a Request, number: &'a [u8]) -> Messag
     match request {
         Request::Hello => Message::config_of(own),
         Request::Create { org, rfm, mrs, .. } => {
-            attributes(Some(*org), Some(*rfm), Some(*mrs), Some(Bytes(number)))
+            attributes(*org, *rfm, *mrs, number)
         }
-        Request::OpenFile { .. } => attributes(None, None, None, None),
+        Request::OpenFile { .. } => Message::Attrib(Attributes::none()),
         Request::Connect => control(CTLFUNC_CONNECT, None, None),
         Request::Get(By::Next) => control(CTLFUNC_GET, Some(RAC_SEQUENTIAL), None),
         Request::Get(By::Key(_)) => control(CTLFUNC_GET, Some(RAC_KEYED), Some(Bytes(number))),
@@ -208,7 +203,7 @@ fn longest_record(limit: u16) -> Option<usize>
 
 /// Whether each record has a Filedata within the limit.
 fn are_sendable(records: &[Octets], limit: u16) -> bool
-    ensures { IsTrue result ↔ AreSendable limit (map unnumbered_record records.now) }
+    ensures { IsTrue result ↔ AreSendable limit (map (Filedata []) records.now) }
 {
     let Some(longest) = longest_record(limit) else {
         return records.is_empty();

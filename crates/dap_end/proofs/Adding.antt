@@ -7,7 +7,8 @@ use Rattle.dap_accessed.specs.Standing.{Files}
 use Rattle.dap_accessed.specs.Present.{Present, StandsAfter}
 use Rattle.dap_accessed.specs.Adding.{AddRefused, RecordRefused}
 use Rattle.dap_end.specs.Ports.{HasCome}
-use Rattle.dap_end.specs.Serving.{ServingValue, NotGiven, IsGiven}
+use Rattle.dap_end.specs.Serving.{NotGiven, IsGiven}
+use Rattle.dap_end.specs.Done.{ServingValue}
 use Rattle.dap_end.specs.Inner.ServingView.{serving_of}
 
 pub given : (old : ServingValue) (after : Present) (r : Result (Unit {0}) AddFault) → after.own ≡ old.accessed.own → OnOk r ((first : Files) → StandsAfter first [] old.accessed → StandsAfter after.files [] after)

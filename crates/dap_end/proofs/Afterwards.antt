@@ -8,8 +8,9 @@ use Rattle.nsp_link.specs.Sending.{may_queue}
 use Rattle.nsp_link.proofs.ForCallers.{sends_all}
 use Rattle.dap_end.specs.Ports.{PortValue, with_link, posted}
 use Rattle.dap_end.specs.Inner.ServingView.{serving_of}
-use Rattle.dap_end.specs.Going.{GoneThrough}
-use Rattle.dap_end.specs.Serving.{ServingValue, Past, IsAfter, PostedAll}
+use Rattle.dap_end.specs.Inner.After.{GoneThrough}
+use Rattle.dap_end.specs.Serving.{IsAfter, PostedAll}
+use Rattle.dap_end.specs.Done.{ServingValue, Past}
 use Rattle.dap_end.proofs.Taking.{Grown}
 use Rattle.dap_end.proofs.Going.{gone_stays}
 

@@ -25,7 +25,8 @@ use Rattle.dap_end.specs.declared.fault.EndFault.{EndFault}
 use Rattle.dap_end.specs.declared.fault.EndFault.TheVariants as end_fault
 use Rattle.dap_end.specs.declared.fault.TakeFault.{TakeFault}
 use Rattle.dap_end.specs.Ports.{PortValue, gone_on, posted, with_link}
-use Rattle.dap_end.specs.Asking.{AskingValue, AskingPast, HasAsked, AskedOne, HandedAll, ReadOne, ReadNone, ReadOn, begins, goes, ReadPart, ReadsAll, HeardAll, HearFault, asks, AreAlike, HasDone}
+use Rattle.dap_end.specs.Asking.{HasAsked, AskedOne, HandedAll, ReadOne, ReadNone, ReadOn, begins, goes, ReadPart, ReadsAll, HeardAll, HearFault, asks, AreAlike, HasDone}
+use Rattle.dap_end.specs.Done.{AskingValue, AskingPast}
 use Rattle.dap_end.specs.Writing.{Behind, sent_more}
 use Rattle.dap_end.specs.Turns.{WentOn, Takes}
 use Rattle.dap_end.specs.Inner.Pasts.{Still}

@@ -29,8 +29,10 @@ use Rattle.dap_end.specs.Inner.Pasts.{AreFull, asked_one, read_one}
 use Rattle.dap_end.specs.declared.fault.EndFault.TheVariants as end_fault
 use Rattle.dap_end.specs.Ports.{PortValue, with_link, posted, gone_on}
 use Rattle.dap_end.specs.Writing.{Behind, sent_more}
-use Rattle.dap_end.specs.Going.{GoneThrough, given_then}
-use Rattle.dap_end.specs.Asking.{AskingValue, AskingPast, HasAsked, AskedOne, HandedAll, ReadOne, ReadOn, begins, goes, HearFault}
+use Rattle.dap_end.specs.Going.{given_then}
+use Rattle.dap_end.specs.Inner.After.{GoneThrough}
+use Rattle.dap_end.specs.Asking.{HasAsked, AskedOne, HandedAll, ReadOne, ReadOn, begins, goes, HearFault}
+use Rattle.dap_end.specs.Done.{AskingValue, AskingPast}
 use Rattle.dap_end.specs.Inner.Kept.{IsPort, AreShort}
 use Rattle.dap_end.specs.Inner.AskingView.{asking_of}
 use Rattle.dap_end.proofs.Taking.{Grown}

@@ -18,8 +18,9 @@ use Rattle.dap_end.specs.declared.fault.EndFault.{EndFault}
 use Rattle.dap_end.specs.declared.fault.EndFault.TheVariants as end_fault
 use Rattle.dap_end.specs.declared.fault.TakeFault.{TakeFault}
 use Rattle.dap_end.specs.Ports.{gone_on, posted}
-use Rattle.dap_end.specs.Going.{StandFrom}
-use Rattle.dap_end.specs.Serving.{ServingValue, Past, IsAfter, ServedOne, PostedAll, answers_to}
+use Rattle.dap_end.specs.Inner.After.{StandFrom}
+use Rattle.dap_end.specs.Serving.{IsAfter, ServedOne, PostedAll}
+use Rattle.dap_end.specs.Done.{ServingValue, Past, answers_to}
 use Rattle.dap_end.specs.Taking.{ServedOn, begins, goes, ServedUp, IsServed, ServeFault, ServesAll, serves}
 use Rattle.dap_end.specs.Turns.{WentOn, Takes}
 use Rattle.dap_end.specs.Wanting.{is_want}

@@ -1,7 +1,7 @@
 -- What was gone through is a front of the items of what the peer sends.
 use Rattle.std.proofs.Common.{◌≡◌, ℕ, ◌<◌, arith, refl, sym, ◌∙◌, subst, ap, append_assoc, List, [], ◌∷◌, ◌++◌, length}
 use Rattle.std.specs.Prelude.{drop}
-use Rattle.std.proofs.lemmas.List.{take-append-drop}
+use Rattle.std.proofs.lemmas.List.{append-nil, take-append-drop}
 use Rattle.std.specs.List.{AllByRecursion}
 use Rattle.dap_fields.specs.Spelling.{AreBytes}
 use Rattle.dap_msg.specs.declared.items.Item.{Item}
@@ -9,8 +9,9 @@ use Rattle.dap_msg.specs.Items.{Items, ItemsFrom}
 use Rattle.dap_msg.proofs.ForCallers.{one_item, have_items}
 use Rattle.nsp_link.specs.Link.{LinkValue, Stands}
 use Rattle.nsp_link.proofs.ForCallers.{whole_of}
-use Rattle.dap_end.specs.Ports.{oldest}
-use Rattle.dap_end.specs.Going.{StandFrom, AreItemsOf, GoneThrough, AreFrontOf}
+use Rattle.dap_end.specs.Inner.After.{oldest}
+use Rattle.dap_end.specs.Going.{AreItemsOf, AreFrontOf}
+use Rattle.dap_end.specs.Inner.After.{StandFrom, GoneThrough}
 
 -- the items of two lists of NSP messages
 items_split : (xs ys : List (List ℕ)) (all : List Item) → AreItemsOf (xs ++ ys) all → (a b : List Item) × (all ≡ a ++ b) × AreItemsOf xs a × AreItemsOf ys b
@@ -54,6 +55,10 @@ gone_front given inbox rest place items g = λ all k.
       s.2 ∙ ap (λ (l : List Item). l ++ s.1) (same_items given s.0 g.done g.bytes s.3 g.whole) ∙ ap (λ (l : List Item). g.done ++ l) next.1
           ∙ sym (append_assoc g.done g.begun next.0) ∙ ap (λ (l : List Item). l ++ next.0) (sym g.all),
     )
+
+-- what was gone through is a front of what came
+pub here_front : (given inbox : List (List ℕ)) (place : ℕ) (items : List Item) → GoneThrough given inbox place items → AreFrontOf (given ++ inbox) items
+here_front given inbox place items g = subst (λ (l : List (List ℕ)). AreFrontOf (given ++ l) items) (append-nil inbox) (gone_front given inbox [] place items g)
 
 pub served_front : (v : LinkValue) (size : ℕ) (messages given : List (List ℕ)) (place : ℕ) (items : List Item) → 0 < size → Stands v size messages given → GoneThrough given v.coming.inbox place items → AreFrontOf messages items
 served_front v size messages given place items pos s g =

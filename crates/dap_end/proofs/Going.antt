@@ -7,8 +7,9 @@ use Rattle.std.specs.List.{AllByRecursion}
 use Rattle.dap_fields.specs.Spelling.{AreBytes}
 use Rattle.dap_msg.specs.declared.items.Item.{Item}
 use Rattle.dap_msg.specs.Items.{ItemAt, Items, ItemsFrom}
-use Rattle.dap_end.specs.Ports.{oldest}
-use Rattle.dap_end.specs.Going.{StandFrom, AreItemsOf, GoneThrough}
+use Rattle.dap_end.specs.Inner.After.{oldest}
+use Rattle.dap_end.specs.Going.{AreItemsOf}
+use Rattle.dap_end.specs.Inner.After.{StandFrom, GoneThrough}
 
 -- ---- More comes.
 

@@ -9,15 +9,17 @@ use Rattle.dap_accessing.specs.Told.{Told}
 use Rattle.dap_end.specs.Ports.{PortValue}
 use Rattle.dap_end.specs.Going.{AreFrontOf}
 use Rattle.dap_end.specs.Writing.{sent_more, WroteMore}
-use Rattle.dap_end.specs.Asking.{AskingValue, AskingPast, HasAsked, AskedOne, HandedAll, asks, nothing_asked}
+use Rattle.dap_end.specs.Asking.{HasAsked, AskedOne, HandedAll, asks}
+use Rattle.dap_end.specs.Done.{AskingValue, AskingPast, nothing_asked}
 use Rattle.dap_end.specs.Runs.{RunsBy}
-use Rattle.dap_end.specs.Headline.{Written, numbered, WroteOne, AreWrittenOf, EndEvent, Came, GoesOn, Repeats, AnyBytes, IsFromPeer}
-use Rattle.dap_end.specs.Hearing.{AskingEvent, Asks, By, HeardMore, AskingStepped, AskingRuns, requests_in}
+use Rattle.dap_end.specs.Headline.{Written, AreWrittenOf, IsFromPeer}
+use Rattle.dap_end.specs.Inner.Running.{numbered, WroteOne, EndEvent, Came, GoesOn, Repeats}
+use Rattle.dap_end.specs.Inner.Running.{AskingEvent, Asks, By, HeardMore, AskingStepped, AskingEventRuns, requests_in}
 use Rattle.dap_end.specs.Inner.Pasts.{asked_one}
 use Rattle.dap_end.proofs.Taking.{grown}
 use Rattle.dap_end.proofs.Asked.{ReadMore, asked_past, handed_is, handed_past, still_received, still_sent, read_grows}
 use Rattle.dap_end.proofs.Packets.{all_written, still_written, written_on, numbered_written, one_written}
-use Rattle.dap_end.proofs.Running.{StandsThen, then_stands, sent_link, some_size, some_peer, stepped_by}
+use Rattle.dap_end.proofs.Running.{StandsThen, then_stands, sent_link, stepped_by}
 use Rattle.dap_end.proofs.Fronts.{served_front}
 
 -- what the end did: these requests were asked, these reports told, and these packets written
@@ -136,10 +138,10 @@ run_so comes (event ∷ events) requests old new (mid, more, s, r) t =
 pub asked_nothing : (v : AskingValue) → HasAsked nothing_asked v → Asked_So [] [] [] v
 asked_nothing v h = record { past = nothing_asked; is = h; asked = refl; told = refl; packets = tt }
 
-pub run_promises : (events : List AskingEvent) (old new : AskingValue) (reports : List Report) (wrote : List Written) → HasAsked nothing_asked old → AskingRuns AnyBytes old events new reports wrote
+pub run_promises : (comes : LinkValue → List ℕ → Type 0) (events : List AskingEvent) (old new : AskingValue) (reports : List Report) (wrote : List Written) → HasAsked nothing_asked old → AskingEventRuns comes old events new reports wrote
     → (past : AskingPast) × HasAsked past new × (past.requests ≡ requests_in events) × (reports ≡ Told past.requests past.answers) × AreWrittenOf new.port.link past.handed wrote
-run_promises events old new reports wrote h r =
-    let t = run_so AnyBytes events [] (old, [], []) (new, reports, wrote) r (asked_nothing old h) in
+run_promises comes events old new reports wrote h r =
+    let t = run_so comes events [] (old, [], []) (new, reports, wrote) r (asked_nothing old h) in
     (t.past, t.is, t.asked, t.told, t.packets)
 
 -- ---- From a peer.
@@ -183,19 +185,20 @@ step_listens size messages (old, _, _) (new, _, _) (By GoesOn) ws (s, e) t =
     sent_listens size messages s.0 new s.1 s.3 s.4 (handed_listens size messages heard s.0 over here)
 step_listens size messages (old, _, _) (new, _, _) (By (Repeats k)) ws (s, e) t = subst (Listens size messages) (sym s.3) t
 
-pub asking_runs_by : (size : ℕ) (messages : List (List ℕ)) (events : List AskingEvent) (old new : SoFar) → RunsBy (AskingStepped (IsFromPeer size messages)) old events new → RunsBy (AskingStepped (IsFromPeer (some_size size) messages)) old events new
-asking_runs_by size messages [] old new r = r
-asking_runs_by size messages (Asks request ∷ events) old new r = (r.0, r.1, r.2, asking_runs_by size messages events r.0 new r.3)
-asking_runs_by size messages (By event ∷ events) old new r =
-    let step = stepped_by (asks old.1 r.0.1) (HeardMore old.1 r.0.1) (IsFromPeer size messages) (IsFromPeer (some_size size) messages) old.0 r.0.0 event r.1 (some_peer size messages) r.2.0 in
-    (r.0, r.1, (step, r.2.1), asking_runs_by size messages events r.0 new r.3)
+-- what comes in one way comes in another
+pub runs_where : (here there : LinkValue → List ℕ → Type 0) → ((v : LinkValue) (bytes : List ℕ) → here v bytes → there v bytes) → (events : List AskingEvent) (old new : SoFar) → RunsBy (AskingStepped here) old events new → RunsBy (AskingStepped there) old events new
+runs_where here there comes [] old new r = r
+runs_where here there comes (Asks request ∷ events) old new r = (r.0, r.1, r.2, runs_where here there comes events r.0 new r.3)
+runs_where here there comes (By event ∷ events) old new r =
+    let step = stepped_by (asks old.1 r.0.1) (HeardMore old.1 r.0.1) here there old.0 r.0.0 event r.1 comes r.2.0 in
+    (r.0, r.1, (step, r.2.1), runs_where here there comes events r.0 new r.3)
 
 run_listens : (size : ℕ) (messages : List (List ℕ)) (events : List AskingEvent) (old new : SoFar) → RunsBy (AskingStepped (IsFromPeer size messages)) old events new → Listens size messages old.0 → Listens size messages new.0
 run_listens size messages [] old new r h = subst (λ (x : SoFar). Listens size messages x.0) (sym r) h
 run_listens size messages (event ∷ events) old new r h = run_listens size messages events r.0 new r.3 (step_listens size messages old r.0 event r.1 r.2 h)
 
 pub run_hears : (size : ℕ) (messages : List (List ℕ)) (events : List AskingEvent) (old new : AskingValue) (reports : List Report) (wrote : List Written) → 0 < size → HasAsked nothing_asked old → Stands old.port.link size messages [] → old.port.link.failed ≡ false
-    → AskingRuns (IsFromPeer size messages) old events new reports wrote → (past : AskingPast) × HasAsked past new × AreFrontOf messages past.answers
+    → AskingEventRuns (IsFromPeer size messages) old events new reports wrote → (past : AskingPast) × HasAsked past new × AreFrontOf messages past.answers
 run_hears size messages events old new reports wrote pos h stands works r =
     let t = run_listens size messages events (old, [], []) (new, reports, wrote) r (record { past = nothing_asked; is = h; stands = (stands, works) }) in
     (t.past, t.is, served_front new.port.link size messages t.past.given new.port.place t.past.answers pos t.stands.0 t.is.gone)

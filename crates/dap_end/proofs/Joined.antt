@@ -22,12 +22,16 @@ use Rattle.dap_end.specs.Ports.{PortValue}
 use Rattle.nsp_link.specs.Receiving.{Receives}
 use Rattle.dap_end.specs.Going.{AreItemsOf, AreFrontOf}
 use Rattle.dap_end.specs.Writing.{AreSegments, WroteMore}
-use Rattle.dap_end.specs.Serving.{ServingValue, Past, IsAfter, answers_to, nothing_yet}
-use Rattle.dap_end.specs.Asking.{AskingValue, AskingPast, HasAsked, nothing_asked}
+use Rattle.dap_end.specs.Serving.{IsAfter}
+use Rattle.dap_end.specs.Done.{ServingValue, Past, answers_to, nothing_yet}
+use Rattle.dap_end.specs.Asking.{HasAsked}
+use Rattle.dap_end.specs.Done.{AskingValue, AskingPast, nothing_asked}
 use Rattle.dap_end.specs.Runs.{RunsBy}
-use Rattle.dap_end.specs.Headline.{Written, numbered, WroteOne, AreWrittenOf, EndEvent, Came, GoesOn, Repeats}
-use Rattle.dap_end.specs.Hearing.{AskingEvent, Asks, By, requests_in}
-use Rattle.dap_end.specs.Joined.{Pair, AreOpposite, AreNew, PairEvent, AtA, AtB, PairStepped, PairHeadline}
+use Rattle.dap_end.specs.Headline.{Written, AreWrittenOf}
+use Rattle.dap_end.specs.Inner.Running.{numbered, WroteOne, EndEvent, Came, GoesOn, Repeats}
+use Rattle.dap_end.specs.Inner.Running.{AskingEvent, Asks, By, requests_in}
+use Rattle.dap_end.specs.Joined.{Pair}
+use Rattle.dap_end.specs.Inner.Running.{AreOpposite, AreNew, PairEvent, AtA, AtB, PairStepped, PairHeadline}
 use Rattle.dap_end.specs.Inner.Pasts.{asked_one}
 use Rattle.dap_end.proofs.Taking.{grown}
 use Rattle.dap_end.proofs.Afterwards.{after_received}

@@ -22,3 +22,5 @@ pub mod Ways
 pub mod Joined
 pub mod Calling
 pub mod ForCallers
+pub mod Pairing
+pub mod Arriving

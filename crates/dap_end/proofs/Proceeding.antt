@@ -13,9 +13,11 @@ use Rattle.dap_end.specs.Inner.Pasts.{served}
 use Rattle.dap_end.specs.declared.fault.EndFault.{EndFault}
 use Rattle.dap_end.specs.declared.fault.EndFault.TheVariants as end_fault
 use Rattle.dap_end.specs.Ports.{PortValue, posted}
-use Rattle.dap_end.specs.Serving.{ServingValue, Past, IsAfter, ServedOne, PostedAll, MayServe}
+use Rattle.dap_end.specs.Serving.{IsAfter, ServedOne, PostedAll, MayServe}
+use Rattle.dap_end.specs.Done.{ServingValue, Past}
 use Rattle.dap_end.specs.Writing.{sent_more, Behind, WroteMore}
-use Rattle.dap_end.specs.Taking.{Grew, ServedMore, ServedOn, begins, goes, ServedUp, IsServed, ServeFault, serves}
+use Rattle.dap_end.specs.Taking.{ServedOn, begins, goes, ServedUp, IsServed, ServeFault, serves}
+use Rattle.dap_end.specs.Inner.Running.{Grew, ServedMore}
 use Rattle.dap_end.proofs.Afterwards.{posted_is, posted_past}
 use Rattle.dap_end.proofs.ServingOne.{port_given}
 use Rattle.dap_end.proofs.Turning.{went_by}

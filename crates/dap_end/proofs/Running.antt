@@ -15,15 +15,20 @@ use Rattle.dap_accessed.specs.Standing.{Files}
 use Rattle.dap_accessed.specs.Groups.{Answers, added, limit_for}
 use Rattle.dap_accessed.proofs.ForCallers.{Answers-more}
 use Rattle.dap_end.specs.declared.fault.EndFault.{EndFault}
+use Rattle.dap_end.specs.declared.fault.TakeFault.{TakeFault}
+use Rattle.dap_end.specs.declared.fault.TakeFault.TheVariants as take_fault
 use Rattle.dap_end.specs.Ports.{PortValue}
 use Rattle.nsp_link.specs.Receiving.{Receives}
 use Rattle.dap_end.specs.Going.{AreFrontOf}
 use Rattle.dap_end.specs.Writing.{sent_more, wants_ack, WroteMore}
-use Rattle.dap_end.specs.Serving.{ServingValue, Past, IsAfter, answers_to, nothing_yet, ServedOne, PostedAll}
-use Rattle.dap_end.specs.Turns.{EndOf, WroteThen, WentOn, TookIn, TookThen}
-use Rattle.dap_end.specs.Taking.{ServedMore, ServeFault, serves}
+use Rattle.dap_end.specs.Serving.{IsAfter, ServedOne, PostedAll}
+use Rattle.dap_end.specs.Done.{ServingValue, Past, answers_to, nothing_yet}
+use Rattle.dap_end.specs.Turns.{EndOf, WroteThen, WentOn, TookIn, TookThen, Takes}
+use Rattle.dap_end.specs.Taking.{ServeFault, serves}
+use Rattle.dap_end.specs.Inner.Running.{ServedMore}
 use Rattle.dap_end.specs.Runs.{RunsBy}
-use Rattle.dap_end.specs.Headline.{Written, numbered, bytes_of, WroteOne, EndEvent, Came, GoesOn, Repeats, AnyBytes, EndStepped, Stepped, Runs, AreWrittenOf, IsFromPeer, AreCalls}
+use Rattle.dap_end.specs.Headline.{Written, bytes_of, AreWrittenOf, IsFromPeer}
+use Rattle.dap_end.specs.Inner.Running.{numbered, WroteOne, EndEvent, Came, GoesOn, Repeats, EndStepped, Stepped, EventRuns, RunsAs}
 use Rattle.dap_end.proofs.Taking.{grown}
 use Rattle.dap_end.proofs.Afterwards.{after_received}
 use Rattle.dap_end.proofs.Fronts.{served_front}
@@ -161,10 +166,11 @@ stepped_by end does here there old new (Came bytes) ws comes t = (t.0, t.1, t.2,
 stepped_by end does here there old new GoesOn ws comes t = t
 stepped_by end does here there old new (Repeats k) ws comes t = t
 
-pub runs_by : (size : ℕ) (messages : List (List ℕ)) (events : List EndEvent) (old new : Wrote) → RunsBy (Stepped (IsFromPeer size messages)) old events new → RunsBy (Stepped (IsFromPeer (some_size size) messages)) old events new
-runs_by size messages [] old new r = r
-runs_by size messages (event ∷ events) old new r =
-    (r.0, r.1, (stepped_by serves ServedMore (IsFromPeer size messages) (IsFromPeer (some_size size) messages) old.0 r.0.0 event r.1 (some_peer size messages) r.2.0, r.2.1), runs_by size messages events r.0 new r.3)
+-- what comes in one way comes in another
+pub runs_where : (here there : LinkValue → List ℕ → Type 0) → ((v : LinkValue) (bytes : List ℕ) → here v bytes → there v bytes) → (events : List EndEvent) (old new : Wrote) → RunsBy (Stepped here) old events new → RunsBy (Stepped there) old events new
+runs_where here there comes [] old new r = r
+runs_where here there comes (event ∷ events) old new r =
+    (r.0, r.1, (stepped_by serves ServedMore here there old.0 r.0.0 event r.1 comes r.2.0, r.2.1), runs_where here there comes events r.0 new r.3)
 
 went_hears : (old served new : ServingValue) (sent size : ℕ) (messages : List (List ℕ)) (first : Files) → ServedMore old served → new ≡ with_port served (sent_more served.port sent) → Hears size messages first old
     → Hears size messages first new
@@ -195,39 +201,69 @@ run_hears [] old new size messages first r h = subst (λ (x : Wrote). Hears size
 run_hears (event ∷ events) old new size messages first r h = run_hears events r.0 new size messages first r.3 (step_hears old.0 r.0.0 event r.1 size messages first r.2.0 h)
 
 pub run_from : (events : List EndEvent) (old new : ServingValue) (wrote : List Written) (size : ℕ) (messages : List (List ℕ)) (past : Past) → 0 < size → IsAfter past old → Stands old.port.link size messages past.given → old.port.link.failed ≡ false
-    → Runs (IsFromPeer size messages) old events new wrote → (now : Past) × IsAfter now new × (now.first ≡ past.first) × AreFrontOf messages now.items
+    → EventRuns (IsFromPeer size messages) old events new wrote → (now : Past) × IsAfter now new × (now.first ≡ past.first) × AreFrontOf messages now.items
 run_from events old new wrote size messages past pos is stands works r =
     let h = run_hears events (old, []) (new, wrote) size messages past.first r (record { past = past; is = is; had = refl; stands = stands; works = works }) in
     (h.past, h.is, h.had, served_front new.port.link size messages h.past.given new.port.place h.past.items pos h.stands h.is.gone)
 
+-- ---- Runs join.
+
+-- one run behind another
+pub runs_then : {S E A : Type 0} (Goes : S → E → A → S → Type 0) (xs ys : List E) (a b c : S) → RunsBy Goes a xs b → RunsBy Goes b ys c → RunsBy Goes a (xs ++ ys) c
+runs_then Goes [] ys a b c r q = subst (λ s. RunsBy Goes s ys c) r q
+runs_then Goes (x ∷ xs) ys a b c r q = (r.0, r.1, r.2, runs_then Goes xs ys r.0 b c r.3 q)
+
+-- with packets that were there before
+pub shifted : (comes : LinkValue → List ℕ → Type 0) (events : List EndEvent) (front : List Written) (old new : Wrote) → RunsBy (Stepped comes) old events new → RunsBy (Stepped comes) (old.0, front ++ old.1) events (new.0, front ++ new.1)
+shifted comes [] front old new r = ap (λ (x : Wrote). (x.0, front ++ x.1)) r
+shifted comes (event ∷ events) front old new r =
+    ((r.0.0, front ++ r.0.1), r.1, (r.2.0, ap (λ (l : List Written). front ++ l) r.2.1 ∙ sym (append_assoc front old.1 r.1)), shifted comes events front r.0 new r.3)
+
 -- ---- Calls are runs.
 
-one_event : (old new : ServingValue) (event : EndEvent) (ws : List Written) → Stepping AnyBytes old event new ws → Runs AnyBytes old (event ∷ []) new ws
-one_event old new event ws s = ((new, ws), ws, (s, refl), refl)
+module _ (comes : LinkValue → List ℕ → Type 0) where
+  pub no_call : (v : ServingValue) → RunsAs comes v v []
+  no_call v = ([], refl)
 
--- served and handed over, and nothing written
-served_only : (old new : ServingValue) → ServedMore old new → Stepping AnyBytes old GoesOn new []
-served_only old new m = (new, [], m, wrote_nothing new.port, refl, refl)
+  pub more_calls : (old mid new : ServingValue) (ws more : List Written) → RunsAs comes old mid ws → RunsAs comes mid new more → RunsAs comes old new (ws ++ more)
+  more_calls old mid new ws more r q =
+      let behind = subst (λ (l : List Written). RunsBy (Stepped comes) (mid, l) q.0 (new, ws ++ more)) (append-nil ws) (shifted comes q.0 ws (mid, []) (new, more) q.1) in
+      (r.0 ++ q.0, runs_then (Stepped comes) r.0 q.0 (old, []) (mid, ws) (new, ws ++ more) r.1 behind)
 
-pub serving_is : (old new : ServingValue) (n : ℕ) → ServedOne old new n → Runs AnyBytes old (GoesOn ∷ []) new []
-serving_is old new n s = one_event old new GoesOn [] (served_only old new (more_served old new n s))
+  one_event : (old new : ServingValue) (event : EndEvent) (ws : List Written) → Stepping comes old event new ws → RunsAs comes old new ws
+  one_event old new event ws s = (event ∷ [], ((new, ws), ws, (s, refl), refl))
 
-pub posting_is : (old new : ServingValue) (n : ℕ) → PostedAll old new n → Runs AnyBytes old (GoesOn ∷ []) new []
-posting_is old new n p = one_event old new GoesOn [] (served_only old new (more_posted old new n p))
+  -- served and handed over, and nothing written
+  served_only : (old new : ServingValue) → ServedMore old new → Stepping comes old GoesOn new []
+  served_only old new m = (new, [], m, wrote_nothing new.port, refl, refl)
 
-pub writing_is : (old new : ServingValue) (bytes : List ℕ) → new ≡ with_port old new.port → WroteMore old.port new.port (bytes ∷ []) → Runs AnyBytes old (GoesOn ∷ []) new (numbered (old.port.link.sent + 1) old.port.link.coming.received (bytes ∷ []))
-writing_is old new bytes rest w = one_event old new GoesOn _ (old, bytes ∷ [], more_none old, w, rest, refl)
+  pub serving_is : (old new : ServingValue) (n : ℕ) → ServedOne old new n → RunsAs comes old new []
+  serving_is old new n s = one_event old new GoesOn [] (served_only old new (more_served old new n s))
 
-pub again_is : (v : ServingValue) (i : ℕ) (bytes : List ℕ) → i < v.port.link.sent - v.port.link.acked → WritesSent v.port.link (Some (v.port.link.acked + 1 + i)) bytes
-    → Runs AnyBytes v (Repeats (Some i) ∷ []) v (record { bytes = bytes; segment = Some (v.port.link.acked + 1 + i); acks = v.port.link.coming.received } ∷ [])
-again_is v i bytes lt w = one_event v v (Repeats (Some i)) _ (record { bytes = bytes; segment = Some (v.port.link.acked + 1 + i); acks = v.port.link.coming.received }, lt, (refl, refl, w), refl, refl, tt)
+  pub posting_is : (old new : ServingValue) (n : ℕ) → PostedAll old new n → RunsAs comes old new []
+  posting_is old new n p = one_event old new GoesOn [] (served_only old new (more_posted old new n p))
 
-ack_step : (v : ServingValue) (bytes : List ℕ) → IsSpelling (ack_packet_of v.port.link) bytes → Stepping AnyBytes v (Repeats None) v (record { bytes = bytes; segment = None; acks = v.port.link.coming.received } ∷ [])
-ack_step v bytes s = (record { bytes = bytes; segment = None; acks = v.port.link.coming.received }, tt, (refl, refl, ack_written v.port.link bytes s), refl, refl, tt)
+  pub writing_is : (old new : ServingValue) (bytes : List ℕ) → new ≡ with_port old new.port → WroteMore old.port new.port (bytes ∷ [])
+      → RunsAs comes old new (record { bytes = bytes; segment = Some (old.port.link.sent + 1); acks = old.port.link.coming.received } ∷ [])
+  writing_is old new bytes rest w = one_event old new GoesOn _ (old, bytes ∷ [], more_none old, w, rest, refl)
 
-pub ack_is : (v : ServingValue) (bytes : List ℕ) → IsSpelling (ack_packet_of v.port.link) bytes → Runs AnyBytes v (Repeats None ∷ []) v (record { bytes = bytes; segment = None; acks = v.port.link.coming.received } ∷ [])
-ack_is v bytes s = one_event v v (Repeats None) _ (ack_step v bytes s)
+  pub again_is : (v : ServingValue) (i : ℕ) (bytes : List ℕ) → i < v.port.link.sent - v.port.link.acked → WritesSent v.port.link (Some (v.port.link.acked + 1 + i)) bytes
+      → RunsAs comes v v (record { bytes = bytes; segment = Some (v.port.link.acked + 1 + i); acks = v.port.link.coming.received } ∷ [])
+  again_is v i bytes lt w = one_event v v (Repeats (Some i)) _ (record { bytes = bytes; segment = Some (v.port.link.acked + 1 + i); acks = v.port.link.coming.received }, lt, (refl, refl, w), refl, refl, tt)
 
+  ack_step : (v : ServingValue) (bytes : List ℕ) → IsSpelling (ack_packet_of v.port.link) bytes → Stepping comes v (Repeats None) v (record { bytes = bytes; segment = None; acks = v.port.link.coming.received } ∷ [])
+  ack_step v bytes s = (record { bytes = bytes; segment = None; acks = v.port.link.coming.received }, tt, (refl, refl, ack_written v.port.link bytes s), refl, refl, tt)
+
+  pub ack_is : (v : ServingValue) (bytes : List ℕ) → IsSpelling (ack_packet_of v.port.link) bytes → RunsAs comes v v (record { bytes = bytes; segment = None; acks = v.port.link.coming.received } ∷ [])
+  ack_is v bytes s = one_event v v (Repeats None) _ (ack_step v bytes s)
+
+  came : (old new : ServingValue) (bytes : List ℕ) (r : Result Got LinkFault) → comes old.port.link bytes → TookIn serves old new bytes r → Stepping comes old (Came bytes) new []
+  came old new bytes r h t = (r, new.port.link, t.receives, t.rest, refl, tt, h)
+
+  pub receiving_is : (old new : ServingValue) (bytes : List ℕ) (r : Result Got LinkFault) → comes old.port.link bytes → TookIn serves old new bytes r → RunsAs comes old new []
+  receiving_is old new bytes r h t = one_event old new (Came bytes) [] (came old new bytes r h t)
+
+-- the bytes of some packets, numbered
 pub numbered_bytes : (k a : ℕ) (packets : List (List ℕ)) → bytes_of (numbered k a packets) ≡ packets
 numbered_bytes k a [] = refl
 numbered_bytes k a (p ∷ packets) = ap (λ (l : List (List ℕ)). p ∷ l) (numbered_bytes (k + 1) a packets)
@@ -236,60 +272,58 @@ numbered_bytes k a (p ∷ packets) = ap (λ (l : List (List ℕ)). p ∷ l) (num
 behind : (out all packets : List (List ℕ)) (k a : ℕ) → all ≡ out ++ packets → all ≡ out ++ bytes_of (numbered k a packets)
 behind out all packets k a e = e ∙ ap (λ (l : List (List ℕ)). out ++ l) (sym (numbered_bytes k a packets))
 
-pub going_is : (old new : ServingValue) (out all : List (List ℕ)) → WroteThen serves WroteMore old new out all → AreCalls old (GoesOn ∷ []) new out all
-going_is old new out all w =
-    (_, one_event old new GoesOn _ (w.mid, w.wrote.0, up_grew old w.mid w.done.0, w.wrote.2, w.rest, refl), behind out all w.wrote.0 _ _ w.wrote.1)
-
-came : (old new : ServingValue) (bytes : List ℕ) (r : Result Got LinkFault) → TookIn serves old new bytes r → Stepping AnyBytes old (Came bytes) new []
-came old new bytes r t = (r, new.port.link, t.receives, t.rest, refl, tt, tt)
-
-took_by : (old mid new : ServingValue) (bytes : List ℕ) (events : List EndEvent) (out all : List (List ℕ)) → Stepping AnyBytes old (Came bytes) mid [] → AreCalls mid events new out all → AreCalls old (Came bytes ∷ events) new out all
-took_by old mid new bytes events out all s c = (c.0, ((mid, []), [], (s, refl), c.1), c.2)
-
 bytes_append : (xs ys : List Written) → bytes_of (xs ++ ys) ≡ bytes_of xs ++ bytes_of ys
 bytes_append xs ys = map-append (λ (w : Written). w.bytes) xs ys
 
--- with an acknowledgement or without
-answered_is : (old served new : ServingValue) (got : Got) (out all packets written : List (List ℕ)) (wants : Bool) → ServedMore old served → new ≡ with_port served new.port → WroteMore served.port new.port written → all ≡ out ++ packets
-    → wants_ack got (length written) ≡ wants → (wants_ack got (length written) ≡ false → packets ≡ written)
-    → (wants_ack got (length written) ≡ true → (bytes : List ℕ) × (packets ≡ written ++ bytes ∷ []) × IsSpelling (ack_packet_of new.port.link) bytes)
-    → (events : List EndEvent) × AreCalls old events new out all
-answered_is old served new got out all packets written false m rest w is e quiet acks = (
-  GoesOn ∷ [],
-  (_, one_event old new GoesOn _ (served, written, m, w, rest, refl), behind out all written _ _ (is ∙ ap (λ (l : List (List ℕ)). out ++ l) (quiet e))),
-)
-answered_is old served new got out all packets written true m rest w is e quiet acks =
-    let a = acks e in
-    let first = numbered (served.port.link.sent + 1) served.port.link.coming.received written in
-    let last : Written = record { bytes = a.0; segment = None; acks = new.port.link.coming.received } in (
-      GoesOn ∷ Repeats None ∷ [],
-      (
+module _ (comes : LinkValue → List ℕ → Type 0) where
+  -- a run whose packets stand behind those that were there
+  abbrev pub AreCalls : ServingValue → ServingValue → (out all : List (List ℕ)) → Type 0
+  AreCalls old new out all = (wrote : List Written) × RunsAs comes old new wrote × (all ≡ out ++ bytes_of wrote)
+
+  going_is : (old new : ServingValue) (out all : List (List ℕ)) → WroteThen serves WroteMore old new out all → AreCalls old new out all
+  going_is old new out all w =
+      (_, one_event comes old new GoesOn _ (w.mid, w.wrote.0, up_grew old w.mid w.done.0, w.wrote.2, w.rest, refl), behind out all w.wrote.0 _ _ w.wrote.1)
+
+  took_by : (old mid new : ServingValue) (bytes : List ℕ) (out all : List (List ℕ)) → Stepping comes old (Came bytes) mid [] → AreCalls mid new out all → AreCalls old new out all
+  took_by old mid new bytes out all s c = (c.0, (Came bytes ∷ c.1.0, ((mid, []), [], (s, refl), c.1.1)), c.2)
+
+  -- with an acknowledgement or without
+  answered_is : (old served new : ServingValue) (got : Got) (out all packets written : List (List ℕ)) (wants : Bool) → ServedMore old served → new ≡ with_port served new.port → WroteMore served.port new.port written → all ≡ out ++ packets
+      → wants_ack got (length written) ≡ wants → (wants_ack got (length written) ≡ false → packets ≡ written)
+      → (wants_ack got (length written) ≡ true → (bytes : List ℕ) × (packets ≡ written ++ bytes ∷ []) × IsSpelling (ack_packet_of new.port.link) bytes)
+      → AreCalls old new out all
+  answered_is old served new got out all packets written false m rest w is e quiet acks =
+      (_, one_event comes old new GoesOn _ (served, written, m, w, rest, refl), behind out all written _ _ (is ∙ ap (λ (l : List (List ℕ)). out ++ l) (quiet e)))
+  answered_is old served new got out all packets written true m rest w is e quiet acks =
+      let a = acks e in
+      let first = numbered (served.port.link.sent + 1) served.port.link.coming.received written in
+      let last : Written = record { bytes = a.0; segment = None; acks = new.port.link.coming.received } in (
         first ++ last ∷ [],
-        ((new, first), first, ((served, written, m, w, rest, refl), refl), ((new, first ++ last ∷ []), last ∷ [], (ack_step new a.0 a.2, refl), refl)),
+        more_calls comes old new new first (last ∷ []) (one_event comes old new GoesOn first (served, written, m, w, rest, refl)) (ack_is comes new a.0 a.2),
         is ∙ ap (λ (l : List (List ℕ)). out ++ l) (a.1 ∙ ap (λ (l : List (List ℕ)). l ++ a.0 ∷ []) (sym (numbered_bytes _ _ written)) ∙ sym (bytes_append first (last ∷ []))),
-      ),
-    )
+      )
 
-pub taking_is : (old new : ServingValue) (bytes : List ℕ) (got : Got) (out all : List (List ℕ)) → TookThen serves old new bytes got out all (Ok tt) → (events : List EndEvent) × AreCalls old (Came bytes ∷ events) new out all
-taking_is old new bytes got out all (mid, t, w) =
-    let a = w.wrote in
-    let r = answered_is mid w.mid new got out all a.0 a.2.written (wants_ack got (length a.2.written)) (up_grew mid w.mid w.done.0) w.rest a.2.wrote a.1 refl a.2.quiet a.2.acks in
-    (r.0, took_by old mid new bytes r.0 out all (came old mid bytes (Ok got) t) r.1)
+  taking_is : (old new : ServingValue) (bytes : List ℕ) (got : Got) (out all : List (List ℕ)) → comes old.port.link bytes → TookThen serves old new bytes got out all (Ok tt) → AreCalls old new out all
+  taking_is old new bytes got out all h (mid, t, w) =
+      let a = w.wrote in
+      took_by old mid new bytes out all (came comes old mid bytes (Ok got) h t)
+      (answered_is mid w.mid new got out all a.0 a.2.written (wants_ack got (length a.2.written)) (up_grew mid w.mid w.done.0) w.rest a.2.wrote a.1 refl a.2.quiet a.2.acks)
 
-stopped_is : (old new : ServingValue) (out all : List (List ℕ)) (f : EndFault) → ServeFault old new f → all ≡ out → AreCalls old (GoesOn ∷ []) new out all
-stopped_is old new out all f h same = ([], one_event old new GoesOn [] (served_only old new (fault_grew old new f h)), same ∙ sym (append-nil out))
+  stopped_is : (old new : ServingValue) (out all : List (List ℕ)) (f : EndFault) → ServeFault old new f → all ≡ out → AreCalls old new out all
+  stopped_is old new out all f h same = ([], one_event comes old new GoesOn [] (served_only comes old new (fault_grew old new f h)), same ∙ sym (append-nil out))
 
-pub halting_is : (old new : ServingValue) (out all : List (List ℕ)) (f : EndFault) → WentOn serves old new out all (Err f) → AreCalls old (GoesOn ∷ []) new out all
-halting_is old new out all f (inl h) = stopped_is old new out all f h.0 h.1
-halting_is old new out all f (inr h) = let w = h.1 in going_is old new out all (record { mid = w.mid; done = w.done; rest = w.rest; wrote = (w.wrote.0, w.wrote.1, w.wrote.2.0) })
+  pub going_on_is : (old new : ServingValue) (out all : List (List ℕ)) (r : Result (Unit {0}) EndFault) → WentOn serves old new out all r → AreCalls old new out all
+  going_on_is old new out all (Ok done) w = going_is old new out all (record { mid = w.mid; done = w.done; rest = w.rest; wrote = (w.wrote.0, w.wrote.1, w.wrote.2.0) })
+  going_on_is old new out all (Err f) (inl h) = stopped_is old new out all f h.0 h.1
+  going_on_is old new out all (Err f) (inr h) = let w = h.1 in going_is old new out all (record { mid = w.mid; done = w.done; rest = w.rest; wrote = (w.wrote.0, w.wrote.1, w.wrote.2.0) })
 
-pub part_is : (old new : ServingValue) (bytes : List ℕ) (got : Got) (out all : List (List ℕ)) (f : EndFault) → TookThen serves old new bytes got out all (Err f) → AreCalls old (Came bytes ∷ GoesOn ∷ []) new out all
-part_is old new bytes got out all f (mid, t, inl h) =
-    took_by old mid new bytes (GoesOn ∷ []) out all (came old mid bytes (Ok got) t) (stopped_is mid new out all f h.0 h.1)
-part_is old new bytes got out all f (mid, t, inr h) =
-    let w = h.1 in
-    took_by old mid new bytes (GoesOn ∷ []) out all (came old mid bytes (Ok got) t)
-    (going_is mid new out all (record { mid = w.mid; done = w.done; rest = w.rest; wrote = (w.wrote.0, w.wrote.1, w.wrote.2.0) }))
+  part_is : (old new : ServingValue) (bytes : List ℕ) (got : Got) (out all : List (List ℕ)) (f : EndFault) → comes old.port.link bytes → TookThen serves old new bytes got out all (Err f) → AreCalls old new out all
+  part_is old new bytes got out all f h (mid, t, inl s) = took_by old mid new bytes out all (came comes old mid bytes (Ok got) h t) (stopped_is mid new out all f s.0 s.1)
+  part_is old new bytes got out all f h (mid, t, inr s) =
+      let w = s.1 in
+      took_by old mid new bytes out all (came comes old mid bytes (Ok got) h t) (going_is mid new out all (record { mid = w.mid; done = w.done; rest = w.rest; wrote = (w.wrote.0, w.wrote.1, w.wrote.2.0) }))
 
-pub refusing_is : (old new : ServingValue) (bytes : List ℕ) (f : LinkFault) → TookIn serves old new bytes (Err f) → Runs AnyBytes old (Came bytes ∷ []) new []
-refusing_is old new bytes f t = one_event old new (Came bytes) [] (came old new bytes (Err f) t)
+  pub taken_is : (old new : ServingValue) (bytes : List ℕ) (out all : List (List ℕ)) (r : Result Got TakeFault) → comes old.port.link bytes → Takes serves old new bytes out all r → AreCalls old new out all
+  taken_is old new bytes out all (Ok got) h t = taking_is old new bytes got out all h t
+  taken_is old new bytes out all (Err (take_fault.Refused f)) h t = ([], receiving_is comes old new bytes (Err f) h t.0, t.1 ∙ sym (append-nil out))
+  taken_is old new bytes out all (Err (take_fault.Unfinished got f)) h t = part_is old new bytes got out all f h t

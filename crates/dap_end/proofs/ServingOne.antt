@@ -17,9 +17,12 @@ use Rattle.dap_accessed.specs.Present.{Present}
 use Rattle.dap_accessed.specs.Served.{Serves, AllAtMost}
 use Rattle.dap_accessed.specs.declared.served.Served.{Served}
 use Rattle.dap_end.specs.Inner.Pasts.{served}
-use Rattle.dap_end.specs.Ports.{PortValue, oldest, gone_on}
-use Rattle.dap_end.specs.Going.{GoneThrough, given_then}
-use Rattle.dap_end.specs.Serving.{ServingValue, Past, IsAfter, ServedOne, answers_to}
+use Rattle.dap_end.specs.Ports.{PortValue, gone_on}
+use Rattle.dap_end.specs.Inner.After.{oldest}
+use Rattle.dap_end.specs.Going.{given_then}
+use Rattle.dap_end.specs.Inner.After.{GoneThrough}
+use Rattle.dap_end.specs.Serving.{IsAfter, ServedOne}
+use Rattle.dap_end.specs.Done.{ServingValue, Past, answers_to}
 use Rattle.dap_end.specs.Inner.Kept.{IsPort, AreShort}
 use Rattle.dap_end.specs.Inner.ServingView.{serving_of}
 use Rattle.dap_end.proofs.Going.{gone_one}

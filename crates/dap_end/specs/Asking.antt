@@ -1,54 +1,25 @@
 -- The end that asks, before any peer.
-use Rattle.std.specs.Prelude.{◌≡◌, ◌≢◌, ◌⊎◌, ℕ, ◌<◌, Result, Ok, Err, List, [], ◌∷◌, ◌++◌, length, true, false, Option, Some, None, option_to_list}
-use Rattle.std.specs.List.{AllByRecursion}
-use Rattle.dap_msg.specs.declared.items.Item.{Item}
-use Rattle.dap_msg.specs.Blocked.{NspMessage, all_joined, messages_in, AllFit}
-use Rattle.nsp_link.specs.Link.{Sends}
+use Rattle.std.specs.Prelude.{◌≡◌, ◌⊎◌, ℕ, ◌<◌, Result, Ok, Err, List, [], ◌∷◌, ◌++◌, length, false, Option, Some, None, option_to_list}
 use Rattle.nsp_link.specs.Sending.{SendAllFault}
 use Rattle.dap_accessing.specs.Request.{Request}
 use Rattle.dap_accessing.specs.declared.report.Report.{Report}
 use Rattle.dap_accessing.specs.declared.fault.ReadFault.{ReadFault}
 use Rattle.dap_accessing.specs.declared.fault.ReadFault.TheVariants as read_fault
-use Rattle.dap_accessing.specs.Asked.{Asked}
 use Rattle.dap_accessing.specs.Told.{Told}
-use Rattle.dap_accessing.specs.Present.{Present, StandsAfter}
 use Rattle.dap_accessing.specs.Calls.{Asks, ReadRefused}
 use Rattle.dap_end.specs.declared.asking.Heard.{Heard}
 use Rattle.dap_end.specs.declared.asking.Heard.TheVariants as heard
 use Rattle.dap_end.specs.declared.fault.EndFault.{EndFault}
 use Rattle.dap_end.specs.declared.fault.EndFault.TheVariants as end_fault
-use Rattle.dap_end.specs.Ports.{PortValue, gone_on, HandsOver}
-use Rattle.dap_end.specs.Going.{GoneThrough, given_then, NextItem}
+use Rattle.dap_end.specs.Ports.{gone_on, HandsOver}
+use Rattle.dap_end.specs.Going.{given_then, NextItem}
 use Rattle.dap_end.specs.Turns.{EndOf}
 use Rattle.dap_end.specs.Writing.{Behind}
+use Rattle.dap_end.specs.Done.{AskingValue, AskingPast}
 
-pub record AskingValue : Type 0 where
-  pub port : PortValue
-  pub accessing : Present
-
--- What the end did on this link. It keeps none of it.
-pub record AskingPast : Type 0 where
-  pub requests : List Request  -- what was asked
-  pub asked : List NspMessage  -- the NSP messages of the requests
-  pub handed : List (List ℕ)  -- those that were handed to its link
-  pub given : List (List ℕ)  -- the NSP messages that it read whole
-  pub answers : List Item  -- what it read
-
-abbrev pub nothing_asked : AskingPast
-nothing_asked = record { requests = []; asked = []; handed = []; given = []; answers = [] }
-
--- The end is as after this: it waits for what is due after these requests and answers; the answers are those of the NSP
--- messages that it read and of the front of the next one; and what it handed to its link, and what waits, are the messages
--- of the requests.
-pub record HasAsked (past : AskingPast) (v : AskingValue) : Type 0 where
-  pub asking : StandsAfter past.requests past.answers v.accessing
-  pub gone : GoneThrough past.given v.port.link.coming.inbox v.port.place past.answers
-  pub sends : Sends v.port.link past.handed
-  pub messages : messages_in past.asked ≡ Asked v.accessing.own past.requests
-  pub waiting : past.handed ++ v.port.outbox ≡ all_joined past.asked
-  -- each message has a spelling, and no NSP message is without one
-  pub fit : AllFit (messages_in past.asked)
-  pub full : AllByRecursion (λ packet. packet ≢ []) past.asked
+-- An end, and what it did; and that it did anything, or failed by an answer that had no place. Nobody has to believe the texts: a
+-- new end has asked nothing, each call says what it has asked then, and a law says what such an end holds.
+pub use Rattle.dap_end.specs.Inner.After.{HasAsked, HasDone}
 
 -- ---- Asking.
 
@@ -135,9 +106,3 @@ abbrev pub AreAlike : AskingValue → AskingValue → Type 0
 AreAlike one two =
     (one.port ≡ two.port) × (one.accessing.own ≡ two.accessing.own) × (one.accessing.failed ≡ two.accessing.failed)
     × (one.accessing.failed ≡ false → one.accessing ≡ two.accessing)
-
--- the end is as after some past, or an unexpected answer failed it after some
-abbrev pub HasDone : AskingValue → Type 0
-HasDone v =
-    ((past : AskingPast) × HasAsked past v)
-    ⊎ ((v.accessing.failed ≡ true) × ((handed : List (List ℕ)) × Sends v.port.link handed))

@@ -1,33 +1,15 @@
 -- The DAP messages in NSP messages, gone through one after another.
 use Rattle.std.specs.Prelude.{◌≡◌, ℕ, ◌<◌, ◌≤◌, ◌==◌, if◌then◌else◌, List, [], ◌∷◌, ◌++◌, length}
-use Rattle.std.specs.List.{AllByRecursion}
 use Rattle.dap_fields.specs.Spelling.{AreBytes}
 use Rattle.dap_msg.specs.declared.items.Item.{Item}
 use Rattle.dap_msg.specs.Items.{ItemAt, Items, IsPlace}
-use Rattle.dap_end.specs.Ports.{PortValue, oldest}
-
--- The items stand in the bytes, from one place to another, and none of them ends with the bytes.
-abbrev pub StandFrom : List ℕ → ℕ → List Item → ℕ → Type 0
-StandFrom bytes at [] to = at ≡ to
-StandFrom bytes at (item ∷ items) to =
-    (next : ℕ) × (next < length bytes) × ItemAt bytes at item next × StandFrom bytes next items to
+use Rattle.dap_end.specs.Ports.{PortValue}
 
 -- the items of NSP messages: all of each, in order
 abbrev pub AreItemsOf : List (List ℕ) → List Item → Type 0
 AreItemsOf [] items = items ≡ []
 AreItemsOf (bytes ∷ messages) items =
     (front back : List Item) × (items ≡ front ++ back) × Items bytes front × AreItemsOf messages back
-
--- The first of these items are all those of NSP messages that were gone through; the others stand before the place in
--- the oldest that is left.
-pub record GoneThrough (given inbox : List (List ℕ)) (place : ℕ) (items : List Item) : Type 0 where
-  pub done : List Item
-  pub begun : List Item
-  pub all : items ≡ done ++ begun
-  pub whole : AreItemsOf given done
-  pub front : StandFrom (oldest inbox) 0 begun place
-  pub bytes : AllByRecursion AreBytes given
-  pub front_bytes : 0 < length begun → AreBytes (oldest inbox)
 
 -- the items are a front of all those in these NSP messages: each once, and in order
 abbrev pub AreFrontOf : List (List ℕ) → List Item → Type 0

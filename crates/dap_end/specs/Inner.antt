@@ -9,3 +9,5 @@ pub mod Stored
 pub mod Answered
 pub mod Pasts
 pub mod Wanting
+pub mod After
+pub mod Running

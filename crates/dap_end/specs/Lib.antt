@@ -2,12 +2,13 @@ pub mod Ports
 pub mod Going
 pub mod Writing
 pub mod Turns
+pub mod Done
 pub mod Serving
 pub mod Taking
 pub mod Wanting
 pub mod Asking
-pub mod Hearing
 pub mod Runs
 pub mod Headline
+pub mod Calls
 pub mod Joined
 pub mod Inner

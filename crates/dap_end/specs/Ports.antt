@@ -14,10 +14,6 @@ pub record PortValue : Type 0 where
 abbrev pub new_port : LinkSetup → PortValue
 new_port setup = record { link = new_link setup; outbox = []; place = 0 }
 
--- the oldest NSP message that came and is left, or no bytes where none is
-abbrev pub oldest : List (List ℕ) → List ℕ
-oldest inbox = slice_index_or inbox 0 []
-
 -- only the link moved
 abbrev pub with_link : PortValue → LinkValue → PortValue
 with_link p link = record p { link = link }

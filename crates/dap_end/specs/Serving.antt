@@ -1,45 +1,15 @@
 -- The end that serves, before any peer.
 use Rattle.std.specs.Prelude.{◌≡◌, ◌⊎◌, ℕ, ◌<◌, List, [], ◌∷◌, ◌++◌, length}
-use Rattle.dap_msg.specs.declared.items.Item.{Item}
-use Rattle.dap_msg.specs.Blocked.{NspMessage, Blocked, all_joined, AllFit}
-use Rattle.nsp_link.specs.Link.{Sends}
 use Rattle.dap_accessed.specs.Standing.{Files}
-use Rattle.dap_accessed.specs.Groups.{Answers, added, limit_for}
-use Rattle.dap_accessed.specs.Present.{Present, StandsAfter}
 use Rattle.dap_accessed.specs.declared.fault.AddFault.{AddFault}
 use Rattle.dap_accessed.specs.declared.fault.AddFault.TheVariants as fault
-use Rattle.dap_end.specs.Ports.{PortValue, gone_on, HandsOver, HasCome}
-use Rattle.dap_end.specs.Going.{GoneThrough, given_then, NextItem}
+use Rattle.dap_end.specs.Ports.{gone_on, HandsOver, HasCome}
+use Rattle.dap_end.specs.Going.{given_then, NextItem}
+use Rattle.dap_end.specs.Done.{ServingValue, Past, nothing_yet}
 
-pub record ServingValue : Type 0 where
-  pub port : PortValue
-  pub accessed : Present
-
--- What the end did on this link. It keeps none of it.
-pub record Past : Type 0 where
-  pub first : Files  -- the files that it had at first
-  pub given : List (List ℕ)  -- the NSP messages that it served whole
-  pub items : List Item  -- what it served: messages, or the rest of an NSP message of which none can be read
-  pub handed : List (List ℕ)  -- the NSP messages with its answers that were handed to its link
-
-abbrev pub nothing_yet : Files → Past
-nothing_yet first = record { first = first; given = []; items = []; handed = [] }
-
--- the answers to each item, joined to NSP messages as far as the peer's limit goes
-abbrev pub answers_to : (own : ℕ) → Files → (before items : List Item) → List NspMessage
-answers_to own first before [] = []
-answers_to own first before (item ∷ items) =
-    Blocked (limit_for own first before) (added own first before item) ++ answers_to own first (before ++ item ∷ []) items
-
--- The end is as after this: its files and its phase are those after the items, which are those of the NSP messages that
--- it served and of the front of the next one; and what it handed to its link, and what waits, are the answers to them.
-pub record IsAfter (past : Past) (v : ServingValue) : Type 0 where
-  pub serving : StandsAfter past.first past.items v.accessed
-  pub gone : GoneThrough past.given v.port.link.coming.inbox v.port.place past.items
-  pub sends : Sends v.port.link past.handed
-  pub answers : past.handed ++ v.port.outbox ≡ all_joined (answers_to v.accessed.own past.first [] past.items)
-  -- each answer has a spelling
-  pub fit : AllFit (Answers v.accessed.own past.first past.items)
+-- An end, and what it did. Nobody has to believe the text: a new end is as after nothing, each call says what it is after then,
+-- and a law says what an end that is after something holds.
+pub use Rattle.dap_end.specs.Inner.After.{IsAfter}
 
 -- ---- Files that the end is given.
 

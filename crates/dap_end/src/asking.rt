@@ -14,10 +14,12 @@ ghost use Rattle.dap_accessing.specs.Inner.Outgoing.{number_carried};
 ghost use Rattle.dap_accessing.specs.Inner.Prepared.{IsPrepared};
 ghost use Rattle.dap_accessing.specs.declared.fault.AskFault.TheVariants as ask_fault;
 ghost use Rattle.dap_fields.specs.Spelling.{AreBytes};
-ghost use Rattle.dap_end.specs.Ports.{new_port, oldest, with_link};
+ghost use Rattle.dap_end.specs.Ports.{new_port, with_link};
+ghost use Rattle.dap_end.specs.Inner.After.{oldest};
 ghost use Rattle.nsp_link.specs.Receiving.{Receives};
 ghost use Rattle.dap_end.specs.Writing.{Behind, WroteMore};
-ghost use Rattle.dap_end.specs.Asking.{AskingPast, HasAsked, AskedOne, HandedAll, ReadOne, ReadNone, ReadNext, ReadOn, ReadPart, HeardAll, HearFault, asks, nothing_asked};
+ghost use Rattle.dap_end.specs.Asking.{HasAsked, AskedOne, HandedAll, ReadOne, ReadNone, ReadNext, ReadOn, ReadPart, HeardAll, HearFault, asks};
+ghost use Rattle.dap_end.specs.Done.{AskingPast, nothing_asked};
 ghost use Rattle.dap_end.specs.Turns.{Answered, WentOn, Takes};
 ghost use Rattle.dap_end.specs.Inner.Answered.{ended_by};
 ghost use Rattle.dap_end.specs.Inner.Kept.{IsPort};
@@ -49,7 +51,7 @@ pub struct AskingEnd {
 }
 
 impl Model for AskingEnd {
-    ghost use Rattle.dap_end.specs.Asking.{AskingValue};
+    ghost use Rattle.dap_end.specs.Done.{AskingValue};
 
     ghost Value = { AskingValue };
 

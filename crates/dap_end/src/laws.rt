@@ -1,17 +1,21 @@
 //! Laws over the definitions alone. Each function does nothing: its contract is the law.
 
-ghost use Rattle.std.specs.Prelude.{◌≡◌, ◌≢◌, ◌+◌, ◌-◌, ◌<◌, ℕ, List, [], ◌∷◌, ◌++◌, Option, Some, None, Result, Ok, Err, IfErr, false, option_to_list};
+ghost use Rattle.std.specs.Prelude.{◌≡◌, ◌≢◌, ◌+◌, ◌-◌, ◌<◌, ℕ, List, [], ◌∷◌, ◌++◌, map, Option, Some, None, Result, Err, IfErr, false, option_to_list};
+ghost use Rattle.std.specs.List.{AllByRecursion};
 ghost use Rattle.dap_fields.specs.Spelling.{AreBytes};
 ghost use Rattle.nsp_link.specs.declared.link.LinkSetup.{LinkSetup as TheSetup};
 ghost use Rattle.nsp_link.specs.declared.link.Got.{Got as TheGot};
 ghost use Rattle.nsp_link.specs.declared.fault.LinkFault.{LinkFault as TheFault};
-ghost use Rattle.nsp_link.specs.Link.{IsSpelling};
+ghost use Rattle.nsp_link.specs.Link.{IsSetup, IsSpelling, Sends};
 ghost use Rattle.nsp_link.specs.declared.fault.LinkFault.TheVariants as fault;
 ghost use Rattle.nsp_link.specs.Sending.{SendAllFault, WritesSent, ack_packet_of};
-ghost use Rattle.dap_msg.specs.Blocked.{messages_in};
+ghost use Rattle.dap_msg.specs.Blocked.{AllFit, all_joined, messages_in};
+ghost use Rattle.dap_msg.specs.declared.message.Message.{Message};
+ghost use Rattle.dap_msg.specs.declared.items.Item.TheVariants.{Whole};
 ghost use Rattle.dap_msg.specs.declared.items.Item.{Item};
 ghost use Rattle.dap_accessed.specs.Standing.{Files};
 ghost use Rattle.dap_accessed.specs.Groups.{After, Answers};
+ghost use Rattle.dap_accessing.specs.Asked.{Asked};
 ghost use Rattle.dap_accessing.specs.Told.{Told};
 ghost use Rattle.dap_accessing.specs.Request.{Request as TheRequest};
 ghost use Rattle.dap_accessing.specs.declared.report.Report.{Report as TheReport};
@@ -21,133 +25,177 @@ ghost use Rattle.dap_end.specs.declared.fault.EndFault.{EndFault as TheEndFault}
 ghost use Rattle.dap_end.specs.declared.fault.EndFault.TheVariants as end_fault;
 ghost use Rattle.dap_end.specs.declared.fault.TakeFault.{TakeFault as TheTakeFault};
 ghost use Rattle.dap_end.specs.Ports.{PortValue, new_port};
-ghost use Rattle.dap_end.specs.Going.{AreFrontOf};
-ghost use Rattle.dap_end.specs.Serving.{ServingValue, Past, IsAfter, ServedOne, PostedAll, answers_to, nothing_yet};
+ghost use Rattle.dap_end.specs.Going.{AreFrontOf, AreItemsOf};
+ghost use Rattle.dap_end.specs.Serving.{IsAfter, ServedOne, PostedAll};
+ghost use Rattle.dap_end.specs.Done.{ServingValue, Past, answers_to, nothing_yet};
 ghost use Rattle.dap_end.specs.Writing.{WroteMore};
-ghost use Rattle.dap_end.specs.Turns.{WroteThen, WentOn, TookIn, TookThen, Takes};
+ghost use Rattle.dap_end.specs.Turns.{WentOn, TookIn, Takes};
 ghost use Rattle.dap_end.specs.Taking as serving;
 ghost use Rattle.dap_end.specs.Taking.{serves};
 ghost use Rattle.dap_end.specs.Wanting.{is_want, why};
 ghost use Rattle.dap_end.specs.Asking as asking;
-ghost use Rattle.dap_end.specs.Asking.{asks, AreAlike, AskingValue, AskingPast, HasAsked, HasDone, AskedOne, HandedAll, ReadOne, nothing_asked};
-ghost use Rattle.dap_end.specs.Runs.{RunsBy};
-ghost use Rattle.dap_end.specs.Headline.{Written, EndEvent, Came, GoesOn, Repeats, AnyBytes, IsFromPeer, Runs, AreCalls, AreWrittenOf, numbered};
-ghost use Rattle.dap_end.specs.Hearing.{AskingEvent, Asks, By, AskingRuns, AreAskingCalls, requests_in};
-ghost use Rattle.dap_end.specs.Joined.{Pair, PairEvent, PairStepped, AreOpposite, AreNew, PairHeadline};
+ghost use Rattle.dap_end.specs.Asking.{asks, AreAlike, HasAsked, HasDone, AskedOne, HandedAll, ReadOne};
+ghost use Rattle.dap_end.specs.Done.{AskingValue, AskingPast, nothing_asked};
+ghost use Rattle.dap_end.specs.Headline.{AreWrittenOf, Arrival, IsFromPeer, Written, bytes_of};
+ghost use Rattle.dap_end.specs.Joined.{IsBrought, Pair};
+ghost use Rattle.dap_end.specs.Calls.{AskingRuns, PairRuns, Runs};
+
+/// What an end that serves holds, where it is as after something: its files are those after the items that it served; what it
+/// handed to its link, and then what waits, are the answers to them, each of which has a spelling; and the items are a front of
+/// those in the NSP messages that came, all of each that it served whole. Own.
+pub fn serving_ends_stand()
+    ensures files { (past : Past) (v : ServingValue) → IsAfter past v
+        → v.accessed.files ≡ After v.accessed.own past.first past.items }
+    ensures answers { (past : Past) (v : ServingValue) → IsAfter past v
+        → past.handed ++ v.port.outbox
+        ≡ all_joined (answers_to v.accessed.own past.first [] past.items) }
+    ensures sends { (past : Past) (v : ServingValue) → IsAfter past v
+        → Sends v.port.link past.handed }
+    ensures fit { (past : Past) (v : ServingValue) → IsAfter past v
+        → AllFit (Answers v.accessed.own past.first past.items) }
+    ensures front { (past : Past) (v : ServingValue) → IsAfter past v
+        → AreFrontOf (past.given ++ v.port.link.coming.inbox) past.items }
+    ensures whole { (past : Past) (v : ServingValue) → IsAfter past v → (done begun : List Item)
+        × (past.items ≡ done ++ begun) × AreItemsOf past.given done }
+    // What is joined to NSP messages are all answers, in order.
+    ensures joined { (own : ℕ) (first : Files) (items : List Item)
+        → messages_in (answers_to own first [] items) ≡ Answers own first items }
+{}
+
+/// What an end that asks holds, where it has asked something: what it handed to its link, and then what waits, are the messages
+/// of the requests, joined to NSP messages none of which is empty, and each has a spelling; what it read is a front of the items
+/// in the NSP messages that came, all of each that it read whole. Own.
+pub fn asking_ends_stand()
+    ensures messages { (past : AskingPast) (v : AskingValue) → HasAsked past v
+        → messages_in past.asked ≡ Asked v.accessing.own past.requests }
+    ensures waiting { (past : AskingPast) (v : AskingValue) → HasAsked past v
+        → past.handed ++ v.port.outbox ≡ all_joined past.asked }
+    ensures full { (past : AskingPast) (v : AskingValue) → HasAsked past v
+        → AllByRecursion (λ packet. packet ≢ []) past.asked }
+    ensures sends { (past : AskingPast) (v : AskingValue) → HasAsked past v
+        → Sends v.port.link past.handed }
+    ensures fit { (past : AskingPast) (v : AskingValue) → HasAsked past v
+        → AllFit (messages_in past.asked) }
+    ensures front { (past : AskingPast) (v : AskingValue) → HasAsked past v
+        → AreFrontOf (past.given ++ v.port.link.coming.inbox) past.answers }
+    ensures whole { (past : AskingPast) (v : AskingValue) → HasAsked past v
+        → (done begun : List Item) × (past.answers ≡ done ++ begun) × AreItemsOf past.given done }
+    ensures done { (past : AskingPast) (v : AskingValue) → HasAsked past v → HasDone v }
+{}
+
+/// Each call of an end that serves, refused or not, is a run, with the packet that came in it. No call is one, and two are one
+/// where the second begins as the first ends. Own.
+pub fn calls_are_runs()
+    ensures none { (v : ServingValue) → Runs [] v v [] }
+    ensures more { (came later : List Arrival) (old mid new : ServingValue)
+        (ws more : List Written) → Runs came old mid ws → Runs later mid new more
+        → Runs (came ++ later) old new (ws ++ more) }
+    ensures receive { (old new : ServingValue) (bytes : List ℕ) (r : Result TheGot TheFault)
+        → TookIn serves old new bytes r → Runs ((old.port.link, bytes) ∷ []) old new [] }
+    ensures serve { (old new : ServingValue) (n : ℕ) → ServedOne old new n → Runs [] old new [] }
+    ensures post { (old new : ServingValue) (n : ℕ) → PostedAll old new n → Runs [] old new [] }
+    ensures emit { (old new : ServingValue) (bytes : List ℕ) → new ≡ record old { port = new.port }
+        → WroteMore old.port new.port (bytes ∷ []) → Runs [] old new (record {
+          bytes = bytes;
+          segment = Some (old.port.link.sent + 1);
+          acks = old.port.link.coming.received;
+        } ∷ []) }
+    ensures resend { (v : ServingValue) (i : ℕ) (bytes : List ℕ)
+        → i < v.port.link.sent - v.port.link.acked
+        → WritesSent v.port.link (Some (v.port.link.acked + 1 + i)) bytes
+        → Runs [] v v (record {
+          bytes = bytes;
+          segment = Some (v.port.link.acked + 1 + i);
+          acks = v.port.link.coming.received;
+        } ∷ []) }
+    ensures ack { (v : ServingValue) (bytes : List ℕ)
+        → IsSpelling (ack_packet_of v.port.link) bytes → Runs [] v v (record {
+          bytes = bytes;
+          segment = None;
+          acks = v.port.link.coming.received;
+        } ∷ []) }
+    ensures go_on { (old new : ServingValue) (out all : List (List ℕ))
+        (r : Result (Unit {0}) TheEndFault) → WentOn serves old new out all r
+        → (wrote : List Written) × Runs [] old new wrote × (all ≡ out ++ bytes_of wrote) }
+    ensures take { (old new : ServingValue) (bytes : List ℕ) (out all : List (List ℕ))
+        (r : Result TheGot TheTakeFault) → Takes serves old new bytes out all r
+        → (wrote : List Written) × Runs ((old.port.link, bytes) ∷ []) old new wrote
+        × (all ≡ out ++ bytes_of wrote) }
+{}
+
+/// Each call of an end that asks is a run, refused or not, but one in which an answer has no place. No call is one, and two are
+/// one where the second begins as the first ends. Own.
+pub fn asking_calls_are_runs()
+    ensures none { (v : AskingValue) → AskingRuns [] [] v v [] [] }
+    ensures more { (came later : List Arrival) (requests others : List TheRequest)
+        (old mid new : AskingValue) (rs ss : List TheReport) (ws more : List Written)
+        → AskingRuns came requests old mid rs ws → AskingRuns later others mid new ss more
+        → AskingRuns (came ++ later) (requests ++ others) old new (rs ++ ss) (ws ++ more) }
+    ensures ask { (old new : AskingValue) (request : TheRequest) (n : ℕ)
+        → AskedOne request old new n → AskingRuns [] (request ∷ []) old new [] [] }
+    ensures receive { (old new : AskingValue) (bytes : List ℕ) (before after : List TheReport)
+        (r : Result TheGot TheFault) → TookIn (asks before after) old new bytes r
+        → AskingRuns ((old.port.link, bytes) ∷ []) [] old new [] [] }
+    ensures read { (old new : AskingValue) (report : Option TheReport) → ReadOne old new report
+        → AskingRuns [] [] old new (option_to_list report) [] }
+    ensures post { (old new : AskingValue) (n : ℕ) → HandedAll old new n
+        → AskingRuns [] [] old new [] [] }
+    ensures emit { (old new : AskingValue) (bytes : List ℕ) → new ≡ record old { port = new.port }
+        → WroteMore old.port new.port (bytes ∷ []) → AskingRuns [] [] old new [] (record {
+          bytes = bytes;
+          segment = Some (old.port.link.sent + 1);
+          acks = old.port.link.coming.received;
+        } ∷ []) }
+    ensures resend { (v : AskingValue) (i : ℕ) (bytes : List ℕ)
+        → i < v.port.link.sent - v.port.link.acked
+        → WritesSent v.port.link (Some (v.port.link.acked + 1 + i)) bytes
+        → AskingRuns [] [] v v [] (record {
+          bytes = bytes;
+          segment = Some (v.port.link.acked + 1 + i);
+          acks = v.port.link.coming.received;
+        } ∷ []) }
+    ensures ack { (v : AskingValue) (bytes : List ℕ)
+        → IsSpelling (ack_packet_of v.port.link) bytes → AskingRuns [] [] v v [] (record {
+          bytes = bytes;
+          segment = None;
+          acks = v.port.link.coming.received;
+        } ∷ []) }
+    ensures go_on { (old new : AskingValue) (out all : List (List ℕ))
+        (before after : List TheReport) (r : Result (Unit {0}) TheEndFault)
+        → IfErr r (λ f. f ≢ end_fault.Read read_fault.Unexpected)
+        → WentOn (asks before after) old new out all r
+        → (reports : List TheReport) × (wrote : List Written)
+        × AskingRuns [] [] old new reports wrote
+        × (all ≡ out ++ bytes_of wrote) × (after ≡ before ++ reports) }
+    ensures take { (old new : AskingValue) (bytes : List ℕ) (out all : List (List ℕ))
+        (before after : List TheReport) (r : Result TheGot TheTakeFault)
+        → IfErr r (λ f. why f ≢ end_fault.Read read_fault.Unexpected)
+        → Takes (asks before after) old new bytes out all r
+        → (reports : List TheReport) × (wrote : List Written)
+        × AskingRuns ((old.port.link, bytes) ∷ []) [] old new reports wrote
+        × (all ≡ out ++ bytes_of wrote) × (after ≡ before ++ reports) }
+{}
 
 /// Whatever bytes come to an end that served nothing yet, and whatever it was called to do, there is a list of items that it
 /// served: its files are those after them, what it handed to its link is a front of the answers to them, and each packet
 /// that it wrote carries its segment of that. Own.
 pub fn every_run_is_served()
-    ensures served { (first : Files) (events : List EndEvent) (old new : ServingValue)
-        (wrote : List Written) → IsAfter (nothing_yet first) old
-        → Runs AnyBytes old events new wrote
+    ensures { (came : List Arrival) (first : Files) (old new : ServingValue)
+        (wrote : List Written) → IsAfter (nothing_yet first) old → Runs came old new wrote
         → (past : Past) × IsAfter past new × (past.first ≡ first)
         × (new.accessed.files ≡ After new.accessed.own past.first past.items)
         × AreWrittenOf new.port.link past.handed wrote }
-    // What is joined to NSP messages are all answers, in order.
-    ensures joined { (own : ℕ) (first : Files) (items : List Item)
-        → messages_in (answers_to own first [] items) ≡ Answers own first items }
 {}
 
 /// Where the packets are those of a peer that sends some NSP messages, lost, repeated and reordered as they may be, what the
 /// end served is a front of the items in them, each once and in order. Own.
 pub fn a_peer_is_served_in_order()
     ensures { (setup : TheSetup) (first : Files) (size : ℕ) (messages : List (List ℕ))
-        (events : List EndEvent) (old new : ServingValue) (wrote : List Written)
-        → old.port ≡ new_port setup → IsAfter (nothing_yet first) old
-        → Runs (IsFromPeer size messages) old events new wrote
+        (came : List Arrival) (old new : ServingValue) (wrote : List Written)
+        → AllByRecursion (λ c. IsFromPeer size messages c.0 c.1) came
+        → old.port ≡ new_port setup → IsAfter (nothing_yet first) old → Runs came old new wrote
         → (past : Past) × IsAfter past new × (past.first ≡ first)
         × AreFrontOf messages past.items }
-{}
-
-/// Each call of an end that serves is a run, refused or not. Own.
-pub fn calls_are_runs()
-    ensures serve { (old new : ServingValue) (n : ℕ) → ServedOne old new n
-        → Runs AnyBytes old (GoesOn ∷ []) new [] }
-    ensures post { (old new : ServingValue) (n : ℕ) → PostedAll old new n
-        → Runs AnyBytes old (GoesOn ∷ []) new [] }
-    ensures emit { (old new : ServingValue) (bytes : List ℕ) → new ≡ record old { port = new.port }
-        → WroteMore old.port new.port (bytes ∷ []) → Runs AnyBytes old (GoesOn ∷ []) new
-        (numbered (old.port.link.sent + 1) old.port.link.coming.received (bytes ∷ [])) }
-    ensures resend { (v : ServingValue) (i : ℕ) (bytes : List ℕ)
-        → i < v.port.link.sent - v.port.link.acked
-        → WritesSent v.port.link (Some (v.port.link.acked + 1 + i)) bytes
-        → Runs AnyBytes v (Repeats (Some i) ∷ []) v (record {
-          bytes = bytes;
-          segment = Some (v.port.link.acked + 1 + i);
-          acks = v.port.link.coming.received;
-        } ∷ []) }
-    ensures ack { (v : ServingValue) (bytes : List ℕ) → IsSpelling (ack_packet_of v.port.link) bytes
-        → Runs AnyBytes v (Repeats None ∷ []) v (record {
-          bytes = bytes;
-          segment = None;
-          acks = v.port.link.coming.received;
-        } ∷ []) }
-    ensures go_on { (old new : ServingValue) (out all : List (List ℕ))
-        → WroteThen serves WroteMore old new out all
-        → AreCalls old (GoesOn ∷ []) new out all }
-    ensures halted { (old new : ServingValue) (out all : List (List ℕ)) (f : TheEndFault)
-        → WentOn serves old new out all (Err f) → AreCalls old (GoesOn ∷ []) new out all }
-    ensures take { (old new : ServingValue) (bytes : List ℕ) (got : TheGot)
-        (out all : List (List ℕ)) → TookThen serves old new bytes got out all (Ok tt)
-        → (events : List EndEvent) × AreCalls old (Came bytes ∷ events) new out all }
-    ensures part { (old new : ServingValue) (bytes : List ℕ) (got : TheGot)
-        (out all : List (List ℕ)) (f : TheEndFault)
-        → TookThen serves old new bytes got out all (Err f)
-        → AreCalls old (Came bytes ∷ GoesOn ∷ []) new out all }
-    ensures refused { (old new : ServingValue) (bytes : List ℕ) (f : TheFault)
-        → TookIn serves old new bytes (Err f) → Runs AnyBytes old (Came bytes ∷ []) new [] }
-{}
-
-/// Each call of an end that asks is a run, but one in which an answer has no place. Own.
-pub fn asking_calls_are_runs()
-    ensures ask { (old new : AskingValue) (request : TheRequest) (n : ℕ)
-        → AskedOne request old new n → AskingRuns AnyBytes old (Asks request ∷ []) new [] [] }
-    ensures read { (old new : AskingValue) (report : Option TheReport) → ReadOne old new report
-        → AskingRuns AnyBytes old (By GoesOn ∷ []) new (option_to_list report) [] }
-    ensures post { (old new : AskingValue) (n : ℕ) → HandedAll old new n
-        → AskingRuns AnyBytes old (By GoesOn ∷ []) new [] [] }
-    ensures emit { (old new : AskingValue) (bytes : List ℕ) → new ≡ record old { port = new.port }
-        → WroteMore old.port new.port (bytes ∷ []) → AskingRuns AnyBytes old (By GoesOn ∷ []) new []
-        (numbered (old.port.link.sent + 1) old.port.link.coming.received (bytes ∷ [])) }
-    ensures resend { (v : AskingValue) (i : ℕ) (bytes : List ℕ)
-        → i < v.port.link.sent - v.port.link.acked
-        → WritesSent v.port.link (Some (v.port.link.acked + 1 + i)) bytes
-        → AskingRuns AnyBytes v (By (Repeats (Some i)) ∷ []) v [] (record {
-          bytes = bytes;
-          segment = Some (v.port.link.acked + 1 + i);
-          acks = v.port.link.coming.received;
-        } ∷ []) }
-    ensures ack { (v : AskingValue) (bytes : List ℕ) → IsSpelling (ack_packet_of v.port.link) bytes
-        → AskingRuns AnyBytes v (By (Repeats None) ∷ []) v [] (record {
-          bytes = bytes;
-          segment = None;
-          acks = v.port.link.coming.received;
-        } ∷ []) }
-    ensures go_on { (old new : AskingValue) (out all : List (List ℕ))
-        (before after : List TheReport)
-        → WroteThen (asks before after) WroteMore old new out all
-        → AreAskingCalls old (By GoesOn ∷ []) new out all before after }
-    ensures take { (old new : AskingValue) (bytes : List ℕ) (got : TheGot) (out all : List (List ℕ))
-        (before after : List TheReport)
-        → TookThen (asks before after) old new bytes got out all (Ok tt)
-        → (events : List AskingEvent)
-        × AreAskingCalls old (By (Came bytes) ∷ events) new out all before after }
-    ensures halted { (old new : AskingValue) (out all : List (List ℕ))
-        (before after : List TheReport) (f : TheEndFault)
-        → WentOn (asks before after) old new out all (Err f)
-        → f ≢ end_fault.Read read_fault.Unexpected
-        → AreAskingCalls old (By GoesOn ∷ []) new out all before after }
-    ensures part { (old new : AskingValue) (bytes : List ℕ) (got : TheGot) (out all : List (List ℕ))
-        (before after : List TheReport) (f : TheEndFault)
-        → TookThen (asks before after) old new bytes got out all (Err f)
-        → f ≢ end_fault.Read read_fault.Unexpected
-        → AreAskingCalls old (By (Came bytes) ∷ By GoesOn ∷ []) new out all before after }
-    ensures refused { (old new : AskingValue) (bytes : List ℕ)
-        (before after : List TheReport) (f : TheFault)
-        → TookIn (asks before after) old new bytes (Err f)
-        → AskingRuns AnyBytes old (By (Came bytes) ∷ []) new [] [] }
 {}
 
 /// Whatever an end that serves is called to do by itself leaves one end, and writes one list of packets, by what the end did
@@ -219,10 +267,10 @@ pub fn posting_is_determined()
 /// place: its reports are those that the definition tells of the requests and of the answers that it read, what it handed to
 /// its link is a front of the requests' messages, and each packet that it wrote carries its segment of that. Own.
 pub fn every_run_is_told()
-    ensures { (events : List AskingEvent) (old new : AskingValue) (reports : List TheReport)
-        (wrote : List Written) → HasAsked nothing_asked old
-        → AskingRuns AnyBytes old events new reports wrote
-        → (past : AskingPast) × HasAsked past new × (past.requests ≡ requests_in events)
+    ensures { (came : List Arrival) (requests : List TheRequest) (old new : AskingValue)
+        (reports : List TheReport) (wrote : List Written)
+        → HasAsked nothing_asked old → AskingRuns came requests old new reports wrote
+        → (past : AskingPast) × HasAsked past new × (past.requests ≡ requests)
         × (reports ≡ Told past.requests past.answers)
         × AreWrittenOf new.port.link past.handed wrote }
 {}
@@ -230,19 +278,58 @@ pub fn every_run_is_told()
 /// Where the packets are those of a peer that sends some NSP messages, lost, repeated and reordered as they may be, the
 /// answers read are a front of the items in them, each once and in order. Own.
 pub fn a_peer_is_heard_in_order()
-    ensures { (setup : TheSetup) (size : ℕ) (messages : List (List ℕ)) (events : List AskingEvent)
-        (old new : AskingValue) (reports : List TheReport) (wrote : List Written)
+    ensures { (setup : TheSetup) (size : ℕ) (messages : List (List ℕ))
+        (came : List Arrival) (requests : List TheRequest) (old new : AskingValue)
+        (reports : List TheReport) (wrote : List Written)
+        → AllByRecursion (λ c. IsFromPeer size messages c.0 c.1) came
         → old.port ≡ new_port setup → HasAsked nothing_asked old
-        → AskingRuns (IsFromPeer size messages) old events new reports wrote
+        → AskingRuns came requests old new reports wrote
         → (past : AskingPast) × HasAsked past new × AreFrontOf messages past.answers }
 {}
 
-/// Two new ends of one link keep the headline, over every list of their calls and every packet that one wrote and the other
-/// gets, unaltered and not more than 2,047 numbers old: what was served is a front of what the requests ask, each once and
-/// in order, the files are those after it, and the reports are those that the definition tells of a front of the answers to
-/// it. Own.
+/// A run of one of two ends, in which the packets that come are of those that the other wrote before, unaltered and not more than
+/// 2,047 numbers old, is a run of both; and two are one where the second begins as the first ends. Own.
+pub fn runs_of_two_ends()
+    ensures asking { (old : Pair) (a : AskingValue) (came : List Arrival)
+        (requests : List TheRequest) (reports : List TheReport) (wrote : List Written)
+        → AllByRecursion (λ c. IsBrought old.from_b c.0 c.1) came
+        → AskingRuns came requests old.a a reports wrote
+        → PairRuns old (record old {
+          a = a;
+          from_a = old.from_a ++ wrote;
+          requests = old.requests ++ requests;
+          reports = old.reports ++ reports;
+        }) }
+    ensures serving { (old : Pair) (b : ServingValue) (came : List Arrival)
+        (wrote : List Written) → AllByRecursion (λ c. IsBrought old.from_a c.0 c.1) came
+        → Runs came old.b b wrote
+        → PairRuns old (record old { b = b; from_b = old.from_b ++ wrote }) }
+    ensures more { (old mid new : Pair) → PairRuns old mid → PairRuns mid new → PairRuns old new }
+{}
+
+/// Two new ends of one link, whose setups have each other's addresses and the same limit, keep the headline, over every list of
+/// their calls and every packet that one wrote and the other gets, unaltered and not more than 2,047 numbers old: what was
+/// served is a front of what the requests ask, each once and in order, the files are those after it, and the reports are those
+/// that the definition tells of a front of the answers to it. Own.
 pub fn two_ends_keep_the_headline()
-    ensures { (s t : TheSetup) (first : Files) (events : List PairEvent) (old new : Pair)
-        → AreOpposite s t → AreNew s t first old → RunsBy PairStepped old events new
-        → PairHeadline first new }
+    ensures { (s t : TheSetup) (first : Files) (a : AskingValue) (b : ServingValue) (new : Pair)
+        → IsSetup s → IsSetup t → t ≡ record s {
+          local = s.remote;
+          remote = s.local;
+          seg_size = t.seg_size;
+          window = t.window;
+        } → a.port ≡ new_port s → HasAsked nothing_asked a
+        → b.port ≡ new_port t → IsAfter (nothing_yet first) b
+        → PairRuns (record {
+          a = a;
+          b = b;
+          from_a = [];
+          from_b = [];
+          requests = [];
+          reports = [];
+        }) new → (taken more read rest : List Message)
+        × (taken ++ more ≡ Asked new.a.accessing.own new.requests)
+        × (new.b.accessed.files ≡ After new.b.accessed.own first (map Whole taken))
+        × (read ++ rest ≡ Answers new.b.accessed.own first (map Whole taken))
+        × (new.reports ≡ Told new.requests (map Whole read)) }
 {}

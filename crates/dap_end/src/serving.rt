@@ -15,7 +15,8 @@ ghost use Rattle.dap_accessed.specs.Adding.{MayAdd, MayAddRecord, AddRefused, Re
 ghost use Rattle.dap_end.specs.Ports.{HasCome, new_port, with_link};
 ghost use Rattle.nsp_link.specs.Receiving.{Receives};
 ghost use Rattle.dap_end.specs.Writing.{WroteMore};
-ghost use Rattle.dap_end.specs.Serving.{Past, IsAfter, NotGiven, IsGiven, MayServe, ServedOne, PostedAll, nothing_yet};
+ghost use Rattle.dap_end.specs.Serving.{IsAfter, NotGiven, IsGiven, MayServe, ServedOne, PostedAll};
+ghost use Rattle.dap_end.specs.Done.{Past, nothing_yet};
 ghost use Rattle.dap_end.specs.Taking.{ServedUp, IsServed, ServeFault, serves};
 ghost use Rattle.dap_end.specs.Turns.{Answered, Takes, WentOn};
 ghost use Rattle.dap_end.specs.Inner.Answered.{ended_by};
@@ -40,7 +41,7 @@ pub struct ServingEnd {
 }
 
 impl Model for ServingEnd {
-    ghost use Rattle.dap_end.specs.Serving.{ServingValue};
+    ghost use Rattle.dap_end.specs.Done.{ServingValue};
 
     ghost Value = { ServingValue };
 

@@ -19,7 +19,8 @@ use Rattle.dap_end.specs.declared.fault.EndFault.{EndFault}
 use Rattle.dap_end.specs.declared.fault.TakeFault.{TakeFault}
 use Rattle.dap_end.specs.declared.fault.TakeFault.TheVariants as take
 use Rattle.dap_end.specs.Ports.{PortValue, new_port}
-use Rattle.dap_end.specs.Asking.{AskingValue, AskingPast, HasAsked, AskedOne, AreAlike, HasDone, asks, nothing_asked}
+use Rattle.dap_end.specs.Asking.{HasAsked, AskedOne, AreAlike, HasDone, asks}
+use Rattle.dap_end.specs.Done.{AskingValue, AskingPast, nothing_asked}
 use Rattle.dap_end.specs.Turns.{Takes}
 use Rattle.dap_end.proofs.ForCallers.{alike_of, alike_same, asked_past, has_sent, asking_one, going_alike, taking_alike}
 use Rattle.linewise.specs.declared.talking.Became.{Became}

@@ -19,7 +19,8 @@ use Rattle.dap_accessed.specs.Groups.{stands_after}
 use Rattle.dap_accessed.specs.Adding.{IsFresh, IsLate, MayAdd, MayAddRecord, AddRefused, RecordRefused}
 use Rattle.dap_end.specs.declared.fault.TakeFault.{TakeFault}
 use Rattle.dap_end.specs.Ports.{PortValue, HasCome, new_port}
-use Rattle.dap_end.specs.Serving.{ServingValue, Past, IsAfter, NotGiven, nothing_yet}
+use Rattle.dap_end.specs.Serving.{IsAfter, NotGiven}
+use Rattle.dap_end.specs.Done.{ServingValue, Past, nothing_yet}
 use Rattle.dap_end.specs.Taking.{serves}
 use Rattle.dap_end.specs.declared.fault.EndFault.{EndFault}
 use Rattle.dap_end.proofs.ForCallers.{going_one, taking_one, new_known, going_known, taking_known}

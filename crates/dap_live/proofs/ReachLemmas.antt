@@ -4,7 +4,7 @@ use Rattle.std.specs.Prelude.{MatchBool}
 use Rattle.nsp_link.specs.Link.{LinkValue}
 use Rattle.linewise.specs.declared.talking.Became.{Became}
 use Rattle.linewise.specs.declared.talking.Became.TheVariants.{Done}
-use Rattle.dap_end.specs.Serving.{ServingValue}
+use Rattle.dap_end.specs.Done.{ServingValue}
 use Rattle.dap_live.specs.declared.orders.Order.TheVariants as order
 use Rattle.dap_live.specs.declared.serving.Serving.{Serving}
 use Rattle.dap_end.specs.Taking.{serves}

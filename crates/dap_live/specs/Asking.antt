@@ -10,7 +10,8 @@ use Rattle.dap_accessing.specs.declared.fault.AskFault.TheVariants.{Busy}
 use Rattle.dap_accessing.specs.Calls.{AskRefused}
 use Rattle.dap_end.specs.declared.fault.TakeFault.{TakeFault}
 use Rattle.dap_end.specs.declared.fault.TakeFault.TheVariants as take
-use Rattle.dap_end.specs.Asking.{AskingValue, AskedOne, HasAsked, asks, nothing_asked}
+use Rattle.dap_end.specs.Asking.{AskedOne, HasAsked, asks}
+use Rattle.dap_end.specs.Done.{AskingValue, nothing_asked}
 use Rattle.linewise.specs.declared.talking.Became.{Became}
 use Rattle.linewise.specs.declared.talking.Became.TheVariants.{Done, BadLine}
 use Rattle.dap_live.specs.declared.asking.Asking.{Asking}

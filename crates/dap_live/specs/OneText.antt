@@ -1,7 +1,8 @@
 -- Ends that answer each line alike.
 use Rattle.std.specs.Prelude.{◌≡◌, ◌⊎◌, []}
 use Rattle.dap_end.specs.Ports.{HasCome}
-use Rattle.dap_end.specs.Serving.{ServingValue, Past, IsAfter, nothing_yet}
+use Rattle.dap_end.specs.Serving.{IsAfter}
+use Rattle.dap_end.specs.Done.{ServingValue, Past, nothing_yet}
 use Rattle.dap_end.specs.Asking.{AreAlike, HasDone}
 use Rattle.dap_live.specs.declared.serving.Serving.{Serving}
 use Rattle.dap_live.specs.declared.asking.Asking.{Asking}

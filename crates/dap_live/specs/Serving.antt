@@ -7,7 +7,8 @@ use Rattle.dap_accessed.specs.Adding.{MayAdd, MayAddRecord, AddRefused, RecordRe
 use Rattle.dap_accessed.specs.declared.fault.AddFault.{AddFault}
 use Rattle.nsp_link.specs.declared.link.LinkSetup.{LinkSetup}
 use Rattle.dap_end.specs.Ports.{HasCome}
-use Rattle.dap_end.specs.Serving.{ServingValue, IsAfter, IsGiven, NotGiven, nothing_yet}
+use Rattle.dap_end.specs.Serving.{IsAfter, IsGiven, NotGiven}
+use Rattle.dap_end.specs.Done.{ServingValue, nothing_yet}
 use Rattle.dap_end.specs.Taking.{serves}
 use Rattle.linewise.specs.declared.talking.Became.{Became}
 use Rattle.linewise.specs.declared.talking.Became.TheVariants.{Done, BadLine}

@@ -6,7 +6,7 @@ use Rattle.nsp_link.specs.Separation.{IsSegmentNear, IsAckNear}
 use Rattle.dap_world.specs.declared.event.End.{End}
 use Rattle.dap_world.specs.Machine.{State, Sending, end_of, other, is_old, IsDue}
 use Rattle.dap_world.specs.Runs.{IsReached}
-use Rattle.dap_world.specs.Separation.{InOrder, AreApart}
+use Rattle.nsp_link.specs.Limits.{largest_window}
 use Rattle.dap_world.specs.Inner.Ways.{is_old_segment}
 use Rattle.dap_world.specs.Inner.Worlds.{IsWorld, WasSent}
 use Rattle.dap_world.proofs.Arriving.{young_segment, young_ack, neither}
@@ -28,11 +28,6 @@ module _ (s : State) (end : End) (h : IsWorld s) where
         (young_ack p.acks (end_of s end).acked young.1, omega (arith, was.1, there.counts.taken_sent, there.counts.within_window, h.window)),
       )
 
-  in_order : InOrder s.window (end_of s end) (end_of s (other end))
-  in_order =
-      let counts = (direction s end h).counts in
-      record { acked_taken = counts.acked_taken; taken_sent = counts.taken_sent; within = counts.within_window; window_limit = h.window }
-
   numbered : (taken k : ℕ) (segment : Option ℕ) → segment ≡ Some k → IfSome segment (IsSegmentNear taken) → IsSegmentNear taken k
   numbered taken k segment is near = subst (λ (o : Option ℕ). IfSome o (IsSegmentNear taken)) is near
 
@@ -44,22 +39,25 @@ module _ (s : State) (end : End) (h : IsWorld s) where
   unfolding residue
   acks_apart acked a b near also same = omega arith
 
-  are_apart : AreApart s end
-  are_apart =
-      record {
-        near = λ j p fresh. (near_is j p fresh).0;
-        near_ack = λ j p fresh. (near_is j p fresh).1;
-        segments = λ i j k l p q one two is also same.
-            segments_apart (end_of s end).taken k l (numbered (end_of s end).taken k p.segment is (near_is i p one).0)
-            (numbered (end_of s end).taken l q.segment also (near_is j q two).0) same;
-        acks = λ i j p q one two same. acks_apart (end_of s end).acked p.acks q.acks (near_is i p one).1 (near_is j q two).1 same;
-      }
-
 pub reached_sound : (s : State) → IsReached s → IsWorld s
 reached_sound s r = runs_sound r.0 r.1 s r.2 r.3
 
-pub counts_in_order : (s : State) → IsReached s → (end : End) → InOrder s.window (end_of s end) (end_of s (other end))
-counts_in_order s r end = in_order s end (reached_sound s r)
+pub counts_in_order : (s : State) → IsReached s → (end : End) → ((end_of s end).acked ≤ (end_of s (other end)).taken) × ((end_of s (other end)).taken ≤ (end_of s end).sent)
+counts_in_order s r end = let counts = (direction s end (reached_sound s r)).counts in (counts.acked_taken, counts.taken_sent)
 
-pub told_apart : (s : State) → IsReached s → (end : End) → AreApart s end
-told_apart s r end = are_apart s end (reached_sound s r)
+pub within_window : (s : State) → IsReached s → (end : End) → ((end_of s end).sent ≤ (end_of s end).acked + s.window) × (s.window ≤ largest_window)
+within_window s r end = let h = reached_sound s r in ((direction s end h).counts.within_window, h.window)
+
+pub are_near : (s : State) → IsReached s → (end : End) (j : ℕ) (p : Sending) → IsDue s end j p → IfSome p.segment (IsSegmentNear (end_of s end).taken) × IsAckNear (end_of s end).acked p.acks
+are_near s r end = near_is s end (reached_sound s r)
+
+pub segments_told : (s : State) → IsReached s → (end : End) (i j k l : ℕ) (p q : Sending) → IsDue s end i p → IsDue s end j q
+    → p.segment ≡ Some k → q.segment ≡ Some l → residue k ≡ residue l → k ≡ l
+segments_told s r end i j k l p q one two is also same =
+    let taken = (end_of s end).taken in
+    let h = reached_sound s r in
+    segments_apart s end h taken k l (numbered s end h taken k p.segment is (near_is s end h i p one).0) (numbered s end h taken l q.segment also (near_is s end h j q two).0) same
+
+pub acks_told : (s : State) → IsReached s → (end : End) (i j : ℕ) (p q : Sending) → IsDue s end i p → IsDue s end j q → residue p.acks ≡ residue q.acks → p.acks ≡ q.acks
+acks_told s r end i j p q one two same =
+    let h = reached_sound s r in acks_apart s end h (end_of s end).acked p.acks q.acks (near_is s end h i p one).1 (near_is s end h j q two).1 same

@@ -14,7 +14,8 @@ use Rattle.dap_accessed.specs.Groups.{stands_after}
 use Rattle.dap_accessing.specs.Present as accessing
 use Rattle.dap_accessing.specs.Asked.{Asked, messages_of}
 use Rattle.dap_accessing.specs.Told.{Told}
-use Rattle.dap_accessing.specs.Phase.{IsAdmissible, IsNoneDue, phase_after, limit_after, phase_fits}
+use Rattle.dap_accessing.specs.Phase.{IsAdmissible, IsNoneDue, phase_after, limit_after}
+use Rattle.dap_accessing.specs.Inner.Phases.{phase_fits}
 use Rattle.dap_accessing.specs.declared.phase.Phase.{Phase}
 use Rattle.dap_accessing.specs.declared.phase.Phase.TheVariants.{Fresh, Ready, Opened, Connected, Stopped}
 use Rattle.dap_accessing.specs.Request.{Request}
@@ -23,7 +24,7 @@ use Rattle.dap_accessing.specs.declared.report.Report.{Report}
 use Rattle.dap_accessing.specs.declared.fault.AskFault.{AskFault}
 use Rattle.dap_accessing.specs.declared.fault.AskFault.TheVariants as ask_fault
 use Rattle.dap_accessing.specs.Calls.{AskRefused}
-use Rattle.dap_accessing.proofs.ForCallers.{asked_one}
+use Rattle.dap_accessing.proofs.ForCallers.{asked_one, fits-where}
 use Rattle.dap_world.specs.Inner.Within.{AreWithin}
 use Rattle.dap_world.specs.Agreement.{AreAdmissible, IsBufsiz, answers_to, items_of, reports_of}
 use Rattle.dap_world.specs.Inner.Agreement.{AgreeAt, NextWithin}
@@ -37,7 +38,8 @@ use Rattle.dap_world.specs.Machine.{State, taken_of, answers_read, asking as ask
 use Rattle.dap_world.specs.Runs.{Went}
 use Rattle.dap_world.specs.Inner.Worlds.{IsWorld}
 use Rattle.dap_end.specs.Ports.{PortValue}
-use Rattle.dap_end.specs.Asking.{AskingValue, AskedOne, HasAsked}
+use Rattle.dap_end.specs.Asking.{AskedOne, HasAsked}
+use Rattle.dap_end.specs.Done.{AskingValue}
 use Rattle.dap_end.proofs.ForCallers.{Asked-more, asked_past, sendable-fit}
 use Rattle.dap_world.specs.Inner.Sides.{AreShort, AskFaultOf, AskedSo, side_of}
 use Rattle.dap_world.specs.Inner.Parts.{Parts, AreParts, IsAskedAll, IsServedAll, IsTold, asks, answers, asking_end, serving_end, served_items, answer_packets, asked_packets, end_state, state_of}
@@ -78,7 +80,7 @@ asking_is s r h m =
     let reports = reports_of s.own_a s.own_b s.requests in
     let same : reported s ≡ reports = ap (Told s.requests) all in
     ap (λ (l : List Report). Blocked (limit_after l) (messages_of s.own_a r)) same
-    ∙ same-blocked s.own_a s.own_b (phase_after reports) standing.place standing.scene.limit (limit_after reports) r agree.places (ap (λ (l : List Report). phase_fits (phase_after l) r) (sym same) ∙ m.1)
+    ∙ same-blocked s.own_a s.own_b (phase_after reports) standing.place standing.scene.limit (limit_after reports) r agree.places (ap (λ (l : List Report). phase_fits (phase_after l) r) (sym same) ∙ fits-where r (phase_after (reported s)) m.1)
 
 -- ---- None is too long.
 
@@ -94,7 +96,7 @@ request-blocked own_a own_b a b rs all = λ r m.
     let agree = both-agree own_a own_b a b rs all in
     let standing = (stands_after own_b [] (items_of own_a rs)).standing in
     let reports = reports_of own_a own_b rs in
-    subst (λ (l : List NspMessage). AllAtMost own_b (all_joined l)) (sym (same-blocked own_a own_b (phase_after reports) standing.place standing.scene.limit (limit_after reports) r agree.places m.1))
+    subst (λ (l : List NspMessage). AllAtMost own_b (all_joined l)) (sym (same-blocked own_a own_b (phase_after reports) standing.place standing.scene.limit (limit_after reports) r agree.places (fits-where r (phase_after reports) m.1)))
     (blocked-within own_b own_b (messages_of own_a r) (omega arith) (messages-within own_a own_b a b rs all r m))
 
 -- ---- No report comes of a request alone.

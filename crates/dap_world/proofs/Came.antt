@@ -15,8 +15,10 @@ use Rattle.nsp_link.specs.declared.link.Got.{Got}
 use Rattle.nsp_link.specs.declared.fault.LinkFault.{LinkFault}
 use Rattle.dap_end.specs.Ports.{PortValue, with_link as port_with}
 use Rattle.nsp_link.specs.Receiving.{Receives}
-use Rattle.dap_end.specs.Asking.{AskingValue, HasAsked}
-use Rattle.dap_end.specs.Serving.{ServingValue, IsAfter}
+use Rattle.dap_end.specs.Asking.{HasAsked}
+use Rattle.dap_end.specs.Done.{AskingValue}
+use Rattle.dap_end.specs.Serving.{IsAfter}
+use Rattle.dap_end.specs.Done.{ServingValue}
 use Rattle.nsp_link.proofs.ForCallers.{closes, keeps, IsDelivered, is_delivered, came_due}
 use Rattle.dap_world.specs.declared.event.End.{End}
 use Rattle.dap_world.specs.declared.event.End.TheVariants.{A, B}

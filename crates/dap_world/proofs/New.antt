@@ -13,8 +13,10 @@ use Rattle.dap_world.specs.declared.event.End.TheVariants.{A, B}
 use Rattle.dap_world.specs.Machine.{reported, fresh, other}
 use Rattle.dap_world.specs.Setups.{IsWorldSetup}
 use Rattle.dap_end.specs.Ports.{PortValue, new_port}
-use Rattle.dap_end.specs.Asking.{AskingValue, HasAsked, nothing_asked}
-use Rattle.dap_end.specs.Serving.{ServingValue, IsAfter, nothing_yet}
+use Rattle.dap_end.specs.Asking.{HasAsked}
+use Rattle.dap_end.specs.Done.{AskingValue, nothing_asked}
+use Rattle.dap_end.specs.Serving.{IsAfter}
+use Rattle.dap_end.specs.Done.{ServingValue, nothing_yet}
 use Rattle.dap_world.specs.Inner.Setups.{link_of}
 use Rattle.dap_accessing.specs.Request.{Request}
 use Rattle.dap_accessing.specs.declared.report.Report.{Report}

@@ -17,8 +17,10 @@ use Rattle.nsp_link.specs.Sending.{queued_link}
 use Rattle.nsp_link.proofs.ForCallers.{writes_more, stands_more, sends_all, may_queue_parts}
 use Rattle.dap_end.specs.Ports.{posted as port_posted}
 use Rattle.dap_end.proofs.ForCallers.{handed_is, handed_past, posted_is as hands_over, posted_past}
-use Rattle.dap_end.specs.Asking.{AskingValue, AskingPast, HasAsked, HandedAll}
-use Rattle.dap_end.specs.Serving.{ServingValue, Past, IsAfter, PostedAll}
+use Rattle.dap_end.specs.Asking.{HasAsked, HandedAll}
+use Rattle.dap_end.specs.Done.{AskingValue, AskingPast}
+use Rattle.dap_end.specs.Serving.{IsAfter, PostedAll}
+use Rattle.dap_end.specs.Done.{ServingValue, Past}
 use Rattle.dap_world.specs.declared.event.End.{End}
 use Rattle.dap_world.specs.declared.event.End.TheVariants.{A, B}
 use Rattle.dap_world.specs.declared.event.Event.TheVariants as event

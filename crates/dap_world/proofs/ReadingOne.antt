@@ -25,9 +25,11 @@ use Rattle.dap_fields.specs.Spelling.{AreBytes}
 use Rattle.dap_accessing.specs.Calls.{ReadRefused}
 use Rattle.dap_accessing.specs.declared.fault.ReadFault.{ReadFault}
 use Rattle.dap_accessing.specs.declared.fault.ReadFault.TheVariants as read_fault
-use Rattle.dap_end.specs.Ports.{PortValue, oldest}
+use Rattle.dap_end.specs.Ports.{PortValue}
+use Rattle.dap_end.specs.Inner.After.{oldest}
 use Rattle.dap_end.specs.Going.{given_then}
-use Rattle.dap_end.specs.Asking.{AskingValue, HasAsked, ReadNone, ReadOne}
+use Rattle.dap_end.specs.Asking.{HasAsked, ReadNone, ReadOne}
+use Rattle.dap_end.specs.Done.{AskingValue}
 use Rattle.dap_end.proofs.ForCallers.{answers_full, in_append}
 use Rattle.dap_world.specs.Inner.Sides.{AreShort, KeptSo, side_of}
 use Rattle.dap_world.specs.Inner.Parts.{Parts, AreParts, IsAskedAll, asks, answers, asking_end, served_items, state_of}

@@ -23,7 +23,8 @@ use Rattle.dap_world.specs.Runs.{Went, WantsMemory}
 use Rattle.dap_world.specs.Inner.Worlds.{IsWorld}
 use Rattle.nsp_link.specs.Link.{with_inbox}
 use Rattle.dap_end.specs.Ports.{PortValue}
-use Rattle.dap_end.specs.Serving.{ServingValue, Past, IsAfter, MayServe, ServedOne}
+use Rattle.dap_end.specs.Serving.{IsAfter, MayServe, ServedOne}
+use Rattle.dap_end.specs.Done.{ServingValue, Past}
 use Rattle.dap_end.proofs.ForCallers.{answer_to, answers-more, back_fit, front_fit, front_full, in_append}
 use Rattle.dap_world.specs.Inner.Sides.{AreShort, side_of}
 use Rattle.dap_world.specs.Inner.Parts.{Parts, AreParts, IsAskedAll, IsServedAll, IsTold, asks, answers, asking_end, serving_end, served_items, answer_packets, end_state, state_of}

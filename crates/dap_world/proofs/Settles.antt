@@ -1,5 +1,5 @@
 -- A stretch without loss.
-use Rattle.std.proofs.Common.{◌≡◌, ℕ, zero, suc, ◌+◌, ◌-◌, ◌≤◌, ◌<◌, arith, refl, sym, ◌∙◌, subst, ap, append_assoc, Bool, true, false, List, [], ◌∷◌, ◌++◌, length, inl, inr, le-ltb, eq-eqb}
+use Rattle.std.proofs.Common.{◌≡◌, ℕ, zero, suc, ◌+◌, ◌-◌, ◌≤◌, ◌<◌, arith, refl, sym, ◌∙◌, subst, ap, append_assoc, Bool, true, false, List, map, [], ◌∷◌, ◌++◌, length, inl, inr, le-ltb, eq-eqb}
 use Rattle.std.specs.Prelude.{max, Option, Some, None, Err, slice_get}
 use Rattle.std.proofs.lemmas.List.{length-append, length-map}
 use Rattle.std.proofs.lemmas.Bool.{cases_eq, ne_eqb}
@@ -16,7 +16,6 @@ use Rattle.dap_world.specs.Machine.{State, EndState, Sending, end_of, with_end, 
 use Rattle.dap_world.specs.Runs.{Runs, Went}
 use Rattle.dap_world.specs.Inner.Worlds.{IsWorld, AreEarly}
 use Rattle.dap_world.specs.Wires as wires
-use Rattle.dap_world.specs.Wires.{AreWired}
 use Rattle.dap_world.specs.declared.side.Wired.{Wired}
 use Rattle.dap_world.specs.Settling.{RanBy, unacked}
 use Rattle.dap_world.specs.Inner.Settling.{AllResent, AreThere, AllCame, AsksNothing, RanTo}
@@ -271,5 +270,5 @@ pub all_taken : (mid now : State) (end : End) (count : ℕ) → IsWorld mid → 
 all_taken mid now end count world h is = let c = (direction mid end world).counts in omega (arith, h.taken, ap (λ (e : EndState). e.sent) h.still, is, c.acked_taken, c.taken_sent)
 
 -- as many packets are shown as stand on the wire
-pub wire_length : (s : State) (end : End) (wire : List Wired) → AreWired s end wire → length wire ≡ length (end_of s end).wire
-wire_length s end wire h = sym (length-map wire wires.sending_of) ∙ ap length h.sendings
+pub wire_length : (s : State) (end : End) (wire : List Wired) → map wires.sending_of wire ≡ (end_of s end).wire → length wire ≡ length (end_of s end).wire
+wire_length s end wire h = sym (length-map wire wires.sending_of) ∙ ap length h

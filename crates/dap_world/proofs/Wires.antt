@@ -8,8 +8,8 @@ use Rattle.dap_world.specs.declared.event.End.{End}
 use Rattle.dap_world.specs.declared.event.End.TheVariants.{A, B}
 use Rattle.dap_world.specs.declared.side.Wired.{Wired}
 use Rattle.dap_world.specs.Machine.{State, end_of, other}
-use Rattle.dap_world.specs.Runs.{IsLinkOf}
-use Rattle.dap_world.specs.Wires.{address_of, sending_of, IsOnWire, AreWired}
+use Rattle.dap_world.specs.Inner.Links.{IsLinkOf, AreWired}
+use Rattle.dap_world.specs.Wires.{address_of, sending_of, IsOnWire}
 use Rattle.dap_world.specs.Inner.Parts.{Parts, AreParts, asks, answers, state_of, side}
 use Rattle.dap_world.proofs.Counting.{handed-bytes}
 

@@ -21,8 +21,10 @@ use Rattle.dap_accessed.specs.Present as accessed
 use Rattle.dap_accessing.specs.Present as accessing
 use Rattle.dap_end.specs.Ports.{PortValue}
 use Rattle.dap_end.specs.Writing.{sent_more}
-use Rattle.dap_end.specs.Asking.{AskingValue, HasAsked}
-use Rattle.dap_end.specs.Serving.{ServingValue, IsAfter}
+use Rattle.dap_end.specs.Asking.{HasAsked}
+use Rattle.dap_end.specs.Done.{AskingValue}
+use Rattle.dap_end.specs.Serving.{IsAfter}
+use Rattle.dap_end.specs.Done.{ServingValue}
 use Rattle.dap_world.specs.declared.side.Wired.{Wired}
 use Rattle.dap_world.specs.Wires.{sending_of}
 use Rattle.dap_world.specs.Inner.Sides.{SideValue, port_of, side_of, WroteOne, EmitFault, ResendFault}

@@ -3,7 +3,6 @@ pub mod Headline
 pub mod Inner
 pub mod Machine
 pub mod Runs
-pub mod Separation
 pub mod Settling
 pub mod Setups
 pub mod Wires

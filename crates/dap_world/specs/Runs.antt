@@ -1,8 +1,5 @@
 -- What one event comes to, and several.
-use Rattle.std.specs.Prelude.{◌≡◌, ℕ, List, take, slice_get, Option, Some, None, Result, Ok, Err, false}
-use Rattle.dap_msg.specs.Blocked.{all_joined}
-use Rattle.nsp_link.specs.Link.{LinkValue, Sends}
-use Rattle.std.specs.Map.{keys_of}
+use Rattle.std.specs.Prelude.{◌≡◌, ℕ, List, take, slice_get, Option, Some, None, Result, Ok, Err}
 use Rattle.dap_end.specs.Runs.{RunsBy}
 use Rattle.nsp_link.specs.declared.link.Got.TheVariants as got
 use Rattle.dap_world.specs.declared.event.End.{End}
@@ -12,9 +9,8 @@ use Rattle.dap_world.specs.declared.event.Step.{Step}
 use Rattle.dap_world.specs.declared.event.Step.TheVariants as step
 use Rattle.dap_world.specs.declared.event.WorldFault.{WorldFault}
 use Rattle.dap_world.specs.declared.event.WorldFault.TheVariants as fault
-use Rattle.dap_world.specs.Machine.{State, Steps, StepsFreely, Refuses, fresh, end_of, other}
+use Rattle.dap_world.specs.Machine.{State, Steps, StepsFreely, Refuses, fresh}
 use Rattle.dap_world.specs.Setups.{IsWorldSetup}
-use Rattle.dap_world.specs.Wires.{address_of}
 use Rattle.dap_world.specs.declared.setup.WorldSetup.{WorldSetup}
 
 -- an event that comes to this may take memory: any but a delivery of no segment, or of one that was taken
@@ -54,16 +50,3 @@ pub record StopsAt (events : List Event) (old new : State) (stop : ℕ × WorldF
   pub event : Event
   pub there : slice_get events stop.0 ≡ Some event
   pub refused : Went new event (Err stop.1) new
-
--- The link is this end's: its counts, its segments and the early ones that it holds are those of the machine.
-pub record IsLinkOf (s : State) (end : End) (v : LinkValue) : Type 0 where
-  pub local : v.setup.local ≡ address_of end
-  pub remote : v.setup.remote ≡ address_of (other end)
-  pub size : v.setup.seg_size ≡ s.seg_size
-  pub window : v.setup.window ≡ s.window
-  pub sent : v.sent ≡ (end_of s end).sent
-  pub acked : v.acked ≡ (end_of s end).acked
-  pub queued : Sends v (all_joined (end_of s end).handed)
-  pub received : v.coming.received ≡ (end_of s end).taken
-  pub held : keys_of v.held ≡ (end_of s end).held
-  pub running : v.failed ≡ false

@@ -1,6 +1,5 @@
 -- What stands on a wire.
-use Rattle.std.specs.Prelude.{◌≡◌, ℕ, List, map}
-use Rattle.std.specs.List.{AllByRecursion}
+use Rattle.std.specs.Prelude.{ℕ, List}
 use Rattle.dap_msg.specs.Blocked.{all_joined}
 use Rattle.nsp_link.specs.Cutting.{cut}
 use Rattle.nsp_link.specs.Link.{IsWritten}
@@ -22,8 +21,3 @@ IsOnWire s end sending bytes =
 
 abbrev pub sending_of : Wired → Sending
 sending_of w = record { segment = w.segment; acks = w.acks }
-
--- these are the packets that the end wrote, each with its number and its acknowledgement
-pub record AreWired (s : State) (end : End) (wired : List Wired) : Type 0 where
-  pub sendings : map sending_of wired ≡ (end_of s end).wire
-  pub packets : AllByRecursion (λ w. IsOnWire s end (sending_of w) w.packet.items) wired

@@ -44,12 +44,15 @@ impl Model for World {
 
 impl World {
     ghost use Rattle.std.specs.Prelude.{◌≡◌, OnOk, IfOk, IfErr, map, true, false};
-    ghost use Rattle.dap_msg.specs.Blocked.{bodies};
+    ghost use Rattle.dap_msg.specs.Blocked.{all_joined, bodies};
     ghost use Rattle.dap_msg.specs.Canon.{canon};
-    ghost use Rattle.dap_world.specs.Machine.{MayEmit, files_of, reported, end_of, sent_by, taken_of};
-    ghost use Rattle.dap_world.specs.Runs.{IsLinkOf, Runs, StopsAt, Went};
+    ghost use Rattle.dap_world.specs.Machine.{MayEmit, files_of, reported, end_of, other, sent_by, taken_of};
+    ghost use Rattle.dap_world.specs.Runs.{Runs, StopsAt, Went};
     ghost use Rattle.dap_world.specs.Inner.Worlds.{IsWorld};
-    ghost use Rattle.dap_world.specs.Wires.{AreWired};
+    ghost use Rattle.dap_world.specs.Wires.{IsOnWire, address_of, sending_of};
+    ghost use Rattle.std.specs.List.{AllByRecursion};
+    ghost use Rattle.std.specs.Map.{keys_of};
+    ghost use Rattle.nsp_link.specs.Link.{Sends};
     ghost use Rattle.dap_world.specs.Headline.{HeadlineOf};
 
     /// One event happens, or is refused and changes nothing.
@@ -193,7 +196,9 @@ impl World {
 
     /// The packets that an end wrote (own). It takes no memory.
     pub fn wire(&self, end: End) -> &[Wired]
-        ensures { AreWired self.now end result.now }
+        ensures sendings { map sending_of result.now ≡ (end_of self.now end).wire }
+        ensures packets { AllByRecursion
+            (λ w. IsOnWire self.now end (sending_of w) w.packet.items) result.now }
     {
         match end {
             End::A => &self.wire_a,
@@ -203,7 +208,16 @@ impl World {
 
     /// The link of an end (own). It takes no memory.
     pub fn link(&self, end: End) -> &LinkEnd
-        ensures { IsLinkOf self.now end result.now }
+        ensures way { (result.now.setup.local ≡ address_of end)
+            × (result.now.setup.remote ≡ address_of (other end)) }
+        ensures size { result.now.setup.seg_size ≡ self.now.seg_size }
+        ensures window { result.now.setup.window ≡ self.now.window }
+        ensures sent { result.now.sent ≡ (end_of self.now end).sent }
+        ensures acked { result.now.acked ≡ (end_of self.now end).acked }
+        ensures queued { Sends result.now (all_joined (end_of self.now end).handed) }
+        ensures received { result.now.coming.received ≡ (end_of self.now end).taken }
+        ensures held { keys_of result.now.held ≡ (end_of self.now end).held }
+        ensures running { result.now.failed ≡ false }
     {
         match end {
             End::A => self.asking.link(),

@@ -5,7 +5,7 @@ use Rattle.dap_msg.specs.BothEnds.{greatest_message}
 use Rattle.dap_accessing.specs.declared.asking.Prepared.{Prepared}
 use Rattle.dap_accessing.specs.Request.{Request}
 use Rattle.dap_accessing.specs.Asked.{messages_of}
-use Rattle.dap_accessing.specs.Phase.{phase_fits}
+use Rattle.dap_accessing.specs.Inner.Phases.{phase_fits}
 use Rattle.dap_accessing.specs.Present.{Present}
 use Rattle.dap_accessing.specs.Inner.Outgoing.{AreCounted, outgoing_messages}
 

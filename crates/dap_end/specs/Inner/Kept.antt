@@ -2,7 +2,8 @@
 use Rattle.std.specs.Prelude.{◌≤◌, ℕ, List, length, All}
 use Rattle.dap_msg.specs.Items.{IsPlace}
 use Rattle.nsp_link.specs.Limits.{largest_limit}
-use Rattle.dap_end.specs.Ports.{PortValue, oldest}
+use Rattle.dap_end.specs.Ports.{PortValue}
+use Rattle.dap_end.specs.Inner.After.{oldest}
 
 abbrev pub AreShort : List (List ℕ) → Type 0
 AreShort messages = All (λ m. length m ≤ largest_limit) messages

@@ -8,8 +8,8 @@ use Rattle.dap_accessing.specs.Asked.{messages_of}
 use Rattle.dap_accessing.specs.Told.{Told}
 use Rattle.dap_accessing.specs.Phase.{limit_after}
 use Rattle.dap_end.specs.Going.{given_then}
-use Rattle.dap_end.specs.Serving.{Past}
-use Rattle.dap_end.specs.Asking.{AskingPast}
+use Rattle.dap_end.specs.Done.{Past}
+use Rattle.dap_end.specs.Done.{AskingPast}
 
 -- each past that fits the first fits the second
 abbrev pub Still : {P V : Type 0} → (Fits : P → V → Type 0) → (old new : V) → Type 0

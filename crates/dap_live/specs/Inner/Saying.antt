@@ -7,7 +7,8 @@ use Rattle.dap_text.specs.Adding as adding
 use Rattle.dap_text.specs.Text.{line_feed}
 use Rattle.rec_file.specs.declared.shapes.Shape.{Shape}
 use Rattle.dap_accessed.specs.Adding.{MayAdd, AddRefused, with_new_file}
-use Rattle.dap_end.specs.Serving.{ServingValue, NotGiven}
+use Rattle.dap_end.specs.Serving.{NotGiven}
+use Rattle.dap_end.specs.Done.{ServingValue}
 use Rattle.linewise.specs.declared.talking.Became.{Became}
 use Rattle.dap_live.specs.Texts.{LineAnswer, refused_line}
 use Rattle.dap_live.specs.Serving.{Adds}

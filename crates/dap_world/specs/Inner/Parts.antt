@@ -16,8 +16,10 @@ use Rattle.dap_world.specs.declared.event.End.{End}
 use Rattle.dap_world.specs.declared.event.End.TheVariants.{A, B}
 use Rattle.dap_world.specs.Machine.{State, EndState, taken_of, answers_read, reported}
 use Rattle.dap_world.specs.Inner.Worlds.{IsWorld}
-use Rattle.dap_end.specs.Asking.{AskingValue, AskingPast, HasAsked}
-use Rattle.dap_end.specs.Serving.{ServingValue, Past, IsAfter, answers_to}
+use Rattle.dap_end.specs.Asking.{HasAsked}
+use Rattle.dap_end.specs.Done.{AskingValue, AskingPast}
+use Rattle.dap_end.specs.Serving.{IsAfter}
+use Rattle.dap_end.specs.Done.{ServingValue, Past, answers_to}
 use Rattle.dap_world.specs.Wires.{address_of, sending_of}
 use Rattle.dap_world.specs.Inner.Sides.{SideValue, port_of, AreShort}
 use Rattle.dap_world.specs.Inner.Ways.{IsWay}

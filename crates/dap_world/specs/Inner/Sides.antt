@@ -9,7 +9,8 @@ use Rattle.dap_accessing.specs.Calls.{AskRefused, IsAdmittedBy}
 use Rattle.dap_accessing.specs.Request.{Request}
 use Rattle.dap_accessing.specs.declared.report.Report.{Report}
 use Rattle.dap_accessing.specs.declared.fault.AskFault.TheVariants as ask_fault
-use Rattle.dap_end.specs.Asking.{AskingValue, AskedOne}
+use Rattle.dap_end.specs.Asking.{AskedOne}
+use Rattle.dap_end.specs.Done.{AskingValue}
 use Rattle.dap_end.specs.Ports.{PortValue}
 use Rattle.dap_world.specs.declared.side.Wired.{Wired}
 use Rattle.dap_world.specs.declared.event.Step.{Step}

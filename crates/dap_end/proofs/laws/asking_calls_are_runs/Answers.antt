@@ -1,35 +1,38 @@
-use Rattle.dap_end.proofs.Calling.{asking_is, reading_is, posting_is, writing_is, again_is, ack_is, going_is, taking_is, refusing_is, halting_is, unfinished_is}
+use Rattle.dap_end.proofs.Calling.{asking_is, receiving_is, reading_is, posting_is, writing_is, again_is, ack_is, going_on_is, taken_is}
+use Rattle.std.proofs.Common.{[], ◌∷◌, refl, inl}
+use Rattle.dap_end.specs.Inner.Running.{IsOneOf}
+use Rattle.dap_end.proofs.Arriving.{more_asked}
 use Rattle.dap_end.proofs.laws.asking_calls_are_runs.Goals as goal
 
+pub returns-clause-none : goal.returns-clause-none
+returns-clause-none c = λ v. ([], refl, refl)
+
+pub returns-clause-more : goal.returns-clause-more
+returns-clause-more c = more_asked
+
 pub returns-clause-ask : goal.returns-clause-ask
-returns-clause-ask c = λ old new request n a. asking_is old new request n a
+returns-clause-ask c = asking_is (IsOneOf [])
+
+pub returns-clause-receive : goal.returns-clause-receive
+returns-clause-receive c = λ old new bytes before after r t. receiving_is (IsOneOf ((old.port.link, bytes) ∷ [])) old new bytes before after r (inl refl) t
 
 pub returns-clause-read : goal.returns-clause-read
-returns-clause-read c = λ old new report r. reading_is old new report r
+returns-clause-read c = reading_is (IsOneOf [])
 
 pub returns-clause-post : goal.returns-clause-post
-returns-clause-post c = λ old new n p. posting_is old new n p
+returns-clause-post c = posting_is (IsOneOf [])
 
 pub returns-clause-emit : goal.returns-clause-emit
-returns-clause-emit c = λ old new bytes rest w. writing_is old new bytes rest w
+returns-clause-emit c = writing_is (IsOneOf [])
 
 pub returns-clause-resend : goal.returns-clause-resend
-returns-clause-resend c = λ v i bytes lt w. again_is v i bytes lt w
+returns-clause-resend c = again_is (IsOneOf [])
 
 pub returns-clause-ack : goal.returns-clause-ack
-returns-clause-ack c = λ v bytes s. ack_is v bytes s
+returns-clause-ack c = ack_is (IsOneOf [])
 
 pub returns-clause-go_on : goal.returns-clause-go_on
-returns-clause-go_on c = λ old new out all before after w. going_is old new out all before after w
+returns-clause-go_on c = going_on_is (IsOneOf [])
 
 pub returns-clause-take : goal.returns-clause-take
-returns-clause-take c = λ old new bytes got out all before after t. taking_is old new bytes got out all before after t
-
-pub returns-clause-refused : goal.returns-clause-refused
-returns-clause-refused c = λ old new bytes before after f r. refusing_is old new bytes before after f r
-
-pub returns-clause-halted : goal.returns-clause-halted
-returns-clause-halted c = λ old new out all before after f h other. halting_is old new out all before after f h other
-
-pub returns-clause-part : goal.returns-clause-part
-returns-clause-part c = λ old new bytes got out all before after f t other. unfinished_is old new bytes got out all before after f t other
+returns-clause-take c = λ old new bytes out all before after r other t. taken_is (IsOneOf ((old.port.link, bytes) ∷ [])) old new bytes out all before after r other (inl refl) t

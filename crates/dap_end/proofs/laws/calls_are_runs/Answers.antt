@@ -1,32 +1,35 @@
-use Rattle.dap_end.proofs.Running.{serving_is, posting_is, writing_is, again_is, ack_is, going_is, halting_is, taking_is, part_is, refusing_is}
+use Rattle.dap_end.proofs.Running.{receiving_is, serving_is, posting_is, writing_is, again_is, ack_is, going_on_is, taken_is}
+use Rattle.std.proofs.Common.{[], ◌∷◌, refl, inl}
+use Rattle.dap_end.specs.Inner.Running.{IsOneOf}
+use Rattle.dap_end.proofs.Arriving.{more_served}
 use Rattle.dap_end.proofs.laws.calls_are_runs.Goals as goal
 
+pub returns-clause-none : goal.returns-clause-none
+returns-clause-none c = λ v. ([], refl)
+
+pub returns-clause-more : goal.returns-clause-more
+returns-clause-more c = more_served
+
+pub returns-clause-receive : goal.returns-clause-receive
+returns-clause-receive c = λ old new bytes r t. receiving_is (IsOneOf ((old.port.link, bytes) ∷ [])) old new bytes r (inl refl) t
+
 pub returns-clause-serve : goal.returns-clause-serve
-returns-clause-serve c = λ old new n s. serving_is old new n s
+returns-clause-serve c = serving_is (IsOneOf [])
 
 pub returns-clause-post : goal.returns-clause-post
-returns-clause-post c = λ old new n p. posting_is old new n p
+returns-clause-post c = posting_is (IsOneOf [])
 
 pub returns-clause-emit : goal.returns-clause-emit
-returns-clause-emit c = λ old new bytes rest w. writing_is old new bytes rest w
+returns-clause-emit c = writing_is (IsOneOf [])
 
 pub returns-clause-resend : goal.returns-clause-resend
-returns-clause-resend c = λ v i bytes lt w. again_is v i bytes lt w
+returns-clause-resend c = again_is (IsOneOf [])
 
 pub returns-clause-ack : goal.returns-clause-ack
-returns-clause-ack c = λ v bytes s. ack_is v bytes s
+returns-clause-ack c = ack_is (IsOneOf [])
 
 pub returns-clause-go_on : goal.returns-clause-go_on
-returns-clause-go_on c = λ old new out all w. going_is old new out all w
-
-pub returns-clause-halted : goal.returns-clause-halted
-returns-clause-halted c = λ old new out all f h. halting_is old new out all f h
+returns-clause-go_on c = going_on_is (IsOneOf [])
 
 pub returns-clause-take : goal.returns-clause-take
-returns-clause-take c = λ old new bytes got out all t. taking_is old new bytes got out all t
-
-pub returns-clause-part : goal.returns-clause-part
-returns-clause-part c = λ old new bytes got out all f t. part_is old new bytes got out all f t
-
-pub returns-clause-refused : goal.returns-clause-refused
-returns-clause-refused c = λ old new bytes f r. refusing_is old new bytes f r
+returns-clause-take c = λ old new bytes out all r t. taken_is (IsOneOf ((old.port.link, bytes) ∷ [])) old new bytes out all r (inl refl) t

@@ -4,7 +4,7 @@ use Rattle.dap_accessing.specs.Request.{Request}
 use Rattle.dap_accessing.specs.declared.fault.AskFault.{AskFault}
 use Rattle.dap_accessing.specs.declared.fault.AskFault.TheVariants.{NoMemory}
 use Rattle.dap_accessing.specs.Calls.{AskRefused, IsAdmittedBy}
-use Rattle.dap_end.specs.Asking.{AskingValue}
+use Rattle.dap_end.specs.Done.{AskingValue}
 use Rattle.dap_end.proofs.asking.AskingEnd.ask.Goals as goal
 
 refused : (request : Request) (old new : AskingValue) (r : Result ℕ AskFault) → old.accessing.failed ≡ false → IsAdmittedBy old.accessing request

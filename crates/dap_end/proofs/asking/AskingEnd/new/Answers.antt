@@ -1,6 +1,7 @@
 use Rattle.std.proofs.Common.{refl, subst, sym, []}
 use Rattle.dap_end.specs.Ports.{PortValue}
-use Rattle.dap_end.specs.Asking.{HasAsked, nothing_asked}
+use Rattle.dap_end.specs.Asking.{HasAsked}
+use Rattle.dap_end.specs.Done.{nothing_asked}
 use Rattle.dap_end.specs.Inner.AskingView.{asking_of}
 use Rattle.nsp_link.proofs.ForCallers.{sends_new}
 use Rattle.dap_end.proofs.Going.{gone_nothing}

@@ -1,6 +1,7 @@
 use Rattle.std.proofs.Common.{refl, subst, sym, []}
 use Rattle.dap_end.specs.Ports.{PortValue}
-use Rattle.dap_end.specs.Serving.{ServingValue, IsAfter, nothing_yet}
+use Rattle.dap_end.specs.Serving.{IsAfter}
+use Rattle.dap_end.specs.Done.{ServingValue, nothing_yet}
 use Rattle.nsp_link.proofs.ForCallers.{sends_new}
 use Rattle.dap_end.proofs.Going.{gone_nothing}
 use Rattle.dap_end.proofs.serving.ServingEnd.new.Goals as goal

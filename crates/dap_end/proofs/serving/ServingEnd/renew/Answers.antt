@@ -1,7 +1,8 @@
 use Rattle.std.proofs.Common.{refl, subst, sym, []}
 use Rattle.nsp_link.proofs.ForCallers.{sends_new}
 use Rattle.dap_end.specs.Ports.{PortValue}
-use Rattle.dap_end.specs.Serving.{IsAfter, nothing_yet}
+use Rattle.dap_end.specs.Serving.{IsAfter}
+use Rattle.dap_end.specs.Done.{nothing_yet}
 use Rattle.dap_end.specs.Inner.ServingView.{serving_of}
 use Rattle.dap_end.proofs.Going.{gone_nothing}
 use Rattle.dap_end.proofs.serving.ServingEnd.renew.Goals as goal

@@ -1,7 +1,7 @@
 use Rattle.std.proofs.Common.{sym, subst, ap, ◌∙◌, inl, inr, refl}
 use Rattle.nsp_link.specs.declared.fault.LinkFault.TheVariants.{NoMemory}
 use Rattle.dap_end.specs.declared.fault.EndFault.TheVariants as end_fault
-use Rattle.dap_end.specs.Serving.{ServingValue}
+use Rattle.dap_end.specs.Done.{ServingValue}
 use Rattle.dap_end.specs.Taking.{ServedUp, ServeFault, begins}
 use Rattle.dap_end.proofs.Proceeding.{on_more, works_here}
 use Rattle.dap_end.proofs.serving.ServingEnd.serve_all.Goals as goal

@@ -1,11 +1,11 @@
-use Rattle.std.proofs.Common.{◌∙◌, Err, ap, subst, length}
+use Rattle.std.proofs.Common.{◌≡◌, ◌∙◌, Err, ap, subst, length, map}
 use Rattle.dap_world.specs.declared.event.End.{End}
 use Rattle.dap_world.specs.declared.event.Event.TheVariants as event
-use Rattle.dap_world.specs.Machine.{State, Steps}
+use Rattle.dap_world.specs.Machine.{State, Steps, end_of}
 use Rattle.dap_world.specs.Settling.{unacked}
 use Rattle.dap_world.proofs.Others.{refused_same}
 use Rattle.dap_world.specs.Runs.{Went}
-use Rattle.dap_world.specs.Wires.{AreWired}
+use Rattle.dap_world.specs.Wires.{sending_of}
 use Rattle.dap_world.proofs.Settles.{acknowledged_all, ack_unacked, back_refused, ack_refused, wire_length}
 use Rattle.dap_world.proofs.Resting.{rest_ack, rest_both, rest_deliver}
 use Rattle.dap_world.proofs.world.World.acknowledge.Goals as goal
@@ -13,14 +13,14 @@ use Rattle.dap_world.proofs.world.World.acknowledge.Goals as goal
 pub returns-in-Ok-step-clause-ok : goal.returns-in-Ok-step-clause-ok
 returns-in-Ok-step-clause-ok c =
     let shown = c.wire-place.result.now in
-    let at = wire_length c.args.self.now _ shown (subst (λ (e : End). AreWired c.args.self.now e shown) c.other.ensures c.wire-place.ensures) in
+    let at = wire_length c.args.self.now _ shown (subst (λ (e : End). map sending_of shown ≡ (end_of c.args.self.now e).wire) c.other.ensures c.wire-place.ensures.sendings) in
     let first = subst (λ (e : End). Steps c.args.self.now (event.Ack e) c.in-Ok._step c.step.new.self) c.other-2.ensures c.in-Ok.ensures.went in
     acknowledged_all c.args.self.now c.step.new.self c.step-2.new.self c.args.end (length shown) c.in-Ok._step c.in-Ok-step._step c.requires.world c.requires.taken at first c.in-Ok-step.ensures.went
 
 pub returns-clause-err : goal.returns-clause-err
 returns-clause-err c =
     let shown = c.wire-place.result.now in
-    let at = wire_length c.args.self.now _ shown (subst (λ (e : End). AreWired c.args.self.now e shown) c.other.ensures c.wire-place.ensures) in
+    let at = wire_length c.args.self.now _ shown (subst (λ (e : End). map sending_of shown ≡ (end_of c.args.self.now e).wire) c.other.ensures c.wire-place.ensures.sendings) in
     let first = subst (λ (e : End). Steps c.args.self.now (event.Ack e) c.in-Ok._step c.step.new.self) c.other-2.ensures c.in-Ok.ensures.went in
     back_refused c.args.self.now c.step.new.self c.step-2.new.self c.args.end (length shown) c.in-Ok._step c.in-Err-step.fault c.requires.world at first c.in-Err-step.ensures.went
 

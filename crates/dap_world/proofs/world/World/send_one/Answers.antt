@@ -18,13 +18,13 @@ returns-in-Err-clause-err c = emit_refused c.args.self.now c.step.new.self c.arg
 
 pub returns-in-Err-step-clause-err : goal.returns-in-Err-step-clause-err
 returns-in-Err-step-clause-err c =
-    let at = wire_length c.args.self.now c.args.end c.wire-place.result.now c.wire-place.ensures in
+    let at = wire_length c.args.self.now c.args.end c.wire-place.result.now c.wire-place.ensures.sendings in
     first_refused c.args.self.now c.step.new.self c.step-2.new.self c.args.end (length c.wire-place.result.now) c.in-Ok._step c.in-Err-step.fault c.requires.world c.in-Ok.ensures.world c.in-Ok.ensures.went at
     (subst (λ (e : End). Went c.step.new.self (event.Deliver e (length c.wire-place.result.now)) (Err c.in-Err-step.fault) c.step-2.new.self) c.other.ensures c.in-Err-step.ensures.went)
 
 pub acknowledge-requires-clause-taken : goal.acknowledge-requires-clause-taken
 acknowledge-requires-clause-taken c =
-    let at = wire_length c.args.self.now c.args.end c.wire-place.result.now c.wire-place.ensures in
+    let at = wire_length c.args.self.now c.args.end c.wire-place.result.now c.wire-place.ensures.sendings in
     arrived_all c.args.self.now c.step.new.self c.step-2.new.self c.args.end (length c.wire-place.result.now) c.in-Ok._step c.in-Ok-step._step c.requires.world c.in-Ok.ensures.world c.requires.settled c.in-Ok.ensures.went at
     (subst (λ (e : End). Steps c.step.new.self (event.Deliver e (length c.wire-place.result.now)) c.in-Ok-step._step c.step-2.new.self) c.other.ensures c.in-Ok-step.ensures.went)
 

@@ -6,30 +6,30 @@ use Rattle.dap_world.proofs.world.World.settle_some.Goals as goal
 
 pub deliver_all-requires-clause-order : goal.deliver_all-requires-clause-order
 deliver_all-requires-clause-order c =
-    let before = wire_length c.args.self.now c.args.end c.wire-first.result.now c.wire-first.ensures in
-    let after = wire_length c.resend_all.new.self c.args.end c.wire-last.result.now c.wire-last.ensures in
+    let before = wire_length c.args.self.now c.args.end c.wire-first.result.now c.wire-first.ensures.sendings in
+    let after = wire_length c.resend_all.new.self c.args.end c.wire-last.result.now c.wire-last.ensures.sendings in
     let grew = wire_grew c.args.self.now c.resend_all.new.self c.args.end c.args.count c.in-Ok.ensures.ok.0 in
     omega (arith, before, after, grew)
 
 pub deliver_all-requires-clause-few : goal.deliver_all-requires-clause-few
 deliver_all-requires-clause-few c =
-    let before = wire_length c.args.self.now c.args.end c.wire-first.result.now c.wire-first.ensures in
-    let after = wire_length c.resend_all.new.self c.args.end c.wire-last.result.now c.wire-last.ensures in
+    let before = wire_length c.args.self.now c.args.end c.wire-first.result.now c.wire-first.ensures.sendings in
+    let after = wire_length c.resend_all.new.self c.args.end c.wire-last.result.now c.wire-last.ensures.sendings in
     let grew = wire_grew c.args.self.now c.resend_all.new.self c.args.end c.args.count c.in-Ok.ensures.ok.0 in
     let same = same_unacked c.args.self.now c.resend_all.new.self c.args.end c.args.count c.in-Ok.ensures.ok.0 in
     omega (arith, before, after, grew, same, c.requires.all)
 
 pub deliver_all-requires-clause-there : goal.deliver_all-requires-clause-there
 deliver_all-requires-clause-there c =
-    let before = wire_length c.args.self.now c.args.end c.wire-first.result.now c.wire-first.ensures in
-    let after = wire_length c.resend_all.new.self c.args.end c.wire-last.result.now c.wire-last.ensures in
+    let before = wire_length c.args.self.now c.args.end c.wire-first.result.now c.wire-first.ensures.sendings in
+    let after = wire_length c.resend_all.new.self c.args.end c.wire-last.result.now c.wire-last.ensures.sendings in
     let grew = wire_grew c.args.self.now c.resend_all.new.self c.args.end c.args.count c.in-Ok.ensures.ok.0 in
     there_again c.args.self.now c.resend_all.new.self c.args.end (length c.wire-first.result.now) (length c.wire-last.result.now) c.args.count c.in-Ok.ensures.ok.0 before (omega (arith, before, after, grew))
 
 pub acknowledge-requires-clause-taken : goal.acknowledge-requires-clause-taken
 acknowledge-requires-clause-taken c =
-    let before = wire_length c.args.self.now c.args.end c.wire-first.result.now c.wire-first.ensures in
-    let after = wire_length c.resend_all.new.self c.args.end c.wire-last.result.now c.wire-last.ensures in
+    let before = wire_length c.args.self.now c.args.end c.wire-first.result.now c.wire-first.ensures.sendings in
+    let after = wire_length c.resend_all.new.self c.args.end c.wire-last.result.now c.wire-last.ensures.sendings in
     let grew = wire_grew c.args.self.now c.resend_all.new.self c.args.end c.args.count c.in-Ok.ensures.ok.0 in
     let same = same_unacked c.args.self.now c.resend_all.new.self c.args.end c.args.count c.in-Ok.ensures.ok.0 in
     all_taken c.resend_all.new.self c.deliver_all.new.self c.args.end (length c.wire-last.result.now - length c.wire-first.result.now) c.in-Ok.ensures.ok.1 c.in-Ok-deliver_all.ensures.ok.0
@@ -42,8 +42,8 @@ returns-in-Err-deliver_all-clause-err c =
 
 pub returns-in-Ok-acknowledge-clause-ok : goal.returns-in-Ok-acknowledge-clause-ok
 returns-in-Ok-acknowledge-clause-ok c =
-    let before = wire_length c.args.self.now c.args.end c.wire-first.result.now c.wire-first.ensures in
-    let after = wire_length c.resend_all.new.self c.args.end c.wire-last.result.now c.wire-last.ensures in
+    let before = wire_length c.args.self.now c.args.end c.wire-first.result.now c.wire-first.ensures.sendings in
+    let after = wire_length c.resend_all.new.self c.args.end c.wire-last.result.now c.wire-last.ensures.sendings in
     let grew = wire_grew c.args.self.now c.resend_all.new.self c.args.end c.args.count c.in-Ok.ensures.ok.0 in
     let many : length c.wire-last.result.now - length c.wire-first.result.now ≡ c.args.count = omega (arith, before, after, grew) in
     let came = subst (λ (n : ℕ). RanBy c.resend_all.new.self c.deliver_all.new.self n) many c.in-Ok-deliver_all.ensures.ok.0.ran in

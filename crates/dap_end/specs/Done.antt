@@ -1,0 +1,47 @@
+-- An end, and what it did on its link, which it keeps none of.
+use Rattle.std.specs.Prelude.{ℕ, List, [], ◌∷◌, ◌++◌}
+use Rattle.dap_msg.specs.declared.items.Item.{Item}
+use Rattle.dap_msg.specs.Blocked.{NspMessage, Blocked}
+use Rattle.dap_accessed.specs.Standing.{Files}
+use Rattle.dap_accessed.specs.Groups.{added, limit_for}
+use Rattle.dap_accessed.specs.Present as accessed
+use Rattle.dap_accessing.specs.Present as accessing
+use Rattle.dap_accessing.specs.Request.{Request}
+use Rattle.dap_end.specs.Ports.{PortValue}
+
+-- ---- The end that serves.
+
+pub record ServingValue : Type 0 where
+  pub port : PortValue
+  pub accessed : accessed.Present
+
+pub record Past : Type 0 where
+  pub first : Files  -- the files that it had at first
+  pub given : List (List ℕ)  -- the NSP messages that it served whole
+  pub items : List Item  -- what it served: messages, or the rest of an NSP message of which none can be read
+  pub handed : List (List ℕ)  -- the NSP messages with its answers that were handed to its link
+
+abbrev pub nothing_yet : Files → Past
+nothing_yet first = record { first = first; given = []; items = []; handed = [] }
+
+-- the answers to each item, joined to NSP messages as far as the peer's limit goes
+abbrev pub answers_to : (own : ℕ) → Files → (before items : List Item) → List NspMessage
+answers_to own first before [] = []
+answers_to own first before (item ∷ items) =
+    Blocked (limit_for own first before) (added own first before item) ++ answers_to own first (before ++ item ∷ []) items
+
+-- ---- The end that asks.
+
+pub record AskingValue : Type 0 where
+  pub port : PortValue
+  pub accessing : accessing.Present
+
+pub record AskingPast : Type 0 where
+  pub requests : List Request  -- what was asked
+  pub asked : List NspMessage  -- the NSP messages of the requests
+  pub handed : List (List ℕ)  -- those that were handed to its link
+  pub given : List (List ℕ)  -- the NSP messages that it read whole
+  pub answers : List Item  -- what it read
+
+abbrev pub nothing_asked : AskingPast
+nothing_asked = record { requests = []; asked = []; handed = []; given = []; answers = [] }
