@@ -16,7 +16,7 @@ use Rattle.dap_accessing.specs.declared.phase.Phase.TheVariants.{Fresh}
 use Rattle.dap_msg.specs.Sendable.{AreSendable}
 use Rattle.dap_accessing.specs.Phase.{phase_next, phase_after, limit_next, limit_after, phases_for, IsNoneDue, IsRefused}
 use Rattle.dap_accessing.specs.Inner.Hears.{pending_of, HasNoPlace, HasPlace, Takes}
-use Rattle.dap_accessing.specs.Inner.Present.{Present, StandsAfter, FitsDue}
+use Rattle.dap_accessing.specs.Inner.Present.{Present, failed_after, StandsAfter, FitsDue}
 use Rattle.dap_accessing.specs.Inner.Gathers.{gather}
 use Rattle.dap_accessing.specs.Calls.{IsAdmittedBy, Asks, Reads, ReadRefused}
 use Rattle.dap_accessing.specs.Inner.Prepared.{MayAsk}
@@ -388,13 +388,13 @@ taken_read bytes at m next old new (Some done) works reads t =
     }
 
 pub taken_refused : (bytes : List ℕ) (at : ℕ) (m : Message) (next : ℕ) (old new : Present) (f : ReadFault) → old.failed ≡ false → ItemAt bytes at (Whole m) next → Takes (Whole m) old new (Err f) → ReadRefused bytes at old new f
-taken_refused bytes at m next old new read_fault.Unexpected works reads t = (works, t.0, (Whole m, next, reads, unexpected (Whole m) old t.1))
+taken_refused bytes at m next old new read_fault.Unexpected works reads t = (works, ap (λ (p : Present). p.failed) t.0, t.0, (Whole m, next, reads, unexpected (Whole m) old t.1))
 taken_refused bytes at m next old new read_fault.NoMemory works reads t = (works, t.0, (Whole m, next, reads, placed (Whole m) old t.1.0 t.1.1 t.1.2))
 taken_refused bytes at m next old new read_fault.Failed works reads t = absurd t
 
-pub rest_refused : (bytes : List ℕ) (at : ℕ) (fault : MsgFault) (next : ℕ) (old new : Present) → old.failed ≡ false → ItemAt bytes at (Malformed fault) next → new.failed ≡ true → ReadRefused bytes at old new read_fault.Unexpected
+pub rest_refused : (bytes : List ℕ) (at : ℕ) (fault : MsgFault) (next : ℕ) (old new : Present) → old.failed ≡ false → ItemAt bytes at (Malformed fault) next → new ≡ failed_after old → ReadRefused bytes at old new read_fault.Unexpected
 rest_refused bytes at fault next old new works reads failed =
-    (works, failed, (Malformed fault, next, reads, unexpected (Malformed fault) old (malformed_misplaced old.pending fault)))
+    (works, ap (λ (p : Present). p.failed) failed, failed, (Malformed fault, next, reads, unexpected (Malformed fault) old (malformed_misplaced old.pending fault)))
 
 pub asks_of : (request : Request) (old : Present) (p : Pending) (messages : List (List ℕ)) → MayAsk old request → messages ≡ all_joined (Blocked old.limit (messages_of old.own request)) → p ≡ pending_of request
     → Asks request old (record old { pending = Some p }) messages

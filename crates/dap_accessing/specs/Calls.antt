@@ -14,7 +14,7 @@ use Rattle.dap_accessing.specs.declared.fault.ReadFault.TheVariants as read_faul
 use Rattle.dap_accessing.specs.Asked.{messages_of}
 use Rattle.dap_accessing.specs.Told.{Told, is_unexpected}
 use Rattle.dap_accessing.specs.Phase.{limit_after, IsAdmissible, IsRefused}
-use Rattle.dap_accessing.specs.Present.{Present, StandsAfter}
+use Rattle.dap_accessing.specs.Present.{Present, StandsAfter, failed_after}
 
 -- the request is admissible, whatever requests and answers the end stands after
 abbrev pub IsAdmittedBy : Present → Request → Type 0
@@ -62,4 +62,4 @@ IsThere bytes at old unexpected =
 abbrev pub ReadRefused : List ℕ → ℕ → Present → Present → ReadFault → Type 0
 ReadRefused bytes at old new read_fault.Failed = (old.failed ≡ true) × (new ≡ old)
 ReadRefused bytes at old new read_fault.NoMemory = (old.failed ≡ false) × (new ≡ old) × IsThere bytes at old false
-ReadRefused bytes at old new read_fault.Unexpected = (old.failed ≡ false) × (new.failed ≡ true) × IsThere bytes at old true
+ReadRefused bytes at old new read_fault.Unexpected = (old.failed ≡ false) × (new.failed ≡ true) × (new ≡ failed_after old) × IsThere bytes at old true

@@ -198,7 +198,7 @@ impl Accessing {
     /// Reads the one DAP message that begins at `at`, in bytes, as the next answer (DAP 5.6.0, message
     /// sequences).
     ///
-    /// Refusals: Failed; Unexpected, after which the end has failed; NoMemory, which changes nothing.
+    /// Refusals: Failed; Unexpected, after which the end has failed, and keeps nothing of its requests; NoMemory, which changes nothing.
     pub fn read(&mut self, nsp_message: &[u8], at: usize) -> Result<ReadStep, ReadFault>
         requires { IsPlace at nsp_message.now }
         ensures reads { IfOk result (λ read. Reads nsp_message.now at self.old self.new read) }
@@ -213,6 +213,7 @@ impl Accessing {
         let (item, next) = item_at(nsp_message, at);
         let Item::Whole(message) = item else {
             self.failed = true;
+            self.pending = None;
             return Err(ReadFault::Unexpected);
         };
         match self.take(&message) {

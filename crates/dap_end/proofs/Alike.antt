@@ -18,14 +18,14 @@ use Rattle.dap_accessing.specs.declared.fault.ReadFault.{ReadFault}
 use Rattle.dap_accessing.specs.declared.fault.ReadFault.TheVariants as read_fault
 use Rattle.dap_accessing.specs.Told.{Told, Due, NothingDue, AnswersDue, Wrong, due_after, is_unexpected}
 use Rattle.dap_accessing.specs.Asked.{messages_of}
-use Rattle.dap_accessing.specs.Inner.Present.{Present, StandsAfter, FitsDue}
+use Rattle.dap_accessing.specs.Inner.Present.{Present, StandsAfter, FitsDue, failed_after}
 use Rattle.dap_accessing.proofs.ForCallers.{one_present}
 use Rattle.dap_end.specs.Inner.Pasts.{read_one}
 use Rattle.dap_end.specs.declared.fault.EndFault.{EndFault}
 use Rattle.dap_end.specs.declared.fault.EndFault.TheVariants as end_fault
 use Rattle.dap_end.specs.declared.fault.TakeFault.{TakeFault}
 use Rattle.dap_end.specs.Ports.{PortValue, gone_on, posted, with_link}
-use Rattle.dap_end.specs.Asking.{HasAsked, AskedOne, HandedAll, ReadOne, ReadNone, ReadOn, begins, goes, ReadPart, ReadsAll, HeardAll, HearFault, asks, AreAlike, HasDone}
+use Rattle.dap_end.specs.Asking.{HasAsked, AskedOne, HandedAll, ReadOne, ReadNone, ReadOn, begins, goes, ReadPart, ReadsAll, HeardAll, HearFault, asks, HasDone}
 use Rattle.dap_end.specs.Done.{AskingValue, AskingPast}
 use Rattle.dap_end.specs.Writing.{Behind, sent_more}
 use Rattle.dap_end.specs.Turns.{WentOn, Takes}
@@ -84,23 +84,18 @@ reading_one past old one two r s h a b =
 
 -- ---- Ends that are alike.
 
-pub alike_of : (one two : AskingValue) → one ≡ two → AreAlike one two
-alike_of one two e =
-    (ap (λ (v : AskingValue). v.port) e, ap (λ (v : AskingValue). v.accessing.own) e, ap (λ (v : AskingValue). v.accessing.failed) e, λ works. ap (λ (v : AskingValue). v.accessing) e)
+-- they are one
+abbrev AreAlike : AskingValue → AskingValue → Type 0
+AreAlike one two = one ≡ two
 
-pub alike_back : (one two : AskingValue) → AreAlike one two → AreAlike two one
-alike_back one two h = (sym h.0, sym h.1, sym h.2, λ works. sym (h.3 (h.2 ∙ works)))
-
--- those that work are one
-pub alike_same : (one two : AskingValue) → AreAlike one two → one.accessing.failed ≡ false → one ≡ two
-alike_same one two h works = ap (λ (p : PortValue). record one { port = p }) h.0 ∙ ap (λ (x : Present). record two { accessing = x }) (h.3 works)
+same_port : (one two : AskingValue) → AreAlike one two → one.port ≡ two.port
+same_port one two h = ap (λ (v : AskingValue). v.port) h
 
 alike_port : (one two : AskingValue) (p q : PortValue) → AreAlike one two → p ≡ q → AreAlike (record one { port = p }) (record two { port = q })
-alike_port one two p q h e = (e, h.1, h.2, h.3)
+alike_port one two p q h e = ap (λ (v : AskingValue). record v { port = p }) h ∙ ap (λ (x : PortValue). record two { port = x }) e
 
 pub alike_done : (one two : AskingValue) → AreAlike one two → HasDone one → HasDone two
-alike_done one two h (inl d) = inl (d.0, subst (HasAsked d.0) (alike_same one two h d.1.asking.works) d.1)
-alike_done one two h (inr d) = inr (sym h.2 ∙ d.0, (d.1.0, subst (λ (p : PortValue). Sends p.link d.1.0) h.0 d.1.1))
+alike_done one two h d = subst HasDone h d
 
 pub has_sent : (v : AskingValue) → HasDone v → (handed : List (List ℕ)) × Sends v.port.link handed
 has_sent v (inl d) = (d.0.handed, d.1.sends)
@@ -140,7 +135,7 @@ not_wrong Wrong (Some p) e h = h
 -- an answer that has no place is read by nobody
 no_place : (past : AskingPast) (v new next : AskingValue) (report : Option Report) → HasAsked past v → ReadNone v new read_fault.Unexpected → ReadOne v next report → ⊥
 no_place past v new next report h n r =
-    let there = n.refused.2 in
+    let there = n.refused.3 in
     let bytes : n.bytes ≡ r.one.bytes = (let both = sym n.came ∙ r.one.came in cc) in
     let same = one_item r.one.bytes v.port.place r.one.item there.0 r.one.next there.1 r.one.fits r.one.reads (subst (λ (l : List ℕ). ItemAt l v.port.place there.0 there.1) bytes there.2) in
     let unexpected : is_unexpected past.requests past.answers r.one.item ≡ true =
@@ -155,14 +150,14 @@ stops_unread v new read_fault.NoMemory want n p = absurd (want refl)
 read_alike : (old other one two : AskingValue) (before xs ys : List Report) → HasDone old → AreAlike old other → Behind before xs (ReadOn old one) → Behind before ys (ReadOn other two)
     → (((past : AskingPast) × HasAsked past one) → Stops one) → (((past : AskingPast) × HasAsked past two) → Stops two) → AreAlike one two × (xs ≡ ys) × HasDone one
 read_alike old other one two before xs ys (inl d) like ra rb sa sb =
-    let rc : Behind before ys (ReadOn old two) = subst (λ (v : AskingValue). Behind before ys (ReadOn v two)) (sym (alike_same old other like d.1.asking.works)) rb in
+    let rc : Behind before ys (ReadOn old two) = subst (λ (v : AskingValue). Behind before ys (ReadOn v two)) (sym like) rb in
     let pa = read_past d.0 old one ra.0 d.1 ra.2 in
     let pb = read_past d.0 old two rc.0 d.1 rc.2 in
     let s = reads_once d.0 old one two ra.0 rc.0 d.1 ra.2 rc.2 (sa pa) (sb pb) in
-    (alike_of one two s.0, ra.1 ∙ ap (λ (l : List Report). before ++ l) s.1 ∙ sym rc.1, inl pa)
+    (s.0, ra.1 ∙ ap (λ (l : List Report). before ++ l) s.1 ∙ sym rc.1, inl pa)
 read_alike old other one two before xs ys (inr d) like ra rb sa sb =
     let fa = failed_reads old one ra.0 d.0 ra.2 in
-    let fb = failed_reads other two rb.0 (sym like.2 ∙ d.0) rb.2 in (
+    let fb = failed_reads other two rb.0 (sym (ap (λ (v : AskingValue). v.accessing.failed) like) ∙ d.0) rb.2 in (
       subst (λ (v : AskingValue). AreAlike v two) (sym fa.0) (subst (λ (v : AskingValue). AreAlike old v) (sym fb.0) like),
       ra.1 ∙ ap (λ (l : List Report). before ++ l) (fa.1 ∙ sym fb.1) ∙ sym rb.1,
       subst HasDone (sym fa.0) (inr d),
@@ -189,7 +184,7 @@ handed_done v new n h (inr d) =
 heard_alike : (old other one two : AskingValue) (before xs ys : List Report) → HasDone old → AreAlike old other → HeardAll old one before xs → HeardAll other two before ys → AreAlike one two × (xs ≡ ys) × HasDone one
 heard_alike old other one two before xs ys d like a b =
     let t = read_alike old other a.0 b.0 before xs ys d like a.2.0 b.2.0 (λ p. stops_empty a.0 a.2.1) (λ p. stops_empty b.0 b.2.1) in
-    let there = alike_port a.0 b.0 (posted a.0.port) (posted b.0.port) t.0 (ap posted t.0.0) in (
+    let there = alike_port a.0 b.0 (posted a.0.port) (posted b.0.port) t.0 (ap posted (same_port a.0 b.0 t.0)) in (
       subst (λ (v : AskingValue). AreAlike v two) (sym (handed_is a.0 one a.1 a.3)) (subst (λ (v : AskingValue). AreAlike (record a.0 { port = posted a.0.port }) v) (sym (handed_is b.0 two b.1 b.3)) there),
       t.1,
       handed_done a.0 one a.1 a.3 t.2,
@@ -200,12 +195,12 @@ empty_apart : (old other one mid two : AskingValue) (before xs ys : List Report)
     → ReadNone mid two f → ⊥
 empty_apart old other one mid two before xs ys f d like want ra none rb n =
     let t = read_alike old other one mid before xs ys d like ra rb (λ p. stops_empty one none) (λ p. stops_unread mid two f want n p) in
-    no_next n.bytes n.later (sym none ∙ ap (λ (p : PortValue). p.link.coming.inbox) t.0.0 ∙ n.came)
+    no_next n.bytes n.later (sym none ∙ ap (λ (v : AskingValue). v.port.link.coming.inbox) t.0 ∙ n.came)
 
 heard_apart : (old other one two : AskingValue) (before xs ys : List Report) (f : EndFault) → HasDone old → AreAlike old other → is_want f ≡ false → HeardAll old one before xs → HearFault other two before ys f → ⊥
 heard_apart old other one two before xs ys (end_fault.Link f) d like want a b =
     let t = read_alike old other a.0 two before xs ys d like a.2.0 b.0.0 (λ p. stops_empty a.0 a.2.1) (λ p. stops_empty two b.0.1) in
-    may_or_not two.port.link two.port.outbox f (no_want f want) (subst (λ (p : PortValue). IsTrue (may_queue p.link p.outbox)) t.0.0 a.3.0.0) b.1
+    may_or_not two.port.link two.port.outbox f (no_want f want) (subst (λ (v : AskingValue). IsTrue (may_queue v.port.link v.port.outbox)) t.0 a.3.0.0) b.1
 heard_apart old other one two before xs ys (end_fault.Read f) d like want a b =
     let u = unread other two before ys f (no_read_want f want) b in
     empty_apart old other a.0 u.0 two before xs ys f d like (no_read_want f want) a.2.0 a.2.1 u.1 u.2
@@ -217,12 +212,13 @@ left_alike a b one two read_fault.Failed read_fault.Failed nf ng like d x y =
     (subst (λ (v : AskingValue). AreAlike v two) (sym ea) (subst (λ (v : AskingValue). AreAlike a v) (sym eb) like), refl, subst HasDone (sym ea) d)
 left_alike a b one two read_fault.Unexpected read_fault.Unexpected nf ng like d x y =
     let sent = has_sent a d in (
-      (x.port ∙ like.0 ∙ sym y.port, x.own ∙ like.1 ∙ sym y.own, x.refused.1 ∙ sym y.refused.1, λ works. absurd (true≢false (sym x.refused.1 ∙ works))),
+      ap (λ (p : PortValue). record one { port = p }) (x.port ∙ same_port a b like ∙ sym y.port)
+      ∙ ap (λ (k : Present). record two { accessing = k }) (x.refused.2 ∙ ap (λ (v : AskingValue). failed_after v.accessing) like ∙ sym y.refused.2),
       refl,
       inr (x.refused.1, (sent.0, subst (λ (p : PortValue). Sends p.link sent.0) (sym x.port) sent.1)),
     )
-left_alike a b one two read_fault.Failed read_fault.Unexpected nf ng like d x y = absurd (true≢false (sym x.refused.0 ∙ like.2 ∙ y.refused.0))
-left_alike a b one two read_fault.Unexpected read_fault.Failed nf ng like d x y = absurd (true≢false (sym y.refused.0 ∙ sym like.2 ∙ x.refused.0))
+left_alike a b one two read_fault.Failed read_fault.Unexpected nf ng like d x y = absurd (true≢false (sym x.refused.0 ∙ ap (λ (v : AskingValue). v.accessing.failed) like ∙ y.refused.0))
+left_alike a b one two read_fault.Unexpected read_fault.Failed nf ng like d x y = absurd (true≢false (sym y.refused.0 ∙ sym (ap (λ (v : AskingValue). v.accessing.failed) like) ∙ x.refused.0))
 left_alike a b one two read_fault.NoMemory g nf ng like d x y = absurd (nf refl)
 left_alike a b one two f read_fault.NoMemory nf ng like d x y = absurd (ng refl)
 
@@ -253,7 +249,7 @@ reading_alike old other one two before xs ys (Err f) (Ok w) d like nr ns a b =
     let want : f ≢ read_fault.NoMemory = λ k. nr (ap not_read k) in
     let n = unread old one before xs f want a in
     absurd
-    (empty_apart other old two n.0 one before ys xs f (alike_done old other like d) (alike_back old other like) want b.0 b.1 n.1 n.2)
+    (empty_apart other old two n.0 one before ys xs f (alike_done old other like d) (sym like) want b.0 b.1 n.1 n.2)
 reading_alike old other one two before xs ys (Err f) (Err g) d like nr ns a b =
     let t = unread_alike old other one two before xs ys f g d like (λ k. nr (ap not_read k)) (λ k. ns (ap not_read k)) a b in
     (t.0, ap not_read t.1, t.2, t.3)
@@ -262,14 +258,14 @@ stopped_alike : (old other one two : AskingValue) (before xs ys : List Report) (
     → AreAlike one two × (f ≡ g) × (xs ≡ ys) × HasDone one
 stopped_alike old other one two before xs ys (end_fault.Link f) (end_fault.Link g) d like nf ng a b =
     let t = read_alike old other one two before xs ys d like a.0.0 b.0.0 (λ p. stops_empty one a.0.1) (λ p. stops_empty two b.0.1) in
-    let same = refused_one two.port.link two.port.outbox f g (no_want f nf) (no_want g ng) (subst (λ (p : PortValue). SendAllFault p.link p.outbox f) t.0.0 a.1) b.1 in
+    let same = refused_one two.port.link two.port.outbox f g (no_want f nf) (no_want g ng) (subst (λ (v : AskingValue). SendAllFault v.port.link v.port.outbox f) t.0 a.1) b.1 in
     (t.0, ap (λ (x : LinkFault). end_fault.Link x) same, t.1, t.2)
 stopped_alike old other one two before xs ys (end_fault.Link f) (end_fault.Read g) d like nf ng a b =
     let u = unread other two before ys g (no_read_want g ng) b in
     absurd (empty_apart old other one u.0 two before xs ys g d like (no_read_want g ng) a.0.0 a.0.1 u.1 u.2)
 stopped_alike old other one two before xs ys (end_fault.Read f) (end_fault.Link g) d like nf ng a b =
     let u = unread old one before xs f (no_read_want f nf) a in
-    absurd (empty_apart other old two u.0 one before ys xs f (alike_done old other like d) (alike_back old other like) (no_read_want f nf) b.0.0 b.0.1 u.1 u.2)
+    absurd (empty_apart other old two u.0 one before ys xs f (alike_done old other like d) (sym like) (no_read_want f nf) b.0.0 b.0.1 u.1 u.2)
 stopped_alike old other one two before xs ys (end_fault.Read f) (end_fault.Read g) d like nf ng a b =
     let t = unread_alike old other one two before xs ys f g d like (no_read_want f nf) (no_read_want g ng) a b in
     (t.0, ap (λ (x : ReadFault). end_fault.Read x) t.1, t.2, t.3)
@@ -284,7 +280,7 @@ stays_done old new port (inr d) rest still sends =
 asks_alike : (before rs ss : List Report) → DoAlike (asks before rs) (asks before ss) AreAlike HasDone (rs ≡ ss)
 asks_alike before rs ss =
     record {
-      port = λ a b like. like.0;
+      port = same_port;
       moved = λ a b p q like same. alike_port a b p q like same;
       sends = has_sent;
       took = λ old new bytes r d h rest. (
@@ -295,7 +291,7 @@ asks_alike before rs ss =
       does = λ old other one two d like a b. heard_alike old other one two before rs ss d like a b;
       stops = λ old other one two f g d like nf ng a b. stopped_alike old other one two before rs ss f g d like nf ng a b;
       apart = λ old other one two f d like n a b. heard_apart old other one two before rs ss f d like n a b;
-      apart_back = λ old other one two f d like n a b. heard_apart other old two one before ss rs f (alike_done old other like d) (alike_back old other like) n b a;
+      apart_back = λ old other one two f d like n a b. heard_apart other old two one before ss rs f (alike_done old other like d) (sym like) n b a;
       quiet = λ a b. a ∙ sym b;
     }
 

@@ -19,7 +19,7 @@ use Rattle.dap_end.specs.Runs.{RunsBy}
 use Rattle.dap_end.specs.declared.fault.EndFault.TheVariants as end_fault
 use Rattle.dap_end.specs.Ports.{PortValue}
 use Rattle.dap_end.specs.Writing.{wants_ack, WroteMore, Behind}
-use Rattle.dap_end.specs.Asking.{AskedOne, HandedAll, ReadOne, begins, goes as reads_first, ReadOn, HeardAll, HearFault, ReadNone, ReadPart, asks}
+use Rattle.dap_end.specs.Asking.{AskedOne, HandedAll, ReadOne, begins, goes as reads_first, ReadOn, HeardAll, HearFault, ReadNone, ReadPart, ReadsAll, asks}
 use Rattle.dap_end.specs.Done.{AskingValue}
 use Rattle.dap_end.specs.Turns.{WroteThen, WentOn, TookIn, TookThen, Takes}
 use Rattle.dap_end.specs.Headline.{Written, bytes_of}
@@ -177,6 +177,14 @@ heard_part old new before after (end_fault.Link f) h other = h.0.0
 heard_part old new before after (end_fault.Read f) h other = part_read old new before after f h (λ e. other (ap (λ (x : ReadFault). end_fault.Read x) e))
 
 module _ (comes : LinkValue → List ℕ → Type 0) where
+  read_so : (old new : AskingValue) (before all : List Report) → Behind before all (ReadOn old new) → (reports : List Report) × AskingRunsAs comes [] old new reports [] × (all ≡ before ++ reports)
+  read_so old new before all r = (r.0, one_event comes old new (By GoesOn) r.0 [] ((new, [], (new, (r.0, refl, r.2), inl refl), wrote_nothing new.port, refl, refl), refl), r.1)
+
+  pub reading_all_is : (old new : AskingValue) (before all : List Report) (r : Result (Unit {0}) ReadFault) → IfErr r (λ f. f ≢ read_fault.Unexpected) → ReadsAll old new before all r
+      → (reports : List Report) × AskingRunsAs comes [] old new reports [] × (all ≡ before ++ reports)
+  reading_all_is old new before all (Ok done) other s = read_so old new before all s.0
+  reading_all_is old new before all (Err f) other s = read_so old new before all (part_read old new before all f s other)
+
   -- some was read, and nothing else done
   read_only : (old new : AskingValue) (out all : List (List ℕ)) (before after : List Report) → Behind before after (ReadOn old new) → all ≡ out → AreAskingCalls comes old new out all before after
   read_only old new out all before after r same =

@@ -24,6 +24,6 @@ pub use Rattle.dap_end.proofs.Emitting.{segments_more}
 pub use Rattle.dap_end.proofs.Writing.{segments_one}
 -- what a call answers and leaves follows from the end and the call
 pub use Rattle.dap_end.proofs.Determined.{going_one, taking_one}
-pub use Rattle.dap_end.proofs.Alike.{alike_of, alike_back, alike_same, alike_done, has_sent, asking_one, going_alike, taking_alike}
+pub use Rattle.dap_end.proofs.Alike.{alike_done, has_sent, asking_one, going_alike, taking_alike}
 -- an end that serves did something, through its calls
 pub use Rattle.dap_end.proofs.Known.{IsKnown, new_known, going_known, taking_known}

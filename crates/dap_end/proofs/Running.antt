@@ -15,6 +15,7 @@ use Rattle.dap_accessed.specs.Standing.{Files}
 use Rattle.dap_accessed.specs.Groups.{Answers, added, limit_for}
 use Rattle.dap_accessed.proofs.ForCallers.{Answers-more}
 use Rattle.dap_end.specs.declared.fault.EndFault.{EndFault}
+use Rattle.dap_end.specs.declared.fault.EndFault.TheVariants as end_fault
 use Rattle.dap_end.specs.declared.fault.TakeFault.{TakeFault}
 use Rattle.dap_end.specs.declared.fault.TakeFault.TheVariants as take_fault
 use Rattle.dap_end.specs.Ports.{PortValue}
@@ -24,7 +25,7 @@ use Rattle.dap_end.specs.Writing.{sent_more, wants_ack, WroteMore}
 use Rattle.dap_end.specs.Serving.{IsAfter, ServedOne, PostedAll}
 use Rattle.dap_end.specs.Done.{ServingValue, Past, answers_to, nothing_yet}
 use Rattle.dap_end.specs.Turns.{EndOf, WroteThen, WentOn, TookIn, TookThen, Takes}
-use Rattle.dap_end.specs.Taking.{ServeFault, serves}
+use Rattle.dap_end.specs.Taking.{ServeFault, ServesAll, serves}
 use Rattle.dap_end.specs.Inner.Running.{ServedMore}
 use Rattle.dap_end.specs.Runs.{RunsBy}
 use Rattle.dap_end.specs.Headline.{Written, bytes_of, AreWrittenOf, IsFromPeer}
@@ -239,6 +240,10 @@ module _ (comes : LinkValue → List ℕ → Type 0) where
 
   pub serving_is : (old new : ServingValue) (n : ℕ) → ServedOne old new n → RunsAs comes old new []
   serving_is old new n s = one_event old new GoesOn [] (served_only old new (more_served old new n s))
+
+  pub serving_all_is : (old new : ServingValue) (r : Result (Unit {0}) LinkFault) → ServesAll old new r → RunsAs comes old new []
+  serving_all_is old new (Ok done) s = one_event old new GoesOn [] (served_only old new (up_grew old new s.0))
+  serving_all_is old new (Err f) s = one_event old new GoesOn [] (served_only old new (fault_grew old new (end_fault.Link f) s))
 
   pub posting_is : (old new : ServingValue) (n : ℕ) → PostedAll old new n → RunsAs comes old new []
   posting_is old new n p = one_event old new GoesOn [] (served_only old new (more_posted old new n p))

@@ -98,11 +98,3 @@ asks before reports =
       stops = λ old new f. HearFault old new before reports f;
       quiet = reports ≡ before;
     }
-
--- ---- Ends that do the same from now on.
-
--- of an end that an unexpected answer failed, what it keeps of its requests and answers doesn't count any more
-abbrev pub AreAlike : AskingValue → AskingValue → Type 0
-AreAlike one two =
-    (one.port ≡ two.port) × (one.accessing.own ≡ two.accessing.own) × (one.accessing.failed ≡ two.accessing.failed)
-    × (one.accessing.failed ≡ false → one.accessing ≡ two.accessing)

@@ -34,7 +34,7 @@ ghost use Rattle.dap_end.specs.Taking as serving;
 ghost use Rattle.dap_end.specs.Taking.{serves};
 ghost use Rattle.dap_end.specs.Wanting.{is_want, why};
 ghost use Rattle.dap_end.specs.Asking as asking;
-ghost use Rattle.dap_end.specs.Asking.{asks, AreAlike, HasAsked, HasDone, AskedOne, HandedAll, ReadOne};
+ghost use Rattle.dap_end.specs.Asking.{asks, HasAsked, HasDone, AskedOne, HandedAll, ReadOne};
 ghost use Rattle.dap_end.specs.Done.{AskingValue, AskingPast, nothing_asked};
 ghost use Rattle.dap_end.specs.Headline.{AreWrittenOf, Arrival, IsFromPeer, Written, bytes_of};
 ghost use Rattle.dap_end.specs.Joined.{IsBrought, Pair};
@@ -93,6 +93,8 @@ pub fn calls_are_runs()
     ensures receive { (old new : ServingValue) (bytes : List ℕ) (r : Result TheGot TheFault)
         → TookIn serves old new bytes r → Runs ((old.port.link, bytes) ∷ []) old new [] }
     ensures serve { (old new : ServingValue) (n : ℕ) → ServedOne old new n → Runs [] old new [] }
+    ensures serve_all { (old new : ServingValue) (r : Result (Unit {0}) TheFault)
+        → serving.ServesAll old new r → Runs [] old new [] }
     ensures post { (old new : ServingValue) (n : ℕ) → PostedAll old new n → Runs [] old new [] }
     ensures emit { (old new : ServingValue) (bytes : List ℕ) → new ≡ record old { port = new.port }
         → WroteMore old.port new.port (bytes ∷ []) → Runs [] old new (record {
@@ -138,6 +140,10 @@ pub fn asking_calls_are_runs()
         → AskingRuns ((old.port.link, bytes) ∷ []) [] old new [] [] }
     ensures read { (old new : AskingValue) (report : Option TheReport) → ReadOne old new report
         → AskingRuns [] [] old new (option_to_list report) [] }
+    ensures read_all { (old new : AskingValue) (before all : List TheReport)
+        (r : Result (Unit {0}) TheReadFault) → IfErr r (λ f. f ≢ read_fault.Unexpected)
+        → asking.ReadsAll old new before all r → (reports : List TheReport)
+        × AskingRuns [] [] old new reports [] × (all ≡ before ++ reports) }
     ensures post { (old new : AskingValue) (n : ℕ) → HandedAll old new n
         → AskingRuns [] [] old new [] [] }
     ensures emit { (old new : AskingValue) (bytes : List ℕ) → new ≡ record old { port = new.port }
@@ -221,16 +227,16 @@ pub fn asking_is_determined()
         → (one ≡ two) × (n ≡ m) }
     ensures read { (past : AskingPast) (old one two : AskingValue) (r s : Option TheReport)
         → HasAsked past old → ReadOne old one r → ReadOne old two s → (one ≡ two) × (r ≡ s) }
-    ensures read_all { (old other one two : AskingValue) (before rs ss : List TheReport)
-        (r s : Result (Unit {0}) TheReadFault) → HasDone old → AreAlike old other
+    ensures read_all { (old one two : AskingValue) (before rs ss : List TheReport)
+        (r s : Result (Unit {0}) TheReadFault) → HasDone old
         → r ≢ Err read_fault.NoMemory → s ≢ Err read_fault.NoMemory
-        → asking.ReadsAll old one before rs r → asking.ReadsAll other two before ss s
-        → AreAlike one two × (r ≡ s) × (rs ≡ ss) × HasDone one }
-    ensures go_on { (old other one two : AskingValue) (out xs ys : List (List ℕ))
+        → asking.ReadsAll old one before rs r → asking.ReadsAll old two before ss s
+        → (one ≡ two) × (r ≡ s) × (rs ≡ ss) × HasDone one }
+    ensures go_on { (old one two : AskingValue) (out xs ys : List (List ℕ))
         (before rs ss : List TheReport) (r s : Result (Unit {0}) TheEndFault) → HasDone old
-        → AreAlike old other → IfErr r (λ f. is_want f ≡ false) → IfErr s (λ f. is_want f ≡ false)
-        → WentOn (asks before rs) old one out xs r → WentOn (asks before ss) other two out ys s
-        → AreAlike one two × (r ≡ s) × (xs ≡ ys) × (rs ≡ ss) × HasDone one }
+        → IfErr r (λ f. is_want f ≡ false) → IfErr s (λ f. is_want f ≡ false)
+        → WentOn (asks before rs) old one out xs r → WentOn (asks before ss) old two out ys s
+        → (one ≡ two) × (r ≡ s) × (xs ≡ ys) × (rs ≡ ss) × HasDone one }
 {}
 
 /// A packet that is taken in leaves one end, and is answered by one list of packets, and of reports, by what the end did
@@ -242,13 +248,13 @@ pub fn taking_is_determined()
         → IfErr s (λ f. is_want (why f) ≡ false)
         → Takes serves old one bytes out xs r → Takes serves old two bytes out ys s
         → (one ≡ two) × (r ≡ s) × (xs ≡ ys) }
-    ensures asking { (old other one two : AskingValue) (bytes : List ℕ)
+    ensures asking { (old one two : AskingValue) (bytes : List ℕ)
         (out xs ys : List (List ℕ)) (before rs ss : List TheReport)
-        (r s : Result TheGot TheTakeFault) → AreBytes bytes → HasDone old → AreAlike old other
+        (r s : Result TheGot TheTakeFault) → AreBytes bytes → HasDone old
         → IfErr r (λ f. is_want (why f) ≡ false) → IfErr s (λ f. is_want (why f) ≡ false)
         → Takes (asks before rs) old one bytes out xs r
-        → Takes (asks before ss) other two bytes out ys s
-        → AreAlike one two × (r ≡ s) × (xs ≡ ys) × (rs ≡ ss) × HasDone one }
+        → Takes (asks before ss) old two bytes out ys s
+        → (one ≡ two) × (r ≡ s) × (xs ≡ ys) × (rs ≡ ss) × HasDone one }
 {}
 
 /// What is handed over is handed over or refused by what waits, want of memory aside. Own.

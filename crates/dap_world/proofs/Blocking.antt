@@ -1,6 +1,7 @@
 -- No NSP message is longer than its receiver takes.
 use Rattle.std.proofs.Common.{ℕ, ◌≤◌, List, [], ◌∷◌, ◌++◌, length, map, Some, None, sym, subst, ap, arith, lit<}
 use Rattle.dap_msg.specs.declared.message.Message.{Message}
+use Rattle.dap_msg.specs.declared.message.Message.TheVariants.{Filedata}
 use Rattle.dap_msg.specs.Canon.{canon}
 use Rattle.dap_msg.specs.declared.items.Item.{Item}
 use Rattle.dap_msg.specs.declared.items.Item.TheVariants.{Whole}
@@ -16,7 +17,7 @@ use Rattle.dap_accessed.proofs.ForCallers.{HasShortType, added-sends, no-files}
 use Rattle.dap_accessing.specs.Request.{Request}
 use Rattle.dap_accessing.specs.declared.request.Request.TheVariants as request
 use Rattle.dap_accessing.specs.declared.request.By.TheVariants as by
-use Rattle.dap_accessing.specs.Asked.{Asked, messages_of, unnumbered_record}
+use Rattle.dap_accessing.specs.Asked.{Asked, messages_of}
 use Rattle.dap_world.specs.Inner.Within.{AreWithin}
 use Rattle.dap_world.specs.Agreement.{IsBufsiz, items_of}
 use Rattle.dap_world.specs.Inner.Agreement.{AnswersWithin}
@@ -63,7 +64,7 @@ short-append : (xs ys : List Message) → AllShort (map Whole xs) → AllShort (
 short-append [] ys h k = k
 short-append (x ∷ xs) ys h k = (h.0, short-append xs ys h.1 k)
 
-short-records : (bodies : List (List ℕ)) → AllShort (map Whole (map unnumbered_record bodies))
+short-records : (bodies : List (List ℕ)) → AllShort (map Whole (map (Filedata []) bodies))
 short-records [] = tt
 short-records (body ∷ bodies) = (lit< tt, short-records bodies)
 
@@ -81,7 +82,7 @@ short-messages n (request.Update body) = (lit< tt, (lit< tt, tt))
 short-messages n request.Delete = (lit< tt, tt)
 short-messages n request.Rewind = (lit< tt, tt)
 short-messages n request.Fetch = (lit< tt, tt)
-short-messages n (request.Store bodies) = (lit< tt, short-append (map unnumbered_record bodies) (complete_with cmpfunc.end_of_stream ∷ []) (short-records bodies) (lit< tt, tt))
+short-messages n (request.Store bodies) = (lit< tt, short-append (map (Filedata []) bodies) (complete_with cmpfunc.end_of_stream ∷ []) (short-records bodies) (lit< tt, tt))
 short-messages n (request.Continue how) = (lit< tt, tt)
 short-messages n request.Close = (lit< tt, tt)
 short-messages n request.Purge = (lit< tt, tt)

@@ -16,7 +16,7 @@ use Rattle.dap_accessing.specs.declared.fault.ReadFault.{ReadFault}
 use Rattle.dap_accessing.specs.declared.fault.ReadFault.TheVariants as read_fault
 use Rattle.dap_accessing.specs.Told.{Hearing, Reports, Waits, Unexpected}
 use Rattle.dap_accessing.specs.Phase.{phase_next, limit_next}
-use Rattle.dap_accessing.specs.Present.{Present}
+use Rattle.dap_accessing.specs.Present.{Present, failed_after}
 use Rattle.dap_accessing.specs.Inner.Gathers.{gather}
 
 -- what is still to come once a request is asked
@@ -82,6 +82,6 @@ Takes item old new (Ok None) =
 Takes item old new (Ok (Some done)) =
     (p : Pending) × (old.pending ≡ Some p) × ((rest : List Item) → gather p (item ∷ rest) ≡ Reports done rest)
     × (new ≡ record old { phase = phase_next old.phase done; limit = limit_next old.limit done; pending = None })
-Takes item old new (Err read_fault.Unexpected) = (new.failed ≡ true) × HasNoPlace item old.pending
+Takes item old new (Err read_fault.Unexpected) = (new ≡ failed_after old) × HasNoPlace item old.pending
 Takes item old new (Err read_fault.NoMemory) = (new ≡ old) × ((p : Pending) × (old.pending ≡ Some p) × HasPlace p item)
 Takes item old new (Err read_fault.Failed) = ⊥

@@ -1,5 +1,5 @@
 -- What an end keeps of its requests and answers: it stands as after any that leave just this.
-use Rattle.std.specs.Prelude.{ℕ, ◌+◌, ◌≡◌, ◌≤◌, Bool, false, if◌then◌else◌, List, ◌++◌, length, Option, Some, None}
+use Rattle.std.specs.Prelude.{ℕ, ◌+◌, ◌≡◌, ◌≤◌, Bool, true, false, if◌then◌else◌, List, ◌++◌, length, Option, Some, None}
 use Rattle.std.specs.Option.{option_or}
 use Rattle.dap_msg.specs.declared.items.Item.{Item}
 use Rattle.dap_accessing.specs.Request.{Request}
@@ -32,6 +32,10 @@ pub record Present : Type 0 where
   pub phase : Phase
   pub limit : ℕ
   pub pending : Option Pending
+
+-- an end once an answer had no place
+abbrev pub failed_after : Present → Present
+failed_after p = record p { failed = true; pending = None }
 
 -- what is pending fits what is due
 abbrev pub FitsDue : Due → Option Pending → Type 0

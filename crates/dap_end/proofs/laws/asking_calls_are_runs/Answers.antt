@@ -1,4 +1,4 @@
-use Rattle.dap_end.proofs.Calling.{asking_is, receiving_is, reading_is, posting_is, writing_is, again_is, ack_is, going_on_is, taken_is}
+use Rattle.dap_end.proofs.Calling.{asking_is, receiving_is, reading_is, reading_all_is, posting_is, writing_is, again_is, ack_is, going_on_is, taken_is}
 use Rattle.std.proofs.Common.{[], ◌∷◌, refl, inl}
 use Rattle.dap_end.specs.Inner.Running.{IsOneOf}
 use Rattle.dap_end.proofs.Arriving.{more_asked}
@@ -18,6 +18,9 @@ returns-clause-receive c = λ old new bytes before after r t. receiving_is (IsOn
 
 pub returns-clause-read : goal.returns-clause-read
 returns-clause-read c = reading_is (IsOneOf [])
+
+pub returns-clause-read_all : goal.returns-clause-read_all
+returns-clause-read_all c = reading_all_is (IsOneOf [])
 
 pub returns-clause-post : goal.returns-clause-post
 returns-clause-post c = posting_is (IsOneOf [])

@@ -1,4 +1,4 @@
-use Rattle.dap_end.proofs.Running.{receiving_is, serving_is, posting_is, writing_is, again_is, ack_is, going_on_is, taken_is}
+use Rattle.dap_end.proofs.Running.{receiving_is, serving_is, serving_all_is, posting_is, writing_is, again_is, ack_is, going_on_is, taken_is}
 use Rattle.std.proofs.Common.{[], ◌∷◌, refl, inl}
 use Rattle.dap_end.specs.Inner.Running.{IsOneOf}
 use Rattle.dap_end.proofs.Arriving.{more_served}
@@ -15,6 +15,9 @@ returns-clause-receive c = λ old new bytes r t. receiving_is (IsOneOf ((old.por
 
 pub returns-clause-serve : goal.returns-clause-serve
 returns-clause-serve c = serving_is (IsOneOf [])
+
+pub returns-clause-serve_all : goal.returns-clause-serve_all
+returns-clause-serve_all c = serving_all_is (IsOneOf [])
 
 pub returns-clause-post : goal.returns-clause-post
 returns-clause-post c = posting_is (IsOneOf [])

@@ -1,6 +1,6 @@
-use Rattle.std.proofs.Common.{◌∙◌, ap, sym, subst, refl, true}
+use Rattle.std.proofs.Common.{◌∙◌, ap, sym, subst}
 use Rattle.dap_msg.specs.Items.{ItemAt, ItemFits}
-use Rattle.dap_accessing.specs.Present.{Present}
+use Rattle.dap_accessing.specs.Present.{Present, failed_after}
 use Rattle.dap_msg.proofs.ForCallers.{fields_fit}
 use Rattle.dap_accessing.proofs.Numbers.{short_numbers}
 use Rattle.dap_accessing.proofs.Laws.{taken_read, taken_refused, rest_refused}
@@ -8,8 +8,8 @@ use Rattle.dap_accessing.proofs.accessing.Accessing.read.Goals as goal
 
 pub returns-in_default-clause-refused : goal.returns-in_default-clause-refused
 returns-in_default-clause-refused c =
-    rest_refused c.args.nsp_message.now c.args.at c.in_default.field-0 c.item_at-item.result.1 c.args.self.now (record c.args.self.now { failed = true }) (ap (λ (v : Present). v.failed) (sym c.self.view_is) ∙ c.if-self.false)
-    (subst (λ i. ItemAt c.args.nsp_message.now c.args.at i c.item_at-item.result.1) c.in_default.is c.item_at-item.ensures.exact) refl
+    rest_refused c.args.nsp_message.now c.args.at c.in_default.field-0 c.item_at-item.result.1 c.args.self.now _ (ap (λ (v : Present). v.failed) (sym c.self.view_is) ∙ c.if-self.false)
+    (subst (λ i. ItemAt c.args.nsp_message.now c.args.at i c.item_at-item.result.1) c.in_default.is c.item_at-item.ensures.exact) (ap failed_after c.self.view_is)
 
 pub returns-in-Err-clause-refused : goal.returns-in-Err-clause-refused
 returns-in-Err-clause-refused c =
