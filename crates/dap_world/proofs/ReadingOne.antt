@@ -117,7 +117,7 @@ same_present : (p : Parts) (new : accessing.Present) (bytes : List ℕ) (later :
 same_present p new bytes later read_fault.Failed h came fits refused = refused.1
 same_present p new bytes later read_fault.NoMemory h came fits refused = refused.1
 same_present p new bytes later read_fault.Unexpected h came fits refused =
-    let there = refused.2 in
+    let there = refused.3 in
     let n = next_answer p bytes later h came in
     let one = one_there bytes p.a.place there.1 there.0 n.begun n.more n.m n.fit n.bytes_are n.behind (only_item bytes p.a.place there.0 there.1 fits there.2) in
     absurd (has_place p n.m h (next_read p bytes h n)

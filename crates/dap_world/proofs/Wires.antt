@@ -91,3 +91,8 @@ link_of p B h =
       held = refl;
       running = h.from_b.way.running;
     }
+
+-- as it is shown
+pub shown_link : (p : Parts) (end : End) (s : State) (at : End) (v : LinkValue) → AreParts p → state_of p ≡ s → at ≡ end → v ≡ (side p end).link → IsLinkOf s at v
+shown_link p end s at v h is same link =
+    subst (λ (x : State). IsLinkOf x at v) is (subst (λ (e : End). IsLinkOf (state_of p) e v) (sym same) (subst (λ (l : LinkValue). IsLinkOf (state_of p) end l) (sym link) (link_of p end h)))
