@@ -3,7 +3,8 @@
 ghost use Rattle.std.specs.Prelude.{◌≡◌, ◌≤◌, ◌<◌, ◌↔◌, ℕ, None, length, map, IsTrue, IfOk, IfSome};
 ghost use Rattle.dap_msg.specs.BothEnds.{four_bytes};
 ghost use Rattle.dap_msg.specs.Blocked.{AddsOne};
-ghost use Rattle.dap_msg.specs.Canon.{canon, file_data_size, Fits};
+ghost use Rattle.dap_msg.specs.Canon.{canon, Fits};
+ghost use Rattle.dap_msg.specs.Inner.Sizes.{file_data_size};
 ghost use Rattle.dap_accessing.specs.Asked as asked;
 ghost use Rattle.dap_accessing.specs.Asked.{unnumbered_record};
 ghost use Rattle.dap_accessing.specs.Inner.Outgoing.{AreCounted, IsBlocked, number_carried, first_of, bodies_of, last_of, outgoing_messages};
