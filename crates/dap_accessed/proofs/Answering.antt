@@ -20,7 +20,7 @@ use Rattle.dap_msg.specs.declared.items.Item.TheVariants.{Whole, Malformed}
 use Rattle.dap_msg.specs.Items.{IsRead}
 use Rattle.dap_msg.specs.Blocked.{AllFit}
 use Rattle.dap_msg.specs.Sendable.{IsSendable, AreSendable}
-use Rattle.dap_msg.proofs.ForCallers.{answers_fit, file_data_measured, type_short}
+use Rattle.dap_msg.proofs.ForCallers.{answers_fit, type_short}
 use Rattle.rec_file.specs.declared.shapes.Shape.{Shape}
 use Rattle.rec_file.specs.declared.refusals.Refusal.{Refusal}
 use Rattle.rec_file.specs.declared.refusals.Refusal.TheVariants.{NotPermitted, EndOfFile}
@@ -119,7 +119,7 @@ module _ (limit : ℕ) (least : least_buffer ≤ limit) where
   recorded : (r : ℕ × List ℕ) → length r.1 ≤ longest_record → fits_limit limit r ≡ true → IsSendable limit (filedata_of r)
   recorded r h e = (
     answers_fit.filedata r.0 r.1 h,
-    (let size = file_data_measured (four_bytes r.0) r.1 in grind (arith, nat_tests)),
+    grind (arith, nat_tests, e),
   )
 
   sendable_more : (one two : List Message) → AreSendable limit one → AreSendable limit two → AreSendable limit (one ++ two)

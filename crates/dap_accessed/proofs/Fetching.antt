@@ -1,5 +1,5 @@
 -- A fetch goes from record to record.
-use Rattle.std.proofs.Common.{◌≡◌, ℕ, ◌+◌, ◌≤◌, true, false, List, [], ◌∷◌, ◌++◌, map, refl, ap, sym, subst, ◌∙◌}
+use Rattle.std.proofs.Common.{◌≡◌, ℕ, ◌+◌, ◌≤◌, true, false, List, [], ◌∷◌, ◌++◌, map, length, refl, ap, sym, subst, ◌∙◌}
 use Rattle.std.specs.Global.{Vec}
 use Rattle.std.proofs.lemmas.List.{append-nil, map-append}
 use Rattle.std.proofs.Common.{append_assoc, arith, cond, inl, inr}
@@ -8,6 +8,10 @@ use Rattle.std.specs.List.{filter}
 use Rattle.std.specs.FinMap.{entries}
 use Rattle.std.proofs.lemmas.Bool.{cases_lt, lt-leb, le-leb}
 use Rattle.dap_msg.specs.declared.message.Message.{Message}
+use Rattle.dap_msg.specs.Canon.{canon}
+use Rattle.dap_msg.specs.BothEnds.{four_bytes}
+use Rattle.dap_msg.specs.Inner.Sizes.{file_data_size}
+use Rattle.dap_msg.proofs.ForCallers.{file_data_measured}
 use Rattle.rec_file.specs.Limits.{greatest_number}
 use Rattle.rec_file.specs.Files.{FileVal, Records, records_from}
 use Rattle.rec_file.specs.Acts.{StreamVal}
@@ -46,6 +50,10 @@ pub record GoesOn (limit : ℕ) (file : FileVal) (n next : ℕ) (answers : Vec (
 behind-more : (n : ℕ) (given : List (ℕ × List ℕ)) (r : ℕ × List ℕ) → behind n (given ++ r ∷ []) ≡ r.0 + 1
 behind-more n [] r = refl
 behind-more n (s ∷ given) r = behind-more (s.0 + 1) given r
+
+-- how long the Filedata of a record is
+pub filedata_size : (r : ℕ × List ℕ) → length (canon (filedata_of r)) ≡ file_data_size 4 (length r.1)
+filedata_size r = file_data_measured (four_bytes r.0) r.1
 
 leading-fits : (limit : ℕ) (r : ℕ × List ℕ) (rest : List (ℕ × List ℕ)) → fits_limit limit r ≡ true → leading limit (r ∷ rest) ≡ r ∷ leading limit rest
 leading-fits limit r rest e = take_while-cons (fits_limit limit) r rest ∙ ap (λ b. cond b (r ∷ leading limit rest) []) e

@@ -5,7 +5,7 @@ use Rattle.std.specs.Vec.{vec_capacity}
 use Rattle.dap_msg.specs.declared.fault.MsgFault.{MsgFault}
 use Rattle.dap_msg.specs.declared.message.Message.{Message}
 use Rattle.dap_msg.specs.Canon.{canon, Fits}
-use Rattle.dap_msg.specs.Written.{AppendsMessage}
+use Rattle.dap_msg.specs.Written.{Appends, no_memory}
 use Rattle.dap_msg.specs.BothEnds.{least_buffer}
 use Rattle.dap_msg.specs.Blocked.{bodies, one_more, AllFit}
 use Rattle.dap_msg.proofs.ForCallers.{Blocked-more}
@@ -31,8 +31,8 @@ format_small Fixed = lit< tt
 format_small Variable = lit< tt
 
 -- where there is room, the bytes are written
-pub filled : (bytes : List ℕ) (old new : Vec ℕ) (r : Result (Unit {0}) MsgFault) → AppendsMessage bytes old new r → old.items ≡ [] → 64 ≤ vec_capacity old → length bytes ≤ 64 → new.items ≡ bytes
-filled bytes old new (Ok u) a e c l = a ∙ ap (λ (x : List ℕ). x ++ bytes) e
+pub filled : (bytes : List ℕ) (old new : Vec ℕ) (r : Result (Unit {0}) MsgFault) → Appends no_memory bytes old new r → old.items ≡ [] → 64 ≤ vec_capacity old → length bytes ≤ 64 → new.items ≡ bytes
+filled bytes old new (Ok u) a e c l = a.0 ∙ ap (λ (x : List ℕ). x ++ bytes) e
 filled bytes old new (Err f) a e c l =
     let none : length old.items ≡ 0 = ap length e in
     absurd (omega (arith, a.2, old.ok.0, none))

@@ -5,7 +5,7 @@ use Rattle.std.specs.FinMap as map
 use Rattle.dap_msg.specs.Codes as codes
 use Rattle.dap_msg.specs.declared.message.Message.{Message}
 use Rattle.dap_msg.specs.declared.message.ControlFields.{ControlFields}
-use Rattle.dap_msg.specs.Canon.{file_data_size}
+use Rattle.dap_msg.specs.Canon.{canon}
 use Rattle.dap_msg.specs.BothEnds.{record_of}
 use Rattle.rec_file.specs.declared.picks.Rights.{Rights}
 use Rattle.rec_file.specs.declared.picks.Pick.{Pick}
@@ -90,7 +90,7 @@ filedata_of r = record_of r.0 r.1
 
 -- whether a record's Filedata, with its number in 4 bytes, is within the limit
 abbrev pub fits_limit : ℕ → ℕ × List ℕ → Bool
-fits_limit limit r = nat_le (file_data_size 4 (length r.1)) limit
+fits_limit limit r = nat_le (length (canon (filedata_of r))) limit
 
 -- with the reply of the operation; a record whose Filedata is longer than the limit is a GET that is refused
 abbrev pub got : Result ℕ Refusal → Scene → OpenFile → (before after : StreamVal) → Effect

@@ -53,6 +53,7 @@ impl Accessed {
     }
 
     /// Gives the record that a Control asks for.
+    #[tactic(auto, using(dap_msg::proofs::ForCallers::file_data_measured))]
     pub(crate) fn get(
         &mut self,
         opened: OpenFile,

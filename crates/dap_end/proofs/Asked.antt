@@ -10,7 +10,8 @@ use Rattle.dap_msg.specs.Canon.{canon}
 use Rattle.dap_msg.specs.declared.items.Item.{Item}
 use Rattle.dap_msg.specs.Items.{IsPlace}
 use Rattle.dap_msg.specs.Sendable.{AreSendable}
-use Rattle.dap_msg.specs.Blocked.{NspMessage, joined, Blocked, blocked_after, all_joined, messages_in, AllFit, AllWithin, IsWithin}
+use Rattle.dap_msg.specs.Blocked.{NspMessage, joined, Blocked, blocked_after, all_joined, messages_in, AllFit}
+use Rattle.dap_msg.specs.Inner.Blocked.{IsWithin, AllWithin}
 use Rattle.dap_msg.proofs.ForCallers.{messages_in-Blocked, within_limit}
 use Rattle.nsp_link.specs.declared.fault.LinkFault.{LinkFault}
 use Rattle.nsp_link.specs.Link.{LinkValue, Sends, SendsStill, Stands, with_inbox}

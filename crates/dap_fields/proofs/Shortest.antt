@@ -4,7 +4,6 @@ use Rattle.std.proofs.lemmas.Bool.{cases_lt, lt-ltb, le-ltb}
 use Rattle.std.proofs.Math.Nat.{pow-succ'}
 use Rattle.dap_fields.specs.Spelling.{groups_value, AreGroups, ExValue}
 use Rattle.dap_fields.specs.Writing.{groups}
-use Rattle.dap_fields.specs.Shortest.{IsShortest}
 
 groups_cons : (b : ℕ) (bytes : List ℕ) → 128 ≤ b → b < 256 → AreGroups bytes → AreGroups (b ∷ bytes)
 groups_cons b [] le lt h = absurd h
@@ -38,7 +37,7 @@ one_group : (max v : ℕ) → v < 128 → length (groups (suc max) v) ≡ 1
 unfolding groups
 one_group max v lt = rw (lt-ltb v 128 lt) refl
 
-none_shorter : (max v : ℕ) (bytes : List ℕ) → AreGroups bytes → groups_value bytes ≡ v → length (groups max v) ≤ length bytes
+pub none_shorter : (max v : ℕ) (bytes : List ℕ) → AreGroups bytes → groups_value bytes ≡ v → length (groups max v) ≤ length bytes
 unfolding groups
 none_shorter max v [] h e = absurd h
 none_shorter zero v (b ∷ bytes) h e = omega arith
@@ -49,9 +48,3 @@ none_shorter (suc max) v (b ∷ c ∷ bytes) h e =
       | inl low ↦ omega (arith, one_group max v low)
       | inr high ↦ rw (le-ltb v 128 high) (let q : groups_value (c ∷ bytes) ≡ v / 128 = omega (arith, e) in omega (arith, none_shorter max (v / 128) (c ∷ bytes) h.2 q))
     ]
-
-pub is_shortest : (v : ℕ) → v < 2 ^ 84 → IsShortest v
-is_shortest v lt = record {
-  spells = λ max some le small. groups_spell max 12 v small le some;
-  least = λ max bytes h. none_shorter 12 v bytes h.groups h.value;
-}

@@ -1,12 +1,13 @@
 -- Blocking goes one message at a time, and loses none.
-use Rattle.std.proofs.Common.{◌≡◌, ℕ, ◌≤◌, refl, sym, ◌∙◌, ap, append_assoc, List, [], ◌∷◌, ◌++◌, length, arith}
+use Rattle.std.proofs.Common.{◌≡◌, ◌≢◌, ℕ, ◌<◌, ◌≤◌, refl, sym, ◌∙◌, ap, append_assoc, List, [], ◌∷◌, ◌++◌, length, arith}
 use Rattle.std.proofs.lemmas.Grind.{flat_map-append}
 use Rattle.std.proofs.lemmas.Bool.Decides.{nat_tests}
-use Rattle.std.specs.List.{concat}
+use Rattle.std.specs.List.{AllByRecursion, concat}
 use Rattle.std.proofs.lemmas.List.{append-nil}
 use Rattle.dap_msg.specs.Message.{Message}
 use Rattle.dap_msg.specs.Canon.{canon}
-use Rattle.dap_msg.specs.Blocked.{NspMessage, joined, blocked_after, Blocked, all_joined, one_more, messages_in, IsWithin, AllWithin}
+use Rattle.dap_msg.specs.Blocked.{NspMessage, joined, blocked_after, Blocked, all_joined, one_more, messages_in}
+use Rattle.dap_msg.specs.Inner.Blocked.{IsWithin, AllWithin}
 
 joined-append : (a b : List Message) → joined (a ++ b) ≡ joined a ++ joined b
 joined-append a b = flat_map-append canon a b
@@ -60,3 +61,23 @@ within_after limit last (m ∷ messages) h = grind (arith, nat_tests, h, within_
 pub within_limit : (limit : ℕ) (messages : List Message) → AllWithin limit (Blocked limit messages)
 within_limit limit [] = tt
 within_limit limit (m ∷ messages) = within_after limit (m ∷ []) messages tt
+
+pub joined_end_to_end : (limit : ℕ) (messages : List Message) → concat (all_joined (Blocked limit messages)) ≡ joined messages
+joined_end_to_end limit messages = end_to_end (Blocked limit messages) ∙ ap joined (messages_in-Blocked limit messages)
+
+is_some : (limit : ℕ) (packet : NspMessage) → IsWithin limit packet → packet ≢ []
+is_some limit [] h = absurd h
+is_some limit (m ∷ packet) h = λ e. absurd cc
+
+pub some_each : (limit : ℕ) (packets : List NspMessage) → AllWithin limit packets → AllByRecursion (λ packet. packet ≢ []) packets
+some_each limit [] h = tt
+some_each limit (packet ∷ packets) h = (is_some limit packet h.0, some_each limit packets h.1)
+
+several_within : (limit : ℕ) (packet : NspMessage) → IsWithin limit packet → 1 < length packet → length (joined packet) ≤ limit
+several_within limit [] h lt = absurd h
+several_within limit (m ∷ []) h lt = absurd (omega (arith, lt))
+several_within limit (m ∷ second ∷ more) h lt = h
+
+pub within_each : (limit : ℕ) (packets : List NspMessage) → AllWithin limit packets → AllByRecursion (λ packet. 1 < length packet → length (joined packet) ≤ limit) packets
+within_each limit [] h = tt
+within_each limit (packet ∷ packets) h = (several_within limit packet h.0, within_each limit packets h.1)

@@ -1,5 +1,5 @@
 -- The written spelling is a spelling.
-use Rattle.std.proofs.Common.{◌≡◌, ℕ, zero, suc, ◌+◌, ◌*◌, ◌/◌, ◌%◌, ◌^◌, ◌<◌, ◌≤◌, Bool, true, false, cond, eqb, List, [], ◌∷◌, ◌++◌, length, get_or, Option, Some, None, Ok, refl, sym, ap, subst, ◌∙◌, lit≤, arith, inl, inr}
+use Rattle.std.proofs.Common.{◌≡◌, ℕ, zero, suc, ◌+◌, ◌*◌, ◌/◌, ◌%◌, ◌^◌, ◌<◌, ◌≤◌, Bool, true, false, cond, eqb, List, [], ◌∷◌, ◌++◌, length, take, get_or, Option, Some, None, Ok, refl, sym, ap, subst, ◌∙◌, lit≤, arith, inl, inr}
 use Rattle.std.specs.Prelude.{is_some, not, nat_lt, nat_le, ◌&&◌, ◌||◌}
 use Rattle.std.proofs.lemmas.Bool.Decides.{nat_tests}
 use Rattle.std.proofs.lemmas.Bool.{cases_lt, lt-ltb, le-ltb, le-leb}
@@ -11,10 +11,10 @@ use Rattle.dap_fields.specs.Writing.{groups, shortest}
 use Rattle.dap_fields.proofs.ForCallers.{groups_spell}
 use Rattle.dap_msg.specs.Grammar.{Kind, Byte, Word, Extensible, Image, ValueOf, SpellsField, Part, Must, When, OrElse, UnlessEnd, Remainder, PartValue, SpellsPart, Grammar, Next, Done, Spells, field_bytes, part_bytes, Writes}
 use Rattle.dap_msg.specs.Message.{Message, Config, Attrib, Access, Control, Contran, Ack, Accomp, Filedata, Status, Other, length_of}
-use Rattle.dap_msg.specs.Formats.{any, has, menu, optional, refuses_type, refuses_flags, refuses_stream, header, operand, configuration, attributes, access, control, continuation, acknowledge, completion, file_data, status, other, type_number}
+use Rattle.dap_msg.specs.Formats.{any, has, menu, optional, header, operand, configuration, attributes, access, control, continuation, acknowledge, completion, file_data, status, other, type_number}
 use Rattle.dap_msg.specs.Decoding.{HasLength, SpellsMessage, StandsInFront, IsSpelled}
 use Rattle.dap_msg.specs.declared.fault.FaultKind.{FaultKind}
-use Rattle.dap_msg.specs.Laws.{IsReadBack}
+use Rattle.dap_msg.specs.Inner.Refusals.{refuses_type, refuses_flags, refuses_stream}
 use Rattle.dap_msg.specs.Inner.Whole.{message_at}
 use Rattle.dap_msg.proofs.Messages.{ok_only}
 use Rattle.dap_msg.specs.Canon.{Fits}
@@ -100,13 +100,11 @@ unless_end k (Some v) room h = record { spelled = (field_spelled k v room h, ref
 unless_end k None room h = record { spelled = (refl, refl) }
 
 absent : {rest : List ℕ} (test : Bool) (k : Kind) (refuses : ValueOf k → Option FaultKind) → test ≡ false → WrittenPart (When test k refuses) None rest
-absent true k refuses e = absurd cc
-absent false k refuses e = record { spelled = refl }
+absent test k refuses e = record { spelled = (e, refl) }
 
 when : {rest : List ℕ} (test : Bool) (k : Kind) (o : Option (ValueOf k)) → test ≡ is_some o → has_room k ≡ true → FitsOption k o → WrittenPart (When test k any) o rest
-when true k (Some v) e room h = record { spelled = (field_spelled k v room h, refl) }
-when false k None e room h = absent false k any refl
-when test k o e room h = absurd cc
+when test k (Some v) e room h = record { spelled = (e, field_spelled k v room h, refl) }
+when test k None e room h = absent test k any e
 
 optional_field : {rest : List ℕ} (flags : List Bool) (i : ℕ) (k : Kind) (o : Option (ValueOf k)) → get_or flags i false ≡ is_some o → has_room k ≡ true → FitsOption k o → WrittenPart (optional (bits_of flags) i k) o rest
 optional_field flags i k o e room h = when (has (bits_of flags) i) k o (bit_is flags i ∙ e) room h
@@ -263,12 +261,11 @@ canon_stands m h after = record {
   open_is_all = λ t. absurd cc;
 }
 
-pub reads_back : (m : Message) → KeepsLimits m → IsReadBack m
-reads_back m h = (
-  canon_spells m h,
-  λ more other n le o.
-      let one : message_at (canon m ++ more) ≡ Ok (m, length (canon m)) = ok_only (canon m ++ more) m (length (canon m)) (canon_stands m h more) in
-      let two : message_at (canon m ++ more) ≡ Ok (other, n) = ok_only (canon m ++ more) other n (record { closed = true; there = le; spelled = o; open_is_all = λ t. absurd cc }) in
-      let both : ◌≡◌ {A = Message × ℕ} (other, n) (m, length (canon m)) = cc in
-      (ap (λ x. x.1) both, ap (λ x. x.0) both),
-)
+-- no other message, and no other number of bytes, is a closed front of what is written and whatever follows
+pub one_front : (m other : Message) (more : List ℕ) (n : ℕ) → KeepsLimits m → n ≤ length (canon m ++ more)
+    → SpellsMessage other (take n (canon m ++ more)) true → (n ≡ length (canon m)) × (other ≡ m)
+one_front m other more n h le o =
+    let one : message_at (canon m ++ more) ≡ Ok (m, length (canon m)) = ok_only (canon m ++ more) m (length (canon m)) (canon_stands m h more) in
+    let two : message_at (canon m ++ more) ≡ Ok (other, n) = ok_only (canon m ++ more) other n (record { closed = true; there = le; spelled = o; open_is_all = λ t. absurd cc }) in
+    let both : ◌≡◌ {A = Message × ℕ} (other, n) (m, length (canon m)) = cc in
+    (ap (λ x. x.1) both, ap (λ x. x.0) both)

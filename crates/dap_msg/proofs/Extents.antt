@@ -6,9 +6,10 @@ use Rattle.std.proofs.lemmas.List.{length-append}
 use Rattle.dap_fields.specs.Writing.{groups}
 use Rattle.dap_msg.specs.Message.{Message, StatusFields, Ack, Filedata, Status}
 use Rattle.dap_msg.specs.Formats.{type_number, header_bytes}
-use Rattle.dap_msg.specs.Canon.{header_size, file_data_size, Fits}
+use Rattle.dap_msg.specs.Canon.{Fits}
 use Rattle.dap_msg.specs.Inner.Canon.{operand_bytes, canon}
 use Rattle.dap_msg.specs.Inner.Fitting.{FieldsFit}
+use Rattle.dap_msg.specs.Inner.Sizes.{header_size, file_data_size}
 use Rattle.dap_msg.specs.BothEnds.{config_of, complete_with, attributes_of}
 use Rattle.dap_msg.specs.Inner.Answers.{IsShortAnswer, AnswersFit}
 use Rattle.dap_msg.proofs.Canonical.{closed_spelling}
@@ -27,6 +28,12 @@ file_data_operand recnum payload = omega (arith, length-append recnum (payload +
 
 pub file_data_measured : (recnum payload : List ℕ) → length (canon (Filedata recnum payload)) ≡ file_data_size (length recnum) (length payload)
 file_data_measured recnum payload = rw (canon_length (Filedata recnum payload), file_data_operand recnum payload) refl
+
+pub file_data_short : (recnum payload : List ℕ) → length recnum + length payload < 255 → length (canon (Filedata recnum payload)) ≡ 4 + length recnum + length payload
+file_data_short recnum payload lt = grind (arith, nat_tests, file_data_measured recnum payload, lt)
+
+pub file_data_long : (recnum payload : List ℕ) → 255 ≤ length recnum + length payload → length (canon (Filedata recnum payload)) ≡ 5 + length recnum + length payload
+file_data_long recnum payload le = grind (arith, nat_tests, file_data_measured recnum payload, le)
 
 -- ---- Answers.
 

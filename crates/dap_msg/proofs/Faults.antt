@@ -6,8 +6,9 @@ use Rattle.dap_msg.specs.declared.fault.FaultKind.TheVariants.{Truncated, TooLon
 use Rattle.dap_msg.specs.declared.fault.MsgFault.{MsgFault}
 use Rattle.dap_msg.specs.Grammar.{Kind, ValueOf, FaultyField, Part, Must, When, OrElse, UnlessEnd, Remainder, PartValue, FaultyPart, Grammar, Done, Next, Faulty}
 use Rattle.dap_msg.specs.Message.{Message}
-use Rattle.dap_msg.specs.Formats.{any, refuses_bits, flags_are_known, header, configuration, attributes, access, control, continuation, acknowledge, completion, file_data, status, other, operand}
+use Rattle.dap_msg.specs.Formats.{any, flags_are_known, header, configuration, attributes, access, control, continuation, acknowledge, completion, file_data, status, other, operand}
 use Rattle.dap_msg.specs.Decoding.{IsFault, IsDecoded}
+use Rattle.dap_msg.specs.Inner.Refusals.{refuses_bits}
 
 abbrev IsCalmRefusal : {V : Type 0} → (V → Option FaultKind) → Type 0
 IsCalmRefusal {V = V} refuses = (v : V) → refuses v ≢ Some NoMemory
@@ -34,12 +35,9 @@ field_calm k refuses bytes kind calm (inr (inr h)) = λ e. calm h.0 (h.3 ∙ ap 
 
 part_calm : (p : Part) (bytes : List ℕ) (kind : FaultKind) → IsCalmPart p → FaultyPart p bytes kind → kind ≢ NoMemory
 part_calm (Must k refuses) bytes kind calm h = field_calm k refuses bytes kind calm h
-part_calm (When true k refuses) bytes kind calm h = field_calm k refuses bytes kind calm h
-part_calm (When false k refuses) bytes kind calm h = absurd h
-part_calm (OrElse k default refuses) [] kind calm h = absurd h
-part_calm (OrElse k default refuses) (b ∷ bytes) kind calm h = field_calm k refuses (b ∷ bytes) kind calm h
-part_calm (UnlessEnd k refuses) [] kind calm h = absurd h
-part_calm (UnlessEnd k refuses) (b ∷ bytes) kind calm h = field_calm k refuses (b ∷ bytes) kind calm h
+part_calm (When test k refuses) bytes kind calm h = field_calm k refuses bytes kind calm h.1
+part_calm (OrElse k default refuses) bytes kind calm h = field_calm k refuses bytes kind calm h.1
+part_calm (UnlessEnd k refuses) bytes kind calm h = field_calm k refuses bytes kind calm h.1
 part_calm (Remainder kept) bytes kind calm h = absurd h
 
 grammar_calm : {A : Type 0} (g : Grammar A) (bytes : List ℕ) (kind : FaultKind) (offset : ℕ) → IsCalm g → Faulty g bytes kind offset → kind ≢ NoMemory

@@ -10,8 +10,7 @@ use Rattle.dap_msg.specs.Decoding.{StandsInFront, IsDecoded}
 use Rattle.dap_msg.specs.Inner.Whole.{message_at, told}
 use Rattle.dap_msg.specs.Canon.{canon, Fits}
 use Rattle.dap_msg.specs.Blocked.{joined, AllFit}
-use Rattle.dap_msg.specs.Items.{Item, Whole, Malformed, ItemAt, ItemsFrom}
-use Rattle.dap_msg.specs.Laws.{AreItems, HasItems}
+use Rattle.dap_msg.specs.Items.{Item, Whole, Malformed, ItemAt, ItemsFrom, Items}
 use Rattle.dap_msg.proofs.Messages.{exact}
 use Rattle.dap_msg.proofs.Canonical.{canon_stands}
 use Rattle.dap_msg.proofs.Values.{limits}
@@ -40,7 +39,7 @@ listed_from before m (second ∷ more) fit =
       subst (λ (b : List ℕ). ItemsFrom b (length (before ++ canon m)) (map (λ x. Whole x) (second ∷ more))) (append_assoc before (canon m) after) (listed_from (before ++ canon m) second more fit.1),
     )
 
-pub are_items : (messages : List Message) → AllFit messages → messages ≢ [] → AreItems messages
+pub are_items : (messages : List Message) → AllFit messages → messages ≢ [] → Items (joined messages) (map (λ m. Whole m) messages)
 are_items [] fit some = absurd (some refl)
 are_items (m ∷ messages) fit some = listed_from [] m messages fit
 
@@ -94,7 +93,7 @@ some_items (suc n) bytes at fits le room =
 
 -- ---- One list alone.
 
-same_items : (bytes : List ℕ) (at : ℕ) (items others : List Item) → AreBytes bytes → ItemsFrom bytes at items → ItemsFrom bytes at others → others ≡ items
+pub same_items : (bytes : List ℕ) (at : ℕ) (items others : List Item) → AreBytes bytes → ItemsFrom bytes at items → ItemsFrom bytes at others → others ≡ items
 same_items bytes at [] others fits h o = absurd h
 same_items bytes at (a ∷ items) [] fits h o = absurd o
 same_items bytes at (a ∷ []) (b ∷ []) fits h o = ap (λ (x : Item). x ∷ []) (one_item bytes at a b (length bytes) (length bytes) fits h o).0
@@ -104,6 +103,12 @@ same_items bytes at (a ∷ c ∷ items) (b ∷ d ∷ others) fits h o =
     let one = one_item bytes at a b h.0 o.0 fits h.2 o.2 in
     let rest = same_items bytes h.0 (c ∷ items) (d ∷ others) fits h.3 (subst (λ (k : ℕ). ItemsFrom bytes k (d ∷ others)) one.1 o.3) in
     ap (λ (x : Item). x ∷ d ∷ others) one.0 ∙ ap (λ (xs : List Item). a ∷ xs) rest
+
+-- An NSP message has items, and one list of them alone.
+pub record HasItems (bytes : List ℕ) : Type 0 where
+  pub items : List Item
+  pub listed : Items bytes items
+  pub only : (others : List Item) → Items bytes others → others ≡ items
 
 pub have_items : (bytes : List ℕ) → AreBytes bytes → HasItems bytes
 have_items bytes fits =

@@ -7,11 +7,12 @@ use Rattle.dap_fields.specs.Spelling.{groups_value, AreGroups, ExValue}
 use Rattle.dap_msg.specs.declared.fault.MsgFault.{MsgFault}
 use Rattle.dap_msg.specs.Grammar.{Kind, Byte, Word, Extensible, Image, ValueOf, SpellsField, Part, Must, When, OrElse, UnlessEnd, Remainder, PartValue, SpellsPart, Grammar, Done, Next, Spells}
 use Rattle.dap_msg.specs.Message.{Header, Message, Filedata, Other, length_of}
-use Rattle.dap_msg.specs.Formats.{refuses_type, header, configuration, attributes, access, control, continuation, acknowledge, completion, file_data, status, other, operand, type_number}
+use Rattle.dap_msg.specs.Formats.{header, configuration, attributes, access, control, continuation, acknowledge, completion, file_data, status, other, operand, type_number}
 use Rattle.dap_msg.specs.Decoding.{HasLength, SpellsMessage, IsDecoded, IsSpelled}
 use Rattle.dap_msg.specs.Canon.{Fits}
 use Rattle.dap_msg.specs.Inner.Canon.{operand_bytes}
 use Rattle.dap_msg.specs.Inner.Fitting.{FitsField, FitsOption, FieldsFit, KeepsLimits}
+use Rattle.dap_msg.specs.Inner.Refusals.{refuses_type}
 use Rattle.dap_msg.proofs.Canonical.{open_spelling}
 use Rattle.dap_msg.proofs.Sizes.{plain_short}
 use Rattle.dap_msg.proofs.Extents.{file_data_operand}
@@ -53,10 +54,8 @@ FitsPart (Remainder kept) v len = len ≡ length v
 
 part_fits : (p : Part) (v : PartValue p) (bytes rest : List ℕ) → SpellsPart p v bytes rest → FitsPart p v (length bytes)
 part_fits (Must k refuses) v bytes rest s = kind_fits k v bytes s.0
-part_fits (When true k refuses) (Some v) bytes rest s = (kind_fits k v bytes s.0).0
-part_fits (When true k refuses) None bytes rest s = tt
-part_fits (When false k refuses) (Some v) bytes rest s = absurd s
-part_fits (When false k refuses) None bytes rest s = tt
+part_fits (When there k refuses) (Some v) bytes rest s = (kind_fits k v bytes s.1).0
+part_fits (When there k refuses) None bytes rest s = tt
 part_fits (OrElse k default refuses) v bytes rest (inl s) = λ d. (kind_fits k v bytes s.0).0
 part_fits (OrElse k default refuses) v bytes rest (inr s) = λ d. subst (FitsField k) (sym s.2) d
 part_fits (UnlessEnd k refuses) (Some v) bytes rest s = (kind_fits k v bytes s.0).0

@@ -6,10 +6,11 @@ use Rattle.std.proofs.Math.Nat.{pow-suc, pow-succ', div-div-eq-div-mul}
 use Rattle.std.proofs.lemmas.Nat.{pow_pos}
 use Rattle.dap_msg.specs.Grammar.{Part, Must, When, OrElse, UnlessEnd, Remainder, PartValue, SpellsPart, Grammar, Done, Next, part_bytes, Writes}
 use Rattle.dap_msg.specs.Message.{Message, Config, Attrib, Access, Control, Contran, Ack, Accomp, Filedata, Status, Other}
-use Rattle.dap_msg.specs.Formats.{has, refuses_bits, operand, configuration, attributes, access, control, continuation, acknowledge, completion, file_data, status, other, type_number, header_bytes}
+use Rattle.dap_msg.specs.Formats.{has, operand, configuration, attributes, access, control, continuation, acknowledge, completion, file_data, status, other, type_number, header_bytes}
 use Rattle.dap_msg.specs.Canon.{IsWritten, Fits}
 use Rattle.dap_msg.specs.Inner.Canon.{bits_of, operand_bytes, canon}
 use Rattle.dap_msg.specs.Inner.Fitting.{FieldsFit}
+use Rattle.dap_msg.specs.Inner.Refusals.{refuses_bits}
 use Rattle.dap_msg.proofs.Canonical.{other_operand, operand_written}
 use Rattle.dap_msg.proofs.Values.{limits}
 
@@ -25,10 +26,8 @@ Allows (Remainder kept) v = Unit {0}
 
 part_allows : (p : Part) (v : PartValue p) (bytes rest : List ℕ) → SpellsPart p v bytes rest → Allows p v
 part_allows (Must k refuses) v bytes rest s = tt
-part_allows (When true k refuses) (Some v) bytes rest s = refl
-part_allows (When true k refuses) None bytes rest s = absurd s
-part_allows (When false k refuses) (Some v) bytes rest s = absurd s
-part_allows (When false k refuses) None bytes rest s = refl
+part_allows (When there k refuses) (Some v) bytes rest s = s.0
+part_allows (When there k refuses) None bytes rest s = s.0
 part_allows (OrElse k default refuses) v bytes rest (inl s) = inl s.1
 part_allows (OrElse k default refuses) v bytes rest (inr s) = inr s.2
 part_allows (UnlessEnd k refuses) v bytes rest s = tt

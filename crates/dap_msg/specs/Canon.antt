@@ -1,5 +1,5 @@
 -- The one spelling that is written of each message.
-use Rattle.std.specs.Prelude.{◌≡◌, ℕ, ◌+◌, true, nat_lt, if◌then◌else◌, List, [], ◌++◌, length}
+use Rattle.std.specs.Prelude.{◌≡◌, ℕ, true, List, [], ◌++◌, length}
 use Rattle.dap_msg.specs.Grammar.{Writes}
 use Rattle.dap_msg.specs.Message.{Message}
 use Rattle.dap_msg.specs.Formats.{operand, type_number, header_bytes}
@@ -12,14 +12,6 @@ abbrev pub IsWritten : Message → List ℕ → Type 0
 IsWritten m bytes =
     (body : List ℕ) × (bytes ≡ header_bytes (type_number m) (length body) ++ body)
     × Writes (operand (type_number m)) m body []
-
--- the bytes of a header
-abbrev pub header_size : ℕ → ℕ
-header_size len = if nat_lt len 256 then 3 else 4
-
--- the bytes of a Filedata, by the lengths of its RECNUM and its record
-abbrev pub file_data_size : ℕ → ℕ → ℕ
-file_data_size recnum payload = header_size (1 + recnum + payload) + (1 + recnum + payload)
 
 -- some bytes with LENGTH are the message
 pub record Fits (m : Message) : Type 0 where

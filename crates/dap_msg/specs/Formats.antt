@@ -21,12 +21,13 @@ or_zero max = OrElse (Extensible max) 0 any
 abbrev pub or_empty : ℕ → Part
 or_empty max = OrElse (Image max) [] any
 
--- bits that say which of the next fields are there; only so many have a field
-abbrev pub refuses_bits : ℕ → ℕ → Option FaultKind
-refuses_bits fields bits = if nat_lt bits (2 ^ fields) then None else Some BadMenu
+-- a value that isn't good is refused as this fault
+abbrev pub refuses : {V : Type 0} → FaultKind → (V → Bool) → V → Option FaultKind
+refuses fault good v = if good v then None else Some fault
 
+-- bits that say which of the next fields are there; only so many have a field
 abbrev pub menu : ℕ → ℕ → Part
-menu max fields = OrElse (Extensible max) 0 (refuses_bits fields)
+menu max fields = OrElse (Extensible max) 0 (refuses BadMenu (λ bits. nat_lt bits (2 ^ fields)))
 
 abbrev pub has : ℕ → ℕ → Bool
 has bits i = bits / 2 ^ i % 2 == 1
@@ -165,24 +166,15 @@ type_number (Other number body) = number
 
 -- ---- The header.
 
-abbrev pub refuses_type : ℕ → Option FaultKind
-refuses_type number = if nat_lt 0 number && nat_le number greatest_type then None else Some UnknownType
-
 -- Flags: bit 0 STREAMID, bit 1 LENGTH, bit 2 LEN256, which needs LENGTH.
 abbrev pub flags_are_known : ℕ → Bool
 flags_are_known flags = nat_lt flags 8 && (has flags 1 || not (has flags 2))
 
-abbrev pub refuses_flags : ℕ → Option FaultKind
-refuses_flags flags = if flags_are_known flags then None else Some BadFlags
-
-abbrev pub refuses_stream : ℕ → Option FaultKind
-refuses_stream stream = if stream == 0 then None else Some BadStream
-
 unfoldable pub header : Grammar Header
 header = do
-  number ← Must Byte refuses_type
-  flags ← Must (Extensible 5) refuses_flags
-  stream ← When (has flags 0) Byte refuses_stream
+  number ← Must Byte (refuses UnknownType (λ number. nat_lt 0 number && nat_le number greatest_type))
+  flags ← Must (Extensible 5) (refuses BadFlags flags_are_known)
+  stream ← When (has flags 0) Byte (refuses BadStream (λ stream. stream == 0))
   low ← optional flags 1 Byte
   high ← optional flags 2 Byte
   Done (record { number = number; flags = flags; low = low; high = high })

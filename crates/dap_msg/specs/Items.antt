@@ -1,10 +1,10 @@
 -- What stands in an NSP message: DAP messages, one after another.
-use Rattle.std.specs.Prelude.{◌≡◌, ℕ, ◌+◌, ◌<◌, ◌⊎◌, List, [], ◌∷◌, length, drop}
+use Rattle.std.specs.Prelude.{◌≡◌, ℕ, ◌+◌, ◌<◌, ◌⊎◌, List, [], ◌∷◌, length, drop, slice_index}
 -- A message; or the rest of the NSP message, of which no message can be read, with its first fault. The fault's
 -- offset is counted from the start of the NSP message.
 pub use Rattle.dap_msg.specs.declared.items.Item.{Item}
 pub use Rattle.dap_msg.specs.declared.items.Item.TheVariants.{Whole, Malformed}
-use Rattle.dap_msg.specs.Decoding.{IsSpelled, StandsInFront, IsFault, type_in_front}
+use Rattle.dap_msg.specs.Decoding.{IsSpelled, StandsInFront, IsFault}
 
 -- a place at which an item begins; an NSP message without bytes has one too
 abbrev pub IsPlace : ℕ → List ℕ → Type 0
@@ -15,7 +15,7 @@ abbrev pub ItemAt : List ℕ → ℕ → Item → ℕ → Type 0
 ItemAt bytes at (Whole m) next = (n : ℕ) × StandsInFront m n (drop at bytes) × (next ≡ at + n)
 ItemAt bytes at (Malformed fault) next =
     (offset : ℕ) × IsFault (drop at bytes) fault.kind offset × (fault.offset ≡ at + offset)
-    × (fault.message_type ≡ type_in_front (drop at bytes)) × (next ≡ length bytes)
+    × (fault.message_type ≡ slice_index (drop at bytes) 0) × (next ≡ length bytes)
 
 -- it stands somewhere in some bytes
 abbrev pub IsRead : Item → Type 0

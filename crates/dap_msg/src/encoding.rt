@@ -6,7 +6,7 @@ ghost use Rattle.dap_msg.specs.Message.{Accomp, Attrib, Control};
 ghost use Rattle.dap_msg.specs.Formats.{header_bytes};
 ghost use Rattle.dap_msg.specs.Canon.{canon, Fits};
 ghost use Rattle.dap_msg.specs.Inner.Canon.{operand_bytes, option_bytes, bits_of};
-ghost use Rattle.dap_msg.specs.Written.{AppendsMessage};
+ghost use Rattle.dap_msg.specs.Written.{Appends, no_memory};
 ghost use Rattle.dap_msg.specs.Inner.Fields.{bytes_of, fields_bytes, message_bytes, is_there, CanWrite, CanWriteAll};
 ghost use Rattle.dap_msg.specs.Inner.Fitting.{FieldsFit, FitsOption, KeepsLimits};
 
@@ -162,8 +162,7 @@ fn write_message(
     requires fit { CanWriteAll fields.now }
     requires small { length (fields_bytes fields.now) < 2 ^ 16 }
     requires counted { len ≡ length (message_bytes number fields.now) }
-    ensures appends { AppendsMessage (message_bytes number fields.now) out.old out.new result }
-    ensures capacity { vec_capacity out.old ≤ vec_capacity out.new }
+    ensures { Appends no_memory (message_bytes number fields.now) out.old out.new result }
 {
     out.reserve(len)?;
     put_header(number, operand_of(len), out);
@@ -349,8 +348,7 @@ macro_rules! with_fields {
 fn encode_here(message: &Message<'_>, len: usize, out: &mut Vec<u8>) -> Result<(), MsgFault>
     requires fits { KeepsLimits message.now }
     requires counted { len ≡ length (canon message.now) }
-    ensures appends { AppendsMessage (canon message.now) out.old out.new result }
-    ensures capacity { vec_capacity out.old ≤ vec_capacity out.new }
+    ensures { Appends no_memory (canon message.now) out.old out.new result }
 {
     with_fields!(message, write_message, message.number(), len, out)
 }
@@ -361,8 +359,7 @@ fn encode_here(message: &Message<'_>, len: usize, out: &mut Vec<u8>) -> Result<(
 fn encode_apart(message: &Message<'_>, len: usize, out: &mut Vec<u8>) -> Result<(), MsgFault>
     requires fits { KeepsLimits message.now }
     requires counted { len ≡ length (canon message.now) }
-    ensures appends { AppendsMessage (canon message.now) out.old out.new result }
-    ensures capacity { vec_capacity out.old ≤ vec_capacity out.new }
+    ensures { Appends no_memory (canon message.now) out.old out.new result }
 {
     encode_here(message, len, out)
 }
@@ -375,8 +372,7 @@ pub(crate) fn encode_counted(
 ) -> Result<(), MsgFault>
     requires fits { Fits message.now }
     requires counted { len ≡ length (canon message.now) }
-    ensures appends { AppendsMessage (canon message.now) out.old out.new result }
-    ensures capacity { vec_capacity out.old ≤ vec_capacity out.new }
+    ensures { Appends no_memory (canon message.now) out.old out.new result }
 {
     match message {
         Message::Config(_) | Message::Attrib(_) | Message::Access(_) => {
@@ -394,8 +390,7 @@ pub(crate) fn encode_counted(
 /// comes only where `out` lacked the room and leaves it unchanged. Room is reserved once, and none is given back.
 pub fn encode(message: &Message<'_>, out: &mut Vec<u8>) -> Result<(), MsgFault>
     requires { Fits message.now }
-    ensures appends { AppendsMessage (canon message.now) out.old out.new result }
-    ensures capacity { vec_capacity out.old ≤ vec_capacity out.new }
+    ensures { Appends no_memory (canon message.now) out.old out.new result }
 {
     encode_counted(message, encoded_len(message), out)
 }

@@ -8,7 +8,8 @@ use Rattle.dap_msg.specs.declared.items.Item.TheVariants.{Whole}
 use Rattle.dap_msg.specs.Codes.{cmpfunc}
 use Rattle.dap_msg.specs.BothEnds.{complete_with}
 use Rattle.dap_msg.specs.Sendable.{AreSendable}
-use Rattle.dap_msg.specs.Blocked.{NspMessage, joined, Blocked, all_joined, messages_in, AllWithin, IsWithin}
+use Rattle.dap_msg.specs.Blocked.{NspMessage, joined, Blocked, all_joined, messages_in}
+use Rattle.dap_msg.specs.Inner.Blocked.{IsWithin, AllWithin}
 use Rattle.dap_msg.proofs.ForCallers.{messages_in-Blocked, within_limit}
 use Rattle.std.proofs.lemmas.List.{append-nil}
 use Rattle.dap_accessed.specs.Groups.{added, limit_for}

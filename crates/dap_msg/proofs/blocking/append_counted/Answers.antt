@@ -17,10 +17,10 @@ returns-then-has_room c =
     let full : room_after c.args.limit c.args.list.now.items (length m) ≡ true = cc in
     let last : length c.args.list.now.items ≡ suc (c.len-last.result - 1) = grind (arith, some_there, c.has_room.ensures, c.if-has_room.true, c.deref.ensures.value, c.args.list.now.ok.0, c.len-last.ensures) in
     joined_last c.args.limit c.args.list.now (with_item c.args.list.now (c.len-last.result - 1) c.encode_counted.new.out) (c.len-last.result - 1) c.index_mut.result.now c.encode_counted.new.out m c.encode_counted.result refl
-    last c.index_mut.ensures.value full c.encode_counted.ensures.appends
+    last c.index_mut.ensures.value full c.encode_counted.ensures
 
 pub returns : goal.returns
 returns c =
     let m = canon c.args.message.now in
     ap bodies c.in_ok-push.ensures.items
-    ∙ no_room c.args.limit c.args.list.now.items c.encode_counted-2.new.out m (c.in_ok-encode_counted.ensures.appends ∙ ap (λ l. l ++ m) c.new-first.ensures.items) cc
+    ∙ no_room c.args.limit c.args.list.now.items c.encode_counted-2.new.out m (c.in_ok-encode_counted.ensures.0 ∙ ap (λ l. l ++ m) c.new-first.ensures.items) cc

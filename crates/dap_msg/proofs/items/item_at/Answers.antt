@@ -1,12 +1,12 @@
-use Rattle.std.proofs.Common.{◌≡◌, ◌+◌, ℕ, List, length, drop, Err, refl, subst, arith}
+use Rattle.std.proofs.Common.{◌≡◌, ◌+◌, ℕ, List, length, drop, slice_index, Err, refl, subst, arith}
 use Rattle.dap_msg.specs.declared.fault.MsgFault.{MsgFault}
-use Rattle.dap_msg.specs.Decoding.{StandsInFront, IsFault, IsDecoded, type_in_front}
+use Rattle.dap_msg.specs.Decoding.{StandsInFront, IsFault, IsDecoded}
 use Rattle.dap_msg.specs.Items.{Whole, Malformed, ItemAt}
 use Rattle.dap_msg.proofs.Listing.{one_item}
 use Rattle.dap_msg.proofs.items.item_at.Goals as goal
 
 malformed : (bytes rest : List ℕ) (at : ℕ) (f : MsgFault) → rest ≡ drop at bytes → IsDecoded rest (Err f) → ItemAt bytes at (Malformed (record f { offset = at + f.offset })) (length bytes)
-malformed bytes rest at f e h = (f.offset, subst (λ b. IsFault b f.kind f.offset) e h.0, refl, subst (λ b. f.message_type ≡ type_in_front b) e h.1, refl)
+malformed bytes rest at f e h = (f.offset, subst (λ b. IsFault b f.kind f.offset) e h.0, refl, subst (λ b. f.message_type ≡ slice_index b 0) e h.1, refl)
 
 pub returns-in-Ok-clause-only : goal.returns-in-Ok-clause-only
 returns-in-Ok-clause-only c = λ item next h.

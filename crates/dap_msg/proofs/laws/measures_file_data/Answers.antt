@@ -1,5 +1,8 @@
-use Rattle.dap_msg.proofs.Extents.{file_data_measured}
+use Rattle.dap_msg.proofs.Extents.{file_data_short, file_data_long}
 use Rattle.dap_msg.proofs.laws.measures_file_data.Goals as goal
 
-pub returns : goal.returns
-returns c = λ recnum payload. file_data_measured recnum payload
+pub returns-clause-short : goal.returns-clause-short
+returns-clause-short c = λ recnum payload lt. file_data_short recnum payload lt
+
+pub returns-clause-long : goal.returns-clause-long
+returns-clause-long c = λ recnum payload le. file_data_long recnum payload le

@@ -9,13 +9,13 @@ use Rattle.dap_accessed.specs.Inner.Present.{phase_at}
 use Rattle.dap_accessed.specs.Inner.Moves.{plain_memory, scene_in}
 use Rattle.rec_file.specs.AnyFiles.{any_value}
 use Rattle.rec_file.specs.Files.{records_from}
-use Rattle.dap_msg.specs.Canon.{file_data_size}
+use Rattle.dap_msg.specs.Canon.{canon}
 use Rattle.dap_msg.specs.declared.message.Message.{Message}
 use Rattle.dap_msg.specs.declared.message.Message.TheVariants.{Filedata}
 use Rattle.dap_accessed.specs.Present.{Present}
 use Rattle.dap_accessed.specs.Inner.Written.{Answered}
 use Rattle.dap_accessed.specs.Records.{filedata_of}
-use Rattle.dap_accessed.proofs.Fetching.{GoesOn, begins, goes_on, above_next, ends_there, stops_there}
+use Rattle.dap_accessed.proofs.Fetching.{GoesOn, filedata_size, begins, goes_on, above_next, ends_there, stops_there}
 use Rattle.dap_accessed.proofs.accessed.Accessed.batch.Goals as goal
 
 pub loop-number-init : goal.loop-number-init
@@ -28,7 +28,7 @@ pub loop-number-preserved : goal.loop-number-preserved
 loop-number-preserved c =
     let limit : c.self.inside.limit ≡ c.args.self.now.limit = ap (λ (p : Present). p.limit) c.self.view_is in
     let given = c.loop-number.invariant.given in
-    let fits : file_data_size 4 (length c.in-Some.body.now) ≤ c.args.self.now.limit = omega (arith, c.if-filedata_len-from.false, c.filedata_len.ensures, c.from.ensures, limit) in
+    let fits : length (canon (filedata_of (c.in-Some.number, c.in-Some.body.now))) ≤ c.args.self.now.limit = omega (arith, filedata_size (c.in-Some.number, c.in-Some.body.now), c.if-filedata_len-from.false, c.filedata_len.ensures, c.from.ensures, limit) in
     goes_on c.args.self.now.limit (any_value c.file-file.result.now) c.args.stream.next c.loop-number.next c.loop-number.answers c.append-in-Some.new.answers
     (c.in-Some.number, c.in-Some.body.now) c.loop-number.invariant c.in-Some.ensures.some (le-leb _ _ fits) c.in-Some.ensures.within
     (subst (λ (l : ℕ). Answered l (map filedata_of given ++ filedata_of (c.in-Some.number, c.in-Some.body.now) ∷ []) c.append-in-Some.new.answers) limit
@@ -46,7 +46,7 @@ pub returns-then-filedata_len-from-clause-place : goal.returns-then-filedata_len
 returns-then-filedata_len-from-clause-place c =
     let limit : c.self.inside.limit ≡ c.args.self.now.limit = ap (λ (p : Present). p.limit) c.self.view_is in
     let file = c.file-file.ensures ∙ ap (λ (p : Present). the_file p.files c.args.opened) c.self.view_is in
-    let large : c.args.self.now.limit < file_data_size 4 (length c.in-Some.body.now) = omega (arith, c.if-filedata_len-from.true, c.filedata_len.ensures, c.from.ensures, limit) in
+    let large : c.args.self.now.limit < length (canon (filedata_of (c.in-Some.number, c.in-Some.body.now))) = omega (arith, filedata_size (c.in-Some.number, c.in-Some.body.now), c.if-filedata_len-from.true, c.filedata_len.ensures, c.from.ensures, limit) in
     ap (phases.Stopped c.args.opened) c.at_number.ensures
     ∙ sym (ap (λ (e : Effect). phase_at e.place (plain_memory c.args.self.now.kept)) (stops_there (scene_in c.args.self.now) c.args.opened c.args.stream (any_value c.file-file.result.now) c.loop-number.next c.loop-number.answers
     (c.in-Some.number, c.in-Some.body.now) (records_from (any_value c.file-file.result.now).records (c.in-Some.number + 1)) file c.loop-number.invariant c.in-Some.ensures.some (lt-leb _ _ large)))
@@ -55,7 +55,7 @@ pub returns-then-filedata_len-from-clause-answers : goal.returns-then-filedata_l
 returns-then-filedata_len-from-clause-answers c =
     let limit : c.self.inside.limit ≡ c.args.self.now.limit = ap (λ (p : Present). p.limit) c.self.view_is in
     let file = c.file-file.ensures ∙ ap (λ (p : Present). the_file p.files c.args.opened) c.self.view_is in
-    let large : c.args.self.now.limit < file_data_size 4 (length c.in-Some.body.now) = omega (arith, c.if-filedata_len-from.true, c.filedata_len.ensures, c.from.ensures, limit) in
+    let large : c.args.self.now.limit < length (canon (filedata_of (c.in-Some.number, c.in-Some.body.now))) = omega (arith, filedata_size (c.in-Some.number, c.in-Some.body.now), c.if-filedata_len-from.true, c.filedata_len.ensures, c.from.ensures, limit) in
     let given = c.loop-number.invariant.given in
     subst (λ (e : Effect). Answered c.args.self.now.limit e.answers c.append.new.answers)
     (sym (stops_there (scene_in c.args.self.now) c.args.opened c.args.stream (any_value c.file-file.result.now) c.loop-number.next c.loop-number.answers

@@ -4,7 +4,7 @@ use Rattle.dap_msg.specs.Canon.{canon}
 use Rattle.dap_msg.specs.BothEnds.{least_buffer}
 use Rattle.dap_msg.specs.declared.message.Message.{Message}
 use Rattle.dap_msg.specs.Blocked.{bodies}
-use Rattle.dap_msg.specs.Written.{AppendsMessage}
+use Rattle.dap_msg.specs.Written.{Appends, no_memory}
 use Rattle.dap_accessed.specs.Inner.Written.{message_of, most_bytes}
 use Rattle.dap_accessed.proofs.Writing.{answered_one, filled, short_most}
 use Rattle.dap_accessed.proofs.answers.Room.fill.Goals as goal
@@ -14,8 +14,8 @@ returns c =
     let m = message_of c.args.answer in
     let most : length (canon m) ≤ most_bytes c.args.answer = c.message.ensures.within in
     let short : length (canon m) ≤ least_buffer = omega (arith, most, short_most c.args.answer c.requires.short) in
-    let appends : AppendsMessage (canon m) c.self.inside.bytes c.encode-written.new.out c.encode-written.result =
-    subst (λ (m : Message). AppendsMessage (canon m) c.self.inside.bytes c.encode-written.new.out c.encode-written.result) c.message.ensures.same c.encode-written.ensures.appends in
+    let appends : Appends no_memory (canon m) c.self.inside.bytes c.encode-written.new.out c.encode-written.result =
+    subst (λ (m : Message). Appends no_memory (canon m) c.self.inside.bytes c.encode-written.new.out c.encode-written.result) c.message.ensures.same c.encode-written.ensures in
     answered_one c.args.limit m c.push_reserved.new.self c.message.ensures.fits (omega (arith, short, c.requires.room))
     (ap bodies c.push_reserved.ensures.items ∙ ap (λ (l : List (Vec ℕ)). bodies (l ++ c.encode-written.new.out ∷ [])) c.self.invariant.0.0
     ∙ ap (λ (x : List ℕ). x ∷ []) (filled (canon m) c.self.inside.bytes c.encode-written.new.out c.encode-written.result appends c.self.invariant.1.0 c.self.invariant.1.1 short))
