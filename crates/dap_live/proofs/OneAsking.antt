@@ -36,10 +36,10 @@ use Rattle.dap_live.specs.declared.orders.Order.TheVariants as order
 use Rattle.dap_live.specs.Orders.{order_of, setup_anew}
 use Rattle.dap_live.specs.Sending.{AllAgain, SaysAck, has_message, is_left, waits_of}
 use Rattle.dap_live.specs.Texts.{ask_refusal, link_refusal, packets_text, reports_text, taken_said}
-use Rattle.dap_live.specs.Asking.{GoesOn, Resends, AsksIt, AsksNot, Asks, IsNew, OnEnd, Does, DoesAll, Ends, answered, waiting, came_by, goes_on}
+use Rattle.dap_live.specs.Asking.{GoesOn, Resends, AsksNot, Asks, IsNew, OnEnd, Does, DoesAll, Ends, answered, waiting, came_by, goes_on}
 use Rattle.dap_live.specs.Both.{DoesOrder, Renews, Stays, TakesPacket, gone_said}
 use Rattle.dap_live.specs.Inner.Saying.{front_text}
-use Rattle.dap_live.specs.OneText.{AreSameAsking}
+use Rattle.dap_live.specs.Inner.OneText.{AreSameAsking}
 use Rattle.dap_live.proofs.OneLine.{Fits, line_fits, all_again, ack_one, taken_wants, setup_apart, setup_one, one_answer, gone_wants}
 
 -- what became of a line
@@ -205,6 +205,11 @@ not_one old other one two request said more m n ask.Failed same rx ry nm nn x y 
 not_one old other one two request said more m n ask.WrongPhase same rx ry nm nn x y = said_why old other one two said more m n ask.WrongPhase same x y
 not_one old other one two request said more m n ask.TooLarge same rx ry nm nn x y = said_why old other one two said more m n ask.TooLarge same x y
 not_one old other one two request said more m n ask.NoMemory same rx ry nm nn x y = said_why old other one two said more m n ask.NoMemory same x y
+
+-- it was asked, and its messages are on their way
+abbrev AsksIt : Asking → Request → Asking → List ℕ → Came → Type 0
+AsksIt old request new text came =
+    (count : ℕ) × (mid : AskingValue) × AskedOne request old.end mid count × GoesOn mid old.reports.items (front_text (front.Asked count)) new text came
 
 -- it was asked of both
 it_one : (old other one two : Asking) (request : Request) (said more : List ℕ) (m n : Came) (past : AskingPast) → HasAsked past old.end → AreSameAsking old other → OnEnd old one → OnEnd other two → outcome m ≢ NoMemory → outcome n ≢ NoMemory
