@@ -1,34 +1,27 @@
 -- What the lines of a schedule say: a setup, or an event.
-use Rattle.std.specs.Prelude.{ℕ, List, [], ◌∷◌, codes, bytes_eq, if◌then◌else◌, Option, Some, None, option_map}
+use Rattle.std.specs.Prelude.{ℕ, List, [], ◌∷◌, codes, bytes_eq, Option, option_map}
+use Rattle.std.specs.Map.{lookup}
 use Rattle.dap_world.specs.declared.event.End.{End}
 use Rattle.dap_world.specs.declared.event.End.TheVariants.{A, B}
 use Rattle.dap_world.specs.declared.event.Event.{Event}
 use Rattle.dap_world.specs.declared.event.Event.TheVariants as event
 use Rattle.dap_world.specs.declared.setup.WorldSetup.{WorldSetup}
 use Rattle.dap_text.specs.Requests.{request_of}
-use Rattle.dap_text.specs.Words.{Words, ends, field, long, one_of, short, word, words_of}
+use Rattle.dap_text.specs.Words.{ends, field, long, one_of, short, word, words_of}
 
 -- an end
 abbrev pub end_of : List ℕ → Option End
-end_of word = if bytes_eq word (codes "a") then Some A else if bytes_eq word (codes "b") then Some B else None
-
--- E
-abbrev pub one_end : (End → Event) → Words → Option Event
-one_end event = field end_of (λ end. ends (event end))
-
--- E and a number
-abbrev pub end_and_number : (End → ℕ → Event) → Words → Option Event
-end_and_number event = field end_of (λ end. field long (λ number. ends (event end number)))
+end_of word = lookup (bytes_eq word) ((codes "a", A) ∷ (codes "b", B) ∷ [])
 
 -- the event that a line says, by its first word and those after it
 abbrev pub event_of : List ℕ → Option Event
 event_of line = one_of (
     word (codes "ask") (λ words. option_map event.Ask (request_of words))
-    ∷ word (codes "post") (one_end event.Post)
-    ∷ word (codes "emit") (one_end event.Emit)
-    ∷ word (codes "resend") (end_and_number event.Resend)
-    ∷ word (codes "ack") (one_end event.Ack)
-    ∷ word (codes "deliver") (end_and_number event.Deliver)
+    ∷ word (codes "post") (field end_of (λ end. ends (event.Post end)))
+    ∷ word (codes "emit") (field end_of (λ end. ends (event.Emit end)))
+    ∷ word (codes "resend") (field end_of (λ end. field long (λ number. ends (event.Resend end number))))
+    ∷ word (codes "ack") (field end_of (λ end. ends (event.Ack end)))
+    ∷ word (codes "deliver") (field end_of (λ end. field long (λ number. ends (event.Deliver end number))))
     ∷ word (codes "serve") (ends event.Serve)
     ∷ word (codes "read") (ends event.Read)
     ∷ []) (words_of line)

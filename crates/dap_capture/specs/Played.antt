@@ -93,9 +93,3 @@ pub data Played : List Numbered → Outcome → List ℕ → Type 0 where
 -- what a run over a schedule answers
 abbrev pub ScheduleGives : List ℕ → Option (List ℕ) → Option (List ℕ) → Result Outcome CaptureFault → Type 0
 ScheduleGives input = Gives (schedule_faults (said input)) (Played (said input)) input
-
--- An input has one outcome and one text at the most.
-abbrev pub HasOneText : Type 0
-HasOneText =
-    (input a b : List ℕ) (one two : Outcome)
-    → Played (said input) one a → Played (said input) two b → (one ≡ two) × (a ≡ b)

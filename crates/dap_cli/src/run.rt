@@ -127,12 +127,11 @@ fn run_choice<R: Read, W: Write, E: Write>(
     ensures { IfSome (R.remaining reader.old)
         (λ input. RunGives choice input (W.contents writer.old) (W.contents writer.new) result) }
 {
-    let outcome = match choice {
-        Choice::Show => show(alloc, reader, writer),
-        Choice::Msg => messages(alloc, reader, writer),
-        Choice::Run => schedule(alloc, reader, writer),
-    };
-    finish(outcome, error_writer)
+    match choice {
+        Choice::Show => finish(show(alloc, reader, writer), error_writer),
+        Choice::Msg => finish(messages(alloc, reader, writer), error_writer),
+        Choice::Run => finish(schedule(alloc, reader, writer), error_writer),
+    }
 }
 
 /// Runs the command that the words name, the program's name first, and answers the exit status. Own.

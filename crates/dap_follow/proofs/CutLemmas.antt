@@ -1,5 +1,6 @@
 -- Segments of a cut message in the places of a stream.
 use Rattle.std.proofs.Common.{◌≡◌, ◌==◌, ◌<◌, ◌≤◌, ◌+◌, ◌*◌, ◌/◌, ◌%◌, ◌++◌, ℕ, Bool, true, false, List, [], ◌∷◌, map, max, Some, None, zero, suc, length, refl, sym, ap, ◌∙◌, subst, arith, ⊎_elim, ◌-◌, add-zero, take, drop}
+use Rattle.std.specs.Prelude.{slice_get}
 use Rattle.std.specs.List.{AllByRecursion, Contains}
 use Rattle.std.specs.List.Sorted.{IsStrictlyIncreasing, IsStrictlySortedBy}
 use Rattle.std.specs.Ordering.{nat_cmp}
@@ -9,7 +10,6 @@ use Rattle.std.proofs.lemmas.Bool.Decides.{nat_tests}
 use Rattle.std.proofs.lemmas.Map.Keys.{sorted_from_strictly_increasing}
 use Rattle.nsp_link.specs.Cutting as cutting
 use Rattle.dap_follow.specs.Streams.{ArePlaced, Came, Placed, at, no_more, one_more, put_at}
-use Rattle.dap_follow.specs.Cut.{StandFrom}
 use Rattle.dap_follow.specs.Joined.{Message, Piece, is_message, joins, message_of, messages, payload, pieces, segments, with_segment}
 use Rattle.std.specs.List.{filter, flat_map, range_with_len}
 use Rattle.std.specs.Int.{div_ceil}
@@ -20,6 +20,27 @@ use Rattle.std.proofs.lemmas.List.{drop-drop, map-append, take-append-drop}
 use Rattle.std.proofs.lemmas.List.Elements.{Contains-append_right, filter-append}
 use Rattle.dap_follow.proofs.JoiningLemmas.{Chain, Ends, chain_cut, end_of, marks}
 use Rattle.dap_follow.proofs.PlacingLemmas.{at-here, at-other}
+
+-- ---- what stands from a place on
+
+-- in the place stands the first that came, with these marks and bytes
+abbrev IsAt : ℕ → cutting.Piece → List Placed → Type 0
+IsAt place cut came = (s : Placed) × (at place came ≡ Some s) × (s.first ≡ cut.first) × (s.last ≡ cut.last) × (s.payload ≡ cut.payload)
+
+-- from a place on these stand, in order
+abbrev pub StandFrom : ℕ → List cutting.Piece → List Placed → Type 0
+StandFrom place [] came = Unit {0}
+StandFrom place (cut ∷ others) came = IsAt place cut came × StandFrom (place + 1) others came
+
+pub stand_each : (place : ℕ) (cut : List cutting.Piece) (came : List Placed)
+    → ((i : ℕ) (one : cutting.Piece) → slice_get cut i ≡ Some one → IsAt (place + i) one came) → StandFrom place cut came
+stand_each place [] came each = tt
+stand_each place (c ∷ cut) came each =
+    let there : place + 0 ≡ place = omega arith in
+    let later : (i : ℕ) → place + suc i ≡ place + 1 + i = λ i. omega arith in (
+      subst (λ (p : ℕ). IsAt p c came) there (each 0 c refl),
+      stand_each (place + 1) cut came (λ i one is. subst (λ (p : ℕ). IsAt p one came) (later i) (each (suc i) one is)),
+    )
 
 -- ---- places that differ by whole rounds
 

@@ -68,9 +68,6 @@ abbrev pub rest_lines : Stream → List Piece → List ℕ
 rest_lines stream [] = []
 rest_lines stream (p ∷ others) = part_line stream p ++ gap_line stream p others ++ rest_lines stream others
 
-abbrev pub all_rest_lines : List Stream → List (List Placed) → List ℕ
-all_rest_lines streams ordered = flat_map (λ (stream, segments). rest_lines stream (pieces segments)) (zip streams ordered)
-
 -- the lines of the packets, and behind them what is left of each stream
 pub record IsFollowed (captured : List Capture) (text : List ℕ) : Type 0 where
   pub packets : List Captured
@@ -79,7 +76,7 @@ pub record IsFollowed (captured : List Capture) (text : List ℕ) : Type 0 where
   pub are_seen : AllZip IsCaptured captured packets
   pub are_ordered : AllZip (λ stream. IsOrdered (came_in stream packets)) (streams packets) ordered
   pub are_lines : ArePacketLines (flat_map messages ordered) 1 packets lines
-  pub joined : text ≡ lines ++ all_rest_lines (streams packets) ordered
+  pub joined : text ≡ lines ++ flat_map (λ (stream, segments). rest_lines stream (pieces segments)) (zip (streams packets) ordered)
 
 -- what the listing of an input answers
 abbrev pub FollowGives : List ℕ → Option (List ℕ) → Option (List ℕ) → Result Outcome CaptureFault → Type 0

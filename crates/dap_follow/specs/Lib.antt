@@ -1,5 +1,4 @@
 pub mod Inner
 pub mod Streams
 pub mod Joined
-pub mod Cut
 pub mod Following

@@ -15,7 +15,7 @@ use Rattle.dap_listing.specs.declared.listing.Listed.TheVariants.{Packets, Messa
 use Rattle.dap_listing.specs.declared.lines.Direction.{Direction}
 use Rattle.dap_listing.specs.declared.lines.Direction.TheVariants.{Right, Left}
 use Rattle.dap_listing.specs.declared.fault.Outcome.{Outcome}
-use Rattle.dap_listing.specs.declared.fault.Outcome.TheVariants.{Good, Stopped}
+use Rattle.dap_listing.specs.declared.fault.Outcome.TheVariants.{Good}
 use Rattle.dap_listing.specs.declared.fault.CaptureFault.{CaptureFault}
 
 -- the faults of the lines in order, of which the first has the number
@@ -58,18 +58,9 @@ pub data CaptureLines (listed : Listed) : ℕ → List Capture → List ℕ → 
       → decode_of digits ≡ Ok bytes → IsCapturedText listed bytes first → CaptureLines listed (number + 1) others rest
       → CaptureLines listed number ((direction, digits) ∷ others) ((heading number direction ++ first) ++ rest)
 
--- the text is the listing of the input, and all is good
-abbrev pub IsListing : Listed → List ℕ → Outcome → List ℕ → Type 0
-IsListing listed input Good text = CaptureLines listed 1 (captures (limit_of listed) input) text
-IsListing listed input Stopped text = ⊥
-
--- what a listing of the input answers
+-- what a listing of the input answers: it is never stopped
 abbrev pub ListingGives : Listed → List ℕ → Option (List ℕ) → Option (List ℕ)
     → Result Outcome CaptureFault → Type 0
-ListingGives listed input = Gives (faults_from (limit_of listed) 1 input) (IsListing listed input) input
-
--- No input has two listings of a kind.
-abbrev pub HasOneListing : Type 0
-HasOneListing =
-    (listed : Listed) (input a b : List ℕ)
-    → IsListing listed input Good a → IsListing listed input Good b → a ≡ b
+ListingGives listed input =
+    Gives (faults_from (limit_of listed) 1 input)
+    (λ outcome text. (outcome ≡ Good) × CaptureLines listed 1 (captures (limit_of listed) input) text) input

@@ -1,9 +1,9 @@
 //! The captured packets of an input, one after another.
 
-ghost use Rattle.std.specs.Prelude.{◌≡◌, ◌≢◌, ◌<◌, ◌+◌, ◌^◌, IfErr, IfOk, MatchOption, OnOk, Some, codes, length, slice_get};
-ghost use Rattle.dap_listing.specs.Captured.{HasNone, IsNext};
+ghost use Rattle.std.specs.Prelude.{◌≡◌, ◌≢◌, ◌<◌, ◌≤◌, ◌+◌, ◌*◌, ◌/◌, ◌^◌, [], ◌∷◌, IfErr, IfOk, IfSome, MatchOption, OnOk, Some, codes, length, slice_get};
+ghost use Rattle.dap_listing.specs.Captured.{Spell};
 ghost use Rattle.dap_listing.specs.declared.fault.CaptureFault.TheVariants.{NoMemory, ReadFailed, WriteFailed};
-ghost use Rattle.dap_listing.specs.Listing.{arrow_text, faults_from, heading, packet_limit};
+ghost use Rattle.dap_listing.specs.Listing.{arrow_text, captures, faults_from, heading, packet_limit};
 ghost use Rattle.dap_text.specs.Adding.{Adds};
 
 use crate::CaptureFault;
@@ -30,8 +30,22 @@ pub struct Found<'a> {
 /// `BadLine` and `TooLarge`: the first line at fault, where it stands before a packet.
 pub fn next_packet<'a>(at: usize, bytes: &'a [u8]) -> Result<Option<Found<'a>>, CaptureFault>
     requires { at + length bytes.now < 2 ^ 32 }
-    ensures found { IfOk result
-        (λ found. MatchOption found (HasNone at bytes.now) (IsNext at bytes.now)) }
+    ensures captured { IfOk result
+        (λ next. MatchOption next (captures packet_limit bytes.now ≡ [])
+        (λ found. captures packet_limit bytes.now
+        ≡ (found.way, found.digits.now) ∷ captures packet_limit found.rest.now)) }
+    ensures clean { IfOk result
+        (λ next. MatchOption next (faults_from packet_limit at bytes.now ≡ [])
+        (λ found. faults_from packet_limit at bytes.now
+        ≡ faults_from packet_limit found.at found.rest.now)) }
+    ensures spelled { IfOk result (λ next. IfSome next
+        (λ found. Spell found.digits.now (length found.digits.now / 2))) }
+    ensures short { IfOk result (λ next. IfSome next
+        (λ found. length found.digits.now ≤ 2 * packet_limit)) }
+    ensures counted { IfOk result (λ next. IfSome next
+        (λ found. found.at + length found.rest.now ≤ at + length bytes.now)) }
+    ensures shorter { IfOk result (λ next. IfSome next
+        (λ found. length found.rest.now < length bytes.now)) }
     ensures first { IfErr result
         (λ fault. slice_get (faults_from packet_limit at bytes.now) 0 ≡ Some fault) }
     ensures of_line { IfErr result

@@ -1,8 +1,12 @@
-//! Laws over the definitions alone.
+//! Laws over the definitions alone. The function does nothing: its contract is the law.
 
-ghost use Rattle.dap_listing.specs.Listing.{HasOneListing};
+ghost use Rattle.std.specs.Prelude.{◌≡◌, ℕ, List};
+ghost use Rattle.dap_listing.specs.Listing.{CaptureLines, captures, limit_of};
+ghost use Rattle.dap_listing.specs.declared.listing.Listed.{Listed};
 
-/// An input has one listing at the most. Own.
+/// No input has two listings of a kind. Own.
 pub fn listings_are_one()
-    ensures { HasOneListing }
+    ensures { (listed : Listed) (input a b : List ℕ)
+        → CaptureLines listed 1 (captures (limit_of listed) input) a
+        → CaptureLines listed 1 (captures (limit_of listed) input) b → a ≡ b }
 {}

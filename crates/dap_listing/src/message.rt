@@ -3,12 +3,13 @@
 ghost use Rattle.std.specs.Prelude.{◌≡◌, ◌≤◌, ◌/◌, ◌++◌, ℕ, List, OnOk, codes, length};
 ghost use Rattle.std.specs.Option.{option_map_or};
 ghost use Rattle.std.specs.Fmt.{decimal};
+ghost use Rattle.dap_msg.specs.declared.items.Item.TheVariants.{Malformed};
 ghost use Rattle.dap_msg.specs.declared.message.Message.TheVariants.{Access, Attrib, Config, Control, Filedata, Other, Status};
 ghost use Rattle.dap_text.specs.Adding.{Adds};
 ghost use Rattle.dap_text.specs.Adding.{AddsSome};
 ghost use Rattle.dap_listing.specs.Captured.{AreDecoded, Spell, bytes_of};
 ghost use Rattle.dap_listing.specs.Inner.Decoding.{item_with_record, record_size as size_of_record, with_record};
-ghost use Rattle.dap_listing.specs.Messages.{IsMessagesText, fault_line, item_line, kind_text, message_line, version_text, wanted_text};
+ghost use Rattle.dap_listing.specs.Messages.{IsMessagesText, item_line, kind_text, message_line, version_text, wanted_text};
 
 use crate::decode::{FRONT, decode_to};
 use crate::field::{attributes_fields, control_fields, push_fields};
@@ -193,7 +194,7 @@ fn kind_word(kind: FaultKind) -> &'static str
 
 /// Appends the line of a fault.
 fn push_fault(text: &mut Vec<u8>, fault: MsgFault) -> Result<(), AllocError>
-    ensures { OnOk result (Adds text.old text.new (fault_line fault)) }
+    ensures { OnOk result (Adds text.old text.new (item_line (Malformed fault))) }
 {
     push_str(text, "  bad ")?;
     push_str(text, kind_word(fault.kind))?;

@@ -4,8 +4,8 @@ ghost use Rattle.std.specs.Prelude.{◌≡◌, ◌≤◌, ◌/◌, ◌++◌, ◌
 ghost use Rattle.std.specs.List.{concat};
 ghost use Rattle.dap_text.specs.Text.{word_text};
 ghost use Rattle.dap_text.specs.Adding.{Adds, AddsSome};
-ghost use Rattle.dap_listing.specs.Captured.{AreDecoded, HasDigits, Spell, bytes_of, carried_by, seen_value};
-ghost use Rattle.dap_listing.specs.Inner.Decoding.{IsBehind, front_of};
+ghost use Rattle.dap_listing.specs.Captured.{AreDecoded, HasDigits, Spell, bytes_of, seen_value};
+ghost use Rattle.dap_listing.specs.Inner.Decoding.{IsBehind, carried_by, front_of};
 ghost use Rattle.dap_listing.specs.Packets.{IsPacketText, IsSeen, ack_text, acks_text, mark_text, seen_line};
 ghost use Rattle.dap_listing.specs.Inner.Messages.{SegmentMessages};
 ghost use Rattle.nsp_seg.specs.declared.packet.Packet.TheVariants.{DataAck, Segment};

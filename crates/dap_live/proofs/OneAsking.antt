@@ -19,10 +19,10 @@ use Rattle.dap_end.specs.declared.fault.EndFault.{EndFault}
 use Rattle.dap_end.specs.declared.fault.TakeFault.{TakeFault}
 use Rattle.dap_end.specs.declared.fault.TakeFault.TheVariants as take
 use Rattle.dap_end.specs.Ports.{PortValue, new_port}
-use Rattle.dap_end.specs.Asking.{HasAsked, AskedOne, AreAlike, HasDone, asks}
+use Rattle.dap_end.specs.Asking.{HasAsked, AskedOne, HasDone, asks}
 use Rattle.dap_end.specs.Done.{AskingValue, AskingPast, nothing_asked}
 use Rattle.dap_end.specs.Turns.{Takes}
-use Rattle.dap_end.proofs.ForCallers.{alike_of, alike_same, asked_past, has_sent, asking_one, going_alike, taking_alike}
+use Rattle.dap_end.proofs.ForCallers.{asked_past, has_sent, asking_one, going_alike, taking_alike}
 use Rattle.linewise.specs.declared.talking.Became.{Became}
 use Rattle.linewise.specs.declared.talking.Became.TheVariants.{Done, NoMemory}
 use Rattle.linewise.specs.Talks.{HaveOneText}
@@ -37,10 +37,10 @@ use Rattle.dap_live.specs.declared.orders.Order.TheVariants as order
 use Rattle.dap_live.specs.Orders.{order_of, setup_anew}
 use Rattle.dap_live.specs.Sending.{AllAgain, SaysAck, has_message, is_left, waits_of}
 use Rattle.dap_live.specs.Texts.{ask_refusal, link_refusal, packets_text, reports_text, taken_said}
-use Rattle.dap_live.specs.Asking.{GoesOn, Resends, AsksIt, AsksNot, Asks, IsNew, OnEnd, Does, DoesAll, Ends, answered, waiting, came_by, goes_on}
+use Rattle.dap_live.specs.Asking.{GoesOn, Resends, AsksNot, Asks, IsNew, OnEnd, Does, DoesAll, Ends, answered, waiting, came_by, goes_on}
 use Rattle.dap_live.specs.Both.{DoesOrder, Renews, Stays, TakesPacket, gone_said}
 use Rattle.dap_live.specs.Inner.Saying.{front_text}
-use Rattle.dap_live.specs.OneText.{AreSameAsking}
+use Rattle.dap_live.specs.Inner.OneText.{AreSameAsking}
 use Rattle.dap_live.proofs.OneLine.{Fits, line_fits, all_again, ack_one, taken_wants, setup_apart, setup_one, one_answer, gone_wants}
 
 -- what became of a line
@@ -55,7 +55,7 @@ outcome_by (Err (take.Unfinished got f)) b = refl
 
 -- two ends that do the same from now on, with one text and one outcome
 abbrev One : (one two : Asking) → (said more : List ℕ) → (m n : Came) → Type 0
-One one two said more m n = AreAlike one.end two.end × (one.reports.items ≡ two.reports.items) × (said ≡ more) × (m ≡ n) × HasDone one.end
+One one two said more m n = (one.end ≡ two.end) × (one.reports.items ≡ two.reports.items) × (said ≡ more) × (m ≡ n) × HasDone one.end
 
 abbrev Two : (one two : Asking) → (said more : List ℕ) → (m n : Came) → Type 0
 Two one two said more m n = AreSameAsking one two × (said ≡ more) × (m ≡ n)
@@ -91,7 +91,7 @@ packet_one old other one two bytes said more m n fits same nm nn (rx, x) (ry, y)
 
 -- ---- Going on.
 
-going_same : (old other : AskingValue) (before : List Report) (front said more : List ℕ) (one two : Asking) (m n : Came) → HasDone old → AreAlike old other → outcome m ≢ NoMemory → outcome n ≢ NoMemory
+going_same : (old other : AskingValue) (before : List Report) (front said more : List ℕ) (one two : Asking) (m n : Came) → HasDone old → (old ≡ other) → outcome m ≢ NoMemory → outcome n ≢ NoMemory
     → GoesOn old before front one said m → GoesOn other before front two more n → One one two said more m n
 going_same old other before front said more one two m n d like nm nn x y =
     let wx = gone_wants x.gone (λ e. nm (ap outcome x.ended ∙ e)) in
@@ -110,11 +110,11 @@ abbrev GoesOnIf : Bool → AskingValue → List Report → List ℕ → Asking �
 GoesOnIf left old before front new text came =
     MatchBool left (GoesOn old before front new text came) ((new.end ≡ old) × (new.reports.items ≡ before) × (text ≡ front ++ reports_text before) × (came ≡ Told Done))
 
-going_if : (left : Bool) (old other : AskingValue) (before : List Report) (front said more : List ℕ) (one two : Asking) (m n : Came) → HasDone old → AreAlike old other → outcome m ≢ NoMemory → outcome n ≢ NoMemory
+going_if : (left : Bool) (old other : AskingValue) (before : List Report) (front said more : List ℕ) (one two : Asking) (m n : Came) → HasDone old → (old ≡ other) → outcome m ≢ NoMemory → outcome n ≢ NoMemory
     → GoesOnIf left old before front one said m → GoesOnIf left other before front two more n → One one two said more m n
 going_if true old other before front said more one two m n d like nm nn x y = going_same old other before front said more one two m n d like nm nn x y
 going_if false old other before front said more one two m n d like nm nn x y = (
-  subst (λ (v : AskingValue). AreAlike v two.end) (sym x.0) (subst (λ (v : AskingValue). AreAlike old v) (sym y.0) like),
+  subst (λ (v : AskingValue). (v ≡ two.end)) (sym x.0) (subst (λ (v : AskingValue). (old ≡ v)) (sym y.0) like),
   x.1 ∙ sym y.1,
   x.2 ∙ sym y.2,
   x.3 ∙ sym y.3,
@@ -122,16 +122,15 @@ going_if false old other before front said more one two m n d like nm nn x y = (
 )
 
 -- what the end would do
-goes_alike : (old other : AskingValue) → AreAlike old other → goes_on old ≡ goes_on other
+goes_alike : (old other : AskingValue) → (old ≡ other) → goes_on old ≡ goes_on other
 goes_alike old other like =
-    ap (λ (f : Bool). not f && (has_message old.port.link || is_left old.port.link old.port.outbox)) like.2
-    ∙ ap (λ (p : PortValue). not other.accessing.failed && (has_message p.link || is_left p.link p.outbox)) like.0
+    ap goes_on like
 
 again_one : (old other one two : Asking) (said more : List ℕ) (m n : Came) → AreSameAsking old other → outcome m ≢ NoMemory → outcome n ≢ NoMemory → Resends old one said m → Resends other two more n
     → Two one two said more m n
 again_one old other one two said more m n same nm nn x y =
     let sent = has_sent old.end same.3 in
-    let again : AllAgain old.end.port.link y.1.0 = subst (λ (p : PortValue). AllAgain p.link y.1.0) (sym same.0.0) y.1.1 in
+    let again : AllAgain old.end.port.link y.1.0 = subst (λ (p : PortValue). AllAgain p.link y.1.0) (ap (λ (v : AskingValue). v.port) (sym same.0)) y.1.1 in
     let packets = all_again old.end.port.link sent.0 x.1.0 y.1.0 sent.1 x.1.1 again in
     let there : GoesOnIf (goes_on old.end) other.end old.reports.items (packets_text x.1.0) two more n =
     subst (λ (b : Bool). GoesOnIf b other.end old.reports.items (packets_text x.1.0) two more n) (sym (goes_alike old.end other.end same.0))
@@ -207,24 +206,29 @@ not_one old other one two request said more m n ask.WrongPhase same rx ry nm nn 
 not_one old other one two request said more m n ask.TooLarge same rx ry nm nn x y = said_why old other one two said more m n ask.TooLarge same x y
 not_one old other one two request said more m n ask.NoMemory same rx ry nm nn x y = said_why old other one two said more m n ask.NoMemory same x y
 
+-- it was asked, and its messages are on their way
+abbrev AsksIt : Asking → Request → Asking → List ℕ → Came → Type 0
+AsksIt old request new text came =
+    (count : ℕ) × (mid : AskingValue) × AskedOne request old.end mid count × GoesOn mid old.reports.items (front_text (front.Asked count)) new text came
+
 -- it was asked of both
 it_one : (old other one two : Asking) (request : Request) (said more : List ℕ) (m n : Came) (past : AskingPast) → HasAsked past old.end → AreSameAsking old other → OnEnd old one → OnEnd other two → outcome m ≢ NoMemory → outcome n ≢ NoMemory
     → AsksIt old request one said m → AsksIt other request two more n → Two one two said more m n
 it_one old other one two request said more m n past h same rx ry nm nn x y =
-    let here = alike_same old.end other.end same.0 h.asking.works in
+    let here = same.0 in
     let asked : AskedOne request old.end y.1 y.0 = subst (λ (v : AskingValue). AskedOne request v y.1 y.0) (sym here) y.2 in
     let t = asking_one past request old.end x.1 y.1 x.0 y.0 h x.2 asked in
     let there : GoesOn y.1 old.reports.items (front_text (front.Asked x.0)) two more n =
     subst (λ (k : ℕ). GoesOn y.1 old.reports.items (front_text (front.Asked k)) two more n) (sym t.1)
     (subst (λ (l : List Report). GoesOn y.1 l (front_text (front.Asked y.0)) two more n) (sym same.2) y.3) in
     on_end old other one two said more m n same rx ry
-    (going_same x.1 y.1 old.reports.items (front_text (front.Asked x.0)) said more one two m n (inl (_, asked_past request old.end x.1 x.0 x.2 past h)) (alike_of x.1 y.1 t.0) nm nn x.3 there)
+    (going_same x.1 y.1 old.reports.items (front_text (front.Asked x.0)) said more one two m n (inl (_, asked_past request old.end x.1 x.0 x.2 past h)) t.0 nm nn x.3 there)
 
 -- it was asked of one, and refused by the other
-it_apart : (old other one two : Asking) (request : Request) (said more : List ℕ) (m n : Came) (past : AskingPast) (f : AskFault) → HasAsked past old.end → AreAlike old.end other.end → outcome n ≢ NoMemory → AsksIt old request one said m
+it_apart : (old other one two : Asking) (request : Request) (said more : List ℕ) (m n : Came) (past : AskingPast) (f : AskFault) → HasAsked past old.end → (old.end ≡ other.end) → outcome n ≢ NoMemory → AsksIt old request one said m
     → AskRefused request other.end.accessing f → AsksNot other two more n f → ⊥
 it_apart old other one two request said more m n past f h like nn x r y =
-    let here = alike_same old.end other.end like h.asking.works in
+    let here = like in
     let there : AskRefused request old.end.accessing f = subst (λ (v : AskingValue). AskRefused request v.accessing f) (sym here) r in
     ask_apart old.end.accessing.own past.requests past.answers request f (not_want other request two more n f nn y) (x.2.asks.admissible past.requests past.answers h.asking)
     (refused_by request old.end past f h there)
@@ -235,18 +239,18 @@ running_one old other one two request said more m n same (inl d) nm nn (rx, inl 
 running_one old other one two request said more m n same (inl d) nm nn (rx, inl x) (ry, inr y) =
     absurd (it_apart old other one two request said more m n d.0 y.0 d.1 same.0 nn x y.1 y.2)
 running_one old other one two request said more m n same (inl d) nm nn (rx, inr x) (ry, inl y) =
-    let here = alike_same old.end other.end same.0 d.1.asking.works in
-    absurd (it_apart other old two one request more said n m d.0 x.0 (subst (HasAsked d.0) here d.1) (alike_of other.end old.end (sym here)) nm y x.1 x.2)
+    let here = same.0 in
+    absurd (it_apart other old two one request more said n m d.0 x.0 (subst (HasAsked d.0) here d.1) (sym here) nm y x.1 x.2)
 running_one old other one two request said more m n same (inl d) nm nn (rx, inr x) (ry, inr y) =
-    let here = alike_same old.end other.end same.0 d.1.asking.works in
+    let here = same.0 in
     let there : AskRefused request old.end.accessing y.0 = subst (λ (v : AskingValue). AskRefused request v.accessing y.0) (sym here) y.1 in
     let why = ask_why old.end.accessing.own d.0.requests d.0.answers request x.0 y.0 (not_want old request one said m x.0 nm x.2) (not_want other request two more n y.0 nn y.2)
     (refused_by request old.end d.0 x.0 d.1 x.1) (refused_by request old.end d.0 y.0 d.1 there) in
     not_one old other one two request said more m n x.0 same rx ry nm nn x.2 (subst (λ (f : AskFault). AsksNot other two more n f) (sym why) y.2)
 running_one old other one two request said more m n same (inr d) nm nn (rx, inl x) (ry, y) = absurd (true≢false (sym d.0 ∙ x.2.asks.works))
-running_one old other one two request said more m n same (inr d) nm nn (rx, inr x) (ry, inl y) = absurd (true≢false (sym d.0 ∙ same.0.2 ∙ y.2.asks.works))
+running_one old other one two request said more m n same (inr d) nm nn (rx, inr x) (ry, inl y) = absurd (true≢false (sym d.0 ∙ ap (λ (v : AskingValue). v.accessing.failed) same.0 ∙ y.2.asks.works))
 running_one old other one two request said more m n same (inr d) nm nn (rx, inr x) (ry, inr y) =
-    let why : x.0 ≡ y.0 = only_failed request old.end x.0 d.0 x.1 ∙ sym (only_failed request other.end y.0 (sym same.0.2 ∙ d.0) y.1) in
+    let why : x.0 ≡ y.0 = only_failed request old.end x.0 d.0 x.1 ∙ sym (only_failed request other.end y.0 (ap (λ (v : AskingValue). v.accessing.failed) (sym same.0) ∙ d.0) y.1) in
     not_one old other one two request said more m n x.0 same rx ry nm nn x.2 (subst (λ (f : AskFault). AsksNot other two more n f) (sym why) y.2)
 
 ask_one : (failed : Bool) (old other one two : Asking) (request : Request) (said more : List ℕ) (m n : Came) → AreSameAsking old other → outcome m ≢ NoMemory → outcome n ≢ NoMemory
@@ -264,7 +268,7 @@ renewed_one : (old other one two : Asking) (anew : Anew) → AreSameAsking old o
 renewed_one old other one two anew same x y =
     let setup : setup_anew old.setup anew ≡ setup_anew other.setup anew = ap (λ (s : LinkSetup). setup_anew s anew) same.1 in
     let port : one.end.port ≡ two.end.port = x.2.0 ∙ ap new_port setup ∙ sym y.2.0 in
-    let own : one.end.accessing.own ≡ two.end.accessing.own = x.2.1 ∙ same.0.1 ∙ sym y.2.1 in
+    let own : one.end.accessing.own ≡ two.end.accessing.own = x.2.1 ∙ ap (λ (v : AskingValue). v.accessing.own) same.0 ∙ sym y.2.1 in
     let accessing : one.end.accessing ≡ two.end.accessing = one_present [] [] one.end.accessing two.end.accessing x.0.asking y.0.asking own in (
       (port, own, ap (λ (p : Present). p.failed) accessing, λ works. accessing),
       x.2.2 ∙ setup ∙ sym y.2.2,
@@ -290,7 +294,7 @@ renew_one old other one two anew said more m n same nm nn (inr x) (inr y) =
 -- ---- A line.
 
 same_failed : (old other : Asking) → AreSameAsking old other → old.end.port.link.failed ≡ other.end.port.link.failed
-same_failed old other same = ap (λ (p : PortValue). p.link.failed) same.0.0
+same_failed old other same = ap (λ (v : AskingValue). v.port.link.failed) same.0
 
 does_one : (old other one two : Asking) (o : Order) (said more : List ℕ) (m n : Came) → Fits (Some o) → AreSameAsking old other → outcome m ≢ NoMemory → outcome n ≢ NoMemory → Does old o one said m → Does other o two more n
     → Two one two said more m n
@@ -300,7 +304,7 @@ does_one old other one two order.Resend said more m n fits same nm nn x y =
     (subst (λ (f : Bool). MatchBool f (Stays (Untold Done) other two n × (more ≡ (link_refusal Failed).0)) (Resends other two more n)) (sym (same_failed old other same)) y)
 does_one old other one two order.Ack said more m n fits same nm nn x y = (
   stay old other one two same x.0.0 y.0.0,
-  ack_one old.end.port.link said more x.1 (subst (λ (p : PortValue). SaysAck p.link more) (sym same.0.0) y.1),
+  ack_one old.end.port.link said more x.1 (subst (λ (v : AskingValue). SaysAck v.port.link more) (sym same.0) y.1),
   x.0.1 ∙ sym y.0.1,
 )
 does_one old other one two (order.New anew) said more m n fits same nm nn x y = renew_one old other one two anew said more m n same nm nn x y
@@ -321,7 +325,7 @@ ends_one (Told was) old other new end b c same x y =
     let ex : new.end ≡ old.end = ap (λ (a : Asking). a.end) x.0 in
     let ey : end.end ≡ other.end = ap (λ (a : Asking). a.end) y.0 in (
       (
-        subst (λ (v : AskingValue). AreAlike v end.end) (sym ex) (subst (λ (v : AskingValue). AreAlike old.end v) (sym ey) same.0),
+        subst (λ (v : AskingValue). (v ≡ end.end)) (sym ex) (subst (λ (v : AskingValue). (old.end ≡ v)) (sym ey) same.0),
         ap (λ (a : Asking). a.setup) x.0 ∙ same.1 ∙ sym (ap (λ (a : Asking). a.setup) y.0),
         x.1 ∙ sym y.1,
         subst HasDone (sym ex) same.3,
@@ -350,7 +354,7 @@ asking_answers one other new end line said more b c same nb nc x y = order_one o
 
 asking_waits : (one other : Asking) → AreSameAsking one other → waiting one ≡ waiting other
 asking_waits one other same =
-    ap (λ (p : PortValue). waits_of p.link (goes_on one.end || nat_lt 0 (length one.reports.items))) same.0.0
+    ap (λ (v : AskingValue). waits_of v.port.link (goes_on one.end || nat_lt 0 (length one.reports.items))) same.0
     ∙ ap (λ (b : Bool). waits_of other.end.port.link (b || nat_lt 0 (length one.reports.items))) (goes_alike one.end other.end same.0)
     ∙ ap (λ (l : List Report). waits_of other.end.port.link (goes_on other.end || nat_lt 0 (length l))) same.2
 

@@ -1,6 +1,6 @@
 -- What both ends say to a line is one text.
 use Rattle.std.proofs.Common.{◌≡◌, ◌≢◌, ℕ, ◌+◌, ◌<◌, ◌≤◌, ◌%◌, ◌==◌, arith, refl, sym, ◌∙◌, subst, ap, true, false, true≢false, List, [], ◌∷◌, length, inl, inr}
-use Rattle.std.specs.Prelude.{MatchBool, Bool, Option, Some, None, Result, Ok, Err, bytes_eq, codes, option_map, if◌then◌else◌}
+use Rattle.std.specs.Prelude.{◌⊎◌, MatchBool, Bool, Option, Some, None, Result, Ok, Err, bytes_eq, codes, option_map, if◌then◌else◌}
 use Rattle.std.specs.Option.{option_and_then, option_or}
 use Rattle.std.specs.Result.{result_ok}
 use Rattle.hex.specs.Hex.{IsBytes as AreBytes}
@@ -26,14 +26,15 @@ use Rattle.dap_text.specs.Words.{Words, ends, field, hex_of, is_hex_text, long, 
 use Rattle.dap_text.specs.Filed.{file_of, record_of}
 use Rattle.dap_text.specs.Requests.{request_of}
 use Rattle.linewise.specs.declared.talking.Became.{Became}
-use Rattle.linewise.specs.declared.talking.Became.TheVariants.{Done, BadLine, NoMemory}
+use Rattle.linewise.specs.declared.talking.Became.TheVariants.{BadLine, NoMemory}
 use Rattle.linewise.proofs.ForCallers.{OneAnswer}
-use Rattle.linewise.specs.Talks.{Answering, AnswersLine, IsUnread, is_skipped, longest, said_of}
+use Rattle.linewise.specs.Talks.{Answering, AnswersLine, is_skipped, longest, said_of}
 use Rattle.dap_end.proofs.ForCallers.{segments_one}
 use Rattle.dap_live.specs.declared.orders.Anew.TheVariants.{Same, Between, Cut}
 use Rattle.dap_live.specs.declared.orders.Order.{Order}
 use Rattle.dap_live.specs.declared.orders.Order.TheVariants as order
-use Rattle.dap_live.specs.Orders.{address_of, anew_of, between_of, order_forms, order_of, packet_of}
+use Rattle.dap_live.specs.Orders.{address_of, order_of}
+use Rattle.dap_live.specs.Inner.Orders.{addresses, order_forms, packet_of}
 use Rattle.dap_live.specs.Sending.{AllAgain, SaysAck}
 use Rattle.dap_accessing.specs.declared.report.Report.{Report}
 use Rattle.dap_live.specs.Both.{gone_said}
@@ -113,21 +114,24 @@ all_fit : (forms : List (Words → Option Order)) → AllFit forms → (words : 
 unfolding AllFit
 all_fit forms h words = h words
 
-between_fits : (local remote : ℕ) (words : Words) → Fits (between_of local remote words)
-between_fits local remote = all_fit
-    (ends (order.New (Between local remote)) ∷ field long (λ segment. ends (order.New (Cut local remote segment))) ∷ [])
-    (also _ _ (λ words. ends_fit (order.New (Between local remote)) words tt)
-    (also _ _ (field_fits long (λ segment. ends (order.New (Cut local remote segment)))
-    (λ w segment read more. ends_fit (order.New (Cut local remote segment)) more tt))
-    none_fit))
+-- two addresses, and what follows
+addresses_fit : (next : ℕ → ℕ → Words → Option Order) → ((local remote : ℕ) (words : Words) → Fits (next local remote words))
+    → (words : Words) → Fits (addresses next words)
+addresses_fit next h = field_fits address_of (λ local. field address_of (next local))
+    (λ w local read. field_fits address_of (next local) (λ v remote read'. h local remote))
 
-anew_fits : (words : Words) → Fits (anew_of words)
-anew_fits = all_fit
-    (ends (order.New Same) ∷ field address_of (λ local. field address_of (λ remote. between_of local remote)) ∷ [])
-    (also _ _ (λ words. ends_fit (order.New Same) words tt)
-    (also _ _ (field_fits address_of (λ local. field address_of (λ remote. between_of local remote))
-    (λ w local read. field_fits address_of (λ remote. between_of local remote) (λ v remote read'. between_fits local remote)))
-    none_fit))
+abbrev between : ℕ → ℕ → Words → Option Order
+between local remote = ends (order.New (Between local remote))
+
+abbrev cut : ℕ → ℕ → Words → Option Order
+cut local remote = field long (λ segment. ends (order.New (Cut local remote segment)))
+
+between_fits : (local remote : ℕ) (words : Words) → Fits (between local remote words)
+between_fits local remote words = ends_fit (order.New (Between local remote)) words tt
+
+cut_fits : (local remote : ℕ) (words : Words) → Fits (cut local remote words)
+cut_fits local remote = field_fits long (λ segment. ends (order.New (Cut local remote segment)))
+    (λ w segment read more. ends_fit (order.New (Cut local remote segment)) more tt)
 
 map_fits : {X : Type 0} (of : X → Order) → ((x : X) → Fits (Some (of x))) → (o : Option X) → Fits (option_map of o)
 map_fits of h None = tt
@@ -138,12 +142,14 @@ forms_fit line =
     also _ _ (form_fits (codes ">") packet_of packet_fits)
     (also _ _ (form_fits (codes "resend") (ends order.Resend) (λ words. ends_fit order.Resend words tt))
     (also _ _ (form_fits (codes "ack") (ends order.Ack) (λ words. ends_fit order.Ack words tt))
-    (also _ _ (form_fits (codes "new") anew_of anew_fits)
+    (also _ _ (form_fits (codes "new") (ends (order.New Same)) (λ words. ends_fit (order.New Same) words tt))
+    (also _ _ (form_fits (codes "new") (addresses between) (addresses_fit between between_fits))
+    (also _ _ (form_fits (codes "new") (addresses cut) (addresses_fit cut cut_fits))
     (also _ _ (form_fits (codes "files") (ends order.Files) (λ words. ends_fit order.Files words tt))
     (also _ _ (form_fits (codes "file") (λ words. option_map order.File (file_of line)) (λ words. map_fits order.File (λ file. tt) (file_of line)))
     (also _ _ (form_fits [] (λ words. option_map order.Record (record_of line)) (λ words. map_fits order.Record (λ r. tt) (record_of line)))
     (also _ _ (form_fits (codes "ask") (λ words. option_map order.Ask (request_of words)) (λ words. map_fits order.Ask (λ request. tt) (request_of words)))
-    none_fit)))))))
+    none_fit)))))))))
 
 pub line_fits : (line : List ℕ) → Fits (order_of line)
 line_fits line = all_fit (order_forms line) (forms_fit line) (words_of line)
@@ -200,10 +206,9 @@ setup_one s f g nf ng (inr a) b = absurd (nf (ap (λ k. (link_refusal k).1) a.0)
 abbrev became_by : Became → Option Became
 became_by b = Some b
 
-unread_bad : (line : List ℕ) (b : Became) → b ≢ NoMemory → IsUnread line b → (b ≡ BadLine) × (longest < length line)
-unread_bad line Done want h = absurd h
-unread_bad line BadLine want h = (refl, h)
-unread_bad line NoMemory want h = absurd (want refl)
+unread_bad : (line : List ℕ) (b : Became) → b ≢ NoMemory → ((b ≡ BadLine) × (longest < length line)) ⊎ (b ≡ NoMemory) → (b ≡ BadLine) × (longest < length line)
+unread_bad line b want (inl h) = h
+unread_bad line b want (inr none) = absurd (want none)
 
 module _ {E : Type 0} (answered : Answering E) (waiting : E → ℕ) (AreSame : E → E → Type 0)
     (answers : (one other new end : E) (line said more : List ℕ) (b c : Became) → AreSame one other → b ≢ NoMemory → c ≢ NoMemory

@@ -41,7 +41,7 @@ use Rattle.dap_live.specs.Texts.{add_refusal, link_refusal, packets_text, taken_
 use Rattle.dap_live.specs.Serving.{Resends, IsNew, Added, AddsFile, AddsRecord, OnEnd, Does, answered, waiting}
 use Rattle.dap_live.specs.Both.{DoesOrder, Renews, SaysGone, Stays, TakesPacket, gone_said}
 use Rattle.dap_live.specs.Inner.Saying.{AddsShaped}
-use Rattle.dap_live.specs.OneText.{HasServed, AreSameServing}
+use Rattle.dap_live.specs.Inner.OneText.{HasServed, AreSameServing}
 use Rattle.dap_live.proofs.OneLine.{Fits, line_fits, all_again, ack_one, gone_wants, taken_wants, setup_apart, setup_one, one_answer}
 
 -- what a call leaves and says: one end, which did something through its calls, one text, and one outcome
@@ -142,16 +142,16 @@ renew_one old other one two anew said more b c same nb nc (inr x) (inr y) =
 
 -- ---- Files that it is given.
 
-added_one : (end one two : ServingValue) (said more : List ℕ) (b c : Became) → HasServed end → one.accessed.files ≡ two.accessed.files → Added end one said b → Added end two more c
-    → One one two said more b c
-added_one end one two said more b c (past, h, inl came) files x y = absurd (x.idle came)
-added_one end one two said more b c (past, h, inr none) files x y =
+added_one : (end one two : ServingValue) (said more : List ℕ) (b c : Became) → HasServed end → one.accessed.files ≡ two.accessed.files
+    → Added end one × (said ≡ []) × (b ≡ Done) → Added end two × (more ≡ []) × (c ≡ Done) → One one two said more b c
+added_one end one two said more b c (past, h, inl came) files (x, silent, ends) (y, quiet, over) = absurd (x.idle came)
+added_one end one two said more b c (past, h, inr none) files (x, silent, ends) (y, quiet, over) =
     let there : IsAfter (nothing_yet past.first) end = subst (λ (p : Past). IsAfter p end) none.0 h in
     let after = x.given past.first there in
     let other : IsAfter (nothing_yet one.accessed.files) two = subst (λ (f : Files). IsAfter (nothing_yet f) two) (sym files) (y.given past.first there) in (
       anew_one one.accessed.files one two (x.port ∙ sym y.port) (x.own ∙ sym y.own) after other,
-      x.silent ∙ sym y.silent,
-      x.ends ∙ sym y.ends,
+      silent ∙ sym quiet,
+      ends ∙ sym over,
       new_known one.accessed.files one after (ap (λ (p : PortValue). p.link.coming.inbox) x.port ∙ none.1),
     )
 
@@ -190,7 +190,7 @@ file_why end name f g k nf ng x y = absurd x.1
 
 shaped_one : (end one two : ServingValue) (name : List ℕ) (shape : Shape) (said more : List ℕ) (b c : Became) → HasServed end → b ≢ NoMemory → c ≢ NoMemory → AddsShaped end name shape one said b
     → AddsShaped end name shape two more c → One one two said more b c
-shaped_one end one two name shape said more b c k nb nc (inl x) (inl y) = added_one end one two said more b c k (x.1 ∙ sym y.1) x.2 y.2
+shaped_one end one two name shape said more b c k nb nc (inl x) (inl y) = added_one end one two said more b c k (x.1 ∙ sym y.1) (x.2, x.3, x.4) (y.2, y.3, y.4)
 shaped_one end one two name shape said more b c k nb nc (inl x) (inr y) = absurd (file_apart end name y.0 k (add_want y.0 (λ e. nc (y.4 ∙ e))) x.2.idle x.0 y.1)
 shaped_one end one two name shape said more b c k nb nc (inr x) (inl y) = absurd (file_apart end name x.0 k (add_want x.0 (λ e. nb (x.4 ∙ e))) y.2.idle y.0 x.1)
 shaped_one end one two name shape said more b c k nb nc (inr x) (inr y) =
@@ -249,7 +249,7 @@ record_why end n body f g k nf ng x y = absurd x.1
 
 record_one : (end one two : ServingValue) (r : RecordLine) (said more : List ℕ) (b c : Became) → HasServed end → b ≢ NoMemory → c ≢ NoMemory → AddsRecord end r one said b → AddsRecord end r two more c
     → One one two said more b c
-record_one end one two r said more b c k nb nc (inl x) (inl y) = added_one end one two said more b c k (x.1 ∙ sym y.1) x.2 y.2
+record_one end one two r said more b c k nb nc (inl x) (inl y) = added_one end one two said more b c k (x.1 ∙ sym y.1) (x.2, x.3, x.4) (y.2, y.3, y.4)
 record_one end one two r said more b c k nb nc (inl x) (inr y) = absurd (record_apart end r.number r.body y.0 k (add_want y.0 (λ e. nc (y.4 ∙ e))) x.2.idle x.0 y.1)
 record_one end one two r said more b c k nb nc (inr x) (inl y) = absurd (record_apart end r.number r.body x.0 k (add_want x.0 (λ e. nb (x.4 ∙ e))) y.2.idle y.0 x.1)
 record_one end one two r said more b c k nb nc (inr x) (inr y) =

@@ -8,7 +8,8 @@ use Rattle.dap_end.specs.Done.{ServingValue}
 use Rattle.dap_live.specs.declared.orders.Order.TheVariants as order
 use Rattle.dap_live.specs.declared.serving.Serving.{Serving}
 use Rattle.dap_end.specs.Taking.{serves}
-use Rattle.dap_live.specs.Both.{Reaches, Stays, TakesPacket}
+use Rattle.dap_live.specs.Both.{Stays, TakesPacket}
+use Rattle.dap_live.specs.Inner.Reaching.{Reaches}
 use Rattle.dap_live.specs.Serving as serving
 use Rattle.dap_live.specs.Sending.{UnlessFailed}
 

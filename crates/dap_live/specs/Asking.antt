@@ -56,19 +56,16 @@ Resends old new text came = OnEnd old new × ((packets : List (List ℕ)) × All
     ((new.end ≡ old.end) × (new.reports.items ≡ old.reports.items)
     × (text ≡ packets_text packets ++ reports_text old.reports.items) × (came ≡ Told Done)))
 
--- it was asked, and its messages are on their way
-abbrev pub AsksIt : Asking → Request → Asking → List ℕ → Came → Type 0
-AsksIt old request new text came =
-    (count : ℕ) × (mid : AskingValue) × AskedOne request old.end mid count
-    × GoesOn mid old.reports.items (concat (codes "asked " ∷ decimal count ∷ line_feed ∷ [])) new text came
-
--- It wasn't. Where a report is due still, what is on its way goes on.
+-- It isn't asked. Where a report is due still, what is on its way goes on.
 abbrev pub AsksNot : Asking → Asking → List ℕ → Came → AskFault → Type 0
 AsksNot old new text came Busy = GoesOn old.end old.reports.items (ask_refusal Busy).0 new text came
 AsksNot old new text came f = (new ≡ old) × (text ≡ (ask_refusal f).0) × (came ≡ Untold (ask_refusal f).1)
 
+-- it is asked, and its messages are on their way, or it isn't
 abbrev pub Asks : Asking → Request → Asking → List ℕ → Came → Type 0
-Asks old request new text came = OnEnd old new × (AsksIt old request new text came
+Asks old request new text came = OnEnd old new × (
+    ((count : ℕ) × (mid : AskingValue) × AskedOne request old.end mid count
+    × GoesOn mid old.reports.items (concat (codes "asked " ∷ decimal count ∷ line_feed ∷ [])) new text came)
     ⊎ ((f : AskFault) × AskRefused request old.end.accessing f × AsksNot old new text came f))
 
 -- ---- A new link.

@@ -4,5 +4,4 @@ pub mod Sending
 pub mod Both
 pub mod Serving
 pub mod Asking
-pub mod OneText
 pub mod Inner

@@ -1,9 +1,10 @@
 -- What the lines of a live end say.
-use Rattle.std.specs.Prelude.{ℕ, ◌+◌, ◌*◌, List, [], ◌∷◌, codes, Option, Some, None, option_map, Result, Ok}
+use Rattle.std.specs.Prelude.{ℕ, List, [], ◌∷◌, codes, Option, option_map}
+use Rattle.std.specs.Int.{from_be_bytes, w16}
+use Rattle.std.specs.Result.{result_ok}
 use Rattle.hex.specs.Hex.{decode_sized}
-use Rattle.hex.specs.declared.error.FromHexError.{FromHexError}
 use Rattle.nsp_link.specs.declared.link.LinkSetup.{LinkSetup}
-use Rattle.dap_text.specs.Words.{Words, ends, field, hex_of, long, one_of, word, words_of}
+use Rattle.dap_text.specs.Words.{ends, field, hex_of, long, one_of, word, words_of}
 use Rattle.dap_text.specs.Filed.{file_of, record_of}
 use Rattle.dap_text.specs.Requests.{request_of}
 use Rattle.dap_live.specs.declared.orders.Anew.{Anew}
@@ -12,48 +13,25 @@ use Rattle.dap_live.specs.declared.orders.Order.{Order}
 use Rattle.dap_live.specs.declared.orders.Order.TheVariants as order
 
 -- a link address: the number of four hex digits
-abbrev pub address_in : Result (List ℕ) FromHexError → Option ℕ
-address_in (Ok (high ∷ low ∷ [])) = Some (256 * high + low)
-address_in _ = None
-
 abbrev pub address_of : List ℕ → Option ℕ
-address_of word = address_in (decode_sized word 2)
+address_of word = option_map (from_be_bytes w16) (result_ok (decode_sized word 2))
 
--- HEX
-abbrev pub packet_of : Words → Option Order
-packet_of = field hex_of (λ bytes. ends (order.Packet bytes))
-
--- nothing, or SEGMENT
-abbrev pub between_of : ℕ → ℕ → Words → Option Order
-between_of local remote = one_of (
-    ends (order.New (Between local remote))
-    ∷ field long (λ segment. ends (order.New (Cut local remote segment)))
-    ∷ [])
-
--- nothing, or LOCAL REMOTE, or LOCAL REMOTE SEGMENT
-abbrev pub anew_of : Words → Option Order
-anew_of = one_of (
-    ends (order.New Same)
-    ∷ field address_of (λ local. field address_of (λ remote. between_of local remote))
-    ∷ [])
-
--- The forms of a line: its first word, and those after it. That of a record begins with two spaces, so its first word
--- is empty.
-abbrev pub order_forms : List ℕ → List (Words → Option Order)
-order_forms line =
-    word (codes ">") packet_of
+-- What a line says, by its first word, and those after it. A line of a record begins with two spaces, so its first word is
+-- empty.
+abbrev pub order_of : List ℕ → Option Order
+order_of line = one_of (
+    word (codes ">") (field hex_of (λ bytes. ends (order.Packet bytes)))
     ∷ word (codes "resend") (ends order.Resend)
     ∷ word (codes "ack") (ends order.Ack)
-    ∷ word (codes "new") anew_of
+    ∷ word (codes "new") (ends (order.New Same))
+    ∷ word (codes "new") (field address_of (λ local. field address_of (λ remote. ends (order.New (Between local remote)))))
+    ∷ word (codes "new")
+    (field address_of (λ local. field address_of (λ remote. field long (λ segment. ends (order.New (Cut local remote segment))))))
     ∷ word (codes "files") (ends order.Files)
     ∷ word (codes "file") (λ words. option_map order.File (file_of line))
     ∷ word [] (λ words. option_map order.Record (record_of line))
     ∷ word (codes "ask") (λ words. option_map order.Ask (request_of words))
-    ∷ []
-
--- what a line says
-abbrev pub order_of : List ℕ → Option Order
-order_of line = one_of (order_forms line) (words_of line)
+    ∷ []) (words_of line)
 
 -- how the link is set up then
 abbrev pub setup_anew : LinkSetup → Anew → LinkSetup

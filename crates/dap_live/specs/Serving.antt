@@ -41,18 +41,16 @@ IsNew setup buffer files s = IsAfter (nothing_yet files) s.end × IsSetUp setup 
 -- ---- Files that it is given.
 
 -- one was added, and no packet moved
-pub record Added (old new : ServingValue) (text : List ℕ) (became : Became) : Type 0 where
+pub record Added (old new : ServingValue) : Type 0 where
   pub idle : HasCome old.port → ⊥
   pub given : IsGiven old new
   pub own : new.accessed.own ≡ old.accessed.own
   pub port : new.port ≡ old.port
-  pub silent : text ≡ []
-  pub ends : became ≡ Done
 
 -- it was added, and these are the files then; or nothing was, and this is why
 abbrev pub Adds : (May : Type 0) → Files → (Why : AddFault → Type 0) → ServingValue → ServingValue → List ℕ → Became → Type 0
 Adds May files Why old new text became =
-    (May × (new.accessed.files ≡ files) × Added old new text became)
+    (May × (new.accessed.files ≡ files) × Added old new × (text ≡ []) × (became ≡ Done))
     ⊎ ((f : AddFault) × Why f × (new ≡ old) × (text ≡ (add_refusal f).0) × (became ≡ (add_refusal f).1))
 
 -- where the attributes are none of a file, they are told before all else

@@ -11,7 +11,6 @@ use Rattle.dap_accessed.specs.declared.fault.AddFault.{AddFault}
 use Rattle.dap_accessed.specs.declared.fault.AddFault.TheVariants as add
 use Rattle.dap_accessed.specs.Replies.{reason_of}
 use Rattle.dap_accessing.specs.declared.report.Report.{Report}
-use Rattle.dap_accessing.specs.declared.fault.ReadFault.{ReadFault}
 use Rattle.dap_accessing.specs.declared.fault.ReadFault.TheVariants as read
 use Rattle.dap_accessing.specs.declared.fault.AskFault.{AskFault}
 use Rattle.dap_end.specs.declared.fault.EndFault.{EndFault}
@@ -34,31 +33,18 @@ packet_text bytes = concat (codes "< " ∷ encode_lower bytes ∷ line_feed ∷ 
 abbrev pub packets_text : List (List ℕ) → List ℕ
 packets_text packets = flat_map packet_text packets
 
--- what became of a packet that came
-abbrev pub got_line : Got → List ℕ
-got_line got = got_text got ++ line_feed
-
-abbrev pub report_line : Report → List ℕ
-report_line report = concat (codes "report " ∷ report_text report ∷ line_feed ∷ [])
-
 abbrev pub reports_text : List Report → List ℕ
-reports_text reports = flat_map report_line reports
+reports_text reports = flat_map (λ report. concat (codes "report " ∷ report_text report ∷ line_feed ∷ [])) reports
 
 -- ---- Refusals.
-
-abbrev pub refused_line : List ℕ → List ℕ
-refused_line word = concat (codes "refused " ∷ word ∷ line_feed ∷ [])
 
 -- What an answer says of a fault, and what it became. Of want of memory, which is told at the end of an answer, it says
 -- nothing.
 abbrev pub LineAnswer : Type 0
 LineAnswer = List ℕ × Became
 
-abbrev pub wanting : LineAnswer
-wanting = ([], NoMemory)
-
 abbrev pub refused : List ℕ → LineAnswer
-refused word = (refused_line word, Done)
+refused word = (concat (codes "refused " ∷ word ∷ line_feed ∷ []), Done)
 
 -- why a link refuses; of bytes that are no packet in the words of a listing
 abbrev pub link_refusal : LinkFault → LineAnswer
@@ -70,19 +56,17 @@ link_refusal fault.MessageTooLong = refused (codes "message-too-long")
 link_refusal fault.Failed = refused (codes "failed")
 link_refusal fault.Exhausted = refused (codes "exhausted")
 link_refusal fault.NoSuchSegment = refused (codes "nothing-to-do")
-link_refusal fault.NoMemory = wanting
+link_refusal fault.NoMemory = ([], NoMemory)
 
-abbrev pub read_refusal : ReadFault → LineAnswer
-read_refusal read.Failed = refused (codes "ask-failed")
-read_refusal read.Unexpected = refused (codes "unexpected-answer")
-read_refusal read.NoMemory = wanting
-
+-- why an end doesn't do all that there is to do
 abbrev pub end_refusal : EndFault → LineAnswer
 end_refusal (end.Link f) = link_refusal f
-end_refusal (end.Read f) = read_refusal f
+end_refusal (end.Read read.Failed) = refused (codes "ask-failed")
+end_refusal (end.Read read.Unexpected) = refused (codes "unexpected-answer")
+end_refusal (end.Read read.NoMemory) = ([], NoMemory)
 
 abbrev pub ask_refusal : AskFault → LineAnswer
-ask_refusal f = option_map_or refused (ask_text f) wanting
+ask_refusal f = option_map_or refused (ask_text f) ([], NoMemory)
 
 -- a refusal by the code of a Status, and its reason
 abbrev pub status_line : ℕ → ℕ → List ℕ
@@ -93,12 +77,12 @@ add_refusal add.Busy = refused (codes "busy")
 add_refusal add.FileExists = (status_line codes_of.stscode.access_refused codes_of.reasons.file_exists, Done)
 add_refusal add.NoFile = (status_line codes_of.stscode.file_not_found 0, Done)
 add_refusal (add.Record why) = (status_line codes_of.stscode.record_refused (reason_of why), Done)
-add_refusal add.NoMemory = wanting
+add_refusal add.NoMemory = ([], NoMemory)
 
 -- ---- The answer to a packet.
 
 abbrev pub taken_said : Result Got TakeFault → List Report → List (List ℕ) → LineAnswer
-taken_said (Ok got) reports packets = (got_line got ++ (reports_text reports ++ packets_text packets), Done)
+taken_said (Ok got) reports packets = ((got_text got ++ line_feed) ++ (reports_text reports ++ packets_text packets), Done)
 taken_said (Err (take.Refused f)) reports packets = link_refusal f
 taken_said (Err (take.Unfinished got f)) reports packets =
-    (got_line got ++ (reports_text reports ++ (packets_text packets ++ (end_refusal f).0)), (end_refusal f).1)
+    ((got_text got ++ line_feed) ++ (reports_text reports ++ (packets_text packets ++ (end_refusal f).0)), (end_refusal f).1)

@@ -11,7 +11,8 @@ ghost use Rattle.dap_end.specs.Turns.{WentOn, Takes};
 ghost use Rattle.dap_text.specs.Adding.{Adds};
 ghost use Rattle.dap_live.specs.declared.asking.Came.{Came as TheCame};
 ghost use Rattle.dap_live.specs.Texts.{end_refusal, packets_text, reports_text};
-ghost use Rattle.dap_live.specs.Both.{DoesOrder, Reaches, gone_said};
+ghost use Rattle.dap_live.specs.Both.{DoesOrder, gone_said};
+ghost use Rattle.dap_live.specs.Inner.Reaching.{Reaches};
 ghost use Rattle.dap_live.specs.Asking.{Asks, Does, DoesAll, Ends, GoesOn, OnEnd, Resends, came_by, goes_on as goes_on_by};
 ghost use Rattle.dap_live.specs.Inner.Saying.{front_text};
 

@@ -1,7 +1,8 @@
 //! What the lines of a live end say.
 
-ghost use Rattle.std.specs.Prelude.{◌≡◌, ◌+◌, ◌*◌};
-ghost use Rattle.dap_live.specs.Orders.{address_of, anew_of, between_of, order_of, packet_of, setup_anew};
+ghost use Rattle.std.specs.Prelude.{◌≡◌};
+ghost use Rattle.dap_live.specs.Orders.{address_of, order_of, setup_anew};
+ghost use Rattle.dap_live.specs.Inner.Orders.{anew_of, between_of, packet_of};
 ghost use Rattle.dap_text.specs.Words.{ends};
 
 use dap_text::{
@@ -42,20 +43,13 @@ fn read_packet<'a>(mut words: Words<'a>) -> Option<Order<'a>>
     Some(Order::Packet(bytes))
 }
 
-/// The number of two bytes.
-fn number_of(high: u8, low: u8) -> u16
-    ensures { result ≡ 256 * high + low }
-{
-    256 * u16::from(high) + u16::from(low)
-}
-
 /// A link address, by four hex digits of either case; or None. It takes no memory. Own.
 pub fn read_address(word: &[u8]) -> Option<u16>
     ensures { result ≡ address_of word.now }
 {
     let mut bytes = [0; 2];
     match hex::decode_to_slice(word, &mut bytes) {
-        Ok(()) => Some(number_of(bytes[0], bytes[1])),
+        Ok(()) => Some(u16::from_be_bytes(bytes)),
         Err(_) => None,
     }
 }

@@ -14,7 +14,8 @@ ghost use Rattle.dap_text.specs.Tables.{files_text};
 ghost use Rattle.rec_file.specs.Shapes.{is_shape};
 ghost use Rattle.linewise.specs.declared.talking.Became.{Became as TheBecame};
 ghost use Rattle.dap_live.specs.Sending.{UnlessFailed, is_left as is_left_of};
-ghost use Rattle.dap_live.specs.Both.{DoesOrder, Reaches, SaysGone, Stays, TakesPacket};
+ghost use Rattle.dap_live.specs.Both.{DoesOrder, SaysGone, Stays, TakesPacket};
+ghost use Rattle.dap_live.specs.Inner.Reaching.{Reaches};
 ghost use Rattle.dap_live.specs.Inner.Saying.{AddsShaped};
 ghost use Rattle.dap_live.specs.Serving.{AddsFile, AddsRecord, Does, Resends};
 

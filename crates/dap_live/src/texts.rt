@@ -1,10 +1,15 @@
 //! How answers are printed.
 
-ghost use Rattle.std.specs.Prelude.{◌≡◌, ◌++◌, OnOk, IfOk};
+ghost use Rattle.std.specs.Prelude.{◌≡◌, ◌++◌, [], ◌∷◌, codes, OnOk, IfOk};
+ghost use Rattle.std.specs.List.{concat};
 ghost use Rattle.dap_msg.specs.Blocked.{bodies};
+ghost use Rattle.dap_end.specs.declared.fault.EndFault.TheVariants as end_fault;
 ghost use Rattle.nsp_link.specs.declared.fault.LinkFault.TheVariants as fault;
 ghost use Rattle.dap_text.specs.Adding.{Adds};
-ghost use Rattle.dap_live.specs.Texts.{add_refusal, ask_refusal, end_refusal, got_line, link_refusal, packet_text, packets_text, read_refusal, refused, refused_line, reports_text, report_line, status_line, taken_said};
+ghost use Rattle.dap_text.specs.Answers.{got_text};
+ghost use Rattle.dap_text.specs.Reports.{report_text};
+ghost use Rattle.dap_text.specs.Text.{line_feed};
+ghost use Rattle.dap_live.specs.Texts.{add_refusal, ask_refusal, end_refusal, link_refusal, packet_text, packets_text, refused, reports_text, status_line, taken_said};
 ghost use Rattle.dap_live.specs.Both.{gone_said};
 ghost use Rattle.dap_live.specs.Inner.Saying.{AddsSaid};
 
@@ -41,7 +46,8 @@ fn push_packets(text: &mut Vec<u8>, packets: &Vec<Vec<u8>>) -> Result<(), AllocE
 
 /// The line of a report.
 fn push_report_line(text: &mut Vec<u8>, report: &Report) -> Result<(), AllocError>
-    ensures { OnOk result (Adds text.old text.new (report_line report.now)) }
+    ensures { OnOk result (Adds text.old text.new
+        (concat (codes "report " ∷ report_text report.now ∷ line_feed ∷ []))) }
 {
     push_str(text, "report ")?;
     push_report(text, report)?;
@@ -60,7 +66,7 @@ pub(crate) fn push_reports(text: &mut Vec<u8>, reports: &Vec<Report>) -> Result<
 
 /// The line of what became of a packet.
 fn push_got(text: &mut Vec<u8>, got: Got) -> Result<(), AllocError>
-    ensures { OnOk result (Adds text.old text.new (got_line got)) }
+    ensures { OnOk result (Adds text.old text.new (got_text got ++ line_feed)) }
 {
     push_str(text, got_word(got))?;
     push_str(text, "\n")
@@ -68,7 +74,7 @@ fn push_got(text: &mut Vec<u8>, got: Got) -> Result<(), AllocError>
 
 /// The line of a refusal by its word.
 pub(crate) fn push_refused(text: &mut Vec<u8>, word: &str) -> Result<(), AllocError>
-    ensures { OnOk result (Adds text.old text.new (refused_line word.now)) }
+    ensures { OnOk result (Adds text.old text.new (refused word.now).0) }
 {
     push_str(text, "refused ")?;
     push_str(text, word)?;
@@ -111,7 +117,7 @@ pub(crate) fn push_link_refusal(text: &mut Vec<u8>, fault: LinkFault) -> Result<
 
 /// Says why an answer isn't read.
 fn push_read_refusal(text: &mut Vec<u8>, fault: ReadFault) -> Result<Became, AllocError>
-    ensures { IfOk result (AddsSaid text.old text.new (read_refusal fault)) }
+    ensures { IfOk result (AddsSaid text.old text.new (end_refusal (end_fault.Read fault))) }
 {
     match fault {
         ReadFault::NoMemory => Ok(Became::NoMemory),
@@ -196,7 +202,7 @@ fn push_answers(
     packets: &Vec<Vec<u8>>,
 ) -> Result<(), AllocError>
     ensures { OnOk result (Adds text.old text.new
-        (got_line got ++ (reports_text reports.now.items
+        ((got_text got ++ line_feed) ++ (reports_text reports.now.items
         ++ packets_text (bodies packets.now.items)))) }
 {
     push_got(text, got)?;

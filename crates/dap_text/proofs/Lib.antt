@@ -1,5 +1,6 @@
 pub mod ForCallers
 pub mod HexTextLemmas
+pub mod NumberLemmas
 pub mod PlaceLemmas
 pub mod ReadBack
 pub mod RequestLemmas

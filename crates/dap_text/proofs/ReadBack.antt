@@ -1,68 +1,39 @@
 -- What is printed of files and records is read back.
-use Rattle.std.proofs.Common.{◌≡◌, ◌==◌, ◌<◌, ◌≤◌, ◌+◌, ◌*◌, ◌-◌, ◌^◌, ◌/◌, ◌%◌, not, ℕ, Bool, true, false, List, [], ◌∷◌, ◌++◌, length, Some, slice_index, refl, sym, ap, ◌∙◌, arith, decimal, All}
+use Rattle.std.proofs.Common.{◌≡◌, ◌==◌, ◌<◌, ◌≤◌, ◌+◌, ◌-◌, ◌^◌, ◌/◌, ◌%◌, not, ℕ, Bool, true, false, List, [], ◌∷◌, ◌++◌, length, Some, slice_index, refl, sym, ap, ◌∙◌, arith, decimal, All}
 use Rattle.std.specs.Prelude.{bytes_eq, codes}
 use Rattle.std.specs.Char.{is_ascii_digit, is_ascii_hexdigit}
-use Rattle.std.specs.Int.{IsInRange}
-use Rattle.std.specs.List.{AllPass, fold, list_all}
-use Rattle.std.proofs.lemmas.Bool.{and_from, and_parts}
+use Rattle.std.specs.List.{AllPass, list_all}
 use Rattle.std.proofs.lemmas.Bool.Decides.{nat_tests}
 use Rattle.std.proofs.lemmas.Fmt.{decimal_nonempty, digits_decimal, digits_value-decimal, length-decimal-le}
 use Rattle.std.proofs.lemmas.List.{append_assoc, append_cancel_right}
 use Rattle.std.proofs.lemmas.List.Elements.{All-weaker}
 use Rattle.std.proofs.lemmas.List.Splits.{slice_split_at, slice_split_none}
 use Rattle.std.proofs.lemmas.List.Sums.{AllPass-from_list_all, list_all-from_AllPass}
-use Rattle.std.proofs.lemmas.Str.Parse.{FoldsDigits, IsDigitsTest, IsNumeralModel, numerals_by_fold}
+use Rattle.std.specs.Str.Parse.{digits_value}
+use Rattle.dap_text.proofs.NumberLemmas.{values}
 use Rattle.hex.specs.Hex.{encode_lower, encode_with, is_hex_digit, lower_digits}
 use Rattle.hex.proofs.HexLemmas.{decode_of-encode_lower, decode_of-ok, length-encode_with}
 use Rattle.dap_fields.specs.Spelling.{AreBytes}
-use Rattle.rec_file.specs.Shapes.{format_of_code, is_shape, org_of_code, shape_of}
+use Rattle.rec_file.specs.Shapes.{checked_shape, format_of_code, is_shape, org_of_code, shape_of}
 use Rattle.rec_file.specs.Limits.{greatest_number, longest_record}
 use Rattle.rec_file.specs.declared.shapes.Shape.{Shape}
 use Rattle.rec_file.specs.declared.shapes.Org.{Org}
 use Rattle.rec_file.specs.declared.shapes.Org.TheVariants.{Seq, Rel}
 use Rattle.rec_file.specs.declared.shapes.Format.{Format}
 use Rattle.rec_file.specs.declared.shapes.Format.TheVariants.{Fixed, Variable}
-use Rattle.dap_text.specs.Filed.{FilesAreReadBack, RecordsAreReadBack, file_of, org_of, rfm_of}
+use Rattle.dap_text.specs.Filed.{file_of, org_of, record_of, rfm_of}
 use Rattle.dap_text.specs.declared.filed.FileLine.{FileLine}
 use Rattle.dap_text.specs.Tables.{file_line, format_text, org_text, record_line}
 use Rattle.dap_text.specs.Text.{image_text, line_feed}
-use Rattle.dap_text.specs.Words.{decimal_of, decimal_value, is_hex_text, text_of, words_of}
+use Rattle.dap_text.specs.Words.{decimal_of, is_hex_text, text_of, words_of}
 
 -- ---- Numbers.
-
-in_range : (c : ℕ) → is_ascii_digit c ≡ true → IsInRange 48 57 c
-in_range c h = grind (arith, nat_tests)
-
-from_range : (c : ℕ) → IsInRange 48 57 c → is_ascii_digit c ≡ true
-from_range c h = grind (arith, nat_tests)
-
-abbrev AreDigits : List ℕ → Type 0
-AreDigits digits = list_all is_ascii_digit digits ≡ true
-
-tells : IsDigitsTest AreDigits
-tells = record {
-  empty = refl;
-  parts = λ c cs all. let both = and_parts (is_ascii_digit c) (list_all is_ascii_digit cs) all in (in_range c both.0, both.1);
-  more = λ c cs here others. and_from (is_ascii_digit c) (list_all is_ascii_digit cs) (from_range c here) others;
-}
-
-abbrev value_from : ℕ → List ℕ → ℕ
-value_from n digits = fold (λ number digit. 10 * number + (digit - 48)) n digits
-
-turned : (n c : ℕ) → 10 * n + (c - 48) ≡ n * 10 + (c - 48)
-turned n c = omega arith
-
-folds : FoldsDigits value_from
-folds = record { empty = λ n. refl; more = λ n c cs here. ap (λ m. value_from m cs) (turned n c) }
-
-model : IsNumeralModel AreDigits (value_from 0)
-model = numerals_by_fold AreDigits tells value_from folds
 
 number_back : (most n : ℕ) → n ≤ most → most ≤ 4294967295 → decimal_of most (decimal n) ≡ Some n
 number_back most n within small =
     let low : n < 2 ^ 64 = omega (arith, within, small) in
-    let digits = digits_decimal model n low in
-    let value : decimal_value (decimal n) ≡ n = digits_value-decimal model n low in
+    let digits = digits_decimal values n low in
+    let value : digits_value 10 (decimal n) ≡ n = digits_value-decimal values n low in
     let some = decimal_nonempty n low in
     let few = length-decimal-le 10 n (omega arith) (omega (arith, within, small)) low in
     rw (digits, value) (grind (arith, nat_tests, some, few, within))
@@ -125,7 +96,7 @@ hex_no_space c h = grind (arith, nat_tests)
 a_number : (n : ℕ) → n ≤ 4294967295 → IsWord (decimal n)
 a_number n small =
     All-weaker (λ c. is_ascii_digit c ≡ true) (λ c. (c == 32) ≡ false) digit_no_space (decimal n)
-    (AllPass-from_list_all is_ascii_digit (decimal n) (digits_decimal model n (omega (arith, small))))
+    (AllPass-from_list_all is_ascii_digit (decimal n) (digits_decimal values n (omega (arith, small))))
 
 an_image : (bytes : List ℕ) → AreBytes bytes → IsWord (image_text bytes)
 an_image [] are = a_name (codes "-") refl
@@ -144,7 +115,8 @@ record_said number body = 32 ∷ 32 ∷ (decimal number ++ 32 ∷ image_text bod
 record_printed : (number : ℕ) (body : List ℕ) → record_line (number, body) ≡ record_said number body ++ line_feed
 record_printed number body = ap (λ l. 32 ∷ 32 ∷ l) (before (decimal number) (image_text body))
 
-pub record_back : RecordsAreReadBack
+pub record_back : (number : ℕ) (body line : List ℕ) → number ≤ greatest_number → AreBytes body → record_line (number, body) ≡ line ++ line_feed
+    → record_of line ≡ Some (record { number = number; body = body })
 record_back number body line within are printed =
     let same : line ≡ record_said number body = append_cancel_right line (record_said number body) line_feed (sym printed ∙ record_printed number body) in
     let small : number ≤ 4294967295 = omega (arith, within) in
@@ -216,7 +188,8 @@ file_words name shape are good =
     let org = a_word (org_text shape.org) (format_said shape) (org_word shape.org) ∙ ap (λ ws. org_text shape.org ∷ ws) format in
     a_word (image_text name) (org_said shape) (an_image name are) ∙ ap (λ ws. image_text name ∷ ws) org
 
-pub file_back : FilesAreReadBack
+pub file_back : (name line : List ℕ) (shape : Shape) → AreBytes name → is_shape shape ≡ true → file_line name shape ≡ line ++ line_feed
+    → (file : FileLine) × (file_of line ≡ Some file) × (file.name ≡ name) × (checked_shape file.org file.rfm file.mrs file.mrn ≡ Some shape)
 file_back name line shape are good printed =
     let same : line ≡ file_said name shape = append_cancel_right line (file_said name shape) line_feed (sym printed ∙ file_printed name shape) in
     let small = fits shape good in

@@ -4,10 +4,13 @@ use Rattle.std.specs.Prelude.{unwrap_or, bytes_eq, codes, get_or, nat_le, ◌&&�
 use Rattle.std.specs.Char.{is_ascii_digit}
 use Rattle.std.specs.List.{fold, list_all}
 use Rattle.dap_text.specs.Words.{is_hex_text}
-use Rattle.std.proofs.lemmas.List.{take-append-drop}
+use Rattle.std.proofs.lemmas.List.{take-append-drop, take_all}
 use Rattle.std.proofs.lemmas.List.Sums.{fold_more}
 use Rattle.std.proofs.lemmas.Bool.Decides.{nat_tests}
-use Rattle.dap_text.specs.Words.{text_of, decimal_value, decimal_of}
+use Rattle.std.specs.Str.Parse.{digits_value}
+use Rattle.dap_text.specs.Words.{text_of, decimal_of}
+use Rattle.dap_text.specs.Inner.Words.{decimal_value}
+use Rattle.dap_text.proofs.NumberLemmas.{value_is}
 use Rattle.dap_text.proofs.HexTextLemmas.{hex_decodes}
 
 either : (b : Bool) (hex : List ℕ) (bytes : Option (List ℕ)) → bytes ≡ Some hex → (all : List ℕ) × (cond b (Some []) bytes ≡ Some all)
@@ -39,9 +42,16 @@ value_grows (digit ∷ front) back number = value_grows front back (10 * number 
 past : (a b c : Bool) (most value : ℕ) → most < value → cond (a && b && c && nat_le value most) (Some value) None ≡ None
 past a b c most value more = grind (arith, nat_tests)
 
-pub too_great : (word : List ℕ) (i most number d : ℕ) → i < length word → number ≡ decimal_value (take i word) → most < 10 * number + (get_or word i d - 48)
+pub too_great : (word : List ℕ) (i most number d : ℕ) → list_all is_ascii_digit word ≡ true → i < length word → number ≡ decimal_value (take i word) → most < 10 * number + (get_or word i d - 48)
     → decimal_of most word ≡ None
-too_great word i most number d inside so_far more =
+too_great word i most number d are inside so_far more =
     let one : decimal_value (take (i + 1) word) ≡ 10 * number + (get_or word i d - 48) = fold_more (λ n b. 10 * n + (b - 48)) 0 word i d inside ∙ ap (λ n. 10 * n + (get_or word i d - 48)) (sym so_far) in
     let all : decimal_value (take (i + 1) word) ≤ decimal_value word = subst (λ ds. decimal_value (take (i + 1) word) ≤ decimal_value ds) (take-append-drop (i + 1) word) (value_grows (take (i + 1) word) (drop (i + 1) word) 0) in
-    past (nat_le 1 (length word)) (nat_le (length word) 10) (list_all is_ascii_digit word) most (decimal_value word) (omega (arith, one, all, more))
+    past (nat_le 1 (length word)) (nat_le (length word) 10) (list_all is_ascii_digit word) most (digits_value 10 word) (omega (arith, one, all, more, value_is word are))
+
+-- a number whose digits were all read, and that isn't too great
+pub all_read : (word : List ℕ) (i most number : ℕ) → list_all is_ascii_digit word ≡ true → 0 < length word → length word ≤ 10 → length word ≤ i
+    → number ≡ decimal_value (take i word) → number ≤ most → Some number ≡ decimal_of most word
+all_read word i most number are some few all so_far within =
+    let value : digits_value 10 word ≡ number = sym (value_is word are) ∙ ap decimal_value (sym (take_all i word all)) ∙ sym so_far in
+    sym (rw (are, value) (grind (arith, nat_tests, some, few, within)))

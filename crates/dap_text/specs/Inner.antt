@@ -1,2 +1,4 @@
 -- What only the contracts of private functions cite, and proofs: nobody has to believe it.
+pub mod Requests
+pub mod Tables
 pub mod Words

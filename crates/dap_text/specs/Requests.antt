@@ -6,29 +6,6 @@ use Rattle.dap_accessing.specs.declared.request.By.TheVariants.{Next, Key, Rfa}
 use Rattle.dap_accessing.specs.declared.request.How.TheVariants.{Again, Skip, Abort}
 use Rattle.dap_text.specs.Words.{Words, decimal_of, ends, field, long, one_of, short, text_of, texts_of, word}
 
--- nothing, or `key N`, or `rfa N`
-abbrev pub get_of : Words → Option Request
-get_of = one_of (
-    ends (request.Get Next)
-    ∷ word (codes "key") (field long (λ number. ends (request.Get (Key number))))
-    ∷ word (codes "rfa") (field long (λ number. ends (request.Get (Rfa number))))
-    ∷ [])
-
--- BODY, or `key N BODY`
-abbrev pub put_of : Words → Option Request
-put_of = one_of (
-    field text_of (λ body. ends (request.Put None body))
-    ∷ word (codes "key") (field long (λ number. field text_of (λ body. ends (request.Put (Some number) body))))
-    ∷ [])
-
--- `again`, `skip` or `abort`
-abbrev pub continue_of : Words → Option Request
-continue_of = one_of (
-    word (codes "again") (ends (request.Continue Again))
-    ∷ word (codes "skip") (ends (request.Continue Skip))
-    ∷ word (codes "abort") (ends (request.Continue Abort))
-    ∷ [])
-
 -- the first word, and those after it
 abbrev pub request_of : Words → Option Request
 request_of = one_of (
@@ -38,14 +15,20 @@ request_of = one_of (
     field long (λ mrn. field (decimal_of 15) (λ fac. ends (request.Create name org rfm mrs mrn fac))))))))
     ∷ word (codes "open") (field text_of (λ name. field (decimal_of 15) (λ fac. ends (request.OpenFile name fac))))
     ∷ word (codes "connect") (ends request.Connect)
-    ∷ word (codes "get") get_of
-    ∷ word (codes "put") put_of
+    ∷ word (codes "get") (ends (request.Get Next))
+    ∷ word (codes "get") (word (codes "key") (field long (λ number. ends (request.Get (Key number)))))
+    ∷ word (codes "get") (word (codes "rfa") (field long (λ number. ends (request.Get (Rfa number)))))
+    ∷ word (codes "put") (field text_of (λ body. ends (request.Put None body)))
+    ∷ word (codes "put")
+    (word (codes "key") (field long (λ number. field text_of (λ body. ends (request.Put (Some number) body)))))
     ∷ word (codes "update") (field text_of (λ body. ends (request.Update body)))
     ∷ word (codes "delete") (ends request.Delete)
     ∷ word (codes "rewind") (ends request.Rewind)
     ∷ word (codes "fetch") (ends request.Fetch)
     ∷ word (codes "store") (λ bodies. option_map request.Store (texts_of bodies))
-    ∷ word (codes "continue") continue_of
+    ∷ word (codes "continue") (word (codes "again") (ends (request.Continue Again)))
+    ∷ word (codes "continue") (word (codes "skip") (ends (request.Continue Skip)))
+    ∷ word (codes "continue") (word (codes "abort") (ends (request.Continue Abort)))
     ∷ word (codes "close") (ends request.Close)
     ∷ word (codes "purge") (ends request.Purge)
     ∷ [])

@@ -1,8 +1,9 @@
 -- The words of a line, and what a word says.
-use Rattle.std.specs.Prelude.{ℕ, Bool, ◌+◌, ◌-◌, ◌*◌, ◌%◌, ◌==◌, ◌&&◌, nat_le, List, [], ◌∷◌, length, codes, bytes_eq, if◌then◌else◌, Option, Some, None}
+use Rattle.std.specs.Prelude.{ℕ, Bool, ◌%◌, ◌==◌, ◌&&◌, nat_le, List, [], ◌∷◌, length, codes, bytes_eq, if◌then◌else◌, Option, Some, None}
 use Rattle.std.specs.Option.{option_and_then, option_map, option_or, option_zip}
 use Rattle.std.specs.Result.{result_ok}
-use Rattle.std.specs.List.{slice_split, list_all, fold}
+use Rattle.std.specs.List.{slice_split, list_all}
+use Rattle.std.specs.Str.Parse.{digits_value}
 use Rattle.std.specs.Char.{is_ascii_digit, is_ascii_hexdigit}
 use Rattle.hex.specs.Hex.{decode_of}
 
@@ -10,15 +11,11 @@ use Rattle.hex.specs.Hex.{decode_of}
 abbrev pub words_of : List ℕ → List (List ℕ)
 words_of line = slice_split (λ byte. byte == 32) line
 
--- what the decimal digits stand for
-abbrev pub decimal_value : List ℕ → ℕ
-decimal_value digits = fold (λ number digit. 10 * number + (digit - 48)) 0 digits
-
 -- a number of 1 to 10 decimal digits, at most so much
 abbrev pub decimal_of : ℕ → List ℕ → Option ℕ
 decimal_of most word =
-    if nat_le 1 (length word) && nat_le (length word) 10 && list_all is_ascii_digit word && nat_le (decimal_value word) most
-    then Some (decimal_value word) else None
+    if nat_le 1 (length word) && nat_le (length word) 10 && list_all is_ascii_digit word && nat_le (digits_value 10 word) most
+    then Some (digits_value 10 word) else None
 
 -- an even number of hex digits, of either case, and at least two
 abbrev pub is_hex_text : List ℕ → Bool

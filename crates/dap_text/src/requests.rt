@@ -2,7 +2,8 @@
 
 ghost use Rattle.std.specs.Prelude.{◌≡◌};
 ghost use Rattle.dap_accessing.specs.declared.request.Request.TheVariants as request;
-ghost use Rattle.dap_text.specs.Requests.{continue_of, get_of, put_of, request_of};
+ghost use Rattle.dap_text.specs.Requests.{request_of};
+ghost use Rattle.dap_text.specs.Inner.Requests.{continue_of, get_of, put_of};
 ghost use Rattle.dap_text.specs.Words.{decimal_of, ends, field, long, short, text_of};
 
 use crate::words::{Text, Texts, Words, is, read_number, read_text, read_texts};

@@ -5,7 +5,8 @@ ghost use Rattle.std.specs.FinMap.{entries};
 ghost use Rattle.std.specs.List.{flat_map};
 ghost use Rattle.rec_file.specs.AnyFiles.{any_value};
 ghost use Rattle.dap_text.specs.Adding.{Adds};
-ghost use Rattle.dap_text.specs.Tables.{file_line, file_text, files_text, format_text, org_text, record_line};
+ghost use Rattle.dap_text.specs.Tables.{file_line, files_text, format_text, org_text, record_line};
+ghost use Rattle.dap_text.specs.Inner.Tables.{file_text};
 
 use crate::text::{push_image, push_number, push_str};
 use dap_accessed::FileTable;

@@ -53,7 +53,7 @@ module _ {E : Type 0} (answered : Answering E) (waiting : E → ℕ) where
   fails old now next None written left holds last bad f before end = _
   fails old now next (Some input) written left holds last bad WriteFailed before end =
       let broke : Breaks answered waiting now (first_line before.0) next holds last = rw before.2 at end in
-      (now, holds, (before.0, before.1, bad, before.4, before.3), broke.0, broke.1, broke.2, broke.3)
+      (now, holds, before.0, before.1, broke.1, bad, broke.0, before.4, before.3, broke.2, broke.3)
   fails old now next (Some input) written left holds last bad ReadFailed before end = (
     before.0,
     before.1,

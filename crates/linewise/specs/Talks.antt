@@ -28,35 +28,22 @@ refusal_of Done = []
 refusal_of BadLine = codes "refused bad-line\n"
 refusal_of NoMemory = codes "refused no-memory\n"
 
--- the last line: so many packets would be sent again, and one more where something is left to do
-abbrev pub waits_text : ℕ → List ℕ
-waits_text count = codes "waits " ++ (decimal count ++ codes "\n")
-
--- how an answer ends
-abbrev pub ending_of : Became → ℕ → List ℕ
-ending_of became count = refusal_of became ++ waits_text count
-
--- An answer is the end's text and its ending; a line that says nothing has none.
+-- An answer is the end's text, the line of a refusal, and a last line: so many packets would be sent again, and one more where
+-- something is left to do. A line that says nothing has none.
 abbrev pub said_of : List ℕ → Option Became → ℕ → List ℕ
 said_of text None count = []
-said_of text (Some became) count = text ++ ending_of became count
+said_of text (Some became) count = text ++ (refusal_of became ++ (codes "waits " ++ (decimal count ++ codes "\n")))
 
 -- what an end does by a line: what it is then, the text that it says, and what became of the line
 abbrev pub Answering : Type 0 → Type 1
 Answering E = E → List ℕ → E → List ℕ → Became → Type 0
 
--- a line that the end doesn't get: it is too long, or memory was refused to it
-abbrev pub IsUnread : List ℕ → Became → Type 0
-IsUnread line Done = ⊥
-IsUnread line BadLine = longest < length line
-IsUnread line NoMemory = Unit {0}
-
--- what comes of a line
+-- What comes of a line. The end doesn't get one that is too long, or to which memory was refused.
 abbrev pub AnswersLine : {E : Type 0} → Answering E → E → List ℕ → E → List ℕ → Option Became → Type 0
 AnswersLine answered old line new text None =
     (is_skipped line ≡ true) × (length line ≤ longest) × (new ≡ old) × (text ≡ [])
 AnswersLine answered old line new text (Some became) =
-    (IsUnread line became × (new ≡ old) × (text ≡ []))
+    ((((became ≡ BadLine) × (longest < length line)) ⊎ (became ≡ NoMemory)) × (new ≡ old) × (text ≡ []))
     ⊎ ((is_skipped line ≡ false) × (length line ≤ longest) × answered old line new text became)
 
 -- and what is said to it
@@ -93,15 +80,12 @@ HaveOneText answered waiting AreSame =
     → (t : Talked answered waiting one input new [] text bad) (u : Talked answered waiting other input end [] more worse)
     → NeverWants t → NeverWants u → (text ≡ more) × (bad ≡ worse)
 
--- The lines up to some rest were answered, and nothing else was written.
-abbrev pub StopsBefore : {E : Type 0} → Answering E → (E → ℕ) → E → List ℕ → E → (written holds : Option (List ℕ)) → Type 0
-StopsBefore answered waiting old input new written holds =
-    (rest said : List ℕ) × (bad : Bool) × Talked answered waiting old input new rest said bad × Appends written holds said
-
--- What was said where a talk ended before its input did: where the writer failed, it holds a front of one answer more.
+-- What was said where a talk ended before its input did: the lines up to some rest were answered, and nothing else was written;
+-- but where the writer failed, it holds a front of one answer more.
 abbrev pub Fails : {E : Type 0} → Answering E → (E → ℕ) → E → List ℕ → E → Option (List ℕ) → Option (List ℕ) → TalkFault → Type 0
+Fails answered waiting old input new written holds ReadFailed =
+    (rest said : List ℕ) × (bad : Bool) × Talked answered waiting old input new rest said bad × Appends written holds said
 Fails {E} answered waiting old input new written holds WriteFailed =
-    (now : E) × (held : Option (List ℕ)) × (before : StopsBefore answered waiting old input now written held)
-    × (became : Option Became) × (more : List ℕ)
-    × SaysTo answered waiting now (first_line before.0) new more became × WritesFront held holds more
-Fails answered waiting old input new written holds ReadFailed = StopsBefore answered waiting old input new written holds
+    (now : E) × (held : Option (List ℕ)) × (rest said more : List ℕ) × (bad : Bool) × (became : Option Became)
+    × Talked answered waiting old input now rest said bad × Appends written held said
+    × SaysTo answered waiting now (first_line rest) new more became × WritesFront held holds more

@@ -4,7 +4,8 @@ ghost use Rattle.std.specs.Prelude.{◌≡◌, ◌++◌, OnOk, IfErr, codes};
 ghost use Rattle.std.specs.Fmt.{decimal};
 ghost use Rattle.std.specs.Io.KnownBytes.{Appends, Keeps};
 ghost use Rattle.linewise.specs.Output.{WritesFront};
-ghost use Rattle.linewise.specs.Talks.{ending_of, refusal_of, waits_text};
+ghost use Rattle.linewise.specs.Talks.{refusal_of};
+ghost use Rattle.linewise.specs.Inner.Endings.{ending_of, waits_text};
 
 use crate::talking::{Became, TalkFault};
 use itoa::Buffer;

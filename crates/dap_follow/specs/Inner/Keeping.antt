@@ -3,7 +3,8 @@ use Rattle.std.specs.Prelude.{◌≡◌, ◌<◌, ◌≤◌, ◌+◌, ◌*◌, �
 use Rattle.std.specs.List.{AllByRecursion, IsDistinct, list_any}
 use Rattle.nsp_seg.specs.declared.packet.Packet.TheVariants.{Segment}
 use Rattle.dap_listing.specs.declared.lines.Direction.{Direction}
-use Rattle.dap_listing.specs.Captured.{Spell, carried_by}
+use Rattle.dap_listing.specs.Captured.{Spell}
+use Rattle.dap_listing.specs.Inner.Decoding.{carried_by}
 use Rattle.nsp_seg.specs.declared.packet.SegmentFields.{SegmentFields}
 use Rattle.dap_follow.specs.Streams.{ArePlaced, Came, Captured, Placed, at, came_in, is_same, put_at, segment_in, streams}
 use Rattle.dap_follow.specs.Inner.Placing.{IsPutIn, Rises, counted_value}

@@ -1,6 +1,6 @@
 -- What the program lists of a stream.
 use Rattle.std.specs.Prelude.{◌≡◌, ◌==◌, ◌+◌, ◌/◌, ⊤, ℕ, List, [], ◌∷◌, ◌++◌, length, map, if◌then◌else◌}
-use Rattle.std.specs.List.{AllByRecursion, filter, flat_map}
+use Rattle.std.specs.List.{AllByRecursion, filter, flat_map, zip}
 use Rattle.std.specs.Global.{Vec}
 use Rattle.dap_text.specs.Adding.{Adds}
 use Rattle.dap_listing.specs.Captured.{Spell}
@@ -59,3 +59,6 @@ pub record ListsPiece (stream : Stream) (packet : ℕ) (p : Piece) (olds news : 
 pub record ListsStream (stream : Stream) (ordered : List Placed) (olds news : List (Vec ℕ)) (old new : Vec ℕ) : Type 0 where
   pub under : UnderAll (messages ordered) 1 olds news
   pub rest : Adds old new (rest_lines stream (pieces ordered))
+
+abbrev pub all_rest_lines : List Stream → List (List Placed) → List ℕ
+all_rest_lines streams ordered = flat_map (λ (stream, placed). rest_lines stream (pieces placed)) (zip streams ordered)

@@ -4,9 +4,8 @@ use Rattle.std.specs.List.{flat_map}
 use Rattle.std.specs.Global.{Vec}
 use Rattle.dap_follow.specs.Streams.{Captured, Placed}
 use Rattle.dap_follow.specs.Joined.{messages}
-use Rattle.dap_follow.specs.Following.{all_rest_lines}
 use Rattle.dap_follow.specs.Inner.Keeping.{KeepsAll}
-use Rattle.dap_follow.specs.Inner.Listing.{UnderAll, values}
+use Rattle.dap_follow.specs.Inner.Listing.{UnderAll, all_rest_lines, values}
 use Rattle.dap_follow.specs.declared.places.Places.{Places}
 use Rattle.dap_follow.specs.declared.streams.Streams.{Streams}
 

@@ -1,16 +1,22 @@
 -- Hex digits whose bytes are decoded as far as they are needed.
 use Rattle.std.specs.Prelude.{min, ◌≡◌, ℕ, ◌+◌, ◌*◌, ◌≤◌, List, length, drop, Result, Ok, Err}
 use Rattle.nsp_seg.specs.declared.packet.Packet.{Packet}
+use Rattle.nsp_seg.specs.declared.packet.SegmentFields.{SegmentFields}
 use Rattle.nsp_seg.specs.declared.packet.Packet.TheVariants.{Segment, DataAck}
 use Rattle.nsp_seg.specs.declared.packet.SegFault.{SegFault}
 use Rattle.dap_msg.specs.declared.message.Message.{Message}
 use Rattle.dap_msg.specs.declared.message.Message.TheVariants.{Filedata}
 use Rattle.dap_msg.specs.declared.items.Item.{Item}
 use Rattle.dap_msg.specs.declared.items.Item.TheVariants.{Whole, Malformed}
+use Rattle.dap_listing.specs.Captured.{bytes_of}
 
 -- how many bytes are decoded, of so many, to tell what they are
 abbrev pub front_of : ℕ → ℕ
 front_of count = min 32 count
+
+-- a segment whose payload stood there as hex digits
+abbrev pub carried_by : SegmentFields → SegmentFields
+carried_by s = record s { payload = bytes_of s.payload }
 
 -- a payload's digits end the digits, and stand behind so many bytes at most
 abbrev pub IsBehind : List ℕ → ℕ → Result Packet SegFault → Type 0

@@ -3,8 +3,7 @@ use Rattle.std.specs.Prelude.{◌≡◌, ◌<◌, ◌+◌, ◌++◌, ◌⊎◌, 
 use Rattle.std.specs.Global.{Vec}
 use Rattle.linewise.specs.Talks.{longest}
 use Rattle.dap_listing.specs.Gives.{HasLineFault, IsTextOf}
-use Rattle.dap_listing.specs.Listing.{CaptureLines, IsListing, captures, limit_of, faults_from}
-use Rattle.dap_listing.specs.declared.fault.Outcome.TheVariants.{Good}
+use Rattle.dap_listing.specs.Listing.{CaptureLines, captures, limit_of, faults_from}
 use Rattle.dap_listing.specs.declared.fault.CaptureFault.{CaptureFault}
 use Rattle.dap_listing.specs.declared.fault.CaptureFault.TheVariants.{BadLine, TooLarge, ReadFailed, WriteFailed, NoMemory}
 use Rattle.dap_listing.specs.declared.listing.Progress.{Progress}
@@ -23,10 +22,14 @@ StandsAt listed count (Some input) (Some unread) bytes progress =
 StandsAt listed count (Some input) None bytes progress = ⊥
 StandsAt listed count None unread bytes progress = ⊤
 
+-- the text is the listing of the input
+abbrev pub IsListing : Listed → List ℕ → List ℕ → Type 0
+IsListing listed input text = CaptureLines listed 1 (captures (limit_of listed) input) text
+
 -- The input was read to its end. No line is at fault, and the text is the listing, unless memory was wanting for it.
 abbrev pub IsWhole : Listed → List ℕ → Progress → Type 0
 IsWhole listed input progress =
-    IsTextOf (faults_from (limit_of listed) 1 input) (λ text. progress.wants ≡ false → IsListing listed input Good text) input progress.text.items
+    IsTextOf (faults_from (limit_of listed) 1 input) (λ text. progress.wants ≡ false → IsListing listed input text) input progress.text.items
 
 -- a fault that is told of an input
 abbrev pub IsInputFault : Listed → List ℕ → CaptureFault → Type 0
@@ -39,5 +42,5 @@ IsInputFault listed input WriteFailed = ⊥
 
 -- what a listing of the input answers before it is written
 abbrev pub TextGives : Listed → List ℕ → Result (Vec ℕ) CaptureFault → Type 0
-TextGives listed input (Ok text) = IsTextOf (faults_from (limit_of listed) 1 input) (IsListing listed input Good) input text.items
+TextGives listed input (Ok text) = IsTextOf (faults_from (limit_of listed) 1 input) (IsListing listed input) input text.items
 TextGives listed input (Err fault) = IsInputFault listed input fault

@@ -10,7 +10,7 @@ use Rattle.dap_accessed.specs.Adding.{MayAdd, AddRefused, with_new_file}
 use Rattle.dap_end.specs.Serving.{NotGiven}
 use Rattle.dap_end.specs.Done.{ServingValue}
 use Rattle.linewise.specs.declared.talking.Became.{Became}
-use Rattle.dap_live.specs.Texts.{LineAnswer, refused_line}
+use Rattle.dap_live.specs.Texts.{LineAnswer, refused}
 use Rattle.dap_live.specs.Serving.{Adds}
 use Rattle.dap_live.specs.declared.asking.Front.{Front}
 use Rattle.dap_live.specs.declared.asking.Front.TheVariants.{Asked, Busy}
@@ -22,7 +22,7 @@ AddsSaid old new said became = adding.Adds old new said.0 × (became ≡ said.1)
 -- what is said before what going on comes to
 abbrev pub front_text : Front → List ℕ
 front_text (Asked count) = concat (codes "asked " ∷ decimal count ∷ line_feed ∷ [])
-front_text Busy = refused_line (codes "ask-busy")
+front_text Busy = (refused (codes "ask-busy")).0
 
 -- a file of a shape is added, or it is told why not
 abbrev pub AddsShaped : ServingValue → (name : List ℕ) → Shape → ServingValue → List ℕ → Became → Type 0

@@ -4,9 +4,8 @@ use Rattle.std.specs.List.{AllZip, flat_map}
 use Rattle.std.specs.Global.{Vec}
 use Rattle.dap_follow.specs.Streams.{IsOrdered, came_in, streams}
 use Rattle.dap_follow.specs.Joined.{messages}
-use Rattle.dap_follow.specs.Following.{all_rest_lines}
+use Rattle.dap_follow.specs.Inner.Listing.{UnderAll, all_rest_lines}
 use Rattle.dap_follow.specs.Inner.Keeping.{KeepsEach}
-use Rattle.dap_follow.specs.Inner.Listing.{UnderAll}
 use Rattle.dap_follow.specs.Inner.Whole.{ordered_of, texts_of}
 use Rattle.dap_follow.specs.declared.streams.Stream.{Stream}
 use Rattle.dap_follow.proofs.ReadingLemmas.{count_is}

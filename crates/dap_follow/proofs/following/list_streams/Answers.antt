@@ -3,15 +3,13 @@ use Rattle.std.specs.List.{AllByRecursion}
 use Rattle.dap_follow.specs.Joined.{pieces}
 use Rattle.dap_follow.specs.Following.{rest_lines}
 use Rattle.dap_follow.specs.Inner.Keeping.{IsGood}
-use Rattle.dap_follow.specs.Inner.Listing.{values}
+use Rattle.dap_follow.specs.Inner.Listing.{UnderAll, all_rest_lines, values}
 use Rattle.dap_follow.specs.Inner.Placing.{Rises}
 use Rattle.dap_follow.specs.declared.places.Places.{Places}
 use Rattle.dap_follow.specs.declared.places.Counted.{Counted}
 use Rattle.dap_follow.proofs.JoiningLemmas.{under_none}
 use Rattle.dap_follow.specs.Joined.{messages}
-use Rattle.dap_follow.specs.Following.{all_rest_lines}
 use Rattle.dap_follow.specs.Inner.Keeping.{KeepsEach, KeepsStream}
-use Rattle.dap_follow.specs.Inner.Listing.{UnderAll}
 use Rattle.dap_follow.specs.Inner.Whole.{ordered_of}
 use Rattle.dap_follow.specs.declared.streams.Stream.{Stream}
 use Rattle.dap_follow.proofs.WholeLemmas.{kept_one, key_there, left_all, left_more, under_more, under_whole}

@@ -1,8 +1,7 @@
 use Rattle.std.proofs.Common.{◌≡◌, ◌≤◌, ◌-◌, ◌++◌, length, take, drop}
 use Rattle.std.specs.List.{flat_map}
 use Rattle.dap_follow.specs.Joined.{messages}
-use Rattle.dap_follow.specs.Following.{all_rest_lines}
-use Rattle.dap_follow.specs.Inner.Listing.{UnderAll}
+use Rattle.dap_follow.specs.Inner.Listing.{UnderAll, all_rest_lines}
 use Rattle.dap_follow.specs.Inner.Whole.{ordered_of}
 use Rattle.dap_follow.proofs.following.list_streams.Given as goal
 

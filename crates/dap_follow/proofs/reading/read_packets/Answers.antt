@@ -20,7 +20,11 @@ loop-reading-init c = record {
 pub loop-reading-preserved : goal.loop-reading-preserved
 loop-reading-preserved c =
     let before = c.loop-reading.invariant.so_far in
-    let next = rw c.in-Some.is at c.in_ok-found.ensures.found in
+    let captured = rw c.in-Some.is at c.in_ok-found.ensures.captured in
+    let clean = rw c.in-Some.is at c.in_ok-found.ensures.clean in
+    let spelled = rw c.in-Some.is at c.in_ok-found.ensures.spelled in
+    let counted = rw c.in-Some.is at c.in_ok-found.ensures.counted in
+    let shorter = rw c.in-Some.is at c.in_ok-found.ensures.shorter in
     let way = c.in-Some.found.way in
     let digits = c.in-Some.found.digits.now in
     let more = c.in_ok-add.ensures.more in
@@ -29,16 +33,16 @@ loop-reading-preserved c =
     let longer = length-append packets ((way, more.0) ∷ []) in
     record {
       room = c.loop-reading.invariant.room;
-      lines = omega (arith, next.counted, c.loop-reading.invariant.lines);
+      lines = omega (arith, counted, c.loop-reading.invariant.lines);
       so_far = (
         packets ++ (way, more.0) ∷ [],
         done ++ (way, digits) ∷ [],
-        seen_more done packets way digits (bytes_of digits) more.0 before.2 (decoded digits (length digits / 2) next.spelled) more.1,
-        before.3 ∙ ap (λ (l : List Capture). done ++ l) next.captured ∙ sym (append_assoc done ((way, digits) ∷ []) (captures packet_limit c.in-Some.found.rest.now)),
+        seen_more done packets way digits (bytes_of digits) more.0 before.2 (decoded digits (length digits / 2) spelled) more.1,
+        before.3 ∙ ap (λ (l : List Capture). done ++ l) captured ∙ sym (append_assoc done ((way, digits) ∷ []) (captures packet_limit c.in-Some.found.rest.now)),
         more.2 packets before.4,
-        omega (arith, longer, next.shorter, before.5),
+        omega (arith, longer, shorter, before.5),
       );
-      clean = c.loop-reading.invariant.clean ∙ next.clean;
+      clean = c.loop-reading.invariant.clean ∙ clean;
     }
 
 pub returns-in_err-found-clause-fault : goal.returns-in_err-found-clause-fault

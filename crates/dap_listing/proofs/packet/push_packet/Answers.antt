@@ -7,7 +7,8 @@ use Rattle.nsp_seg.specs.declared.packet.SegFault.{SegFault}
 use Rattle.dap_listing.specs.Packets.{Seen, IsSeen, seen_line}
 use Rattle.dap_listing.specs.Inner.Messages.{SegmentMessages}
 use Rattle.dap_listing.proofs.MessageLemmas.{appended_twice}
-use Rattle.dap_listing.specs.Captured.{HasDigits, Spell, bytes_of, carried_by, seen_value}
+use Rattle.dap_listing.specs.Captured.{HasDigits, Spell, bytes_of, seen_value}
+use Rattle.dap_listing.specs.Inner.Decoding.{carried_by}
 use Rattle.dap_listing.specs.Inner.Decoding.{IsBehind, front_of}
 use Rattle.nsp_seg.specs.declared.packet.SegmentFields.{SegmentFields}
 use Rattle.dap_listing.proofs.DigitLemmas.{count_of}

@@ -1,6 +1,6 @@
 use Rattle.std.proofs.Common.{subst, sym}
 use Rattle.std.specs.Prelude.{OnErr}
-use Rattle.dap_live.specs.Both.{Reaches}
+use Rattle.dap_live.specs.Inner.Reaching.{Reaches}
 use Rattle.dap_live.specs.Asking.{Does}
 use Rattle.dap_live.proofs.asking.act.Goals as goal
 

@@ -1,6 +1,6 @@
 use Rattle.std.proofs.Common.{subst, sym}
 use Rattle.std.specs.Prelude.{OnErr}
-use Rattle.dap_live.specs.Both.{Reaches}
+use Rattle.dap_live.specs.Inner.Reaching.{Reaches}
 use Rattle.dap_live.specs.Serving.{Does}
 use Rattle.dap_live.proofs.ResultLemmas.{err_from}
 use Rattle.dap_live.proofs.ReachLemmas.{reaches_packet, reaches_resend}

@@ -1,5 +1,5 @@
 use Rattle.std.proofs.Common.{◌≡◌, ◌≤◌, take}
-use Rattle.dap_text.specs.Words.{decimal_value}
+use Rattle.dap_text.specs.Inner.Words.{decimal_value}
 use Rattle.dap_text.proofs.words.read_number.Given as goal
 
 abbrev pub invariant-loop-digit : goal.invariant-loop-digit

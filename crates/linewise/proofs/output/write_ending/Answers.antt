@@ -1,5 +1,5 @@
 use Rattle.linewise.proofs.OutputLemmas.{both, front_of_first, front_behind}
-use Rattle.linewise.specs.Talks.{refusal_of, waits_text}
+use Rattle.linewise.specs.Inner.Endings.{waits_text}
 use Rattle.linewise.proofs.output.write_ending.Goals as goal
 
 pub returns-clause-front : goal.returns-clause-front

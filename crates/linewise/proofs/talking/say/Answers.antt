@@ -1,8 +1,7 @@
 -- What is said to a line is its text and its ending.
 use Rattle.std.proofs.Common.{refl, []}
 use Rattle.std.proofs.KnownBytes.{Appends-nil}
-use Rattle.linewise.specs.Talks.{ending_of}
-use Rattle.std.specs.Prelude.{Some, ◌++◌}
+use Rattle.std.specs.Prelude.{Some}
 use Rattle.linewise.proofs.talking.say.Goals as goal
 
 pub returns-in-None-clause-said : goal.returns-in-None-clause-said

@@ -3,7 +3,7 @@ use Rattle.std.specs.Prelude.{◌≡◌, ◌⊎◌, []}
 use Rattle.dap_end.specs.Ports.{HasCome}
 use Rattle.dap_end.specs.Serving.{IsAfter}
 use Rattle.dap_end.specs.Done.{ServingValue, Past, nothing_yet}
-use Rattle.dap_end.specs.Asking.{AreAlike, HasDone}
+use Rattle.dap_end.specs.Asking.{HasDone}
 use Rattle.dap_live.specs.declared.serving.Serving.{Serving}
 use Rattle.dap_live.specs.declared.asking.Asking.{Asking}
 
@@ -17,4 +17,4 @@ AreSameServing one other = (one.end ≡ other.end) × (one.setup ≡ other.setup
 
 abbrev pub AreSameAsking : Asking → Asking → Type 0
 AreSameAsking one other =
-    AreAlike one.end other.end × (one.setup ≡ other.setup) × (one.reports.items ≡ other.reports.items) × HasDone one.end
+    (one.end ≡ other.end) × (one.setup ≡ other.setup) × (one.reports.items ≡ other.reports.items) × HasDone one.end
