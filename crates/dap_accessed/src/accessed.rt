@@ -3,7 +3,11 @@
 ghost use Rattle.std.specs.Prelude.{◌≡◌, ◌≤◌, ◌<◌, ℕ, List, [], length, IfOk, IsOk, OnErr, true};
 ghost use Rattle.dap_msg.specs.BothEnds.{greatest_message, least_buffer};
 ghost use Rattle.dap_msg.specs.declared.items.Item.{Item as TheItem};
-ghost use Rattle.dap_msg.specs.Items.{IsPlace, ItemAt, ItemFits};
+ghost use Rattle.dap_msg.specs.Items.{IsPlace, ItemAt};
+ghost use Rattle.dap_msg.specs.declared.items.Item.TheVariants.{Whole};
+ghost use Rattle.dap_msg.specs.declared.message.Message.{Message as TheMessage};
+ghost use Rattle.dap_msg.specs.Decoding.{IsSpelled};
+ghost use Rattle.dap_msg.specs.Inner.Items.{ItemFits};
 ghost use Rattle.dap_accessed.specs.Groups.{After};
 ghost use Rattle.dap_accessed.specs.Accesses.{fac_or, rights_of};
 ghost use Rattle.dap_accessed.specs.Replies.{refused_access};
@@ -298,7 +302,7 @@ impl Accessed {
     /// The same of what was read already: the message or fault that `item_at` answered, and the place
     /// behind it. Own.
     pub fn serve_item(&mut self, item: Item<'_>, next: usize) -> Result<Served, NoMemory>
-        requires { ItemFits item }
+        requires { (m : TheMessage) → item ≡ Whole m → IsSpelled m }
         ensures serves { (bytes : List ℕ) (at : ℕ) → ItemAt bytes at item.entry next
             → IfOk result (Serves bytes at self.old self.new) }
         ensures next { IfOk result (λ served. served.next ≡ next) }

@@ -213,7 +213,7 @@ left_alike a b one two read_fault.Failed read_fault.Failed nf ng like d x y =
 left_alike a b one two read_fault.Unexpected read_fault.Unexpected nf ng like d x y =
     let sent = has_sent a d in (
       ap (λ (p : PortValue). record one { port = p }) (x.port ∙ same_port a b like ∙ sym y.port)
-      ∙ ap (λ (k : Present). record two { accessing = k }) (x.refused.2 ∙ ap (λ (v : AskingValue). failed_after v.accessing) like ∙ sym y.refused.2),
+          ∙ ap (λ (k : Present). record two { accessing = k }) (x.refused.2 ∙ ap (λ (v : AskingValue). failed_after v.accessing) like ∙ sym y.refused.2),
       refl,
       inr (x.refused.1, (sent.0, subst (λ (p : PortValue). Sends p.link sent.0) (sym x.port) sent.1)),
     )

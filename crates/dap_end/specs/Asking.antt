@@ -16,7 +16,6 @@ use Rattle.dap_end.specs.Going.{given_then, NextItem}
 use Rattle.dap_end.specs.Turns.{EndOf}
 use Rattle.dap_end.specs.Writing.{Behind}
 use Rattle.dap_end.specs.Done.{AskingValue, AskingPast}
-
 -- An end, and what it did; and that it did anything, or failed by an answer that had no place. Nobody has to believe the texts: a
 -- new end has asked nothing, each call says what it has asked then, and a law says what such an end holds.
 pub use Rattle.dap_end.specs.Inner.After.{HasAsked, HasDone}

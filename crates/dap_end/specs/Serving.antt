@@ -6,7 +6,6 @@ use Rattle.dap_accessed.specs.declared.fault.AddFault.TheVariants as fault
 use Rattle.dap_end.specs.Ports.{gone_on, HandsOver, HasCome}
 use Rattle.dap_end.specs.Going.{given_then, NextItem}
 use Rattle.dap_end.specs.Done.{ServingValue, Past, nothing_yet}
-
 -- An end, and what it did. Nobody has to believe the text: a new end is as after nothing, each call says what it is after then,
 -- and a law says what an end that is after something holds.
 pub use Rattle.dap_end.specs.Inner.After.{IsAfter}

@@ -261,6 +261,9 @@ ask_one false old other one two request said more m n same nm nn x y = running_o
 
 -- ---- A new link.
 
+same_end : (one two : AskingValue) → one.port ≡ two.port → one.accessing ≡ two.accessing → one ≡ two
+same_end one two port accessing = ap (λ (p : PortValue). record one { port = p }) port ∙ ap (λ (x : Present). record two { accessing = x }) accessing
+
 abbrev NewBy : Asking → Anew → Asking → Type 0
 NewBy old anew new = IsNew (setup_anew old.setup anew) old.end.accessing.own new
 
@@ -270,7 +273,7 @@ renewed_one old other one two anew same x y =
     let port : one.end.port ≡ two.end.port = x.2.0 ∙ ap new_port setup ∙ sym y.2.0 in
     let own : one.end.accessing.own ≡ two.end.accessing.own = x.2.1 ∙ ap (λ (v : AskingValue). v.accessing.own) same.0 ∙ sym y.2.1 in
     let accessing : one.end.accessing ≡ two.end.accessing = one_present [] [] one.end.accessing two.end.accessing x.0.asking y.0.asking own in (
-      (port, own, ap (λ (p : Present). p.failed) accessing, λ works. accessing),
+      same_end one.end two.end port accessing,
       x.2.2 ∙ setup ∙ sym y.2.2,
       x.1 ∙ sym y.1,
       inl (nothing_asked, x.0),
@@ -366,4 +369,4 @@ pub new_asking : (one other : Asking) → HasAsked nothing_asked one.end → Has
     → one.end.accessing.own ≡ other.end.accessing.own → one.setup ≡ other.setup → one.reports.items ≡ other.reports.items → AreSameAsking one other
 new_asking one other x y port own setup reports =
     let accessing : one.end.accessing ≡ other.end.accessing = one_present [] [] one.end.accessing other.end.accessing x.asking y.asking own in
-    ((port, own, ap (λ (p : Present). p.failed) accessing, λ works. accessing), setup, reports, inl (nothing_asked, x))
+    (same_end one.end other.end port accessing, setup, reports, inl (nothing_asked, x))

@@ -22,6 +22,8 @@ pub use Rattle.dap_msg.proofs.BlockedLaws.{Blocked-more}
 pub use Rattle.dap_msg.proofs.BlockedLaws.{messages_in-Blocked}
 -- none of several messages is longer than the limit
 pub use Rattle.dap_msg.proofs.BlockedLaws.{within_limit}
+-- what was read is an item that fits
+pub use Rattle.dap_msg.proofs.Read.{item_fits}
 -- the values of a message that was read fit their fields
 pub use Rattle.dap_msg.proofs.Values.{fields_fit}
 -- those whose values fit have a spelling, and no others

@@ -5,6 +5,7 @@ pub mod Blocked
 pub mod Canon
 pub mod Fields
 pub mod Fitting
+pub mod Items
 pub mod Reading
 pub mod Refusals
 pub mod Sizes

@@ -4,7 +4,7 @@ use Rattle.std.specs.Prelude.{◌≡◌, ℕ, ◌+◌, ◌<◌, ◌⊎◌, List,
 -- offset is counted from the start of the NSP message.
 pub use Rattle.dap_msg.specs.declared.items.Item.{Item}
 pub use Rattle.dap_msg.specs.declared.items.Item.TheVariants.{Whole, Malformed}
-use Rattle.dap_msg.specs.Decoding.{IsSpelled, StandsInFront, IsFault}
+use Rattle.dap_msg.specs.Decoding.{StandsInFront, IsFault}
 
 -- a place at which an item begins; an NSP message without bytes has one too
 abbrev pub IsPlace : ℕ → List ℕ → Type 0
@@ -31,8 +31,3 @@ ItemsFrom bytes at (item ∷ second ∷ more) =
 -- The items of an NSP message. One without bytes has the one item that is Truncated, of type 0 at offset 0.
 abbrev pub Items : List ℕ → List Item → Type 0
 Items bytes items = ItemsFrom bytes 0 items
-
--- a message is one that some bytes are
-abbrev pub ItemFits : Item → Type 0
-ItemFits (Whole m) = IsSpelled m
-ItemFits (Malformed fault) = Unit {0}

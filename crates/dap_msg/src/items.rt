@@ -1,7 +1,9 @@
 //! What stands in an NSP message.
 
 ghost use Rattle.std.specs.Prelude.{◌≡◌, ◌<◌, ℕ, ◌≤◌, length};
-ghost use Rattle.dap_msg.specs.Items.{Item as TheItem, ItemAt, ItemFits};
+ghost use Rattle.dap_msg.specs.Items.{Item as TheItem, ItemAt, Whole};
+ghost use Rattle.dap_msg.specs.Message.{Message as Meaning};
+ghost use Rattle.dap_msg.specs.Decoding.{IsSpelled};
 
 use crate::decoding::decode;
 use crate::fault::MsgFault;
@@ -29,7 +31,7 @@ pub fn item_at(nsp_message: &[u8], at: usize) -> (Item<'_>, usize)
         → (item ≡ result.0) × (next ≡ result.1) }
     ensures within { result.1 ≤ length nsp_message.now }
     ensures further { at < length nsp_message.now → at < result.1 }
-    ensures fields { ItemFits result.0 }
+    ensures fields { (m : Meaning) → result.0 ≡ Whole m → IsSpelled m }
 {
     let (_before, rest) = nsp_message.split_at(at);
     match decode(rest) {

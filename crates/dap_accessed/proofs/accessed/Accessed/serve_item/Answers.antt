@@ -1,9 +1,13 @@
 use Rattle.std.proofs.Common.{ap, ◌∙◌, subst, arith}
 use Rattle.dap_msg.specs.Blocked.{Blocked, all_joined, AllFit}
+use Rattle.dap_msg.proofs.ForCallers.{item_fits}
 use Rattle.dap_accessed.proofs.StepIs.{stands-more, answers-are, same-own}
 use Rattle.dap_accessed.proofs.Silent.{silent-is}
 use Rattle.dap_accessed.specs.Present.{Present}
 use Rattle.dap_accessed.proofs.accessed.Accessed.serve_item.Goals as goal
+
+pub answer_item-requires : goal.answer_item-requires
+answer_item-requires c = item_fits c.args.item c.requires
 
 pub returns-clause-serves : goal.returns-clause-serves
 returns-clause-serves c bytes at there =

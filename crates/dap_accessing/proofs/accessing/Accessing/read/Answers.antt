@@ -1,5 +1,5 @@
 use Rattle.std.proofs.Common.{◌∙◌, ap, sym, subst}
-use Rattle.dap_msg.specs.Items.{ItemAt, ItemFits}
+use Rattle.dap_msg.specs.Items.{ItemAt}
 use Rattle.dap_accessing.specs.Present.{Present, failed_after}
 use Rattle.dap_msg.proofs.ForCallers.{fields_fit}
 use Rattle.dap_accessing.proofs.Numbers.{short_numbers}
@@ -23,5 +23,5 @@ returns-in-Ok-clause-reads c =
 
 pub take-requires : goal.take-requires
 take-requires c = record {
-  short = short_numbers c.in-Whole.message (fields_fit c.in-Whole.message (subst (λ i. ItemFits i) c.in-Whole.is c.item_at-item.ensures.fields));
+  short = short_numbers c.in-Whole.message (fields_fit c.in-Whole.message (c.item_at-item.ensures.fields c.in-Whole.message c.in-Whole.is));
 }
