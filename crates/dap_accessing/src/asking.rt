@@ -109,7 +109,7 @@ fn first_message<'a>(own: u16, request: &'a Request, number: &'a [u8]) -> Messag
 {
     match request {
         Request::Hello => Message::config_of(own),
-        Request::Create { org, rfm, mrs, .. } => { attributes(*org, *rfm, *mrs, number) }
+        Request::Create { org, rfm, mrs, .. } => attributes(*org, *rfm, *mrs, number),
         Request::OpenFile { .. } => Message::Attrib(Attributes::none()),
         Request::Connect => control(CTLFUNC_CONNECT, None, None),
         Request::Get(By::Next) => control(CTLFUNC_GET, Some(RAC_SEQUENTIAL), None),
