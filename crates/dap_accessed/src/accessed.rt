@@ -216,7 +216,8 @@ impl Accessed {
 
     /// Answers an Access, which opens a file, creates one or is refused.
     fn access(&mut self, func: u8, name: &[u8], fac: u32) -> Result<Vec<Vec<u8>>, NoMemory>
-        ensures ok { Makes (done (steps.Access func name.entry fac) self.old) self.old self.new result }
+        ensures ok { Makes (done (steps.Access func name.entry fac) self.old)
+            self.old self.new result }
         ensures err { OnErr result (self.new ≡ self.old) }
     {
         match func {

@@ -90,7 +90,8 @@ impl Port {
 
     /// The packet of the next segment that was never sent.
     pub(crate) fn emit(&mut self) -> Result<Option<Vec<u8>>, LinkFault>
-        ensures nothing { result ≡ Ok None → (self.new ≡ self.old) × (may_send self.old.link ≡ false) }
+        ensures nothing { result ≡ Ok None
+            → (self.new ≡ self.old) × (may_send self.old.link ≡ false) }
         ensures wrote { IfOk result
             (λ o. IfSome o (λ v. WroteMore self.old self.new (v.items ∷ []))) }
         ensures sent { (n : ℕ) × (self.new ≡ sent_more self.old n) }

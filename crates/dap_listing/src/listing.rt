@@ -91,7 +91,8 @@ pub(crate) fn read_line(
 /// Appends what the lines of the NSP message that the digits spell say after its number and direction.
 fn push_message(text: &mut Vec<u8>, digits: &[u8], bytes: &mut [u8]) -> Result<(), AllocError>
     requires { Spell digits.now (length bytes.old) }
-    ensures { OnOk result (AddsSome text.old text.new (IsCapturedText Listed.Messages (bytes_of digits.now))) }
+    ensures { OnOk result (AddsSome text.old text.new
+        (IsCapturedText Listed.Messages (bytes_of digits.now))) }
 {
     push_number(text, "message len=", bytes.len())?;
     push_str(text, "\n")?;

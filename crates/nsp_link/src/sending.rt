@@ -55,7 +55,8 @@ impl LinkEnd {
     /// list is queued without memory.
     pub fn send_all(&mut self, messages: &[Vec<u8>]) -> Result<(), LinkFault>
         ensures ok { OnOk result (self.new
-            ≡ queued_link self.old (cut self.old.setup.seg_size (map (λ v. v.items) messages.now))) }
+            ≡ queued_link self.old
+            (cut self.old.setup.seg_size (map (λ v. v.items) messages.now))) }
         ensures fits { OnOk result (IsTrue (may_queue self.old (map (λ v. v.items) messages.now))) }
         ensures stands { StandsStill self.old self.new }
         ensures sends { OnOk result
@@ -74,7 +75,8 @@ impl LinkEnd {
     pub fn send_checked(&mut self, messages: &[Vec<u8>]) -> Result<(), LinkFault>
         requires { IsTrue (may_queue self.old (map (λ v. v.items) messages.now)) }
         ensures ok { OnOk result (self.new
-            ≡ queued_link self.old (cut self.old.setup.seg_size (map (λ v. v.items) messages.now))) }
+            ≡ queued_link self.old
+            (cut self.old.setup.seg_size (map (λ v. v.items) messages.now))) }
         ensures stands { StandsStill self.old self.new }
         ensures sends { OnOk result
             (SendsMore self.old self.new (map (λ v. v.items) messages.now)) }
