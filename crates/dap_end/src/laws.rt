@@ -9,13 +9,16 @@ ghost use Rattle.nsp_link.specs.declared.fault.LinkFault.{LinkFault as TheFault}
 ghost use Rattle.nsp_link.specs.Link.{IsSetup, IsSpelling, Sends};
 ghost use Rattle.nsp_link.specs.declared.fault.LinkFault.TheVariants as fault;
 ghost use Rattle.nsp_link.specs.Sending.{SendAllFault, WritesSent, ack_packet_of};
-ghost use Rattle.dap_msg.specs.Blocked.{AllFit, all_joined, messages_in};
+ghost use Rattle.dap_msg.specs.Blocked.{AllFit, Blocked, all_joined, messages_in};
 ghost use Rattle.dap_msg.specs.declared.message.Message.{Message};
 ghost use Rattle.dap_msg.specs.declared.items.Item.TheVariants.{Whole};
 ghost use Rattle.dap_msg.specs.declared.items.Item.{Item};
 ghost use Rattle.dap_accessed.specs.Standing.{Files};
 ghost use Rattle.dap_accessed.specs.Groups.{After, Answers};
-ghost use Rattle.dap_accessing.specs.Asked.{Asked};
+ghost use Rattle.dap_accessed.specs.Present.{StandsAfter};
+ghost use Rattle.dap_accessing.specs.Present.{StandsAfter as WaitsAfter};
+ghost use Rattle.dap_accessing.specs.Asked.{Asked, messages_of};
+ghost use Rattle.dap_accessing.specs.Phase.{limit_after};
 ghost use Rattle.dap_accessing.specs.Told.{Told};
 ghost use Rattle.dap_accessing.specs.Request.{Request as TheRequest};
 ghost use Rattle.dap_accessing.specs.declared.report.Report.{Report as TheReport};
@@ -40,10 +43,13 @@ ghost use Rattle.dap_end.specs.Headline.{AreWrittenOf, Arrival, IsFromPeer, Writ
 ghost use Rattle.dap_end.specs.Joined.{IsBrought, Pair};
 ghost use Rattle.dap_end.specs.Calls.{AskingRuns, PairRuns, Runs};
 
-/// What an end that serves holds, where it is as after something: its files are those after the items that it served; what it
-/// handed to its link, and then what waits, are the answers to them, each of which has a spelling; and the items are a front of
-/// those in the NSP messages that came, all of each that it served whole. Own.
+/// What an end that serves holds, where it is as after something: it stands after the items that it served, so that its files
+/// are those after them; what it handed to its link, and then what waits, are the answers to them, each of which has a
+/// spelling; and the items are a front of those in the NSP messages that came, all of each that it served whole. What waited
+/// is handed to the link too, once it was handed over. Own.
 pub fn serving_ends_stand()
+    ensures stands { (past : Past) (v : ServingValue) → IsAfter past v
+        → StandsAfter past.first past.items v.accessed }
     ensures files { (past : Past) (v : ServingValue) → IsAfter past v
         → v.accessed.files ≡ After v.accessed.own past.first past.items }
     ensures answers { (past : Past) (v : ServingValue) → IsAfter past v
@@ -57,15 +63,23 @@ pub fn serving_ends_stand()
         → AreFrontOf (past.given ++ v.port.link.coming.inbox) past.items }
     ensures whole { (past : Past) (v : ServingValue) → IsAfter past v → (done begun : List Item)
         × (past.items ≡ done ++ begun) × AreItemsOf past.given done }
+    ensures bytes { (past : Past) (v : ServingValue) → IsAfter past v
+        → AllByRecursion AreBytes past.given }
+    ensures posted { (past : Past) (old new : ServingValue) (n : ℕ) → IsAfter past old
+        → PostedAll old new n
+        → IsAfter (record past { handed = past.handed ++ old.port.outbox }) new }
     // What is joined to NSP messages are all answers, in order.
     ensures joined { (own : ℕ) (first : Files) (items : List Item)
         → messages_in (answers_to own first [] items) ≡ Answers own first items }
 {}
 
-/// What an end that asks holds, where it has asked something: what it handed to its link, and then what waits, are the messages
-/// of the requests, joined to NSP messages none of which is empty, and each has a spelling; what it read is a front of the items
-/// in the NSP messages that came, all of each that it read whole. Own.
+/// What an end that asks holds, where it has asked something: it waits for what is due after that; what it handed to its link,
+/// and then what waits, are the messages of the requests, joined to NSP messages none of which is empty, and each has a
+/// spelling; what it read is a front of the items in the NSP messages that came, all of each that it read whole. One request
+/// more that was asked, and what waited once it was handed over, count too. Own.
 pub fn asking_ends_stand()
+    ensures stands { (past : AskingPast) (v : AskingValue) → HasAsked past v
+        → WaitsAfter past.requests past.answers v.accessing }
     ensures messages { (past : AskingPast) (v : AskingValue) → HasAsked past v
         → messages_in past.asked ≡ Asked v.accessing.own past.requests }
     ensures waiting { (past : AskingPast) (v : AskingValue) → HasAsked past v
@@ -80,6 +94,17 @@ pub fn asking_ends_stand()
         → AreFrontOf (past.given ++ v.port.link.coming.inbox) past.answers }
     ensures whole { (past : AskingPast) (v : AskingValue) → HasAsked past v
         → (done begun : List Item) × (past.answers ≡ done ++ begun) × AreItemsOf past.given done }
+    ensures bytes { (past : AskingPast) (v : AskingValue) → HasAsked past v
+        → AllByRecursion AreBytes past.given }
+    ensures asked { (past : AskingPast) (request : TheRequest) (old new : AskingValue) (n : ℕ)
+        → HasAsked past old → AskedOne request old new n → HasAsked (record past {
+          requests = past.requests ++ request ∷ [];
+          asked = past.asked ++ Blocked (limit_after (Told past.requests past.answers))
+              (messages_of old.accessing.own request);
+        }) new }
+    ensures posted { (past : AskingPast) (old new : AskingValue) (n : ℕ) → HasAsked past old
+        → HandedAll old new n
+        → HasAsked (record past { handed = past.handed ++ old.port.outbox }) new }
     ensures done { (past : AskingPast) (v : AskingValue) → HasAsked past v → HasDone v }
 {}
 

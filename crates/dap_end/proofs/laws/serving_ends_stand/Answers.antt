@@ -1,8 +1,15 @@
 use Rattle.std.proofs.Common.{ap, []}
 use Rattle.dap_accessed.specs.Inner.Present.{Present}
+use Rattle.dap_end.proofs.Afterwards.{posted_past}
 use Rattle.dap_end.proofs.Fronts.{here_front}
 use Rattle.dap_end.proofs.Running.{answers_from}
 use Rattle.dap_end.proofs.laws.serving_ends_stand.Goals as goal
+
+pub returns-clause-stands : goal.returns-clause-stands
+returns-clause-stands c = λ past v h. h.serving
+
+pub returns-clause-bytes : goal.returns-clause-bytes
+returns-clause-bytes c = λ past v h. h.gone.bytes
 
 pub returns-clause-files : goal.returns-clause-files
 returns-clause-files c = λ past v h. ap (λ (p : Present). p.files) h.serving
@@ -24,3 +31,6 @@ returns-clause-whole c = λ past v h. (h.gone.done, h.gone.begun, h.gone.all, h.
 
 pub returns-clause-joined : goal.returns-clause-joined
 returns-clause-joined c = λ own first items. answers_from own first [] items
+
+pub returns-clause-posted : goal.returns-clause-posted
+returns-clause-posted c = λ past old new n h p. posted_past old new n p past h
