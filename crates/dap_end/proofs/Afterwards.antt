@@ -6,10 +6,10 @@ use Rattle.nsp_link.specs.declared.fault.LinkFault.{LinkFault}
 use Rattle.nsp_link.specs.Link.{LinkValue, SendsStill}
 use Rattle.nsp_link.specs.Sending.{may_queue}
 use Rattle.nsp_link.proofs.ForCallers.{sends_all}
-use Rattle.dap_end.specs.Ports.{PortValue, with_link, posted}
-use Rattle.dap_end.specs.Inner.ServingView.{serving_of}
+use Rattle.dap_end.specs.Ports.{EndValue, HandsOver, PortValue}
+use Rattle.dap_end.specs.Inner.Moved.{with_link, posted}
 use Rattle.dap_end.specs.Inner.After.{GoneThrough}
-use Rattle.dap_end.specs.Serving.{IsAfter, PostedAll}
+use Rattle.dap_end.specs.Serving.{IsAfter}
 use Rattle.dap_end.specs.Done.{ServingValue, Past}
 use Rattle.dap_end.proofs.Taking.{Grown}
 use Rattle.dap_end.proofs.Going.{gone_stays}
@@ -36,13 +36,14 @@ after_posted past v h =
       fit = h.fit;
     }
 
-pub posted_all : (v : ServingValue) (port : PortValue) (r : Result ℕ LinkFault) → OnOk r (IsTrue (may_queue v.port.link v.port.outbox)) → IfOk r (λ n. (port ≡ posted v.port) × (n ≡ length v.port.outbox)) → IfOk r (λ n. PostedAll v (serving_of port v.accessed) n)
-posted_all v port (Ok n) may h = ((may, h.0, h.1), refl)
-posted_all v port (Err f) may h = h
+pub hands_over : {P : Type 0} (v : EndValue P) (port : PortValue) (r : Result ℕ LinkFault) → OnOk r (IsTrue (may_queue v.port.link v.port.outbox)) → IfOk r (λ n. (port ≡ posted v.port) × (n ≡ length v.port.outbox))
+    → IfOk r (λ n. HandsOver v (record v { port = port }) n)
+hands_over v port (Ok n) may h = (may, ap (λ (p : PortValue). record v { port = p }) h.0, h.1)
+hands_over v port (Err f) may h = h
 
 -- the end then
-pub posted_is : (old new : ServingValue) (n : ℕ) → PostedAll old new n → new ≡ record old { port = posted old.port }
-posted_is old new n h = h.1 ∙ ap (λ (p : PortValue). record old { port = p }) h.0.1
+pub posted_is : (old new : ServingValue) (n : ℕ) → HandsOver old new n → new ≡ record old { port = posted old.port }
+posted_is old new n h = h.1
 
-pub posted_past : (old new : ServingValue) (n : ℕ) → PostedAll old new n → (past : Past) → IsAfter past old → IsAfter (record past { handed = past.handed ++ old.port.outbox }) new
+pub posted_past : (old new : ServingValue) (n : ℕ) → HandsOver old new n → (past : Past) → IsAfter past old → IsAfter (record past { handed = past.handed ++ old.port.outbox }) new
 posted_past old new n h past a = subst (IsAfter (record past { handed = past.handed ++ old.port.outbox })) (sym (posted_is old new n h)) (after_posted past old a)

@@ -24,11 +24,15 @@ use Rattle.dap_end.specs.Inner.Pasts.{read_one}
 use Rattle.dap_end.specs.declared.fault.EndFault.{EndFault}
 use Rattle.dap_end.specs.declared.fault.EndFault.TheVariants as end_fault
 use Rattle.dap_end.specs.declared.fault.TakeFault.{TakeFault}
-use Rattle.dap_end.specs.Ports.{PortValue, gone_on, posted, with_link}
-use Rattle.dap_end.specs.Asking.{HasAsked, AskedOne, HandedAll, ReadOne, ReadNone, ReadOn, begins, goes, ReadPart, ReadsAll, HeardAll, HearFault, asks, HasDone}
+use Rattle.dap_end.specs.Ports.{HandsOver, PortValue, gone_on}
+use Rattle.dap_end.specs.Inner.Moved.{posted, with_link}
+use Rattle.dap_end.specs.Asking.{HasAsked, AskedOne, ReadOne, ReadNone, HasDone}
+use Rattle.dap_end.specs.Hearing.{ReadOn, ReadsAll, asks}
+use Rattle.dap_end.specs.Inner.Heard.{begins, goes}
 use Rattle.dap_end.specs.Done.{AskingValue, AskingPast}
-use Rattle.dap_end.specs.Writing.{Behind, sent_more}
-use Rattle.dap_end.specs.Turns.{WentOn, Takes}
+use Rattle.dap_end.specs.Writing.{Behind}
+use Rattle.dap_end.specs.Inner.Moved.{sent_more}
+use Rattle.dap_end.specs.Turns.{DidAll, WentOn, Takes}
 use Rattle.dap_end.specs.Inner.Pasts.{Still}
 use Rattle.dap_end.specs.Wanting.{is_want, why}
 use Rattle.dap_end.specs.Inner.Wanting.{went_wanting, took_wanting}
@@ -43,11 +47,11 @@ use Rattle.dap_end.proofs.Turning.{DoAlike, no_want, went_same, took_same}
 pub asking_one : (past : AskingPast) (request : Request) (old one two : AskingValue) (n m : ℕ) → HasAsked past old → AskedOne request old one n → AskedOne request old two m → (one ≡ two) × (n ≡ m)
 asking_one past request old one two n m h a b =
     let limit : a.asks.limit ≡ b.asks.limit = a.asks.is_limit past.requests past.answers h.asking ∙ sym (b.asks.is_limit past.requests past.answers h.asking) in
-    let messages : a.messages ≡ b.messages = a.asks.spelled ∙ ap (λ (n : ℕ). all_joined (Blocked n (messages_of old.accessing.own request))) limit ∙ sym b.asks.spelled in
-    let now = asked_one past old.accessing.own request in
-    let present : one.accessing ≡ two.accessing = one_present now.requests now.answers one.accessing two.accessing (asked_past request old one n a past h).asking (asked_past request old two m b past h).asking (a.own ∙ sym b.own) in
+    let messages : a.messages ≡ b.messages = a.asks.spelled ∙ ap (λ (n : ℕ). all_joined (Blocked n (messages_of old.present.own request))) limit ∙ sym b.asks.spelled in
+    let now = asked_one past old.present.own request in
+    let present : one.present ≡ two.present = one_present now.requests now.answers one.present two.present (asked_past request old one n a past h).asking (asked_past request old two m b past h).asking (a.own ∙ sym b.own) in
     let port : one.port ≡ two.port = a.port ∙ ap (λ (l : List (List ℕ)). record old.port { outbox = old.port.outbox ++ l }) messages ∙ sym b.port in (
-      ap (λ (p : PortValue). record one { port = p }) port ∙ ap (λ (x : Present). record two { accessing = x }) present,
+      ap (λ (p : PortValue). record one { port = p }) port ∙ ap (λ (x : Present). record two { present = x }) present,
       a.count ∙ ap length messages ∙ sym b.count,
     )
 
@@ -69,8 +73,8 @@ reading_one past old one two r s h a b =
     let later : b.one.later ≡ a.one.later = (let both = sym b.one.came ∙ a.one.came in cc) in
     let same = one_item a.one.bytes old.port.place a.one.item b.one.item a.one.next b.one.next a.one.fits a.one.reads (subst (λ (l : List ℕ). ItemAt l old.port.place b.one.item b.one.next) bytes b.one.reads) in
     let answers : past.answers ++ b.one.item ∷ [] ≡ past.answers ++ a.one.item ∷ [] = ap (λ (i : Item). past.answers ++ i ∷ []) same.0 in
-    let present : one.accessing ≡ two.accessing =
-    one_present past.requests (past.answers ++ a.one.item ∷ []) one.accessing two.accessing (a.past past h).asking (subst (λ (l : List Item). StandsAfter past.requests l two.accessing) answers (b.past past h).asking) (a.own ∙ sym b.own) in
+    let present : one.present ≡ two.present =
+    one_present past.requests (past.answers ++ a.one.item ∷ []) one.present two.present (a.past past h).asking (subst (λ (l : List Item). StandsAfter past.requests l two.present) answers (b.past past h).asking) (a.own ∙ sym b.own) in
     let port : one.port ≡ two.port =
     a.port ∙ ap (λ (k : ℕ). gone_on old.port a.one.bytes a.one.later k) (sym same.1)
     ∙ ap (λ (l : List ℕ). gone_on old.port l a.one.later b.one.next) (sym bytes)
@@ -78,7 +82,7 @@ reading_one past old one two r s h a b =
     ∙ sym b.port in
     let told : option_to_list r ≡ option_to_list s =
     back_of (Told past.requests past.answers) (option_to_list r) (option_to_list s) (sym (a.told past h) ∙ ap (Told past.requests) (sym answers) ∙ b.told past h) in (
-      ap (λ (p : PortValue). record one { port = p }) port ∙ ap (λ (x : Present). record two { accessing = x }) present,
+      ap (λ (p : PortValue). record one { port = p }) port ∙ ap (λ (x : Present). record two { present = x }) present,
       one_option r s told,
     )
 
@@ -116,7 +120,7 @@ reads_once past old one two rs ss h (goes m r more x on is) (goes n s rest y oth
     (next.0, is ∙ ap (λ (l : List Report). option_to_list r ++ l) next.1 ∙ ap (λ (o : Option Report). option_to_list o ++ rest) same.1 ∙ sym js)
 
 -- an end that failed reads nothing
-failed_reads : (old one : AskingValue) (rs : List Report) → old.accessing.failed ≡ true → ReadOn old one rs → (one ≡ old) × (rs ≡ [])
+failed_reads : (old one : AskingValue) (rs : List Report) → old.present.failed ≡ true → ReadOn old one rs → (one ≡ old) × (rs ≡ [])
 failed_reads old one rs e begins = (refl, refl)
 failed_reads old one rs e (goes m r more x on is) = absurd (true≢false (sym e ∙ x.works))
 
@@ -140,7 +144,7 @@ no_place past v new next report h n r =
     let same = one_item r.one.bytes v.port.place r.one.item there.0 r.one.next there.1 r.one.fits r.one.reads (subst (λ (l : List ℕ). ItemAt l v.port.place there.0 there.1) bytes there.2) in
     let unexpected : is_unexpected past.requests past.answers r.one.item ≡ true =
     subst (λ (i : Item). is_unexpected past.requests past.answers i ≡ true) same.0 (there.3 past.requests past.answers h.asking) in
-    not_wrong (due_after past.requests (past.answers ++ r.one.item ∷ [])) next.accessing.pending unexpected (r.past past h).asking.pending
+    not_wrong (due_after past.requests (past.answers ++ r.one.item ∷ [])) next.present.pending unexpected (r.past past h).asking.pending
 
 stops_unread : (v new : AskingValue) (f : ReadFault) → f ≢ read_fault.NoMemory → ReadNone v new f → ((past : AskingPast) × HasAsked past v) → Stops v
 stops_unread v new read_fault.Failed want n p = λ next report r. true≢false (sym n.refused.0 ∙ r.works)
@@ -157,7 +161,7 @@ read_alike old other one two before xs ys (inl d) like ra rb sa sb =
     (s.0, ra.1 ∙ ap (λ (l : List Report). before ++ l) s.1 ∙ sym rc.1, inl pa)
 read_alike old other one two before xs ys (inr d) like ra rb sa sb =
     let fa = failed_reads old one ra.0 d.0 ra.2 in
-    let fb = failed_reads other two rb.0 (sym (ap (λ (v : AskingValue). v.accessing.failed) like) ∙ d.0) rb.2 in (
+    let fb = failed_reads other two rb.0 (sym (ap (λ (v : AskingValue). v.present.failed) like) ∙ d.0) rb.2 in (
       subst (λ (v : AskingValue). AreAlike v two) (sym fa.0) (subst (λ (v : AskingValue). AreAlike old v) (sym fb.0) like),
       ra.1 ∙ ap (λ (l : List Report). before ++ l) (fa.1 ∙ sym fb.1) ∙ sym rb.1,
       subst HasDone (sym fa.0) (inr d),
@@ -172,22 +176,29 @@ no_read_want f e k = true≢false (sym (ap (λ (x : ReadFault). is_want (end_fau
 abbrev Unread : (old new : AskingValue) → (before all : List Report) → ReadFault → Type 0
 Unread old new before all f = (mid : AskingValue) × Behind before all (ReadOn old mid) × ReadNone mid new f
 
-unread : (old new : AskingValue) (before all : List Report) (f : ReadFault) → f ≢ read_fault.NoMemory → ReadPart old new before all f → Unread old new before all f
-unread old new before all f want (inl h) = absurd (want h.0)
-unread old new before all f want (inr h) = h
+unread : (old new : AskingValue) (before all : List Report) (f : ReadFault) → f ≢ read_fault.NoMemory → ReadsAll old new before all (Err f) → Unread old new before all f
+unread old new before all f want (mid, on, inl n) = (mid, on, n)
+unread old new before all f want (mid, on, inr h) = absurd (want h.0)
 
-handed_done : (v new : AskingValue) (n : ℕ) → HandedAll v new n → HasDone v → HasDone new
+-- where all was read, and what waits is refused
+abbrev Left : (old new : AskingValue) → (before all : List Report) → LinkFault → Type 0
+Left old new before all f = Behind before all (ReadOn old new) × (new.port.link.coming.inbox ≡ []) × SendAllFault new.port.link new.port.outbox f
+
+left_of : (old new : AskingValue) (before all : List Report) (f : LinkFault) → DidAll (asks before all) old new (Err (end_fault.Link f)) → Left old new before all f
+left_of old new before all f (mid, on, (is, none, h)) = subst (λ (v : AskingValue). Left old v before all f) (sym is) (on, none, h)
+
+handed_done : (v new : AskingValue) (n : ℕ) → HandsOver v new n → HasDone v → HasDone new
 handed_done v new n h (inl d) = inl (_, handed_past v new n h d.0 d.1)
 handed_done v new n h (inr d) =
     subst HasDone (sym (handed_is v new n h)) (inr (d.0, (d.1.0 ++ v.port.outbox, sends_all v.port.link d.1.0 v.port.outbox d.1.1)))
 
-heard_alike : (old other one two : AskingValue) (before xs ys : List Report) → HasDone old → AreAlike old other → HeardAll old one before xs → HeardAll other two before ys → AreAlike one two × (xs ≡ ys) × HasDone one
+heard_alike : (old other one two : AskingValue) (before xs ys : List Report) → HasDone old → AreAlike old other → DidAll (asks before xs) old one (Ok tt) → DidAll (asks before ys) other two (Ok tt) → AreAlike one two × (xs ≡ ys) × HasDone one
 heard_alike old other one two before xs ys d like a b =
-    let t = read_alike old other a.0 b.0 before xs ys d like a.2.0 b.2.0 (λ p. stops_empty a.0 a.2.1) (λ p. stops_empty b.0 b.2.1) in
+    let t = read_alike old other a.0 b.0 before xs ys d like a.2 b.2 (λ p. stops_empty a.0 a.3) (λ p. stops_empty b.0 b.3) in
     let there = alike_port a.0 b.0 (posted a.0.port) (posted b.0.port) t.0 (ap posted (same_port a.0 b.0 t.0)) in (
-      subst (λ (v : AskingValue). AreAlike v two) (sym (handed_is a.0 one a.1 a.3)) (subst (λ (v : AskingValue). AreAlike (record a.0 { port = posted a.0.port }) v) (sym (handed_is b.0 two b.1 b.3)) there),
+      subst (λ (v : AskingValue). AreAlike v two) (sym (handed_is a.0 one a.1 a.4)) (subst (λ (v : AskingValue). AreAlike (record a.0 { port = posted a.0.port }) v) (sym (handed_is b.0 two b.1 b.4)) there),
       t.1,
-      handed_done a.0 one a.1 a.3 t.2,
+      handed_done a.0 one a.1 a.4 t.2,
     )
 
 -- all that came was read, or reading stopped
@@ -197,33 +208,34 @@ empty_apart old other one mid two before xs ys f d like want ra none rb n =
     let t = read_alike old other one mid before xs ys d like ra rb (λ p. stops_empty one none) (λ p. stops_unread mid two f want n p) in
     no_next n.bytes n.later (sym none ∙ ap (λ (v : AskingValue). v.port.link.coming.inbox) t.0 ∙ n.came)
 
-heard_apart : (old other one two : AskingValue) (before xs ys : List Report) (f : EndFault) → HasDone old → AreAlike old other → is_want f ≡ false → HeardAll old one before xs → HearFault other two before ys f → ⊥
+heard_apart : (old other one two : AskingValue) (before xs ys : List Report) (f : EndFault) → HasDone old → AreAlike old other → is_want f ≡ false → DidAll (asks before xs) old one (Ok tt) → DidAll (asks before ys) other two (Err f) → ⊥
 heard_apart old other one two before xs ys (end_fault.Link f) d like want a b =
-    let t = read_alike old other a.0 two before xs ys d like a.2.0 b.0.0 (λ p. stops_empty a.0 a.2.1) (λ p. stops_empty two b.0.1) in
-    may_or_not two.port.link two.port.outbox f (no_want f want) (subst (λ (v : AskingValue). IsTrue (may_queue v.port.link v.port.outbox)) t.0 a.3.0.0) b.1
+    let l = left_of other two before ys f b in
+    let t = read_alike old other a.0 two before xs ys d like a.2 l.0 (λ p. stops_empty a.0 a.3) (λ p. stops_empty two l.1) in
+    may_or_not two.port.link two.port.outbox f (no_want f want) (subst (λ (v : AskingValue). IsTrue (may_queue v.port.link v.port.outbox)) t.0 a.4.0) l.2
 heard_apart old other one two before xs ys (end_fault.Read f) d like want a b =
     let u = unread other two before ys f (no_read_want f want) b in
-    empty_apart old other a.0 u.0 two before xs ys f d like (no_read_want f want) a.2.0 a.2.1 u.1 u.2
+    empty_apart old other a.0 u.0 two before xs ys f d like (no_read_want f want) a.2 a.3 u.1 u.2
 
 left_alike : (a b one two : AskingValue) (f g : ReadFault) → f ≢ read_fault.NoMemory → g ≢ read_fault.NoMemory → AreAlike a b → HasDone a → ReadNone a one f → ReadNone b two g → AreAlike one two × (f ≡ g) × HasDone one
 left_alike a b one two read_fault.Failed read_fault.Failed nf ng like d x y =
-    let ea : one ≡ a = ap (λ (p : PortValue). record one { port = p }) x.port ∙ ap (λ (k : Present). record a { accessing = k }) x.refused.1 in
-    let eb : two ≡ b = ap (λ (p : PortValue). record two { port = p }) y.port ∙ ap (λ (k : Present). record b { accessing = k }) y.refused.1 in
+    let ea : one ≡ a = ap (λ (p : PortValue). record one { port = p }) x.port ∙ ap (λ (k : Present). record a { present = k }) x.refused.1 in
+    let eb : two ≡ b = ap (λ (p : PortValue). record two { port = p }) y.port ∙ ap (λ (k : Present). record b { present = k }) y.refused.1 in
     (subst (λ (v : AskingValue). AreAlike v two) (sym ea) (subst (λ (v : AskingValue). AreAlike a v) (sym eb) like), refl, subst HasDone (sym ea) d)
 left_alike a b one two read_fault.Unexpected read_fault.Unexpected nf ng like d x y =
     let sent = has_sent a d in (
       ap (λ (p : PortValue). record one { port = p }) (x.port ∙ same_port a b like ∙ sym y.port)
-          ∙ ap (λ (k : Present). record two { accessing = k }) (x.refused.2 ∙ ap (λ (v : AskingValue). failed_after v.accessing) like ∙ sym y.refused.2),
+          ∙ ap (λ (k : Present). record two { present = k }) (x.refused.2 ∙ ap (λ (v : AskingValue). failed_after v.present) like ∙ sym y.refused.2),
       refl,
       inr (x.refused.1, (sent.0, subst (λ (p : PortValue). Sends p.link sent.0) (sym x.port) sent.1)),
     )
-left_alike a b one two read_fault.Failed read_fault.Unexpected nf ng like d x y = absurd (true≢false (sym x.refused.0 ∙ ap (λ (v : AskingValue). v.accessing.failed) like ∙ y.refused.0))
-left_alike a b one two read_fault.Unexpected read_fault.Failed nf ng like d x y = absurd (true≢false (sym y.refused.0 ∙ sym (ap (λ (v : AskingValue). v.accessing.failed) like) ∙ x.refused.0))
+left_alike a b one two read_fault.Failed read_fault.Unexpected nf ng like d x y = absurd (true≢false (sym x.refused.0 ∙ ap (λ (v : AskingValue). v.present.failed) like ∙ y.refused.0))
+left_alike a b one two read_fault.Unexpected read_fault.Failed nf ng like d x y = absurd (true≢false (sym y.refused.0 ∙ sym (ap (λ (v : AskingValue). v.present.failed) like) ∙ x.refused.0))
 left_alike a b one two read_fault.NoMemory g nf ng like d x y = absurd (nf refl)
 left_alike a b one two f read_fault.NoMemory nf ng like d x y = absurd (ng refl)
 
 unread_alike : (old other one two : AskingValue) (before xs ys : List Report) (f g : ReadFault) → HasDone old → AreAlike old other
-    → f ≢ read_fault.NoMemory → g ≢ read_fault.NoMemory → ReadPart old one before xs f → ReadPart other two before ys g
+    → f ≢ read_fault.NoMemory → g ≢ read_fault.NoMemory → ReadsAll old one before xs (Err f) → ReadsAll other two before ys (Err g)
     → AreAlike one two × (f ≡ g) × (xs ≡ ys) × HasDone one
 unread_alike old other one two before xs ys f g d like nf ng a b =
     let ua = unread old one before xs f nf a in
@@ -254,28 +266,43 @@ reading_alike old other one two before xs ys (Err f) (Err g) d like nr ns a b =
     let t = unread_alike old other one two before xs ys f g d like (λ k. nr (ap not_read k)) (λ k. ns (ap not_read k)) a b in
     (t.0, ap not_read t.1, t.2, t.3)
 
-stopped_alike : (old other one two : AskingValue) (before xs ys : List Report) (f g : EndFault) → HasDone old → AreAlike old other → is_want f ≡ false → is_want g ≡ false → HearFault old one before xs f → HearFault other two before ys g
+stopped_alike : (old other one two : AskingValue) (before xs ys : List Report) (f g : EndFault) → HasDone old → AreAlike old other → is_want f ≡ false → is_want g ≡ false → DidAll (asks before xs) old one (Err f) → DidAll (asks before ys) other two (Err g)
     → AreAlike one two × (f ≡ g) × (xs ≡ ys) × HasDone one
 stopped_alike old other one two before xs ys (end_fault.Link f) (end_fault.Link g) d like nf ng a b =
-    let t = read_alike old other one two before xs ys d like a.0.0 b.0.0 (λ p. stops_empty one a.0.1) (λ p. stops_empty two b.0.1) in
-    let same = refused_one two.port.link two.port.outbox f g (no_want f nf) (no_want g ng) (subst (λ (v : AskingValue). SendAllFault v.port.link v.port.outbox f) t.0 a.1) b.1 in
+    let l = left_of old one before xs f a in
+    let m = left_of other two before ys g b in
+    let t = read_alike old other one two before xs ys d like l.0 m.0 (λ p. stops_empty one l.1) (λ p. stops_empty two m.1) in
+    let same = refused_one two.port.link two.port.outbox f g (no_want f nf) (no_want g ng) (subst (λ (v : AskingValue). SendAllFault v.port.link v.port.outbox f) t.0 l.2) m.2 in
     (t.0, ap (λ (x : LinkFault). end_fault.Link x) same, t.1, t.2)
 stopped_alike old other one two before xs ys (end_fault.Link f) (end_fault.Read g) d like nf ng a b =
+    let l = left_of old one before xs f a in
     let u = unread other two before ys g (no_read_want g ng) b in
-    absurd (empty_apart old other one u.0 two before xs ys g d like (no_read_want g ng) a.0.0 a.0.1 u.1 u.2)
+    absurd (empty_apart old other one u.0 two before xs ys g d like (no_read_want g ng) l.0 l.1 u.1 u.2)
 stopped_alike old other one two before xs ys (end_fault.Read f) (end_fault.Link g) d like nf ng a b =
     let u = unread old one before xs f (no_read_want f nf) a in
-    absurd (empty_apart other old two u.0 one before ys xs f (alike_done old other like d) (sym like) (no_read_want f nf) b.0.0 b.0.1 u.1 u.2)
+    let m = left_of other two before ys g b in
+    absurd (empty_apart other old two u.0 one before ys xs f (alike_done old other like d) (sym like) (no_read_want f nf) m.0 m.1 u.1 u.2)
 stopped_alike old other one two before xs ys (end_fault.Read f) (end_fault.Read g) d like nf ng a b =
     let t = unread_alike old other one two before xs ys f g d like (no_read_want f nf) (no_read_want g ng) a b in
     (t.0, ap (λ (x : ReadFault). end_fault.Read x) t.1, t.2, t.3)
+
+abbrev not_done : EndFault → Result (Unit {0}) EndFault
+not_done f = Err f
+
+all_alike : (old other one two : AskingValue) (before xs ys : List Report) (r s : Result (Unit {0}) EndFault) → HasDone old → AreAlike old other → went_wanting r ≡ false → went_wanting s ≡ false → DidAll (asks before xs) old one r → DidAll (asks before ys) other two s
+    → AreAlike one two × (r ≡ s) × (xs ≡ ys) × HasDone one
+all_alike old other one two before xs ys (Ok u) (Ok w) d like nr ns a b = let t = heard_alike old other one two before xs ys d like a b in (t.0, refl, t.1, t.2)
+all_alike old other one two before xs ys (Ok u) (Err g) d like nr ns a b = absurd (heard_apart old other one two before xs ys g d like ns a b)
+all_alike old other one two before xs ys (Err f) (Ok w) d like nr ns a b = absurd (heard_apart other old two one before ys xs f (alike_done old other like d) (sym like) nr b a)
+all_alike old other one two before xs ys (Err f) (Err g) d like nr ns a b =
+    let t = stopped_alike old other one two before xs ys f g d like nr ns a b in (t.0, ap not_done t.1, t.2, t.3)
 
 -- ---- Going on, and taking.
 
 stays_done : (old new : AskingValue) (port : PortValue) → HasDone old → new ≡ record old { port = port } → Still HasAsked old (record old { port = port }) → ((handed : List (List ℕ)) → Sends old.port.link handed → Sends port.link handed) → HasDone new
 stays_done old new port (inl d) rest still sends = inl (d.0, subst (HasAsked d.0) (sym rest) (still d.0 d.1))
 stays_done old new port (inr d) rest still sends =
-    inr (ap (λ (v : AskingValue). v.accessing.failed) rest ∙ d.0, (d.1.0, subst (λ (v : AskingValue). Sends v.port.link d.1.0) (sym rest) (sends d.1.0 d.1.1)))
+    inr (ap (λ (v : AskingValue). v.present.failed) rest ∙ d.0, (d.1.0, subst (λ (v : AskingValue). Sends v.port.link d.1.0) (sym rest) (sends d.1.0 d.1.1)))
 
 asks_alike : (before rs ss : List Report) → DoAlike (asks before rs) (asks before ss) AreAlike HasDone (rs ≡ ss)
 asks_alike before rs ss =
@@ -288,10 +315,7 @@ asks_alike before rs ss =
           stays_done old new (with_link old.port new.port.link) d rest (still_received old new.port.link g h.sends) h.sends
           );
       wrote = λ old new n d rest. stays_done old new (sent_more old.port n) d rest (still_sent old (sent_more old.port n) n refl) (λ handed s. record { queue = s.queue; acked = s.acked });
-      does = λ old other one two d like a b. heard_alike old other one two before rs ss d like a b;
-      stops = λ old other one two f g d like nf ng a b. stopped_alike old other one two before rs ss f g d like nf ng a b;
-      apart = λ old other one two f d like n a b. heard_apart old other one two before rs ss f d like n a b;
-      apart_back = λ old other one two f d like n a b. heard_apart other old two one before ss rs f (alike_done old other like d) (sym like) n b a;
+      all = λ old other one two r s d like nr ns a b. all_alike old other one two before rs ss r s d like nr ns a b;
       quiet = λ a b. a ∙ sym b;
     }
 

@@ -13,9 +13,7 @@ use Rattle.dap_msg.specs.Sendable.{AreSendable}
 use Rattle.dap_msg.specs.Blocked.{NspMessage, joined, Blocked, blocked_after, all_joined, messages_in, AllFit}
 use Rattle.dap_msg.specs.Inner.Blocked.{IsWithin, AllWithin}
 use Rattle.dap_msg.proofs.ForCallers.{messages_in-Blocked, within_limit}
-use Rattle.nsp_link.specs.declared.fault.LinkFault.{LinkFault}
 use Rattle.nsp_link.specs.Link.{LinkValue, Sends, SendsStill, Stands, with_inbox}
-use Rattle.nsp_link.specs.Sending.{may_queue, SendAllFault}
 use Rattle.nsp_link.proofs.ForCallers.{sends_all, may_queue_parts}
 use Rattle.dap_accessed.specs.Served.{AllAtMost}
 use Rattle.dap_accessing.specs.Request.{Request}
@@ -27,12 +25,15 @@ use Rattle.dap_accessing.specs.Phase.{limit_after}
 use Rattle.dap_accessing.specs.Present.{Present}
 use Rattle.dap_accessing.specs.Calls.{Asks, Reads}
 use Rattle.dap_end.specs.Inner.Pasts.{AreFull, asked_one, read_one}
-use Rattle.dap_end.specs.declared.fault.EndFault.TheVariants as end_fault
-use Rattle.dap_end.specs.Ports.{PortValue, with_link, posted, gone_on}
-use Rattle.dap_end.specs.Writing.{Behind, sent_more}
+use Rattle.dap_end.specs.Ports.{HandsOver, PortValue, gone_on}
+use Rattle.dap_end.specs.Inner.Moved.{with_link, posted}
+use Rattle.dap_end.specs.Writing.{Behind}
+use Rattle.dap_end.specs.Inner.Moved.{sent_more}
 use Rattle.dap_end.specs.Going.{given_then}
 use Rattle.dap_end.specs.Inner.After.{GoneThrough}
-use Rattle.dap_end.specs.Asking.{HasAsked, AskedOne, HandedAll, ReadOne, ReadOn, begins, goes, HearFault}
+use Rattle.dap_end.specs.Asking.{HasAsked, AskedOne, ReadOne}
+use Rattle.dap_end.specs.Hearing.{ReadOn}
+use Rattle.dap_end.specs.Inner.Heard.{begins, goes}
 use Rattle.dap_end.specs.Done.{AskingValue, AskingPast}
 use Rattle.dap_end.specs.Inner.Kept.{IsPort, AreShort}
 use Rattle.dap_end.specs.Inner.AskingView.{asking_of}
@@ -68,15 +69,11 @@ after_handed past v h =
       full = h.full;
     }
 
-pub handed_all : (v : AskingValue) (port : PortValue) (r : Result ℕ LinkFault) → OnOk r (IsTrue (may_queue v.port.link v.port.outbox)) → IfOk r (λ n. (port ≡ posted v.port) × (n ≡ length v.port.outbox)) → IfOk r (λ n. HandedAll v (asking_of port v.accessing) n)
-handed_all v port (Ok n) may h = ((may, h.0, h.1), refl)
-handed_all v port (Err f) may h = tt
-
 -- the end then
-pub handed_is : (old new : AskingValue) (n : ℕ) → HandedAll old new n → new ≡ record old { port = posted old.port }
-handed_is old new n h = h.1 ∙ ap (λ (p : PortValue). record old { port = p }) h.0.1
+pub handed_is : (old new : AskingValue) (n : ℕ) → HandsOver old new n → new ≡ record old { port = posted old.port }
+handed_is old new n h = h.1
 
-pub handed_past : (old new : AskingValue) (n : ℕ) → HandedAll old new n → (past : AskingPast) → HasAsked past old → HasAsked (record past { handed = past.handed ++ old.port.outbox }) new
+pub handed_past : (old new : AskingValue) (n : ℕ) → HandsOver old new n → (past : AskingPast) → HasAsked past old → HasAsked (record past { handed = past.handed ++ old.port.outbox }) new
 handed_past old new n h past a = subst (HasAsked (record past { handed = past.handed ++ old.port.outbox })) (sym (handed_is old new n h)) (after_handed past old a)
 
 -- ---- A request.
@@ -106,7 +103,7 @@ full-within limit ((m ∷ more) ∷ packets) h = ((λ e. (let none : ⊥ = cc in
 pub full-blocked : (limit : ℕ) (messages : List Message) → AreFull (Blocked limit messages)
 full-blocked limit messages = full-within limit (Blocked limit messages) (within_limit limit messages)
 
-pub asks_one : (request : Request) (old : AskingValue) (after : Present) (messages outbox : List (List ℕ)) (n : ℕ) → Asks request old.accessing after messages → after.own ≡ old.accessing.own
+pub asks_one : (request : Request) (old : AskingValue) (after : Present) (messages outbox : List (List ℕ)) (n : ℕ) → Asks request old.present after messages → after.own ≡ old.present.own
     → outbox ≡ old.port.outbox ++ messages → n ≡ length messages → AskedOne request old (asking_of (record old.port { outbox = outbox }) after) n
 asks_one request old after messages outbox n asks own is count =
     record {
@@ -117,27 +114,27 @@ asks_one request old after messages outbox n asks own is count =
       count = count;
     }
 
-pub asked_past : (request : Request) (old new : AskingValue) (n : ℕ) → AskedOne request old new n → (past : AskingPast) → HasAsked past old → HasAsked (asked_one past old.accessing.own request) new
+pub asked_past : (request : Request) (old new : AskingValue) (n : ℕ) → AskedOne request old new n → (past : AskingPast) → HasAsked past old → HasAsked (asked_one past old.present.own request) new
 asked_past request old new n a past h =
     let asks = a.asks in
     let messages = a.messages in
     let limit = limit_after (Told past.requests past.answers) in
-    let block = Blocked limit (messages_of old.accessing.own request) in
+    let block = Blocked limit (messages_of old.present.own request) in
     let is_limit : asks.limit ≡ limit = asks.is_limit past.requests past.answers h.asking in
     let outbox : new.port.outbox ≡ old.port.outbox ++ messages = ap (λ (p : PortValue). p.outbox) a.port in
     record {
       asking = asks.stands past.requests past.answers h.asking;
       gone = subst (λ (p : PortValue). GoneThrough past.given p.link.coming.inbox p.place past.answers) (sym a.port) h.gone;
       sends = subst (λ (p : PortValue). Sends p.link past.handed) (sym a.port) h.sends;
-      messages = in_append past.asked block ∙ ap (λ (l : List Message). messages_in past.asked ++ l) (messages_in-Blocked limit (messages_of old.accessing.own request))
-          ∙ ap (λ (l : List Message). l ++ messages_of old.accessing.own request) h.messages
-          ∙ sym (Asked-more old.accessing.own past.requests request) ∙ ap (λ (k : ℕ). Asked k (past.requests ++ request ∷ [])) (sym a.own);
+      messages = in_append past.asked block ∙ ap (λ (l : List Message). messages_in past.asked ++ l) (messages_in-Blocked limit (messages_of old.present.own request))
+          ∙ ap (λ (l : List Message). l ++ messages_of old.present.own request) h.messages
+          ∙ sym (Asked-more old.present.own past.requests request) ∙ ap (λ (k : ℕ). Asked k (past.requests ++ request ∷ [])) (sym a.own);
       waiting = ap (λ (l : List (List ℕ)). past.handed ++ l) outbox ∙ sym (append_assoc past.handed old.port.outbox messages)
-          ∙ ap (λ (l : List (List ℕ)). l ++ messages) h.waiting ∙ ap (λ (l : List (List ℕ)). all_joined past.asked ++ l) (asks.spelled ∙ ap (λ (n : ℕ). all_joined (Blocked n (messages_of old.accessing.own request))) is_limit) ∙ sym (map-append joined past.asked block);
+          ∙ ap (λ (l : List (List ℕ)). l ++ messages) h.waiting ∙ ap (λ (l : List (List ℕ)). all_joined past.asked ++ l) (asks.spelled ∙ ap (λ (n : ℕ). all_joined (Blocked n (messages_of old.present.own request))) is_limit) ∙ sym (map-append joined past.asked block);
       fit =
-          subst AllFit (sym (in_append past.asked block ∙ ap (λ (l : List Message). messages_in past.asked ++ l) (messages_in-Blocked limit (messages_of old.accessing.own request))))
-          (fit-both (messages_in past.asked) (messages_of old.accessing.own request) h.fit (sendable-fit _ (messages_of old.accessing.own request) (asks.admissible past.requests past.answers h.asking).2));
-      full = full-both past.asked block h.full (full-blocked limit (messages_of old.accessing.own request));
+          subst AllFit (sym (in_append past.asked block ∙ ap (λ (l : List Message). messages_in past.asked ++ l) (messages_in-Blocked limit (messages_of old.present.own request))))
+          (fit-both (messages_in past.asked) (messages_of old.present.own request) h.fit (sendable-fit _ (messages_of old.present.own request) (asks.admissible past.requests past.answers h.asking).2));
+      full = full-both past.asked block h.full (full-blocked limit (messages_of old.present.own request));
     }
 
 -- none of its NSP messages is longer than an end takes
@@ -199,7 +196,7 @@ few_blocked limit (m ∷ messages) = omega (arith, blocked-few limit (m ∷ []) 
 -- ---- An answer.
 
 pub reads_one : (old : AskingValue) (bytes : List ℕ) (later : List (List ℕ)) → AreBytes bytes → (after : Present) (port : PortValue) (step : ReadStep) → old.port.link.coming.inbox ≡ bytes ∷ later → IsPlace old.port.place bytes
-    → (r : Reads bytes old.port.place old.accessing after step) → step.next ≤ length bytes → (old.port.place < length bytes → old.port.place < step.next) → after.own ≡ old.accessing.own
+    → (r : Reads bytes old.port.place old.present after step) → step.next ≤ length bytes → (old.port.place < length bytes → old.port.place < step.next) → after.own ≡ old.present.own
     → port ≡ gone_on old.port bytes later step.next → ReadOne old (asking_of port after) step.report
 reads_one old bytes later fits after port step inbox place r within onward own is =
     record {
@@ -241,7 +238,7 @@ pub record HasRead (past now : AskingPast) (old new : AskingValue) (reports : Li
 pub record ReadMore (old new : AskingValue) (reports : List Report) : Type 0 where
   pub link : new.port.link ≡ with_inbox old.port.link new.port.link.coming.inbox
   pub outbox : new.port.outbox ≡ old.port.outbox
-  pub own : new.accessing.own ≡ old.accessing.own
+  pub own : new.present.own ≡ old.present.own
   pub past : (past : AskingPast) → HasAsked past old → (now : AskingPast) × HasRead past now old new reports
 
 read_nothing : (v : AskingValue) → ReadMore v v []
@@ -315,6 +312,22 @@ read_behind a b c told more all m (goes mid report rest r on is) e =
 pub read_grows : (a b : AskingValue) (reports : List Report) → ReadOn a b reports → ReadMore a b reports
 read_grows a b reports on = read_behind a a b [] reports reports (read_nothing a) on refl
 
+-- what was read on counts behind what the end did
+pub counted : (past : AskingPast) (old new : AskingValue) (reports : List Report) → HasAsked past old → ReadMore old new reports → (given : List (List ℕ)) × (answers : List Item)
+    × HasAsked (record past { given = given; answers = past.answers ++ answers }) new × (given ++ new.port.link.coming.inbox ≡ past.given ++ old.port.link.coming.inbox)
+    × (Told past.requests (past.answers ++ answers) ≡ Told past.requests past.answers ++ reports)
+counted past old new reports h m =
+    let (now, g) = m.past past h in
+    let requests : HasAsked (record now { requests = past.requests }) new = subst (λ (l : List Request). HasAsked (record now { requests = l }) new) g.requests g.is in
+    let asked : HasAsked (record now { requests = past.requests; asked = past.asked }) new = subst (λ (l : List NspMessage). HasAsked (record now { requests = past.requests; asked = l }) new) g.asked requests in
+    let handed : HasAsked (record past { given = now.given; answers = now.answers }) new = subst (λ (l : List (List ℕ)). HasAsked (record past { given = now.given; answers = now.answers; handed = l }) new) g.handed asked in (
+      now.given,
+      g.answers.0,
+      subst (λ (l : List Item). HasAsked (record past { given = now.given; answers = l }) new) g.answers.1 handed,
+      g.given,
+      ap (Told past.requests) (sym g.answers.1) ∙ g.told,
+    )
+
 read_on : (a b c : AskingValue) (reports : List Report) (report : Option Report) → ReadOn a b reports → ReadOne b c report → ReadOn a c (reports ++ option_to_list report)
 read_on a b c reports report begins r = goes c report [] r begins (sym (append-nil (option_to_list report)))
 read_on a b c reports report (goes mid first more s on is) r =
@@ -335,15 +348,11 @@ read_falls old new report r =
 
 pub still_sent : (v : AskingValue) (port : PortValue) (n : ℕ) → port ≡ sent_more v.port n → Still HasAsked v (record v { port = port })
 still_sent v port n e =
-    subst (λ (p : PortValue). Still HasAsked v (asking_of p v.accessing)) (sym e)
+    subst (λ (p : PortValue). Still HasAsked v (asking_of p v.present)) (sym e)
     (λ past h. record { asking = h.asking; gone = h.gone; sends = record { queue = h.sends.queue; acked = h.sends.acked }; messages = h.messages; waiting = h.waiting; fit = h.fit; full = h.full })
 
 -- ---- Going on.
 
 -- a link to which something was handed runs
-pub works_after : (old new : AskingValue) (n : ℕ) → HandedAll old new n → new.port.link.failed ≡ false
-works_after old new n h = ap (λ (v : AskingValue). v.port.link.failed) (handed_is old new n h) ∙ (may_queue_parts old.port.link old.port.outbox h.0.0).0
-
-pub heard_only : (old heard new : AskingValue) (before reports : List Report) (f : LinkFault) → Behind before reports (ReadOn old heard) → heard.port.link.coming.inbox ≡ [] → (new ≡ heard) × SendAllFault heard.port.link heard.port.outbox f → HearFault old new before reports (end_fault.Link f)
-heard_only old heard new before reports f read done h =
-    subst (λ (v : AskingValue). HearFault old v before reports (end_fault.Link f)) (sym h.0) ((read, done), h.1)
+pub works_after : (old new : AskingValue) (n : ℕ) → HandsOver old new n → new.port.link.failed ≡ false
+works_after old new n h = ap (λ (v : AskingValue). v.port.link.failed) (handed_is old new n h) ∙ (may_queue_parts old.port.link old.port.outbox h.0).0

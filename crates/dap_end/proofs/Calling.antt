@@ -3,6 +3,7 @@ use Rattle.std.proofs.Common.{◌≡◌, ◌≢◌, ℕ, ◌+◌, ◌-◌, ◌<�
 use Rattle.std.specs.Prelude.{Bool, Option, Some, None, Result, Ok, Err, IfErr, option_to_list}
 use Rattle.std.proofs.lemmas.List.{append-nil, map-append}
 use Rattle.nsp_link.specs.declared.link.Got.{Got}
+use Rattle.nsp_link.specs.declared.link.Got.TheVariants.{AckOnly}
 use Rattle.nsp_link.specs.declared.fault.LinkFault.{LinkFault}
 use Rattle.nsp_link.specs.Link.{LinkValue, IsSpelling}
 use Rattle.nsp_link.specs.Sending.{WritesSent, ack_packet_of}
@@ -17,11 +18,13 @@ use Rattle.dap_end.specs.declared.fault.TakeFault.TheVariants as take_fault
 use Rattle.dap_end.specs.Wanting.{why}
 use Rattle.dap_end.specs.Runs.{RunsBy}
 use Rattle.dap_end.specs.declared.fault.EndFault.TheVariants as end_fault
-use Rattle.dap_end.specs.Ports.{PortValue}
-use Rattle.dap_end.specs.Writing.{wants_ack, WroteMore, Behind}
-use Rattle.dap_end.specs.Asking.{AskedOne, HandedAll, ReadOne, begins, goes as reads_first, ReadOn, HeardAll, HearFault, ReadNone, ReadPart, ReadsAll, asks}
+use Rattle.dap_end.specs.Ports.{HandsOver, PortValue}
+use Rattle.dap_end.specs.Writing.{Acknowledged, wants_ack, WroteMore, Behind, WroteAnswer, WrotePart}
+use Rattle.dap_end.specs.Asking.{AskedOne, ReadOne, ReadNone}
+use Rattle.dap_end.specs.Hearing.{ReadOn, ReadsAll, asks}
+use Rattle.dap_end.specs.Inner.Heard.{begins, goes as reads_first}
 use Rattle.dap_end.specs.Done.{AskingValue}
-use Rattle.dap_end.specs.Turns.{WroteThen, WentOn, TookIn, TookThen, Takes}
+use Rattle.dap_end.specs.Turns.{Answered, DidAll, Takes, TookIn, TookThen, WentOn, WroteThen}
 use Rattle.dap_end.specs.Headline.{Written, bytes_of}
 use Rattle.dap_end.specs.Inner.Running.{numbered, Came, GoesOn, Repeats}
 use Rattle.dap_end.specs.Inner.Running.{AskingEvent, Asks, By, AskingStepped, AskingRunsAs, requests_in}
@@ -91,7 +94,7 @@ module _ (comes : LinkValue → List ℕ → Type 0) where
       one_event old new (By GoesOn) (option_to_list report) []
       ((new, [], (new, (option_to_list report, refl, reads_first new report [] r begins (sym (append-nil (option_to_list report)))), inl refl), wrote_nothing new.port, refl, refl), refl)
 
-  pub posting_is : (old new : AskingValue) (n : ℕ) → HandedAll old new n → AskingRunsAs comes [] old new [] []
+  pub posting_is : (old new : AskingValue) (n : ℕ) → HandsOver old new n → AskingRunsAs comes [] old new [] []
   posting_is old new n h = one_event old new (By GoesOn) [] [] ((new, [], (old, ([], refl, begins), inr (n, h)), wrote_nothing new.port, refl, refl), refl)
 
   pub writing_is : (old new : AskingValue) (bytes : List ℕ) → new ≡ record old { port = new.port } → WroteMore old.port new.port (bytes ∷ [])
@@ -105,16 +108,16 @@ module _ (comes : LinkValue → List ℕ → Type 0) where
   pub ack_is : (v : AskingValue) (bytes : List ℕ) → IsSpelling (ack_packet_of v.port.link) bytes → AskingRunsAs comes [] v v [] (record { bytes = bytes; segment = None; acks = v.port.link.coming.received } ∷ [])
   ack_is v bytes s = one_event v v (By (Repeats None)) [] _ ((record { bytes = bytes; segment = None; acks = v.port.link.coming.received }, tt, (refl, refl, ack_written v.port.link bytes s), refl, refl, refl), refl)
 
-  came : (old new : AskingValue) (bytes : List ℕ) (before after : List Report) (r : Result Got LinkFault) → comes old.port.link bytes → TookIn (asks before after) old new bytes r → AskingStepped comes (old, [], []) (By (Came bytes)) [] (new, [], [])
-  came old new bytes before after r h t = ((r, new.port.link, t.receives, t.rest, refl, refl, h), refl)
+  came : (old new : AskingValue) (bytes : List ℕ) (r : Result Got LinkFault) → comes old.port.link bytes → TookIn old new bytes r → AskingStepped comes (old, [], []) (By (Came bytes)) [] (new, [], [])
+  came old new bytes r h t = ((r, new.port.link, t.receives, t.rest, refl, refl, h), refl)
 
-  pub receiving_is : (old new : AskingValue) (bytes : List ℕ) (before after : List Report) (r : Result Got LinkFault) → comes old.port.link bytes → TookIn (asks before after) old new bytes r → AskingRunsAs comes [] old new [] []
-  receiving_is old new bytes before after r h t = one_event old new (By (Came bytes)) [] [] (came old new bytes before after r h t)
+  pub receiving_is : (old new : AskingValue) (bytes : List ℕ) (r : Result Got LinkFault) → comes old.port.link bytes → TookIn old new bytes r → AskingRunsAs comes [] old new [] []
+  receiving_is old new bytes r h t = one_event old new (By (Came bytes)) [] [] (came old new bytes r h t)
 
   -- all was read and handed over, and these segments written
-  goes : (old heard new : AskingValue) (before after : List Report) (packets : List (List ℕ)) → (h : HeardAll old heard before after) → WroteMore heard.port new.port packets → new ≡ record heard { port = new.port }
-      → (let ws = numbered (heard.port.link.sent + 1) heard.port.link.coming.received packets in AskingStepped comes (old, [], []) (By GoesOn) ws (new, h.2.0.0, ws))
-  goes old heard new before after packets h w rest = ((heard, packets, (h.0, (h.2.0.0, refl, h.2.0.2), inr (h.1, h.3)), w, rest, refl), refl)
+  goes : (old heard new : AskingValue) (before after : List Report) (packets : List (List ℕ)) → (h : DidAll (asks before after) old heard (Ok tt)) → WroteMore heard.port new.port packets → new ≡ record heard { port = new.port }
+      → (let ws = numbered (heard.port.link.sent + 1) heard.port.link.coming.received packets in AskingStepped comes (old, [], []) (By GoesOn) ws (new, h.2.0, ws))
+  goes old heard new before after packets h w rest = ((heard, packets, (h.0, (h.2.0, refl, h.2.2), inr (h.1, h.4)), w, rest, refl), refl)
 
   -- a run whose packets and reports stand behind those that were there
   abbrev pub AreAskingCalls : AskingValue → AskingValue → (out all : List (List ℕ)) → (before after : List Report) → Type 0
@@ -124,43 +127,37 @@ module _ (comes : LinkValue → List ℕ → Type 0) where
   behind : (out all packets : List (List ℕ)) (k a : ℕ) → all ≡ out ++ packets → all ≡ out ++ bytes_of (numbered k a packets)
   behind out all packets k a e = e ∙ ap (λ (l : List (List ℕ)). out ++ l) (sym (numbered_bytes k a packets))
 
-  going_is : (old new : AskingValue) (out all : List (List ℕ)) (before after : List Report) → WroteThen (asks before after) WroteMore old new out all → AreAskingCalls old new out all before after
-  going_is old new out all before after w =
-      (w.done.2.0.0, _, one_event old new (By GoesOn) _ _ (goes old w.mid new before after w.wrote.0 w.done w.wrote.2 w.rest), behind out all w.wrote.0 _ _ w.wrote.1, w.done.2.0.1)
-
   took_by : (old mid new : AskingValue) (bytes : List ℕ) (out all : List (List ℕ)) (before after : List Report) → AskingStepped comes (old, [], []) (By (Came bytes)) [] (mid, [], []) → AreAskingCalls mid new out all before after
       → AreAskingCalls old new out all before after
   took_by old mid new bytes out all before after s c = (c.0, c.1, (By (Came bytes) ∷ c.2.0, c.2.1, ((mid, [], []), [], s, c.2.2)), c.3, c.4)
 
-  answered_is : (old heard new : AskingValue) (got : Got) (out all packets written : List (List ℕ)) (before after : List Report) (wants : Bool) → HeardAll old heard before after → new ≡ record heard { port = new.port } → WroteMore heard.port new.port written
-      → all ≡ out ++ packets → wants_ack got (length written) ≡ wants → (wants_ack got (length written) ≡ false → packets ≡ written)
-      → (wants_ack got (length written) ≡ true → (bytes : List ℕ) × (packets ≡ written ++ bytes ∷ []) × IsSpelling (ack_packet_of new.port.link) bytes)
-      → AreAskingCalls old new out all before after
-  answered_is old heard new got out all packets written before after false h rest w is e quiet acks =
-      (h.2.0.0, _, one_event old new (By GoesOn) _ _ (goes old heard new before after written h w rest), behind out all written _ _ (is ∙ ap (λ (l : List (List ℕ)). out ++ l) (quiet e)), h.2.0.1)
-  answered_is old heard new got out all packets written before after true h rest w is e quiet acks =
-      let a = acks e in
+  answered_is : (old heard new : AskingValue) (out all packets written : List (List ℕ)) (before after : List Report) (wants : Bool) → DidAll (asks before after) old heard (Ok tt) → new ≡ record heard { port = new.port } → WroteMore heard.port new.port written
+      → all ≡ out ++ packets → Acknowledged new.port wants written packets → AreAskingCalls old new out all before after
+  answered_is old heard new out all packets written before after false h rest w is ack =
+      (h.2.0, _, one_event old new (By GoesOn) _ _ (goes old heard new before after written h w rest), behind out all written _ _ (is ∙ ap (λ (l : List (List ℕ)). out ++ l) ack), h.2.1)
+  answered_is old heard new out all packets written before after true h rest w is ack =
       let first = numbered (heard.port.link.sent + 1) heard.port.link.coming.received written in
-      let last : Written = record { bytes = a.0; segment = None; acks = new.port.link.coming.received } in
-      let both = more_calls [] [] old new new h.2.0.0 [] first (last ∷ []) (one_event old new (By GoesOn) _ first (goes old heard new before after written h w rest)) (ack_is new a.0 a.2) in (
-        h.2.0.0,
+      let last : Written = record { bytes = ack.0; segment = None; acks = new.port.link.coming.received } in
+      let both = more_calls [] [] old new new h.2.0 [] first (last ∷ []) (one_event old new (By GoesOn) _ first (goes old heard new before after written h w rest)) (ack_is new ack.0 ack.2) in (
+        h.2.0,
         first ++ last ∷ [],
-        subst (λ (l : List Report). AskingRunsAs comes [] old new l (first ++ last ∷ [])) (append-nil h.2.0.0) both,
-        is ∙ ap (λ (l : List (List ℕ)). out ++ l) (a.1 ∙ ap (λ (l : List (List ℕ)). l ++ a.0 ∷ []) (sym (numbered_bytes _ _ written)) ∙ sym (map-append (λ (w : Written). w.bytes) first (last ∷ []))),
-        h.2.0.1,
+        subst (λ (l : List Report). AskingRunsAs comes [] old new l (first ++ last ∷ [])) (append-nil h.2.0) both,
+        is ∙ ap (λ (l : List (List ℕ)). out ++ l) (ack.1 ∙ ap (λ (l : List (List ℕ)). l ++ ack.0 ∷ []) (sym (numbered_bytes _ _ written)) ∙ sym (map-append (λ (w : Written). w.bytes) first (last ∷ []))),
+        h.2.1,
       )
 
-  taking_is : (old new : AskingValue) (bytes : List ℕ) (got : Got) (out all : List (List ℕ)) (before after : List Report) → comes old.port.link bytes → TookThen (asks before after) old new bytes got out all (Ok tt)
-      → AreAskingCalls old new out all before after
-  taking_is old new bytes got out all before after h (mid, t, w) =
-      let a = w.wrote in
-      took_by old mid new bytes out all before after (came old mid bytes before after (Ok got) h t)
-      (answered_is mid w.mid new got out all a.0 a.2.written before after (wants_ack got (length a.2.written)) w.done w.rest a.2.wrote a.1 refl a.2.quiet a.2.acks)
+  whole_is : (old new : AskingValue) (got : Got) (out all : List (List ℕ)) (before after : List Report) → WroteThen (asks before after) (λ p q. WroteAnswer p q got) old new out all → AreAskingCalls old new out all before after
+  whole_is old new got out all before after w =
+      let (packets, is, a) = w.wrote in answered_is old w.mid new out all packets a.0 before after (wants_ack got (length a.0)) w.done w.rest a.1 is a.3
+
+  some_is : (old new : AskingValue) (got : Got) (out all : List (List ℕ)) (before after : List Report) → WroteThen (asks before after) (λ p q. WrotePart p q got) old new out all → AreAskingCalls old new out all before after
+  some_is old new got out all before after w =
+      (w.done.2.0, _, one_event old new (By GoesOn) _ _ (goes old w.mid new before after w.wrote.0 w.done w.wrote.2.0 w.rest), behind out all w.wrote.0 _ _ w.wrote.1, w.done.2.1)
 
 -- ---- Calls that didn't do all.
 
-same_end : (mid new : AskingValue) → new.port ≡ mid.port → new.accessing ≡ mid.accessing → new ≡ mid
-same_end mid new p a = ap (λ (x : PortValue). record new { port = x }) p ∙ ap (λ (x : Present). record mid { accessing = x }) a
+same_end : (mid new : AskingValue) → new.port ≡ mid.port → new.present ≡ mid.present → new ≡ mid
+same_end mid new p a = ap (λ (x : PortValue). record new { port = x }) p ∙ ap (λ (x : Present). record mid { present = x }) a
 
 -- an answer that wasn't read, and has a place, left the end as it was
 none_read : (mid new : AskingValue) (f : ReadFault) → ReadNone mid new f → f ≢ read_fault.Unexpected → new ≡ mid
@@ -168,12 +165,12 @@ none_read mid new read_fault.Failed n other = same_end mid new n.port n.refused.
 none_read mid new read_fault.NoMemory n other = same_end mid new n.port n.refused.1
 none_read mid new read_fault.Unexpected n other = absurd (other refl)
 
-part_read : (old new : AskingValue) (before after : List Report) (f : ReadFault) → ReadPart old new before after f → f ≢ read_fault.Unexpected → Behind before after (ReadOn old new)
-part_read old new before after f (inl h) other = h.1
-part_read old new before after f (inr h) other = subst (λ (v : AskingValue). Behind before after (ReadOn old v)) (sym (none_read h.0 new f h.2 other)) h.1
+part_read : (old new : AskingValue) (before after : List Report) (f : ReadFault) → ReadsAll old new before after (Err f) → f ≢ read_fault.Unexpected → Behind before after (ReadOn old new)
+part_read old new before after f (mid, on, inl n) other = subst (λ (v : AskingValue). Behind before after (ReadOn old v)) (sym (none_read mid new f n other)) on
+part_read old new before after f (mid, on, inr h) other = subst (λ (v : AskingValue). Behind before after (ReadOn old v)) (sym h.1) on
 
-heard_part : (old new : AskingValue) (before after : List Report) (f : EndFault) → HearFault old new before after f → f ≢ end_fault.Read read_fault.Unexpected → Behind before after (ReadOn old new)
-heard_part old new before after (end_fault.Link f) h other = h.0.0
+heard_part : (old new : AskingValue) (before after : List Report) (f : EndFault) → DidAll (asks before after) old new (Err f) → f ≢ end_fault.Read read_fault.Unexpected → Behind before after (ReadOn old new)
+heard_part old new before after (end_fault.Link f) h other = subst (λ (v : AskingValue). Behind before after (ReadOn old v)) (sym h.2.0) h.1
 heard_part old new before after (end_fault.Read f) h other = part_read old new before after f h (λ e. other (ap (λ (x : ReadFault). end_fault.Read x) e))
 
 module _ (comes : LinkValue → List ℕ → Type 0) where
@@ -190,25 +187,24 @@ module _ (comes : LinkValue → List ℕ → Type 0) where
   read_only old new out all before after r same =
       (r.0, [], one_event comes old new (By GoesOn) r.0 [] ((new, [], (new, (r.0, refl, r.2), inl refl), wrote_nothing new.port, refl, refl), refl), same ∙ sym (append-nil out), r.1)
 
+  answer_is : (old new : AskingValue) (got : Got) (out all : List (List ℕ)) (before after : List Report) (r : Result (Unit {0}) EndFault) → IfErr r (λ f. f ≢ end_fault.Read read_fault.Unexpected)
+      → Answered (asks before after) old new got out all r → AreAskingCalls comes old new out all before after
+  answer_is old new got out all before after (Ok done) other w = whole_is comes old new got out all before after w
+  answer_is old new got out all before after (Err f) other (inl h) = read_only old new out all before after (heard_part old new before after f h.0 other) h.1
+  answer_is old new got out all before after (Err f) other (inr h) = some_is comes old new got out all before after h.1
+
   pub going_on_is : (old new : AskingValue) (out all : List (List ℕ)) (before after : List Report) (r : Result (Unit {0}) EndFault) → IfErr r (λ f. f ≢ end_fault.Read read_fault.Unexpected)
       → WentOn (asks before after) old new out all r → AreAskingCalls comes old new out all before after
-  going_on_is old new out all before after (Ok done) other w = going_is comes old new out all before after (record { mid = w.mid; done = w.done; rest = w.rest; wrote = (w.wrote.0, w.wrote.1, w.wrote.2.0) })
-  going_on_is old new out all before after (Err f) other (inl h) = read_only old new out all before after (heard_part old new before after f h.0 other) h.1
-  going_on_is old new out all before after (Err f) other (inr h) =
-      let w = h.1 in going_is comes old new out all before after (record { mid = w.mid; done = w.done; rest = w.rest; wrote = (w.wrote.0, w.wrote.1, w.wrote.2.0) })
+  going_on_is old new out all before after r other w = answer_is old new AckOnly out all before after r other w
 
-  part_is : (old new : AskingValue) (bytes : List ℕ) (got : Got) (out all : List (List ℕ)) (before after : List Report) (f : EndFault) → f ≢ end_fault.Read read_fault.Unexpected → comes old.port.link bytes
-      → TookThen (asks before after) old new bytes got out all (Err f) → AreAskingCalls comes old new out all before after
-  part_is old new bytes got out all before after f other h (mid, t, inl s) =
-      took_by comes old mid new bytes out all before after (came comes old mid bytes before after (Ok got) h t) (read_only mid new out all before after (heard_part mid new before after f s.0 other) s.1)
-  part_is old new bytes got out all before after f other h (mid, t, inr s) =
-      let w = s.1 in
-      took_by comes old mid new bytes out all before after (came comes old mid bytes before after (Ok got) h t)
-      (going_is comes mid new out all before after (record { mid = w.mid; done = w.done; rest = w.rest; wrote = (w.wrote.0, w.wrote.1, w.wrote.2.0) }))
+  then_is : (old new : AskingValue) (bytes : List ℕ) (got : Got) (out all : List (List ℕ)) (before after : List Report) (r : Result (Unit {0}) EndFault) → IfErr r (λ f. f ≢ end_fault.Read read_fault.Unexpected) → comes old.port.link bytes
+      → TookThen (asks before after) old new bytes got out all r → AreAskingCalls comes old new out all before after
+  then_is old new bytes got out all before after r other h (mid, t, a) =
+      took_by comes old mid new bytes out all before after (came comes old mid bytes (Ok got) h t) (answer_is mid new got out all before after r other a)
 
   pub taken_is : (old new : AskingValue) (bytes : List ℕ) (out all : List (List ℕ)) (before after : List Report) (r : Result Got TakeFault) → IfErr r (λ f. why f ≢ end_fault.Read read_fault.Unexpected)
       → comes old.port.link bytes → Takes (asks before after) old new bytes out all r → AreAskingCalls comes old new out all before after
-  taken_is old new bytes out all before after (Ok got) other h t = taking_is comes old new bytes got out all before after h t
+  taken_is old new bytes out all before after (Ok got) other h t = then_is old new bytes got out all before after (Ok tt) tt h t
   taken_is old new bytes out all before after (Err (take_fault.Refused f)) other h t =
-      ([], [], receiving_is comes old new bytes before after (Err f) h t.0, t.1 ∙ sym (append-nil out), t.2 ∙ sym (append-nil before))
-  taken_is old new bytes out all before after (Err (take_fault.Unfinished got f)) other h t = part_is old new bytes got out all before after f other h t
+      ([], [], receiving_is comes old new bytes (Err f) h t.0, t.1 ∙ sym (append-nil out), t.2 ∙ sym (append-nil before))
+  taken_is old new bytes out all before after (Err (take_fault.Unfinished got f)) other h t = then_is old new bytes got out all before after (Err f) other h t

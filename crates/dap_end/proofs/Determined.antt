@@ -1,6 +1,7 @@
 -- What a call answers and leaves follows from what the end did and what came, want of memory aside.
-use Rattle.std.proofs.Common.{◌≡◌, ◌≢◌, ℕ, arith, refl, sym, ◌∙◌, subst, ap, false, true≢false, List, [], ◌∷◌, ◌++◌, length, inl, inr}
+use Rattle.std.proofs.Common.{◌≡◌, ◌≢◌, ℕ, ◌+◌, ◌<◌, ◌≤◌, arith, refl, sym, ◌∙◌, subst, ap, false, true≢false, List, [], ◌∷◌, ◌++◌, length, inl, inr}
 use Rattle.std.specs.Prelude.{Bool, IsTrue, Result, Ok, Err}
+use Rattle.std.proofs.lemmas.List.{append-nil, length-append}
 use Rattle.dap_fields.specs.Spelling.{AreBytes}
 use Rattle.dap_msg.specs.declared.items.Item.{Item}
 use Rattle.dap_msg.specs.Items.{ItemAt}
@@ -9,7 +10,9 @@ use Rattle.nsp_link.specs.declared.link.Got.{Got}
 use Rattle.nsp_link.specs.declared.fault.LinkFault.{LinkFault}
 use Rattle.nsp_link.specs.declared.fault.LinkFault.TheVariants as fault
 use Rattle.nsp_link.specs.Link.{LinkValue}
-use Rattle.nsp_link.specs.Sending.{may_queue, SendAllFault}
+use Rattle.nsp_link.specs.Cutting.{Piece, cut}
+use Rattle.nsp_link.specs.Limits.{most_segments}
+use Rattle.nsp_link.specs.Sending.{may_queue, queued_link, SendAllFault}
 use Rattle.dap_accessed.specs.Standing.{Files}
 use Rattle.dap_accessed.specs.Inner.Present.{Present, present_of}
 use Rattle.dap_accessed.specs.Groups.{stands_after}
@@ -17,19 +20,21 @@ use Rattle.dap_end.specs.Inner.Pasts.{served}
 use Rattle.dap_end.specs.declared.fault.EndFault.{EndFault}
 use Rattle.dap_end.specs.declared.fault.EndFault.TheVariants as end_fault
 use Rattle.dap_end.specs.declared.fault.TakeFault.{TakeFault}
-use Rattle.dap_end.specs.Ports.{gone_on, posted}
+use Rattle.dap_end.specs.Ports.{HandsOver, PortValue, gone_on}
+use Rattle.dap_end.specs.Inner.Moved.{posted}
 use Rattle.dap_end.specs.Inner.After.{StandFrom}
-use Rattle.dap_end.specs.Serving.{IsAfter, ServedOne, PostedAll}
+use Rattle.dap_end.specs.Serving.{IsAfter, ServedOne}
+use Rattle.dap_end.specs.Inner.Served.{ServedInTurn, begins, goes}
 use Rattle.dap_end.specs.Done.{ServingValue, Past, answers_to}
-use Rattle.dap_end.specs.Taking.{ServedOn, begins, goes, ServedUp, IsServed, ServeFault, ServesAll, serves}
-use Rattle.dap_end.specs.Turns.{WentOn, Takes}
+use Rattle.dap_end.specs.Taking.{serves}
+use Rattle.dap_end.specs.Turns.{DidAll, WentOn, Takes}
 use Rattle.dap_end.specs.Wanting.{is_want}
 use Rattle.dap_end.specs.Inner.Wanting.{went_wanting, took_wanting}
 use Rattle.dap_msg.proofs.ForCallers.{one_item}
 use Rattle.nsp_link.proofs.ForCallers.{may_queue_parts}
 use Rattle.dap_end.proofs.Taking.{grown}
 use Rattle.dap_end.proofs.Afterwards.{after_received, posted_is, posted_past}
-use Rattle.dap_end.proofs.Proceeding.{up_grew, fault_grew, still_sent}
+use Rattle.dap_end.proofs.Proceeding.{all_grew, inbox_posted, none_waits, still_sent}
 use Rattle.dap_end.proofs.Turning.{DoAlike, no_want, went_same, took_same}
 use Rattle.dap_end.specs.Inner.ServingView.{with_port}
 
@@ -57,19 +62,19 @@ serving_one past old one two n m h a b =
     let later : b.one.later ≡ a.one.later = (let both = sym b.one.came ∙ a.one.came in cc) in
     let same = one_item a.one.bytes old.port.place a.one.item b.one.item a.one.next b.one.next a.one.fits a.one.reads (subst (λ (l : List ℕ). ItemAt l old.port.place b.one.item b.one.next) bytes b.one.reads) in
     let items : past.items ++ a.one.item ∷ [] ≡ past.items ++ b.one.item ∷ [] = ap (λ (i : Item). past.items ++ i ∷ []) (sym same.0) in
-    let own : one.accessed.own ≡ two.accessed.own = a.own ∙ sym b.own in
+    let own : one.present.own ≡ two.present.own = a.own ∙ sym b.own in
     let ha = a.past past h in
     let hb = b.past past h in
-    let accessed : one.accessed ≡ two.accessed = present_one past.first (past.items ++ a.one.item ∷ []) (past.items ++ b.one.item ∷ []) one.accessed two.accessed items own ha.serving hb.serving in
+    let accessed : one.present ≡ two.present = present_one past.first (past.items ++ a.one.item ∷ []) (past.items ++ b.one.item ∷ []) one.present two.present items own ha.serving hb.serving in
     let outbox : one.port.outbox ≡ two.port.outbox =
-    outbox_one past.first past.handed one.port.outbox two.port.outbox (past.items ++ a.one.item ∷ []) (past.items ++ b.one.item ∷ []) one.accessed.own two.accessed.own items own ha.answers hb.answers in
+    outbox_one past.first past.handed one.port.outbox two.port.outbox (past.items ++ a.one.item ∷ []) (past.items ++ b.one.item ∷ []) one.present.own two.present.own items own ha.answers hb.answers in
     let port : one.port ≡ two.port =
     a.port ∙ ap (λ (l : List (List ℕ)). record (gone_on old.port a.one.bytes a.one.later a.one.next) { outbox = l }) outbox
     ∙ ap (λ (k : ℕ). record (gone_on old.port a.one.bytes a.one.later k) { outbox = two.port.outbox }) (sym same.1)
     ∙ ap (λ (l : List ℕ). record (gone_on old.port l a.one.later b.one.next) { outbox = two.port.outbox }) (sym bytes)
     ∙ ap (λ (l : List (List ℕ)). record (gone_on old.port b.one.bytes l b.one.next) { outbox = two.port.outbox }) (sym later)
     ∙ sym b.port in
-    (ap (with_port one) port ∙ ap (λ (x : Present). record two { accessed = x }) accessed, a.count ∙ ap length outbox ∙ sym b.count)
+    (ap (with_port one) port ∙ ap (λ (x : Present). record two { present = x }) accessed, a.count ∙ ap length outbox ∙ sym b.count)
 
 -- ---- Serving all.
 
@@ -79,9 +84,9 @@ no_front (x ∷ items) at to h = absurd (omega (arith, h.1))
 
 -- no item is served from here
 abbrev Stops : ServingValue → Type 0
-Stops v = (posted mid : ServingValue) (count n : ℕ) → PostedAll v posted count → ServedOne posted mid n → ⊥
+Stops v = (posted mid : ServingValue) (count n : ℕ) → HandsOver v posted count → ServedOne posted mid n → ⊥
 
-serves_once : (past : Past) (old one two : ServingValue) → IsAfter past old → ServedOn old one → ServedOn old two → Stops one → Stops two → one ≡ two
+serves_once : (past : Past) (old one two : ServingValue) → IsAfter past old → ServedInTurn old one → ServedInTurn old two → Stops one → Stops two → one ≡ two
 serves_once past old one two h begins begins a b = refl
 serves_once past old one two h begins (goes p m k n x y on) a b = absurd (a p m k n x y)
 serves_once past old one two h (goes p m k n x y on) begins a b = absurd (b p m k n x y)
@@ -90,7 +95,7 @@ serves_once past old one two h (goes p m k n x y on) (goes q l j i z w other) a 
     let now = record past { handed = past.handed ++ old.port.outbox } in
     let after = posted_past old p k x past h in
     let same = serving_one now p m l n i after y (subst (λ (v : ServingValue). ServedOne v l i) posted w) in
-    serves_once (served now y.one.bytes y.one.item y.one.next) m one two (y.past now after) on (subst (λ (v : ServingValue). ServedOn v two) (sym same.0) other) a b
+    serves_once (served now y.one.bytes y.one.item y.one.next) m one two (y.past now after) on (subst (λ (v : ServingValue). ServedInTurn v two) (sym same.0) other) a b
 
 pub no_next : (bytes : List ℕ) (later : List (List ℕ)) → [] ≡ bytes ∷ later → ⊥
 no_next bytes later e = cc
@@ -130,48 +135,80 @@ refused_one v messages fault.NoMemory g nf ng a b = absurd (nf refl)
 refused_one v messages f g nf ng a b = absurd a
 
 stops_refused : (v : ServingValue) (f : LinkFault) → f ≢ fault.NoMemory → SendAllFault v.port.link v.port.outbox f → Stops v
-stops_refused v f want h = λ posted mid k n x y. may_or_not v.port.link v.port.outbox f want x.0.0 h
+stops_refused v f want h = λ posted mid k n x y. may_or_not v.port.link v.port.outbox f want x.0 h
 
--- where all is served, the last one was handed over
-up_stops : (old new : ServingValue) → (u : ServedUp old new) → IsServed new → Stops u.0
-up_stops old new u d = stops_empty u.0 (sym (ap (λ (v : ServingValue). v.port.link.coming.inbox) (posted_is u.0 new u.1 u.3)) ∙ d.0)
+-- handing over nothing changes nothing
+posted_none : (p : PortValue) → p.outbox ≡ [] → posted p ≡ p
+unfolding cut
+posted_none p e =
+    ap (λ (l : List (List ℕ)). record p { link = queued_link p.link (cut p.link.setup.seg_size l); outbox = [] }) e
+    ∙ ap (λ (q : List Piece). record p { link = record p.link { queue = q }; outbox = [] }) (append-nil p.link.queue) ∙ ap (λ (l : List (List ℕ)). record p { outbox = l }) (sym e)
 
-pub up_one : (past : Past) (old one two : ServingValue) → IsAfter past old → ServedUp old one → ServedUp old two → IsServed one → IsServed two → one ≡ two
-up_one past old one two h a b da db =
-    let last = serves_once past old a.0 b.0 h a.2 b.2 (up_stops old one a da) (up_stops old two b db) in
+-- all that came was served, and then what waits was handed over
+abbrev Up : ServingValue → ServingValue → Type 0
+Up old new = (last : ServingValue) × (n : ℕ) × ServedInTurn old last × HandsOver last new n × (last.port.link.coming.inbox ≡ [])
+
+up_of : (old new : ServingValue) → DidAll serves old new (Ok tt) → Up old new
+up_of old new (mid, n, inl on, none, h) = (mid, n, on, h, none)
+up_of old new (mid, n, inr u, none, h) =
+    let again : new ≡ mid = posted_is mid new n h ∙ ap (with_port mid) (posted_none mid.port (none_waits u.0 mid u.1 u.3)) in
+    (u.0, u.1, u.2, subst (λ (v : ServingValue). HandsOver u.0 v u.1) (sym again) u.3, sym (inbox_posted u.0 mid u.1 u.3) ∙ none)
+
+up_one : (past : Past) (old one two : ServingValue) → IsAfter past old → Up old one → Up old two → one ≡ two
+up_one past old one two h a b =
+    let last = serves_once past old a.0 b.0 h a.2 b.2 (stops_empty a.0 a.4) (stops_empty b.0 b.4) in
     posted_is a.0 one a.1 a.3 ∙ ap (λ (v : ServingValue). record v { port = posted v.port }) last ∙ sym (posted_is b.0 two b.1 b.3)
 
-pub up_after : (past : Past) (old new : ServingValue) → IsAfter past old → ServedUp old new → (now : Past) × IsAfter now new
-up_after past old new h u = let g = (up_grew old new u).past past h in (g.0, g.1.is)
+-- what waits is refused
+abbrev Stopped : ServingValue → ServingValue → LinkFault → Type 0
+Stopped old new f = ServedInTurn old new × SendAllFault new.port.link new.port.outbox f
 
-pub fault_after : (past : Past) (old new : ServingValue) (f : LinkFault) → IsAfter past old → ServeFault old new (end_fault.Link f) → (now : Past) × IsAfter now new
-fault_after past old new f h u = let g = (fault_grew old new (end_fault.Link f) u).past past h in (g.0, g.1.is)
+-- nothing is refused behind what was handed over
+none_refused : (v : LinkValue) (messages : List (List ℕ)) (f : LinkFault) → f ≢ fault.NoMemory → IsTrue (may_queue v messages) → SendAllFault (queued_link v (cut v.setup.seg_size messages)) [] f → ⊥
+unfolding cut
+none_refused v messages fault.Failed want may h = running v.failed h (may_queue_parts v messages may).0
+none_refused v messages fault.MessageTooLong want may h = omega (arith, h.1.1)
+none_refused v messages fault.Exhausted want may h =
+    let many : most_segments < v.acked + length (v.queue ++ cut v.setup.seg_size messages) + 0 = h.2 in
+    let few : v.acked + length v.queue + length (cut v.setup.seg_size messages) ≤ most_segments = (may_queue_parts v messages may).2 in
+    omega (arith, few, many, length-append v.queue (cut v.setup.seg_size messages))
+none_refused v messages fault.NoMemory want may h = want refl
+none_refused v messages f want may h = absurd h
 
-pub up_or_not : (past : Past) (old one two : ServingValue) (f : LinkFault) → IsAfter past old → f ≢ fault.NoMemory → ServedUp old one → IsServed one → ServeFault old two (end_fault.Link f) → ⊥
-up_or_not past old one two f h want a d (inl b) =
-    let last = serves_once past old a.0 two h a.2 b.0 (up_stops old one a d) (stops_refused two f want b.1) in
-    may_or_not two.port.link two.port.outbox f want (subst (λ (v : ServingValue). IsTrue (may_queue v.port.link v.port.outbox)) last a.3.0.0) b.1
-up_or_not past old one two f h want a d (inr b) = want b.0
+handed_refused : (old new : ServingValue) (n : ℕ) (f : LinkFault) → f ≢ fault.NoMemory → HandsOver old new n → SendAllFault new.port.link new.port.outbox f → ⊥
+handed_refused old new n f want p h =
+    none_refused old.port.link old.port.outbox f want p.0 (subst (λ (v : ServingValue). SendAllFault v.port.link v.port.outbox f) (posted_is old new n p) h)
 
-pub fault_one : (past : Past) (old one two : ServingValue) (f g : LinkFault) → IsAfter past old → f ≢ fault.NoMemory → g ≢ fault.NoMemory → ServeFault old one (end_fault.Link f) → ServeFault old two (end_fault.Link g) → (one ≡ two) × (f ≡ g)
-fault_one past old one two f g h nf ng (inl a) (inl b) =
+stopped_of : (old new : ServingValue) (f : LinkFault) → f ≢ fault.NoMemory → DidAll serves old new (Err (end_fault.Link f)) → Stopped old new f
+stopped_of old new f want (mid, inl on, (is, inl h)) = subst (λ (v : ServingValue). Stopped old v f) (sym is) (on, h)
+stopped_of old new f want (mid, inr u, (is, inl h)) = absurd (handed_refused u.0 mid u.1 f want u.3 h)
+stopped_of old new f want (mid, on, (is, inr h)) = absurd (want h.0)
+
+up_or_not : (past : Past) (old one two : ServingValue) (f : LinkFault) → IsAfter past old → f ≢ fault.NoMemory → Up old one → Stopped old two f → ⊥
+up_or_not past old one two f h want a b =
+    let last = serves_once past old a.0 two h a.2 b.0 (stops_empty a.0 a.4) (stops_refused two f want b.1) in
+    may_or_not two.port.link two.port.outbox f want (subst (λ (v : ServingValue). IsTrue (may_queue v.port.link v.port.outbox)) last a.3.0) b.1
+
+stopped_one : (past : Past) (old one two : ServingValue) (f g : LinkFault) → IsAfter past old → f ≢ fault.NoMemory → g ≢ fault.NoMemory → Stopped old one f → Stopped old two g → (one ≡ two) × (f ≡ g)
+stopped_one past old one two f g h nf ng a b =
     let last = serves_once past old one two h a.0 b.0 (stops_refused one f nf a.1) (stops_refused two g ng b.1) in
     (last, refused_one two.port.link two.port.outbox f g nf ng (subst (λ (v : ServingValue). SendAllFault v.port.link v.port.outbox f) last a.1) b.1)
-fault_one past old one two f g h nf ng (inl a) (inr b) = absurd (ng b.0)
-fault_one past old one two f g h nf ng (inr a) b = absurd (nf a.0)
 
-abbrev done_by : Result (Unit {0}) LinkFault
-done_by = Ok tt
+abbrev failed_by : LinkFault → Result (Unit {0}) EndFault
+failed_by f = Err (end_fault.Link f)
 
-abbrev failed_by : LinkFault → Result (Unit {0}) LinkFault
-failed_by f = Err f
+pub all_one : (past : Past) (old one two : ServingValue) (r s : Result (Unit {0}) EndFault) → IsAfter past old → went_wanting r ≡ false → went_wanting s ≡ false → DidAll serves old one r → DidAll serves old two s → (one ≡ two) × (r ≡ s)
+all_one past old one two (Ok u) (Ok w) h nr ns a b = (up_one past old one two h (up_of old one a) (up_of old two b), refl)
+all_one past old one two (Ok u) (Err (end_fault.Link g)) h nr ns a b = absurd (up_or_not past old one two g h (no_want g ns) (up_of old one a) (stopped_of old two g (no_want g ns) b))
+all_one past old one two (Ok u) (Err (end_fault.Read g)) h nr ns a b = absurd b.2
+all_one past old one two (Err (end_fault.Link f)) (Ok w) h nr ns a b = absurd (up_or_not past old two one f h (no_want f nr) (up_of old two b) (stopped_of old one f (no_want f nr) a))
+all_one past old one two (Err (end_fault.Link f)) (Err (end_fault.Link g)) h nr ns a b =
+    let same = stopped_one past old one two f g h (no_want f nr) (no_want g ns) (stopped_of old one f (no_want f nr) a) (stopped_of old two g (no_want g ns) b) in (same.0, ap failed_by same.1)
+all_one past old one two (Err (end_fault.Link f)) (Err (end_fault.Read g)) h nr ns a b = absurd b.2
+all_one past old one two (Err (end_fault.Read f)) s h nr ns a b = absurd a.2
 
-pub serving_all_one : (past : Past) (old one two : ServingValue) (r s : Result (Unit {0}) LinkFault) → IsAfter past old → r ≢ Err fault.NoMemory → s ≢ Err fault.NoMemory → ServesAll old one r → ServesAll old two s → (one ≡ two) × (r ≡ s)
-serving_all_one past old one two (Ok u) (Ok w) h nr ns a b = (up_one past old one two h a.0 b.0 a.1 b.1, refl)
-serving_all_one past old one two (Ok u) (Err g) h nr ns a b = absurd (up_or_not past old one two g h (λ k. ns (ap failed_by k)) a.0 a.1 b)
-serving_all_one past old one two (Err f) (Ok w) h nr ns a b = absurd (up_or_not past old two one f h (λ k. nr (ap failed_by k)) b.0 b.1 a)
-serving_all_one past old one two (Err f) (Err g) h nr ns a b =
-    let same = fault_one past old one two f g h (λ k. nr (ap failed_by k)) (λ k. ns (ap failed_by k)) a b in (same.0, ap failed_by same.1)
+all_after : (past : Past) (old new : ServingValue) (r : Result (Unit {0}) EndFault) → IsAfter past old → DidAll serves old new r → (now : Past) × IsAfter now new
+all_after past old new r h d = let g = (all_grew old new r d).past past h in (g.0, g.1.is)
 
 -- ---- Going on, and taking.
 
@@ -179,21 +216,11 @@ serving_all_one past old one two (Err f) (Err g) h nr ns a b =
 abbrev IsSome : ServingValue → Type 0
 IsSome v = (past : Past) × IsAfter past v
 
-up_alike : (old other one two : ServingValue) → IsSome old → old ≡ other → ServedUp old one × IsServed one → ServedUp other two × IsServed two → (one ≡ two) × Unit {0} × IsSome one
-up_alike old other one two k e a b =
-    (up_one k.0 old one two k.1 a.0 (subst (λ (v : ServingValue). ServedUp v two) (sym e) b.0) a.1 b.1, tt, up_after k.0 old one k.1 a.0)
-
-fault_alike : (old other one two : ServingValue) (f g : EndFault) → IsSome old → old ≡ other → is_want f ≡ false → is_want g ≡ false → ServeFault old one f → ServeFault other two g → (one ≡ two) × (f ≡ g) × Unit {0} × IsSome one
-fault_alike old other one two (end_fault.Link f) (end_fault.Link g) k e nf ng a b =
-    let t = fault_one k.0 old one two f g k.1 (no_want f nf) (no_want g ng) a (subst (λ (v : ServingValue). ServeFault v two (end_fault.Link g)) (sym e) b) in
-    (t.0, ap (λ (x : LinkFault). end_fault.Link x) t.1, tt, fault_after k.0 old one f k.1 a)
-fault_alike old other one two (end_fault.Link f) (end_fault.Read g) k e nf ng a b = absurd b
-fault_alike old other one two (end_fault.Read f) g k e nf ng a b = absurd a
-
-up_apart : (old other one two : ServingValue) (f : EndFault) → IsSome old → old ≡ other → is_want f ≡ false → ServedUp old one × IsServed one → ServeFault other two f → ⊥
-up_apart old other one two (end_fault.Link f) k e n a b =
-    up_or_not k.0 old one two f k.1 (no_want f n) a.0 a.1 (subst (λ (v : ServingValue). ServeFault v two (end_fault.Link f)) (sym e) b)
-up_apart old other one two (end_fault.Read f) k e n a b = b
+all_alike : (old other one two : ServingValue) (r s : Result (Unit {0}) EndFault) → IsSome old → old ≡ other → went_wanting r ≡ false → went_wanting s ≡ false → DidAll serves old one r → DidAll serves other two s
+    → (one ≡ two) × (r ≡ s) × Unit {0} × IsSome one
+all_alike old other one two r s k e nr ns a b =
+    let t = all_one k.0 old one two r s k.1 nr ns a (subst (λ (v : ServingValue). DidAll serves v two s) (sym e) b) in
+    (t.0, t.1, tt, all_after k.0 old one r k.1 a)
 
 serves_alike : DoAlike serves serves (λ one two. one ≡ two) IsSome (Unit {0})
 serves_alike =
@@ -203,12 +230,7 @@ serves_alike =
       sends = λ v k. (k.0.handed, k.1.sends);
       took = λ old new bytes r k h rest. (k.0, subst (IsAfter k.0) (sym rest) (after_received k.0 old new.port.link (grown old.port.link new.port.link bytes r h) h.sends k.1));
       wrote = λ old new n k rest. (k.0, subst (IsAfter k.0) (sym rest) (still_sent old n k.0 k.1));
-      does = up_alike;
-      stops = fault_alike;
-      apart = up_apart;
-      apart_back = λ old other one two f k e n a b. (
-          let there : IsSome other = subst IsSome e k in up_apart other old two one f there (sym e) n b a
-          );
+      all = all_alike;
       quiet = λ a b. tt;
     }
 

@@ -1,5 +1,5 @@
 -- Writing segments, one after another.
-use Rattle.std.proofs.Common.{◌≡◌, ℕ, ◌+◌, arith, refl, sym, ◌∙◌, subst, ap, append_assoc, List, [], ◌∷◌, ◌++◌, length, inl, inr, add-zero, true, false, IsTrue}
+use Rattle.std.proofs.Common.{◌≡◌, ℕ, ◌+◌, ◌≤◌, arith, refl, sym, ◌∙◌, subst, ap, append_assoc, List, [], ◌∷◌, ◌++◌, length, inl, inr, add-zero, true, false, IsTrue}
 use Rattle.std.specs.Prelude.{Some, None, Option, Result, Ok, Err, IfOk, IfErr, OnOk, OnErr, IfSome, Bool}
 use Rattle.std.specs.Global.{Vec}
 use Rattle.std.proofs.lemmas.List.{append-nil, length-append}
@@ -8,17 +8,23 @@ use Rattle.nsp_link.specs.declared.fault.LinkFault.{LinkFault}
 use Rattle.nsp_link.specs.Link.{LinkValue, Sends, Writes, may_send}
 use Rattle.nsp_link.specs.Sending.{WritesNext, WritesSent}
 use Rattle.nsp_link.proofs.ForCallers.{may_send_parts}
-use Rattle.dap_end.specs.Ports.{PortValue, with_link}
+use Rattle.dap_end.specs.Ports.{PortValue}
+use Rattle.dap_end.specs.Inner.Moved.{with_link}
 use Rattle.nsp_link.specs.declared.fault.LinkFault.TheVariants as fault
-use Rattle.dap_end.specs.Writing.{AreSegments, IsWithin, sent_more, WroteMore, Behind, wants_ack, WroteAnswer, WrotePart}
-use Rattle.dap_end.specs.Inner.Answered.{Acknowledged}
+use Rattle.dap_end.specs.Writing.{Acknowledged, AreSegments, WroteMore, Behind, wants_ack, WroteAnswer, WrotePart}
+use Rattle.dap_end.specs.Inner.Moved.{sent_more}
 
 -- ---- One.
 
 one_segment : (p new : PortValue) (bytes : List ℕ) → IsTrue (may_send p.link) → new ≡ sent_more p 1 → WritesSent p.link (Some (p.link.sent + 1)) bytes → WroteMore p new (bytes ∷ [])
 one_segment p new bytes may sent writes =
     let parts = may_send_parts p.link may in
-    record { sent = sent; writes = (writes, tt); within = λ some. subst (λ (q : PortValue). IsWithin q.link) (sym sent) (omega (arith, parts.0), omega (arith, parts.1)) }
+    record {
+      sent = sent;
+      writes = (writes, tt);
+      there = λ some. subst (λ (q : PortValue). q.link.sent ≤ q.link.acked + length q.link.queue) (sym sent) (omega (arith, parts.0));
+      within = λ some. subst (λ (q : PortValue). q.link.sent ≤ q.link.acked + q.link.setup.window) (sym sent) (omega (arith, parts.1));
+    }
 
 pub wrote_next : (p : PortValue) (link : LinkValue) (r : Result (Option (Vec ℕ)) LinkFault) → IfOk r (λ o. IfSome o (λ b. WritesNext p.link link b.items))
     → IfOk r (λ o. IfSome o (λ b. WritesSent p.link (Some (p.link.sent + 1)) b.items)) → IfOk r (λ o. IfSome o (λ b. WroteMore p (with_link p link) (b.items ∷ [])))
@@ -39,7 +45,7 @@ segments_more v k [] bytes h w = (subst (λ (n : ℕ). WritesSent v (Some n) byt
 segments_more v k (p ∷ packets) bytes h w = (h.0, segments_more v (k + 1) packets bytes h.1 (subst (λ (n : ℕ). WritesSent v (Some n) bytes) (omega arith) w))
 
 pub wrote_nothing : (p : PortValue) → WroteMore p p []
-wrote_nothing p = record { sent = ap (λ (n : ℕ). with_link p (record p.link { sent = n })) (sym (add-zero p.link.sent)); writes = tt; within = λ some. absurd (omega arith) }
+wrote_nothing p = record { sent = ap (λ (n : ℕ). with_link p (record p.link { sent = n })) (sym (add-zero p.link.sent)); writes = tt; there = λ some. absurd (omega arith); within = λ some. absurd (omega arith) }
 
 pub wrote_none : (p : PortValue) (out : List (List ℕ)) → Behind out out (WroteMore p p)
 wrote_none p out = ([], sym (append-nil out), wrote_nothing p)
@@ -52,6 +58,7 @@ wrote_then a b c packets bytes m w =
     record {
       sent = w.sent ∙ ap (λ (p : PortValue). sent_more p 1) m.sent
           ∙ ap (λ (n : ℕ). with_link a (record a.link { sent = n })) (let long = length-append packets (bytes ∷ []) in omega arith);
+      there = λ some. w.there (omega arith);
       within = λ some. w.within (omega arith);
       writes =
           segments_more a.link (a.link.sent + 1) packets bytes m.writes (λ handed h.
@@ -71,33 +78,15 @@ pub written_count : (old new : PortValue) (out all : List (List ℕ)) → (w : B
 written_count old new out all w = ap length w.1 ∙ length-append out w.0
 
 -- one acknowledgement more is written, or none
-answered_by : (old new : PortValue) (got : Got) (out all after : List (List ℕ)) (wants : Bool) → (w : Behind out all (WroteMore old new)) → may_send new.link ≡ false → wants_ack got (length w.0) ≡ wants → Acknowledged new wants all after → Behind out after (WroteAnswer old new got)
-answered_by old new got out all after false w full e a = (
-  w.0,
-  a ∙ w.1,
-  record {
-    written = w.0;
-    wrote = w.2;
-    full = full;
-    quiet = λ _. refl;
-    acks = λ other. (let wrong : ⊥ = cc in absurd wrong);
-  },
-)
-answered_by old new got out all after true w full e a = (
-  w.0 ++ a.0 ∷ [],
-  a.1 ∙ ap (λ (l : List (List ℕ)). l ++ a.0 ∷ []) w.1 ∙ append_assoc out w.0 (a.0 ∷ []),
-  record {
-    written = w.0;
-    wrote = w.2;
-    full = full;
-    quiet = λ other. (let wrong : ⊥ = cc in absurd wrong);
-    acks = λ _. (a.0, refl, a.2);
-  },
-)
+acked : (new : PortValue) (out all after written : List (List ℕ)) (wants : Bool) → all ≡ out ++ written → Acknowledged new wants all after → Behind out after (Acknowledged new wants written)
+acked new out all after written false e a = (written, a ∙ e, refl)
+acked new out all after written true e a = (written ++ a.0 ∷ [], a.1 ∙ ap (λ (l : List (List ℕ)). l ++ a.0 ∷ []) e ∙ append_assoc out written (a.0 ∷ []), (a.0, refl, a.2))
 
 pub answered : (old new : PortValue) (got : Got) (out all after : List (List ℕ)) (count : ℕ) (r : Result (Unit {0}) LinkFault) → (w : Behind out all (WroteMore old new)) → may_send new.link ≡ false → length w.0 ≡ count
     → OnOk r (Acknowledged new (wants_ack got count) all after) → OnOk r (Behind out after (WroteAnswer old new got))
-answered old new got out all after count (Ok u) w full long a = answered_by old new got out all after (wants_ack got count) w full (ap (wants_ack got) long) a
+answered old new got out all after count (Ok u) w full long a =
+    let b = acked new out all after w.0 (wants_ack got (length w.0)) w.1 (subst (λ (n : ℕ). Acknowledged new (wants_ack got n) all after) (sym long) a) in
+    (b.0, b.1, (w.0, w.2, full, b.2))
 answered old new got out all after count (Err f) w full long a = tt
 
 -- memory was wanting for a segment, or for it

@@ -1,5 +1,5 @@
 -- Going through the items of the NSP messages that came.
-use Rattle.std.proofs.Common.{ℕ, ◌<◌, ◌≤◌, arith, refl, sym, ◌∙◌, subst, ap, append_assoc, List, [], ◌∷◌, ◌++◌, length, inl, inr, eq-eqb}
+use Rattle.std.proofs.Common.{◌≡◌, ℕ, ◌<◌, ◌≤◌, arith, refl, sym, ◌∙◌, subst, ap, append_assoc, List, [], ◌∷◌, ◌++◌, length, inl, inr, eq-eqb}
 use Rattle.std.specs.Prelude.{◌==◌, if◌then◌else◌}
 use Rattle.std.proofs.lemmas.Bool.{cases_eq, ne_eqb}
 use Rattle.std.proofs.lemmas.List.{append-nil}
@@ -55,6 +55,21 @@ items_more (m ∷ given) bytes done front h i =
 bytes-more : (given : List (List ℕ)) (bytes : List ℕ) → AllByRecursion AreBytes given → AreBytes bytes → AllByRecursion AreBytes (given ++ bytes ∷ [])
 bytes-more [] bytes h fits = (fits, tt)
 bytes-more (m ∷ given) bytes h fits = (h.0, bytes-more given bytes h.1 fits)
+
+-- ---- The next item.
+
+-- the items from the place on are the others of the oldest NSP message
+stand_rest : (bytes : List ℕ) (begun rest : List Item) (at place : ℕ) → StandFrom bytes at begun place → ItemsFrom bytes place rest → ItemsFrom bytes at (begun ++ rest)
+stand_rest bytes [] rest at place h r = subst (λ (n : ℕ). ItemsFrom bytes n rest) (sym h) r
+stand_rest bytes (first ∷ []) [] at place h r = absurd r
+stand_rest bytes (first ∷ []) (x ∷ rest) at place h r = (h.0, h.1, h.2, stand_rest bytes [] (x ∷ rest) h.0 place h.3 r)
+stand_rest bytes (first ∷ second ∷ begun) rest at place h r = (h.0, h.1, h.2, stand_rest bytes (second ∷ begun) rest h.0 place h.3 r)
+
+pub next_items : (given inbox later : List (List ℕ)) (bytes : List ℕ) (place : ℕ) (items rest : List Item) → inbox ≡ bytes ∷ later → GoneThrough given inbox place items → ItemsFrom bytes place rest → AreItemsOf (given ++ bytes ∷ []) (items ++ rest)
+next_items given inbox later bytes place items rest came g r =
+    let front : StandFrom bytes 0 g.begun place = subst (λ (l : List (List ℕ)). StandFrom (oldest l) 0 g.begun place) came g.front in
+    let there : Items bytes (g.begun ++ rest) = stand_rest bytes g.begun rest 0 place front r in
+    subst (AreItemsOf (given ++ bytes ∷ [])) (sym (append_assoc g.done g.begun rest) ∙ ap (λ (l : List Item). l ++ rest) (sym g.all)) (items_more given bytes g.done (g.begun ++ rest) g.whole there)
 
 -- the item doesn't end the NSP message
 pub gone_within : (given later : List (List ℕ)) (bytes : List ℕ) (place next : ℕ) (items : List Item) (item : Item)

@@ -6,10 +6,12 @@ use Rattle.nsp_link.specs.Link.{LinkValue, Stands}
 use Rattle.dap_accessing.specs.Request.{Request}
 use Rattle.dap_accessing.specs.declared.report.Report.{Report}
 use Rattle.dap_accessing.specs.Told.{Told}
-use Rattle.dap_end.specs.Ports.{PortValue}
+use Rattle.dap_end.specs.Ports.{HandsOver, PortValue}
 use Rattle.dap_end.specs.Going.{AreFrontOf}
-use Rattle.dap_end.specs.Writing.{sent_more, WroteMore}
-use Rattle.dap_end.specs.Asking.{HasAsked, AskedOne, HandedAll, asks}
+use Rattle.dap_end.specs.Writing.{WroteMore}
+use Rattle.dap_end.specs.Inner.Moved.{sent_more}
+use Rattle.dap_end.specs.Asking.{HasAsked, AskedOne}
+use Rattle.dap_end.specs.Hearing.{asks}
 use Rattle.dap_end.specs.Done.{AskingValue, AskingPast, nothing_asked}
 use Rattle.dap_end.specs.Runs.{RunsBy}
 use Rattle.dap_end.specs.Headline.{Written, AreWrittenOf, IsFromPeer}
@@ -67,7 +69,7 @@ heard_so requests reports more wrote old new m t =
 
 -- all that waited was handed over, or none
 abbrev pub HandedOver : AskingValue → AskingValue → Type 0
-HandedOver old new = (new ≡ old) ⊎ ((n : ℕ) × HandedAll old new n)
+HandedOver old new = (new ≡ old) ⊎ ((n : ℕ) × HandsOver old new n)
 
 handed_so : (requests : List Request) (reports : List Report) (wrote : List Written) (old new : AskingValue) → HandedOver old new → Asked_So requests reports wrote old → Asked_So requests reports wrote new
 handed_so requests reports wrote old new (inl same) t = subst (Asked_So requests reports wrote) (sym same) t
@@ -116,7 +118,7 @@ step_so : (comes : LinkValue → List ℕ → Type 0) (requests : List Request) 
 step_so comes requests (old, reports, wrote) (new, after, all) (Asks request) ws s t =
     let a = s.1 in
     record {
-      past = asked_one t.past old.accessing.own request;
+      past = asked_one t.past old.present.own request;
       is = asked_past request old new s.0 a t.past t.is;
       asked = ap (λ (l : List Request). l ++ request ∷ []) t.asked;
       told = s.3 ∙ t.told ∙ sym (a.asks.told t.past.requests t.past.answers t.is.asking);
@@ -151,7 +153,7 @@ record Listens (size : ℕ) (messages : List (List ℕ)) (v : AskingValue) : Typ
   is : HasAsked past v
   stands : StandsThen v.port.link size messages past.given
 
-handed_stands : (v : AskingValue) (size : ℕ) (messages given : List (List ℕ)) (new : AskingValue) (n : ℕ) → HandedAll v new n → StandsThen v.port.link size messages given → StandsThen new.port.link size messages given
+handed_stands : (v : AskingValue) (size : ℕ) (messages given : List (List ℕ)) (new : AskingValue) (n : ℕ) → HandsOver v new n → StandsThen v.port.link size messages given → StandsThen new.port.link size messages given
 handed_stands v size messages given new n h s =
     subst (λ (w : AskingValue). StandsThen w.port.link size messages given) (sym (handed_is v new n h)) (record { taken = s.0.taken; held = s.0.held }, s.1)
 
@@ -175,7 +177,7 @@ step_listens size messages (old, _, _) (new, _, _) (By (Came bytes)) ws (s, e) t
     subst (Listens size messages) (sym s.3)
     (record { past = t.past; is = still_received old s.1 g s.2.sends t.past t.is; stands = then_stands old.port.link s.1 size messages t.past.given bytes s.0 s.6 t.stands s.2 })
 step_listens size messages (old, _, _) (new, _, _) (Asks request) ws s t =
-    record { past = asked_one t.past old.accessing.own request; is = asked_past request old new s.0 s.1 t.past t.is; stands = asked_stands old size messages t.past.given new request s.0 s.1 t.stands }
+    record { past = asked_one t.past old.present.own request; is = asked_past request old new s.0 s.1 t.past t.is; stands = asked_stands old size messages t.past.given new request s.0 s.1 t.stands }
 step_listens size messages (old, _, _) (new, _, _) (By GoesOn) ws (s, e) t =
     let (heard, read, over) = s.2 in
     let m = read_grows old heard read.0 read.2 in

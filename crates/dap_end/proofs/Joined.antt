@@ -139,7 +139,7 @@ pub record IsLinked (first : Files) (p : Pair) : Type 0 where
 
 pub headline : (first : Files) (p : Pair) → IsLinked first p → PairHeadline first p
 headline first p j =
-    let own = p.b.accessed.own in
+    let own = p.b.present.own in
     let t = first_ones j.asked.asked j.asked.handed p.a.port.outbox j.served.items j.asking.full j.asking.fit j.asking.waiting
     (served_front p.b.port.link p.a.port.link.setup.seg_size j.asked.handed j.served.given p.b.port.place j.served.items j.ways.there.positive j.ways.there.stands j.serving.gone) in
     let packets = answers_to own j.served.first [] j.served.items in
@@ -148,7 +148,7 @@ headline first p j =
     (served_front p.a.port.link p.b.port.link.setup.seg_size j.served.handed j.asked.given p.a.port.place j.asked.answers j.ways.back.positive j.ways.back.stands j.asking.gone) in
     record {
       taken = t.taken;
-      taken_in_order = (t.rest, t.split ∙ j.asking.messages ∙ ap (Asked p.a.accessing.own) j.requests);
+      taken_in_order = (t.rest, t.split ∙ j.asking.messages ∙ ap (Asked p.a.present.own) j.requests);
       files_after = ap (λ (x : Present). x.files) j.serving.serving ∙ ap (After own j.served.first) t.is ∙ ap (λ (f : Files). After own f (map Whole t.taken)) j.had;
       read = r.taken;
       read_in_order = (r.rest, r.split ∙ answers ∙ ap (Answers own j.served.first) t.is ∙ ap (λ (f : Files). Answers own f (map Whole t.taken)) j.had);
@@ -241,7 +241,7 @@ goes a b link new port from_a from_b to_a to_b more given now wire_a wire_b pack
     let sent : ℕ = link.sent + n in
     let new_is : new.link ≡ record link { sent = sent } = ap (λ (p : PortValue). p.link) w.sent ∙ ap (λ (l : LinkValue). record l { sent = l.sent + n }) at in
     let to : new.link ≡ moved a link.coming.inbox link.queue sent = new_is ∙ same_front a link sent counts in
-    let within : 0 < n → sent ≤ link.acked + link.setup.window = λ some. (let i = w.within some in subst (λ (l : LinkValue). l.sent ≤ l.acked + l.setup.window) new_is i.1) in
+    let within : 0 < n → sent ≤ link.acked + link.setup.window = λ some. subst (λ (l : LinkValue). l.sent ≤ l.acked + l.setup.window) new_is (w.within some) in
     let moves : Moves a link.coming.inbox link.queue sent = within_by a link sent n counts refl within j.there.within in
     let same_sent : link.sent ≡ a.sent = ap (λ (l : LinkValue). l.sent) counts in
     let same_received : link.coming.received ≡ a.coming.received = ap (λ (l : LinkValue). l.coming.received) counts in
@@ -370,7 +370,7 @@ hands past old heard handed h (inr k) =
       answers = refl;
       more = heard.port.outbox;
       more_is = refl;
-      short = (may_queue_parts heard.port.link heard.port.outbox one.0.0).1;
+      short = (may_queue_parts heard.port.link heard.port.outbox one.0).1;
       given = refl;
       link = refl;
       same = λ size messages given s. record { taken = s.taken; held = s.held };
@@ -405,7 +405,7 @@ asks first old new (Asks request) ws s j =
     let a = t.1 in
     subst (IsLinked first) (sym s.1)
     (record {
-      asked = asked_one j.asked old.a.accessing.own request;
+      asked = asked_one j.asked old.a.present.own request;
       asking = asked_past request old.a new.a t.0 a j.asked j.asking;
       served = j.served;
       serving = j.serving;

@@ -18,13 +18,15 @@ use Rattle.dap_end.specs.declared.fault.EndFault.{EndFault}
 use Rattle.dap_end.specs.declared.fault.EndFault.TheVariants as end_fault
 use Rattle.dap_end.specs.declared.fault.TakeFault.{TakeFault}
 use Rattle.dap_end.specs.declared.fault.TakeFault.TheVariants as take_fault
-use Rattle.dap_end.specs.Ports.{PortValue, HasCome, with_link}
-use Rattle.dap_end.specs.Writing.{sent_more}
-use Rattle.dap_end.specs.Serving.{IsAfter, ServedOne, PostedAll}
+use Rattle.dap_end.specs.Ports.{HandsOver, HasCome, PortValue}
+use Rattle.dap_end.specs.Inner.Moved.{with_link}
+use Rattle.dap_end.specs.Inner.Moved.{sent_more}
+use Rattle.dap_end.specs.Serving.{IsAfter, ServedOne}
+use Rattle.dap_end.specs.Inner.Served.{ServedInTurn, begins, goes}
 use Rattle.dap_end.specs.Done.{ServingValue, Past, nothing_yet}
-use Rattle.dap_end.specs.Turns.{WroteThen, TookIn, Takes, WentOn}
+use Rattle.dap_end.specs.Turns.{DidAll, WroteThen, TookIn, Takes, WentOn}
 use Rattle.dap_end.specs.Inner.Pasts.{Still}
-use Rattle.dap_end.specs.Taking.{ServedOn, begins, goes, ServedUp, ServeFault, serves}
+use Rattle.dap_end.specs.Taking.{ServedOn, serves}
 use Rattle.dap_end.proofs.Taking.{grown}
 use Rattle.dap_end.proofs.Afterwards.{after_received, posted_is, posted_past}
 use Rattle.dap_end.proofs.Proceeding.{still_by}
@@ -95,7 +97,7 @@ known_by old link (inr same) still (past, h, inr none) = (past, still past h, in
 known_in : (old : ServingValue) (link : LinkValue) (bytes : List ℕ) (r : Result Got LinkFault) → Receives old.port.link link bytes r → Still IsAfter old (with_port old (with_link old.port link)) → IsKnown old → IsKnown (with_port old (with_link old.port link))
 known_in old link bytes r h still k = known_by old link (comes_by old.port.link.failed old.port.link link bytes r refl h) still k
 
-posted_known : (v new : ServingValue) (n : ℕ) → PostedAll v new n → IsKnown v → IsKnown new
+posted_known : (v new : ServingValue) (n : ℕ) → HandsOver v new n → IsKnown v → IsKnown new
 posted_known v new n p (past, h, inl came) =
     (record past { handed = past.handed ++ v.port.outbox }, posted_past v new n p past h, inl (subst (λ (w : ServingValue). HasCome w.port) (sym (posted_is v new n p)) came))
 posted_known v new n p (past, h, inr none) =
@@ -110,21 +112,22 @@ served_known v new n s (past, h, inl came) =
     (served past s.one.bytes s.one.item s.one.next, s.past past h, inl (subst (λ (p : PortValue). HasCome p) (sym s.port) came))
 served_known v new n s (past, h, inr none) = absurd (no_next s.one.bytes s.one.later (sym none.1 ∙ s.one.came))
 
+turn_known : (a b : ServingValue) → ServedInTurn a b → IsKnown a → IsKnown b
+turn_known a b begins k = k
+turn_known a b (goes p m count n x y on) k = turn_known m b on (served_known p m n y (posted_known a p count x k))
+
 on_known : (a b : ServingValue) → ServedOn a b → IsKnown a → IsKnown b
-on_known a b begins k = k
-on_known a b (goes p m count n x y on) k = on_known m b on (served_known p m n y (posted_known a p count x k))
+on_known a b (inl on) k = turn_known a b on k
+on_known a b (inr u) k = posted_known u.0 b u.1 u.3 (turn_known a u.0 u.2 k)
 
-up_known : (a b : ServingValue) → ServedUp a b → IsKnown a → IsKnown b
-up_known a b u k = posted_known u.0 b u.1 u.3 (on_known a u.0 u.2 k)
-
-fault_known : (a b : ServingValue) (f : EndFault) → ServeFault a b f → IsKnown a → IsKnown b
-fault_known a b (end_fault.Link f) (inl h) k = on_known a b h.0 k
-fault_known a b (end_fault.Link f) (inr h) k = up_known a b h.1 k
-fault_known a b (end_fault.Read f) h k = absurd h
+all_known : (a b : ServingValue) (r : Result (Unit {0}) EndFault) → DidAll serves a b r → IsKnown a → IsKnown b
+all_known a b (Ok u) d k = posted_known d.0 b d.1 d.4 (on_known a d.0 d.2 k)
+all_known a b (Err (end_fault.Link f)) d k = subst IsKnown (sym d.2.0) (on_known a d.0 d.1 k)
+all_known a b (Err (end_fault.Read f)) d k = absurd d.2
 
 wrote_known : (old new : ServingValue) (out all : List (List ℕ)) (wrote : PortValue → PortValue → List (List ℕ) → Type 0) → (w : WroteThen serves wrote old new out all) → (n : ℕ) → new.port ≡ sent_more w.mid.port n → IsKnown old → IsKnown new
 wrote_known old new out all wrote w n sent k =
-    let (past, h, did) = up_known old w.mid w.done.0 k in (
+    let (past, h, did) = all_known old w.mid (Ok tt) w.done k in (
       past,
       subst (IsAfter past) (sym w.rest) (still_by w.mid new.port n sent past h),
       elim did [
@@ -134,19 +137,19 @@ wrote_known old new out all wrote w n sent k =
     )
 
 pub going_known : (old new : ServingValue) (out all : List (List ℕ)) (r : Result (Unit {0}) EndFault) → WentOn serves old new out all r → IsKnown old → IsKnown new
-going_known old new out all (Ok u) h k = wrote_known old new out all _ h _ h.wrote.2.0.sent k
-going_known old new out all (Err f) (inl h) k = fault_known old new f h.0 k
+going_known old new out all (Ok u) h k = wrote_known old new out all _ h _ h.wrote.2.1.sent k
+going_known old new out all (Err f) (inl h) k = all_known old new (Err f) h.0 k
 going_known old new out all (Err f) (inr h) k = wrote_known old new out all _ h.1 _ h.1.wrote.2.0.sent k
 
-in_known : (old new : ServingValue) (bytes : List ℕ) (r : Result Got LinkFault) → TookIn serves old new bytes r → IsKnown old → IsKnown new
+in_known : (old new : ServingValue) (bytes : List ℕ) (r : Result Got LinkFault) → TookIn old new bytes r → IsKnown old → IsKnown new
 in_known old new bytes r t k =
     let still : Still IsAfter old (with_port old (with_link old.port new.port.link)) = λ past h. after_received past old new.port.link (grown old.port.link new.port.link bytes r t.receives) t.receives.sends h in
     subst IsKnown (sym t.rest) (known_in old new.port.link bytes r t.receives still k)
 
 pub taking_known : (old new : ServingValue) (bytes : List ℕ) (out all : List (List ℕ)) (r : Result Got TakeFault) → Takes serves old new bytes out all r → IsKnown old → IsKnown new
-taking_known old new bytes out all (Ok got) t k = wrote_known t.0 new out all _ t.2 _ t.2.wrote.2.wrote.sent (in_known old t.0 bytes (Ok got) t.1 k)
+taking_known old new bytes out all (Ok got) t k = wrote_known t.0 new out all _ t.2 _ t.2.wrote.2.1.sent (in_known old t.0 bytes (Ok got) t.1 k)
 taking_known old new bytes out all (Err (take_fault.Refused f)) t k = in_known old new bytes (Err f) t.0 k
-taking_known old new bytes out all (Err (take_fault.Unfinished got f)) (mid, t, inl h) k = fault_known mid new f h.0 (in_known old mid bytes (Ok got) t k)
+taking_known old new bytes out all (Err (take_fault.Unfinished got f)) (mid, t, inl h) k = all_known mid new (Err f) h.0 (in_known old mid bytes (Ok got) t k)
 taking_known old new bytes out all (Err (take_fault.Unfinished got f)) (mid, t, inr h) k = wrote_known mid new out all _ h.1 _ h.1.wrote.2.0.sent (in_known old mid bytes (Ok got) t k)
 
 pub new_known : (first : _) (v : ServingValue) → IsAfter (nothing_yet first) v → v.port.link.coming.inbox ≡ [] → IsKnown v

@@ -9,19 +9,23 @@ use Rattle.dap_msg.specs.Items.{IsPlace}
 use Rattle.nsp_link.specs.declared.fault.LinkFault.{LinkFault}
 use Rattle.nsp_link.specs.declared.fault.LinkFault.TheVariants as fault
 use Rattle.nsp_link.specs.Link.{LinkValue, Stands, may_send, with_inbox, AreShort}
+use Rattle.dap_accessed.specs.Standing.{Files}
 use Rattle.dap_end.specs.Inner.Pasts.{served}
 use Rattle.dap_end.specs.declared.fault.EndFault.{EndFault}
 use Rattle.dap_end.specs.declared.fault.EndFault.TheVariants as end_fault
-use Rattle.dap_end.specs.Ports.{PortValue, posted}
-use Rattle.dap_end.specs.Serving.{IsAfter, ServedOne, PostedAll, MayServe}
+use Rattle.dap_end.specs.Ports.{HandsOver, PortValue}
+use Rattle.dap_end.specs.Inner.Moved.{posted}
+use Rattle.dap_end.specs.Serving.{IsAfter, ServedOne, MayServe}
+use Rattle.dap_end.specs.Inner.Served.{ServedInTurn, begins, goes}
 use Rattle.dap_end.specs.Done.{ServingValue, Past}
-use Rattle.dap_end.specs.Writing.{sent_more, Behind, WroteMore}
-use Rattle.dap_end.specs.Taking.{ServedOn, begins, goes, ServedUp, IsServed, ServeFault, serves}
+use Rattle.dap_end.specs.Writing.{Behind, WroteMore}
+use Rattle.dap_end.specs.Inner.Moved.{sent_more}
+use Rattle.dap_end.specs.Taking.{ServedOn, serves}
 use Rattle.dap_end.specs.Inner.Running.{Grew, ServedMore}
 use Rattle.dap_end.proofs.Afterwards.{posted_is, posted_past}
 use Rattle.dap_end.proofs.ServingOne.{port_given}
 use Rattle.dap_end.proofs.Turning.{went_by}
-use Rattle.dap_end.specs.Turns.{WentOn}
+use Rattle.dap_end.specs.Turns.{DidAll, WentOn}
 use Rattle.std.specs.Result.{result_map_both}
 use Rattle.dap_end.specs.Inner.Pasts.{Still}
 use Rattle.dap_end.specs.Inner.ServingView.{with_port}
@@ -76,13 +80,13 @@ posted_grew : (past : Past) (v : ServingValue) → AreShort v.port.link v.port.o
 posted_grew past v short h =
     record { is = h; first = refl; items = ([], sym (append-nil past.items)); handed = (v.port.outbox, refl, short); given = refl; stands = λ size messages s. record { taken = s.taken; held = s.held } }
 
-pub more_posted : (v new : ServingValue) (n : ℕ) → PostedAll v new n → ServedMore v new
+pub more_posted : (v new : ServingValue) (n : ℕ) → HandsOver v new n → ServedMore v new
 more_posted v new n p =
     subst (ServedMore v) (sym (posted_is v new n p))
     (record {
       link = refl;
       own = refl;
-      past = λ past h. (record past { handed = past.handed ++ v.port.outbox }, posted_grew past v (may_queue_parts v.port.link v.port.outbox p.0.0).1 (subst (IsAfter (record past { handed = past.handed ++ v.port.outbox })) (posted_is v new n p) (posted_past v new n p past h)));
+      past = λ past h. (record past { handed = past.handed ++ v.port.outbox }, posted_grew past v (may_queue_parts v.port.link v.port.outbox p.0).1 (subst (IsAfter (record past { handed = past.handed ++ v.port.outbox })) (posted_is v new n p) (posted_past v new n p past h)));
     })
 
 -- what left, and what is left
@@ -117,35 +121,49 @@ more_served old new n s =
 
 -- ---- One after another.
 
-pub on_more : (a b posted c : ServingValue) (count n : ℕ) → ServedOn a b → PostedAll b posted count → ServedOne posted c n → ServedOn a c
+pub on_more : (a b posted c : ServingValue) (count n : ℕ) → ServedInTurn a b → HandsOver b posted count → ServedOne posted c n → ServedInTurn a c
 on_more a b posted c count n begins p s = goes posted c count n p s begins
 on_more a b posted c count n (goes first mid k m q t on) p s = goes first mid k m q t (on_more mid b posted c count n on p s)
 
+turn_grew : (a b : ServingValue) → ServedInTurn a b → ServedMore a b
+turn_grew a b begins = more_none a
+turn_grew a b (goes posted mid count n p s on) = more_trans a mid b (more_trans a posted mid (more_posted a posted count p) (more_served posted mid n s)) (turn_grew mid b on)
+
 pub on_grew : (a b : ServingValue) → ServedOn a b → ServedMore a b
-on_grew a b begins = more_none a
-on_grew a b (goes posted mid count n p s on) = more_trans a mid b (more_trans a posted mid (more_posted a posted count p) (more_served posted mid n s)) (on_grew mid b on)
+on_grew a b (inl on) = turn_grew a b on
+on_grew a b (inr u) = more_trans a u.0 b (turn_grew a u.0 u.2) (more_posted u.0 b u.1 u.3)
 
-pub up_grew : (a b : ServingValue) → ServedUp a b → ServedMore a b
-up_grew a b u = more_trans a u.0 b (on_grew a u.0 u.2) (more_posted u.0 b u.1 u.3)
+pub all_grew : (a b : ServingValue) (r : Result (Unit {0}) EndFault) → DidAll serves a b r → ServedMore a b
+all_grew a b (Ok u) d = more_trans a d.0 b (on_grew a d.0 d.2) (more_posted d.0 b d.1 d.4)
+all_grew a b (Err (end_fault.Link f)) d = subst (ServedMore a) (sym d.2.0) (on_grew a d.0 d.1)
+all_grew a b (Err (end_fault.Read f)) d = absurd d.2
 
-pub fault_grew : (a b : ServingValue) (f : EndFault) → ServeFault a b f → ServedMore a b
-fault_grew a b (end_fault.Link f) (inl h) = on_grew a b h.0
-fault_grew a b (end_fault.Link f) (inr h) = up_grew a b h.1
-fault_grew a b (end_fault.Read f) h = absurd h
+-- what was served on counts behind what the end did
+pub counted : (past : Past) (old new : ServingValue) → IsAfter past old → ServedMore old new → (given handed : List (List ℕ)) × (items : List Item)
+    × IsAfter (record past { given = given; items = past.items ++ items; handed = past.handed ++ handed }) new × (given ++ new.port.link.coming.inbox ≡ past.given ++ old.port.link.coming.inbox)
+counted past old new h m =
+    let (now, g) = m.past past h in
+    let first : IsAfter (record now { first = past.first }) new = subst (λ (f : Files). IsAfter (record now { first = f }) new) g.first g.is in
+    let items : IsAfter (record now { first = past.first; items = past.items ++ g.items.0 }) new = subst (λ (l : List Item). IsAfter (record now { first = past.first; items = l }) new) g.items.1 first in
+    (now.given, g.handed.0, g.items.0, subst (λ (l : List (List ℕ)). IsAfter (record now { first = past.first; items = past.items ++ g.items.0; handed = l }) new) g.handed.1 items, g.given)
 
 no_more : (v : ServingValue) (inbox : List (List ℕ)) → v.port.link.coming.inbox ≡ inbox → v.port.outbox ≡ [] → (MayServe v → ⊥) → inbox ≡ []
 no_more v [] is idle none = refl
 no_more v (m ∷ inbox) is idle none = absurd (none (idle, (let long = ap length is in omega arith)))
 
-pub all_served : (v : ServingValue) → v.port.outbox ≡ [] → (MayServe v → ⊥) → IsServed v
-all_served v idle none = (no_more v v.port.link.coming.inbox refl idle none, idle)
+pub none_left : (v : ServingValue) → v.port.outbox ≡ [] → (MayServe v → ⊥) → v.port.link.coming.inbox ≡ []
+none_left v idle none = no_more v v.port.link.coming.inbox refl idle none
 
-pub none_waits : (v new : ServingValue) (n : ℕ) → PostedAll v new n → new.port.outbox ≡ []
+-- what came stays
+pub inbox_posted : (v new : ServingValue) (n : ℕ) → HandsOver v new n → new.port.link.coming.inbox ≡ v.port.link.coming.inbox
+inbox_posted v new n p = ap (λ (x : ServingValue). x.port.link.coming.inbox) (posted_is v new n p)
+
+pub none_waits : (v new : ServingValue) (n : ℕ) → HandsOver v new n → new.port.outbox ≡ []
 none_waits v new n p = ap (λ (x : ServingValue). x.port.outbox) (posted_is v new n p)
 
 -- a link to which something was handed runs
-pub works_here : (old new : ServingValue) (n : ℕ) → PostedAll old new n → new.port.link.failed ≡ false
-works_here old new n p = ap (λ (v : ServingValue). v.port.link.failed) (posted_is old new n p) ∙ (may_queue_parts old.port.link old.port.outbox p.0.0).0
+pub works_here : (old new : ServingValue) (n : ℕ) → HandsOver old new n → new.port.link.failed ≡ false
+works_here old new n p = ap (λ (v : ServingValue). v.port.link.failed) (posted_is old new n p) ∙ (may_queue_parts old.port.link old.port.outbox p.0).0
 
 -- ---- How much is left to serve.
 
@@ -185,14 +203,8 @@ still_sent v n = λ past h. record { serving = h.serving; gone = h.gone; sends =
 pub still_by : (v : ServingValue) (port : PortValue) (n : ℕ) → port ≡ sent_more v.port n → Still IsAfter v (with_port v port)
 still_by v port n e = subst (λ (p : PortValue). Still IsAfter v (with_port v p)) (sym e) (still_sent v n)
 
-served_still : (v : ServingValue) (port : PortValue) (n : ℕ) → port ≡ sent_more v.port n → IsServed v → IsServed (with_port v port)
-served_still v port n e h = (ap (λ (p : PortValue). p.link.coming.inbox) e ∙ h.0, ap (λ (p : PortValue). p.outbox) e ∙ h.1)
-
 -- all was served, and then segments were written
-pub gone_by : (old served : ServingValue) (port : PortValue) (out all : List (List ℕ)) (r : Result (Unit {0}) LinkFault) → ServedUp old served → IsServed served → Behind out all (WroteMore served.port port) → OnOk r (may_send port.link ≡ false)
+pub gone_by : (old served : ServingValue) (port : PortValue) (out all : List (List ℕ)) (r : Result (Unit {0}) LinkFault) → DidAll serves old served (Ok tt) → Behind out all (WroteMore served.port port) → OnOk r (may_send port.link ≡ false)
     → IfErr r (λ f. (f ≡ fault.NoMemory) × IsTrue (may_send port.link)) → WentOn serves old (with_port served port) out all (result_map_both (λ done. done) end_fault.Link r)
-gone_by old served port out all (Ok u) m d w full why = went_by serves old served (with_port served port) out all (Ok u) (m, d) refl w full why
-gone_by old served port out all (Err f) m d w full why = went_by serves old served (with_port served port) out all (Err f) (m, d) refl w full why
-
-pub gone_served : (old served : ServingValue) (port : PortValue) (out all : List (List ℕ)) → IsServed served → Behind out all (WroteMore served.port port) → IsServed (with_port served port)
-gone_served old served port out all d w = served_still served port _ w.2.sent d
+gone_by old served port out all (Ok u) d w full why = went_by serves old served (with_port served port) out all (Ok u) d refl w full why
+gone_by old served port out all (Err f) d w full why = went_by serves old served (with_port served port) out all (Err f) d refl w full why

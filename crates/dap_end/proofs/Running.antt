@@ -7,6 +7,7 @@ use Rattle.dap_msg.specs.declared.message.Message.{Message}
 use Rattle.dap_msg.specs.Blocked.{NspMessage, Blocked, messages_in}
 use Rattle.dap_msg.proofs.ForCallers.{messages_in-Blocked}
 use Rattle.nsp_link.specs.declared.link.Got.{Got}
+use Rattle.nsp_link.specs.declared.link.Got.TheVariants.{AckOnly}
 use Rattle.nsp_link.specs.declared.fault.LinkFault.{LinkFault}
 use Rattle.nsp_link.proofs.ForCallers.{is_delivered, came_due}
 use Rattle.nsp_link.specs.Link.{LinkValue, Stands, IsSpelling, with_inbox}
@@ -15,17 +16,17 @@ use Rattle.dap_accessed.specs.Standing.{Files}
 use Rattle.dap_accessed.specs.Groups.{Answers, added, limit_for}
 use Rattle.dap_accessed.proofs.ForCallers.{Answers-more}
 use Rattle.dap_end.specs.declared.fault.EndFault.{EndFault}
-use Rattle.dap_end.specs.declared.fault.EndFault.TheVariants as end_fault
 use Rattle.dap_end.specs.declared.fault.TakeFault.{TakeFault}
 use Rattle.dap_end.specs.declared.fault.TakeFault.TheVariants as take_fault
-use Rattle.dap_end.specs.Ports.{PortValue}
+use Rattle.dap_end.specs.Ports.{EndValue, HandsOver, PortValue}
 use Rattle.nsp_link.specs.Receiving.{Receives}
 use Rattle.dap_end.specs.Going.{AreFrontOf}
-use Rattle.dap_end.specs.Writing.{sent_more, wants_ack, WroteMore}
-use Rattle.dap_end.specs.Serving.{IsAfter, ServedOne, PostedAll}
+use Rattle.dap_end.specs.Writing.{Acknowledged, wants_ack, WroteAnswer, WroteMore}
+use Rattle.dap_end.specs.Inner.Moved.{sent_more}
+use Rattle.dap_end.specs.Serving.{IsAfter, ServedOne}
 use Rattle.dap_end.specs.Done.{ServingValue, Past, answers_to, nothing_yet}
-use Rattle.dap_end.specs.Turns.{EndOf, WroteThen, WentOn, TookIn, TookThen, Takes}
-use Rattle.dap_end.specs.Taking.{ServeFault, ServesAll, serves}
+use Rattle.dap_end.specs.Turns.{Answered, DidAll, EndOf, WroteThen, WentOn, TookIn, TookThen, Takes}
+use Rattle.dap_end.specs.Taking.{serves}
 use Rattle.dap_end.specs.Inner.Running.{ServedMore}
 use Rattle.dap_end.specs.Runs.{RunsBy}
 use Rattle.dap_end.specs.Headline.{Written, bytes_of, AreWrittenOf, IsFromPeer}
@@ -35,7 +36,7 @@ use Rattle.dap_end.proofs.Afterwards.{after_received}
 use Rattle.dap_end.proofs.Fronts.{served_front}
 use Rattle.dap_end.proofs.Packets.{all_written, still_written, written_on, numbered_written, one_written, ack_written}
 use Rattle.dap_end.proofs.Emitting.{wrote_nothing}
-use Rattle.dap_end.proofs.Proceeding.{still_sent, more_none, more_served, more_posted, up_grew, fault_grew}
+use Rattle.dap_end.proofs.Proceeding.{still_sent, more_none, more_served, more_posted, all_grew}
 use Rattle.dap_end.specs.Inner.ServingView.{with_port}
 
 -- ---- The answers.
@@ -161,9 +162,9 @@ some_peer size messages v bytes f =
     let same : size ≡ some_size size = omega (arith, f.4.positive) in
     subst (λ (n : ℕ). IsFromPeer n messages v bytes) same f
 
-pub stepped_by : {V : Type 0} (end : EndOf V) (does : V → V → Type 0) (here there : LinkValue → List ℕ → Type 0) (old new : V) (event : EndEvent) (ws : List Written) → ((v : LinkValue) (bytes : List ℕ) → here v bytes → there v bytes)
+pub stepped_by : {P : Type 0} (end : EndOf P) (does : EndValue P → EndValue P → Type 0) (here there : LinkValue → List ℕ → Type 0) (old new : EndValue P) (event : EndEvent) (ws : List Written) → ((v : LinkValue) (bytes : List ℕ) → here v bytes → there v bytes)
     → EndStepped end does here old event new ws → EndStepped end does there old event new ws
-stepped_by end does here there old new (Came bytes) ws comes t = (t.0, t.1, t.2, t.3, t.4, t.5, comes (end.port old).link bytes t.6)
+stepped_by end does here there old new (Came bytes) ws comes t = (t.0, t.1, t.2, t.3, t.4, t.5, comes old.port.link bytes t.6)
 stepped_by end does here there old new GoesOn ws comes t = t
 stepped_by end does here there old new (Repeats k) ws comes t = t
 
@@ -241,11 +242,10 @@ module _ (comes : LinkValue → List ℕ → Type 0) where
   pub serving_is : (old new : ServingValue) (n : ℕ) → ServedOne old new n → RunsAs comes old new []
   serving_is old new n s = one_event old new GoesOn [] (served_only old new (more_served old new n s))
 
-  pub serving_all_is : (old new : ServingValue) (r : Result (Unit {0}) LinkFault) → ServesAll old new r → RunsAs comes old new []
-  serving_all_is old new (Ok done) s = one_event old new GoesOn [] (served_only old new (up_grew old new s.0))
-  serving_all_is old new (Err f) s = one_event old new GoesOn [] (served_only old new (fault_grew old new (end_fault.Link f) s))
+  pub serving_all_is : (old new : ServingValue) (r : Result (Unit {0}) EndFault) → DidAll serves old new r → RunsAs comes old new []
+  serving_all_is old new r s = one_event old new GoesOn [] (served_only old new (all_grew old new r s))
 
-  pub posting_is : (old new : ServingValue) (n : ℕ) → PostedAll old new n → RunsAs comes old new []
+  pub posting_is : (old new : ServingValue) (n : ℕ) → HandsOver old new n → RunsAs comes old new []
   posting_is old new n p = one_event old new GoesOn [] (served_only old new (more_posted old new n p))
 
   pub writing_is : (old new : ServingValue) (bytes : List ℕ) → new ≡ with_port old new.port → WroteMore old.port new.port (bytes ∷ [])
@@ -262,10 +262,10 @@ module _ (comes : LinkValue → List ℕ → Type 0) where
   pub ack_is : (v : ServingValue) (bytes : List ℕ) → IsSpelling (ack_packet_of v.port.link) bytes → RunsAs comes v v (record { bytes = bytes; segment = None; acks = v.port.link.coming.received } ∷ [])
   ack_is v bytes s = one_event v v (Repeats None) _ (ack_step v bytes s)
 
-  came : (old new : ServingValue) (bytes : List ℕ) (r : Result Got LinkFault) → comes old.port.link bytes → TookIn serves old new bytes r → Stepping comes old (Came bytes) new []
+  came : (old new : ServingValue) (bytes : List ℕ) (r : Result Got LinkFault) → comes old.port.link bytes → TookIn old new bytes r → Stepping comes old (Came bytes) new []
   came old new bytes r h t = (r, new.port.link, t.receives, t.rest, refl, tt, h)
 
-  pub receiving_is : (old new : ServingValue) (bytes : List ℕ) (r : Result Got LinkFault) → comes old.port.link bytes → TookIn serves old new bytes r → RunsAs comes old new []
+  pub receiving_is : (old new : ServingValue) (bytes : List ℕ) (r : Result Got LinkFault) → comes old.port.link bytes → TookIn old new bytes r → RunsAs comes old new []
   receiving_is old new bytes r h t = one_event old new (Came bytes) [] (came old new bytes r h t)
 
 -- the bytes of some packets, numbered
@@ -285,50 +285,41 @@ module _ (comes : LinkValue → List ℕ → Type 0) where
   abbrev pub AreCalls : ServingValue → ServingValue → (out all : List (List ℕ)) → Type 0
   AreCalls old new out all = (wrote : List Written) × RunsAs comes old new wrote × (all ≡ out ++ bytes_of wrote)
 
-  going_is : (old new : ServingValue) (out all : List (List ℕ)) → WroteThen serves WroteMore old new out all → AreCalls old new out all
-  going_is old new out all w =
-      (_, one_event comes old new GoesOn _ (w.mid, w.wrote.0, up_grew old w.mid w.done.0, w.wrote.2, w.rest, refl), behind out all w.wrote.0 _ _ w.wrote.1)
-
   took_by : (old mid new : ServingValue) (bytes : List ℕ) (out all : List (List ℕ)) → Stepping comes old (Came bytes) mid [] → AreCalls mid new out all → AreCalls old new out all
   took_by old mid new bytes out all s c = (c.0, (Came bytes ∷ c.1.0, ((mid, []), [], (s, refl), c.1.1)), c.2)
 
   -- with an acknowledgement or without
-  answered_is : (old served new : ServingValue) (got : Got) (out all packets written : List (List ℕ)) (wants : Bool) → ServedMore old served → new ≡ with_port served new.port → WroteMore served.port new.port written → all ≡ out ++ packets
-      → wants_ack got (length written) ≡ wants → (wants_ack got (length written) ≡ false → packets ≡ written)
-      → (wants_ack got (length written) ≡ true → (bytes : List ℕ) × (packets ≡ written ++ bytes ∷ []) × IsSpelling (ack_packet_of new.port.link) bytes)
-      → AreCalls old new out all
-  answered_is old served new got out all packets written false m rest w is e quiet acks =
-      (_, one_event comes old new GoesOn _ (served, written, m, w, rest, refl), behind out all written _ _ (is ∙ ap (λ (l : List (List ℕ)). out ++ l) (quiet e)))
-  answered_is old served new got out all packets written true m rest w is e quiet acks =
-      let a = acks e in
+  answered_is : (old served new : ServingValue) (out all packets written : List (List ℕ)) (wants : Bool) → ServedMore old served → new ≡ with_port served new.port → WroteMore served.port new.port written → all ≡ out ++ packets
+      → Acknowledged new.port wants written packets → AreCalls old new out all
+  answered_is old served new out all packets written false m rest w is ack =
+      (_, one_event comes old new GoesOn _ (served, written, m, w, rest, refl), behind out all written _ _ (is ∙ ap (λ (l : List (List ℕ)). out ++ l) ack))
+  answered_is old served new out all packets written true m rest w is ack =
       let first = numbered (served.port.link.sent + 1) served.port.link.coming.received written in
-      let last : Written = record { bytes = a.0; segment = None; acks = new.port.link.coming.received } in (
+      let last : Written = record { bytes = ack.0; segment = None; acks = new.port.link.coming.received } in (
         first ++ last ∷ [],
-        more_calls comes old new new first (last ∷ []) (one_event comes old new GoesOn first (served, written, m, w, rest, refl)) (ack_is comes new a.0 a.2),
-        is ∙ ap (λ (l : List (List ℕ)). out ++ l) (a.1 ∙ ap (λ (l : List (List ℕ)). l ++ a.0 ∷ []) (sym (numbered_bytes _ _ written)) ∙ sym (bytes_append first (last ∷ []))),
+        more_calls comes old new new first (last ∷ []) (one_event comes old new GoesOn first (served, written, m, w, rest, refl)) (ack_is comes new ack.0 ack.2),
+        is ∙ ap (λ (l : List (List ℕ)). out ++ l) (ack.1 ∙ ap (λ (l : List (List ℕ)). l ++ ack.0 ∷ []) (sym (numbered_bytes _ _ written)) ∙ sym (bytes_append first (last ∷ []))),
       )
 
-  taking_is : (old new : ServingValue) (bytes : List ℕ) (got : Got) (out all : List (List ℕ)) → comes old.port.link bytes → TookThen serves old new bytes got out all (Ok tt) → AreCalls old new out all
-  taking_is old new bytes got out all h (mid, t, w) =
-      let a = w.wrote in
-      took_by old mid new bytes out all (came comes old mid bytes (Ok got) h t)
-      (answered_is mid w.mid new got out all a.0 a.2.written (wants_ack got (length a.2.written)) (up_grew mid w.mid w.done.0) w.rest a.2.wrote a.1 refl a.2.quiet a.2.acks)
+  whole_is : (old new : ServingValue) (got : Got) (out all : List (List ℕ)) → WroteThen serves (λ p q. WroteAnswer p q got) old new out all → AreCalls old new out all
+  whole_is old new got out all w =
+      let (packets, is, a) = w.wrote in answered_is old w.mid new out all packets a.0 (wants_ack got (length a.0)) (all_grew old w.mid (Ok tt) w.done) w.rest a.1 is a.3
 
-  stopped_is : (old new : ServingValue) (out all : List (List ℕ)) (f : EndFault) → ServeFault old new f → all ≡ out → AreCalls old new out all
-  stopped_is old new out all f h same = ([], one_event comes old new GoesOn [] (served_only comes old new (fault_grew old new f h)), same ∙ sym (append-nil out))
+  answer_is : (old new : ServingValue) (got : Got) (out all : List (List ℕ)) (r : Result (Unit {0}) EndFault) → Answered serves old new got out all r → AreCalls old new out all
+  answer_is old new got out all (Ok done) w = whole_is old new got out all w
+  answer_is old new got out all (Err f) (inl h) =
+      ([], one_event comes old new GoesOn [] (served_only comes old new (all_grew old new (Err f) h.0)), h.1 ∙ sym (append-nil out))
+  answer_is old new got out all (Err f) (inr h) =
+      let w = h.1 in
+      (_, one_event comes old new GoesOn _ (w.mid, w.wrote.0, all_grew old w.mid (Ok tt) w.done, w.wrote.2.0, w.rest, refl), behind out all w.wrote.0 _ _ w.wrote.1)
 
   pub going_on_is : (old new : ServingValue) (out all : List (List ℕ)) (r : Result (Unit {0}) EndFault) → WentOn serves old new out all r → AreCalls old new out all
-  going_on_is old new out all (Ok done) w = going_is old new out all (record { mid = w.mid; done = w.done; rest = w.rest; wrote = (w.wrote.0, w.wrote.1, w.wrote.2.0) })
-  going_on_is old new out all (Err f) (inl h) = stopped_is old new out all f h.0 h.1
-  going_on_is old new out all (Err f) (inr h) = let w = h.1 in going_is old new out all (record { mid = w.mid; done = w.done; rest = w.rest; wrote = (w.wrote.0, w.wrote.1, w.wrote.2.0) })
+  going_on_is old new out all r w = answer_is old new AckOnly out all r w
 
-  part_is : (old new : ServingValue) (bytes : List ℕ) (got : Got) (out all : List (List ℕ)) (f : EndFault) → comes old.port.link bytes → TookThen serves old new bytes got out all (Err f) → AreCalls old new out all
-  part_is old new bytes got out all f h (mid, t, inl s) = took_by old mid new bytes out all (came comes old mid bytes (Ok got) h t) (stopped_is mid new out all f s.0 s.1)
-  part_is old new bytes got out all f h (mid, t, inr s) =
-      let w = s.1 in
-      took_by old mid new bytes out all (came comes old mid bytes (Ok got) h t) (going_is mid new out all (record { mid = w.mid; done = w.done; rest = w.rest; wrote = (w.wrote.0, w.wrote.1, w.wrote.2.0) }))
+  then_is : (old new : ServingValue) (bytes : List ℕ) (got : Got) (out all : List (List ℕ)) (r : Result (Unit {0}) EndFault) → comes old.port.link bytes → TookThen serves old new bytes got out all r → AreCalls old new out all
+  then_is old new bytes got out all r h (mid, t, a) = took_by old mid new bytes out all (came comes old mid bytes (Ok got) h t) (answer_is mid new got out all r a)
 
   pub taken_is : (old new : ServingValue) (bytes : List ℕ) (out all : List (List ℕ)) (r : Result Got TakeFault) → comes old.port.link bytes → Takes serves old new bytes out all r → AreCalls old new out all
-  taken_is old new bytes out all (Ok got) h t = taking_is old new bytes got out all h t
+  taken_is old new bytes out all (Ok got) h t = then_is old new bytes got out all (Ok tt) h t
   taken_is old new bytes out all (Err (take_fault.Refused f)) h t = ([], receiving_is comes old new bytes (Err f) h t.0, t.1 ∙ sym (append-nil out))
-  taken_is old new bytes out all (Err (take_fault.Unfinished got f)) h t = part_is old new bytes got out all f h t
+  taken_is old new bytes out all (Err (take_fault.Unfinished got f)) h t = then_is old new bytes got out all (Err f) h t

@@ -77,31 +77,31 @@ fit-both [] two h k = k
 fit-both (m ∷ one) two h k = (h.0, fit-both one two h.1 k)
 
 module _ (old : ServingValue) (bytes : List ℕ) (later : List (List ℕ)) (inbox : old.port.link.coming.inbox ≡ bytes ∷ later) (fits : AreBytes bytes) where
-  past_one : (after : Present) (s : Served) (serves : Serves bytes old.port.place old.accessed after s) → old.port.outbox ≡ [] → s.next ≤ length bytes
+  past_one : (after : Present) (s : Served) (serves : Serves bytes old.port.place old.present after s) → old.port.outbox ≡ [] → s.next ≤ length bytes
       → (past : Past) → IsAfter past old
       → IsAfter (served past bytes serves.item s.next) (serving_of (record (gone_on old.port bytes later s.next) { outbox = bodies s.answers.items }) after)
   past_one after s serves idle within past h =
-      let limit : serves.limit ≡ limit_for old.accessed.own past.first past.items = serves.is_limit past.first past.items h.serving in
-      let block : List NspMessage = answer_to old.accessed.own past.first past.items serves.item in
+      let limit : serves.limit ≡ limit_for old.present.own past.first past.items = serves.is_limit past.first past.items h.serving in
+      let block : List NspMessage = answer_to old.present.own past.first past.items serves.item in
       record {
         serving = serves.stands past.first past.items h.serving;
         gone = port_gone old.port bytes later s.next past.given past.items serves.item fits inbox h.gone serves.reads within;
         sends = record { queue = h.sends.queue; acked = h.sends.acked };
         answers =
             ap (λ (l : List (List ℕ)). past.handed ++ l)
-            (serves.answers past.first past.items h.serving ∙ ap (λ (n : ℕ). all_joined (Blocked n (added old.accessed.own past.first past.items serves.item))) limit)
+            (serves.answers past.first past.items h.serving ∙ ap (λ (n : ℕ). all_joined (Blocked n (added old.present.own past.first past.items serves.item))) limit)
             ∙ ap (λ (l : List (List ℕ)). l ++ all_joined block) (sym (append-nil past.handed) ∙ ap (λ (l : List (List ℕ)). past.handed ++ l) (sym idle) ∙ h.answers)
-            ∙ sym (map-append joined (answers_to old.accessed.own past.first [] past.items) block)
-            ∙ ap all_joined (sym (answers-more old.accessed.own past.first past.items serves.item))
+            ∙ sym (map-append joined (answers_to old.present.own past.first [] past.items) block)
+            ∙ ap all_joined (sym (answers-more old.present.own past.first past.items serves.item))
             ∙ ap (λ (n : ℕ). all_joined (answers_to n past.first [] (past.items ++ serves.item ∷ []))) (sym serves.same_own);
         fit =
             subst (λ (n : ℕ). AllFit (Answers n past.first (past.items ++ serves.item ∷ []))) (sym serves.same_own)
-            (subst AllFit (sym (Answers-more old.accessed.own past.first past.items serves.item))
-            (fit-both (Answers old.accessed.own past.first past.items) (added old.accessed.own past.first past.items serves.item) h.fit (serves.fits past.first past.items h.serving)));
+            (subst AllFit (sym (Answers-more old.present.own past.first past.items serves.item))
+            (fit-both (Answers old.present.own past.first past.items) (added old.present.own past.first past.items serves.item) h.fit (serves.fits past.first past.items h.serving)));
       }
 
   pub served_one : (after : Present) (s : Served) (port : PortValue) (next n : ℕ)
-      → old.port.outbox ≡ [] → IsPlace old.port.place bytes → (serves : Serves bytes old.port.place old.accessed after s)
+      → old.port.outbox ≡ [] → IsPlace old.port.place bytes → (serves : Serves bytes old.port.place old.present after s)
       → s.next ≡ next → next ≤ length bytes → (old.port.place < length bytes → old.port.place < next)
       → port ≡ record (gone_on old.port bytes later next) { outbox = bodies s.answers.items } → n ≡ length (bodies s.answers.items)
       → ServedOne old (serving_of port after) n

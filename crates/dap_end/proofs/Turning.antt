@@ -3,6 +3,7 @@ use Rattle.std.proofs.Common.{◌≡◌, ◌≢◌, ℕ, refl, sym, ◌∙◌, s
 use Rattle.std.specs.Prelude.{Result, Ok, Err, OnOk, IfErr}
 use Rattle.dap_fields.specs.Spelling.{AreBytes}
 use Rattle.nsp_link.specs.declared.link.Got.{Got}
+use Rattle.nsp_link.specs.declared.link.Got.TheVariants.{AckOnly}
 use Rattle.nsp_link.specs.declared.fault.LinkFault.{LinkFault}
 use Rattle.nsp_link.specs.declared.fault.LinkFault.TheVariants as fault
 use Rattle.nsp_link.specs.Link.{Sends, may_send}
@@ -11,13 +12,15 @@ use Rattle.dap_end.specs.declared.fault.EndFault.{EndFault}
 use Rattle.dap_end.specs.declared.fault.EndFault.TheVariants as end_fault
 use Rattle.dap_end.specs.declared.fault.TakeFault.{TakeFault}
 use Rattle.dap_end.specs.declared.fault.TakeFault.TheVariants as take_fault
-use Rattle.dap_end.specs.Ports.{PortValue, with_link}
-use Rattle.dap_end.specs.Writing.{sent_more, Behind, WroteMore, WroteAnswer, WrotePart}
-use Rattle.dap_end.specs.Turns.{EndOf, DidAndWrote, WentOn, Answered, TookIn, TookThen, Takes}
+use Rattle.dap_end.specs.Ports.{EndValue, PortValue}
+use Rattle.dap_end.specs.Inner.Moved.{with_link}
+use Rattle.dap_end.specs.Writing.{Behind, WroteMore, WroteAnswer, WrotePart}
+use Rattle.dap_end.specs.Inner.Moved.{sent_more}
+use Rattle.dap_end.specs.Turns.{EndOf, DidAll, WentOn, Answered, TookIn, TookThen, Takes}
 use Rattle.dap_end.specs.Wanting.{is_want, why}
 use Rattle.dap_end.specs.Inner.Wanting.{went_wanting, took_wanting}
 use Rattle.dap_end.specs.Inner.Answered.{ended_by}
-use Rattle.dap_end.proofs.Writing.{wrote_one, answer_one}
+use Rattle.dap_end.proofs.Writing.{answer_one}
 use Rattle.dap_end.proofs.Refusing.{receives_same}
 
 -- ---- How it comes about.
@@ -25,15 +28,16 @@ use Rattle.dap_end.proofs.Refusing.{receives_same}
 abbrev linked : LinkFault → EndFault
 linked f = end_fault.Link f
 
-pub went_by : {V : Type 0} (end : EndOf V) (old mid new : V) (out all : List (List ℕ)) (r : Result (Unit {0}) LinkFault) → end.does old mid → new ≡ end.with_port mid (end.port new)
-    → Behind out all (WroteMore (end.port mid) (end.port new)) → OnOk r (may_send (end.port new).link ≡ false) → IfErr r (λ f. (f ≡ fault.NoMemory) × IsTrue (may_send (end.port new).link)) → WentOn end old new out all (ended_by r)
-went_by end old mid new out all (Ok u) done rest w full why = record { mid = mid; done = done; rest = rest; wrote = (w.0, w.1, (w.2, full)) }
-went_by end old mid new out all (Err f) done rest w full why = inr (ap linked why.0, record { mid = mid; done = done; rest = rest; wrote = (w.0, w.1, (w.2, why.1)) })
-
-pub answered_by : {V : Type 0} (end : EndOf V) (old mid new : V) (got : Got) (out all : List (List ℕ)) (r : Result (Unit {0}) LinkFault) → end.does old mid → new ≡ end.with_port mid (end.port new)
-    → OnOk r (Behind out all (WroteAnswer (end.port mid) (end.port new) got)) → IfErr r (λ f. (f ≡ fault.NoMemory) × Behind out all (WrotePart (end.port mid) (end.port new) got)) → Answered end old new got out all (ended_by r)
+pub answered_by : {P : Type 0} (end : EndOf P) (old mid new : EndValue P) (got : Got) (out all : List (List ℕ)) (r : Result (Unit {0}) LinkFault) → DidAll end old mid (Ok tt) → new ≡ record mid { port = new.port }
+    → OnOk r (Behind out all (WroteAnswer mid.port new.port got)) → IfErr r (λ f. (f ≡ fault.NoMemory) × Behind out all (WrotePart mid.port new.port got)) → Answered end old new got out all (ended_by r)
 answered_by end old mid new got out all (Ok u) done rest w why = record { mid = mid; done = done; rest = rest; wrote = w }
 answered_by end old mid new got out all (Err f) done rest w why = inr (ap linked why.0, record { mid = mid; done = done; rest = rest; wrote = why.1 })
+
+pub went_by : {P : Type 0} (end : EndOf P) (old mid new : EndValue P) (out all : List (List ℕ)) (r : Result (Unit {0}) LinkFault) → DidAll end old mid (Ok tt) → new ≡ record mid { port = new.port }
+    → Behind out all (WroteMore mid.port new.port) → OnOk r (may_send new.port.link ≡ false) → IfErr r (λ f. (f ≡ fault.NoMemory) × IsTrue (may_send new.port.link)) → WentOn end old new out all (ended_by r)
+went_by end old mid new out all (Ok u) done rest w full why =
+    record { mid = mid; done = done; rest = rest; wrote = (w.0, w.1, (w.0, w.2, full, refl)) }
+went_by end old mid new out all (Err f) done rest w full why = inr (ap linked why.0, record { mid = mid; done = done; rest = rest; wrote = (w.0, w.1, (w.2, inl why.1)) })
 
 -- ---- Results.
 
@@ -90,70 +94,57 @@ took_well (Err (take_fault.Unfinished got f)) n = n
 -- ---- It is determined.
 
 -- Two ends that are alike do alike: all of it, or they stop alike.
-pub record DoAlike {V : Type 0} (e d : EndOf V) (alike : V → V → Type 0) (known : V → Type 0) (told : Type 0) : Type 0 where
-  pub port : (a b : V) → alike a b → e.port a ≡ d.port b
-  pub moved : (a b : V) (p q : PortValue) → alike a b → p ≡ q → alike (e.with_port a p) (d.with_port b q)
-  pub sends : (v : V) → known v → (handed : List (List ℕ)) × Sends (e.port v).link handed
-  pub took : (old new : V) (bytes : List ℕ) (r : Result Got LinkFault) → known old → Receives (e.port old).link (e.port new).link bytes r → new ≡ e.with_port old (with_link (e.port old) (e.port new).link) → known new
-  pub wrote : (old new : V) (n : ℕ) → known old → new ≡ e.with_port old (sent_more (e.port old) n) → known new
-  pub does : (old other one two : V) → known old → alike old other → e.does old one → d.does other two → alike one two × told × known one
-  pub stops : (old other one two : V) (f g : EndFault) → known old → alike old other → is_want f ≡ false → is_want g ≡ false → e.stops old one f → d.stops other two g → alike one two × (f ≡ g) × told × known one
-  pub apart : (old other one two : V) (f : EndFault) → known old → alike old other → is_want f ≡ false → e.does old one → d.stops other two f → ⊥
-  pub apart_back : (old other one two : V) (f : EndFault) → known old → alike old other → is_want f ≡ false → e.stops old one f → d.does other two → ⊥
+pub record DoAlike {P : Type 0} (e d : EndOf P) (alike : EndValue P → EndValue P → Type 0) (known : EndValue P → Type 0) (told : Type 0) : Type 0 where
+  pub port : (a b : EndValue P) → alike a b → a.port ≡ b.port
+  pub moved : (a b : EndValue P) (p q : PortValue) → alike a b → p ≡ q → alike (record a { port = p }) (record b { port = q })
+  pub sends : (v : EndValue P) → known v → (handed : List (List ℕ)) × Sends v.port.link handed
+  pub took : (old new : EndValue P) (bytes : List ℕ) (r : Result Got LinkFault) → known old → Receives old.port.link new.port.link bytes r → new ≡ record old { port = with_link old.port new.port.link } → known new
+  pub wrote : (old new : EndValue P) (n : ℕ) → known old → new ≡ record old { port = sent_more old.port n } → known new
+  pub all : (old other one two : EndValue P) (r s : Result (Unit {0}) EndFault) → known old → alike old other → went_wanting r ≡ false → went_wanting s ≡ false → DidAll e old one r → DidAll d other two s
+      → alike one two × (r ≡ s) × told × known one
   pub quiet : e.quiet → d.quiet → told
 
-abbrev Relation : Type 1
-Relation = PortValue → PortValue → List (List ℕ) → Type 0
-
-module _ {V : Type 0} (e d : EndOf V) (alike : V → V → Type 0) (known : V → Type 0) (told : Type 0) (by : DoAlike e d alike known told) where
-  moved_to : (a b one two : V) (p q : PortValue) → alike a b → one ≡ e.with_port a p → two ≡ d.with_port b q → p ≡ q → alike one two
+module _ {P : Type 0} (e d : EndOf P) (alike : EndValue P → EndValue P → Type 0) (known : EndValue P → Type 0) (told : Type 0) (by : DoAlike e d alike known told) where
+  moved_to : (a b one two : EndValue P) (p q : PortValue) → alike a b → one ≡ record a { port = p } → two ≡ record b { port = q } → p ≡ q → alike one two
   moved_to a b one two p q like ra rb same =
-      subst (λ (v : V). alike v two) (sym ra) (subst (λ (v : V). alike (e.with_port a p) v) (sym rb) (by.moved a b p q like same))
+      subst (λ (v : EndValue P). alike v two) (sym ra) (subst (λ (v : EndValue P). alike (record a { port = p }) v) (sym rb) (by.moved a b p q like same))
 
-  did_same : (whole part as_whole as_part : Relation) (out xs ys : List (List ℕ)) → ((p one two : PortValue) (handed some more : List (List ℕ)) → Sends p.link handed → whole p one some → as_whole p two more → (one ≡ two) × (some ≡ more))
-      → ((p q : PortValue) (some : List (List ℕ)) → whole p q some → (n : ℕ) × (q ≡ sent_more p n)) → (old other one two : V) (r s : Result (Unit {0}) EndFault) → known old → alike old other → went_wanting r ≡ false → went_wanting s ≡ false
-      → DidAndWrote e whole part old one out xs r → DidAndWrote d as_whole as_part other two out ys s → alike one two × (r ≡ s) × (xs ≡ ys) × told × known one
-  did_same whole part as_whole as_part out xs ys same count old other one two (Ok u) (Ok w) k like nr ns a b =
-      let t = by.does old other a.mid b.mid k like a.done b.done in
-      let sent = by.sends a.mid t.2 in
-      let wb : as_whole (e.port a.mid) (d.port two) b.wrote.0 = subst (λ (p : PortValue). as_whole p (d.port two) b.wrote.0) (sym (by.port a.mid b.mid t.0)) b.wrote.2 in
-      let w = same (e.port a.mid) (e.port one) (d.port two) sent.0 a.wrote.0 b.wrote.0 sent.1 a.wrote.2 wb in
-      let n = count (e.port a.mid) (e.port one) a.wrote.0 a.wrote.2 in (
+  pub answered_same : (old other one two : EndValue P) (got : Got) (out xs ys : List (List ℕ)) (r s : Result (Unit {0}) EndFault) → known old → alike old other → went_wanting r ≡ false → went_wanting s ≡ false
+      → Answered e old one got out xs r → Answered d other two got out ys s → alike one two × (r ≡ s) × (xs ≡ ys) × told × known one
+  answered_same old other one two got out xs ys (Ok u) (Ok w) k like nr ns a b =
+      let t = by.all old other a.mid b.mid (Ok tt) (Ok tt) k like refl refl a.done b.done in
+      let sent = by.sends a.mid t.3 in
+      let wb : WroteAnswer a.mid.port two.port got b.wrote.0 = subst (λ (p : PortValue). WroteAnswer p two.port got b.wrote.0) (sym (by.port a.mid b.mid t.0)) b.wrote.2 in
+      let w = answer_one a.mid.port one.port two.port sent.0 got a.wrote.0 b.wrote.0 sent.1 a.wrote.2 wb in (
         moved_to a.mid b.mid one two _ _ t.0 a.rest b.rest w.0,
         refl,
         a.wrote.1 ∙ ap (λ (l : List (List ℕ)). out ++ l) w.1 ∙ sym b.wrote.1,
-        t.1,
-        by.wrote a.mid one n.0 t.2 (a.rest ∙ ap (e.with_port a.mid) n.1),
+        t.2,
+        by.wrote a.mid one _ t.3 (a.rest ∙ ap (λ (p : PortValue). record a.mid { port = p }) a.wrote.2.1.sent),
       )
-  did_same whole part as_whole as_part out xs ys same count old other one two (Ok u) (Err g) k like nr ns a (inl b) = absurd (by.apart old other a.mid two g k like ns a.done b.0)
-  did_same whole part as_whole as_part out xs ys same count old other one two (Ok u) (Err g) k like nr ns a (inr b) = absurd (true≢false (sym (ap is_want b.0) ∙ ns))
-  did_same whole part as_whole as_part out xs ys same count old other one two (Err f) (Ok w) k like nr ns (inl a) b = absurd (by.apart_back old other one b.mid f k like nr a.0 b.done)
-  did_same whole part as_whole as_part out xs ys same count old other one two (Err f) (Ok w) k like nr ns (inr a) b = absurd (true≢false (sym (ap is_want a.0) ∙ nr))
-  did_same whole part as_whole as_part out xs ys same count old other one two (Err f) (Err g) k like nr ns (inl a) (inl b) =
-      let t = by.stops old other one two f g k like nr ns a.0 b.0 in (t.0, ap failed_by t.1, a.1 ∙ sym b.1, t.2, t.3)
-  did_same whole part as_whole as_part out xs ys same count old other one two (Err f) (Err g) k like nr ns (inl a) (inr b) = absurd (true≢false (sym (ap is_want b.0) ∙ ns))
-  did_same whole part as_whole as_part out xs ys same count old other one two (Err f) (Err g) k like nr ns (inr a) b = absurd (true≢false (sym (ap is_want a.0) ∙ nr))
+  answered_same old other one two got out xs ys (Ok u) (Err g) k like nr ns a (inl b) = absurd (did_apart g (by.all old other a.mid two (Ok tt) (Err g) k like refl ns a.done b.0).1)
+  answered_same old other one two got out xs ys (Ok u) (Err g) k like nr ns a (inr b) = absurd (true≢false (sym (ap is_want b.0) ∙ ns))
+  answered_same old other one two got out xs ys (Err f) (Ok w) k like nr ns (inl a) b = absurd (did_apart f (sym (by.all old other one b.mid (Err f) (Ok tt) k like nr refl a.0 b.done).1))
+  answered_same old other one two got out xs ys (Err f) (Ok w) k like nr ns (inr a) b = absurd (true≢false (sym (ap is_want a.0) ∙ nr))
+  answered_same old other one two got out xs ys (Err f) (Err g) k like nr ns (inl a) (inl b) =
+      let t = by.all old other one two (Err f) (Err g) k like nr ns a.0 b.0 in (t.0, t.1, a.1 ∙ sym b.1, t.2, t.3)
+  answered_same old other one two got out xs ys (Err f) (Err g) k like nr ns (inl a) (inr b) = absurd (true≢false (sym (ap is_want b.0) ∙ ns))
+  answered_same old other one two got out xs ys (Err f) (Err g) k like nr ns (inr a) b = absurd (true≢false (sym (ap is_want a.0) ∙ nr))
 
-  pub went_same : (old other one two : V) (out xs ys : List (List ℕ)) (r s : Result (Unit {0}) EndFault) → known old → alike old other → went_wanting r ≡ false → went_wanting s ≡ false
+  pub went_same : (old other one two : EndValue P) (out xs ys : List (List ℕ)) (r s : Result (Unit {0}) EndFault) → known old → alike old other → went_wanting r ≡ false → went_wanting s ≡ false
       → WentOn e old one out xs r → WentOn d other two out ys s → alike one two × (r ≡ s) × (xs ≡ ys) × told × known one
-  went_same old other one two out xs ys r s k like nr ns a b =
-      did_same _ _ _ _ out xs ys (λ p one two handed some more sends w v. wrote_one p one two handed some more sends w.0 v.0 w.1 v.1) (λ p q some w. (_, w.0.sent)) old other one two r s k like nr ns a b
+  went_same old other one two out xs ys r s k like nr ns a b = answered_same old other one two AckOnly out xs ys r s k like nr ns a b
 
-  answered_same : (old other one two : V) (got : Got) (out xs ys : List (List ℕ)) (r s : Result (Unit {0}) EndFault) → known old → alike old other → went_wanting r ≡ false → went_wanting s ≡ false
-      → Answered e old one got out xs r → Answered d other two got out ys s → alike one two × (r ≡ s) × (xs ≡ ys) × told × known one
-  answered_same old other one two got out xs ys r s k like nr ns a b =
-      did_same _ _ _ _ out xs ys (λ p one two handed some more sends w v. answer_one p one two handed got some more sends w v) (λ p q some w. (_, w.wrote.sent)) old other one two r s k like nr ns a b
-
-  in_same : (old other one two : V) (bytes : List ℕ) (r s : Result Got LinkFault) → AreBytes bytes → known old → alike old other → r ≢ Err fault.NoMemory → s ≢ Err fault.NoMemory
-      → TookIn e old one bytes r → TookIn d other two bytes s → (r ≡ s) × alike one two × known one
+  in_same : (old other one two : EndValue P) (bytes : List ℕ) (r s : Result Got LinkFault) → AreBytes bytes → known old → alike old other → r ≢ Err fault.NoMemory → s ≢ Err fault.NoMemory
+      → TookIn old one bytes r → TookIn other two bytes s → (r ≡ s) × alike one two × known one
   in_same old other one two bytes r s fits k like nr ns a b =
       let port = by.port old other like in
-      let rb : Receives (e.port old).link (d.port two).link bytes s = subst (λ (p : PortValue). Receives p.link (d.port two).link bytes s) (sym port) b.receives in
-      let t = receives_same (e.port old).link (e.port one).link (d.port two).link bytes r s fits nr ns a.receives rb in
-      let there = ap (with_link (e.port old)) t.1 ∙ ap (λ (p : PortValue). with_link p (d.port two).link) port in
+      let rb : Receives old.port.link two.port.link bytes s = subst (λ (p : PortValue). Receives p.link two.port.link bytes s) (sym port) b.receives in
+      let t = receives_same old.port.link one.port.link two.port.link bytes r s fits nr ns a.receives rb in
+      let there = ap (with_link old.port) t.1 ∙ ap (λ (p : PortValue). with_link p two.port.link) port in
       (t.0, moved_to old other one two _ _ like a.rest b.rest there, by.took old one bytes r k a.receives a.rest)
 
-  then_same : (old other one two : V) (bytes : List ℕ) (g h : Got) (out xs ys : List (List ℕ)) (r s : Result (Unit {0}) EndFault) → AreBytes bytes → known old → alike old other → went_wanting r ≡ false → went_wanting s ≡ false
+  then_same : (old other one two : EndValue P) (bytes : List ℕ) (g h : Got) (out xs ys : List (List ℕ)) (r s : Result (Unit {0}) EndFault) → AreBytes bytes → known old → alike old other → went_wanting r ≡ false → went_wanting s ≡ false
       → TookThen e old one bytes g out xs r → TookThen d other two bytes h out ys s → alike one two × ((g ≡ h) × (r ≡ s)) × (xs ≡ ys) × told × known one
   then_same old other one two bytes g h out xs ys r s fits k like nr ns a b =
       let i = in_same old other a.0 b.0 bytes (Ok g) (Ok h) fits k like (ok_apart g fault.NoMemory) (ok_apart h fault.NoMemory) a.1 b.1 in
@@ -161,15 +152,15 @@ module _ {V : Type 0} (e d : EndOf V) (alike : V → V → Type 0) (known : V �
       let t = answered_same a.0 b.0 one two g out xs ys r s i.2 i.1 nr ns a.2 (subst (λ (x : Got). Answered d b.0 two x out ys s) (sym gots) b.2) in
       (t.0, (gots, t.1), t.2, t.3, t.4)
 
-  in_apart : (old other one two : V) (bytes : List ℕ) (g : Got) (f : LinkFault) → AreBytes bytes → known old → alike old other → is_want (end_fault.Link f) ≡ false → TookIn e old one bytes (Ok g) → TookIn d other two bytes (Err f) → ⊥
+  in_apart : (old other one two : EndValue P) (bytes : List ℕ) (g : Got) (f : LinkFault) → AreBytes bytes → known old → alike old other → is_want (end_fault.Link f) ≡ false → TookIn old one bytes (Ok g) → TookIn other two bytes (Err f) → ⊥
   in_apart old other one two bytes g f fits k like n a b =
       ok_apart g f (in_same old other one two bytes (Ok g) (Err f) fits k like (ok_apart g fault.NoMemory) (λ e. no_want f n (err_same f fault.NoMemory e)) a b).0
 
-  apart_in : (old other one two : V) (bytes : List ℕ) (g : Got) (f : LinkFault) → AreBytes bytes → known old → alike old other → is_want (end_fault.Link f) ≡ false → TookIn e old one bytes (Err f) → TookIn d other two bytes (Ok g) → ⊥
+  apart_in : (old other one two : EndValue P) (bytes : List ℕ) (g : Got) (f : LinkFault) → AreBytes bytes → known old → alike old other → is_want (end_fault.Link f) ≡ false → TookIn old one bytes (Err f) → TookIn other two bytes (Ok g) → ⊥
   apart_in old other one two bytes g f fits k like n a b =
       ok_apart g f (sym (in_same old other one two bytes (Err f) (Ok g) fits k like (λ e. no_want f n (err_same f fault.NoMemory e)) (ok_apart g fault.NoMemory) a b).0)
 
-  pub took_same : (old other one two : V) (bytes : List ℕ) (out xs ys : List (List ℕ)) (r s : Result Got TakeFault) → AreBytes bytes → known old → alike old other → took_wanting r ≡ false → took_wanting s ≡ false
+  pub took_same : (old other one two : EndValue P) (bytes : List ℕ) (out xs ys : List (List ℕ)) (r s : Result Got TakeFault) → AreBytes bytes → known old → alike old other → took_wanting r ≡ false → took_wanting s ≡ false
       → Takes e old one bytes out xs r → Takes d other two bytes out ys s → alike one two × (r ≡ s) × (xs ≡ ys) × told × known one
   took_same old other one two bytes out xs ys (Ok g) (Ok h) fits k like nr ns a b =
       let t = then_same old other one two bytes g h out xs ys (Ok tt) (Ok tt) fits k like refl refl a b in (t.0, ap took t.1.0, t.2, t.3, t.4)

@@ -1,15 +1,20 @@
 -- The packets that are written follow from what was handed over.
-use Rattle.std.proofs.Common.{◌≡◌, ℕ, ◌+◌, ◌<◌, arith, refl, sym, ◌∙◌, subst, ap, true, false, List, [], ◌∷◌, ◌++◌, length, inl, inr, true≢false}
+use Rattle.std.proofs.Common.{◌≡◌, ℕ, ◌+◌, ◌<◌, ◌≤◌, arith, refl, sym, ◌∙◌, subst, ap, true, false, List, [], ◌∷◌, ◌++◌, length, inl, inr, true≢false}
 use Rattle.std.specs.Prelude.{Bool, Some}
 use Rattle.std.proofs.lemmas.Bool.{cases_lt}
 use Rattle.nsp_seg.specs.Packets.{spelling}
 use Rattle.nsp_link.specs.declared.link.Got.{Got}
 use Rattle.nsp_link.specs.Cutting.{cut}
-use Rattle.nsp_link.specs.Link.{LinkValue, Sends, IsSpelling, may_send}
+use Rattle.nsp_link.specs.Link.{LinkValue, Sends, may_send}
 use Rattle.nsp_link.specs.Sending.{ack_packet_of}
 use Rattle.nsp_link.proofs.ForCallers.{may_send_by, written_one}
 use Rattle.dap_end.specs.Ports.{PortValue}
-use Rattle.dap_end.specs.Writing.{AreSegments, IsWithin, sent_more, WroteMore, WroteAnswer, wants_ack}
+use Rattle.dap_end.specs.Writing.{Acknowledged, AreSegments, WroteMore, WroteAnswer, wants_ack}
+use Rattle.dap_end.specs.Inner.Moved.{sent_more}
+
+-- what counts as sent is there, and within the window
+abbrev pub IsWithin : LinkValue → Type 0
+IsWithin v = (v.sent ≤ v.acked + length v.queue) × (v.sent ≤ v.acked + v.setup.window)
 
 counts_one : (p : PortValue) (n m : ℕ) → may_send (sent_more p n).link ≡ false → (0 < m → IsWithin (sent_more p m).link) → (n < m) → ⊥
 counts_one p n m full within lt =
@@ -31,32 +36,23 @@ segments_one v handed k (x ∷ one) (y ∷ two) sends e a b =
     ap (λ (z : List ℕ). z ∷ one) (written_one v.setup.local v.setup.remote (cut v.setup.seg_size handed) (Some k) v.coming.received x y (a.0 handed sends) (b.0 handed sends))
     ∙ ap (λ (l : List (List ℕ)). y ∷ l) (segments_one v handed (k + 1) one two sends (omega arith) a.1 b.1)
 
-acks_same : (got : Got) (written : List (List ℕ)) (v w : LinkValue) (wants : Bool) (one two : List (List ℕ)) → wants_ack got (length written) ≡ wants → v ≡ w
-    → (wants_ack got (length written) ≡ false → one ≡ written) → (wants_ack got (length written) ≡ true → (bytes : List ℕ) × (one ≡ written ++ bytes ∷ []) × IsSpelling (ack_packet_of v) bytes)
-    → (wants_ack got (length written) ≡ false → two ≡ written) → (wants_ack got (length written) ≡ true → (bytes : List ℕ) × (two ≡ written ++ bytes ∷ []) × IsSpelling (ack_packet_of w) bytes) → one ≡ two
-acks_same got written v w false one two e same qa ka qb kb = qa e ∙ sym (qb e)
-acks_same got written v w true one two e same qa ka qb kb =
-    let a = ka e in
-    let b = kb e in
-    let bytes : a.0 ≡ b.0 = a.2.1 ∙ ap (λ (l : LinkValue). spelling (ack_packet_of l)) same ∙ sym b.2.1 in
+acks_same : (v w : PortValue) (wants : Bool) (written one two : List (List ℕ)) → v ≡ w → Acknowledged v wants written one → Acknowledged w wants written two → one ≡ two
+acks_same v w false written one two same a b = a ∙ sym b
+acks_same v w true written one two same a b =
+    let bytes : a.0 ≡ b.0 = a.2.1 ∙ ap (λ (p : PortValue). spelling (ack_packet_of p.link)) same ∙ sym b.2.1 in
     a.1 ∙ ap (λ (l : List ℕ). written ++ l ∷ []) bytes ∙ sym b.1
 
 pub wrote_one : (p one two : PortValue) (handed xs ys : List (List ℕ)) → Sends p.link handed → WroteMore p one xs → WroteMore p two ys → may_send one.link ≡ false → may_send two.link ≡ false → (one ≡ two) × (xs ≡ ys)
 wrote_one p one two handed xs ys sends a b fa fb =
     let full_a = subst (λ (q : PortValue). may_send q.link ≡ false) a.sent fa in
     let full_b = subst (λ (q : PortValue). may_send q.link ≡ false) b.sent fb in
-    let within_a : 0 < length xs → IsWithin (sent_more p (length xs)).link = subst (λ (q : PortValue). 0 < length xs → IsWithin q.link) a.sent a.within in
-    let within_b : 0 < length ys → IsWithin (sent_more p (length ys)).link = subst (λ (q : PortValue). 0 < length ys → IsWithin q.link) b.sent b.within in
+    let within_a : 0 < length xs → IsWithin (sent_more p (length xs)).link = subst (λ (q : PortValue). 0 < length xs → IsWithin q.link) a.sent (λ some. (a.there some, a.within some)) in
+    let within_b : 0 < length ys → IsWithin (sent_more p (length ys)).link = subst (λ (q : PortValue). 0 < length ys → IsWithin q.link) b.sent (λ some. (b.there some, b.within some)) in
     let count : length xs ≡ length ys = count_one p (length xs) (length ys) full_a full_b within_a within_b in
     (a.sent ∙ ap (sent_more p) count ∙ sym b.sent, segments_one p.link handed (p.link.sent + 1) xs ys sends count a.writes b.writes)
 
 pub answer_one : (p one two : PortValue) (handed : List (List ℕ)) (got : Got) (xs ys : List (List ℕ)) → Sends p.link handed → WroteAnswer p one got xs → WroteAnswer p two got ys → (one ≡ two) × (xs ≡ ys)
 answer_one p one two handed got xs ys sends a b =
-    let both = wrote_one p one two handed a.written b.written sends a.wrote b.wrote a.full b.full in
-    let same = both.0 in
-    let written = both.1 in (
-      same,
-      acks_same got a.written one.link two.link (wants_ack got (length a.written)) xs ys refl (ap (λ (q : PortValue). q.link) same) a.quiet a.acks
-          (λ e. b.quiet (ap (λ (l : List (List ℕ)). wants_ack got (length l)) (sym written) ∙ e) ∙ sym written)
-          (λ e. (let k = b.acks (ap (λ (l : List (List ℕ)). wants_ack got (length l)) (sym written) ∙ e) in (k.0, k.1 ∙ ap (λ (l : List (List ℕ)). l ++ k.0 ∷ []) (sym written), k.2))),
-    )
+    let both = wrote_one p one two handed a.0 b.0 sends a.1 b.1 a.2 b.2 in
+    let there = subst (λ (l : List (List ℕ)). Acknowledged two (wants_ack got (length l)) l ys) (sym both.1) b.3 in
+    (both.0, acks_same one two (wants_ack got (length a.0)) a.0 xs ys both.0 a.3 there)

@@ -7,13 +7,12 @@ use Rattle.dap_accessed.specs.Groups.{added, limit_for}
 use Rattle.dap_accessed.specs.Present as accessed
 use Rattle.dap_accessing.specs.Present as accessing
 use Rattle.dap_accessing.specs.Request.{Request}
-use Rattle.dap_end.specs.Ports.{PortValue}
+use Rattle.dap_end.specs.Ports.{EndValue}
 
 -- ---- The end that serves.
 
-pub record ServingValue : Type 0 where
-  pub port : PortValue
-  pub accessed : accessed.Present
+abbrev pub ServingValue : Type 0
+ServingValue = EndValue accessed.Present
 
 pub record Past : Type 0 where
   pub first : Files  -- the files that it had at first
@@ -32,9 +31,8 @@ answers_to own first before (item ∷ items) =
 
 -- ---- The end that asks.
 
-pub record AskingValue : Type 0 where
-  pub port : PortValue
-  pub accessing : accessing.Present
+abbrev pub AskingValue : Type 0
+AskingValue = EndValue accessing.Present
 
 pub record AskingPast : Type 0 where
   pub requests : List Request  -- what was asked

@@ -9,5 +9,8 @@ pub mod Stored
 pub mod Answered
 pub mod Pasts
 pub mod Wanting
+pub mod Moved
 pub mod After
+pub mod Served
+pub mod Heard
 pub mod Running

@@ -7,6 +7,7 @@ pub mod Serving
 pub mod Taking
 pub mod Wanting
 pub mod Asking
+pub mod Hearing
 pub mod Runs
 pub mod Headline
 pub mod Calls

@@ -11,12 +11,13 @@ pub record PortValue : Type 0 where
   pub outbox : List (List ℕ)  -- the NSP messages that wait
   pub place : ℕ  -- where the next DAP message begins in the oldest NSP message that came
 
+-- An end: its port, and how it stands.
+pub record EndValue (P : Type 0) : Type 0 where
+  pub port : PortValue
+  pub present : P
+
 abbrev pub new_port : LinkSetup → PortValue
 new_port setup = record { link = new_link setup; outbox = []; place = 0 }
-
--- only the link moved
-abbrev pub with_link : PortValue → LinkValue → PortValue
-with_link p link = record p { link = link }
 
 -- The place moves on; where it comes to its end, the oldest NSP message leaves the link.
 abbrev pub gone_on : PortValue → (bytes : List ℕ) (later : List (List ℕ)) → (next : ℕ) → PortValue
@@ -24,13 +25,11 @@ gone_on p bytes later next =
     let ends = next == length bytes in
     record p { link = with_inbox p.link (if ends then later else p.link.coming.inbox); place = if ends then 0 else next }
 
--- all that waits is handed to the link
-abbrev pub posted : PortValue → PortValue
-posted p = record p { link = queued_link p.link (cut p.link.setup.seg_size p.outbox); outbox = [] }
-
--- it was, so many NSP messages
-abbrev pub HandsOver : PortValue → PortValue → ℕ → Type 0
-HandsOver old new n = IsTrue (may_queue old.link old.outbox) × (new ≡ posted old) × (n ≡ length old.outbox)
+-- All that waits is handed to the link, which takes it: so many NSP messages.
+abbrev pub HandsOver : {P : Type 0} → (old new : EndValue P) → ℕ → Type 0
+HandsOver old new n =
+    let p = old.port in IsTrue (may_queue p.link p.outbox)
+    × (new ≡ record old { port = record p { link = queued_link p.link (cut p.link.setup.seg_size p.outbox); outbox = [] } }) × (n ≡ length p.outbox)
 
 -- a segment came, and was taken or is held
 abbrev pub HasCome : PortValue → Type 0

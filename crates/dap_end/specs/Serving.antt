@@ -1,11 +1,10 @@
 -- The end that serves, before any peer.
 use Rattle.std.specs.Prelude.{◌≡◌, ◌⊎◌, ℕ, ◌<◌, List, [], ◌∷◌, ◌++◌, length}
-use Rattle.dap_accessed.specs.Standing.{Files}
 use Rattle.dap_accessed.specs.declared.fault.AddFault.{AddFault}
 use Rattle.dap_accessed.specs.declared.fault.AddFault.TheVariants as fault
-use Rattle.dap_end.specs.Ports.{gone_on, HandsOver, HasCome}
+use Rattle.dap_end.specs.Ports.{gone_on, HasCome}
 use Rattle.dap_end.specs.Going.{given_then, NextItem}
-use Rattle.dap_end.specs.Done.{ServingValue, Past, nothing_yet}
+use Rattle.dap_end.specs.Done.{ServingValue, Past}
 -- An end, and what it did. Nobody has to believe the text: a new end is as after nothing, each call says what it is after then,
 -- and a law says what an end that is after something holds.
 pub use Rattle.dap_end.specs.Inner.After.{IsAfter}
@@ -16,10 +15,6 @@ pub use Rattle.dap_end.specs.Inner.After.{IsAfter}
 abbrev pub NotGiven : ServingValue → (Refused : AddFault → Type 0) → AddFault → Type 0
 NotGiven v Refused fault.Busy = HasCome v.port ⊎ Refused fault.Busy
 NotGiven v Refused f = (HasCome v.port → ⊥) × Refused f
-
--- the end that did nothing on this link had these files at first
-abbrev pub IsGiven : ServingValue → ServingValue → Type 0
-IsGiven old new = (first : Files) → IsAfter (nothing_yet first) old → IsAfter (nothing_yet new.accessed.files) new
 
 -- ---- Serving.
 
@@ -32,11 +27,6 @@ pub record ServedOne (old new : ServingValue) (n : ℕ) : Type 0 where
   pub idle : old.port.outbox ≡ []
   pub one : NextItem old.port
   pub port : new.port ≡ record (gone_on old.port one.bytes one.later one.next) { outbox = new.port.outbox }
-  pub own : new.accessed.own ≡ old.accessed.own
+  pub own : new.present.own ≡ old.present.own
   pub count : n ≡ length new.port.outbox
   pub past : (past : Past) → IsAfter past old → IsAfter (record past { given = given_then past.given one.bytes one.next; items = past.items ++ one.item ∷ [] }) new
-
--- ---- Handing over.
-
-abbrev pub PostedAll : ServingValue → ServingValue → ℕ → Type 0
-PostedAll old new n = HandsOver old.port new.port n × (new ≡ record old { port = new.port })

@@ -1,6 +1,6 @@
 //! The end that asks.
 
-ghost use Rattle.std.specs.Prelude.{◌≡◌, ◌≢◌, ◌≤◌, ◌<◌, ◌+◌, ◌-◌, ℕ, [], ◌∷◌, Ok, Some, None, true, false, length, IfOk, IfErr, IfSome, OnOk, OnErr, IsErrOf, IsTrue, ◌++◌, option_to_list, vec_len, vec_capacity};
+ghost use Rattle.std.specs.Prelude.{◌≡◌, ◌≢◌, ◌≤◌, ◌<◌, ◌+◌, ◌-◌, ℕ, [], ◌∷◌, Ok, Err, Some, None, true, false, length, IfOk, IfErr, IfSome, OnOk, OnErr, IsErrOf, IsTrue, ◌++◌, option_to_list, vec_len, vec_capacity};
 ghost use Rattle.dap_msg.specs.BothEnds.{four_bytes, least_buffer};
 ghost use Rattle.dap_msg.specs.Blocked.{bodies};
 ghost use Rattle.nsp_link.specs.Limits.{largest_limit};
@@ -14,13 +14,16 @@ ghost use Rattle.dap_accessing.specs.Inner.Outgoing.{number_carried};
 ghost use Rattle.dap_accessing.specs.Inner.Prepared.{IsPrepared};
 ghost use Rattle.dap_accessing.specs.declared.fault.AskFault.TheVariants as ask_fault;
 ghost use Rattle.dap_fields.specs.Spelling.{AreBytes};
-ghost use Rattle.dap_end.specs.Ports.{new_port, with_link};
+ghost use Rattle.dap_end.specs.Ports.{HandsOver, new_port};
 ghost use Rattle.dap_end.specs.Inner.After.{oldest};
 ghost use Rattle.nsp_link.specs.Receiving.{Receives};
 ghost use Rattle.dap_end.specs.Writing.{Behind, WroteMore};
-ghost use Rattle.dap_end.specs.Asking.{HasAsked, AskedOne, HandedAll, ReadOne, ReadNone, ReadNext, ReadOn, ReadPart, HeardAll, HearFault, asks};
+ghost use Rattle.dap_end.specs.Asking.{HasAsked, AskedOne, ReadOne, ReadNone};
+ghost use Rattle.dap_end.specs.Hearing.{ReadOn, ReadsAll, asks};
+ghost use Rattle.dap_end.specs.declared.asking.Heard.TheVariants.{Nothing, Part, Report as Completed};
+ghost use Rattle.dap_accessing.specs.declared.report.Report.{Report as TheReport};
 ghost use Rattle.dap_end.specs.Done.{AskingPast, nothing_asked};
-ghost use Rattle.dap_end.specs.Turns.{Answered, WentOn, Takes};
+ghost use Rattle.dap_end.specs.Turns.{Answered, DidAll, WentOn, Takes};
 ghost use Rattle.dap_end.specs.Inner.Answered.{ended_by};
 ghost use Rattle.dap_end.specs.Inner.Kept.{IsPort};
 ghost use Rattle.dap_end.specs.Inner.AskingView.{asking_of};
@@ -69,7 +72,7 @@ impl AskingEnd {
     pub fn new(alloc: Global, bufsiz: u16, setup: LinkSetup) -> Result<AskingEnd, LinkFault>
         requires { least_buffer ≤ bufsiz }
         ensures ok { IfOk result (λ end. HasAsked nothing_asked end
-            × (end.port ≡ new_port setup) × (end.accessing.own ≡ bufsiz)) }
+            × (end.port ≡ new_port setup) × (end.present.own ≡ bufsiz)) }
         ensures setup { OnOk result (IsSetup setup) }
         ensures err { IfErr result (SetupFault setup) }
     {
@@ -85,7 +88,7 @@ impl AskingEnd {
     pub fn renew(&mut self, alloc: Global, setup: LinkSetup) -> Result<(), LinkFault>
         ensures ok { OnOk result (HasAsked nothing_asked self.new
             × (self.new.port ≡ new_port setup)
-            × (self.new.accessing.own ≡ self.old.accessing.own)) }
+            × (self.new.present.own ≡ self.old.present.own)) }
         ensures setup { OnOk result (IsSetup setup) }
         ensures err { IfErr result (λ f. (self.new ≡ self.old) × SetupFault setup f) }
     {
@@ -100,7 +103,7 @@ impl AskingEnd {
     pub fn ask(&mut self, request: &Request) -> Result<usize, AskFault>
         ensures ok { IfOk result (λ n. AskedOne request.now self.old self.new n) }
         ensures err { IfErr result (λ f. (self.new ≡ self.old)
-            × AskRefused request.now self.old.accessing f) }
+            × AskRefused request.now self.old.present f) }
     {
         let number = request.number();
         let prepared = self.prepare(request, &number)?;
@@ -109,10 +112,10 @@ impl AskingEnd {
 
     /// Whether `ask` would take the request, memory aside; refused as there. It takes no memory. Own.
     pub fn check(&self, request: &Request) -> Result<(), AskFault>
-        ensures works { OnOk result (self.now.accessing.failed ≡ false) }
-        ensures admissible { OnOk result (IsAdmittedBy self.now.accessing request.now) }
+        ensures works { OnOk result (self.now.present.failed ≡ false) }
+        ensures admissible { OnOk result (IsAdmittedBy self.now.present request.now) }
         ensures refused { IfErr result (λ f. (f ≢ ask_fault.NoMemory)
-            × AskRefused request.now self.now.accessing f) }
+            × AskRefused request.now self.now.present f) }
     {
         self.accessing.check(request)
     }
@@ -126,11 +129,11 @@ impl AskingEnd {
         number: &'a [u8],
     ) -> Result<Prepared<'a>, AskFault>
         requires { number.now ≡ four_bytes (number_carried request.now) }
-        ensures works { OnOk result (self.now.accessing.failed ≡ false) }
-        ensures admissible { OnOk result (IsAdmittedBy self.now.accessing request.now) }
-        ensures prepared { IfOk result (IsPrepared self.now.accessing request.now) }
+        ensures works { OnOk result (self.now.present.failed ≡ false) }
+        ensures admissible { OnOk result (IsAdmittedBy self.now.present request.now) }
+        ensures prepared { IfOk result (IsPrepared self.now.present request.now) }
         ensures refused { IfErr result (λ f. (f ≢ ask_fault.NoMemory)
-            × AskRefused request.now self.now.accessing f) }
+            × AskRefused request.now self.now.present f) }
     {
         self.accessing.prepare(request, number)
     }
@@ -142,7 +145,7 @@ impl AskingEnd {
         request: &Request,
         prepared: Prepared<'_>,
     ) -> Result<usize, AskFault>
-        requires { IsPrepared self.old.accessing request.now prepared }
+        requires { IsPrepared self.old.present request.now prepared }
         ensures ok { IfOk result (λ n. AskedOne request.now self.old self.new n) }
         ensures err { IfErr result (λ f. (self.new ≡ self.old) × (f ≡ ask_fault.NoMemory)) }
     {
@@ -152,7 +155,7 @@ impl AskingEnd {
     /// Takes a packet in, as [`nsp_link::LinkEnd::receive`] does; nothing is read by that.
     pub fn receive(&mut self, packet: &[u8]) -> Result<Got, LinkFault>
         ensures rest { self.new ≡ record self.old {
-          port = with_link self.old.port self.new.port.link;
+          port = record self.old.port { link = self.new.port.link };
         } }
         ensures receives { Receives self.old.port.link self.new.port.link packet.now result }
         ensures still { (past : AskingPast) → HasAsked past self.old → HasAsked past self.new }
@@ -176,7 +179,11 @@ impl AskingEnd {
     /// nothing is left to read (DAP 5.6.0, message sequences). Refused: `Failed`; `Unexpected`, after which the end has
     /// failed; `NoMemory`, which changes nothing.
     pub fn read(&mut self) -> Result<Heard, ReadFault>
-        ensures ok { IfOk result (λ heard. ReadNext self.old self.new heard) }
+        ensures nothing { result ≡ Ok Nothing
+            → (self.old.port.link.coming.inbox ≡ []) × (self.new ≡ self.old) }
+        ensures part { result ≡ Ok Part → ReadOne self.old self.new None }
+        ensures report { (report : TheReport) → result ≡ Ok (Completed report)
+            → ReadOne self.old self.new (Some report) }
         ensures err { IfErr result (λ f. ReadNone self.old self.new f) }
     {
         if !self.may_read() {
@@ -205,8 +212,8 @@ impl AskingEnd {
         ensures ok { OnOk result (Behind reports.old.items reports.new.items
             (ReadOn self.old self.new)) }
         ensures all { OnOk result (self.new.port.link.coming.inbox ≡ []) }
-        ensures err { IfErr result (ReadPart self.old self.new reports.old.items
-            reports.new.items) }
+        ensures err { IfErr result (λ f. ReadsAll self.old self.new reports.old.items
+            reports.new.items (Err f)) }
     {
         'answers: loop {
             if !self.may_read() {
@@ -224,11 +231,8 @@ impl AskingEnd {
 
     /// Reads all that came, and hands over what waits.
     fn hear_all(&mut self, reports: &mut Vec<Report>) -> Result<(), EndFault>
-        ensures ok { OnOk result (HeardAll self.old self.new reports.old.items
-            reports.new.items) }
+        ensures all { DidAll (asks reports.old.items reports.new.items) self.old self.new result }
         ensures works { OnOk result (self.new.port.link.failed ≡ false) }
-        ensures err { IfErr result (HearFault self.old self.new reports.old.items
-            reports.new.items) }
     {
         match self.read_all(reports) {
             Ok(()) => match self.post() {
@@ -296,7 +300,7 @@ impl AskingEnd {
     /// `Failed`; `MessageTooLong`, above the setup's `max_message`, which never comes where that is 65,535; `Exhausted`,
     /// where this end would have had more than 2^40 segments; `NoMemory`.
     pub fn post(&mut self) -> Result<usize, LinkFault>
-        ensures ok { IfOk result (λ n. HandedAll self.old self.new n) }
+        ensures ok { IfOk result (λ n. HandsOver self.old self.new n) }
         ensures err { IfErr result (λ f. (self.new ≡ self.old)
             × SendAllFault self.old.port.link self.old.port.outbox f) }
         ensures short { self.old.port.link.setup.max_message ≡ largest_limit
@@ -309,7 +313,7 @@ impl AskingEnd {
     /// again, and are moved behind those in `handed`. Refused for want of memory alone, with nothing changed. Own.
     pub fn post_into(&mut self, handed: &mut Vec<Vec<u8>>) -> Result<usize, LinkFault>
         requires { IsTrue (may_queue self.old.port.link self.old.port.outbox) }
-        ensures ok { IfOk result (λ n. HandedAll self.old self.new n) }
+        ensures ok { IfOk result (λ n. HandsOver self.old self.new n) }
         ensures moved { OnOk result (bodies handed.new.items
             ≡ bodies handed.old.items ++ self.old.port.outbox) }
         ensures err { IfErr result (λ f. (self.new ≡ self.old) × (f ≡ fault.NoMemory)) }

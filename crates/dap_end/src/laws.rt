@@ -6,13 +6,14 @@ ghost use Rattle.dap_fields.specs.Spelling.{AreBytes};
 ghost use Rattle.nsp_link.specs.declared.link.LinkSetup.{LinkSetup as TheSetup};
 ghost use Rattle.nsp_link.specs.declared.link.Got.{Got as TheGot};
 ghost use Rattle.nsp_link.specs.declared.fault.LinkFault.{LinkFault as TheFault};
-ghost use Rattle.nsp_link.specs.Link.{IsSetup, IsSpelling, Sends};
+ghost use Rattle.nsp_link.specs.Link.{IsSetup, IsSpelling, Sends, with_inbox};
 ghost use Rattle.nsp_link.specs.declared.fault.LinkFault.TheVariants as fault;
 ghost use Rattle.nsp_link.specs.Sending.{SendAllFault, WritesSent, ack_packet_of};
 ghost use Rattle.dap_msg.specs.Blocked.{AllFit, Blocked, all_joined, messages_in};
 ghost use Rattle.dap_msg.specs.declared.message.Message.{Message};
 ghost use Rattle.dap_msg.specs.declared.items.Item.TheVariants.{Whole};
 ghost use Rattle.dap_msg.specs.declared.items.Item.{Item};
+ghost use Rattle.dap_msg.specs.Items.{ItemsFrom};
 ghost use Rattle.dap_accessed.specs.Standing.{Files};
 ghost use Rattle.dap_accessed.specs.Groups.{After, Answers};
 ghost use Rattle.dap_accessed.specs.Present.{StandsAfter};
@@ -27,17 +28,16 @@ ghost use Rattle.dap_accessing.specs.declared.fault.ReadFault.TheVariants as rea
 ghost use Rattle.dap_end.specs.declared.fault.EndFault.{EndFault as TheEndFault};
 ghost use Rattle.dap_end.specs.declared.fault.EndFault.TheVariants as end_fault;
 ghost use Rattle.dap_end.specs.declared.fault.TakeFault.{TakeFault as TheTakeFault};
-ghost use Rattle.dap_end.specs.Ports.{PortValue, new_port};
+ghost use Rattle.dap_end.specs.Ports.{HandsOver, PortValue, new_port};
 ghost use Rattle.dap_end.specs.Going.{AreFrontOf, AreItemsOf};
-ghost use Rattle.dap_end.specs.Serving.{IsAfter, ServedOne, PostedAll};
+ghost use Rattle.dap_end.specs.Serving.{IsAfter, ServedOne};
 ghost use Rattle.dap_end.specs.Done.{ServingValue, Past, answers_to, nothing_yet};
 ghost use Rattle.dap_end.specs.Writing.{WroteMore};
-ghost use Rattle.dap_end.specs.Turns.{WentOn, TookIn, Takes};
-ghost use Rattle.dap_end.specs.Taking as serving;
-ghost use Rattle.dap_end.specs.Taking.{serves};
+ghost use Rattle.dap_end.specs.Turns.{DidAll, WentOn, TookIn, Takes};
+ghost use Rattle.dap_end.specs.Taking.{ServedOn, serves};
 ghost use Rattle.dap_end.specs.Wanting.{is_want, why};
-ghost use Rattle.dap_end.specs.Asking as asking;
-ghost use Rattle.dap_end.specs.Asking.{asks, HasAsked, HasDone, AskedOne, HandedAll, ReadOne};
+ghost use Rattle.dap_end.specs.Hearing.{ReadOn, ReadsAll, asks};
+ghost use Rattle.dap_end.specs.Asking.{HasAsked, HasDone, AskedOne, ReadOne};
 ghost use Rattle.dap_end.specs.Done.{AskingValue, AskingPast, nothing_asked};
 ghost use Rattle.dap_end.specs.Headline.{AreWrittenOf, Arrival, IsFromPeer, Written, bytes_of};
 ghost use Rattle.dap_end.specs.Joined.{IsBrought, Pair};
@@ -49,25 +49,44 @@ ghost use Rattle.dap_end.specs.Calls.{AskingRuns, PairRuns, Runs};
 /// is handed to the link too, once it was handed over. Own.
 pub fn serving_ends_stand()
     ensures stands { (past : Past) (v : ServingValue) → IsAfter past v
-        → StandsAfter past.first past.items v.accessed }
+        → StandsAfter past.first past.items v.present }
     ensures files { (past : Past) (v : ServingValue) → IsAfter past v
-        → v.accessed.files ≡ After v.accessed.own past.first past.items }
+        → v.present.files ≡ After v.present.own past.first past.items }
     ensures answers { (past : Past) (v : ServingValue) → IsAfter past v
         → past.handed ++ v.port.outbox
-        ≡ all_joined (answers_to v.accessed.own past.first [] past.items) }
+        ≡ all_joined (answers_to v.present.own past.first [] past.items) }
     ensures sends { (past : Past) (v : ServingValue) → IsAfter past v
         → Sends v.port.link past.handed }
     ensures fit { (past : Past) (v : ServingValue) → IsAfter past v
-        → AllFit (Answers v.accessed.own past.first past.items) }
+        → AllFit (Answers v.present.own past.first past.items) }
     ensures front { (past : Past) (v : ServingValue) → IsAfter past v
         → AreFrontOf (past.given ++ v.port.link.coming.inbox) past.items }
     ensures whole { (past : Past) (v : ServingValue) → IsAfter past v → (done begun : List Item)
         × (past.items ≡ done ++ begun) × AreItemsOf past.given done }
     ensures bytes { (past : Past) (v : ServingValue) → IsAfter past v
         → AllByRecursion AreBytes past.given }
+    // The next item is the one at the port's place.
+    ensures next { (past : Past) (v : ServingValue) (bytes : List ℕ) (later : List (List ℕ))
+        (rest : List Item) → IsAfter past v → v.port.link.coming.inbox ≡ bytes ∷ later
+        → ItemsFrom bytes v.port.place rest
+        → AreItemsOf (past.given ++ bytes ∷ []) (past.items ++ rest) }
     ensures posted { (past : Past) (old new : ServingValue) (n : ℕ) → IsAfter past old
-        → PostedAll old new n
+        → HandsOver old new n
         → IsAfter (record past { handed = past.handed ++ old.port.outbox }) new }
+    // What was served on counts behind that, and so does what was handed over. Of the link only what came and what is queued
+    // moved.
+    ensures served_on { (past : Past) (old new : ServingValue) → IsAfter past old
+        → ServedOn old new → (given handed : List (List ℕ)) × (items : List Item)
+        × IsAfter (record past {
+          given = given;
+          items = past.items ++ items;
+          handed = past.handed ++ handed;
+        }) new × (given ++ new.port.link.coming.inbox ≡ past.given ++ old.port.link.coming.inbox) }
+    ensures rest { (old new : ServingValue) → ServedOn old new
+        → (new.present.own ≡ old.present.own)
+        × (new.port.link ≡ record (with_inbox old.port.link new.port.link.coming.inbox) {
+          queue = new.port.link.queue;
+        }) }
     // What is joined to NSP messages are all answers, in order.
     ensures joined { (own : ℕ) (first : Files) (items : List Item)
         → messages_in (answers_to own first [] items) ≡ Answers own first items }
@@ -79,9 +98,9 @@ pub fn serving_ends_stand()
 /// more that was asked, and what waited once it was handed over, count too. Own.
 pub fn asking_ends_stand()
     ensures stands { (past : AskingPast) (v : AskingValue) → HasAsked past v
-        → WaitsAfter past.requests past.answers v.accessing }
+        → WaitsAfter past.requests past.answers v.present }
     ensures messages { (past : AskingPast) (v : AskingValue) → HasAsked past v
-        → messages_in past.asked ≡ Asked v.accessing.own past.requests }
+        → messages_in past.asked ≡ Asked v.present.own past.requests }
     ensures waiting { (past : AskingPast) (v : AskingValue) → HasAsked past v
         → past.handed ++ v.port.outbox ≡ all_joined past.asked }
     ensures full { (past : AskingPast) (v : AskingValue) → HasAsked past v
@@ -96,15 +115,32 @@ pub fn asking_ends_stand()
         → (done begun : List Item) × (past.answers ≡ done ++ begun) × AreItemsOf past.given done }
     ensures bytes { (past : AskingPast) (v : AskingValue) → HasAsked past v
         → AllByRecursion AreBytes past.given }
+    // The next answer is the one at the port's place.
+    ensures next { (past : AskingPast) (v : AskingValue) (bytes : List ℕ)
+        (later : List (List ℕ)) (rest : List Item) → HasAsked past v
+        → v.port.link.coming.inbox ≡ bytes ∷ later → ItemsFrom bytes v.port.place rest
+        → AreItemsOf (past.given ++ bytes ∷ []) (past.answers ++ rest) }
     ensures asked { (past : AskingPast) (request : TheRequest) (old new : AskingValue) (n : ℕ)
         → HasAsked past old → AskedOne request old new n → HasAsked (record past {
           requests = past.requests ++ request ∷ [];
           asked = past.asked ++ Blocked (limit_after (Told past.requests past.answers))
-              (messages_of old.accessing.own request);
+              (messages_of old.present.own request);
         }) new }
     ensures posted { (past : AskingPast) (old new : AskingValue) (n : ℕ) → HasAsked past old
-        → HandedAll old new n
+        → HandsOver old new n
         → HasAsked (record past { handed = past.handed ++ old.port.outbox }) new }
+    // What was read on counts behind that, and the reports are those that it adds. Of the link only what came moved.
+    ensures read_on { (past : AskingPast) (old new : AskingValue) (reports : List TheReport)
+        → HasAsked past old → ReadOn old new reports → (given : List (List ℕ))
+        × (answers : List Item) × HasAsked (record past {
+          given = given;
+          answers = past.answers ++ answers;
+        }) new × (given ++ new.port.link.coming.inbox ≡ past.given ++ old.port.link.coming.inbox)
+        × (Told past.requests (past.answers ++ answers)
+        ≡ Told past.requests past.answers ++ reports) }
+    ensures rest { (old new : AskingValue) (reports : List TheReport) → ReadOn old new reports
+        → (new.present.own ≡ old.present.own) × (new.port.outbox ≡ old.port.outbox)
+        × (new.port.link ≡ with_inbox old.port.link new.port.link.coming.inbox) }
     ensures done { (past : AskingPast) (v : AskingValue) → HasAsked past v → HasDone v }
 {}
 
@@ -116,11 +152,11 @@ pub fn calls_are_runs()
         (ws more : List Written) → Runs came old mid ws → Runs later mid new more
         → Runs (came ++ later) old new (ws ++ more) }
     ensures receive { (old new : ServingValue) (bytes : List ℕ) (r : Result TheGot TheFault)
-        → TookIn serves old new bytes r → Runs ((old.port.link, bytes) ∷ []) old new [] }
+        → TookIn old new bytes r → Runs ((old.port.link, bytes) ∷ []) old new [] }
     ensures serve { (old new : ServingValue) (n : ℕ) → ServedOne old new n → Runs [] old new [] }
-    ensures serve_all { (old new : ServingValue) (r : Result (Unit {0}) TheFault)
-        → serving.ServesAll old new r → Runs [] old new [] }
-    ensures post { (old new : ServingValue) (n : ℕ) → PostedAll old new n → Runs [] old new [] }
+    ensures serve_all { (old new : ServingValue) (r : Result (Unit {0}) TheEndFault)
+        → DidAll serves old new r → Runs [] old new [] }
+    ensures post { (old new : ServingValue) (n : ℕ) → HandsOver old new n → Runs [] old new [] }
     ensures emit { (old new : ServingValue) (bytes : List ℕ) → new ≡ record old { port = new.port }
         → WroteMore old.port new.port (bytes ∷ []) → Runs [] old new (record {
           bytes = bytes;
@@ -160,17 +196,15 @@ pub fn asking_calls_are_runs()
         → AskingRuns (came ++ later) (requests ++ others) old new (rs ++ ss) (ws ++ more) }
     ensures ask { (old new : AskingValue) (request : TheRequest) (n : ℕ)
         → AskedOne request old new n → AskingRuns [] (request ∷ []) old new [] [] }
-    ensures receive { (old new : AskingValue) (bytes : List ℕ) (before after : List TheReport)
-        (r : Result TheGot TheFault) → TookIn (asks before after) old new bytes r
-        → AskingRuns ((old.port.link, bytes) ∷ []) [] old new [] [] }
+    ensures receive { (old new : AskingValue) (bytes : List ℕ) (r : Result TheGot TheFault)
+        → TookIn old new bytes r → AskingRuns ((old.port.link, bytes) ∷ []) [] old new [] [] }
     ensures read { (old new : AskingValue) (report : Option TheReport) → ReadOne old new report
         → AskingRuns [] [] old new (option_to_list report) [] }
     ensures read_all { (old new : AskingValue) (before all : List TheReport)
         (r : Result (Unit {0}) TheReadFault) → IfErr r (λ f. f ≢ read_fault.Unexpected)
-        → asking.ReadsAll old new before all r → (reports : List TheReport)
+        → ReadsAll old new before all r → (reports : List TheReport)
         × AskingRuns [] [] old new reports [] × (all ≡ before ++ reports) }
-    ensures post { (old new : AskingValue) (n : ℕ) → HandedAll old new n
-        → AskingRuns [] [] old new [] [] }
+    ensures post { (old new : AskingValue) (n : ℕ) → HandsOver old new n → AskingRuns [] [] old new [] [] }
     ensures emit { (old new : AskingValue) (bytes : List ℕ) → new ≡ record old { port = new.port }
         → WroteMore old.port new.port (bytes ∷ []) → AskingRuns [] [] old new [] (record {
           bytes = bytes;
@@ -214,7 +248,7 @@ pub fn every_run_is_served()
     ensures { (came : List Arrival) (first : Files) (old new : ServingValue)
         (wrote : List Written) → IsAfter (nothing_yet first) old → Runs came old new wrote
         → (past : Past) × IsAfter past new × (past.first ≡ first)
-        × (new.accessed.files ≡ After new.accessed.own past.first past.items)
+        × (new.present.files ≡ After new.present.own past.first past.items)
         × AreWrittenOf new.port.link past.handed wrote }
 {}
 
@@ -235,9 +269,9 @@ pub fn serving_is_determined()
     ensures serve { (past : Past) (old one two : ServingValue) (n m : ℕ) → IsAfter past old
         → ServedOne old one n → ServedOne old two m → (one ≡ two) × (n ≡ m) }
     ensures serve_all { (past : Past) (old one two : ServingValue)
-        (r s : Result (Unit {0}) TheFault) → IsAfter past old → r ≢ Err fault.NoMemory
-        → s ≢ Err fault.NoMemory → serving.ServesAll old one r → serving.ServesAll old two s
-        → (one ≡ two) × (r ≡ s) }
+        (r s : Result (Unit {0}) TheEndFault) → IsAfter past old
+        → IfErr r (λ f. is_want f ≡ false) → IfErr s (λ f. is_want f ≡ false)
+        → DidAll serves old one r → DidAll serves old two s → (one ≡ two) × (r ≡ s) }
     ensures go_on { (past : Past) (old one two : ServingValue) (out xs ys : List (List ℕ))
         (r s : Result (Unit {0}) TheEndFault) → IsAfter past old → IfErr r (λ f. is_want f ≡ false)
         → IfErr s (λ f. is_want f ≡ false) → WentOn serves old one out xs r
@@ -255,7 +289,7 @@ pub fn asking_is_determined()
     ensures read_all { (old one two : AskingValue) (before rs ss : List TheReport)
         (r s : Result (Unit {0}) TheReadFault) → HasDone old
         → r ≢ Err read_fault.NoMemory → s ≢ Err read_fault.NoMemory
-        → asking.ReadsAll old one before rs r → asking.ReadsAll old two before ss s
+        → ReadsAll old one before rs r → ReadsAll old two before ss s
         → (one ≡ two) × (r ≡ s) × (rs ≡ ss) × HasDone one }
     ensures go_on { (old one two : AskingValue) (out xs ys : List (List ℕ))
         (before rs ss : List TheReport) (r s : Result (Unit {0}) TheEndFault) → HasDone old
@@ -284,12 +318,12 @@ pub fn taking_is_determined()
 
 /// What is handed over is handed over or refused by what waits, want of memory aside. Own.
 pub fn posting_is_determined()
-    ensures one { (old one two : ServingValue) (n m : ℕ) → PostedAll old one n → PostedAll old two m
+    ensures one { (old one two : ServingValue) (n m : ℕ) → HandsOver old one n → HandsOver old two m
         → (one ≡ two) × (n ≡ m) }
     ensures apart { (old new : ServingValue) (n : ℕ) (f : TheFault) → f ≢ fault.NoMemory
-        → PostedAll old new n → SendAllFault old.port.link old.port.outbox f → ⊥ }
+        → HandsOver old new n → SendAllFault old.port.link old.port.outbox f → ⊥ }
     ensures asking { (old new : AskingValue) (n : ℕ) (f : TheFault) → f ≢ fault.NoMemory
-        → HandedAll old new n → SendAllFault old.port.link old.port.outbox f → ⊥ }
+        → HandsOver old new n → SendAllFault old.port.link old.port.outbox f → ⊥ }
     ensures why { (old : PortValue) (f g : TheFault) → f ≢ fault.NoMemory → g ≢ fault.NoMemory
         → SendAllFault old.link old.outbox f → SendAllFault old.link old.outbox g → f ≡ g }
 {}
@@ -359,8 +393,8 @@ pub fn two_ends_keep_the_headline()
           requests = [];
           reports = [];
         }) new → (taken more read rest : List Message)
-        × (taken ++ more ≡ Asked new.a.accessing.own new.requests)
-        × (new.b.accessed.files ≡ After new.b.accessed.own first (map Whole taken))
-        × (read ++ rest ≡ Answers new.b.accessed.own first (map Whole taken))
+        × (taken ++ more ≡ Asked new.a.present.own new.requests)
+        × (new.b.present.files ≡ After new.b.present.own first (map Whole taken))
+        × (read ++ rest ≡ Answers new.b.present.own first (map Whole taken))
         × (new.reports ≡ Told new.requests (map Whole read)) }
 {}

@@ -8,11 +8,12 @@ ghost use Rattle.nsp_link.specs.declared.fault.LinkFault.TheVariants.{MessageToo
 ghost use Rattle.std.specs.Prelude.{◌==◌};
 ghost use Rattle.dap_fields.specs.Spelling.{AreBytes};
 ghost use Rattle.dap_msg.specs.Blocked.{bodies};
-ghost use Rattle.dap_end.specs.Writing.{WroteMore, Behind, WroteAnswer, WrotePart, sent_more, wants_ack};
+ghost use Rattle.dap_end.specs.Writing.{Acknowledged, WroteMore, Behind, WroteAnswer, WrotePart, wants_ack};
+ghost use Rattle.dap_end.specs.Inner.Moved.{sent_more};
 ghost use Rattle.nsp_link.specs.Receiving.{Receives};
-ghost use Rattle.dap_end.specs.Ports.{new_port, with_link, posted, gone_on, HasCome};
+ghost use Rattle.dap_end.specs.Ports.{new_port, gone_on, HasCome};
+ghost use Rattle.dap_end.specs.Inner.Moved.{with_link, posted};
 ghost use Rattle.dap_end.specs.Inner.Kept.{IsPort};
-ghost use Rattle.dap_end.specs.Inner.Answered.{Acknowledged};
 
 use nsp_link::{Got, LinkEnd, LinkFault, LinkSetup};
 use std::alloc::Global;

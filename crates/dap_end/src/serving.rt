@@ -1,6 +1,6 @@
 //! The end that serves.
 
-ghost use Rattle.std.specs.Prelude.{◌≡◌, ◌≢◌, ◌≤◌, ◌<◌, ◌+◌, ◌-◌, ◌++◌, ◌∷◌, ℕ, [], Ok, Some, None, false, IfOk, IfErr, IfSome, OnOk, OnErr, IsErrOf, IsTrue, MatchOption};
+ghost use Rattle.std.specs.Prelude.{◌≡◌, ◌≢◌, ◌≤◌, ◌<◌, ◌+◌, ◌-◌, ◌++◌, ◌∷◌, ℕ, [], Ok, Err, Some, None, false, IfOk, IfErr, IfSome, OnOk, OnErr, IsErrOf, IsTrue, MatchOption};
 ghost use Rattle.std.specs.Result.{result_map_both};
 ghost use Rattle.dap_msg.specs.BothEnds.{least_buffer};
 ghost use Rattle.dap_msg.specs.Blocked.{bodies};
@@ -10,15 +10,16 @@ ghost use Rattle.nsp_link.specs.Link.{IsSetup, SetupFault, may_send, IsSpelling}
 ghost use Rattle.nsp_link.specs.Sending.{NextFault, may_queue, SendAllFault, WritesSent, ack_packet_of};
 ghost use Rattle.nsp_link.specs.declared.fault.LinkFault.TheVariants.{Failed, NoSuchSegment, MessageTooLong};
 ghost use Rattle.nsp_link.specs.declared.fault.LinkFault.TheVariants as fault;
+ghost use Rattle.dap_accessed.specs.Standing.{Files};
 ghost use Rattle.dap_accessed.specs.Groups.{After};
 ghost use Rattle.dap_accessed.specs.Adding.{MayAdd, MayAddRecord, AddRefused, RecordRefused, with_new_file, with_record};
-ghost use Rattle.dap_end.specs.Ports.{HasCome, new_port, with_link};
+ghost use Rattle.dap_end.specs.Ports.{HandsOver, HasCome, new_port};
 ghost use Rattle.nsp_link.specs.Receiving.{Receives};
 ghost use Rattle.dap_end.specs.Writing.{WroteMore};
-ghost use Rattle.dap_end.specs.Serving.{IsAfter, NotGiven, IsGiven, MayServe, ServedOne, PostedAll};
+ghost use Rattle.dap_end.specs.Serving.{IsAfter, NotGiven, MayServe, ServedOne};
 ghost use Rattle.dap_end.specs.Done.{Past, nothing_yet};
-ghost use Rattle.dap_end.specs.Taking.{ServedUp, IsServed, ServeFault, serves};
-ghost use Rattle.dap_end.specs.Turns.{Answered, Takes, WentOn};
+ghost use Rattle.dap_end.specs.Taking.{serves};
+ghost use Rattle.dap_end.specs.Turns.{Answered, DidAll, Takes, WentOn};
 ghost use Rattle.dap_end.specs.Inner.Answered.{ended_by};
 ghost use Rattle.dap_end.specs.declared.fault.EndFault.TheVariants as end_fault;
 ghost use Rattle.dap_end.specs.Inner.Kept.{IsPort};
@@ -64,7 +65,7 @@ impl ServingEnd {
     pub fn new(alloc: Global, bufsiz: u16, setup: LinkSetup) -> Result<ServingEnd, LinkFault>
         requires { least_buffer ≤ bufsiz }
         ensures ok { IfOk result (λ end. IsAfter (nothing_yet []) end
-            × (end.port ≡ new_port setup) × (end.accessed.own ≡ bufsiz)) }
+            × (end.port ≡ new_port setup) × (end.present.own ≡ bufsiz)) }
         ensures setup { OnOk result (IsSetup setup) }
         ensures err { IfErr result (SetupFault setup) }
     {
@@ -78,9 +79,9 @@ impl ServingEnd {
     /// The files, in the order in which they were made: what all groups of messages so far have made of them. It takes
     /// no memory. Own.
     pub fn files(&self) -> &FileTable
-        ensures held { result.now ≡ self.now.accessed.files }
+        ensures held { result.now ≡ self.now.present.files }
         ensures after { (past : Past) → IsAfter past self.now
-            → result.now ≡ After self.now.accessed.own past.first past.items }
+            → result.now ≡ After self.now.present.own past.first past.items }
     {
         self.accessed.files()
     }
@@ -89,9 +90,9 @@ impl ServingEnd {
     /// dropped, and so is all that waits (own). Refused, with nothing changed: `BadSetup` where a limit of the setup
     /// isn't in its range; `NoMemory`.
     pub fn renew(&mut self, alloc: Global, setup: LinkSetup) -> Result<(), LinkFault>
-        ensures ok { OnOk result (IsAfter (nothing_yet self.old.accessed.files) self.new
+        ensures ok { OnOk result (IsAfter (nothing_yet self.old.present.files) self.new
             × (self.new.port ≡ new_port setup)
-            × (self.new.accessed.own ≡ self.old.accessed.own)) }
+            × (self.new.present.own ≡ self.old.present.own)) }
         ensures setup { OnOk result (IsSetup setup) }
         ensures err { IfErr result (λ f. (self.new ≡ self.old) × SetupFault setup f) }
     {
@@ -108,13 +109,14 @@ impl ServingEnd {
     pub fn add(&mut self, name: &[u8], shape: Shape) -> Result<(), AddFault>
         requires { IsTrue (is_shape shape) }
         ensures idle { OnOk result (HasCome self.old.port → ⊥) }
-        ensures may { OnOk result (MayAdd self.old.accessed name.now) }
-        ensures files { OnOk result (self.new.accessed.files
-            ≡ with_new_file name.now shape self.old.accessed.files) }
-        ensures given { OnOk result (IsGiven self.old self.new) }
+        ensures may { OnOk result (MayAdd self.old.present name.now) }
+        ensures files { OnOk result (self.new.present.files
+            ≡ with_new_file name.now shape self.old.present.files) }
+        ensures given { OnOk result ((first : Files) → IsAfter (nothing_yet first) self.old
+            → IsAfter (nothing_yet self.new.present.files) self.new) }
         ensures port { self.new.port ≡ self.old.port }
-        ensures own { self.new.accessed.own ≡ self.old.accessed.own }
-        ensures refused { IfErr result (NotGiven self.old (AddRefused self.old.accessed name.now)) }
+        ensures own { self.new.present.own ≡ self.old.present.own }
+        ensures refused { IfErr result (NotGiven self.old (AddRefused self.old.present name.now)) }
         ensures unchanged { OnErr result (self.new ≡ self.old) }
     {
         if self.port.has_come() {
@@ -130,14 +132,15 @@ impl ServingEnd {
     /// NoMemory. Each leaves the end unchanged.
     pub fn add_record(&mut self, number: u32, body: &[u8]) -> Result<(), AddFault>
         ensures idle { OnOk result (HasCome self.old.port → ⊥) }
-        ensures may { OnOk result (MayAddRecord self.old.accessed number body.now) }
-        ensures files { OnOk result (self.new.accessed.files
-            ≡ with_record number body.now self.old.accessed.files) }
-        ensures given { OnOk result (IsGiven self.old self.new) }
+        ensures may { OnOk result (MayAddRecord self.old.present number body.now) }
+        ensures files { OnOk result (self.new.present.files
+            ≡ with_record number body.now self.old.present.files) }
+        ensures given { OnOk result ((first : Files) → IsAfter (nothing_yet first) self.old
+            → IsAfter (nothing_yet self.new.present.files) self.new) }
         ensures port { self.new.port ≡ self.old.port }
-        ensures own { self.new.accessed.own ≡ self.old.accessed.own }
+        ensures own { self.new.present.own ≡ self.old.present.own }
         ensures refused { IfErr result
-            (NotGiven self.old (RecordRefused self.old.accessed number body.now)) }
+            (NotGiven self.old (RecordRefused self.old.present number body.now)) }
         ensures unchanged { OnErr result (self.new ≡ self.old) }
     {
         if self.port.has_come() {
@@ -149,7 +152,7 @@ impl ServingEnd {
     /// Takes a packet in, as [`nsp_link::LinkEnd::receive`] does; nothing is served by that.
     pub fn receive(&mut self, packet: &[u8]) -> Result<Got, LinkFault>
         ensures rest { self.new ≡ record self.old {
-          port = with_link self.old.port self.new.port.link;
+          port = record self.old.port { link = self.new.port.link };
         } }
         ensures receives { Receives self.old.port.link self.new.port.link packet.now result }
         ensures still { (past : Past) → IsAfter past self.old → IsAfter past self.new }
@@ -173,7 +176,7 @@ impl ServingEnd {
     /// changed: `Failed`; `MessageTooLong`, above the setup's `max_message`, which never comes where that is 65,535;
     /// `Exhausted`, where this end would have had more than 2^40 segments; `NoMemory`.
     pub fn post(&mut self) -> Result<usize, LinkFault>
-        ensures ok { IfOk result (λ n. PostedAll self.old self.new n) }
+        ensures ok { IfOk result (λ n. HandsOver self.old self.new n) }
         ensures err { IfErr result (λ f. (self.new ≡ self.old)
             × SendAllFault self.old.port.link self.old.port.outbox f) }
         ensures short { self.old.port.link.setup.max_message ≡ largest_limit
@@ -186,7 +189,7 @@ impl ServingEnd {
     /// again. Refused for want of memory alone, with nothing changed. Own.
     pub fn post_checked(&mut self) -> Result<usize, LinkFault>
         requires { IsTrue (may_queue self.old.port.link self.old.port.outbox) }
-        ensures ok { IfOk result (λ n. PostedAll self.old self.new n) }
+        ensures ok { IfOk result (λ n. HandsOver self.old self.new n) }
         ensures err { IfErr result (λ f. (self.new ≡ self.old) × (f ≡ fault.NoMemory)) }
     {
         self.port.post_checked()
@@ -222,10 +225,11 @@ impl ServingEnd {
     /// Serves all that came, and hands each group of answers to the link (own). Refused as `post` and `serve` are. What
     /// was served and handed over before that stays so, and the same call goes on.
     pub fn serve_all(&mut self) -> Result<(), LinkFault>
-        ensures ok { OnOk result (ServedUp self.old self.new) }
-        ensures all { OnOk result (IsServed self.new) }
+        ensures ok { OnOk result (DidAll serves self.old self.new (Ok tt)) }
+        ensures all { OnOk result (self.new.port.link.coming.inbox ≡ []) }
+        ensures idle { OnOk result (self.new.port.outbox ≡ []) }
         ensures works { OnOk result (self.new.port.link.failed ≡ false) }
-        ensures err { IfErr result (λ f. ServeFault self.old self.new (end_fault.Link f)) }
+        ensures err { IfErr result (λ f. DidAll serves self.old self.new (Err (end_fault.Link f))) }
     {
         'messages: loop {
             match self.post() {
@@ -245,7 +249,8 @@ impl ServingEnd {
     pub fn go_on(&mut self, out: &mut Vec<Vec<u8>>) -> Result<(), LinkFault>
         ensures went { WentOn serves self.old self.new (bodies out.old.items) (bodies out.new.items)
             (result_map_both (λ done. done) end_fault.Link result) }
-        ensures served { OnOk result (IsServed self.new) }
+        ensures all { OnOk result (self.new.port.link.coming.inbox ≡ []) }
+        ensures idle { OnOk result (self.new.port.outbox ≡ []) }
     {
         self.serve_all()?;
         self.port.emit_all(out)

@@ -6,7 +6,7 @@ use Rattle.dap_msg.specs.declared.items.Item.{Item}
 use Rattle.nsp_link.specs.declared.link.Got.{Got}
 use Rattle.nsp_link.specs.declared.link.LinkSetup.{LinkSetup}
 use Rattle.nsp_link.specs.declared.fault.LinkFault.TheVariants.{Failed}
-use Rattle.nsp_link.specs.Link.{SetupFault}
+use Rattle.nsp_link.specs.Link.{IsSetup, SetupFault}
 use Rattle.dap_accessing.specs.Request.{Request}
 use Rattle.dap_accessing.specs.declared.report.Report.{Report}
 use Rattle.dap_accessing.specs.declared.fault.AskFault.{AskFault}
@@ -19,7 +19,8 @@ use Rattle.dap_end.specs.declared.fault.EndFault.{EndFault}
 use Rattle.dap_end.specs.declared.fault.TakeFault.{TakeFault}
 use Rattle.dap_end.specs.declared.fault.TakeFault.TheVariants as take
 use Rattle.dap_end.specs.Ports.{PortValue, new_port}
-use Rattle.dap_end.specs.Asking.{HasAsked, AskedOne, HasDone, asks}
+use Rattle.dap_end.specs.Asking.{HasAsked, AskedOne, HasDone}
+use Rattle.dap_end.specs.Hearing.{asks}
 use Rattle.dap_end.specs.Done.{AskingValue, AskingPast, nothing_asked}
 use Rattle.dap_end.specs.Turns.{Takes}
 use Rattle.dap_end.proofs.ForCallers.{asked_past, has_sent, asking_one, going_alike, taking_alike}
@@ -38,7 +39,7 @@ use Rattle.dap_live.specs.Orders.{order_of, setup_anew}
 use Rattle.dap_live.specs.Sending.{AllAgain, SaysAck, has_message, is_left, waits_of}
 use Rattle.dap_live.specs.Texts.{ask_refusal, link_refusal, packets_text, reports_text, taken_said}
 use Rattle.dap_live.specs.Asking.{GoesOn, Resends, AsksNot, Asks, IsNew, OnEnd, Does, DoesAll, Ends, answered, waiting, came_by, goes_on}
-use Rattle.dap_live.specs.Both.{DoesOrder, Renews, Stays, TakesPacket, gone_said}
+use Rattle.dap_live.specs.Both.{DoesOrder, DoneOr, Stays, TakesPacket, gone_said}
 use Rattle.dap_live.specs.Inner.Saying.{front_text}
 use Rattle.dap_live.specs.Inner.OneText.{AreSameAsking}
 use Rattle.dap_live.proofs.OneLine.{Fits, line_fits, all_again, ack_one, taken_wants, setup_apart, setup_one, one_answer, gone_wants}
@@ -170,7 +171,7 @@ ask_why own requests answers request ask.Failed g nf ng x y = absurd x
 ask_why own requests answers request f ask.Failed nf ng x y = absurd y
 
 -- of an end that works
-refused_by : (request : Request) (v : AskingValue) (past : AskingPast) (f : AskFault) → HasAsked past v → AskRefused request v.accessing f → IsRefused v.accessing.own past.requests past.answers request f
+refused_by : (request : Request) (v : AskingValue) (past : AskingPast) (f : AskFault) → HasAsked past v → AskRefused request v.present f → IsRefused v.present.own past.requests past.answers request f
 refused_by request v past ask.Failed h r = absurd (true≢false (sym r ∙ h.asking.works))
 refused_by request v past ask.Busy h r = r.1 past.requests past.answers h.asking
 refused_by request v past ask.WrongPhase h r = r.1 past.requests past.answers h.asking
@@ -178,7 +179,7 @@ refused_by request v past ask.TooLarge h r = r.1 past.requests past.answers h.as
 refused_by request v past ask.NoMemory h r = r.1 past.requests past.answers h.asking
 
 -- of one that an unexpected answer failed
-only_failed : (request : Request) (v : AskingValue) (f : AskFault) → v.accessing.failed ≡ true → AskRefused request v.accessing f → f ≡ ask.Failed
+only_failed : (request : Request) (v : AskingValue) (f : AskFault) → v.present.failed ≡ true → AskRefused request v.present f → f ≡ ask.Failed
 only_failed request v ask.Failed e r = refl
 only_failed request v ask.Busy e r = absurd (true≢false (sym e ∙ r.0))
 only_failed request v ask.WrongPhase e r = absurd (true≢false (sym e ∙ r.0))
@@ -226,11 +227,11 @@ it_one old other one two request said more m n past h same rx ry nm nn x y =
 
 -- it was asked of one, and refused by the other
 it_apart : (old other one two : Asking) (request : Request) (said more : List ℕ) (m n : Came) (past : AskingPast) (f : AskFault) → HasAsked past old.end → (old.end ≡ other.end) → outcome n ≢ NoMemory → AsksIt old request one said m
-    → AskRefused request other.end.accessing f → AsksNot other two more n f → ⊥
+    → AskRefused request other.end.present f → AsksNot other two more n f → ⊥
 it_apart old other one two request said more m n past f h like nn x r y =
     let here = like in
-    let there : AskRefused request old.end.accessing f = subst (λ (v : AskingValue). AskRefused request v.accessing f) (sym here) r in
-    ask_apart old.end.accessing.own past.requests past.answers request f (not_want other request two more n f nn y) (x.2.asks.admissible past.requests past.answers h.asking)
+    let there : AskRefused request old.end.present f = subst (λ (v : AskingValue). AskRefused request v.present f) (sym here) r in
+    ask_apart old.end.present.own past.requests past.answers request f (not_want other request two more n f nn y) (x.2.asks.admissible past.requests past.answers h.asking)
     (refused_by request old.end past f h there)
 
 running_one : (old other one two : Asking) (request : Request) (said more : List ℕ) (m n : Came) → AreSameAsking old other → HasDone old.end → outcome m ≢ NoMemory → outcome n ≢ NoMemory → Asks old request one said m
@@ -243,14 +244,14 @@ running_one old other one two request said more m n same (inl d) nm nn (rx, inr 
     absurd (it_apart other old two one request more said n m d.0 x.0 (subst (HasAsked d.0) here d.1) (sym here) nm y x.1 x.2)
 running_one old other one two request said more m n same (inl d) nm nn (rx, inr x) (ry, inr y) =
     let here = same.0 in
-    let there : AskRefused request old.end.accessing y.0 = subst (λ (v : AskingValue). AskRefused request v.accessing y.0) (sym here) y.1 in
-    let why = ask_why old.end.accessing.own d.0.requests d.0.answers request x.0 y.0 (not_want old request one said m x.0 nm x.2) (not_want other request two more n y.0 nn y.2)
+    let there : AskRefused request old.end.present y.0 = subst (λ (v : AskingValue). AskRefused request v.present y.0) (sym here) y.1 in
+    let why = ask_why old.end.present.own d.0.requests d.0.answers request x.0 y.0 (not_want old request one said m x.0 nm x.2) (not_want other request two more n y.0 nn y.2)
     (refused_by request old.end d.0 x.0 d.1 x.1) (refused_by request old.end d.0 y.0 d.1 there) in
     not_one old other one two request said more m n x.0 same rx ry nm nn x.2 (subst (λ (f : AskFault). AsksNot other two more n f) (sym why) y.2)
 running_one old other one two request said more m n same (inr d) nm nn (rx, inl x) (ry, y) = absurd (true≢false (sym d.0 ∙ x.2.asks.works))
-running_one old other one two request said more m n same (inr d) nm nn (rx, inr x) (ry, inl y) = absurd (true≢false (sym d.0 ∙ ap (λ (v : AskingValue). v.accessing.failed) same.0 ∙ y.2.asks.works))
+running_one old other one two request said more m n same (inr d) nm nn (rx, inr x) (ry, inl y) = absurd (true≢false (sym d.0 ∙ ap (λ (v : AskingValue). v.present.failed) same.0 ∙ y.2.asks.works))
 running_one old other one two request said more m n same (inr d) nm nn (rx, inr x) (ry, inr y) =
-    let why : x.0 ≡ y.0 = only_failed request old.end x.0 d.0 x.1 ∙ sym (only_failed request other.end y.0 (ap (λ (v : AskingValue). v.accessing.failed) (sym same.0) ∙ d.0) y.1) in
+    let why : x.0 ≡ y.0 = only_failed request old.end x.0 d.0 x.1 ∙ sym (only_failed request other.end y.0 (ap (λ (v : AskingValue). v.present.failed) (sym same.0) ∙ d.0) y.1) in
     not_one old other one two request said more m n x.0 same rx ry nm nn x.2 (subst (λ (f : AskFault). AsksNot other two more n f) (sym why) y.2)
 
 ask_one : (failed : Bool) (old other one two : Asking) (request : Request) (said more : List ℕ) (m n : Came) → AreSameAsking old other → outcome m ≢ NoMemory → outcome n ≢ NoMemory
@@ -261,18 +262,18 @@ ask_one false old other one two request said more m n same nm nn x y = running_o
 
 -- ---- A new link.
 
-same_end : (one two : AskingValue) → one.port ≡ two.port → one.accessing ≡ two.accessing → one ≡ two
-same_end one two port accessing = ap (λ (p : PortValue). record one { port = p }) port ∙ ap (λ (x : Present). record two { accessing = x }) accessing
+same_end : (one two : AskingValue) → one.port ≡ two.port → one.present ≡ two.present → one ≡ two
+same_end one two port accessing = ap (λ (p : PortValue). record one { port = p }) port ∙ ap (λ (x : Present). record two { present = x }) accessing
 
 abbrev NewBy : Asking → Anew → Asking → Type 0
-NewBy old anew new = IsNew (setup_anew old.setup anew) old.end.accessing.own new
+NewBy old anew new = IsNew (setup_anew old.setup anew) old.end.present.own new
 
 renewed_one : (old other one two : Asking) (anew : Anew) → AreSameAsking old other → NewBy old anew one → NewBy other anew two → AreSameAsking one two
 renewed_one old other one two anew same x y =
     let setup : setup_anew old.setup anew ≡ setup_anew other.setup anew = ap (λ (s : LinkSetup). setup_anew s anew) same.1 in
     let port : one.end.port ≡ two.end.port = x.2.0 ∙ ap new_port setup ∙ sym y.2.0 in
-    let own : one.end.accessing.own ≡ two.end.accessing.own = x.2.1 ∙ ap (λ (v : AskingValue). v.accessing.own) same.0 ∙ sym y.2.1 in
-    let accessing : one.end.accessing ≡ two.end.accessing = one_present [] [] one.end.accessing two.end.accessing x.0.asking y.0.asking own in (
+    let own : one.end.present.own ≡ two.end.present.own = x.2.1 ∙ ap (λ (v : AskingValue). v.present.own) same.0 ∙ sym y.2.1 in
+    let accessing : one.end.present ≡ two.end.present = one_present [] [] one.end.present two.end.present x.0.asking y.0.asking own in (
       same_end one.end two.end port accessing,
       x.2.2 ∙ setup ∙ sym y.2.2,
       x.1 ∙ sym y.1,
@@ -280,15 +281,15 @@ renewed_one old other one two anew same x y =
     )
 
 renew_one : (old other one two : Asking) (anew : Anew) (said more : List ℕ) (m n : Came) → AreSameAsking old other → outcome m ≢ NoMemory → outcome n ≢ NoMemory
-    → Renews Untold (setup_anew old.setup anew) (NewBy old anew one) old one said m
-    → Renews Untold (setup_anew other.setup anew) (NewBy other anew two) other two more n → Two one two said more m n
-renew_one old other one two anew said more m n same nm nn (inl x) (inl y) = (renewed_one old other one two anew same x.0 y.0, x.2 ∙ sym y.2, x.3 ∙ sym y.3)
+    → DoneOr Untold (IsSetup (setup_anew old.setup anew) × NewBy old anew one) (SetupFault (setup_anew old.setup anew)) link_refusal old one said m
+    → DoneOr Untold (IsSetup (setup_anew other.setup anew) × NewBy other anew two) (SetupFault (setup_anew other.setup anew)) link_refusal other two more n → Two one two said more m n
+renew_one old other one two anew said more m n same nm nn (inl x) (inl y) = (renewed_one old other one two anew same x.0.1 y.0.1, x.1 ∙ sym y.1, x.2 ∙ sym y.2)
 renew_one old other one two anew said more m n same nm nn (inl x) (inr y) =
     let setup : setup_anew other.setup anew ≡ setup_anew old.setup anew = ap (λ (s : LinkSetup). setup_anew s anew) (sym same.1) in
-    absurd (setup_apart (setup_anew old.setup anew) y.0 (λ e. nn (ap outcome y.4 ∙ e)) x.1 (subst (λ (s : LinkSetup). SetupFault s y.0) setup y.1))
+    absurd (setup_apart (setup_anew old.setup anew) y.0 (λ e. nn (ap outcome y.4 ∙ e)) x.0.0 (subst (λ (s : LinkSetup). SetupFault s y.0) setup y.1))
 renew_one old other one two anew said more m n same nm nn (inr x) (inl y) =
     let setup : setup_anew old.setup anew ≡ setup_anew other.setup anew = ap (λ (s : LinkSetup). setup_anew s anew) same.1 in
-    absurd (setup_apart (setup_anew other.setup anew) x.0 (λ e. nm (ap outcome x.4 ∙ e)) y.1 (subst (λ (s : LinkSetup). SetupFault s x.0) setup x.1))
+    absurd (setup_apart (setup_anew other.setup anew) x.0 (λ e. nm (ap outcome x.4 ∙ e)) y.0.0 (subst (λ (s : LinkSetup). SetupFault s x.0) setup x.1))
 renew_one old other one two anew said more m n same nm nn (inr x) (inr y) =
     let setup : setup_anew old.setup anew ≡ setup_anew other.setup anew = ap (λ (s : LinkSetup). setup_anew s anew) same.1 in
     let f = setup_one (setup_anew other.setup anew) x.0 y.0 (λ e. nm (ap outcome x.4 ∙ e)) (λ e. nn (ap outcome y.4 ∙ e)) (subst (λ (s : LinkSetup). SetupFault s x.0) setup x.1) y.1 in
@@ -366,7 +367,7 @@ asking_text = one_text answered waiting AreSameAsking (one_answer answered waiti
 
 -- new ends that are set up alike
 pub new_asking : (one other : Asking) → HasAsked nothing_asked one.end → HasAsked nothing_asked other.end → one.end.port ≡ other.end.port
-    → one.end.accessing.own ≡ other.end.accessing.own → one.setup ≡ other.setup → one.reports.items ≡ other.reports.items → AreSameAsking one other
+    → one.end.present.own ≡ other.end.present.own → one.setup ≡ other.setup → one.reports.items ≡ other.reports.items → AreSameAsking one other
 new_asking one other x y port own setup reports =
-    let accessing : one.end.accessing ≡ other.end.accessing = one_present [] [] one.end.accessing other.end.accessing x.asking y.asking own in
+    let accessing : one.end.present ≡ other.end.present = one_present [] [] one.end.present other.end.present x.asking y.asking own in
     (same_end one.end other.end port accessing, setup, reports, inl (nothing_asked, x))

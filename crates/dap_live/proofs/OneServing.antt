@@ -7,7 +7,7 @@ use Rattle.nsp_link.specs.declared.link.LinkSetup.{LinkSetup}
 use Rattle.nsp_link.specs.declared.fault.LinkFault.{LinkFault}
 use Rattle.nsp_link.specs.declared.fault.LinkFault.TheVariants as fault
 use Rattle.nsp_link.specs.declared.fault.LinkFault.TheVariants.{Failed}
-use Rattle.nsp_link.specs.Link.{SetupFault}
+use Rattle.nsp_link.specs.Link.{IsSetup, SetupFault}
 use Rattle.rec_file.specs.declared.shapes.Shape.{Shape}
 use Rattle.rec_file.specs.declared.refusals.Refusal.{Refusal}
 use Rattle.rec_file.specs.Shapes.{checked_shape}
@@ -39,7 +39,7 @@ use Rattle.dap_live.specs.Orders.{order_of, setup_anew}
 use Rattle.dap_live.specs.Sending.{SaysAck, UnlessFailed, is_left, waits_of}
 use Rattle.dap_live.specs.Texts.{add_refusal, link_refusal, packets_text, taken_said}
 use Rattle.dap_live.specs.Serving.{Resends, IsNew, Added, AddsFile, AddsRecord, OnEnd, Does, answered, waiting}
-use Rattle.dap_live.specs.Both.{DoesOrder, Renews, SaysGone, Stays, TakesPacket, gone_said}
+use Rattle.dap_live.specs.Both.{DoesOrder, DoneOr, SaysGone, Stays, TakesPacket, gone_said}
 use Rattle.dap_live.specs.Inner.Saying.{AddsShaped}
 use Rattle.dap_live.specs.Inner.OneText.{HasServed, AreSameServing}
 use Rattle.dap_live.proofs.OneLine.{Fits, line_fits, all_again, ack_one, gone_wants, taken_wants, setup_apart, setup_one, one_answer}
@@ -98,10 +98,10 @@ resend_one false end one two said more b c k nb nc x y =
 -- ---- A new link.
 
 -- the same files, and nothing served
-anew_one : (files : Files) (one two : ServingValue) → one.port ≡ two.port → one.accessed.own ≡ two.accessed.own → IsAfter (nothing_yet files) one → IsAfter (nothing_yet files) two → one ≡ two
+anew_one : (files : Files) (one two : ServingValue) → one.port ≡ two.port → one.present.own ≡ two.present.own → IsAfter (nothing_yet files) one → IsAfter (nothing_yet files) two → one ≡ two
 anew_one files one two port own x y =
-    let accessed : one.accessed ≡ two.accessed = x.serving ∙ ap (λ (n : ℕ). present_of n (stands_after n files [])) own ∙ sym y.serving in
-    ap (λ (p : PortValue). record one { port = p }) port ∙ ap (λ (a : Present). record two { accessed = a }) accessed
+    let accessed : one.present ≡ two.present = x.serving ∙ ap (λ (n : ℕ). present_of n (stands_after n files [])) own ∙ sym y.serving in
+    ap (λ (p : PortValue). record one { port = p }) port ∙ ap (λ (a : Present). record two { present = a }) accessed
 
 -- ends of one value, with what is said
 abbrev Two : (one two : Serving) → (said more : List ℕ) → (b c : Became) → Type 0
@@ -112,29 +112,29 @@ stay old other one two same e f = subst (λ (s : Serving). AreSameServing s two)
 
 -- over the same files
 abbrev NewBy : Serving → Anew → Serving → Type 0
-NewBy old anew new = IsNew (setup_anew old.setup anew) old.end.accessed.own old.end.accessed.files new
+NewBy old anew new = IsNew (setup_anew old.setup anew) old.end.present.own old.end.present.files new
 
 renewed_one : (old other one two : Serving) (anew : Anew) → AreSameServing old other → NewBy old anew one → NewBy other anew two → AreSameServing one two
 renewed_one old other one two anew same x y =
     let setup : setup_anew old.setup anew ≡ setup_anew other.setup anew = ap (λ (s : LinkSetup). setup_anew s anew) same.1 in
-    let files : old.end.accessed.files ≡ other.end.accessed.files = ap (λ (v : ServingValue). v.accessed.files) same.0 in
-    let own : old.end.accessed.own ≡ other.end.accessed.own = ap (λ (v : ServingValue). v.accessed.own) same.0 in
-    let after : IsAfter (nothing_yet old.end.accessed.files) two.end = subst (λ (f : Files). IsAfter (nothing_yet f) two.end) (sym files) y.0 in (
-      anew_one old.end.accessed.files one.end two.end (x.1.0 ∙ ap new_port setup ∙ sym y.1.0) (x.1.1 ∙ own ∙ sym y.1.1) x.0 after,
+    let files : old.end.present.files ≡ other.end.present.files = ap (λ (v : ServingValue). v.present.files) same.0 in
+    let own : old.end.present.own ≡ other.end.present.own = ap (λ (v : ServingValue). v.present.own) same.0 in
+    let after : IsAfter (nothing_yet old.end.present.files) two.end = subst (λ (f : Files). IsAfter (nothing_yet f) two.end) (sym files) y.0 in (
+      anew_one old.end.present.files one.end two.end (x.1.0 ∙ ap new_port setup ∙ sym y.1.0) (x.1.1 ∙ own ∙ sym y.1.1) x.0 after,
       x.1.2 ∙ setup ∙ sym y.1.2,
-      new_known old.end.accessed.files one.end x.0 (ap (λ (p : PortValue). p.link.coming.inbox) x.1.0),
+      new_known old.end.present.files one.end x.0 (ap (λ (p : PortValue). p.link.coming.inbox) x.1.0),
     )
 
 renew_one : (old other one two : Serving) (anew : Anew) (said more : List ℕ) (b c : Became) → AreSameServing old other → b ≢ NoMemory → c ≢ NoMemory
-    → Renews (λ became. became) (setup_anew old.setup anew) (NewBy old anew one) old one said b
-    → Renews (λ became. became) (setup_anew other.setup anew) (NewBy other anew two) other two more c → Two one two said more b c
-renew_one old other one two anew said more b c same nb nc (inl x) (inl y) = (renewed_one old other one two anew same x.0 y.0, x.2 ∙ sym y.2, x.3 ∙ sym y.3)
+    → DoneOr (λ became. became) (IsSetup (setup_anew old.setup anew) × NewBy old anew one) (SetupFault (setup_anew old.setup anew)) link_refusal old one said b
+    → DoneOr (λ became. became) (IsSetup (setup_anew other.setup anew) × NewBy other anew two) (SetupFault (setup_anew other.setup anew)) link_refusal other two more c → Two one two said more b c
+renew_one old other one two anew said more b c same nb nc (inl x) (inl y) = (renewed_one old other one two anew same x.0.1 y.0.1, x.1 ∙ sym y.1, x.2 ∙ sym y.2)
 renew_one old other one two anew said more b c same nb nc (inl x) (inr y) =
     let setup : setup_anew other.setup anew ≡ setup_anew old.setup anew = ap (λ (s : LinkSetup). setup_anew s anew) (sym same.1) in
-    absurd (setup_apart (setup_anew old.setup anew) y.0 (λ e. nc (y.4 ∙ e)) x.1 (subst (λ (s : LinkSetup). SetupFault s y.0) setup y.1))
+    absurd (setup_apart (setup_anew old.setup anew) y.0 (λ e. nc (y.4 ∙ e)) x.0.0 (subst (λ (s : LinkSetup). SetupFault s y.0) setup y.1))
 renew_one old other one two anew said more b c same nb nc (inr x) (inl y) =
     let setup : setup_anew old.setup anew ≡ setup_anew other.setup anew = ap (λ (s : LinkSetup). setup_anew s anew) same.1 in
-    absurd (setup_apart (setup_anew other.setup anew) x.0 (λ e. nb (x.4 ∙ e)) y.1 (subst (λ (s : LinkSetup). SetupFault s x.0) setup x.1))
+    absurd (setup_apart (setup_anew other.setup anew) x.0 (λ e. nb (x.4 ∙ e)) y.0.0 (subst (λ (s : LinkSetup). SetupFault s x.0) setup x.1))
 renew_one old other one two anew said more b c same nb nc (inr x) (inr y) =
     let setup : setup_anew old.setup anew ≡ setup_anew other.setup anew = ap (λ (s : LinkSetup). setup_anew s anew) same.1 in
     let f = setup_one (setup_anew other.setup anew) x.0 y.0 (λ e. nb (x.4 ∙ e)) (λ e. nc (y.4 ∙ e)) (subst (λ (s : LinkSetup). SetupFault s x.0) setup x.1) y.1 in
@@ -142,17 +142,17 @@ renew_one old other one two anew said more b c same nb nc (inr x) (inr y) =
 
 -- ---- Files that it is given.
 
-added_one : (end one two : ServingValue) (said more : List ℕ) (b c : Became) → HasServed end → one.accessed.files ≡ two.accessed.files
-    → Added end one × (said ≡ []) × (b ≡ Done) → Added end two × (more ≡ []) × (c ≡ Done) → One one two said more b c
-added_one end one two said more b c (past, h, inl came) files (x, silent, ends) (y, quiet, over) = absurd (x.idle came)
-added_one end one two said more b c (past, h, inr none) files (x, silent, ends) (y, quiet, over) =
+added_one : (files : Files) (end one two : ServingValue) (said more : List ℕ) (b c : Became) → HasServed end → Added files end one × (said ≡ []) × (b ≡ Done)
+    → Added files end two × (more ≡ []) × (c ≡ Done) → One one two said more b c
+added_one files end one two said more b c (past, h, inl came) (x, silent, ends) (y, quiet, over) = absurd (x.idle came)
+added_one files end one two said more b c (past, h, inr none) (x, silent, ends) (y, quiet, over) =
     let there : IsAfter (nothing_yet past.first) end = subst (λ (p : Past). IsAfter p end) none.0 h in
     let after = x.given past.first there in
-    let other : IsAfter (nothing_yet one.accessed.files) two = subst (λ (f : Files). IsAfter (nothing_yet f) two) (sym files) (y.given past.first there) in (
-      anew_one one.accessed.files one two (x.port ∙ sym y.port) (x.own ∙ sym y.own) after other,
+    let other : IsAfter (nothing_yet one.present.files) two = subst (λ (f : Files). IsAfter (nothing_yet f) two) (y.files ∙ sym x.files) (y.given past.first there) in (
+      anew_one one.present.files one two (x.port ∙ sym y.port) (x.own ∙ sym y.own) after other,
       silent ∙ sym quiet,
       ends ∙ sym over,
-      new_known one.accessed.files one after (ap (λ (p : PortValue). p.link.coming.inbox) x.port ∙ none.1),
+      new_known one.present.files one after (ap (λ (p : PortValue). p.link.coming.inbox) x.port ∙ none.1),
     )
 
 add_want : (f : AddFault) → (add_refusal f).1 ≢ NoMemory → f ≢ add.NoMemory
@@ -164,17 +164,17 @@ why_one end one two said more b c f g k e x y =
     (x.0 ∙ sym y.0, x.1 ∙ ap (λ k. (add_refusal k).0) e ∙ sym y.1, x.2 ∙ ap (λ k. (add_refusal k).1) e ∙ sym y.2, subst HasServed (sym x.0) k)
 
 -- no Config was served, or one was
-apart : (end : ServingValue) → HasServed end → IsFresh end.accessed → IsLate end.accessed → ⊥
+apart : (end : ServingValue) → HasServed end → IsFresh end.present → IsLate end.present → ⊥
 apart end k fresh late = late.isnt k.0.first k.0.items k.1.serving (fresh.is k.0.first k.0.items k.1.serving)
 
-file_apart : (end : ServingValue) (name : List ℕ) (f : AddFault) → HasServed end → f ≢ add.NoMemory → (HasCome end.port → ⊥) → MayAdd end.accessed name → NotGiven end (AddRefused end.accessed name) f → ⊥
+file_apart : (end : ServingValue) (name : List ℕ) (f : AddFault) → HasServed end → f ≢ add.NoMemory → (HasCome end.port → ⊥) → MayAdd end.present name → NotGiven end (AddRefused end.present name) f → ⊥
 file_apart end name add.Busy k want idle may (inl came) = idle came
 file_apart end name add.Busy k want idle may (inr late) = apart end k may.0 late
 file_apart end name add.FileExists k want idle may h = h.1.1 may.1
 file_apart end name add.NoMemory k want idle may h = want refl
 file_apart end name f k want idle may h = absurd h.1
 
-file_why : (end : ServingValue) (name : List ℕ) (f g : AddFault) → HasServed end → f ≢ add.NoMemory → g ≢ add.NoMemory → NotGiven end (AddRefused end.accessed name) f → NotGiven end (AddRefused end.accessed name) g → f ≡ g
+file_why : (end : ServingValue) (name : List ℕ) (f g : AddFault) → HasServed end → f ≢ add.NoMemory → g ≢ add.NoMemory → NotGiven end (AddRefused end.present name) f → NotGiven end (AddRefused end.present name) g → f ≡ g
 file_why end name add.Busy add.Busy k nf ng x y = refl
 file_why end name add.Busy add.FileExists k nf ng (inl came) y = absurd (y.0 came)
 file_why end name add.Busy add.FileExists k nf ng (inr late) y = absurd (apart end k y.1.0 late)
@@ -190,9 +190,9 @@ file_why end name f g k nf ng x y = absurd x.1
 
 shaped_one : (end one two : ServingValue) (name : List ℕ) (shape : Shape) (said more : List ℕ) (b c : Became) → HasServed end → b ≢ NoMemory → c ≢ NoMemory → AddsShaped end name shape one said b
     → AddsShaped end name shape two more c → One one two said more b c
-shaped_one end one two name shape said more b c k nb nc (inl x) (inl y) = added_one end one two said more b c k (x.1 ∙ sym y.1) (x.2, x.3, x.4) (y.2, y.3, y.4)
-shaped_one end one two name shape said more b c k nb nc (inl x) (inr y) = absurd (file_apart end name y.0 k (add_want y.0 (λ e. nc (y.4 ∙ e))) x.2.idle x.0 y.1)
-shaped_one end one two name shape said more b c k nb nc (inr x) (inl y) = absurd (file_apart end name x.0 k (add_want x.0 (λ e. nb (x.4 ∙ e))) y.2.idle y.0 x.1)
+shaped_one end one two name shape said more b c k nb nc (inl x) (inl y) = added_one _ end one two said more b c k (x.0.1, x.1, x.2) (y.0.1, y.1, y.2)
+shaped_one end one two name shape said more b c k nb nc (inl x) (inr y) = absurd (file_apart end name y.0 k (add_want y.0 (λ e. nc (y.4 ∙ e))) x.0.1.idle x.0.0 y.1)
+shaped_one end one two name shape said more b c k nb nc (inr x) (inl y) = absurd (file_apart end name x.0 k (add_want x.0 (λ e. nb (x.4 ∙ e))) y.0.1.idle y.0.0 x.1)
 shaped_one end one two name shape said more b c k nb nc (inr x) (inr y) =
     let f = file_why end name x.0 y.0 k (add_want x.0 (λ e. nb (x.4 ∙ e))) (add_want y.0 (λ e. nc (y.4 ∙ e))) x.1 y.1 in
     why_one end one two said more b c x.0 y.0 k f (x.2, x.3, x.4) (y.2, y.3, y.4)
@@ -216,15 +216,15 @@ two_why o v w e f = (let both = sym e ∙ f in cc)
 none_why : (o : Option Refusal) (v : Refusal) → o ≡ None → o ≡ Some v → ⊥
 none_why o v e f = (let both = sym e ∙ f in cc)
 
-record_apart : (end : ServingValue) (n : ℕ) (body : List ℕ) (f : AddFault) → HasServed end → f ≢ add.NoMemory → (HasCome end.port → ⊥) → MayAddRecord end.accessed n body → NotGiven end (RecordRefused end.accessed n body) f → ⊥
+record_apart : (end : ServingValue) (n : ℕ) (body : List ℕ) (f : AddFault) → HasServed end → f ≢ add.NoMemory → (HasCome end.port → ⊥) → MayAddRecord end.present n body → NotGiven end (RecordRefused end.present n body) f → ⊥
 record_apart end n body add.Busy k want idle may (inl came) = idle came
 record_apart end n body add.Busy k want idle may (inr late) = apart end k may.0 late
-record_apart end n body add.NoFile k want idle may h = no_file end.accessed.files may.1 h.1.1
+record_apart end n body add.NoFile k want idle may h = no_file end.present.files may.1 h.1.1
 record_apart end n body (add.Record why) k want idle may h = none_why _ why may.2 h.1.2
 record_apart end n body add.NoMemory k want idle may h = want refl
 record_apart end n body f k want idle may h = absurd h.1
 
-record_why : (end : ServingValue) (n : ℕ) (body : List ℕ) (f g : AddFault) → HasServed end → f ≢ add.NoMemory → g ≢ add.NoMemory → NotGiven end (RecordRefused end.accessed n body) f → NotGiven end (RecordRefused end.accessed n body) g → f ≡ g
+record_why : (end : ServingValue) (n : ℕ) (body : List ℕ) (f g : AddFault) → HasServed end → f ≢ add.NoMemory → g ≢ add.NoMemory → NotGiven end (RecordRefused end.present n body) f → NotGiven end (RecordRefused end.present n body) g → f ≡ g
 record_why end n body add.Busy add.Busy k nf ng x y = refl
 record_why end n body add.Busy add.NoFile k nf ng (inl came) y = absurd (y.0 came)
 record_why end n body add.Busy add.NoFile k nf ng (inr late) y = absurd (apart end k y.1.0 late)
@@ -235,12 +235,12 @@ record_why end n body add.Busy g k nf ng x y = absurd y.1
 record_why end n body add.NoFile add.Busy k nf ng x (inl came) = absurd (x.0 came)
 record_why end n body add.NoFile add.Busy k nf ng x (inr late) = absurd (apart end k x.1.0 late)
 record_why end n body add.NoFile add.NoFile k nf ng x y = refl
-record_why end n body add.NoFile (add.Record w) k nf ng x y = absurd (no_file end.accessed.files y.1.1 x.1.1)
+record_why end n body add.NoFile (add.Record w) k nf ng x y = absurd (no_file end.present.files y.1.1 x.1.1)
 record_why end n body add.NoFile add.NoMemory k nf ng x y = absurd (ng refl)
 record_why end n body add.NoFile g k nf ng x y = absurd y.1
 record_why end n body (add.Record v) add.Busy k nf ng x (inl came) = absurd (x.0 came)
 record_why end n body (add.Record v) add.Busy k nf ng x (inr late) = absurd (apart end k x.1.0 late)
-record_why end n body (add.Record v) add.NoFile k nf ng x y = absurd (no_file end.accessed.files x.1.1 y.1.1)
+record_why end n body (add.Record v) add.NoFile k nf ng x y = absurd (no_file end.present.files x.1.1 y.1.1)
 record_why end n body (add.Record v) (add.Record w) k nf ng x y = ap (λ (r : Refusal). add.Record r) (two_why _ v w x.1.2 y.1.2)
 record_why end n body (add.Record v) add.NoMemory k nf ng x y = absurd (ng refl)
 record_why end n body (add.Record v) g k nf ng x y = absurd y.1
@@ -249,9 +249,9 @@ record_why end n body f g k nf ng x y = absurd x.1
 
 record_one : (end one two : ServingValue) (r : RecordLine) (said more : List ℕ) (b c : Became) → HasServed end → b ≢ NoMemory → c ≢ NoMemory → AddsRecord end r one said b → AddsRecord end r two more c
     → One one two said more b c
-record_one end one two r said more b c k nb nc (inl x) (inl y) = added_one end one two said more b c k (x.1 ∙ sym y.1) (x.2, x.3, x.4) (y.2, y.3, y.4)
-record_one end one two r said more b c k nb nc (inl x) (inr y) = absurd (record_apart end r.number r.body y.0 k (add_want y.0 (λ e. nc (y.4 ∙ e))) x.2.idle x.0 y.1)
-record_one end one two r said more b c k nb nc (inr x) (inl y) = absurd (record_apart end r.number r.body x.0 k (add_want x.0 (λ e. nb (x.4 ∙ e))) y.2.idle y.0 x.1)
+record_one end one two r said more b c k nb nc (inl x) (inl y) = added_one _ end one two said more b c k (x.0.1, x.1, x.2) (y.0.1, y.1, y.2)
+record_one end one two r said more b c k nb nc (inl x) (inr y) = absurd (record_apart end r.number r.body y.0 k (add_want y.0 (λ e. nc (y.4 ∙ e))) x.0.1.idle x.0.0 y.1)
+record_one end one two r said more b c k nb nc (inr x) (inl y) = absurd (record_apart end r.number r.body x.0 k (add_want x.0 (λ e. nb (x.4 ∙ e))) y.0.1.idle y.0.0 x.1)
 record_one end one two r said more b c k nb nc (inr x) (inr y) =
     let f = record_why end r.number r.body x.0 y.0 k (add_want x.0 (λ e. nb (x.4 ∙ e))) (add_want y.0 (λ e. nc (y.4 ∙ e))) x.1 y.1 in
     why_one end one two said more b c x.0 y.0 k f (x.2, x.3, x.4) (y.2, y.3, y.4)
@@ -278,7 +278,7 @@ does_one old other one two order.Ack said more b c fits same nb nc x y = (
 )
 does_one old other one two (order.New anew) said more b c fits same nb nc x y = renew_one old other one two anew said more b c same nb nc x y
 does_one old other one two order.Files said more b c fits same nb nc x y =
-    (stay old other one two same x.0.0 y.0.0, x.1 ∙ ap (λ (v : ServingValue). files_text v.accessed.files) same.0 ∙ sym y.1, x.0.1 ∙ sym y.0.1)
+    (stay old other one two same x.0.0 y.0.0, x.1 ∙ ap (λ (v : ServingValue). files_text v.present.files) same.0 ∙ sym y.1, x.0.1 ∙ sym y.0.1)
 does_one old other one two (order.File file) said more b c fits same nb nc x y =
     on_end old other one two said more b c same x.0 y.0
     (file_one old.end one.end two.end file said more b c same.2 nb nc x.1 (subst (λ (v : ServingValue). AddsFile v file two.end more c) (sym same.0) y.1))
@@ -305,5 +305,5 @@ serving_text =
 
 -- new ends that are set up alike
 pub new_serving : (files : Files) (one other : Serving) → IsAfter (nothing_yet files) one.end → IsAfter (nothing_yet files) other.end → one.end.port ≡ other.end.port
-    → one.end.accessed.own ≡ other.end.accessed.own → one.setup ≡ other.setup → one.end.port.link.coming.inbox ≡ [] → AreSameServing one other
+    → one.end.present.own ≡ other.end.present.own → one.setup ≡ other.setup → one.end.port.link.coming.inbox ≡ [] → AreSameServing one other
 new_serving files one other x y port own setup none = (anew_one files one.end other.end port own x y, setup, new_known files one.end x none)

@@ -10,7 +10,8 @@ use Rattle.dap_accessing.specs.declared.fault.AskFault.TheVariants.{Busy}
 use Rattle.dap_accessing.specs.Calls.{AskRefused}
 use Rattle.dap_end.specs.declared.fault.TakeFault.{TakeFault}
 use Rattle.dap_end.specs.declared.fault.TakeFault.TheVariants as take
-use Rattle.dap_end.specs.Asking.{AskedOne, HasAsked, asks}
+use Rattle.dap_end.specs.Asking.{AskedOne, HasAsked}
+use Rattle.dap_end.specs.Hearing.{asks}
 use Rattle.dap_end.specs.Done.{AskingValue, nothing_asked}
 use Rattle.linewise.specs.declared.talking.Became.{Became}
 use Rattle.linewise.specs.declared.talking.Became.TheVariants.{Done, BadLine}
@@ -18,13 +19,14 @@ use Rattle.dap_live.specs.declared.asking.Asking.{Asking}
 use Rattle.dap_live.specs.declared.asking.Came.{Came}
 use Rattle.dap_live.specs.declared.asking.Came.TheVariants.{Told, Untold}
 use Rattle.nsp_link.specs.declared.link.LinkSetup.{LinkSetup}
+use Rattle.nsp_link.specs.Link.{IsSetup, SetupFault}
 use Rattle.dap_live.specs.declared.orders.Order.{Order}
 use Rattle.dap_live.specs.declared.orders.Order.TheVariants as order
 use Rattle.dap_live.specs.Orders.{order_of, setup_anew}
 use Rattle.dap_live.specs.Sending.{AllAgain, SaysAck, UnlessFailed, has_message, is_left, waits_of}
 use Rattle.dap_text.specs.Text.{line_feed}
-use Rattle.dap_live.specs.Texts.{ask_refusal, packets_text, reports_text}
-use Rattle.dap_live.specs.Both.{DoesOrder, IsSetUp, Renews, SaysGone, Stays, TakesPacket}
+use Rattle.dap_live.specs.Texts.{ask_refusal, link_refusal, packets_text, reports_text}
+use Rattle.dap_live.specs.Both.{DoesOrder, DoneOr, IsSetUp, SaysGone, Stays, TakesPacket}
 
 -- only the end moved, and reports came
 abbrev pub OnEnd : Asking → Asking → Type 0
@@ -47,7 +49,7 @@ GoesOn old before front new text came =
 -- The end would do something by going on, memory aside. What came is read before what waits is handed over, and an end that
 -- an unexpected answer failed does nothing more.
 abbrev pub goes_on : AskingValue → Bool
-goes_on end = not end.accessing.failed && (has_message end.port.link || is_left end.port.link end.port.outbox)
+goes_on end = not end.present.failed && (has_message end.port.link || is_left end.port.link end.port.outbox)
 
 -- behind the packets of all segments that aren't acknowledged it does so, or the reports that wait are told alone
 abbrev pub Resends : Asking → Asking → List ℕ → Came → Type 0
@@ -66,13 +68,13 @@ abbrev pub Asks : Asking → Request → Asking → List ℕ → Came → Type 0
 Asks old request new text came = OnEnd old new × (
     ((count : ℕ) × (mid : AskingValue) × AskedOne request old.end mid count
     × GoesOn mid old.reports.items (concat (codes "asked " ∷ decimal count ∷ line_feed ∷ [])) new text came)
-    ⊎ ((f : AskFault) × AskRefused request old.end.accessing f × AsksNot old new text came f))
+    ⊎ ((f : AskFault) × AskRefused request old.end.present f × AsksNot old new text came f))
 
 -- ---- A new link.
 
 -- a new end on a link that is set up so
 abbrev pub IsNew : LinkSetup → (buffer : ℕ) → Asking → Type 0
-IsNew setup buffer a = HasAsked nothing_asked a.end × (a.reports.items ≡ []) × IsSetUp setup buffer a.end.port a.end.accessing.own a.setup
+IsNew setup buffer a = HasAsked nothing_asked a.end × (a.reports.items ≡ []) × IsSetUp setup buffer a.end.port a.end.present.own a.setup
 
 -- ---- A line.
 
@@ -83,7 +85,8 @@ Does old (order.Packet bytes) new text came =
 Does old order.Resend new text came = UnlessFailed old.end.port.link text (Stays (Untold Done) old new came) (Resends old new text came)
 Does old order.Ack new text came = Stays (Untold Done) old new came × SaysAck old.end.port.link text
 Does old (order.New anew) new text came =
-    let setup = setup_anew old.setup anew in Renews Untold setup (IsNew setup old.end.accessing.own new) old new text came
+    let setup = setup_anew old.setup anew in
+    DoneOr Untold (IsSetup setup × IsNew setup old.end.present.own new) (SetupFault setup) link_refusal old new text came
 Does old (order.Ask request) new text came = UnlessFailed old.end.port.link text (Stays (Untold Done) old new came) (Asks old request new text came)
 Does old _ new text came = (new ≡ old) × (text ≡ []) × (came ≡ Untold BadLine)
 

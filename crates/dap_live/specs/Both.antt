@@ -2,21 +2,19 @@
 use Rattle.std.specs.Prelude.{◌≡◌, ◌⊎◌, ◌++◌, ℕ, List, [], Result, Ok, Err, Option, Some, None}
 use Rattle.nsp_link.specs.declared.link.Got.{Got}
 use Rattle.nsp_link.specs.declared.link.LinkSetup.{LinkSetup}
-use Rattle.nsp_link.specs.declared.fault.LinkFault.{LinkFault}
-use Rattle.nsp_link.specs.Link.{IsSetup, SetupFault}
 use Rattle.dap_accessing.specs.declared.report.Report.{Report}
 use Rattle.dap_end.specs.declared.fault.EndFault.{EndFault}
 use Rattle.dap_end.specs.declared.fault.TakeFault.{TakeFault}
-use Rattle.dap_end.specs.Ports.{PortValue, new_port}
+use Rattle.dap_end.specs.Ports.{EndValue, PortValue, new_port}
 use Rattle.dap_end.specs.Turns.{EndOf, Takes, WentOn}
 use Rattle.linewise.specs.declared.talking.Became.{Became}
 use Rattle.linewise.specs.declared.talking.Became.TheVariants.{Done, BadLine, NoMemory}
 use Rattle.dap_live.specs.declared.orders.Order.{Order}
-use Rattle.dap_live.specs.Texts.{LineAnswer, end_refusal, link_refusal, packets_text, reports_text, taken_said}
+use Rattle.dap_live.specs.Texts.{LineAnswer, end_refusal, packets_text, reports_text, taken_said}
 
 -- A packet was taken in, and all done that it lets the end do, or it was refused; the answer has these reports.
-pub record TakesPacket {V C : Type 0} (end : EndOf V) (reports : List Report) (ends : Result Got TakeFault → Became → C)
-    (old : V) (bytes : List ℕ) (new : V) (text : List ℕ) (came : C) : Type 0 where
+pub record TakesPacket {P C : Type 0} (end : EndOf P) (reports : List Report) (ends : Result Got TakeFault → Became → C)
+    (old : EndValue P) (bytes : List ℕ) (new : EndValue P) (text : List ℕ) (came : C) : Type 0 where
   pub taken : Result Got TakeFault
   pub packets : List (List ℕ)
   pub took : Takes end old new bytes [] packets taken
@@ -31,25 +29,27 @@ gone_said (Ok done) = ([], Done)
 gone_said (Err f) = end_refusal f
 
 -- What an end says by going on, behind this front: the reports, the packets, and why not all was done.
-pub record SaysGone {V C : Type 0} (end : EndOf V) (reports : List Report) (ends : Became → C)
-    (old : V) (front : List ℕ) (new : V) (text : List ℕ) (came : C) : Type 0 where
+pub record SaysGone {P C : Type 0} (end : EndOf P) (reports : List Report) (ends : Became → C)
+    (old : EndValue P) (front : List ℕ) (new : EndValue P) (text : List ℕ) (came : C) : Type 0 where
   pub gone : Result (Unit {0}) EndFault
   pub packets : List (List ℕ)
   pub went : WentOn end old new [] packets gone
   pub says : text ≡ front ++ (reports_text reports ++ (packets_text packets ++ (gone_said gone).0))
   pub ended : came ≡ ends (gone_said gone).1
 
+-- ---- What is done or refused.
+
+-- It is done, and this is so then; or the end stays as it is, and is told why.
+abbrev pub DoneOr : {E C F : Type 0} → (ends : Became → C) → (IsDone : Type 0) → (Why : F → Type 0) → (told : F → LineAnswer) → (old new : E) → List ℕ → C → Type 0
+DoneOr {E} {C} {F} ends IsDone Why told old new text came =
+    (IsDone × (text ≡ []) × (came ≡ ends Done))
+    ⊎ ((f : F) × Why f × (new ≡ old) × (text ≡ (told f).0) × (came ≡ ends (told f).1))
+
 -- ---- A new link.
 
 -- a new end's port, buffer and setup
 abbrev pub IsSetUp : LinkSetup → (buffer : ℕ) → PortValue → (own : ℕ) → LinkSetup → Type 0
 IsSetUp setup buffer port own its = (port ≡ new_port setup) × (own ≡ buffer) × (its ≡ setup)
-
--- it is made, or this setup is refused
-abbrev pub Renews : {E C : Type 0} → (ends : Became → C) → LinkSetup → (Renewed : Type 0) → (old new : E) → (text : List ℕ) → C → Type 0
-Renews ends setup Renewed old new text came =
-    (Renewed × IsSetup setup × (text ≡ []) × (came ≡ ends Done))
-    ⊎ ((f : LinkFault) × SetupFault setup f × (new ≡ old) × (text ≡ (link_refusal f).0) × (came ≡ ends (link_refusal f).1))
 
 -- ---- A line.
 

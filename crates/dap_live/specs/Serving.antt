@@ -4,10 +4,10 @@ use Rattle.rec_file.specs.Shapes.{checked_shape}
 use Rattle.dap_msg.specs.Codes.{stscode, reasons}
 use Rattle.dap_accessed.specs.Standing.{Files}
 use Rattle.dap_accessed.specs.Adding.{MayAdd, MayAddRecord, AddRefused, RecordRefused, with_new_file, with_record}
-use Rattle.dap_accessed.specs.declared.fault.AddFault.{AddFault}
 use Rattle.nsp_link.specs.declared.link.LinkSetup.{LinkSetup}
+use Rattle.nsp_link.specs.Link.{IsSetup, SetupFault}
 use Rattle.dap_end.specs.Ports.{HasCome}
-use Rattle.dap_end.specs.Serving.{IsAfter, IsGiven, NotGiven}
+use Rattle.dap_end.specs.Serving.{IsAfter, NotGiven}
 use Rattle.dap_end.specs.Done.{ServingValue, nothing_yet}
 use Rattle.dap_end.specs.Taking.{serves}
 use Rattle.linewise.specs.declared.talking.Became.{Became}
@@ -20,8 +20,8 @@ use Rattle.dap_live.specs.declared.orders.Order.{Order}
 use Rattle.dap_live.specs.declared.orders.Order.TheVariants as order
 use Rattle.dap_live.specs.Orders.{order_of, setup_anew}
 use Rattle.dap_live.specs.Sending.{AllAgain, SaysAck, UnlessFailed, is_left, waits_of}
-use Rattle.dap_live.specs.Texts.{add_refusal, packets_text, status_line}
-use Rattle.dap_live.specs.Both.{DoesOrder, IsSetUp, Renews, SaysGone, Stays, TakesPacket}
+use Rattle.dap_live.specs.Texts.{add_refusal, link_refusal, packets_text, status_line}
+use Rattle.dap_live.specs.Both.{DoesOrder, DoneOr, IsSetUp, SaysGone, Stays, TakesPacket}
 
 -- ---- Going on.
 
@@ -36,34 +36,29 @@ Resends old new text became = (packets : List (List ℕ)) × AllAgain old.port.l
 
 -- a new end on a link that is set up so, with these files
 abbrev pub IsNew : LinkSetup → (buffer : ℕ) → Files → Serving → Type 0
-IsNew setup buffer files s = IsAfter (nothing_yet files) s.end × IsSetUp setup buffer s.end.port s.end.accessed.own s.setup
+IsNew setup buffer files s = IsAfter (nothing_yet files) s.end × IsSetUp setup buffer s.end.port s.end.present.own s.setup
 
 -- ---- Files that it is given.
 
--- one was added, and no packet moved
-pub record Added (old new : ServingValue) : Type 0 where
+-- one was added, these are the files then, and no packet moved
+pub record Added (made : Files) (old new : ServingValue) : Type 0 where
+  pub files : new.present.files ≡ made
   pub idle : HasCome old.port → ⊥
-  pub given : IsGiven old new
-  pub own : new.accessed.own ≡ old.accessed.own
+  pub given : (first : Files) → IsAfter (nothing_yet first) old → IsAfter (nothing_yet new.present.files) new
+  pub own : new.present.own ≡ old.present.own
   pub port : new.port ≡ old.port
-
--- it was added, and these are the files then; or nothing was, and this is why
-abbrev pub Adds : (May : Type 0) → Files → (Why : AddFault → Type 0) → ServingValue → ServingValue → List ℕ → Became → Type 0
-Adds May files Why old new text became =
-    (May × (new.accessed.files ≡ files) × Added old new × (text ≡ []) × (became ≡ Done))
-    ⊎ ((f : AddFault) × Why f × (new ≡ old) × (text ≡ (add_refusal f).0) × (became ≡ (add_refusal f).1))
 
 -- where the attributes are none of a file, they are told before all else
 abbrev pub AddsFile : ServingValue → FileLine → ServingValue → List ℕ → Became → Type 0
 AddsFile old file new text became = MatchOption (checked_shape file.org file.rfm file.mrs file.mrn)
     ((new ≡ old) × (text ≡ status_line stscode.access_refused reasons.bad_attributes) × (became ≡ Done))
-    (λ shape. Adds (MayAdd old.accessed file.name) (with_new_file file.name shape old.accessed.files)
-    (NotGiven old (AddRefused old.accessed file.name)) old new text became)
+    (λ shape. DoneOr (λ became. became) (MayAdd old.present file.name × Added (with_new_file file.name shape old.present.files) old new)
+    (NotGiven old (AddRefused old.present file.name)) add_refusal old new text became)
 
 abbrev pub AddsRecord : ServingValue → RecordLine → ServingValue → List ℕ → Became → Type 0
-AddsRecord old r =
-    Adds (MayAddRecord old.accessed r.number r.body) (with_record r.number r.body old.accessed.files)
-    (NotGiven old (RecordRefused old.accessed r.number r.body)) old
+AddsRecord old r new =
+    DoneOr (λ became. became) (MayAddRecord old.present r.number r.body × Added (with_record r.number r.body old.present.files) old new)
+    (NotGiven old (RecordRefused old.present r.number r.body)) add_refusal old new
 
 -- ---- A line.
 
@@ -79,8 +74,8 @@ Does old order.Resend new text became =
 Does old order.Ack new text became = Stays Done old new became × SaysAck old.end.port.link text
 Does old (order.New anew) new text became =
     let setup = setup_anew old.setup anew in
-    Renews (λ became. became) setup (IsNew setup old.end.accessed.own old.end.accessed.files new) old new text became
-Does old order.Files new text became = Stays Done old new became × (text ≡ files_text old.end.accessed.files)
+    DoneOr (λ became. became) (IsSetup setup × IsNew setup old.end.present.own old.end.present.files new) (SetupFault setup) link_refusal old new text became
+Does old order.Files new text became = Stays Done old new became × (text ≡ files_text old.end.present.files)
 Does old (order.File file) new text became = OnEnd old new × AddsFile old.end file new.end text became
 Does old (order.Record r) new text became = OnEnd old new × AddsRecord old.end r new.end text became
 Does old (order.Ask request) new text became = (new ≡ old) × (text ≡ []) × (became ≡ BadLine)

@@ -5,7 +5,8 @@ ghost use Rattle.dap_msg.specs.BothEnds.{least_buffer};
 ghost use Rattle.dap_msg.specs.Blocked.{bodies};
 ghost use Rattle.nsp_link.specs.Link.{SetupFault};
 ghost use Rattle.dap_end.specs.Ports.{new_port};
-ghost use Rattle.dap_end.specs.Asking.{HasAsked, asks};
+ghost use Rattle.dap_end.specs.Asking.{HasAsked};
+ghost use Rattle.dap_end.specs.Hearing.{asks};
 ghost use Rattle.dap_end.specs.Done.{nothing_asked};
 ghost use Rattle.dap_end.specs.Turns.{WentOn, Takes};
 ghost use Rattle.dap_text.specs.Adding.{Adds};
@@ -45,7 +46,7 @@ impl Asking {
         requires { least_buffer ≤ bufsiz }
         ensures after { IfOk result (λ a. HasAsked nothing_asked a.end) }
         ensures port { IfOk result (λ a. a.end.port ≡ new_port setup) }
-        ensures own { IfOk result (λ a. a.end.accessing.own ≡ bufsiz) }
+        ensures own { IfOk result (λ a. a.end.present.own ≡ bufsiz) }
         ensures setup { IfOk result (λ a. a.setup ≡ setup) }
         ensures reports { IfOk result (λ a. a.reports.items ≡ []) }
         ensures err { IfErr result (SetupFault setup) }
@@ -181,7 +182,7 @@ fn go_on_behind(asking: &mut Asking, front: Front, text: &mut Vec<u8>) -> Result
 
 /// Whether an unexpected answer failed the end.
 fn has_failed(end: &AskingEnd) -> bool
-    ensures { result ≡ end.now.accessing.failed }
+    ensures { result ≡ end.now.present.failed }
 {
     matches!(end.check(&Request::Hello), Err(AskFault::Failed))
 }

@@ -44,7 +44,7 @@ impl Serving {
         requires { least_buffer ≤ bufsiz }
         ensures after { IfOk result (λ s. IsAfter (nothing_yet []) s.end) }
         ensures port { IfOk result (λ s. s.end.port ≡ new_port setup) }
-        ensures own { IfOk result (λ s. s.end.accessed.own ≡ bufsiz) }
+        ensures own { IfOk result (λ s. s.end.present.own ≡ bufsiz) }
         ensures setup { IfOk result (λ s. s.setup ≡ setup) }
         ensures err { IfErr result (SetupFault setup) }
     {
@@ -248,7 +248,7 @@ fn add_record(
 fn list_files(end: &ServingEnd, text: &mut Vec<u8>) -> Result<Became, AllocError>
     requires { text.old.items ≡ [] }
     ensures { IfOk result (λ became. (became ≡ Became.Done)
-        × (text.new.items ≡ files_text end.now.accessed.files)) }
+        × (text.new.items ≡ files_text end.now.present.files)) }
 {
     push_files(text, end.files())?;
     Ok(Became::Done)

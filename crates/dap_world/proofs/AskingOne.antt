@@ -200,21 +200,21 @@ asked_step p r v n requests h o told =
     let outbox = p.a.outbox ++ o.messages in
     let spelled : o.messages ≡ all_joined (asking_of (state_of p) r) = o.asks.spelled ∙ ap (λ (l : ℕ). all_joined (Blocked l (messages_of p.accessing.own r))) (o.asks.is_limit p.requests read stood) in
     let more_is : o.messages ≡ all_joined (Blocked p.accessed.own (messages_of p.accessing.own r)) = spelled ∙ ap all_joined (asking_is (state_of p) r h.world m) in
-    let own : v.accessing ≡ record v.accessing { own = p.accessing.own } = ap (λ (k : ℕ). record v.accessing { own = k }) o.own in
-    let q = q_of p h r m outbox v.accessing in
+    let own : v.present ≡ record v.present { own = p.accessing.own } = ap (λ (k : ℕ). record v.present { own = k }) o.own in
+    let q = q_of p h r m outbox v.present in
     let past = record h.asking.0 { requests = p.requests; answers = read } in
     let now = record h.asking.0 { requests = p.requests ++ r ∷ []; asked = h.asking.0.asked ++ Blocked (limit_after (Told p.requests read)) (messages_of p.accessing.own r); answers = read } in
     let asking : IsAskedAll (asking_end q) (p.requests ++ r ∷ []) read = (
       now,
-      subst (λ (port : PortValue). HasAsked now (record { port = port; accessing = record v.accessing { own = p.accessing.own } })) o.port
-          (subst (λ (y : accessing.Present). HasAsked now (record { port = v.port; accessing = y })) own (asked_past r (asking_end p) v n o past h.asking.1)),
+      subst (λ (port : PortValue). HasAsked now (record { port = port; present = record v.present { own = p.accessing.own } })) o.port
+          (subst (λ (y : accessing.Present). HasAsked now (record { port = v.port; present = y })) own (asked_past r (asking_end p) v n o past h.asking.1)),
     ) in
-    let parts : AreParts q = parts_asked p h r m o.messages v.accessing more_is asking in
+    let parts : AreParts q = parts_asked p h r m o.messages v.present more_is asking in
     let count : length (asking_of (state_of p) r) ≡ n = sym (length-map (asking_of (state_of p) r) joined) ∙ ap length (sym spelled) ∙ sym o.count in
     let went : Steps (state_of p) (event.Ask r) (step.Asked n) (state_of q) =
-    subst (λ (y : State). Steps (state_of p) (event.Ask r) (step.Asked n) y) (sym (state_asked p h r m outbox v.accessing)) (subst (λ (k : ℕ). Steps (state_of p) (event.Ask r) (step.Asked k) (asked (state_of p) r)) count (asks_one p r m)) in
+    subst (λ (y : State). Steps (state_of p) (event.Ask r) (step.Asked n) y) (sym (state_asked p h r m outbox v.present)) (subst (λ (k : ℕ). Steps (state_of p) (event.Ask r) (step.Asked k) (asked (state_of p) r)) count (asks_one p r m)) in
     subst (λ (l : List Request). AreThen p (event.Ask r) (record (asking_parts p v p.a.posted p.a.wire) { requests = l }) (Ok (step.Asked n))) (sym told)
-    (subst (λ (port : PortValue). AreThen p (event.Ask r) (record p { a = side_of port p.a.posted p.a.wire; accessing = v.accessing; requests = p.requests ++ r ∷ [] }) (Ok (step.Asked n))) (sym o.port)
+    (subst (λ (port : PortValue). AreThen p (event.Ask r) (record p { a = side_of port p.a.posted p.a.wire; accessing = v.present; requests = p.requests ++ r ∷ [] }) (Ok (step.Asked n))) (sym o.port)
     (subst (λ (y : accessing.Present). AreThen p (event.Ask r) (record p { a = record p.a { outbox = outbox }; accessing = y; requests = p.requests ++ r ∷ [] }) (Ok (step.Asked n))) (sym own) (parts, went)))
 
 pub asked_done : (p : Parts) (r : Request) (v : AskingValue) (requests : List Request) (result : Result Step WorldFault) → AreParts p → IfOk result (λ answer. AskedSo r (asking_end p) v answer)

@@ -13,7 +13,8 @@ use Rattle.nsp_link.specs.Link.{LinkValue, Sends, Keeps, got_of, held_after}
 use Rattle.nsp_link.specs.Inner.Due.{Delivered, MayRefuse, taken_after}
 use Rattle.nsp_link.specs.declared.link.Got.{Got}
 use Rattle.nsp_link.specs.declared.fault.LinkFault.{LinkFault}
-use Rattle.dap_end.specs.Ports.{PortValue, with_link as port_with}
+use Rattle.dap_end.specs.Ports.{PortValue}
+use Rattle.dap_end.specs.Inner.Moved.{with_link as port_with}
 use Rattle.nsp_link.specs.Receiving.{Receives}
 use Rattle.dap_end.specs.Asking.{HasAsked}
 use Rattle.dap_end.specs.Done.{AskingValue}

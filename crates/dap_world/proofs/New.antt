@@ -67,7 +67,7 @@ made : (s : WorldSetup) (asking : accessing.Present) (serving : accessed.Present
 made s asking serving own_a own_b = ap (λ (n : ℕ). record (fresh s) { own_a = n; own_b = serving.own }) own_a ∙ ap (λ (n : ℕ). record (fresh s) { own_b = n }) own_b
 
 new_world : (s : WorldSetup) (asking : accessing.Present) (serving : accessed.Present) → IsWorldSetup s → asking.own ≡ s.bufsiz_a → serving.own ≡ s.bufsiz_b
-    → HasAsked nothing_asked (record { port = new_port (link_of s A); accessing = asking }) → IsAfter (nothing_yet []) (record { port = new_port (link_of s B); accessed = serving })
+    → HasAsked nothing_asked (record { port = new_port (link_of s A); present = asking }) → IsAfter (nothing_yet []) (record { port = new_port (link_of s B); present = serving })
     → AreParts (new_parts s asking serving)
 unfolding reported
 new_world s asking serving h own_a own_b a b =
@@ -87,14 +87,14 @@ new_world s asking serving h own_a own_b a b =
 
 pub new_sound : (s : WorldSetup) (v : AskingValue) (w : ServingValue) (posted : ℕ) (wire_a wire_b : List Wired) (requests : List Request) (handed : List (List ℕ)) (reports : List Report)
     → posted ≡ 0 → wire_a ≡ [] → wire_b ≡ [] → requests ≡ [] → handed ≡ [] → reports ≡ [] → IsWorldSetup s
-    → HasAsked nothing_asked v × (v.port ≡ new_port (link_of s A)) × (v.accessing.own ≡ s.bufsiz_a) → IsAfter (nothing_yet []) w × (w.port ≡ new_port (link_of s B)) × (w.accessed.own ≡ s.bufsiz_b)
-    → (let p : Parts = record { a = side_of v.port posted wire_a; b = side_of w.port 0 wire_b; accessing = v.accessing; accessed = w.accessed; requests = requests; handed = handed; served = 0; reports = reports; read = 0 } in
+    → HasAsked nothing_asked v × (v.port ≡ new_port (link_of s A)) × (v.present.own ≡ s.bufsiz_a) → IsAfter (nothing_yet []) w × (w.port ≡ new_port (link_of s B)) × (w.present.own ≡ s.bufsiz_b)
+    → (let p : Parts = record { a = side_of v.port posted wire_a; b = side_of w.port 0 wire_b; accessing = v.present; accessed = w.present; requests = requests; handed = handed; served = 0; reports = reports; read = 0 } in
     AreParts p × (state_of p ≡ fresh s))
 new_sound s v w posted wire_a wire_b requests handed reports e0 ea eb er es ep h x y =
-    let asking = subst (λ (port : PortValue). HasAsked nothing_asked (record { port = port; accessing = v.accessing })) x.1 x.0 in
-    let serving = subst (λ (port : PortValue). IsAfter (nothing_yet []) (record { port = port; accessed = w.accessed })) y.1 y.0 in
-    let both : AreParts (new_parts s v.accessing w.accessed) × (state_of (new_parts s v.accessing w.accessed) ≡ fresh s) =
-    (new_world s v.accessing w.accessed h x.2 y.2 asking serving, made s v.accessing w.accessed x.2 y.2) in
+    let asking = subst (λ (port : PortValue). HasAsked nothing_asked (record { port = port; present = v.present })) x.1 x.0 in
+    let serving = subst (λ (port : PortValue). IsAfter (nothing_yet []) (record { port = port; present = w.present })) y.1 y.0 in
+    let both : AreParts (new_parts s v.present w.present) × (state_of (new_parts s v.present w.present) ≡ fresh s) =
+    (new_world s v.present w.present h x.2 y.2 asking serving, made s v.present w.present x.2 y.2) in
     rw (x.1, y.1, e0, ea, eb, er, es, ep) both
 
 -- the sizes that a world may have, by those that a link may

@@ -15,11 +15,12 @@ use Rattle.nsp_link.specs.Limits.{most_segments}
 use Rattle.nsp_link.specs.Link.{LinkValue, Sends, Writes}
 use Rattle.nsp_link.specs.Sending.{queued_link}
 use Rattle.nsp_link.proofs.ForCallers.{writes_more, stands_more, sends_all, may_queue_parts}
-use Rattle.dap_end.specs.Ports.{posted as port_posted}
+use Rattle.dap_end.specs.Inner.Moved.{posted as port_posted}
 use Rattle.dap_end.proofs.ForCallers.{handed_is, handed_past, posted_is as hands_over, posted_past}
-use Rattle.dap_end.specs.Asking.{HasAsked, HandedAll}
+use Rattle.dap_end.specs.Asking.{HasAsked}
+use Rattle.dap_end.specs.Ports.{HandsOver as HandedOver}
 use Rattle.dap_end.specs.Done.{AskingValue, AskingPast}
-use Rattle.dap_end.specs.Serving.{IsAfter, PostedAll}
+use Rattle.dap_end.specs.Serving.{IsAfter}
 use Rattle.dap_end.specs.Done.{ServingValue, Past}
 use Rattle.dap_world.specs.declared.event.End.{End}
 use Rattle.dap_world.specs.declared.event.End.TheVariants.{A, B}
@@ -177,8 +178,8 @@ handed_more p h =
 
 -- whatever the end was after, it handed over what waited too
 abbrev pub HandsOver : Parts → End → Type 0
-HandsOver p A = (past : AskingPast) → HasAsked past (asking_end p) → HasAsked (record past { handed = past.handed ++ p.a.outbox }) (record { port = port_posted (port_of p.a); accessing = p.accessing })
-HandsOver p B = (past : Past) → IsAfter past (serving_end p) → IsAfter (record past { handed = past.handed ++ p.b.outbox }) (record { port = port_posted (port_of p.b); accessed = p.accessed })
+HandsOver p A = (past : AskingPast) → HasAsked past (asking_end p) → HasAsked (record past { handed = past.handed ++ p.a.outbox }) (record { port = port_posted (port_of p.a); present = p.accessing })
+HandsOver p B = (past : Past) → IsAfter past (serving_end p) → IsAfter (record past { handed = past.handed ++ p.b.outbox }) (record { port = port_posted (port_of p.b); present = p.accessed })
 
 parts_posted : (p : Parts) (end : End) → AreParts p → segments_queued (side p end) ≤ most_segments → HandsOver p end → IsWorld (state_of (posted_parts p end)) → AreParts (posted_parts p end)
 unfolding reported
@@ -234,21 +235,21 @@ post_refused p end (fault.Ask f) h none = absurd none
 post_refused p end fault.BadSetup h none = absurd none
 
 pub post_a : (p : Parts) (v : AskingValue) (posted : ℕ) (handed : List (List ℕ)) (r : Result Step WorldFault) → AreParts p
-    → IfOk r (λ answer. PostedSo p.a.outbox p.a.posted posted answer) → OnOk r (HandedAll (asking_end p) v (length p.a.outbox)) → OnOk r (handed ≡ p.handed ++ p.a.outbox)
+    → IfOk r (λ answer. PostedSo p.a.outbox p.a.posted posted answer) → OnOk r (HandedOver (asking_end p) v (length p.a.outbox)) → OnOk r (handed ≡ p.handed ++ p.a.outbox)
     → OnErr r ((v ≡ asking_end p) × (posted ≡ p.a.posted) × (handed ≡ p.handed)) → IfErr r (PostFault p.a.link p.a.outbox)
     → AreThen p (event.Post A) (record (asking_parts p v posted p.a.wire) { handed = handed }) r
 post_a p v posted handed (Ok answer) h so all moved same err =
     let goes : HandsOver p A = λ past has. subst (λ (x : AskingValue). HasAsked (record past { handed = past.handed ++ p.a.outbox }) x) (handed_is (asking_end p) v (length p.a.outbox) all) (handed_past (asking_end p) v (length p.a.outbox) all past has) in
-    let done = posted_step p A h so.2 (may_queue_parts p.a.link p.a.outbox all.0.0).2 goes in
+    let done = posted_step p A h so.2 (may_queue_parts p.a.link p.a.outbox all.0).2 goes in
     rw (so.0, handed_is (asking_end p) v (length p.a.outbox) all, so.1, moved) done
 post_a p v posted handed (Err f) h so all moved same err = rw (same.0, same.1, same.2) (h, post_refused p A f h err)
 
 pub post_b : (p : Parts) (v : ServingValue) (posted : ℕ) (r : Result Step WorldFault) → AreParts p
-    → IfOk r (λ answer. PostedSo p.b.outbox p.b.posted posted answer) → OnOk r (PostedAll (serving_end p) v (length p.b.outbox))
+    → IfOk r (λ answer. PostedSo p.b.outbox p.b.posted posted answer) → OnOk r (HandedOver (serving_end p) v (length p.b.outbox))
     → OnErr r ((v ≡ serving_end p) × (posted ≡ p.b.posted)) → IfErr r (PostFault p.b.link p.b.outbox)
     → AreThen p (event.Post B) (serving_parts p v posted p.b.wire) r
 post_b p v posted (Ok answer) h so handed same err =
     let goes : HandsOver p B = λ past is. subst (λ (x : ServingValue). IsAfter (record past { handed = past.handed ++ p.b.outbox }) x) (hands_over (serving_end p) v (length p.b.outbox) handed) (posted_past (serving_end p) v (length p.b.outbox) handed past is) in
-    let done = posted_step p B h so.2 (may_queue_parts p.b.link p.b.outbox handed.0.0).2 goes in
+    let done = posted_step p B h so.2 (may_queue_parts p.b.link p.b.outbox handed.0).2 goes in
     rw (so.0, hands_over (serving_end p) v (length p.b.outbox) handed, so.1) done
 post_b p v posted (Err f) h so handed same err = rw (same.0, same.1) (h, post_refused p B f h err)

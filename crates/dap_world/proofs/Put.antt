@@ -1,11 +1,11 @@
 -- A packet that was put on a wire.
-use Rattle.std.proofs.Common.{◌≡◌, ℕ, arith, ◌∙◌, ap, subst, List, [], ◌∷◌, ◌++◌, length, IsTrue}
+use Rattle.std.proofs.Common.{◌≡◌, ℕ, ◌+◌, ◌≤◌, arith, ◌∙◌, ap, subst, List, [], ◌∷◌, ◌++◌, length, IsTrue}
 use Rattle.std.specs.Prelude.{Option}
 use Rattle.nsp_link.specs.Link.{LinkValue, may_send}
 use Rattle.nsp_link.specs.Sending.{WritesSent}
 use Rattle.nsp_link.proofs.ForCallers.{may_send_by}
 use Rattle.dap_end.specs.Ports.{PortValue}
-use Rattle.dap_end.specs.Writing.{IsWithin, WroteMore}
+use Rattle.dap_end.specs.Writing.{WroteMore}
 use Rattle.dap_world.specs.declared.side.Wired.{Wired}
 use Rattle.dap_world.specs.declared.event.Step.{Step}
 use Rattle.dap_world.specs.declared.event.Step.TheVariants as step
@@ -25,4 +25,7 @@ wrote_put v old mid new w k answer same wire place segment acks writes =
 
 -- one segment was written, so one might be
 pub may_wrote : (old new : PortValue) (bytes : List ℕ) → WroteMore old new (bytes ∷ []) → IsTrue (may_send old.link)
-may_wrote old new bytes w = let within = subst (λ (p : PortValue). IsWithin p.link) w.sent (w.within (omega arith)) in may_send_by old.link (omega arith) (omega arith)
+may_wrote old new bytes w =
+    let there = subst (λ (p : PortValue). p.link.sent ≤ p.link.acked + length p.link.queue) w.sent (w.there (omega arith)) in
+    let within = subst (λ (p : PortValue). p.link.sent ≤ p.link.acked + p.link.setup.window) w.sent (w.within (omega arith)) in
+    may_send_by old.link (omega arith) (omega arith)

@@ -127,10 +127,10 @@ pub not_read : (p : Parts) (v : AskingValue) (f : ReadFault) (reports : List Rep
     → AreThen p event.Read (record (asking_parts p v p.a.posted p.a.wire) { reports = reports }) (Err fault.NoMemory)
 not_read p v f reports h fits o told =
     let bytes : AreBytes o.bytes = subst (λ (l : List (List ℕ)). AreBytes (oldest l)) o.came fits in
-    let same : v.accessing ≡ p.accessing = same_present p v.accessing o.bytes o.later f h o.came bytes o.refused in
+    let same : v.present ≡ p.accessing = same_present p v.present o.bytes o.later f h o.came bytes o.refused in
     let some = ap length o.came in
     subst (λ (l : List Report). AreThen p event.Read (record (asking_parts p v p.a.posted p.a.wire) { reports = l }) (Err fault.NoMemory)) (sym told)
-    (subst (λ (port : PortValue). AreThen p event.Read (record p { a = side_of port p.a.posted p.a.wire; accessing = v.accessing }) (Err fault.NoMemory)) (sym o.port)
+    (subst (λ (port : PortValue). AreThen p event.Read (record p { a = side_of port p.a.posted p.a.wire; accessing = v.present }) (Err fault.NoMemory)) (sym o.port)
     (subst (λ (y : accessing.Present). AreThen p event.Read (record p { accessing = y }) (Err fault.NoMemory)) (sym same) (h, reads_later p h (omega (arith, some)))))
 
 -- ---- One is read.
@@ -154,8 +154,8 @@ read_so p v report reports h o kept =
     let next = next_read p o.one.bytes h x in
     let one = one_there o.one.bytes p.a.place o.one.next o.one.item x.begun x.more m x.fit x.bytes_are x.behind (only_item o.one.bytes p.a.place o.one.item o.one.next o.one.fits o.one.reads) in
     let t = handled_side p.a o.one.bytes o.one.later o.one.next in
-    let own : v.accessing ≡ record v.accessing { own = p.accessing.own } = ap (λ (k : ℕ). record v.accessing { own = k }) o.own in
-    let q = record p { a = t; accessing = record v.accessing { own = p.accessing.own }; reports = reports; read = p.read + 1 } in
+    let own : v.present ≡ record v.present { own = p.accessing.own } = ap (λ (k : ℕ). record v.present { own = k }) o.own in
+    let q = record p { a = t; accessing = record v.present { own = p.accessing.own }; reports = reports; read = p.read + 1 } in
     let old = answers_read (state_of p) in
     let same : old ++ o.one.item ∷ [] ≡ answers_read (read_one (state_of p)) = ap (λ (i : Item). old ++ i ∷ []) (sym one.0) ∙ sym (read-more p m h next) in
     let past = record h.asking.0 { requests = p.requests; answers = old } in
@@ -163,8 +163,8 @@ read_so p v report reports h o kept =
     let asking : IsAskedAll (asking_end q) p.requests (answers_read (read_one (state_of p))) =
     subst (λ (l : List Item). IsAskedAll (asking_end q) p.requests l) same (
       now,
-      subst (λ (port : PortValue). HasAsked (record now { requests = p.requests; answers = old ++ o.one.item ∷ [] }) (record { port = port; accessing = record v.accessing { own = p.accessing.own } })) o.port
-          (subst (λ (y : accessing.Present). HasAsked (record now { requests = p.requests; answers = old ++ o.one.item ∷ [] }) (record { port = v.port; accessing = y })) own (o.past past h.asking.1)),
+      subst (λ (port : PortValue). HasAsked (record now { requests = p.requests; answers = old ++ o.one.item ∷ [] }) (record { port = port; present = record v.present { own = p.accessing.own } })) o.port
+          (subst (λ (y : accessing.Present). HasAsked (record now { requests = p.requests; answers = old ++ o.one.item ∷ [] }) (record { port = v.port; present = y })) own (o.past past h.asking.1)),
     ) in
     let adds : reported (read_one (state_of p)) ≡ reported (state_of p) ++ option_to_list report = ap (Told p.requests) (sym same) ∙ o.told past h.asking.1 in
     let parts : AreParts q =
@@ -183,7 +183,7 @@ read_so p v report reports h o kept =
     } in
     let answer : told_step report ≡ told_by (state_of p) (read_one (state_of p)) = told_is (reported (state_of p)) (reported (read_one (state_of p))) report adds in
     let done : AreThen p event.Read q (Ok (told_step report)) = subst (λ (a : Step). AreThen p event.Read q (Ok a)) (sym answer) (parts, reads p m next) in
-    subst (λ (port : PortValue). AreThen p event.Read (record p { a = side_of port p.a.posted p.a.wire; accessing = v.accessing; reports = reports; read = p.read + 1 }) (Ok (told_step report))) (sym o.port)
+    subst (λ (port : PortValue). AreThen p event.Read (record p { a = side_of port p.a.posted p.a.wire; accessing = v.present; reports = reports; read = p.read + 1 }) (Ok (told_step report))) (sym o.port)
     (subst (λ (y : accessing.Present). AreThen p event.Read (record p { a = t; accessing = y; reports = reports; read = p.read + 1 }) (Ok (told_step report))) (sym own) done)
 
 pub read_step : (p : Parts) (v : AskingValue) (report : Option Report) (reports : List Report) (answer : Step) → AreParts p → ReadOne (asking_end p) v report → KeptSo report p.reports reports answer

@@ -235,12 +235,12 @@ module _ (p : Parts) (v : ServingValue) (n : ℕ) (h : AreParts p) (o : ServedOn
   abbrev now : Past
   now = served past o.one.bytes (Whole m) o.one.next
 
-  own_is : v.accessed ≡ record v.accessed { own = p.accessed.own }
-  own_is = ap (λ (k : ℕ). record v.accessed { own = k }) o.own
+  own_is : v.present ≡ record v.present { own = p.accessed.own }
+  own_is = ap (λ (k : ℕ). record v.present { own = k }) o.own
 
-  is_after : IsAfter now (record { port = v.port; accessed = record v.accessed { own = p.accessed.own } })
+  is_after : IsAfter now (record { port = v.port; present = record v.present { own = p.accessed.own } })
   is_after =
-      subst (λ (x : accessed.Present). IsAfter now (record { port = v.port; accessed = x })) own_is
+      subst (λ (x : accessed.Present). IsAfter now (record { port = v.port; present = x })) own_is
       (subst (λ (i : Item). IsAfter (served past o.one.bytes i o.one.next) v) (sym is) (o.past past h.serving.1))
 
   -- what waits is its answers
@@ -270,13 +270,13 @@ served_step p v n h o =
     let outbox = v.port.outbox in
     let own = own_is p v n h o m one.0 in
     let is = outbox_is p v n h o m one.0 in
-    let q = q_of p h m x.next o.idle t.link.coming.inbox t.place outbox v.accessed in
+    let q = q_of p h m x.next o.idle t.link.coming.inbox t.place outbox v.present in
     let serving : IsServedAll (serving_end q) (map Whole (taken_of (state_of p)) ++ Whole m ∷ []) =
-    (now p v n h o m one.0, subst (λ (port : PortValue). IsAfter (now p v n h o m one.0) (record { port = port; accessed = record v.accessed { own = p.accessed.own } })) o.port (is_after p v n h o m one.0)) in
-    let parts : AreParts q = parts_served p h m x.next o.idle o.one.bytes o.one.later outbox o.one.next v.accessed x refl o.one.came one.1 is (added_fit p v n h o m one.0) serving in
+    (now p v n h o m one.0, subst (λ (port : PortValue). IsAfter (now p v n h o m one.0) (record { port = port; present = record v.present { own = p.accessed.own } })) o.port (is_after p v n h o m one.0)) in
+    let parts : AreParts q = parts_served p h m x.next o.idle o.one.bytes o.one.later outbox o.one.next v.present x refl o.one.came one.1 is (added_fit p v n h o m one.0) serving in
     let count : length (answering (state_of p) m) ≡ n = sym (length-map (answering (state_of p) m) joined) ∙ ap length (sym is) ∙ sym o.count in
     let went : Steps (state_of p) event.Serve (step.Served n) (state_of q) =
-    subst (λ (y : State). Steps (state_of p) event.Serve (step.Served n) y) (sym (state_served p h m x.next o.idle t.link.coming.inbox t.place outbox v.accessed))
+    subst (λ (y : State). Steps (state_of p) event.Serve (step.Served n) y) (sym (state_served p h m x.next o.idle t.link.coming.inbox t.place outbox v.present))
     (subst (λ (k : ℕ). Steps (state_of p) event.Serve (step.Served k) (served_one (state_of p) m)) count (serves p h m x.next o.idle)) in
-    subst (λ (port : PortValue). AreThen p event.Serve (record p { b = side_of port p.b.posted p.b.wire; accessed = v.accessed; served = p.served + 1 }) (Ok (step.Served n))) (sym o.port)
+    subst (λ (port : PortValue). AreThen p event.Serve (record p { b = side_of port p.b.posted p.b.wire; accessed = v.present; served = p.served + 1 }) (Ok (step.Served n))) (sym o.port)
     (subst (λ (y : accessed.Present). AreThen p event.Serve (record p { b = record t { outbox = outbox }; accessed = y; served = p.served + 1 }) (Ok (step.Served n))) (sym own) (parts, went))

@@ -20,7 +20,7 @@ use Rattle.dap_world.specs.Inner.Worlds.{IsWorld}
 use Rattle.dap_accessed.specs.Present as accessed
 use Rattle.dap_accessing.specs.Present as accessing
 use Rattle.dap_end.specs.Ports.{PortValue}
-use Rattle.dap_end.specs.Writing.{sent_more}
+use Rattle.dap_end.specs.Inner.Moved.{sent_more}
 use Rattle.dap_end.specs.Asking.{HasAsked}
 use Rattle.dap_end.specs.Done.{AskingValue}
 use Rattle.dap_end.specs.Serving.{IsAfter}
@@ -37,8 +37,8 @@ use Rattle.dap_end.specs.Inner.Pasts.{Still}
 
 -- whatever the end was after, it is after that still
 abbrev pub StaysAt : Parts → End → SideValue → Type 0
-StaysAt p A s = Still HasAsked (asking_end p) (record { port = port_of s; accessing = p.accessing })
-StaysAt p B s = Still IsAfter (serving_end p) (record { port = port_of s; accessed = p.accessed })
+StaysAt p A s = Still HasAsked (asking_end p) (record { port = port_of s; present = p.accessing })
+StaysAt p B s = Still IsAfter (serving_end p) (record { port = port_of s; present = p.accessed })
 
 -- the machine wrote what the end wrote
 wrote_is : (s : SideValue) (packets : List NspMessage) (sent : ℕ) (w : Wired) → w.acks ≡ s.link.coming.received → wrote (end_state s packets) sent w.segment ≡ end_state (wrote_side s sent w) packets
@@ -96,10 +96,10 @@ AreAfter p end e s answer = AreParts (with_side p end s) × Went (state_of p) e 
 
 -- an end is this now, and sent this
 abbrev pub asking_parts : Parts → AskingValue → (posted : ℕ) → List Wired → Parts
-asking_parts p v posted wire = record p { a = side_of v.port posted wire; accessing = v.accessing }
+asking_parts p v posted wire = record p { a = side_of v.port posted wire; accessing = v.present }
 
 abbrev pub serving_parts : Parts → ServingValue → (posted : ℕ) → List Wired → Parts
-serving_parts p v posted wire = record p { b = side_of v.port posted wire; accessed = v.accessed }
+serving_parts p v posted wire = record p { b = side_of v.port posted wire; accessed = v.present }
 
 -- what an event makes of parts
 abbrev pub AreThen : Parts → Event → Parts → Result Step WorldFault → Type 0
@@ -110,14 +110,14 @@ pub at_a : (p : Parts) (e : Event) (v : AskingValue) (wire : List Wired) (r : Re
     → (StaysAt p A (side_of v.port p.a.posted wire) → AreAfter p A e (side_of v.port p.a.posted wire) r) → AreThen p e (asking_parts p v p.a.posted wire) r
 unfolding Steps Refuses
 at_a p e v wire r rest still after =
-    subst (λ (x : accessing.Present). AreThen p e (record p { a = side_of v.port p.a.posted wire; accessing = x }) r) (sym (ap (λ (x : AskingValue). x.accessing) rest))
+    subst (λ (x : accessing.Present). AreThen p e (record p { a = side_of v.port p.a.posted wire; accessing = x }) r) (sym (ap (λ (x : AskingValue). x.present) rest))
     (after (subst (λ (x : AskingValue). Still HasAsked (asking_end p) x) rest still))
 
 pub at_b : (p : Parts) (e : Event) (v : ServingValue) (wire : List Wired) (r : Result Step WorldFault) → v ≡ record (serving_end p) { port = v.port } → Still IsAfter (serving_end p) v
     → (StaysAt p B (side_of v.port p.b.posted wire) → AreAfter p B e (side_of v.port p.b.posted wire) r) → AreThen p e (serving_parts p v p.b.posted wire) r
 unfolding Steps Refuses
 at_b p e v wire r rest still after =
-    subst (λ (x : accessed.Present). AreThen p e (record p { b = side_of v.port p.b.posted wire; accessed = x }) r) (sym (ap (λ (x : ServingValue). x.accessed) rest))
+    subst (λ (x : accessed.Present). AreThen p e (record p { b = side_of v.port p.b.posted wire; accessed = x }) r) (sym (ap (λ (x : ServingValue). x.present) rest))
     (after (subst (λ (x : ServingValue). Still IsAfter (serving_end p) x) rest still))
 
 same_side : (p : Parts) (end : End) → with_side p end (side p end) ≡ p

@@ -9,11 +9,10 @@ ghost use Rattle.nsp_link.specs.Sending.{may_queue};
 ghost use Rattle.dap_accessing.specs.Calls.{IsAdmittedBy};
 ghost use Rattle.dap_accessing.specs.Inner.Outgoing.{number_carried};
 ghost use Rattle.dap_accessing.specs.Inner.Prepared.{IsPrepared};
-ghost use Rattle.dap_end.specs.Ports.{with_link};
-ghost use Rattle.dap_end.specs.Writing.{sent_more};
-ghost use Rattle.dap_end.specs.Serving as serving;
+ghost use Rattle.dap_end.specs.Inner.Moved.{with_link};
+ghost use Rattle.dap_end.specs.Inner.Moved.{sent_more};
+ghost use Rattle.dap_end.specs.Ports.{HandsOver};
 ghost use Rattle.dap_end.specs.Serving.{IsAfter};
-ghost use Rattle.dap_end.specs.Asking as asking;
 ghost use Rattle.dap_end.specs.Asking.{HasAsked};
 ghost use Rattle.dap_end.specs.Inner.Pasts.{Still};
 ghost use Rattle.dap_world.specs.Inner.Sides.{AreShort, AskFaultOf, AskedSo, EmitFault, KeptSo, PostFault, PostedSo, WroteOne};
@@ -151,7 +150,7 @@ fn copy_and_ask(
     ensures ok { IfOk result (λ answer. AskedSo request.now end.old end.new answer) }
     ensures told { OnOk result (requests.new.items ≡ requests.old.items ++ request.now ∷ []) }
     ensures err { IfErr result (λ f. (end.new ≡ end.old)
-        × (requests.new.items ≡ requests.old.items) × AskFaultOf request.now end.old.accessing f) }
+        × (requests.new.items ≡ requests.old.items) × AskFaultOf request.now end.old.present f) }
 {
     let number = request.number();
     let prepared = prepare(end, request, &number)?;
@@ -171,7 +170,7 @@ fn ask_next(
     ensures ok { IfOk result (λ answer. AskedSo request end.old end.new answer) }
     ensures told { OnOk result (requests.new.items ≡ requests.old.items ++ request ∷ []) }
     ensures err { IfErr result (λ f. (end.new ≡ end.old)
-        × (requests.new.items ≡ requests.old.items) × AskFaultOf request end.old.accessing f) }
+        × (requests.new.items ≡ requests.old.items) × AskFaultOf request end.old.present f) }
 {
     let number = request.number();
     let prepared = prepare(end, &request, &number)?;
@@ -188,9 +187,9 @@ fn prepare<'a>(
     number: &'a [u8],
 ) -> Result<Prepared<'a>, WorldFault>
     requires { number.now ≡ four_bytes (number_carried request.now) }
-    ensures ok { IfOk result (IsPrepared end.now.accessing request.now) }
-    ensures admissible { OnOk result (IsAdmittedBy end.now.accessing request.now) }
-    ensures err { IfErr result (AskFaultOf request.now end.now.accessing) }
+    ensures ok { IfOk result (IsPrepared end.now.present request.now) }
+    ensures admissible { OnOk result (IsAdmittedBy end.now.present request.now) }
+    ensures err { IfErr result (AskFaultOf request.now end.now.present) }
 {
     match end.prepare(request, number) {
         Ok(prepared) => Ok(prepared),
@@ -204,7 +203,7 @@ fn ask_prepared(
     request: &Request,
     prepared: Prepared<'_>,
 ) -> Result<Step, WorldFault>
-    requires { IsPrepared end.old.accessing request.now prepared }
+    requires { IsPrepared end.old.present request.now prepared }
     ensures ok { IfOk result (λ answer. AskedSo request.now end.old end.new answer) }
     ensures err { IfErr result (λ f. (end.new ≡ end.old) × (f ≡ NoMemory)) }
 {
@@ -308,8 +307,7 @@ fn post_a(end: &mut AskingEnd, handed: &mut Vec<Vec<u8>>) -> Result<Step, WorldF
     requires short { AreShort end.old.port.link.setup.max_message end.old.port.outbox }
     ensures ok { IfOk result (λ answer. PostedSo end.old.port.outbox (length handed.old.items)
         (length handed.new.items) answer) }
-    ensures handed { OnOk result (asking.HandedAll end.old end.new
-        (length end.old.port.outbox)) }
+    ensures handed { OnOk result (HandsOver end.old end.new (length end.old.port.outbox)) }
     ensures moved { OnOk result (bodies handed.new.items
         ≡ bodies handed.old.items ++ end.old.port.outbox) }
     ensures same { OnErr result ((end.new ≡ end.old) × (handed.new.items ≡ handed.old.items)) }
@@ -328,8 +326,7 @@ fn post_b(end: &mut ServingEnd, posted: &mut usize) -> Result<Step, WorldFault>
     requires short { AreShort end.old.port.link.setup.max_message end.old.port.outbox }
     requires few { posted.old ≤ most_segments }
     ensures ok { IfOk result (λ answer. PostedSo end.old.port.outbox posted.old posted.new answer) }
-    ensures handed { OnOk result (serving.PostedAll end.old end.new
-        (length end.old.port.outbox)) }
+    ensures handed { OnOk result (HandsOver end.old end.new (length end.old.port.outbox)) }
     ensures same { OnErr result ((end.new ≡ end.old) × (posted.new ≡ posted.old)) }
     ensures err { IfErr result (PostFault end.old.port.link end.old.port.outbox) }
 {

@@ -37,21 +37,21 @@ pub record GoneThrough (given inbox : List (List ℕ)) (place : ℕ) (items : Li
 -- The end is as after this: its files and its phase are those after the items, which are those of the NSP messages that
 -- it served and of the front of the next one; and what it handed to its link, and what waits, are the answers to them.
 pub record IsAfter (past : Past) (v : ServingValue) : Type 0 where
-  pub serving : accessed.StandsAfter past.first past.items v.accessed
+  pub serving : accessed.StandsAfter past.first past.items v.present
   pub gone : GoneThrough past.given v.port.link.coming.inbox v.port.place past.items
   pub sends : Sends v.port.link past.handed
-  pub answers : past.handed ++ v.port.outbox ≡ all_joined (answers_to v.accessed.own past.first [] past.items)
+  pub answers : past.handed ++ v.port.outbox ≡ all_joined (answers_to v.present.own past.first [] past.items)
   -- each answer has a spelling
-  pub fit : AllFit (Answers v.accessed.own past.first past.items)
+  pub fit : AllFit (Answers v.present.own past.first past.items)
 
 -- The end is as after this: it waits for what is due after these requests and answers; the answers are those of the NSP
 -- messages that it read and of the front of the next one; and what it handed to its link, and what waits, are the messages
 -- of the requests.
 pub record HasAsked (past : AskingPast) (v : AskingValue) : Type 0 where
-  pub asking : accessing.StandsAfter past.requests past.answers v.accessing
+  pub asking : accessing.StandsAfter past.requests past.answers v.present
   pub gone : GoneThrough past.given v.port.link.coming.inbox v.port.place past.answers
   pub sends : Sends v.port.link past.handed
-  pub messages : messages_in past.asked ≡ Asked v.accessing.own past.requests
+  pub messages : messages_in past.asked ≡ Asked v.present.own past.requests
   pub waiting : past.handed ++ v.port.outbox ≡ all_joined past.asked
   -- each message has a spelling, and no NSP message is without one
   pub fit : AllFit (messages_in past.asked)
@@ -61,4 +61,4 @@ pub record HasAsked (past : AskingPast) (v : AskingValue) : Type 0 where
 abbrev pub HasDone : AskingValue → Type 0
 HasDone v =
     ((past : AskingPast) × HasAsked past v)
-    ⊎ ((v.accessing.failed ≡ true) × ((handed : List (List ℕ)) × Sends v.port.link handed))
+    ⊎ ((v.present.failed ≡ true) × ((handed : List (List ℕ)) × Sends v.port.link handed))

@@ -15,10 +15,12 @@ use Rattle.dap_accessing.specs.Request.{Request}
 use Rattle.dap_accessing.specs.declared.report.Report.{Report}
 use Rattle.dap_accessing.specs.Asked.{Asked}
 use Rattle.dap_accessing.specs.Told.{Told}
-use Rattle.dap_end.specs.Ports.{new_port, with_link}
+use Rattle.dap_end.specs.Ports.{EndValue, HandsOver, new_port}
+use Rattle.dap_end.specs.Inner.Moved.{with_link}
 use Rattle.dap_end.specs.Done.{ServingValue, Past, nothing_yet, AskingValue, nothing_asked}
 use Rattle.dap_end.specs.Serving.{IsAfter}
-use Rattle.dap_end.specs.Asking.{HasAsked, AskedOne, HandedAll, ReadOn, asks}
+use Rattle.dap_end.specs.Asking.{HasAsked, AskedOne}
+use Rattle.dap_end.specs.Hearing.{ReadOn, asks}
 use Rattle.dap_end.specs.Writing.{Behind, WroteMore}
 use Rattle.dap_end.specs.Turns.{EndOf}
 use Rattle.dap_end.specs.Taking.{serves}
@@ -46,15 +48,15 @@ pub data EndEvent : Type 0 where
 
 -- what each leaves of either end, and the packets that it writes, where the end does so by itself before it writes, and such
 -- bytes may come to its link
-abbrev pub EndStepped : {V : Type 0} → EndOf V → (does : V → V → Type 0) → (comes : LinkValue → List ℕ → Type 0) → (old : V) → EndEvent → (new : V) → List Written → Type 0
+abbrev pub EndStepped : {P : Type 0} → EndOf P → (does : EndValue P → EndValue P → Type 0) → (comes : LinkValue → List ℕ → Type 0) → (old : EndValue P) → EndEvent → (new : EndValue P) → List Written → Type 0
 EndStepped end does comes old (Came bytes) new wrote =
-    (result : Result Got LinkFault) × (link : LinkValue) × Receives (end.port old).link link bytes result
-    × (new ≡ end.with_port old (with_link (end.port old) link)) × (wrote ≡ []) × end.quiet × comes (end.port old).link bytes
-EndStepped {V} end does comes old GoesOn new wrote =
-    (mid : V) × (packets : List (List ℕ)) × does old mid × WroteMore (end.port mid) (end.port new) packets × (new ≡ end.with_port mid (end.port new))
-    × (wrote ≡ numbered ((end.port mid).link.sent + 1) (end.port mid).link.coming.received packets)
+    (result : Result Got LinkFault) × (link : LinkValue) × Receives old.port.link link bytes result
+    × (new ≡ record old { port = with_link old.port link }) × (wrote ≡ []) × end.quiet × comes old.port.link bytes
+EndStepped {P} end does comes old GoesOn new wrote =
+    (mid : EndValue P) × (packets : List (List ℕ)) × does old mid × WroteMore mid.port new.port packets × (new ≡ record mid { port = new.port })
+    × (wrote ≡ numbered (mid.port.link.sent + 1) mid.port.link.coming.received packets)
 EndStepped end does comes old (Repeats k) new wrote =
-    let v = (end.port old).link in
+    let v = old.port.link in
     (w : Written) × IfSome k (λ i. i < v.sent - v.acked) × WroteOne v (option_map (λ i. v.acked + 1 + i) k) w
     × (new ≡ old) × (wrote ≡ w ∷ []) × end.quiet
 
@@ -80,7 +82,7 @@ pub record Grew (past now : Past) (old new : ServingValue) : Type 0 where
 pub record ServedMore (old new : ServingValue) : Type 0 where
   -- what came and what is queued may have moved, and nothing else of the link
   pub link : new.port.link ≡ record (with_inbox old.port.link new.port.link.coming.inbox) { queue = new.port.link.queue }
-  pub own : new.accessed.own ≡ old.accessed.own
+  pub own : new.present.own ≡ old.present.own
   pub past : (past : Past) → IsAfter past old → (now : Past) × Grew past now old new
 
 -- the end, with its packets so far: those of the event stand behind them
@@ -107,7 +109,7 @@ pub data AskingEvent : Type 0 where
 
 -- answers were read, whose reports stand behind those before, and then all that waited was handed over, or none
 abbrev pub HeardMore : (before after : List Report) → AskingValue → AskingValue → Type 0
-HeardMore before after old new = (heard : AskingValue) × Behind before after (ReadOn old heard) × ((new ≡ heard) ⊎ ((n : ℕ) × HandedAll heard new n))
+HeardMore before after old new = (heard : AskingValue) × Behind before after (ReadOn old heard) × ((new ≡ heard) ⊎ ((n : ℕ) × HandsOver heard new n))
 
 -- the end, with its reports and its packets so far: those of the event stand behind them
 abbrev pub AskingStepped : (comes : LinkValue → List ℕ → Type 0) → AskingValue × List Report × List Written → AskingEvent → List Written → AskingValue × List Report × List Written → Type 0
@@ -170,8 +172,8 @@ PairRuns old new = (events : List PairEvent) × RunsBy PairStepped old events ne
 -- tells of these.
 pub record PairHeadline (first : Files) (p : Pair) : Type 0 where
   pub taken : List Message
-  pub taken_in_order : (rest : List Message) × (taken ++ rest ≡ Asked p.a.accessing.own p.requests)
-  pub files_after : p.b.accessed.files ≡ After p.b.accessed.own first (map Whole taken)
+  pub taken_in_order : (rest : List Message) × (taken ++ rest ≡ Asked p.a.present.own p.requests)
+  pub files_after : p.b.present.files ≡ After p.b.present.own first (map Whole taken)
   pub read : List Message
-  pub read_in_order : (rest : List Message) × (read ++ rest ≡ Answers p.b.accessed.own first (map Whole taken))
+  pub read_in_order : (rest : List Message) × (read ++ rest ≡ Answers p.b.present.own first (map Whole taken))
   pub reports_told : p.reports ≡ Told p.requests (map Whole read)

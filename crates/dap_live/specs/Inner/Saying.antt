@@ -10,8 +10,9 @@ use Rattle.dap_accessed.specs.Adding.{MayAdd, AddRefused, with_new_file}
 use Rattle.dap_end.specs.Serving.{NotGiven}
 use Rattle.dap_end.specs.Done.{ServingValue}
 use Rattle.linewise.specs.declared.talking.Became.{Became}
-use Rattle.dap_live.specs.Texts.{LineAnswer, refused}
-use Rattle.dap_live.specs.Serving.{Adds}
+use Rattle.dap_live.specs.Texts.{LineAnswer, add_refusal, refused}
+use Rattle.dap_live.specs.Both.{DoneOr}
+use Rattle.dap_live.specs.Serving.{Added}
 use Rattle.dap_live.specs.declared.asking.Front.{Front}
 use Rattle.dap_live.specs.declared.asking.Front.TheVariants.{Asked, Busy}
 
@@ -26,5 +27,6 @@ front_text Busy = (refused (codes "ask-busy")).0
 
 -- a file of a shape is added, or it is told why not
 abbrev pub AddsShaped : ServingValue → (name : List ℕ) → Shape → ServingValue → List ℕ → Became → Type 0
-AddsShaped old name shape =
-    Adds (MayAdd old.accessed name) (with_new_file name shape old.accessed.files) (NotGiven old (AddRefused old.accessed name)) old
+AddsShaped old name shape new =
+    DoneOr (λ became. became) (MayAdd old.present name × Added (with_new_file name shape old.present.files) old new)
+    (NotGiven old (AddRefused old.present name)) add_refusal old new

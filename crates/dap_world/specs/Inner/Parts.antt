@@ -96,10 +96,10 @@ with_side p B s = record p { b = s }
 -- ---- The ends.
 
 abbrev pub asking_end : Parts → AskingValue
-asking_end p = record { port = port_of p.a; accessing = p.accessing }
+asking_end p = record { port = port_of p.a; present = p.accessing }
 
 abbrev pub serving_end : Parts → ServingValue
-serving_end p = record { port = port_of p.b; accessed = p.accessed }
+serving_end p = record { port = port_of p.b; present = p.accessed }
 
 -- whatever else it did on its link, it was asked these and read these, or served these
 abbrev pub IsAskedAll : AskingValue → List Request → (answers : List Item) → Type 0

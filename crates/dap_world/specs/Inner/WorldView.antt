@@ -11,8 +11,8 @@ parts_of w =
     record {
       a = side_of w.asking.port (length w.handed.items) w.wire_a.items;
       b = side_of w.serving.port w.posted_b w.wire_b.items;
-      accessing = w.asking.accessing;
-      accessed = w.serving.accessed;
+      accessing = w.asking.present;
+      accessed = w.serving.present;
       requests = w.requests.items;
       handed = bodies w.handed.items;
       served = w.served;

@@ -14,7 +14,7 @@ pub returns-clause-ask : goal.returns-clause-ask
 returns-clause-ask c = asking_is (IsOneOf [])
 
 pub returns-clause-receive : goal.returns-clause-receive
-returns-clause-receive c = λ old new bytes before after r t. receiving_is (IsOneOf ((old.port.link, bytes) ∷ [])) old new bytes before after r (inl refl) t
+returns-clause-receive c = λ old new bytes r t. receiving_is (IsOneOf ((old.port.link, bytes) ∷ [])) old new bytes r (inl refl) t
 
 pub returns-clause-read : goal.returns-clause-read
 returns-clause-read c = reading_is (IsOneOf [])

@@ -8,7 +8,7 @@ use Rattle.dap_end.proofs.serving.ServingEnd.new.Goals as goal
 
 pub returns-clause-ok : goal.returns-clause-ok
 returns-clause-ok c = (
-  subst (λ (p : PortValue). let v : ServingValue = record { port = p; accessed = c.new-2.result } in IsAfter (nothing_yet []) v) (sym c.in_ok-port.ensures.ok.1)
+  subst (λ (p : PortValue). let v : ServingValue = record { port = p; present = c.new-2.result } in IsAfter (nothing_yet []) v) (sym c.in_ok-port.ensures.ok.1)
       (record { serving = c.new-2.ensures.stands; gone = gone_nothing []; sends = sends_new c.args.setup; answers = refl; fit = tt }),
   c.in_ok-port.ensures.ok.1,
   c.new-2.ensures.own,

@@ -1,9 +1,10 @@
 use Rattle.std.proofs.Common.{sym, subst, ap, ◌∙◌, inl, inr, refl}
-use Rattle.nsp_link.specs.declared.fault.LinkFault.TheVariants.{NoMemory}
-use Rattle.dap_end.specs.declared.fault.EndFault.TheVariants as end_fault
+use Rattle.std.specs.Prelude.{Ok, Err}
 use Rattle.dap_end.specs.Done.{ServingValue}
-use Rattle.dap_end.specs.Taking.{ServedUp, ServeFault, begins}
-use Rattle.dap_end.proofs.Proceeding.{on_more, works_here}
+use Rattle.dap_end.specs.Turns.{DidAll}
+use Rattle.dap_end.specs.Taking.{serves}
+use Rattle.dap_end.specs.Inner.Served.{begins}
+use Rattle.dap_end.proofs.Proceeding.{inbox_posted, none_left, none_waits, on_more, works_here}
 use Rattle.dap_end.proofs.serving.ServingEnd.serve_all.Goals as goal
 
 pub messages-init : goal.messages-init
@@ -12,7 +13,19 @@ messages-init c = begins
 pub returns-in-Ok-None-clause-ok : goal.returns-in-Ok-None-clause-ok
 returns-in-Ok-None-clause-ok c =
     let none = rw c.in-Ok-None.field-0-is at c.in-Ok-None.ensures.ok in
-    subst (ServedUp c.args.self.now) (sym none.0) (c.messages.self, _, c.messages.invariant, c.in-Ok.ensures.ok)
+    let left = none_left c.post.new.self (none_waits c.messages.self c.post.new.self _ c.in-Ok.ensures.ok) none.1 in
+    let came = inbox_posted c.messages.self c.post.new.self _ c.in-Ok.ensures.ok in
+    subst (λ (v : ServingValue). DidAll serves c.args.self.now v (Ok tt)) (sym none.0) (c.messages.self, _, inl c.messages.invariant, sym came ∙ left, c.in-Ok.ensures.ok)
+
+pub returns-in-Ok-None-clause-all : goal.returns-in-Ok-None-clause-all
+returns-in-Ok-None-clause-all c =
+    let none = rw c.in-Ok-None.field-0-is at c.in-Ok-None.ensures.ok in
+    ap (λ (v : ServingValue). v.port.link.coming.inbox) none.0 ∙ none_left c.post.new.self (none_waits c.messages.self c.post.new.self _ c.in-Ok.ensures.ok) none.1
+
+pub returns-in-Ok-None-clause-idle : goal.returns-in-Ok-None-clause-idle
+returns-in-Ok-None-clause-idle c =
+    let none = rw c.in-Ok-None.field-0-is at c.in-Ok-None.ensures.ok in
+    ap (λ (v : ServingValue). v.port.outbox) none.0 ∙ none_waits c.messages.self c.post.new.self _ c.in-Ok.ensures.ok
 
 pub returns-in-Ok-None-clause-works : goal.returns-in-Ok-None-clause-works
 returns-in-Ok-None-clause-works c =
@@ -27,9 +40,8 @@ messages-preserved c =
 pub returns-in-Err-serve-clause-err : goal.returns-in-Err-serve-clause-err
 returns-in-Err-serve-clause-err c =
     let none = c.in-Err-serve.ensures.no_memory in
-    subst (λ (v : ServingValue). ServeFault c.args.self.now v (end_fault.Link NoMemory)) (sym none.0) (inr (refl, (c.messages.self, _, c.messages.invariant, c.in-Ok.ensures.ok), none.1))
+    (c.post.new.self, inr (c.messages.self, _, c.messages.invariant, c.in-Ok.ensures.ok), (none.0, inr (refl, none.1)))
 
 pub returns-in-Err-clause-err : goal.returns-in-Err-clause-err
 returns-in-Err-clause-err c =
-    let refused = c.in-Err.ensures.err in
-    subst (λ (v : ServingValue). ServeFault c.args.self.now v (end_fault.Link c.in-Err.fault)) (sym refused.0) (inl (c.messages.invariant, refused.1))
+    let refused = c.in-Err.ensures.err in (c.messages.self, inl c.messages.invariant, (refused.0, inl refused.1))

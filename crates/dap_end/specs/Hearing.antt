@@ -1,0 +1,34 @@
+-- Reading all that came, and doing at once all that it lets the end that asks do.
+use Rattle.std.specs.Prelude.{◌≡◌, ◌⊎◌, ℕ, ◌<◌, Result, Ok, Err, List, [], length}
+use Rattle.nsp_link.specs.Sending.{SendAllFault}
+use Rattle.dap_accessing.specs.declared.report.Report.{Report}
+use Rattle.dap_accessing.specs.declared.fault.ReadFault.{ReadFault}
+use Rattle.dap_accessing.specs.declared.fault.ReadFault.TheVariants as read_fault
+use Rattle.dap_end.specs.declared.fault.EndFault.{EndFault}
+use Rattle.dap_end.specs.declared.fault.EndFault.TheVariants as end_fault
+use Rattle.dap_end.specs.Writing.{Behind}
+use Rattle.dap_end.specs.Turns.{EndOf}
+use Rattle.dap_accessing.specs.Present.{Present}
+use Rattle.dap_end.specs.Asking.{ReadNone}
+use Rattle.dap_end.specs.Done.{AskingValue}
+-- Some of what came was read, and these are the reports that it added. Nobody has to believe the text: laws say what it leaves of
+-- what the end did, and that this is determined.
+pub use Rattle.dap_end.specs.Inner.Heard.{ReadOn}
+
+-- why nothing is read or handed over here: what waits is refused, once all is read; or the next answer; or memory for a report
+abbrev pub HearFault : (old new : AskingValue) → EndFault → Type 0
+HearFault old new (end_fault.Link f) =
+    (new ≡ old) × (old.port.link.coming.inbox ≡ []) × SendAllFault old.port.link old.port.outbox f
+HearFault old new (end_fault.Read f) =
+    ReadNone old new f ⊎ ((f ≡ read_fault.NoMemory) × (new ≡ old) × (0 < length old.port.link.coming.inbox))
+
+-- the reports stand behind those that were there
+abbrev pub asks : (before reports : List Report) → EndOf Present
+asks before reports =
+    record { on = λ old new. Behind before reports (ReadOn old new); halts = HearFault; quiet = reports ≡ before }
+
+-- what reading all comes to
+abbrev pub ReadsAll : (old new : AskingValue) → (before reports : List Report) → Result (Unit {0}) ReadFault → Type 0
+ReadsAll old new before reports (Ok done) = Behind before reports (ReadOn old new) × (new.port.link.coming.inbox ≡ [])
+ReadsAll old new before reports (Err f) =
+    (mid : AskingValue) × Behind before reports (ReadOn old mid) × HearFault mid new (end_fault.Read f)
