@@ -226,6 +226,7 @@ impl ServingEnd {
     /// was served and handed over before that stays so, and the same call goes on.
     pub fn serve_all(&mut self) -> Result<(), LinkFault>
         ensures ok { OnOk result (DidAll serves self.old self.new (Ok tt)) }
+        // What follows from it, for callers.
         ensures all { OnOk result (self.new.port.link.coming.inbox ≡ []) }
         ensures idle { OnOk result (self.new.port.outbox ≡ []) }
         ensures works { OnOk result (self.new.port.link.failed ≡ false) }
@@ -249,6 +250,7 @@ impl ServingEnd {
     pub fn go_on(&mut self, out: &mut Vec<Vec<u8>>) -> Result<(), LinkFault>
         ensures went { WentOn serves self.old self.new (bodies out.old.items) (bodies out.new.items)
             (result_map_both (λ done. done) end_fault.Link result) }
+        // What follows from it, for callers.
         ensures all { OnOk result (self.new.port.link.coming.inbox ≡ []) }
         ensures idle { OnOk result (self.new.port.outbox ≡ []) }
     {
