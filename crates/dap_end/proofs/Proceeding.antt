@@ -2,7 +2,7 @@
 use Rattle.std.proofs.Common.{◌≡◌, ℕ, ◌+◌, ◌-◌, ◌<◌, ◌≤◌, arith, refl, sym, ◌∙◌, subst, ap, append_assoc, List, [], ◌∷◌, ◌++◌, length, inl, inr, eq-eqb, false, IsTrue}
 use Rattle.std.specs.Prelude.{All, ◌==◌, if◌then◌else◌, Result, Ok, Err, OnOk, IfErr}
 use Rattle.std.proofs.lemmas.Bool.{cases_eq, ne_eqb}
-use Rattle.std.proofs.lemmas.List.{append-nil}
+use Rattle.std.proofs.lemmas.List.{append-nil, length-append}
 use Rattle.std.proofs.lemmas.List.Elements.{All-append}
 use Rattle.dap_msg.specs.declared.items.Item.{Item}
 use Rattle.dap_msg.specs.Items.{IsPlace}
@@ -29,7 +29,10 @@ use Rattle.dap_end.specs.Turns.{DidAll, WentOn}
 use Rattle.std.specs.Result.{result_map_both}
 use Rattle.dap_end.specs.Inner.Pasts.{Still}
 use Rattle.dap_end.specs.Inner.ServingView.{with_port}
-use Rattle.nsp_link.proofs.ForCallers.{may_queue_parts}
+use Rattle.nsp_link.specs.Cutting.{cut}
+use Rattle.nsp_link.specs.Limits.{most_segments}
+use Rattle.nsp_link.specs.Sending.{may_queue, queued_link}
+use Rattle.nsp_link.proofs.ForCallers.{may_queue_by, may_queue_parts}
 
 -- ---- Serving and handing over.
 
@@ -164,6 +167,18 @@ none_waits v new n p = ap (λ (x : ServingValue). x.port.outbox) (posted_is v ne
 -- a link to which something was handed runs
 pub works_here : (old new : ServingValue) (n : ℕ) → HandsOver old new n → new.port.link.failed ≡ false
 works_here old new n p = ap (λ (v : ServingValue). v.port.link.failed) (posted_is old new n p) ∙ (may_queue_parts old.port.link old.port.outbox p.0).0
+
+-- and nothing more may be handed to it too
+may_none : (v : LinkValue) (messages : List (List ℕ)) → IsTrue (may_queue v messages) → IsTrue (may_queue (queued_link v (cut v.setup.seg_size messages)) [])
+unfolding cut
+may_none v messages may =
+    let parts = may_queue_parts v messages may in
+    let few : v.acked + length v.queue + length (cut v.setup.seg_size messages) ≤ most_segments = parts.2 in
+    let still : v.acked + length (v.queue ++ cut v.setup.seg_size messages) + 0 ≤ most_segments = omega (arith, few, length-append v.queue (cut v.setup.seg_size messages)) in
+    may_queue_by (queued_link v (cut v.setup.seg_size messages)) [] parts.0 (none_short (queued_link v (cut v.setup.seg_size messages))) still
+
+pub may_more : (v new : ServingValue) (n : ℕ) → HandsOver v new n → IsTrue (may_queue new.port.link new.port.outbox)
+may_more v new n p = subst (λ (x : ServingValue). IsTrue (may_queue x.port.link x.port.outbox)) (sym (posted_is v new n p)) (may_none v.port.link v.port.outbox p.0)
 
 -- ---- How much is left to serve.
 

@@ -4,7 +4,7 @@ use Rattle.dap_end.specs.Done.{ServingValue}
 use Rattle.dap_end.specs.Turns.{DidAll}
 use Rattle.dap_end.specs.Taking.{serves}
 use Rattle.dap_end.specs.Inner.Served.{begins}
-use Rattle.dap_end.proofs.Proceeding.{inbox_posted, none_left, none_waits, on_more, works_here}
+use Rattle.dap_end.proofs.Proceeding.{inbox_posted, may_more, none_left, none_waits, on_more, works_here}
 use Rattle.dap_end.proofs.serving.ServingEnd.serve_all.Goals as goal
 
 pub messages-init : goal.messages-init
@@ -40,7 +40,7 @@ messages-preserved c =
 pub returns-in-Err-serve-clause-err : goal.returns-in-Err-serve-clause-err
 returns-in-Err-serve-clause-err c =
     let none = c.in-Err-serve.ensures.no_memory in
-    (c.post.new.self, inr (c.messages.self, _, c.messages.invariant, c.in-Ok.ensures.ok), (none.0, inr (refl, none.1)))
+    (c.post.new.self, inr (c.messages.self, _, c.messages.invariant, c.in-Ok.ensures.ok), (none.0, inr (refl, may_more c.messages.self c.post.new.self _ c.in-Ok.ensures.ok, none.1)))
 
 pub returns-in-Err-clause-err : goal.returns-in-Err-clause-err
 returns-in-Err-clause-err c =
