@@ -40,7 +40,7 @@ use Rattle.dap_end.specs.Inner.AskingView.{asking_of}
 use Rattle.dap_end.proofs.Taking.{Grown}
 use Rattle.dap_end.proofs.Going.{gone_stays}
 use Rattle.dap_end.proofs.ServingOne.{port_given, port_gone, all_short, fit-both}
-use Rattle.dap_end.proofs.Proceeding.{work, less_left}
+use Rattle.dap_end.proofs.Proceeding.{work, item_left}
 use Rattle.dap_end.specs.Inner.Pasts.{Still}
 
 -- a packet came
@@ -196,12 +196,12 @@ few_blocked limit (m ∷ messages) = omega (arith, blocked-few limit (m ∷ []) 
 -- ---- An answer.
 
 pub reads_one : (old : AskingValue) (bytes : List ℕ) (later : List (List ℕ)) → AreBytes bytes → (after : Present) (port : PortValue) (step : ReadStep) → old.port.link.coming.inbox ≡ bytes ∷ later → IsPlace old.port.place bytes
-    → (r : Reads bytes old.port.place old.present after step) → step.next ≤ length bytes → (old.port.place < length bytes → old.port.place < step.next) → after.own ≡ old.present.own
+    → (r : Reads bytes old.port.place old.present after step) → step.next ≤ length bytes → after.own ≡ old.present.own
     → port ≡ gone_on old.port bytes later step.next → ReadOne old (asking_of port after) step.report
-reads_one old bytes later fits after port step inbox place r within onward own is =
+reads_one old bytes later fits after port step inbox place r within own is =
     record {
       works = r.works;
-      one = record { bytes = bytes; later = later; came = inbox; fits = fits; item = r.answer; next = step.next; reads = r.reads; place = place; goes = onward; within = within };
+      one = record { bytes = bytes; later = later; came = inbox; fits = fits; item = r.answer; next = step.next; reads = r.reads; place = place };
       port = is;
       own = own;
       past = λ past h. subst (λ (p : PortValue). HasAsked (read_one past bytes r.answer step.next) (asking_of p after)) (sym is) (record {
@@ -344,7 +344,7 @@ read_more a b c report before all new m r is = (
 pub read_falls : (old new : AskingValue) (report : Option Report) → ReadOne old new report → work new.port.link.coming.inbox - new.port.place < work old.port.link.coming.inbox - old.port.place
 read_falls old new report r =
     subst (λ (p : PortValue). work p.link.coming.inbox - p.place < work old.port.link.coming.inbox - old.port.place) (sym r.port)
-    (less_left old.port.link.coming.inbox r.one.later r.one.bytes old.port.place r.one.next r.one.came r.one.place r.one.goes r.one.within)
+    (item_left old.port r.one)
 
 pub still_sent : (v : AskingValue) (port : PortValue) (n : ℕ) → port ≡ sent_more v.port n → Still HasAsked v (record v { port = port })
 still_sent v port n e =

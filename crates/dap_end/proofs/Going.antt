@@ -1,15 +1,30 @@
 -- Going through the items of the NSP messages that came.
-use Rattle.std.proofs.Common.{◌≡◌, ℕ, ◌<◌, ◌≤◌, arith, refl, sym, ◌∙◌, subst, ap, append_assoc, List, [], ◌∷◌, ◌++◌, length, inl, inr, eq-eqb}
+use Rattle.std.proofs.Common.{◌≡◌, ℕ, ◌<◌, ◌≤◌, arith, refl, sym, ◌∙◌, subst, ap, append_assoc, List, drop, [], ◌∷◌, ◌++◌, length, inl, inr, eq-eqb}
 use Rattle.std.specs.Prelude.{◌==◌, if◌then◌else◌}
 use Rattle.std.proofs.lemmas.Bool.{cases_eq, ne_eqb}
-use Rattle.std.proofs.lemmas.List.{append-nil}
+use Rattle.std.proofs.lemmas.List.{append-nil, length-drop}
 use Rattle.std.specs.List.{AllByRecursion}
 use Rattle.dap_fields.specs.Spelling.{AreBytes}
 use Rattle.dap_msg.specs.declared.items.Item.{Item}
-use Rattle.dap_msg.specs.Items.{ItemAt, Items, ItemsFrom}
+use Rattle.dap_msg.specs.declared.items.Item.TheVariants.{Whole, Malformed}
+use Rattle.dap_msg.specs.Items.{IsPlace, ItemAt, Items, ItemsFrom}
+use Rattle.dap_msg.proofs.ForCallers.{stands_some}
 use Rattle.dap_end.specs.Inner.After.{oldest}
 use Rattle.dap_end.specs.Going.{AreItemsOf}
 use Rattle.dap_end.specs.Inner.After.{StandFrom, GoneThrough}
+
+-- ---- One item.
+
+place_within : (at : ℕ) (bytes : List ℕ) → IsPlace at bytes → at ≤ length bytes
+place_within at bytes (inl lt) = omega arith
+place_within at bytes (inr none) = omega (arith, none.0)
+
+-- an item goes on, and ends within the bytes
+pub item_ends : (bytes : List ℕ) (at : ℕ) (item : Item) (next : ℕ) → IsPlace at bytes → ItemAt bytes at item next → (at < length bytes → at < next) × (next ≤ length bytes)
+item_ends bytes at (Whole m) next place h =
+    let some = stands_some m h.0 (drop at bytes) h.1 in
+    (λ lt. omega (arith, some, h.2), omega (arith, h.1.there, length-drop at bytes, h.2, place_within at bytes place))
+item_ends bytes at (Malformed fault) next place h = (λ lt. omega (arith, h.4), omega (arith, h.4))
 
 -- ---- More comes.
 

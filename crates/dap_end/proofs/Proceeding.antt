@@ -25,6 +25,8 @@ use Rattle.dap_end.specs.Inner.Running.{Grew, ServedMore}
 use Rattle.dap_end.proofs.Afterwards.{posted_is, posted_past}
 use Rattle.dap_end.proofs.ServingOne.{port_given}
 use Rattle.dap_end.proofs.Turning.{went_by}
+use Rattle.dap_end.proofs.Going.{item_ends}
+use Rattle.dap_end.specs.Going.{NextItem}
 use Rattle.dap_end.specs.Turns.{DidAll, WentOn}
 use Rattle.std.specs.Result.{result_map_both}
 use Rattle.dap_end.specs.Inner.Pasts.{Still}
@@ -197,7 +199,7 @@ less_inside : (later : List (List ℕ)) (bytes : List ℕ) (place next : ℕ) �
 less_inside later bytes place next (inl lt) onward inside = let h = onward lt in omega arith
 less_inside later bytes place next (inr none) onward inside = absurd (omega (arith, none.1))
 
-pub less_left : (inbox later : List (List ℕ)) (bytes : List ℕ) (place next : ℕ) → inbox ≡ bytes ∷ later → IsPlace place bytes → (place < length bytes → place < next) → next ≤ length bytes →
+less_left : (inbox later : List (List ℕ)) (bytes : List ℕ) (place next : ℕ) → inbox ≡ bytes ∷ later → IsPlace place bytes → (place < length bytes → place < next) → next ≤ length bytes →
     let ends = next == length bytes in work (if ends then later else inbox) - (if ends then 0 else next) < work inbox - place
 less_left inbox later bytes place next came at onward within =
     elim (cases_eq next (length bytes)) [
@@ -205,10 +207,16 @@ less_left inbox later bytes place next came at onward within =
       | inr inside ↦ rw (ne_eqb next (length bytes) inside, came) (less_inside later bytes place next at onward (omega (arith, within, inside)))
     ]
 
+pub item_left : (p : PortValue) (one : NextItem p) →
+    let ends = one.next == length one.bytes in work (if ends then one.later else p.link.coming.inbox) - (if ends then 0 else one.next) < work p.link.coming.inbox - p.place
+item_left p one =
+    let goes = item_ends one.bytes p.place one.item one.next one.place one.reads in
+    less_left p.link.coming.inbox one.later one.bytes p.place one.next one.came one.place goes.0 goes.1
+
 pub falls : (old new : ServingValue) (n : ℕ) → ServedOne old new n → left new < left old
 falls old new n s =
     subst (λ (p : PortValue). work p.link.coming.inbox - p.place < left old) (sym s.port)
-    (less_left old.port.link.coming.inbox s.one.later s.one.bytes old.port.place s.one.next s.one.came s.one.place s.one.goes s.one.within)
+    (item_left old.port s.one)
 
 -- ---- Writing.
 

@@ -102,15 +102,15 @@ module _ (old : ServingValue) (bytes : List ℕ) (later : List (List ℕ)) (inbo
 
   pub served_one : (after : Present) (s : Served) (port : PortValue) (next n : ℕ)
       → old.port.outbox ≡ [] → IsPlace old.port.place bytes → (serves : Serves bytes old.port.place old.present after s)
-      → s.next ≡ next → next ≤ length bytes → (old.port.place < length bytes → old.port.place < next)
+      → s.next ≡ next → next ≤ length bytes
       → port ≡ record (gone_on old.port bytes later next) { outbox = bodies s.answers.items } → n ≡ length (bodies s.answers.items)
       → ServedOne old (serving_of port after) n
-  served_one after s port next n idle place serves same within goes port_is count =
+  served_one after s port next n idle place serves same within port_is count =
       let to : port ≡ record (gone_on old.port bytes later s.next) { outbox = bodies s.answers.items } = port_is ∙ ap (λ (k : ℕ). record (gone_on old.port bytes later k) { outbox = bodies s.answers.items }) (sym same) in
       let le : s.next ≤ length bytes = omega arith in
       record {
         idle = idle;
-        one = record { bytes = bytes; later = later; came = inbox; fits = fits; item = serves.item; next = s.next; reads = serves.reads; place = place; goes = λ lt. (let h = goes lt in omega arith); within = le };
+        one = record { bytes = bytes; later = later; came = inbox; fits = fits; item = serves.item; next = s.next; reads = serves.reads; place = place };
         port = to ∙ ap (λ (l : List (List ℕ)). record (gone_on old.port bytes later s.next) { outbox = l }) (sym (ap (λ (p : PortValue). p.outbox) to));
         own = serves.same_own;
         count = count ∙ ap length (sym (ap (λ (p : PortValue). p.outbox) to));

@@ -1,5 +1,5 @@
 -- The DAP messages in NSP messages, gone through one after another.
-use Rattle.std.specs.Prelude.{◌≡◌, ℕ, ◌<◌, ◌≤◌, ◌==◌, if◌then◌else◌, List, [], ◌∷◌, ◌++◌, length}
+use Rattle.std.specs.Prelude.{◌≡◌, ℕ, ◌==◌, if◌then◌else◌, List, [], ◌∷◌, ◌++◌, length}
 use Rattle.dap_fields.specs.Spelling.{AreBytes}
 use Rattle.dap_msg.specs.declared.items.Item.{Item}
 use Rattle.dap_msg.specs.Items.{ItemAt, Items, IsPlace}
@@ -29,5 +29,3 @@ pub record NextItem (p : PortValue) : Type 0 where
   pub next : ℕ
   pub reads : ItemAt bytes p.place item next
   pub place : IsPlace p.place bytes
-  pub goes : p.place < length bytes → p.place < next
-  pub within : next ≤ length bytes

@@ -37,9 +37,9 @@ use Rattle.dap_live.specs.declared.orders.Order.{Order}
 use Rattle.dap_live.specs.declared.orders.Order.TheVariants as order
 use Rattle.dap_live.specs.Orders.{order_of, setup_anew}
 use Rattle.dap_live.specs.Sending.{AllAgain, SaysAck, has_message, is_left, waits_of}
-use Rattle.dap_live.specs.Texts.{ask_refusal, link_refusal, packets_text, reports_text, taken_said}
+use Rattle.dap_live.specs.Texts.{ask_refusal, done_said, link_refusal, packets_text, reports_text, taken_said}
 use Rattle.dap_live.specs.Asking.{GoesOn, Resends, AsksNot, Asks, IsNew, OnEnd, Does, DoesAll, Ends, answered, waiting, came_by, goes_on}
-use Rattle.dap_live.specs.Both.{DoesOrder, DoneOr, Stays, TakesPacket, gone_said}
+use Rattle.dap_live.specs.Both.{DoesOrder, DoneOr, Stays, TakesPacket}
 use Rattle.dap_live.specs.Inner.Saying.{front_text}
 use Rattle.dap_live.specs.Inner.OneText.{AreSameAsking}
 use Rattle.dap_live.proofs.OneLine.{Fits, line_fits, all_again, ack_one, taken_wants, setup_apart, setup_one, one_answer, gone_wants}
@@ -95,15 +95,16 @@ packet_one old other one two bytes said more m n fits same nm nn (rx, x) (ry, y)
 going_same : (old other : AskingValue) (before : List Report) (front said more : List ℕ) (one two : Asking) (m n : Came) → HasDone old → (old ≡ other) → outcome m ≢ NoMemory → outcome n ≢ NoMemory
     → GoesOn old before front one said m → GoesOn other before front two more n → One one two said more m n
 going_same old other before front said more one two m n d like nm nn x y =
-    let wx = gone_wants x.gone (λ e. nm (ap outcome x.ended ∙ e)) in
-    let wy = gone_wants y.gone (λ e. nn (ap outcome y.ended ∙ e)) in
-    let t = going_alike old other one.end two.end [] x.packets y.packets before one.reports.items two.reports.items x.gone y.gone d like wx wy x.went y.went in (
+    let wx = gone_wants x.gone one.reports.items x.packets (λ e. nm (ap outcome x.ended ∙ e)) in
+    let wy = gone_wants y.gone two.reports.items y.packets (λ e. nn (ap outcome y.ended ∙ e)) in
+    let t = going_alike old other one.end two.end [] x.packets y.packets before one.reports.items two.reports.items x.gone y.gone d like wx wy x.went y.went in
+    let same : done_said one.reports.items x.packets x.gone ≡ done_said two.reports.items y.packets y.gone =
+    ap (done_said one.reports.items x.packets) t.1 ∙ ap (λ (l : List (List ℕ)). done_said one.reports.items l y.gone) t.2
+    ∙ ap (λ (l : List Report). done_said l y.packets y.gone) t.3 in (
       t.0,
       t.3,
-      x.says ∙ ap (λ (r : Result (Unit {0}) EndFault). front ++ (reports_text one.reports.items ++ (packets_text x.packets ++ (gone_said r).0))) t.1
-          ∙ ap (λ (l : List (List ℕ)). front ++ (reports_text one.reports.items ++ (packets_text l ++ (gone_said y.gone).0))) t.2
-          ∙ ap (λ (l : List Report). front ++ (reports_text l ++ (packets_text y.packets ++ (gone_said y.gone).0))) t.3 ∙ sym y.says,
-      x.ended ∙ ap (λ (r : Result (Unit {0}) EndFault). Told ((gone_said r).1)) t.1 ∙ sym y.ended,
+      x.says ∙ ap (λ k. front ++ k.0) same ∙ sym y.says,
+      x.ended ∙ ap (λ k. Told k.1) same ∙ sym y.ended,
       t.4,
     )
 

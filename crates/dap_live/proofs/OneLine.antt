@@ -37,8 +37,7 @@ use Rattle.dap_live.specs.Orders.{address_of, order_of}
 use Rattle.dap_live.specs.Inner.Orders.{addresses, order_forms, packet_of}
 use Rattle.dap_live.specs.Sending.{AllAgain, SaysAck}
 use Rattle.dap_accessing.specs.declared.report.Report.{Report}
-use Rattle.dap_live.specs.Both.{gone_said}
-use Rattle.dap_live.specs.Texts.{end_refusal, link_refusal, packet_text, taken_said}
+use Rattle.dap_live.specs.Texts.{done_said, end_refusal, link_refusal, packet_text, taken_said}
 
 -- ---- A packet's line says bytes.
 
@@ -182,9 +181,9 @@ end_wants (end.Link f) want = link_wants f want
 end_wants (end.Read read.NoMemory) want = absurd (want refl)
 end_wants (end.Read f) want = refl
 
-pub gone_wants : (r : Result (Unit {0}) EndFault) → (gone_said r).1 ≢ NoMemory → went_wanting r ≡ false
-gone_wants (Ok done) want = refl
-gone_wants (Err f) want = end_wants f want
+pub gone_wants : (r : Result (Unit {0}) EndFault) (reports : List Report) (packets : List (List ℕ)) → (done_said reports packets r).1 ≢ NoMemory → went_wanting r ≡ false
+gone_wants (Ok done) reports packets want = refl
+gone_wants (Err f) reports packets want = end_wants f want
 
 pub taken_wants : (r : Result Got TakeFault) (reports : List Report) (packets : List (List ℕ)) → (taken_said r reports packets).1 ≢ NoMemory → took_wanting r ≡ false
 taken_wants (Ok got) reports packets want = refl

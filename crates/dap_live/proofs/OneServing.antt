@@ -37,9 +37,9 @@ use Rattle.dap_live.specs.declared.orders.Order.{Order}
 use Rattle.dap_live.specs.declared.orders.Order.TheVariants as order
 use Rattle.dap_live.specs.Orders.{order_of, setup_anew}
 use Rattle.dap_live.specs.Sending.{SaysAck, UnlessFailed, is_left, waits_of}
-use Rattle.dap_live.specs.Texts.{add_refusal, link_refusal, packets_text, taken_said}
+use Rattle.dap_live.specs.Texts.{add_refusal, done_said, link_refusal, packets_text, taken_said}
 use Rattle.dap_live.specs.Serving.{Resends, IsNew, Added, AddsFile, AddsRecord, OnEnd, Does, answered, waiting}
-use Rattle.dap_live.specs.Both.{DoesOrder, DoneOr, SaysGone, Stays, TakesPacket, gone_said}
+use Rattle.dap_live.specs.Both.{DoesOrder, DoneOr, SaysGone, Stays, TakesPacket}
 use Rattle.dap_live.specs.Inner.Saying.{AddsShaped}
 use Rattle.dap_live.specs.Inner.OneText.{HasServed, AreSameServing}
 use Rattle.dap_live.proofs.OneLine.{Fits, line_fits, all_again, ack_one, gone_wants, taken_wants, setup_apart, setup_one, one_answer}
@@ -73,11 +73,11 @@ GoesOnIf left old front new text became = MatchBool left (GoesOn old front new t
 going_same : (end one two : ServingValue) (front said more : List ℕ) (b c : Became) → HasServed end → b ≢ NoMemory → c ≢ NoMemory
     → GoesOn end front one said b → GoesOn end front two more c → One one two said more b c
 going_same end one two front said more b c k nb nc x y =
-    let t = going_one k.0 end one two [] x.packets y.packets x.gone y.gone k.1 (gone_wants x.gone (λ e. nb (x.ended ∙ e))) (gone_wants y.gone (λ e. nc (y.ended ∙ e))) x.went y.went in (
+    let t = going_one k.0 end one two [] x.packets y.packets x.gone y.gone k.1 (gone_wants x.gone [] x.packets (λ e. nb (x.ended ∙ e))) (gone_wants y.gone [] y.packets (λ e. nc (y.ended ∙ e))) x.went y.went in
+    let said : done_said [] x.packets x.gone ≡ done_said [] y.packets y.gone = ap (done_said [] x.packets) t.1 ∙ ap (λ (l : List (List ℕ)). done_said [] l y.gone) t.2 in (
       t.0,
-      x.says ∙ ap (λ (r : Result (Unit {0}) EndFault). front ++ (packets_text x.packets ++ (gone_said r).0)) t.1
-          ∙ ap (λ (l : List (List ℕ)). front ++ (packets_text l ++ (gone_said y.gone).0)) t.2 ∙ sym y.says,
-      x.ended ∙ ap (λ k. (gone_said k).1) t.1 ∙ sym y.ended,
+      x.says ∙ ap (λ k. front ++ k.0) said ∙ sym y.says,
+      x.ended ∙ ap (λ k. k.1) said ∙ sym y.ended,
       going_known end one [] x.packets x.gone x.went k,
     )
 

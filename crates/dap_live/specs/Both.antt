@@ -10,7 +10,7 @@ use Rattle.dap_end.specs.Turns.{EndOf, Takes, WentOn}
 use Rattle.linewise.specs.declared.talking.Became.{Became}
 use Rattle.linewise.specs.declared.talking.Became.TheVariants.{Done, BadLine, NoMemory}
 use Rattle.dap_live.specs.declared.orders.Order.{Order}
-use Rattle.dap_live.specs.Texts.{LineAnswer, end_refusal, packets_text, reports_text, taken_said}
+use Rattle.dap_live.specs.Texts.{LineAnswer, done_said, taken_said}
 
 -- A packet was taken in, and all done that it lets the end do, or it was refused; the answer has these reports.
 pub record TakesPacket {P C : Type 0} (end : EndOf P) (reports : List Report) (ends : Result Got TakeFault → Became → C)
@@ -23,19 +23,14 @@ pub record TakesPacket {P C : Type 0} (end : EndOf P) (reports : List Report) (e
 
 -- ---- Going on.
 
--- what is said last
-abbrev pub gone_said : Result (Unit {0}) EndFault → LineAnswer
-gone_said (Ok done) = ([], Done)
-gone_said (Err f) = end_refusal f
-
--- What an end says by going on, behind this front: the reports, the packets, and why not all was done.
+-- What an end says by going on, behind this front.
 pub record SaysGone {P C : Type 0} (end : EndOf P) (reports : List Report) (ends : Became → C)
     (old : EndValue P) (front : List ℕ) (new : EndValue P) (text : List ℕ) (came : C) : Type 0 where
   pub gone : Result (Unit {0}) EndFault
   pub packets : List (List ℕ)
   pub went : WentOn end old new [] packets gone
-  pub says : text ≡ front ++ (reports_text reports ++ (packets_text packets ++ (gone_said gone).0))
-  pub ended : came ≡ ends (gone_said gone).1
+  pub says : text ≡ front ++ (done_said reports packets gone).0
+  pub ended : came ≡ ends (done_said reports packets gone).1
 
 -- ---- What is done or refused.
 

@@ -79,10 +79,16 @@ add_refusal add.NoFile = (status_line codes_of.stscode.file_not_found 0, Done)
 add_refusal (add.Record why) = (status_line codes_of.stscode.record_refused (reason_of why), Done)
 add_refusal add.NoMemory = ([], NoMemory)
 
--- ---- The answer to a packet.
+-- ---- What was done.
 
+-- the reports, the packets, and why not all was done
+abbrev pub done_said : List Report → List (List ℕ) → Result (Unit {0}) EndFault → LineAnswer
+done_said reports packets (Ok done) = (reports_text reports ++ packets_text packets, Done)
+done_said reports packets (Err f) = (reports_text reports ++ (packets_text packets ++ (end_refusal f).0), (end_refusal f).1)
+
+-- by a packet
 abbrev pub taken_said : Result Got TakeFault → List Report → List (List ℕ) → LineAnswer
-taken_said (Ok got) reports packets = ((got_text got ++ line_feed) ++ (reports_text reports ++ packets_text packets), Done)
+taken_said (Ok got) reports packets = ((got_text got ++ line_feed) ++ (done_said reports packets (Ok tt)).0, Done)
 taken_said (Err (take.Refused f)) reports packets = link_refusal f
 taken_said (Err (take.Unfinished got f)) reports packets =
-    ((got_text got ++ line_feed) ++ (reports_text reports ++ (packets_text packets ++ (end_refusal f).0)), (end_refusal f).1)
+    ((got_text got ++ line_feed) ++ (done_said reports packets (Err f)).0, (end_refusal f).1)

@@ -12,7 +12,7 @@ ghost use Rattle.dap_end.specs.Turns.{WentOn, Takes};
 ghost use Rattle.dap_text.specs.Adding.{Adds};
 ghost use Rattle.dap_live.specs.declared.asking.Came.{Came as TheCame};
 ghost use Rattle.dap_live.specs.Texts.{end_refusal, packets_text, reports_text};
-ghost use Rattle.dap_live.specs.Both.{DoesOrder, gone_said};
+ghost use Rattle.dap_live.specs.Both.{DoesOrder};
 ghost use Rattle.dap_live.specs.Inner.Reaching.{Reaches};
 ghost use Rattle.dap_live.specs.Asking.{Asks, Does, DoesAll, Ends, GoesOn, OnEnd, Resends, came_by, goes_on as goes_on_by};
 ghost use Rattle.dap_live.specs.Inner.Saying.{front_text};
@@ -20,7 +20,7 @@ ghost use Rattle.dap_live.specs.Inner.Saying.{front_text};
 use crate::orders::{Anew, Order, read_order, set_up};
 use crate::sending::{has_message, is_left, push_again, say_ack, waits};
 use crate::texts::{
-    push_ask_refusal, push_gone, push_link_refusal, push_refused, push_reports, push_taken,
+    push_ask_refusal, push_done, push_link_refusal, push_refused, push_reports, push_taken,
 };
 use dap_accessing::{AskFault, Report, Request};
 use dap_end::{AskingEnd, EndFault, TakeFault};
@@ -128,21 +128,6 @@ fn go_on(
     end.go_on(packets, reports)
 }
 
-/// What going on came to, behind the reports.
-fn push_told(
-    text: &mut Vec<u8>,
-    gone: Result<(), EndFault>,
-    reports: &Vec<Report>,
-    packets: &Vec<Vec<u8>>,
-) -> Result<Came, AllocError>
-    ensures text { OnOk result (Adds text.old text.new (reports_text reports.now.items
-        ++ (packets_text (bodies packets.now.items) ++ (gone_said gone).0))) }
-    ensures came { IfOk result (λ came. came ≡ Came.Told (gone_said gone).1) }
-{
-    push_reports(text, reports)?;
-    Ok(Came::Told(push_gone(text, gone, packets)?))
-}
-
 /// What is said before what going on comes to.
 #[derive(Clone, Copy)]
 pub(crate) enum Front {
@@ -177,7 +162,7 @@ fn go_on_behind(asking: &mut Asking, front: Front, text: &mut Vec<u8>) -> Result
     let mut packets = Vec::new(asking.alloc);
     let gone = go_on(&mut asking.end, &mut packets, &mut asking.reports);
     push_front(text, front)?;
-    push_told(text, gone, &asking.reports, &packets)
+    Ok(Came::Told(push_done(text, &asking.reports, &packets, gone)?))
 }
 
 /// Whether an unexpected answer failed the end.
@@ -204,7 +189,7 @@ fn go_on_again(asking: &mut Asking, text: &mut Vec<u8>) -> Result<Came, AllocErr
 {
     let mut packets = Vec::new(asking.alloc);
     let gone = go_on(&mut asking.end, &mut packets, &mut asking.reports);
-    push_told(text, gone, &asking.reports, &packets)
+    Ok(Came::Told(push_done(text, &asking.reports, &packets, gone)?))
 }
 
 /// Goes on where something is left, or tells the reports that wait.

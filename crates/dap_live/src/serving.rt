@@ -21,7 +21,7 @@ ghost use Rattle.dap_live.specs.Serving.{AddsFile, AddsRecord, Does, Resends};
 
 use crate::orders::{Anew, Order, read_order, set_up};
 use crate::sending::{is_left, push_again, say_ack, waits};
-use crate::texts::{push_add_refusal, push_gone, push_link_refusal, push_status, push_taken};
+use crate::texts::{push_add_refusal, push_done, push_link_refusal, push_status, push_taken};
 use dap_end::{EndFault, ServingEnd, TakeFault};
 use dap_msg::codes::{ACCESS_REFUSED, REASON_BAD_ATTRIBUTES};
 use dap_text::{FileLine, RecordLine, Text, push_files};
@@ -107,7 +107,8 @@ fn go_on_behind(
 {
     let mut packets = Vec::new(alloc);
     let gone = go_on(end, &mut packets);
-    push_gone(text, gone, &packets)
+    let reports = Vec::new(alloc);
+    push_done(text, &reports, &packets, gone)
 }
 
 /// Whether something is left of what the end does by itself.

@@ -9,8 +9,7 @@ ghost use Rattle.dap_text.specs.Adding.{Adds};
 ghost use Rattle.dap_text.specs.Answers.{got_text};
 ghost use Rattle.dap_text.specs.Reports.{report_text};
 ghost use Rattle.dap_text.specs.Text.{line_feed};
-ghost use Rattle.dap_live.specs.Texts.{add_refusal, ask_refusal, end_refusal, link_refusal, packet_text, packets_text, refused, reports_text, status_line, taken_said};
-ghost use Rattle.dap_live.specs.Both.{gone_said};
+ghost use Rattle.dap_live.specs.Texts.{add_refusal, ask_refusal, done_said, end_refusal, link_refusal, packet_text, packets_text, refused, reports_text, status_line, taken_said};
 ghost use Rattle.dap_live.specs.Inner.Saying.{AddsSaid};
 
 use dap_accessed::{AddFault, reason_number};
@@ -136,19 +135,19 @@ fn push_end_refusal(text: &mut Vec<u8>, fault: EndFault) -> Result<Became, Alloc
     }
 }
 
-/// Says what going on came to: its packets, and why not all was done.
-pub(crate) fn push_gone(
+/// Says what was done: the reports, the packets, and why not all was done.
+pub(crate) fn push_done(
     text: &mut Vec<u8>,
-    gone: Result<(), EndFault>,
+    reports: &Vec<Report>,
     packets: &Vec<Vec<u8>>,
+    done: Result<(), EndFault>,
 ) -> Result<Became, AllocError>
-    ensures { IfOk result (AddsSaid text.old text.new (
-      packets_text (bodies packets.now.items) ++ (gone_said gone).0,
-      (gone_said gone).1,
-    )) }
+    ensures { IfOk result (AddsSaid text.old text.new
+        (done_said reports.now.items (bodies packets.now.items) done)) }
 {
+    push_reports(text, reports)?;
     push_packets(text, packets)?;
-    match gone {
+    match done {
         Ok(()) => Ok(Became::Done),
         Err(fault) => push_end_refusal(text, fault),
     }
@@ -194,22 +193,6 @@ pub(crate) fn push_add_refusal(text: &mut Vec<u8>, fault: AddFault) -> Result<Be
     }
 }
 
-/// What became of a packet that was taken in, the reports and the packets to send.
-fn push_answers(
-    text: &mut Vec<u8>,
-    got: Got,
-    reports: &Vec<Report>,
-    packets: &Vec<Vec<u8>>,
-) -> Result<(), AllocError>
-    ensures { OnOk result (Adds text.old text.new
-        ((got_text got ++ line_feed) ++ (reports_text reports.now.items
-        ++ packets_text (bodies packets.now.items)))) }
-{
-    push_got(text, got)?;
-    push_reports(text, reports)?;
-    push_packets(text, packets)
-}
-
 /// The answer to a packet.
 pub(crate) fn push_taken(
     text: &mut Vec<u8>,
@@ -222,13 +205,13 @@ pub(crate) fn push_taken(
 {
     match taken {
         Ok(got) => {
-            push_answers(text, got, reports, packets)?;
-            Ok(Became::Done)
+            push_got(text, got)?;
+            push_done(text, reports, packets, Ok(()))
         }
         Err(TakeFault::Refused(fault)) => push_link_refusal(text, fault),
         Err(TakeFault::Unfinished(got, fault)) => {
-            push_answers(text, got, reports, packets)?;
-            push_end_refusal(text, fault)
+            push_got(text, got)?;
+            push_done(text, reports, packets, Err(fault))
         }
     }
 }

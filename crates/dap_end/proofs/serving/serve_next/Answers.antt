@@ -19,7 +19,7 @@ returns-clause-ok c =
     (served_one (serving_of (port_view c.port.inside) c.args.accessed.now) bytes waits.0 waits.1 c.is_end-at_end.ensures.bytes c.serve_item.new.self c.in-Ok.served c.go_on.new.self c.item_at-item.result.1 c.len-answered.result
     (no_length (bodies c.port.inside.outbox.items) (length-map c.port.inside.outbox.items _ ∙ idle))
     (place_there (port_view c.port.inside) bytes waits.0 waits.1 (subst IsPort (sym c.port.view_is) c.requires))
-    serves c.in-Ok.ensures.next c.item_at-item.ensures.within c.item_at-item.ensures.further
+    serves c.in-Ok.ensures.next c.item_at-item.ensures.within
     goes (answered ∙ sym (length-map c.in-Ok.served.answers.items _)))
 
 pub returns-clause-kept : goal.returns-clause-kept

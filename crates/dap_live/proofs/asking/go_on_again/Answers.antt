@@ -1,8 +1,7 @@
 use Rattle.std.proofs.Common.{refl, ◌++◌}
 use Rattle.dap_msg.specs.Blocked.{bodies}
 use Rattle.dap_live.specs.declared.asking.Came.TheVariants.{Told}
-use Rattle.dap_live.specs.Texts.{packets_text, reports_text}
-use Rattle.dap_live.specs.Both.{gone_said}
+use Rattle.dap_live.specs.Texts.{done_said}
 use Rattle.dap_live.proofs.ResultLemmas.{err_always}
 use Rattle.dap_live.proofs.asking.go_on_again.Goals as goal
 
@@ -10,8 +9,8 @@ pub returns-clause-err : goal.returns-clause-err
 returns-clause-err c =
     let gone = c.go_on-gone.result in
     let packets = bodies c.go_on-gone.new.packets.items in
-    err_always c.push_told.result (
-      c.args.text.now.items ++ (reports_text c.go_on-gone.new.reports.items ++ (packets_text packets ++ (gone_said gone).0)),
-      Told (gone_said gone).1,
+    err_always c.push_done.result (
+      c.args.text.now.items ++ (done_said c.go_on-gone.new.reports.items packets gone).0,
+      Told (done_said c.go_on-gone.new.reports.items packets gone).1,
       record { gone = gone; packets = packets; went = c.go_on-gone.ensures; says = refl; ended = refl },
     )

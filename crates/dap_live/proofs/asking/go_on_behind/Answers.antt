@@ -1,9 +1,8 @@
 use Rattle.std.proofs.Common.{refl, ◌++◌}
 use Rattle.dap_msg.specs.Blocked.{bodies}
 use Rattle.dap_live.specs.declared.asking.Came.TheVariants.{Told}
-use Rattle.dap_live.specs.Texts.{packets_text, reports_text}
+use Rattle.dap_live.specs.Texts.{done_said}
 use Rattle.dap_live.specs.Inner.Saying.{front_text}
-use Rattle.dap_live.specs.Both.{gone_said}
 use Rattle.dap_live.proofs.ResultLemmas.{err_always}
 use Rattle.dap_live.proofs.asking.go_on_behind.Goals as goal
 
@@ -12,8 +11,8 @@ returns-in_err-push_front-clause-err c =
     let gone = c.go_on-gone.result in
     let packets = bodies c.go_on-gone.new.packets.items in
     err_always c.from_residual.result (
-      front_text c.args.front ++ (reports_text c.go_on-gone.new.reports.items ++ (packets_text packets ++ (gone_said gone).0)),
-      Told (gone_said gone).1,
+      front_text c.args.front ++ (done_said c.go_on-gone.new.reports.items packets gone).0,
+      Told (done_said c.go_on-gone.new.reports.items packets gone).1,
       record { gone = gone; packets = packets; went = c.go_on-gone.ensures; says = refl; ended = refl },
     )
 
@@ -21,8 +20,8 @@ pub returns-clause-err : goal.returns-clause-err
 returns-clause-err c =
     let gone = c.go_on-gone.result in
     let packets = bodies c.go_on-gone.new.packets.items in
-    err_always c.push_told.result (
-      front_text c.args.front ++ (reports_text c.go_on-gone.new.reports.items ++ (packets_text packets ++ (gone_said gone).0)),
-      Told (gone_said gone).1,
+    err_always c.push_done.result (
+      front_text c.args.front ++ (done_said c.go_on-gone.new.reports.items packets gone).0,
+      Told (done_said c.go_on-gone.new.reports.items packets gone).1,
       record { gone = gone; packets = packets; went = c.go_on-gone.ensures; says = refl; ended = refl },
     )

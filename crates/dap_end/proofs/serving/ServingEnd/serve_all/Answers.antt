@@ -1,10 +1,10 @@
-use Rattle.std.proofs.Common.{sym, subst, ap, ◌∙◌, inl, inr, refl}
+use Rattle.std.proofs.Common.{ℕ, ◌<◌, sym, subst, ap, ◌∙◌, inl, inr, refl}
 use Rattle.std.specs.Prelude.{Ok, Err}
 use Rattle.dap_end.specs.Done.{ServingValue}
 use Rattle.dap_end.specs.Turns.{DidAll}
 use Rattle.dap_end.specs.Taking.{serves}
 use Rattle.dap_end.specs.Inner.Served.{begins}
-use Rattle.dap_end.proofs.Proceeding.{inbox_posted, may_more, none_left, none_waits, on_more, works_here}
+use Rattle.dap_end.proofs.Proceeding.{falls, inbox_posted, left, may_more, none_left, none_waits, on_more, works_here}
 use Rattle.dap_end.proofs.serving.ServingEnd.serve_all.Goals as goal
 
 pub messages-init : goal.messages-init
@@ -45,3 +45,8 @@ returns-in-Err-serve-clause-err c =
 pub returns-in-Err-clause-err : goal.returns-in-Err-clause-err
 returns-in-Err-clause-err c =
     let refused = c.in-Err.ensures.err in (c.messages.self, inl c.messages.invariant, (refused.0, inl refused.1))
+
+pub messages-smaller : goal.messages-smaller
+messages-smaller c =
+    let one = rw c.in-Ok-Some.field-0-is at c.in-Ok-Some.ensures.ok in
+    subst (λ (k : ℕ). left c.serve.new.self < k) (ap left c.in-Ok.ensures.ok.1) (falls c.post.new.self c.serve.new.self c.in-Ok-Some.field-0-0 one)
