@@ -1,5 +1,5 @@
 -- What the calls of a serving end leave of what it did.
-use Rattle.std.proofs.Common.{refl, ◌≡◌, ℕ, sym, ◌∙◌, subst, ap, List, ◌++◌, length, IsTrue}
+use Rattle.std.proofs.Common.{◌≡◌, ℕ, sym, ◌∙◌, subst, ap, List, ◌++◌, length, IsTrue}
 use Rattle.std.specs.Prelude.{Result, Ok, Err, IfOk, OnOk}
 use Rattle.std.proofs.lemmas.List.{append-nil}
 use Rattle.nsp_link.specs.declared.fault.LinkFault.{LinkFault}

@@ -34,7 +34,7 @@ use Rattle.dap_end.specs.Writing.{Behind}
 use Rattle.dap_end.specs.Inner.Moved.{sent_more}
 use Rattle.dap_end.specs.Turns.{DidAll, WentOn, Takes}
 use Rattle.dap_end.specs.Inner.Pasts.{Still}
-use Rattle.dap_end.specs.Wanting.{is_want, why}
+use Rattle.dap_end.specs.Wanting.{is_want}
 use Rattle.dap_end.specs.Inner.Wanting.{went_wanting, took_wanting}
 use Rattle.dap_end.proofs.Taking.{grown}
 use Rattle.dap_end.proofs.Asked.{asked_past, handed_is, handed_past, read_grows, still_received, still_sent}

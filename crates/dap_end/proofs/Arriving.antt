@@ -1,5 +1,5 @@
 -- Runs by what came in them.
-use Rattle.std.proofs.Common.{◌≡◌, refl, sym, subst, List, [], ◌∷◌, ◌++◌, ℕ, inl, inr}
+use Rattle.std.proofs.Common.{subst, List, [], ◌∷◌, ◌++◌, ℕ, inl, inr}
 use Rattle.std.specs.List.{AllByRecursion}
 use Rattle.nsp_link.specs.Link.{LinkValue}
 use Rattle.dap_accessing.specs.Request.{Request}

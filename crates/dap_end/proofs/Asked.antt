@@ -1,6 +1,6 @@
 -- What the calls of an asking end leave of what it did.
-use Rattle.std.proofs.Common.{◌≡◌, inl, inr, eq-eqb, ◌-◌, ℕ, ◌+◌, ◌<◌, ◌≤◌, arith, refl, sym, ◌∙◌, subst, ap, append_assoc, true, false, List, [], ◌∷◌, ◌++◌, length, IsTrue}
-use Rattle.std.specs.Prelude.{◌==◌, Option, Result, Ok, Err, IfOk, OnOk, nat_le, if◌then◌else◌, option_to_list}
+use Rattle.std.proofs.Common.{◌≡◌, inl, inr, eq-eqb, ◌-◌, ℕ, ◌+◌, ◌<◌, ◌≤◌, arith, refl, sym, ◌∙◌, subst, ap, append_assoc, true, false, List, [], ◌∷◌, ◌++◌, length}
+use Rattle.std.specs.Prelude.{◌==◌, Option, nat_le, if◌then◌else◌, option_to_list}
 use Rattle.std.proofs.lemmas.Bool.{cases_eq, ne_eqb}
 use Rattle.std.proofs.lemmas.List.{append-nil, map-append}
 use Rattle.std.proofs.lemmas.List.Elements.{All-append}

@@ -31,7 +31,6 @@ use Rattle.dap_end.specs.Inner.Running.{AskingEvent, Asks, By, AskingStepped, As
 use Rattle.dap_end.proofs.Packets.{ack_written}
 use Rattle.dap_end.proofs.Emitting.{wrote_nothing}
 use Rattle.dap_end.proofs.Running.{numbered_bytes, runs_then}
-use Rattle.dap_end.proofs.Hearing.{requests_of}
 
 -- ---- Runs join.
 

@@ -1,6 +1,6 @@
 -- One end of a link, the NSP messages that wait to be handed to it, and how far the oldest one that came was gone
 -- through.
-use Rattle.std.specs.Prelude.{◌≡◌, ◌⊎◌, ℕ, ◌<◌, ◌==◌, if◌then◌else◌, List, [], length, slice_index_or, IsTrue}
+use Rattle.std.specs.Prelude.{◌≡◌, ◌⊎◌, ℕ, ◌<◌, ◌==◌, if◌then◌else◌, List, [], length, IsTrue}
 use Rattle.nsp_link.specs.Cutting.{cut}
 use Rattle.nsp_link.specs.declared.link.LinkSetup.{LinkSetup}
 use Rattle.nsp_link.specs.Link.{LinkValue, new_link, with_inbox}

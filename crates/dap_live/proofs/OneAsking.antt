@@ -1,6 +1,6 @@
 -- What the end that asks does by a line, and says, follows from the end and the line, want of memory aside.
 use Rattle.std.proofs.Common.{◌≡◌, ◌≢◌, ℕ, refl, sym, ◌∙◌, subst, ap, true, false, true≢false, List, [], ◌++◌, length, inl, inr}
-use Rattle.std.specs.Prelude.{MatchBool, ◌&&◌, ◌||◌, not, nat_lt, Bool, Option, Some, None, Result, Ok, Err}
+use Rattle.std.specs.Prelude.{MatchBool, ◌||◌, nat_lt, Bool, Option, Some, None, Result, Ok, Err}
 use Rattle.hex.specs.Hex.{IsBytes as AreBytes}
 use Rattle.dap_msg.specs.declared.items.Item.{Item}
 use Rattle.nsp_link.specs.declared.link.Got.{Got}
@@ -15,7 +15,6 @@ use Rattle.dap_accessing.specs.Phase.{IsAdmissible, IsRefused}
 use Rattle.dap_accessing.specs.Present.{Present}
 use Rattle.dap_accessing.specs.Calls.{AskRefused}
 use Rattle.dap_accessing.proofs.ForCallers.{one_present}
-use Rattle.dap_end.specs.declared.fault.EndFault.{EndFault}
 use Rattle.dap_end.specs.declared.fault.TakeFault.{TakeFault}
 use Rattle.dap_end.specs.declared.fault.TakeFault.TheVariants as take
 use Rattle.dap_end.specs.Ports.{PortValue, new_port}
@@ -36,7 +35,7 @@ use Rattle.dap_live.specs.declared.orders.Anew.{Anew}
 use Rattle.dap_live.specs.declared.orders.Order.{Order}
 use Rattle.dap_live.specs.declared.orders.Order.TheVariants as order
 use Rattle.dap_live.specs.Orders.{order_of, setup_anew}
-use Rattle.dap_live.specs.Sending.{AllAgain, SaysAck, has_message, is_left, waits_of}
+use Rattle.dap_live.specs.Sending.{AllAgain, SaysAck, waits_of}
 use Rattle.dap_live.specs.Texts.{ask_refusal, done_said, link_refusal, packets_text, reports_text, taken_said}
 use Rattle.dap_live.specs.Asking.{GoesOn, Resends, AsksNot, Asks, IsNew, OnEnd, Does, DoesAll, Ends, answered, waiting, came_by, goes_on}
 use Rattle.dap_live.specs.Both.{DoesOrder, DoneOr, Stays, TakesPacket}

@@ -1,11 +1,9 @@
 -- What the end that serves does by a line, and says, follows from the end and the line, want of memory aside.
 use Rattle.std.proofs.Common.{◌≡◌, ◌≢◌, ℕ, ◌<◌, arith, refl, sym, ◌∙◌, subst, ap, true, false, List, [], ◌++◌, length, inl, inr}
-use Rattle.std.specs.Prelude.{MatchBool, Bool, Option, Some, None, Result, Err, MatchOption}
+use Rattle.std.specs.Prelude.{MatchBool, Bool, Option, Some, None, Result, MatchOption}
 use Rattle.hex.specs.Hex.{IsBytes as AreBytes}
 use Rattle.nsp_link.specs.declared.link.Got.{Got}
 use Rattle.nsp_link.specs.declared.link.LinkSetup.{LinkSetup}
-use Rattle.nsp_link.specs.declared.fault.LinkFault.{LinkFault}
-use Rattle.nsp_link.specs.declared.fault.LinkFault.TheVariants as fault
 use Rattle.nsp_link.specs.declared.fault.LinkFault.TheVariants.{Failed}
 use Rattle.nsp_link.specs.Link.{IsSetup, SetupFault}
 use Rattle.rec_file.specs.declared.shapes.Shape.{Shape}
@@ -22,7 +20,6 @@ use Rattle.dap_end.specs.Ports.{PortValue, HasCome, new_port}
 use Rattle.dap_end.specs.Serving.{IsAfter, NotGiven}
 use Rattle.dap_end.specs.Done.{ServingValue, Past, nothing_yet}
 use Rattle.dap_end.specs.Taking.{serves}
-use Rattle.dap_end.specs.declared.fault.EndFault.{EndFault}
 use Rattle.dap_end.proofs.ForCallers.{going_one, taking_one, new_known, going_known, taking_known}
 use Rattle.dap_text.specs.declared.filed.FileLine.{FileLine}
 use Rattle.dap_text.specs.declared.filed.RecordLine.{RecordLine}

@@ -1,5 +1,5 @@
 -- What the end that serves does by a line, and what it says.
-use Rattle.std.specs.Prelude.{◌≡◌, ◌⊎◌, ℕ, MatchBool, List, [], MatchOption}
+use Rattle.std.specs.Prelude.{◌≡◌, ℕ, MatchBool, List, [], MatchOption}
 use Rattle.rec_file.specs.Shapes.{checked_shape}
 use Rattle.dap_msg.specs.Codes.{stscode, reasons}
 use Rattle.dap_accessed.specs.Standing.{Files}

@@ -1,5 +1,5 @@
 -- A port of which a part moved.
-use Rattle.std.specs.Prelude.{ℕ, ◌+◌, [], length}
+use Rattle.std.specs.Prelude.{ℕ, ◌+◌, []}
 use Rattle.nsp_link.specs.Cutting.{cut}
 use Rattle.nsp_link.specs.Link.{LinkValue}
 use Rattle.nsp_link.specs.Sending.{queued_link}

@@ -1,5 +1,5 @@
 -- Whether memory was wanting, by what a call came to.
-use Rattle.std.specs.Prelude.{Bool, true, false, Result, Ok, Err}
+use Rattle.std.specs.Prelude.{Bool, false, Result, Ok, Err}
 use Rattle.nsp_link.specs.declared.link.Got.{Got}
 use Rattle.dap_end.specs.declared.fault.EndFault.{EndFault}
 use Rattle.dap_end.specs.declared.fault.EndFault.TheVariants as end_fault

@@ -1,4 +1,4 @@
-use Rattle.std.proofs.Common.{◌≡◌, ◌<◌, Some, sym, subst, refl, length}
+use Rattle.std.proofs.Common.{◌≡◌, Some, sym, subst, refl}
 use Rattle.std.specs.Prelude.{slice_get}
 use Rattle.dap_accessing.specs.Calls.{Reads}
 use Rattle.dap_end.specs.Ports.{PortValue}

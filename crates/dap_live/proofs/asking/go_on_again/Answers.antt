@@ -5,11 +5,11 @@ use Rattle.dap_live.specs.Texts.{done_said}
 use Rattle.dap_live.proofs.ResultLemmas.{err_always}
 use Rattle.dap_live.proofs.asking.go_on_again.Goals as goal
 
-pub returns-clause-err : goal.returns-clause-err
-returns-clause-err c =
+pub returns-in_err-push_done-clause-err : goal.returns-in_err-push_done-clause-err
+returns-in_err-push_done-clause-err c =
     let gone = c.go_on-gone.result in
     let packets = bodies c.go_on-gone.new.packets.items in
-    err_always c.push_done.result (
+    err_always c.from_residual.result (
       c.args.text.now.items ++ (done_said c.go_on-gone.new.reports.items packets gone).0,
       Told (done_said c.go_on-gone.new.reports.items packets gone).1,
       record { gone = gone; packets = packets; went = c.go_on-gone.ensures; says = refl; ended = refl },

@@ -16,11 +16,11 @@ returns-in_err-push_front-clause-err c =
       record { gone = gone; packets = packets; went = c.go_on-gone.ensures; says = refl; ended = refl },
     )
 
-pub returns-clause-err : goal.returns-clause-err
-returns-clause-err c =
+pub returns-in_err-push_done-clause-err : goal.returns-in_err-push_done-clause-err
+returns-in_err-push_done-clause-err c =
     let gone = c.go_on-gone.result in
     let packets = bodies c.go_on-gone.new.packets.items in
-    err_always c.push_done.result (
+    err_always c.from_residual-in_err-push_done.result (
       front_text c.args.front ++ (done_said c.go_on-gone.new.reports.items packets gone).0,
       Told (done_said c.go_on-gone.new.reports.items packets gone).1,
       record { gone = gone; packets = packets; went = c.go_on-gone.ensures; says = refl; ended = refl },

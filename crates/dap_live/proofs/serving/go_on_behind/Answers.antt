@@ -1,4 +1,4 @@
-use Rattle.std.proofs.Common.{refl, ◌++◌}
+use Rattle.std.proofs.Common.{refl, [], ◌++◌}
 use Rattle.dap_msg.specs.Blocked.{bodies}
 use Rattle.dap_live.specs.Texts.{done_said}
 use Rattle.dap_live.proofs.ResultLemmas.{err_always}

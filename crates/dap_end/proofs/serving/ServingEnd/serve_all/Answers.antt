@@ -1,5 +1,5 @@
 use Rattle.std.proofs.Common.{ℕ, ◌<◌, sym, subst, ap, ◌∙◌, inl, inr, refl}
-use Rattle.std.specs.Prelude.{Ok, Err}
+use Rattle.std.specs.Prelude.{Ok}
 use Rattle.dap_end.specs.Done.{ServingValue}
 use Rattle.dap_end.specs.Turns.{DidAll}
 use Rattle.dap_end.specs.Taking.{serves}
