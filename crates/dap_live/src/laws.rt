@@ -10,7 +10,7 @@ ghost use Rattle.dap_live.specs.Serving as serving;
 ghost use Rattle.dap_live.specs.Asking as asking;
 
 /// An input has one text: two talks over it, of ends of one value, in which no answer wants memory, have the same text, and
-/// some line was bad in both or in none. An end that serves came to its value by its calls, and before a segment came it
+/// the same became of each line. An end that serves came to its value by its calls, and before a segment came it
 /// did nothing. Own.
 pub fn inputs_have_one_text()
     ensures serving { HaveOneText serving.answered serving.waiting (λ one other.

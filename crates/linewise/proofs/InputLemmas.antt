@@ -1,6 +1,6 @@
 -- Where a line ends, and what of it is kept.
-use Rattle.std.proofs.Common.{◌≡◌, ◌≢◌, ◌<◌, ◌≤◌, ◌+◌, ◌-◌, ◌++◌, ℕ, Bool, true, false, List, [], ◌∷◌, All, length, take, length-append, arith, refl, sym, ap, ◌∙◌, eqb, eq-eqb, eqb-true, get_or, subst, Option, Some, None, IfSome}
-use Rattle.std.proofs.lemmas.List.{get_or-take, length-take-le, take_all}
+use Rattle.std.proofs.Common.{◌≡◌, ◌≢◌, ◌<◌, ◌+◌, ◌-◌, ◌++◌, ℕ, true, List, [], All, length, take, length-append, arith, refl, sym, ap, ◌∙◌, eqb, eq-eqb, subst, Option, Some, None, IfSome}
+use Rattle.std.proofs.lemmas.List.{get_or-take, length-take-le}
 use Rattle.std.proofs.lemmas.List.Elements.{All-from_get_or}
 use Rattle.memchr.specs.Find.{IsFirstByte, is_byte}
 use Rattle.std.specs.Io.KnownBytes.{IsAtEnd}

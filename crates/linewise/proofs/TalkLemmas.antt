@@ -1,21 +1,29 @@
 -- How a talk begins, goes on and ends.
-use Rattle.std.proofs.Common.{◌≡◌, ◌<◌, ◌++◌, ℕ, Bool, ◌||◌, false, List, [], length, sym, subst, refl, Option, Some, None, IfSome}
-use Rattle.std.specs.Io.KnownBytes.{Appends, Keeps, IsAtEnd}
+use Rattle.std.proofs.Common.{◌≡◌, ◌++◌, ℕ, Bool, ◌||◌, true, false, List, [], ◌∷◌, ap, ◌∙◌, sym, subst, refl, Option, Some, None, IfSome}
+use Rattle.std.specs.List.{list_any}
+use Rattle.std.proofs.lemmas.List.Folds.{list_any-append}
+use Rattle.std.specs.Io.KnownBytes.{Appends, IsAtEnd}
 use Rattle.std.specs.Io.BufRead.{first_line, drop_through}
 use Rattle.std.proofs.KnownBytes.{Appends-nil, Appends-trans, Appends-kept, Keeps-refl}
-use Rattle.linewise.specs.Output.{WritesFront}
 use Rattle.linewise.specs.declared.talking.Became.{Became}
 use Rattle.linewise.specs.declared.talking.TalkFault.{TalkFault}
 use Rattle.linewise.specs.declared.talking.TalkFault.TheVariants.{ReadFailed, WriteFailed}
-use Rattle.linewise.specs.declared.talking.Next.{Next}
 use Rattle.linewise.specs.declared.talking.Next.TheVariants.{Over, Line}
-use Rattle.linewise.specs.Talks.{Answering, SaysTo, Fails, Talked, is_bad}
-use Rattle.linewise.specs.Inner.Steps.{HasTalked, Says, Breaks, Goes, Ends}
+use Rattle.linewise.specs.Talks.{Answering, Fails, Talked, is_bad}
+use Rattle.linewise.specs.Inner.Steps.{HasTalked, Breaks, Goes, Ends}
+
+or_none : (b : Bool) → (b || false) ≡ b
+or_none true = refl
+or_none false = refl
+
+bad_more : (bad : Bool) (lines : List (Option Became)) (became : Option Became) → bad ≡ list_any is_bad lines → (bad || is_bad became) ≡ list_any is_bad (lines ++ became ∷ [])
+bad_more bad lines became is =
+    ap (λ (b : Bool). b || is_bad became) is ∙ ap (λ (b : Bool). list_any is_bad lines || b) (sym (or_none (is_bad became))) ∙ sym (list_any-append is_bad lines (became ∷ []))
 
 module _ {E : Type 0} (answered : Answering E) (waiting : E → ℕ) where
   pub begins : (e : E) (unread written : Option (List ℕ)) → HasTalked answered waiting e unread written e unread written false
   begins e None written = _
-  begins e (Some input) written = (input, [], refl, Appends-nil written, Talked.begins)
+  begins e (Some input) written = (input, [], [], refl, Appends-nil written, Talked.begins, refl)
 
   -- one line more was answered
   pub goes_on : (old now next : E) (unread written left holds later_left later_holds : Option (List ℕ)) (bad : Bool) (became : Option Became)
@@ -24,12 +32,14 @@ module _ {E : Type 0} (answered : Answering E) (waiting : E → ℕ) where
       → HasTalked answered waiting old unread written next later_left later_holds (bad || is_bad became)
   goes_on old now next None written left holds later_left later_holds bad became before line = _
   goes_on old now next (Some input) written left holds later_left later_holds bad became before line =
-      let (some, dropped, says) = rw before.2 at line in (
+      let (some, dropped, says) = rw before.3 at line in (
         drop_through 10 before.0,
         before.1 ++ says.0,
+        before.2 ++ became ∷ [],
         dropped,
-        Appends-trans written holds later_holds before.1 says.0 before.3 says.2,
-        Talked.goes now before.0 before.1 says.0 bad became before.4 some says.1,
+        Appends-trans written holds later_holds before.1 says.0 before.4 says.2,
+        Talked.goes now before.0 before.1 says.0 before.2 became before.5 some says.1,
+        bad_more bad before.2 became before.6,
       )
 
   at_end : (left : Option (List ℕ)) (rest : List ℕ) → left ≡ Some rest → IsAtEnd left → rest ≡ []
@@ -37,13 +47,15 @@ module _ {E : Type 0} (answered : Answering E) (waiting : E → ℕ) where
 
   pub ends : (old now next : E) (unread written left later holds last : Option (List ℕ)) (bad : Bool)
       → HasTalked answered waiting old unread written now left holds bad → Goes answered waiting now next left later holds last Over
-      → IfSome unread (λ input. (text : List ℕ) × Talked answered waiting old input next [] text bad × Appends written last text)
+      → IfSome unread (λ input. (text : List ℕ) × (lines : List (Option Became)) × Talked answered waiting old input next [] text lines × Appends written last text × (bad ≡ list_any is_bad lines))
   ends old now next None written left later holds last bad before over = _
   ends old now next (Some input) written left later holds last bad before over = (
     before.1,
-    subst (λ e. Talked answered waiting old input e [] before.1 bad) (sym over.1)
-        (subst (λ rest. Talked answered waiting old input now rest before.1 bad) (at_end left before.0 before.2 over.0) before.4),
-    Appends-kept written holds last before.1 before.3 over.2,
+    before.2,
+    subst (λ e. Talked answered waiting old input e [] before.1 before.2) (sym over.1)
+        (subst (λ rest. Talked answered waiting old input now rest before.1 before.2) (at_end left before.0 before.3 over.0) before.5),
+    Appends-kept written holds last before.1 before.4 over.2,
+    before.6,
   )
 
   pub fails : (old now next : E) (unread written left holds last : Option (List ℕ)) (bad : Bool) (f : TalkFault)
@@ -52,14 +64,14 @@ module _ {E : Type 0} (answered : Answering E) (waiting : E → ℕ) where
       → IfSome unread (λ input. Fails answered waiting old input next written last f)
   fails old now next None written left holds last bad f before end = _
   fails old now next (Some input) written left holds last bad WriteFailed before end =
-      let broke : Breaks answered waiting now (first_line before.0) next holds last = rw before.2 at end in
-      (now, holds, before.0, before.1, broke.1, bad, broke.0, before.4, before.3, broke.2, broke.3)
+      let broke : Breaks answered waiting now (first_line before.0) next holds last = rw before.3 at end in
+      (now, holds, before.0, before.1, broke.1, before.2, broke.0, before.5, before.4, broke.2, broke.3)
   fails old now next (Some input) written left holds last bad ReadFailed before end = (
     before.0,
     before.1,
-    bad,
-    subst (λ e. Talked answered waiting old input e before.0 before.1 bad) (sym end.0) before.4,
-    Appends-kept written holds last before.1 before.3 end.1,
+    before.2,
+    subst (λ e. Talked answered waiting old input e before.0 before.1 before.2) (sym end.0) before.5,
+    Appends-kept written holds last before.1 before.4 end.1,
   )
 
   -- the last round ends a talk too

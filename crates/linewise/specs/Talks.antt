@@ -1,6 +1,7 @@
 -- What an end and a partner say to each other, line by line.
-use Rattle.std.specs.Prelude.{◌≡◌, ◌≢◌, ◌⊎◌, ℕ, ◌<◌, ◌≤◌, ◌==◌, Bool, true, false, ◌||◌, List, [], ◌∷◌, ◌++◌, length, codes, Some, None, Option}
+use Rattle.std.specs.Prelude.{◌≡◌, ◌≢◌, ◌⊎◌, ℕ, ◌<◌, ◌≤◌, ◌==◌, Bool, true, false, List, [], ◌∷◌, ◌++◌, length, codes, Some, None, Option}
 use Rattle.std.specs.Fmt.{decimal}
+use Rattle.std.specs.List.{AllByRecursion}
 use Rattle.std.specs.Io.KnownBytes.{Appends}
 use Rattle.std.specs.Io.BufRead.{first_line, drop_through}
 use Rattle.linewise.specs.Output.{WritesFront}
@@ -59,33 +60,27 @@ is_bad (Some BadLine) = true
 is_bad _ = false
 
 -- The end answered the lines of an input up to this rest, one after another, and came from old to new; the text is its
--- answers, end to end; some line was bad, or none.
-pub data Talked {E : Type 0} (answered : Answering E) (waiting : E → ℕ) : E → List ℕ → E → List ℕ → List ℕ → Bool → Type 0 where
-  begins : {e : E} {input : List ℕ} → Talked answered waiting e input e input [] false
-  goes : {old new : E} {input : List ℕ} (now : E) (rest said more : List ℕ) (bad : Bool) (became : Option Became)
-      → Talked answered waiting old input now rest said bad → 0 < length rest
+-- answers, end to end, and this became of the lines.
+pub data Talked {E : Type 0} (answered : Answering E) (waiting : E → ℕ) : E → List ℕ → E → List ℕ → List ℕ → List (Option Became) → Type 0 where
+  begins : {e : E} {input : List ℕ} → Talked answered waiting e input e input [] []
+  goes : {old new : E} {input : List ℕ} (now : E) (rest said more : List ℕ) (lines : List (Option Became)) (became : Option Became)
+      → Talked answered waiting old input now rest said lines → 0 < length rest
       → SaysTo answered waiting now (first_line rest) new more became
-      → Talked answered waiting old input new (drop_through 10 rest) (said ++ more) (bad || is_bad became)
+      → Talked answered waiting old input new (drop_through 10 rest) (said ++ more) (lines ++ became ∷ [])
 
--- no answer of the talk wants memory
-abbrev pub NeverWants : {E : Type 0} {answered : Answering E} {waiting : E → ℕ} {old new : E} {input rest text : List ℕ} {bad : Bool}
-    → Talked answered waiting old input new rest text bad → Type 0
-NeverWants Talked.begins = Unit {0}
-NeverWants (Talked.goes now rest said more bad became talked some says) = NeverWants talked × (became ≢ Some NoMemory)
-
--- Two such talks of the same ends over one input have one text, and both had a bad line, or none.
+-- Two such talks of the same ends over one input have one text, and the same became of the lines, where none wants memory.
 abbrev pub HaveOneText : {E : Type 0} → Answering E → (E → ℕ) → (AreSame : E → E → Type 0) → Type 0
 HaveOneText answered waiting AreSame =
-    (one other new end : _) (input text more : List ℕ) (bad worse : Bool) → AreSame one other
-    → (t : Talked answered waiting one input new [] text bad) (u : Talked answered waiting other input end [] more worse)
-    → NeverWants t → NeverWants u → (text ≡ more) × (bad ≡ worse)
+    (one other new end : _) (input text more : List ℕ) (lines others : List (Option Became)) → AreSame one other
+    → Talked answered waiting one input new [] text lines → Talked answered waiting other input end [] more others
+    → AllByRecursion (λ became. became ≢ Some NoMemory) (lines ++ others) → (text ≡ more) × (lines ≡ others)
 
 -- What was said where a talk ended before its input did: the lines up to some rest were answered, and nothing else was written;
 -- but where the writer failed, it holds a front of one answer more.
 abbrev pub Fails : {E : Type 0} → Answering E → (E → ℕ) → E → List ℕ → E → Option (List ℕ) → Option (List ℕ) → TalkFault → Type 0
 Fails answered waiting old input new written holds ReadFailed =
-    (rest said : List ℕ) × (bad : Bool) × Talked answered waiting old input new rest said bad × Appends written holds said
+    (rest said : List ℕ) × (lines : List (Option Became)) × Talked answered waiting old input new rest said lines × Appends written holds said
 Fails {E} answered waiting old input new written holds WriteFailed =
-    (now : E) × (held : Option (List ℕ)) × (rest said more : List ℕ) × (bad : Bool) × (became : Option Became)
-    × Talked answered waiting old input now rest said bad × Appends written held said
+    (now : E) × (held : Option (List ℕ)) × (rest said more : List ℕ) × (lines : List (Option Became)) × (became : Option Became)
+    × Talked answered waiting old input now rest said lines × Appends written held said
     × SaysTo answered waiting now (first_line rest) new more became × WritesFront held holds more

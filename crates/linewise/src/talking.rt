@@ -1,9 +1,11 @@
 //! The loop over the lines of an input.
 
-ghost use Rattle.std.specs.Prelude.{◌≡◌, ◌≢◌, ℕ, Bool, List, [], ◌∷◌, ◌++◌, ◌<◌, ◌≤◌, length, true, false, Some, None, IfOk, IfErr, OnOk, OnErr, IfSome};
+ghost use Rattle.std.specs.Prelude.{◌≡◌, ◌≢◌, ℕ, Bool, List, [], ◌∷◌, ◌++◌, ◌<◌, ◌≤◌, length, true, false, Option, Some, None, IfOk, IfErr, OnOk, OnErr, IfSome};
+ghost use Rattle.std.specs.List.{list_any};
 ghost use Rattle.std.specs.Io.KnownBytes.{Appends, Keeps, IsAtEnd};
 ghost use Rattle.std.specs.Io.BufRead.{first_line, drop_through, strip_last};
 ghost use Rattle.linewise.specs.Talks.{AnswersLine, Fails, Talked, is_bad as is_bad_line, is_skipped as says_nothing};
+ghost use Rattle.linewise.specs.declared.talking.Became.{Became as TheBecame};
 ghost use Rattle.linewise.specs.Inner.Kept.{Holds, without_end as ended};
 ghost use Rattle.linewise.specs.Inner.Steps.{Breaks, Ends, Goes, Says};
 
@@ -204,8 +206,10 @@ pub fn talk<E: Answers, R: BufRead, W: Write, F: Write>(
     error_writer: &mut F,
 ) -> Result<bool, TalkFault>
     ensures whole { IfOk result (λ bad. IfSome (R.remaining reader.old) (λ input. (text : List ℕ)
-        × Talked E.answered E.waiting end.old input end.new [] text bad
-        × Appends (W.contents writer.old) (W.contents writer.new) text)) }
+        × (lines : List (Option TheBecame))
+        × Talked E.answered E.waiting end.old input end.new [] text lines
+        × Appends (W.contents writer.old) (W.contents writer.new) text
+        × (bad ≡ list_any is_bad_line lines))) }
     ensures fault { IfErr result (λ fault. IfSome (R.remaining reader.old) (λ input.
         Fails E.answered E.waiting end.old input end.new (W.contents writer.old)
         (W.contents writer.new) fault)) }

@@ -1,10 +1,12 @@
 -- What the program answers to an input, and its exit status.
-use Rattle.std.specs.Prelude.{◌≡◌, ◌⊎◌, ℕ, Bool, List, [], if◌then◌else◌, Option}
+use Rattle.std.specs.Prelude.{◌≡◌, ◌⊎◌, ℕ, List, [], if◌then◌else◌, Option}
+use Rattle.std.specs.List.{list_any}
 use Rattle.std.specs.Io.KnownBytes.{Appends, Keeps}
 use Rattle.nsp_link.specs.declared.link.LinkSetup.{LinkSetup}
 use Rattle.dap_follow.specs.Following.{FollowGives}
 use Rattle.dap_listing.specs.Gives.{HasStatus}
-use Rattle.linewise.specs.Talks.{Answering, Talked, Fails}
+use Rattle.linewise.specs.Talks.{Answering, Talked, Fails, is_bad}
+use Rattle.linewise.specs.declared.talking.Became.{Became}
 use Rattle.linewise.specs.declared.talking.TalkFault.{TalkFault}
 use Rattle.dap_live.specs.declared.serving.Serving.{Serving}
 use Rattle.dap_live.specs.declared.asking.Asking.{Asking}
@@ -23,8 +25,8 @@ setup_of o = record { local = o.local; remote = o.remote; seg_size = o.segment; 
 -- all lines of the input were answered by this end, or those up to where the reader or the writer failed
 abbrev pub AnswersAll : {E : Type 0} → Answering E → (E → ℕ) → E → List ℕ → (written holds : Option (List ℕ)) → ℕ → Type 0
 AnswersAll {E} answered waiting first input written holds status =
-    ((last : E) × (text : List ℕ) × (bad : Bool) × Talked answered waiting first input last [] text bad
-    × Appends written holds text × (status ≡ (if bad then 1 else 0)))
+    ((last : E) × (text : List ℕ) × (lines : List (Option Became)) × Talked answered waiting first input last [] text lines
+    × Appends written holds text × (status ≡ (if list_any is_bad lines then 1 else 0)))
     ⊎ ((last : E) × (fault : TalkFault) × Fails answered waiting first input last written holds fault × (status ≡ 3))
 
 abbrev pub GivesAs : Role → Options → List ℕ → (written holds : Option (List ℕ)) → ℕ → Type 0

@@ -1,9 +1,8 @@
 -- What is kept of a line while it is read.
-use Rattle.std.specs.Prelude.{◌≡◌, ◌≢◌, ℕ, ◌+◌, ◌<◌, ◌≤◌, Bool, true, All, List, [], ◌++◌, length, Option, Result, Ok, IfSome, OnSome, vec_len, if◌then◌else◌}
+use Rattle.std.specs.Prelude.{◌≡◌, ◌≢◌, ℕ, ◌+◌, ◌<◌, ◌≤◌, Bool, true, All, List, ◌++◌, length, Option, IfSome, OnSome, if◌then◌else◌}
 use Rattle.std.specs.Io.{StopsAt, IsEmptyOrEndsWith}
 use Rattle.std.specs.Io.KnownBytes.{Consumes, IsAtEnd}
 use Rattle.std.specs.Io.BufRead.{take_through, ends_with_byte, strip_last, DropsThrough}
-use Rattle.std.specs.Global.{Vec}
 use Rattle.linewise.specs.Talks.{longest}
 use Rattle.linewise.specs.declared.input.Kept.{Kept}
 use Rattle.linewise.specs.declared.input.Kept.TheVariants.{All as whole, TooLong, NoMemory}

@@ -1,4 +1,4 @@
-use Rattle.std.proofs.Common.{◌≡◌, ◌≢◌, ◌-◌, All, take, refl, sym, ap, subst, ◌∙◌, rules, arith, eq-eqb, eqb-true, true≢false, get_or, length-take-le}
+use Rattle.std.proofs.Common.{◌≡◌, ◌≢◌, ◌-◌, All, take, sym, ap, subst, ◌∙◌, rules, arith, eq-eqb, eqb-true, get_or, length-take-le}
 use Rattle.std.proofs.lemmas.List.{get_or-take}
 use Rattle.std.proofs.lemmas.List.Elements.{All-more}
 use Rattle.std.specs.Io.BufRead.{FillKeeps, DropsConsumable}

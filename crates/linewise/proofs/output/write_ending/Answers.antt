@@ -1,4 +1,4 @@
-use Rattle.linewise.proofs.OutputLemmas.{both, front_of_first, front_behind}
+use Rattle.linewise.proofs.OutputLemmas.{front_of_first, front_behind}
 use Rattle.linewise.specs.Inner.Endings.{waits_text}
 use Rattle.linewise.proofs.output.write_ending.Goals as goal
 

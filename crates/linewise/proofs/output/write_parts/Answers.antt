@@ -1,4 +1,4 @@
-use Rattle.linewise.proofs.OutputLemmas.{both, front_of_first, front_behind}
+use Rattle.linewise.proofs.OutputLemmas.{front_of_first, front_behind}
 use Rattle.linewise.proofs.output.write_parts.Goals as goal
 
 pub returns-clause-front : goal.returns-clause-front

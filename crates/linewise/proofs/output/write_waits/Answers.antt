@@ -1,7 +1,6 @@
-use Rattle.linewise.proofs.OutputLemmas.{both, front_of_first, front_behind}
+use Rattle.linewise.proofs.OutputLemmas.{front_of_first, front_behind}
 use Rattle.std.specs.Prelude.{codes, ◌++◌}
 use Rattle.std.specs.Fmt.{decimal}
-use Rattle.std.proofs.lemmas.Result.{on_ok_weaker}
 use Rattle.linewise.proofs.output.write_waits.Goals as goal
 
 pub returns-clause-front : goal.returns-clause-front

@@ -2,7 +2,7 @@
 use Rattle.std.proofs.Common.{refl}
 use Rattle.std.proofs.KnownBytes.{Keeps-refl}
 use Rattle.linewise.proofs.InputLemmas.{over, of_first}
-use Rattle.linewise.specs.Inner.Steps.{Says, Breaks}
+use Rattle.linewise.specs.Inner.Steps.{Says}
 use Rattle.linewise.proofs.talking.answer_next.Goals as goal
 
 pub returns-then-is_over-clause-goes : goal.returns-then-is_over-clause-goes
