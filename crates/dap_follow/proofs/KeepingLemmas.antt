@@ -8,9 +8,9 @@ use Rattle.indexmap.specs.IndexSet.{insert_key}
 use Rattle.dap_listing.specs.Captured.{Spell}
 use Rattle.dap_listing.specs.declared.lines.Direction.{Direction}
 use Rattle.nsp_seg.specs.declared.packet.SegmentFields.{SegmentFields}
-use Rattle.dap_follow.specs.Streams.{Came, Captured, Placed, at, came_as, came_in, is_same, no_more, put_at, streams}
+use Rattle.dap_follow.specs.Streams.{Captured, Placed, at, came_as, came_in, is_same, no_more, put_at, streams}
 use Rattle.dap_follow.specs.Inner.Placing.{Rises, counted_value}
-use Rattle.dap_follow.specs.Inner.Keeping.{stream_of, HasAt, IsAdded, IsGood, IsIndexed, Keeps, KeepsAll, KeepsEach, KeepsStream, came, segment_packet, top}
+use Rattle.dap_follow.specs.Inner.Keeping.{Came, stream_of, HasAt, IsAdded, IsGood, IsIndexed, Keeps, KeepsAll, KeepsEach, KeepsStream, came, segment_packet, top}
 use Rattle.dap_follow.specs.declared.places.Counted.{Counted}
 use Rattle.dap_follow.specs.declared.places.Places.{Places}
 use Rattle.dap_follow.specs.declared.streams.Stream.{Stream}
@@ -86,7 +86,7 @@ of_it s way c n same = rw same refl
 pub record Ready (packets : List Captured) (c : SegmentFields) (s : Stream) (p : Places) : Type 0 where
   pub before : List Came
   pub are : came_in s packets ≡ before
-  pub begins : (first : Came) × (others : List Came) × (before ++ came (1 + length packets) c ∷ [] ≡ first ∷ others) × Keeps (first.segment.number + 4096) before p
+  pub begins : (first : Came) × (others : List Came) × (before ++ came (1 + length packets) c ∷ [] ≡ first ∷ others) × Keeps (first.1.number + 4096) before p
   pub good : AllByRecursion (IsGood (length packets)) p.ordered.items
   pub low : 4096 ≤ p.highest
   pub high : p.highest ≤ 8192 + 2048 * length packets
@@ -122,7 +122,7 @@ ready_done packets way c s old new same spell r a =
       first = r.begins.0;
       others = r.begins.1;
       are = came_in-more s packets x (came (1 + length packets) c) (of_it s way c (1 + length packets) same) ∙ ap (λ (l : List Came). l ++ came (1 + length packets) c ∷ []) r.are ∙ r.begins.2;
-      keeps = subst (λ (l : List Came). Keeps (r.begins.0.segment.number + 4096) l new) r.begins.2 (keeps_more (r.begins.0.segment.number + 4096) (1 + length packets) c r.before old new r.begins.3 a);
+      keeps = subst (λ (l : List Came). Keeps (r.begins.0.1.number + 4096) l new) r.begins.2 (keeps_more (r.begins.0.1.number + 4096) (1 + length packets) c r.before old new r.begins.3 a);
       good = all_put (IsGood (length (packets ++ x ∷ []))) old.ordered.items a.counted new.ordered.items a.put (good_more (length packets) (length (packets ++ x ∷ [])) old.ordered.items (omega (arith, longer)) r.good) one;
       low = omega (arith, a.highest, r.low);
       high = omega (arith, a.highest, a.high, r.high, longer);

@@ -1,6 +1,6 @@
 -- Streams that are the same.
 use mathlib.Core.Path.{fun_ext}
-use Rattle.std.proofs.Common.{◌≡◌, ◌==◌, ◌&&◌, ◌||◌, ◌++◌, ◌+◌, ℕ, Bool, true, false, not, List, [], ◌∷◌, length, refl, sym, ap, ◌∙◌, subst, Option, Some, None, Ok, Err, add-zero, arith, ⊎_elim}
+use Rattle.std.proofs.Common.{◌≡◌, ◌==◌, ◌&&◌, ◌||◌, ◌++◌, ◌+◌, ℕ, Bool, true, false, bytes_eq, not, List, [], ◌∷◌, length, refl, sym, ap, ◌∙◌, subst, Option, Some, None, Ok, Err, add-zero, arith, ⊎_elim}
 use Rattle.std.specs.List.{cons_option, enumerate_from, filter_map, list_any}
 use Rattle.std.proofs.lemmas.Bool.{and_parts, cases_Bool, eqb-true, false_from_ne_true, false≢true, or_from, or_parts}
 use Rattle.std.proofs.lemmas.Bool.Decides.{nat_tests}
@@ -12,9 +12,10 @@ use Rattle.indexmap.specs.IndexSet.{insert_all, insert_key}
 use Rattle.nsp_seg.specs.declared.packet.Packet.TheVariants.{Segment, DataAck}
 use Rattle.dap_listing.specs.declared.lines.Direction.{Direction}
 use Rattle.dap_listing.specs.declared.lines.Direction.TheVariants.{Right, Left}
-use Rattle.dap_follow.specs.Streams.{Came, Captured, came_as, came_in, is_same, is_same_way, streams}
+use Rattle.dap_listing.specs.Listing.{arrow_text}
+use Rattle.dap_follow.specs.Streams.{Captured, came_as, came_in, is_same, streams}
 use Rattle.dap_follow.specs.declared.streams.Stream.{Stream}
-use Rattle.dap_follow.specs.Inner.Keeping.{stream_of, HasAt}
+use Rattle.dap_follow.specs.Inner.Keeping.{Came, stream_of, HasAt}
 use Rattle.std.specs.Prelude.{slice_get}
 use Rattle.dap_follow.specs.contracts.streams.StreamPartialEq.TheImpl as impl
 
@@ -31,6 +32,9 @@ by_way Left Left da sa db sb = refl
 -- the program compares them so
 pub eq_is : program_eq ≡ is_same
 eq_is = fun_ext (λ (a : Stream). fun_ext (λ (b : Stream). by_way a.way b.way a.dst a.src b.dst b.src))
+
+abbrev is_same_way : Direction → Direction → Bool
+is_same_way a b = bytes_eq (arrow_text a) (arrow_text b)
 
 same_way : (a b : Direction) → is_same_way a b ≡ true → a ≡ b
 same_way Right Right h = refl

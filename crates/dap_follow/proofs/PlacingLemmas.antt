@@ -9,16 +9,16 @@ use Rattle.std.proofs.lemmas.List.Sorted.{searchable_from_sorted}
 use Rattle.std.proofs.lemmas.Bool.{cases_eq}
 use Rattle.std.proofs.lemmas.Bool.Decides.{nat_tests}
 use Rattle.std.proofs.lemmas.List.{map-append, take-append-drop}
-use Rattle.dap_follow.specs.Streams.{ArePlaced, Came, Placed, at, no_more, one_more, put_at}
+use Rattle.dap_follow.specs.Streams.{ArePlaced, Placed, at, no_more, one_more, put_at}
 use Rattle.dap_follow.specs.Inner.Placing.{IsPutIn, Rises, counted_value}
-use Rattle.dap_follow.specs.Inner.Keeping.{top}
+use Rattle.dap_follow.specs.Inner.Keeping.{Came, top}
 use Rattle.dap_follow.specs.declared.places.Counted.{Counted}
 
 -- ---- places
 
 -- one segment more, near the highest before it
 pub placed_more : {highest : ℕ} {before : List Came} {placed : List Placed} (c : Came) (place : ℕ) → ArePlaced highest before placed
-    → top highest placed ≤ place + 2047 → place ≤ top highest placed + 2048 → place % 4096 ≡ c.segment.number
+    → top highest placed ≤ place + 2047 → place ≤ top highest placed + 2048 → place % 4096 ≡ c.1.number
     → ArePlaced highest (before ++ c ∷ []) (placed ++ put_at place c ∷ [])
 placed_more c place no_more low high number = one_more place low high number no_more
 placed_more c place (one_more first l h n others) low high number = one_more first l h n (placed_more c place others low high number)

@@ -1,5 +1,5 @@
 -- A stream that is listed piece after piece.
-use Rattle.std.proofs.Common.{◌≡◌, ◌<◌, ◌≤◌, ◌+◌, ◌++◌, ℕ, true, false, List, [], ◌∷◌, length, length-drop, length-take, take, drop, map, max, refl, sym, ap, ◌∙◌, subst, arith, ⊎_elim}
+use Rattle.std.proofs.Common.{◌≡◌, ◌<◌, ◌≤◌, ◌+◌, ◌++◌, ℕ, true, false, List, [], ◌∷◌, length, length-drop, length-take, take, drop, fold, map, max, refl, sym, ap, ◌∙◌, subst, arith, ⊎_elim}
 use Rattle.std.specs.Global.{Vec}
 use Rattle.std.specs.Prelude.{nat_le}
 use Rattle.std.specs.List.{AllByRecursion, filter}
@@ -10,10 +10,10 @@ use Rattle.std.proofs.lemmas.List.{append_assoc, drop-drop, map-append, take-app
 use Rattle.std.proofs.lemmas.List.Elements.{filter-append}
 use Rattle.dap_text.specs.Adding.{Adds}
 use Rattle.dap_follow.specs.Streams.{Placed}
-use Rattle.dap_follow.specs.Joined.{Message, Piece, is_message, latest, message_of, pieces, tail}
+use Rattle.dap_follow.specs.Joined.{Message, Piece, is_message, message_of, pieces, tail}
 use Rattle.dap_follow.specs.Following.{gap_line, part_line, rest_lines}
 use Rattle.dap_follow.specs.Inner.Keeping.{IsGood}
-use Rattle.dap_follow.specs.Inner.Listing.{AreSpelled, IsCutOff, IsPiece, ListsPiece, UnderAll, message_at, values}
+use Rattle.dap_follow.specs.Inner.Listing.{AreSpelled, IsCutOff, IsPiece, ListsPiece, UnderAll, message_at, values, latest}
 use Rattle.dap_follow.specs.Inner.Placing.{Rises, counted_value}
 use Rattle.dap_follow.specs.declared.places.Counted.{Counted}
 use Rattle.dap_follow.specs.declared.streams.Stream.{Stream}
@@ -83,6 +83,13 @@ kept_front (f ∷ front) c back rises =
     let below : f.place < c.place = (all_back (λ other. f.place < other.place) front (c ∷ back) rises.0).0 in
     rw (within_test f.place c.place (omega (arith, below))) (ap (λ (l : List Placed). counted_value f ∷ l) (kept_front front c back rises.1))
 
+later_from : (from : ℕ) (xs : List Placed) → fold (λ packet s. max packet s.packet) from xs ≡ max from (latest xs)
+later_from from [] = omega arith
+later_from from (x ∷ xs) = let rest = later_from (max from x.packet) xs in omega (arith, rest)
+
+is_latest : (xs : List Placed) → fold (λ packet s. max packet s.packet) 0 xs ≡ latest xs
+is_latest xs = let from = later_from 0 xs in omega (arith, from)
+
 -- the packet of the message that a piece is
 packet_is : (o : List Counted) (a n : ℕ) (p : Piece) → Rises o → 0 < length (take n (drop a o)) → IsPiece p (take n (drop a o))
     → (message_of (values o) p).packet ≡ latest (values (take (a + n) o))
@@ -97,7 +104,8 @@ packet_is o a n p rises some is =
     let upto : take (a + n) o ≡ front ++ split.1 ∷ [] =
     take-add a n o ∙ ap (λ (l : List Counted). take a o ++ l) split.2 ∙ sym (append_assoc (take a o) split.0 (split.1 ∷ [])) in
     let place : (tail p).place ≡ split.1.place = ap (λ (s : Placed). s.place) (sym split.3) in
-    ap (λ (k : ℕ). latest (filter (λ (s : Placed). nat_le s.place k) (values o))) place
+    is_latest (filter (λ (s : Placed). nat_le s.place (tail p).place) (values o))
+    ∙ ap (λ (k : ℕ). latest (filter (λ (s : Placed). nat_le s.place k) (values o))) place
     ∙ ap (λ (l : List Counted). latest (filter (λ (s : Placed). nat_le s.place split.1.place) (values l))) whole
     ∙ ap latest (kept_front front split.1 back (subst Rises whole rises)) ∙ ap (λ (l : List Counted). latest (values l)) (sym upto)
 

@@ -14,10 +14,10 @@ use Rattle.std.proofs.lemmas.List.{append_assoc, append-nil, map-append, take_al
 use Rattle.std.proofs.lemmas.Map.Keys.{IsStrictlyIncreasing-from_sorted}
 use Rattle.dap_listing.specs.Listing.{heading}
 use Rattle.dap_listing.specs.Packets.{seen_line}
-use Rattle.dap_follow.specs.Streams.{ArePlaced, Came, IsOrdered, Captured, came_in, first_place}
+use Rattle.dap_follow.specs.Streams.{ArePlaced, IsOrdered, Captured, came_in, first_place}
 use Rattle.dap_follow.specs.Joined.{Message, messages, pieces}
 use Rattle.dap_follow.specs.Following.{ArePacketLines, rest_lines, no_more, one_more}
-use Rattle.dap_follow.specs.Inner.Keeping.{KeepsEach, KeepsStream}
+use Rattle.dap_follow.specs.Inner.Keeping.{Came, KeepsEach, KeepsStream}
 use Rattle.dap_follow.specs.Inner.Listing.{UnderAll, all_rest_lines, values}
 use Rattle.dap_follow.specs.Inner.Placing.{Rises}
 use Rattle.dap_follow.specs.Inner.Reading.{line_texts}

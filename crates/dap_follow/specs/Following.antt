@@ -28,15 +28,16 @@ range_text from to = concat (codes " seg=" ∷ decimal (from % 4096) ∷ codes "
 abbrev pub length_text : List ℕ → List ℕ
 length_text bytes = concat (codes " len=" ∷ decimal (length bytes) ∷ line_feed ∷ [])
 
-abbrev pub message_heading : Piece → List ℕ
-message_heading p = codes "  message" ++ (range_text p.head.place (tail p).place ++ length_text (payload p))
+-- behind a word: the numbers of a piece's first and last segment, and how many bytes it carries
+abbrev pub piece_text : List ℕ → Piece → List ℕ
+piece_text word p = word ++ (range_text p.head.place (tail p).place ++ length_text (payload p))
 
 -- the lines of messages: of each its own, and those of the DAP messages in it
 pub data AreMessageLines : List Message → List ℕ → Type 0 where
   no_more : AreMessageLines [] []
   one_more : {m : Message} {others : List Message} (lines rest : List ℕ)
       → IsMessagesText (payload m.piece) lines → AreMessageLines others rest
-      → AreMessageLines (m ∷ others) (message_heading m.piece ++ lines ++ rest)
+      → AreMessageLines (m ∷ others) (piece_text (codes "  message") m.piece ++ lines ++ rest)
 
 -- under each packet stand the messages that are whole with it; the first packet has the number
 pub data ArePacketLines (all : List Message) : ℕ → List Captured → List ℕ → Type 0 where
@@ -49,12 +50,9 @@ pub data ArePacketLines (all : List Message) : ℕ → List Captured → List �
 abbrev pub stream_text : Stream → List ℕ
 stream_text s = concat (codes " " ∷ arrow_text s.way ∷ codes " dst=" ∷ word_text s.dst ∷ codes " src=" ∷ word_text s.src ∷ [])
 
-abbrev pub part_text : Stream → Piece → List ℕ
-part_text stream p = codes "part" ++ (stream_text stream ++ (range_text p.head.place (tail p).place ++ length_text (payload p)))
-
 -- a piece that is no message
 abbrev pub part_line : Stream → Piece → List ℕ
-part_line stream p = if is_message p then [] else part_text stream p
+part_line stream p = if is_message p then [] else codes "part" ++ piece_text (stream_text stream) p
 
 -- the places that are missing between a piece and the next
 abbrev pub gap_line : Stream → Piece → List Piece → List ℕ

@@ -37,18 +37,13 @@ is_message p = p.head.first && (tail p).last
 abbrev pub payload : Piece → List ℕ
 payload p = flat_map (λ s. s.payload) (segments p)
 
--- the latest packet
-abbrev pub latest : List Placed → ℕ
-latest [] = 0
-latest (s ∷ others) = max s.packet (latest others)
-
 -- A message, and the packet under which it stands: the latest of those that hold the places up to its last.
 pub record Message : Type 0 where
   pub packet : ℕ
   pub piece : Piece
 
 abbrev pub message_of : List Placed → Piece → Message
-message_of ordered p = record { packet = latest (filter (λ s. nat_le s.place (tail p).place) ordered); piece = p }
+message_of ordered p = record { packet = fold (λ latest s. max latest s.packet) 0 (filter (λ s. nat_le s.place (tail p).place) ordered); piece = p }
 
 -- the messages of a stream
 abbrev pub messages : List Placed → List Message

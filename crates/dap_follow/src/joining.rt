@@ -3,10 +3,10 @@
 ghost use Rattle.std.specs.Prelude.{◌≡◌, ◌≤◌, ◌<◌, ℕ, List, OnOk, drop, length, max, take};
 ghost use Rattle.std.specs.List.{AllByRecursion};
 ghost use Rattle.dap_text.specs.Adding.{Adds, AddsSome};
-ghost use Rattle.dap_follow.specs.Joined.{Piece, joins as do_join, latest as latest_of, pieces, tail};
-ghost use Rattle.dap_follow.specs.Following.{gap_line, length_text, part_text, range_text, stream_text};
+ghost use Rattle.dap_follow.specs.Joined.{Piece, joins as do_join, pieces, tail};
+ghost use Rattle.dap_follow.specs.Following.{gap_line, length_text, range_text, stream_text};
 ghost use Rattle.dap_follow.specs.Inner.Keeping.{IsGood};
-ghost use Rattle.dap_follow.specs.Inner.Listing.{AreSpelled, IsCutOff, IsMessageText, IsPiece, ListsPiece, ListsStream, digits_of, values};
+ghost use Rattle.dap_follow.specs.Inner.Listing.{AreSpelled, IsCutOff, IsMessageText, IsPiece, ListsPiece, ListsStream, digits_of, latest as latest_of, part_text, values};
 ghost use Rattle.dap_follow.specs.Inner.Placing.{Rises, counted_value};
 
 use crate::places::{Counted, ROUND};

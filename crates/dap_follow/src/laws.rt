@@ -2,7 +2,8 @@
 
 ghost use Rattle.std.specs.Prelude.{◌≡◌, ◌<◌, ◌+◌, ◌%◌, ℕ, List, Contains, Some, map, slice_get};
 ghost use Rattle.nsp_link.specs.Cutting.{Piece, cut_message};
-ghost use Rattle.dap_follow.specs.Streams.{ArePlaced, Came, IsOrdered, Placed, at, first_place};
+ghost use Rattle.nsp_seg.specs.declared.packet.SegmentFields.{SegmentFields as Segment};
+ghost use Rattle.dap_follow.specs.Streams.{ArePlaced, IsOrdered, Placed, at, first_place};
 ghost use Rattle.dap_follow.specs.Joined.{messages, payload};
 
 /// A message that was cut is listed, in whatever order its segments came. The segments of its stream came each with its true
@@ -10,7 +11,7 @@ ghost use Rattle.dap_follow.specs.Joined.{messages, payload};
 /// the marks and the bytes of the message's segments, as a link cuts it. Then one of the stream's messages carries the
 /// message's bytes. Own.
 pub fn cut_messages_are_listed()
-    ensures { (size start highest : ℕ) (message : List ℕ) (came : List Came)
+    ensures { (size start highest : ℕ) (message : List ℕ) (came : List (ℕ × Segment))
         (sent ordered : List Placed) → 0 < size → IsOrdered came ordered
         → highest % 4096 ≡ first_place came % 4096 → ArePlaced highest came sent
         → ((i : ℕ) (cut : Piece) → slice_get (cut_message size message) i ≡ Some cut

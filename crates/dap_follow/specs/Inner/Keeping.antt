@@ -6,7 +6,7 @@ use Rattle.dap_listing.specs.declared.lines.Direction.{Direction}
 use Rattle.dap_listing.specs.Captured.{Spell}
 use Rattle.dap_listing.specs.Inner.Decoding.{carried_by}
 use Rattle.nsp_seg.specs.declared.packet.SegmentFields.{SegmentFields}
-use Rattle.dap_follow.specs.Streams.{ArePlaced, Came, Captured, Placed, at, came_in, is_same, put_at, segment_in, streams}
+use Rattle.dap_follow.specs.Streams.{ArePlaced, Captured, Placed, at, came_in, is_same, put_at, segment_in, streams}
 use Rattle.dap_follow.specs.Inner.Placing.{IsPutIn, Rises, counted_value}
 use Rattle.dap_follow.specs.declared.places.Counted.{Counted}
 use Rattle.dap_follow.specs.declared.places.Places.{Places}
@@ -17,9 +17,13 @@ use Rattle.dap_follow.specs.declared.streams.Streams.{Streams}
 abbrev pub stream_of : Captured → Option Stream
 stream_of packet = option_map (λ p. p.0) (segment_in packet)
 
--- a segment of the program, and the number of its packet
+-- a segment, and the number of its packet
+abbrev pub Came : Type 0
+Came = ℕ × SegmentFields
+
+-- one of the program
 abbrev pub came : ℕ → SegmentFields → Came
-came packet c = record { packet = packet; segment = carried_by c }
+came packet c = (packet, carried_by c)
 
 -- a segment was put in its place, which is near the highest before it
 pub record IsAdded (packet : ℕ) (c : SegmentFields) (old new : Places) : Type 0 where
@@ -55,7 +59,7 @@ pub record KeepsStream (packets : List Captured) (stream : Stream) (p : Places) 
   pub first : Came
   pub others : List Came
   pub are : came_in stream packets ≡ first ∷ others
-  pub keeps : Keeps (first.segment.number + 4096) (first ∷ others) p
+  pub keeps : Keeps (first.1.number + 4096) (first ∷ others) p
   pub good : AllByRecursion (IsGood (length packets)) p.ordered.items
   pub low : 4096 ≤ p.highest
   pub high : p.highest ≤ 8192 + 2048 * length packets

@@ -1,5 +1,5 @@
 -- What the program lists of a stream.
-use Rattle.std.specs.Prelude.{◌≡◌, ◌==◌, ◌+◌, ◌/◌, ⊤, ℕ, List, [], ◌∷◌, ◌++◌, length, map, if◌then◌else◌}
+use Rattle.std.specs.Prelude.{◌≡◌, ◌==◌, ◌+◌, ◌/◌, ⊤, ℕ, List, [], ◌∷◌, ◌++◌, length, map, max, codes, if◌then◌else◌}
 use Rattle.std.specs.List.{AllByRecursion, filter, flat_map, zip}
 use Rattle.std.specs.Global.{Vec}
 use Rattle.dap_text.specs.Adding.{Adds}
@@ -7,13 +7,24 @@ use Rattle.dap_listing.specs.Captured.{Spell}
 use Rattle.dap_listing.specs.Messages.{IsMessagesText}
 use Rattle.dap_follow.specs.Streams.{Placed}
 use Rattle.dap_follow.specs.Joined.{Message, Piece, is_message, messages, payload, pieces, segments}
-use Rattle.dap_follow.specs.Following.{AreMessageLines, message_heading, part_line, rest_lines}
+use Rattle.dap_follow.specs.Following.{AreMessageLines, part_line, piece_text, rest_lines, stream_text}
 use Rattle.dap_follow.specs.Inner.Placing.{counted_value}
 use Rattle.dap_follow.specs.declared.places.Counted.{Counted}
 use Rattle.dap_follow.specs.declared.streams.Stream.{Stream}
 
 abbrev pub values : List Counted → List Placed
 values cs = map counted_value cs
+
+-- the latest packet
+abbrev pub latest : List Placed → ℕ
+latest [] = 0
+latest (s ∷ others) = max s.packet (latest others)
+
+abbrev pub message_heading : Piece → List ℕ
+message_heading p = piece_text (codes "  message") p
+
+abbrev pub part_text : Stream → Piece → List ℕ
+part_text stream p = codes "part" ++ piece_text (stream_text stream) p
 
 -- the digits of the payloads, one behind the other
 abbrev pub digits_of : List Counted → List ℕ

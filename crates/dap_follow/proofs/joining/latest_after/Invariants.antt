@@ -1,6 +1,5 @@
 use Rattle.std.proofs.Common.{◌≡◌, drop, max}
-use Rattle.dap_follow.specs.Joined.{latest}
-use Rattle.dap_follow.specs.Inner.Listing.{values}
+use Rattle.dap_follow.specs.Inner.Listing.{values, latest}
 use Rattle.dap_follow.proofs.joining.latest_after.Given as goal
 
 -- the packets so far and those of the others are all

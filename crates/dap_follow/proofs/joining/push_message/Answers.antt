@@ -4,8 +4,8 @@ use Rattle.std.proofs.lemmas.Result.{on_ok_weaker}
 use Rattle.dap_listing.specs.Captured.{Spell, bytes_of}
 use Rattle.dap_follow.specs.Streams.{Placed}
 use Rattle.dap_follow.specs.Joined.{payload, tail}
-use Rattle.dap_follow.specs.Following.{length_text, message_heading, range_text}
-use Rattle.dap_follow.specs.Inner.Listing.{digits_of}
+use Rattle.dap_follow.specs.Following.{length_text, range_text}
+use Rattle.dap_follow.specs.Inner.Listing.{digits_of, message_heading}
 use Rattle.dap_follow.proofs.JoiningLemmas.{appended_twice, payload_is, spelled_half}
 use Rattle.dap_follow.proofs.joining.push_message.Goals as goal
 
