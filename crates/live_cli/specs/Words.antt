@@ -57,14 +57,7 @@ options_of role rows =
     value rows short (codes "segment") (λ segment.
     value rows short (codes "window") (λ window.
     value rows short (codes "buffer") (λ buffer.
-    Some (record {
-      role = role;
-      local = local;
-      remote = remote;
-      segment = segment;
-      window = window;
-      buffer = max least_buffer buffer;
-    }))))))
+    Some (record { role = role; local = local; remote = remote; segment = segment; window = window; buffer = max least_buffer buffer }))))))
 
 abbrev pub task_in : Text × List Row → Option Task
 task_in p =
