@@ -7,7 +7,7 @@ use Rattle.dap_accessing.specs.declared.fault.ReadFault.TheVariants as read_faul
 use Rattle.dap_end.specs.declared.fault.EndFault.{EndFault}
 use Rattle.dap_end.specs.declared.fault.EndFault.TheVariants as end_fault
 use Rattle.dap_end.specs.Writing.{Behind}
-use Rattle.dap_end.specs.Turns.{EndOf}
+use Rattle.dap_end.specs.Turns.{DidAll, EndOf}
 use Rattle.dap_accessing.specs.Present.{Present}
 use Rattle.dap_end.specs.Asking.{ReadNone}
 use Rattle.dap_end.specs.Done.{AskingValue}
@@ -30,5 +30,4 @@ asks before reports =
 -- what reading all comes to
 abbrev pub ReadsAll : (old new : AskingValue) → (before reports : List Report) → Result (Unit {0}) ReadFault → Type 0
 ReadsAll old new before reports (Ok done) = Behind before reports (ReadOn old new) × (new.port.link.coming.inbox ≡ [])
-ReadsAll old new before reports (Err f) =
-    (mid : AskingValue) × Behind before reports (ReadOn old mid) × HearFault mid new (end_fault.Read f)
+ReadsAll old new before reports (Err f) = DidAll (asks before reports) old new (Err (end_fault.Read f))

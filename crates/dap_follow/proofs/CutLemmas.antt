@@ -9,9 +9,10 @@ use Rattle.std.proofs.lemmas.Bool.{cases_eq, cases_lt, cases_Bool}
 use Rattle.std.proofs.lemmas.Bool.Decides.{nat_tests}
 use Rattle.std.proofs.lemmas.Map.Keys.{sorted_from_strictly_increasing}
 use Rattle.nsp_link.specs.Cutting as cutting
-use Rattle.dap_follow.specs.Inner.Keeping.{Came}
-use Rattle.dap_follow.specs.Streams.{ArePlaced, Placed, at, no_more, one_more, put_at}
-use Rattle.dap_follow.specs.Joined.{Message, Piece, is_message, joins, message_of, messages, payload, pieces, segments, with_segment}
+use Rattle.dap_follow.specs.Inner.Listing.{segments}
+use Rattle.dap_follow.specs.Inner.Keeping.{Came, put_at}
+use Rattle.dap_follow.specs.Streams.{ArePlaced, Placed, at, no_more, one_more}
+use Rattle.dap_follow.specs.Joined.{Message, Piece, is_message, joins, message_of, messages, payload, pieces, with_segment}
 use Rattle.std.specs.List.{filter, flat_map, range_with_len}
 use Rattle.std.specs.Int.{div_ceil}
 use Rattle.std.proofs.Math.Nat.{mul-le-mul_right}

@@ -13,9 +13,9 @@ use Rattle.dap_listing.specs.Captured.{Spell, bytes_of}
 use Rattle.dap_listing.proofs.ForCallers.{bytes-append, count_of, spell-append}
 use Rattle.dap_follow.specs.Streams.{Placed}
 use Rattle.dap_listing.specs.Messages.{IsMessagesText}
-use Rattle.dap_follow.specs.Following.{AreMessageLines, gap_line, no_more, one_more, part_line, range_text, stream_text}
-use Rattle.dap_follow.specs.Joined.{Message, Piece, is_message, joins, payload, pieces, segments, tail, with_segment}
-use Rattle.dap_follow.specs.Inner.Listing.{AreSpelled, IsCutOff, IsMessageText, IsPiece, ListsPiece, UnderAll, digits_of, message_at, values, latest, message_heading, part_text}
+use Rattle.dap_follow.specs.Following.{IsMessageText, gap_line, part_line, range_text, stream_text}
+use Rattle.dap_follow.specs.Joined.{Message, Piece, is_message, joins, payload, pieces, tail, with_segment}
+use Rattle.dap_follow.specs.Inner.Listing.{AreSpelled, IsCutOff, IsPiece, ListsPiece, UnderAll, digits_of, message_at, values, latest, message_heading, part_text, AreMessageLines, no_more, one_more, segments}
 use Rattle.dap_follow.specs.Inner.Placing.{counted_value}
 use Rattle.dap_follow.specs.declared.places.Counted.{Counted}
 use Rattle.dap_follow.specs.declared.streams.Stream.{Stream}

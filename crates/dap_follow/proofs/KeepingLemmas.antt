@@ -8,9 +8,9 @@ use Rattle.indexmap.specs.IndexSet.{insert_key}
 use Rattle.dap_listing.specs.Captured.{Spell}
 use Rattle.dap_listing.specs.declared.lines.Direction.{Direction}
 use Rattle.nsp_seg.specs.declared.packet.SegmentFields.{SegmentFields}
-use Rattle.dap_follow.specs.Streams.{Captured, Placed, at, came_as, came_in, is_same, no_more, put_at, streams}
+use Rattle.dap_follow.specs.Streams.{Captured, Placed, at, came_as, came_in, is_same, no_more, streams}
 use Rattle.dap_follow.specs.Inner.Placing.{Rises, counted_value}
-use Rattle.dap_follow.specs.Inner.Keeping.{Came, stream_of, HasAt, IsAdded, IsGood, IsIndexed, Keeps, KeepsAll, KeepsEach, KeepsStream, came, segment_packet, top}
+use Rattle.dap_follow.specs.Inner.Keeping.{Came, stream_of, HasAt, IsAdded, IsGood, IsIndexed, Keeps, KeepsAll, KeepsEach, KeepsStream, came, segment_packet, top, put_at}
 use Rattle.dap_follow.specs.declared.places.Counted.{Counted}
 use Rattle.dap_follow.specs.declared.places.Places.{Places}
 use Rattle.dap_follow.specs.declared.streams.Stream.{Stream}

@@ -9,9 +9,9 @@ use Rattle.std.proofs.lemmas.List.Sorted.{searchable_from_sorted}
 use Rattle.std.proofs.lemmas.Bool.{cases_eq}
 use Rattle.std.proofs.lemmas.Bool.Decides.{nat_tests}
 use Rattle.std.proofs.lemmas.List.{map-append, take-append-drop}
-use Rattle.dap_follow.specs.Streams.{ArePlaced, Placed, at, no_more, one_more, put_at}
+use Rattle.dap_follow.specs.Streams.{ArePlaced, Placed, at, no_more, one_more}
 use Rattle.dap_follow.specs.Inner.Placing.{IsPutIn, Rises, counted_value}
-use Rattle.dap_follow.specs.Inner.Keeping.{Came, top}
+use Rattle.dap_follow.specs.Inner.Keeping.{Came, top, put_at}
 use Rattle.dap_follow.specs.declared.places.Counted.{Counted}
 
 -- ---- places

@@ -1,8 +1,8 @@
 -- All streams, and all lines.
 use Rattle.std.proofs.Common.{◌≡◌, ◌<◌, ◌≤◌, ◌+◌, ◌++◌, ℕ, zero, suc, List, [], ◌∷◌, length, take, drop, get_or, map, Some, None, add-one, refl, sym, ap, ◌∙◌, subst, arith}
 use Rattle.std.specs.Global.{Vec}
-use Rattle.std.specs.Prelude.{slice_get}
-use Rattle.std.specs.List.{AllByRecursion, AllZip, flat_map}
+use Rattle.std.specs.Prelude.{◌==◌, slice_get}
+use Rattle.std.specs.List.{AllByRecursion, AllZip, concat, enumerate_from, filter, flat_map}
 use Rattle.std.specs.List.Sorted.{IsStrictlySortedBy}
 use Rattle.std.specs.Ordering.{nat_cmp}
 use Rattle.std.specs.declared.cmp.Ordering.TheVariants.{Less}
@@ -16,9 +16,9 @@ use Rattle.dap_listing.specs.Listing.{heading}
 use Rattle.dap_listing.specs.Packets.{seen_line}
 use Rattle.dap_follow.specs.Streams.{ArePlaced, IsOrdered, Captured, came_in, first_place}
 use Rattle.dap_follow.specs.Joined.{Message, messages, pieces}
-use Rattle.dap_follow.specs.Following.{ArePacketLines, rest_lines, no_more, one_more}
+use Rattle.dap_follow.specs.Following.{IsMessageText, IsPacketText, rest_lines}
 use Rattle.dap_follow.specs.Inner.Keeping.{Came, KeepsEach, KeepsStream}
-use Rattle.dap_follow.specs.Inner.Listing.{UnderAll, all_rest_lines, values}
+use Rattle.dap_follow.specs.Inner.Listing.{AreMessageLines, UnderAll, all_rest_lines, message_heading, no_more, one_more, values}
 use Rattle.dap_follow.specs.Inner.Placing.{Rises}
 use Rattle.dap_follow.specs.Inner.Reading.{line_texts}
 use Rattle.dap_follow.specs.Inner.Whole.{ordered_of, texts_of}
@@ -110,19 +110,31 @@ nil_cons x xs e = cc
 same_parts : (a b : List ℕ) (xs ys : List (List ℕ)) → a ∷ xs ≡ b ∷ ys → (a ≡ b) × (xs ≡ ys)
 same_parts a b xs ys e = ((let first : a ≡ b = cc in first), (let rest : xs ≡ ys = cc in rest))
 
-pub packet_lines : (all : List Message) (n : ℕ) (packets : List Captured) (olds news : List (Vec ℕ)) → map (λ (v : Vec ℕ). v.items) olds ≡ line_texts n packets → UnderAll all n olds news
-    → ArePacketLines all n packets (texts_of news)
-packet_lines all n [] [] [] are under = no_more
-packet_lines all n [] [] (v ∷ news) are under = absurd under
-packet_lines all n [] (o ∷ olds) news are under = absurd (cons_nil _ _ are)
-packet_lines all n (p ∷ packets) [] news are under = absurd (nil_cons _ _ are)
-packet_lines all n (p ∷ packets) (o ∷ olds) [] are under = absurd under
-packet_lines all n (p ∷ packets) (o ∷ olds) (v ∷ news) are under =
+-- each message has its text
+message_texts : (ms : List Message) (lines : List ℕ) → AreMessageLines ms lines → (texts : List (List ℕ)) × AllZip (λ m. IsMessageText m.piece) ms texts × (lines ≡ concat texts)
+message_texts [] _ no_more = ([], tt, refl)
+message_texts (m ∷ ms) _ (one_more lines rest is others) =
+    let each = message_texts ms rest others in
+    let head = message_heading m.piece in
+    ((head ++ lines) ∷ each.0, ((lines, is, refl), each.1), ap (λ (l : List ℕ). (head ++ lines) ++ l) each.2)
+
+pub packet_texts : (all : List Message) (n : ℕ) (packets : List Captured) (olds news : List (Vec ℕ)) → map (λ (v : Vec ℕ). v.items) olds ≡ line_texts n packets → UnderAll all n olds news
+    → AllZip (IsPacketText all) (enumerate_from n packets) (map (λ (v : Vec ℕ). v.items) news)
+packet_texts all n [] [] [] are under = tt
+packet_texts all n [] [] (v ∷ news) are under = absurd under
+packet_texts all n [] (o ∷ olds) news are under = absurd (cons_nil _ _ are)
+packet_texts all n (p ∷ packets) [] news are under = absurd (nil_cons _ _ are)
+packet_texts all n (p ∷ packets) (o ∷ olds) [] are under = absurd under
+packet_texts all n (p ∷ packets) (o ∷ olds) (v ∷ news) are under =
     let parts = same_parts o.items (heading n p.0 ++ seen_line p.1) (map (λ (w : Vec ℕ). w.items) olds) (line_texts (n + 1) packets) are in
     let here = under.0 in
-    let text : v.items ≡ heading n p.0 ++ seen_line p.1 ++ here.0 = here.2 ∙ ap (λ (l : List ℕ). l ++ here.0) parts.0 in
-    subst (λ (l : List ℕ). ArePacketLines all n (p ∷ packets) (l ++ texts_of news)) (sym text)
-    (one_more here.0 (texts_of news) here.1 (packet_lines all (n + 1) packets olds news parts.1 under.1))
+    let each = message_texts (filter (λ m. m.packet == n) all) here.0 here.1 in
+    let text : v.items ≡ (heading n p.0 ++ seen_line p.1) ++ here.0 = here.2 ∙ ap (λ (l : List ℕ). l ++ here.0) parts.0 in
+    ((each.0, each.1, text ∙ ap (λ (l : List ℕ). (heading n p.0 ++ seen_line p.1) ++ l) each.2), packet_texts all (n + 1) packets olds news parts.1 under.1)
+
+pub texts_joined : (vs : List (Vec ℕ)) → texts_of vs ≡ concat (map (λ (v : Vec ℕ). v.items) vs)
+texts_joined [] = refl
+texts_joined (v ∷ vs) = ap (λ (l : List ℕ). v.items ++ l) (texts_joined vs)
 
 pub key_there : (packets : List Captured) (i : ℕ) (keys : List Stream) (places : List Places) → KeepsEach packets keys places → i < length places → slice_get keys i ≡ None → ⊥
 key_there packets i [] [] each below none = absurd (omega arith)

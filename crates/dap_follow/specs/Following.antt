@@ -1,6 +1,6 @@
 -- The listing of a capture with its messages joined. Own.
 use Rattle.std.specs.Prelude.{◌≡◌, ℕ, ◌+◌, ◌-◌, ◌%◌, ◌==◌, nat_lt, List, [], ◌∷◌, ◌++◌, length, codes, if◌then◌else◌, Option, Result, Ok}
-use Rattle.std.specs.List.{AllZip, concat, filter, flat_map, zip}
+use Rattle.std.specs.List.{AllZip, concat, enumerate_from, filter, flat_map, zip}
 use Rattle.std.specs.Fmt.{decimal}
 use Rattle.hex.specs.Hex.{decode_of}
 use Rattle.dap_text.specs.Text.{line_feed, word_text}
@@ -32,19 +32,15 @@ length_text bytes = concat (codes " len=" ∷ decimal (length bytes) ∷ line_fe
 abbrev pub piece_text : List ℕ → Piece → List ℕ
 piece_text word p = word ++ (range_text p.head.place (tail p).place ++ length_text (payload p))
 
--- the lines of messages: of each its own, and those of the DAP messages in it
-pub data AreMessageLines : List Message → List ℕ → Type 0 where
-  no_more : AreMessageLines [] []
-  one_more : {m : Message} {others : List Message} (lines rest : List ℕ)
-      → IsMessagesText (payload m.piece) lines → AreMessageLines others rest
-      → AreMessageLines (m ∷ others) (piece_text (codes "  message") m.piece ++ lines ++ rest)
+-- the lines of a message: its own, and those of the DAP messages in it
+abbrev pub IsMessageText : Piece → List ℕ → Type 0
+IsMessageText p text = (lines : List ℕ) × IsMessagesText (payload p) lines × (text ≡ piece_text (codes "  message") p ++ lines)
 
--- under each packet stand the messages that are whole with it; the first packet has the number
-pub data ArePacketLines (all : List Message) : ℕ → List Captured → List ℕ → Type 0 where
-  no_more : {number : ℕ} → ArePacketLines all number [] []
-  one_more : {number : ℕ} {packet : Captured} {others : List Captured} (lines rest : List ℕ)
-      → AreMessageLines (filter (λ m. m.packet == number) all) lines → ArePacketLines all (number + 1) others rest
-      → ArePacketLines all number (packet ∷ others) (heading number packet.0 ++ seen_line packet.1 ++ lines ++ rest)
+-- the lines of a packet: its own, and those of the messages that are whole with it
+abbrev pub IsPacketText : (all : List Message) → ℕ × Captured → List ℕ → Type 0
+IsPacketText all (number, packet) text =
+    (texts : List (List ℕ)) × AllZip (λ m. IsMessageText m.piece) (filter (λ m. m.packet == number) all) texts
+    × (text ≡ heading number packet.0 ++ seen_line packet.1 ++ concat texts)
 
 -- ` > dst=X src=X`
 abbrev pub stream_text : Stream → List ℕ
@@ -70,11 +66,11 @@ rest_lines stream (p ∷ others) = part_line stream p ++ gap_line stream p other
 pub record IsFollowed (captured : List Capture) (text : List ℕ) : Type 0 where
   pub packets : List Captured
   pub ordered : List (List Placed)
-  pub lines : List ℕ
+  pub texts : List (List ℕ)
   pub are_seen : AllZip IsCaptured captured packets
   pub are_ordered : AllZip (λ stream. IsOrdered (came_in stream packets)) (streams packets) ordered
-  pub are_lines : ArePacketLines (flat_map messages ordered) 1 packets lines
-  pub joined : text ≡ lines ++ flat_map (λ (stream, segments). rest_lines stream (pieces segments)) (zip (streams packets) ordered)
+  pub are_texts : AllZip (IsPacketText (flat_map messages ordered)) (enumerate_from 1 packets) texts
+  pub joined : text ≡ concat texts ++ flat_map (λ (stream, segments). rest_lines stream (pieces segments)) (zip (streams packets) ordered)
 
 -- what the listing of an input answers
 abbrev pub FollowGives : List ℕ → Option (List ℕ) → Option (List ℕ) → Result Outcome CaptureFault → Type 0

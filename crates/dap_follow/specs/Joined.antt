@@ -12,14 +12,11 @@ pub record Piece : Type 0 where
   pub head : Placed
   pub others : List Placed
 
-abbrev pub segments : Piece → List Placed
-segments p = p.head ∷ p.others
-
 -- a segment in front of pieces joins the first of them, or is a piece
 abbrev pub with_segment : Placed → List Piece → List Piece
 with_segment s [] = record { head = s; others = [] } ∷ []
 with_segment s (p ∷ pieces) =
-    if joins s p.head then record { head = s; others = segments p } ∷ pieces else record { head = s; others = [] } ∷ p ∷ pieces
+    if joins s p.head then record { head = s; others = p.head ∷ p.others } ∷ pieces else record { head = s; others = [] } ∷ p ∷ pieces
 
 -- the pieces of segments in order: cut at each hole, before each first mark and behind each last one
 abbrev pub pieces : List Placed → List Piece
@@ -35,7 +32,7 @@ abbrev pub is_message : Piece → Bool
 is_message p = p.head.first && (tail p).last
 
 abbrev pub payload : Piece → List ℕ
-payload p = flat_map (λ s. s.payload) (segments p)
+payload p = flat_map (λ s. s.payload) (p.head ∷ p.others)
 
 -- A message, and the packet under which it stands: the latest of those that hold the places up to its last.
 pub record Message : Type 0 where

@@ -48,16 +48,13 @@ pub record Placed : Type 0 where
   pub last : Bool
   pub payload : List ℕ
 
-abbrev pub put_at : ℕ → (ℕ × SegmentFields) → Placed
-put_at place (packet, s) = record { place = place; packet = packet; first = s.first; last = s.last; payload = s.payload }
-
 -- Each place leaves the segment's number modulo 4,096, and lies from 2,047 below to 2,048 above the highest before it.
 pub data ArePlaced : ℕ → List (ℕ × SegmentFields) → List Placed → Type 0 where
   no_more : {highest : ℕ} → ArePlaced highest [] []
   one_more : {highest : ℕ} {c : ℕ × SegmentFields} {others : List (ℕ × SegmentFields)} {rest : List Placed} (place : ℕ)
       → highest ≤ place + 2047 → place ≤ highest + 2048 → place % 4096 ≡ c.1.number
       → ArePlaced (max highest place) others rest
-      → ArePlaced highest (c ∷ others) (put_at place c ∷ rest)
+      → ArePlaced highest (c ∷ others) (record { place = place; packet = c.0; first = c.1.first; last = c.1.last; payload = c.1.payload } ∷ rest)
 
 -- The first one's place is its number and 4,096.
 abbrev pub first_place : List (ℕ × SegmentFields) → ℕ

@@ -4,9 +4,9 @@ ghost use Rattle.std.specs.Prelude.{◌≡◌, ◌≤◌, ◌<◌, ℕ, List, On
 ghost use Rattle.std.specs.List.{AllByRecursion};
 ghost use Rattle.dap_text.specs.Adding.{Adds, AddsSome};
 ghost use Rattle.dap_follow.specs.Joined.{Piece, joins as do_join, pieces, tail};
-ghost use Rattle.dap_follow.specs.Following.{gap_line, length_text, range_text, stream_text};
+ghost use Rattle.dap_follow.specs.Following.{IsMessageText, gap_line, length_text, range_text, stream_text};
 ghost use Rattle.dap_follow.specs.Inner.Keeping.{IsGood};
-ghost use Rattle.dap_follow.specs.Inner.Listing.{AreSpelled, IsCutOff, IsMessageText, IsPiece, ListsPiece, ListsStream, digits_of, latest as latest_of, part_text, values};
+ghost use Rattle.dap_follow.specs.Inner.Listing.{AreSpelled, IsCutOff, IsPiece, ListsPiece, ListsStream, digits_of, latest as latest_of, part_text, values};
 ghost use Rattle.dap_follow.specs.Inner.Placing.{Rises, counted_value};
 
 use crate::places::{Counted, ROUND};

@@ -6,7 +6,7 @@ use Rattle.dap_listing.specs.declared.lines.Direction.{Direction}
 use Rattle.dap_listing.specs.Captured.{Spell}
 use Rattle.dap_listing.specs.Inner.Decoding.{carried_by}
 use Rattle.nsp_seg.specs.declared.packet.SegmentFields.{SegmentFields}
-use Rattle.dap_follow.specs.Streams.{ArePlaced, Captured, Placed, at, came_in, is_same, put_at, segment_in, streams}
+use Rattle.dap_follow.specs.Streams.{ArePlaced, Captured, Placed, at, came_in, is_same, segment_in, streams}
 use Rattle.dap_follow.specs.Inner.Placing.{IsPutIn, Rises, counted_value}
 use Rattle.dap_follow.specs.declared.places.Counted.{Counted}
 use Rattle.dap_follow.specs.declared.places.Places.{Places}
@@ -20,6 +20,9 @@ stream_of packet = option_map (λ p. p.0) (segment_in packet)
 -- a segment, and the number of its packet
 abbrev pub Came : Type 0
 Came = ℕ × SegmentFields
+
+abbrev pub put_at : ℕ → Came → Placed
+put_at place c = record { place = place; packet = c.0; first = c.1.first; last = c.1.last; payload = c.1.payload }
 
 -- one of the program
 abbrev pub came : ℕ → SegmentFields → Came

@@ -6,8 +6,8 @@ use Rattle.dap_text.specs.Adding.{Adds}
 use Rattle.dap_listing.specs.Captured.{Spell}
 use Rattle.dap_listing.specs.Messages.{IsMessagesText}
 use Rattle.dap_follow.specs.Streams.{Placed}
-use Rattle.dap_follow.specs.Joined.{Message, Piece, is_message, messages, payload, pieces, segments}
-use Rattle.dap_follow.specs.Following.{AreMessageLines, part_line, piece_text, rest_lines, stream_text}
+use Rattle.dap_follow.specs.Joined.{Message, Piece, is_message, messages, payload, pieces}
+use Rattle.dap_follow.specs.Following.{part_line, piece_text, rest_lines, stream_text}
 use Rattle.dap_follow.specs.Inner.Placing.{counted_value}
 use Rattle.dap_follow.specs.declared.places.Counted.{Counted}
 use Rattle.dap_follow.specs.declared.streams.Stream.{Stream}
@@ -26,6 +26,9 @@ message_heading p = piece_text (codes "  message") p
 abbrev pub part_text : Stream → Piece → List ℕ
 part_text stream p = codes "part" ++ piece_text (stream_text stream) p
 
+abbrev pub segments : Piece → List Placed
+segments p = p.head ∷ p.others
+
 -- the digits of the payloads, one behind the other
 abbrev pub digits_of : List Counted → List ℕ
 digits_of cs = flat_map (λ c. c.payload.now) cs
@@ -41,9 +44,12 @@ pub record IsCutOff (all piece others : List Counted) : Type 0 where
   pub joined : all ≡ piece ++ others
   pub cut : pieces (values all) ≡ first ∷ pieces (values others)
 
--- the lines of a message of this piece
-abbrev pub IsMessageText : Piece → List ℕ → Type 0
-IsMessageText p text = (lines : List ℕ) × IsMessagesText (payload p) lines × (text ≡ message_heading p ++ lines)
+-- the lines of messages, end to end
+pub data AreMessageLines : List Message → List ℕ → Type 0 where
+  no_more : AreMessageLines [] []
+  one_more : {m : Message} {others : List Message} (lines rest : List ℕ)
+      → IsMessagesText (payload m.piece) lines → AreMessageLines others rest
+      → AreMessageLines (m ∷ others) (message_heading m.piece ++ lines ++ rest)
 
 -- The lines of messages were added, to each text those of the messages of its number.
 abbrev pub UnderAll : List Message → ℕ → List (Vec ℕ) → List (Vec ℕ) → Type 0

@@ -1,6 +1,6 @@
-use Rattle.std.proofs.Common.{arith, take, drop, ◌≡◌, ◌++◌, length, ℕ, List, sym, ap, ◌∙◌, subst}
+use Rattle.std.proofs.Common.{arith, take, drop, ◌≡◌, ◌++◌, length, ℕ, List, map, sym, ap, ◌∙◌, subst}
 use Rattle.std.proofs.Math.Seq.{take-append_seam}
-use Rattle.std.specs.List.{AllZip, flat_map}
+use Rattle.std.specs.List.{AllZip, concat, flat_map}
 use Rattle.std.specs.Global.{Vec}
 use Rattle.dap_follow.specs.Streams.{IsOrdered, came_in, streams}
 use Rattle.dap_follow.specs.Joined.{messages}
@@ -9,7 +9,7 @@ use Rattle.dap_follow.specs.Inner.Keeping.{KeepsEach}
 use Rattle.dap_follow.specs.Inner.Whole.{ordered_of, texts_of}
 use Rattle.dap_follow.specs.declared.streams.Stream.{Stream}
 use Rattle.dap_follow.proofs.ReadingLemmas.{count_is}
-use Rattle.dap_follow.proofs.WholeLemmas.{are_ordered, packet_lines}
+use Rattle.dap_follow.proofs.WholeLemmas.{are_ordered, packet_texts, texts_joined}
 use Rattle.dap_follow.proofs.following.follow_lines.Goals as goal
 
 pub list_streams-requires : goal.list_streams-requires
@@ -39,9 +39,9 @@ returns-clause-whole c =
     record {
       packets = all.packets;
       ordered = ordered_of places;
-      lines = texts_of c.list_streams.new.lines;
+      texts = map (λ (v : Vec ℕ). v.items) c.list_streams.new.lines;
       are_seen = all.are_seen;
       are_ordered = ordered;
-      are_lines = packet_lines (flat_map messages (ordered_of places)) 1 all.packets r.lines.items c.list_streams.new.lines all.reads.lines under;
-      joined = c.in_ok-join.ensures ∙ ap (λ (l : List ℕ). l ++ c.deref-2.result.now) (ap texts_of same) ∙ ap (λ (l : List ℕ). texts_of c.list_streams.new.lines ++ l) (c.deref-2.ensures.value ∙ left);
+      are_texts = packet_texts (flat_map messages (ordered_of places)) 1 all.packets r.lines.items c.list_streams.new.lines all.reads.lines under;
+      joined = c.in_ok-join.ensures ∙ ap (λ (l : List ℕ). l ++ c.deref-2.result.now) (ap texts_of same ∙ texts_joined c.list_streams.new.lines) ∙ ap (λ (l : List ℕ). concat (map (λ (v : Vec ℕ). v.items) c.list_streams.new.lines) ++ l) (c.deref-2.ensures.value ∙ left);
     }
