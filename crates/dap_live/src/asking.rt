@@ -33,10 +33,12 @@ use std::alloc::{AllocError, Global};
 #[derive(Drop)]
 pub struct Asking {
     alloc: Global,
-    end: AskingEnd,
-    setup: LinkSetup,
+    /// The end.
+    pub end: AskingEnd,
+    /// How its link is set up.
+    pub setup: LinkSetup,
     /// The reports that wait to be told: more than those of one line only where memory was refused.
-    reports: Vec<Report>,
+    pub reports: Vec<Report>,
 }
 
 impl Asking {

@@ -34,8 +34,10 @@ use std::alloc::{AllocError, Global};
 #[derive(Drop)]
 pub struct Serving {
     alloc: Global,
-    end: ServingEnd,
-    setup: LinkSetup,
+    /// The end.
+    pub end: ServingEnd,
+    /// How its link is set up.
+    pub setup: LinkSetup,
 }
 
 impl Serving {
