@@ -10,7 +10,7 @@ use Rattle.std.proofs.lemmas.Bool.{cases_lt, lt-leb, le-leb}
 use Rattle.dap_msg.specs.declared.message.Message.{Message}
 use Rattle.dap_msg.specs.Canon.{canon}
 use Rattle.dap_msg.specs.BothEnds.{four_bytes}
-use Rattle.dap_msg.specs.Inner.Sizes.{file_data_size}
+use Rattle.dap_msg.specs.Sizes.{file_data_size}
 use Rattle.dap_msg.proofs.ForCallers.{file_data_measured}
 use Rattle.rec_file.specs.Limits.{greatest_number}
 use Rattle.rec_file.specs.Files.{FileVal, Records, records_from}

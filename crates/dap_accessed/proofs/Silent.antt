@@ -29,7 +29,7 @@ use Rattle.dap_accessed.specs.Records.{Change, Putting, Updating, got, record_go
 use Rattle.dap_accessed.specs.Transfers.{fetch, fetch_ends, continue_fetch, continue_refused}
 use Rattle.dap_accessed.specs.Effects.{Begun, effect_with, control_opened, control_connected}
 use Rattle.dap_accessed.specs.Groups.{stands_after}
-use Rattle.dap_accessed.specs.Inner.Present.{Present, Memory, looked_back, StandsAfter, phase_at, phase_within, phase_of}
+use Rattle.dap_accessed.specs.Present.{Present, Memory, looked_back, StandsAfter, phase_at, phase_within, phase_of}
 use Rattle.dap_accessed.specs.Inner.Moves.{move_in, scene_in, begins_only, is_silent, plain_memory, turns}
 use Rattle.dap_accessed.specs.Served.{IsSilent}
 use Rattle.dap_accessed.proofs.StepIs.{answers-are}

@@ -18,7 +18,7 @@ use Rattle.dap_accessed.specs.Past.{asked_shape, kept_attributes, is_dropping, o
 use Rattle.dap_accessed.specs.Records.{Change, Putting, Updating}
 use Rattle.dap_accessed.specs.Effects.{Begun, Turn, Does, Begins, turn_of, effect_with}
 use Rattle.dap_accessed.specs.Groups.{Grouped, over, added, stands_after}
-use Rattle.dap_accessed.specs.Inner.Present.{Present, Memory, looked_back, present_of, phase_at, StandsAfter}
+use Rattle.dap_accessed.specs.Present.{Present, Memory, looked_back, present_of, phase_at, StandsAfter}
 use Rattle.dap_accessed.specs.Inner.Moves.{Move, move, move_in, turn_by, between, turns, settles, remembers, plain_memory, store_memory, scene_in, drops_next, ordinal_next}
 use Rattle.dap_accessed.proofs.OneMore.{next_group, next_answers, one_more, answers_of}
 use Rattle.dap_accessed.proofs.Cuts.{present-more, added-is}

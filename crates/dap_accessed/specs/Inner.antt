@@ -1,7 +1,4 @@
 -- What only the contracts of private functions cite, and proofs: nobody has to believe it.
-pub mod Present
-pub mod Stored
-pub mod Tables
 pub mod Written
 pub mod Moves
 pub mod Steps

@@ -10,4 +10,6 @@ pub mod Present
 pub mod Served
 pub mod Sound
 pub mod Adding
+pub mod Stored
+pub mod Tables
 pub mod Inner

@@ -1,3 +1,71 @@
--- An end, and the items that it stands after. Nobody has to believe these two: an end of no items stands after none, each
--- item that is served is one more, and all that a call does is said of the items.
-pub use Rattle.dap_accessed.specs.Inner.Present.{Present, StandsAfter}
+-- What an end keeps of the items that it served: it stands as after any list of items that leaves just this.
+use Rattle.std.specs.Prelude.{ℕ, ◌≡◌, Bool, ◌&&◌, if◌then◌else◌, List, Option, Some, None}
+use Rattle.dap_msg.specs.declared.items.Item.{Item}
+use Rattle.rec_file.specs.declared.shapes.Shape.{Shape}
+use Rattle.rec_file.specs.Acts.{StreamVal}
+use Rattle.dap_accessed.specs.declared.phase.OpenFile.{OpenFile}
+use Rattle.dap_accessed.specs.declared.phase.Phase.{Phase}
+use Rattle.dap_accessed.specs.declared.phase.Phase.TheVariants as phases
+use Rattle.dap_accessed.specs.Standing.{Files, Place, Group, Standing, Fresh, Ready, Opened, Connected, Store, Stopped}
+use Rattle.dap_accessed.specs.Past.{is_store, is_dropping, ordinal_so_far, kept_attributes, asked_shape}
+use Rattle.dap_accessed.specs.Records.{Change, Putting, Updating}
+use Rattle.dap_accessed.specs.Effects.{Begun}
+use Rattle.dap_accessed.specs.Groups.{Grouped, stands_after}
+
+pub record Present : Type 0 where
+  -- the end's own BUFSIZ
+  pub own : ℕ
+  -- how long a message the peer takes
+  pub limit : ℕ
+  pub files : Files
+  -- the shape that an Access would give a new file now, if its attributes are good
+  pub kept : Option Shape
+  pub phase : Phase
+
+-- what counts of the past: the shape that an Access would give a new file, and in a Store whether it drops what
+-- comes, and its ordinal
+pub record Memory : Type 0 where
+  pub shape : Option Shape
+  pub dropping : Bool
+  pub ordinal : ℕ
+
+abbrev pub looked_back : Place → List Group → Memory
+looked_back place past =
+    record {
+      shape = asked_shape (kept_attributes past);
+      dropping = is_store place && is_dropping past;
+      ordinal = if is_store place then ordinal_so_far past else 0;
+    }
+
+-- the phase between groups
+abbrev pub phase_at : Place → Memory → Phase
+phase_at Fresh memory = phases.Fresh
+phase_at Ready memory = phases.Ready
+phase_at (Opened opened) memory = phases.Opened opened
+phase_at (Connected opened stream) memory = phases.Connected opened stream
+phase_at (Store opened stream) memory =
+    if memory.dropping then phases.Dropping opened stream memory.ordinal else phases.Storing opened stream memory.ordinal
+phase_at (Stopped opened stream) memory = phases.Stopped opened stream
+
+-- the phase inside a group of two
+abbrev pub phase_within : Change → OpenFile → StreamVal → Phase
+phase_within (Putting key) opened stream = phases.PutDue opened stream key
+phase_within Updating opened stream = phases.UpdateDue opened stream
+
+abbrev pub phase_of : Standing → Option Begun → Phase
+phase_of s None = phase_at s.place (looked_back s.place s.past)
+phase_of s (Some begun) = phase_within begun.change begun.opened begun.stream
+
+abbrev pub present_of : ℕ → Grouped → Present
+present_of own c =
+    record {
+      own = own;
+      limit = c.standing.scene.limit;
+      files = c.standing.scene.files;
+      kept = asked_shape (kept_attributes c.standing.past);
+      phase = phase_of c.standing c.begun;
+    }
+
+-- the end stands as one with its BUFSIZ that had these files at first, after these items
+abbrev pub StandsAfter : Files → List Item → Present → Type 0
+StandsAfter first items present = present ≡ present_of present.own (stands_after present.own first items)

@@ -7,7 +7,7 @@ ghost use Rattle.dap_msg.specs.Items.{IsPlace, ItemAt};
 ghost use Rattle.dap_msg.specs.declared.items.Item.TheVariants.{Whole};
 ghost use Rattle.dap_msg.specs.declared.message.Message.{Message as TheMessage};
 ghost use Rattle.dap_msg.specs.Decoding.{IsSpelled};
-ghost use Rattle.dap_msg.specs.Inner.Items.{ItemFits};
+ghost use Rattle.dap_msg.specs.Items.{ItemFits};
 ghost use Rattle.dap_accessed.specs.Groups.{After};
 ghost use Rattle.dap_accessed.specs.Accesses.{fac_or, rights_of};
 ghost use Rattle.dap_accessed.specs.Replies.{refused_access};
@@ -53,7 +53,7 @@ pub struct Accessed {
 impl Model for Accessed {
     ghost use Rattle.dap_accessed.specs.Present.{Present};
     ghost use Rattle.dap_accessed.specs.Inner.Moves.{IsKept};
-    ghost use Rattle.dap_accessed.specs.Inner.Stored.{present_code};
+    ghost use Rattle.dap_accessed.specs.Stored.{present_code};
 
     ghost Value = { Present };
 

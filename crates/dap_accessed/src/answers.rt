@@ -3,7 +3,7 @@
 ghost use Rattle.std.specs.Prelude.{◌≡◌, ◌≤◌, [], ◌∷◌, IfOk, length};
 ghost use Rattle.dap_msg.specs.declared.message.Message.TheVariants.{Ack, Filedata};
 ghost use Rattle.dap_msg.specs.Canon.{Fits};
-ghost use Rattle.dap_msg.specs.Inner.Sizes.{file_data_size};
+ghost use Rattle.dap_msg.specs.Sizes.{file_data_size};
 ghost use Rattle.dap_msg.specs.BothEnds.{config_of, four_bytes, least_buffer};
 ghost use Rattle.rec_file.specs.Limits.{longest_record};
 ghost use Rattle.dap_accessed.specs.Replies.{attributes_for, completed, format_number, opened_with, org_number, status, too_large};

@@ -2,9 +2,9 @@
 
 ghost use Rattle.std.specs.Prelude.{◌≡◌, ◌≤◌, IfSome, IsTrue};
 ghost use Rattle.dap_msg.specs.declared.items.Item.TheVariants.{Whole};
-ghost use Rattle.dap_msg.specs.Inner.Items.{ItemFits};
+ghost use Rattle.dap_msg.specs.Items.{ItemFits};
 ghost use Rattle.dap_msg.specs.Decoding.{IsSpelled};
-ghost use Rattle.dap_msg.specs.Inner.Fitting.{FieldsFit};
+ghost use Rattle.dap_msg.specs.Fitting.{FieldsFit};
 ghost use Rattle.dap_msg.specs.declared.message.Message.TheVariants.{Attrib};
 ghost use Rattle.rec_file.specs.Shapes.{is_shape};
 ghost use Rattle.dap_accessed.specs.Standing.{Files};

@@ -9,7 +9,7 @@ use Rattle.dap_msg.specs.declared.items.Item.{Item}
 use Rattle.dap_msg.specs.declared.items.Item.TheVariants.{Whole}
 use Rattle.dap_msg.specs.BothEnds.{number_of}
 use Rattle.dap_accessing.specs.Told.{behind, record_in, status_in}
-use Rattle.dap_accessing.specs.Inner.Parts.{is_record, records_in_front, is_status, statuses_in_front}
+use Rattle.dap_accessing.specs.Parts.{is_record, records_in_front, is_status, statuses_in_front}
 
 pub behind-more : (test : Item → Bool) (item : Item) (rest : List Item) → test item ≡ true → behind test (item ∷ rest) ≡ behind test rest
 behind-more test item rest e =

@@ -17,8 +17,8 @@ use Rattle.dap_accessing.specs.declared.report.Report.TheVariants as report
 use Rattle.dap_accessing.specs.declared.pending.Pending.{Pending}
 use Rattle.dap_accessing.specs.declared.pending.Pending.TheVariants as pending
 use Rattle.dap_accessing.specs.Told.{Hearing, Unexpected, hear, behind, hear_ack, is_other, hear_file, hear_attributes, has_success, told_of, first_told}
-use Rattle.dap_accessing.specs.Inner.Parts.{hear_opened, opened_as, is_record, records_in_front, hear_batch_end, is_status, statuses_in_front, hear_store_end}
-use Rattle.dap_accessing.specs.Inner.Present.{hear_from}
+use Rattle.dap_accessing.specs.Parts.{hear_opened, opened_as, is_record, records_in_front, hear_batch_end, is_status, statuses_in_front, hear_store_end}
+use Rattle.dap_accessing.specs.Present.{hear_from}
 use Rattle.dap_accessing.specs.Inner.Hears.{pending_of}
 use Rattle.dap_accessing.proofs.Fronts.{behind-more, records-more, statuses-more}
 use Rattle.dap_accessing.specs.Inner.Gathers.{gather_opened, gather_attributes, gather_batch, gather_stored, gather}

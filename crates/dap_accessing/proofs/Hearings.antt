@@ -14,7 +14,7 @@ use Rattle.dap_accessing.specs.declared.report.Report.{Report}
 use Rattle.dap_accessing.specs.declared.report.Report.TheVariants as report
 use Rattle.dap_msg.specs.Codes.{is_success}
 use Rattle.dap_accessing.specs.Told.{Hearing, Reports, Waits, Unexpected, refusal, hear_refusal, hear_completed, hear, hear_config, hear_ack, hear_record, hear_done, told_of, Told, Due, AnswersDue, Wrong, due_after}
-use Rattle.dap_accessing.specs.Inner.Parts.{opened_as, ending_of}
+use Rattle.dap_accessing.specs.Parts.{opened_as, ending_of}
 use Rattle.dap_accessing.specs.declared.pending.Pending.{Pending}
 use Rattle.dap_accessing.specs.declared.pending.Pending.TheVariants as pending
 use Rattle.dap_accessing.specs.Inner.Hears.{pending_of}

@@ -16,13 +16,13 @@ use Rattle.dap_accessing.specs.declared.phase.Phase.TheVariants.{Fresh}
 use Rattle.dap_msg.specs.Sendable.{AreSendable}
 use Rattle.dap_accessing.specs.Phase.{phase_next, phase_after, limit_next, limit_after, phases_for, IsNoneDue, IsRefused}
 use Rattle.dap_accessing.specs.Inner.Hears.{pending_of, HasNoPlace, HasPlace, Takes}
-use Rattle.dap_accessing.specs.Inner.Present.{Present, failed_after, StandsAfter, FitsDue}
+use Rattle.dap_accessing.specs.Present.{Present, failed_after, StandsAfter, FitsDue}
 use Rattle.dap_accessing.specs.Inner.Gathers.{gather}
 use Rattle.dap_accessing.specs.Calls.{IsAdmittedBy, Asks, Reads, ReadRefused}
-use Rattle.dap_accessing.specs.Inner.Prepared.{MayAsk}
+use Rattle.dap_accessing.specs.Prepared.{MayAsk}
 use Rattle.dap_msg.specs.Blocked.{Blocked, all_joined}
 use Rattle.std.specs.List.{IsAmong}
-use Rattle.dap_accessing.specs.Inner.Phases.{phase_fits}
+use Rattle.dap_accessing.specs.Phases.{phase_fits}
 use Rattle.dap_accessing.proofs.Phases.{fits-where, where-fits}
 use Rattle.dap_accessing.specs.Asked.{messages_of}
 use Rattle.dap_accessing.specs.declared.fault.AskFault.TheVariants as fault
@@ -375,6 +375,7 @@ taken_read bytes at m next old new None works reads t =
       works = works;
       answer = Whole m;
       reads = reads;
+      expected = placed (Whole m) old t.0 t.2 (inl (t.1, t.3));
       stands = λ requests answers s. subst (StandsAfter requests (answers ++ Whole m ∷ [])) (sym t.4) (stands_waiting (Whole m) old t.0 t.1 t.2 t.3 requests answers s).0;
       told = λ requests answers s. (stands_waiting (Whole m) old t.0 t.1 t.2 t.3 requests answers s).1;
     }
@@ -383,6 +384,7 @@ taken_read bytes at m next old new (Some done) works reads t =
       works = works;
       answer = Whole m;
       reads = reads;
+      expected = placed (Whole m) old t.0 t.1 (inr (done, t.2));
       stands = λ requests answers s. subst (StandsAfter requests (answers ++ Whole m ∷ [])) (sym t.3) (stands_reported (Whole m) old t.0 done t.1 t.2 requests answers s).0;
       told = λ requests answers s. (stands_reported (Whole m) old t.0 done t.1 t.2 requests answers s).1;
     }
@@ -391,6 +393,16 @@ pub taken_refused : (bytes : List ℕ) (at : ℕ) (m : Message) (next : ℕ) (ol
 taken_refused bytes at m next old new read_fault.Unexpected works reads t = (works, ap (λ (p : Present). p.failed) t.0, t.0, (Whole m, next, reads, unexpected (Whole m) old t.1))
 taken_refused bytes at m next old new read_fault.NoMemory works reads t = (works, t.0, (Whole m, next, reads, placed (Whole m) old t.1.0 t.1.1 t.1.2))
 taken_refused bytes at m next old new read_fault.Failed works reads t = absurd t
+
+-- without room for a report what is expected isn't read, and what isn't fails the end
+pub expected_refused : (bytes : List ℕ) (at : ℕ) (item : Item) (next : ℕ) (old : Present) → old.failed ≡ false → ItemAt bytes at item next → ((p : Pending) × (old.pending ≡ Some p) × HasPlace p item)
+    → ReadRefused bytes at old old read_fault.NoMemory
+expected_refused bytes at item next old works reads (p, some, place) = (works, refl, (item, next, reads, placed item old p some place))
+
+pub unexpected_refused : (bytes : List ℕ) (at : ℕ) (item : Item) (next : ℕ) (old new : Present) → old.failed ≡ false → ItemAt bytes at item next → HasNoPlace item old.pending → new ≡ failed_after old
+    → ReadRefused bytes at old new read_fault.Unexpected
+unexpected_refused bytes at item next old new works reads none failed =
+    (works, ap (λ (p : Present). p.failed) failed, failed, (item, next, reads, unexpected item old none))
 
 pub rest_refused : (bytes : List ℕ) (at : ℕ) (fault : MsgFault) (next : ℕ) (old new : Present) → old.failed ≡ false → ItemAt bytes at (Malformed fault) next → new ≡ failed_after old → ReadRefused bytes at old new read_fault.Unexpected
 rest_refused bytes at fault next old new works reads failed =

@@ -4,7 +4,7 @@ use Rattle.std.specs.Prelude.{Option, Some, None, unwrap_or}
 use Rattle.dap_msg.specs.declared.message.Message.{Message}
 use Rattle.dap_msg.specs.declared.message.Message.TheVariants.{Config, Attrib, Access, Control, Contran, Ack, Accomp, Filedata, Status, Other}
 use Rattle.dap_msg.specs.Grammar.{Image}
-use Rattle.dap_msg.specs.Inner.Fitting.{FitsOption, FieldsFit}
+use Rattle.dap_msg.specs.Fitting.{FitsOption, FieldsFit}
 use Rattle.dap_accessing.specs.Inner.Hears.{HasShortNumbers}
 
 option_short : (o : Option (List ℕ)) → FitsOption (Image 5) o → length (unwrap_or o []) ≤ 8

@@ -14,7 +14,7 @@ use Rattle.dap_accessing.specs.declared.phase.Phase.{Phase}
 use Rattle.dap_accessing.specs.declared.pending.Pending.{Pending}
 use Rattle.dap_accessing.specs.declared.pending.Pending.TheVariants as pending
 use Rattle.dap_accessing.specs.Told.{Hearing, Reports, Due, NothingDue, AnswersDue, Wrong, due_after}
-use Rattle.dap_accessing.specs.Inner.Present.{Present, hear_from, FitsDue, StandsAfter}
+use Rattle.dap_accessing.specs.Present.{Present, hear_from, FitsDue, StandsAfter}
 
 -- ---- What is pending is told by what it makes of six answers.
 

@@ -6,7 +6,7 @@ use Rattle.dap_accessing.specs.declared.request.Request.TheVariants.{Hello, Crea
 use Rattle.dap_accessing.specs.declared.phase.Phase.{Phase}
 use Rattle.dap_accessing.specs.declared.phase.Phase.TheVariants.{Fresh, Ready, Opened, Connected, Stopped}
 use Rattle.dap_accessing.specs.Phase.{phases_for}
-use Rattle.dap_accessing.specs.Inner.Phases.{phase_fits}
+use Rattle.dap_accessing.specs.Phases.{phase_fits}
 
 one : (x v : Phase) → IsAmong (x ∷ []) v → v ≡ x
 one x v (zero, h) = h.1

@@ -43,11 +43,12 @@ AskRefused request old fault =
     (old.failed ≡ false)
     × ((requests : List Request) (answers : List Item) → StandsAfter requests answers old → IsRefused old.own requests answers request fault)
 
--- The answer at `at` was read: it has its place, and the report is the one that it adds.
+-- The answer at `at` was read: it was expected, and the report is the one that it adds.
 pub record Reads (bytes : List ℕ) (at : ℕ) (old new : Present) (read : ReadStep) : Type 0 where
   pub works : old.failed ≡ false
   pub answer : Item
   pub reads : ItemAt bytes at answer read.next
+  pub expected : (requests : List Request) (answers : List Item) → StandsAfter requests answers old → is_unexpected requests answers answer ≡ false
   pub stands : (requests : List Request) (answers : List Item) → StandsAfter requests answers old → StandsAfter requests (answers ++ answer ∷ []) new
   pub told : (requests : List Request) (answers : List Item) → StandsAfter requests answers old →
       Told requests (answers ++ answer ∷ []) ≡ Told requests answers ++ option_to_list read.report

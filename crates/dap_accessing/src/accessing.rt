@@ -1,18 +1,21 @@
 //! The accessing end.
 
-ghost use Rattle.std.specs.Prelude.{◌≡◌, ◌≢◌, ◌≤◌, ◌<◌, List, [], ◌++◌, false, length, map, IfOk, IfErr, OnOk, OnErr};
+ghost use Rattle.std.specs.Prelude.{◌≡◌, ◌≢◌, ◌≤◌, ◌<◌, List, [], ◌++◌, true, false, length, map, Some, IfOk, IfErr, OnOk, OnErr};
 ghost use Rattle.dap_accessing.specs.declared.fault.AskFault.TheVariants.{NoMemory};
 ghost use Rattle.dap_msg.specs.BothEnds.{four_bytes, greatest_message, least_buffer};
 ghost use Rattle.dap_msg.specs.declared.items.Item.{Item as TheItem};
 ghost use Rattle.dap_msg.specs.declared.items.Item.TheVariants.{Whole};
 ghost use Rattle.dap_msg.specs.Blocked.{bodies};
-ghost use Rattle.dap_accessing.specs.Inner.Hears.{HasShortNumbers, Takes};
+ghost use Rattle.dap_accessing.specs.Inner.Hears.{HasNoPlace, HasPlace, HasShortNumbers, Takes};
+ghost use Rattle.dap_accessing.specs.declared.pending.Pending.{Pending as ThePending};
+ghost use Rattle.dap_msg.specs.declared.message.Message.{Message as TheMessage};
+ghost use Rattle.dap_msg.specs.Decoding.{IsSpelled};
 ghost use Rattle.dap_accessing.specs.Present.{Present, StandsAfter};
 ghost use Rattle.dap_msg.specs.Items.{IsPlace};
 ghost use Rattle.dap_accessing.specs.Calls.{Asks, AskRefused, IsAdmittedBy, Reads, ReadRefused};
 ghost use Rattle.dap_accessing.specs.Told.{Told};
-ghost use Rattle.dap_accessing.specs.Inner.Outgoing.{number_carried};
-ghost use Rattle.dap_accessing.specs.Inner.Prepared.{IsPrepared};
+ghost use Rattle.dap_accessing.specs.Outgoing.{number_carried};
+ghost use Rattle.dap_accessing.specs.Prepared.{IsPrepared};
 ghost use Rattle.dap_accessing.specs.Request.{Request as TheRequest};
 ghost use Rattle.dap_accessing.specs.declared.report.Report.{Report as TheReport};
 
@@ -219,6 +222,39 @@ impl Accessing {
         match self.take(&message) {
             Ok(report) => Ok(ReadStep { report, next }),
             Err(fault) => Err(fault),
+        }
+    }
+
+    /// What `read` answers where there is no room for a report: why the one DAP message that begins at `at` isn't read. In
+    /// order: Failed; Unexpected, after which the end has failed, and keeps nothing of its requests; NoMemory, which changes
+    /// nothing. It takes no memory.
+    pub fn refuse(&mut self, nsp_message: &[u8], at: usize) -> ReadFault
+        requires { IsPlace at nsp_message.now }
+        ensures refused { ReadRefused nsp_message.now at self.old self.new result }
+        ensures own { self.new.own ≡ self.old.own }
+    {
+        if self.failed {
+            return ReadFault::Failed;
+        }
+        let (item, _) = item_at(nsp_message, at);
+        if self.may_come(&item) {
+            return ReadFault::NoMemory;
+        }
+        self.failed = true;
+        self.pending = None;
+        ReadFault::Unexpected
+    }
+
+    /// Whether what was read is a message, and expected as the next answer.
+    fn may_come(&self, item: &Item<'_>) -> bool
+        requires { (m : TheMessage) → item.now ≡ Whole m → IsSpelled m }
+        ensures yes { result ≡ true → (p : ThePending) × (self.now.pending ≡ Some p)
+            × HasPlace p item.now }
+        ensures no { result ≡ false → HasNoPlace item.now self.now.pending }
+    {
+        match (item, &self.pending) {
+            (Item::Whole(message), Some(pending)) => pending.expects(message),
+            _ => false,
         }
     }
 }

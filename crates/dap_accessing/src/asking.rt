@@ -5,9 +5,9 @@ ghost use Rattle.dap_msg.specs.BothEnds.{attributes_of, four_bytes};
 ghost use Rattle.dap_msg.specs.declared.message.Message.TheVariants.{Filedata};
 ghost use Rattle.dap_msg.specs.Blocked.{AddsOne};
 ghost use Rattle.dap_msg.specs.Canon.{canon, Fits};
-ghost use Rattle.dap_msg.specs.Inner.Sizes.{file_data_size};
+ghost use Rattle.dap_msg.specs.Sizes.{file_data_size};
 ghost use Rattle.dap_accessing.specs.Asked as asked;
-ghost use Rattle.dap_accessing.specs.Inner.Outgoing.{AreCounted, IsBlocked, number_carried, first_of, bodies_of, last_of, outgoing_messages};
+ghost use Rattle.dap_accessing.specs.Outgoing.{AreCounted, IsBlocked, number_carried, first_of, bodies_of, last_of, outgoing_messages};
 ghost use Rattle.dap_msg.specs.Sendable.{IsSendable, AreSendable};
 
 use crate::bytes::Octets;

@@ -1,10 +1,11 @@
 //! What is still to come of the answers to a request.
 
-ghost use Rattle.std.specs.Prelude.{◌≡◌};
+ghost use Rattle.std.specs.Prelude.{◌≡◌, ◌↔◌, true, false, Some};
 ghost use Rattle.dap_msg.specs.declared.items.Item.TheVariants.{Whole};
 ghost use Rattle.dap_accessing.specs.declared.pending.Pending.TheVariants as pending;
 ghost use Rattle.dap_accessing.specs.Told.{ending_by, reason_in};
-ghost use Rattle.dap_accessing.specs.Inner.Hears.{AddsBody, HasShortNumbers, Hears, pending_of, refused_as};
+ghost use Rattle.dap_accessing.specs.declared.pending.Heard.TheVariants as heard;
+ghost use Rattle.dap_accessing.specs.Inner.Hears.{AddsBody, HasNoPlace, HasPlace, HasShortNumbers, Hears, IsRecordOrRefusal, pending_of, refused_as};
 
 use crate::bytes::{Numbered, Octets};
 use crate::report::{Ending, Report};
@@ -104,6 +105,47 @@ impl Pending {
             Pending::Stored(kept) => hear_stored(kept, message),
             Pending::Closed => hear_closed(message),
         }
+    }
+
+    /// Whether a message is expected as the next answer. It takes no memory.
+    #[tactic(auto, using(crate::proofs::Expecting::heard_place, crate::proofs::Expecting::record_place, crate::proofs::Expecting::batch_place))]
+    pub(crate) fn expects(&self, answer: &Message<'_>) -> bool
+        requires { HasShortNumbers answer.now }
+        ensures yes { result ≡ true → HasPlace self.now (Whole answer.now) }
+        ensures no { result ≡ false → HasNoPlace (Whole answer.now) (Some self.now) }
+    {
+        match self {
+            Pending::Record => is_record_or_refusal(answer),
+            Pending::Batch(_) => is_record_or_refusal(answer),
+            Pending::Config => is_expected(hear_config(answer)),
+            Pending::Attributes => is_expected(hear_attributes(answer)),
+            Pending::Opened { org, rfm, mrs, mrn } => {
+                is_expected(hear_opened(*org, *rfm, *mrs, *mrn, answer))
+            }
+            Pending::Connected => is_expected(hear_connected(answer)),
+            Pending::Done => is_expected(hear_done(answer)),
+            Pending::Stored(kept) => is_expected(hear_stored(*kept, answer)),
+            Pending::Closed => is_expected(hear_closed(answer)),
+        }
+    }
+}
+
+/// Whether the message that came to this was expected.
+fn is_expected(outcome: Heard) -> bool
+    ensures { result ≡ false ↔ outcome ≡ heard.Unexpected }
+{
+    !matches!(outcome, Heard::Unexpected)
+}
+
+/// Whether the message is a record, or a Status that says why there is none.
+fn is_record_or_refusal(message: &Message<'_>) -> bool
+    ensures yes { result ≡ true → IsRecordOrRefusal message.now }
+    ensures no { result ≡ false → IsRecordOrRefusal message.now → ⊥ }
+{
+    match message {
+        Message::Filedata { .. } => true,
+        Message::Status(status) => !StatusCode(status.code).is_success(),
+        _ => false,
     }
 }
 

@@ -7,7 +7,7 @@ ghost use Rattle.dap_capture.specs.Inner.Checking.{TellsFirst, TellsFirstOrWants
 ghost use Rattle.dap_capture.specs.Inner.Orders.{event_of_order};
 ghost use Rattle.dap_capture.specs.Inner.Playing.{PlaysOne};
 ghost use Rattle.dap_capture.specs.Played.{Played, Plays};
-ghost use Rattle.dap_listing.specs.Inner.Firsts.{IsOfLine};
+ghost use Rattle.dap_listing.specs.Firsts.{IsOfLine};
 ghost use Rattle.dap_capture.specs.Inner.Schedules.{event_fault, events_of};
 ghost use Rattle.dap_capture.specs.Schedules.{said, schedule_faults};
 

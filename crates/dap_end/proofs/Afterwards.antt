@@ -7,8 +7,8 @@ use Rattle.nsp_link.specs.Link.{LinkValue, SendsStill}
 use Rattle.nsp_link.specs.Sending.{may_queue}
 use Rattle.nsp_link.proofs.ForCallers.{sends_all}
 use Rattle.dap_end.specs.Ports.{EndValue, HandsOver, PortValue}
-use Rattle.dap_end.specs.Inner.Moved.{with_link, posted}
-use Rattle.dap_end.specs.Inner.After.{GoneThrough}
+use Rattle.dap_end.specs.Moved.{with_link, posted}
+use Rattle.dap_end.specs.Going.{GoneThrough}
 use Rattle.dap_end.specs.Serving.{IsAfter}
 use Rattle.dap_end.specs.Done.{ServingValue, Past}
 use Rattle.dap_end.proofs.Taking.{Grown}

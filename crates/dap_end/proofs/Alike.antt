@@ -18,27 +18,27 @@ use Rattle.dap_accessing.specs.declared.fault.ReadFault.{ReadFault}
 use Rattle.dap_accessing.specs.declared.fault.ReadFault.TheVariants as read_fault
 use Rattle.dap_accessing.specs.Told.{Told, Due, NothingDue, AnswersDue, Wrong, due_after, is_unexpected}
 use Rattle.dap_accessing.specs.Asked.{messages_of}
-use Rattle.dap_accessing.specs.Inner.Present.{Present, StandsAfter, FitsDue, failed_after}
+use Rattle.dap_accessing.specs.Present.{Present, StandsAfter, FitsDue, failed_after}
 use Rattle.dap_accessing.proofs.ForCallers.{one_present}
-use Rattle.dap_end.specs.Inner.Pasts.{read_one}
+use Rattle.dap_end.specs.Pasts.{read_one}
 use Rattle.dap_end.specs.declared.fault.EndFault.{EndFault}
 use Rattle.dap_end.specs.declared.fault.EndFault.TheVariants as end_fault
 use Rattle.dap_end.specs.declared.fault.TakeFault.{TakeFault}
 use Rattle.dap_end.specs.Ports.{HandsOver, PortValue, gone_on}
-use Rattle.dap_end.specs.Inner.Moved.{posted, with_link}
+use Rattle.dap_end.specs.Moved.{posted, with_link}
 use Rattle.dap_end.specs.Asking.{HasAsked, AskedOne, ReadOne, ReadNone, HasDone}
 use Rattle.dap_end.specs.Hearing.{ReadOn, ReadsAll, asks}
-use Rattle.dap_end.specs.Inner.Heard.{begins, goes}
+use Rattle.dap_end.specs.Hearing.{begins, goes}
 use Rattle.dap_end.specs.Done.{AskingValue, AskingPast}
 use Rattle.dap_end.specs.Writing.{Behind}
-use Rattle.dap_end.specs.Inner.Moved.{sent_more}
+use Rattle.dap_end.specs.Moved.{sent_more}
 use Rattle.dap_end.specs.Turns.{DidAll, WentOn, Takes}
-use Rattle.dap_end.specs.Inner.Pasts.{Still}
+use Rattle.dap_end.specs.Pasts.{Still}
 use Rattle.dap_end.specs.Wanting.{is_want}
 use Rattle.dap_end.specs.Inner.Wanting.{went_wanting, took_wanting}
 use Rattle.dap_end.proofs.Taking.{grown}
 use Rattle.dap_end.proofs.Asked.{asked_past, handed_is, handed_past, read_grows, still_received, still_sent}
-use Rattle.dap_end.specs.Inner.Pasts.{asked_one}
+use Rattle.dap_end.specs.Pasts.{asked_one}
 use Rattle.dap_end.proofs.Determined.{may_or_not, refused_one, no_next}
 use Rattle.dap_end.proofs.Turning.{DoAlike, no_want, went_same, took_same}
 

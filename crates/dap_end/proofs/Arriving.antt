@@ -6,7 +6,7 @@ use Rattle.dap_accessing.specs.Request.{Request}
 use Rattle.dap_accessing.specs.declared.report.Report.{Report}
 use Rattle.dap_end.specs.Done.{ServingValue, AskingValue}
 use Rattle.dap_end.specs.Headline.{Arrival, Written}
-use Rattle.dap_end.specs.Inner.Running.{IsOneOf, RunsAs, Runs, AskingRunsAs, AskingRuns}
+use Rattle.dap_end.specs.Calls.{IsOneOf, RunsAs, Runs, AskingRunsAs, AskingRuns}
 use Rattle.dap_end.proofs.Running as serving
 use Rattle.dap_end.proofs.Hearing as hearing
 use Rattle.dap_end.proofs.Calling as asking

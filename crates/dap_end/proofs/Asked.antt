@@ -24,16 +24,16 @@ use Rattle.dap_accessing.specs.Told.{Told}
 use Rattle.dap_accessing.specs.Phase.{limit_after}
 use Rattle.dap_accessing.specs.Present.{Present}
 use Rattle.dap_accessing.specs.Calls.{Asks, Reads}
-use Rattle.dap_end.specs.Inner.Pasts.{AreFull, asked_one, read_one}
+use Rattle.dap_end.specs.Pasts.{AreFull, asked_one, read_one}
 use Rattle.dap_end.specs.Ports.{HandsOver, PortValue, gone_on}
-use Rattle.dap_end.specs.Inner.Moved.{with_link, posted}
+use Rattle.dap_end.specs.Moved.{with_link, posted}
 use Rattle.dap_end.specs.Writing.{Behind}
-use Rattle.dap_end.specs.Inner.Moved.{sent_more}
+use Rattle.dap_end.specs.Moved.{sent_more}
 use Rattle.dap_end.specs.Going.{given_then}
-use Rattle.dap_end.specs.Inner.After.{GoneThrough}
+use Rattle.dap_end.specs.Going.{GoneThrough}
 use Rattle.dap_end.specs.Asking.{HasAsked, AskedOne, ReadOne}
 use Rattle.dap_end.specs.Hearing.{ReadOn}
-use Rattle.dap_end.specs.Inner.Heard.{begins, goes}
+use Rattle.dap_end.specs.Hearing.{begins, goes}
 use Rattle.dap_end.specs.Done.{AskingValue, AskingPast}
 use Rattle.dap_end.specs.Inner.Kept.{IsPort, AreShort}
 use Rattle.dap_end.specs.Inner.AskingView.{asking_of}
@@ -41,7 +41,7 @@ use Rattle.dap_end.proofs.Taking.{Grown}
 use Rattle.dap_end.proofs.Going.{gone_stays}
 use Rattle.dap_end.proofs.ServingOne.{port_given, port_gone, all_short, fit-both}
 use Rattle.dap_end.proofs.Proceeding.{work, item_left}
-use Rattle.dap_end.specs.Inner.Pasts.{Still}
+use Rattle.dap_end.specs.Pasts.{Still}
 
 -- a packet came
 pub still_received : (v : AskingValue) (link : LinkValue) → Grown v.port.link link → SendsStill v.port.link link → Still HasAsked v (record v { port = with_link v.port link })

@@ -22,12 +22,12 @@ use Rattle.dap_end.specs.Ports.{HandsOver, PortValue}
 use Rattle.dap_end.specs.Writing.{Acknowledged, wants_ack, WroteMore, Behind, WroteAnswer, WrotePart}
 use Rattle.dap_end.specs.Asking.{AskedOne, ReadOne, ReadNone}
 use Rattle.dap_end.specs.Hearing.{ReadOn, ReadsAll, asks}
-use Rattle.dap_end.specs.Inner.Heard.{begins, goes as reads_first}
+use Rattle.dap_end.specs.Hearing.{begins, goes as reads_first}
 use Rattle.dap_end.specs.Done.{AskingValue}
 use Rattle.dap_end.specs.Turns.{Answered, DidAll, Takes, TookIn, TookThen, WentOn, WroteThen}
 use Rattle.dap_end.specs.Headline.{Written, bytes_of}
-use Rattle.dap_end.specs.Inner.Running.{numbered, Came, GoesOn, Repeats}
-use Rattle.dap_end.specs.Inner.Running.{AskingEvent, Asks, By, AskingStepped, AskingRunsAs, requests_in}
+use Rattle.dap_end.specs.Calls.{numbered, Came, GoesOn, Repeats}
+use Rattle.dap_end.specs.Calls.{AskingEvent, Asks, By, AskingStepped, AskingRunsAs, requests_in}
 use Rattle.dap_end.proofs.Packets.{ack_written}
 use Rattle.dap_end.proofs.Emitting.{wrote_nothing}
 use Rattle.dap_end.proofs.Running.{numbered_bytes, runs_then}

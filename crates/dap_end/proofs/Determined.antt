@@ -14,17 +14,17 @@ use Rattle.nsp_link.specs.Cutting.{Piece, cut}
 use Rattle.nsp_link.specs.Limits.{most_segments}
 use Rattle.nsp_link.specs.Sending.{may_queue, queued_link, SendAllFault}
 use Rattle.dap_accessed.specs.Standing.{Files}
-use Rattle.dap_accessed.specs.Inner.Present.{Present, present_of}
+use Rattle.dap_accessed.specs.Present.{Present, present_of}
 use Rattle.dap_accessed.specs.Groups.{stands_after}
-use Rattle.dap_end.specs.Inner.Pasts.{served}
+use Rattle.dap_end.specs.Pasts.{served}
 use Rattle.dap_end.specs.declared.fault.EndFault.{EndFault}
 use Rattle.dap_end.specs.declared.fault.EndFault.TheVariants as end_fault
 use Rattle.dap_end.specs.declared.fault.TakeFault.{TakeFault}
 use Rattle.dap_end.specs.Ports.{HandsOver, PortValue, gone_on}
-use Rattle.dap_end.specs.Inner.Moved.{posted}
-use Rattle.dap_end.specs.Inner.After.{StandFrom}
+use Rattle.dap_end.specs.Moved.{posted}
+use Rattle.dap_end.specs.Going.{StandFrom}
 use Rattle.dap_end.specs.Serving.{IsAfter, ServedOne}
-use Rattle.dap_end.specs.Inner.Served.{ServedInTurn, begins, goes}
+use Rattle.dap_end.specs.Taking.{ServedInTurn, begins, goes}
 use Rattle.dap_end.specs.Done.{ServingValue, Past, answers_to}
 use Rattle.dap_end.specs.Taking.{serves}
 use Rattle.dap_end.specs.Turns.{DidAll, WentOn, Takes}

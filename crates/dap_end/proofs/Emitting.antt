@@ -9,10 +9,10 @@ use Rattle.nsp_link.specs.Link.{LinkValue, Sends, Writes, may_send}
 use Rattle.nsp_link.specs.Sending.{WritesNext, WritesSent}
 use Rattle.nsp_link.proofs.ForCallers.{may_send_parts}
 use Rattle.dap_end.specs.Ports.{PortValue}
-use Rattle.dap_end.specs.Inner.Moved.{with_link}
+use Rattle.dap_end.specs.Moved.{with_link}
 use Rattle.nsp_link.specs.declared.fault.LinkFault.TheVariants as fault
 use Rattle.dap_end.specs.Writing.{Acknowledged, AreSegments, WroteMore, Behind, wants_ack, WroteAnswer, WrotePart}
-use Rattle.dap_end.specs.Inner.Moved.{sent_more}
+use Rattle.dap_end.specs.Moved.{sent_more}
 
 -- ---- One.
 

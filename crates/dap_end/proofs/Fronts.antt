@@ -9,9 +9,9 @@ use Rattle.dap_msg.specs.Items.{Items, ItemsFrom}
 use Rattle.dap_msg.proofs.ForCallers.{one_item, have_items}
 use Rattle.nsp_link.specs.Link.{LinkValue, Stands}
 use Rattle.nsp_link.proofs.ForCallers.{whole_of}
-use Rattle.dap_end.specs.Inner.After.{oldest}
+use Rattle.dap_end.specs.Going.{oldest}
 use Rattle.dap_end.specs.Going.{AreItemsOf, AreFrontOf}
-use Rattle.dap_end.specs.Inner.After.{StandFrom, GoneThrough}
+use Rattle.dap_end.specs.Going.{StandFrom, GoneThrough}
 
 -- the items of two lists of NSP messages
 items_split : (xs ys : List (List ℕ)) (all : List Item) → AreItemsOf (xs ++ ys) all → (a b : List Item) × (all ≡ a ++ b) × AreItemsOf xs a × AreItemsOf ys b

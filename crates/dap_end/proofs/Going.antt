@@ -9,9 +9,9 @@ use Rattle.dap_msg.specs.declared.items.Item.{Item}
 use Rattle.dap_msg.specs.declared.items.Item.TheVariants.{Whole, Malformed}
 use Rattle.dap_msg.specs.Items.{IsPlace, ItemAt, Items, ItemsFrom}
 use Rattle.dap_msg.proofs.ForCallers.{stands_some}
-use Rattle.dap_end.specs.Inner.After.{oldest}
+use Rattle.dap_end.specs.Going.{oldest}
 use Rattle.dap_end.specs.Going.{AreItemsOf}
-use Rattle.dap_end.specs.Inner.After.{StandFrom, GoneThrough}
+use Rattle.dap_end.specs.Going.{StandFrom, GoneThrough}
 
 -- ---- One item.
 

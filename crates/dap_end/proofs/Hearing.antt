@@ -9,15 +9,15 @@ use Rattle.dap_accessing.specs.Told.{Told}
 use Rattle.dap_end.specs.Ports.{HandsOver, PortValue}
 use Rattle.dap_end.specs.Going.{AreFrontOf}
 use Rattle.dap_end.specs.Writing.{WroteMore}
-use Rattle.dap_end.specs.Inner.Moved.{sent_more}
+use Rattle.dap_end.specs.Moved.{sent_more}
 use Rattle.dap_end.specs.Asking.{HasAsked, AskedOne}
 use Rattle.dap_end.specs.Hearing.{asks}
 use Rattle.dap_end.specs.Done.{AskingValue, AskingPast, nothing_asked}
 use Rattle.dap_end.specs.Runs.{RunsBy}
 use Rattle.dap_end.specs.Headline.{Written, AreWrittenOf, IsFromPeer}
-use Rattle.dap_end.specs.Inner.Running.{numbered, WroteOne, EndEvent, Came, GoesOn, Repeats}
-use Rattle.dap_end.specs.Inner.Running.{AskingEvent, Asks, By, HeardMore, AskingStepped, AskingEventRuns, requests_in}
-use Rattle.dap_end.specs.Inner.Pasts.{asked_one}
+use Rattle.dap_end.specs.Calls.{numbered, WroteOne, EndEvent, Came, GoesOn, Repeats}
+use Rattle.dap_end.specs.Calls.{AskingEvent, Asks, By, HeardMore, AskingStepped, AskingEventRuns, requests_in}
+use Rattle.dap_end.specs.Pasts.{asked_one}
 use Rattle.dap_end.proofs.Taking.{grown}
 use Rattle.dap_end.proofs.Asked.{ReadMore, asked_past, handed_is, handed_past, still_received, still_sent, read_grows}
 use Rattle.dap_end.proofs.Packets.{all_written, still_written, written_on, numbered_written, one_written}

@@ -17,7 +17,7 @@ use Rattle.dap_accessing.specs.Request.{Request}
 use Rattle.dap_accessing.specs.declared.report.Report.{Report}
 use Rattle.dap_accessing.specs.Asked.{Asked}
 use Rattle.dap_accessing.specs.Told.{Told}
-use Rattle.dap_end.specs.Inner.Pasts.{AreFull}
+use Rattle.dap_end.specs.Pasts.{AreFull}
 use Rattle.dap_end.specs.Ports.{PortValue}
 use Rattle.nsp_link.specs.Receiving.{Receives}
 use Rattle.dap_end.specs.Going.{AreItemsOf, AreFrontOf}
@@ -28,14 +28,15 @@ use Rattle.dap_end.specs.Asking.{HasAsked}
 use Rattle.dap_end.specs.Done.{AskingValue, AskingPast, nothing_asked}
 use Rattle.dap_end.specs.Runs.{RunsBy}
 use Rattle.dap_end.specs.Headline.{Written, AreWrittenOf}
-use Rattle.dap_end.specs.Inner.Running.{numbered, WroteOne, EndEvent, Came, GoesOn, Repeats}
-use Rattle.dap_end.specs.Inner.Running.{AskingEvent, Asks, By, requests_in}
+use Rattle.dap_end.specs.Calls.{numbered, WroteOne, EndEvent, Came, GoesOn, Repeats}
+use Rattle.dap_end.specs.Calls.{AskingEvent, Asks, By, requests_in}
 use Rattle.dap_end.specs.Joined.{Pair}
-use Rattle.dap_end.specs.Inner.Running.{AreOpposite, AreNew, PairEvent, AtA, AtB, PairStepped, PairHeadline}
-use Rattle.dap_end.specs.Inner.Pasts.{asked_one}
+use Rattle.dap_end.specs.Calls.{PairEvent, AtA, AtB, PairStepped}
+use Rattle.dap_end.specs.Inner.Running.{AreOpposite, AreNew, PairHeadline}
+use Rattle.dap_end.specs.Pasts.{asked_one}
 use Rattle.dap_end.proofs.Taking.{grown}
 use Rattle.dap_end.proofs.Afterwards.{after_received}
-use Rattle.dap_end.proofs.Proceeding.{none_short, still_sent}
+use Rattle.dap_end.proofs.Proceeding.{none_short, still_sent, worked_grew}
 use Rattle.dap_end.proofs.Fronts.{served_front}
 use Rattle.dap_end.proofs.Asked.{asked_past, handed_is, handed_past, full-blocked, full-both, read_grows, still_received}
 use Rattle.dap_end.proofs.Asked as asked
@@ -298,11 +299,12 @@ serves first old new (Came bytes) ws s j =
     })
 serves first old new GoesOn ws s j =
     let t = s.0.0 in
-    let m = t.2.past j.served j.serving in
+    let more = worked_grew old.b t.0 t.2 in
+    let m = more.past j.served j.serving in
     let now = m.0 in
     let g = m.1 in
     let back = swapped old.a.port.link old.b.port.link j.asked.handed j.served.handed j.asked.given j.served.given old.from_a old.from_b j.ways in
-    let ways = goes old.b.port.link old.a.port.link t.0.port.link new.b.port t.0.port j.served.handed j.asked.handed j.served.given j.asked.given g.handed.0 now.given now.handed old.from_b old.from_a t.1 back refl t.2.link t.3 g.handed.1 g.handed.2
+    let ways = goes old.b.port.link old.a.port.link t.0.port.link new.b.port t.0.port j.served.handed j.asked.handed j.served.given j.asked.given g.handed.0 now.given now.handed old.from_b old.from_a t.1 back refl more.link t.3 g.handed.1 g.handed.2
     (g.stands old.a.port.link.setup.seg_size j.asked.handed back.back.stands) g.is.sends in
     subst (IsLinked first) (sym s.1)
     (record {

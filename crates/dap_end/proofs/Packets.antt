@@ -8,7 +8,7 @@ use Rattle.nsp_link.specs.Sending.{WritesSent, ack_packet_of}
 use Rattle.nsp_link.proofs.ForCallers.{writes_more}
 use Rattle.dap_end.specs.Writing.{AreSegments}
 use Rattle.dap_end.specs.Headline.{Written, AreWrittenOf}
-use Rattle.dap_end.specs.Inner.Running.{numbered, WroteOne}
+use Rattle.dap_end.specs.Calls.{numbered, WroteOne}
 use Rattle.dap_end.proofs.Taking.{Grown}
 
 pub all_written : (v : LinkValue) (handed : List (List ℕ)) (xs ys : List Written) → AreWrittenOf v handed xs → AreWrittenOf v handed ys → AreWrittenOf v handed (xs ++ ys)

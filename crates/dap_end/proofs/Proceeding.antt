@@ -10,17 +10,18 @@ use Rattle.nsp_link.specs.declared.fault.LinkFault.{LinkFault}
 use Rattle.nsp_link.specs.declared.fault.LinkFault.TheVariants as fault
 use Rattle.nsp_link.specs.Link.{LinkValue, Stands, may_send, with_inbox, AreShort}
 use Rattle.dap_accessed.specs.Standing.{Files}
-use Rattle.dap_end.specs.Inner.Pasts.{served}
+use Rattle.dap_end.specs.Pasts.{served}
 use Rattle.dap_end.specs.declared.fault.EndFault.{EndFault}
 use Rattle.dap_end.specs.declared.fault.EndFault.TheVariants as end_fault
 use Rattle.dap_end.specs.Ports.{HandsOver, PortValue}
-use Rattle.dap_end.specs.Inner.Moved.{posted}
+use Rattle.dap_end.specs.Moved.{posted}
 use Rattle.dap_end.specs.Serving.{IsAfter, ServedOne, MayServe}
-use Rattle.dap_end.specs.Inner.Served.{ServedInTurn, begins, goes}
+use Rattle.dap_end.specs.Taking.{ServedInTurn, begins, goes}
 use Rattle.dap_end.specs.Done.{ServingValue, Past}
 use Rattle.dap_end.specs.Writing.{Behind, WroteMore}
-use Rattle.dap_end.specs.Inner.Moved.{sent_more}
+use Rattle.dap_end.specs.Moved.{sent_more}
 use Rattle.dap_end.specs.Taking.{ServedOn, serves}
+use Rattle.dap_end.specs.Calls.{WorkedOn, rests, serves_one, hands_over}
 use Rattle.dap_end.specs.Inner.Running.{Grew, ServedMore}
 use Rattle.dap_end.proofs.Afterwards.{posted_is, posted_past}
 use Rattle.dap_end.proofs.ServingOne.{port_given}
@@ -29,7 +30,7 @@ use Rattle.dap_end.proofs.Going.{item_ends}
 use Rattle.dap_end.specs.Going.{NextItem}
 use Rattle.dap_end.specs.Turns.{DidAll, WentOn}
 use Rattle.std.specs.Result.{result_map_both}
-use Rattle.dap_end.specs.Inner.Pasts.{Still}
+use Rattle.dap_end.specs.Pasts.{Still}
 use Rattle.dap_end.specs.Inner.ServingView.{with_port}
 use Rattle.nsp_link.specs.Cutting.{cut}
 use Rattle.nsp_link.specs.Limits.{most_segments}
@@ -142,6 +143,32 @@ pub all_grew : (a b : ServingValue) (r : Result (Unit {0}) EndFault) → DidAll 
 all_grew a b (Ok u) d = more_trans a d.0 b (on_grew a d.0 d.2) (more_posted d.0 b d.1 d.4)
 all_grew a b (Err (end_fault.Link f)) d = subst (ServedMore a) (sym d.2.0) (on_grew a d.0 d.1)
 all_grew a b (Err (end_fault.Read f)) d = absurd d.2
+
+-- ---- Served and handed over, in any order.
+
+pub worked_grew : (a b : ServingValue) → WorkedOn a b → ServedMore a b
+worked_grew a b rests = more_none a
+worked_grew a b (serves_one mid n s on) = more_trans a mid b (more_served a mid n s) (worked_grew mid b on)
+worked_grew a b (hands_over mid n p on) = more_trans a mid b (more_posted a mid n p) (worked_grew mid b on)
+
+pub one_served : (a b : ServingValue) (n : ℕ) → ServedOne a b n → WorkedOn a b
+one_served a b n s = serves_one b n s rests
+
+pub one_posted : (a b : ServingValue) (n : ℕ) → HandsOver a b n → WorkedOn a b
+one_posted a b n p = hands_over b n p rests
+
+turn_worked : (a b c : ServingValue) → ServedInTurn a b → WorkedOn b c → WorkedOn a c
+turn_worked a b c begins w = w
+turn_worked a b c (goes posted mid count n p s on) w = hands_over posted count p (serves_one mid n s (turn_worked mid b c on w))
+
+on_worked : (a b c : ServingValue) → ServedOn a b → WorkedOn b c → WorkedOn a c
+on_worked a b c (inl on) w = turn_worked a b c on w
+on_worked a b c (inr u) w = turn_worked a u.0 c u.2 (hands_over b u.1 u.3 w)
+
+pub all_worked : (a b : ServingValue) (r : Result (Unit {0}) EndFault) → DidAll serves a b r → WorkedOn a b
+all_worked a b (Ok u) d = on_worked a d.0 b d.2 (one_posted d.0 b d.1 d.4)
+all_worked a b (Err (end_fault.Link f)) d = subst (WorkedOn a) (sym d.2.0) (on_worked a d.0 d.0 d.1 rests)
+all_worked a b (Err (end_fault.Read f)) d = absurd d.2
 
 -- what was served on counts behind what the end did
 pub counted : (past : Past) (old new : ServingValue) → IsAfter past old → ServedMore old new → (given handed : List (List ℕ)) × (items : List Item)

@@ -22,21 +22,21 @@ use Rattle.dap_end.specs.Ports.{EndValue, HandsOver, PortValue}
 use Rattle.nsp_link.specs.Receiving.{Receives}
 use Rattle.dap_end.specs.Going.{AreFrontOf}
 use Rattle.dap_end.specs.Writing.{Acknowledged, wants_ack, WroteAnswer, WroteMore}
-use Rattle.dap_end.specs.Inner.Moved.{sent_more}
+use Rattle.dap_end.specs.Moved.{sent_more}
 use Rattle.dap_end.specs.Serving.{IsAfter, ServedOne}
 use Rattle.dap_end.specs.Done.{ServingValue, Past, answers_to, nothing_yet}
 use Rattle.dap_end.specs.Turns.{Answered, DidAll, EndOf, WroteThen, WentOn, TookIn, TookThen, Takes}
 use Rattle.dap_end.specs.Taking.{serves}
-use Rattle.dap_end.specs.Inner.Running.{ServedMore}
+use Rattle.dap_end.specs.Calls.{WorkedOn, rests}
 use Rattle.dap_end.specs.Runs.{RunsBy}
 use Rattle.dap_end.specs.Headline.{Written, bytes_of, AreWrittenOf, IsFromPeer}
-use Rattle.dap_end.specs.Inner.Running.{numbered, WroteOne, EndEvent, Came, GoesOn, Repeats, EndStepped, Stepped, EventRuns, RunsAs}
+use Rattle.dap_end.specs.Calls.{numbered, WroteOne, EndEvent, Came, GoesOn, Repeats, EndStepped, Stepped, EventRuns, RunsAs}
 use Rattle.dap_end.proofs.Taking.{grown}
 use Rattle.dap_end.proofs.Afterwards.{after_received}
 use Rattle.dap_end.proofs.Fronts.{served_front}
 use Rattle.dap_end.proofs.Packets.{all_written, still_written, written_on, numbered_written, one_written, ack_written}
 use Rattle.dap_end.proofs.Emitting.{wrote_nothing}
-use Rattle.dap_end.proofs.Proceeding.{still_sent, more_none, more_served, more_posted, all_grew}
+use Rattle.dap_end.proofs.Proceeding.{still_sent, worked_grew, one_served, one_posted, all_worked}
 use Rattle.dap_end.specs.Inner.ServingView.{with_port}
 
 -- ---- The answers.
@@ -90,9 +90,10 @@ went_written old served new handed more now wrote ws counts is sent before after
 pub sent_link : (p new : PortValue) (n : ℕ) → new ≡ sent_more p n → new.link ≡ record p.link { sent = new.link.sent }
 sent_link p new n e = subst (λ (q : PortValue). q.link ≡ record p.link { sent = q.link.sent }) (sym e) refl
 
-went : (old served new : ServingValue) (packets : List (List ℕ)) (first : Files) (wrote ws : List Written) → ServedMore old served → WroteMore served.port new.port packets → new ≡ with_port served new.port
+went : (old served new : ServingValue) (packets : List (List ℕ)) (first : Files) (wrote ws : List Written) → WorkedOn old served → WroteMore served.port new.port packets → new ≡ with_port served new.port
     → ws ≡ numbered (served.port.link.sent + 1) served.port.link.coming.received packets → Did first old wrote → Did first new (wrote ++ ws)
-went old served new packets first wrote ws m w e is d =
+went old served new packets first wrote ws on w e is d =
+    let m = worked_grew old served on in
     let more = m.past d.past d.is in
     let now = more.0 in
     let here : IsAfter now new = subst (IsAfter now) (sym (e ∙ ap (with_port served) w.sent)) (still_sent served (length packets) now more.1.is) in
@@ -110,7 +111,7 @@ Wrote = ServingValue × List Written
 
 -- an event of the end alone
 abbrev Stepping : (comes : LinkValue → List ℕ → Type 0) → ServingValue → EndEvent → ServingValue → List Written → Type 0
-Stepping comes old event new ws = EndStepped serves ServedMore comes old event new ws
+Stepping comes old event new ws = EndStepped serves WorkedOn comes old event new ws
 
 step_end : (comes : LinkValue → List ℕ → Type 0) (old new : ServingValue) (event : EndEvent) (first : Files) (wrote ws : List Written) → Stepping comes old event new ws → Did first old wrote → Did first new (wrote ++ ws)
 step_end comes old new (Came bytes) first wrote ws t d =
@@ -172,11 +173,12 @@ stepped_by end does here there old new (Repeats k) ws comes t = t
 pub runs_where : (here there : LinkValue → List ℕ → Type 0) → ((v : LinkValue) (bytes : List ℕ) → here v bytes → there v bytes) → (events : List EndEvent) (old new : Wrote) → RunsBy (Stepped here) old events new → RunsBy (Stepped there) old events new
 runs_where here there comes [] old new r = r
 runs_where here there comes (event ∷ events) old new r =
-    (r.0, r.1, (stepped_by serves ServedMore here there old.0 r.0.0 event r.1 comes r.2.0, r.2.1), runs_where here there comes events r.0 new r.3)
+    (r.0, r.1, (stepped_by serves WorkedOn here there old.0 r.0.0 event r.1 comes r.2.0, r.2.1), runs_where here there comes events r.0 new r.3)
 
-went_hears : (old served new : ServingValue) (sent size : ℕ) (messages : List (List ℕ)) (first : Files) → ServedMore old served → new ≡ with_port served (sent_more served.port sent) → Hears size messages first old
+went_hears : (old served new : ServingValue) (sent size : ℕ) (messages : List (List ℕ)) (first : Files) → WorkedOn old served → new ≡ with_port served (sent_more served.port sent) → Hears size messages first old
     → Hears size messages first new
-went_hears old served new sent size messages first m e h =
+went_hears old served new sent size messages first on e h =
+    let m = worked_grew old served on in
     let more = m.past h.past h.is in
     let stands = more.1.stands size messages h.stands in
     let works : served.port.link.failed ≡ false = ap (λ (l : LinkValue). l.failed) m.link ∙ h.works in
@@ -236,21 +238,21 @@ module _ (comes : LinkValue → List ℕ → Type 0) where
   one_event old new event ws s = (event ∷ [], ((new, ws), ws, (s, refl), refl))
 
   -- served and handed over, and nothing written
-  served_only : (old new : ServingValue) → ServedMore old new → Stepping comes old GoesOn new []
+  served_only : (old new : ServingValue) → WorkedOn old new → Stepping comes old GoesOn new []
   served_only old new m = (new, [], m, wrote_nothing new.port, refl, refl)
 
   pub serving_is : (old new : ServingValue) (n : ℕ) → ServedOne old new n → RunsAs comes old new []
-  serving_is old new n s = one_event old new GoesOn [] (served_only old new (more_served old new n s))
+  serving_is old new n s = one_event old new GoesOn [] (served_only old new (one_served old new n s))
 
   pub serving_all_is : (old new : ServingValue) (r : Result (Unit {0}) EndFault) → DidAll serves old new r → RunsAs comes old new []
-  serving_all_is old new r s = one_event old new GoesOn [] (served_only old new (all_grew old new r s))
+  serving_all_is old new r s = one_event old new GoesOn [] (served_only old new (all_worked old new r s))
 
   pub posting_is : (old new : ServingValue) (n : ℕ) → HandsOver old new n → RunsAs comes old new []
-  posting_is old new n p = one_event old new GoesOn [] (served_only old new (more_posted old new n p))
+  posting_is old new n p = one_event old new GoesOn [] (served_only old new (one_posted old new n p))
 
   pub writing_is : (old new : ServingValue) (bytes : List ℕ) → new ≡ with_port old new.port → WroteMore old.port new.port (bytes ∷ [])
       → RunsAs comes old new (record { bytes = bytes; segment = Some (old.port.link.sent + 1); acks = old.port.link.coming.received } ∷ [])
-  writing_is old new bytes rest w = one_event old new GoesOn _ (old, bytes ∷ [], more_none old, w, rest, refl)
+  writing_is old new bytes rest w = one_event old new GoesOn _ (old, bytes ∷ [], rests, w, rest, refl)
 
   pub again_is : (v : ServingValue) (i : ℕ) (bytes : List ℕ) → i < v.port.link.sent - v.port.link.acked → WritesSent v.port.link (Some (v.port.link.acked + 1 + i)) bytes
       → RunsAs comes v v (record { bytes = bytes; segment = Some (v.port.link.acked + 1 + i); acks = v.port.link.coming.received } ∷ [])
@@ -289,7 +291,7 @@ module _ (comes : LinkValue → List ℕ → Type 0) where
   took_by old mid new bytes out all s c = (c.0, (Came bytes ∷ c.1.0, ((mid, []), [], (s, refl), c.1.1)), c.2)
 
   -- with an acknowledgement or without
-  answered_is : (old served new : ServingValue) (out all packets written : List (List ℕ)) (wants : Bool) → ServedMore old served → new ≡ with_port served new.port → WroteMore served.port new.port written → all ≡ out ++ packets
+  answered_is : (old served new : ServingValue) (out all packets written : List (List ℕ)) (wants : Bool) → WorkedOn old served → new ≡ with_port served new.port → WroteMore served.port new.port written → all ≡ out ++ packets
       → Acknowledged new.port wants written packets → AreCalls old new out all
   answered_is old served new out all packets written false m rest w is ack =
       (_, one_event comes old new GoesOn _ (served, written, m, w, rest, refl), behind out all written _ _ (is ∙ ap (λ (l : List (List ℕ)). out ++ l) ack))
@@ -303,15 +305,15 @@ module _ (comes : LinkValue → List ℕ → Type 0) where
 
   whole_is : (old new : ServingValue) (got : Got) (out all : List (List ℕ)) → WroteThen serves (λ p q. WroteAnswer p q got) old new out all → AreCalls old new out all
   whole_is old new got out all w =
-      let (packets, is, a) = w.wrote in answered_is old w.mid new out all packets a.0 (wants_ack got (length a.0)) (all_grew old w.mid (Ok tt) w.done) w.rest a.1 is a.3
+      let (packets, is, a) = w.wrote in answered_is old w.mid new out all packets a.0 (wants_ack got (length a.0)) (all_worked old w.mid (Ok tt) w.done) w.rest a.1 is a.3
 
   answer_is : (old new : ServingValue) (got : Got) (out all : List (List ℕ)) (r : Result (Unit {0}) EndFault) → Answered serves old new got out all r → AreCalls old new out all
   answer_is old new got out all (Ok done) w = whole_is old new got out all w
   answer_is old new got out all (Err f) (inl h) =
-      ([], one_event comes old new GoesOn [] (served_only comes old new (all_grew old new (Err f) h.0)), h.1 ∙ sym (append-nil out))
+      ([], one_event comes old new GoesOn [] (served_only comes old new (all_worked old new (Err f) h.0)), h.1 ∙ sym (append-nil out))
   answer_is old new got out all (Err f) (inr h) =
       let w = h.1 in
-      (_, one_event comes old new GoesOn _ (w.mid, w.wrote.0, all_grew old w.mid (Ok tt) w.done, w.wrote.2.0, w.rest, refl), behind out all w.wrote.0 _ _ w.wrote.1)
+      (_, one_event comes old new GoesOn _ (w.mid, w.wrote.0, all_worked old w.mid (Ok tt) w.done, w.wrote.2.0, w.rest, refl), behind out all w.wrote.0 _ _ w.wrote.1)
 
   pub going_on_is : (old new : ServingValue) (out all : List (List ℕ)) (r : Result (Unit {0}) EndFault) → WentOn serves old new out all r → AreCalls old new out all
   going_on_is old new out all r w = answer_is old new AckOnly out all r w

@@ -16,11 +16,11 @@ use Rattle.dap_accessed.proofs.ForCallers.{Answers-more}
 use Rattle.dap_accessed.specs.Present.{Present}
 use Rattle.dap_accessed.specs.Served.{Serves, AllAtMost}
 use Rattle.dap_accessed.specs.declared.served.Served.{Served}
-use Rattle.dap_end.specs.Inner.Pasts.{served}
+use Rattle.dap_end.specs.Pasts.{served}
 use Rattle.dap_end.specs.Ports.{PortValue, gone_on}
-use Rattle.dap_end.specs.Inner.After.{oldest}
+use Rattle.dap_end.specs.Going.{oldest}
 use Rattle.dap_end.specs.Going.{given_then}
-use Rattle.dap_end.specs.Inner.After.{GoneThrough}
+use Rattle.dap_end.specs.Going.{GoneThrough}
 use Rattle.dap_end.specs.Serving.{IsAfter, ServedOne}
 use Rattle.dap_end.specs.Done.{ServingValue, Past, answers_to}
 use Rattle.dap_end.specs.Inner.Kept.{IsPort, AreShort}

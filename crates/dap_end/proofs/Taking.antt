@@ -12,8 +12,8 @@ use Rattle.nsp_link.specs.Link.{LinkValue, piece_of, failed_link, forgotten}
 use Rattle.nsp_link.specs.Receiving.{Received, run, segment_of, taking_in, is_end, ReceivedBytes, Receives}
 use Rattle.dap_msg.specs.Items.{IsPlace}
 use Rattle.dap_end.specs.Ports.{PortValue}
-use Rattle.dap_end.specs.Inner.Moved.{with_link}
-use Rattle.dap_end.specs.Inner.After.{oldest}
+use Rattle.dap_end.specs.Moved.{with_link}
+use Rattle.dap_end.specs.Going.{oldest}
 use Rattle.dap_end.specs.Inner.Kept.{IsPort}
 
 -- more messages may wait, and the link is the same

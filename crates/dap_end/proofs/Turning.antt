@@ -13,9 +13,9 @@ use Rattle.dap_end.specs.declared.fault.EndFault.TheVariants as end_fault
 use Rattle.dap_end.specs.declared.fault.TakeFault.{TakeFault}
 use Rattle.dap_end.specs.declared.fault.TakeFault.TheVariants as take_fault
 use Rattle.dap_end.specs.Ports.{EndValue, PortValue}
-use Rattle.dap_end.specs.Inner.Moved.{with_link}
+use Rattle.dap_end.specs.Moved.{with_link}
 use Rattle.dap_end.specs.Writing.{Behind, WroteMore, WroteAnswer, WrotePart}
-use Rattle.dap_end.specs.Inner.Moved.{sent_more}
+use Rattle.dap_end.specs.Moved.{sent_more}
 use Rattle.dap_end.specs.Turns.{EndOf, DidAll, WentOn, Answered, TookIn, TookThen, Takes}
 use Rattle.dap_end.specs.Wanting.{is_want, why}
 use Rattle.dap_end.specs.Inner.Wanting.{went_wanting, took_wanting}

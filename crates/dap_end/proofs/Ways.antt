@@ -19,7 +19,7 @@ use Rattle.nsp_link.specs.Inner.Due.{IsDue, Delivered, taken_after}
 use Rattle.nsp_link.proofs.ForCallers.{inserted, written_spells, stands_more, is_delivered, came_due}
 use Rattle.nsp_link.specs.Receiving.{Receives}
 use Rattle.dap_end.specs.Headline.{Written, AreWrittenOf}
-use Rattle.dap_end.specs.Inner.Running.{numbered}
+use Rattle.dap_end.specs.Calls.{numbered}
 
 -- ---- What holds of one way.
 

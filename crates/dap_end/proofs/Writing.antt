@@ -10,7 +10,7 @@ use Rattle.nsp_link.specs.Sending.{ack_packet_of}
 use Rattle.nsp_link.proofs.ForCallers.{may_send_by, written_one}
 use Rattle.dap_end.specs.Ports.{PortValue}
 use Rattle.dap_end.specs.Writing.{Acknowledged, AreSegments, WroteMore, WroteAnswer, wants_ack}
-use Rattle.dap_end.specs.Inner.Moved.{sent_more}
+use Rattle.dap_end.specs.Moved.{sent_more}
 
 -- what counts as sent is there, and within the window
 abbrev pub IsWithin : LinkValue → Type 0

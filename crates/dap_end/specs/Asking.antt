@@ -1,16 +1,37 @@
 -- The end that asks, before any peer.
-use Rattle.std.specs.Prelude.{◌≡◌, ℕ, List, [], ◌∷◌, ◌++◌, length, false, Option, option_to_list}
+use Rattle.std.specs.Prelude.{◌≡◌, ◌≢◌, ◌⊎◌, ℕ, List, [], ◌∷◌, ◌++◌, length, true, false, Option, option_to_list}
+use Rattle.std.specs.List.{AllByRecursion}
+use Rattle.dap_msg.specs.Blocked.{AllFit, all_joined, messages_in}
+use Rattle.nsp_link.specs.Link.{Sends}
+use Rattle.dap_accessing.specs.Present.{StandsAfter}
+use Rattle.dap_accessing.specs.Asked.{Asked}
 use Rattle.dap_accessing.specs.Request.{Request}
 use Rattle.dap_accessing.specs.declared.report.Report.{Report}
 use Rattle.dap_accessing.specs.declared.fault.ReadFault.{ReadFault}
-use Rattle.dap_accessing.specs.Told.{Told}
+use Rattle.dap_accessing.specs.Told.{Told, is_unexpected}
 use Rattle.dap_accessing.specs.Calls.{Asks, ReadRefused}
 use Rattle.dap_end.specs.Ports.{gone_on}
-use Rattle.dap_end.specs.Going.{given_then, NextItem}
+use Rattle.dap_end.specs.Going.{given_then, NextItem, GoneThrough}
 use Rattle.dap_end.specs.Done.{AskingValue, AskingPast}
--- An end, and what it did; and that it did anything, or failed by an answer that had no place. Nobody has to believe the texts: a
--- new end has asked nothing, each call says what it has asked then, and a law says what such an end holds.
-pub use Rattle.dap_end.specs.Inner.After.{HasAsked, HasDone}
+
+-- The end is as after this: it waits for what is due after these requests and answers; the answers are those of the NSP
+-- messages that it read and of the front of the next one; and what it handed to its link, and what waits, are the messages
+-- of the requests.
+pub record HasAsked (past : AskingPast) (v : AskingValue) : Type 0 where
+  pub asking : StandsAfter past.requests past.answers v.present
+  pub gone : GoneThrough past.given v.port.link.coming.inbox v.port.place past.answers
+  pub sends : Sends v.port.link past.handed
+  pub messages : messages_in past.asked ≡ Asked v.present.own past.requests
+  pub waiting : past.handed ++ v.port.outbox ≡ all_joined past.asked
+  -- each message has a spelling, and no NSP message is without one
+  pub fit : AllFit (messages_in past.asked)
+  pub full : AllByRecursion (λ packet. packet ≢ []) past.asked
+
+-- the end is as after some past, or an unexpected answer failed it after some
+abbrev pub HasDone : AskingValue → Type 0
+HasDone v =
+    ((past : AskingPast) × HasAsked past v)
+    ⊎ ((v.present.failed ≡ true) × ((handed : List (List ℕ)) × Sends v.port.link handed))
 
 -- ---- Asking.
 
@@ -24,16 +45,17 @@ pub record AskedOne (request : Request) (old new : AskingValue) (n : ℕ) : Type
 
 -- ---- Reading.
 
--- The next item of the oldest NSP message was read; it had its place, and the report is the one that it adds.
+-- The next item of the oldest NSP message was read; it was expected, and the report is the one that it adds.
 pub record ReadOne (old new : AskingValue) (report : Option Report) : Type 0 where
   pub works : old.present.failed ≡ false
   pub one : NextItem old.port
   pub port : new.port ≡ gone_on old.port one.bytes one.later one.next
   pub own : new.present.own ≡ old.present.own
+  pub expected : (past : AskingPast) → HasAsked past old → is_unexpected past.requests past.answers one.item ≡ false
   pub past : (past : AskingPast) → HasAsked past old → HasAsked (record past { given = given_then past.given one.bytes one.next; answers = past.answers ++ one.item ∷ [] }) new
   pub told : (past : AskingPast) → HasAsked past old → Told past.requests (past.answers ++ one.item ∷ []) ≡ Told past.requests past.answers ++ option_to_list report
 
--- why nothing was read, and what that leaves: after an answer that has no place the end has failed
+-- why nothing was read, and what that leaves: after an unexpected answer the end has failed
 pub record ReadNone (old new : AskingValue) (f : ReadFault) : Type 0 where
   pub bytes : List ℕ
   pub later : List (List ℕ)

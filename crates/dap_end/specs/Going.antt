@@ -1,5 +1,6 @@
 -- The DAP messages in NSP messages, gone through one after another.
-use Rattle.std.specs.Prelude.{◌≡◌, ℕ, ◌==◌, if◌then◌else◌, List, [], ◌∷◌, ◌++◌, length}
+use Rattle.std.specs.Prelude.{◌≡◌, ℕ, ◌<◌, ◌==◌, if◌then◌else◌, List, [], ◌∷◌, ◌++◌, length, slice_index_or}
+use Rattle.std.specs.List.{AllByRecursion}
 use Rattle.dap_fields.specs.Spelling.{AreBytes}
 use Rattle.dap_msg.specs.declared.items.Item.{Item}
 use Rattle.dap_msg.specs.Items.{ItemAt, Items, IsPlace}
@@ -29,3 +30,26 @@ pub record NextItem (p : PortValue) : Type 0 where
   pub next : ℕ
   pub reads : ItemAt bytes p.place item next
   pub place : IsPlace p.place bytes
+
+-- ---- What was gone through so far.
+
+-- the oldest NSP message that came and is left, or no bytes where none is
+abbrev pub oldest : List (List ℕ) → List ℕ
+oldest inbox = slice_index_or inbox 0 []
+
+-- The items stand in the bytes, from one place to another, and none of them ends with the bytes.
+abbrev pub StandFrom : List ℕ → ℕ → List Item → ℕ → Type 0
+StandFrom bytes at [] to = at ≡ to
+StandFrom bytes at (item ∷ items) to =
+    (next : ℕ) × (next < length bytes) × ItemAt bytes at item next × StandFrom bytes next items to
+
+-- The first of these items are all those of NSP messages that were gone through; the others stand before the place in
+-- the oldest that is left.
+pub record GoneThrough (given inbox : List (List ℕ)) (place : ℕ) (items : List Item) : Type 0 where
+  pub done : List Item
+  pub begun : List Item
+  pub all : items ≡ done ++ begun
+  pub whole : AreItemsOf given done
+  pub front : StandFrom (oldest inbox) 0 begun place
+  pub bytes : AllByRecursion AreBytes given
+  pub front_bytes : 0 < length begun → AreBytes (oldest inbox)

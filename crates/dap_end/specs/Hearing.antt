@@ -1,26 +1,27 @@
 -- Reading all that came, and doing at once all that it lets the end that asks do.
-use Rattle.std.specs.Prelude.{◌≡◌, ◌⊎◌, ◌<◌, Result, Ok, Err, List, [], length}
+use Rattle.std.specs.Prelude.{◌≡◌, Result, Ok, Err, List, [], ◌++◌, Option, option_to_list}
 use Rattle.nsp_link.specs.Sending.{SendAllFault}
 use Rattle.dap_accessing.specs.declared.report.Report.{Report}
 use Rattle.dap_accessing.specs.declared.fault.ReadFault.{ReadFault}
-use Rattle.dap_accessing.specs.declared.fault.ReadFault.TheVariants as read_fault
 use Rattle.dap_end.specs.declared.fault.EndFault.{EndFault}
 use Rattle.dap_end.specs.declared.fault.EndFault.TheVariants as end_fault
 use Rattle.dap_end.specs.Writing.{Behind}
 use Rattle.dap_end.specs.Turns.{DidAll, EndOf}
 use Rattle.dap_accessing.specs.Present.{Present}
-use Rattle.dap_end.specs.Asking.{ReadNone}
+use Rattle.dap_end.specs.Asking.{ReadOne, ReadNone}
 use Rattle.dap_end.specs.Done.{AskingValue}
--- Some of what came was read, and these are the reports that it added. Nobody has to believe the text: laws say what it leaves of
--- what the end did, and that this is determined.
-pub use Rattle.dap_end.specs.Inner.Heard.{ReadOn}
 
--- why nothing is read or handed over here: what waits is refused, once all is read; or the next answer; or memory for a report
+-- Answers that came were read, one after another, and these are the reports that they added.
+pub data ReadOn : AskingValue → AskingValue → List Report → Type 0 where
+  begins : {v : AskingValue} → ReadOn v v []
+  goes : {old new : AskingValue} {all : List Report} (mid : AskingValue) (report : Option Report) (more : List Report)
+      → ReadOne old mid report → ReadOn mid new more → all ≡ option_to_list report ++ more → ReadOn old new all
+
+-- why nothing is read or handed over here: what waits is refused, once all is read; or the next answer is
 abbrev pub HearFault : (old new : AskingValue) → EndFault → Type 0
 HearFault old new (end_fault.Link f) =
     (new ≡ old) × (old.port.link.coming.inbox ≡ []) × SendAllFault old.port.link old.port.outbox f
-HearFault old new (end_fault.Read f) =
-    ReadNone old new f ⊎ ((f ≡ read_fault.NoMemory) × (new ≡ old) × (0 < length old.port.link.coming.inbox))
+HearFault old new (end_fault.Read f) = ReadNone old new f
 
 -- the reports stand behind those that were there
 abbrev pub asks : (before reports : List Report) → EndOf Present

@@ -7,10 +7,5 @@ pub mod AskingView
 pub mod AskingInside
 pub mod Stored
 pub mod Answered
-pub mod Pasts
 pub mod Wanting
-pub mod Moved
-pub mod After
-pub mod Served
-pub mod Heard
 pub mod Running

@@ -12,4 +12,6 @@ pub mod Runs
 pub mod Headline
 pub mod Calls
 pub mod Joined
+pub mod Moved
+pub mod Pasts
 pub mod Inner

@@ -1,13 +1,24 @@
 -- The end that serves, before any peer.
 use Rattle.std.specs.Prelude.{◌≡◌, ◌⊎◌, ℕ, ◌<◌, [], ◌∷◌, ◌++◌, length}
+use Rattle.dap_msg.specs.Blocked.{AllFit, all_joined}
+use Rattle.nsp_link.specs.Link.{Sends}
+use Rattle.dap_accessed.specs.Groups.{Answers}
+use Rattle.dap_accessed.specs.Present.{StandsAfter}
 use Rattle.dap_accessed.specs.declared.fault.AddFault.{AddFault}
 use Rattle.dap_accessed.specs.declared.fault.AddFault.TheVariants as fault
 use Rattle.dap_end.specs.Ports.{gone_on, HasCome}
-use Rattle.dap_end.specs.Going.{given_then, NextItem}
-use Rattle.dap_end.specs.Done.{ServingValue, Past}
--- An end, and what it did. Nobody has to believe the text: a new end is as after nothing, each call says what it is after then,
--- and a law says what an end that is after something holds.
-pub use Rattle.dap_end.specs.Inner.After.{IsAfter}
+use Rattle.dap_end.specs.Going.{given_then, NextItem, GoneThrough}
+use Rattle.dap_end.specs.Done.{ServingValue, Past, answers_to}
+
+-- The end is as after this: its files and its phase are those after the items, which are those of the NSP messages that
+-- it served and of the front of the next one; and what it handed to its link, and what waits, are the answers to them.
+pub record IsAfter (past : Past) (v : ServingValue) : Type 0 where
+  pub serving : StandsAfter past.first past.items v.present
+  pub gone : GoneThrough past.given v.port.link.coming.inbox v.port.place past.items
+  pub sends : Sends v.port.link past.handed
+  pub answers : past.handed ++ v.port.outbox ≡ all_joined (answers_to v.present.own past.first [] past.items)
+  -- each answer has a spelling
+  pub fit : AllFit (Answers v.present.own past.first past.items)
 
 -- ---- Files that the end is given.
 

@@ -10,12 +10,12 @@ ghost use Rattle.nsp_link.specs.declared.fault.LinkFault.TheVariants.{Failed, No
 ghost use Rattle.nsp_link.specs.declared.fault.LinkFault.TheVariants as fault;
 ghost use Rattle.dap_accessing.specs.Asked.{messages_of};
 ghost use Rattle.dap_accessing.specs.Calls.{AskRefused, IsAdmittedBy};
-ghost use Rattle.dap_accessing.specs.Inner.Outgoing.{number_carried};
-ghost use Rattle.dap_accessing.specs.Inner.Prepared.{IsPrepared};
+ghost use Rattle.dap_accessing.specs.Outgoing.{number_carried};
+ghost use Rattle.dap_accessing.specs.Prepared.{IsPrepared};
 ghost use Rattle.dap_accessing.specs.declared.fault.AskFault.TheVariants as ask_fault;
 ghost use Rattle.dap_fields.specs.Spelling.{AreBytes};
 ghost use Rattle.dap_end.specs.Ports.{HandsOver, new_port};
-ghost use Rattle.dap_end.specs.Inner.After.{oldest};
+ghost use Rattle.dap_end.specs.Going.{oldest};
 ghost use Rattle.nsp_link.specs.Receiving.{Receives};
 ghost use Rattle.dap_end.specs.Writing.{Behind, WroteMore};
 ghost use Rattle.dap_end.specs.Asking.{HasAsked, AskedOne, ReadOne, ReadNone};
@@ -214,13 +214,16 @@ impl AskingEnd {
         ensures all { OnOk result (self.new.port.link.coming.inbox ≡ []) }
         ensures err { IfErr result (λ f. ReadsAll self.old self.new reports.old.items
             reports.new.items (Err f)) }
+        ensures failed { IsTrue self.old.present.failed
+            → (self.new ≡ self.old) × (reports.new.items ≡ reports.old.items)
+            × IsErrOf result read_fault.Failed }
     {
         'answers: loop {
             if !self.may_read() {
                 return Ok(());
             }
             let Ok(()) = reports.reserve(1) else {
-                return Err(ReadFault::NoMemory);
+                return Err(refuse_next(&mut self.port, &mut self.accessing));
             };
             match self.read_next() {
                 Ok(report) => keep(reports, report),
@@ -331,6 +334,7 @@ impl AskingEnd {
         ensures wrote { IfOk result
             (λ o. IfSome o (λ v. WroteMore self.old.port self.new.port (v.items ∷ []))) }
         ensures err { IfErr result (λ f. (self.new ≡ self.old) × NextFault self.old.port.link f) }
+        ensures failed { IsTrue self.old.port.link.failed → IsErrOf result Failed }
         ensures still { (past : AskingPast) → HasAsked past self.old → HasAsked past self.new }
     {
         self.port.emit()
@@ -452,6 +456,19 @@ fn ask_next(
     let count = messages.len();
     port.outbox.append(&mut messages).unwrap();
     Ok(count)
+}
+
+/// Why the next answer isn't read where there is no room for a report.
+fn refuse_next(port: &mut Port, accessing: &mut Accessing) -> ReadFault
+    requires kept { IsPort port.old }
+    requires some { 0 < length port.old.link.coming.inbox }
+    ensures refused { ReadNone (asking_of port.old accessing.old)
+        (asking_of port.new accessing.new) result }
+    ensures kept { IsPort port.new }
+{
+    let place = port.place;
+    let message = port.link.peek_message().unwrap();
+    accessing.refuse(message, place)
 }
 
 /// Reads the next answer of the oldest NSP message that came.

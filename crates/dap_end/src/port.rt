@@ -1,18 +1,18 @@
 //! One end of a link, with the NSP messages that wait to be handed to it, and the place in the oldest one that came.
 
-ghost use Rattle.std.specs.Prelude.{◌≡◌, ◌≢◌, ◌+◌, ◌-◌, ◌<◌, ◌≤◌, ◌∷◌, ◌++◌, [], ℕ, List, Ok, Some, None, length, false, true, IfOk, IfErr, IfSome, OnOk, OnErr, slice_get, IsTrue};
+ghost use Rattle.std.specs.Prelude.{◌≡◌, ◌≢◌, ◌+◌, ◌-◌, ◌<◌, ◌≤◌, ◌∷◌, ◌++◌, [], ℕ, List, Ok, Some, None, length, false, true, IfOk, IfErr, IfSome, OnOk, OnErr, IsErrOf, slice_get, IsTrue};
 ghost use Rattle.nsp_link.specs.Limits.{largest_limit};
 ghost use Rattle.nsp_link.specs.Link.{IsSetup, SetupFault, IsLink, may_send, with_inbox};
 ghost use Rattle.nsp_link.specs.Sending.{NextFault, may_queue, SendAllFault};
-ghost use Rattle.nsp_link.specs.declared.fault.LinkFault.TheVariants.{MessageTooLong, NoMemory};
+ghost use Rattle.nsp_link.specs.declared.fault.LinkFault.TheVariants.{Failed, MessageTooLong, NoMemory};
 ghost use Rattle.std.specs.Prelude.{◌==◌};
 ghost use Rattle.dap_fields.specs.Spelling.{AreBytes};
 ghost use Rattle.dap_msg.specs.Blocked.{bodies};
 ghost use Rattle.dap_end.specs.Writing.{Acknowledged, WroteMore, Behind, WroteAnswer, WrotePart, wants_ack};
-ghost use Rattle.dap_end.specs.Inner.Moved.{sent_more};
+ghost use Rattle.dap_end.specs.Moved.{sent_more};
 ghost use Rattle.nsp_link.specs.Receiving.{Receives};
 ghost use Rattle.dap_end.specs.Ports.{new_port, gone_on, HasCome};
-ghost use Rattle.dap_end.specs.Inner.Moved.{with_link, posted};
+ghost use Rattle.dap_end.specs.Moved.{with_link, posted};
 ghost use Rattle.dap_end.specs.Inner.Kept.{IsPort};
 
 use nsp_link::{Got, LinkEnd, LinkFault, LinkSetup};
@@ -97,6 +97,7 @@ impl Port {
             (λ o. IfSome o (λ v. WroteMore self.old self.new (v.items ∷ []))) }
         ensures sent { (n : ℕ) × (self.new ≡ sent_more self.old n) }
         ensures err { IfErr result (λ f. (self.new ≡ self.old) × NextFault self.old.link f) }
+        ensures failed { IsTrue self.old.link.failed → IsErrOf result Failed }
         ensures kept { IsPort self.old → IsPort self.new }
     {
         self.link.next_packet()

@@ -204,6 +204,7 @@ impl ServingEnd {
         ensures wrote { IfOk result
             (λ o. IfSome o (λ v. WroteMore self.old.port self.new.port (v.items ∷ []))) }
         ensures err { IfErr result (λ f. (self.new ≡ self.old) × NextFault self.old.port.link f) }
+        ensures failed { IsTrue self.old.port.link.failed → IsErrOf result Failed }
         ensures still { (past : Past) → IsAfter past self.old → IsAfter past self.new }
     {
         self.port.emit()

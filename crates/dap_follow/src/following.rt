@@ -2,7 +2,7 @@
 
 ghost use Rattle.std.specs.Prelude.{◌≡◌, ◌≤◌, ◌++◌, [], IfErr, IfOk, IfSome, OnOk, length};
 ghost use Rattle.dap_listing.specs.Gives.{KeepsUnwritten, TakesWithinLimit};
-ghost use Rattle.dap_listing.specs.Inner.Firsts.{IsFirst};
+ghost use Rattle.dap_listing.specs.Firsts.{IsFirst};
 ghost use Rattle.dap_listing.specs.Listing.{captures, packet_limit, faults_from};
 ghost use Rattle.dap_follow.specs.Following.{FollowGives, IsFollowed};
 ghost use Rattle.dap_follow.specs.Inner.Reading.{FirstThenWants, WantsOrFirst};

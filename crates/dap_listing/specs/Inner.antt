@@ -7,4 +7,3 @@ pub mod Lines
 pub mod Decoding
 pub mod Messages
 pub mod Fields
-pub mod Firsts

@@ -12,7 +12,7 @@ use Rattle.rec_file.specs.Shapes.{checked_shape}
 use Rattle.dap_accessed.specs.declared.fault.AddFault.{AddFault}
 use Rattle.dap_accessed.specs.declared.fault.AddFault.TheVariants as add
 use Rattle.dap_accessed.specs.Standing.{Files}
-use Rattle.dap_accessed.specs.Inner.Present.{Present, present_of}
+use Rattle.dap_accessed.specs.Present.{Present, present_of}
 use Rattle.dap_accessed.specs.Groups.{stands_after}
 use Rattle.dap_accessed.specs.Adding.{IsFresh, IsLate, MayAdd, MayAddRecord, AddRefused, RecordRefused}
 use Rattle.dap_end.specs.declared.fault.TakeFault.{TakeFault}

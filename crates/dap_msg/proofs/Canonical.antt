@@ -18,8 +18,8 @@ use Rattle.dap_msg.specs.Inner.Refusals.{refuses_type, refuses_flags, refuses_st
 use Rattle.dap_msg.specs.Inner.Whole.{message_at}
 use Rattle.dap_msg.proofs.Messages.{ok_only}
 use Rattle.dap_msg.specs.Canon.{Fits}
-use Rattle.dap_msg.specs.Inner.Canon.{option_bytes, bits_of, attribute_flags, control_flags, operand_bytes, canon}
-use Rattle.dap_msg.specs.Inner.Fitting.{FitsField, FitsOption, FieldsFit, KeepsLimits}
+use Rattle.dap_msg.specs.Canon.{option_bytes, bits_of, attribute_flags, control_flags, operand_bytes, canon}
+use Rattle.dap_msg.specs.Fitting.{FitsField, FitsOption, FieldsFit, KeepsLimits}
 
 -- ---- Fields.
 

@@ -7,9 +7,9 @@ use Rattle.dap_fields.specs.Writing.{groups}
 use Rattle.dap_msg.specs.Message.{Message, StatusFields, Ack, Filedata, Status}
 use Rattle.dap_msg.specs.Formats.{type_number, header_bytes}
 use Rattle.dap_msg.specs.Canon.{Fits}
-use Rattle.dap_msg.specs.Inner.Canon.{operand_bytes, canon}
-use Rattle.dap_msg.specs.Inner.Fitting.{FieldsFit}
-use Rattle.dap_msg.specs.Inner.Sizes.{header_size, file_data_size}
+use Rattle.dap_msg.specs.Canon.{operand_bytes, canon}
+use Rattle.dap_msg.specs.Fitting.{FieldsFit}
+use Rattle.dap_msg.specs.Sizes.{header_size, file_data_size}
 use Rattle.dap_msg.specs.BothEnds.{config_of, complete_with, attributes_of}
 use Rattle.dap_msg.specs.Inner.Answers.{IsShortAnswer, AnswersFit}
 use Rattle.dap_msg.proofs.Canonical.{closed_spelling}

@@ -5,7 +5,7 @@ use Rattle.std.proofs.lemmas.List.{at_drop_more}
 use Rattle.std.specs.Int.{from_bool}
 use Rattle.std.specs.Prelude.{map}
 use Rattle.dap_msg.specs.declared.encoding.Field.{Field}
-use Rattle.dap_msg.specs.Inner.Canon.{bits_of}
+use Rattle.dap_msg.specs.Canon.{bits_of}
 use Rattle.dap_msg.specs.Inner.Fields.{is_there}
 
 -- fewer than 63 flags are less than half of what 64 bits hold

@@ -5,8 +5,8 @@ use Rattle.std.specs.List.{concat}
 use Rattle.dap_fields.specs.Writing.{groups}
 use Rattle.dap_msg.specs.Grammar.{Kind, Byte, Word, Extensible, Image, ValueOf, field_bytes}
 use Rattle.dap_msg.specs.Message.{Message, Config, Attrib, Access, Control, Contran, Ack, Accomp, Filedata, Status, Other}
-use Rattle.dap_msg.specs.Inner.Canon.{option_bytes, operand_fields, operand_bytes}
-use Rattle.dap_msg.specs.Inner.Fitting.{FitsField, FitsOption, FieldsFit}
+use Rattle.dap_msg.specs.Canon.{option_bytes, operand_fields, operand_bytes}
+use Rattle.dap_msg.specs.Fitting.{FitsField, FitsOption, FieldsFit}
 
 groups_short : (n v : ℕ) → length (groups n v) ≤ n
 unfolding groups

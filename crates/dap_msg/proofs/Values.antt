@@ -10,8 +10,8 @@ use Rattle.dap_msg.specs.Message.{Header, Message, Filedata, Other, length_of}
 use Rattle.dap_msg.specs.Formats.{header, configuration, attributes, access, control, continuation, acknowledge, completion, file_data, status, other, operand, type_number}
 use Rattle.dap_msg.specs.Decoding.{HasLength, SpellsMessage, IsDecoded, IsSpelled}
 use Rattle.dap_msg.specs.Canon.{Fits}
-use Rattle.dap_msg.specs.Inner.Canon.{operand_bytes}
-use Rattle.dap_msg.specs.Inner.Fitting.{FitsField, FitsOption, FieldsFit, KeepsLimits}
+use Rattle.dap_msg.specs.Canon.{operand_bytes}
+use Rattle.dap_msg.specs.Fitting.{FitsField, FitsOption, FieldsFit, KeepsLimits}
 use Rattle.dap_msg.specs.Inner.Refusals.{refuses_type}
 use Rattle.dap_msg.proofs.Canonical.{open_spelling}
 use Rattle.dap_msg.proofs.Sizes.{plain_short}

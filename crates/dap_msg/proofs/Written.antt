@@ -8,8 +8,8 @@ use Rattle.dap_msg.specs.Grammar.{Part, Must, When, OrElse, UnlessEnd, Remainder
 use Rattle.dap_msg.specs.Message.{Message, Config, Attrib, Access, Control, Contran, Ack, Accomp, Filedata, Status, Other}
 use Rattle.dap_msg.specs.Formats.{has, operand, configuration, attributes, access, control, continuation, acknowledge, completion, file_data, status, other, type_number, header_bytes}
 use Rattle.dap_msg.specs.Canon.{IsWritten, Fits}
-use Rattle.dap_msg.specs.Inner.Canon.{bits_of, operand_bytes, canon}
-use Rattle.dap_msg.specs.Inner.Fitting.{FieldsFit}
+use Rattle.dap_msg.specs.Canon.{bits_of, operand_bytes, canon}
+use Rattle.dap_msg.specs.Fitting.{FieldsFit}
 use Rattle.dap_msg.specs.Inner.Refusals.{refuses_bits}
 use Rattle.dap_msg.proofs.Canonical.{other_operand, operand_written}
 use Rattle.dap_msg.proofs.Values.{limits}

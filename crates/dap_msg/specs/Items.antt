@@ -4,7 +4,7 @@ use Rattle.std.specs.Prelude.{◌≡◌, ℕ, ◌+◌, ◌<◌, ◌⊎◌, List,
 -- offset is counted from the start of the NSP message.
 pub use Rattle.dap_msg.specs.declared.items.Item.{Item}
 pub use Rattle.dap_msg.specs.declared.items.Item.TheVariants.{Whole, Malformed}
-use Rattle.dap_msg.specs.Decoding.{StandsInFront, IsFault}
+use Rattle.dap_msg.specs.Decoding.{StandsInFront, IsFault, IsSpelled}
 
 -- a place at which an item begins; an NSP message without bytes has one too
 abbrev pub IsPlace : ℕ → List ℕ → Type 0
@@ -20,6 +20,11 @@ ItemAt bytes at (Malformed fault) next =
 -- it stands somewhere in some bytes
 abbrev pub IsRead : Item → Type 0
 IsRead item = (bytes : List ℕ) × (at : ℕ) × (next : ℕ) × ItemAt bytes at item next
+
+-- a message, if it is one, is one that some bytes spell
+abbrev pub ItemFits : Item → Type 0
+ItemFits (Whole m) = IsSpelled m
+ItemFits (Malformed fault) = Unit {0}
 
 -- The items from a place on: each begins where the one before it ends, and the last ends with the bytes.
 abbrev pub ItemsFrom : List ℕ → ℕ → List Item → Type 0

@@ -5,10 +5,10 @@ ghost use Rattle.dap_fields.specs.Writing.{shortest};
 ghost use Rattle.dap_msg.specs.Message.{Accomp, Attrib, Control};
 ghost use Rattle.dap_msg.specs.Formats.{header_bytes};
 ghost use Rattle.dap_msg.specs.Canon.{canon, Fits};
-ghost use Rattle.dap_msg.specs.Inner.Canon.{operand_bytes, option_bytes, bits_of};
+ghost use Rattle.dap_msg.specs.Canon.{operand_bytes, option_bytes, bits_of};
 ghost use Rattle.dap_msg.specs.Written.{Appends, no_memory};
 ghost use Rattle.dap_msg.specs.Inner.Fields.{bytes_of, fields_bytes, message_bytes, is_there, CanWrite, CanWriteAll};
-ghost use Rattle.dap_msg.specs.Inner.Fitting.{FieldsFit, FitsOption, KeepsLimits};
+ghost use Rattle.dap_msg.specs.Fitting.{FieldsFit, FitsOption, KeepsLimits};
 
 use crate::fault::MsgFault;
 use crate::header::HeaderFlags;
@@ -343,7 +343,7 @@ macro_rules! with_fields {
 }
 
 /// Appends a message as [`encode_counted`] does.
-#[tactic(auto, unfolding(crate::specs::Inner::Canon::canon))]
+#[tactic(auto, unfolding(crate::specs::Canon::canon))]
 #[inline(always)]
 fn encode_here(message: &Message<'_>, len: usize, out: &mut Vec<u8>) -> Result<(), MsgFault>
     requires fits { KeepsLimits message.now }

@@ -3,8 +3,8 @@
 ghost use Rattle.std.specs.Prelude.{◌<◌, ◌^◌, ◌↔◌, length, IsTrue};
 ghost use Rattle.dap_msg.specs.Message.{Accomp, Attrib, Config, Control};
 ghost use Rattle.dap_msg.specs.Canon.{Fits};
-ghost use Rattle.dap_msg.specs.Inner.Canon.{operand_bytes};
-ghost use Rattle.dap_msg.specs.Inner.Fitting.{FieldsFit, FitsOption};
+ghost use Rattle.dap_msg.specs.Canon.{operand_bytes};
+ghost use Rattle.dap_msg.specs.Fitting.{FieldsFit, FitsOption};
 
 use crate::codes::{GREATEST_TYPE, TYPE_STATUS};
 use crate::field;

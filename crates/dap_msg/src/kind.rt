@@ -6,7 +6,7 @@ ghost use Rattle.dap_msg.specs.Grammar as kinds;
 ghost use Rattle.dap_msg.specs.Grammar.{ValueOf, field_bytes};
 ghost use Rattle.dap_msg.specs.Inner.Reading.{field_at, Gives};
 ghost use Rattle.dap_msg.specs.Inner.Fields.{bytes_of, CanWrite, is_there};
-ghost use Rattle.dap_msg.specs.Inner.Fitting.{FitsField};
+ghost use Rattle.dap_msg.specs.Fitting.{FitsField};
 
 use crate::bytes::Bytes;
 use crate::encoding::Field;

@@ -16,7 +16,7 @@ use Rattle.dap_accessing.specs.Present as accessing
 use Rattle.dap_accessing.specs.Asked.{Asked, messages_of}
 use Rattle.dap_accessing.specs.Told.{Told}
 use Rattle.dap_accessing.specs.Phase.{IsAdmissible, IsNoneDue, phase_after, limit_after}
-use Rattle.dap_accessing.specs.Inner.Phases.{phase_fits}
+use Rattle.dap_accessing.specs.Phases.{phase_fits}
 use Rattle.dap_accessing.specs.declared.phase.Phase.{Phase}
 use Rattle.dap_accessing.specs.declared.phase.Phase.TheVariants.{Fresh, Ready, Opened, Connected, Stopped}
 use Rattle.dap_accessing.specs.Request.{Request}

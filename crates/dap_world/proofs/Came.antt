@@ -14,7 +14,7 @@ use Rattle.nsp_link.specs.Inner.Due.{Delivered, MayRefuse, taken_after}
 use Rattle.nsp_link.specs.declared.link.Got.{Got}
 use Rattle.nsp_link.specs.declared.fault.LinkFault.{LinkFault}
 use Rattle.dap_end.specs.Ports.{PortValue}
-use Rattle.dap_end.specs.Inner.Moved.{with_link as port_with}
+use Rattle.dap_end.specs.Moved.{with_link as port_with}
 use Rattle.nsp_link.specs.Receiving.{Receives}
 use Rattle.dap_end.specs.Asking.{HasAsked}
 use Rattle.dap_end.specs.Done.{AskingValue}
@@ -43,7 +43,7 @@ use Rattle.dap_world.proofs.Kept.{kept-step}
 use Rattle.dap_world.proofs.Ways.{takes, told_gives, told_takes}
 use Rattle.dap_world.proofs.Arriving.{AllNear, IsDueAs, due}
 use Rattle.dap_world.proofs.Wrote.{AreAfter, AreThen, StaysAt, asking_parts, serving_parts, at_a, at_b, none_more}
-use Rattle.dap_end.specs.Inner.Pasts.{Still}
+use Rattle.dap_end.specs.Pasts.{Still}
 
 -- ---- What is near.
 

@@ -6,7 +6,7 @@ use Rattle.nsp_link.specs.Cutting.{cut}
 use Rattle.nsp_link.specs.Limits.{most_segments}
 use Rattle.std.specs.Prelude.{◌≢◌, Option, Some, None}
 use Rattle.dap_accessing.specs.declared.pending.Pending.{Pending}
-use Rattle.dap_accessing.specs.Inner.Present.{FitsDue}
+use Rattle.dap_accessing.specs.Present.{FitsDue}
 use Rattle.dap_accessing.specs.Told.{Due, NothingDue, AnswersDue, Wrong, due_after}
 use Rattle.dap_world.specs.Machine.{answers_read, arrived, reported}
 use Rattle.dap_world.specs.Inner.Settling.{IsOneDue}

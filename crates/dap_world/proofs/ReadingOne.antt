@@ -26,7 +26,7 @@ use Rattle.dap_accessing.specs.Calls.{ReadRefused}
 use Rattle.dap_accessing.specs.declared.fault.ReadFault.{ReadFault}
 use Rattle.dap_accessing.specs.declared.fault.ReadFault.TheVariants as read_fault
 use Rattle.dap_end.specs.Ports.{PortValue}
-use Rattle.dap_end.specs.Inner.After.{oldest}
+use Rattle.dap_end.specs.Going.{oldest}
 use Rattle.dap_end.specs.Going.{given_then}
 use Rattle.dap_end.specs.Asking.{HasAsked, ReadNone, ReadOne}
 use Rattle.dap_end.specs.Done.{AskingValue}

@@ -28,7 +28,7 @@ use Rattle.dap_end.specs.Done.{ServingValue, Past}
 use Rattle.dap_end.proofs.ForCallers.{answer_to, answers-more, back_fit, front_fit, front_full, in_append}
 use Rattle.dap_world.specs.Inner.Sides.{AreShort, side_of}
 use Rattle.dap_world.specs.Inner.Parts.{Parts, AreParts, IsAskedAll, IsServedAll, IsTold, asks, answers, asking_end, serving_end, served_items, answer_packets, end_state, state_of}
-use Rattle.dap_end.specs.Inner.Pasts.{AreFull, served}
+use Rattle.dap_end.specs.Pasts.{AreFull, served}
 use Rattle.dap_world.proofs.Counting.{counted}
 use Rattle.dap_world.proofs.Packets.{arrived-front, get-front, take-next}
 use Rattle.dap_world.proofs.Blocks.{asked-all, asked-full}

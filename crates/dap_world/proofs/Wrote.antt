@@ -20,7 +20,7 @@ use Rattle.dap_world.specs.Inner.Worlds.{IsWorld}
 use Rattle.dap_accessed.specs.Present as accessed
 use Rattle.dap_accessing.specs.Present as accessing
 use Rattle.dap_end.specs.Ports.{PortValue}
-use Rattle.dap_end.specs.Inner.Moved.{sent_more}
+use Rattle.dap_end.specs.Moved.{sent_more}
 use Rattle.dap_end.specs.Asking.{HasAsked}
 use Rattle.dap_end.specs.Done.{AskingValue}
 use Rattle.dap_end.specs.Serving.{IsAfter}
@@ -33,7 +33,7 @@ use Rattle.dap_msg.specs.Blocked.{NspMessage}
 use Rattle.dap_world.proofs.Counting.{segments-handed, queued}
 use Rattle.dap_world.proofs.Kept.{kept-step}
 use Rattle.dap_world.proofs.Ways.{told_writes, told_sent, wrote_side}
-use Rattle.dap_end.specs.Inner.Pasts.{Still}
+use Rattle.dap_end.specs.Pasts.{Still}
 
 -- whatever the end was after, it is after that still
 abbrev pub StaysAt : Parts → End → SideValue → Type 0

@@ -3,4 +3,3 @@ pub mod Sorted
 pub mod Numbered
 pub mod Pages
 pub mod Places
-pub mod Stored

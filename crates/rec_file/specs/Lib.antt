@@ -5,4 +5,5 @@ pub mod Files
 pub mod Acts
 pub mod AnyFiles
 pub mod Pages
+pub mod Stored
 pub mod Inner

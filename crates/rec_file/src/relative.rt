@@ -40,7 +40,7 @@ impl Model for RelFile {
     ghost use Rattle.rec_file.specs.Shapes.{is_seq};
     ghost use Rattle.rec_file.specs.Inner.Pages.{paged_file, pages_at, HaveOwnPlaces, IsPage};
     ghost use Rattle.rec_file.specs.Files.{FileVal, IsFile};
-    ghost use Rattle.rec_file.specs.Inner.Stored.{file_code};
+    ghost use Rattle.rec_file.specs.Stored.{file_code};
 
     ghost Value = { FileVal };
 

@@ -21,7 +21,7 @@ impl Model for SeqFile {
     ghost use Rattle.rec_file.specs.Shapes.{is_seq};
     ghost use Rattle.rec_file.specs.Inner.Numbered.{sequential_file};
     ghost use Rattle.rec_file.specs.Files.{FileVal, IsFile};
-    ghost use Rattle.rec_file.specs.Inner.Stored.{file_code};
+    ghost use Rattle.rec_file.specs.Stored.{file_code};
 
     ghost Value = { FileVal };
 

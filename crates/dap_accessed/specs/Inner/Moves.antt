@@ -26,7 +26,7 @@ use Rattle.dap_accessed.specs.Replies.{bare_status}
 use Rattle.dap_accessed.specs.Records.{verb_of, Putting, Updating, refused}
 use Rattle.dap_accessed.specs.Transfers.{fetch}
 use Rattle.dap_accessed.specs.Effects.{Turn, Does, Begins, effect_fresh, effect_ready, effect_opened, turn_connected, effect_store, effect_stopped, effect_with}
-use Rattle.dap_accessed.specs.Inner.Present.{Present, Memory, phase_at, phase_within}
+use Rattle.dap_accessed.specs.Present.{Present, Memory, phase_at, phase_within}
 use Rattle.dap_accessed.specs.Inner.Written.{Answered}
 
 -- what an item leaves, and its answers

@@ -18,7 +18,7 @@ use Rattle.dap_accessed.specs.Replies.{bare_status, completed}
 use Rattle.dap_accessed.specs.Past.{next_ordinal}
 use Rattle.dap_accessed.specs.Records.{Putting, Updating, changed, get_pick, put_key, record_got, settled}
 use Rattle.dap_accessed.specs.Transfers.{fetch, store_one}
-use Rattle.dap_accessed.specs.Inner.Present.{Present}
+use Rattle.dap_accessed.specs.Present.{Present}
 use Rattle.dap_accessed.specs.Inner.Written.{IsShort, message_of}
 use Rattle.dap_accessed.specs.Inner.Moves.{IsOpenIn, Move, begins, creates, does, is_silent, move_in, opens, opens_nothing, scene_in, settles, store_memory}
 

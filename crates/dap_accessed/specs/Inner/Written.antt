@@ -6,7 +6,7 @@ use Rattle.dap_msg.specs.Codes as codes
 use Rattle.dap_msg.specs.declared.message.Message.{Message}
 use Rattle.dap_msg.specs.declared.message.Message.TheVariants.{Ack, Filedata}
 use Rattle.dap_msg.specs.Canon.{canon}
-use Rattle.dap_msg.specs.Inner.Sizes.{file_data_size}
+use Rattle.dap_msg.specs.Sizes.{file_data_size}
 use Rattle.dap_msg.specs.BothEnds.{four_bytes, config_of, least_buffer}
 use Rattle.dap_msg.specs.Blocked.{Blocked, all_joined, bodies, AllFit}
 use Rattle.rec_file.specs.Limits.{longest_record}

@@ -12,7 +12,7 @@ use Rattle.dap_accessing.specs.declared.report.Report.TheVariants as report
 use Rattle.dap_accessing.specs.declared.pending.Pending.{Pending}
 use Rattle.dap_accessing.specs.declared.pending.Pending.TheVariants as pending
 use Rattle.dap_accessing.specs.Told.{Hearing, Reports, Waits, Unexpected, hear_refusal, hear_config, hear_ack, hear_record, hear_done, hear_completed, told_of}
-use Rattle.dap_accessing.specs.Inner.Parts.{opened_as, ending_of, completes}
+use Rattle.dap_accessing.specs.Parts.{opened_as, ending_of, completes}
 
 -- the Ack of an open or a create
 abbrev pub gather_opened : Report → List Item → Hearing

@@ -1,5 +1,5 @@
 -- What one answer does to what an end keeps.
-use Rattle.std.specs.Prelude.{ℕ, ◌≡◌, ◌≤◌, ◌⊎◌, true, List, [], ◌∷◌, ◌++◌, length, Option, Some, None, unwrap_or, if◌then◌else◌, Result, Ok, Err}
+use Rattle.std.specs.Prelude.{ℕ, ◌≡◌, ◌≤◌, ◌⊎◌, true, false, List, [], ◌∷◌, ◌++◌, length, Option, Some, None, unwrap_or, if◌then◌else◌, Result, Ok, Err}
 use Rattle.dap_msg.specs.Codes as codes
 use Rattle.dap_msg.specs.declared.message.Message.{Message}
 use Rattle.dap_msg.specs.declared.message.Message.TheVariants.{Attrib, Filedata, Status}
@@ -62,6 +62,12 @@ Hears pending item result = (rest : List Item) → gather pending (item ∷ rest
 abbrev pub AddsBody : List (ℕ × List ℕ) → ℕ → List ℕ → Heard → Type 0
 AddsBody bodies number body (heard.NoMemory same) = same ≡ pending.Batch bodies
 AddsBody bodies number body result = result ≡ heard.Waits (pending.Batch (bodies ++ (number, body) ∷ []))
+
+-- a record, or a Status that says why there is none
+abbrev pub IsRecordOrRefusal : Message → Type 0
+IsRecordOrRefusal (Filedata recnum body) = Unit {0}
+IsRecordOrRefusal (Status status) = codes.is_success status.code ≡ false
+IsRecordOrRefusal _ = ⊥
 
 -- the numbers in a message that are given as bytes have at most 8
 abbrev pub HasShortNumbers : Message → Type 0

@@ -1,6 +1,6 @@
 -- What a check of lines tells.
 use Rattle.std.specs.Prelude.{◌≡◌, ◌⊎◌, List, [], slice_get, Some, Result, MatchResult}
-use Rattle.dap_listing.specs.Inner.Firsts.{IsFirst}
+use Rattle.dap_listing.specs.Firsts.{IsFirst}
 use Rattle.dap_listing.specs.declared.fault.CaptureFault.{CaptureFault}
 use Rattle.dap_listing.specs.declared.fault.CaptureFault.TheVariants.{NoMemory}
 

@@ -3,7 +3,7 @@ use Rattle.std.specs.Prelude.{◌≤◌, ℕ, List, length, All}
 use Rattle.dap_msg.specs.Items.{IsPlace}
 use Rattle.nsp_link.specs.Limits.{largest_limit}
 use Rattle.dap_end.specs.Ports.{PortValue}
-use Rattle.dap_end.specs.Inner.After.{oldest}
+use Rattle.dap_end.specs.Going.{oldest}
 
 abbrev pub AreShort : List (List ℕ) → Type 0
 AreShort messages = All (λ m. length m ≤ largest_limit) messages

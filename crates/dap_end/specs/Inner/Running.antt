@@ -1,71 +1,20 @@
--- What a list of calls leaves, event by event.
-use Rattle.std.specs.Prelude.{◌≡◌, ◌⊎◌, ℕ, ◌+◌, ◌-◌, ◌<◌, List, [], ◌∷◌, ◌++◌, map, Option, Some, Result, IfSome, option_map}
+-- What a list of calls leaves, as proofs go over it.
+use Rattle.std.specs.Prelude.{◌≡◌, ℕ, List, [], ◌++◌, map}
 use Rattle.dap_msg.specs.declared.message.Message.{Message}
 use Rattle.dap_msg.specs.declared.items.Item.{Item}
 use Rattle.dap_msg.specs.declared.items.Item.TheVariants.{Whole}
-use Rattle.nsp_link.specs.declared.link.Got.{Got}
 use Rattle.nsp_link.specs.declared.link.LinkSetup.{LinkSetup}
-use Rattle.nsp_link.specs.declared.fault.LinkFault.{LinkFault}
-use Rattle.nsp_link.specs.Link.{LinkValue, IsSetup, Stands, with_inbox, AreShort}
-use Rattle.nsp_link.specs.Receiving.{Receives}
-use Rattle.nsp_link.specs.Sending.{WritesSent}
+use Rattle.nsp_link.specs.Link.{IsSetup, Stands, with_inbox, AreShort}
 use Rattle.dap_accessed.specs.Standing.{Files}
 use Rattle.dap_accessed.specs.Groups.{Answers, After}
-use Rattle.dap_accessing.specs.Request.{Request}
-use Rattle.dap_accessing.specs.declared.report.Report.{Report}
 use Rattle.dap_accessing.specs.Asked.{Asked}
 use Rattle.dap_accessing.specs.Told.{Told}
-use Rattle.dap_end.specs.Ports.{EndValue, HandsOver, new_port}
-use Rattle.dap_end.specs.Inner.Moved.{with_link}
-use Rattle.dap_end.specs.Done.{ServingValue, Past, nothing_yet, AskingValue, nothing_asked}
+use Rattle.dap_end.specs.Ports.{new_port}
+use Rattle.dap_end.specs.Done.{ServingValue, Past, nothing_yet, nothing_asked}
 use Rattle.dap_end.specs.Serving.{IsAfter}
-use Rattle.dap_end.specs.Asking.{HasAsked, AskedOne}
-use Rattle.dap_end.specs.Hearing.{ReadOn, asks}
-use Rattle.dap_end.specs.Writing.{Behind, WroteMore}
-use Rattle.dap_end.specs.Turns.{EndOf}
-use Rattle.dap_end.specs.Taking.{serves}
-use Rattle.dap_end.specs.Runs.{RunsBy}
-use Rattle.dap_end.specs.Headline.{Arrival, Written}
-use Rattle.dap_end.specs.Joined.{Pair, IsBrought}
-
--- these packets, of the segments in order from this number on
-abbrev pub numbered : (k acks : ℕ) → List (List ℕ) → List Written
-numbered k acks [] = []
-numbered k acks (bytes ∷ packets) = record { bytes = bytes; segment = Some k; acks = acks } ∷ numbered (k + 1) acks packets
-
--- it carries that segment of whatever was handed to the link, or none, and all that the link has taken
-abbrev pub WroteOne : LinkValue → Option ℕ → Written → Type 0
-WroteOne v k w = (w.segment ≡ k) × (w.acks ≡ v.coming.received) × WritesSent v k w.bytes
-
--- ---- Calls.
-
--- A packet came; the end did what it does by itself, or some of it; it wrote a segment again that isn't acknowledged, by its
--- place among these, or none: an acknowledgement.
-pub data EndEvent : Type 0 where
-  Came : List ℕ → EndEvent
-  GoesOn : EndEvent
-  Repeats : Option ℕ → EndEvent
-
--- what each leaves of either end, and the packets that it writes, where the end does so by itself before it writes, and such
--- bytes may come to its link
-abbrev pub EndStepped : {P : Type 0} → EndOf P → (does : EndValue P → EndValue P → Type 0) → (comes : LinkValue → List ℕ → Type 0) → (old : EndValue P) → EndEvent → (new : EndValue P) → List Written → Type 0
-EndStepped end does comes old (Came bytes) new wrote =
-    (result : Result Got LinkFault) × (link : LinkValue) × Receives old.port.link link bytes result
-    × (new ≡ record old { port = with_link old.port link }) × (wrote ≡ []) × end.quiet × comes old.port.link bytes
-EndStepped {P} end does comes old GoesOn new wrote =
-    (mid : EndValue P) × (packets : List (List ℕ)) × does old mid × WroteMore mid.port new.port packets × (new ≡ record mid { port = new.port })
-    × (wrote ≡ numbered (mid.port.link.sent + 1) mid.port.link.coming.received packets)
-EndStepped end does comes old (Repeats k) new wrote =
-    let v = old.port.link in
-    (w : Written) × IfSome k (λ i. i < v.sent - v.acked) × WroteOne v (option_map (λ i. v.acked + 1 + i) k) w
-    × (new ≡ old) × (wrote ≡ w ∷ []) × end.quiet
-
--- these bytes came to this link
-abbrev pub IsOneOf : List Arrival → LinkValue → List ℕ → Type 0
-IsOneOf [] v bytes = ⊥
-IsOneOf (c ∷ came) v bytes = (c ≡ (v, bytes)) ⊎ IsOneOf came v bytes
-
--- ---- The end that serves.
+use Rattle.dap_end.specs.Asking.{HasAsked}
+use Rattle.dap_end.specs.Writing.{Behind}
+use Rattle.dap_end.specs.Joined.{Pair}
 
 -- What the end did grew into this.
 pub record Grew (past now : Past) (old new : ServingValue) : Type 0 where
@@ -85,58 +34,6 @@ pub record ServedMore (old new : ServingValue) : Type 0 where
   pub own : new.present.own ≡ old.present.own
   pub past : (past : Past) → IsAfter past old → (now : Past) × Grew past now old new
 
--- the end, with its packets so far: those of the event stand behind them
-abbrev pub Stepped : (comes : LinkValue → List ℕ → Type 0) → ServingValue × List Written → EndEvent → List Written → ServingValue × List Written → Type 0
-Stepped comes old event more new = EndStepped serves ServedMore comes old.0 event new.0 more × (new.1 ≡ old.1 ++ more)
-
--- one after another
-abbrev pub EventRuns : (comes : LinkValue → List ℕ → Type 0) → ServingValue → List EndEvent → ServingValue → List Written → Type 0
-EventRuns comes old events new wrote = RunsBy (Stepped comes) (old, []) events (new, wrote)
-
-abbrev pub RunsAs : (comes : LinkValue → List ℕ → Type 0) → (old new : ServingValue) → List Written → Type 0
-RunsAs comes old new wrote = (events : List EndEvent) × EventRuns comes old events new wrote
-
--- calls lead from one end to another, and write these packets; whatever comes is one of these
-abbrev pub Runs : List Arrival → (old new : ServingValue) → List Written → Type 0
-Runs came old new wrote = RunsAs (IsOneOf came) old new wrote
-
--- ---- The end that asks.
-
--- A request was asked, or what happens to either end.
-pub data AskingEvent : Type 0 where
-  Asks : Request → AskingEvent
-  By : EndEvent → AskingEvent
-
--- answers were read, whose reports stand behind those before, and then all that waited was handed over, or none
-abbrev pub HeardMore : (before after : List Report) → AskingValue → AskingValue → Type 0
-HeardMore before after old new = (heard : AskingValue) × Behind before after (ReadOn old heard) × ((new ≡ heard) ⊎ ((n : ℕ) × HandsOver heard new n))
-
--- the end, with its reports and its packets so far: those of the event stand behind them
-abbrev pub AskingStepped : (comes : LinkValue → List ℕ → Type 0) → AskingValue × List Report × List Written → AskingEvent → List Written → AskingValue × List Report × List Written → Type 0
-AskingStepped comes old (Asks request) more new = (n : ℕ) × AskedOne request old.0 new.0 n × (more ≡ []) × (new.1 ≡ old.1) × (new.2 ≡ old.2)
-AskingStepped comes old (By event) more new =
-    EndStepped (asks old.1 new.1) (HeardMore old.1 new.1) comes old.0 event new.0 more × (new.2 ≡ old.2 ++ more)
-
--- one after another
-abbrev pub AskingEventRuns : (comes : LinkValue → List ℕ → Type 0) → AskingValue → List AskingEvent → AskingValue → List Report → List Written → Type 0
-AskingEventRuns comes old events new reports wrote = RunsBy (AskingStepped comes) (old, [], []) events (new, reports, wrote)
-
-abbrev pub requests_in : List AskingEvent → List Request
-requests_in [] = []
-requests_in (Asks request ∷ events) = request ∷ requests_in events
-requests_in (_ ∷ events) = requests_in events
-
-abbrev pub AskingRunsAs : (comes : LinkValue → List ℕ → Type 0) → List Request → (old new : AskingValue) → List Report → List Written → Type 0
-AskingRunsAs comes requests old new reports wrote =
-    (events : List AskingEvent) × (requests ≡ requests_in events) × AskingEventRuns comes old events new reports wrote
-
--- calls, in which these requests were asked, lead from one end to another, tell these reports and write these packets; whatever
--- comes is one of these
-abbrev pub AskingRuns : List Arrival → List Request → (old new : AskingValue) → List Report → List Written → Type 0
-AskingRuns came requests old new reports wrote = AskingRunsAs (IsOneOf came) requests old new reports wrote
-
--- ---- Both.
-
 -- the setups of the two ends of one link: but for their segments and windows they differ in the addresses, exchanged
 pub record AreOpposite (s t : LinkSetup) : Type 0 where
   pub good : IsSetup s
@@ -150,22 +47,6 @@ pub record AreNew (s t : LinkSetup) (first : Files) (p : Pair) : Type 0 where
   pub port_b : p.b.port ≡ new_port t
   pub serving : IsAfter (nothing_yet first) p.b
   pub none : p ≡ record { a = p.a; b = p.b; from_a = []; from_b = []; requests = []; reports = [] }
-
-pub data PairEvent : Type 0 where
-  AtA : AskingEvent → PairEvent
-  AtB : EndEvent → PairEvent
-
--- one end is called, and writes this
-abbrev pub PairStepped : Pair → PairEvent → List Written → Pair → Type 0
-PairStepped old (AtA event) more new =
-    AskingStepped (IsBrought old.from_b) (old.a, old.reports, old.from_a) event more (new.a, new.reports, new.from_a)
-    × (new ≡ record old { a = new.a; from_a = new.from_a; requests = old.requests ++ requests_in (event ∷ []); reports = new.reports })
-PairStepped old (AtB event) more new =
-    Stepped (IsBrought old.from_a) (old.b, old.from_b) event more (new.b, new.from_b) × (new ≡ record old { b = new.b; from_b = new.from_b })
-
--- calls of both lead from one pair to another
-abbrev pub PairRuns : (old new : Pair) → Type 0
-PairRuns old new = (events : List PairEvent) × RunsBy PairStepped old events new
 
 -- The messages that were served are the first of those that the requests ask, each once and in order; the files are those
 -- after them; the answers that were read are the first of the answers to them, and the reports are those that the definition

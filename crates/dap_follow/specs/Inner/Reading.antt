@@ -2,7 +2,7 @@
 use Rattle.std.specs.Prelude.{◌≡◌, ◌+◌, ◌<◌, ◌^◌, ◌⊎◌, ℕ, List, [], ◌∷◌, ◌++◌, length, map}
 use Rattle.std.specs.List.{AllZip}
 use Rattle.dap_listing.specs.Captured.{bytes_of}
-use Rattle.dap_listing.specs.Inner.Firsts.{IsFirst}
+use Rattle.dap_listing.specs.Firsts.{IsFirst}
 use Rattle.dap_listing.specs.Listing.{captures, heading, packet_limit, faults_from}
 use Rattle.dap_listing.specs.Packets.{IsSeen, Seen, seen_line}
 use Rattle.dap_listing.specs.declared.fault.CaptureFault.{CaptureFault}

@@ -4,7 +4,7 @@ use Rattle.std.specs.List.{position}
 use Rattle.std.specs.Str.Lines.{lines}
 use Rattle.dap_listing.specs.Listing.{captures, faults_from, limit_of, CaptureLines}
 use Rattle.dap_listing.specs.Lines.{Capture}
-use Rattle.dap_listing.specs.Inner.Firsts.{IsFirst}
+use Rattle.dap_listing.specs.Firsts.{IsFirst}
 use Rattle.dap_listing.specs.declared.fault.CaptureFault.{CaptureFault}
 use Rattle.dap_listing.specs.declared.listing.Listed.{Listed}
 

@@ -1,5 +1,5 @@
 use Rattle.std.proofs.Common.{subst}
-use Rattle.dap_msg.specs.Inner.Fitting.{FieldsFit}
+use Rattle.dap_msg.specs.Fitting.{FieldsFit}
 use Rattle.dap_msg.proofs.ForCallers.{fields_fit}
 use Rattle.dap_accessed.proofs.step.ready.Goals as goal
 

@@ -1,6 +1,6 @@
 use Rattle.dap_end.proofs.Running.{receiving_is, serving_is, serving_all_is, posting_is, writing_is, again_is, ack_is, going_on_is, taken_is}
 use Rattle.std.proofs.Common.{[], ◌∷◌, refl, inl}
-use Rattle.dap_end.specs.Inner.Running.{IsOneOf}
+use Rattle.dap_end.specs.Calls.{IsOneOf}
 use Rattle.dap_end.proofs.Arriving.{more_served}
 use Rattle.dap_end.proofs.laws.calls_are_runs.Goals as goal
 

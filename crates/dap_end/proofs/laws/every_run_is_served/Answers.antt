@@ -1,6 +1,6 @@
 use Rattle.std.proofs.Common.{[], ap}
-use Rattle.dap_accessed.specs.Inner.Present.{Present}
-use Rattle.dap_end.specs.Inner.Running.{IsOneOf}
+use Rattle.dap_accessed.specs.Present.{Present}
+use Rattle.dap_end.specs.Calls.{IsOneOf}
 use Rattle.dap_end.proofs.Running.{run, did_nothing}
 use Rattle.dap_end.proofs.laws.every_run_is_served.Goals as goal
 

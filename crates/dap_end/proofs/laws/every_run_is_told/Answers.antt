@@ -1,5 +1,5 @@
 use Rattle.std.proofs.Common.{◌∙◌, sym}
-use Rattle.dap_end.specs.Inner.Running.{IsOneOf}
+use Rattle.dap_end.specs.Calls.{IsOneOf}
 use Rattle.dap_end.proofs.Hearing.{run_promises}
 use Rattle.dap_end.proofs.laws.every_run_is_told.Goals as goal
 

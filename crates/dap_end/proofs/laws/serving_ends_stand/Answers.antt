@@ -1,5 +1,5 @@
 use Rattle.std.proofs.Common.{ap, []}
-use Rattle.dap_accessed.specs.Inner.Present.{Present}
+use Rattle.dap_accessed.specs.Present.{Present}
 use Rattle.dap_end.proofs.Afterwards.{posted_past}
 use Rattle.dap_end.proofs.Proceeding.{counted, on_grew}
 use Rattle.dap_end.proofs.Fronts.{here_front}

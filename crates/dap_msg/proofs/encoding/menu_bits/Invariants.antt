@@ -1,6 +1,6 @@
 use Rattle.std.proofs.Common.{◌≡◌, ◌-◌, ◌^◌, ◌<◌, ◌≤◌, length, drop}
 use Rattle.std.specs.Prelude.{map}
-use Rattle.dap_msg.specs.Inner.Canon.{bits_of}
+use Rattle.dap_msg.specs.Canon.{bits_of}
 use Rattle.dap_msg.specs.Inner.Fields.{is_there}
 use Rattle.dap_msg.proofs.encoding.menu_bits.Given as goal
 

@@ -5,7 +5,7 @@ use Rattle.dap_accessed.specs.declared.phase.Phase.TheVariants as phases
 use Rattle.dap_accessed.specs.Standing.{Effect, the_file}
 use Rattle.dap_msg.specs.Codes as codes
 use Rattle.dap_accessed.specs.Replies.{bare_status, too_large}
-use Rattle.dap_accessed.specs.Inner.Present.{phase_at}
+use Rattle.dap_accessed.specs.Present.{phase_at}
 use Rattle.dap_accessed.specs.Inner.Moves.{plain_memory, scene_in}
 use Rattle.rec_file.specs.AnyFiles.{any_value}
 use Rattle.rec_file.specs.Files.{records_from}

@@ -5,7 +5,7 @@ use Rattle.dap_msg.specs.Blocked.{bodies, Blocked, all_joined}
 use Rattle.dap_msg.specs.Sendable.{AreSendable}
 use Rattle.dap_accessing.specs.Present.{Present}
 use Rattle.dap_accessing.specs.Calls.{Asks}
-use Rattle.dap_accessing.specs.Inner.Prepared.{MayAsk}
+use Rattle.dap_accessing.specs.Prepared.{MayAsk}
 use Rattle.dap_accessing.specs.contracts.accessing.Accessing.{the_view}
 use Rattle.dap_accessing.proofs.Laws.{asks_of}
 use Rattle.dap_accessing.proofs.accessing.Accessing.ask_prepared.Goals as goal

@@ -4,7 +4,7 @@ use Rattle.dap_msg.specs.Sendable.{AreSendable}
 use Rattle.dap_accessing.specs.Present.{Present}
 use Rattle.dap_accessing.specs.Asked.{messages_of}
 use Rattle.dap_accessing.specs.Calls.{AskRefused}
-use Rattle.dap_accessing.specs.Inner.Prepared.{MayAsk}
+use Rattle.dap_accessing.specs.Prepared.{MayAsk}
 use Rattle.dap_accessing.specs.contracts.accessing.Accessing.{the_view}
 use Rattle.dap_accessing.proofs.Laws.{refuse_busy, refuse_phase, refuse_large, may_ask, admit}
 use Rattle.dap_accessing.proofs.accessing.Accessing.prepare.Goals as goal

@@ -2,7 +2,7 @@ use Rattle.std.proofs.Common.{◌≡◌, ℕ, List, [], ◌∷◌, Some, subst}
 use Rattle.std.specs.Prelude.{slice_get}
 use Rattle.dap_fields.specs.Spelling.{AreBytes}
 use Rattle.dap_end.specs.declared.asking.AskingEnd.TheInside.{Inside}
-use Rattle.dap_end.specs.Inner.After.{oldest}
+use Rattle.dap_end.specs.Going.{oldest}
 use Rattle.dap_end.proofs.asking.AskingEnd.may_read.Goals as goal
 
 oldest_is : (inbox : List (List ℕ)) (bytes : List ℕ) → Some bytes ≡ slice_get inbox 0 → AreBytes bytes → AreBytes (oldest inbox)

@@ -3,7 +3,7 @@ use Rattle.std.specs.Prelude.{Ok}
 use Rattle.dap_end.specs.Done.{ServingValue}
 use Rattle.dap_end.specs.Turns.{DidAll}
 use Rattle.dap_end.specs.Taking.{serves}
-use Rattle.dap_end.specs.Inner.Served.{begins}
+use Rattle.dap_end.specs.Taking.{begins}
 use Rattle.dap_end.proofs.Proceeding.{falls, inbox_posted, left, may_more, none_left, none_waits, on_more, works_here}
 use Rattle.dap_end.proofs.serving.ServingEnd.serve_all.Goals as goal
 

@@ -7,7 +7,7 @@ use Rattle.dap_accessed.specs.declared.phase.Phase.{Phase}
 use Rattle.dap_accessed.specs.contracts.phase.Phase as phase_type
 use Rattle.dap_accessed.specs.Standing.{Files}
 use Rattle.dap_accessed.specs.Present.{Present}
-use Rattle.dap_accessed.specs.Inner.Tables.{files_code}
+use Rattle.dap_accessed.specs.Tables.{files_code}
 
 abbrev pub present_code : Coded Present
 present_code =

@@ -3,7 +3,7 @@ use Rattle.std.specs.Prelude.{◌^◌, ◌<◌, ◌≤◌, length, Option, IfSom
 use Rattle.dap_msg.specs.Codes.{types, greatest_type}
 use Rattle.dap_msg.specs.Grammar.{Kind, Byte, Word, Extensible, Image, ValueOf}
 use Rattle.dap_msg.specs.Message.{Message, Config, Attrib, Access, Control, Contran, Ack, Accomp, Filedata, Status, Other}
-use Rattle.dap_msg.specs.Inner.Canon.{operand_bytes}
+use Rattle.dap_msg.specs.Canon.{operand_bytes}
 
 abbrev pub FitsField : (k : Kind) → ValueOf k → Type 0
 FitsField Byte v = v < 256

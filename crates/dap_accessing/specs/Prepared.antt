@@ -5,9 +5,9 @@ use Rattle.dap_msg.specs.BothEnds.{greatest_message}
 use Rattle.dap_accessing.specs.declared.asking.Prepared.{Prepared}
 use Rattle.dap_accessing.specs.Request.{Request}
 use Rattle.dap_accessing.specs.Asked.{messages_of}
-use Rattle.dap_accessing.specs.Inner.Phases.{phase_fits}
+use Rattle.dap_accessing.specs.Phases.{phase_fits}
 use Rattle.dap_accessing.specs.Present.{Present}
-use Rattle.dap_accessing.specs.Inner.Outgoing.{AreCounted, outgoing_messages}
+use Rattle.dap_accessing.specs.Outgoing.{AreCounted, outgoing_messages}
 
 -- the end may ask the request as it stands: the request is admissible by what the end keeps
 pub record MayAsk (old : Present) (request : Request) : Type 0 where

@@ -1,0 +1,169 @@
+-- Where a Config was served, no later item takes the end back; and before that nothing depends on the files that it has.
+use Rattle.std.proofs.Common.{◌≡◌, ℕ, Bool, true, false, List, [], ◌∷◌, ◌++◌, Option, Some, None, Result, Ok, Err, refl, ap, sym, subst, ◌∙◌, append_assoc}
+use Rattle.std.specs.Prelude.{if◌then◌else◌, ◌==◌, take_while, drop}
+use Rattle.std.specs.List.{prefix_len}
+use Rattle.std.proofs.lemmas.List.{append-nil}
+use Rattle.dap_msg.specs.Codes as codes
+use Rattle.dap_msg.specs.declared.message.Message.{Message}
+use Rattle.dap_msg.specs.declared.message.ControlFields.{ControlFields}
+use Rattle.dap_msg.specs.declared.message.AccessFields.{AccessFields}
+use Rattle.dap_msg.specs.declared.message.Message.TheVariants.{Config, Access, Control, Contran, Accomp, Filedata, Other}
+use Rattle.dap_msg.specs.BothEnds.{is_too_small, limit_of, config_of}
+use Rattle.dap_msg.specs.declared.items.Item.{Item}
+use Rattle.dap_msg.specs.declared.items.Item.TheVariants.{Whole, Malformed}
+use Rattle.rec_file.specs.declared.shapes.Shape.{Shape}
+use Rattle.rec_file.specs.declared.refusals.Refusal.{Refusal}
+use Rattle.rec_file.specs.declared.picks.Pick.{Pick}
+use Rattle.rec_file.specs.Files.{records_from}
+use Rattle.rec_file.specs.Acts.{StreamVal, act, get_record}
+use Rattle.dap_accessed.specs.declared.phase.OpenFile.{OpenFile}
+use Rattle.dap_accessed.specs.declared.verbs.Verb.{Verb}
+use Rattle.dap_accessed.specs.declared.verbs.Verb.TheVariants as verbs
+use Rattle.dap_accessed.specs.Standing.{Files, place_of, the_file, Place, Fresh, Ready, Opened, Connected, Store, Stopped, Group, Standing, Scene, Effect, start, enters}
+use Rattle.dap_accessed.specs.Past.{asked_shape, kept_attributes, is_dropping, ordinal_so_far}
+use Rattle.dap_accessed.specs.Replies.{bare_status}
+use Rattle.dap_accessed.specs.Accesses.{open_file, create_file, access_file, end_stream, complete}
+use Rattle.dap_accessed.specs.Records.{verb_of, get_pick, got, record_got, at_number, fits_limit, Change, Putting, Updating, changed}
+use Rattle.dap_accessed.specs.Transfers.{fetch, fetch_ends, continue_fetch}
+use Rattle.dap_accessed.specs.Effects.{Begun, Turn, Does, Begins, control_opened, control_connected, turn_in, turn_of, effect_with}
+use Rattle.dap_accessed.specs.Groups.{Grouped, stands_after}
+use Rattle.dap_accessed.proofs.OneMore.{next_group, more_after}
+use Rattle.dap_accessed.proofs.Cuts.{cut-more}
+
+abbrev is_late : Place → Bool
+is_late Fresh = false
+is_late _ = true
+
+abbrev Late : Effect → Type 0
+Late e = is_late e.place ≡ true
+
+abbrev LateTurn : Turn → Type 0
+LateTurn (Does e) = Late e
+LateTurn (Begins b) = Unit {0}
+
+module _ (scene : Scene) where
+  either : (b : Bool) (one two : Effect) → Late one → Late two → Late (if b then one else two)
+  either true one two h k = h
+  either false one two h k = k
+
+  opening : (fac : ℕ) (at : Option ℕ) → Late (open_file scene fac at)
+  opening fac None = refl
+  opening fac (Some at) = refl
+
+  creating : (name : List ℕ) (fac : ℕ) (at : Option ℕ) (shape : Option Shape) → Late (create_file scene name fac at shape)
+  creating name fac (Some at) shape = refl
+  creating name fac None None = refl
+  creating name fac None (Some shape) = refl
+
+  accessing : (a : AccessFields) (shape : Option Shape) → Late (access_file scene a shape)
+  accessing a shape =
+      either (a.func == codes.accfunc.opening) _ _ (opening a.fac (place_of a.name scene.files))
+      (either (a.func == codes.accfunc.creating) _ _ (creating a.name a.fac (place_of a.name scene.files) shape) refl)
+
+  ended : (o : OpenFile) (place : Place) → Late (end_stream scene o place)
+  ended o (Opened p) = refl
+  ended o Fresh = refl
+  ended o Ready = refl
+  ended o (Connected p s) = refl
+  ended o (Store p s) = refl
+  ended o (Stopped p s) = refl
+
+  completing : (func : ℕ) (o : OpenFile) (place : Place) → is_late place ≡ true → Late (complete func scene o place)
+  completing func o place h =
+      either (func == codes.cmpfunc.close) _ _ refl
+      (either (func == codes.cmpfunc.purge) _ _ refl
+      (either (func == codes.cmpfunc.end_of_stream) _ _ (ended o place) (either (func == codes.cmpfunc.skip) _ _ h h)))
+
+  module _ (o : OpenFile) where
+    getting : (reply : Result ℕ Refusal) (before after : StreamVal) → Late (got reply scene o before after)
+    getting (Err refusal) before after = refl
+    getting (Ok n) before after = either _ _ _ refl refl
+
+    picked : (pick : Result Pick Refusal) (s : StreamVal) → Late (record_got pick scene o s)
+    picked (Err refusal) s = refl
+    picked (Ok pick) s = getting (act (get_record pick) (the_file scene.files o) s).reply s (act (get_record pick) (the_file scene.files o) s).stream
+
+    second : (change : Change) (s : StreamVal) (body : List ℕ) → Late (changed change scene o s body)
+    second (Putting (Err refusal)) s body = refl
+    second (Putting (Ok key)) s body = refl
+    second Updating s body = refl
+
+    fetch-ends : (s : StreamVal) (given rest : List (ℕ × List ℕ)) → Late (fetch_ends scene o s given rest)
+    fetch-ends s given [] = refl
+    fetch-ends s given (large ∷ more) = refl
+
+    fetching : (s : StreamVal) → Late (fetch scene o s)
+    fetching s =
+        let due = records_from (the_file scene.files o).records s.next in
+        fetch-ends s (take_while (fits_limit scene.limit) due) (drop (prefix_len (fits_limit scene.limit) due) due)
+
+    continuing : (func : ℕ) (s : StreamVal) → Late (continue_fetch func scene o s)
+    continuing func s =
+        either (func == codes.confunc.again) _ _ (fetching s)
+        (either (func == codes.confunc.skip) _ _ (fetching (at_number (s.next + 1) s)) (either (func == codes.confunc.abort) _ _ refl refl))
+
+    opened-control : (verb : Verb) → Late (control_opened verb scene o)
+    opened-control verbs.Connect = refl
+    opened-control verb = refl
+
+    connected-control : (verb : Verb) (s : StreamVal) (c : ControlFields) → LateTurn (control_connected verb scene o s c)
+    connected-control verbs.Get s c = picked (get_pick (the_file scene.files o) s c) s
+    connected-control verbs.Fetch s c = either s.rights.get _ _ (fetching s) refl
+    connected-control verbs.Put s c = tt
+    connected-control verbs.Update s c = tt
+    connected-control verbs.Store s c = refl
+    connected-control verbs.Delete s c = refl
+    connected-control verbs.Rewind s c = refl
+    connected-control verb s c = refl
+
+    with-second : (change : Change) (s : StreamVal) (item : Item) → Late (effect_with change scene o s item)
+    with-second change s (Malformed fault) = refl
+    with-second change s (Whole (Filedata r body)) = second change s body
+    with-second change s (Whole message) = refl
+
+  of-message : (own : ℕ) (past : List Group) (place : Place) → is_late place ≡ true → (m : Message) → LateTurn (turn_in own scene past place m)
+  of-message own past Fresh h m = cc
+  of-message own past Ready h (Access a) = accessing a (asked_shape (kept_attributes past))
+  of-message own past Ready h m = refl
+  of-message own past (Opened o) h (Control c) = opened-control o (verb_of c)
+  of-message own past (Opened o) h (Accomp c) = completing c.func o (Opened o) refl
+  of-message own past (Opened o) h m = refl
+  of-message own past (Connected o s) h (Control c) = connected-control o (verb_of c) s c
+  of-message own past (Connected o s) h (Accomp c) = completing c.func o (Connected o s) refl
+  of-message own past (Connected o s) h m = refl
+  of-message own past (Store o s) h (Filedata r body) = either (is_dropping past) _ _ refl refl
+  of-message own past (Store o s) h (Contran func) = either (is_dropping past) _ _ refl refl
+  of-message own past (Store o s) h (Accomp c) = completing c.func o (Store o s) refl
+  of-message own past (Store o s) h m = refl
+  of-message own past (Stopped o s) h (Contran func) = continuing o func s
+  of-message own past (Stopped o s) h (Accomp c) = completing c.func o (Stopped o s) refl
+  of-message own past (Stopped o s) h m = refl
+
+  pub of-item : (own : ℕ) (past : List Group) (place : Place) → is_late place ≡ true → (item : Item) → LateTurn (turn_of own (record { scene = scene; place = place; past = past }) item)
+  of-item own past place h (Malformed fault) = h
+  of-item own past place h (Whole m) = of-message own past place h m
+
+-- ---- Every list of items.
+
+LateThen : Grouped → Type 0
+LateThen c = is_late c.standing.place ≡ true
+
+next-late : (s : Standing) (item : Item) (t : Turn) → is_late s.place ≡ true → LateTurn t → LateThen (next_group s item t)
+next-late s item (Does e) h late = late
+next-late s item (Begins b) h late = h
+
+more-late : (own : ℕ) (s : Standing) (b : Option Begun) (item : Item) → is_late s.place ≡ true → LateThen (more_after own s b item)
+more-late own s None item h = next-late s item (turn_of own s item) h (of-item s.scene own s.past s.place h item)
+more-late own s (Some b) item h = with-second s.scene b.opened b.change b.stream item
+
+-- ---- Before the Config.
+
+-- the same with other files
+abbrev pub with_files : Files → Grouped → Grouped
+with_files files c = record c { standing = record c.standing { scene = record c.standing.scene { files = files } } }
+
+-- these files are those that it had at first, and it stands so whatever these are
+pub record IsOfAny (own : ℕ) (first : Files) (items : List Item) : Type 0 where
+  pub files : (stands_after own first items).standing.scene.files ≡ first
+  pub any : (other : Files) → stands_after own other items ≡ with_files other (stands_after own first items)
+  pub whole : (stands_after own first items).begun ≡ None
