@@ -15,3 +15,5 @@ pub use Rattle.dap_accessed.proofs.SoundGroups.{good-shape}
 pub use Rattle.dap_accessed.proofs.SoundGroups.{place-within}
 -- each answer to one message more has a spelling that the peer takes
 pub use Rattle.dap_accessed.proofs.Answering.{HasShortType, added-sends}
+-- before a Config the answers don't depend on the files, and the end stood so after each front of the items too
+pub use Rattle.dap_accessed.proofs.Lateness.{of_any, front_fresh, with_files}

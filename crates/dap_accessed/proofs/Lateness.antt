@@ -1,6 +1,7 @@
 -- Where a Config was served, no later item takes the end back; and before that nothing depends on the files that it has.
-use Rattle.std.proofs.Common.{◌≡◌, ℕ, Bool, true, false, List, [], ◌∷◌, ◌++◌, Option, Some, None, Result, Ok, Err, refl, ap, sym, subst, ◌∙◌, append_assoc}
-use Rattle.std.specs.Prelude.{if◌then◌else◌, ◌==◌, take_while, drop}
+use Rattle.std.proofs.Common.{◌≡◌, ℕ, ◌+◌, Bool, true, false, List, [], ◌∷◌, ◌++◌, Option, Some, None, Result, Ok, Err, refl, ap, sym, subst, ◌∙◌, append_assoc}
+use Rattle.std.specs.Prelude.{if◌then◌else◌, ◌==◌, take_while, drop, unwrap_or}
+use Rattle.std.specs.FinMap as map
 use Rattle.std.specs.List.{prefix_len}
 use Rattle.std.proofs.lemmas.List.{append-nil}
 use Rattle.dap_msg.specs.Codes as codes
@@ -21,12 +22,14 @@ use Rattle.dap_accessed.specs.declared.verbs.Verb.{Verb}
 use Rattle.dap_accessed.specs.declared.verbs.Verb.TheVariants as verbs
 use Rattle.dap_accessed.specs.Standing.{Files, place_of, the_file, Place, Fresh, Ready, Opened, Connected, Store, Stopped, Group, Standing, Scene, Effect, start, enters}
 use Rattle.dap_accessed.specs.Past.{asked_shape, kept_attributes, is_dropping, ordinal_so_far}
-use Rattle.dap_accessed.specs.Replies.{bare_status}
+use Rattle.dap_accessed.specs.Replies.{bare_status, too_large}
 use Rattle.dap_accessed.specs.Accesses.{open_file, create_file, access_file, end_stream, complete}
-use Rattle.dap_accessed.specs.Records.{verb_of, get_pick, got, record_got, at_number, fits_limit, Change, Putting, Updating, changed}
+use Rattle.dap_accessed.specs.Records.{verb_of, get_pick, got, record_got, at_number, filedata_of, fits_limit, uncurrent, Change, Putting, Updating, changed}
 use Rattle.dap_accessed.specs.Transfers.{fetch, fetch_ends, continue_fetch}
 use Rattle.dap_accessed.specs.Effects.{Begun, Turn, Does, Begins, control_opened, control_connected, turn_in, turn_of, effect_with}
 use Rattle.dap_accessed.specs.Groups.{Grouped, stands_after}
+use Rattle.dap_accessed.specs.Present.{Present, present_of, StandsAfter}
+use Rattle.dap_accessed.specs.Adding.{IsFresh}
 use Rattle.dap_accessed.proofs.OneMore.{next_group, more_after}
 use Rattle.dap_accessed.proofs.Cuts.{cut-more}
 
@@ -77,7 +80,9 @@ module _ (scene : Scene) where
   module _ (o : OpenFile) where
     getting : (reply : Result ℕ Refusal) (before after : StreamVal) → Late (got reply scene o before after)
     getting (Err refusal) before after = refl
-    getting (Ok n) before after = either _ _ _ refl refl
+    getting (Ok n) before after =
+        let r : ℕ × List ℕ = (n, unwrap_or (map.get (the_file scene.files o).records n) []) in
+        either (fits_limit scene.limit r) (enters scene (Connected o after) (filedata_of r ∷ [])) (enters scene (Connected o (uncurrent before)) (too_large ∷ [])) refl refl
 
     picked : (pick : Result Pick Refusal) (s : StreamVal) → Late (record_got pick scene o s)
     picked (Err refusal) s = refl
@@ -145,7 +150,7 @@ module _ (scene : Scene) where
 
 -- ---- Every list of items.
 
-LateThen : Grouped → Type 0
+abbrev LateThen : Grouped → Type 0
 LateThen c = is_late c.standing.place ≡ true
 
 next-late : (s : Standing) (item : Item) (t : Turn) → is_late s.place ≡ true → LateTurn t → LateThen (next_group s item t)
@@ -167,3 +172,108 @@ pub record IsOfAny (own : ℕ) (first : Files) (items : List Item) : Type 0 wher
   pub files : (stands_after own first items).standing.scene.files ≡ first
   pub any : (other : Files) → stands_after own other items ≡ with_files other (stands_after own first items)
   pub whole : (stands_after own first items).begun ≡ None
+
+-- the place is that before any Config
+fresh_of : (place : Place) → is_late place ≡ false → place ≡ Fresh
+fresh_of Fresh e = refl
+fresh_of Ready e = cc
+fresh_of (Opened o) e = cc
+fresh_of (Connected o s) e = cc
+fresh_of (Store o s) e = cc
+fresh_of (Stopped o s) e = cc
+
+abbrev given_files : Files → Standing → Standing
+given_files other s = record s { scene = record s.scene { files = other } }
+
+abbrev after_one : ℕ → Standing → Item → Grouped
+after_one own s item = next_group s item (turn_of own s item)
+
+-- an item moves no file, and does the same whatever files there are
+record DoesAnyway (own : ℕ) (s : Standing) (item : Item) : Type 0 where
+  files : (after_one own s item).standing.scene.files ≡ s.scene.files
+  any : (other : Files) → after_one own (given_files other s) item ≡ with_files other (after_one own s item)
+  whole : (after_one own s item).begun ≡ None
+
+configuring : (own : ℕ) (s : Standing) (c : Message) (small : Bool) (limit : ℕ) (refusal answers : List Message)
+    → let effect : Scene → Effect = λ scene. if small then enters scene Fresh refusal else enters (record scene { limit = limit }) Ready answers in
+      ((next_group s (Whole c) (Does (effect s.scene))).standing.scene.files ≡ s.scene.files)
+      × ((other : Files) → next_group (given_files other s) (Whole c) (Does (effect (record s.scene { files = other }))) ≡ with_files other (next_group s (Whole c) (Does (effect s.scene))))
+configuring own s c true limit refusal answers = (refl, λ other. refl)
+configuring own s c false limit refusal answers = (refl, λ other. refl)
+
+fresh_step : (own : ℕ) (s : Standing) (item : Item) → DoesAnyway own (record s { place = Fresh }) item
+fresh_step own s (Malformed fault) = record { files = refl; any = λ other. refl; whole = refl }
+fresh_step own s (Whole (Config c)) =
+    let both = configuring own (record s { place = Fresh }) (Config c) (is_too_small c.bufsiz) (limit_of c.bufsiz) (bare_status (codes.invalid codes.types.config) ∷ []) (config_of own ∷ []) in
+    record { files = both.0; any = both.1; whole = refl }
+fresh_step own s (Whole (Other n body)) = record { files = refl; any = λ other. refl; whole = refl }
+fresh_step own s (Whole m) = record { files = refl; any = λ other. refl; whole = refl }
+
+one_step : (own : ℕ) (s : Standing) (item : Item) → s.place ≡ Fresh → DoesAnyway own s item
+one_step own s item e = subst (λ (p : Place). DoesAnyway own (record s { place = p }) item) (sym e) (fresh_step own s item)
+
+of_one_more : (own : ℕ) (first : Files) (before : List Item) (item : Item) → IsOfAny own first before → (stands_after own first before).standing.place ≡ Fresh → IsOfAny own first (before ++ item ∷ [])
+of_one_more own first before item h fresh =
+    let c = stands_after own first before in
+    let d = one_step own c.standing item fresh in
+    let here : stands_after own first (before ++ item ∷ []) ≡ after_one own c.standing item = cut-more own (start first) before item ∙ ap (λ (b : Option Begun). more_after own c.standing b item) h.whole in
+    record {
+      files = ap (λ (g : Grouped). g.standing.scene.files) here ∙ d.files ∙ h.files;
+      any = λ other.
+          cut-more own (start other) before item
+          ∙ ap (λ (g : Grouped). more_after own g.standing g.begun item) (h.any other)
+          ∙ ap (λ (b : Option Begun). more_after own (given_files other c.standing) b item) h.whole
+          ∙ d.any other
+          ∙ ap (with_files other) (sym here);
+      whole = ap (λ (g : Grouped). g.begun) here ∙ d.whole;
+    }
+
+-- it was so before the last item
+was_fresh : (own : ℕ) (c : Grouped) (item : Item) (late : Bool) → is_late c.standing.place ≡ late → is_late (more_after own c.standing c.begun item).standing.place ≡ false → is_late c.standing.place ≡ false
+was_fresh own c item true e fresh = let late = more-late own c.standing c.begun item e in cc
+was_fresh own c item false e fresh = e
+
+of_any_on : (own : ℕ) (first : Files) (before more : List Item) → (is_late (stands_after own first before).standing.place ≡ false → IsOfAny own first before)
+    → is_late (stands_after own first (before ++ more)).standing.place ≡ false → IsOfAny own first (before ++ more)
+of_any_on own first before [] h e =
+    subst (IsOfAny own first) (sym (append-nil before)) (h (subst (λ (l : List Item). is_late (stands_after own first l).standing.place ≡ false) (append-nil before) e))
+of_any_on own first before (item ∷ more) h e =
+    let c = stands_after own first before in
+    let same = append_assoc before (item ∷ []) more in
+    let one : is_late (stands_after own first (before ++ item ∷ [])).standing.place ≡ false → IsOfAny own first (before ++ item ∷ []) = λ f.
+        let fresh = was_fresh own c item (is_late c.standing.place) refl (subst (λ (g : Grouped). is_late g.standing.place ≡ false) (cut-more own (start first) before item) f) in
+        of_one_more own first before item (h fresh) (fresh_of c.standing.place fresh) in
+    subst (IsOfAny own first) same (of_any_on own first (before ++ item ∷ []) more one (subst (λ (l : List Item). is_late (stands_after own first l).standing.place ≡ false) (sym same) e))
+
+-- before a Config the files are those at first, and an end with other files at first would stand so too
+pub of_any : (own : ℕ) (first : Files) (items : List Item) → (stands_after own first items).standing.place ≡ Fresh → IsOfAny own first items
+of_any own first items fresh =
+    of_any_on own first [] items (λ e. record { files = refl; any = λ other. refl; whole = refl }) (ap is_late fresh)
+
+-- and it stood there after each front of these items
+front_on : (own : ℕ) (first : Files) (before more : List Item) → is_late (stands_after own first (before ++ more)).standing.place ≡ false → is_late (stands_after own first before).standing.place ≡ false
+front_on own first before [] e = subst (λ (l : List Item). is_late (stands_after own first l).standing.place ≡ false) (append-nil before) e
+front_on own first before (item ∷ more) e =
+    let c = stands_after own first before in
+    let later = front_on own first (before ++ item ∷ []) more (subst (λ (l : List Item). is_late (stands_after own first l).standing.place ≡ false) (sym (append_assoc before (item ∷ []) more)) e) in
+    was_fresh own c item (is_late c.standing.place) refl (subst (λ (g : Grouped). is_late g.standing.place ≡ false) (cut-more own (start first) before item) later)
+
+pub front_fresh : (own : ℕ) (first : Files) (before more : List Item) → (stands_after own first (before ++ more)).standing.place ≡ Fresh → (stands_after own first before).standing.place ≡ Fresh
+front_fresh own first before more e = fresh_of (stands_after own first before).standing.place (front_on own first before more (ap is_late e))
+
+-- ---- An end that is given files.
+
+present_by : (own : ℕ) (files : Files) (s : Standing) (b : Option Begun)
+    → present_of own (with_files files (record { standing = s; begun = b })) ≡ record (present_of own (record { standing = s; begun = b })) { files = files }
+present_by own files s None = refl
+present_by own files s (Some b) = refl
+
+-- of whatever items it stands after, it stands so with these files at first
+pub stands_given : (old new : Present) → IsFresh old → new ≡ record old { files = new.files } → (first : Files) (items : List Item) → StandsAfter first items old → StandsAfter new.files items new
+stands_given old new fresh is first items h =
+    let c = stands_after old.own first items in
+    let any = (of_any old.own first items (fresh.is first items h)).any new.files in
+    let so : new ≡ present_of old.own (stands_after old.own new.files items) =
+        is ∙ ap (λ (p : Present). record p { files = new.files }) h ∙ sym (present_by old.own new.files c.standing c.begun) ∙ ap (present_of old.own) (sym any) in
+    let own : new.own ≡ old.own = ap (λ (p : Present). p.own) is in
+    so ∙ ap (λ (n : ℕ). present_of n (stands_after n new.files items)) (sym own)

@@ -8,6 +8,7 @@ pub mod Cuts
 pub mod StepIs
 pub mod Silent
 pub mod Freshness
+pub mod Lateness
 pub mod Kept
 pub mod SoundTables
 pub mod SoundGroups

@@ -1,12 +1,13 @@
 //! Files that the end is given, for one link after another.
 
-ghost use Rattle.std.specs.Prelude.{◌≡◌, ◌∷◌, ◌++◌, [], ℕ, length, IsTrue, IfErr, OnOk, OnErr, true, false};
+ghost use Rattle.std.specs.Prelude.{◌≡◌, List, ◌∷◌, ◌++◌, [], ℕ, length, IsTrue, IfErr, OnOk, OnErr, true, false};
 ghost use Rattle.rec_file.specs.Shapes.{is_shape};
 ghost use Rattle.rec_file.specs.AnyFiles.{any_value};
 ghost use Rattle.dap_accessed.specs.Standing.{Files};
 ghost use Rattle.dap_accessed.specs.Present.{StandsAfter};
 ghost use Rattle.dap_accessed.specs.Adding.{IsFresh, IsLate, MayAdd, AddRefused, with_new_file, MayAddRecord, RecordRefused, with_record, leaves_gap};
 ghost use Rattle.dap_accessed.specs.Inner.Storing.{Stores};
+ghost use Rattle.dap_msg.specs.declared.items.Item.{Item as TheItem};
 
 use crate::accessed::{Accessed, PLAIN};
 use crate::fault::AddFault;
@@ -35,8 +36,8 @@ impl Accessed {
         ensures may { OnOk result (MayAdd self.old name.now) }
         ensures files { OnOk result
             (self.new.files ≡ with_new_file name.now shape self.old.files) }
-        ensures stands { OnOk result ((first : Files) → StandsAfter first [] self.old
-            → StandsAfter self.new.files [] self.new) }
+        ensures stands { OnOk result ((first : Files) (items : List TheItem)
+            → StandsAfter first items self.old → StandsAfter self.new.files items self.new) }
         ensures own { self.new.own ≡ self.old.own }
         ensures refused { IfErr result (λ f. AddRefused self.old name.now f) }
         ensures unchanged { OnErr result (self.new ≡ self.old) }
@@ -59,8 +60,8 @@ impl Accessed {
     pub fn add_record(&mut self, number: u32, body: &[u8]) -> Result<(), AddFault>
         ensures may { OnOk result (MayAddRecord self.old number body.now) }
         ensures files { OnOk result (self.new.files ≡ with_record number body.now self.old.files) }
-        ensures stands { OnOk result ((first : Files) → StandsAfter first [] self.old
-            → StandsAfter self.new.files [] self.new) }
+        ensures stands { OnOk result ((first : Files) (items : List TheItem)
+            → StandsAfter first items self.old → StandsAfter self.new.files items self.new) }
         ensures own { self.new.own ≡ self.old.own }
         ensures refused { IfErr result (λ f. RecordRefused self.old number body.now f) }
         ensures unchanged { OnErr result (self.new ≡ self.old) }

@@ -1,20 +1,61 @@
 -- Files that an end is given.
-use Rattle.std.proofs.Common.{◌≡◌, ℕ, List, [], inr}
-use Rattle.std.specs.Prelude.{Result, Ok, Err, OnOk, IfErr}
+use Rattle.std.proofs.Common.{◌≡◌, ℕ, List, [], ◌∷◌, ◌++◌, length, refl, sym, ◌∙◌, ap, subst, append_assoc, inr}
+use Rattle.std.specs.Prelude.{drop, Result, Ok, Err, OnOk, IfErr}
+use Rattle.dap_msg.specs.declared.message.Message.{Message}
+use Rattle.dap_msg.specs.declared.items.Item.{Item}
+use Rattle.dap_msg.specs.Blocked.{NspMessage, Blocked, all_joined, AllFit}
 use Rattle.dap_accessed.specs.declared.fault.AddFault.{AddFault}
 use Rattle.dap_accessed.specs.declared.fault.AddFault.TheVariants as fault
-use Rattle.dap_accessed.specs.Standing.{Files}
+use Rattle.dap_accessed.specs.Standing.{Files, Fresh}
+use Rattle.dap_accessed.specs.Groups.{Grouped, stands_after, answers_in, Answers, added, limit_for}
+use Rattle.dap_accessed.proofs.ForCallers.{of_any, front_fresh}
 use Rattle.dap_accessed.specs.Present.{Present, StandsAfter}
-use Rattle.dap_accessed.specs.Adding.{AddRefused, RecordRefused}
+use Rattle.dap_accessed.specs.Adding.{IsFresh, AddRefused, RecordRefused}
 use Rattle.dap_end.specs.Ports.{HasCome}
 use Rattle.dap_end.specs.Serving.{IsAfter, NotGiven}
-use Rattle.dap_end.specs.Done.{ServingValue, nothing_yet}
+use Rattle.dap_end.specs.Done.{ServingValue, Past, answers_to}
 use Rattle.dap_end.specs.Inner.ServingView.{serving_of}
 
-pub given : (old : ServingValue) (after : Present) (r : Result (Unit {0}) AddFault) → after.own ≡ old.present.own → OnOk r ((first : Files) → StandsAfter first [] old.present → StandsAfter after.files [] after)
-    → OnOk r ((first : Files) → IsAfter (nothing_yet first) old → IsAfter (nothing_yet after.files) (serving_of old.port after))
-given old after (Ok u) own stands = λ first h. record { serving = stands first h.serving; gone = h.gone; sends = h.sends; answers = h.answers; fit = tt }
-given old after (Err f) own stands = tt
+-- before a Config the answers are those of any files at first
+answers_given : (own : ℕ) (first other : Files) (before items : List Item) → (stands_after own first (before ++ items)).standing.place ≡ Fresh → answers_to own first before items ≡ answers_to own other before items
+answers_given own first other before [] fresh = refl
+answers_given own first other before (item ∷ items) fresh =
+    let then : (stands_after own first ((before ++ item ∷ []) ++ items)).standing.place ≡ Fresh =
+        subst (λ (l : List Item). (stands_after own first l).standing.place ≡ Fresh) (sym (append_assoc before (item ∷ []) items)) fresh in
+    let here = of_any own first before (front_fresh own first before (item ∷ items) fresh) in
+    let one = of_any own first (before ++ item ∷ []) (front_fresh own first (before ++ item ∷ []) items then) in
+    let limit : limit_for own first before ≡ limit_for own other before = sym (ap (λ (g : Grouped). g.standing.scene.limit) (here.any other)) in
+    let answered : Answers own first before ≡ Answers own other before = sym (ap (λ (g : Grouped). answers_in g.standing.past) (here.any other)) in
+    let all : Answers own first (before ++ item ∷ []) ≡ Answers own other (before ++ item ∷ []) = sym (ap (λ (g : Grouped). answers_in g.standing.past) (one.any other)) in
+    let adds : added own first before item ≡ added own other before item =
+        ap (λ (l : List Message). drop (length l) (Answers own first (before ++ item ∷ []))) answered ∙ ap (λ (l : List Message). drop (length (Answers own other before)) l) all in
+    ap (λ (l : List NspMessage). l ++ answers_to own first (before ++ item ∷ []) items)
+    (ap (λ (n : ℕ). Blocked n (added own first before item)) limit ∙ ap (Blocked (limit_for own other before)) adds)
+    ∙ ap (λ (l : List NspMessage). Blocked (limit_for own other before) (added own other before item) ++ l) (answers_given own first other (before ++ item ∷ []) items then)
+
+-- the end was given files, and stands as if it had had them at first
+pub given : (old : ServingValue) (after : Present) (r : Result (Unit {0}) AddFault) → after.own ≡ old.present.own → OnOk r (IsFresh old.present)
+    → OnOk r ((first : Files) (items : List Item) → StandsAfter first items old.present → StandsAfter after.files items after)
+    → OnOk r ((past : Past) → IsAfter past old → IsAfter (record past { first = after.files }) (serving_of old.port after))
+given old after (Ok u) own fresh stands = λ past h.
+    let own_old = old.present.own in
+    let is_fresh = fresh.is past.first past.items h.serving in
+    let any = (of_any own_old past.first past.items is_fresh).any after.files in
+    let same : Answers own_old past.first past.items ≡ Answers own_old after.files past.items = sym (ap (λ (g : Grouped). answers_in g.standing.past) any) in
+    record {
+      serving = stands past.first past.items h.serving;
+      gone = h.gone;
+      sends = h.sends;
+      answers =
+          h.answers ∙ ap all_joined (answers_given own_old past.first after.files [] past.items is_fresh)
+          ∙ ap (λ (n : ℕ). all_joined (answers_to n after.files [] past.items)) (sym own);
+      fit = subst AllFit (same ∙ ap (λ (n : ℕ). Answers n after.files past.items) (sym own)) h.fit;
+    }
+given old after (Err f) own fresh stands = tt
+
+pub fresh_to_add : {A : Type 0} {r : Result (Unit {0}) AddFault} (v : Present) → OnOk r (IsFresh v × A) → OnOk r (IsFresh v)
+fresh_to_add {A} {Ok u} v h = h.0
+fresh_to_add {A} {Err f} v h = tt
 
 refused_add : (v : ServingValue) (name : List ℕ) (f : AddFault) → (HasCome v.port → ⊥) → AddRefused v.present name f → NotGiven v (AddRefused v.present name) f
 refused_add v name fault.Busy none h = inr h

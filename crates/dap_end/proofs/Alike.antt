@@ -177,8 +177,7 @@ abbrev Unread : (old new : AskingValue) → (before all : List Report) → ReadF
 Unread old new before all f = (mid : AskingValue) × Behind before all (ReadOn old mid) × ReadNone mid new f
 
 unread : (old new : AskingValue) (before all : List Report) (f : ReadFault) → f ≢ read_fault.NoMemory → ReadsAll old new before all (Err f) → Unread old new before all f
-unread old new before all f want (mid, on, inl n) = (mid, on, n)
-unread old new before all f want (mid, on, inr h) = absurd (want h.0)
+unread old new before all f want u = u
 
 -- where all was read, and what waits is refused
 abbrev Left : (old new : AskingValue) → (before all : List Report) → LinkFault → Type 0

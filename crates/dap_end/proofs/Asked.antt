@@ -204,6 +204,7 @@ reads_one old bytes later fits after port step inbox place r within own is =
       one = record { bytes = bytes; later = later; came = inbox; fits = fits; item = r.answer; next = step.next; reads = r.reads; place = place };
       port = is;
       own = own;
+      expected = λ past h. r.expected past.requests past.answers h.asking;
       past = λ past h. subst (λ (p : PortValue). HasAsked (read_one past bytes r.answer step.next) (asking_of p after)) (sym is) (record {
         asking = r.stands past.requests past.answers h.asking;
         gone = port_gone old.port bytes later step.next past.given past.answers r.answer fits inbox h.gone r.reads within;

@@ -165,8 +165,7 @@ none_read mid new read_fault.NoMemory n other = same_end mid new n.port n.refuse
 none_read mid new read_fault.Unexpected n other = absurd (other refl)
 
 part_read : (old new : AskingValue) (before after : List Report) (f : ReadFault) → ReadsAll old new before after (Err f) → f ≢ read_fault.Unexpected → Behind before after (ReadOn old new)
-part_read old new before after f (mid, on, inl n) other = subst (λ (v : AskingValue). Behind before after (ReadOn old v)) (sym (none_read mid new f n other)) on
-part_read old new before after f (mid, on, inr h) other = subst (λ (v : AskingValue). Behind before after (ReadOn old v)) (sym h.1) on
+part_read old new before after f (mid, on, n) other = subst (λ (v : AskingValue). Behind before after (ReadOn old v)) (sym (none_read mid new f n other)) on
 
 heard_part : (old new : AskingValue) (before after : List Report) (f : EndFault) → DidAll (asks before after) old new (Err f) → f ≢ end_fault.Read read_fault.Unexpected → Behind before after (ReadOn old new)
 heard_part old new before after (end_fault.Link f) h other = subst (λ (v : AskingValue). Behind before after (ReadOn old v)) (sym h.2.0) h.1

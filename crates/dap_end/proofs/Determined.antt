@@ -45,7 +45,7 @@ same_back (x ∷ front) xs ys e = same_back front xs ys (let tails : front ++ xs
 
 -- ---- Serving one.
 
-present_one : (first : Files) (items more : List Item) (one two : Present) → items ≡ more → one.own ≡ two.own → one ≡ present_of one.own (stands_after one.own first items) → two ≡ present_of two.own (stands_after two.own first more) → one ≡ two
+pub present_one : (first : Files) (items more : List Item) (one two : Present) → items ≡ more → one.own ≡ two.own → one ≡ present_of one.own (stands_after one.own first items) → two ≡ present_of two.own (stands_after two.own first more) → one ≡ two
 present_one first items more one two same own a b =
     a ∙ ap (λ (n : ℕ). present_of n (stands_after n first items)) own ∙ ap (λ (l : List Item). present_of two.own (stands_after two.own first l)) same ∙ sym b
 

@@ -1,6 +1,6 @@
 -- What a list of a serving end's calls leaves.
 use Rattle.std.proofs.Common.{◌≡◌, ℕ, ◌+◌, ◌<◌, arith, refl, sym, ◌∙◌, subst, ap, append_assoc, true, false, List, [], ◌∷◌, ◌++◌, length, inl, inr}
-use Rattle.std.specs.Prelude.{Bool, max, ◌-◌, Option, Some, None, Result, Ok, Err}
+use Rattle.std.specs.Prelude.{◌⊎◌, Bool, max, ◌-◌, Option, Some, None, Result, Ok, Err}
 use Rattle.std.proofs.lemmas.List.{append-nil, map-append}
 use Rattle.dap_msg.specs.declared.items.Item.{Item}
 use Rattle.dap_msg.specs.declared.message.Message.{Message}
@@ -9,6 +9,7 @@ use Rattle.dap_msg.proofs.ForCallers.{messages_in-Blocked}
 use Rattle.nsp_link.specs.declared.link.Got.{Got}
 use Rattle.nsp_link.specs.declared.link.Got.TheVariants.{AckOnly}
 use Rattle.nsp_link.specs.declared.fault.LinkFault.{LinkFault}
+use Rattle.nsp_link.specs.declared.fault.LinkFault.TheVariants as fault
 use Rattle.nsp_link.proofs.ForCallers.{is_delivered, came_due}
 use Rattle.nsp_link.specs.Link.{LinkValue, Stands, IsSpelling, with_inbox}
 use Rattle.nsp_link.specs.Sending.{WritesSent, ack_packet_of}
@@ -209,6 +210,17 @@ pub run_from : (events : List EndEvent) (old new : ServingValue) (wrote : List W
 run_from events old new wrote size messages past pos is stands works r =
     let h = run_hears events (old, []) (new, wrote) size messages past.first r (record { past = past; is = is; had = refl; stands = stands; works = works }) in
     (h.past, h.is, h.had, served_front new.port.link size messages h.past.given new.port.place h.past.items pos h.stands h.is.gone)
+
+-- so the link stands where it should
+pub run_stands : (events : List EndEvent) (old new : ServingValue) (wrote : List Written) (size : ℕ) (messages : List (List ℕ)) (past : Past) → IsAfter past old → StandsThen old.port.link size messages past.given
+    → EventRuns (IsFromPeer size messages) old events new wrote → (given : List (List ℕ)) × StandsThen new.port.link size messages given
+run_stands events old new wrote size messages past is s r =
+    let h = run_hears events (old, []) (new, wrote) size messages past.first r (record { past = past; is = is; had = refl; stands = s.0; works = s.1 }) in (h.past.given, (h.stands, h.works))
+
+-- and the next packet of the peer is refused for these two reasons alone
+pub refused_due : (old new : LinkValue) (size : ℕ) (messages given : List (List ℕ)) (bytes : List ℕ) (e : LinkFault) → StandsThen old size messages given → IsFromPeer size messages old bytes → Receives old new bytes (Err e)
+    → ((e ≡ fault.NoMemory) ⊎ (e ≡ fault.Exhausted)) × (new ≡ old)
+refused_due old new size messages given bytes e s f h = h.due size messages given f.0 f.1 f.2 f.3 s.1 s.0 f.4
 
 -- ---- Runs join.
 

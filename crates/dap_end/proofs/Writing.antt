@@ -56,3 +56,19 @@ answer_one p one two handed got xs ys sends a b =
     let both = wrote_one p one two handed a.0 b.0 sends a.1 b.1 a.2 b.2 in
     let there = subst (λ (l : List (List ℕ)). Acknowledged two (wants_ack got (length l)) l ys) (sym both.1) b.3 in
     (both.0, acks_same one two (wants_ack got (length a.0)) a.0 xs ys both.0 a.3 there)
+
+-- ---- One packet.
+
+-- it is that of the next segment
+pub segment_one : (p one two : PortValue) (handed : List (List ℕ)) (xs ys : List ℕ) → Sends p.link handed → WroteMore p one (xs ∷ []) → WroteMore p two (ys ∷ []) → (one ≡ two) × (xs ≡ ys)
+segment_one p one two handed xs ys sends a b =
+    let all : xs ∷ [] ≡ ys ∷ [] = segments_one p.link handed (p.link.sent + 1) (xs ∷ []) (ys ∷ []) sends refl a.writes b.writes in
+    (a.sent ∙ sym b.sent, (let first : xs ≡ ys = cc in first))
+
+-- and there is one that may be sent
+pub one_there : (p one : PortValue) (xs : List ℕ) → WroteMore p one (xs ∷ []) → may_send p.link ≡ false → ⊥
+one_there p one xs a none =
+    let same : p.link.sent + 0 ≡ p.link.sent = omega arith in
+    let full : may_send (sent_more p 0).link ≡ false = ap (λ (n : ℕ). may_send (record p.link { sent = n })) same ∙ none in
+    let within : 0 < 1 → IsWithin (sent_more p 1).link = subst (λ (q : PortValue). 0 < 1 → IsWithin q.link) a.sent (λ some. (a.there some, a.within some)) in
+    counts_one p 0 1 full within (omega arith)

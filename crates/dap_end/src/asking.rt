@@ -13,6 +13,8 @@ ghost use Rattle.dap_accessing.specs.Calls.{AskRefused, IsAdmittedBy};
 ghost use Rattle.dap_accessing.specs.Outgoing.{number_carried};
 ghost use Rattle.dap_accessing.specs.Prepared.{IsPrepared};
 ghost use Rattle.dap_accessing.specs.declared.fault.AskFault.TheVariants as ask_fault;
+ghost use Rattle.dap_accessing.specs.declared.fault.ReadFault.TheVariants as read_fault;
+ghost use Rattle.dap_end.specs.declared.fault.EndFault.TheVariants as end_fault;
 ghost use Rattle.dap_fields.specs.Spelling.{AreBytes};
 ghost use Rattle.dap_end.specs.Ports.{HandsOver, new_port};
 ghost use Rattle.dap_end.specs.Going.{oldest};
@@ -206,8 +208,8 @@ impl AskingEnd {
         read_next(&mut self.port, &mut self.accessing)
     }
 
-    /// Reads all that came, and adds the reports behind those in `reports` (own). Refused as `read` is; what was read before
-    /// that stays so.
+    /// Reads all that came, and adds the reports after those in `reports`. Refused as `read` is; what was read before
+    /// that stays so. A failed end is unchanged, and reports nothing.
     pub fn read_all(&mut self, reports: &mut Vec<Report>) -> Result<(), ReadFault>
         ensures ok { OnOk result (Behind reports.old.items reports.new.items
             (ReadOn self.old self.new)) }
@@ -236,6 +238,9 @@ impl AskingEnd {
     fn hear_all(&mut self, reports: &mut Vec<Report>) -> Result<(), EndFault>
         ensures all { DidAll (asks reports.old.items reports.new.items) self.old self.new result }
         ensures works { OnOk result (self.new.port.link.failed ≡ false) }
+        ensures failed { IsTrue self.old.present.failed → (self.new ≡ self.old)
+            × (reports.new.items ≡ reports.old.items)
+            × (result ≡ Err (end_fault.Read read_fault.Failed)) }
     {
         match self.read_all(reports) {
             Ok(()) => match self.post() {
@@ -254,8 +259,12 @@ impl AskingEnd {
         out: &mut Vec<Vec<u8>>,
         reports: &mut Vec<Report>,
     ) -> Result<(), EndFault>
-        ensures { WentOn (asks reports.old.items reports.new.items) self.old self.new
+        ensures went { WentOn (asks reports.old.items reports.new.items) self.old self.new
             (bodies out.old.items) (bodies out.new.items) result }
+        ensures failed { IsTrue self.old.present.failed → (self.new ≡ self.old)
+            × (reports.new.items ≡ reports.old.items)
+            × (bodies out.new.items ≡ bodies out.old.items)
+            × (result ≡ Err (end_fault.Read read_fault.Failed)) }
     {
         self.hear_all(reports)?;
         ended(self.port.emit_all(out))

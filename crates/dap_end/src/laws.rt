@@ -1,12 +1,12 @@
 //! Laws over the definitions alone. Each function does nothing: its contract is the law.
 
-ghost use Rattle.std.specs.Prelude.{◌≡◌, ◌≢◌, ◌+◌, ◌-◌, ◌<◌, ℕ, List, [], ◌∷◌, ◌++◌, map, Option, Some, None, Result, Err, IfErr, false, option_to_list};
+ghost use Rattle.std.specs.Prelude.{◌≡◌, ◌≢◌, ◌⊎◌, ◌+◌, ◌-◌, ◌<◌, ℕ, List, [], ◌∷◌, ◌++◌, map, Option, Some, None, Result, Err, IfErr, false, option_to_list};
 ghost use Rattle.std.specs.List.{AllByRecursion};
 ghost use Rattle.dap_fields.specs.Spelling.{AreBytes};
 ghost use Rattle.nsp_link.specs.declared.link.LinkSetup.{LinkSetup as TheSetup};
 ghost use Rattle.nsp_link.specs.declared.link.Got.{Got as TheGot};
 ghost use Rattle.nsp_link.specs.declared.fault.LinkFault.{LinkFault as TheFault};
-ghost use Rattle.nsp_link.specs.Link.{IsSetup, IsSpelling, Sends, with_inbox};
+ghost use Rattle.nsp_link.specs.Link.{IsSetup, IsSpelling, Sends, may_send, with_inbox};
 ghost use Rattle.nsp_link.specs.declared.fault.LinkFault.TheVariants as fault;
 ghost use Rattle.nsp_link.specs.Sending.{SendAllFault, WritesSent, ack_packet_of};
 ghost use Rattle.dap_msg.specs.Blocked.{AllFit, Blocked, all_joined, messages_in};
@@ -43,28 +43,14 @@ ghost use Rattle.dap_end.specs.Headline.{AreWrittenOf, Arrival, IsFromPeer, Writ
 ghost use Rattle.dap_end.specs.Joined.{IsBrought, Pair};
 ghost use Rattle.dap_end.specs.Calls.{AskingRuns, PairRuns, Runs};
 
-/// What an end that serves holds, where it is as after something: it stands after the items that it served, so that its files
-/// are those after them; what it handed to its link, and then what waits, are the answers to them, each of which has a
-/// spelling; and the items are a front of those in the NSP messages that came, all of each that it served whole. What waited
-/// is handed to the link too, once it was handed over. Own.
+/// What follows for a server that is as after something: its files are those after the items that it served; these are a
+/// prefix of the items in the NSP messages that came, and the next one is at the port's place; what waited counts as handed
+/// over once it was; and what was served on comes after what was served before.
 pub fn serving_ends_stand()
-    ensures stands { (past : Past) (v : ServingValue) → IsAfter past v
-        → StandsAfter past.first past.items v.present }
     ensures files { (past : Past) (v : ServingValue) → IsAfter past v
         → v.present.files ≡ After v.present.own past.first past.items }
-    ensures answers { (past : Past) (v : ServingValue) → IsAfter past v
-        → past.handed ++ v.port.outbox
-        ≡ all_joined (answers_to v.present.own past.first [] past.items) }
-    ensures sends { (past : Past) (v : ServingValue) → IsAfter past v
-        → Sends v.port.link past.handed }
-    ensures fit { (past : Past) (v : ServingValue) → IsAfter past v
-        → AllFit (Answers v.present.own past.first past.items) }
     ensures front { (past : Past) (v : ServingValue) → IsAfter past v
         → AreFrontOf (past.given ++ v.port.link.coming.inbox) past.items }
-    ensures whole { (past : Past) (v : ServingValue) → IsAfter past v → (done begun : List Item)
-        × (past.items ≡ done ++ begun) × AreItemsOf past.given done }
-    ensures bytes { (past : Past) (v : ServingValue) → IsAfter past v
-        → AllByRecursion AreBytes past.given }
     // The next item is the one at the port's place.
     ensures next { (past : Past) (v : ServingValue) (bytes : List ℕ) (later : List (List ℕ))
         (rest : List Item) → IsAfter past v → v.port.link.coming.inbox ≡ bytes ∷ later
@@ -92,29 +78,12 @@ pub fn serving_ends_stand()
         → messages_in (answers_to own first [] items) ≡ Answers own first items }
 {}
 
-/// What an end that asks holds, where it has asked something: it waits for what is due after that; what it handed to its link,
-/// and then what waits, are the messages of the requests, joined to NSP messages none of which is empty, and each has a
-/// spelling; what it read is a front of the items in the NSP messages that came, all of each that it read whole. One request
-/// more that was asked, and what waited once it was handed over, count too. Own.
+/// What follows for a client that has asked something: what it read is a prefix of the items in the NSP messages that came,
+/// and the next one is at the port's place; one request more that was asked, and what waited once it was handed over, count
+/// too; and what was read on comes after what was read before, with the reports that it adds.
 pub fn asking_ends_stand()
-    ensures stands { (past : AskingPast) (v : AskingValue) → HasAsked past v
-        → WaitsAfter past.requests past.answers v.present }
-    ensures messages { (past : AskingPast) (v : AskingValue) → HasAsked past v
-        → messages_in past.asked ≡ Asked v.present.own past.requests }
-    ensures waiting { (past : AskingPast) (v : AskingValue) → HasAsked past v
-        → past.handed ++ v.port.outbox ≡ all_joined past.asked }
-    ensures full { (past : AskingPast) (v : AskingValue) → HasAsked past v
-        → AllByRecursion (λ packet. packet ≢ []) past.asked }
-    ensures sends { (past : AskingPast) (v : AskingValue) → HasAsked past v
-        → Sends v.port.link past.handed }
-    ensures fit { (past : AskingPast) (v : AskingValue) → HasAsked past v
-        → AllFit (messages_in past.asked) }
     ensures front { (past : AskingPast) (v : AskingValue) → HasAsked past v
         → AreFrontOf (past.given ++ v.port.link.coming.inbox) past.answers }
-    ensures whole { (past : AskingPast) (v : AskingValue) → HasAsked past v
-        → (done begun : List Item) × (past.answers ≡ done ++ begun) × AreItemsOf past.given done }
-    ensures bytes { (past : AskingPast) (v : AskingValue) → HasAsked past v
-        → AllByRecursion AreBytes past.given }
     // The next answer is the one at the port's place.
     ensures next { (past : AskingPast) (v : AskingValue) (bytes : List ℕ)
         (later : List (List ℕ)) (rest : List Item) → HasAsked past v
@@ -141,7 +110,6 @@ pub fn asking_ends_stand()
     ensures rest { (old new : AskingValue) (reports : List TheReport) → ReadOn old new reports
         → (new.present.own ≡ old.present.own) × (new.port.outbox ≡ old.port.outbox)
         × (new.port.link ≡ with_inbox old.port.link new.port.link.coming.inbox) }
-    ensures done { (past : AskingPast) (v : AskingValue) → HasAsked past v → HasDone v }
 {}
 
 /// Each call of an end that serves, refused or not, is a run, with the packet that came in it. No call is one, and two are one
@@ -350,6 +318,52 @@ pub fn a_peer_is_heard_in_order()
         → old.port ≡ new_port setup → HasAsked nothing_asked old
         → AskingRuns came requests old new reports wrote
         → (past : AskingPast) × HasAsked past new × AreFrontOf messages past.answers }
+{}
+
+/// What an end holds follows from what it did, from its port, and from its own BUFSIZ. So whatever a call leaves by which an
+/// end is as after something known, as those do that make it, renew it or give it files, is determined.
+pub fn ends_are_one()
+    ensures serving { (past : Past) (one two : ServingValue) → IsAfter past one → IsAfter past two
+        → one.port ≡ two.port → one.present.own ≡ two.present.own → one ≡ two }
+    ensures asking { (past : AskingPast) (one two : AskingValue) → HasAsked past one
+        → HasAsked past two → one.port ≡ two.port → one.present.own ≡ two.present.own
+        → one ≡ two }
+{}
+
+/// What taking a packet in leaves, and what is answered, follows from the end and the packet, out of memory aside; and so does
+/// the next segment that an end writes, or that there is none.
+pub fn packets_are_determined()
+    ensures serving { (old one two : ServingValue) (bytes : List ℕ) (r s : Result TheGot TheFault)
+        → AreBytes bytes → r ≢ Err fault.NoMemory → s ≢ Err fault.NoMemory
+        → TookIn old one bytes r → TookIn old two bytes s → (one ≡ two) × (r ≡ s) }
+    ensures asking { (old one two : AskingValue) (bytes : List ℕ) (r s : Result TheGot TheFault)
+        → AreBytes bytes → r ≢ Err fault.NoMemory → s ≢ Err fault.NoMemory
+        → TookIn old one bytes r → TookIn old two bytes s → (one ≡ two) × (r ≡ s) }
+    ensures emitted { (handed : List (List ℕ)) (old one two : PortValue) (xs ys : List ℕ)
+        → Sends old.link handed → WroteMore old one (xs ∷ []) → WroteMore old two (ys ∷ [])
+        → (one ≡ two) × (xs ≡ ys) }
+    ensures none { (old one : PortValue) (xs : List ℕ) → WroteMore old one (xs ∷ [])
+        → may_send old.link ≡ false → ⊥ }
+{}
+
+/// A packet of a peer that sends some NSP messages, and nothing too old or too far ahead, is refused where memory is, or where
+/// the end would have taken more than 2^40 segments, and for nothing else; and then it changes nothing.
+pub fn peers_are_taken_in()
+    ensures serving { (setup : TheSetup) (first : Files) (size : ℕ) (messages : List (List ℕ))
+        (came : List Arrival) (old mid new : ServingValue) (wrote : List Written)
+        (bytes : List ℕ) (f : TheFault)
+        → AllByRecursion (λ c. IsFromPeer size messages c.0 c.1) came
+        → old.port ≡ new_port setup → IsAfter (nothing_yet first) old → Runs came old mid wrote
+        → IsFromPeer size messages mid.port.link bytes → TookIn mid new bytes (Err f)
+        → ((f ≡ fault.NoMemory) ⊎ (f ≡ fault.Exhausted)) × (new ≡ mid) }
+    ensures asking { (setup : TheSetup) (size : ℕ) (messages : List (List ℕ))
+        (came : List Arrival) (requests : List TheRequest) (old mid new : AskingValue)
+        (reports : List TheReport) (wrote : List Written) (bytes : List ℕ) (f : TheFault)
+        → AllByRecursion (λ c. IsFromPeer size messages c.0 c.1) came
+        → old.port ≡ new_port setup → HasAsked nothing_asked old
+        → AskingRuns came requests old mid reports wrote
+        → IsFromPeer size messages mid.port.link bytes → TookIn mid new bytes (Err f)
+        → ((f ≡ fault.NoMemory) ⊎ (f ≡ fault.Exhausted)) × (new ≡ mid) }
 {}
 
 /// A run of one of two ends, in which the packets that come are of those that the other wrote before, unaltered and not more than

@@ -112,8 +112,8 @@ impl ServingEnd {
         ensures may { OnOk result (MayAdd self.old.present name.now) }
         ensures files { OnOk result (self.new.present.files
             ≡ with_new_file name.now shape self.old.present.files) }
-        ensures given { OnOk result ((first : Files) → IsAfter (nothing_yet first) self.old
-            → IsAfter (nothing_yet self.new.present.files) self.new) }
+        ensures given { OnOk result ((past : Past) → IsAfter past self.old
+            → IsAfter (record past { first = self.new.present.files }) self.new) }
         ensures port { self.new.port ≡ self.old.port }
         ensures own { self.new.present.own ≡ self.old.present.own }
         ensures refused { IfErr result (NotGiven self.old (AddRefused self.old.present name.now)) }
@@ -135,8 +135,8 @@ impl ServingEnd {
         ensures may { OnOk result (MayAddRecord self.old.present number body.now) }
         ensures files { OnOk result (self.new.present.files
             ≡ with_record number body.now self.old.present.files) }
-        ensures given { OnOk result ((first : Files) → IsAfter (nothing_yet first) self.old
-            → IsAfter (nothing_yet self.new.present.files) self.new) }
+        ensures given { OnOk result ((past : Past) → IsAfter past self.old
+            → IsAfter (record past { first = self.new.present.files }) self.new) }
         ensures port { self.new.port ≡ self.old.port }
         ensures own { self.new.present.own ≡ self.old.present.own }
         ensures refused { IfErr result

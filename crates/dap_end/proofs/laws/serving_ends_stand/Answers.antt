@@ -7,29 +7,11 @@ use Rattle.dap_end.proofs.Going.{next_items}
 use Rattle.dap_end.proofs.Running.{answers_from}
 use Rattle.dap_end.proofs.laws.serving_ends_stand.Goals as goal
 
-pub returns-clause-stands : goal.returns-clause-stands
-returns-clause-stands c = λ past v h. h.serving
-
-pub returns-clause-bytes : goal.returns-clause-bytes
-returns-clause-bytes c = λ past v h. h.gone.bytes
-
 pub returns-clause-files : goal.returns-clause-files
 returns-clause-files c = λ past v h. ap (λ (p : Present). p.files) h.serving
 
-pub returns-clause-answers : goal.returns-clause-answers
-returns-clause-answers c = λ past v h. h.answers
-
-pub returns-clause-sends : goal.returns-clause-sends
-returns-clause-sends c = λ past v h. h.sends
-
-pub returns-clause-fit : goal.returns-clause-fit
-returns-clause-fit c = λ past v h. h.fit
-
 pub returns-clause-front : goal.returns-clause-front
 returns-clause-front c = λ past v h. here_front past.given v.port.link.coming.inbox v.port.place past.items h.gone
-
-pub returns-clause-whole : goal.returns-clause-whole
-returns-clause-whole c = λ past v h. (h.gone.done, h.gone.begun, h.gone.all, h.gone.whole)
 
 pub returns-clause-joined : goal.returns-clause-joined
 returns-clause-joined c = λ own first items. answers_from own first [] items
