@@ -373,6 +373,7 @@ pub taken_read : (bytes : List ℕ) (at : ℕ) (m : Message) (next : ℕ) (old n
 taken_read bytes at m next old new None works reads t =
     record {
       works = works;
+      goes_on = ap (λ (p : Present). p.failed) t.4 ∙ works;
       answer = Whole m;
       reads = reads;
       expected = placed (Whole m) old t.0 t.2 (inl (t.1, t.3));
@@ -382,6 +383,7 @@ taken_read bytes at m next old new None works reads t =
 taken_read bytes at m next old new (Some done) works reads t =
     record {
       works = works;
+      goes_on = ap (λ (p : Present). p.failed) t.3 ∙ works;
       answer = Whole m;
       reads = reads;
       expected = placed (Whole m) old t.0 t.1 (inr (done, t.2));
@@ -413,6 +415,7 @@ pub asks_of : (request : Request) (old : Present) (p : Pending) (messages : List
 asks_of request old p messages may spelled e =
     record {
       works = may.works;
+      goes_on = may.works;
       admissible = admit request old may;
       limit = old.limit;
       is_limit = λ requests answers s. s.limit;

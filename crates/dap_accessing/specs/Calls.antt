@@ -25,6 +25,7 @@ IsAdmittedBy old request =
 -- the end stands as after it too.
 pub record Asks (request : Request) (old new : Present) (messages : List (List ℕ)) : Type 0 where
   pub works : old.failed ≡ false
+  pub goes_on : new.failed ≡ false
   pub admissible : IsAdmittedBy old request
   pub limit : ℕ
   pub is_limit : (requests : List Request) (answers : List Item) → StandsAfter requests answers old → limit ≡ limit_after (Told requests answers)
@@ -46,6 +47,7 @@ AskRefused request old fault =
 -- The answer at `at` was read: it was expected, and the report is the one that it adds.
 pub record Reads (bytes : List ℕ) (at : ℕ) (old new : Present) (read : ReadStep) : Type 0 where
   pub works : old.failed ≡ false
+  pub goes_on : new.failed ≡ false
   pub answer : Item
   pub reads : ItemAt bytes at answer read.next
   pub expected : (requests : List Request) (answers : List Item) → StandsAfter requests answers old → is_unexpected requests answers answer ≡ false

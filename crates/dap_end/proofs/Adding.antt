@@ -10,7 +10,7 @@ use Rattle.dap_accessed.specs.Standing.{Files, Fresh}
 use Rattle.dap_accessed.specs.Groups.{Grouped, stands_after, answers_in, Answers, added, limit_for}
 use Rattle.dap_accessed.proofs.ForCallers.{of_any, front_fresh}
 use Rattle.dap_accessed.specs.Present.{Present, StandsAfter}
-use Rattle.dap_accessed.specs.Adding.{IsFresh, AddRefused, RecordRefused}
+use Rattle.dap_accessed.specs.Adding.{IsFresh, MayAdd, MayAddRecord, AddRefused, RecordRefused}
 use Rattle.dap_end.specs.Ports.{HasCome}
 use Rattle.dap_end.specs.Serving.{IsAfter, NotGiven}
 use Rattle.dap_end.specs.Done.{ServingValue, Past, answers_to}
@@ -53,9 +53,13 @@ given old after (Ok u) own fresh stands = λ past h.
     }
 given old after (Err f) own fresh stands = tt
 
-pub fresh_to_add : {A : Type 0} {r : Result (Unit {0}) AddFault} (v : Present) → OnOk r (IsFresh v × A) → OnOk r (IsFresh v)
-fresh_to_add {A} {Ok u} v h = h.0
-fresh_to_add {A} {Err f} v h = tt
+pub fresh_to_add : (r : Result (Unit {0}) AddFault) (v : Present) (name : List ℕ) → OnOk r (MayAdd v name) → OnOk r (IsFresh v)
+fresh_to_add (Ok u) v name h = h.0
+fresh_to_add (Err f) v name h = tt
+
+pub fresh_to_store : (r : Result (Unit {0}) AddFault) (v : Present) (n : ℕ) (body : List ℕ) → OnOk r (MayAddRecord v n body) → OnOk r (IsFresh v)
+fresh_to_store (Ok u) v n body h = h.0
+fresh_to_store (Err f) v n body h = tt
 
 refused_add : (v : ServingValue) (name : List ℕ) (f : AddFault) → (HasCome v.port → ⊥) → AddRefused v.present name f → NotGiven v (AddRefused v.present name) f
 refused_add v name fault.Busy none h = inr h

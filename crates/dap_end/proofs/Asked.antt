@@ -1,6 +1,6 @@
 -- What the calls of an asking end leave of what it did.
-use Rattle.std.proofs.Common.{◌≡◌, inl, inr, eq-eqb, ◌-◌, ℕ, ◌+◌, ◌<◌, ◌≤◌, arith, refl, sym, ◌∙◌, subst, ap, append_assoc, true, false, List, [], ◌∷◌, ◌++◌, length}
-use Rattle.std.specs.Prelude.{◌==◌, Option, nat_le, if◌then◌else◌, option_to_list}
+use Rattle.std.proofs.Common.{◌≡◌, inl, inr, eq-eqb, ◌-◌, ℕ, ◌+◌, ◌<◌, ◌≤◌, arith, refl, sym, ◌∙◌, subst, ap, append_assoc, true, false, true≢false, List, [], ◌∷◌, ◌++◌, length}
+use Rattle.std.specs.Prelude.{Result, Ok, Err, IfOk, IfErr, ◌==◌, Option, nat_le, if◌then◌else◌, option_to_list}
 use Rattle.std.proofs.lemmas.Bool.{cases_eq, ne_eqb}
 use Rattle.std.proofs.lemmas.List.{append-nil, map-append}
 use Rattle.std.proofs.lemmas.List.Elements.{All-append}
@@ -31,7 +31,10 @@ use Rattle.dap_end.specs.Writing.{Behind}
 use Rattle.dap_end.specs.Moved.{sent_more}
 use Rattle.dap_end.specs.Going.{given_then}
 use Rattle.dap_end.specs.Going.{GoneThrough}
-use Rattle.dap_end.specs.Asking.{HasAsked, AskedOne, ReadOne}
+use Rattle.dap_accessing.specs.declared.fault.AskFault.{AskFault}
+use Rattle.dap_accessing.specs.declared.fault.AskFault.TheVariants.{NoMemory}
+use Rattle.dap_accessing.specs.declared.fault.ReadFault.{ReadFault}
+use Rattle.dap_end.specs.Asking.{HasAsked, AskedOne, ReadOne, ReadNone}
 use Rattle.dap_end.specs.Hearing.{ReadOn}
 use Rattle.dap_end.specs.Hearing.{begins, goes}
 use Rattle.dap_end.specs.Done.{AskingValue, AskingPast}
@@ -201,6 +204,7 @@ pub reads_one : (old : AskingValue) (bytes : List ℕ) (later : List (List ℕ))
 reads_one old bytes later fits after port step inbox place r within own is =
     record {
       works = r.works;
+      goes_on = r.goes_on;
       one = record { bytes = bytes; later = later; came = inbox; fits = fits; item = r.answer; next = step.next; reads = r.reads; place = place };
       port = is;
       own = own;
@@ -357,3 +361,18 @@ still_sent v port n e =
 -- a link to which something was handed runs
 pub works_after : (old new : AskingValue) (n : ℕ) → HandsOver old new n → new.port.link.failed ≡ false
 works_after old new n h = ap (λ (v : AskingValue). v.port.link.failed) (handed_is old new n h) ∙ (may_queue_parts old.port.link old.port.outbox h.0).0
+
+-- ---- Where the end failed, the answer that failed it is left.
+
+pub left_asked : (old new : AskingValue) (request : Request) (r : Result ℕ AskFault) → IfOk r (λ n. AskedOne request old new n) → IfErr r (λ f. (new.port ≡ old.port) × (new.present ≡ old.present) × (f ≡ NoMemory))
+    → (old.present.failed ≡ true → 0 < length old.port.link.coming.inbox) → new.present.failed ≡ true → 0 < length new.port.link.coming.inbox
+left_asked old new request (Ok n) ok err left failed = absurd (true≢false (sym failed ∙ ok.asks.goes_on))
+left_asked old new request (Err f) ok err left failed =
+    subst (λ (p : PortValue). 0 < length p.link.coming.inbox) (sym err.0) (left (ap (λ (p : Present). p.failed) (sym err.1) ∙ failed))
+
+pub left_unread : (old new : AskingValue) (f : ReadFault) → ReadNone old new f → 0 < length new.port.link.coming.inbox
+left_unread old new f n = subst (λ (p : PortValue). 0 < length p.link.coming.inbox) (sym n.port) (let some = ap length n.came in omega (arith, some))
+
+pub left_read : (old new : AskingValue) (r : Result (Option Report) ReadFault) → IfOk r (λ report. ReadOne old new report) → IfErr r (λ f. ReadNone old new f) → new.present.failed ≡ true → 0 < length new.port.link.coming.inbox
+left_read old new (Ok report) ok err failed = absurd (true≢false (sym failed ∙ ok.goes_on))
+left_read old new (Err f) ok err failed = left_unread old new f err

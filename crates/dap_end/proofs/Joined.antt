@@ -86,11 +86,11 @@ front_full [] ys h = tt
 front_full (x ∷ xs) ys h = (h.0, front_full xs ys h.1)
 
 -- items that are a front of messages are the first of these
-record Taken (messages : List Message) (items : List Item) : Type 0 where
-  taken : List Message
-  is : items ≡ map Whole taken
-  rest : List Message
-  split : taken ++ rest ≡ messages
+pub record Taken (messages : List Message) (items : List Item) : Type 0 where
+  pub taken : List Message
+  pub is : items ≡ map Whole taken
+  pub rest : List Message
+  pub split : taken ++ rest ≡ messages
 
 taken_of : (messages : List Message) (items rest : List Item) → map Whole messages ≡ items ++ rest → Taken messages items
 taken_of messages [] rest e = record { taken = []; is = refl; rest = messages; split = refl }
@@ -106,7 +106,7 @@ taken_of (m ∷ messages) (x ∷ items) rest e =
     }
 
 -- what the other end took is of the messages in all NSP messages
-first_ones : (packets : List NspMessage) (handed waiting : List (List ℕ)) (items : List Item) → AreFull packets → AllFit (messages_in packets) → handed ++ waiting ≡ all_joined packets → AreFrontOf handed items → Taken (messages_in packets) items
+pub first_ones : (packets : List NspMessage) (handed waiting : List (List ℕ)) (items : List Item) → AreFull packets → AllFit (messages_in packets) → handed ++ waiting ≡ all_joined packets → AreFrontOf handed items → Taken (messages_in packets) items
 first_ones packets handed waiting items full fit bytes front =
     let f = front_of handed waiting packets bytes in
     let all : messages_in packets ≡ messages_in f.front ++ messages_in f.rest = ap messages_in f.split ∙ in_append f.front f.rest in
@@ -447,7 +447,7 @@ asks first old new (By (Repeats None)) ws ((t, at), e) j = wrote_a first old new
 
 -- ---- All events.
 
-pair_step : (first : Files) (old new : Pair) (event : PairEvent) (ws : List Written) → PairStepped old event ws new → IsLinked first old → IsLinked first new
+pub pair_step : (first : Files) (old new : Pair) (event : PairEvent) (ws : List Written) → PairStepped old event ws new → IsLinked first old → IsLinked first new
 pair_step first old new (AtA event) ws s j = asks first old new event ws s j
 pair_step first old new (AtB event) ws s j = serves first old new event ws s j
 

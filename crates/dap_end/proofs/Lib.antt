@@ -24,3 +24,8 @@ pub mod Calling
 pub mod ForCallers
 pub mod Pairing
 pub mod Arriving
+pub mod Goes
+pub mod Stores
+pub mod Agreeing
+pub mod AllRead
+pub mod Expected

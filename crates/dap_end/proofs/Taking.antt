@@ -1,7 +1,7 @@
 -- What taking a packet in leaves as it was.
 use Rattle.std.proofs.Common.{◌≡◌, ℕ, arith, refl, sym, ◌∙◌, subst, ap, append_assoc, true, false, List, [], ◌∷◌, ◌++◌, inl, inr}
-use Rattle.std.specs.Prelude.{Bool, ◌+◌, ◌==◌, Result, Ok, Err, if◌then◌else◌}
-use Rattle.std.proofs.lemmas.List.{append-nil}
+use Rattle.std.specs.Prelude.{◌<◌, length, Bool, ◌+◌, ◌==◌, Result, Ok, Err, if◌then◌else◌}
+use Rattle.std.proofs.lemmas.List.{append-nil, length-append}
 use Rattle.nsp_seg.specs.declared.packet.Packet.{Packet}
 use Rattle.nsp_seg.specs.declared.packet.Packet.TheVariants.{Segment, DataAck}
 use Rattle.nsp_link.specs.declared.link.Got.{Got}
@@ -89,3 +89,7 @@ port_stays p link g h =
       place = subst (λ (l : List (List ℕ)). IsPlace p.place (oldest l)) (sym g.inbox) (place_stays p.place p.link.coming.inbox g.more h.place);
       short = h.short;
     }
+
+-- and where some did, some still waits
+pub still_left : (old new : LinkValue) → Grown old new → 0 < length old.coming.inbox → 0 < length new.coming.inbox
+still_left old new g some = subst (λ (l : List (List ℕ)). 0 < length l) (sym g.inbox) (omega (arith, length-append old.coming.inbox g.more, some))

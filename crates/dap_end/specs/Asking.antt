@@ -48,6 +48,7 @@ pub record AskedOne (request : Request) (old new : AskingValue) (n : ℕ) : Type
 -- The next item of the oldest NSP message was read; it was expected, and the report is the one that it adds.
 pub record ReadOne (old new : AskingValue) (report : Option Report) : Type 0 where
   pub works : old.present.failed ≡ false
+  pub goes_on : new.present.failed ≡ false
   pub one : NextItem old.port
   pub port : new.port ≡ gone_on old.port one.bytes one.later one.next
   pub own : new.present.own ≡ old.present.own

@@ -9,3 +9,4 @@ pub mod Stored
 pub mod Answered
 pub mod Wanting
 pub mod Running
+pub mod Agreement

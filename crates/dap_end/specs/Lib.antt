@@ -14,4 +14,5 @@ pub mod Calls
 pub mod Joined
 pub mod Moved
 pub mod Pasts
+pub mod Agreement
 pub mod Inner

@@ -37,7 +37,9 @@ ghost use Rattle.dap_end.specs.Turns.{DidAll, WentOn, TookIn, Takes};
 ghost use Rattle.dap_end.specs.Taking.{ServedOn, serves};
 ghost use Rattle.dap_end.specs.Wanting.{is_want, why};
 ghost use Rattle.dap_end.specs.Hearing.{ReadOn, ReadsAll, asks};
-ghost use Rattle.dap_end.specs.Asking.{HasAsked, HasDone, AskedOne, ReadOne};
+ghost use Rattle.dap_end.specs.Asking.{HasAsked, HasDone, AskedOne, ReadNone, ReadOne};
+ghost use Rattle.dap_end.specs.Agreement.{IsBufsiz};
+ghost use Rattle.dap_accessed.specs.Sound.{AreFiles};
 ghost use Rattle.dap_end.specs.Done.{AskingValue, AskingPast, nothing_asked};
 ghost use Rattle.dap_end.specs.Headline.{AreWrittenOf, Arrival, IsFromPeer, Written, bytes_of};
 ghost use Rattle.dap_end.specs.Joined.{IsBrought, Pair};
@@ -411,4 +413,27 @@ pub fn two_ends_keep_the_headline()
         × (new.b.present.files ≡ After new.b.present.own first (map Whole taken))
         × (read ++ rest ≡ Answers new.b.present.own first (map Whole taken))
         × (new.reports ≡ Told new.requests (map Whole read)) }
+{}
+
+/// No answer between two such ends is unexpected, so that `two_ends_keep_the_headline` speaks of every list of their calls: where
+/// the files that the server had at first are files, and both have a BUFSIZ that an end may have.
+pub fn no_answer_is_unexpected()
+    ensures { (s t : TheSetup) (first : Files) (a : AskingValue) (b : ServingValue) (new : Pair)
+        (after : AskingValue) (f : TheReadFault) → IsSetup s → IsSetup t → t ≡ record s {
+          local = s.remote;
+          remote = s.local;
+          seg_size = t.seg_size;
+          window = t.window;
+        } → AreFiles first → IsBufsiz a.present.own → IsBufsiz b.present.own
+        → a.port ≡ new_port s → HasAsked nothing_asked a
+        → b.port ≡ new_port t → IsAfter (nothing_yet first) b
+        → PairRuns (record {
+          a = a;
+          b = b;
+          from_a = [];
+          from_b = [];
+          requests = [];
+          reports = [];
+        }) new → AllByRecursion AreBytes new.a.port.link.coming.inbox
+        → ReadNone new.a after f → f ≢ read_fault.Unexpected }
 {}

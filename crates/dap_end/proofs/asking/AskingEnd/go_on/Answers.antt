@@ -7,8 +7,8 @@ use Rattle.dap_end.specs.Inner.AskingInside.{asking_view}
 use Rattle.dap_end.proofs.Turning.{went_by}
 use Rattle.dap_end.proofs.asking.AskingEnd.go_on.Goals as goal
 
-pub returns : goal.returns
-returns c =
+pub returns-clause-went : goal.returns-clause-went
+returns-clause-went c =
     let end = asks c.args.reports.now.items c.hear_all.new.reports.items in
     let old = c.args.self.now in
     let heard = asking_view c.self.inside in

@@ -1,0 +1,366 @@
+-- Request by request: what the accessed end answers to the messages of a request is just what its report takes.
+use Rattle.std.proofs.Common.{◌≡◌, ℕ, ◌+◌, ◌≤◌, ◌<◌, ◌^◌, arith, refl, ◌∙◌, true, false, Bool, ap, List, [], ◌∷◌, ◌++◌, length, map, Option, Some, None, Result, Ok, Err}
+use Rattle.std.specs.Prelude.{if◌then◌else◌, nat_lt, nat_le, ◌&&◌, unwrap_or, IsTrue, IfSome}
+use Rattle.std.specs.FinMap as finite
+use Rattle.std.proofs.lemmas.List.{append-nil}
+use Rattle.dap_msg.specs.declared.message.Message.{Message}
+use Rattle.dap_msg.specs.declared.message.StatusFields.{StatusFields}
+use Rattle.dap_msg.specs.declared.message.ControlFields.{ControlFields}
+use Rattle.dap_msg.specs.declared.message.Message.TheVariants.{Attrib, Status}
+use Rattle.dap_msg.specs.declared.items.Item.{Item}
+use Rattle.dap_msg.specs.declared.items.Item.TheVariants.{Whole}
+use Rattle.dap_msg.specs.BothEnds.{number_of, four_bytes, config_of}
+use Rattle.rec_file.specs.declared.refusals.Refusal.{Refusal}
+use Rattle.rec_file.specs.declared.refusals.Refusal.TheVariants.{NotPermitted, NoCurrent, RecordNotFound, RecordExists, NumberOutOfRange, BadLength, BadAccessMode, DeleteNotAllowed, BadKey, EndOfFile, NoMemory}
+use Rattle.rec_file.specs.declared.picks.Pick.{Pick}
+use Rattle.rec_file.specs.Files.{records_from}
+use Rattle.rec_file.specs.Acts.{StreamVal, act, delete_record, update_record, put_record, get_record, Operation}
+use Rattle.dap_accessed.specs.declared.phase.OpenFile.{OpenFile}
+use Rattle.std.specs.Prelude.{take_while, drop}
+use Rattle.std.specs.List.{prefix_len}
+use Rattle.dap_msg.specs.Codes as codes
+use Rattle.dap_accessed.specs.Standing.{Files, Place, Group, Standing, Scene, Effect, enters, the_file, place_of, file_at}
+use Rattle.dap_accessed.specs.Standing as at
+use Rattle.dap_accessed.specs.Replies.{bare_status, record_status, reason_of, too_large}
+use Rattle.dap_accessed.specs.Records.{uncurrent, at_number, filedata_of, fits_limit, get_pick, put_key, record_got, got, refused, settled, changed, Change, Putting, Updating}
+use Rattle.dap_accessed.specs.Transfers.{fetch, fetch_ends}
+use Rattle.dap_accessed.specs.Groups.{Grouped, over, answers_in}
+use Rattle.dap_accessing.specs.declared.request.By.{By}
+use Rattle.dap_accessing.specs.declared.request.By.TheVariants as by
+use Rattle.dap_accessing.specs.declared.request.How.{How}
+use Rattle.dap_accessing.specs.declared.request.How.TheVariants as how
+use Rattle.dap_accessing.specs.Request.{Request}
+use Rattle.dap_accessing.specs.declared.request.Request.TheVariants as request
+use Rattle.dap_accessing.specs.declared.report.Report.{Report}
+use Rattle.dap_accessing.specs.declared.report.Report.TheVariants as report
+use Rattle.dap_accessing.specs.declared.report.Ending.TheVariants as ending
+use Rattle.dap_accessing.specs.declared.phase.Phase.{Phase}
+use Rattle.dap_accessing.specs.declared.phase.Phase.TheVariants.{Fresh, Ready, Opened, Connected, Stopped}
+use Rattle.dap_accessing.specs.Asked.{messages_of}
+use Rattle.dap_msg.specs.Codes.{is_success}
+use Rattle.dap_accessing.specs.Told.{Hearing, Reports, Unexpected, hear, hear_done, behind, hear_batch, hear_record}
+use Rattle.dap_accessing.specs.Parts.{is_record, records_in_front, hear_batch_end, ending_of}
+use Rattle.dap_accessing.specs.Phase.{phase_next, limit_next}
+use Rattle.std.specs.Prelude.{not, ◌||◌, nat_eq}
+use Rattle.std.proofs.lemmas.Bool.{lt-ltb, le-ltb}
+use Rattle.std.proofs.lemmas.Bool.Decides.{nat_tests}
+use Rattle.dap_msg.specs.declared.message.Attributes.{Attributes}
+use Rattle.dap_msg.specs.BothEnds.{limit_of, greatest_message}
+use Rattle.rec_file.specs.declared.shapes.Shape.{Shape}
+use Rattle.rec_file.specs.Limits.{greatest_number, longest_record}
+use Rattle.rec_file.specs.Shapes.{is_shape, is_seq, has_length}
+use Rattle.dap_accessed.specs.Accesses.{open_file, create_file}
+use Rattle.dap_msg.specs.BothEnds.{no_attributes}
+use Rattle.dap_accessed.specs.Past.{asked_shape, kept_attributes}
+use Rattle.dap_accessed.specs.Replies.{opened_with, org_number, format_number}
+use Rattle.dap_accessed.proofs.ForCallers.{AllFiles, file-there, one_more}
+use Rattle.dap_accessed.proofs.ForCallers.{good-shape, place-within}
+use Rattle.dap_accessing.specs.Told.{hear_attributes}
+use Rattle.dap_accessing.proofs.ForCallers.{behind-more, records-more}
+use Rattle.dap_end.specs.Agreement.{IsBufsiz}
+use Rattle.dap_end.specs.Inner.Agreement.{AgreeAt, AreLimits}
+
+-- the cut after more items
+abbrev pub more_items : ℕ → Grouped → List Item → Grouped
+more_items own c [] = c
+more_items own c (item ∷ items) = more_items own (one_more own c item) items
+
+-- The messages of a request go to answers that come to a report, and the two ends agree again.
+pub record Goes (own_a own_b : ℕ) (request : Request) (phase : Phase) (s : Standing) (limit_a : ℕ) : Type 0 where
+  pub answers : List Message
+  pub done : Report
+  pub new : Standing
+  pub cut_is : more_items own_b (record { standing = s; begun = None }) (map Whole (messages_of own_a request)) ≡ record { standing = new; begun = None }
+  pub adds : answers_in new.past ≡ answers_in s.past ++ answers
+  pub heard : hear request (map Whole answers) ≡ Reports done []
+  pub agree : AgreeAt own_a own_b (phase_next phase done) new.place new.scene.limit (limit_next limit_a done)
+
+abbrev pub standing_at : Place → Files → ℕ → List Group → Standing
+standing_at place files limit past = record { scene = record { limit = limit; files = files }; place = place; past = past }
+
+-- ---- Operations on records.
+
+-- what a refused operation reports
+abbrev refusal_report : Refusal → Report
+refusal_report EndOfFile = report.Refused 0x5027 0
+refusal_report refusal = report.Refused 0x5000 (reason_of refusal)
+
+abbrev record_report : Result ℕ Refusal → Report
+record_report (Ok n) = report.Done (number_of (four_bytes n))
+record_report (Err refusal) = refusal_report refusal
+
+hear_status : (r : Result ℕ Refusal) → hear_done (Whole (record_status r) ∷ []) ≡ Reports (record_report r) []
+hear_status (Ok n) = refl
+hear_status (Err NotPermitted) = refl
+hear_status (Err NoCurrent) = refl
+hear_status (Err RecordNotFound) = refl
+hear_status (Err RecordExists) = refl
+hear_status (Err NumberOutOfRange) = refl
+hear_status (Err BadLength) = refl
+hear_status (Err BadAccessMode) = refl
+hear_status (Err DeleteNotAllowed) = refl
+hear_status (Err BadKey) = refl
+hear_status (Err EndOfFile) = refl
+hear_status (Err NoMemory) = refl
+
+-- ---- A batch.
+
+-- the numbers and bodies that a batch reports
+abbrev numbered : List (ℕ × List ℕ) → List (ℕ × List ℕ)
+numbered [] = []
+numbered (r ∷ records) = (number_of (four_bytes r.0), r.1) ∷ numbered records
+
+records_fetched : (records : List (ℕ × List ℕ)) (status : StatusFields) → records_in_front (map Whole (map filedata_of records ++ Status status ∷ [])) ≡ numbered records
+records_fetched [] status = refl
+records_fetched (r ∷ records) status =
+    records-more (four_bytes r.0) r.1 (map Whole (map filedata_of records ++ Status status ∷ []))
+    ∙ ap (λ l. (number_of (four_bytes r.0), r.1) ∷ l) (records_fetched records status)
+
+behind_fetched : (records : List (ℕ × List ℕ)) (status : StatusFields) → behind is_record (map Whole (map filedata_of records ++ Status status ∷ [])) ≡ Whole (Status status) ∷ []
+behind_fetched [] status = refl
+behind_fetched (r ∷ records) status =
+    behind-more is_record (Whole (filedata_of r)) (map Whole (map filedata_of records ++ Status status ∷ [])) refl ∙ behind_fetched records status
+
+hear_fetched : (records : List (ℕ × List ℕ)) (status : StatusFields) → is_success status.code ≡ false
+    → hear_batch (map Whole (map filedata_of records ++ Status status ∷ [])) ≡ Reports (report.Batch (numbered records) (ending_of status)) []
+hear_fetched records status e =
+    ap (λ l. hear_batch_end l (behind is_record (map Whole (map filedata_of records ++ Status status ∷ [])))) (records_fetched records status)
+    ∙ ap (hear_batch_end (numbered records)) (behind_fetched records status)
+    ∙ ap (λ b. if b then Unexpected else Reports (report.Batch (numbered records) (ending_of status)) []) e
+
+abbrev end_status : StatusFields
+end_status = record { code = 0x5027; rfa = []; recnum = []; stv = [] }
+
+abbrev large_status : StatusFields
+large_status = record { code = 0x5000; rfa = []; recnum = []; stv = 10 ∷ [] }
+
+-- ---- The Attributes of a file.
+
+both : (a b : Bool) → (a && b) ≡ true → (a ≡ true) × (b ≡ true)
+both true b e = (refl, e)
+both false b e = let never : ⊥ = cc in absurd never
+
+in_three : (a b c d : Bool) → (((a && b) && c) && d) ≡ true → c ≡ true
+in_three a b c d e = (both (a && b) c (both ((a && b) && c) d e).0).1
+
+-- a number of 4 bytes is read as it was written
+number-four_bytes : (n : ℕ) → n < 2 ^ 32 → number_of (four_bytes n) ≡ n
+number-four_bytes n h = omega (arith, h)
+
+-- a file's greatest number is read as it was written, and is one that a file may have
+mrn_read : (shape : Shape) → IsTrue (is_shape shape) → nat_le (number_of (four_bytes shape.mrn)) 2147483647 ≡ true
+mrn_read shape g =
+    let e : nat_le shape.mrn greatest_number ≡ true = in_three (has_length shape.format shape.mrs) (nat_le shape.mrs longest_record) (nat_le shape.mrn greatest_number) (not (is_seq shape.org) || nat_eq shape.mrn 0) g in
+    let fits : shape.mrn ≤ greatest_number = grind (arith, nat_tests) in
+    ap (λ n. nat_le n 2147483647) (number-four_bytes shape.mrn (omega arith)) ∙ e
+
+hear_shape : (shape : Shape) → IsTrue (is_shape shape) → hear_attributes (map Whole (opened_with shape)) ≡ Reports (report.Opened (org_number shape.org) (format_number shape.format) shape.mrs (number_of (four_bytes shape.mrn))) []
+hear_shape shape g = rw (mrn_read shape g) refl
+
+abbrev control_of : (func rac : ℕ) → Option (List ℕ) → ControlFields
+control_of func rac key = record { func = func; rac = Some rac; key = key; krf = None; rop = None; hsh = None; display = None }
+
+is-large : (n : ℕ) → IsBufsiz n → (nat_lt 0 n && nat_lt n 64) ≡ false
+is-large n b = let e = le-ltb n 64 b.least in let f = lt-ltb 0 n (omega (arith, b.least)) in rw (f, e) refl
+
+pub limit-own : (n : ℕ) → IsBufsiz n → limit_of n ≡ n
+limit-own n b = let e = le-ltb greatest_message n b.most in let least = b.least in grind (arith, nat_tests)
+
+-- two groups, of which the first has no answers
+adds-two : (past : List Group) (answers : List Message) → (answers_in past ++ []) ++ answers ≡ answers_in past ++ answers
+adds-two past answers = ap (λ l. l ++ answers) (append-nil (answers_in past))
+
+shape-there : (files : Files) (found : Option ℕ) → AllFiles files → IfSome found (λ n. n < length files) → IfSome found (λ n. IsTrue (is_shape (file_at n files).shape))
+shape-there files None all h = tt
+shape-there files (Some n) all h = (file-there files n all h).shape
+
+module _ (own_a own_b : ℕ) (scene : Scene) (limit_a : ℕ) (h : AreLimits own_a own_b scene.limit limit_a) where
+  -- the answers of an effect come to a report by this hearing, and the ends agree after it
+  abbrev pub Comes : Phase → (List Item → Hearing) → Effect → Type 0
+  Comes phase hearing e =
+      (done : Report) × (hearing (map Whole e.answers) ≡ Reports done []) × AgreeAt own_a own_b (phase_next phase done) e.place e.scene.limit (limit_next limit_a done)
+
+  -- such a report leaves the phase and the limit
+  stays_connected : (r : Result ℕ Refusal) (o : OpenFile) (s : StreamVal) → AgreeAt own_a own_b (phase_next Connected (record_report r)) (at.Connected o s) scene.limit (limit_next limit_a (record_report r))
+  stays_connected (Ok n) o s = h
+  stays_connected (Err NotPermitted) o s = h
+  stays_connected (Err NoCurrent) o s = h
+  stays_connected (Err RecordNotFound) o s = h
+  stays_connected (Err RecordExists) o s = h
+  stays_connected (Err NumberOutOfRange) o s = h
+  stays_connected (Err BadLength) o s = h
+  stays_connected (Err BadAccessMode) o s = h
+  stays_connected (Err DeleteNotAllowed) o s = h
+  stays_connected (Err BadKey) o s = h
+  stays_connected (Err EndOfFile) o s = h
+  stays_connected (Err NoMemory) o s = h
+
+  module _ (o : OpenFile) where
+    -- ---- PUT, UPDATE and DELETE.
+
+    pub operates : (op : Operation) (s : StreamVal) → Comes Connected hear_done (settled scene o (act op (the_file scene.files o) s))
+    operates op s =
+        let outcome = act op (the_file scene.files o) s in
+        (record_report outcome.reply, hear_status outcome.reply, stays_connected outcome.reply o outcome.stream)
+
+    pub changes : (change : Change) (s : StreamVal) (body : List ℕ) → Comes Connected hear_done (changed change scene o s body)
+    changes (Putting (Err refusal)) s body = (record_report (Err refusal), hear_status (Err refusal), stays_connected (Err refusal) o (uncurrent s))
+    changes (Putting (Ok key)) s body = operates (put_record key body) s
+    changes Updating s body = operates (update_record body) s
+
+    -- ---- GET.
+
+    hear_found : (fits : Bool) (before after : StreamVal) (r : ℕ × List ℕ) → Comes Connected hear_record (if fits then enters scene (at.Connected o after) (filedata_of r ∷ []) else enters scene (at.Connected o (uncurrent before)) (too_large ∷ []))
+    hear_found true before after r = (report.Found (number_of (four_bytes r.0)) r.1, refl, h)
+    hear_found false before after r = (report.Refused 0x5000 10, refl, h)
+
+    hear_refused : (refusal : Refusal) (before after : StreamVal) → Comes Connected hear_record (got (Err refusal) scene o before after)
+    hear_refused NotPermitted before after = (_, refl, h)
+    hear_refused NoCurrent before after = (_, refl, h)
+    hear_refused RecordNotFound before after = (_, refl, h)
+    hear_refused RecordExists before after = (_, refl, h)
+    hear_refused NumberOutOfRange before after = (_, refl, h)
+    hear_refused BadLength before after = (_, refl, h)
+    hear_refused BadAccessMode before after = (_, refl, h)
+    hear_refused DeleteNotAllowed before after = (_, refl, h)
+    hear_refused BadKey before after = (_, refl, h)
+    hear_refused EndOfFile before after = (_, refl, h)
+    hear_refused NoMemory before after = (_, refl, h)
+
+    hear_got : (r : Result ℕ Refusal) (before after : StreamVal) → Comes Connected hear_record (got r scene o before after)
+    hear_got (Err refusal) before after = hear_refused refusal before after
+    hear_got (Ok n) before after =
+        let r : ℕ × List ℕ = (n, unwrap_or (finite.get (the_file scene.files o).records n) []) in
+        hear_found (fits_limit scene.limit r) before after r
+
+    pub gets : (pick : Result Pick Refusal) (s : StreamVal) → Comes Connected hear_record (record_got pick scene o s)
+    gets (Err refusal) s = hear_refused refusal s s
+    gets (Ok pick) s =
+        let outcome = act (get_record pick) (the_file scene.files o) s in hear_got outcome.reply s outcome.stream
+
+    -- ---- FETCH.
+
+    ends_batches : (phase : Phase) (s : StreamVal) (given rest : List (ℕ × List ℕ)) → Comes phase hear_batch (fetch_ends scene o s given rest)
+    ends_batches phase s given [] = (report.Batch (numbered given) ending.Complete, hear_fetched given end_status refl, h)
+    ends_batches phase s given (large ∷ more) = (report.Batch (numbered given) ending.Stopped, hear_fetched given large_status refl, h)
+
+    pub fetches : (phase : Phase) (s : StreamVal) → Comes phase hear_batch (fetch scene o s)
+    fetches phase s =
+        let due = records_from (the_file scene.files o).records s.next in
+        ends_batches phase s (take_while (fits_limit scene.limit) due) (drop (prefix_len (fits_limit scene.limit) due) due)
+
+    pub fetches_if : (permitted : Bool) (s : StreamVal) → Comes Connected hear_batch (if permitted then fetch scene o s else refused scene o s NotPermitted)
+    fetches_if true s = fetches Connected s
+    fetches_if false s = (report.Batch [] (ending.Refused 0x5000 2), refl, h)
+
+  -- ---- Accesses.
+
+  pub opens : (fac : ℕ) (found : Option ℕ) → IfSome found (λ n. IsTrue (is_shape (file_at n scene.files).shape)) → Comes Ready hear_attributes (open_file scene fac found)
+  opens fac None g = (report.Refused 0x4032 0, refl, h)
+  opens fac (Some n) g = (_, hear_shape (file_at n scene.files).shape g, h)
+
+  pub creates : (name : List ℕ) (fac : ℕ) (found : Option ℕ) (shape : Option Shape) → IfSome shape (λ s. IsTrue (is_shape s)) → Comes Ready hear_attributes (create_file scene name fac found shape)
+  creates name fac (Some n) shape g = (report.Refused 0x4000 1, refl, h)
+  creates name fac None None g = (report.Refused 0x4000 11, refl, h)
+  creates name fac None (Some shape) g = (_, hear_shape shape g, h)
+
+-- ---- The requests of a file that is open.
+
+module _ (own_a own_b : ℕ) (files : Files) (limit : ℕ) (past : List Group) (limit_a : ℕ) (h : AreLimits own_a own_b limit limit_a) (o : OpenFile) where
+  pub connect_goes : Goes own_a own_b request.Connect Opened (standing_at (at.Opened o) files limit past) limit_a
+  connect_goes = record { answers = _; done = report.Connected; new = _; cut_is = refl; adds = refl; heard = refl; agree = h }
+
+  pub close_opened : Goes own_a own_b request.Close Opened (standing_at (at.Opened o) files limit past) limit_a
+  close_opened = record { answers = _; done = report.Closed; new = _; cut_is = refl; adds = refl; heard = refl; agree = h }
+
+  pub purge_opened : Goes own_a own_b request.Purge Opened (standing_at (at.Opened o) files limit past) limit_a
+  purge_opened = record { answers = _; done = report.Closed; new = _; cut_is = refl; adds = refl; heard = refl; agree = h }
+
+  abbrev scene : Scene
+  scene = record { limit = limit; files = files }
+
+  module _ (s : StreamVal) where
+    abbrev connected : Standing
+    connected = standing_at (at.Connected o s) files limit past
+
+    abbrev stopped : Standing
+    stopped = standing_at (at.Stopped o s) files limit past
+
+    pub close_connected : Goes own_a own_b request.Close Connected connected limit_a
+    close_connected = record { answers = _; done = report.Closed; new = _; cut_is = refl; adds = refl; heard = refl; agree = h }
+
+    pub purge_connected : Goes own_a own_b request.Purge Connected connected limit_a
+    purge_connected = record { answers = _; done = report.Closed; new = _; cut_is = refl; adds = refl; heard = refl; agree = h }
+
+    pub close_stopped : Goes own_a own_b request.Close Stopped stopped limit_a
+    close_stopped = record { answers = _; done = report.Closed; new = _; cut_is = refl; adds = refl; heard = refl; agree = h }
+
+    pub purge_stopped : Goes own_a own_b request.Purge Stopped stopped limit_a
+    purge_stopped = record { answers = _; done = report.Closed; new = _; cut_is = refl; adds = refl; heard = refl; agree = h }
+
+    pub rewind_goes : Goes own_a own_b request.Rewind Connected connected limit_a
+    rewind_goes = record { answers = _; done = report.Done 0; new = _; cut_is = refl; adds = refl; heard = refl; agree = h }
+
+    pub delete_goes : Goes own_a own_b request.Delete Connected connected limit_a
+    delete_goes = let r = operates own_a own_b scene limit_a h o delete_record s in record { answers = _; done = r.0; new = _; cut_is = refl; adds = refl; heard = r.1; agree = r.2 }
+
+    pub update_goes : (body : List ℕ) → Goes own_a own_b (request.Update body) Connected connected limit_a
+    update_goes body = let r = changes own_a own_b scene limit_a h o Updating s body in record { answers = _; done = r.0; new = _; cut_is = refl; adds = refl; heard = r.1; agree = r.2 }
+
+    pub put_goes : (key : Option ℕ) (body : List ℕ) → Goes own_a own_b (request.Put key body) Connected connected limit_a
+    put_goes None body =
+        let r = changes own_a own_b scene limit_a h o (Putting (put_key (the_file files o) s (control_of 4 0 None))) s body in record { answers = _; done = r.0; new = _; cut_is = refl; adds = refl; heard = r.1; agree = r.2 }
+    put_goes (Some n) body =
+        let r = changes own_a own_b scene limit_a h o (Putting (put_key (the_file files o) s (control_of 4 1 (Some (four_bytes n))))) s body in record { answers = _; done = r.0; new = _; cut_is = refl; adds = refl; heard = r.1; agree = r.2 }
+
+    pub get_goes : (b : By) → Goes own_a own_b (request.Get b) Connected connected limit_a
+    get_goes by.Next =
+        let r = gets own_a own_b scene limit_a h o (get_pick (the_file files o) s (control_of 1 0 None)) s in record { answers = _; done = r.0; new = _; cut_is = refl; adds = refl; heard = r.1; agree = r.2 }
+    get_goes (by.Key n) =
+        let r = gets own_a own_b scene limit_a h o (get_pick (the_file files o) s (control_of 1 1 (Some (four_bytes n)))) s in record { answers = _; done = r.0; new = _; cut_is = refl; adds = refl; heard = r.1; agree = r.2 }
+    get_goes (by.Rfa n) =
+        let r = gets own_a own_b scene limit_a h o (get_pick (the_file files o) s (control_of 1 2 (Some (four_bytes n)))) s in record { answers = _; done = r.0; new = _; cut_is = refl; adds = refl; heard = r.1; agree = r.2 }
+
+    pub fetch_goes : Goes own_a own_b request.Fetch Connected connected limit_a
+    fetch_goes = let r = fetches_if own_a own_b scene limit_a h o s.rights.get s in record { answers = _; done = r.0; new = _; cut_is = refl; adds = refl; heard = r.1; agree = r.2 }
+
+    pub continue_goes : (w : How) → Goes own_a own_b (request.Continue w) Stopped stopped limit_a
+    continue_goes how.Again = let r = fetches own_a own_b scene limit_a h o Stopped s in record { answers = _; done = r.0; new = _; cut_is = refl; adds = refl; heard = r.1; agree = r.2 }
+    continue_goes how.Skip = let r = fetches own_a own_b scene limit_a h o Stopped (at_number (s.next + 1) s) in record { answers = _; done = r.0; new = _; cut_is = refl; adds = refl; heard = r.1; agree = r.2 }
+    continue_goes how.Abort = record { answers = _; done = report.Batch [] ending.Complete; new = _; cut_is = refl; adds = refl; heard = refl; agree = h }
+
+-- ---- The requests before a file is open.
+
+module _ (own_a own_b : ℕ) (files : Files) (limit : ℕ) (past : List Group) (limit_a : ℕ) where
+  pub open_goes : (name : List ℕ) (fac : ℕ) → AreLimits own_a own_b limit limit_a → AllFiles files → Goes own_a own_b (request.OpenFile name fac) Ready (standing_at at.Ready files limit past) limit_a
+  open_goes name fac h all =
+      let scene : Scene = record { limit = limit; files = files } in
+      let r = opens own_a own_b scene limit_a h fac (place_of name files) (shape-there files (place_of name files) all (place-within name files)) in
+      record { answers = _; done = r.0; new = _; cut_is = refl; adds = adds-two past _; heard = r.1; agree = r.2 }
+
+  pub create_goes : (name : List ℕ) (org rfm mrs mrn fac : ℕ) → AreLimits own_a own_b limit limit_a → Goes own_a own_b (request.Create name org rfm mrs mrn fac) Ready (standing_at at.Ready files limit past) limit_a
+  create_goes name org rfm mrs mrn fac h =
+      let scene : Scene = record { limit = limit; files = files } in
+      let a : Attributes = record no_attributes { org = Some org; rfm = Some rfm; mrs = Some mrs; mrn = Some (four_bytes mrn) } in
+      let kept : Attributes = kept_attributes (record { place = at.Ready; first = Whole (Attrib a); answers = [] } ∷ past) in
+      let r = creates own_a own_b scene limit_a h name fac (place_of name files) (asked_shape kept) (good-shape kept) in
+      record { answers = _; done = r.0; new = _; cut_is = refl; adds = adds-two past _; heard = r.1; agree = r.2 }
+
+  abbrev configured : Scene → (bufsiz : ℕ) → Effect
+  configured scene bufsiz = enters (record scene { limit = limit_of bufsiz }) at.Ready (config_of own_b ∷ [])
+
+  -- the ends' own BUFSIZ is at least 64
+  pub hello_goes : IsBufsiz own_a → IsBufsiz own_b → Goes own_a own_b request.Hello Fresh (standing_at at.Fresh files limit past) limit_a
+  hello_goes a b =
+      let large_a = is-large own_a a in
+      let large_b : (nat_lt 0 own_b && nat_lt own_b 64) ≡ false = is-large own_b b in
+      let s = standing_at at.Fresh files limit past in
+      record {
+        answers = config_of own_b ∷ [];
+        done = report.Ready own_b;
+        new = over s at.Fresh (Whole (config_of own_a)) (configured s.scene own_a);
+        cut_is = ap (λ b. let c : Grouped = record { standing = over s at.Fresh (Whole (config_of own_a)) (if b then enters s.scene at.Fresh (bare_status (codes.invalid codes.types.config) ∷ []) else configured s.scene own_a); begun = None } in c) large_a;
+        adds = refl;
+        heard = rw large_b refl;
+        agree = (limit-own own_a a, limit-own own_b b);
+      }
