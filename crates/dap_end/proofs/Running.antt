@@ -9,7 +9,7 @@ use Rattle.dap_msg.proofs.ForCallers.{messages_in-Blocked}
 use Rattle.nsp_link.specs.declared.link.Got.{Got}
 use Rattle.nsp_link.specs.declared.link.Got.TheVariants.{AckOnly}
 use Rattle.nsp_link.specs.declared.fault.LinkFault.{LinkFault}
-use Rattle.nsp_link.proofs.ForCallers.{is_delivered, came_due}
+use Rattle.nsp_link.proofs.ForCallers.{came_due}
 use Rattle.nsp_link.specs.Link.{LinkValue, Stands, IsSpelling, with_inbox}
 use Rattle.nsp_link.specs.Sending.{WritesSent, ack_packet_of}
 use Rattle.dap_accessed.specs.Standing.{Files}
@@ -148,7 +148,7 @@ StandsThen link size messages given = Stands link size messages given × (link.f
 pub then_stands : (old link : LinkValue) (size : ℕ) (messages given : List (List ℕ)) (bytes : List ℕ) (r : Result Got LinkFault) → IsFromPeer size messages old bytes → StandsThen old size messages given → Receives old link bytes r
     → StandsThen link size messages given
 then_stands old link size messages given bytes (Ok got) f s h =
-    let told = came_due old link bytes (Ok got) size messages given f.0 f.1 f.2 h f.3 (s.1, s.0, f.4) in (told.2, (is_delivered old link f.1 f.2 told.1).failed ∙ s.1)
+    let told = came_due old link bytes (Ok got) size messages given f.0 f.1 f.2 h f.3 (s.1, s.0, f.4) in (told.2, told.1.failed ∙ s.1)
 then_stands old link size messages given bytes (Err e) f s h =
     let told = came_due old link bytes (Err e) size messages given f.0 f.1 f.2 h f.3 (s.1, s.0, f.4) in
     subst (λ (l : LinkValue). StandsThen l size messages given) (sym told.1) s

@@ -184,7 +184,7 @@ module _ (p : Parts) (h : AreParts p) (m : Message) (next : next_to_serve (state
         from_a = handled_one p.a p.b (asks p) p.served bytes later next_place h.from_a n inbox goes;
         from_b = subst (λ (l : List NspMessage). IsTold q.b p.a l p.read) (sym answers_are)
             (told_more p.b p.a (answers p) b p.read s.link.coming.inbox s.place outbox outbox h.from_b (ap (λ (l : List (List ℕ)). l ++ outbox) (sym idle)) block_is fit_block short);
-        handed_is = h.handed_is;
+        sent_is = h.sent_is;
         reports_is = h.reports_is ∙ ap (Told p.requests) (sym read) ∙ ap reported (sym state);
         asking = subst (λ (x : State). IsAskedAll (asking_end p) p.requests (answers_read x)) (sym state)
             (subst (λ (l : List Item). IsAskedAll (asking_end p) p.requests l) (sym read) h.asking);
