@@ -156,13 +156,12 @@ module _ (p : Parts) (h : AreParts p) (r : Request) (m : IsAdmissible p.accessin
       let within = messages-within p.accessing.own p.accessed.own h.world.own_a h.world.own_b p.requests h.world.admissible r admissible in
       let short : AreShort p.a.link.setup.max_message more =
       subst (AreShort p.a.link.setup.max_message) (sym more_is)
-      (short-packets p.accessed.own p.a.link.setup.max_message block h.limit_b (within_limit p.accessed.own (messages_of p.accessing.own r)) (subst (AreWithin p.accessed.own) (sym all) within)) in
+      (short-packets p.accessed.own p.a.link.setup.max_message block (omega (arith, h.limit)) (within_limit p.accessed.own (messages_of p.accessing.own r)) (subst (AreWithin p.accessed.own) (sym all) within)) in
       let fit : AllFit (messages_in block) = subst AllFit (sym all) (sendable-fit _ (messages_of p.accessing.own r) m.2) in
       record {
         world = subst IsWorld (sym state) world;
         alike = h.alike;
-        limit_a = h.limit_a;
-        limit_b = h.limit_b;
+        limit = h.limit;
         most = h.most;
         from_a = subst (λ (l : List NspMessage). IsTold (record p.a { outbox = outbox }) p.b l p.served) (sym (asked-more p.accessing.own p.accessed.own p.requests r))
             (told_more p.a p.b (asks p) block p.served p.a.link.coming.inbox p.a.place outbox more h.from_a refl more_is fit short);

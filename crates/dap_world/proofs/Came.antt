@@ -162,8 +162,7 @@ parts_came p A w v h d on sends still world =
     record {
       world = world;
       alike = subst (λ (s : LinkSetup). AreAlike p.b.link.setup s) (sym same) h.alike;
-      limit_a = subst (λ (s : LinkSetup). p.accessing.own ≤ s.max_message) (sym same) h.limit_a;
-      limit_b = subst (λ (s : LinkSetup). p.accessed.own ≤ s.max_message) (sym same) h.limit_b;
+      limit = ap (λ (s : LinkSetup). s.max_message) same ∙ h.limit;
       most = subst (λ (s : LinkSetup). s.max_message ≤ largest_limit) (sym same) h.most;
       from_a = told_gives (asks p) p.served p.a p.b h.from_a v w.segment w.acks d (sends h.from_a.handed h.from_a.way.sends);
       from_b = told_takes (answers p) p.read p.b p.a h.from_b v on;
@@ -176,8 +175,7 @@ parts_came p B w v h d on sends still world =
     record {
       world = world;
       alike = subst (λ (s : LinkSetup). AreAlike s p.a.link.setup) (sym d.setup) h.alike;
-      limit_a = h.limit_a;
-      limit_b = h.limit_b;
+      limit = h.limit;
       most = h.most;
       from_a = told_takes (asks p) p.served p.a p.b h.from_a v on;
       from_b = told_gives (answers p) p.read p.b p.a h.from_b v w.segment w.acks d (sends h.from_b.handed h.from_b.way.sends);

@@ -1,5 +1,5 @@
 -- A new world.
-use Rattle.std.proofs.Common.{◌≡◌, ℕ, ◌≤◌, arith, refl, sym, ◌∙◌, subst, ap, List, [], inl}
+use Rattle.std.proofs.Common.{◌≡◌, ℕ, ◌≤◌, max, arith, refl, sym, ◌∙◌, subst, ap, List, [], inl}
 use Rattle.dap_accessed.specs.Present as accessed
 use Rattle.dap_accessing.specs.Present as accessing
 use Rattle.nsp_link.specs.declared.link.LinkSetup.{LinkSetup}
@@ -74,8 +74,7 @@ new_world s asking serving h own_a own_b a b =
     record {
       world = subst IsWorld (sym (made s asking serving own_a own_b)) (is_fresh s h);
       alike = record { here = refl; there = refl; size = refl; window = refl; limit = refl };
-      limit_a = omega (arith, own_a);
-      limit_b = omega (arith, own_b);
+      limit = ap (λ (n : ℕ). max n s.bufsiz_b) (sym own_a) ∙ ap (λ (n : ℕ). max asking.own n) (sym own_b);
       most = omega (arith, h.own_a.most, h.own_b.most);
       from_a = told_none s A h;
       from_b = told_none s B h;

@@ -201,8 +201,7 @@ parts_posted p A more h room splits goes world =
     record {
       world = world;
       alike = h.alike;
-      limit_a = h.limit_a;
-      limit_b = h.limit_b;
+      limit = h.limit;
       most = h.most;
       from_a = told_posted (asks p) p.served p.a p.b h.from_a short room;
       from_b = told_queued (answers p) p.read p.b p.a h.from_b;
@@ -217,8 +216,7 @@ parts_posted p B more h room splits goes world =
     record {
       world = world;
       alike = h.alike;
-      limit_a = h.limit_a;
-      limit_b = h.limit_b;
+      limit = h.limit;
       most = h.most;
       from_a = told_queued (asks p) p.served p.a p.b h.from_a;
       from_b = told_posted (answers p) p.read p.b p.a h.from_b short room;

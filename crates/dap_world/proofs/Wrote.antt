@@ -65,8 +65,7 @@ parts_wrote p A sent w h carries still world =
     record {
       world = world;
       alike = h.alike;
-      limit_a = h.limit_a;
-      limit_b = h.limit_b;
+      limit = h.limit;
       most = h.most;
       from_a = told_writes (asks p) p.served p.a p.b h.from_a sent w (carries h.from_a.handed h.from_a.way.sends);
       from_b = told_sent (answers p) p.read p.b p.a h.from_b sent w;
@@ -79,8 +78,7 @@ parts_wrote p B sent w h carries still world =
     record {
       world = world;
       alike = h.alike;
-      limit_a = h.limit_a;
-      limit_b = h.limit_b;
+      limit = h.limit;
       most = h.most;
       from_a = told_sent (asks p) p.served p.a p.b h.from_a sent w;
       from_b = told_writes (answers p) p.read p.b p.a h.from_b sent w (carries h.from_b.handed h.from_b.way.sends);

@@ -42,12 +42,13 @@ impl Model for World {
 }
 
 impl World {
-    ghost use Rattle.std.specs.Prelude.{◌≡◌, OnOk, IfErr, map, true, false};
+    ghost use Rattle.std.specs.Prelude.{◌≡◌, ◌-◌, ◌++◌, OnOk, IfErr, Some, map, max, slice_get, true, false};
     ghost use Rattle.dap_msg.specs.Blocked.{all_joined, bodies};
     ghost use Rattle.dap_msg.specs.Canon.{canon};
     ghost use Rattle.dap_world.specs.Machine.{MayEmit, files_of, reported, end_of, other, sent_by, taken_of};
     ghost use Rattle.dap_world.specs.Runs.{Runs, StopsAt, Went};
     ghost use Rattle.dap_world.specs.Inner.Worlds.{IsWorld};
+    ghost use Rattle.dap_world.specs.Links.{came_to, coming_to, left_link};
     ghost use Rattle.dap_world.specs.Wires.{IsOnWire, address_of, sending_of};
     ghost use Rattle.std.specs.List.{AllByRecursion};
     ghost use Rattle.std.specs.Map.{keys_of};
@@ -208,11 +209,17 @@ impl World {
             × (result.now.setup.remote ≡ address_of (other end)) }
         ensures size { result.now.setup.seg_size ≡ self.now.seg_size }
         ensures window { result.now.setup.window ≡ self.now.window }
+        ensures limit { result.now.setup.max_message ≡ max self.now.own_a self.now.own_b }
         ensures sent { result.now.sent ≡ (end_of self.now end).sent }
         ensures acked { result.now.acked ≡ (end_of self.now end).acked }
         ensures queued { Sends result.now (all_joined (end_of self.now end).handed) }
         ensures received { result.now.coming.received ≡ (end_of self.now end).taken }
+        ensures partial { result.now.coming.partial ≡ (came_to self.now end).partial }
+        ensures inbox { left_link self.now end ++ result.now.coming.inbox
+            ≡ (came_to self.now end).inbox }
         ensures held { keys_of result.now.held ≡ (end_of self.now end).held }
+        ensures early { AllByRecursion (λ h. slice_get (coming_to self.now end) (h.0 - 1) ≡ Some h.1)
+            result.now.held }
         ensures running { result.now.failed ≡ false }
     {
         match end {

@@ -1,5 +1,5 @@
 -- What a world holds, and the state of the machine for which it stands.
-use Rattle.std.specs.Prelude.{◌≡◌, ◌⊎◌, ℕ, ◌+◌, ◌≤◌, List, [], ◌∷◌, ◌++◌, length, map, take, drop}
+use Rattle.std.specs.Prelude.{◌≡◌, ◌⊎◌, ℕ, ◌+◌, ◌≤◌, max, List, [], ◌∷◌, ◌++◌, length, map, take, drop}
 use Rattle.dap_msg.specs.declared.message.Message.{Message}
 use Rattle.dap_msg.specs.declared.items.Item.{Item}
 use Rattle.dap_msg.specs.declared.items.Item.TheVariants.{Whole}
@@ -149,8 +149,7 @@ pub record AreParts (p : Parts) : Type 0 where
   pub world : IsWorld (state_of p)
   pub alike : AreAlike p.b.link.setup p.a.link.setup
   -- a link takes what either end may send
-  pub limit_a : p.accessing.own ≤ p.a.link.setup.max_message
-  pub limit_b : p.accessed.own ≤ p.a.link.setup.max_message
+  pub limit : p.a.link.setup.max_message ≡ max p.accessing.own p.accessed.own
   pub most : p.a.link.setup.max_message ≤ largest_limit
   pub from_a : IsTold p.a p.b (asks p) p.served
   pub from_b : IsTold p.b p.a (answers p) p.read
