@@ -83,7 +83,7 @@ ask_stops s new requests i r fault.NoMemory h quiet right done there went =
     (record {
       there = slice_get_within requests i r there;
       asked = inl done.asked;
-      admissible = subst (AreAdmissible s.own_a s.own_b []) (ap (λ (l : List Request). l ++ r ∷ []) done.asked ∙ take_one requests i r there) (admissible_then s r went.0.1 went.0.0 went.0.2 h);
+      admissible = subst (AreAdmissible s.own_a s.own_b []) (ap (λ (l : List Request). l ++ r ∷ []) done.asked ∙ take_one requests i r there) (admissible_then s went.0.1 r went.0.0 went.0.2 h);
       reports = done.told.reports ∙ ap (reports_of s.own_a s.own_b) done.asked;
       why = quiet_enough s quiet;
     })

@@ -74,13 +74,13 @@ wire_of p B wire h is =
 
 -- ---- What left a link.
 
+not_whole : (n : ℕ) (packet : NspMessage) (packets : List NspMessage) → n < length packet → whole_among n (packet ∷ packets) ≡ []
+not_whole n packet packets less = rw (lt-leb (length packet) n less) refl
+
 no_more : (n : ℕ) (packets : List NspMessage) → AreFull packets → n ≡ 0 → whole_among n packets ≡ []
 no_more n [] full none = refl
 no_more n ([] ∷ packets) full none = absurd (full.0 refl)
-no_more n ((m ∷ ms) ∷ packets) full none = rw none refl
-
-not_whole : (n : ℕ) (packet : NspMessage) (packets : List NspMessage) → n < length packet → whole_among n (packet ∷ packets) ≡ []
-not_whole n packet packets less = rw (lt-leb (length packet) n less) refl
+no_more n ((m ∷ ms) ∷ packets) full none = not_whole n (m ∷ ms) packets (omega (arith, none))
 
 -- NSP messages of which every message was handled, in front of others, are those that are whole among the messages handled
 gone_whole : (gone rest : List NspMessage) (begun : List Message) (count : ℕ) → AreFull (gone ++ rest) → count ≡ length (messages_in gone) + length begun

@@ -6,11 +6,9 @@ use Rattle.nsp_seg.specs.declared.packet.Packet.{Packet}
 use Rattle.nsp_seg.specs.declared.packet.Packet.TheVariants.{Segment, DataAck}
 use Rattle.nsp_seg.specs.Packets.{Spells}
 use Rattle.nsp_seg.specs.declared.packet.SegmentFields.{SegmentFields}
-use Rattle.nsp_seg.specs.declared.packet.SegFault.{SegFault}
-use Rattle.nsp_seg.proofs.ForCallers.{spells-one}
 use Rattle.nsp_link.specs.declared.link.Got.{Got}
 use Rattle.nsp_link.specs.declared.fault.LinkFault.{LinkFault}
-use Rattle.nsp_link.specs.declared.fault.LinkFault.TheVariants.{BadSequence, Malformed, Exhausted, NoMemory}
+use Rattle.nsp_link.specs.declared.fault.LinkFault.TheVariants.{BadSequence, Exhausted, NoMemory}
 use Rattle.nsp_link.specs.Coming.{Coming, taken_all, RefusesAll}
 use Rattle.nsp_link.specs.Cutting.{Piece}
 use Rattle.nsp_link.specs.Holding.{following}

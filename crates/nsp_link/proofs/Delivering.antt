@@ -1,6 +1,6 @@
 -- What becomes of a packet that is due: the numbers that go round tell which it is.
 use Rattle.std.proofs.Common.{◌≡◌, ◌⊎◌, ℕ, ◌+◌, ◌-◌, ◌<◌, ◌≤◌, max, List, length, Option, Some, None, Result, Ok, Err, refl, sym, ap, ◌∙◌, arith, true, false, inl, inr, cond, subst}
-use Rattle.std.specs.Prelude.{slice_get, MatchResult, nat_lt, ◌&&◌}
+use Rattle.std.specs.Prelude.{slice_get, nat_lt, ◌&&◌}
 use Rattle.std.proofs.lemmas.Bool.{lt-ltb, le-ltb, cases_lt, cases_eq, eq-eqb, ne_eqb}
 use Rattle.nsp_seg.specs.Numbers.{residue}
 use Rattle.nsp_seg.specs.declared.packet.Packet.{Packet}
