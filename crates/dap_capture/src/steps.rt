@@ -3,7 +3,7 @@
 ghost use Rattle.std.specs.Prelude.{◌≡◌, ◌<◌, OnOk, length, option_copied};
 ghost use Rattle.dap_world.specs.declared.event.Event.TheVariants as event;
 ghost use Rattle.dap_world.specs.Machine.{reported, end_of};
-ghost use Rattle.dap_world.specs.Inner.Naming.{NamedIsThere};
+ghost use Rattle.dap_world.specs.Naming.{NamedIsThere};
 ghost use Rattle.dap_world.specs.Runs.{writing_end};
 ghost use Rattle.dap_text.specs.Adding.{Adds};
 ghost use Rattle.dap_text.specs.Adding.{AddsSome};

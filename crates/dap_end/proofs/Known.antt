@@ -30,7 +30,7 @@ use Rattle.dap_end.specs.Taking.{ServedOn, serves}
 use Rattle.dap_end.proofs.Taking.{grown}
 use Rattle.dap_end.proofs.Afterwards.{after_received, posted_is, posted_past}
 use Rattle.dap_end.proofs.Proceeding.{still_by}
-use Rattle.dap_end.proofs.Refusing.{taken_count}
+use Rattle.nsp_link.proofs.ForCallers.{taken_count}
 use Rattle.dap_end.proofs.Determined.{no_next}
 use Rattle.dap_end.specs.Inner.ServingView.{with_port}
 

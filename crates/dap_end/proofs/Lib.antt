@@ -12,7 +12,6 @@ pub mod Packets
 pub mod Running
 pub mod Asked
 pub mod Hearing
-pub mod Refusing
 pub mod Writing
 pub mod Turning
 pub mod Determined

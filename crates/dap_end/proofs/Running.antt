@@ -10,7 +10,8 @@ use Rattle.nsp_link.specs.declared.link.Got.{Got}
 use Rattle.nsp_link.specs.declared.link.Got.TheVariants.{AckOnly}
 use Rattle.nsp_link.specs.declared.fault.LinkFault.{LinkFault}
 use Rattle.nsp_link.specs.declared.fault.LinkFault.TheVariants as fault
-use Rattle.nsp_link.proofs.ForCallers.{is_delivered, came_due}
+use Rattle.nsp_link.specs.Due.{MayRefuse}
+use Rattle.nsp_link.proofs.ForCallers.{came_due}
 use Rattle.nsp_link.specs.Link.{LinkValue, Stands, IsSpelling, with_inbox}
 use Rattle.nsp_link.specs.Sending.{WritesSent, ack_packet_of}
 use Rattle.dap_accessed.specs.Standing.{Files}
@@ -150,7 +151,7 @@ StandsThen link size messages given = Stands link size messages given × (link.f
 pub then_stands : (old link : LinkValue) (size : ℕ) (messages given : List (List ℕ)) (bytes : List ℕ) (r : Result Got LinkFault) → IsFromPeer size messages old bytes → StandsThen old size messages given → Receives old link bytes r
     → StandsThen link size messages given
 then_stands old link size messages given bytes (Ok got) f s h =
-    let told = came_due old link bytes (Ok got) size messages given f.0 f.1 f.2 h f.3 (s.1, s.0, f.4) in (told.2, (is_delivered old link f.1 f.2 told.1).failed ∙ s.1)
+    let told = came_due old link bytes (Ok got) size messages given f.0 f.1 f.2 h f.3 (s.1, s.0, f.4) in (told.2, told.1.failed ∙ s.1)
 then_stands old link size messages given bytes (Err e) f s h =
     let told = came_due old link bytes (Err e) size messages given f.0 f.1 f.2 h f.3 (s.1, s.0, f.4) in
     subst (λ (l : LinkValue). StandsThen l size messages given) (sym told.1) s
@@ -217,10 +218,16 @@ pub run_stands : (events : List EndEvent) (old new : ServingValue) (wrote : List
 run_stands events old new wrote size messages past is s r =
     let h = run_hears events (old, []) (new, wrote) size messages past.first r (record { past = past; is = is; had = refl; stands = s.0; works = s.1 }) in (h.past.given, (h.stands, h.works))
 
+two_reasons : (v : LinkValue) (k : Option ℕ) (e : LinkFault) → MayRefuse v k e → (e ≡ fault.NoMemory) ⊎ (e ≡ fault.Exhausted)
+two_reasons v None e h = absurd h
+two_reasons v (Some k) e (inl h) = inl h.0
+two_reasons v (Some k) e (inr h) = inr h.0
+
 -- and the next packet of the peer is refused for these two reasons alone
 pub refused_due : (old new : LinkValue) (size : ℕ) (messages given : List (List ℕ)) (bytes : List ℕ) (e : LinkFault) → StandsThen old size messages given → IsFromPeer size messages old bytes → Receives old new bytes (Err e)
     → ((e ≡ fault.NoMemory) ⊎ (e ≡ fault.Exhausted)) × (new ≡ old)
-refused_due old new size messages given bytes e s f h = h.due size messages given f.0 f.1 f.2 f.3 s.1 s.0 f.4
+refused_due old new size messages given bytes e s f h =
+    let due = h.due size messages given f.0 f.1 f.2 f.3 (s.1, s.0, f.4) in (two_reasons old f.1 e due.0, due.1)
 
 -- ---- Runs join.
 

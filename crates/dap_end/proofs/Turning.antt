@@ -21,7 +21,7 @@ use Rattle.dap_end.specs.Wanting.{is_want, why}
 use Rattle.dap_end.specs.Inner.Wanting.{went_wanting, took_wanting}
 use Rattle.dap_end.specs.Inner.Answered.{ended_by}
 use Rattle.dap_end.proofs.Writing.{answer_one}
-use Rattle.dap_end.proofs.Refusing.{receives_same}
+use Rattle.nsp_link.proofs.ForCallers.{receives_same}
 
 -- ---- How it comes about.
 

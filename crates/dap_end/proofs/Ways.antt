@@ -15,8 +15,8 @@ use Rattle.nsp_link.specs.Limits.{largest_window}
 use Rattle.nsp_link.specs.Cutting.{Piece, cut}
 use Rattle.nsp_link.specs.Holding.{following}
 use Rattle.nsp_link.specs.Link.{LinkValue, IsBetween, IsTimely, Stands, Writes, held_after, with_inbox, AreShort}
-use Rattle.nsp_link.specs.Inner.Due.{IsDue, Delivered, taken_after}
-use Rattle.nsp_link.proofs.ForCallers.{inserted, written_spells, stands_more, is_delivered, came_due}
+use Rattle.nsp_link.specs.Due.{IsDue, Delivered, taken_after}
+use Rattle.nsp_link.proofs.ForCallers.{inserted, written_spells, stands_more, came_due}
 use Rattle.nsp_link.specs.Receiving.{Receives}
 use Rattle.dap_end.specs.Headline.{Written, AreWrittenOf}
 use Rattle.dap_end.specs.Calls.{numbered}
@@ -128,7 +128,7 @@ held_within v (Some k) sent p was held = held_by (k == v.coming.received + 1) (n
 takes : (from to new : LinkValue) (handed given : List (List ℕ)) (wire : List Written) (k : Option ℕ) (a : ℕ) → IsWay from to handed given wire → IfSome k (λ n. n ≤ from.sent) → Delivered to new k a → Stands new from.setup.seg_size handed given
     → IsWay from new handed given wire
 takes from to new handed given wire k a h was took stands =
-    let d = is_delivered to new k a took in
+    let d = took in
     record {
       positive = h.positive;
       there = h.there ∙ sym (ap (λ (s : LinkSetup). s.remote) d.setup);
@@ -149,7 +149,7 @@ takes from to new handed given wire k a h was took stands =
 hears : (from new to : LinkValue) (handed given : List (List ℕ)) (wire : List Written) (k : Option ℕ) (a : ℕ) → IsWay from to handed given wire → a ≤ to.coming.received → Delivered from new k a → AreWrittenOf new handed wire
     → IsWay new to handed given wire
 hears from new to handed given wire k a h le took packets =
-    let d = is_delivered from new k a took in
+    let d = took in
     let window : new.setup.window ≡ from.setup.window = ap (λ (s : LinkSetup). s.window) d.setup in
     record {
       positive = subst (λ (s : LinkSetup). 0 < s.seg_size) (sym d.setup) h.positive;
@@ -231,7 +231,7 @@ comes a b new from_a from_b to_a to_b wire_a wire_b j w (Ok got) join at timely 
       there = takes a b new from_a to_b wire_a w.segment w.acks join.there true_w.segment told.1 told.2;
       back = hears b new a from_b to_a wire_b w.segment w.acks join.back true_w.acks told.1 packets;
       works_a = join.works_a;
-      works_b = (is_delivered b new w.segment w.acks told.1).failed ∙ join.works_b;
+      works_b = told.1.failed ∙ join.works_b;
     }
 comes a b new from_a from_b to_a to_b wire_a wire_b j w (Err e) join at timely h packets =
     let true_w = true_at a.sent a.coming.received wire_a j w join.there.counts at in

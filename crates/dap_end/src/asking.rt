@@ -322,16 +322,13 @@ impl AskingEnd {
     }
 
     /// The same of messages that the link takes, as [`nsp_link::LinkEnd::check_messages`] tells: they aren't looked at
-    /// again, and are moved behind those in `handed`. Refused for want of memory alone, with nothing changed. Own.
-    pub fn post_into(&mut self, handed: &mut Vec<Vec<u8>>) -> Result<usize, LinkFault>
+    /// again. Refused for want of memory alone, with nothing changed. Own.
+    pub fn post_checked(&mut self) -> Result<usize, LinkFault>
         requires { IsTrue (may_queue self.old.port.link self.old.port.outbox) }
         ensures ok { IfOk result (λ n. HandsOver self.old self.new n) }
-        ensures moved { OnOk result (bodies handed.new.items
-            ≡ bodies handed.old.items ++ self.old.port.outbox) }
         ensures err { IfErr result (λ f. (self.new ≡ self.old) × (f ≡ fault.NoMemory)) }
-        ensures same { OnErr result (handed.new.items ≡ handed.old.items) }
     {
-        self.port.post_into(handed)
+        self.port.post_checked()
     }
 
     /// The packet of the next segment that was never sent, or none where none waits or the window is full, as

@@ -224,32 +224,6 @@ impl Port {
             Err(_) => Err(LinkFault::NoMemory),
         }
     }
-
-    /// The same, and moves what waited behind what `handed` has.
-    pub(crate) fn post_into(&mut self, handed: &mut Vec<Vec<u8>>) -> Result<usize, LinkFault>
-        requires kept { IsPort self.old }
-        requires may { IsTrue (may_queue self.old.link self.old.outbox) }
-        ensures ok { IfOk result (λ n. (self.new ≡ posted self.old)
-            × (n ≡ length self.old.outbox)) }
-        ensures may { OnOk result (IsTrue (may_queue self.old.link self.old.outbox)) }
-        ensures moved { OnOk result (bodies handed.new.items
-            ≡ bodies handed.old.items ++ self.old.outbox) }
-        ensures kept { IsPort self.new }
-        ensures err { IfErr result (λ f. (self.new ≡ self.old) × (f ≡ NoMemory)) }
-        ensures same { OnErr result (handed.new.items ≡ handed.old.items) }
-    {
-        let count = self.outbox.len();
-        let Ok(()) = handed.reserve(count) else {
-            return Err(LinkFault::NoMemory);
-        };
-        match self.link.send_checked(&self.outbox) {
-            Ok(()) => {
-                handed.append(&mut self.outbox).unwrap();
-                Ok(count)
-            }
-            Err(_) => Err(LinkFault::NoMemory),
-        }
-    }
 }
 
 /// Whether a place in an NSP message is its end.

@@ -7,7 +7,7 @@ use Rattle.nsp_seg.specs.Packets.{Spells}
 use Rattle.nsp_seg.specs.declared.packet.Packet.TheVariants.{Segment, DataAck}
 use Rattle.nsp_link.specs.Limits.{largest_window, most_segments}
 use Rattle.nsp_link.specs.Link.{LinkValue, IsBetween}
-use Rattle.nsp_link.specs.Inner.Due.{IsDue, taken_after}
+use Rattle.nsp_link.specs.Due.{IsDue, taken_after}
 use Rattle.nsp_link.specs.Cutting.{cut}
 use Rattle.nsp_link.proofs.ForCallers.{written_spells}
 use Rattle.dap_world.specs.Machine.{is_old}

@@ -3,6 +3,7 @@ use Rattle.std.proofs.Common.{◌≡◌, ◌≢◌, ℕ, ◌≤◌, arith, refl,
 use Rattle.std.specs.Prelude.{Result, Ok, Err, IfOk, IfErr, OnOk}
 use Rattle.std.proofs.lemmas.List.{drop-append-le, length-append, length-map, take-append-le}
 use Rattle.std.proofs.lemmas.List.Elements.{All-cons}
+use Rattle.dap_msg.specs.Canon.{canon}
 use Rattle.dap_msg.specs.declared.message.Message.{Message}
 use Rattle.dap_msg.specs.declared.items.Item.{Item}
 use Rattle.dap_msg.specs.declared.items.Item.TheVariants.{Whole}
@@ -35,7 +36,7 @@ use Rattle.dap_world.specs.declared.event.Step.{Step}
 use Rattle.dap_world.specs.declared.event.Step.TheVariants as step
 use Rattle.dap_world.specs.declared.event.WorldFault.{WorldFault}
 use Rattle.dap_world.specs.declared.event.WorldFault.TheVariants as fault
-use Rattle.dap_world.specs.Machine.{State, taken_of, answers_read, asking as asking_of, asked, reported, Steps, Refuses}
+use Rattle.dap_world.specs.Machine.{State, sent_by, taken_of, answers_read, asking as asking_of, asked, reported, Steps, Refuses}
 use Rattle.dap_world.specs.Runs.{Went}
 use Rattle.dap_world.specs.Inner.Worlds.{IsWorld}
 use Rattle.dap_end.specs.Ports.{PortValue}
@@ -155,18 +156,17 @@ module _ (p : Parts) (h : AreParts p) (r : Request) (m : IsAdmissible p.accessin
       let within = messages-within p.accessing.own p.accessed.own h.world.own_a h.world.own_b p.requests h.world.admissible r admissible in
       let short : AreShort p.a.link.setup.max_message more =
       subst (AreShort p.a.link.setup.max_message) (sym more_is)
-      (short-packets p.accessed.own p.a.link.setup.max_message block h.limit_b (within_limit p.accessed.own (messages_of p.accessing.own r)) (subst (AreWithin p.accessed.own) (sym all) within)) in
+      (short-packets p.accessed.own p.a.link.setup.max_message block (omega (arith, h.limit)) (within_limit p.accessed.own (messages_of p.accessing.own r)) (subst (AreWithin p.accessed.own) (sym all) within)) in
       let fit : AllFit (messages_in block) = subst AllFit (sym all) (sendable-fit _ (messages_of p.accessing.own r) m.2) in
       record {
         world = subst IsWorld (sym state) world;
         alike = h.alike;
-        limit_a = h.limit_a;
-        limit_b = h.limit_b;
+        limit = h.limit;
         most = h.most;
         from_a = subst (λ (l : List NspMessage). IsTold (record p.a { outbox = outbox }) p.b l p.served) (sym (asked-more p.accessing.own p.accessed.own p.requests r))
             (told_more p.a p.b (asks p) block p.served p.a.link.coming.inbox p.a.place outbox more h.from_a refl more_is fit short);
         from_b = subst (λ (l : List NspMessage). IsTold p.b (record p.a { outbox = outbox }) l p.read) (sym answers_same) h.from_b;
-        handed_is = h.handed_is ∙ ap (λ (x : State). all_joined x.a.handed) (sym state);
+        sent_is = h.sent_is ∙ ap (λ (x : State). map canon (sent_by x.a)) (sym state);
         reports_is = h.reports_is ∙ sym (same_told p.requests (answers_read s) p.accessing r h.asking.1.asking m.0) ∙ ap reported (sym state);
         asking = subst (λ (x : State). IsAskedAll (asking_end (q_of outbox after)) (p.requests ++ r ∷ []) (answers_read x)) (sym state) asking;
         serving = subst (λ (x : State). IsServedAll (serving_end p) (map Whole (taken_of x))) (sym state) h.serving;

@@ -10,7 +10,7 @@ use Rattle.std.specs.Map.{keys_of}
 use Rattle.nsp_link.specs.Limits.{most_segments, largest_window, largest_limit}
 use Rattle.nsp_link.specs.declared.link.LinkSetup.{LinkSetup}
 use Rattle.nsp_link.specs.Link.{LinkValue, Sends, Keeps, got_of, held_after}
-use Rattle.nsp_link.specs.Inner.Due.{Delivered, MayRefuse, taken_after}
+use Rattle.nsp_link.specs.Due.{Delivered, MayRefuse, taken_after}
 use Rattle.nsp_link.specs.declared.link.Got.{Got}
 use Rattle.nsp_link.specs.declared.fault.LinkFault.{LinkFault}
 use Rattle.dap_end.specs.Ports.{PortValue}
@@ -20,7 +20,7 @@ use Rattle.dap_end.specs.Asking.{HasAsked}
 use Rattle.dap_end.specs.Done.{AskingValue}
 use Rattle.dap_end.specs.Serving.{IsAfter}
 use Rattle.dap_end.specs.Done.{ServingValue}
-use Rattle.nsp_link.proofs.ForCallers.{closes, keeps, IsDelivered, is_delivered, came_due}
+use Rattle.nsp_link.proofs.ForCallers.{closes, keeps, came_due}
 use Rattle.dap_world.specs.declared.event.End.{End}
 use Rattle.dap_world.specs.declared.event.End.TheVariants.{A, B}
 use Rattle.dap_world.specs.declared.event.Event.TheVariants as event
@@ -141,7 +141,7 @@ abbrev with_link : Parts → End → LinkValue → Parts
 with_link p end v = with_side p end (record (side p end) { link = v })
 
 -- the state after a delivery
-comes_to : (s : SideValue) (packets : List NspMessage) (w : Wired) (v : LinkValue) → IfSome w.segment (λ n. n < s.link.coming.received + 1 + s.link.setup.window) → IsDelivered s.link v w.segment w.acks
+comes_to : (s : SideValue) (packets : List NspMessage) (w : Wired) (v : LinkValue) → IfSome w.segment (λ n. n < s.link.coming.received + 1 + s.link.setup.window) → Delivered s.link v w.segment w.acks
     → delivered true (end_state s packets) (sending_of w) ≡ end_state (record s { link = v }) packets
 comes_to s packets w v near d =
     ap (λ (c : ℕ × List ℕ). record (end_state s packets) { acked = max s.link.acked w.acks; taken = c.0; held = c.1 }) (came_is s.link w.segment d.held.0 near)
@@ -149,8 +149,8 @@ comes_to s packets w v near d =
 
 delivered_is : (p : Parts) (end : End) (w : Wired) (v : LinkValue) → IfSome w.segment (λ n. n < (side p end).link.coming.received + 1 + (side p end).link.setup.window)
     → Delivered (side p end).link v w.segment w.acks → with_end (state_of p) end (delivered true (end_of (state_of p) end) (sending_of w)) ≡ state_of (with_link p end v)
-delivered_is p A w v near d = ap (λ (e : EndState). with_end (state_of p) A e) (comes_to p.a (asks p) w v near (is_delivered p.a.link v w.segment w.acks d)) ∙ rw (is_delivered p.a.link v w.segment w.acks d).setup refl
-delivered_is p B w v near d = ap (λ (e : EndState). with_end (state_of p) B e) (comes_to p.b (answers p) w v near (is_delivered p.b.link v w.segment w.acks d))
+delivered_is p A w v near d = ap (λ (e : EndState). with_end (state_of p) A e) (comes_to p.a (asks p) w v near d) ∙ rw d.setup refl
+delivered_is p B w v near d = ap (λ (e : EndState). with_end (state_of p) B e) (comes_to p.b (answers p) w v near d)
 
 parts_came : (p : Parts) (end : End) (w : Wired) (v : LinkValue) → AreParts p → Delivered (side p end).link v w.segment w.acks
     → ((messages given : List (List ℕ)) → IsWay (side p (other end)) (side p end).link messages given → IsWay (side p (other end)) v messages given)
@@ -158,16 +158,15 @@ parts_came : (p : Parts) (end : End) (w : Wired) (v : LinkValue) → AreParts p 
     → StaysAt p end (record (side p end) { link = v }) → IsWorld (state_of (with_link p end v)) → AreParts (with_link p end v)
 unfolding reported
 parts_came p A w v h d on sends still world =
-    let same = (is_delivered p.a.link v w.segment w.acks d).setup in
+    let same = d.setup in
     record {
       world = world;
       alike = subst (λ (s : LinkSetup). AreAlike p.b.link.setup s) (sym same) h.alike;
-      limit_a = subst (λ (s : LinkSetup). p.accessing.own ≤ s.max_message) (sym same) h.limit_a;
-      limit_b = subst (λ (s : LinkSetup). p.accessed.own ≤ s.max_message) (sym same) h.limit_b;
+      limit = ap (λ (s : LinkSetup). s.max_message) same ∙ h.limit;
       most = subst (λ (s : LinkSetup). s.max_message ≤ largest_limit) (sym same) h.most;
       from_a = told_gives (asks p) p.served p.a p.b h.from_a v w.segment w.acks d (sends h.from_a.handed h.from_a.way.sends);
       from_b = told_takes (answers p) p.read p.b p.a h.from_b v on;
-      handed_is = h.handed_is;
+      sent_is = h.sent_is;
       reports_is = h.reports_is;
       asking = (h.asking.0, still _ h.asking.1);
       serving = h.serving;
@@ -175,13 +174,12 @@ parts_came p A w v h d on sends still world =
 parts_came p B w v h d on sends still world =
     record {
       world = world;
-      alike = subst (λ (s : LinkSetup). AreAlike s p.a.link.setup) (sym (is_delivered p.b.link v w.segment w.acks d).setup) h.alike;
-      limit_a = h.limit_a;
-      limit_b = h.limit_b;
+      alike = subst (λ (s : LinkSetup). AreAlike s p.a.link.setup) (sym d.setup) h.alike;
+      limit = h.limit;
       most = h.most;
       from_a = told_takes (asks p) p.served p.a p.b h.from_a v on;
       from_b = told_gives (answers p) p.read p.b p.a h.from_b v w.segment w.acks d (sends h.from_b.handed h.from_b.way.sends);
-      handed_is = h.handed_is;
+      sent_is = h.sent_is;
       reports_is = h.reports_is;
       asking = h.asking;
       serving = (h.serving.0, still _ h.serving.1);

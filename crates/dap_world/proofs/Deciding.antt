@@ -1,6 +1,6 @@
 -- An event has a step, or one reason why it has none.
 use Rattle.std.proofs.Common.{◌≡◌, ◌∙◌, arith, refl, sym, subst, ap, true, inl, inr, length}
-use Rattle.std.specs.Prelude.{Some}
+use Rattle.std.specs.Prelude.{◌≢◌, Some, Result, Ok, Err}
 use Rattle.dap_accessing.specs.declared.fault.AskFault.{AskFault}
 use Rattle.dap_accessing.specs.declared.fault.AskFault.TheVariants as ask_fault
 use Rattle.dap_accessing.specs.Request.{Request}
@@ -13,6 +13,7 @@ use Rattle.nsp_link.specs.Link.{got_of}
 use Rattle.dap_world.specs.declared.event.Step.{Step}
 use Rattle.dap_world.specs.declared.event.Step.TheVariants as step
 use Rattle.dap_world.specs.Machine.{State, Sending, answering, delivered, end_of, with_end, served_one, is_stale, Steps, Refuses}
+use Rattle.dap_world.specs.Runs.{Went}
 
 -- the event has a step
 abbrev pub MayHappen : State → Event → Type 0
@@ -111,3 +112,30 @@ one_reason s (event.Deliver end j) fault.Stale g one two = absurd two
 one_reason s event.Serve fault.NothingToDo g one two = absurd two
 one_reason s event.Read fault.NothingToDo g one two = absurd two
 one_reason s e f g one two = absurd one
+
+-- ---- Outcomes, want of memory aside.
+
+reason_of : (s n : State) (e : Event) (f : WorldFault) → f ≢ fault.NoMemory → Went s e (Err f) n → Refuses s e f × (n ≡ s)
+reason_of s n e fault.NoMemory other w = absurd (other refl)
+reason_of s n e fault.NoSuchPacket other w = w
+reason_of s n e fault.Stale other w = w
+reason_of s n e fault.NothingToDo other w = w
+reason_of s n e (fault.Ask f) other w = w
+reason_of s n e fault.Exhausted other w = w
+reason_of s n e fault.BadSetup other w = w
+
+abbrev stepped : Step → Result Step WorldFault
+stepped a = Ok a
+
+abbrev failed : WorldFault → Result Step WorldFault
+failed f = Err f
+
+-- two outcomes of one event in one state are the same
+pub one_outcome : (s : State) (e : Event) (r t : Result Step WorldFault) (m n : State) → r ≢ Err fault.NoMemory → t ≢ Err fault.NoMemory → Went s e r m → Went s e t n → (r ≡ t) × (m ≡ n)
+one_outcome s e (Ok a) (Ok b) m n nr nt x y = let same = one_step s e a b m n x y in (ap stepped same.0, same.1)
+one_outcome s e (Ok a) (Err g) m n nr nt x y = absurd (no_step s e g (reason_of s n e g (λ k. nt (ap failed k)) y).0 (a, m, x))
+one_outcome s e (Err f) (Ok b) m n nr nt x y = absurd (no_step s e f (reason_of s m e f (λ k. nr (ap failed k)) x).0 (b, n, y))
+one_outcome s e (Err f) (Err g) m n nr nt x y =
+    let one = reason_of s m e f (λ k. nr (ap failed k)) x in
+    let two = reason_of s n e g (λ k. nt (ap failed k)) y in
+    (ap failed (one_reason s e f g one.0 two.0), one.1 ∙ sym two.1)

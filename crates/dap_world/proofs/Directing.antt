@@ -22,7 +22,7 @@ use Rattle.dap_world.specs.Inner.Worlds.{IsWorld}
 use Rattle.dap_world.specs.Settling.{AllDone, AllTold, Finished, FinishFault, IsFresh, RanOut, StopsAtRequest}
 use Rattle.dap_world.specs.Inner.Settling.{IsQuiet, RanTo, RunsTo}
 use Rattle.dap_world.proofs.Exhausting.{quiet_enough}
-use Rattle.dap_world.proofs.Kept.{headline_of}
+use Rattle.dap_world.proofs.Kept.{headline_of, kept-step}
 use Rattle.dap_world.proofs.Onward.{ran_on, ran_world}
 use Rattle.dap_world.proofs.Others.{refused_same}
 use Rattle.dap_world.proofs.Settles.{runs-both}
@@ -68,26 +68,37 @@ asked_is : (s new : State) (r : Request) (answer : Step) → Steps s (event.Ask 
 unfolding Steps
 asked_is s new r answer step = step.2
 
+-- a request that has a step is admissible, as those before it are
+admissible_then : (s new : State) (r : Request) (answer : Step) → Steps s (event.Ask r) answer new → IsWorld s → AreAdmissible s.own_a s.own_b [] (s.requests ++ r ∷ [])
+admissible_then s new r answer step h =
+    subst (λ (t : State). AreAdmissible t.own_a t.own_b [] t.requests) (asked_is s new r answer step) (kept-step s new (event.Ask r) answer step h).admissible
+
 -- ---- The reasons to stop.
 
-pub ask_stops : (s new : State) (requests : List Request) (i : ℕ) (r : Request) (f : WorldFault) → IsQuiet s → due_after s.requests (answers_read s) ≢ Wrong → AllDone (take i requests) s → slice_get requests i ≡ Some r → Went s (event.Ask r) (Err f) new
+pub ask_stops : (s new : State) (requests : List Request) (i : ℕ) (r : Request) (f : WorldFault) → IsWorld s → IsQuiet s → due_after s.requests (answers_read s) ≢ Wrong → AllDone (take i requests) s → slice_get requests i ≡ Some r → Went s (event.Ask r) (Err f) new
     → StopsAtRequest requests new (i, f)
 unfolding Steps Refuses
-ask_stops s new requests i r fault.NoMemory quiet right done there went =
+ask_stops s new requests i r fault.NoMemory h quiet right done there went =
     subst (λ (t : State). StopsAtRequest requests t (i, fault.NoMemory)) (sym went.1)
-    (record { there = slice_get_within requests i r there; asked = inl done.asked; reports = done.told.reports ∙ ap (reports_of s.own_a s.own_b) done.asked; why = quiet_enough s quiet })
-ask_stops s new requests i r (fault.Ask ask_fault.Busy) quiet right done there went = absurd (went.0 (told_due s done.told right))
-ask_stops s new requests i r (fault.Ask ask_fault.WrongPhase) quiet right done there went =
+    (record {
+      there = slice_get_within requests i r there;
+      asked = inl done.asked;
+      admissible = subst (AreAdmissible s.own_a s.own_b []) (ap (λ (l : List Request). l ++ r ∷ []) done.asked ∙ take_one requests i r there) (admissible_then s went.0.1 r went.0.0 went.0.2 h);
+      reports = done.told.reports ∙ ap (reports_of s.own_a s.own_b) done.asked;
+      why = quiet_enough s quiet;
+    })
+ask_stops s new requests i r (fault.Ask ask_fault.Busy) h quiet right done there went = absurd (went.0 (told_due s done.told right))
+ask_stops s new requests i r (fault.Ask ask_fault.WrongPhase) h quiet right done there went =
     subst (λ (t : State). StopsAtRequest requests t (i, fault.Ask ask_fault.WrongPhase)) (sym went.1) (record { done = done; request = r; there = there; refused = went.0; why = inl refl })
-ask_stops s new requests i r (fault.Ask ask_fault.TooLarge) quiet right done there went =
+ask_stops s new requests i r (fault.Ask ask_fault.TooLarge) h quiet right done there went =
     subst (λ (t : State). StopsAtRequest requests t (i, fault.Ask ask_fault.TooLarge)) (sym went.1) (record { done = done; request = r; there = there; refused = went.0; why = inr refl })
-ask_stops s new requests i r (fault.Ask ask_fault.NoMemory) quiet right done there went = absurd went.0
-ask_stops s new requests i r (fault.Ask ask_fault.Failed) quiet right done there went = absurd went.0
-ask_stops s new requests i r fault.NothingToDo quiet right done there went = absurd went.0
-ask_stops s new requests i r fault.NoSuchPacket quiet right done there went = absurd went.0
-ask_stops s new requests i r fault.Stale quiet right done there went = absurd went.0
-ask_stops s new requests i r fault.Exhausted quiet right done there went = absurd went.0
-ask_stops s new requests i r fault.BadSetup quiet right done there went = absurd went.0
+ask_stops s new requests i r (fault.Ask ask_fault.NoMemory) h quiet right done there went = absurd went.0
+ask_stops s new requests i r (fault.Ask ask_fault.Failed) h quiet right done there went = absurd went.0
+ask_stops s new requests i r fault.NothingToDo h quiet right done there went = absurd went.0
+ask_stops s new requests i r fault.NoSuchPacket h quiet right done there went = absurd went.0
+ask_stops s new requests i r fault.Stale h quiet right done there went = absurd went.0
+ask_stops s new requests i r fault.Exhausted h quiet right done there went = absurd went.0
+ask_stops s new requests i r fault.BadSetup h quiet right done there went = absurd went.0
 
 ran_out : (requests : List Request) (new : State) (i : ℕ) (f : WorldFault) → FinishFault new f → RanOut requests new i f → StopsAtRequest requests new (i, f)
 ran_out requests new i fault.NoMemory why out = out
@@ -117,7 +128,15 @@ module _ (s mid new : State) (requests : List Request) (i : ℕ) (r : Request) (
       let reports : reported new ≡ reports_of new.own_a new.own_b (take i requests) =
       same ∙ ap reported is ∙ asked_told s r done.told right ∙ done.told.reports ∙ ap (reports_of s.own_a s.own_b) done.asked
       ∙ sym (ap (λ (n : ℕ). reports_of n new.own_b (take i requests)) own_a ∙ ap (λ (n : ℕ). reports_of s.own_a n (take i requests)) own_b) in
-      ran_out requests new i f why (record { there = slice_get_within requests i r there; asked = inr (on.requests ∙ requests_then); reports = reports; why = why })
+      let asked : new.requests ≡ take (i + 1) requests = on.requests ∙ requests_then in
+      ran_out requests new i f why
+      (record {
+        there = slice_get_within requests i r there;
+        asked = inr asked;
+        admissible = subst (AreAdmissible new.own_a new.own_b []) asked (ran_world mid new ran.0 w ran.1).admissible;
+        reports = reports;
+        why = why;
+      })
 
 -- ---- Runs.
 

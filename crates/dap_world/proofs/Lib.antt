@@ -21,7 +21,6 @@ pub mod Posted
 pub mod Others
 pub mod Arrived
 pub mod Growing
-pub mod Handed
 pub mod Serving
 pub mod ReadingOne
 pub mod AskingOne

@@ -14,7 +14,7 @@ use Rattle.dap_world.specs.declared.event.Step.TheVariants as step
 use Rattle.dap_world.specs.declared.event.WorldFault.{WorldFault}
 use Rattle.dap_world.specs.Machine.{State, EndState, end_of, with_end, wrote, taken_of, answers_read, reported, read_one, told_by, Steps}
 use Rattle.dap_world.specs.Runs.{Went, writing_end}
-use Rattle.dap_world.specs.Inner.Naming.{NamedIsThere}
+use Rattle.dap_world.specs.Naming.{NamedIsThere}
 use Rattle.dap_world.proofs.Kept.{now_at}
 
 -- one packet more was written

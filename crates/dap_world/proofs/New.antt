@@ -1,5 +1,5 @@
 -- A new world.
-use Rattle.std.proofs.Common.{◌≡◌, ℕ, ◌≤◌, arith, refl, sym, ◌∙◌, subst, ap, List, [], inl}
+use Rattle.std.proofs.Common.{◌≡◌, ℕ, ◌≤◌, max, arith, refl, sym, ◌∙◌, subst, ap, List, [], inl}
 use Rattle.dap_accessed.specs.Present as accessed
 use Rattle.dap_accessing.specs.Present as accessing
 use Rattle.nsp_link.specs.declared.link.LinkSetup.{LinkSetup}
@@ -60,7 +60,7 @@ told_none s end h =
 
 abbrev new_parts : WorldSetup → accessing.Present → accessed.Present → Parts
 new_parts s asking serving =
-    record { a = new_side (link_of s A); b = new_side (link_of s B); accessing = asking; accessed = serving; requests = []; handed = []; served = 0; reports = []; read = 0 }
+    record { a = new_side (link_of s A); b = new_side (link_of s B); accessing = asking; accessed = serving; requests = []; sent = []; served = 0; reports = []; read = 0 }
 
 -- the parts of a new world, by what its ends keep
 made : (s : WorldSetup) (asking : accessing.Present) (serving : accessed.Present) → asking.own ≡ s.bufsiz_a → serving.own ≡ s.bufsiz_b → state_of (new_parts s asking serving) ≡ fresh s
@@ -74,28 +74,27 @@ new_world s asking serving h own_a own_b a b =
     record {
       world = subst IsWorld (sym (made s asking serving own_a own_b)) (is_fresh s h);
       alike = record { here = refl; there = refl; size = refl; window = refl; limit = refl };
-      limit_a = omega (arith, own_a);
-      limit_b = omega (arith, own_b);
+      limit = ap (λ (n : ℕ). max n s.bufsiz_b) (sym own_a) ∙ ap (λ (n : ℕ). max asking.own n) (sym own_b);
       most = omega (arith, h.own_a.most, h.own_b.most);
       from_a = told_none s A h;
       from_b = told_none s B h;
-      handed_is = refl;
+      sent_is = refl;
       reports_is = refl;
       asking = (nothing_asked, a);
       serving = (nothing_yet [], b);
     }
 
-pub new_sound : (s : WorldSetup) (v : AskingValue) (w : ServingValue) (posted : ℕ) (wire_a wire_b : List Wired) (requests : List Request) (handed : List (List ℕ)) (reports : List Report)
-    → posted ≡ 0 → wire_a ≡ [] → wire_b ≡ [] → requests ≡ [] → handed ≡ [] → reports ≡ [] → IsWorldSetup s
+pub new_sound : (s : WorldSetup) (v : AskingValue) (w : ServingValue) (wire_a wire_b : List Wired) (requests : List Request) (sent : List (List ℕ)) (reports : List Report)
+    → wire_a ≡ [] → wire_b ≡ [] → requests ≡ [] → sent ≡ [] → reports ≡ [] → IsWorldSetup s
     → HasAsked nothing_asked v × (v.port ≡ new_port (link_of s A)) × (v.present.own ≡ s.bufsiz_a) → IsAfter (nothing_yet []) w × (w.port ≡ new_port (link_of s B)) × (w.present.own ≡ s.bufsiz_b)
-    → (let p : Parts = record { a = side_of v.port posted wire_a; b = side_of w.port 0 wire_b; accessing = v.present; accessed = w.present; requests = requests; handed = handed; served = 0; reports = reports; read = 0 } in
+    → (let p : Parts = record { a = side_of v.port 0 wire_a; b = side_of w.port 0 wire_b; accessing = v.present; accessed = w.present; requests = requests; sent = sent; served = 0; reports = reports; read = 0 } in
     AreParts p × (state_of p ≡ fresh s))
-new_sound s v w posted wire_a wire_b requests handed reports e0 ea eb er es ep h x y =
+new_sound s v w wire_a wire_b requests sent reports ea eb er es ep h x y =
     let asking = subst (λ (port : PortValue). HasAsked nothing_asked (record { port = port; present = v.present })) x.1 x.0 in
     let serving = subst (λ (port : PortValue). IsAfter (nothing_yet []) (record { port = port; present = w.present })) y.1 y.0 in
     let both : AreParts (new_parts s v.present w.present) × (state_of (new_parts s v.present w.present) ≡ fresh s) =
     (new_world s v.present w.present h x.2 y.2 asking serving, made s v.present w.present x.2 y.2) in
-    rw (x.1, y.1, e0, ea, eb, er, es, ep) both
+    rw (x.1, y.1, ea, eb, er, es, ep) both
 
 -- the sizes that a world may have, by those that a link may
 pub world_setup : (s : WorldSetup) (end : End) → least_buffer ≤ s.bufsiz_a → least_buffer ≤ s.bufsiz_b → IsSetup (link_of s end) → IsWorldSetup s

@@ -7,7 +7,8 @@ use Rattle.std.proofs.lemmas.List.Elements.{All-append}
 use Rattle.std.proofs.Math.Seq.{drop-append_seam}
 use Rattle.dap_msg.specs.declared.message.Message.{Message}
 use Rattle.dap_msg.specs.declared.items.Item.TheVariants.{Whole}
-use Rattle.dap_msg.specs.Blocked.{NspMessage, joined, all_joined, messages_in}
+use Rattle.dap_msg.specs.Canon.{canon}
+use Rattle.dap_msg.specs.Blocked.{NspMessage, joined, all_joined, messages_in, AllFit}
 use Rattle.dap_accessed.specs.Groups.{Answers}
 use Rattle.dap_accessing.specs.Told.{Told}
 use Rattle.nsp_link.specs.Cutting.{Piece, cut}
@@ -16,7 +17,7 @@ use Rattle.nsp_link.specs.Link.{LinkValue, Sends, Writes}
 use Rattle.nsp_link.specs.Sending.{queued_link}
 use Rattle.nsp_link.proofs.ForCallers.{writes_more, stands_more, sends_all, may_queue_parts}
 use Rattle.dap_end.specs.Moved.{posted as port_posted}
-use Rattle.dap_end.proofs.ForCallers.{handed_is, handed_past, posted_is as hands_over, posted_past}
+use Rattle.dap_end.proofs.ForCallers.{handed_is, handed_past, posted_is as hands_over, posted_past, back_fit, in_append}
 use Rattle.dap_end.specs.Asking.{HasAsked}
 use Rattle.dap_end.specs.Ports.{HandsOver as HandedOver}
 use Rattle.dap_end.specs.Done.{AskingValue, AskingPast}
@@ -37,7 +38,9 @@ use Rattle.dap_world.specs.Inner.Sides.{SideValue, AreShort, PostFault, PostedSo
 use Rattle.dap_world.specs.Inner.Ways.{IsWay}
 use Rattle.dap_world.specs.Inner.Parts.{Parts, AreParts, IsTold, IsAmong, IsAskedAll, IsServedAll, asks, answers, asking_end, serving_end, end_state, state_of, side}
 use Rattle.dap_world.proofs.Counting.{segments_queued, segments-cut, all_segments, counted}
+use Rattle.dap_world.specs.Inner.Splitting.{SplitsAll, SentAll}
 use Rattle.dap_world.proofs.Packets.{served-stays}
+use Rattle.dap_world.proofs.Blocks.{asked-full, full-drop}
 use Rattle.dap_world.proofs.Kept.{kept-step}
 use Rattle.dap_world.proofs.Ways.{still_way, told_with}
 use Rattle.dap_world.proofs.Wrote.{AreThen, asking_parts, serving_parts}
@@ -106,21 +109,26 @@ no_length (x ∷ xs) e = let no : ⊥ = omega arith in absurd no
 
 -- ---- The parts.
 
-abbrev pub posted_parts : Parts → End → Parts
-posted_parts p A = record p { a = new_side p.a; handed = p.handed ++ p.a.outbox }
-posted_parts p B = record p { b = new_side p.b }
+abbrev pub posted_parts : Parts → End → List (List ℕ) → Parts
+posted_parts p A more = record p { a = new_side p.a; sent = p.sent ++ more }
+posted_parts p B more = record p { b = new_side p.b }
 
-state_posted : (p : Parts) (end : End) → AreParts p → with_end (state_of p) end (posted (end_of (state_of p) end)) ≡ state_of (posted_parts p end)
-state_posted p A h = ap (λ (e : EndState). with_end (state_of p) A e) (posted_is p.a (asks p) (counted p.a.posted h.from_a.handed p.a.outbox (asks p) h.from_a.posted h.from_a.bytes))
-state_posted p B h = ap (λ (e : EndState). with_end (state_of p) B e) (posted_is p.b (answers p) (counted p.b.posted h.from_b.handed p.b.outbox (answers p) h.from_b.posted h.from_b.bytes))
+-- what is added to the messages sent
+abbrev pub SentMore : Parts → End → List (List ℕ) → Type 0
+SentMore p A more = SplitsAll p.a.outbox [] more
+SentMore p B more = Unit {0}
 
-posts : (p : Parts) (end : End) → AreParts p → 0 < length (side p end).outbox → segments_queued (side p end) ≤ most_segments
-    → Steps (state_of p) (event.Post end) (step.Posted (length (side p end).outbox)) (state_of (posted_parts p end))
+state_posted : (p : Parts) (end : End) (more : List (List ℕ)) → AreParts p → with_end (state_of p) end (posted (end_of (state_of p) end)) ≡ state_of (posted_parts p end more)
+state_posted p A more h = ap (λ (e : EndState). with_end (state_of p) A e) (posted_is p.a (asks p) (counted p.a.posted h.from_a.handed p.a.outbox (asks p) h.from_a.posted h.from_a.bytes))
+state_posted p B more h = ap (λ (e : EndState). with_end (state_of p) B e) (posted_is p.b (answers p) (counted p.b.posted h.from_b.handed p.b.outbox (answers p) h.from_b.posted h.from_b.bytes))
+
+posts : (p : Parts) (end : End) (more : List (List ℕ)) → AreParts p → 0 < length (side p end).outbox → segments_queued (side p end) ≤ most_segments
+    → Steps (state_of p) (event.Post end) (step.Posted (length (side p end).outbox)) (state_of (posted_parts p end more))
 unfolding Steps
-posts p end h some room =
+posts p end more h some room =
     let n = waiting_is p end h in
     let all = segments_are p end h in
-    (omega arith, omega arith, ap (λ (k : ℕ). step.Posted k) (sym n), sym (state_posted p end h))
+    (omega arith, omega arith, ap (λ (k : ℕ). step.Posted k) (sym n), sym (state_posted p end more h))
 
 -- messages that were handled among the first NSP messages, when more are handed over
 among_more : (n m : ℕ) (packets : List NspMessage) (count place : ℕ) (gone : List NspMessage) → n ≤ m → IsAmong (take n packets) count place gone → IsAmong (take m packets) count place gone
@@ -167,82 +175,86 @@ served_same p h =
     ap (λ (l : List NspMessage). take p.served (messages_in l)) (take_all (p.a.posted + length p.a.outbox) (asks p) (omega arith) ∙ sym (take-append-drop p.a.posted (asks p)))
     ∙ served-stays p.served p.a.link.setup.seg_size p.b.link.coming.received (take p.a.posted (asks p)) (drop p.a.posted (asks p)) h.world.served
 
-handed_more : (p : Parts) → AreParts p → p.handed ++ p.a.outbox ≡ all_joined (take (p.a.posted + length p.a.outbox) (asks p))
-handed_more p h =
+sent_more : (p : Parts) (more : List (List ℕ)) → AreParts p → SplitsAll p.a.outbox [] more → p.sent ++ more ≡ map canon (messages_in (take (p.a.posted + length p.a.outbox) (asks p)))
+sent_more p more h splits =
     let n = counted p.a.posted h.from_a.handed p.a.outbox (asks p) h.from_a.posted h.from_a.bytes in
     let front = take p.a.posted (asks p) in
     let back = drop p.a.posted (asks p) in
-    ap (λ (l : List (List ℕ)). l ++ p.a.outbox) h.handed_is ∙ ap (λ (l : List (List ℕ)). all_joined front ++ l) (waits-bytes p.a p.b (asks p) p.served h.from_a)
-    ∙ sym (map-append joined front back) ∙ ap all_joined (take-append-drop p.a.posted (asks p))
-    ∙ ap all_joined (sym (take_all (p.a.posted + length p.a.outbox) (asks p) (omega arith)))
+    let all : messages_in (asks p) ≡ messages_in front ++ messages_in back = ap messages_in (sym (take-append-drop p.a.posted (asks p))) ∙ in_append front back in
+    let full = full-drop p.a.posted (asks p) (asked-full p.accessing.own p.accessed.own p.requests) in
+    let fit = back_fit (messages_in front) (messages_in back) (subst AllFit all h.from_a.fit) in
+    let is : more ≡ map canon (messages_in back) = splits back full fit (waits-bytes p.a p.b (asks p) p.served h.from_a) in
+    ap (λ (l : List (List ℕ)). l ++ more) h.sent_is ∙ ap (λ (l : List (List ℕ)). map canon (messages_in front) ++ l) is
+    ∙ sym (map-append canon (messages_in front) (messages_in back)) ∙ ap (map canon) (sym all)
+    ∙ ap (λ (l : List NspMessage). map canon (messages_in l)) (sym (take_all (p.a.posted + length p.a.outbox) (asks p) (omega arith)))
 
 -- whatever the end was after, it handed over what waited too
 abbrev pub HandsOver : Parts → End → Type 0
 HandsOver p A = (past : AskingPast) → HasAsked past (asking_end p) → HasAsked (record past { handed = past.handed ++ p.a.outbox }) (record { port = port_posted (port_of p.a); present = p.accessing })
 HandsOver p B = (past : Past) → IsAfter past (serving_end p) → IsAfter (record past { handed = past.handed ++ p.b.outbox }) (record { port = port_posted (port_of p.b); present = p.accessed })
 
-parts_posted : (p : Parts) (end : End) → AreParts p → segments_queued (side p end) ≤ most_segments → HandsOver p end → IsWorld (state_of (posted_parts p end)) → AreParts (posted_parts p end)
+parts_posted : (p : Parts) (end : End) (more : List (List ℕ)) → AreParts p → segments_queued (side p end) ≤ most_segments → SentMore p end more → HandsOver p end → IsWorld (state_of (posted_parts p end more)) → AreParts (posted_parts p end more)
 unfolding reported
-parts_posted p A h room goes world =
+parts_posted p A more h room splits goes world =
     let short = subst (λ (n : ℕ). AreShort n p.a.outbox) (sym h.alike.limit) h.from_a.short in
     let same = served_same p h in
     record {
       world = world;
       alike = h.alike;
-      limit_a = h.limit_a;
-      limit_b = h.limit_b;
+      limit = h.limit;
       most = h.most;
       from_a = told_posted (asks p) p.served p.a p.b h.from_a short room;
       from_b = told_queued (answers p) p.read p.b p.a h.from_b;
-      handed_is = handed_more p h;
+      sent_is = sent_more p more h splits;
       reports_is = h.reports_is ∙ ap (λ (l : List Message). Told p.requests (map Whole (take p.read (Answers p.accessed.own [] (map Whole l))))) (sym same);
-      asking = subst (λ (l : List Message). IsAskedAll (asking_end (posted_parts p A)) p.requests (map Whole (take p.read (Answers p.accessed.own [] (map Whole l))))) (sym same)
+      asking = subst (λ (l : List Message). IsAskedAll (asking_end (posted_parts p A more)) p.requests (map Whole (take p.read (Answers p.accessed.own [] (map Whole l))))) (sym same)
           (record h.asking.0 { handed = h.asking.0.handed ++ p.a.outbox }, goes _ h.asking.1);
       serving = subst (λ (l : List Message). IsServedAll (serving_end p) (map Whole l)) (sym same) h.serving;
     }
-parts_posted p B h room goes world =
+parts_posted p B more h room splits goes world =
     let short = subst (λ (n : ℕ). AreShort n p.b.outbox) h.alike.limit h.from_b.short in
     record {
       world = world;
       alike = h.alike;
-      limit_a = h.limit_a;
-      limit_b = h.limit_b;
+      limit = h.limit;
       most = h.most;
       from_a = told_queued (asks p) p.served p.a p.b h.from_a;
       from_b = told_posted (answers p) p.read p.b p.a h.from_b short room;
-      handed_is = h.handed_is;
+      sent_is = h.sent_is;
       reports_is = h.reports_is;
       asking = h.asking;
       serving = (record h.serving.0 { handed = h.serving.0.handed ++ p.b.outbox }, goes _ h.serving.1);
     }
 
-posted_step : (p : Parts) (end : End) → AreParts p → 0 < length (side p end).outbox → segments_queued (side p end) ≤ most_segments → HandsOver p end
-    → AreThen p (event.Post end) (posted_parts p end) (Ok (step.Posted (length (side p end).outbox)))
+posted_step : (p : Parts) (end : End) (more : List (List ℕ)) → AreParts p → 0 < length (side p end).outbox → segments_queued (side p end) ≤ most_segments → SentMore p end more → HandsOver p end
+    → AreThen p (event.Post end) (posted_parts p end more) (Ok (step.Posted (length (side p end).outbox)))
 unfolding Steps
-posted_step p end h some room goes =
-    let steps = posts p end h some room in
-    (parts_posted p end h room goes (kept-step (state_of p) (state_of (posted_parts p end)) (event.Post end) (step.Posted (length (side p end).outbox)) steps h.world), steps)
+posted_step p end more h some room splits goes =
+    let steps = posts p end more h some room in (
+      parts_posted p end more h room splits goes (kept-step (state_of p) (state_of (posted_parts p end more)) (event.Post end) (step.Posted (length (side p end).outbox)) steps h.world),
+      steps,
+    )
 
 -- nothing was handed over
 pub post_refused : (p : Parts) (end : End) (f : WorldFault) → AreParts p → PostFault (side p end).link (side p end).outbox f → Went (state_of p) (event.Post end) (Err f) (state_of p)
 unfolding Steps Refuses
 post_refused p end fault.NothingToDo h none = (no_length (end_of (state_of p) end).waiting (waiting_is p end h ∙ ap length none), refl)
 post_refused p end fault.Exhausted h many = let n = waiting_is p end h in let all = segments_are p end h in ((omega (arith, many.0), omega (arith, many.1)), refl)
-post_refused p end fault.NoMemory h may = ((_, _, posts p end h may.0 may.1, tt), refl)
+post_refused p end fault.NoMemory h may = ((_, _, posts p end [] h may.0 may.1, tt), refl)
 post_refused p end fault.NoSuchPacket h none = absurd none
 post_refused p end fault.Stale h none = absurd none
 post_refused p end (fault.Ask f) h none = absurd none
 post_refused p end fault.BadSetup h none = absurd none
 
-pub post_a : (p : Parts) (v : AskingValue) (posted : ℕ) (handed : List (List ℕ)) (r : Result Step WorldFault) → AreParts p
-    → IfOk r (λ answer. PostedSo p.a.outbox p.a.posted posted answer) → OnOk r (HandedOver (asking_end p) v (length p.a.outbox)) → OnOk r (handed ≡ p.handed ++ p.a.outbox)
-    → OnErr r ((v ≡ asking_end p) × (posted ≡ p.a.posted) × (handed ≡ p.handed)) → IfErr r (PostFault p.a.link p.a.outbox)
-    → AreThen p (event.Post A) (record (asking_parts p v posted p.a.wire) { handed = handed }) r
-post_a p v posted handed (Ok answer) h so all moved same err =
+pub post_a : (p : Parts) (v : AskingValue) (posted : ℕ) (sent : List (List ℕ)) (r : Result Step WorldFault) → AreParts p
+    → IfOk r (λ answer. PostedSo p.a.outbox p.a.posted posted answer) → OnOk r (HandedOver (asking_end p) v (length p.a.outbox)) → OnOk r (SentAll p.a.outbox p.sent sent)
+    → OnErr r ((v ≡ asking_end p) × (posted ≡ p.a.posted) × (sent ≡ p.sent)) → IfErr r (PostFault p.a.link p.a.outbox)
+    → AreThen p (event.Post A) (record (asking_parts p v posted p.a.wire) { sent = sent }) r
+post_a p v posted sent (Ok answer) h so all more same err =
     let goes : HandsOver p A = λ past has. subst (λ (x : AskingValue). HasAsked (record past { handed = past.handed ++ p.a.outbox }) x) (handed_is (asking_end p) v (length p.a.outbox) all) (handed_past (asking_end p) v (length p.a.outbox) all past has) in
-    let done = posted_step p A h so.2 (may_queue_parts p.a.link p.a.outbox all.0).2 goes in
-    rw (so.0, handed_is (asking_end p) v (length p.a.outbox) all, so.1, moved) done
-post_a p v posted handed (Err f) h so all moved same err = rw (same.0, same.1, same.2) (h, post_refused p A f h err)
+    let done = posted_step p A more.0 h so.2 (may_queue_parts p.a.link p.a.outbox all.0).2 more.2 goes in
+    rw (so.0, handed_is (asking_end p) v (length p.a.outbox) all, so.1, more.1) done
+post_a p v posted sent (Err f) h so all more same err = rw (same.0, same.1, same.2) (h, post_refused p A f h err)
 
 pub post_b : (p : Parts) (v : ServingValue) (posted : ℕ) (r : Result Step WorldFault) → AreParts p
     → IfOk r (λ answer. PostedSo p.b.outbox p.b.posted posted answer) → OnOk r (HandedOver (serving_end p) v (length p.b.outbox))
@@ -250,6 +262,6 @@ pub post_b : (p : Parts) (v : ServingValue) (posted : ℕ) (r : Result Step Worl
     → AreThen p (event.Post B) (serving_parts p v posted p.b.wire) r
 post_b p v posted (Ok answer) h so handed same err =
     let goes : HandsOver p B = λ past is. subst (λ (x : ServingValue). IsAfter (record past { handed = past.handed ++ p.b.outbox }) x) (hands_over (serving_end p) v (length p.b.outbox) handed) (posted_past (serving_end p) v (length p.b.outbox) handed past is) in
-    let done = posted_step p B h so.2 (may_queue_parts p.b.link p.b.outbox handed.0).2 goes in
+    let done = posted_step p B [] h so.2 (may_queue_parts p.b.link p.b.outbox handed.0).2 tt goes in
     rw (so.0, hands_over (serving_end p) v (length p.b.outbox) handed, so.1) done
 post_b p v posted (Err f) h so handed same err = rw (same.0, same.1) (h, post_refused p B f h err)

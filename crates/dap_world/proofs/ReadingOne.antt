@@ -171,12 +171,11 @@ read_so p v report reports h o kept =
     record {
       world = world-read p m h next;
       alike = h.alike;
-      limit_a = h.limit_a;
-      limit_b = h.limit_b;
+      limit = h.limit;
       most = h.most;
       from_a = told_moved p.a p.b (asks p) p.served t.link.coming.inbox t.place h.from_a;
       from_b = handled_one p.b p.a (answers p) p.read o.one.bytes o.one.later o.one.next h.from_b x o.one.came one.1;
-      handed_is = h.handed_is;
+      sent_is = h.sent_is;
       reports_is = kept ∙ ap (λ (l : List Report). l ++ option_to_list report) h.reports_is ∙ sym adds;
       asking = asking;
       serving = h.serving;

@@ -152,7 +152,7 @@ module _ (p : Parts) (h : AreParts p) (m : Message) (next : next_to_serve (state
       let s = state_of p in
       let front = served-front (served_one s m) (kept-step s (served_one s m) event.Serve (step.Served (length (answering s m))) serves h.world) in
       let all : (taken_of s ++ m ∷ []) ++ front.0 ≡ Asked p.accessing.own p.requests = ap (λ (l : List Message). l ++ front.0) (sym (taken-more s m next)) ∙ front.1 in
-      all_short p.accessing.own p.b.link.setup.max_message _ (omega (arith, h.limit_a, h.alike.limit))
+      all_short p.accessing.own p.b.link.setup.max_message _ (omega (arith, h.limit, h.alike.limit))
       (answers-blocked p.accessing.own p.accessed.own h.world.own_a h.world.own_b p.requests (map Whole (taken_of s)) (map Whole front.0) (Whole m)
       (sym (map-append Whole (taken_of s) (m ∷ front.0)) ∙ ap (map Whole) (sym (append_assoc (taken_of s) (m ∷ []) front.0) ∙ all)))
 
@@ -178,13 +178,12 @@ module _ (p : Parts) (h : AreParts p) (m : Message) (next : next_to_serve (state
       record {
         world = subst IsWorld (sym state) world;
         alike = h.alike;
-        limit_a = h.limit_a;
-        limit_b = h.limit_b;
+        limit = h.limit;
         most = h.most;
         from_a = handled_one p.a p.b (asks p) p.served bytes later next_place h.from_a n inbox goes;
         from_b = subst (λ (l : List NspMessage). IsTold q.b p.a l p.read) (sym answers_are)
             (told_more p.b p.a (answers p) b p.read s.link.coming.inbox s.place outbox outbox h.from_b (ap (λ (l : List (List ℕ)). l ++ outbox) (sym idle)) block_is fit_block short);
-        handed_is = h.handed_is;
+        sent_is = h.sent_is;
         reports_is = h.reports_is ∙ ap (Told p.requests) (sym read) ∙ ap reported (sym state);
         asking = subst (λ (x : State). IsAskedAll (asking_end p) p.requests (answers_read x)) (sym state)
             (subst (λ (l : List Item). IsAskedAll (asking_end p) p.requests l) (sym read) h.asking);

@@ -6,9 +6,8 @@ use Rattle.dap_msg.specs.Blocked.{NspMessage, all_joined}
 use Rattle.nsp_link.specs.Limits.{most_segments}
 use Rattle.nsp_link.specs.Cutting.{cut}
 use Rattle.nsp_link.specs.declared.link.LinkSetup.{LinkSetup}
-use Rattle.nsp_link.proofs.ForCallers.{is_delivered}
 use Rattle.nsp_link.specs.Link.{LinkValue, Sends, Stands, Writes, IsWritten}
-use Rattle.nsp_link.specs.Inner.Due.{Delivered}
+use Rattle.nsp_link.specs.Due.{Delivered}
 use Rattle.dap_world.specs.declared.side.Wired.{Wired}
 use Rattle.dap_world.specs.Inner.Sides.{SideValue, AreShort}
 use Rattle.dap_world.specs.Inner.Ways.{IsWay}
@@ -22,7 +21,7 @@ wrote_side s sent w = record s { link = record s.link { sent = sent }; wire = s.
 pub takes : (from : SideValue) (v v' : LinkValue) (messages given : List (List ℕ)) (k : Option ℕ) (a : ℕ)
     → IsWay from v messages given → Delivered v v' k a → Stands v' from.link.setup.seg_size messages given → IsWay from v' messages given
 takes from v v' messages given k a way took stands =
-    let d = is_delivered v v' k a took in
+    let d = took in
     record {
       size = way.size;
       running = way.running;
@@ -48,7 +47,7 @@ same_writes v v' messages same (w ∷ wire) h = (
 pub gives : (from : SideValue) (v' to : LinkValue) (messages given : List (List ℕ)) (k : Option ℕ) (a : ℕ)
     → IsWay from to messages given → Delivered from.link v' k a → Sends v' messages → IsWay (record from { link = v' }) to messages given
 gives from v' to messages given k a way took sends =
-    let d = is_delivered from.link v' k a took in
+    let d = took in
     record {
       size = subst (λ (s : LinkSetup). 0 < s.seg_size) (sym d.setup) way.size;
       running = d.failed ∙ way.running;
@@ -120,7 +119,7 @@ module _ (packets : List NspMessage) (count : ℕ) (from to : SideValue) (h : Is
 
   pub told_gives : (v : LinkValue) (k : Option ℕ) (a : ℕ) → Delivered from.link v k a → Sends v h.handed → IsTold (record from { link = v }) to packets count
   told_gives v k a d sends =
-      subst (λ (most : ℕ). IsToldBy from.posted to.place most from.outbox packets count (IsWay (record from { link = v }) to.link)) (sym (ap (λ (s : LinkSetup). s.max_message) (is_delivered from.link v k a d).setup))
+      subst (λ (most : ℕ). IsToldBy from.posted to.place most from.outbox packets count (IsWay (record from { link = v }) to.link)) (sym (ap (λ (s : LinkSetup). s.max_message) d.setup))
       (told_with h (gives from v to.link h.handed _ k a h.way d sends))
 
   pub told_takes : (v : LinkValue) → ((messages given : List (List ℕ)) → IsWay from to.link messages given → IsWay from v messages given) → IsTold from (record to { link = v }) packets count

@@ -1,7 +1,6 @@
 -- What only the contracts of private functions cite, and proofs: nobody has to believe it.
 pub mod Agreement
 pub mod Links
-pub mod Naming
 pub mod Parts
 pub mod Settling
 pub mod Setups

@@ -1,7 +1,9 @@
 pub mod Agreement
 pub mod Headline
 pub mod Inner
+pub mod Links
 pub mod Machine
+pub mod Naming
 pub mod Runs
 pub mod Settling
 pub mod Setups

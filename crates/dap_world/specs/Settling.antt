@@ -107,11 +107,12 @@ pub record StopsWith (requests : List Request) (new : State) (i : ℕ) (f : AskF
   pub refused : IsRefused new.own_a new.requests (answers_read new) request f
   pub why : (f ≡ ask_fault.WrongPhase) ⊎ (f ≡ ask_fault.TooLarge)
 
--- Memory or the numbers ran out at the request of this place, which may have been asked: the reports are those of the
--- requests before it.
+-- Memory or the numbers ran out at the request of this place, which may have been asked, and is admissible after those before
+-- it, as each of these is after those before it. The reports are those of the requests before it.
 pub record RanOut (requests : List Request) (new : State) (i : ℕ) (f : WorldFault) : Type 0 where
   pub there : i < length requests
   pub asked : (new.requests ≡ take i requests) ⊎ (new.requests ≡ take (i + 1) requests)
+  pub admissible : AreAdmissible new.own_a new.own_b [] (take (i + 1) requests)
   pub reports : reported new ≡ reports_of new.own_a new.own_b (take i requests)
   pub why : FinishFault new f
 

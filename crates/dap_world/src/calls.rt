@@ -16,11 +16,13 @@ ghost use Rattle.dap_end.specs.Serving.{IsAfter};
 ghost use Rattle.dap_end.specs.Asking.{HasAsked};
 ghost use Rattle.dap_end.specs.Pasts.{Still};
 ghost use Rattle.dap_world.specs.Inner.Sides.{AreShort, AskFaultOf, AskedSo, EmitFault, KeptSo, PostFault, PostedSo, WroteOne};
+ghost use Rattle.dap_world.specs.Inner.Splitting.{SentAll};
 ghost use Rattle.dap_world.specs.Inner.Ways.{Delivery, delivered_as};
 ghost use Rattle.dap_world.specs.declared.event.WorldFault.TheVariants.{NoMemory};
 
 use crate::event::{End, Event, Step, WorldFault};
 use crate::side::{Wired, acknowledge, again, due, may_post, next_number, put};
+use crate::splitting::split_all;
 use crate::world::World;
 use dap_accessing::{Prepared, Report, Request};
 use dap_end::{AskingEnd, ServingEnd};
@@ -82,7 +84,12 @@ impl World {
         ensures { Went self.old (Event.Post end) result self.new }
     {
         match end {
-            End::A => post_a(&mut self.asking, &mut self.handed),
+            End::A => post_a(
+                self.alloc,
+                &mut self.asking,
+                &mut self.posted_a,
+                &mut self.sent,
+            ),
             End::B => post_b(&mut self.serving, &mut self.posted_b),
         }
     }
@@ -301,21 +308,54 @@ fn delivered(got: Result<Got, LinkFault>) -> Result<Step, WorldFault>
     }
 }
 
-/// A hands over what waits.
-fn post_a(end: &mut AskingEnd, handed: &mut Vec<Vec<u8>>) -> Result<Step, WorldFault>
+/// A hands over what waits; the DAP messages in it are sent.
+fn post_a(
+    alloc: Global,
+    end: &mut AskingEnd,
+    posted: &mut usize,
+    sent: &mut Vec<Vec<u8>>,
+) -> Result<Step, WorldFault>
     requires running { end.old.port.link.failed ≡ false }
     requires short { AreShort end.old.port.link.setup.max_message end.old.port.outbox }
-    ensures ok { IfOk result (λ answer. PostedSo end.old.port.outbox (length handed.old.items)
-        (length handed.new.items) answer) }
+    requires few { posted.old ≤ most_segments }
+    ensures ok { IfOk result (λ answer. PostedSo end.old.port.outbox posted.old posted.new answer) }
     ensures handed { OnOk result (HandsOver end.old end.new (length end.old.port.outbox)) }
-    ensures moved { OnOk result (bodies handed.new.items
-        ≡ bodies handed.old.items ++ end.old.port.outbox) }
-    ensures same { OnErr result ((end.new ≡ end.old) × (handed.new.items ≡ handed.old.items)) }
+    ensures sent { OnOk result (SentAll end.old.port.outbox (bodies sent.old.items)
+        (bodies sent.new.items)) }
+    ensures same { OnErr result ((end.new ≡ end.old) × (posted.new ≡ posted.old)
+        × (bodies sent.new.items ≡ bodies sent.old.items)) }
     ensures err { IfErr result (PostFault end.old.port.link end.old.port.outbox) }
 {
     may_post(end.link(), end.waiting())?;
-    match end.post_into(handed) {
-        Ok(count) => Ok(Step::Posted(count)),
+    hand_over(alloc, end, posted, sent)
+}
+
+/// A hands over what waits, which its link takes. All memory is there before anything changes.
+fn hand_over(
+    alloc: Global,
+    end: &mut AskingEnd,
+    posted: &mut usize,
+    sent: &mut Vec<Vec<u8>>,
+) -> Result<Step, WorldFault>
+    requires some { 0 < length end.old.port.outbox }
+    requires may { IsTrue (may_queue end.old.port.link end.old.port.outbox) }
+    requires few { posted.old ≤ most_segments }
+    ensures ok { IfOk result (λ answer. PostedSo end.old.port.outbox posted.old posted.new answer) }
+    ensures handed { OnOk result (HandsOver end.old end.new (length end.old.port.outbox)) }
+    ensures sent { OnOk result (SentAll end.old.port.outbox (bodies sent.old.items)
+        (bodies sent.new.items)) }
+    ensures same { OnErr result ((end.new ≡ end.old) × (posted.new ≡ posted.old)
+        × (bodies sent.new.items ≡ bodies sent.old.items)) }
+    ensures err { IfErr result (λ f. f ≡ NoMemory) }
+{
+    let mut more = split_all(alloc, end.waiting())?;
+    sent.reserve(more.len())?;
+    match end.post_checked() {
+        Ok(count) => {
+            *posted += count;
+            sent.append(&mut more).unwrap();
+            Ok(Step::Posted(count))
+        }
         Err(_) => Err(WorldFault::NoMemory),
     }
 }

@@ -294,8 +294,8 @@ impl World {
 
     /// Each request to its report, over perfect delivery, in a world of which `is_fresh` holds (own). Refused
     /// with the place, from 0, of the first request that isn't admissible after those before it and why, or of
-    /// that at which memory or the numbers ran out: the reports are then those of the requests before it. The
-    /// empty list takes no memory.
+    /// that at which memory or the numbers ran out, which is admissible: the reports are then those of the
+    /// requests before it. The empty list takes no memory.
     pub fn direct(&mut self, requests: &[Request]) -> Result<(), (usize, WorldFault)>
         requires { IsFresh self.old }
         ensures ok { OnOk result (AllDone requests.now self.new) }

@@ -2,12 +2,11 @@
 
 use crate::event::{End, Event, Step, WorldFault};
 use crate::side::Wired;
-use crate::splitting::split_all;
 use dap_accessed::FileTable;
 use dap_accessing::{Report, Request};
 use dap_end::{AskingEnd, ServingEnd};
 use nsp_link::LinkEnd;
-use std::alloc::{AllocError, Global};
+use std::alloc::Global;
 use std::marker::Model;
 
 /// Both ends and the network (own).
@@ -16,14 +15,14 @@ pub struct World {
     pub(crate) alloc: Global,
     pub(crate) asking: AskingEnd,
     pub(crate) serving: ServingEnd,
-    /// The packets that each end wrote.
+    /// The packets that each end wrote, and how many NSP messages it handed to its link.
     pub(crate) wire_a: Vec<Wired>,
     pub(crate) wire_b: Vec<Wired>,
-    /// The NSP messages that A handed to its link, and how many B did.
-    pub(crate) handed: Vec<Vec<u8>>,
+    pub(crate) posted_a: usize,
     pub(crate) posted_b: usize,
     pub(crate) requests: Vec<Request>,
-    /// How many of the DAP messages in what A handed over B served.
+    /// The DAP messages that A handed to its link, and how many of them B served.
+    pub(crate) sent: Vec<Vec<u8>>,
     pub(crate) served: usize,
     pub(crate) reports: Vec<Report>,
     /// The answers that A read.
@@ -43,12 +42,13 @@ impl Model for World {
 }
 
 impl World {
-    ghost use Rattle.std.specs.Prelude.{◌≡◌, OnOk, IfOk, IfErr, map, true, false};
+    ghost use Rattle.std.specs.Prelude.{◌≡◌, ◌-◌, ◌++◌, OnOk, IfErr, Some, map, max, slice_get, true, false};
     ghost use Rattle.dap_msg.specs.Blocked.{all_joined, bodies};
     ghost use Rattle.dap_msg.specs.Canon.{canon};
     ghost use Rattle.dap_world.specs.Machine.{MayEmit, files_of, reported, end_of, other, sent_by, taken_of};
     ghost use Rattle.dap_world.specs.Runs.{Runs, StopsAt, Went};
     ghost use Rattle.dap_world.specs.Inner.Worlds.{IsWorld};
+    ghost use Rattle.dap_world.specs.Links.{came_to, coming_to, left_link};
     ghost use Rattle.dap_world.specs.Wires.{IsOnWire, address_of, sending_of};
     ghost use Rattle.std.specs.List.{AllByRecursion};
     ghost use Rattle.std.specs.Map.{keys_of};
@@ -153,22 +153,19 @@ impl World {
         &self.requests
     }
 
-    /// The DAP messages that were handed to A's link, each copied from its NSP message (own). Refused for want of memory
-    /// alone.
-    pub fn sent(&self) -> Result<Vec<Vec<u8>>, AllocError>
-        ensures { IfOk result (λ list. bodies list.items ≡ map canon (sent_by self.now.a)) }
+    /// The DAP messages that were handed to A's link, in order (own). It takes no memory.
+    pub fn sent(&self) -> &[Vec<u8>]
+        ensures { bodies result.now ≡ map canon (sent_by self.now.a) }
     {
-        split_all(self.alloc, &self.handed)
+        &self.sent
     }
 
-    /// The DAP messages that B served: a part from the front of those that were handed to A's link (own). Refused as
-    /// `sent` is.
-    pub fn taken(&self) -> Result<Vec<Vec<u8>>, AllocError>
-        ensures { IfOk result (λ list. bodies list.items ≡ map canon (taken_of self.now)) }
+    /// The DAP messages that B served: a part from the front of those that were handed to A's link (own). It
+    /// takes no memory.
+    pub fn taken(&self) -> &[Vec<u8>]
+        ensures { bodies result.now ≡ map canon (taken_of self.now) }
     {
-        let mut list = self.sent()?;
-        list.truncate(self.served);
-        Ok(list)
+        &self.sent[..self.served]
     }
 
     /// How many answers A read (own). It takes no memory.
@@ -212,11 +209,17 @@ impl World {
             × (result.now.setup.remote ≡ address_of (other end)) }
         ensures size { result.now.setup.seg_size ≡ self.now.seg_size }
         ensures window { result.now.setup.window ≡ self.now.window }
+        ensures limit { result.now.setup.max_message ≡ max self.now.own_a self.now.own_b }
         ensures sent { result.now.sent ≡ (end_of self.now end).sent }
         ensures acked { result.now.acked ≡ (end_of self.now end).acked }
         ensures queued { Sends result.now (all_joined (end_of self.now end).handed) }
         ensures received { result.now.coming.received ≡ (end_of self.now end).taken }
+        ensures partial { result.now.coming.partial ≡ (came_to self.now end).partial }
+        ensures inbox { left_link self.now end ++ result.now.coming.inbox
+            ≡ (came_to self.now end).inbox }
         ensures held { keys_of result.now.held ≡ (end_of self.now end).held }
+        ensures early { AllByRecursion (λ h. slice_get (coming_to self.now end) (h.0 - 1) ≡ Some h.1)
+            result.now.held }
         ensures running { result.now.failed ≡ false }
     {
         match end {

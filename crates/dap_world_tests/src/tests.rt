@@ -290,13 +290,13 @@ fn bring(world: &mut World, segments: usize) -> Result<(), WorldFault> {
     Ok(())
 }
 
-fn counts(world: &World) -> Result<(bool, usize, usize, u64), WorldFault> {
-    Ok((
+fn counts(world: &World) -> (bool, usize, usize, u64) {
+    (
         world.is_fresh(),
         world.requests().len(),
-        world.sent()?.len(),
+        world.sent().len(),
         world.read_count(),
-    ))
+    )
 }
 
 /// Whether a request over a clean network comes to what the line says.
@@ -359,19 +359,19 @@ fn go_so(alloc: Global, world: &mut World, line: Line) -> Result<bool, WorldFaul
         Line::Finishes => finish(world).map(|_events| true),
         Line::Comes(many) => come_so(alloc, world, many),
         Line::Runs(list, wanted, seen) => {
-            Ok(run(world, &events(alloc, list)?) == wanted && counts(world)? == seen)
+            Ok(run(world, &events(alloc, list)?) == wanted && counts(world) == seen)
         }
         line => turns_so(alloc, world, line),
     }
 }
 
 /// The segments of A that aren't acknowledged, the reports, and the messages that B has served.
-fn tallies(world: &World) -> Result<(usize, usize, usize), WorldFault> {
-    Ok((
+fn tallies(world: &World) -> (usize, usize, usize) {
+    (
         count_unacked(world, End::A),
         world.reports().len(),
-        world.taken()?.len(),
-    ))
+        world.taken().len(),
+    )
 }
 
 /// Whether what the line says is so.
@@ -382,7 +382,7 @@ fn is_so(alloc: Global, world: &mut World, line: Line) -> Result<bool, WorldFaul
             writes(alloc, world, what, end, place, digits)?
         }
         Line::Reports(words) => is_newest(alloc, world, words)?,
-        Line::Counts(unacked, reports, taken) => tallies(world)? == (unacked, reports, taken),
+        Line::Counts(unacked, reports, taken) => tallies(world) == (unacked, reports, taken),
         Line::Took(segments) => taken(world, End::B) == segments,
         Line::Holds(number, body) => is_held(world, number, body),
         Line::Has(files) => holds(world.files(), files),
@@ -414,10 +414,9 @@ fn go_on(
         let so = is_so(rt.alloc(), world, *line)?;
         assert!(rt; so, "at line {at}");
     }
-    exchanged(world)
-}
-
-fn exchanged(world: &World) -> Result<Tally, WorldFault> {
-    let (sent, taken) = (world.sent()?.len(), world.taken()?.len());
-    Ok((sent, taken, world.requests().len()))
+    Ok((
+        world.sent().len(),
+        world.taken().len(),
+        world.requests().len(),
+    ))
 }

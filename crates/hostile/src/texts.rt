@@ -42,15 +42,10 @@ impl Text {
         !self.is_short
     }
 
-    /// A part of it is missing.
-    pub fn miss(&mut self) {
-        self.is_short = true;
-    }
-
     /// Whether a part that was written is there.
     fn keep(&mut self, written: io::Result<()>) {
         if written.is_err() {
-            self.miss();
+            self.is_short = true;
         }
     }
 

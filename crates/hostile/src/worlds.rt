@@ -6,7 +6,7 @@ use crate::requests::request;
 use crate::texts::Text;
 use End::{A, B};
 use dap_world::{End, Event, Request, Step, World, WorldFault, WorldSetup};
-use std::alloc::{AllocError, Global};
+use std::alloc::Global;
 
 /// What happens.
 #[derive(Clone, Copy, Drop)]
@@ -263,14 +263,6 @@ fn perform(alloc: Global, world: &mut World, act: Act, steps: &mut Text) -> Resu
     }
 }
 
-/// Appends messages, where there was room for them.
-fn note_messages(word: &str, list: Result<Vec<Vec<u8>>, AllocError>, seen: &mut Text) {
-    match list {
-        Ok(messages) => seen.note_all(word, &messages),
-        Err(_) => seen.miss(),
-    }
-}
-
 /// Appends what the readers of a world answer.
 fn look_at_world(world: &World, seen: &mut Text) {
     for request in world.requests() {
@@ -278,8 +270,8 @@ fn look_at_world(world: &World, seen: &mut Text) {
         seen.show(request);
     }
     seen.note("read", world.read_count());
-    note_messages("sent", world.sent(), seen);
-    note_messages("taken", world.taken(), seen);
+    seen.note_all("sent", world.sent());
+    seen.note_all("taken", world.taken());
     look_at_reports(world.reports(), seen);
     look_at_files(world.files(), seen);
 }

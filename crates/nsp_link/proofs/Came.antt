@@ -1,32 +1,38 @@
 -- Of a packet that is due: its numbers tell by the counts what becomes of it.
-use Rattle.std.proofs.Common.{◌≡◌, ◌⊎◌, ℕ, ◌+◌, ◌-◌, ◌<◌, ◌≤◌, max, List, [], length, Option, Some, None, Result, Ok, Err, refl, sym, ap, ◌∙◌, arith, false, inl, inr, cond, subst, ◌==◌}
-use Rattle.std.specs.Prelude.{MatchResult}
+use Rattle.std.proofs.Common.{◌≡◌, ◌⊎◌, ℕ, ◌+◌, ◌-◌, ◌<◌, ◌≤◌, max, List, [], length, drop, Option, Some, None, Result, Ok, Err, refl, sym, ap, ◌∙◌, arith, false, inl, inr, cond, subst, rules, ◌==◌}
+use Rattle.std.specs.Prelude.{MatchResult, IfSome, IsOk}
 use Rattle.std.proofs.lemmas.Bool.{cases_eq, eq-eqb, ne_eqb}
 use Rattle.nsp_seg.specs.declared.packet.Packet.{Packet}
 use Rattle.nsp_seg.specs.declared.packet.Packet.TheVariants.{Segment, DataAck}
 use Rattle.nsp_seg.specs.Packets.{Spells}
 use Rattle.nsp_seg.specs.declared.packet.SegmentFields.{SegmentFields}
-use Rattle.nsp_seg.specs.declared.packet.SegFault.{SegFault}
-use Rattle.nsp_seg.proofs.ForCallers.{spells-one}
 use Rattle.nsp_link.specs.declared.link.Got.{Got}
 use Rattle.nsp_link.specs.declared.fault.LinkFault.{LinkFault}
-use Rattle.nsp_link.specs.declared.fault.LinkFault.TheVariants.{BadSequence, Malformed, Exhausted, NoMemory}
+use Rattle.nsp_link.specs.declared.fault.LinkFault.TheVariants.{BadSequence, Exhausted, NoMemory}
 use Rattle.nsp_link.specs.Coming.{Coming, taken_all, RefusesAll}
 use Rattle.nsp_link.specs.Cutting.{Piece}
 use Rattle.nsp_link.specs.Holding.{following}
 use Rattle.nsp_link.specs.Limits.{most_segments}
-use Rattle.nsp_link.specs.Link.{LinkValue, Stands, Keeps, got_of, held_after, piece_of, forgotten}
-use Rattle.nsp_link.specs.Receiving.{segment_of, taking_in, run, Received, ReceivedBytes, Receives}
-use Rattle.nsp_link.specs.Inner.Due.{IsDue, Delivered, MayRefuse, taken_after}
+use Rattle.nsp_link.specs.Link.{LinkValue, IsLink, Stands, Keeps, got_of, held_after, piece_of, forgotten}
+use Rattle.nsp_link.specs.Receiving.{segment_of, taking_in, run, Received, Receives}
+use Rattle.nsp_link.specs.Due.{IsDue, Delivered, MayRefuse, taken_after}
 use Rattle.nsp_link.proofs.Taking.{received-all}
-use Rattle.nsp_link.proofs.Delivering.{segment_found}
+use Rattle.nsp_link.proofs.Delivering.{segment_found, Due, due_received}
 
 -- an end that took in this, holds these early segments, and forgot what is acknowledged
 delivered_with : (old : LinkValue) (c : Coming) (held : List (ℕ × Piece)) (count : ℕ) (k : Option ℕ) (a : ℕ) (p : Piece) → count ≡ max old.acked a - old.acked → c.received ≡ taken_after old k → held ≡ held_after old k p
     → Delivered old (forgotten (record old { coming = c; held = held }) count) k a
 delivered_with old c held count k a p e on keeps =
     let same : count ≡ a - old.acked = omega arith in
-    (on, (p, ap (λ (n : ℕ). forgotten (record old { coming = c; held = held }) n) same ∙ ap (λ (hs : List (ℕ × Piece)). record (forgotten old (a - old.acked)) { coming = c; held = hs }) keeps))
+    record {
+      acked = omega arith;
+      queue = ap (λ (n : ℕ). drop n old.queue) same;
+      received = on;
+      held = (p, keeps);
+      sent = refl;
+      setup = refl;
+      failed = refl;
+    }
 
 delivered_in : (old : LinkValue) (p : Piece) (count k a : ℕ) → count ≡ max old.acked a - old.acked → Delivered old (forgotten (taking_in old k p) count) (Some k) a
 delivered_in old p count k a e =
@@ -83,25 +89,32 @@ refused old new e size messages given (Segment s) (Some n) a due few why (inr (_
     inl (memory, inr kept, rw (ne_eqb n (old.coming.received + 1) (λ x. omega (arith, kept.0, x))) few)
 refused old new e size messages given (Segment s) None a due few why (inr (_, inr _), _) = absurd due.2.carries
 
--- bytes that spell it weren't malformed
-read : (old new : LinkValue) (p : Packet) (bytes : List ℕ) (r : Result Got LinkFault) → ((f : SegFault) → r ≡ Err (Malformed f) → ⊥) → Spells p bytes → ReceivedBytes old new bytes r → Received old p r new
-read old new p bytes r whole spelled (inl (f, bad, _, _)) = absurd (whole f bad)
-read old new p bytes r whole spelled (inr (q, other, rec)) = subst (λ (x : Packet). Received old x r new) (spells-one q p bytes other spelled) rec
-
 -- a packet that is due, by the counts
+pub due_counted : (old new : LinkValue) (r : Result Got LinkFault) (size : ℕ) (messages given : List (List ℕ)) (p : Packet) (k : Option ℕ) (a : ℕ) → IsLink old → IsDue old size messages given p k a → Received old p r new
+    → MatchResult r (λ got. (got ≡ got_of old.coming.received k) × Delivered old new k a × Stands new size messages given)
+    (λ e. MayRefuse old k e × (new ≡ old))
+due_counted old new (Ok got) size messages given p k a link due rec =
+    let told : Due old new (Ok got) size messages given k a = due_received old new (Ok got) size messages given p k a link due rec in
+    (told.0, took old new got size messages given p k a due told.1 rec, told.2)
+due_counted old new (Err e) size messages given p k a link due rec =
+    let told : Due old new (Err e) size messages given k a = due_received old new (Err e) size messages given p k a link due rec in
+    (refused old new e size messages given p k a due link.few_taken told.0 rec, told.1)
+
+-- it is a reason to refuse no segment that was taken
+taken_unrefused : (old : LinkValue) (k : Option ℕ) (e : LinkFault) → IfSome k (λ n. n ≤ old.coming.received) → MayRefuse old k e → ⊥
+taken_unrefused old None e before refused = absurd refused
+taken_unrefused old (Some k) e before (inl (memory, inl next, few)) = omega (arith, next, before)
+taken_unrefused old (Some k) e before (inl (memory, inr keeps, few)) = omega (arith, keeps.0, before)
+taken_unrefused old (Some k) e before (inr (many, next, over)) = omega (arith, next, before)
+
+pub unrefused : (old new : LinkValue) (r : Result Got LinkFault) (size : ℕ) (messages given : List (List ℕ)) (p : Packet) (k : Option ℕ) (a : ℕ) → IsLink old → IsDue old size messages given p k a → Received old p r new
+    → IfSome k (λ n. n ≤ old.coming.received) → IsOk r
+unrefused old new (Ok got) size messages given p k a link due rec before = search rules
+unrefused old new (Err e) size messages given p k a link due rec before =
+    absurd (taken_unrefused old k e before (due_counted old new (Err e) size messages given p k a link due rec).0)
+
+-- what taking in any bytes comes to, where these are a packet that is due
 pub came_due : (old new : LinkValue) (bytes : List ℕ) (r : Result Got LinkFault) (size : ℕ) (messages given : List (List ℕ)) (p : Packet) (k : Option ℕ) (a : ℕ) → Receives old new bytes r → Spells p bytes → IsDue old size messages given p k a
     → MatchResult r (λ got. (got ≡ got_of old.coming.received k) × Delivered old new k a × Stands new size messages given)
     (λ e. MayRefuse old k e × (new ≡ old))
-came_due old new bytes (Ok got) size messages given p k a h spelled due =
-    let told = h.due size messages given p k a spelled due.0 due.1 due.2 in
-    let rec = read old new p bytes (Ok got) (λ f e. cc) spelled (h.any due.0) in
-    (told.0, took old new got size messages given p k a due told.1 rec, told.2)
-came_due old new bytes (Err e) size messages given p k a h spelled due =
-    let told = h.due size messages given p k a spelled due.0 due.1 due.2 in
-    let rec = read old new p bytes (Err e) (λ f bad. unread e f told.0 bad) spelled (h.any due.0) in
-    let few : old.coming.received ≤ most_segments = subst (λ (v : LinkValue). v.coming.received ≤ most_segments) told.1 h.few in
-    (refused old new e size messages given p k a due few told.0 rec, told.1)
-  where
-    unread : (e : LinkFault) (f : SegFault) → (e ≡ NoMemory) ⊎ (e ≡ Exhausted) → ◌≡◌ {A = Result Got LinkFault} (Err e) (Err (Malformed f)) → ⊥
-    unread e f (inl memory) bad = cc
-    unread e f (inr many) bad = cc
+came_due old new bytes r size messages given p k a h spelled due = h.due size messages given p k a spelled due

@@ -1,6 +1,6 @@
 -- What becomes of a packet that is due: the numbers that go round tell which it is.
 use Rattle.std.proofs.Common.{◌≡◌, ◌⊎◌, ℕ, ◌+◌, ◌-◌, ◌<◌, ◌≤◌, max, List, length, Option, Some, None, Result, Ok, Err, refl, sym, ap, ◌∙◌, arith, true, false, inl, inr, cond, subst}
-use Rattle.std.specs.Prelude.{slice_get, MatchResult, nat_lt, ◌&&◌}
+use Rattle.std.specs.Prelude.{slice_get, nat_lt, ◌&&◌}
 use Rattle.std.proofs.lemmas.Bool.{lt-ltb, le-ltb, cases_lt, cases_eq, eq-eqb, ne_eqb}
 use Rattle.nsp_seg.specs.Numbers.{residue}
 use Rattle.nsp_seg.specs.declared.packet.Packet.{Packet}
@@ -16,7 +16,7 @@ use Rattle.std.specs.List.{AllByRecursion}
 use Rattle.nsp_link.specs.Coming.{taken_all, AllFit, RefusesAll}
 use Rattle.nsp_link.specs.Holding.{following}
 use Rattle.nsp_link.specs.Link.{LinkValue, IsLink, Stands, got_of, piece_of, forgotten}
-use Rattle.nsp_link.specs.Inner.Due.{IsDue}
+use Rattle.nsp_link.specs.Due.{IsDue}
 use Rattle.nsp_link.specs.Inner.Whole.{HasTaken}
 use Rattle.nsp_link.specs.Receiving.{newly_acked, segment_of, taking_in, run, stopped, Received}
 use Rattle.nsp_link.proofs.Taking.{AreNext, fits_all, refuses-all}
@@ -132,13 +132,6 @@ due_received old new r size messages given (Segment s) (Some n) a link due rec =
 due_received old new r size messages given (Segment s) None a link due rec = absurd due.2.carries
 due_received old new r size messages given (DataAck s) None a link due rec = due_ack old new r size messages given s a link due rec
 due_received old new r size messages given (DataAck s) (Some n) a link due rec = absurd due.2.carries
-
--- the same, in the words of the clause
-pub due_matched : (old new : LinkValue) (r : Result Got LinkFault) (size : ℕ) (messages given : List (List ℕ)) (k : Option ℕ) (a : ℕ) → Due old new r size messages given k a
-    → MatchResult r (λ got. (got ≡ got_of old.coming.received k) × (new.acked ≡ max old.acked a) × Stands new size messages given)
-    (λ e. ((e ≡ NoMemory) ⊎ (e ≡ Exhausted)) × (new ≡ old))
-due_matched old new (Ok got) size messages given k a d = d
-due_matched old new (Err e) size messages given k a d = d
 
 -- a packet that was read is not malformed
 pub received_read : (old new : LinkValue) (p : Packet) (r : Result Got LinkFault) (f : SegFault) → Received old p r new → r ≡ Err (Malformed f) → ⊥

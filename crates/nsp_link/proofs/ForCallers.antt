@@ -1,5 +1,5 @@
 -- What the crates above may cite of this one's proofs. No other file here is for them.
-use Rattle.std.proofs.Common.{◌≡◌, ℕ, ◌+◌, max, List, [], ◌∷◌, ◌++◌, length, drop, Option, ap, ◌∙◌, arith}
+use Rattle.std.proofs.Common.{◌≡◌, ℕ, ◌+◌, List, [], ◌∷◌, ◌++◌, length, drop, Option}
 use Rattle.nsp_seg.specs.declared.packet.Packet.{Packet}
 use Rattle.nsp_seg.specs.Packets.{Spells}
 use Rattle.nsp_link.specs.declared.link.LinkSetup.{LinkSetup}
@@ -9,10 +9,11 @@ use Rattle.std.specs.Ordering.{nat_cmp}
 use Rattle.std.specs.Map.{keys_of}
 use Rattle.std.specs.BTreeSet.{insert_key}
 pub use Rattle.nsp_link.proofs.Held.{inserted}
-use Rattle.nsp_link.specs.Link.{LinkValue, IsBetween, Carries, IsWritten, Writes, Sends, Stands, new_link, held_after, with_inbox}
-use Rattle.nsp_link.specs.Inner.Due.{Delivered, taken_after}
+use Rattle.nsp_link.specs.Link.{LinkValue, IsBetween, Carries, IsWritten, Writes, Sends, Stands, new_link, with_inbox}
 -- a packet that is due, by the counts for which its numbers stand
 pub use Rattle.nsp_link.proofs.Came.{came_due}
+-- what taking any bytes in comes to is determined, want of memory aside; and how many segments are taken then
+pub use Rattle.nsp_link.proofs.Refusing.{receives_same, taken_count}
 -- what an end stands after, by the messages that are whole and the one that is begun; and back
 pub use Rattle.nsp_link.proofs.Taken.{whole_of, taken_of}
 use Rattle.nsp_link.specs.Sending.{queued_link}
@@ -58,25 +59,6 @@ sends_new = growing.sends_new
 -- more messages are sent
 pub sends_all : (v : LinkValue) (messages more : List (List ℕ)) → Sends v messages → Sends (queued_link v (cut v.setup.seg_size more)) (messages ++ more)
 sends_all = growing.sends_all
-
--- what a delivery leaves, part by part
-pub record IsDelivered (old new : LinkValue) (k : Option ℕ) (a : ℕ) : Type 0 where
-  pub setup : new.setup ≡ old.setup
-  pub failed : new.failed ≡ old.failed
-  pub sent : new.sent ≡ old.sent
-  pub acked : new.acked ≡ max old.acked a
-  pub received : new.coming.received ≡ taken_after old k
-  pub held : (p : Piece) × (new.held ≡ held_after old k p)
-
-pub is_delivered : (old new : LinkValue) (k : Option ℕ) (a : ℕ) → Delivered old new k a → IsDelivered old new k a
-is_delivered old new k a (on, (p, is)) = record {
-  setup = ap (λ (v : LinkValue). v.setup) is;
-  failed = ap (λ (v : LinkValue). v.failed) is;
-  sent = ap (λ (v : LinkValue). v.sent) is;
-  acked = ap (λ (v : LinkValue). v.acked) is ∙ omega arith;
-  received = on;
-  held = (p, ap (λ (v : LinkValue). v.held) is);
-}
 
 -- what is taken in behind the k-th, and what stays held, by the numbers alone
 pub closes : (k : ℕ) (held : List (ℕ × Piece)) → closed_up k (keys_of held) ≡ (k + length (following k held), keys_of (drop (length (following k held)) held))

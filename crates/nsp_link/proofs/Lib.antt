@@ -10,6 +10,7 @@ pub mod Keeping
 pub mod Giving
 pub mod Delivering
 pub mod Came
+pub mod Refusing
 pub mod Writing
 pub mod Growing
 pub mod Written

@@ -1,5 +1,4 @@
 -- What only the contracts of private functions cite, and proofs: nobody has to believe it.
-pub mod Due
 pub mod Joining
 pub mod Pieces
 pub mod View

@@ -4,6 +4,7 @@ pub mod Coming
 pub mod Inner
 pub mod Holding
 pub mod Link
+pub mod Due
 pub mod Receiving
 pub mod Separation
 pub mod Sending

@@ -1,8 +1,8 @@
 -- What receiving computes, by the numbers that a packet shows.
-use Rattle.std.specs.Prelude.{◌≡◌, ◌≢◌, ℕ, ◌+◌, ◌-◌, ◌≤◌, max, Bool, true, false, List, ◌∷◌, ◌⊎◌, Result, Ok, Err, Option, Some, None, MatchResult, nat_lt, ◌==◌, if◌then◌else◌}
+use Rattle.std.specs.Prelude.{◌≡◌, ◌≢◌, ℕ, ◌+◌, ◌-◌, ◌≤◌, Bool, true, false, List, ◌∷◌, ◌⊎◌, Result, Ok, Err, IsOk, Option, Some, None, IfSome, MatchResult, nat_lt, ◌==◌, if◌then◌else◌}
 use Rattle.nsp_seg.specs.Numbers.{residue}
 use Rattle.nsp_link.specs.declared.fault.LinkFault.{LinkFault}
-use Rattle.nsp_link.specs.declared.fault.LinkFault.TheVariants.{WrongLink, BadSequence, MessageTooLong, Exhausted, NoMemory, Failed, Malformed}
+use Rattle.nsp_link.specs.declared.fault.LinkFault.TheVariants.{WrongLink, BadSequence, MessageTooLong, NoMemory, Failed, Malformed}
 use Rattle.nsp_seg.specs.declared.packet.SegFault.{SegFault}
 use Rattle.nsp_seg.specs.declared.packet.Packet.{Packet}
 use Rattle.nsp_seg.specs.Packets.{Spells, HasFault}
@@ -13,7 +13,8 @@ use Rattle.nsp_link.specs.Cutting.{Piece}
 use Rattle.nsp_link.specs.Coming.{taken_all, AllFit, RefusesAll}
 use Rattle.nsp_link.specs.Holding.{following}
 use Rattle.nsp_link.specs.Limits.{most_segments}
-use Rattle.nsp_link.specs.Link.{LinkValue, IsOfPeer, got_of, held_after, Stands, SendsStill, failed_link, first_ack, piece_of, IsBetween, Keeps, forgotten}
+use Rattle.nsp_link.specs.Link.{LinkValue, got_of, held_after, Stands, SendsStill, failed_link, first_ack, piece_of, IsBetween, Keeps, forgotten}
+use Rattle.nsp_link.specs.Due.{IsDue, Delivered, MayRefuse}
 
 -- How many segments a field acknowledges anew: 0 where its number is 2,048 or more ahead, which is old, and nothing where
 -- it is less far ahead, and of a segment never sent.
@@ -87,17 +88,23 @@ ReceivedBytes old new bytes result =
     ((f : SegFault) × (result ≡ Err (Malformed f)) × HasFault f bytes × (new ≡ old))
     ⊎ ((p : Packet) × Spells p bytes × Received old p result new)
 
--- A packet from a peer that sends these NSP messages, to an end that hasn't failed and stands after some of them: what it is
--- answered follows from the number of its segment, its acknowledgement moves the count forward only, and the link takes
--- just the messages whose last segment has come, each once and in order. Only want of memory, or the limit of 2^40
--- segments, refuses it, and then nothing has changed.
+-- A packet that is due: what it is answered follows from the number k of its segment and the number of segments that were taken;
+-- the counts of segments taken and acknowledged and what is held move as is said there; and the end stands after the first of
+-- the same messages still, so that it hands out just those whose last segment it has taken, each once and in order. Only want
+-- of memory, or the limit of 2^40 segments, refuses it, and then nothing has changed.
 abbrev pub ReceivedDue : (old new : LinkValue) → List ℕ → Result Got LinkFault → Type 0
 ReceivedDue old new bytes result =
     (size : ℕ) (messages given : List (List ℕ)) (p : Packet) (k : Option ℕ) (a : ℕ)
-    → Spells p bytes → old.failed ≡ false → Stands old size messages given → IsOfPeer old size messages p k a
+    → Spells p bytes → IsDue old size messages given p k a
     → MatchResult result
-    (λ got. (got ≡ got_of old.coming.received k) × (new.acked ≡ max old.acked a) × Stands new size messages given)
-    (λ e. ((e ≡ NoMemory) ⊎ (e ≡ Exhausted)) × (new ≡ old))
+    (λ got. (got ≡ got_of old.coming.received k) × Delivered old new k a × Stands new size messages given)
+    (λ e. MayRefuse old k e × (new ≡ old))
+
+-- A packet that is due and only acknowledges, or whose segment was taken before, is never refused.
+abbrev pub UnrefusedDue : LinkValue → List ℕ → Result Got LinkFault → Type 0
+UnrefusedDue old bytes result =
+    (size : ℕ) (messages given : List (List ℕ)) (p : Packet) (k : Option ℕ) (a : ℕ)
+    → Spells p bytes → IsDue old size messages given p k a → IfSome k (λ n. n ≤ old.coming.received) → IsOk result
 
 pub record Receives (old new : LinkValue) (bytes : List ℕ) (result : Result Got LinkFault) : Type 0 where
   pub failed : old.failed ≡ true → (result ≡ Err Failed) × (new ≡ old)

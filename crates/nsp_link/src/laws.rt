@@ -1,16 +1,20 @@
 //! Laws of the definitions, for whoever keeps the lists.
 
-ghost use Rattle.std.specs.Prelude.{◌≡◌, ◌<◌, ◌≤◌, ◌+◌, [], ◌++◌, ℕ, List, Option, length, take, drop};
+ghost use Rattle.std.specs.Prelude.{◌≡◌, ◌≢◌, ◌<◌, ◌≤◌, ◌+◌, [], ◌++◌, ℕ, List, Option, Result, Err, length, take, drop, slice_index};
 ghost use Rattle.std.specs.Ordering.{nat_cmp};
 ghost use Rattle.std.specs.Map.{keys_of};
 ghost use Rattle.std.specs.BTreeSet.{insert_key};
 ghost use Rattle.nsp_seg.specs.Numbers.{residue};
 ghost use Rattle.nsp_seg.specs.declared.packet.Packet.{Packet};
 ghost use Rattle.nsp_link.specs.declared.link.LinkSetup.{LinkSetup};
+ghost use Rattle.nsp_link.specs.declared.link.Got.{Got as TheGot};
+ghost use Rattle.nsp_link.specs.declared.fault.LinkFault.{LinkFault as TheFault};
+ghost use Rattle.nsp_link.specs.declared.fault.LinkFault.TheVariants.{NoMemory};
 ghost use Rattle.nsp_link.specs.Cutting.{Piece, cut};
 ghost use Rattle.nsp_link.specs.Holding.{following, closed_up};
 ghost use Rattle.nsp_link.specs.Limits.{greatest_age};
 ghost use Rattle.nsp_link.specs.Link.{LinkValue, IsLink, Carries, Sends, Stands, Writes, new_link};
+ghost use Rattle.nsp_link.specs.Receiving.{Receives};
 ghost use Rattle.nsp_link.specs.Sending.{queued_link};
 ghost use Rattle.nsp_link.specs.Separation.{IsSegmentNear, IsAckNear};
 
@@ -55,6 +59,14 @@ pub fn distances_separate()
         → residue k ≡ residue l → k ≡ l }
     ensures acks_apart { (acked a b : ℕ)
         → IsAckNear acked a → IsAckNear acked b → residue a ≡ residue b → a ≡ b }
+{}
+
+/// What a packet does to an end is determined: two outcomes of one call on the same end are equal, and so are the ends
+/// afterwards, want of memory aside (own).
+pub fn receiving_is_determined()
+    ensures { (old one two : LinkValue) (bytes : List ℕ) (r s : Result TheGot TheFault)
+        → ((i : ℕ) → slice_index bytes i < 256) → r ≢ Err NoMemory → s ≢ Err NoMemory
+        → Receives old one bytes r → Receives old two bytes s → (r ≡ s) × (one ≡ two) }
 {}
 
 /// What is held, by its numbers alone (own).

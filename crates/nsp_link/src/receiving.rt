@@ -8,7 +8,7 @@ ghost use Rattle.nsp_link.specs.declared.fault.LinkFault.TheVariants.{BadSequenc
 ghost use Rattle.nsp_link.specs.declared.link.Got.TheVariants.{Accepted};
 ghost use Rattle.nsp_link.specs.Coming.{AllFit, RefusesAll};
 ghost use Rattle.nsp_link.specs.Link.{Stands, SendsStill, HandsOut, Keeps, got_of, first_ack, plain_ack, forgotten};
-ghost use Rattle.nsp_link.specs.Receiving.{newly_acked, run, segment_of, taking_in, is_end, stopped, NotTaken, Received, ReceivedBytes, ReceivedDue};
+ghost use Rattle.nsp_link.specs.Receiving.{newly_acked, run, segment_of, taking_in, is_end, stopped, NotTaken, Received, ReceivedBytes, ReceivedDue, UnrefusedDue};
 ghost use Rattle.nsp_link.specs.Inner.Pieces.{lent_piece};
 
 use crate::fault::LinkFault;
@@ -66,6 +66,8 @@ impl LinkEnd {
         ensures sends { SendsStill self.old self.new }
         // A packet that is due, by the counts for which its numbers stand.
         ensures due { ReceivedDue self.old self.new packet.now result }
+        // One that only acknowledges, or whose segment was taken before, is never refused.
+        ensures unrefused { UnrefusedDue self.old packet.now result }
     {
         if self.failed {
             return Err(LinkFault::Failed);

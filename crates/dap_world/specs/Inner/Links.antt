@@ -1,15 +1,17 @@
 -- What the world shows of its links and wires, each in one record.
-use Rattle.std.specs.Prelude.{◌≡◌, ℕ, List, map, false}
+use Rattle.std.specs.Prelude.{◌≡◌, ℕ, List, map, max, false}
 use Rattle.std.specs.List.{AllByRecursion}
 use Rattle.std.specs.Map.{keys_of}
 use Rattle.dap_msg.specs.Blocked.{all_joined}
-use Rattle.nsp_link.specs.Link.{LinkValue, Sends}
+use Rattle.nsp_link.specs.Link.{LinkValue, Sends, Stands}
 use Rattle.dap_world.specs.declared.event.End.{End}
 use Rattle.dap_world.specs.declared.side.Wired.{Wired}
 use Rattle.dap_world.specs.Machine.{State, end_of, other}
+use Rattle.dap_world.specs.Links.{left_link}
 use Rattle.dap_world.specs.Wires.{address_of, sending_of, IsOnWire}
 
--- The link is this end's: its counts, its segments and the early ones that it holds are those of the machine.
+-- The link is this end's: its counts, its segments, what it has of the other end's and the early ones that it holds are those
+-- of the machine.
 pub record IsLinkOf (s : State) (end : End) (v : LinkValue) : Type 0 where
   pub local : v.setup.local ≡ address_of end
   pub remote : v.setup.remote ≡ address_of (other end)
@@ -20,6 +22,8 @@ pub record IsLinkOf (s : State) (end : End) (v : LinkValue) : Type 0 where
   pub queued : Sends v (all_joined (end_of s end).handed)
   pub received : v.coming.received ≡ (end_of s end).taken
   pub held : keys_of v.held ≡ (end_of s end).held
+  pub limit : v.setup.max_message ≡ max s.own_a s.own_b
+  pub stands : Stands v s.seg_size (all_joined (end_of s (other end)).handed) (left_link s end)
   pub running : v.failed ≡ false
 
 -- these are the packets that the end wrote, each with its number and its acknowledgement

@@ -1,8 +1,9 @@
 -- What a world holds, and the state of the machine for which it stands.
-use Rattle.std.specs.Prelude.{◌≡◌, ◌⊎◌, ℕ, ◌+◌, ◌≤◌, List, [], ◌∷◌, ◌++◌, length, map, take, drop}
+use Rattle.std.specs.Prelude.{◌≡◌, ◌⊎◌, ℕ, ◌+◌, ◌≤◌, max, List, [], ◌∷◌, ◌++◌, length, map, take, drop}
 use Rattle.dap_msg.specs.declared.message.Message.{Message}
 use Rattle.dap_msg.specs.declared.items.Item.{Item}
 use Rattle.dap_msg.specs.declared.items.Item.TheVariants.{Whole}
+use Rattle.dap_msg.specs.Canon.{canon}
 use Rattle.dap_msg.specs.Blocked.{NspMessage, joined, Blocked, all_joined, messages_in, AllFit}
 use Rattle.nsp_link.specs.declared.link.LinkSetup.{LinkSetup}
 use Rattle.std.specs.Map.{keys_of}
@@ -14,7 +15,7 @@ use Rattle.dap_accessing.specs.declared.report.Report.{Report}
 use Rattle.dap_accessing.specs.Asked.{Asked, messages_of}
 use Rattle.dap_world.specs.declared.event.End.{End}
 use Rattle.dap_world.specs.declared.event.End.TheVariants.{A, B}
-use Rattle.dap_world.specs.Machine.{State, EndState, taken_of, answers_read, reported}
+use Rattle.dap_world.specs.Machine.{State, EndState, sent_by, taken_of, answers_read, reported}
 use Rattle.dap_world.specs.Inner.Worlds.{IsWorld}
 use Rattle.dap_end.specs.Asking.{HasAsked}
 use Rattle.dap_end.specs.Done.{AskingValue, AskingPast}
@@ -30,8 +31,8 @@ pub record Parts : Type 0 where
   pub accessing : accessing.Present
   pub accessed : accessed.Present
   pub requests : List Request
-  pub handed : List (List ℕ)  -- the NSP messages that A handed over
-  pub served : ℕ  -- how many of the DAP messages in them B served
+  pub sent : List (List ℕ)  -- the DAP messages in what A handed over
+  pub served : ℕ  -- how many of them B served
   pub reports : List Report
   pub read : ℕ  -- the answers that A read
 
@@ -148,12 +149,11 @@ pub record AreParts (p : Parts) : Type 0 where
   pub world : IsWorld (state_of p)
   pub alike : AreAlike p.b.link.setup p.a.link.setup
   -- a link takes what either end may send
-  pub limit_a : p.accessing.own ≤ p.a.link.setup.max_message
-  pub limit_b : p.accessed.own ≤ p.a.link.setup.max_message
+  pub limit : p.a.link.setup.max_message ≡ max p.accessing.own p.accessed.own
   pub most : p.a.link.setup.max_message ≤ largest_limit
   pub from_a : IsTold p.a p.b (asks p) p.served
   pub from_b : IsTold p.b p.a (answers p) p.read
-  pub handed_is : p.handed ≡ all_joined (state_of p).a.handed
+  pub sent_is : p.sent ≡ map canon (sent_by (state_of p).a)
   pub reports_is : p.reports ≡ reported (state_of p)
   -- the ends are as after what was asked, served and read
   pub asking : IsAskedAll (asking_end p) p.requests (answers_read (state_of p))

@@ -13,3 +13,7 @@ SplitsOne bytes old new =
 abbrev pub SplitsAll : List (List ℕ) → List (List ℕ) → List (List ℕ) → Type 0
 SplitsAll list old new =
     (packets : List NspMessage) → AreFull packets → AllFit (messages_in packets) → list ≡ all_joined packets → new ≡ old ++ map canon (messages_in packets)
+
+-- the messages in these NSP messages are sent too
+abbrev pub SentAll : List (List ℕ) → List (List ℕ) → List (List ℕ) → Type 0
+SentAll list old new = (more : List (List ℕ)) × (new ≡ old ++ more) × SplitsAll list [] more

@@ -1,5 +1,4 @@
 -- What the fields of a world stand for.
-use Rattle.std.specs.Prelude.{length}
 use Rattle.dap_msg.specs.Blocked.{bodies}
 use Rattle.dap_world.specs.declared.world.World.TheInside.{Inside}
 use Rattle.dap_world.specs.Machine.{State}
@@ -9,12 +8,12 @@ use Rattle.dap_world.specs.Inner.Parts.{Parts, state_of, AreParts}
 abbrev pub parts_of : Inside → Parts
 parts_of w =
     record {
-      a = side_of w.asking.port (length w.handed.items) w.wire_a.items;
+      a = side_of w.asking.port w.posted_a w.wire_a.items;
       b = side_of w.serving.port w.posted_b w.wire_b.items;
       accessing = w.asking.present;
       accessed = w.serving.present;
       requests = w.requests.items;
-      handed = bodies w.handed.items;
+      sent = bodies w.sent.items;
       served = w.served;
       reports = w.reports.items;
       read = w.read;

@@ -1,7 +1,7 @@
 use Rattle.std.proofs.Common.{◌≡◌, ◌+◌, ℕ, List, [], ◌∷◌, false, ◌∙◌, arith, refl, sym, ap}
 use Rattle.nsp_link.specs.Link.{LinkValue, may_send}
 use Rattle.dap_end.specs.Ports.{EndValue, PortValue}
-use Rattle.dap_end.proofs.Refusing.{receives_same}
+use Rattle.nsp_link.proofs.ForCallers.{receives_same}
 use Rattle.dap_end.proofs.Writing.{segment_one, one_there}
 use Rattle.dap_end.proofs.laws.packets_are_determined.Goals as goal
 

@@ -1,4 +1,4 @@
-use Rattle.dap_world.proofs.Deciding.{no_step, one_reason, one_step}
+use Rattle.dap_world.proofs.Deciding.{no_step, one_outcome, one_reason, one_step}
 use Rattle.dap_world.proofs.laws.events_are_decided.Goals as goal
 
 pub returns-clause-apart : goal.returns-clause-apart
@@ -9,3 +9,6 @@ returns-clause-one c = one_reason
 
 pub returns-clause-step : goal.returns-clause-step
 returns-clause-step c = one_step
+
+pub returns-clause-outcome : goal.returns-clause-outcome
+returns-clause-outcome c = one_outcome

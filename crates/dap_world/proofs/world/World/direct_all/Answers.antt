@@ -12,7 +12,7 @@ pub returns-in-Err-clause-err : goal.returns-in-Err-clause-err
 returns-in-Err-clause-err c =
     let there : slice_get c.args.requests.now c.loop-place.place ≡ Some c.index-requests-place.result =
     slice_get-get_or c.args.requests.now c.loop-place.place c.index-requests-place.result c.loop-place-test.true ∙ ap (λ (e : Request). Some e) (sym c.index-requests-place.is) in
-    ask_stops c.loop-place.self c.ask_copy.new.self c.args.requests.now c.loop-place.place c.index-requests-place.result c.in-Err.fault c.loop-place.invariant.quiet c.few.ensures.place c.loop-place.invariant.done there c.in-Err.ensures
+    ask_stops c.loop-place.self c.ask_copy.new.self c.args.requests.now c.loop-place.place c.index-requests-place.result c.in-Err.fault c.loop-place.invariant.world c.loop-place.invariant.quiet c.few.ensures.place c.loop-place.invariant.done there c.in-Err.ensures
 
 pub returns-in-Err-clause-ran : goal.returns-in-Err-clause-ran
 returns-in-Err-clause-ran c = runs_refused c.args.self.now c.loop-place.self c.ask_copy.new.self c.index-requests-place.result c.in-Err.fault c.loop-place.invariant.ran c.in-Err.ensures

@@ -1,6 +1,6 @@
 use Rattle.dap_world.specs.declared.event.End.TheVariants.{A, B}
 use Rattle.dap_world.specs.Inner.WorldView.{parts_of}
-use Rattle.dap_world.proofs.Wires.{shown_link}
+use Rattle.dap_world.proofs.Wires.{shown_link, came_partial, came_inbox}
 use Rattle.dap_world.proofs.world.World.link.Goals as goal
 
 pub returns-in-A-clause-way : goal.returns-in-A-clause-way
@@ -56,3 +56,27 @@ returns-in-B-clause-held c = (shown_link (parts_of c.self.inside) B c.args.self.
 
 pub returns-in-B-clause-running : goal.returns-in-B-clause-running
 returns-in-B-clause-running c = (shown_link (parts_of c.self.inside) B c.args.self.now c.args.end c.link-in-B.result.now c.self.invariant c.self.view_is c.in-B.is c.link-in-B.ensures).running
+
+pub returns-in-A-clause-limit : goal.returns-in-A-clause-limit
+returns-in-A-clause-limit c = (shown_link (parts_of c.self.inside) A c.args.self.now c.args.end c.link.result.now c.self.invariant c.self.view_is c.in-A.is c.link.ensures).limit
+
+pub returns-in-A-clause-partial : goal.returns-in-A-clause-partial
+returns-in-A-clause-partial c = came_partial c.args.self.now c.args.end c.link.result.now (shown_link (parts_of c.self.inside) A c.args.self.now c.args.end c.link.result.now c.self.invariant c.self.view_is c.in-A.is c.link.ensures)
+
+pub returns-in-A-clause-inbox : goal.returns-in-A-clause-inbox
+returns-in-A-clause-inbox c = came_inbox c.args.self.now c.args.end c.link.result.now (shown_link (parts_of c.self.inside) A c.args.self.now c.args.end c.link.result.now c.self.invariant c.self.view_is c.in-A.is c.link.ensures)
+
+pub returns-in-A-clause-early : goal.returns-in-A-clause-early
+returns-in-A-clause-early c = (shown_link (parts_of c.self.inside) A c.args.self.now c.args.end c.link.result.now c.self.invariant c.self.view_is c.in-A.is c.link.ensures).stands.held
+
+pub returns-in-B-clause-limit : goal.returns-in-B-clause-limit
+returns-in-B-clause-limit c = (shown_link (parts_of c.self.inside) B c.args.self.now c.args.end c.link-in-B.result.now c.self.invariant c.self.view_is c.in-B.is c.link-in-B.ensures).limit
+
+pub returns-in-B-clause-partial : goal.returns-in-B-clause-partial
+returns-in-B-clause-partial c = came_partial c.args.self.now c.args.end c.link-in-B.result.now (shown_link (parts_of c.self.inside) B c.args.self.now c.args.end c.link-in-B.result.now c.self.invariant c.self.view_is c.in-B.is c.link-in-B.ensures)
+
+pub returns-in-B-clause-inbox : goal.returns-in-B-clause-inbox
+returns-in-B-clause-inbox c = came_inbox c.args.self.now c.args.end c.link-in-B.result.now (shown_link (parts_of c.self.inside) B c.args.self.now c.args.end c.link-in-B.result.now c.self.invariant c.self.view_is c.in-B.is c.link-in-B.ensures)
+
+pub returns-in-B-clause-early : goal.returns-in-B-clause-early
+returns-in-B-clause-early c = (shown_link (parts_of c.self.inside) B c.args.self.now c.args.end c.link-in-B.result.now c.self.invariant c.self.view_is c.in-B.is c.link-in-B.ensures).stands.held

@@ -1,8 +1,3 @@
-use Rattle.std.proofs.Common.{◌≡◌, ℕ, List, length, ap}
-use Rattle.std.specs.Prelude.{Result, Ok, Err, OnErr}
-use Rattle.std.specs.Global.{Vec}
-use Rattle.dap_world.specs.declared.event.Step.{Step}
-use Rattle.dap_world.specs.declared.event.WorldFault.{WorldFault}
 use Rattle.dap_world.specs.declared.event.End.TheVariants.{A, B}
 use Rattle.dap_msg.specs.Blocked.{bodies}
 use Rattle.dap_world.specs.Inner.WorldView.{parts_of}
@@ -11,19 +6,14 @@ use Rattle.dap_world.proofs.Growing.{few_posted}
 use Rattle.dap_world.proofs.Posted.{post_a, post_b}
 use Rattle.dap_world.proofs.world.World.post.Goals as goal
 
--- a list that is kept has its length and its bytes
-kept : (P : Type 0) (now then : List (Vec ℕ)) (r : Result Step WorldFault) → OnErr r (P × (then ≡ now)) → OnErr r (P × (length then ≡ length now) × (bodies then ≡ bodies now))
-kept P now then (Ok answer) same = tt
-kept P now then (Err f) same = (same.0, ap length same.1, ap bodies same.1)
-
 pub post_a-requires : goal.post_a-requires
-post_a-requires c = record { running = is_running (parts_of c.self.inside) A c.self.invariant; short = c.self.invariant.from_a.short }
+post_a-requires c = record { running = is_running (parts_of c.self.inside) A c.self.invariant; short = c.self.invariant.from_a.short; few = few_posted (parts_of c.self.inside).a (parts_of c.self.inside).b _ _ c.self.invariant.from_a }
 
 pub invariant_of-self : goal.invariant_of-self
-invariant_of-self c = (post_a (parts_of c.self.inside) c.post_a.new.end (length c.post_a.new.handed.items) (bodies c.post_a.new.handed.items) c.post_a.result c.self.invariant c.post_a.ensures.ok c.post_a.ensures.handed c.post_a.ensures.moved (kept _ _ _ c.post_a.result c.post_a.ensures.same) c.post_a.ensures.err).0
+invariant_of-self c = (post_a (parts_of c.self.inside) c.post_a.new.end c.post_a.new.posted (bodies c.post_a.new.sent.items) c.post_a.result c.self.invariant c.post_a.ensures.ok c.post_a.ensures.handed c.post_a.ensures.sent c.post_a.ensures.same c.post_a.ensures.err).0
 
 pub returns-in-A : goal.returns-in-A
-returns-in-A c = rw (← c.self.view_is, c.in-A.is) (post_a (parts_of c.self.inside) c.post_a.new.end (length c.post_a.new.handed.items) (bodies c.post_a.new.handed.items) c.post_a.result c.self.invariant c.post_a.ensures.ok c.post_a.ensures.handed c.post_a.ensures.moved (kept _ _ _ c.post_a.result c.post_a.ensures.same) c.post_a.ensures.err).1
+returns-in-A c = rw (← c.self.view_is, c.in-A.is) (post_a (parts_of c.self.inside) c.post_a.new.end c.post_a.new.posted (bodies c.post_a.new.sent.items) c.post_a.result c.self.invariant c.post_a.ensures.ok c.post_a.ensures.handed c.post_a.ensures.sent c.post_a.ensures.same c.post_a.ensures.err).1
 
 pub post_b-requires : goal.post_b-requires
 post_b-requires c = record { running = is_running (parts_of c.self.inside) B c.self.invariant; short = c.self.invariant.from_b.short; few = few_posted (parts_of c.self.inside).b (parts_of c.self.inside).a _ _ c.self.invariant.from_b }

@@ -1,0 +1,40 @@
+-- A packet of a peer that is due, and what becomes of it by the counts for which its numbers stand.
+use Rattle.std.specs.Prelude.{◌≡◌, ◌⊎◌, ℕ, ◌+◌, ◌-◌, ◌<◌, ◌≤◌, ◌==◌, max, false, List, length, drop, Option, Some, None, if◌then◌else◌}
+use Rattle.nsp_seg.specs.declared.packet.Packet.{Packet}
+use Rattle.nsp_link.specs.declared.fault.LinkFault.{LinkFault}
+use Rattle.nsp_link.specs.declared.fault.LinkFault.TheVariants.{Exhausted, NoMemory}
+use Rattle.nsp_link.specs.Cutting.{Piece}
+use Rattle.nsp_link.specs.Holding.{following}
+use Rattle.nsp_link.specs.Limits.{most_segments}
+use Rattle.nsp_link.specs.Link.{LinkValue, Stands, IsOfPeer, Keeps, held_after}
+
+-- The end hasn't failed and stands after some of the peer's messages, and the packet is of that peer.
+abbrev pub IsDue : LinkValue → (size : ℕ) → (messages given : List (List ℕ)) → Packet → Option ℕ → ℕ → Type 0
+IsDue v size messages given p k a = (v.failed ≡ false) × Stands v size messages given × IsOfPeer v size messages p k a
+
+-- how many segments are taken once the k-th came: the next one, and all held ones that follow it without a hole
+abbrev pub taken_after : LinkValue → Option ℕ → ℕ
+taken_after v None = v.coming.received
+taken_after v (Some k) = if k == v.coming.received + 1 then k + length (following k v.held) else v.coming.received
+
+-- An end got the k-th segment, or none, and an acknowledgement of the first a. Of the acknowledgements the greatest counts,
+-- and what is acknowledged leaves the queue. The next segment is taken with all that follow it without a hole, which are held
+-- no longer; an early one is held, where the window has a place for it that is free; one that was taken moves nothing.
+pub record Delivered (old new : LinkValue) (k : Option ℕ) (a : ℕ) : Type 0 where
+  pub acked : new.acked ≡ max old.acked a
+  pub queue : new.queue ≡ drop (a - old.acked) old.queue
+  pub received : new.coming.received ≡ taken_after old k
+  pub held : (p : Piece) × (new.held ≡ held_after old k p)
+  -- nothing else moves
+  pub sent : new.sent ≡ old.sent
+  pub setup : new.setup ≡ old.setup
+  pub failed : new.failed ≡ old.failed
+
+-- Why a packet that is due is refused. One that only acknowledges never is, nor one whose segment was taken, is held or has no
+-- place in the window: these take no memory. The next one and an early one that is kept may want memory, and the next one is
+-- too much where the segments taken with it would be more than 2^40.
+abbrev pub MayRefuse : LinkValue → Option ℕ → LinkFault → Type 0
+MayRefuse v None e = ⊥
+MayRefuse v (Some k) e =
+    ((e ≡ NoMemory) × ((k ≡ v.coming.received + 1) ⊎ Keeps v k) × (taken_after v (Some k) ≤ most_segments))
+    ⊎ ((e ≡ Exhausted) × (k ≡ v.coming.received + 1) × (most_segments < taken_after v (Some k)))
