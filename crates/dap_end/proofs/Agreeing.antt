@@ -28,7 +28,7 @@ use Rattle.dap_accessing.specs.Phases.{phase_fits}
 use Rattle.dap_accessing.proofs.ForCallers.{Stays, stays, told_by, Told-told_by, fits-where}
 use Rattle.dap_accessing.proofs.ForCallers.{due_by, due-due_by}
 use Rattle.dap_end.specs.Agreement.{IsBufsiz, asked_items, asked_answers, asked_reports, AreAllAdmissible}
-use Rattle.dap_end.specs.Inner.Agreement.{AgreeAt, AreLimits, AreAgreed, AreExpected}
+use Rattle.dap_end.specs.Agreement.{AgreeAt, AreLimits, AreAgreed, AreExpected}
 use Rattle.dap_end.proofs.Goes.{Goes, more_items, standing_at, connect_goes, close_opened, purge_opened, close_connected, purge_connected, close_stopped, purge_stopped, rewind_goes, delete_goes, update_goes, put_goes, get_goes, fetch_goes, continue_goes, open_goes, create_goes, hello_goes}
 use Rattle.dap_end.proofs.Stores.{store_goes}
 

@@ -13,7 +13,7 @@ use Rattle.dap_accessing.proofs.ForCallers.{Stays, stays, told_by, Told-told_by}
 use Rattle.dap_accessing.proofs.ForCallers.{due_by, due-due_by, each_told}
 use Rattle.dap_accessed.specs.Standing.{Files}
 use Rattle.dap_end.specs.Agreement.{asked_answers, AreAllAdmissible}
-use Rattle.dap_end.specs.Inner.Agreement.{AreExpected}
+use Rattle.dap_end.specs.Agreement.{AreExpected}
 
 no_place_by : (r : Request) (rs : List Request) (answers : List Item) (answer : Item) (first : Hearing) → Stays first (hear r (answers ++ answer ∷ [])) (answer ∷ [])
     → length (told_by rs first) ≡ suc (length rs) → ((rest : List Item) → length (Told rs rest) ≡ length rs → due_after rs (rest ++ answer ∷ []) ≡ Wrong)

@@ -29,7 +29,7 @@ use Rattle.dap_end.specs.Headline.{Written}
 use Rattle.dap_end.specs.Joined.{Pair}
 use Rattle.dap_end.specs.Calls.{EndEvent, Came, GoesOn, Repeats, AskingEvent, Asks, By, PairEvent, AtA, AtB, PairStepped}
 use Rattle.dap_end.specs.Agreement.{IsBufsiz, asked_answers, AreAllAdmissible}
-use Rattle.dap_end.specs.Inner.Agreement.{AreExpected}
+use Rattle.dap_end.specs.Agreement.{AreExpected}
 use Rattle.dap_end.proofs.Agreeing.{none-unexpected}
 use Rattle.dap_end.proofs.AllRead.{all_read, answers-front, admissible-more}
 use Rattle.dap_end.proofs.ServingOne.{port_given, port_gone}

@@ -27,3 +27,7 @@ pub use Rattle.dap_end.proofs.Determined.{going_one, taking_one}
 pub use Rattle.dap_end.proofs.Alike.{alike_done, has_sent, asking_one, going_alike, taking_alike}
 -- an end that serves did something, through its calls
 pub use Rattle.dap_end.proofs.Known.{IsKnown, new_known, going_known, taking_known}
+-- two ends: each request has one report, no answer is unexpected, and after them the ends agree
+pub use Rattle.dap_end.proofs.Agreeing.{one-report-each, none-unexpected, both-agree}
+pub use Rattle.dap_end.proofs.AllRead.{all_told, all_read, answers-front, admissible-more}
+pub use Rattle.dap_end.proofs.Goes.{limit-own}

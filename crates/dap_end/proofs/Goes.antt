@@ -58,7 +58,7 @@ use Rattle.dap_accessed.proofs.ForCallers.{good-shape, place-within}
 use Rattle.dap_accessing.specs.Told.{hear_attributes}
 use Rattle.dap_accessing.proofs.ForCallers.{behind-more, records-more}
 use Rattle.dap_end.specs.Agreement.{IsBufsiz}
-use Rattle.dap_end.specs.Inner.Agreement.{AgreeAt, AreLimits}
+use Rattle.dap_end.specs.Agreement.{AgreeAt, AreLimits}
 
 -- the cut after more items
 abbrev pub more_items : ℕ → Grouped → List Item → Grouped

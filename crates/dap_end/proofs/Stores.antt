@@ -25,7 +25,7 @@ use Rattle.dap_accessing.specs.Asked.{control}
 use Rattle.dap_accessing.specs.Told.{Reports, Unexpected, behind, has_success, first_told, hear_stored}
 use Rattle.dap_accessing.specs.Parts.{is_status, statuses_in_front, hear_store_end}
 use Rattle.dap_accessing.proofs.ForCallers.{behind-more, statuses-more}
-use Rattle.dap_end.specs.Inner.Agreement.{AgreeAt, AreLimits}
+use Rattle.dap_end.specs.Agreement.{AgreeAt, AreLimits}
 use Rattle.dap_end.proofs.Goes.{Goes, more_items, standing_at}
 
 -- these answers are Statuses, none of which is a success

@@ -1,16 +1,19 @@
 -- The two ends of an exchange without a network: what requests ask, what is answered, and which requests are admissible.
-use Rattle.std.specs.Prelude.{ℕ, ◌≤◌, List, [], ◌∷◌, ◌++◌, map}
+use Rattle.std.specs.Prelude.{ℕ, ◌≤◌, List, [], ◌∷◌, ◌++◌, map, ◌≡◌, ◌≢◌, None, true}
 use Rattle.dap_msg.specs.declared.message.Message.{Message}
 use Rattle.dap_msg.specs.BothEnds.{greatest_message, least_buffer}
 use Rattle.dap_msg.specs.declared.items.Item.{Item}
 use Rattle.dap_msg.specs.declared.items.Item.TheVariants.{Whole}
-use Rattle.dap_accessed.specs.Standing.{Files}
-use Rattle.dap_accessed.specs.Groups.{Answers}
+use Rattle.dap_accessed.specs.Standing.{Files, Place}
+use Rattle.dap_accessed.specs.Groups.{Answers, stands_after}
 use Rattle.dap_accessing.specs.Request.{Request}
 use Rattle.dap_accessing.specs.declared.report.Report.{Report}
 use Rattle.dap_accessing.specs.Asked.{Asked}
-use Rattle.dap_accessing.specs.Told.{Told}
-use Rattle.dap_accessing.specs.Phase.{IsAdmissible}
+use Rattle.dap_accessing.specs.Told.{Told, is_unexpected}
+use Rattle.dap_accessing.specs.Phase.{IsAdmissible, phase_after, limit_after}
+use Rattle.dap_accessing.specs.declared.phase.Phase.{Phase}
+use Rattle.dap_accessing.specs.declared.phase.Phase.TheVariants.{Fresh, Ready, Opened, Connected, Stopped}
+use Rattle.dap_accessed.specs.Standing as at
 
 -- A BUFSIZ that an end may have.
 pub record IsBufsiz (n : ℕ) : Type 0 where
@@ -35,3 +38,30 @@ AreAllAdmissible own_a own_b first before [] = Unit {0}
 AreAllAdmissible own_a own_b first before (request ∷ requests) =
     IsAdmissible own_a before (map Whole (asked_answers own_a own_b first before)) request
     × AreAllAdmissible own_a own_b first (before ++ request ∷ []) requests
+
+-- The phase of the client is that of the server's place, and after Hello each end takes for the other's limit what the other
+-- has.
+abbrev pub AreLimits : (own_a own_b : ℕ) → (limit_b limit_a : ℕ) → Type 0
+AreLimits own_a own_b limit_b limit_a = (limit_b ≡ own_a) × (limit_a ≡ own_b)
+
+abbrev pub AgreeAt : (own_a own_b : ℕ) → Phase → Place → (limit_b limit_a : ℕ) → Type 0
+AgreeAt own_a own_b Fresh at.Fresh limit_b limit_a = limit_b ≡ least_buffer
+AgreeAt own_a own_b Ready at.Ready limit_b limit_a = AreLimits own_a own_b limit_b limit_a
+AgreeAt own_a own_b Opened (at.Opened _) limit_b limit_a = AreLimits own_a own_b limit_b limit_a
+AgreeAt own_a own_b Connected (at.Connected _ _) limit_b limit_a = AreLimits own_a own_b limit_b limit_a
+AgreeAt own_a own_b Stopped (at.Stopped _ _) limit_b limit_a = AreLimits own_a own_b limit_b limit_a
+AgreeAt own_a own_b _ _ limit_b limit_a = ⊥
+
+-- the two ends agree after these requests, and the server is not inside a group
+pub record AreAgreed (own_a own_b : ℕ) (first : Files) (requests : List Request) : Type 0 where
+  pub whole : (stands_after own_b first (asked_items own_a requests)).begun ≡ None
+  pub places :
+      let s = (stands_after own_b first (asked_items own_a requests)).standing in
+      let reports = asked_reports own_a own_b first requests in
+      AgreeAt own_a own_b (phase_after reports) s.place s.scene.limit (limit_after reports)
+
+-- no answer so far, and not the next one, is unexpected
+abbrev pub AreExpected : (own_a own_b : ℕ) → Files → List Request → Type 0
+AreExpected own_a own_b first requests =
+    (front back : List Item) (answer : Item) → front ++ answer ∷ back ≡ map Whole (asked_answers own_a own_b first requests)
+    → is_unexpected requests front answer ≢ true

@@ -9,4 +9,3 @@ pub mod Stored
 pub mod Answered
 pub mod Wanting
 pub mod Running
-pub mod Agreement

@@ -1,79 +1,29 @@
 -- What an admissible request finds: every answer was read.
-use Rattle.std.proofs.Common.{◌≡◌, ℕ, suc, refl, sym, ◌∙◌, true, false, subst, ap, append_assoc, arith, List, [], ◌∷◌, ◌++◌, length, map}
-use Rattle.std.proofs.lemmas.List.{append-nil}
+use Rattle.std.proofs.Common.{◌≡◌, ℕ, List, [], ◌∷◌, ◌++◌, length, map}
 use Rattle.dap_msg.specs.declared.message.Message.{Message}
 use Rattle.dap_msg.specs.declared.items.Item.{Item}
 use Rattle.dap_msg.specs.declared.items.Item.TheVariants.{Whole}
-use Rattle.dap_accessed.specs.Groups.{Answers, added}
-use Rattle.dap_accessed.proofs.ForCallers.{Answers-more}
+use Rattle.dap_accessed.specs.Groups.{Answers}
 use Rattle.dap_accessing.specs.Request.{Request}
-use Rattle.dap_accessing.specs.Told.{Hearing, Reports, Waits, Unexpected, hear, Told, Due, NothingDue, AnswersDue, Wrong, due_after, is_unexpected}
+use Rattle.dap_accessing.specs.Told.{Told}
 use Rattle.dap_accessing.specs.Phase.{IsNoneDue, IsAdmissible}
-use Rattle.dap_accessing.proofs.ForCallers.{Stays, stays, told_by, Told-told_by}
-use Rattle.dap_accessing.proofs.ForCallers.{due_by, due-due_by, each_told}
+use Rattle.dap_end.proofs.ForCallers as of_any
 use Rattle.dap_world.specs.Agreement.{answers_to, AreAdmissible}
 use Rattle.dap_world.specs.Inner.Agreement.{NothingUnexpected}
 
-no_place_by : (r : Request) (rs : List Request) (answers : List Item) (answer : Item) (first : Hearing) → Stays first (hear r (answers ++ answer ∷ [])) (answer ∷ [])
-    → length (told_by rs first) ≡ suc (length rs) → ((rest : List Item) → length (Told rs rest) ≡ length rs → due_after rs (rest ++ answer ∷ []) ≡ Wrong)
-    → due_by r rs (answers ++ answer ∷ []) (hear r (answers ++ answer ∷ [])) ≡ Wrong
-no_place_by r rs answers answer (Reports done rest) s e on = ap (due_by r rs (answers ++ answer ∷ [])) s ∙ on rest (omega arith)
-no_place_by r rs answers answer Waits s e on = let no : ⊥ = omega arith in absurd no
-no_place_by r rs answers answer Unexpected s e on = let no : ⊥ = omega arith in absurd no
-
--- where there is a report for each request, one answer more has no place
-pub no_place : (rs : List Request) (answers : List Item) (answer : Item) → length (Told rs answers) ≡ length rs → due_after rs (answers ++ answer ∷ []) ≡ Wrong
-no_place [] [] answer e = refl
-no_place [] (a ∷ answers) answer e = refl
-no_place (r ∷ rs) answers answer e =
-    due-due_by r rs (answers ++ answer ∷ [])
-    ∙ no_place_by r rs answers answer (hear r answers) (stays r answers (answer ∷ [])) (ap length (sym (Told-told_by r rs answers)) ∙ e) (λ rest f. no_place rs rest answer f)
-
-unexpected_by : (d : Due) → d ≡ Wrong → (elim d [ NothingDue ↦ false | AnswersDue _ _ ↦ false | Wrong ↦ true ]) ≡ true
-unexpected_by NothingDue e = absurd cc
-unexpected_by (AnswersDue r l) e = absurd cc
-unexpected_by Wrong e = refl
-
-pub is_unexpected-then : (rs : List Request) (answers : List Item) (answer : Item) → length (Told rs answers) ≡ length rs → is_unexpected rs answers answer ≡ true
-is_unexpected-then rs answers answer e = unexpected_by (due_after rs (answers ++ answer ∷ [])) (no_place rs answers answer e)
-
--- a front of the answers that leaves no report to come is all of them
-left_by : (own_a own_b : ℕ) (rs : List Request) (front back : List Item) → NothingUnexpected own_a own_b rs → front ++ back ≡ map Whole (answers_to own_a own_b rs)
-    → length (Told rs front) ≡ length rs → back ≡ []
-left_by own_a own_b rs front [] expected e told = refl
-left_by own_a own_b rs front (answer ∷ back) expected e told = absurd (expected front back answer e (is_unexpected-then rs front answer told))
-
 pub all_told : (own_a own_b : ℕ) (rs : List Request) (front back : List Item) → NothingUnexpected own_a own_b rs → front ++ back ≡ map Whole (answers_to own_a own_b rs)
     → length (Told rs front) ≡ length rs → front ≡ map Whole (answers_to own_a own_b rs)
-all_told own_a own_b rs front back expected e told =
-    sym (append-nil front) ∙ ap (λ (l : List Item). front ++ l) (sym (left_by own_a own_b rs front back expected e told)) ∙ e
-
--- none is left behind a front after which no report is due
-pub none_left : (own_a own_b : ℕ) (rs : List Request) (front back : List Item) → NothingUnexpected own_a own_b rs → front ++ back ≡ map Whole (answers_to own_a own_b rs)
-    → IsNoneDue rs front → back ≡ []
-none_left own_a own_b rs front back expected e none = left_by own_a own_b rs front back expected e (each_told rs front none)
+all_told own_a own_b rs front back expected e told = of_any.all_told own_a own_b [] rs front back expected e told
 
 pub all_read : (own_a own_b : ℕ) (rs : List Request) (front back : List Item) → NothingUnexpected own_a own_b rs → front ++ back ≡ map Whole (answers_to own_a own_b rs)
     → IsNoneDue rs front → front ≡ map Whole (answers_to own_a own_b rs)
-all_read own_a own_b rs front back expected e none = all_told own_a own_b rs front back expected e (each_told rs front none)
+all_read own_a own_b rs front back expected e none = of_any.all_read own_a own_b [] rs front back expected e none
 
 -- the answers to a front of items are a front of the answers
 pub answers-front : (own : ℕ) (items more : List Item) → (rest : List Message) × (Answers own [] items ++ rest ≡ Answers own [] (items ++ more))
-answers-front own items [] = ([], append-nil (Answers own [] items) ∙ ap (Answers own []) (sym (append-nil items)))
-answers-front own items (x ∷ more) =
-    let next = answers-front own (items ++ x ∷ []) more in
-    let here = added own [] items x in (
-      here ++ next.0,
-      sym (append_assoc (Answers own [] items) here next.0) ∙ ap (λ (l : List Message). l ++ next.0) (sym (Answers-more own [] items x)) ∙ next.1 ∙ ap (Answers own []) (append_assoc items (x ∷ []) more),
-    )
+answers-front own items more = of_any.answers-front own [] items more
 
 -- one request more that was admissible
 pub admissible-more : (own_a own_b : ℕ) (before rs : List Request) (r : Request) → AreAdmissible own_a own_b before rs
     → IsAdmissible own_a (before ++ rs) (map Whole (answers_to own_a own_b (before ++ rs))) r → AreAdmissible own_a own_b before (rs ++ r ∷ [])
-admissible-more own_a own_b before [] r all m =
-    (subst (λ (l : List Request). IsAdmissible own_a l (map Whole (answers_to own_a own_b l)) r) (append-nil before) m, tt)
-admissible-more own_a own_b before (q ∷ rs) r all m = (
-  all.0,
-  admissible-more own_a own_b (before ++ q ∷ []) rs r all.1
-      (subst (λ (l : List Request). IsAdmissible own_a l (map Whole (answers_to own_a own_b l)) r) (sym (append_assoc before (q ∷ []) rs)) m),
-)
+admissible-more own_a own_b before rs r all m = of_any.admissible-more own_a own_b [] before rs r all m

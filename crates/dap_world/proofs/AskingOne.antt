@@ -29,7 +29,8 @@ use Rattle.dap_accessing.specs.Calls.{AskRefused}
 use Rattle.dap_accessing.proofs.ForCallers.{asked_one, fits-where}
 use Rattle.dap_world.specs.Inner.Within.{AreWithin}
 use Rattle.dap_world.specs.Agreement.{AreAdmissible, IsBufsiz, answers_to, items_of, reports_of}
-use Rattle.dap_world.specs.Inner.Agreement.{AgreeAt, NextWithin}
+use Rattle.dap_end.specs.Agreement.{AgreeAt}
+use Rattle.dap_world.specs.Inner.Agreement.{NextWithin}
 use Rattle.dap_accessed.specs.Served.{AllAtMost}
 use Rattle.dap_world.specs.declared.event.Event.TheVariants as event
 use Rattle.dap_world.specs.declared.event.Step.{Step}

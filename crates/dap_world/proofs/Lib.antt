@@ -1,5 +1,3 @@
-pub mod Goes
-pub mod Stores
 pub mod Agreeing
 pub mod Limits
 pub mod Within

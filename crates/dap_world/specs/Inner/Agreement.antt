@@ -14,38 +14,20 @@ use Rattle.dap_accessing.specs.declared.phase.Phase.TheVariants.{Fresh, Ready, O
 use Rattle.dap_accessing.specs.Asked.{messages_of}
 use Rattle.dap_accessing.specs.Told.{is_unexpected}
 use Rattle.dap_accessing.specs.Phase.{IsAdmissible, phase_after, limit_after}
+use Rattle.dap_end.specs.Agreement.{AreAgreed, AreExpected}
 use Rattle.dap_world.specs.Agreement.{answers_to, items_of, reports_of}
 
 -- a request is admissible after these and the answers to them
 abbrev pub IsNext : (own_a own_b : ℕ) → List Request → Request → Type 0
 IsNext own_a own_b requests request = IsAdmissible own_a requests (map Whole (answers_to own_a own_b requests)) request
 
--- The phase of the accessing end is that of the accessed end's place, and after Hello each end takes for the other's
--- limit what the other has.
-abbrev pub AreLimits : (own_a own_b : ℕ) → (limit_b limit_a : ℕ) → Type 0
-AreLimits own_a own_b limit_b limit_a = (limit_b ≡ own_a) × (limit_a ≡ own_b)
-
-abbrev pub AgreeAt : (own_a own_b : ℕ) → Phase → Place → (limit_b limit_a : ℕ) → Type 0
-AgreeAt own_a own_b Fresh at.Fresh limit_b limit_a = limit_b ≡ least_buffer
-AgreeAt own_a own_b Ready at.Ready limit_b limit_a = AreLimits own_a own_b limit_b limit_a
-AgreeAt own_a own_b Opened (at.Opened _) limit_b limit_a = AreLimits own_a own_b limit_b limit_a
-AgreeAt own_a own_b Connected (at.Connected _ _) limit_b limit_a = AreLimits own_a own_b limit_b limit_a
-AgreeAt own_a own_b Stopped (at.Stopped _ _) limit_b limit_a = AreLimits own_a own_b limit_b limit_a
-AgreeAt own_a own_b _ _ limit_b limit_a = ⊥
-
 -- the two ends agree after these requests, and the accessed end is not inside a group
-pub record Agree (own_a own_b : ℕ) (requests : List Request) : Type 0 where
-  pub whole : (stands_after own_b [] (items_of own_a requests)).begun ≡ None
-  pub places :
-      let s = (stands_after own_b [] (items_of own_a requests)).standing in
-      let reports = reports_of own_a own_b requests in
-      AgreeAt own_a own_b (phase_after reports) s.place s.scene.limit (limit_after reports)
+abbrev pub Agree : (own_a own_b : ℕ) → List Request → Type 0
+Agree own_a own_b requests = AreAgreed own_a own_b [] requests
 
 -- no answer so far, and not the next one, is unexpected
 abbrev pub NothingUnexpected : (own_a own_b : ℕ) → List Request → Type 0
-NothingUnexpected own_a own_b requests =
-    (front back : List Item) (answer : Item) → front ++ answer ∷ back ≡ map Whole (answers_to own_a own_b requests)
-    → is_unexpected requests front answer ≢ true
+NothingUnexpected own_a own_b requests = AreExpected own_a own_b [] requests
 
 -- none of the NSP messages of one request more that is admissible is longer than the accessed end takes
 abbrev pub NextWithin : (own_a own_b : ℕ) → List Request → Type 0
