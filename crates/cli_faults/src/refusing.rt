@@ -24,6 +24,8 @@ pub fn refuse<W: Write, E: Write>(
     ensures memory { kind_of error ≡ ErrorKind.OutOfMemory
         → (result ≡ 3) × Keeps (W.contents writer.old) (W.contents writer.new) }
     ensures help { kind_of error ≡ ErrorKind.DisplayHelp → (result ≡ 0) ⊎ (result ≡ 3) }
+    ensures quiet { kind_of error ≡ ErrorKind.DisplayHelp → result ≡ 0
+        → Keeps (E.contents error_writer.old) (E.contents error_writer.new) }
     ensures mistake { IsMistake (kind_of error) → (kind_of error ≡ ErrorKind.OutOfMemory)
         ⊎ ((result ≡ 2) × Keeps (W.contents writer.old) (W.contents writer.new)) }
 {

@@ -165,6 +165,8 @@ pub fn run_words<R: Read, W: Write, E: Write>(
         → R.remaining reader.new ≡ R.remaining reader.old }
     ensures help { fault_of dapnsp (map string_bytes words.now) ≡ ErrorKind.DisplayHelp ∷ []
         → (result ≡ 0) ⊎ (result ≡ 3) }
+    ensures quiet { fault_of dapnsp (map string_bytes words.now) ≡ ErrorKind.DisplayHelp ∷ []
+        → result ≡ 0 → Keeps (E.contents error_writer.old) (E.contents error_writer.new) }
 {
     match read_words(alloc, words) {
         Ok(choice) => run_choice(alloc, choice, reader, writer, error_writer),

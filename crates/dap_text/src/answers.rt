@@ -3,7 +3,7 @@
 ghost use Rattle.std.specs.Prelude.{◌≡◌, ◌∷◌, [], OnOk, option_copied};
 ghost use Rattle.std.specs.Fmt.{decimal};
 ghost use Rattle.std.specs.List.{concat};
-ghost use Rattle.dap_text.specs.Adding.{Adds};
+ghost use Rattle.dap_text.specs.Adding.{Adds, StillBegins};
 ghost use Rattle.dap_text.specs.Answers.{ask_text, fault_line, flag_text, got_text};
 ghost use Rattle.dap_text.specs.Text.{line_feed};
 
@@ -54,8 +54,9 @@ fn flag_word(kind: FlagKind) -> &'static str
 
 /// Appends a place behind a word, and ends the line.
 fn push_place(text: &mut Vec<u8>, word: &str, at: usize) -> Result<(), AllocError>
-    ensures { OnOk result (Adds text.old text.new
+    ensures added { OnOk result (Adds text.old text.new
         (concat (word.now ∷ decimal at ∷ line_feed ∷ []))) }
+    ensures kept { StillBegins text.old text.new }
 {
     push_number(text, word, at)?;
     push_str(text, "\n")
@@ -63,7 +64,8 @@ fn push_place(text: &mut Vec<u8>, word: &str, at: usize) -> Result<(), AllocErro
 
 /// Appends the line of bytes that are no packet, as a listing has it behind their number and direction. Own.
 pub fn push_packet_fault(text: &mut Vec<u8>, fault: SegFault) -> Result<(), AllocError>
-    ensures { OnOk result (Adds text.old text.new (fault_line fault)) }
+    ensures added { OnOk result (Adds text.old text.new (fault_line fault)) }
+    ensures kept { StillBegins text.old text.new }
 {
     match fault {
         SegFault::NotHere(flag) => {

@@ -2,7 +2,7 @@
 
 ghost use Rattle.std.specs.Prelude.{◌≡◌, ◌++◌, IfOk, OnOk};
 ghost use Rattle.std.specs.List.{flat_map};
-ghost use Rattle.dap_text.specs.Adding.{Adds};
+ghost use Rattle.dap_text.specs.Adding.{Adds, StillBegins};
 ghost use Rattle.dap_text.specs.Reports.{ending_text, numbered_text, refused_text, report_text};
 ghost use Rattle.dap_accessing.specs.declared.report.Report.TheVariants as report;
 
@@ -12,7 +12,8 @@ use std::alloc::AllocError;
 
 /// Appends the code of a Status, and its reason.
 fn push_refused(text: &mut Vec<u8>, code: u16, reason: u8) -> Result<(), AllocError>
-    ensures { OnOk result (Adds text.old text.new (refused_text code reason)) }
+    ensures added { OnOk result (Adds text.old text.new (refused_text code reason)) }
+    ensures kept { StillBegins text.old text.new }
 {
     push_word(text, "refused ", code)?;
     push_number(text, " ", reason)
@@ -20,7 +21,8 @@ fn push_refused(text: &mut Vec<u8>, code: u16, reason: u8) -> Result<(), AllocEr
 
 /// Appends how a batch ended.
 fn push_ending(text: &mut Vec<u8>, ending: Ending) -> Result<(), AllocError>
-    ensures { OnOk result (Adds text.old text.new (ending_text ending)) }
+    ensures added { OnOk result (Adds text.old text.new (ending_text ending)) }
+    ensures kept { StillBegins text.old text.new }
 {
     match ending {
         Ending::Complete => push_str(text, "complete"),
@@ -31,7 +33,8 @@ fn push_ending(text: &mut Vec<u8>, ending: Ending) -> Result<(), AllocError>
 
 /// Appends the records of a batch.
 fn push_records(text: &mut Vec<u8>, records: &[(u64, Octets)]) -> Result<(), AllocError>
-    ensures { OnOk result (Adds text.old text.new (flat_map numbered_text records.now)) }
+    ensures added { OnOk result (Adds text.old text.new (flat_map numbered_text records.now)) }
+    ensures kept { StillBegins text.old text.new }
 {
     for record in records {
         push_number(text, " ", record.0)?;
@@ -42,7 +45,8 @@ fn push_records(text: &mut Vec<u8>, records: &[(u64, Octets)]) -> Result<(), All
 
 /// Appends what a Store came to.
 fn push_stored(text: &mut Vec<u8>, kept: Option<(u16, u8, u64)>) -> Result<(), AllocError>
-    ensures { OnOk result (Adds text.old text.new (report_text (report.Stored kept))) }
+    ensures added { OnOk result (Adds text.old text.new (report_text (report.Stored kept))) }
+    ensures kept { StillBegins text.old text.new }
 {
     match kept {
         None => push_str(text, "stored"),
@@ -56,7 +60,8 @@ fn push_stored(text: &mut Vec<u8>, kept: Option<(u16, u8, u64)>) -> Result<(), A
 
 /// Appends a report. Own.
 pub fn push_report(text: &mut Vec<u8>, report: &Report) -> Result<(), AllocError>
-    ensures { OnOk result (Adds text.old text.new (report_text report.now)) }
+    ensures added { OnOk result (Adds text.old text.new (report_text report.now)) }
+    ensures kept { StillBegins text.old text.new }
 {
     match report {
         Report::Ready(bufsiz) => push_number(text, "ready ", *bufsiz),

@@ -4,7 +4,7 @@ ghost use Rattle.std.specs.Prelude.{◌≡◌, ◌<◌, ◌++◌, OnOk, codes, l
 ghost use Rattle.std.specs.FinMap.{entries};
 ghost use Rattle.std.specs.List.{flat_map};
 ghost use Rattle.rec_file.specs.AnyFiles.{any_value};
-ghost use Rattle.dap_text.specs.Adding.{Adds};
+ghost use Rattle.dap_text.specs.Adding.{Adds, StillBegins};
 ghost use Rattle.dap_text.specs.Tables.{file_line, files_text, format_text, org_text, record_line};
 ghost use Rattle.dap_text.specs.Inner.Tables.{file_text};
 
@@ -35,7 +35,8 @@ fn format_word(format: Format) -> &'static str
 
 /// Appends a word behind a space.
 fn push_behind(text: &mut Vec<u8>, word: &str) -> Result<(), AllocError>
-    ensures { OnOk result (Adds text.old text.new (codes " " ++ word.now)) }
+    ensures added { OnOk result (Adds text.old text.new (codes " " ++ word.now)) }
+    ensures kept { StillBegins text.old text.new }
 {
     push_str(text, " ")?;
     push_str(text, word)
@@ -43,7 +44,8 @@ fn push_behind(text: &mut Vec<u8>, word: &str) -> Result<(), AllocError>
 
 /// Appends the line of a file.
 fn push_file_line(text: &mut Vec<u8>, name: &[u8], shape: Shape) -> Result<(), AllocError>
-    ensures { OnOk result (Adds text.old text.new (file_line name.now shape)) }
+    ensures added { OnOk result (Adds text.old text.new (file_line name.now shape)) }
+    ensures kept { StillBegins text.old text.new }
 {
     push_image(text, "file ", name)?;
     push_behind(text, org_word(shape.org))?;
@@ -55,7 +57,8 @@ fn push_file_line(text: &mut Vec<u8>, name: &[u8], shape: Shape) -> Result<(), A
 
 /// Appends the line of a record.
 fn push_record(text: &mut Vec<u8>, number: u32, body: &[u8]) -> Result<(), AllocError>
-    ensures { OnOk result (Adds text.old text.new (record_line (number, body.now))) }
+    ensures added { OnOk result (Adds text.old text.new (record_line (number, body.now))) }
+    ensures kept { StillBegins text.old text.new }
 {
     push_number(text, "  ", number)?;
     push_image(text, " ", body)?;
@@ -65,8 +68,9 @@ fn push_record(text: &mut Vec<u8>, number: u32, body: &[u8]) -> Result<(), Alloc
 /// Appends the lines of a file's records, in the order of their numbers. The next record is found before the line of one
 /// is written, so that the processor fetches it meanwhile.
 fn push_records(text: &mut Vec<u8>, file: &AnyFile) -> Result<(), AllocError>
-    ensures { OnOk result (Adds text.old text.new
+    ensures added { OnOk result (Adds text.old text.new
         (flat_map record_line (entries (any_value file.now).records))) }
+    ensures kept { StillBegins text.old text.new }
 {
     let mut next = first_record(file, 0);
     while let Some((number, body)) = next {
@@ -78,7 +82,8 @@ fn push_records(text: &mut Vec<u8>, file: &AnyFile) -> Result<(), AllocError>
 
 /// Appends the lines of a file.
 fn push_file(text: &mut Vec<u8>, name: &[u8], file: &AnyFile) -> Result<(), AllocError>
-    ensures { OnOk result (Adds text.old text.new (file_text (name.now, any_value file.now))) }
+    ensures added { OnOk result (Adds text.old text.new (file_text (name.now, any_value file.now))) }
+    ensures kept { StillBegins text.old text.new }
 {
     push_file_line(text, name, file.shape())?;
     push_records(text, file)
@@ -86,7 +91,8 @@ fn push_file(text: &mut Vec<u8>, name: &[u8], file: &AnyFile) -> Result<(), Allo
 
 /// Appends the lines of all files, in the order in which they were made. Own.
 pub fn push_files(text: &mut Vec<u8>, files: &FileTable) -> Result<(), AllocError>
-    ensures { OnOk result (Adds text.old text.new (files_text files.now)) }
+    ensures added { OnOk result (Adds text.old text.new (files_text files.now)) }
+    ensures kept { StillBegins text.old text.new }
 {
     for at in 0..files.count() {
         push_file(text, files.name(at), files.file(at))?;

@@ -2,7 +2,7 @@
 
 ghost use Rattle.std.specs.Prelude.{◌≡◌, ◌≤◌, ◌/◌, ◌++◌, OnOk, length};
 ghost use Rattle.hex.specs.Hex.{encode_lower};
-ghost use Rattle.dap_text.specs.Adding.{Adds};
+ghost use Rattle.dap_text.specs.Adding.{Adds, StillBegins};
 ghost use Rattle.dap_text.specs.Text.{image_text, word_text};
 
 use itoa::{Buffer, Integer};
@@ -10,14 +10,16 @@ use std::alloc::AllocError;
 
 /// Appends a word. Own.
 pub fn push_str(text: &mut Vec<u8>, word: &str) -> Result<(), AllocError>
-    ensures { OnOk result (Adds text.old text.new word.now) }
+    ensures added { OnOk result (Adds text.old text.new word.now) }
+    ensures kept { StillBegins text.old text.new }
 {
     text.extend_from_slice(word.as_bytes())
 }
 
 /// Appends a decimal number. Own.
 pub fn push_decimal<I: Integer>(text: &mut Vec<u8>, number: I) -> Result<(), AllocError>
-    ensures { OnOk result (Adds text.old text.new (I.text number)) }
+    ensures added { OnOk result (Adds text.old text.new (I.text number)) }
+    ensures kept { StillBegins text.old text.new }
 {
     let mut buffer = Buffer::new();
     push_str(text, buffer.format(number))
@@ -26,7 +28,8 @@ pub fn push_decimal<I: Integer>(text: &mut Vec<u8>, number: I) -> Result<(), All
 /// Appends a decimal number behind a word. Own.
 #[inline(always)]
 pub fn push_number<I: Integer>(text: &mut Vec<u8>, word: &str, number: I) -> Result<(), AllocError>
-    ensures { OnOk result (Adds text.old text.new (word.now ++ I.text number)) }
+    ensures added { OnOk result (Adds text.old text.new (word.now ++ I.text number)) }
+    ensures kept { StillBegins text.old text.new }
 {
     push_str(text, word)?;
     push_decimal(text, number)
@@ -47,7 +50,8 @@ fn word_digits(number: u16) -> [u8; 4]
 /// Appends a two-byte number as four lower hex digits, behind a word. Own.
 #[inline(always)]
 pub fn push_word(text: &mut Vec<u8>, word: &str, number: u16) -> Result<(), AllocError>
-    ensures { OnOk result (Adds text.old text.new (word.now ++ word_text number)) }
+    ensures added { OnOk result (Adds text.old text.new (word.now ++ word_text number)) }
+    ensures kept { StillBegins text.old text.new }
 {
     push_str(text, word)?;
     text.extend_from_slice(&word_digits(number))
@@ -59,7 +63,8 @@ const NUMBER: usize = 8;
 /// Appends bytes as lower hex digits. Those of a number are made beside the text, which is faster for a
 /// few than to make room in it. Own.
 pub fn push_hex(text: &mut Vec<u8>, bytes: &[u8]) -> Result<(), AllocError>
-    ensures { OnOk result (Adds text.old text.new (encode_lower bytes.now)) }
+    ensures added { OnOk result (Adds text.old text.new (encode_lower bytes.now)) }
+    ensures kept { StillBegins text.old text.new }
 {
     if bytes.len() <= NUMBER {
         push_few(text, bytes)
@@ -71,7 +76,8 @@ pub fn push_hex(text: &mut Vec<u8>, bytes: &[u8]) -> Result<(), AllocError>
 /// Appends at most 8 bytes as lower hex digits.
 fn push_few(text: &mut Vec<u8>, bytes: &[u8]) -> Result<(), AllocError>
     requires { length bytes.now ≤ 8 }
-    ensures { OnOk result (Adds text.old text.new (encode_lower bytes.now)) }
+    ensures added { OnOk result (Adds text.old text.new (encode_lower bytes.now)) }
+    ensures kept { StillBegins text.old text.new }
 {
     let mut room = [0; 2 * NUMBER];
     let digits = &mut room[..2 * bytes.len()];
@@ -83,7 +89,8 @@ fn push_few(text: &mut Vec<u8>, bytes: &[u8]) -> Result<(), AllocError>
 
 /// Appends any number of bytes as lower hex digits.
 fn push_many(text: &mut Vec<u8>, bytes: &[u8]) -> Result<(), AllocError>
-    ensures { OnOk result (Adds text.old text.new (encode_lower bytes.now)) }
+    ensures added { OnOk result (Adds text.old text.new (encode_lower bytes.now)) }
+    ensures kept { StillBegins text.old text.new }
 {
     let start = text.len();
     text.reserve(2 * bytes.len())?;
@@ -97,7 +104,8 @@ fn push_many(text: &mut Vec<u8>, bytes: &[u8]) -> Result<(), AllocError>
 /// Appends an image as lower hex digits, or `-` where it is empty, behind a word. Own.
 #[inline(always)]
 pub fn push_image(text: &mut Vec<u8>, word: &str, image: &[u8]) -> Result<(), AllocError>
-    ensures { OnOk result (Adds text.old text.new (word.now ++ image_text image.now)) }
+    ensures added { OnOk result (Adds text.old text.new (word.now ++ image_text image.now)) }
+    ensures kept { StillBegins text.old text.new }
 {
     push_str(text, word)?;
     if image.is_empty() {

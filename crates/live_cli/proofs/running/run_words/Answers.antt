@@ -1,4 +1,4 @@
-use Rattle.std.proofs.Common.{◌≡◌, rules, map, string_bytes, ap, subst, ◌∙◌, inl, inr, refl}
+use Rattle.std.proofs.Common.{arith, ◌≡◌, rules, map, string_bytes, ap, subst, ◌∙◌, inl, inr, refl}
 use Rattle.std.specs.Prelude.{IfSome, Some, None}
 use Rattle.clap.specs.Words.{fault_of}
 use Rattle.cli_faults.proofs.ForCallers.{memory_or_help, memory_or_mistake, only_memory}
@@ -38,6 +38,11 @@ returns-in-Err g c =
           elim (memory_or_help kinds e help has) [
             | inl memory ↦ inr (c.refuse.ensures.memory memory).0
             | inr asked ↦ c.refuse.ensures.help asked
+          ];
+      quiet = λ help zero.
+          elim (memory_or_help kinds e help has) [
+            | inl memory ↦ (let three = (c.refuse.ensures.memory memory).0 in let none : ⊥ = omega (arith, three, zero) in absurd none)
+            | inr asked ↦ c.refuse.ensures.quiet asked zero
           ];
     }
 
