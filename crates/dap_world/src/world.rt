@@ -218,8 +218,8 @@ impl World {
         ensures inbox { left_link self.now end ++ result.now.coming.inbox
             ≡ (came_to self.now end).inbox }
         ensures held { keys_of result.now.held ≡ (end_of self.now end).held }
-        ensures early { AllByRecursion (λ h. slice_get (coming_to self.now end) (h.0 - 1) ≡ Some h.1)
-            result.now.held }
+        ensures early { AllByRecursion
+            (λ h. slice_get (coming_to self.now end) (h.0 - 1) ≡ Some h.1) result.now.held }
         ensures running { result.now.failed ≡ false }
     {
         match end {

@@ -1,5 +1,5 @@
 -- What the world shows of its links and wires, each in one record.
-use Rattle.std.specs.Prelude.{◌≡◌, ℕ, List, map, max, false}
+use Rattle.std.specs.Prelude.{◌≡◌, List, map, max, false}
 use Rattle.std.specs.List.{AllByRecursion}
 use Rattle.std.specs.Map.{keys_of}
 use Rattle.dap_msg.specs.Blocked.{all_joined}
