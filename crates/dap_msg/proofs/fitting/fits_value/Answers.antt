@@ -1,7 +1,7 @@
 use Rattle.std.proofs.Common.{refl}
 use Rattle.dap_msg.proofs.Canonical.{closed_spelling}
 use Rattle.dap_msg.proofs.Values.{limits}
-use Rattle.dap_msg.proofs.fitting.fits.Goals as goal
+use Rattle.dap_msg.proofs.fitting.fits_value.Goals as goal
 
 pub returns-then-fields_fit : goal.returns-then-fields_fit
 returns-then-fields_fit c =

@@ -3,7 +3,7 @@ use Rattle.nsp_seg.proofs.Spelled.{given-spelled}
 use Rattle.nsp_seg.proofs.Faults.{given-fault}
 use Rattle.nsp_seg.proofs.Found.{given-found}
 use Rattle.nsp_seg.proofs.Faulty.{given-faulty}
-use Rattle.nsp_seg.proofs.decode.decode_packet.Goals as goal
+use Rattle.nsp_seg.proofs.decode.decode_value.Goals as goal
 
 pub returns-clause-only : goal.returns-clause-only
 returns-clause-only c = λ p s. given-spelled c.packet.result p c.args.bytes.now c.packet.ensures s
