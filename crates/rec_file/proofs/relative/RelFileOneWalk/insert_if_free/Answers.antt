@@ -5,7 +5,7 @@ use Rattle.rec_file.specs.Files.{IsFile}
 use Rattle.rec_file.specs.Inner.Pages.{pages_at}
 use Rattle.rec_file.proofs.FileLaws.{IsFile-placed}
 use Rattle.rec_file.proofs.RelativeLaws.{held, held_cell, put_back, put_same, put_stands}
-use Rattle.rec_file.proofs.relative.RelFileRecordFile.place.Goals as goal
+use Rattle.rec_file.proofs.relative.RelFileOneWalk.insert_if_free.Goals as goal
 
 pub invariant_of-self : goal.invariant_of-self
 invariant_of-self c =

@@ -2,7 +2,7 @@ use Rattle.std.proofs.Common.{◌-◌, length, refl, ap, sym, subst, arith}
 use Rattle.rec_file.specs.Files.{IsFile}
 use Rattle.rec_file.proofs.FileLaws.{body_fits}
 use Rattle.rec_file.proofs.SequentialLaws.{fits, first_is, found, no_first}
-use Rattle.rec_file.proofs.sequential.SeqFileRecordFile.record_from.Goals as goal
+use Rattle.rec_file.proofs.sequential.SeqFileOneWalk.record_from.Goals as goal
 
 pub returns-in_err-record-clause-none : goal.returns-in_err-record-clause-none
 returns-in_err-record-clause-none c =

@@ -13,7 +13,7 @@ use Rattle.rec_file.proofs.Keyed.{lookup_is_at}
 use Rattle.rec_file.proofs.Rising.{at}
 use Rattle.rec_file.proofs.RelativeLaws.{HoldsFile, held, here, absent, zero_is_none, clear_in_page, drop_page}
 use Rattle.rec_file.proofs.PlacedLaws.{no-page, its-page, stands, page-written, page-removed, own-less, len-written, length-removed}
-use Rattle.rec_file.proofs.relative.RelFileRecordFile.remove.Goals as goal
+use Rattle.rec_file.proofs.relative.RelFileOneWalk.remove_if_occupied.Goals as goal
 
 module _ (s : Shape) (pages pages' : Slab Cells) (es es' : List (ℕ × ℕ)) (f : FileVal) (h : HoldsFile s (pages_at (get pages) es) f) (n : ℕ) (least : 1 ≤ n) where
   its : (e : Emptied es pages (page_of n) (cell_of n)) → at (pages_at (get pages) es) (page_of n) ≡ Some e.cells

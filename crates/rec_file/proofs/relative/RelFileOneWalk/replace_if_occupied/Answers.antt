@@ -6,7 +6,7 @@ use Rattle.rec_file.proofs.FileLaws.{IsFile-replaced, copied_none, copied_some, 
 use Rattle.rec_file.proofs.Keyed.{lookup_is_at}
 use Rattle.rec_file.proofs.RelativeLaws.{held, here, absent, zero_is_none, put_in_page}
 use Rattle.rec_file.proofs.PlacedLaws.{no-page, its-page, stands, page-same, page-written, len-written}
-use Rattle.rec_file.proofs.relative.RelFileRecordFile.replace.Goals as goal
+use Rattle.rec_file.proofs.relative.RelFileOneWalk.replace_if_occupied.Goals as goal
 
 pub returns-then-number-eq0-clause-occupied : goal.returns-then-number-eq0-clause-occupied
 returns-then-number-eq0-clause-occupied c = rw c.if-number-eq0.true (ap is_some (zero_is_none _ _ c.args.self.now (held c.self.inside.shape (pages_at (get c.self.inside.pages) c.self.inside.places) c.args.self.now c.self.view_is c.self.invariant.2 c.self.invariant.3)))
