@@ -7,4 +7,4 @@ use Rattle.dap_listing.proofs.packet.push_line.Goals as goal
 pub push_segment-requires : goal.push_segment-requires
 push_segment-requires c =
     let digits = subst (λ (p : CapturedPacket). HasDigits (Ok p)) c.in-Segment.is c.requires in
-    sym (count_of c.in-Segment.line.now.digits.now (length c.in-Segment.line.now.digits.now / 2) digits)
+    sym (count_of c.in-Segment.line.digits.now (length c.in-Segment.line.digits.now / 2) digits)
