@@ -1,7 +1,7 @@
 //! `dap_msg`: a DAP message is read and written.
 
 use crate::trouble::{Lines, Trouble};
-use dap_msg::{Bytes, Message, decode, encode, fits};
+use dap_msg::{Message, decode, encode, fits};
 use std::alloc::Global;
 
 /// A Control message that connects a record stream, and an Acknowledge behind it.
@@ -10,8 +10,8 @@ const BYTES: &[u8] = &[4, 2, 2, 2, 0, 6, 2, 0];
 /// Reads the message in front.
 fn read(bytes: &[u8], out: &mut Lines) -> Result<(), Trouble> {
     let (message, next) = decode(bytes)?;
-    if let Message::Control(control) = message {
-        out.line(format_args!("messages: CTLFUNC {}, next at {next}", control.func));
+    if let Message::Control { func, .. } = message {
+        out.line(format_args!("messages: CTLFUNC {func}, next at {next}"));
     }
     Ok(())
 }
@@ -19,8 +19,8 @@ fn read(bytes: &[u8], out: &mut Lines) -> Result<(), Trouble> {
 /// Writes a record, where it is one that a message can have.
 fn write(alloc: Global, body: &[u8], out: &mut Lines) -> Result<(), Trouble> {
     let message = Message::Filedata {
-        recnum: Bytes(&[]),
-        payload: Bytes(body),
+        recnum: &[],
+        payload: body,
     };
     let mut bytes = Vec::new(alloc);
     if fits(&message) {

@@ -3,4 +3,5 @@
 
 mod refusing;
 
+pub use dap_listing::finish;
 pub use refusing::refuse;

@@ -13,7 +13,7 @@ use crate::accessed::{Accessed, PLAIN};
 use crate::fault::AddFault;
 use crate::phase::Phase;
 use dap_msg::LEAST_BUFFER;
-use rec_file::{AnyFile, RecordFile, Refusal, Shape};
+use rec_file::{AnyFile, OneWalk, RecordFile, Refusal, Shape};
 
 impl Accessed {
     /// The same files for another link: the end waits for a peer's Config again, an open file is closed, and a
@@ -102,7 +102,7 @@ pub(crate) fn add_record(file: &mut AnyFile, number: u32, body: &[u8]) -> Result
     if shape.is_sequential() && number <= file.highest() {
         return Err(AddFault::Record(Refusal::RecordExists));
     }
-    match file.place(number, body)? {
+    match file.insert_if_free(number, body)? {
         true => Ok(()),
         false => Err(AddFault::Record(Refusal::RecordExists)),
     }

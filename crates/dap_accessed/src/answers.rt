@@ -15,7 +15,8 @@ use dap_msg::codes::{
     RFM_FIXED, RFM_VARIABLE, SUCCESS,
 };
 use dap_msg::{
-    Attributes, Bytes, LEAST_BUFFER, Message, StatusFields, append_message, encode, encoded_len,
+    Attributes, Bytes, LEAST_BUFFER, MessageValue, StatusFields, append_message, encode_value,
+    encoded_len,
 };
 use rec_file::{Format, Org, Shape};
 use std::alloc::Global;
@@ -53,7 +54,7 @@ pub(crate) fn too_large<'a>() -> Answer<'a>
 
 /// A Status with these fields.
 #[tactic(auto, using(dap_msg::proofs::ForCallers::answers_fit))]
-fn status<'a>(code: u16, rfa: &'a [u8], recnum: &'a [u8], stv: &'a [u8]) -> Message<'a>
+fn status<'a>(code: u16, rfa: &'a [u8], recnum: &'a [u8], stv: &'a [u8]) -> MessageValue<'a>
     requires rfa { length rfa.now ≤ 4 }
     requires recnum { length recnum.now ≤ 4 }
     requires stv { length stv.now ≤ 4 }
@@ -61,7 +62,7 @@ fn status<'a>(code: u16, rfa: &'a [u8], recnum: &'a [u8], stv: &'a [u8]) -> Mess
     ensures fits { Fits (status code rfa.now recnum.now stv.now) }
     ensures short { IsAtMost least_buffer (status code rfa.now recnum.now stv.now) }
 {
-    Message::Status(StatusFields {
+    MessageValue::Status(StatusFields {
         code,
         rfa: Bytes(rfa),
         recnum: Bytes(recnum),
@@ -91,13 +92,13 @@ fn format_code(format: Format) -> u8
 
 /// The Attributes of a file, with its MRN in these four bytes.
 #[tactic(auto, using(dap_msg::proofs::ForCallers::answers_fit, crate::proofs::Writing::org_small, crate::proofs::Writing::format_small))]
-fn attributes(shape: Shape, mrn: &[u8]) -> Message<'_>
+fn attributes(shape: Shape, mrn: &[u8]) -> MessageValue<'_>
     requires { mrn.now ≡ four_bytes shape.mrn }
     ensures same { result ≡ attributes_for shape }
     ensures fits { Fits (attributes_for shape) }
     ensures short { IsAtMost least_buffer (attributes_for shape) }
 {
-    Message::Attrib(Attributes {
+    MessageValue::Attrib(Attributes {
         org: Some(org_code(shape.org)),
         rfm: Some(format_code(shape.format)),
         mrs: Some(shape.mrs),
@@ -108,14 +109,14 @@ fn attributes(shape: Shape, mrn: &[u8]) -> Message<'_>
 
 /// A record, with its number in these four bytes.
 #[tactic(auto, using(dap_msg::proofs::ForCallers::file_data_measured, dap_msg::proofs::ForCallers::file_data_fits))]
-fn record<'a>(number: &'a [u8], body: &'a [u8]) -> Message<'a>
+fn record<'a>(number: &'a [u8], body: &'a [u8]) -> MessageValue<'a>
     requires four { length number.now ≡ 4 }
     requires short { length body.now ≤ longest_record }
     ensures same { result ≡ Filedata number.now body.now }
     ensures fits { Fits (Filedata number.now body.now) }
     ensures size { IsAtMost (file_data_size 4 (length body.now)) (Filedata number.now body.now) }
 {
-    Message::Filedata {
+    MessageValue::Filedata {
         recnum: Bytes(number),
         payload: Bytes(body),
     }
@@ -127,7 +128,7 @@ pub(crate) fn filedata_len(body: &[u8]) -> usize
     requires { length body.now ≤ longest_record }
     ensures { result ≡ file_data_size 4 (length body.now) }
 {
-    encoded_len(&Message::Filedata {
+    encoded_len(&MessageValue::Filedata {
         recnum: Bytes(&[0; 4]),
         payload: Bytes(body),
     })
@@ -136,17 +137,17 @@ pub(crate) fn filedata_len(body: &[u8]) -> usize
 impl<'a> Answer<'a> {
     /// The message that the answer is.
     #[tactic(auto, using(dap_msg::proofs::ForCallers::answers_fit))]
-    fn message(&self) -> Message<'_>
+    fn message(&self) -> MessageValue<'_>
         requires { IsWritable self.now }
         ensures same { result ≡ message_of self.now }
         ensures fits { Fits (message_of self.now) }
         ensures within { IsAtMost (most_bytes self.now) (message_of self.now) }
     {
         match self {
-            Answer::Config(bufsiz) => Message::config_of(*bufsiz),
+            Answer::Config(bufsiz) => MessageValue::config_of(*bufsiz),
             Answer::Attributes(shape, mrn) => attributes(*shape, mrn),
-            Answer::Ack => Message::Ack,
-            Answer::Complete => Message::complete_with(CMPFUNC_RESPONSE),
+            Answer::Ack => MessageValue::Ack,
+            Answer::Complete => MessageValue::complete_with(CMPFUNC_RESPONSE),
             Answer::Status(code) => status(*code, &[], &[], &[]),
             Answer::Reason { code, reason } => status(*code, &[], &[], reason),
             Answer::StoreRefusal { reason, ordinal } => {
@@ -235,7 +236,7 @@ impl Room {
             mut answers,
             mut bytes,
         } = self;
-        let _written = encode(&answer.message(), &mut bytes);
+        let _written = encode_value(&answer.message(), &mut bytes);
         answers.push_reserved(bytes);
         answers
     }

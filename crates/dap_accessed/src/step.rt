@@ -30,7 +30,7 @@ use dap_msg::codes::{
     unsupported,
 };
 use dap_msg::{
-    Attributes, ControlFields, Item, Message, is_too_small, limit_of, number_of, status_for,
+    Attributes, ControlFields, Item, MessageValue, is_too_small, limit_of, number_of, status_for,
 };
 use rec_file::{Refusal, Shape, Stream};
 
@@ -83,15 +83,19 @@ impl Phase {
             Phase::Opened(opened) => self.opened(opened, message),
             Phase::Connected(opened, stream) => self.connected(opened, stream, message),
             Phase::PutDue(opened, stream, key) => match message {
-                Message::Filedata { payload, .. } => Ok(Step::Put(opened, stream, key, payload.0)),
+                MessageValue::Filedata { payload, .. } => Ok(Step::Put(
+                    opened, stream, key, payload.0,
+                )),
                 _ => Err(out_of_place(message.number())),
             },
             Phase::UpdateDue(opened, stream) => match message {
-                Message::Filedata { payload, .. } => Ok(Step::Update(opened, stream, payload.0)),
+                MessageValue::Filedata { payload, .. } => Ok(Step::Update(
+                    opened, stream, payload.0,
+                )),
                 _ => Err(out_of_place(message.number())),
             },
             Phase::Storing(opened, stream, ordinal) => match message {
-                Message::Filedata { payload, .. } => {
+                MessageValue::Filedata { payload, .. } => {
                     Ok(Step::Store(opened, stream, ordinal, payload.0))
                 }
                 _ => self.otherwise(opened, message),
@@ -104,12 +108,12 @@ impl Phase {
     }
 
     /// The same where a file is open without a stream.
-    fn opened<'a>(self, opened: OpenFile, message: Message<'a>) -> Result<Step<'a>, u16>
+    fn opened<'a>(self, opened: OpenFile, message: MessageValue<'a>) -> Result<Step<'a>, u16>
         requires { self ≡ phases.Opened opened }
         ensures { Asks self (Whole message.entry) result }
     {
         match message {
-            Message::Control(control) => match verb_of(&control) {
+            MessageValue::Control(control) => match verb_of(&control) {
                 Verb::Connect => Ok(Step::Reply(
                     Answer::Ack,
                     Phase::Connected(opened, Stream::new(opened.rights)),
@@ -125,13 +129,13 @@ impl Phase {
         self,
         opened: OpenFile,
         stream: Stream,
-        message: Message<'a>,
+        message: MessageValue<'a>,
     ) -> Result<Step<'a>, u16>
         requires { self ≡ phases.Connected opened stream }
         ensures { Asks self (Whole message.entry) result }
     {
         match message {
-            Message::Control(control) => match verb_of(&control) {
+            MessageValue::Control(control) => match verb_of(&control) {
                 Verb::Get => Ok(Step::Get(opened, stream, control)),
                 Verb::Fetch if stream.rights().get => Ok(Step::Fetch(opened, stream)),
                 Verb::Fetch => Ok(Step::Reply(
@@ -158,18 +162,18 @@ impl Phase {
         opened: OpenFile,
         stream: Stream,
         ordinal: u32,
-        message: Message<'a>,
+        message: MessageValue<'a>,
     ) -> Result<Step<'a>, u16>
         requires { self ≡ phases.Dropping opened stream ordinal }
         ensures { Asks self (Whole message.entry) result }
     {
         match message {
-            Message::Filedata { .. } => Ok(Step::Enter(Phase::Dropping(
+            MessageValue::Filedata { .. } => Ok(Step::Enter(Phase::Dropping(
                 opened,
                 stream,
                 ordinal.saturating_add(1),
             ))),
-            Message::Contran { func } => match func {
+            MessageValue::Contran { func } => match func {
                 CONFUNC_SKIP => Ok(Step::Enter(Phase::Storing(opened, stream, ordinal))),
                 _ => Err(continuation_refused(func)),
             },
@@ -182,14 +186,14 @@ impl Phase {
         self,
         opened: OpenFile,
         stream: Stream,
-        message: Message<'a>,
+        message: MessageValue<'a>,
     ) -> Result<Step<'a>, u16>
         requires phase { self ≡ phases.Stopped opened stream }
         requires next { stream.next ≤ greatest_number }
         ensures { Asks self (Whole message.entry) result }
     {
         match message {
-            Message::Contran { func } => match func {
+            MessageValue::Contran { func } => match func {
                 CONFUNC_AGAIN => Ok(Step::Fetch(opened, stream)),
                 CONFUNC_SKIP => Ok(Step::Fetch(opened, at_number(stream, stream.next() + 1))),
                 CONFUNC_ABORT => Ok(Step::Reply(
@@ -203,14 +207,14 @@ impl Phase {
     }
 
     /// The same in each phase in which a file is open, unless the phase says otherwise.
-    fn otherwise<'a>(self, opened: OpenFile, message: Message<'a>) -> Result<Step<'a>, u16>
+    fn otherwise<'a>(self, opened: OpenFile, message: MessageValue<'a>) -> Result<Step<'a>, u16>
         requires there { HasOpen self opened }
         requires common { IsCommon self message }
         ensures { Asks self (Whole message.entry) result }
     {
         match message {
-            Message::Control(control) => Err(control_refused(verb_of(&control))),
-            Message::Accomp(complete) => match complete.func {
+            MessageValue::Control(control) => Err(control_refused(verb_of(&control))),
+            MessageValue::Accomp(complete) => match complete.func {
                 CMPFUNC_CLOSE => Ok(Step::Reply(Answer::Complete, Phase::Ready)),
                 CMPFUNC_PURGE => Ok(Step::Purge(opened)),
                 CMPFUNC_END_OF_STREAM => match self {
@@ -226,30 +230,32 @@ impl Phase {
 }
 
 /// What a message asks for where the peer's Config is due.
-fn fresh<'a>(message: Message<'a>) -> Result<Step<'a>, u16>
+fn fresh<'a>(message: MessageValue<'a>) -> Result<Step<'a>, u16>
     ensures { Asks phases.Fresh (Whole message.entry) result }
 {
     match message {
-        Message::Config(config) if is_too_small(config.bufsiz) => Err(invalid(TYPE_CONFIGURATION)),
-        Message::Config(config) => Ok(Step::Configure(limit_of(config.bufsiz))),
-        Message::Other { .. } => Ok(Step::Enter(Phase::Fresh)),
+        MessageValue::Config(config) if is_too_small(config.bufsiz) => Err(invalid(
+            TYPE_CONFIGURATION,
+        )),
+        MessageValue::Config(config) => Ok(Step::Configure(limit_of(config.bufsiz))),
+        MessageValue::Other { .. } => Ok(Step::Enter(Phase::Fresh)),
         _ => Err(out_of_place(message.number())),
     }
 }
 
 /// What a message asks for where no file is open.
-fn ready<'a>(message: Message<'a>) -> Result<Step<'a>, u16>
+fn ready<'a>(message: MessageValue<'a>) -> Result<Step<'a>, u16>
     requires { IsSpelled message }
     ensures { Asks phases.Ready (Whole message.entry) result }
 {
     match message {
-        Message::Attrib(attributes) => Ok(Step::Keep(shape_for(&attributes))),
-        Message::Access(access) => Ok(Step::Access {
+        MessageValue::Attrib(attributes) => Ok(Step::Keep(shape_for(&attributes))),
+        MessageValue::Access(access) => Ok(Step::Access {
             func: access.func,
             name: access.name.0,
             fac: access.fac,
         }),
-        Message::Other { .. } => Ok(Step::Enter(Phase::Ready)),
+        MessageValue::Other { .. } => Ok(Step::Enter(Phase::Ready)),
         _ => Err(out_of_place(message.number())),
     }
 }

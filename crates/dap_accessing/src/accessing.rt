@@ -25,7 +25,7 @@ use crate::pending::{Heard, Pending};
 use crate::phase::Phase;
 use crate::report::Report;
 use crate::request::Request;
-use dap_msg::{GREATEST_MESSAGE, Item, Message, item_at, limit_of};
+use dap_msg::{GREATEST_MESSAGE, Item, MessageValue, item_at, limit_of};
 use std::alloc::Global;
 use std::marker::Model;
 
@@ -166,7 +166,7 @@ impl Accessing {
     }
 
     /// Takes the message as the next answer.
-    fn take(&mut self, message: &Message<'_>) -> Result<Option<Report>, ReadFault>
+    fn take(&mut self, message: &MessageValue<'_>) -> Result<Option<Report>, ReadFault>
         requires short { HasShortNumbers message.now }
         ensures takes { Takes (Whole message.now) self.old self.new result }
         ensures own { self.new.own ≡ self.old.own }

@@ -19,8 +19,8 @@ use dap_msg::codes::{
     RAC_WHOLE_FILE,
 };
 use dap_msg::{
-    AccessFields, Attributes, Bytes, ControlFields, Message, MsgFault, append_counted, encoded_len,
-    fits,
+    AccessFields, Attributes, Bytes, ControlFields, MessageValue, MsgFault, append_counted,
+    encoded_len, fits_value,
 };
 use std::alloc::Global;
 
@@ -50,10 +50,10 @@ impl Request {
 }
 
 /// The Attributes of a file: ORG, RFM, MRS, and MRN in these bytes.
-fn attributes(org: u8, rfm: u8, mrs: u16, mrn: &[u8]) -> Message<'_>
+fn attributes(org: u8, rfm: u8, mrs: u16, mrn: &[u8]) -> MessageValue<'_>
     ensures { (n : ℕ) → mrn.now ≡ four_bytes n → result ≡ attributes_of org rfm mrs n }
 {
-    Message::Attrib(Attributes {
+    MessageValue::Attrib(Attributes {
         org: Some(org),
         rfm: Some(rfm),
         mrs: Some(mrs),
@@ -63,10 +63,10 @@ fn attributes(org: u8, rfm: u8, mrs: u16, mrn: &[u8]) -> Message<'_>
 }
 
 /// An Access of this function to the file of this name.
-fn access(func: u8, name: &Octets, fac: u32) -> Message<'_>
+fn access(func: u8, name: &Octets, fac: u32) -> MessageValue<'_>
     ensures { result ≡ asked.access func name.now fac }
 {
-    Message::Access(AccessFields {
+    MessageValue::Access(AccessFields {
         func,
         opt: 0,
         name: Bytes(name.0.as_slice()),
@@ -78,10 +78,10 @@ fn access(func: u8, name: &Octets, fac: u32) -> Message<'_>
 }
 
 /// A Control with these fields alone.
-fn control(func: u8, rac: Option<u8>, key: Option<Bytes<'_>>) -> Message<'_>
+fn control(func: u8, rac: Option<u8>, key: Option<Bytes<'_>>) -> MessageValue<'_>
     ensures { result ≡ asked.control func rac key.entry }
 {
-    Message::Control(ControlFields {
+    MessageValue::Control(ControlFields {
         func,
         rac,
         key,
@@ -93,24 +93,24 @@ fn control(func: u8, rac: Option<u8>, key: Option<Bytes<'_>>) -> Message<'_>
 }
 
 /// The Filedata of a record, without a number.
-fn record(body: &Octets) -> Message<'_>
+fn record(body: &Octets) -> MessageValue<'_>
     ensures { result ≡ Filedata [] body.now }
 {
-    Message::Filedata {
+    MessageValue::Filedata {
         recnum: Bytes(&[]),
         payload: Bytes(body.0.as_slice()),
     }
 }
 
 /// The first message of a request that carries these four bytes.
-fn first_message<'a>(own: u16, request: &'a Request, number: &'a [u8]) -> Message<'a>
+fn first_message<'a>(own: u16, request: &'a Request, number: &'a [u8]) -> MessageValue<'a>
     requires { number.now ≡ four_bytes (number_carried request.now) }
     ensures { result ≡ first_of own request.now }
 {
     match request {
-        Request::Hello => Message::config_of(own),
+        Request::Hello => MessageValue::config_of(own),
         Request::Create { org, rfm, mrs, .. } => attributes(*org, *rfm, *mrs, number),
-        Request::OpenFile { .. } => Message::Attrib(Attributes::none()),
+        Request::OpenFile { .. } => MessageValue::Attrib(Attributes::none()),
         Request::Connect => control(CTLFUNC_CONNECT, None, None),
         Request::Get(By::Next) => control(CTLFUNC_GET, Some(RAC_SEQUENTIAL), None),
         Request::Get(By::Key(_)) => control(CTLFUNC_GET, Some(RAC_KEYED), Some(Bytes(number))),
@@ -126,27 +126,27 @@ fn first_message<'a>(own: u16, request: &'a Request, number: &'a [u8]) -> Messag
         Request::Rewind => control(CTLFUNC_REWIND, Some(RAC_SEQUENTIAL), None),
         Request::Fetch => control(CTLFUNC_GET, Some(RAC_WHOLE_FILE), None),
         Request::Store(_) => control(CTLFUNC_PUT, Some(RAC_WHOLE_FILE), None),
-        Request::Continue(How::Again) => Message::Contran {
+        Request::Continue(How::Again) => MessageValue::Contran {
             func: CONFUNC_AGAIN,
         },
-        Request::Continue(How::Skip) => Message::Contran { func: CONFUNC_SKIP },
-        Request::Continue(How::Abort) => Message::Contran {
+        Request::Continue(How::Skip) => MessageValue::Contran { func: CONFUNC_SKIP },
+        Request::Continue(How::Abort) => MessageValue::Contran {
             func: CONFUNC_ABORT,
         },
-        Request::Close => Message::complete_with(CMPFUNC_CLOSE),
-        Request::Purge => Message::complete_with(CMPFUNC_PURGE),
+        Request::Close => MessageValue::complete_with(CMPFUNC_CLOSE),
+        Request::Purge => MessageValue::complete_with(CMPFUNC_PURGE),
     }
 }
 
 /// The message behind the first and the records, where there is one.
-fn last_message(request: &Request) -> Option<Message<'_>>
+fn last_message(request: &Request) -> Option<MessageValue<'_>>
     ensures { result ≡ last_of request.now }
 {
     match request {
         Request::Create { name, fac, .. } => Some(access(ACCFUNC_CREATE, name, *fac)),
         Request::OpenFile { name, fac } => Some(access(ACCFUNC_OPEN, name, *fac)),
         Request::Put { body, .. } | Request::Update { body } => Some(record(body)),
-        Request::Store(_) => Some(Message::complete_with(CMPFUNC_END_OF_STREAM)),
+        Request::Store(_) => Some(MessageValue::complete_with(CMPFUNC_END_OF_STREAM)),
         _ => None,
     }
 }
@@ -162,12 +162,12 @@ fn records(request: &Request) -> &[Octets]
 }
 
 /// The bytes of the message, where it has a spelling within the limit.
-fn sendable_len(message: &Message<'_>, limit: u16) -> Option<usize>
+fn sendable_len(message: &MessageValue<'_>, limit: u16) -> Option<usize>
     ensures yes { IfSome result (λ n. IsSendable limit message.now) }
     ensures exact { IfSome result (λ n. n ≡ length (canon message.now)) }
     ensures no { result ≡ None → IsSendable limit message.now → ⊥ }
 {
-    if !fits(message) {
+    if !fits_value(message) {
         return None;
     }
     let len = encoded_len(message);
@@ -219,7 +219,7 @@ fn are_sendable(records: &[Octets], limit: u16) -> bool
 fn append(
     alloc: Global,
     list: &mut Vec<Vec<u8>>,
-    message: &Message<'_>,
+    message: &MessageValue<'_>,
     len: usize,
     limit: u16,
 ) -> Result<(), MsgFault>
@@ -241,9 +241,9 @@ pub(crate) struct Counts {
 /// The messages of a request.
 #[derive(Drop, Debug)]
 pub(crate) struct Outgoing<'a> {
-    first: Message<'a>,
+    first: MessageValue<'a>,
     records: &'a [Octets],
-    last: Option<Message<'a>>,
+    last: Option<MessageValue<'a>>,
 }
 
 impl<'a> Outgoing<'a> {

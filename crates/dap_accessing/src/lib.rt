@@ -17,4 +17,7 @@ pub use asking::Prepared;
 pub use bytes::{Numbered, Octets, OctetsList, ToBytes, ToRecords};
 pub use fault::{AskFault, ReadFault, ReadStep};
 pub use report::{Ending, Report};
-pub use request::{By, How, Request};
+pub use request::{By, How, Request as RequestOf};
+
+/// What is asked of the end that holds the files: the [`RequestOf`] whose names and bodies are [`Octets`].
+pub type Request = request::Request<Octets, OctetsList>;

@@ -14,7 +14,7 @@ use dap_msg::codes::{
     CMPFUNC_RESPONSE, END_OF_FILE, ORG_SEQUENTIAL, REASON_TOO_LARGE_FOR_BUFFER, RECORD_REFUSED,
     RFM_VARIABLE,
 };
-use dap_msg::{Message, StatusCode, is_too_small, number_of};
+use dap_msg::{MessageValue, StatusCode, is_too_small, number_of};
 use rec_file::MAX_NUMBER;
 use std::alloc::Global;
 
@@ -90,7 +90,7 @@ impl Pending {
     }
 
     /// What the message comes to as the next answer.
-    pub(crate) fn hear(self, alloc: Global, message: &Message<'_>) -> Heard
+    pub(crate) fn hear(self, alloc: Global, message: &MessageValue<'_>) -> Heard
         requires { HasShortNumbers message.now }
         ensures { Hears self (Whole message.now) result }
     {
@@ -161,29 +161,29 @@ fn hear_status(code: u16, stv: &[u8]) -> Heard
 }
 
 /// What a message comes to where a Config is due.
-fn hear_config(message: &Message<'_>) -> Heard
+fn hear_config(message: &MessageValue<'_>) -> Heard
     ensures { Hears pending.Config (Whole message.now) result }
 {
     match message {
-        Message::Config(config) => {
+        MessageValue::Config(config) => {
             if is_too_small(config.bufsiz) {
                 Heard::Unexpected
             } else {
                 Heard::Reports(Report::Ready(config.bufsiz))
             }
         }
-        Message::Status(status) => hear_status(status.code, status.stv.0),
+        MessageValue::Status(status) => hear_status(status.code, status.stv.0),
         _ => Heard::Unexpected,
     }
 }
 
 /// What a message comes to where the Attributes of an opened file are due.
-fn hear_attributes(message: &Message<'_>) -> Heard
+fn hear_attributes(message: &MessageValue<'_>) -> Heard
     requires { HasShortNumbers message.now }
     ensures { Hears pending.Attributes (Whole message.now) result }
 {
     match message {
-        Message::Attrib(attributes) => {
+        MessageValue::Attrib(attributes) => {
             let mrn = match &attributes.mrn {
                 Some(image) => number_of(image.0),
                 None => 0,
@@ -199,49 +199,49 @@ fn hear_attributes(message: &Message<'_>) -> Heard
                 Heard::Unexpected
             }
         }
-        Message::Other { .. } => Heard::Waits(Pending::Attributes),
-        Message::Status(status) => hear_status(status.code, status.stv.0),
+        MessageValue::Other { .. } => Heard::Waits(Pending::Attributes),
+        MessageValue::Status(status) => hear_status(status.code, status.stv.0),
         _ => Heard::Unexpected,
     }
 }
 
 /// What a message comes to where the Acknowledge behind these attributes is due.
-fn hear_opened(org: u8, rfm: u8, mrs: u16, mrn: u32, message: &Message<'_>) -> Heard
+fn hear_opened(org: u8, rfm: u8, mrs: u16, mrn: u32, message: &MessageValue<'_>) -> Heard
     ensures { Hears (pending.Opened org rfm mrs mrn) (Whole message.now) result }
 {
     match message {
-        Message::Ack => Heard::Reports(Report::Opened { org, rfm, mrs, mrn }),
-        Message::Other { .. } => Heard::Waits(Pending::Opened { org, rfm, mrs, mrn }),
-        Message::Status(status) => hear_status(status.code, status.stv.0),
+        MessageValue::Ack => Heard::Reports(Report::Opened { org, rfm, mrs, mrn }),
+        MessageValue::Other { .. } => Heard::Waits(Pending::Opened { org, rfm, mrs, mrn }),
+        MessageValue::Status(status) => hear_status(status.code, status.stv.0),
         _ => Heard::Unexpected,
     }
 }
 
 /// What a message comes to where the Acknowledge of a connection is due.
-fn hear_connected(message: &Message<'_>) -> Heard
+fn hear_connected(message: &MessageValue<'_>) -> Heard
     ensures { Hears pending.Connected (Whole message.now) result }
 {
     match message {
-        Message::Ack => Heard::Reports(Report::Connected),
-        Message::Status(status) => hear_status(status.code, status.stv.0),
+        MessageValue::Ack => Heard::Reports(Report::Connected),
+        MessageValue::Status(status) => hear_status(status.code, status.stv.0),
         _ => Heard::Unexpected,
     }
 }
 
 /// What a message comes to where the record of a get is due.
-fn hear_record(alloc: Global, message: &Message<'_>) -> Heard
+fn hear_record(alloc: Global, message: &MessageValue<'_>) -> Heard
     requires { HasShortNumbers message.now }
     ensures { Hears pending.Record (Whole message.now) result }
 {
     match message {
-        Message::Filedata { recnum, payload } => match Vec::from_slice(alloc, payload.0) {
+        MessageValue::Filedata { recnum, payload } => match Vec::from_slice(alloc, payload.0) {
             Ok(body) => Heard::Reports(Report::Found {
                 number: number_of(recnum.0),
                 body: Octets(body),
             }),
             Err(_) => Heard::NoMemory(Pending::Record),
         },
-        Message::Status(status) => {
+        MessageValue::Status(status) => {
             if status.code == END_OF_FILE {
                 return Heard::Reports(Report::EndOfFile);
             }
@@ -252,12 +252,12 @@ fn hear_record(alloc: Global, message: &Message<'_>) -> Heard
 }
 
 /// What a message comes to where the Status of an operation is due.
-fn hear_done(message: &Message<'_>) -> Heard
+fn hear_done(message: &MessageValue<'_>) -> Heard
     requires { HasShortNumbers message.now }
     ensures { Hears pending.Done (Whole message.now) result }
 {
     match message {
-        Message::Status(status) => {
+        MessageValue::Status(status) => {
             if StatusCode(status.code).is_success() {
                 Heard::Reports(Report::Done(number_of(status.recnum.0)))
             } else {
@@ -283,18 +283,18 @@ fn hear_body(alloc: Global, bodies: Numbered, number: u64, payload: &[u8]) -> He
 }
 
 /// What a message comes to in a fetch, behind these records.
-fn hear_batch(alloc: Global, bodies: Numbered, message: &Message<'_>) -> Heard
+fn hear_batch(alloc: Global, bodies: Numbered, message: &MessageValue<'_>) -> Heard
     requires { HasShortNumbers message.now }
     ensures { Hears (pending.Batch bodies) (Whole message.now) result }
 {
     match message {
-        Message::Filedata { recnum, payload } => hear_body(
+        MessageValue::Filedata { recnum, payload } => hear_body(
             alloc,
             bodies,
             number_of(recnum.0),
             payload.0,
         ),
-        Message::Status(status) => {
+        MessageValue::Status(status) => {
             if StatusCode(status.code).is_success() {
                 Heard::Unexpected
             } else {
@@ -309,12 +309,12 @@ fn hear_batch(alloc: Global, bodies: Numbered, message: &Message<'_>) -> Heard
 }
 
 /// What a message comes to where the end of a store is due, whose first refusal is kept.
-fn hear_stored(kept: Option<(u16, u8, u64)>, message: &Message<'_>) -> Heard
+fn hear_stored(kept: Option<(u16, u8, u64)>, message: &MessageValue<'_>) -> Heard
     requires { HasShortNumbers message.now }
     ensures { Hears (pending.Stored kept) (Whole message.now) result }
 {
     match message {
-        Message::Status(status) => {
+        MessageValue::Status(status) => {
             if StatusCode(status.code).is_success() {
                 return Heard::Unexpected;
             }
@@ -327,7 +327,7 @@ fn hear_stored(kept: Option<(u16, u8, u64)>, message: &Message<'_>) -> Heard
                 )),
             }))
         }
-        Message::Accomp(complete) => {
+        MessageValue::Accomp(complete) => {
             if complete.func == CMPFUNC_RESPONSE {
                 Heard::Reports(Report::Stored(kept))
             } else {
@@ -339,18 +339,18 @@ fn hear_stored(kept: Option<(u16, u8, u64)>, message: &Message<'_>) -> Heard
 }
 
 /// What a message comes to where the Access Complete of a close or a purge is due.
-fn hear_closed(message: &Message<'_>) -> Heard
+fn hear_closed(message: &MessageValue<'_>) -> Heard
     ensures { Hears pending.Closed (Whole message.now) result }
 {
     match message {
-        Message::Accomp(complete) => {
+        MessageValue::Accomp(complete) => {
             if complete.func == CMPFUNC_RESPONSE {
                 Heard::Reports(Report::Closed)
             } else {
                 Heard::Unexpected
             }
         }
-        Message::Status(status) => hear_status(status.code, status.stv.0),
+        MessageValue::Status(status) => hear_status(status.code, status.stv.0),
         _ => Heard::Unexpected,
     }
 }

@@ -9,9 +9,8 @@ ghost use Rattle.dap_cli.specs.Run.{Chooses, RunGives, dapnsp, word_of};
 
 use clap::error::ErrorKind;
 use clap::{Command, Error};
-use cli_faults::refuse;
-use dap_capture::schedule;
-use dap_listing::{finish, messages, show};
+use cli_faults::{finish, refuse};
+use dap_capture::{messages, schedule, show};
 use std::alloc::Global;
 use std::io::{Read, Write};
 

@@ -7,7 +7,7 @@ use Rattle.std.proofs.lemmas.Map.Keys.{IsDistinct-head, IsDistinct-tail}
 use Rattle.indexmap.specs.IndexSet.{insert_key}
 use Rattle.dap_listing.specs.Captured.{Spell}
 use Rattle.dap_listing.specs.declared.lines.Direction.{Direction}
-use Rattle.nsp_seg.specs.declared.packet.SegmentFields.{SegmentFields}
+use Rattle.dap_listing.specs.declared.captured.CapturedSegment.{CapturedSegment}
 use Rattle.dap_follow.specs.Streams.{Captured, Placed, at, came_as, came_in, is_same, no_more, streams}
 use Rattle.dap_follow.specs.Inner.Placing.{Rises, counted_value}
 use Rattle.dap_follow.specs.Inner.Keeping.{Came, stream_of, HasAt, IsAdded, IsGood, IsIndexed, Keeps, KeepsAll, KeepsEach, KeepsStream, came, segment_packet, top, put_at}
@@ -20,7 +20,7 @@ use Rattle.dap_follow.proofs.NameLemmas.{came_in-more, came_in-none, is_same_sel
 
 -- ---- one segment more
 
-pub keeps_more : (start packet : ℕ) (c : SegmentFields) (before : List Came) (old new : Places) → Keeps start before old → IsAdded packet c old new
+pub keeps_more : (start packet : ℕ) (c : CapturedSegment) (before : List Came) (old new : Places) → Keeps start before old → IsAdded packet c old new
     → Keeps start (before ++ came packet c ∷ []) new
 keeps_more start packet c before old new k a =
     let place = a.counted.place in
@@ -73,17 +73,17 @@ keeps_aside packets x s of_none none k =
 
 -- ---- a packet of a stream
 
-abbrev pub stream_is : Direction → SegmentFields → Stream
+abbrev pub stream_is : Direction → CapturedSegment → Stream
 stream_is way c = record { way = way; dst = c.dst; src = c.src }
 
-apart : (s : Stream) (way : Direction) (c : SegmentFields) (n : ℕ) → is_same s (stream_is way c) ≡ false → came_as s n (segment_packet way c) ≡ None
+apart : (s : Stream) (way : Direction) (c : CapturedSegment) (n : ℕ) → is_same s (stream_is way c) ≡ false → came_as s n (segment_packet way c) ≡ None
 apart s way c n other = rw other refl
 
-of_it : (s : Stream) (way : Direction) (c : SegmentFields) (n : ℕ) → is_same s (stream_is way c) ≡ true → came_as s n (segment_packet way c) ≡ Some (came n c)
+of_it : (s : Stream) (way : Direction) (c : CapturedSegment) (n : ℕ) → is_same s (stream_is way c) ≡ true → came_as s n (segment_packet way c) ≡ Some (came n c)
 of_it s way c n same = rw same refl
 
 -- the segments of the stream before the packet
-pub record Ready (packets : List Captured) (c : SegmentFields) (s : Stream) (p : Places) : Type 0 where
+pub record Ready (packets : List Captured) (c : CapturedSegment) (s : Stream) (p : Places) : Type 0 where
   pub before : List Came
   pub are : came_in s packets ≡ before
   pub begins : (first : Came) × (others : List Came) × (before ++ came (1 + length packets) c ∷ [] ≡ first ∷ others) × Keeps (first.1.number + 4096) before p
@@ -91,7 +91,7 @@ pub record Ready (packets : List Captured) (c : SegmentFields) (s : Stream) (p :
   pub low : 4096 ≤ p.highest
   pub high : p.highest ≤ 8192 + 2048 * length packets
 
-pub ready_known : (packets : List Captured) (c : SegmentFields) (s : Stream) (p : Places) → KeepsStream packets s p → Ready packets c s p
+pub ready_known : (packets : List Captured) (c : CapturedSegment) (s : Stream) (p : Places) → KeepsStream packets s p → Ready packets c s p
 ready_known packets c s p k = record {
   before = k.first ∷ k.others;
   are = k.are;
@@ -101,7 +101,7 @@ ready_known packets c s p k = record {
   high = k.high;
 }
 
-pub ready_new : (packets : List Captured) (c : SegmentFields) (s : Stream) (p : Places) → came_in s packets ≡ [] → p.highest ≡ c.number + 4096 → c.number < 4096 → p.ordered.items ≡ [] → Ready packets c s p
+pub ready_new : (packets : List Captured) (c : CapturedSegment) (s : Stream) (p : Places) → came_in s packets ≡ [] → p.highest ≡ c.number + 4096 → c.number < 4096 → p.ordered.items ≡ [] → Ready packets c s p
 ready_new packets c s p none highest small empty = record {
   before = [];
   are = none;
@@ -111,7 +111,7 @@ ready_new packets c s p none highest small empty = record {
   high = omega (arith, highest, small);
 }
 
-pub ready_done : (packets : List Captured) (way : Direction) (c : SegmentFields) (s : Stream) (old new : Places) → is_same s (stream_is way c) ≡ true → Spell c.payload (length c.payload / 2)
+pub ready_done : (packets : List Captured) (way : Direction) (c : CapturedSegment) (s : Stream) (old new : Places) → is_same s (stream_is way c) ≡ true → Spell c.digits.now (length c.digits.now / 2)
     → Ready packets c s old → IsAdded (1 + length packets) c old new → KeepsStream (packets ++ segment_packet way c ∷ []) s new
 ready_done packets way c s old new same spell r a =
     let x = segment_packet way c in
@@ -128,11 +128,11 @@ ready_done packets way c s old new same spell r a =
       high = omega (arith, a.highest, a.high, r.high, longer);
     }
 
-pub ready_rises : (packets : List Captured) (c : SegmentFields) (s : Stream) (p : Places) → Ready packets c s p → Rises p.ordered.items
+pub ready_rises : (packets : List Captured) (c : CapturedSegment) (s : Stream) (p : Places) → Ready packets c s p → Rises p.ordered.items
 ready_rises packets c s p r = r.begins.3.rises
 
 -- the streams before the packet was put into its own
-pub MidEach : List Captured → Direction → SegmentFields → List Stream → List Places → Type 0
+pub MidEach : List Captured → Direction → CapturedSegment → List Stream → List Places → Type 0
 MidEach packets way c [] [] = Unit {0}
 MidEach packets way c [] (p ∷ places) = ⊥
 MidEach packets way c (s ∷ keys) [] = ⊥
@@ -140,7 +140,7 @@ MidEach packets way c (s ∷ keys) (p ∷ places) =
     (((is_same s (stream_is way c) ≡ true) × Ready packets c s p) ⊎ ((is_same s (stream_is way c) ≡ false) × KeepsStream (packets ++ segment_packet way c ∷ []) s p))
     × MidEach packets way c keys places
 
-mid_known : (packets : List Captured) (way : Direction) (c : SegmentFields) (keys : List Stream) (places : List Places) → KeepsEach packets keys places → MidEach packets way c keys places
+mid_known : (packets : List Captured) (way : Direction) (c : CapturedSegment) (keys : List Stream) (places : List Places) → KeepsEach packets keys places → MidEach packets way c keys places
 unfolding MidEach
 mid_known packets way c [] [] each = tt
 mid_known packets way c [] (p ∷ places) each = each
@@ -152,7 +152,7 @@ mid_known packets way c (s ∷ keys) (p ∷ places) each = (
   mid_known packets way c keys places each.1,
 )
 
-mid_new : (packets : List Captured) (way : Direction) (c : SegmentFields) (new : Places) → Ready packets c (stream_is way c) new
+mid_new : (packets : List Captured) (way : Direction) (c : CapturedSegment) (new : Places) → Ready packets c (stream_is way c) new
     → (keys : List Stream) (places : List Places) → KeepsEach packets keys places → MidEach packets way c (keys ++ stream_is way c ∷ []) (places ++ new ∷ [])
 unfolding MidEach
 mid_new packets way c new ready [] [] each = (inl (is_same_self (stream_is way c), ready), tt)
@@ -167,7 +167,7 @@ no_other : (a : Stream) → None ≡ Some a → ⊥
 no_other a e = cc
 
 -- where the packet's stream stands
-pub mid_at : (packets : List Captured) (way : Direction) (c : SegmentFields) (index : ℕ) (keys : List Stream) (places : List Places) → MidEach packets way c keys places
+pub mid_at : (packets : List Captured) (way : Direction) (c : CapturedSegment) (index : ℕ) (keys : List Stream) (places : List Places) → MidEach packets way c keys places
     → HasAt (stream_is way c) index keys → (index < length places) × ((d : Places) → Ready packets c (stream_is way c) (get_or places index d))
 unfolding MidEach
 mid_at packets way c index [] [] mid at = absurd (no_other at.0 at.1)
@@ -187,7 +187,7 @@ other_at s k index [] all at = absurd (no_other at.0 at.1)
 other_at s k zero (y ∷ keys) all at = subst (λ (t : Stream). is_same s t ≡ false) (some_is y at.0 at.1 ∙ sym (same_is k at.0 at.2)) all.0
 other_at s k (suc index) (y ∷ keys) all at = other_at s k index keys all.1 at
 
-mid_rest : (packets : List Captured) (way : Direction) (c : SegmentFields) (keys : List Stream) (places : List Places) → AllByRecursion (λ y. is_same (stream_is way c) y ≡ false) keys
+mid_rest : (packets : List Captured) (way : Direction) (c : CapturedSegment) (keys : List Stream) (places : List Places) → AllByRecursion (λ y. is_same (stream_is way c) y ≡ false) keys
     → MidEach packets way c keys places → KeepsEach (packets ++ segment_packet way c ∷ []) keys places
 unfolding MidEach
 mid_rest packets way c [] [] all mid = tt
@@ -196,7 +196,7 @@ mid_rest packets way c (s ∷ keys) [] all mid = mid
 mid_rest packets way c (s ∷ keys) (p ∷ places) all mid =
     (⊎_elim (λ both. absurd (false≢true (sym (same_sym (stream_is way c) s all.0) ∙ both.0))) (λ both. both.1) mid.0, mid_rest packets way c keys places all.1 mid.1)
 
-pub mid_done : (packets : List Captured) (way : Direction) (c : SegmentFields) (new d : Places) → Spell c.payload (length c.payload / 2)
+pub mid_done : (packets : List Captured) (way : Direction) (c : CapturedSegment) (new d : Places) → Spell c.digits.now (length c.digits.now / 2)
     → (index : ℕ) (keys : List Stream) (places : List Places) → MidEach packets way c keys places → IsDistinct is_same keys → HasAt (stream_is way c) index keys
     → IsAdded (1 + length packets) c (get_or places index d) new → KeepsEach (packets ++ segment_packet way c ∷ []) keys (slice_set places index new)
 unfolding MidEach
@@ -216,7 +216,7 @@ mid_done packets way c new d spell (suc index) (s ∷ keys) (p ∷ places) mid d
 
 -- ---- all streams
 
-pub mid_all : (packets : List Captured) (way : Direction) (c : SegmentFields) (old new : Streams) (index : ℕ) → KeepsAll packets old → IsIndexed (stream_is way c) c.number old new index
+pub mid_all : (packets : List Captured) (way : Direction) (c : CapturedSegment) (old new : Streams) (index : ℕ) → KeepsAll packets old → IsIndexed (stream_is way c) c.number old new index
     → MidEach packets way c new.names.keys new.places.items × (new.names.keys ≡ streams (packets ++ segment_packet way c ∷ []))
 mid_all packets way c old new index k i =
     let stream = stream_is way c in
@@ -233,8 +233,8 @@ mid_all packets way c old new index k i =
     ))
     i.case
 
-pub keeps_streams : (packets : List Captured) (way : Direction) (c : SegmentFields) (old mid new : Streams) (index packet : ℕ) (d added : Places) → KeepsAll packets old
-    → IsIndexed (stream_is way c) c.number old mid index → Spell c.payload (length c.payload / 2)
+pub keeps_streams : (packets : List Captured) (way : Direction) (c : CapturedSegment) (old mid new : Streams) (index packet : ℕ) (d added : Places) → KeepsAll packets old
+    → IsIndexed (stream_is way c) c.number old mid index → Spell c.digits.now (length c.digits.now / 2)
     → packet ≡ length packets + 1 → IsAdded packet c d added → d ≡ get_or mid.places.items index d
     → new.names.keys ≡ mid.names.keys → new.places.items ≡ slice_set mid.places.items index added
     → KeepsAll (packets ++ segment_packet way c ∷ []) new

@@ -4,7 +4,8 @@ ghost use Rattle.std.specs.Prelude.{◌≡◌, ◌≤◌, ◌<◌, ◌+◌, ◌%
 ghost use Rattle.dap_follow.specs.Inner.Placing.{IsPutIn, Rises};
 ghost use Rattle.dap_follow.specs.Inner.Keeping.{IsAdded};
 
-use nsp_seg::{SegmentFields, Seq12};
+use dap_listing::CapturedSegment;
+use nsp_seg::Seq12;
 use std::alloc::{AllocError, Global};
 
 /// So many numbers of segments there are (NSP 4.0.0, segment numbers).
@@ -72,7 +73,7 @@ impl<'a> Places<'a> {
     pub(crate) fn add(
         &mut self,
         packet: usize,
-        segment: &SegmentFields<'a>,
+        segment: &CapturedSegment<'a>,
     ) -> Result<(), AllocError>
         requires low { 4096 ≤ self.old.highest }
         requires high { self.old.highest < 2 ^ 62 }
@@ -85,7 +86,7 @@ impl<'a> Places<'a> {
             packet,
             first: segment.first,
             last: segment.last,
-            payload: segment.payload.0,
+            payload: segment.digits,
         };
         put_in(&mut self.ordered, counted)?;
         self.highest = self.highest.max(place);

@@ -6,10 +6,9 @@ ghost use Rattle.dap_follow.specs.Inner.Reading.{Reads, ReadsAll, ReadsFew, Read
 
 use crate::streams::Streams;
 use dap_listing::{
-    CaptureFault, Direction, INPUT_LIMIT, PACKET_LIMIT, next_packet, push_heading, push_seen,
+    CaptureFault, CapturedPacket, Direction, INPUT_LIMIT, PACKET_LIMIT, next_packet, push_heading, push_seen,
     read_packet,
 };
-use nsp_seg::Packet;
 use std::alloc::{AllocError, Global};
 
 /// What was read of a capture: the lines of each packet, and the streams.
@@ -51,8 +50,8 @@ impl<'a> Reading<'a> {
         push_seen(&mut line, &seen)?;
         self.lines.push(line)?;
         match seen {
-            Ok(Packet::Segment(segment)) => self.streams.add(number, way, &segment),
-            Ok(Packet::DataAck(_)) => Ok(()),
+            Ok(CapturedPacket::Segment(segment)) => self.streams.add(number, way, &segment),
+            Ok(CapturedPacket::DataAck(_)) => Ok(()),
             Err(_) => Ok(()),
         }
     }

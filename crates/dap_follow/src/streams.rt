@@ -6,9 +6,9 @@ ghost use Rattle.dap_follow.specs.Streams.{Captured};
 ghost use Rattle.dap_follow.specs.Inner.Keeping.{IsIndexed, KeepsAll, KeepsSome, segment_packet};
 
 use crate::places::Places;
-use dap_listing::Direction;
+use dap_listing::{CapturedSegment, Direction};
 use indexmap::IndexSet;
-use nsp_seg::{SegmentFields, Seq12};
+use nsp_seg::Seq12;
 use std::alloc::{AllocError, Global};
 
 /// The segments that go one way between two ends (own).
@@ -56,12 +56,12 @@ impl<'a> Streams<'a> {
         &mut self,
         packet: usize,
         way: Direction,
-        segment: &SegmentFields<'a>,
+        segment: &CapturedSegment<'a>,
     ) -> Result<(), AllocError>
         requires { KeepsSome packet self.old }
         ensures { OnOk result ((packets : List Captured)
             → KeepsAll packets self.old → packet ≡ length packets + 1
-            → Spell segment.now.payload (length segment.now.payload / 2)
+            → Spell segment.now.digits.now (length segment.now.digits.now / 2)
             → KeepsAll (packets ++ segment_packet way segment.now ∷ []) self.new) }
     {
         let stream = Stream {

@@ -3,9 +3,12 @@ use Rattle.std.specs.Prelude.{◌≡◌, ℕ, ◌*◌, ◌/◌, ◌<◌, ◌≤�
 use Rattle.std.specs.List.{AllPass}
 use Rattle.std.specs.Result.{result_unwrap_or}
 use Rattle.hex.specs.Hex.{decode_of, is_hex_digit}
-use Rattle.nsp_seg.specs.declared.packet.Packet.{Packet}
-use Rattle.nsp_seg.specs.declared.packet.Packet.TheVariants.{Segment}
+use Rattle.nsp_seg.specs.declared.packet.Packet.TheVariants.{Segment, DataAck}
+use Rattle.nsp_seg.specs.declared.packet.SegmentFields.{SegmentFields}
 use Rattle.nsp_seg.specs.declared.packet.SegFault.{SegFault}
+use Rattle.dap_listing.specs.declared.captured.CapturedPacket.{CapturedPacket}
+use Rattle.dap_listing.specs.declared.captured.CapturedPacket.TheVariants as captured
+use Rattle.dap_listing.specs.declared.captured.CapturedSegment.{CapturedSegment}
 use Rattle.dap_listing.specs.Packets.{Seen}
 
 -- hex digits of so many bytes
@@ -21,12 +24,27 @@ abbrev pub AreDecoded : List ℕ → ℕ → ℕ → List ℕ → Type 0
 AreDecoded digits from to bytes =
     (i : ℕ) → from ≤ i → i < to → get_or bytes i 0 ≡ get_or (bytes_of digits) i 0
 
--- what the program reads: the payload of a segment stands there as hex digits
-abbrev pub seen_value : Result Packet SegFault → Seen
-seen_value (Ok (Segment s)) = Ok (Segment (record s { payload = bytes_of s.payload }))
-seen_value read = read
+-- a captured segment, with the bytes that its payload's digits spell
+abbrev pub segment_of : CapturedSegment → SegmentFields
+segment_of c = record {
+  first = c.first;
+  last = c.last;
+  dst = c.dst;
+  src = c.src;
+  ack1 = c.ack1;
+  ack2 = c.ack2;
+  number = c.number;
+  payload = bytes_of c.digits.now;
+}
+
+-- what was read, likewise
+abbrev pub seen_value : Result CapturedPacket SegFault → Seen
+seen_value (Ok (captured.Segment c)) = Ok (Segment (segment_of c))
+seen_value (Ok (captured.DataAck ack)) = Ok (DataAck ack)
+seen_value (Err fault) = Err fault
 
 -- what stands for a payload are hex digits of bytes
-abbrev pub HasDigits : Result Packet SegFault → Type 0
-HasDigits (Ok (Segment s)) = Spell s.payload (length s.payload / 2)
-HasDigits _ = Unit {0}
+abbrev pub HasDigits : Result CapturedPacket SegFault → Type 0
+HasDigits (Ok (captured.Segment c)) = Spell c.digits.now (length c.digits.now / 2)
+HasDigits (Ok (captured.DataAck ack)) = Unit {0}
+HasDigits (Err fault) = Unit {0}

@@ -1,6 +1,7 @@
 //! Captures of NSP packets and messages, and their listings.
 #![tactic(auto)]
 
+mod captured;
 mod captures;
 mod commands;
 mod decode;
@@ -15,6 +16,7 @@ mod output;
 mod packet;
 mod text;
 
+pub use captured::{CapturedPacket, CapturedSegment};
 pub use captures::{Found, PACKET_LIMIT, arrow, next_packet, push_heading};
 pub use commands::{messages, show};
 pub use fault::{CaptureFault, Outcome, finish};

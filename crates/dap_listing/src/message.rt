@@ -15,8 +15,8 @@ use crate::decode::{FRONT, decode_to};
 use crate::field::{attributes_fields, control_fields, push_fields};
 use crate::text::push_spelled;
 use dap_msg::{
-    AccessFields, Attributes, Configuration, ControlFields, FaultKind, Item, Message, MsgFault,
-    StatusFields, item_at,
+    AccessFields, Attributes, Configuration, ControlFields, FaultKind, Item, MessageValue,
+    MsgFault, StatusFields, item_at,
 };
 use dap_text::{push_decimal, push_image, push_number, push_str, push_word};
 use std::alloc::AllocError;
@@ -61,31 +61,35 @@ fn push_wanted(text: &mut Vec<u8>, fac: u32, shr: u32, display: u32) -> Result<(
 
 /// Appends the line of a message. The digits are those of its record, where it is a Data message.
 #[inline(always)]
-fn push_message(text: &mut Vec<u8>, message: &Message<'_>, digits: &[u8]) -> Result<(), AllocError>
+fn push_message(
+    text: &mut Vec<u8>,
+    message: &MessageValue<'_>,
+    digits: &[u8],
+) -> Result<(), AllocError>
     requires { Spell digits.now (length digits.now / 2) }
     ensures { OnOk result (Adds text.old text.new
         (message_line (with_record message.now (bytes_of digits.now)))) }
 {
     match message {
-        Message::Config(config) => push_config(text, *config),
-        Message::Attrib(attributes) => push_attributes(text, attributes),
-        Message::Control(control) => push_control(text, control),
-        Message::Contran { func } => {
+        MessageValue::Config(config) => push_config(text, *config),
+        MessageValue::Attrib(attributes) => push_attributes(text, attributes),
+        MessageValue::Control(control) => push_control(text, control),
+        MessageValue::Contran { func } => {
             push_number(text, "  continue func=", *func)?;
             push_str(text, "\n")
         }
-        Message::Ack => push_str(text, "  ack\n"),
-        Message::Accomp(complete) => {
+        MessageValue::Ack => push_str(text, "  ack\n"),
+        MessageValue::Accomp(complete) => {
             push_number(text, "  complete func=", complete.func)?;
             push_number(text, " fop=", complete.fop)?;
             push_str(text, " check=")?;
             push_check(text, complete.check)?;
             push_str(text, "\n")
         }
-        Message::Access(access) => push_access(text, access),
-        Message::Filedata { recnum, .. } => push_data(text, recnum.0, digits),
-        Message::Status(status) => push_status(text, status),
-        Message::Other { number, body } => push_other(text, *number, body.0),
+        MessageValue::Access(access) => push_access(text, access),
+        MessageValue::Filedata { recnum, .. } => push_data(text, recnum.0, digits),
+        MessageValue::Status(status) => push_status(text, status),
+        MessageValue::Other { number, body } => push_other(text, *number, body.0),
     }
 }
 
@@ -208,7 +212,7 @@ fn record_size(item: &Item<'_>) -> usize
     ensures { result ≡ size_of_record item.now }
 {
     match item {
-        Item::Whole(Message::Filedata { payload, .. }) => payload.0.len(),
+        Item::Whole(MessageValue::Filedata { payload, .. }) => payload.0.len(),
         Item::Whole(_) | Item::Malformed(_) => 0,
     }
 }

@@ -4,16 +4,17 @@ ghost use Rattle.std.specs.Prelude.{◌≡◌, ◌≤◌, ◌/◌, ◌++◌, ◌
 ghost use Rattle.std.specs.List.{concat};
 ghost use Rattle.dap_text.specs.Text.{word_text};
 ghost use Rattle.dap_text.specs.Adding.{Adds, AddsSome};
-ghost use Rattle.dap_listing.specs.Captured.{AreDecoded, HasDigits, Spell, bytes_of, seen_value};
-ghost use Rattle.dap_listing.specs.Inner.Decoding.{IsBehind, carried_by, front_of};
+ghost use Rattle.dap_listing.specs.Captured.{AreDecoded, HasDigits, Spell, bytes_of, seen_value, segment_of};
+ghost use Rattle.dap_listing.specs.Inner.Decoding.{IsBehind, front_of};
 ghost use Rattle.dap_listing.specs.Packets.{IsPacketText, IsSeen, ack_text, acks_text, mark_text, seen_line};
 ghost use Rattle.dap_listing.specs.Inner.Messages.{SegmentMessages};
 ghost use Rattle.nsp_seg.specs.declared.packet.Packet.TheVariants.{DataAck, Segment};
 
+use crate::captured::{CapturedPacket, CapturedSegment};
 use crate::decode::{FRONT, decode_to};
 use crate::message::push_messages;
 use dap_text::{push_number, push_packet_fault, push_str, push_word};
-use nsp_seg::{AckField, AckFields, Packet, Payload, SegFault, SegmentFields, decode_packet};
+use nsp_seg::{AckField, AckFields, PacketValue, SegFault, decode_value};
 use std::alloc::AllocError;
 
 /// Appends an acknowledgement field.
@@ -54,11 +55,11 @@ fn push_ends(text: &mut Vec<u8>, dst: u16, src: u16) -> Result<(), AllocError>
 /// Appends the line of a segment, which carries so many bytes.
 fn push_segment(
     text: &mut Vec<u8>,
-    line: &SegmentFields<'_>,
+    line: &CapturedSegment<'_>,
     count: usize,
 ) -> Result<(), AllocError>
-    requires { count ≡ length (bytes_of line.now.payload) }
-    ensures { OnOk result (Adds text.old text.new (seen_line (Ok (Segment (carried_by line.now))))) }
+    requires { count ≡ length (bytes_of line.now.digits.now) }
+    ensures { OnOk result (Adds text.old text.new (seen_line (Ok (Segment (segment_of line.now))))) }
 {
     push_str(text, "segment ")?;
     push_str(text, mark_word(line.first, line.last))?;
@@ -114,7 +115,7 @@ fn push_ack(text: &mut Vec<u8>, ack: AckFields) -> Result<(), AllocError>
 }
 
 /// What the bytes of the digits are, which those in front tell: these are decoded, all up to a payload.
-fn see<'a>(digits: &'a [u8], bytes: &mut [u8]) -> Result<Packet<'a>, SegFault>
+fn see<'a>(digits: &'a [u8], bytes: &mut [u8]) -> Result<CapturedPacket<'a>, SegFault>
     requires { Spell digits.now (length bytes.old) }
     ensures size { length bytes.new ≡ length bytes.old }
     ensures decoded { AreDecoded digits.now 0 (front_of (length bytes.new)) bytes.new }
@@ -123,10 +124,10 @@ fn see<'a>(digits: &'a [u8], bytes: &mut [u8]) -> Result<Packet<'a>, SegFault>
     ensures behind { IsBehind digits.now (front_of (length bytes.new)) result }
 {
     let _known = decode_to(digits, bytes, 0, FRONT);
-    match decode_packet(bytes) {
-        Ok(Packet::Segment(segment)) => {
+    match decode_value(bytes) {
+        Ok(PacketValue::Segment(segment)) => {
             let head = bytes.len() - segment.payload.0.len();
-            Ok(Packet::Segment(SegmentFields {
+            Ok(CapturedPacket::Segment(CapturedSegment {
                 first: segment.first,
                 last: segment.last,
                 dst: segment.dst,
@@ -134,17 +135,17 @@ fn see<'a>(digits: &'a [u8], bytes: &mut [u8]) -> Result<Packet<'a>, SegFault>
                 ack1: segment.ack1,
                 ack2: segment.ack2,
                 number: segment.number,
-                payload: Payload(&digits[2 * head..]),
+                digits: &digits[2 * head..],
             }))
         }
-        Ok(Packet::DataAck(ack)) => Ok(Packet::DataAck(ack)),
+        Ok(PacketValue::DataAck(ack)) => Ok(CapturedPacket::DataAck(ack)),
         Err(fault) => Err(fault),
     }
 }
 
 /// What the bytes are that the hex digits spell (NSP 4.0.0, data segment and data acknowledgement messages); of a
-/// segment's payload its digits are told. The room is for the bytes. Own. Takes no memory.
-pub fn read_packet<'a>(digits: &'a [u8], room: &mut [u8]) -> Result<Packet<'a>, SegFault>
+/// segment's payload its digits are returned. The room is for the bytes. Takes no memory.
+pub fn read_packet<'a>(digits: &'a [u8], room: &mut [u8]) -> Result<CapturedPacket<'a>, SegFault>
     requires { Spell digits.now (length room.old) }
     ensures size { length room.new ≡ length room.old }
     ensures seen { IsSeen (seen_value result) (bytes_of digits.now) }
@@ -153,20 +154,22 @@ pub fn read_packet<'a>(digits: &'a [u8], room: &mut [u8]) -> Result<Packet<'a>, 
     see(digits, room)
 }
 
-/// Appends the line of a packet, whose payload stands there as its digits.
-fn push_line(text: &mut Vec<u8>, packet: &Packet<'_>) -> Result<(), AllocError>
+/// Appends the line of a captured packet.
+fn push_line(text: &mut Vec<u8>, packet: &CapturedPacket<'_>) -> Result<(), AllocError>
     requires { HasDigits (Ok packet.now) }
     ensures { OnOk result (Adds text.old text.new (seen_line (seen_value (Ok packet.now)))) }
 {
     match packet {
-        Packet::Segment(line) => push_segment(text, line, line.payload.0.len() / 2),
-        Packet::DataAck(ack) => push_ack(text, *ack),
+        CapturedPacket::Segment(line) => push_segment(text, line, line.digits.len() / 2),
+        CapturedPacket::DataAck(ack) => push_ack(text, *ack),
     }
 }
 
-/// Appends the line of a packet, whose payload stands there as its hex digits, or of bytes that are none. Refused for
-/// want of memory alone. Own.
-pub fn push_seen(text: &mut Vec<u8>, seen: &Result<Packet<'_>, SegFault>) -> Result<(), AllocError>
+/// Appends the line of a captured packet, or of bytes that are none. An error is out of memory.
+pub fn push_seen(
+    text: &mut Vec<u8>,
+    seen: &Result<CapturedPacket<'_>, SegFault>,
+) -> Result<(), AllocError>
     requires { HasDigits seen.now }
     ensures { OnOk result (Adds text.old text.new (seen_line (seen_value seen.now))) }
 {
@@ -186,8 +189,8 @@ pub(crate) fn push_packet(
     ensures { OnOk result (AddsSome text.old text.new (IsPacketText (bytes_of digits.now))) }
 {
     match see(digits, bytes) {
-        Ok(Packet::Segment(line)) => {
-            let count = line.payload.0.len() / 2;
+        Ok(CapturedPacket::Segment(line)) => {
+            let count = line.digits.len() / 2;
             push_segment(text, &line, count)?;
             let known = FRONT.min(bytes.len());
             let head = bytes.len() - count;
@@ -195,12 +198,12 @@ pub(crate) fn push_packet(
                 text,
                 line.first,
                 line.last,
-                line.payload.0,
+                line.digits,
                 &mut bytes[head..],
                 known - head,
             )
         }
-        Ok(Packet::DataAck(ack)) => push_ack(text, ack),
+        Ok(CapturedPacket::DataAck(ack)) => push_ack(text, ack),
         Err(fault) => push_packet_fault(text, fault),
     }
 }

@@ -364,7 +364,7 @@ fn encode_apart(message: &Message<'_>, len: usize, out: &mut Vec<u8>) -> Result<
     encode_here(message, len, out)
 }
 
-/// Appends a message of `len` bytes, as [`encode`] does. They aren't counted again.
+/// Appends a message of `len` bytes, as [`encode_value`] does. They aren't counted again.
 pub(crate) fn encode_counted(
     message: &Message<'_>,
     len: usize,
@@ -382,13 +382,9 @@ pub(crate) fn encode_counted(
     }
 }
 
-/// Appends the canonical spelling of a message: LENGTH always, LEN256 exactly where the operand has 256 bytes or
-/// more, all fields, numbers in their shortest spelling, nothing after the last field (own; the formats are those
-/// of DAP 5.6.0).
-///
-/// The message must fit, as [`fits`] tells. The only refusal is `FaultKind::NoMemory`, with type and offset 0, which
-/// comes only where `out` lacked the room and leaves it unchanged. Room is reserved once, and none is given back.
-pub fn encode(message: &Message<'_>, out: &mut Vec<u8>) -> Result<(), MsgFault>
+/// Appends the canonical spelling of the message that has this value, for crates that hold messages as values; as
+/// [`crate::encode`] does, which see.
+pub fn encode_value(message: &Message<'_>, out: &mut Vec<u8>) -> Result<(), MsgFault>
     requires { Fits message.now }
     ensures { Appends no_memory (canon message.now) out.old out.new result }
 {
@@ -403,7 +399,7 @@ fn operand_len(message: &Message<'_>) -> usize
     with_fields!(message, fields_len)
 }
 
-/// The number of bytes that [`encode`] appends for a message that fits (own; DAP 5.6.0, message formats). Takes no
+/// The number of bytes that [`encode_value`] appends for a message that fits (own; DAP 5.6.0, message formats). Takes no
 /// memory.
 pub fn encoded_len(message: &Message<'_>) -> usize
     requires { Fits message.now }

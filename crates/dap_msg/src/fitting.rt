@@ -122,10 +122,9 @@ fn operand_fits(message: &Message<'_>) -> bool
     }
 }
 
-/// Whether the message has a spelling, the condition of [`crate::encode`]: every value fits its field, the number of an
-/// `Other` is 10 to 16, and the operand has at most 65,535 bytes (the fields are those of DAP 5.6.0, message formats).
-/// Takes no memory.
-pub fn fits(message: &Message<'_>) -> bool
+/// Whether the message that has this value has a spelling, for crates that hold messages as values; as [`crate::fits`]
+/// tells, which see.
+pub fn fits_value(message: &Message<'_>) -> bool
     ensures { IsTrue result ↔ Fits message.now }
 {
     fields_fit(message) && operand_fits(message)

@@ -5,7 +5,7 @@ ghost use Rattle.dap_msg.specs.Items.{Item as TheItem, ItemAt, Whole};
 ghost use Rattle.dap_msg.specs.Message.{Message as Meaning};
 ghost use Rattle.dap_msg.specs.Decoding.{IsSpelled};
 
-use crate::decoding::decode;
+use crate::decoding::decode_value;
 use crate::fault::MsgFault;
 use crate::message::Message;
 
@@ -34,7 +34,7 @@ pub fn item_at(nsp_message: &[u8], at: usize) -> (Item<'_>, usize)
     ensures fields { (m : Meaning) → result.0 ≡ Whole m → IsSpelled m }
 {
     let (_before, rest) = nsp_message.split_at(at);
-    match decode(rest) {
+    match decode_value(rest) {
         Ok((message, len)) => (Item::Whole(message), at + len),
         Err(fault) => (
             Item::Malformed(MsgFault {

@@ -1,14 +1,16 @@
 //! DAP messages as bytes, both ways (DAP 5.6.0, message formats).
 //!
-//! [`decode`] tells the message that stands in front of bytes, or the first fault in reading order; [`encode`] appends
-//! the one canonical spelling of a message; what was written is read as the same message, whatever follows it.
-//! [`item_at`] goes through the messages of an NSP message, and [`append_blocked`] puts several into one.
+//! [`decode`] tells the [`Message`] that stands in front of bytes, or the first fault in reading order; [`encode`] appends
+//! the one canonical spelling of a message; what was written is read as the same message, whatever follows it. A crate whose
+//! contracts speak of messages holds them as a [`MessageValue`]: [`item_at`] goes through those of an NSP message,
+//! [`encode_value`] writes one, and [`append_blocked`] puts several into one NSP message.
 #![tactic(auto)]
 
 mod blocking;
 mod both_ends;
 mod bytes;
 pub mod codes;
+mod dap_message;
 mod decoding;
 mod encoding;
 mod fault;
@@ -30,16 +32,17 @@ pub use both_ends::{
     GREATEST_MESSAGE, LEAST_BUFFER, is_too_small, limit_of, names_the_limits, number_of,
 };
 pub use bytes::Bytes;
-pub use decoding::decode;
-pub use encoding::{encode, encoded_len};
+pub use dap_message::{Message, decode, encode, fits};
+pub use encoding::{encode_value, encoded_len};
 pub use fault::{FaultKind, MsgFault};
 pub use file_access::FileAccess;
-pub use fitting::fits;
+pub use fitting::fits_value;
 pub use items::{Item, item_at};
 pub use laws::{
     has_items, lists_messages, measures_file_data, one_item_stands, reads_back, writes_canon,
 };
 pub use message::{
-    AccessFields, Attributes, Completion, Configuration, ControlFields, Message, StatusFields,
+    AccessFields, Attributes, Completion, Configuration, ControlFields, Message as MessageValue,
+    StatusFields,
 };
 pub use status::{StatusCode, status_for};

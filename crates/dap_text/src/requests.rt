@@ -7,10 +7,10 @@ ghost use Rattle.dap_text.specs.Inner.Requests.{continue_of, get_of, put_of};
 ghost use Rattle.dap_text.specs.Words.{decimal_of, ends, field, long, short, text_of};
 
 use crate::words::{Text, Texts, Words, is, read_number, read_text, read_texts};
-use dap_accessing::{By, How, Octets, OctetsList, Request};
+use dap_accessing::{By, How, Octets, OctetsList, RequestOf};
 
 /// A request whose names and bodies are still the digits of a line. Contracts see the request. Own.
-pub type RequestText<'a> = Request<Octets<Text<'a>>, OctetsList<Texts<'a>>>;
+pub type RequestText<'a> = RequestOf<Octets<Text<'a>>, OctetsList<Texts<'a>>>;
 
 /// The greatest FAC.
 const ACCESS_MOST: u32 = 15;

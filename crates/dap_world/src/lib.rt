@@ -19,7 +19,7 @@ pub use laws::{
     each_request_has_one_report, events_are_decided, every_run_keeps_the_headline,
     numbers_stay_apart,
 };
-pub use nsp_link::{Got, LinkEnd, LinkFault};
+pub use nsp_link::{Got, LinkEnd, LinkFault, LinkSetup};
 pub use nsp_seg::SegFault;
 pub use rec_file::{AnyFile, Format, Org, RecordFile, RelFile, SeqFile, Shape};
 pub use setup::WorldSetup;

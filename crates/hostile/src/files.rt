@@ -88,23 +88,18 @@ fn place(file: &mut AnyFile, number: u32, body: &[u8]) -> Result<(), Trouble> {
     if shape.is_sequential() && number != file.highest() + 1 {
         return Err(Trouble::Wrong);
     }
-    match file.place(number, body) {
-        Ok(true) => Ok(()),
-        Ok(false) => Err(Trouble::Wrong),
-        Err(_) => Err(Trouble::Wants),
+    if file.lookup(number).is_some() {
+        return Err(Trouble::Wrong);
     }
+    file.place(number, body).map_err(|_| Trouble::Wants)
 }
 
 /// Stores another record under an occupied number.
 fn replace(file: &mut AnyFile, number: u32, body: &[u8]) -> Result<(), Trouble> {
-    if !file.shape().allows(body.len()) {
+    if !file.shape().allows(body.len()) || file.lookup(number).is_none() {
         return Err(Trouble::Wrong);
     }
-    match file.replace(number, body) {
-        Ok(true) => Ok(()),
-        Ok(false) => Err(Trouble::Wrong),
-        Err(_) => Err(Trouble::Wants),
-    }
+    file.replace(number, body).map_err(|_| Trouble::Wants)
 }
 
 /// What became of a call on a stream.

@@ -14,9 +14,8 @@ ghost use Rattle.live_cli.specs.Words.{daplive, task_of, usual};
 
 use crate::words::{Options, Role, Task, read_words};
 use clap::error::ErrorKind;
-use cli_faults::refuse;
+use cli_faults::{finish, refuse};
 use dap_follow::follow;
-use dap_listing::finish;
 use dap_live::{Asking, Serving};
 use linewise::{Answers, talk};
 use nsp_link::{LARGEST_LIMIT, LinkFault, LinkSetup};

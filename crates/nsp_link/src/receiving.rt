@@ -16,7 +16,7 @@ use crate::incoming::take_run;
 use crate::link::{Got, LinkEnd};
 use crate::piece::{Piece, Segment};
 use crate::ring::{advance, fill, is_free};
-use nsp_seg::{AckField, Packet, Seq12, decode_packet};
+use nsp_seg::{AckField, PacketValue, Seq12, decode_value};
 use std::collections::VecDeque;
 
 /// A number that is so far ahead of another, or farther, is behind it: half of the 4,096 numbers (NSP 4.0.0,
@@ -72,14 +72,14 @@ impl LinkEnd {
         if self.failed {
             return Err(LinkFault::Failed);
         }
-        match decode_packet(packet) {
+        match decode_value(packet) {
             Ok(packet) => self.receive_packet(&packet),
             Err(fault) => Err(LinkFault::Malformed(fault)),
         }
     }
 
     /// Takes in a packet that was read. A fault which shows that the two ends have lost each other ends the link.
-    fn receive_packet(&mut self, packet: &Packet<'_>) -> Result<Got, LinkFault>
+    fn receive_packet(&mut self, packet: &PacketValue<'_>) -> Result<Got, LinkFault>
         ensures { Received self.old packet.now result self.new }
     {
         let result = self.take_packet(packet);
@@ -92,20 +92,20 @@ impl LinkEnd {
     }
 
     /// Takes in a packet that was read; where it is refused, nothing changes.
-    fn take_packet(&mut self, packet: &Packet<'_>) -> Result<Got, LinkFault>
+    fn take_packet(&mut self, packet: &PacketValue<'_>) -> Result<Got, LinkFault>
         ensures ok { IfOk result (λ got. Received self.old packet.now (Ok got) self.new) }
         ensures err { IfErr result
             (λ e. Received self.old packet.now (Err e) (stopped e self.old)) }
         ensures unchanged { OnErr result (self.new ≡ self.old) }
     {
         match packet {
-            Packet::DataAck(ack) => {
+            PacketValue::DataAck(ack) => {
                 self.check_address(ack.dst, ack.src)?;
                 let count = self.believe(Some(ack.ack1), ack.ack2)?;
                 self.forget(count);
                 Ok(Got::AckOnly)
             }
-            Packet::Segment(segment) => {
+            PacketValue::Segment(segment) => {
                 self.check_address(segment.dst, segment.src)?;
                 let count = self.believe(segment.ack1, segment.ack2)?;
                 let piece = Piece {

@@ -12,7 +12,7 @@ use crate::cutting::{check_all, queue_all, queue_message, segment_count};
 use crate::fault::LinkFault;
 use crate::incoming::MOST_SEGMENTS;
 use crate::link::LinkEnd;
-use nsp_seg::{AckField, AckFields, Packet, Payload, SegmentFields, Seq12, encode_packet};
+use nsp_seg::{AckField, AckFields, PacketValue, Payload, SegmentFields, Seq12, encode_value};
 
 impl LinkEnd {
     /// Queues the segments of a message: one for each `seg_size` bytes or part of that, and one of no bytes
@@ -134,7 +134,7 @@ impl LinkEnd {
         ensures err { IfErr result (λ e. e ≡ NoMemory) }
     {
         let segment = &self.queue[place];
-        let packet = Packet::Segment(SegmentFields {
+        let packet = PacketValue::Segment(SegmentFields {
             first: segment.first,
             last: segment.last,
             dst: self.setup.remote,
@@ -158,13 +158,13 @@ impl LinkEnd {
     }
 
     /// The packet as it is spelled.
-    fn written(&self, packet: &Packet<'_>) -> Result<Vec<u8>, LinkFault>
+    fn written(&self, packet: &PacketValue<'_>) -> Result<Vec<u8>, LinkFault>
         requires { IsWritable packet.now }
         ensures ok { IfOk result (λ v. IsSpelling packet.now v.items) }
         ensures err { IfErr result (λ e. e ≡ NoMemory) }
     {
         let mut out = Vec::new(self.alloc);
-        encode_packet(packet, &mut out).map_err(|_| LinkFault::NoMemory)?;
+        encode_value(packet, &mut out).map_err(|_| LinkFault::NoMemory)?;
         Ok(out)
     }
 
@@ -244,7 +244,7 @@ impl LinkEnd {
         if self.failed {
             return Err(LinkFault::Failed);
         }
-        let packet = Packet::DataAck(AckFields {
+        let packet = PacketValue::DataAck(AckFields {
             dst: self.setup.remote,
             src: self.setup.local,
             ack1: self.acknowledgement(),

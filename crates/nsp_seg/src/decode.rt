@@ -131,10 +131,9 @@ fn packet(bytes: &[u8]) -> Result<Packet<'_>, SegFault>
     }
 }
 
-/// The packet that the bytes, all of them, spell; its payload is a part of them. It takes no memory.
-/// Bytes that spell none have one fault, and that is told (NSP 4.0.0, data segment message and data
-/// acknowledgement message; other messages are not read here: own).
-pub fn decode_packet(bytes: &[u8]) -> Result<Packet<'_>, SegFault>
+/// The value of the packet that the bytes, all of them, spell, for crates that hold packets as values; as
+/// [`crate::decode_packet`] reads it, which see.
+pub fn decode_value(bytes: &[u8]) -> Result<Packet<'_>, SegFault>
     // What is spelled is read, and what is read is spelled.
     ensures only { (p : Packet) → Spells p bytes.now → result ≡ Ok p }
     ensures found { IfOk result (λ p. Spells p bytes.now) }

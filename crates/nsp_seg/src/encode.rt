@@ -99,12 +99,9 @@ fn put_packet(out: &mut Vec<u8>, packet: &Packet<'_>)
     }
 }
 
-/// Appends the packet's bytes; the free bits of a segment's number are written 0 (own). The caller sees
-/// to it that each qualifier is at most 7, and that a second acknowledgement field stands only beside a
-/// first. It is refused for want of memory alone, which leaves `out` as it was, and never where `out`
-/// has the room already; no room is given back (NSP 4.0.0, data segment message and data
-/// acknowledgement message).
-pub fn encode_packet(packet: &Packet<'_>, out: &mut Vec<u8>) -> Result<(), SegFault>
+/// Appends the bytes of the packet that has this value, for crates that hold packets as values; as
+/// [`crate::encode_packet`] does, which see.
+pub fn encode_value(packet: &Packet<'_>, out: &mut Vec<u8>) -> Result<(), SegFault>
     requires { IsWritable packet.now }
     ensures ok { OnOk result (out.new.items ≡ out.old.items ++ spelling packet.now) }
     ensures fits { OnOk result (FitsFields packet.now) }

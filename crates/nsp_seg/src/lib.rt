@@ -1,17 +1,22 @@
 //! Packets of a link, data segments and data acknowledgements, both ways, and their 12-bit numbers
 //! (NSP 4.0.0).
+//!
+//! [`decode_packet`] reads a [`Packet`], and [`encode_packet`] writes one. A crate whose contracts speak of packets holds
+//! them as a [`PacketValue`], which [`decode_value`] reads and [`encode_value`] writes.
 #![tactic(auto)]
 
 mod decode;
 mod encode;
 mod laws;
+mod nsp_packet;
 mod packet;
 mod seq12;
 
-pub use decode::decode_packet;
-pub use encode::encode_packet;
+pub use decode::decode_value;
+pub use encode::encode_value;
 pub use laws::{packets_are_exact, residues_separate};
+pub use nsp_packet::{Packet, decode_packet, encode_packet};
 pub use packet::{
-    AckField, AckFields, FlagKind, Packet, Payload, SegFault, SegmentFields, flag_kind,
+    AckField, AckFields, FlagKind, Packet as PacketValue, Payload, SegFault, SegmentFields, flag_kind,
 };
 pub use seq12::Seq12;

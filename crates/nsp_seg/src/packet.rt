@@ -59,35 +59,31 @@ impl<'a> PartialEq for Payload<'a> {
     }
 }
 
-/// A data segment (NSP 4.0.0, data segment message).
+/// The fields of a data segment, as in [`crate::Packet::Segment`] (NSP 4.0.0, data segment message).
 #[derive(Clone, Drop, Debug, PartialEq)]
 pub struct SegmentFields<'a> {
-    /// Whether it is the first segment of its message, and the last.
     pub first: bool,
     pub last: bool,
-    /// To whom and from whom: the link addresses.
     pub dst: u16,
     pub src: u16,
-    /// Up to two acknowledgement fields; the second stands only beside the first.
     pub ack1: Option<AckField>,
     pub ack2: Option<AckField>,
     pub number: Seq12,
-    /// Its bytes, which may be none.
     pub payload: Payload<'a>,
 }
 
-/// A data acknowledgement (NSP 4.0.0, data acknowledgement message).
+/// The fields of a data acknowledgement, as in [`crate::Packet::DataAck`] (NSP 4.0.0, data acknowledgement message).
 #[derive(Clone, Copy, Debug, PartialEq, Eq)]
 pub struct AckFields {
-    /// To whom and from whom: the link addresses.
     pub dst: u16,
     pub src: u16,
-    /// One or two fields.
     pub ack1: AckField,
     pub ack2: Option<AckField>,
 }
 
-/// A packet (NSP 4.0.0, data segments and their acknowledgement).
+/// A packet as a value, exported as `PacketValue`, for crates whose contracts speak of packets: definitions and proofs
+/// are of this type, and two packets with the same bytes are one value, wherever these lie. A program that only reads
+/// and writes packets uses [`crate::Packet`].
 #[derive(Clone, Drop, Debug, PartialEq)]
 pub enum Packet<'a> {
     Segment(SegmentFields<'a>),

@@ -1,8 +1,7 @@
 //! Packets from outside examples, and faults of every kind.
 
 use nsp_seg::{
-    AckField, AckFields, FlagKind, Packet, Payload, SegFault, SegmentFields, Seq12, decode_packet,
-    encode_packet, flag_kind,
+    AckField, FlagKind, Packet, SegFault, Seq12, decode_packet, encode_packet, flag_kind,
 };
 
 const ONLY_SEGMENT: &[u8] = &[0x60, 2, 1, 4, 3, 5, 0x80, 1, 0, 6, 2, 0];
@@ -21,7 +20,7 @@ fn ack_field(qual: u8, number: u64) -> AckField {
 
 /// The packet that `ONLY_SEGMENT` is.
 fn only_segment() -> Packet<'static> {
-    Packet::Segment(SegmentFields {
+    Packet::Segment {
         first: true,
         last: true,
         dst: 0x0102,
@@ -29,13 +28,13 @@ fn only_segment() -> Packet<'static> {
         ack1: Some(ack_field(0, 5)),
         ack2: None,
         number: Seq12::of(1),
-        payload: Payload(&[6, 2, 0]),
-    })
+        payload: &[6, 2, 0],
+    }
 }
 
 /// The packet that `BOTH_FIELDS` is.
 fn both_fields() -> Packet<'static> {
-    Packet::Segment(SegmentFields {
+    Packet::Segment {
         first: true,
         last: false,
         dst: 0x0102,
@@ -43,18 +42,18 @@ fn both_fields() -> Packet<'static> {
         ack1: Some(ack_field(0, 5)),
         ack2: Some(ack_field(2, 6)),
         number: Seq12::of(7),
-        payload: Payload(&[0x41]),
-    })
+        payload: &[0x41],
+    }
 }
 
 /// The packet that `ACKNOWLEDGEMENT` is.
 fn acknowledgement() -> Packet<'static> {
-    Packet::DataAck(AckFields {
+    Packet::DataAck {
         dst: 0x0102,
         src: 0x0304,
         ack1: ack_field(0, 4095),
         ack2: None,
-    })
+    }
 }
 
 /// Whether the bytes are read as the packet.

@@ -4,7 +4,7 @@ ghost use Rattle.std.specs.FinMap as map;
 ghost use Rattle.rec_file.specs.Shapes.{is_shape};
 ghost use Rattle.rec_file.specs.AnyFiles.{any_value};
 
-use crate::files::RecordFile;
+use crate::files::{OneWalk, RecordFile};
 use crate::relative::RelFile;
 use crate::sequential::SeqFile;
 use crate::shapes::{Org, Shape};
@@ -33,9 +33,39 @@ impl AnyFile {
     }
 }
 
-impl RecordFile for AnyFile {
+impl OneWalk for AnyFile {
     ghost value = { any_value };
 
+    fn record_from(&self, number: u32) -> Option<(u32, &[u8])> {
+        match self {
+            AnyFile::Seq(file) => file.record_from(number),
+            AnyFile::Rel(file) => file.record_from(number),
+        }
+    }
+
+    fn insert_if_free(&mut self, number: u32, body: &[u8]) -> Result<bool, AllocError> {
+        match self {
+            AnyFile::Seq(file) => file.insert_if_free(number, body),
+            AnyFile::Rel(file) => file.insert_if_free(number, body),
+        }
+    }
+
+    fn replace_if_occupied(&mut self, number: u32, body: &[u8]) -> Result<bool, AllocError> {
+        match self {
+            AnyFile::Seq(file) => file.replace_if_occupied(number, body),
+            AnyFile::Rel(file) => file.replace_if_occupied(number, body),
+        }
+    }
+
+    fn remove_if_occupied(&mut self, number: u32) -> bool {
+        match self {
+            AnyFile::Seq(file) => file.remove_if_occupied(number),
+            AnyFile::Rel(file) => file.remove_if_occupied(number),
+        }
+    }
+}
+
+impl RecordFile for AnyFile {
     fn shape(&self) -> Shape {
         match self {
             AnyFile::Seq(file) => file.shape(),
@@ -50,38 +80,10 @@ impl RecordFile for AnyFile {
         }
     }
 
-    fn record_from(&self, number: u32) -> Option<(u32, &[u8])> {
-        match self {
-            AnyFile::Seq(file) => file.record_from(number),
-            AnyFile::Rel(file) => file.record_from(number),
-        }
-    }
-
     fn highest(&self) -> u32 {
         match self {
             AnyFile::Seq(file) => file.highest(),
             AnyFile::Rel(file) => file.highest(),
-        }
-    }
-
-    fn place(&mut self, number: u32, body: &[u8]) -> Result<bool, AllocError> {
-        match self {
-            AnyFile::Seq(file) => file.place(number, body),
-            AnyFile::Rel(file) => file.place(number, body),
-        }
-    }
-
-    fn replace(&mut self, number: u32, body: &[u8]) -> Result<bool, AllocError> {
-        match self {
-            AnyFile::Seq(file) => file.replace(number, body),
-            AnyFile::Rel(file) => file.replace(number, body),
-        }
-    }
-
-    fn remove(&mut self, number: u32) -> bool {
-        match self {
-            AnyFile::Seq(file) => file.remove(number),
-            AnyFile::Rel(file) => file.remove(number),
         }
     }
 }

@@ -1,5 +1,5 @@
 //! What a record file is: a shape and a finite map from numbers to records.
-ghost use Rattle.std.specs.Prelude.{◌≡◌, ◌≤◌, ◌+◌, [], ◌∷◌, length, Some, None, false, is_none, is_some, IsTrue, IsSome, IfSome, IfNone, IfOk, OnErr, MatchBool};
+ghost use Rattle.std.specs.Prelude.{◌≡◌, ◌≤◌, ◌+◌, [], ◌∷◌, length, Some, None, false, is_none, is_some, IsTrue, IsSome, IfSome, IfNone, IfOk, OnOk, OnErr, MatchBool};
 ghost use Rattle.std.specs.Option.{option_copied};
 ghost use Rattle.std.specs.FinMap as map;
 ghost use Rattle.rec_file.specs.Shapes.{limit_of, allows_length, is_seq};
@@ -9,24 +9,15 @@ ghost use Rattle.rec_file.specs.Files.{FileVal, IsFile, lowest_from, highest_of,
 use crate::shapes::Shape;
 use std::alloc::AllocError;
 
-/// A file of numbered records, however it is kept (own, in the manner of RMS): its value is a shape
-/// and a finite map from numbers to records, and each call reads or changes that map.
+/// What a file does in one walk to the record of a number, so that nobody has to look for it before. [`Stream`]s are made of
+/// these calls; whoever uses a file itself needs none of them, and finds those of [`RecordFile`] simpler.
 ///
-/// `place` and `replace` alone take memory; where it is refused, nothing has changed.
-pub trait RecordFile {
+/// `insert_if_free` and `replace_if_occupied` alone take memory; where it is refused, nothing has changed.
+///
+/// [`Stream`]: crate::Stream
+pub trait OneWalk {
     /// The shape and the records.
     ghost value: { Self → FileVal };
-
-    /// The shape, which is one that [`Shape::check`] gives. Numbers are 1 to the limit, in a
-    /// sequential file exactly 1 to the highest, and each record has a length that the shape allows.
-    fn shape(&self) -> Shape
-        ensures same { result ≡ (value self.now).shape }
-        ensures valid { IsFile (value self.now) };
-
-    /// The record of a number, or None where the number is free.
-    fn lookup(&self, number: u32) -> Option<&[u8]>
-        ensures same { option_copied result ≡ map.get (value self.now).records number }
-        ensures short { IfSome result (λ body. length body.now ≤ longest_record) };
 
     /// The record of the lowest occupied number from this one on, behind its number, or None where
     /// there is none.
@@ -39,23 +30,9 @@ pub trait RecordFile {
         ensures within { IfSome result (λ r. r.0 ≤ greatest_number) }
         ensures short { IfSome result (λ r. length r.1.now ≤ longest_record) };
 
-    /// The lowest occupied number from this one on, or None where there is none.
-    fn first_from(&self, number: u32) -> Option<u32>
-        ensures lowest { result ≡ lowest_from (value self.now).records number }
-        ensures within { IfSome result (λ n. n ≤ greatest_number) }
-    {
-        let (first, _body) = self.record_from(number)?;
-        Some(first)
-    }
-
-    /// The highest occupied number, or 0 where the file is empty.
-    fn highest(&self) -> u32
-        ensures same { result ≡ highest_of (value self.now).records }
-        ensures within { result ≤ greatest_number };
-
     /// Stores a record under a number, in a sequential file under the next one: whether the number was free. Where it
-    /// wasn't, nothing has changed. An error is want of memory: the number is free, and nothing has changed.
-    fn place(&mut self, number: u32, body: &[u8]) -> Result<bool, AllocError>
+    /// wasn't, nothing has changed. An error is out of memory: the number is free, and nothing has changed.
+    fn insert_if_free(&mut self, number: u32, body: &[u8]) -> Result<bool, AllocError>
         requires above { 1 ≤ number }
         requires within { number ≤ limit_of (value self.old).shape }
         requires next { IsTrue (is_seq (value self.old).shape.org)
@@ -70,8 +47,8 @@ pub trait RecordFile {
         ensures wanted { OnErr result (map.get (value self.old).records number ≡ None) };
 
     /// Stores another record under a number: whether it was occupied. Where it wasn't, nothing has changed. An error is
-    /// want of memory: the number is occupied, and nothing has changed.
-    fn replace(&mut self, number: u32, body: &[u8]) -> Result<bool, AllocError>
+    /// out of memory: the number is occupied, and nothing has changed.
+    fn replace_if_occupied(&mut self, number: u32, body: &[u8]) -> Result<bool, AllocError>
         requires length { IsTrue (allows_length (value self.old).shape (length body.now)) }
         ensures occupied { IfOk result
             (λ had. had ≡ is_some (map.get (value self.old).records number)) }
@@ -82,12 +59,82 @@ pub trait RecordFile {
         ensures wanted { OnErr result (IsSome (map.get (value self.old).records number)) };
 
     /// Removes the record of a number of a relative file: whether it was occupied. Where it wasn't, nothing has changed.
-    fn remove(&mut self, number: u32) -> bool
+    fn remove_if_occupied(&mut self, number: u32) -> bool
         requires relative { is_seq (value self.old).shape.org ≡ false }
         ensures occupied { result ≡ is_some (map.get (value self.old).records number) }
         ensures ok { MatchBool result
             (value self.new ≡ removed (value self.old) number)
             (value self.new ≡ value self.old) };
+}
+
+/// A file of numbered records, however it is kept, in the manner of RMS: its value is a shape
+/// and a finite map from numbers to records, and each call reads or changes that map.
+///
+/// `place` and `replace` alone take memory; where it is refused, nothing has changed.
+pub trait RecordFile: OneWalk {
+    /// The shape, which is one that [`Shape::check`] gives. Numbers are 1 to the limit, in a
+    /// sequential file exactly 1 to the highest, and each record has a length that the shape allows.
+    fn shape(&self) -> Shape
+        ensures same { result ≡ (Self.value self.now).shape }
+        ensures valid { IsFile (Self.value self.now) };
+
+    /// The record of a number, or None where the number is free.
+    fn lookup(&self, number: u32) -> Option<&[u8]>
+        ensures same { option_copied result ≡ map.get (Self.value self.now).records number }
+        ensures short { IfSome result (λ body. length body.now ≤ longest_record) };
+
+    /// The lowest occupied number from this one on, or None where there is none.
+    fn first_from(&self, number: u32) -> Option<u32>
+        ensures lowest { result ≡ lowest_from (Self.value self.now).records number }
+        ensures within { IfSome result (λ n. n ≤ greatest_number) }
+    {
+        let (first, _body) = self.record_from(number)?;
+        Some(first)
+    }
+
+    /// The highest occupied number, or 0 where the file is empty.
+    fn highest(&self) -> u32
+        ensures same { result ≡ highest_of (Self.value self.now).records }
+        ensures within { result ≤ greatest_number };
+
+    /// Stores a record under a free number, in a sequential file under the next one. An error is
+    /// out of memory: nothing has changed.
+    fn place(&mut self, number: u32, body: &[u8]) -> Result<(), AllocError>
+        requires above { 1 ≤ number }
+        requires within { number ≤ limit_of (Self.value self.old).shape }
+        requires free { map.get (Self.value self.old).records number ≡ None }
+        requires next { IsTrue (is_seq (Self.value self.old).shape.org)
+            → number ≡ highest_of (Self.value self.old).records + 1 }
+        requires length { IsTrue (allows_length (Self.value self.old).shape (length body.now)) }
+        ensures ok { OnOk result
+            (Self.value self.new ≡ stored (Self.value self.old) number body.now) }
+        ensures err { OnErr result (Self.value self.new ≡ Self.value self.old) }
+    {
+        let _free = self.insert_if_free(number, body)?;
+        Ok(())
+    }
+
+    /// Stores another record under an occupied number. An error is out of memory: nothing has
+    /// changed.
+    fn replace(&mut self, number: u32, body: &[u8]) -> Result<(), AllocError>
+        requires occupied { IsSome (map.get (Self.value self.old).records number) }
+        requires length { IsTrue (allows_length (Self.value self.old).shape (length body.now)) }
+        ensures ok { OnOk result
+            (Self.value self.new ≡ stored (Self.value self.old) number body.now) }
+        ensures err { OnErr result (Self.value self.new ≡ Self.value self.old) }
+    {
+        let _occupied = self.replace_if_occupied(number, body)?;
+        Ok(())
+    }
+
+    /// Removes the record of an occupied number of a relative file. It takes no memory.
+    fn remove(&mut self, number: u32)
+        requires relative { is_seq (Self.value self.old).shape.org ≡ false }
+        requires occupied { IsSome (map.get (Self.value self.old).records number) }
+        ensures { Self.value self.new ≡ removed (Self.value self.old) number }
+    {
+        let _occupied = self.remove_if_occupied(number);
+    }
 }
 
 /// The record of the lowest occupied number from this one on, behind its number: one step through

@@ -20,7 +20,7 @@ mod sorted;
 mod streams;
 
 pub use any::AnyFile;
-pub use files::{RecordFile, first_record};
+pub use files::{OneWalk, RecordFile, first_record};
 pub use picks::{Pick, Rights};
 pub use refusals::{Refusal, key_number};
 pub use relative::RelFile;

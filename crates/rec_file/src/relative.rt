@@ -12,7 +12,7 @@ ghost use Rattle.rec_file.specs.Files.{lowest_from};
 ghost use Rattle.rec_file.specs.Limits.{longest_record};
 ghost use Rattle.rec_file.specs.Inner.Pages.{pages_at, page_cell, put_entry, HaveOwnPlaces, IsPage, IsSpot};
 
-use crate::files::RecordFile;
+use crate::files::{OneWalk, RecordFile};
 use crate::pages::{Page, cell_of, first_in, last_in, page_of};
 use crate::places::{Places, Put};
 use crate::shapes::Shape;
@@ -154,24 +154,8 @@ fn put_in(
     Ok(true)
 }
 
-impl RecordFile for RelFile {
+impl OneWalk for RelFile {
     ghost value = { λ f. f };
-
-    fn shape(&self) -> Shape {
-        self.shape
-    }
-
-    fn lookup(&self, number: u32) -> Option<&[u8]> {
-        let places = &self.places;
-        if number == 0 {
-            return None;
-        }
-        let place = places.get(page_of(number))?;
-        let Some(page) = self.pages.get(place) else {
-            unreachable!();
-        };
-        page.get(cell_of(number))
-    }
 
     fn record_from(&self, number: u32) -> Option<(u32, &[u8])> {
         let (first, page) = self.spot_from(number)?;
@@ -181,20 +165,7 @@ impl RecordFile for RelFile {
         Some((first, body))
     }
 
-    fn highest(&self) -> u32 {
-        let Some((at, place)) = self.places.last() else {
-            return 0;
-        };
-        let Some(page) = self.pages.get(place) else {
-            unreachable!();
-        };
-        let Some(highest) = last_in(at, page) else {
-            unreachable!();
-        };
-        highest
-    }
-
-    fn place(&mut self, number: u32, body: &[u8]) -> Result<bool, AllocError> {
+    fn insert_if_free(&mut self, number: u32, body: &[u8]) -> Result<bool, AllocError> {
         let at = page_of(number);
         let cell = cell_of(number);
         put_in(
@@ -207,7 +178,7 @@ impl RecordFile for RelFile {
         )
     }
 
-    fn replace(&mut self, number: u32, body: &[u8]) -> Result<bool, AllocError> {
+    fn replace_if_occupied(&mut self, number: u32, body: &[u8]) -> Result<bool, AllocError> {
         let places = &self.places;
         if number == 0 {
             return Ok(false);
@@ -226,11 +197,42 @@ impl RecordFile for RelFile {
         Ok(true)
     }
 
-    fn remove(&mut self, number: u32) -> bool {
+    fn remove_if_occupied(&mut self, number: u32) -> bool {
         let places = &mut self.places;
         if number == 0 {
             return false;
         }
         places.clear(page_of(number), cell_of(number), &mut self.pages)
+    }
+}
+
+impl RecordFile for RelFile {
+    fn shape(&self) -> Shape {
+        self.shape
+    }
+
+    fn lookup(&self, number: u32) -> Option<&[u8]> {
+        let places = &self.places;
+        if number == 0 {
+            return None;
+        }
+        let place = places.get(page_of(number))?;
+        let Some(page) = self.pages.get(place) else {
+            unreachable!();
+        };
+        page.get(cell_of(number))
+    }
+
+    fn highest(&self) -> u32 {
+        let Some((at, place)) = self.places.last() else {
+            return 0;
+        };
+        let Some(page) = self.pages.get(place) else {
+            unreachable!();
+        };
+        let Some(highest) = last_in(at, page) else {
+            unreachable!();
+        };
+        highest
     }
 }

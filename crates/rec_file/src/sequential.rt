@@ -3,7 +3,7 @@ ghost use Rattle.std.specs.Prelude.{◌≡◌, IsTrue};
 ghost use Rattle.std.specs.FinMap as map;
 ghost use Rattle.rec_file.specs.Shapes.{is_shape, is_seq};
 
-use crate::files::RecordFile;
+use crate::files::{OneWalk, RecordFile};
 use crate::shapes::Shape;
 use std::alloc::{AllocError, Global};
 use std::marker::Model;
@@ -47,9 +47,39 @@ impl SeqFile {
     }
 }
 
-impl RecordFile for SeqFile {
+impl OneWalk for SeqFile {
     ghost value = { λ f. f };
 
+    fn record_from(&self, number: u32) -> Option<(u32, &[u8])> {
+        let records = &self.records;
+        let first = number.max(1);
+        let record = records.get(first as usize - 1)?;
+        Some((first, record.as_slice()))
+    }
+
+    fn insert_if_free(&mut self, _number: u32, body: &[u8]) -> Result<bool, AllocError> {
+        let record = Vec::from_slice(*self.records.allocator(), body)?;
+        self.records.push(record)?;
+        Ok(true)
+    }
+
+    fn replace_if_occupied(&mut self, number: u32, body: &[u8]) -> Result<bool, AllocError> {
+        if number == 0 || number as usize > self.records.len() {
+            return Ok(false);
+        }
+        let record = Vec::from_slice(*self.records.allocator(), body)?;
+        self.records[number as usize - 1] = record;
+        Ok(true)
+    }
+
+    /// No file is sequential and relative.
+    fn remove_if_occupied(&mut self, _number: u32) -> bool {
+        let _ = &self.shape;
+        unreachable!()
+    }
+}
+
+impl RecordFile for SeqFile {
     fn shape(&self) -> Shape {
         self.shape
     }
@@ -60,35 +90,7 @@ impl RecordFile for SeqFile {
         Some(record.as_slice())
     }
 
-    fn record_from(&self, number: u32) -> Option<(u32, &[u8])> {
-        let records = &self.records;
-        let first = number.max(1);
-        let record = records.get(first as usize - 1)?;
-        Some((first, record.as_slice()))
-    }
-
     fn highest(&self) -> u32 {
         self.records.len() as u32
-    }
-
-    fn place(&mut self, _number: u32, body: &[u8]) -> Result<bool, AllocError> {
-        let record = Vec::from_slice(*self.records.allocator(), body)?;
-        self.records.push(record)?;
-        Ok(true)
-    }
-
-    fn replace(&mut self, number: u32, body: &[u8]) -> Result<bool, AllocError> {
-        if number == 0 || number as usize > self.records.len() {
-            return Ok(false);
-        }
-        let record = Vec::from_slice(*self.records.allocator(), body)?;
-        self.records[number as usize - 1] = record;
-        Ok(true)
-    }
-
-    /// No file is sequential and relative.
-    fn remove(&mut self, _number: u32) -> bool {
-        let _ = &self.shape;
-        unreachable!()
     }
 }

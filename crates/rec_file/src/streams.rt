@@ -195,7 +195,7 @@ impl Stream {
             }
         };
         let moves = key.is_none() && !file.shape().is_sequential();
-        match file.place(number, body) {
+        match file.insert_if_free(number, body) {
             Ok(true) => {
                 let next = if moves { number + 1 } else { self.next };
                 self.seek(next);
@@ -263,7 +263,7 @@ impl Stream {
                 return Err(refusal);
             }
         };
-        match file.replace(number, body) {
+        match file.replace_if_occupied(number, body) {
             Ok(true) => {
                 self.forget();
                 Ok(number)
@@ -325,7 +325,7 @@ impl Stream {
         let Some(number) = current else {
             return Err(Refusal::NoCurrent);
         };
-        if !file.remove(number) {
+        if !file.remove_if_occupied(number) {
             return Err(Refusal::NoCurrent);
         }
         Ok(number)

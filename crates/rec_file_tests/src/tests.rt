@@ -1,12 +1,14 @@
-//! Scripts over each kind of file: worked examples, and each refusal beside a call that isn't refused.
+//! Scripts over each kind of file: worked examples, and each refusal beside a call that isn't refused. A list of numbers and
+//! records runs those of relative files too.
 
+mod list_file;
+
+use list_file::ListFile;
 use rec_file::{
     AnyFile, Format, MAX_NUMBER, Org, Pick, RecordFile, Refusal, RelFile, Rights, SeqFile, Shape,
     Stream, first_record, key_number,
 };
-use std::collections::BTreeMap;
 use std::process::Abort;
-use std::test::Fail;
 
 const ALL: Rights = Rights {
     get: true,
@@ -133,6 +135,7 @@ fn a_relative_file_of_three_numbers(rt: HostRuntime) {
     let shape = Shape { mrs: 0, ..THREE };
     three_numbers(&rt, &mut RelFile::new(rt.alloc(), shape));
     three_numbers(&rt, &mut AnyFile::new(rt.alloc(), shape));
+    three_numbers(&rt, &mut ListFile::new(rt.alloc(), shape));
 }
 
 const TWO_BYTES: Script = &[
@@ -213,7 +216,8 @@ const REMOVALS: &[(u32, (usize, u32, Option<u32>))] = &[
 /// The record of a number is there, and is removed.
 fn removes(rt: &impl Abort, file: &mut RelFile, number: u32) {
     assert!(rt; !file.shape().is_sequential());
-    assert!(rt; file.remove(number));
+    assert!(rt; file.lookup(number).is_some());
+    file.remove(number);
     assert!(rt; file.lookup(number).is_none());
 }
 
@@ -381,6 +385,7 @@ fn two_streams<F: RecordFile>(rt: &impl Abort, file: &mut F) {
 fn each_refusal_of_a_relative_file(rt: HostRuntime) {
     relative_refusals(&rt, &mut RelFile::new(rt.alloc(), THREE));
     relative_refusals(&rt, &mut AnyFile::new(rt.alloc(), THREE));
+    relative_refusals(&rt, &mut ListFile::new(rt.alloc(), THREE));
 }
 
 fn first_len(file: &AnyFile, from: u32) -> Option<(u32, usize)> {
@@ -486,84 +491,6 @@ fn keys_of_one_to_four_bytes(rt: HostRuntime) {
     }
 }
 
-/// Records by their numbers, as the standard library keeps them.
-type Map = BTreeMap<u32, &'static [u8]>;
-
-fn first_of(map: &Map, from: u32) -> Option<u32> {
-    map.range(from..).next().map(|(number, _)| *number)
-}
-
-/// What a pick of the map answers, where a stream reads from `next`.
-fn picked(map: &Map, pick: Pick, next: u32) -> Result<u32, Refusal> {
-    match pick {
-        Pick::Next => first_of(map, next).ok_or(Refusal::EndOfFile),
-        Pick::Key(number) | Pick::Rfa(number) => {
-            if map.contains_key(&number) {
-                Ok(number)
-            } else {
-                Err(Refusal::RecordNotFound)
-            }
-        }
-    }
-}
-
-/// How many pages the records of the map take.
-fn count_pages(map: &Map) -> usize {
-    let mut count = 0usize;
-    let mut page = None;
-    for number in map.keys() {
-        let here = Some(number.saturating_sub(1) / 64);
-        if page != here {
-            page = here;
-            count = count.saturating_add(1);
-        }
-    }
-    count
-}
-
-fn highest_of(map: &Map) -> u32 {
-    map.last_key_value().map_or(0, |(number, _)| *number)
-}
-
-/// Whether the pages answer as the map does for a number.
-fn is_same(pages: &RelFile, map: &Map, number: u32) -> bool {
-    pages.first_from(number) == first_of(map, number)
-        && pages.lookup(number) == map.get(&number).copied()
-}
-
-fn same_records(rt: &impl Abort, pages: &RelFile, map: &Map) {
-    assert!(rt; pages.highest() == highest_of(map));
-    assert!(rt; pages.page_count() == count_pages(map));
-    for number in 0..400 {
-        assert!(rt; is_same(pages, map, number), "at {number}");
-    }
-}
-
-/// What a put of the number answers, for what the map holds.
-fn wanted_put(map: &Map, number: u32) -> Result<u32, Refusal> {
-    if map.contains_key(&number) {
-        Err(Refusal::RecordExists)
-    } else {
-        Ok(number)
-    }
-}
-
-/// A put to the pages and to the map.
-fn put_to_both(
-    rt: &impl Abort,
-    stream: &mut Stream,
-    pages: &mut RelFile,
-    map: &mut Map,
-    number: u32,
-) -> Result<(), Fail> {
-    let put = stream.put(pages, Some(number), b"put");
-    assert!(rt; put == wanted_put(map, number), "at {number}");
-    if put.is_ok() {
-        map.insert(number, b"put")?;
-    }
-    Ok(())
-}
-
 /// A pick of one step: the next record, or the one under the number.
 fn pick_at(step: u32, number: u32) -> Pick {
     if step % 2 == 0 {
@@ -573,77 +500,72 @@ fn pick_at(step: u32, number: u32) -> Pick {
     }
 }
 
-/// What an update or a delete answers behind a get that answered so.
-fn behind(got: Result<u32, Refusal>) -> Result<u32, Refusal> {
-    got.map_err(|_| Refusal::NoCurrent)
-}
-
-/// A delete from the pages and from the map, behind a get that answered so.
-fn delete_from_both(
-    rt: &impl Abort,
+/// What one step of the script answers: a put, or a get and the delete or the update behind it.
+fn take_step<F: RecordFile>(
+    file: &mut F,
     stream: &mut Stream,
-    pages: &mut RelFile,
-    map: &mut Map,
-    got: Result<u32, Refusal>,
-) {
-    assert!(rt; stream.delete(pages) == behind(got), "behind {got:?}");
-    if let Ok(number) = got {
-        map.remove(&number);
-    }
-}
-
-/// An update of the pages and of the map, behind a get that answered so.
-fn update_both(
-    rt: &impl Abort,
-    stream: &mut Stream,
-    pages: &mut RelFile,
-    map: &mut Map,
-    got: Result<u32, Refusal>,
-) -> Result<(), Fail> {
-    let updated = stream.update(pages, b"updated");
-    assert!(rt; updated == behind(got), "behind {got:?}");
-    if let Ok(number) = got {
-        map.insert(number, b"updated")?;
-    }
-    Ok(())
-}
-
-/// One step of the script.
-fn take_step(
-    rt: &impl Abort,
-    stream: &mut Stream,
-    pages: &mut RelFile,
-    map: &mut Map,
     step: u32,
     number: u32,
-) -> Result<(), Fail> {
+) -> (Result<u32, Refusal>, Option<Result<u32, Refusal>>) {
     if step % 5 < 2 {
-        return put_to_both(rt, stream, pages, map, number);
+        return (stream.put(file, Some(number), b"put"), None);
     }
-    let pick = pick_at(step, number);
-    let got = picked(map, pick, stream.next());
-    assert!(rt; stream.get(pages, pick) == got, "at {number}");
-    if step % 3 == 0 {
-        delete_from_both(rt, stream, pages, map, got);
-        return Ok(());
-    }
-    update_both(rt, stream, pages, map, got)
+    let got = stream.get(file, pick_at(step, number));
+    let changed = if step % 3 == 0 {
+        stream.delete(file)
+    } else {
+        stream.update(file, b"updated")
+    };
+    (got, Some(changed))
 }
 
-/// The pages answer as a map does to a long script of scattered numbers.
+/// Whether the pages answer as the list does for a number.
+fn is_same(pages: &RelFile, list: &ListFile, number: u32) -> bool {
+    pages.first_from(number) == list.first_from(number)
+        && pages.lookup(number) == list.lookup(number)
+        && first_record(pages, number) == first_record(list, number)
+}
+
+/// How many pages the records of the list take.
+fn count_pages(list: &ListFile) -> usize {
+    let mut count = 0usize;
+    let mut page = None;
+    for number in 1..400u32 {
+        let here = Some((number - 1) / 64);
+        if list.lookup(number).is_some() && page != here {
+            page = here;
+            count = count.saturating_add(1);
+        }
+    }
+    count
+}
+
+fn same_records(rt: &impl Abort, pages: &RelFile, list: &ListFile) {
+    assert!(rt; pages.highest() == list.highest());
+    assert!(rt; pages.page_count() == count_pages(list));
+    for number in 0..400 {
+        assert!(rt; is_same(pages, list, number), "at {number}");
+    }
+}
+
+/// The pages answer as the list does to a long script of scattered numbers.
 #[test]
-fn pages_answer_as_a_map(rt: HostRuntime) -> Result<(), Fail> {
+fn pages_answer_as_the_list(rt: HostRuntime) {
     let mut pages = RelFile::new(rt.alloc(), RELATIVE);
-    let mut map = Map::new(rt.alloc());
-    let mut stream = Stream::new(ALL);
+    let mut list = ListFile::new(rt.alloc(), RELATIVE);
+    let mut here = Stream::new(ALL);
+    let mut there = Stream::new(ALL);
     let mut seed: u32 = 1;
     for step in 0..1500u32 {
         seed = seed.wrapping_mul(1664525).wrapping_add(1013904223);
         let number = (seed >> 8) % 300 + 1;
-        take_step(&rt, &mut stream, &mut pages, &mut map, step, number)?;
+        let wanted = take_step(&mut list, &mut there, step, number);
+        assert!(rt;
+            take_step(&mut pages, &mut here, step, number) == wanted,
+            "at step {step}"
+        );
         if step % 50 == 0 {
-            same_records(&rt, &pages, &map);
+            same_records(&rt, &pages, &list);
         }
     }
-    Ok(())
 }

@@ -3,8 +3,8 @@ use Rattle.std.specs.Prelude.{◌≡◌, ◌<◌, ◌≤◌, ◌+◌, ◌*◌, �
 use Rattle.std.specs.List.{AllByRecursion, IsDistinct, list_any}
 use Rattle.nsp_seg.specs.declared.packet.Packet.TheVariants.{Segment}
 use Rattle.dap_listing.specs.declared.lines.Direction.{Direction}
-use Rattle.dap_listing.specs.Captured.{Spell}
-use Rattle.dap_listing.specs.Inner.Decoding.{carried_by}
+use Rattle.dap_listing.specs.Captured.{Spell, segment_of}
+use Rattle.dap_listing.specs.declared.captured.CapturedSegment.{CapturedSegment}
 use Rattle.nsp_seg.specs.declared.packet.SegmentFields.{SegmentFields}
 use Rattle.dap_follow.specs.Streams.{ArePlaced, Captured, Placed, at, came_in, is_same, segment_in, streams}
 use Rattle.dap_follow.specs.Inner.Placing.{IsPutIn, Rises, counted_value}
@@ -25,17 +25,17 @@ abbrev pub put_at : ℕ → Came → Placed
 put_at place c = record { place = place; packet = c.0; first = c.1.first; last = c.1.last; payload = c.1.payload }
 
 -- one of the program
-abbrev pub came : ℕ → SegmentFields → Came
-came packet c = (packet, carried_by c)
+abbrev pub came : ℕ → CapturedSegment → Came
+came packet c = (packet, segment_of c)
 
 -- a segment was put in its place, which is near the highest before it
-pub record IsAdded (packet : ℕ) (c : SegmentFields) (old new : Places) : Type 0 where
+pub record IsAdded (packet : ℕ) (c : CapturedSegment) (old new : Places) : Type 0 where
   pub counted : Counted
   pub low : old.highest ≤ counted.place + 2047
   pub high : counted.place ≤ old.highest + 2048
   pub number : counted.place % 4096 ≡ c.number
   pub value : counted_value counted ≡ put_at counted.place (came packet c)
-  pub digits : counted.payload.now ≡ c.payload
+  pub digits : counted.payload.now ≡ c.digits.now
   pub packet_is : counted.packet ≡ packet
   pub put : IsPutIn old.ordered.items counted new.ordered.items
   pub highest : new.highest ≡ max old.highest counted.place
@@ -83,8 +83,8 @@ pub record KeepsAll (packets : List Captured) (s : Streams) : Type 0 where
 abbrev pub KeepsSome : ℕ → Streams → Type 0
 KeepsSome packet s = (packets : List Captured) × KeepsAll packets s × (packet ≡ length packets + 1) × (packet < 2 ^ 32)
 
-abbrev pub segment_packet : Direction → SegmentFields → Captured
-segment_packet way c = (way, Ok (Segment (carried_by c)))
+abbrev pub segment_packet : Direction → CapturedSegment → Captured
+segment_packet way c = (way, Ok (Segment (segment_of c)))
 
 -- the same stream stands there
 abbrev pub HasAt : Stream → ℕ → List Stream → Type 0

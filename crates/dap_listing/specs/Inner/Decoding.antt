@@ -1,26 +1,21 @@
 -- Hex digits whose bytes are decoded as far as they are needed.
 use Rattle.std.specs.Prelude.{min, ◌≡◌, ℕ, ◌+◌, ◌*◌, ◌≤◌, List, length, drop, Result, Ok, Err}
-use Rattle.nsp_seg.specs.declared.packet.Packet.{Packet}
-use Rattle.nsp_seg.specs.declared.packet.SegmentFields.{SegmentFields}
-use Rattle.nsp_seg.specs.declared.packet.Packet.TheVariants.{Segment, DataAck}
 use Rattle.nsp_seg.specs.declared.packet.SegFault.{SegFault}
 use Rattle.dap_msg.specs.declared.message.Message.{Message}
 use Rattle.dap_msg.specs.declared.message.Message.TheVariants.{Filedata}
 use Rattle.dap_msg.specs.declared.items.Item.{Item}
 use Rattle.dap_msg.specs.declared.items.Item.TheVariants.{Whole, Malformed}
-use Rattle.dap_listing.specs.Captured.{bytes_of}
+use Rattle.dap_listing.specs.declared.captured.CapturedPacket.{CapturedPacket}
+use Rattle.dap_listing.specs.declared.captured.CapturedPacket.TheVariants.{Segment, DataAck}
 
 -- how many bytes are decoded, of so many, to tell what they are
 abbrev pub front_of : ℕ → ℕ
 front_of count = min 32 count
 
--- a segment whose payload stood there as hex digits
-abbrev pub carried_by : SegmentFields → SegmentFields
-carried_by s = record s { payload = bytes_of s.payload }
-
 -- a payload's digits end the digits, and stand behind so many bytes at most
-abbrev pub IsBehind : List ℕ → ℕ → Result Packet SegFault → Type 0
-IsBehind digits known (Ok (Segment s)) = (head : ℕ) × (head ≤ known) × (2 * head + length s.payload ≡ length digits) × (s.payload ≡ drop (2 * head) digits)
+abbrev pub IsBehind : List ℕ → ℕ → Result CapturedPacket SegFault → Type 0
+IsBehind digits known (Ok (Segment c)) =
+    (head : ℕ) × (head ≤ known) × (2 * head + length c.digits.now ≡ length digits) × (c.digits.now ≡ drop (2 * head) digits)
 IsBehind digits known (Ok (DataAck ack)) = Unit {0}
 IsBehind digits known (Err fault) = Unit {0}
 

@@ -1,6 +1,6 @@
 //! Several messages in one NSP message.
 
-use dap_msg::{Message, MsgFault, append_blocked, append_message, fits};
+use dap_msg::{MessageValue, MsgFault, append_blocked, append_message, fits_value};
 use std::alloc::Global;
 use std::process::Abort;
 use std::test::Fail;
@@ -69,10 +69,10 @@ fn messages_are_joined(rt: HostRuntime) -> Result<(), Fail> {
 
 /// Acknowledges that are written in their places, each with its limit.
 fn written(rt: &(impl AllocGlobal + Abort), limits: &[usize]) -> Result<Vec<Vec<u8>>, MsgFault> {
-    assert!(rt; fits(&Message::Ack));
+    assert!(rt; fits_value(&MessageValue::Ack));
     let mut list = Vec::new(rt.alloc());
     for limit in limits {
-        append_message(rt.alloc(), &mut list, &Message::Ack, *limit)?;
+        append_message(rt.alloc(), &mut list, &MessageValue::Ack, *limit)?;
     }
     Ok(list)
 }

@@ -1,7 +1,9 @@
 //! The numbers of codes, and what both ends say of limits.
 
 use dap_msg::codes::{REASON_BAD_KEY, REASON_FILE_EXISTS, invalid, out_of_place, unsupported};
-use dap_msg::{GREATEST_MESSAGE, Message, encoded_len, fits, is_too_small, limit_of, number_of};
+use dap_msg::{
+    GREATEST_MESSAGE, MessageValue, encoded_len, fits_value, is_too_small, limit_of, number_of,
+};
 
 #[test]
 fn codes_by_the_type_of_a_message(rt: HostRuntime) {
@@ -20,12 +22,12 @@ fn limits_and_numbers(rt: HostRuntime) {
     }
     assert!(rt; (limit_of(0), limit_of(1024)) == (GREATEST_MESSAGE, 1024));
     assert!(rt; number_of(&[1, 2]) == 513);
-    assert!(rt; length(&Message::complete_with(2)) == Some(5));
+    assert!(rt; length(&MessageValue::complete_with(2)) == Some(5));
 }
 
 /// How many bytes the message has, where it fits.
-fn length(message: &Message<'_>) -> Option<usize> {
-    if fits(message) {
+fn length(message: &MessageValue<'_>) -> Option<usize> {
+    if fits_value(message) {
         Some(encoded_len(message))
     } else {
         None

@@ -1,8 +1,8 @@
 //! What stands at the places of an NSP message.
 
-use dap_msg::{ControlFields, FaultKind, Item, Message, MsgFault, item_at};
+use dap_msg::{ControlFields, FaultKind, Item, MessageValue, MsgFault, item_at};
 
-const GET: Message<'static> = Message::Control(ControlFields {
+const GET: MessageValue<'static> = MessageValue::Control(ControlFields {
     func: 1,
     rac: Some(0),
     key: None,
@@ -35,7 +35,7 @@ enum Found {
 fn item_of(found: Found) -> Item<'static> {
     match found {
         Found::Get => Item::Whole(GET),
-        Found::Ack => Item::Whole(Message::Ack),
+        Found::Ack => Item::Whole(MessageValue::Ack),
         Found::Fault(fault) => Item::Malformed(fault),
     }
 }

@@ -1,10 +1,7 @@
 //! The greatest value of each field that has a limit, and the one above it.
 
 use bitflags::Flags;
-use dap_msg::{
-    AccessFields, Attributes, Bytes, Completion, Configuration, ControlFields, FileAccess, Message,
-    StatusFields, fits,
-};
+use dap_msg::{Attributes, Bytes, FileAccess, Message, MessageValue, fits};
 use std::test::Fail;
 
 /// The greatest values of extensible fields of 2 to 12 bytes.
@@ -37,10 +34,7 @@ const I_255: &[u8] = &[0; 255];
 const I_256: &[u8] = &[0; 256];
 
 fn data<'a>(recnum: &'a [u8], payload: &'a [u8]) -> Message<'a> {
-    Message::Filedata {
-        recnum: Bytes(recnum),
-        payload: Bytes(payload),
-    }
+    Message::Filedata { recnum, payload }
 }
 
 /// A record number, the length of a record, and whether the message fits.
@@ -80,7 +74,7 @@ const OTHERS: &[(u8, usize, bool)] = &[
 
 /// Whether a message of no known layout with so much of an operand fits.
 fn fits_other(number: u8, operand: &[u8], length: usize) -> Option<bool> {
-    let body = Bytes(operand.get(..length)?);
+    let body = operand.get(..length)?;
     Some(fits(&Message::Other { number, body }))
 }
 
@@ -228,7 +222,7 @@ fn attributes_are_so(row: AttributesRow) -> bool {
         sbn: Some(Bytes(sbn)),
         ..Attributes::none()
     };
-    fits(&Message::Attrib(attributes)) == good
+    fits(&Message::from_value(MessageValue::Attrib(attributes))) == good
 }
 
 /// OPT, NAME, FAC, SHR, DISPLAY and PASSWORD.
@@ -245,15 +239,15 @@ const ACCESS: &[(u64, &[u8], u32, u32, u32, &[u8], bool)] = &[
 #[test]
 fn of_access(rt: HostRuntime) {
     for (opt, name, fac, shr, display, password, good) in ACCESS {
-        let access = Message::Access(AccessFields {
+        let access = Message::Access {
             func: 1,
             opt: *opt,
-            name: Bytes(name),
+            name,
             fac: *fac,
             shr: *shr,
             display: *display,
-            password: Bytes(password),
-        });
+            password,
+        };
         assert!(rt; fits(&access) == *good);
     }
 }
@@ -270,16 +264,16 @@ const CONTROL: &[(&[u8], u64, &[u8], u32, bool)] = &[
 #[test]
 fn of_control(rt: HostRuntime) {
     for (key, rop, hsh, display, good) in CONTROL {
-        let control = ControlFields {
+        let control = Message::Control {
             func: 1,
             rac: None,
-            key: Some(Bytes(key)),
+            key: Some(*key),
             krf: None,
             rop: Some(*rop),
-            hsh: Some(Bytes(hsh)),
+            hsh: Some(*hsh),
             display: Some(*display),
         };
-        assert!(rt; fits(&Message::Control(control)) == *good);
+        assert!(rt; fits(&control) == *good);
     }
 }
 
@@ -294,12 +288,12 @@ const STATUS: &[(&[u8], &[u8], &[u8], bool)] = &[
 #[test]
 fn of_status(rt: HostRuntime) {
     for (rfa, recnum, stv, good) in STATUS {
-        let status = Message::Status(StatusFields {
+        let status = Message::Status {
             code: 0,
-            rfa: Bytes(rfa),
-            recnum: Bytes(recnum),
-            stv: Bytes(stv),
-        });
+            rfa,
+            recnum,
+            stv,
+        };
         assert!(rt; fits(&status) == *good);
     }
 }
@@ -307,7 +301,7 @@ fn of_status(rt: HostRuntime) {
 #[test]
 fn of_configuration_and_completion(rt: HostRuntime) {
     for (syscap, fop, good) in [(EX_12, EX_6, true), (EX_12 + 1, EX_6 + 1, false)] {
-        let config = Message::Config(Configuration {
+        let config = Message::Config {
             bufsiz: 0,
             ostype: 0,
             filesys: 0,
@@ -317,13 +311,13 @@ fn of_configuration_and_completion(rt: HostRuntime) {
             softver: 0,
             usrsoft: 0,
             syscap,
-        });
+        };
         assert!(rt; fits(&config) == good);
-        let complete = Message::Accomp(Completion {
+        let complete = Message::Accomp {
             func: 1,
             fop,
             check: None,
-        });
+        };
         assert!(rt; fits(&complete) == good);
     }
 }

@@ -14,8 +14,8 @@ returns c =
     let m = message_of c.args.answer in
     let most : length (canon m) ≤ most_bytes c.args.answer = c.message.ensures.within in
     let short : length (canon m) ≤ least_buffer = omega (arith, most, short_most c.args.answer c.requires.short) in
-    let appends : Appends no_memory (canon m) c.self.inside.bytes c.encode-written.new.out c.encode-written.result =
-    subst (λ (m : Message). Appends no_memory (canon m) c.self.inside.bytes c.encode-written.new.out c.encode-written.result) c.message.ensures.same c.encode-written.ensures in
+    let appends : Appends no_memory (canon m) c.self.inside.bytes c.encode_value-written.new.out c.encode_value-written.result =
+    subst (λ (m : Message). Appends no_memory (canon m) c.self.inside.bytes c.encode_value-written.new.out c.encode_value-written.result) c.message.ensures.same c.encode_value-written.ensures in
     answered_one c.args.limit m c.push_reserved.new.self c.message.ensures.fits (omega (arith, short, c.requires.room))
-    (ap bodies c.push_reserved.ensures.items ∙ ap (λ (l : List (Vec ℕ)). bodies (l ++ c.encode-written.new.out ∷ [])) c.self.invariant.0.0
-    ∙ ap (λ (x : List ℕ). x ∷ []) (filled (canon m) c.self.inside.bytes c.encode-written.new.out c.encode-written.result appends c.self.invariant.1.0 c.self.invariant.1.1 short))
+    (ap bodies c.push_reserved.ensures.items ∙ ap (λ (l : List (Vec ℕ)). bodies (l ++ c.encode_value-written.new.out ∷ [])) c.self.invariant.0.0
+    ∙ ap (λ (x : List ℕ). x ∷ []) (filled (canon m) c.self.inside.bytes c.encode_value-written.new.out c.encode_value-written.result appends c.self.invariant.1.0 c.self.invariant.1.1 short))

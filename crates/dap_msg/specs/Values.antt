@@ -1,0 +1,71 @@
+-- The value of a message with named fields: its images and bytes are lists of numbers, wherever they lie.
+use Rattle.std.specs.Prelude.{ℕ, option_copied, Result, Ok, Err}
+use Rattle.dap_msg.specs.declared.dap_message.Message.{Message}
+use Rattle.dap_msg.specs.declared.dap_message.Message.TheVariants as message
+use Rattle.dap_msg.specs.declared.fault.MsgFault.{MsgFault}
+use Rattle.dap_msg.specs.Message.{Message as MessageValue, Config, Attrib, Access, Control, Contran, Ack, Accomp, Filedata, Status, Other}
+
+abbrev pub value_of : Message → MessageValue
+value_of (message.Config bufsiz ostype filesys vernum econum usrnum softver usrsoft syscap) = Config (record {
+  bufsiz = bufsiz;
+  ostype = ostype;
+  filesys = filesys;
+  vernum = vernum;
+  econum = econum;
+  usrnum = usrnum;
+  softver = softver;
+  usrsoft = usrsoft;
+  syscap = syscap;
+})
+value_of (message.Attrib datatype org rfm rat bls mrs alq bks fsz mrn runsys deq fop bsz dev sdc lrl hbk ebk ffb sbn) = Attrib (record {
+  datatype = datatype;
+  org = org;
+  rfm = rfm;
+  rat = rat;
+  bls = bls;
+  mrs = mrs;
+  alq = option_copied alq;
+  bks = bks;
+  fsz = fsz;
+  mrn = option_copied mrn;
+  runsys = option_copied runsys;
+  deq = deq;
+  fop = fop;
+  bsz = bsz;
+  dev = dev;
+  sdc = sdc;
+  lrl = lrl;
+  hbk = option_copied hbk;
+  ebk = option_copied ebk;
+  ffb = ffb;
+  sbn = option_copied sbn;
+})
+value_of (message.Access func opt name fac shr display password) = Access (record {
+  func = func;
+  opt = opt;
+  name = name.now;
+  fac = fac;
+  shr = shr;
+  display = display;
+  password = password.now;
+})
+value_of (message.Control func rac key krf rop hsh display) = Control (record {
+  func = func;
+  rac = rac;
+  key = option_copied key;
+  krf = krf;
+  rop = rop;
+  hsh = option_copied hsh;
+  display = display;
+})
+value_of (message.Contran func) = Contran func
+value_of message.Ack = Ack
+value_of (message.Accomp func fop check) = Accomp (record { func = func; fop = fop; check = check })
+value_of (message.Filedata recnum payload) = Filedata recnum.now payload.now
+value_of (message.Status code rfa recnum stv) = Status (record { code = code; rfa = rfa.now; recnum = recnum.now; stv = stv.now })
+value_of (message.Other number body) = Other number body.now
+
+-- an answer with the message's value in its place
+abbrev pub value_of_answer : Result (Message × ℕ) MsgFault → Result (MessageValue × ℕ) MsgFault
+value_of_answer (Ok x) = Ok (value_of x.0, x.1)
+value_of_answer (Err fault) = Err fault

@@ -1,0 +1,148 @@
+//! Packets with named fields, as a program makes, matches, reads and writes them.
+
+ghost use Rattle.std.specs.Prelude.{◌≡◌, ◌≤◌, ◌+◌, ◌++◌, length, Ok, Err, IfOk, IfErr, IsOk, IsOkUnless, OnOk, OnErr, vec_len, vec_capacity};
+ghost use Rattle.nsp_seg.specs.declared.packet.SegFault.TheVariants.{NoMemory};
+ghost use Rattle.nsp_seg.specs.Packets.{Packet as PacketValue, FitsFields, HasFault, IsWritable, Spells, spelling};
+ghost use Rattle.nsp_seg.specs.Values.{value_of, value_of_answer};
+
+use crate::decode::decode_value;
+use crate::encode::encode_value;
+use crate::packet::{
+    AckField, AckFields, Packet as PacketValue, Payload, SegFault, SegmentFields,
+};
+use crate::seq12::Seq12;
+
+/// A packet (NSP 4.0.0, data segments and their acknowledgement), for programs that read or write packets: its fields
+/// have names, and its payload is a slice of the bytes that were read. It is copied freely.
+///
+/// Contracts say its value, the [`PacketValue`] with the same fields, in which the payload is a list of numbers.
+#[derive(Clone, Copy, Debug, PartialEq, Eq)]
+pub enum Packet<'a> {
+    /// A data segment (NSP 4.0.0, data segment message).
+    Segment {
+        /// Whether it is the first segment of its message.
+        first: bool,
+        /// Whether it is the last.
+        last: bool,
+        /// The link address to which it goes.
+        dst: u16,
+        /// The link address from which it comes.
+        src: u16,
+        /// Up to two acknowledgement fields; the second only beside the first.
+        ack1: Option<AckField>,
+        ack2: Option<AckField>,
+        /// The number of the segment.
+        number: Seq12,
+        /// Its bytes, which may be none.
+        payload: &'a [u8],
+    },
+    /// A data acknowledgement (NSP 4.0.0, data acknowledgement message).
+    DataAck {
+        /// The link address to which it goes.
+        dst: u16,
+        /// The link address from which it comes.
+        src: u16,
+        /// One or two acknowledgement fields.
+        ack1: AckField,
+        ack2: Option<AckField>,
+    },
+}
+
+impl<'a> Packet<'a> {
+    /// The value of the packet. Made into a packet again it has the same fields. Takes no memory.
+    pub fn to_value(&self) -> PacketValue<'a>
+        ensures { result ≡ value_of self.now }
+    {
+        match *self {
+            Packet::Segment {
+                first,
+                last,
+                dst,
+                src,
+                ack1,
+                ack2,
+                number,
+                payload,
+            } => PacketValue::Segment(SegmentFields {
+                first,
+                last,
+                dst,
+                src,
+                ack1,
+                ack2,
+                number,
+                payload: Payload(payload),
+            }),
+            Packet::DataAck {
+                dst,
+                src,
+                ack1,
+                ack2,
+            } => PacketValue::DataAck(AckFields {
+                dst,
+                src,
+                ack1,
+                ack2,
+            }),
+        }
+    }
+
+    /// The packet that has this value. Takes no memory.
+    pub fn from_value(value: PacketValue<'a>) -> Packet<'a>
+        ensures { value_of result ≡ value.entry }
+    {
+        match value {
+            PacketValue::Segment(segment) => Packet::Segment {
+                first: segment.first,
+                last: segment.last,
+                dst: segment.dst,
+                src: segment.src,
+                ack1: segment.ack1,
+                ack2: segment.ack2,
+                number: segment.number,
+                payload: segment.payload.0,
+            },
+            PacketValue::DataAck(ack) => Packet::DataAck {
+                dst: ack.dst,
+                src: ack.src,
+                ack1: ack.ack1,
+                ack2: ack.ack2,
+            },
+        }
+    }
+}
+
+/// The packet that the bytes, all of them, spell; its payload is a part of them. It takes no memory.
+/// Bytes that spell none have one fault, and that is told (NSP 4.0.0, data segment message and data
+/// acknowledgement message; other messages are not read here: own).
+pub fn decode_packet(bytes: &[u8]) -> Result<Packet<'_>, SegFault>
+    // What is spelled is read, and what is read is spelled.
+    ensures only { (p : PacketValue) → Spells p bytes.now → value_of_answer result ≡ Ok p }
+    ensures found { IfOk result (λ p. Spells (value_of p) bytes.now) }
+    // A fault of the bytes is told, and what is told is a fault of the bytes.
+    ensures fault_found { (f : SegFault) → HasFault f bytes.now → result ≡ Err f }
+    ensures fault { IfErr result (λ f. HasFault f bytes.now) }
+{
+    match decode_value(bytes) {
+        Ok(value) => Ok(Packet::from_value(value)),
+        Err(fault) => Err(fault),
+    }
+}
+
+/// Appends the packet's bytes; the free bits of a segment's number are written 0 (own). The caller sees
+/// to it that each qualifier is at most 7, and that a second acknowledgement field stands only beside a
+/// first. It is refused for want of memory alone, which leaves `out` as it was, and never where `out`
+/// has the room already; no room is given back (NSP 4.0.0, data segment message and data
+/// acknowledgement message).
+pub fn encode_packet(packet: &Packet<'_>, out: &mut Vec<u8>) -> Result<(), SegFault>
+    requires { IsWritable (value_of packet.now) }
+    ensures ok { OnOk result (out.new.items ≡ out.old.items ++ spelling (value_of packet.now)) }
+    ensures fits { OnOk result (FitsFields (value_of packet.now)) }
+    ensures err { OnErr result (out.new.items ≡ out.old.items) }
+    ensures fault { IsOkUnless result NoMemory }
+    ensures room { vec_len out.old + length (spelling (value_of packet.now)) ≤ vec_capacity out.old
+        → IsOk result }
+    ensures capacity { vec_capacity out.old ≤ vec_capacity out.new }
+{
+    encode_value(&packet.to_value(), out)
+}

@@ -1,0 +1,2 @@
+-- What only the contracts of the tests cite.
+pub mod Lists
