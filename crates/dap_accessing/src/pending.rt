@@ -109,7 +109,7 @@ impl Pending {
 
     /// Whether a message is expected as the next answer. It takes no memory.
     #[tactic(auto, using(crate::proofs::Expecting::heard_place, crate::proofs::Expecting::record_place, crate::proofs::Expecting::batch_place))]
-    pub(crate) fn expects(&self, answer: &Message<'_>) -> bool
+    pub(crate) fn expects(&self, answer: &MessageValue<'_>) -> bool
         requires { HasShortNumbers answer.now }
         ensures yes { result ≡ true → HasPlace self.now (Whole answer.now) }
         ensures no { result ≡ false → HasNoPlace (Whole answer.now) (Some self.now) }
@@ -138,13 +138,13 @@ fn is_expected(outcome: Heard) -> bool
 }
 
 /// Whether the message is a record, or a Status that says why there is none.
-fn is_record_or_refusal(message: &Message<'_>) -> bool
+fn is_record_or_refusal(message: &MessageValue<'_>) -> bool
     ensures yes { result ≡ true → IsRecordOrRefusal message.now }
     ensures no { result ≡ false → IsRecordOrRefusal message.now → ⊥ }
 {
     match message {
-        Message::Filedata { .. } => true,
-        Message::Status(status) => !StatusCode(status.code).is_success(),
+        MessageValue::Filedata { .. } => true,
+        MessageValue::Status(status) => !StatusCode(status.code).is_success(),
         _ => false,
     }
 }

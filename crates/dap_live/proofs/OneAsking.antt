@@ -37,7 +37,7 @@ use Rattle.dap_live.specs.declared.orders.Order.TheVariants as order
 use Rattle.dap_live.specs.Orders.{order_of, setup_anew}
 use Rattle.dap_live.specs.Sending.{AllAgain, SaysAck, waits_of}
 use Rattle.dap_live.specs.Texts.{ask_refusal, done_said, link_refusal, packets_text, reports_text, taken_said}
-use Rattle.dap_live.specs.Asking.{GoesOn, Resends, AsksNot, Asks, IsNew, OnEnd, Does, DoesAll, Ends, answered, waiting, came_by, goes_on}
+use Rattle.dap_live.specs.Asking.{GoesOn, Resends, AsksNot, Asks, IsNew, OnEnd, Does, DoesAll, Ends, IsForAsking, answered, waiting, came_by, goes_on}
 use Rattle.dap_live.specs.Both.{DoesOrder, DoneOr, Stays, TakesPacket}
 use Rattle.dap_live.specs.Inner.Saying.{front_text}
 use Rattle.dap_live.specs.Inner.OneText.{AreSameAsking}
@@ -345,12 +345,12 @@ all_one old other one two o said more b c fits same nb nc x y =
     let e = ends_one x.1 x.0 y.0 one two b c t.0 x.3 (subst (λ (m : Came). Ends m y.0 two c) (sym t.2) y.3) in
     (e.0, t.1, e.1)
 
-order_one : (old other one two : Asking) (o : Option Order) (said more : List ℕ) (b c : Became) → Fits o → AreSameAsking old other → b ≢ NoMemory → c ≢ NoMemory → DoesOrder Does DoesAll old o one said b → DoesOrder Does DoesAll other o two more c
+order_one : (old other one two : Asking) (o : Option Order) (said more : List ℕ) (b c : Became) → Fits o → AreSameAsking old other → b ≢ NoMemory → c ≢ NoMemory → DoesOrder IsForAsking Does DoesAll old o one said b → DoesOrder IsForAsking Does DoesAll other o two more c
     → AreSameAsking one two × (said ≡ more) × (b ≡ c)
 order_one old other one two None said more b c fits same nb nc x y = (stay old other one two same x.0 y.0, x.1 ∙ sym y.1, x.2 ∙ sym y.2)
 order_one old other one two (Some o) said more b c fits same nb nc (inl x) (inl y) = all_one old other one two o said more b c fits same nb nc x y
-order_one old other one two (Some o) said more b c fits same nb nc (inl x) (inr y) = absurd (nc y.2)
-order_one old other one two (Some o) said more b c fits same nb nc (inr x) y = absurd (nb x.2)
+order_one old other one two (Some o) said more b c fits same nb nc (inl x) (inr y) = absurd (nc y.3)
+order_one old other one two (Some o) said more b c fits same nb nc (inr x) y = absurd (nb x.3)
 
 asking_answers : (one other new end : Asking) (line said more : List ℕ) (b c : Became) → AreSameAsking one other → b ≢ NoMemory → c ≢ NoMemory → answered one line new said b → answered other line end more c
     → AreSameAsking new end × (said ≡ more) × (b ≡ c)

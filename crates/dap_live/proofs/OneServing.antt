@@ -35,7 +35,7 @@ use Rattle.dap_live.specs.declared.orders.Order.TheVariants as order
 use Rattle.dap_live.specs.Orders.{order_of, setup_anew}
 use Rattle.dap_live.specs.Sending.{SaysAck, UnlessFailed, is_left, waits_of}
 use Rattle.dap_live.specs.Texts.{add_refusal, done_said, link_refusal, packets_text, taken_said}
-use Rattle.dap_live.specs.Serving.{Resends, IsNew, Added, AddsFile, AddsRecord, OnEnd, Does, answered, waiting}
+use Rattle.dap_live.specs.Serving.{Resends, IsNew, Added, AddsFile, AddsRecord, OnEnd, Does, IsForServing, answered, waiting}
 use Rattle.dap_live.specs.Both.{DoesOrder, DoneOr, SaysGone, Stays, TakesPacket}
 use Rattle.dap_live.specs.Inner.Saying.{AddsShaped}
 use Rattle.dap_live.specs.Inner.OneText.{HasServed, AreSameServing}
@@ -144,8 +144,8 @@ added_one : (files : Files) (end one two : ServingValue) (said more : List ℕ) 
 added_one files end one two said more b c (past, h, inl came) (x, silent, ends) (y, quiet, over) = absurd (x.idle came)
 added_one files end one two said more b c (past, h, inr none) (x, silent, ends) (y, quiet, over) =
     let there : IsAfter (nothing_yet past.first) end = subst (λ (p : Past). IsAfter p end) none.0 h in
-    let after = x.given past.first there in
-    let other : IsAfter (nothing_yet one.present.files) two = subst (λ (f : Files). IsAfter (nothing_yet f) two) (y.files ∙ sym x.files) (y.given past.first there) in (
+    let after = x.given (nothing_yet past.first) there in
+    let other : IsAfter (nothing_yet one.present.files) two = subst (λ (f : Files). IsAfter (nothing_yet f) two) (y.files ∙ sym x.files) (y.given (nothing_yet past.first) there) in (
       anew_one one.present.files one two (x.port ∙ sym y.port) (x.own ∙ sym y.own) after other,
       silent ∙ sym quiet,
       ends ∙ sym over,
@@ -284,12 +284,12 @@ does_one old other one two (order.Record r) said more b c fits same nb nc x y =
     (record_one old.end one.end two.end r said more b c same.2 nb nc x.1 (subst (λ (v : ServingValue). AddsRecord v r two.end more c) (sym same.0) y.1))
 does_one old other one two (order.Ask request) said more b c fits same nb nc x y = (stay old other one two same x.0 y.0, x.1 ∙ sym y.1, x.2 ∙ sym y.2)
 
-order_one : (old other one two : Serving) (o : Option Order) (said more : List ℕ) (b c : Became) → Fits o → AreSameServing old other → b ≢ NoMemory → c ≢ NoMemory → DoesOrder Does Does old o one said b → DoesOrder Does Does other o two more c
+order_one : (old other one two : Serving) (o : Option Order) (said more : List ℕ) (b c : Became) → Fits o → AreSameServing old other → b ≢ NoMemory → c ≢ NoMemory → DoesOrder IsForServing Does Does old o one said b → DoesOrder IsForServing Does Does other o two more c
     → Two one two said more b c
 order_one old other one two None said more b c fits same nb nc x y = (stay old other one two same x.0 y.0, x.1 ∙ sym y.1, x.2 ∙ sym y.2)
 order_one old other one two (Some o) said more b c fits same nb nc (inl x) (inl y) = does_one old other one two o said more b c fits same nb nc x y
-order_one old other one two (Some o) said more b c fits same nb nc (inl x) (inr y) = absurd (nc y.2)
-order_one old other one two (Some o) said more b c fits same nb nc (inr x) y = absurd (nb x.2)
+order_one old other one two (Some o) said more b c fits same nb nc (inl x) (inr y) = absurd (nc y.3)
+order_one old other one two (Some o) said more b c fits same nb nc (inr x) y = absurd (nb x.3)
 
 serving_answers : (one other new end : Serving) (line said more : List ℕ) (b c : Became) → AreSameServing one other → b ≢ NoMemory → c ≢ NoMemory → answered one line new said b → answered other line end more c
     → AreSameServing new end × (said ≡ more) × (b ≡ c)

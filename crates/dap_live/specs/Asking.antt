@@ -98,9 +98,16 @@ Ends (Untold was) old new became = (new ≡ old) × (became ≡ was)
 abbrev pub DoesAll : Asking → Order → Asking → List ℕ → Became → Type 0
 DoesAll old o new text became = (mid : Asking) × (came : Came) × Does old o mid text came × Ends came mid new became
 
+-- an order that an end which asks knows
+abbrev pub IsForAsking : Order → Type 0
+IsForAsking order.Files = ⊥
+IsForAsking (order.File file) = ⊥
+IsForAsking (order.Record r) = ⊥
+IsForAsking _ = Unit {0}
+
 -- where memory is refused to the text, the reports still wait
 abbrev pub answered : Asking → List ℕ → Asking → List ℕ → Became → Type 0
-answered old line new text became = DoesOrder Does DoesAll old (order_of line) new text became
+answered old line new text became = DoesOrder IsForAsking Does DoesAll old (order_of line) new text became
 
 -- it would do something by going on, or has reports to tell
 abbrev pub waiting : Asking → ℕ

@@ -56,9 +56,9 @@ Doing E C = E → Order → E → List ℕ → C → Type 0
 abbrev pub Stays : {E C : Type 0} → (was : C) → (old new : E) → C → Type 0
 Stays was old new came = (new ≡ old) × (came ≡ was)
 
--- Where memory is refused to the text, it is done or it isn't, and nothing is said but that.
-abbrev pub DoesOrder : {E C : Type 0} → Doing E C → (DoesAll : Doing E Became) → E → Option Order → E → List ℕ → Became → Type 0
-DoesOrder Does DoesAll old None new text became = (new ≡ old) × (text ≡ []) × (became ≡ BadLine)
-DoesOrder {E} {C} Does DoesAll old (Some o) new text became =
+-- Where memory is refused to the text of an order that the end knows, it is done or it isn't, and nothing is said but that.
+abbrev pub DoesOrder : {E C : Type 0} → (Knows : Order → Type 0) → Doing E C → (DoesAll : Doing E Became) → E → Option Order → E → List ℕ → Became → Type 0
+DoesOrder Knows Does DoesAll old None new text became = (new ≡ old) × (text ≡ []) × (became ≡ BadLine)
+DoesOrder {E} {C} Knows Does DoesAll old (Some o) new text became =
     DoesAll old o new text became
-    ⊎ (((new ≡ old) ⊎ ((said : List ℕ) × (came : C) × Does old o new said came)) × (text ≡ []) × (became ≡ NoMemory))
+    ⊎ (Knows o × ((new ≡ old) ⊎ ((said : List ℕ) × (came : C) × Does old o new said came)) × (text ≡ []) × (became ≡ NoMemory))

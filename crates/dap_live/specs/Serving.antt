@@ -8,7 +8,7 @@ use Rattle.nsp_link.specs.declared.link.LinkSetup.{LinkSetup}
 use Rattle.nsp_link.specs.Link.{IsSetup, SetupFault}
 use Rattle.dap_end.specs.Ports.{HasCome}
 use Rattle.dap_end.specs.Serving.{IsAfter, NotGiven}
-use Rattle.dap_end.specs.Done.{ServingValue, nothing_yet}
+use Rattle.dap_end.specs.Done.{ServingValue, Past, nothing_yet}
 use Rattle.dap_end.specs.Taking.{serves}
 use Rattle.linewise.specs.declared.talking.Became.{Became}
 use Rattle.linewise.specs.declared.talking.Became.TheVariants.{Done, BadLine}
@@ -44,7 +44,7 @@ IsNew setup buffer files s = IsAfter (nothing_yet files) s.end × IsSetUp setup 
 pub record Added (made : Files) (old new : ServingValue) : Type 0 where
   pub files : new.present.files ≡ made
   pub idle : HasCome old.port → ⊥
-  pub given : (first : Files) → IsAfter (nothing_yet first) old → IsAfter (nothing_yet new.present.files) new
+  pub given : (past : Past) → IsAfter past old → IsAfter (record past { first = new.present.files }) new
   pub own : new.present.own ≡ old.present.own
   pub port : new.port ≡ old.port
 
@@ -80,8 +80,13 @@ Does old (order.File file) new text became = OnEnd old new × AddsFile old.end f
 Does old (order.Record r) new text became = OnEnd old new × AddsRecord old.end r new.end text became
 Does old (order.Ask request) new text became = (new ≡ old) × (text ≡ []) × (became ≡ BadLine)
 
+-- an order that an end which serves knows
+abbrev pub IsForServing : Order → Type 0
+IsForServing (order.Ask request) = ⊥
+IsForServing _ = Unit {0}
+
 abbrev pub answered : Serving → List ℕ → Serving → List ℕ → Became → Type 0
-answered old line new text became = DoesOrder Does Does old (order_of line) new text became
+answered old line new text became = DoesOrder IsForServing Does Does old (order_of line) new text became
 
 abbrev pub waiting : Serving → ℕ
 waiting serving = waits_of serving.end.port.link (is_left serving.end.port.link serving.end.port.outbox)

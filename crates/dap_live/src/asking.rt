@@ -14,7 +14,7 @@ ghost use Rattle.dap_live.specs.declared.asking.Came.{Came as TheCame};
 ghost use Rattle.dap_live.specs.Texts.{end_refusal, packets_text, reports_text};
 ghost use Rattle.dap_live.specs.Both.{DoesOrder};
 ghost use Rattle.dap_live.specs.Inner.Reaching.{Reaches};
-ghost use Rattle.dap_live.specs.Asking.{Asks, Does, DoesAll, Ends, GoesOn, OnEnd, Resends, came_by, goes_on as goes_on_by};
+ghost use Rattle.dap_live.specs.Asking.{Asks, Does, DoesAll, Ends, GoesOn, IsForAsking, OnEnd, Resends, came_by, goes_on as goes_on_by};
 ghost use Rattle.dap_live.specs.Inner.Saying.{front_text};
 
 use crate::orders::{Anew, Order, read_order, set_up};
@@ -294,6 +294,7 @@ fn act(asking: &mut Asking, order: Order<'_>, text: &mut Vec<u8>) -> Result<Came
     requires { text.old.items ≡ [] }
     ensures ok { IfOk result (Does asking.old order.entry asking.new text.new.items) }
     ensures err { OnErr result (Reaches Does asking.old order.entry asking.new) }
+    ensures known { OnErr result (IsForAsking order.entry) }
 {
     match order {
         Order::Packet(digits) => take_packet(asking, &digits, text),
@@ -321,7 +322,7 @@ fn end_answer(asking: &mut Asking, came: Came) -> Became
 /// Answers an order.
 fn answer_one(asking: &mut Asking, order: Order<'_>, text: &mut Vec<u8>) -> Became
     requires { text.old.items ≡ [] }
-    ensures { DoesOrder Does DoesAll asking.old (Some order.entry) asking.new text.new.items
+    ensures { DoesOrder IsForAsking Does DoesAll asking.old (Some order.entry) asking.new text.new.items
         result }
 {
     match act(asking, order, text) {
@@ -336,7 +337,7 @@ fn answer_one(asking: &mut Asking, order: Order<'_>, text: &mut Vec<u8>) -> Beca
 /// Answers what a line says.
 fn answer_order(asking: &mut Asking, order: Option<Order<'_>>, text: &mut Vec<u8>) -> Became
     requires { text.old.items ≡ [] }
-    ensures { DoesOrder Does DoesAll asking.old order.entry asking.new text.new.items result }
+    ensures { DoesOrder IsForAsking Does DoesAll asking.old order.entry asking.new text.new.items result }
 {
     match order {
         Some(order) => answer_one(asking, order, text),

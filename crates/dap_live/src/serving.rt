@@ -17,7 +17,7 @@ ghost use Rattle.dap_live.specs.Sending.{UnlessFailed, is_left as is_left_of};
 ghost use Rattle.dap_live.specs.Both.{DoesOrder, SaysGone, Stays, TakesPacket};
 ghost use Rattle.dap_live.specs.Inner.Reaching.{Reaches};
 ghost use Rattle.dap_live.specs.Inner.Saying.{AddsShaped};
-ghost use Rattle.dap_live.specs.Serving.{AddsFile, AddsRecord, Does, Resends};
+ghost use Rattle.dap_live.specs.Serving.{AddsFile, AddsRecord, Does, IsForServing, Resends};
 
 use crate::orders::{Anew, Order, read_order, set_up};
 use crate::sending::{is_left, push_again, say_ack, waits};
@@ -262,6 +262,7 @@ fn act(serving: &mut Serving, order: Order<'_>, text: &mut Vec<u8>) -> Result<Be
     requires { text.old.items ≡ [] }
     ensures ok { IfOk result (Does serving.old order.entry serving.new text.new.items) }
     ensures err { OnErr result (Reaches Does serving.old order.entry serving.new) }
+    ensures known { OnErr result (IsForServing order.entry) }
 {
     let alloc = serving.alloc;
     match order {
@@ -279,7 +280,7 @@ fn act(serving: &mut Serving, order: Order<'_>, text: &mut Vec<u8>) -> Result<Be
 /// Answers an order.
 fn answer_one(serving: &mut Serving, order: Order<'_>, text: &mut Vec<u8>) -> Became
     requires { text.old.items ≡ [] }
-    ensures { DoesOrder Does Does serving.old (Some order.entry) serving.new text.new.items result }
+    ensures { DoesOrder IsForServing Does Does serving.old (Some order.entry) serving.new text.new.items result }
 {
     match act(serving, order, text) {
         Ok(became) => became,
@@ -293,7 +294,7 @@ fn answer_one(serving: &mut Serving, order: Order<'_>, text: &mut Vec<u8>) -> Be
 /// Answers what a line says.
 fn answer_order(serving: &mut Serving, order: Option<Order<'_>>, text: &mut Vec<u8>) -> Became
     requires { text.old.items ≡ [] }
-    ensures { DoesOrder Does Does serving.old order.entry serving.new text.new.items result }
+    ensures { DoesOrder IsForServing Does Does serving.old order.entry serving.new text.new.items result }
 {
     match order {
         Some(order) => answer_one(serving, order, text),
