@@ -196,8 +196,8 @@ record DoesAnyway (own : ℕ) (s : Standing) (item : Item) : Type 0 where
 
 configuring : (own : ℕ) (s : Standing) (c : Message) (small : Bool) (limit : ℕ) (refusal answers : List Message)
     → let effect : Scene → Effect = λ scene. if small then enters scene Fresh refusal else enters (record scene { limit = limit }) Ready answers in
-      ((next_group s (Whole c) (Does (effect s.scene))).standing.scene.files ≡ s.scene.files)
-      × ((other : Files) → next_group (given_files other s) (Whole c) (Does (effect (record s.scene { files = other }))) ≡ with_files other (next_group s (Whole c) (Does (effect s.scene))))
+    ((next_group s (Whole c) (Does (effect s.scene))).standing.scene.files ≡ s.scene.files)
+    × ((other : Files) → next_group (given_files other s) (Whole c) (Does (effect (record s.scene { files = other }))) ≡ with_files other (next_group s (Whole c) (Does (effect s.scene))))
 configuring own s c true limit refusal answers = (refl, λ other. refl)
 configuring own s c false limit refusal answers = (refl, λ other. refl)
 
@@ -241,8 +241,8 @@ of_any_on own first before (item ∷ more) h e =
     let c = stands_after own first before in
     let same = append_assoc before (item ∷ []) more in
     let one : is_late (stands_after own first (before ++ item ∷ [])).standing.place ≡ false → IsOfAny own first (before ++ item ∷ []) = λ f.
-        let fresh = was_fresh own c item (is_late c.standing.place) refl (subst (λ (g : Grouped). is_late g.standing.place ≡ false) (cut-more own (start first) before item) f) in
-        of_one_more own first before item (h fresh) (fresh_of c.standing.place fresh) in
+    let fresh = was_fresh own c item (is_late c.standing.place) refl (subst (λ (g : Grouped). is_late g.standing.place ≡ false) (cut-more own (start first) before item) f) in
+    of_one_more own first before item (h fresh) (fresh_of c.standing.place fresh) in
     subst (IsOfAny own first) same (of_any_on own first (before ++ item ∷ []) more one (subst (λ (l : List Item). is_late (stands_after own first l).standing.place ≡ false) (sym same) e))
 
 -- before a Config the files are those at first, and an end with other files at first would stand so too
@@ -274,6 +274,6 @@ stands_given old new fresh is first items h =
     let c = stands_after old.own first items in
     let any = (of_any old.own first items (fresh.is first items h)).any new.files in
     let so : new ≡ present_of old.own (stands_after old.own new.files items) =
-        is ∙ ap (λ (p : Present). record p { files = new.files }) h ∙ sym (present_by old.own new.files c.standing c.begun) ∙ ap (present_of old.own) (sym any) in
+    is ∙ ap (λ (p : Present). record p { files = new.files }) h ∙ sym (present_by old.own new.files c.standing c.begun) ∙ ap (present_of old.own) (sym any) in
     let own : new.own ≡ old.own = ap (λ (p : Present). p.own) is in
     so ∙ ap (λ (n : ℕ). present_of n (stands_after n new.files items)) (sym own)

@@ -21,14 +21,14 @@ answers_given : (own : ℕ) (first other : Files) (before items : List Item) →
 answers_given own first other before [] fresh = refl
 answers_given own first other before (item ∷ items) fresh =
     let then : (stands_after own first ((before ++ item ∷ []) ++ items)).standing.place ≡ Fresh =
-        subst (λ (l : List Item). (stands_after own first l).standing.place ≡ Fresh) (sym (append_assoc before (item ∷ []) items)) fresh in
+    subst (λ (l : List Item). (stands_after own first l).standing.place ≡ Fresh) (sym (append_assoc before (item ∷ []) items)) fresh in
     let here = of_any own first before (front_fresh own first before (item ∷ items) fresh) in
     let one = of_any own first (before ++ item ∷ []) (front_fresh own first (before ++ item ∷ []) items then) in
     let limit : limit_for own first before ≡ limit_for own other before = sym (ap (λ (g : Grouped). g.standing.scene.limit) (here.any other)) in
     let answered : Answers own first before ≡ Answers own other before = sym (ap (λ (g : Grouped). answers_in g.standing.past) (here.any other)) in
     let all : Answers own first (before ++ item ∷ []) ≡ Answers own other (before ++ item ∷ []) = sym (ap (λ (g : Grouped). answers_in g.standing.past) (one.any other)) in
     let adds : added own first before item ≡ added own other before item =
-        ap (λ (l : List Message). drop (length l) (Answers own first (before ++ item ∷ []))) answered ∙ ap (λ (l : List Message). drop (length (Answers own other before)) l) all in
+    ap (λ (l : List Message). drop (length l) (Answers own first (before ++ item ∷ []))) answered ∙ ap (λ (l : List Message). drop (length (Answers own other before)) l) all in
     ap (λ (l : List NspMessage). l ++ answers_to own first (before ++ item ∷ []) items)
     (ap (λ (n : ℕ). Blocked n (added own first before item)) limit ∙ ap (Blocked (limit_for own other before)) adds)
     ∙ ap (λ (l : List NspMessage). Blocked (limit_for own other before) (added own other before item) ++ l) (answers_given own first other (before ++ item ∷ []) items then)

@@ -53,12 +53,11 @@ in_order first p j items front =
     let r = first_ones packets j.served.handed p.b.port.outbox items (answers_full own j.served.first [] j.served.items) (subst AllFit (sym answers) j.serving.fit) j.serving.answers front in
     let more = answers-front own first (map Whole t.taken) (map Whole t.rest) in
     let asked : map Whole t.taken ++ map Whole t.rest ≡ map Whole (Asked p.a.present.own p.requests) =
-        sym (map-append Whole t.taken t.rest) ∙ ap (map Whole) (t.split ∙ j.asking.messages ∙ ap (Asked p.a.present.own) j.requests) in
+    sym (map-append Whole t.taken t.rest) ∙ ap (map Whole) (t.split ∙ j.asking.messages ∙ ap (Asked p.a.present.own) j.requests) in
     let some : r.taken ++ r.rest ≡ Answers own first (map Whole t.taken) =
-        r.split ∙ answers ∙ ap (Answers own j.served.first) t.is ∙ ap (λ (f : Files). Answers own f (map Whole t.taken)) j.had in
+    r.split ∙ answers ∙ ap (Answers own j.served.first) t.is ∙ ap (λ (f : Files). Answers own f (map Whole t.taken)) j.had in
     let all : r.taken ++ (r.rest ++ more.0) ≡ asked_answers p.a.present.own own first p.requests =
-        sym (append_assoc r.taken r.rest more.0) ∙ ap (λ (l : List Message). l ++ more.0) some ∙ more.1 ∙ ap (Answers own first) asked in
-    (
+    sym (append_assoc r.taken r.rest more.0) ∙ ap (λ (l : List Message). l ++ more.0) some ∙ more.1 ∙ ap (Answers own first) asked in (
       map Whole (r.rest ++ more.0),
       ap (λ (l : List Item). l ++ map Whole (r.rest ++ more.0)) r.is ∙ sym (map-append Whole r.taken (r.rest ++ more.0)) ∙ ap (map Whole) all,
     )
@@ -85,7 +84,7 @@ one_more : (first : Files) → AreFiles first → (p : Pair) (new : AskingValue)
 one_more first good p new request n s a =
     let j = s.linked in
     let may : IsAdmissible p.a.present.own p.requests j.asked.answers request =
-        subst (λ (l : List Request). IsAdmissible p.a.present.own l j.asked.answers request) j.requests (a.asks.admissible j.asked.requests j.asked.answers j.asking.asking) in
+    subst (λ (l : List Request). IsAdmissible p.a.present.own l j.asked.answers request) j.requests (a.asks.admissible j.asked.requests j.asked.answers j.asking.asking) in
     let front = read_before first p j in
     let all = all_read p.a.present.own p.b.present.own first p.requests j.asked.answers front.0 (all_expected first good p s) front.1 may.0 in
     admissible-more p.a.present.own p.b.present.own first [] p.requests request s.admissible (subst (λ (l : List Item). IsAdmissible p.a.present.own p.requests l request) all may)

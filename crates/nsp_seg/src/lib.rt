@@ -17,6 +17,7 @@ pub use encode::encode_value;
 pub use laws::{packets_are_exact, residues_separate};
 pub use nsp_packet::{Packet, decode_packet, encode_packet};
 pub use packet::{
-    AckField, AckFields, FlagKind, Packet as PacketValue, Payload, SegFault, SegmentFields, flag_kind,
+    AckField, AckFields, FlagKind, Packet as PacketValue, Payload, SegFault, SegmentFields,
+    flag_kind,
 };
 pub use seq12::Seq12;

@@ -7,9 +7,7 @@ ghost use Rattle.nsp_seg.specs.Values.{value_of, value_of_answer};
 
 use crate::decode::decode_value;
 use crate::encode::encode_value;
-use crate::packet::{
-    AckField, AckFields, Packet as PacketValue, Payload, SegFault, SegmentFields,
-};
+use crate::packet::{AckField, AckFields, Packet as PacketValue, Payload, SegFault, SegmentFields};
 use crate::seq12::Seq12;
 
 /// A packet (NSP 4.0.0, data segments and their acknowledgement), for programs that read or write packets: its fields
