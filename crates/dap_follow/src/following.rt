@@ -1,7 +1,8 @@
 //! The listing of a capture with its messages joined.
 
-ghost use Rattle.std.specs.Prelude.{◌≡◌, ◌≤◌, ◌++◌, [], IfErr, IfOk, IfSome, OnOk, length};
-ghost use Rattle.dap_listing.specs.Gives.{KeepsUnwritten, TakesWithinLimit};
+ghost use Rattle.std.specs.Prelude.{◌≡◌, ◌≤◌, ◌++◌, [], IfErr, IfOk, IfSome, OnOk, length, IsErrOf};
+ghost use Rattle.dap_listing.specs.declared.fault.CaptureFault.TheVariants.{TooLarge};
+ghost use Rattle.dap_listing.specs.Gives.{KeepsUnwritten, TakesAnInput, TakesWithinLimit};
 ghost use Rattle.dap_listing.specs.Firsts.{IsFirst};
 ghost use Rattle.dap_listing.specs.Listing.{captures, packet_limit, faults_from};
 ghost use Rattle.dap_follow.specs.Following.{FollowGives, IsFollowed};
@@ -114,6 +115,8 @@ pub fn follow<R: Read, W: Write>(
         (λ input. FollowGives input (W.contents writer.old) (W.contents writer.new) result) }
     ensures unwritten { KeepsUnwritten result (W.contents writer.old) (W.contents writer.new) }
     ensures taken { TakesWithinLimit (R.remaining reader.old) (R.remaining reader.new) }
+    ensures within { (IsErrOf result TooLarge → ⊥)
+        → TakesAnInput (R.remaining reader.old) (R.remaining reader.new) }
 {
     let input = read_input(alloc, reader)?;
     let text = follow_input(alloc, &input)?;

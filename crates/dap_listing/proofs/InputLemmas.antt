@@ -3,8 +3,8 @@ use Rattle.std.proofs.Common.{◌≡◌, ◌≤◌, ◌+◌, ℕ, List, [], ◌+
 use Rattle.std.specs.Io.KnownBytes.{Consumes}
 use Rattle.std.proofs.KnownBytes.{Consumes-nil, Consumes-trans}
 use Rattle.linewise.specs.Talks.{longest}
-use Rattle.dap_listing.specs.Gives.{TakesWithinLimit}
-use Rattle.dap_listing.specs.Inner.Input.{TakesBehind}
+use Rattle.dap_listing.specs.Gives.{TakesAnInput, TakesWithinLimit}
+use Rattle.dap_listing.specs.Inner.Input.{TakesBehind, TakesUpTo}
 
 -- so many of the known bytes, from the front
 unfoldable pub HasTaken : ℕ → Option (List ℕ) → Option (List ℕ) → Type 0
@@ -40,3 +40,24 @@ pub takes_more : (count later : ℕ) (old now new : Option (List ℕ)) (taken : 
 unfolding TakesBehind
 takes_more count later old now new taken counted before more =
     (taken ++ more.0, Consumes-trans old now new taken more.0 before more.1, omega (arith, counted, more.2, length-append taken more.0))
+
+-- ---- No more than an input may have.
+
+pub up_none : (count : ℕ) (known : Option (List ℕ)) → count ≤ longest → TakesUpTo count known known
+unfolding TakesUpTo
+up_none count known within = ([], Consumes-nil known, omega (arith, within))
+
+pub up_more : (count later : ℕ) (old now new : Option (List ℕ)) (taken : List ℕ) → later ≡ count + length taken → Consumes old now taken
+    → TakesUpTo later now new → TakesUpTo count old new
+unfolding TakesUpTo
+up_more count later old now new taken counted before more =
+    (taken ++ more.0, Consumes-trans old now new taken more.0 before more.1, omega (arith, counted, more.2, length-append taken more.0))
+
+pub up_behind : (count : ℕ) (old now new : Option (List ℕ)) → HasTaken count old now → TakesUpTo count now new → TakesAnInput old new
+unfolding HasTaken TakesUpTo
+up_behind count old now new before behind =
+    (before.0 ++ behind.0, Consumes-trans old now new before.0 behind.0 before.2 behind.1, omega (arith, before.1, behind.2, length-append before.0 behind.0))
+
+pub up_within : (count : ℕ) (old now : Option (List ℕ)) → HasTaken count old now → count ≤ longest → TakesAnInput old now
+unfolding HasTaken
+up_within count old now before within = (before.0, before.2, omega (arith, before.1, within))

@@ -12,6 +12,10 @@ use Rattle.dap_listing.specs.declared.fault.CaptureFault.TheVariants.{BadLine, T
 abbrev pub TakesWithinLimit : Option (List ℕ) → Option (List ℕ) → Type 0
 TakesWithinLimit old new = (taken : List ℕ) × Consumes old new taken × (length taken ≤ longest + 1)
 
+-- and no longer than an input may be
+abbrev pub TakesAnInput : Option (List ℕ) → Option (List ℕ) → Type 0
+TakesAnInput old new = (taken : List ℕ) × Consumes old new taken × (length taken ≤ longest)
+
 -- a text of an input whose lines have no fault
 abbrev pub IsTextOf : List CaptureFault → (List ℕ → Type 0) → (input text : List ℕ) → Type 0
 IsTextOf faults IsText input text = (length input ≤ longest) × (faults ≡ []) × IsText text

@@ -1,6 +1,7 @@
 //! The runs over what a reader gives.
-ghost use Rattle.std.specs.Prelude.{IfSome};
-ghost use Rattle.dap_listing.specs.Gives.{KeepsUnwritten, TakesWithinLimit};
+ghost use Rattle.std.specs.Prelude.{IfSome, ◌≡◌, IsErrOf};
+ghost use Rattle.dap_listing.specs.declared.fault.CaptureFault.TheVariants.{TooLarge};
+ghost use Rattle.dap_listing.specs.Gives.{KeepsUnwritten, TakesAnInput, TakesWithinLimit};
 ghost use Rattle.dap_listing.specs.Listing.{ListingGives};
 
 use crate::listing::{Listed, list_input};
@@ -20,6 +21,8 @@ fn list<R: Read, W: Write>(
         ListingGives listed input (W.contents writer.old) (W.contents writer.new) result) }
     ensures unwritten { KeepsUnwritten result (W.contents writer.old) (W.contents writer.new) }
     ensures taken { TakesWithinLimit (R.remaining reader.old) (R.remaining reader.new) }
+    ensures within { (IsErrOf result TooLarge → ⊥)
+        → TakesAnInput (R.remaining reader.old) (R.remaining reader.new) }
 {
     let text = list_input(listed, alloc, reader)?;
     write_text(text.as_slice(), writer)?;
@@ -42,6 +45,8 @@ pub fn show<R: Read, W: Write>(
         (W.contents writer.old) (W.contents writer.new) result) }
     ensures unwritten { KeepsUnwritten result (W.contents writer.old) (W.contents writer.new) }
     ensures taken { TakesWithinLimit (R.remaining reader.old) (R.remaining reader.new) }
+    ensures within { (IsErrOf result TooLarge → ⊥)
+        → TakesAnInput (R.remaining reader.old) (R.remaining reader.new) }
 {
     list(Listed::Packets, alloc, reader, writer)
 }
@@ -59,6 +64,8 @@ pub fn messages<R: Read, W: Write>(
         (W.contents writer.old) (W.contents writer.new) result) }
     ensures unwritten { KeepsUnwritten result (W.contents writer.old) (W.contents writer.new) }
     ensures taken { TakesWithinLimit (R.remaining reader.old) (R.remaining reader.new) }
+    ensures within { (IsErrOf result TooLarge → ⊥)
+        → TakesAnInput (R.remaining reader.old) (R.remaining reader.new) }
 {
     list(Listed::Messages, alloc, reader, writer)
 }

@@ -2,9 +2,9 @@
 ghost use Rattle.std.specs.Prelude.{◌≡◌, ◌≤◌, ◌<◌, ◌+◌, ◌⊎◌, IfOk, IfErr, IsErrOf, OnOk, IfSome, length, take, true};
 ghost use Rattle.std.specs.Io.KnownBytes.{Consumes, IsAtEnd};
 ghost use Rattle.linewise.specs.Talks.{longest};
-ghost use Rattle.dap_listing.specs.Gives.{TakesWithinLimit};
+ghost use Rattle.dap_listing.specs.Gives.{TakesAnInput, TakesWithinLimit};
 ghost use Rattle.dap_listing.specs.declared.fault.CaptureFault.TheVariants.{NoMemory, ReadFailed, TooLarge};
-ghost use Rattle.dap_listing.specs.Inner.Input.{IsFaultAfter, TakesBehind};
+ghost use Rattle.dap_listing.specs.Inner.Input.{IsFaultAfter, TakesBehind, TakesUpTo};
 
 use crate::CaptureFault;
 use linewise::LONGEST;
@@ -19,7 +19,7 @@ pub(crate) const CHUNK: usize = 65_536;
 
 /// Reads on into the front of the chunk, no further than the byte that breaks the limit, and answers how many bytes
 /// came: 0 at the end. The count is of the bytes that were read before.
-#[tactic(auto, unfolding(crate::specs::Inner::Input::TakesBehind))]
+#[tactic(auto, unfolding(crate::specs::Inner::Input::TakesBehind, crate::specs::Inner::Input::TakesUpTo))]
 pub(crate) fn read_some<R: Read>(
     reader: &mut R,
     chunk: &mut [u8],
@@ -35,6 +35,8 @@ pub(crate) fn read_some<R: Read>(
         Consumes (R.remaining reader.old) (R.remaining reader.new) (take came chunk.new)) }
     ensures end { IfOk result (λ came. came ≡ 0 → IsAtEnd (R.remaining reader.new)) }
     ensures taken { TakesBehind count.old (R.remaining reader.old) (R.remaining reader.new) }
+    ensures within { (IsErrOf result TooLarge → ⊥)
+        → TakesUpTo count.old (R.remaining reader.old) (R.remaining reader.new) }
     ensures fault { IfErr result (IsFaultAfter count.old (R.remaining reader.old)) }
 {
     let room = chunk.len().min(INPUT_LIMIT + 1 - *count);
@@ -59,6 +61,8 @@ pub(crate) fn skip_rest<R: Read>(
     ensures small { OnOk result (IfSome (R.remaining reader.old)
         (λ rest. count.old + length rest ≤ 16777216)) }
     ensures taken { TakesBehind count.old (R.remaining reader.old) (R.remaining reader.new) }
+    ensures within { (IsErrOf result TooLarge → ⊥)
+        → TakesUpTo count.old (R.remaining reader.old) (R.remaining reader.new) }
     ensures fault { IfErr result (IsFaultAfter count.old (R.remaining reader.old)) }
 {
     while read_some(reader, chunk, count)? > 0 {}
@@ -78,6 +82,8 @@ pub(crate) fn skip_unread<R: Read>(
     ensures small { OnOk result (IfSome (R.remaining reader.old)
         (λ rest. count.old + length rest ≤ 16777216)) }
     ensures taken { TakesBehind count.old (R.remaining reader.old) (R.remaining reader.new) }
+    ensures within { (IsErrOf result TooLarge → ⊥)
+        → TakesUpTo count.old (R.remaining reader.old) (R.remaining reader.new) }
     ensures fault { IfErr result (IsFaultAfter count.old (R.remaining reader.old)) }
 {
     if is_met {
@@ -96,6 +102,8 @@ pub fn read_input<R: Read>(alloc: Global, reader: &mut R) -> Result<Vec<u8>, Cap
     ensures end { OnOk result (IsAtEnd (R.remaining reader.new)) }
     ensures limit { IfOk result (λ input. length input.items ≤ INPUT_LIMIT) }
     ensures taken { TakesWithinLimit (R.remaining reader.old) (R.remaining reader.new) }
+    ensures within { (IsErrOf result TooLarge → ⊥)
+        → TakesAnInput (R.remaining reader.old) (R.remaining reader.new) }
     ensures too_large { IsErrOf result TooLarge
         → IfSome (R.remaining reader.old) (λ bytes. longest < length bytes) }
     ensures fault { IfErr result
@@ -103,13 +111,12 @@ pub fn read_input<R: Read>(alloc: Global, reader: &mut R) -> Result<Vec<u8>, Cap
 {
     let mut input = Vec::new(alloc);
     let mut chunk = [0; CHUNK];
-    while input.len() <= INPUT_LIMIT {
-        let room = CHUNK.min(INPUT_LIMIT + 1 - input.len());
-        match reader.read(&mut chunk[..room]) {
-            Ok(0) => return Ok(input),
-            Ok(count) => input.extend_from_slice(&chunk[..count])?,
-            Err(_) => return Err(CaptureFault::ReadFailed),
+    let mut count = 0;
+    'chunks: loop {
+        let came = read_some(reader, &mut chunk, &mut count)?;
+        if came == 0 {
+            return Ok(input);
         }
+        input.extend_from_slice(&chunk[..came])?;
     }
-    Err(CaptureFault::TooLarge)
 }

@@ -1,13 +1,13 @@
 //! The listing of an input: of packets, or of NSP messages.
 
-ghost use Rattle.std.specs.Prelude.{◌≡◌, ◌≢◌, ◌≤◌, ◌<◌, ◌+◌, ◌-◌, ◌⊎◌, [], drop, OnErr, IfSome, ◌*◌, ◌^◌, Some, true, false, IfErr, IfOk, None, OnOk, Ok, length, option_map};
-ghost use Rattle.dap_listing.specs.Gives.{TakesWithinLimit};
+ghost use Rattle.std.specs.Prelude.{◌≡◌, ◌≢◌, ◌≤◌, ◌<◌, ◌+◌, ◌-◌, ◌⊎◌, [], drop, OnErr, IfSome, ◌*◌, ◌^◌, Some, true, false, IfErr, IfOk, None, OnOk, Ok, length, option_map, IsErrOf};
+ghost use Rattle.dap_listing.specs.Gives.{TakesAnInput, TakesWithinLimit};
 ghost use Rattle.dap_listing.specs.Inner.Adding.{AddsCapture};
 ghost use Rattle.dap_text.specs.Adding.{AddsSome};
 ghost use Rattle.dap_listing.specs.Inner.Cutting.{FaultsGoOn, HasNoEnd, IsEnd, IsFirstFault, ListingGoesOn};
 ghost use Rattle.dap_listing.specs.Captured.{Spell, bytes_of};
 ghost use Rattle.dap_listing.specs.Inner.Progress.{IsInputFault, IsWhole, TextGives};
-ghost use Rattle.dap_listing.specs.declared.fault.CaptureFault.TheVariants.{NoMemory, WriteFailed};
+ghost use Rattle.dap_listing.specs.declared.fault.CaptureFault.TheVariants.{NoMemory, TooLarge, WriteFailed};
 ghost use Rattle.dap_text.specs.Words.{is_hex_text as is_spelled};
 ghost use Rattle.dap_listing.specs.Lines.{digits_line, line_of};
 ghost use Rattle.dap_listing.specs.Listing.{IsCapturedText, limit_of};
@@ -294,6 +294,8 @@ fn list_as_read<R: Read>(
     ensures fault { IfErr result
         (λ fault. IfSome (R.remaining reader.old) (λ input. IsInputFault listed input fault)) }
     ensures taken { TakesWithinLimit (R.remaining reader.old) (R.remaining reader.new) }
+    ensures within { (IsErrOf result TooLarge → ⊥)
+        → TakesAnInput (R.remaining reader.old) (R.remaining reader.new) }
     ensures unwritten { IfErr result (λ fault. fault ≢ WriteFailed) }
 {
     let mut chunk = [0; CHUNK];
@@ -338,6 +340,8 @@ pub(crate) fn list_input<R: Read>(
 ) -> Result<Vec<u8>, CaptureFault>
     ensures gives { IfSome (R.remaining reader.old) (λ input. TextGives listed input result) }
     ensures taken { TakesWithinLimit (R.remaining reader.old) (R.remaining reader.new) }
+    ensures within { (IsErrOf result TooLarge → ⊥)
+        → TakesAnInput (R.remaining reader.old) (R.remaining reader.new) }
     ensures unwritten { IfErr result (λ fault. fault ≢ WriteFailed) }
 {
     let progress = list_as_read(listed, alloc, reader)?;

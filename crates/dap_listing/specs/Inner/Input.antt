@@ -9,6 +9,10 @@ use Rattle.dap_listing.specs.declared.fault.CaptureFault.TheVariants.{TooLarge, 
 unfoldable pub TakesBehind : ℕ → Option (List ℕ) → Option (List ℕ) → Type 0
 TakesBehind count old new = (taken : List ℕ) × Consumes old new taken × (count + length taken ≤ longest + 1)
 
+-- and with these no more than an input may have
+unfoldable pub TakesUpTo : ℕ → Option (List ℕ) → Option (List ℕ) → Type 0
+TakesUpTo count old new = (taken : List ℕ) × Consumes old new taken × (count + length taken ≤ longest)
+
 -- why what stands behind so many bytes can't be read, where no memory is taken
 abbrev pub IsFaultAfter : ℕ → Option (List ℕ) → CaptureFault → Type 0
 IsFaultAfter count known TooLarge = IfSome known (λ bytes. 16777216 < count + length bytes)
