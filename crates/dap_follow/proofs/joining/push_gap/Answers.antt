@@ -33,7 +33,7 @@ returns c =
     let far : (tail p).place + 1 < c.in-Some.next.now.place = omega (arith, to, c.if-next-last.false, c.if-next-last-eq1.false) in
     let r = range_text ((tail p).place + 1) (c.in-Some.next.now.place - 1) in
     let range : t3 ≡ t2 ++ r = c.in_ok-push_range.ensures ∙ ap (λ (a : ℕ). t2 ++ range_text (a + 1) (c.in-Some.next.now.place - 1)) to in
-    let line = appended_twice t0 t1 t4 (codes "gap") (stream ++ (r ++ line_feed)) c.in_ok-push_str.ensures
+    let line = appended_twice t0 t1 t4 (codes "gap") (stream ++ (r ++ line_feed)) c.in_ok-push_str.ensures.added
     (appended_twice t1 t2 t4 stream (r ++ line_feed) c.in_ok-push_stream.ensures (appended_twice t2 t3 t4 r line_feed range ended)) in
     line ∙ ap (λ (l : List ℕ). t0 ++ l) (sym (a_gap c.args.stream.now p c.args.others.now c.in-Some.next.now c.in-Some.ensures.value far)))
-    c.push_str-2.ensures
+    c.push_str-2.ensures.added

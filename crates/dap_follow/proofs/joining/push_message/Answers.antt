@@ -32,7 +32,7 @@ returns c =
     let to : c.ends.result.1.now.place ≡ (tail p).place = ap (λ (s : Placed). s.place) (c.ends.ensures.last p is) in
     let range : t2 ≡ t1 ++ range_text p.head.place (tail p).place = c.in_ok-push_range.ensures ∙ ap (λ (a : ℕ). t1 ++ range_text a c.ends.result.1.now.place) from ∙ ap (λ (b : ℕ). t1 ++ range_text p.head.place b) to in
     let long : t3 ≡ t2 ++ length_text (payload p) = c.in_ok-push_length.ensures (payload p) count in
-    let head : t3 ≡ t0 ++ message_heading p = appended_twice t0 t1 t3 (codes "  message") (range_text p.head.place (tail p).place ++ length_text (payload p)) c.in_ok-push_str.ensures
+    let head : t3 ≡ t0 ++ message_heading p = appended_twice t0 t1 t3 (codes "  message") (range_text p.head.place (tail p).place ++ length_text (payload p)) c.in_ok-push_str.ensures.added
     (appended_twice t1 t2 t3 (range_text p.head.place (tail p).place) (length_text (payload p)) range long) in
     (message_heading p ++ lines.0, (lines.0, lines.1, refl), appended_twice t0 t3 c.push_messages.new.text.items (message_heading p) lines.0 head lines.2))
     c.push_messages.ensures

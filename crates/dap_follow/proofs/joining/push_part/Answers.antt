@@ -27,6 +27,6 @@ returns c =
     let long : t4 ≡ t3 ++ length_text (payload p) = added (payload p) count in
     let r = range_text p.head.place (tail p).place in
     let l = length_text (payload p) in
-    appended_twice t0 t1 t4 (codes "part") (stream ++ (r ++ l)) c.in_ok-push_str.ensures
+    appended_twice t0 t1 t4 (codes "part") (stream ++ (r ++ l)) c.in_ok-push_str.ensures.added
     (appended_twice t1 t2 t4 stream (r ++ l) c.in_ok-push_stream.ensures (appended_twice t2 t3 t4 r l range long)))
     c.push_length.ensures

@@ -14,7 +14,7 @@ returns c =
     let digits = c.args.digits.now in
     let count = count_of digits (length c.args.bytes.now) c.requires in
     let said : c.push_str.new.text.items ≡ c.args.text.now.items ++ concat (codes "message len=" ∷ decimal (length c.args.bytes.now) ∷ line_feed ∷ []) =
-    appended_twice c.args.text.now.items c.push_number.new.text.items c.push_str.new.text.items _ line_feed c.in_ok-push_number.ensures c.in_ok-push_str.ensures in
+    appended_twice c.args.text.now.items c.push_number.new.text.items c.push_str.new.text.items _ line_feed c.in_ok-push_number.ensures.added c.in_ok-push_str.ensures.added in
     let first : List ℕ = concat (codes "message len=" ∷ decimal (length (bytes_of digits)) ∷ line_feed ∷ []) in
     let head : c.push_str.new.text.items ≡ c.args.text.now.items ++ first = rw count said in
     on_ok_weaker c.push_messages.result

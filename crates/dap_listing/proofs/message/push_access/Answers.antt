@@ -24,4 +24,4 @@ returns c =
     let p6 : List ℕ = codes " password=" ++ decimal (length c.args.access.now.password) in
     let end = c.push_str-2.new.text.items in
     let ends : OnOk c.push_str-2.result (end ≡ t6 ++ line_feed) = search rules in
-    on_ok_weaker c.push_str-2.result (λ ended. appended_twice t0 t1 end p1 (p2 ++ (p3 ++ (p4 ++ (p5 ++ (p6 ++ (line_feed)))))) c.in_ok-push_number.ensures (appended_twice t1 t2 end p2 (p3 ++ (p4 ++ (p5 ++ (p6 ++ (line_feed))))) c.in_ok-push_number-2.ensures (appended_twice t2 t3 end p3 (p4 ++ (p5 ++ (p6 ++ (line_feed)))) (rw c.name.view_is at c.in_ok-push_image.ensures) (appended_twice t3 t4 end p4 (p5 ++ (p6 ++ (line_feed))) c.in_ok-push_str.ensures (appended_twice t4 t5 end p5 (p6 ++ (line_feed)) c.in_ok-push_wanted.ensures (appended_twice t5 t6 end p6 (line_feed) (rw c.password.view_is at c.in_ok-push_number-3.ensures) ended)))))) ends
+    on_ok_weaker c.push_str-2.result (λ ended. appended_twice t0 t1 end p1 (p2 ++ (p3 ++ (p4 ++ (p5 ++ (p6 ++ (line_feed)))))) c.in_ok-push_number.ensures.added (appended_twice t1 t2 end p2 (p3 ++ (p4 ++ (p5 ++ (p6 ++ (line_feed))))) c.in_ok-push_number-2.ensures.added (appended_twice t2 t3 end p3 (p4 ++ (p5 ++ (p6 ++ (line_feed)))) (rw c.name.view_is at c.in_ok-push_image.ensures.added) (appended_twice t3 t4 end p4 (p5 ++ (p6 ++ (line_feed))) c.in_ok-push_str.ensures.added (appended_twice t4 t5 end p5 (p6 ++ (line_feed)) c.in_ok-push_wanted.ensures (appended_twice t5 t6 end p6 (line_feed) (rw c.password.view_is at c.in_ok-push_number-3.ensures.added) ended)))))) ends

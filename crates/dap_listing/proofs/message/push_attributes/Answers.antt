@@ -8,4 +8,4 @@ use Rattle.dap_listing.proofs.message.push_attributes.Goals as goal
 
 pub returns : goal.returns
 returns c =
-    on_ok_weaker c.push_fields.result (λ added. appended_twice c.args.text.now.items c.push_str.new.text.items c.push_fields.new.text.items (codes "  attributes") (attributes_text c.args.attributes.now ++ line_feed) c.in_ok-push_str.ensures (rw c.attributes_fields.ensures at added)) c.push_fields.ensures
+    on_ok_weaker c.push_fields.result (λ added. appended_twice c.args.text.now.items c.push_str.new.text.items c.push_fields.new.text.items (codes "  attributes") (attributes_text c.args.attributes.now ++ line_feed) c.in_ok-push_str.ensures.added (rw c.attributes_fields.ensures at added)) c.push_fields.ensures

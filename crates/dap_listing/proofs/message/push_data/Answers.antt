@@ -15,4 +15,4 @@ returns c =
     let p2 : List ℕ = codes " body=" ++ image_text (bytes_of c.args.digits.now) in
     let end = c.push_str.new.text.items in
     let ends : OnOk c.push_str.result (end ≡ t2 ++ line_feed) = search rules in
-    on_ok_weaker c.push_str.result (λ ended. appended_twice t0 t1 end p1 (p2 ++ (line_feed)) c.in_ok-push_image.ensures (appended_twice t1 t2 end p2 (line_feed) c.in_ok-push_spelled.ensures ended)) ends
+    on_ok_weaker c.push_str.result (λ ended. appended_twice t0 t1 end p1 (p2 ++ (line_feed)) c.in_ok-push_image.ensures.added (appended_twice t1 t2 end p2 (line_feed) c.in_ok-push_spelled.ensures ended)) ends

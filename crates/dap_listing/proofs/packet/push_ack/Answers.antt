@@ -18,4 +18,4 @@ returns c =
     let p3 : List ℕ = codes " acks=" ++ acks_text (Some c.args.ack.ack1) c.args.ack.ack2 in
     let end = c.push_str-2.new.text.items in
     let ends : OnOk c.push_str-2.result (end ≡ t3 ++ line_feed) = search rules in
-    on_ok_weaker c.push_str-2.result (λ ended. appended_twice t0 t1 end p1 (p2 ++ (p3 ++ line_feed)) c.in_ok-push_str.ensures (appended_twice t1 t2 end p2 (p3 ++ line_feed) c.in_ok-push_ends.ensures (appended_twice t2 t3 end p3 line_feed c.in_ok-push_acks.ensures ended))) ends
+    on_ok_weaker c.push_str-2.result (λ ended. appended_twice t0 t1 end p1 (p2 ++ (p3 ++ line_feed)) c.in_ok-push_str.ensures.added (appended_twice t1 t2 end p2 (p3 ++ line_feed) c.in_ok-push_ends.ensures (appended_twice t2 t3 end p3 line_feed c.in_ok-push_acks.ensures ended))) ends
