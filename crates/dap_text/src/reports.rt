@@ -3,9 +3,11 @@
 ghost use Rattle.std.specs.Prelude.{◌≡◌, ◌++◌, IfOk, OnOk};
 ghost use Rattle.std.specs.List.{flat_map};
 ghost use Rattle.dap_text.specs.Adding.{Adds, StillBegins};
+ghost use Rattle.dap_text.specs.Inner.Reports.{batch_text, codes_text};
 ghost use Rattle.dap_text.specs.Reports.{ending_text, numbered_text, refused_text, report_text};
 ghost use Rattle.dap_accessing.specs.declared.report.Report.TheVariants as report;
 
+use crate::tables::push_sizes;
 use crate::text::{push_image, push_number, push_str, push_word};
 use dap_accessing::{Ending, Octets, Report};
 use std::alloc::AllocError;
@@ -58,6 +60,25 @@ fn push_stored(text: &mut Vec<u8>, kept: Option<(u16, u8, u64)>) -> Result<(), A
     }
 }
 
+/// Appends that a file was opened, with its codes ORG and RFM.
+fn push_opened(text: &mut Vec<u8>, org: u8, rfm: u8) -> Result<(), AllocError>
+    ensures added { OnOk result (Adds text.old text.new (codes_text org rfm)) }
+    ensures kept { StillBegins text.old text.new }
+{
+    push_number(text, "opened ", org)?;
+    push_number(text, " ", rfm)
+}
+
+/// Appends how many records a batch has, and how it ended.
+fn push_batch(text: &mut Vec<u8>, count: usize, ending: Ending) -> Result<(), AllocError>
+    ensures added { OnOk result (Adds text.old text.new (batch_text count ending)) }
+    ensures kept { StillBegins text.old text.new }
+{
+    push_number(text, "batch ", count)?;
+    push_str(text, " ")?;
+    push_ending(text, ending)
+}
+
 /// Appends a report. Own.
 pub fn push_report(text: &mut Vec<u8>, report: &Report) -> Result<(), AllocError>
     ensures added { OnOk result (Adds text.old text.new (report_text report.now)) }
@@ -66,10 +87,8 @@ pub fn push_report(text: &mut Vec<u8>, report: &Report) -> Result<(), AllocError
     match report {
         Report::Ready(bufsiz) => push_number(text, "ready ", *bufsiz),
         Report::Opened { org, rfm, mrs, mrn } => {
-            push_number(text, "opened ", *org)?;
-            push_number(text, " ", *rfm)?;
-            push_number(text, " ", *mrs)?;
-            push_number(text, " ", *mrn)
+            push_opened(text, *org, *rfm)?;
+            push_sizes(text, *mrs, *mrn)
         }
         Report::Connected => push_str(text, "connected"),
         Report::Found { number, body } => {
@@ -80,9 +99,7 @@ pub fn push_report(text: &mut Vec<u8>, report: &Report) -> Result<(), AllocError
         Report::EndOfFile => push_str(text, "end-of-file"),
         Report::Refused(code, reason) => push_refused(text, *code, *reason),
         Report::Batch { bodies, ending } => {
-            push_number(text, "batch ", bodies.0.len())?;
-            push_str(text, " ")?;
-            push_ending(text, *ending)?;
+            push_batch(text, bodies.0.len(), *ending)?;
             push_records(text, &bodies.0)
         }
         Report::Stored(kept) => push_stored(text, *kept),

@@ -6,7 +6,7 @@ ghost use Rattle.std.specs.List.{flat_map};
 ghost use Rattle.rec_file.specs.AnyFiles.{any_value};
 ghost use Rattle.dap_text.specs.Adding.{Adds, StillBegins};
 ghost use Rattle.dap_text.specs.Tables.{file_line, files_text, format_text, org_text, record_line};
-ghost use Rattle.dap_text.specs.Inner.Tables.{file_text};
+ghost use Rattle.dap_text.specs.Inner.Tables.{file_text, shape_text, sizes_text};
 
 use crate::text::{push_image, push_number, push_str};
 use dap_accessed::FileTable;
@@ -42,16 +42,32 @@ fn push_behind(text: &mut Vec<u8>, word: &str) -> Result<(), AllocError>
     push_str(text, word)
 }
 
+/// Appends two sizes, each behind a space.
+pub(crate) fn push_sizes(text: &mut Vec<u8>, mrs: u16, mrn: u32) -> Result<(), AllocError>
+    ensures added { OnOk result (Adds text.old text.new (sizes_text mrs mrn)) }
+    ensures kept { StillBegins text.old text.new }
+{
+    push_number(text, " ", mrs)?;
+    push_number(text, " ", mrn)
+}
+
+/// Appends the organization, the record format and the sizes of a file, each behind a space.
+fn push_shape(text: &mut Vec<u8>, shape: Shape) -> Result<(), AllocError>
+    ensures added { OnOk result (Adds text.old text.new (shape_text shape)) }
+    ensures kept { StillBegins text.old text.new }
+{
+    push_behind(text, org_word(shape.org))?;
+    push_behind(text, format_word(shape.format))?;
+    push_sizes(text, shape.mrs, shape.mrn)
+}
+
 /// Appends the line of a file.
 fn push_file_line(text: &mut Vec<u8>, name: &[u8], shape: Shape) -> Result<(), AllocError>
     ensures added { OnOk result (Adds text.old text.new (file_line name.now shape)) }
     ensures kept { StillBegins text.old text.new }
 {
     push_image(text, "file ", name)?;
-    push_behind(text, org_word(shape.org))?;
-    push_behind(text, format_word(shape.format))?;
-    push_number(text, " ", shape.mrs)?;
-    push_number(text, " ", shape.mrn)?;
+    push_shape(text, shape)?;
     push_str(text, "\n")
 }
 

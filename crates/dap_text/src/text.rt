@@ -1,6 +1,6 @@
 //! How numbers and bytes are printed. Where memory is wanting a front of what is appended may stand there.
 
-ghost use Rattle.std.specs.Prelude.{◌≡◌, ◌≤◌, ◌/◌, ◌++◌, OnOk, length};
+ghost use Rattle.std.specs.Prelude.{◌≡◌, ◌≤◌, ◌/◌, ◌++◌, OnErr, OnOk, length};
 ghost use Rattle.hex.specs.Hex.{encode_lower};
 ghost use Rattle.dap_text.specs.Adding.{Adds, StillBegins};
 ghost use Rattle.dap_text.specs.Text.{image_text, word_text};
@@ -67,10 +67,10 @@ pub fn push_hex(text: &mut Vec<u8>, bytes: &[u8]) -> Result<(), AllocError>
     ensures kept { StillBegins text.old text.new }
 {
     if bytes.len() <= NUMBER {
-        push_few(text, bytes)
-    } else {
-        push_many(text, bytes)
+        return push_few(text, bytes);
     }
+    push_many(text, bytes)?;
+    Ok(())
 }
 
 /// Appends at most 8 bytes as lower hex digits.
@@ -90,7 +90,7 @@ fn push_few(text: &mut Vec<u8>, bytes: &[u8]) -> Result<(), AllocError>
 /// Appends any number of bytes as lower hex digits.
 fn push_many(text: &mut Vec<u8>, bytes: &[u8]) -> Result<(), AllocError>
     ensures added { OnOk result (Adds text.old text.new (encode_lower bytes.now)) }
-    ensures kept { StillBegins text.old text.new }
+    ensures kept { OnErr result (StillBegins text.old text.new) }
 {
     let start = text.len();
     text.reserve(2 * bytes.len())?;
