@@ -53,6 +53,7 @@ fn flag_word(kind: FlagKind) -> &'static str
 }
 
 /// Appends a place behind a word, and ends the line.
+#[tactic(auto, unfolding(crate::specs::Adding::StillBegins))]
 fn push_place(text: &mut Vec<u8>, word: &str, at: usize) -> Result<(), AllocError>
     ensures added { OnOk result (Adds text.old text.new
         (concat (word.now ∷ decimal at ∷ line_feed ∷ []))) }
@@ -63,6 +64,7 @@ fn push_place(text: &mut Vec<u8>, word: &str, at: usize) -> Result<(), AllocErro
 }
 
 /// Appends the line of bytes that are no packet, as a listing has it behind their number and direction. Own.
+#[tactic(auto, unfolding(crate::specs::Adding::StillBegins))]
 pub fn push_packet_fault(text: &mut Vec<u8>, fault: SegFault) -> Result<(), AllocError>
     ensures added { OnOk result (Adds text.old text.new (fault_line fault)) }
     ensures kept { StillBegins text.old text.new }

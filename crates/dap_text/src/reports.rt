@@ -13,6 +13,7 @@ use dap_accessing::{Ending, Octets, Report};
 use std::alloc::AllocError;
 
 /// Appends the code of a Status, and its reason.
+#[tactic(auto, unfolding(crate::specs::Adding::StillBegins))]
 fn push_refused(text: &mut Vec<u8>, code: u16, reason: u8) -> Result<(), AllocError>
     ensures added { OnOk result (Adds text.old text.new (refused_text code reason)) }
     ensures kept { StillBegins text.old text.new }
@@ -22,6 +23,7 @@ fn push_refused(text: &mut Vec<u8>, code: u16, reason: u8) -> Result<(), AllocEr
 }
 
 /// Appends how a batch ended.
+#[tactic(auto, unfolding(crate::specs::Adding::StillBegins))]
 fn push_ending(text: &mut Vec<u8>, ending: Ending) -> Result<(), AllocError>
     ensures added { OnOk result (Adds text.old text.new (ending_text ending)) }
     ensures kept { StillBegins text.old text.new }
@@ -34,6 +36,7 @@ fn push_ending(text: &mut Vec<u8>, ending: Ending) -> Result<(), AllocError>
 }
 
 /// Appends the records of a batch.
+#[tactic(auto, unfolding(crate::specs::Adding::StillBegins))]
 fn push_records(text: &mut Vec<u8>, records: &[(u64, Octets)]) -> Result<(), AllocError>
     ensures added { OnOk result (Adds text.old text.new (flat_map numbered_text records.now)) }
     ensures kept { StillBegins text.old text.new }
@@ -46,6 +49,7 @@ fn push_records(text: &mut Vec<u8>, records: &[(u64, Octets)]) -> Result<(), All
 }
 
 /// Appends what a Store came to.
+#[tactic(auto, unfolding(crate::specs::Adding::StillBegins))]
 fn push_stored(text: &mut Vec<u8>, kept: Option<(u16, u8, u64)>) -> Result<(), AllocError>
     ensures added { OnOk result (Adds text.old text.new (report_text (report.Stored kept))) }
     ensures kept { StillBegins text.old text.new }
@@ -61,6 +65,7 @@ fn push_stored(text: &mut Vec<u8>, kept: Option<(u16, u8, u64)>) -> Result<(), A
 }
 
 /// Appends that a file was opened, with its codes ORG and RFM.
+#[tactic(auto, unfolding(crate::specs::Adding::StillBegins))]
 fn push_opened(text: &mut Vec<u8>, org: u8, rfm: u8) -> Result<(), AllocError>
     ensures added { OnOk result (Adds text.old text.new (codes_text org rfm)) }
     ensures kept { StillBegins text.old text.new }
@@ -70,6 +75,7 @@ fn push_opened(text: &mut Vec<u8>, org: u8, rfm: u8) -> Result<(), AllocError>
 }
 
 /// Appends how many records a batch has, and how it ended.
+#[tactic(auto, unfolding(crate::specs::Adding::StillBegins))]
 fn push_batch(text: &mut Vec<u8>, count: usize, ending: Ending) -> Result<(), AllocError>
     ensures added { OnOk result (Adds text.old text.new (batch_text count ending)) }
     ensures kept { StillBegins text.old text.new }
@@ -80,6 +86,7 @@ fn push_batch(text: &mut Vec<u8>, count: usize, ending: Ending) -> Result<(), Al
 }
 
 /// Appends a report. Own.
+#[tactic(auto, unfolding(crate::specs::Adding::StillBegins))]
 pub fn push_report(text: &mut Vec<u8>, report: &Report) -> Result<(), AllocError>
     ensures added { OnOk result (Adds text.old text.new (report_text report.now)) }
     ensures kept { StillBegins text.old text.new }

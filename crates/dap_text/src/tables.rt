@@ -34,6 +34,7 @@ fn format_word(format: Format) -> &'static str
 }
 
 /// Appends a word behind a space.
+#[tactic(auto, unfolding(crate::specs::Adding::StillBegins))]
 fn push_behind(text: &mut Vec<u8>, word: &str) -> Result<(), AllocError>
     ensures added { OnOk result (Adds text.old text.new (codes " " ++ word.now)) }
     ensures kept { StillBegins text.old text.new }
@@ -43,6 +44,7 @@ fn push_behind(text: &mut Vec<u8>, word: &str) -> Result<(), AllocError>
 }
 
 /// Appends two sizes, each behind a space.
+#[tactic(auto, unfolding(crate::specs::Adding::StillBegins))]
 pub(crate) fn push_sizes(text: &mut Vec<u8>, mrs: u16, mrn: u32) -> Result<(), AllocError>
     ensures added { OnOk result (Adds text.old text.new (sizes_text mrs mrn)) }
     ensures kept { StillBegins text.old text.new }
@@ -52,6 +54,7 @@ pub(crate) fn push_sizes(text: &mut Vec<u8>, mrs: u16, mrn: u32) -> Result<(), A
 }
 
 /// Appends the organization, the record format and the sizes of a file, each behind a space.
+#[tactic(auto, unfolding(crate::specs::Adding::StillBegins))]
 fn push_shape(text: &mut Vec<u8>, shape: Shape) -> Result<(), AllocError>
     ensures added { OnOk result (Adds text.old text.new (shape_text shape)) }
     ensures kept { StillBegins text.old text.new }
@@ -62,6 +65,7 @@ fn push_shape(text: &mut Vec<u8>, shape: Shape) -> Result<(), AllocError>
 }
 
 /// Appends the line of a file.
+#[tactic(auto, unfolding(crate::specs::Adding::StillBegins))]
 fn push_file_line(text: &mut Vec<u8>, name: &[u8], shape: Shape) -> Result<(), AllocError>
     ensures added { OnOk result (Adds text.old text.new (file_line name.now shape)) }
     ensures kept { StillBegins text.old text.new }
@@ -72,6 +76,7 @@ fn push_file_line(text: &mut Vec<u8>, name: &[u8], shape: Shape) -> Result<(), A
 }
 
 /// Appends the line of a record.
+#[tactic(auto, unfolding(crate::specs::Adding::StillBegins))]
 fn push_record(text: &mut Vec<u8>, number: u32, body: &[u8]) -> Result<(), AllocError>
     ensures added { OnOk result (Adds text.old text.new (record_line (number, body.now))) }
     ensures kept { StillBegins text.old text.new }
@@ -83,6 +88,7 @@ fn push_record(text: &mut Vec<u8>, number: u32, body: &[u8]) -> Result<(), Alloc
 
 /// Appends the lines of a file's records, in the order of their numbers. The next record is found before the line of one
 /// is written, so that the processor fetches it meanwhile.
+#[tactic(auto, unfolding(crate::specs::Adding::StillBegins))]
 fn push_records(text: &mut Vec<u8>, file: &AnyFile) -> Result<(), AllocError>
     ensures added { OnOk result (Adds text.old text.new
         (flat_map record_line (entries (any_value file.now).records))) }
@@ -97,6 +103,7 @@ fn push_records(text: &mut Vec<u8>, file: &AnyFile) -> Result<(), AllocError>
 }
 
 /// Appends the lines of a file.
+#[tactic(auto, unfolding(crate::specs::Adding::StillBegins))]
 fn push_file(text: &mut Vec<u8>, name: &[u8], file: &AnyFile) -> Result<(), AllocError>
     ensures added { OnOk result (Adds text.old text.new (file_text (name.now, any_value file.now))) }
     ensures kept { StillBegins text.old text.new }
@@ -106,6 +113,7 @@ fn push_file(text: &mut Vec<u8>, name: &[u8], file: &AnyFile) -> Result<(), Allo
 }
 
 /// Appends the lines of all files, in the order in which they were made. Own.
+#[tactic(auto, unfolding(crate::specs::Adding::StillBegins))]
 pub fn push_files(text: &mut Vec<u8>, files: &FileTable) -> Result<(), AllocError>
     ensures added { OnOk result (Adds text.old text.new (files_text files.now)) }
     ensures kept { StillBegins text.old text.new }

@@ -9,6 +9,7 @@ use itoa::{Buffer, Integer};
 use std::alloc::AllocError;
 
 /// Appends a word. Own.
+#[tactic(auto, unfolding(crate::specs::Adding::StillBegins))]
 pub fn push_str(text: &mut Vec<u8>, word: &str) -> Result<(), AllocError>
     ensures added { OnOk result (Adds text.old text.new word.now) }
     ensures kept { StillBegins text.old text.new }
@@ -17,6 +18,7 @@ pub fn push_str(text: &mut Vec<u8>, word: &str) -> Result<(), AllocError>
 }
 
 /// Appends a decimal number. Own.
+#[tactic(auto, unfolding(crate::specs::Adding::StillBegins))]
 pub fn push_decimal<I: Integer>(text: &mut Vec<u8>, number: I) -> Result<(), AllocError>
     ensures added { OnOk result (Adds text.old text.new (I.text number)) }
     ensures kept { StillBegins text.old text.new }
@@ -26,6 +28,7 @@ pub fn push_decimal<I: Integer>(text: &mut Vec<u8>, number: I) -> Result<(), All
 }
 
 /// Appends a decimal number behind a word. Own.
+#[tactic(auto, unfolding(crate::specs::Adding::StillBegins))]
 #[inline(always)]
 pub fn push_number<I: Integer>(text: &mut Vec<u8>, word: &str, number: I) -> Result<(), AllocError>
     ensures added { OnOk result (Adds text.old text.new (word.now ++ I.text number)) }
@@ -48,6 +51,7 @@ fn word_digits(number: u16) -> [u8; 4]
 }
 
 /// Appends a two-byte number as four lower hex digits, behind a word. Own.
+#[tactic(auto, unfolding(crate::specs::Adding::StillBegins))]
 #[inline(always)]
 pub fn push_word(text: &mut Vec<u8>, word: &str, number: u16) -> Result<(), AllocError>
     ensures added { OnOk result (Adds text.old text.new (word.now ++ word_text number)) }
@@ -62,6 +66,7 @@ const NUMBER: usize = 8;
 
 /// Appends bytes as lower hex digits. Those of a number are made beside the text, which is faster for a
 /// few than to make room in it. Own.
+#[tactic(auto, unfolding(crate::specs::Adding::StillBegins))]
 pub fn push_hex(text: &mut Vec<u8>, bytes: &[u8]) -> Result<(), AllocError>
     ensures added { OnOk result (Adds text.old text.new (encode_lower bytes.now)) }
     ensures kept { StillBegins text.old text.new }
@@ -74,6 +79,7 @@ pub fn push_hex(text: &mut Vec<u8>, bytes: &[u8]) -> Result<(), AllocError>
 }
 
 /// Appends at most 8 bytes as lower hex digits.
+#[tactic(auto, unfolding(crate::specs::Adding::StillBegins))]
 fn push_few(text: &mut Vec<u8>, bytes: &[u8]) -> Result<(), AllocError>
     requires { length bytes.now ≤ 8 }
     ensures added { OnOk result (Adds text.old text.new (encode_lower bytes.now)) }
@@ -88,6 +94,7 @@ fn push_few(text: &mut Vec<u8>, bytes: &[u8]) -> Result<(), AllocError>
 }
 
 /// Appends any number of bytes as lower hex digits.
+#[tactic(auto, unfolding(crate::specs::Adding::StillBegins))]
 fn push_many(text: &mut Vec<u8>, bytes: &[u8]) -> Result<(), AllocError>
     ensures added { OnOk result (Adds text.old text.new (encode_lower bytes.now)) }
     ensures kept { OnErr result (StillBegins text.old text.new) }
@@ -102,6 +109,7 @@ fn push_many(text: &mut Vec<u8>, bytes: &[u8]) -> Result<(), AllocError>
 }
 
 /// Appends an image as lower hex digits, or `-` where it is empty, behind a word. Own.
+#[tactic(auto, unfolding(crate::specs::Adding::StillBegins))]
 #[inline(always)]
 pub fn push_image(text: &mut Vec<u8>, word: &str, image: &[u8]) -> Result<(), AllocError>
     ensures added { OnOk result (Adds text.old text.new (word.now ++ image_text image.now)) }
