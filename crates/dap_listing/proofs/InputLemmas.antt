@@ -1,5 +1,5 @@
 -- What was taken of a reader.
-use Rattle.std.proofs.Common.{◌≡◌, ◌≤◌, ◌+◌, ℕ, List, [], ◌++◌, length, Option, refl, arith, length-append}
+use Rattle.std.proofs.Common.{◌≡◌, ◌≤◌, ◌+◌, ◌∙◌, sym, ap, ℕ, List, [], ◌++◌, length, Option, Result, Ok, Err, refl, arith, length-append}
 use Rattle.std.specs.Io.KnownBytes.{Consumes}
 use Rattle.std.proofs.KnownBytes.{Consumes-nil, Consumes-trans}
 use Rattle.linewise.specs.Talks.{longest}
@@ -61,3 +61,17 @@ up_behind count old now new before behind =
 pub up_within : (count : ℕ) (old now : Option (List ℕ)) → HasTaken count old now → count ≤ longest → TakesAnInput old now
 unfolding HasTaken
 up_within count old now before within = (before.0, before.2, omega (arith, before.1, within))
+
+-- so many, where they are these
+pub has_taken : (count : ℕ) (old now : Option (List ℕ)) (taken : List ℕ) → count ≡ length taken → Consumes old now taken → HasTaken count old now
+unfolding HasTaken
+has_taken count old now taken counted before = (taken, counted, before)
+
+-- ---- What was read is no fault.
+
+tag : {T E : Type 0} → Result T E → ℕ
+tag (Ok x) = 0
+tag (Err e) = 1
+
+pub ok_apart : {T E : Type 0} (r : Result T E) (x : T) (e : E) → r ≡ Ok x → r ≡ Err e → ⊥
+ok_apart r x e good bad = let no : 0 ≡ 1 = ap tag (sym good ∙ bad) in omega (arith, no)

@@ -1,6 +1,6 @@
 use Rattle.std.proofs.Common.{rules, arith, ◌++◌, take, length-append, length-take-le}
 use Rattle.std.proofs.KnownBytes.{Consumes-trans}
-use Rattle.dap_listing.proofs.InputLemmas.{takes_more, up_more}
+use Rattle.dap_listing.proofs.InputLemmas.{ok_apart, takes_more, up_more}
 use Rattle.dap_listing.proofs.input.skip_rest.Goals as goal
 
 pub loop-preserved : goal.loop-preserved
@@ -24,8 +24,8 @@ returns-clause-taken g c =
 
 pub returns-in_err-read_some-clause-within : goal.returns-in_err-read_some-clause-within
 returns-in_err-read_some-clause-within g c small =
-    let before = c.loop.invariant.skipped in up_more c.args.count.now c.loop.count _ _ _ before.0 before.1 before.2 (c.read_some.ensures.within small)
+    let before = c.loop.invariant.skipped in up_more c.args.count.now c.loop.count _ _ _ before.0 before.1 before.2 (c.read_some.ensures.within (λ is. small (search rules)))
 
 pub returns-clause-within : goal.returns-clause-within
 returns-clause-within g c small =
-    let before = c.loop.invariant.skipped in up_more c.args.count.now c.loop.count _ _ _ before.0 before.1 before.2 (c.read_some.ensures.within small)
+    let before = c.loop.invariant.skipped in up_more c.args.count.now c.loop.count _ _ _ before.0 before.1 before.2 (c.read_some.ensures.within (ok_apart c.read_some.result c.in_ok-read_some.field-0 _ (search rules)))

@@ -1,7 +1,7 @@
 use Rattle.std.proofs.Common.{rules, ap, ◌∙◌, arith, true, ◌≡◌, ◌==◌, ◌+◌, ◌-◌, ◌++◌, drop, length, length-append, length-take-le, take}
 use Rattle.dap_listing.specs.Listing.{limit_of}
 use Rattle.dap_listing.proofs.ProgressLemmas.{at_end, first_fault, length_end, line_unwritten, none_left, stands_read, stands_taken, stands_whole}
-use Rattle.dap_listing.proofs.InputLemmas.{taken_behind, taken_more, taken_none, up_behind, up_within}
+use Rattle.dap_listing.proofs.InputLemmas.{ok_apart, taken_behind, taken_more, taken_none, up_behind}
 use Rattle.dap_listing.proofs.listing.list_as_read.Goals as goal
 
 pub returns-in-Err-take_lines-clause-fault : goal.returns-in-Err-take_lines-clause-fault
@@ -56,28 +56,28 @@ pub returns-then-is_last-clause-taken : goal.returns-then-is_last-clause-taken
 returns-then-is_last-clause-taken g c = taken_behind c.chunks.count _ _ _ c.chunks.invariant.taken c.read_some.ensures.taken
 
 pub returns-in_err-came-clause-within : goal.returns-in_err-came-clause-within
-returns-in_err-came-clause-within g c small = up_behind c.chunks.count _ _ _ c.chunks.invariant.taken (c.read_some.ensures.within small)
+returns-in_err-came-clause-within g c small = up_behind c.chunks.count _ _ _ c.chunks.invariant.taken (c.read_some.ensures.within (λ is. small (search rules)))
 
 pub returns-in_err-extend_from_slice-clause-within :
     goal.returns-in_err-extend_from_slice-clause-within
-returns-in_err-extend_from_slice-clause-within g c small = up_behind c.chunks.count _ _ _ c.chunks.invariant.taken (c.read_some.ensures.within (λ none. none))
+returns-in_err-extend_from_slice-clause-within g c small = up_behind c.chunks.count _ _ _ c.chunks.invariant.taken (c.read_some.ensures.within (ok_apart c.read_some.result c.in_ok-came.came _ (search rules)))
 
 pub returns-in_err-skip_unread-in-Err-take_lines-clause-within : goal.returns-in_err-skip_unread-in-Err-take_lines-clause-within
 returns-in_err-skip_unread-in-Err-take_lines-clause-within g c small =
     let read = c.in_ok-came.ensures in
     let came = take c.in_ok-came.came c.read_some.new.chunk in
     let counted : c.chunks.count + length came ≡ c.read_some.new.count = omega (arith, read.count, length-take-le c.in_ok-came.came c.read_some.new.chunk read.came) in
-    up_behind c.read_some.new.count _ _ _ (taken_more c.chunks.count c.read_some.new.count _ _ _ came c.chunks.invariant.taken read.bytes counted) (c.skip_unread.ensures.within small)
+    up_behind c.read_some.new.count _ _ _ (taken_more c.chunks.count c.read_some.new.count _ _ _ came c.chunks.invariant.taken read.bytes counted) (c.skip_unread.ensures.within (λ is. small (search rules)))
 
 pub returns-in-Err-take_lines-clause-within : goal.returns-in-Err-take_lines-clause-within
 returns-in-Err-take_lines-clause-within g c small =
     let read = c.in_ok-came.ensures in
     let came = take c.in_ok-came.came c.read_some.new.chunk in
     let counted : c.chunks.count + length came ≡ c.read_some.new.count = omega (arith, read.count, length-take-le c.in_ok-came.came c.read_some.new.chunk read.came) in
-    up_behind c.read_some.new.count _ _ _ (taken_more c.chunks.count c.read_some.new.count _ _ _ came c.chunks.invariant.taken read.bytes counted) (c.skip_unread.ensures.within (λ none. none))
+    up_behind c.read_some.new.count _ _ _ (taken_more c.chunks.count c.read_some.new.count _ _ _ came c.chunks.invariant.taken read.bytes counted) (c.skip_unread.ensures.within (ok_apart c.skip_unread.result _ _ c.in_ok-skip_unread-in-Err-take_lines.is))
 
 pub returns-then-is_last-clause-within : goal.returns-then-is_last-clause-within
-returns-then-is_last-clause-within g c small = up_behind c.chunks.count _ _ _ c.chunks.invariant.taken (c.read_some.ensures.within (λ none. none))
+returns-then-is_last-clause-within g c small = up_behind c.chunks.count _ _ _ c.chunks.invariant.taken (c.read_some.ensures.within (ok_apart c.read_some.result c.in_ok-came.came _ (search rules)))
 
 pub chunks-init : goal.chunks-init
 chunks-init g c = record {
