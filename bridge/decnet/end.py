@@ -1,11 +1,14 @@
 """A live end: `daplive` as a child, told lines, whose answers are taken as they come."""
 import collections
+import contextlib
 import os
 import pathlib
 import select
 import signal
 import subprocess
 import time
+
+from decnet import program
 
 DAPLIVE = pathlib.Path(__file__).resolve().parent.parent.parent / "daplive"
 WAITS = "waits "
@@ -15,11 +18,14 @@ ANSWER_SECONDS = 600  # in which nothing of an answer comes
 STOP_SECONDS = 30  # the same, where the program is to end
 CLOSE_SECONDS = 10  # from the end of its input to the end of the live end
 CHUNK = 1 << 18
-IGNORED = (signal.SIGTERM, signal.SIGINT, signal.SIGHUP)  # its end of input ends a live end, and nothing else
+UNHEARD = (signal.SIGTERM, signal.SIGINT, signal.SIGHUP)  # its end of input ends a live end, and none of these
 
 
-class EndFault(Exception):
+class EndFault(program.Fault):
     """The live end can't be started, has ended, or doesn't answer."""
+
+    def __init__(self, text):
+        super().__init__(text, program.FAULT)
 
 
 class Answer:
@@ -53,9 +59,14 @@ class Lines:
         return [line.decode("utf-8", "surrogateescape") for line in whole]
 
 
-def ignore_signals():
-    for number in IGNORED:
-        signal.signal(number, signal.SIG_IGN)
+@contextlib.contextmanager
+def unheard():
+    """What is started meanwhile begins with the signals blocked that are to stop the program."""
+    before = signal.pthread_sigmask(signal.SIG_BLOCK, UNHEARD)
+    try:
+        yield
+    finally:
+        signal.pthread_sigmask(signal.SIG_SETMASK, before)
 
 
 class End:
@@ -66,9 +77,10 @@ class End:
         standard error, which otherwise goes where the program's own does."""
         self.program, self.keep, self.told, self.clock = str(program), keep, told, clock
         try:
-            self.process = subprocess.Popen(
-                [self.program, *words], stdin=subprocess.PIPE, stdout=subprocess.PIPE,
-                stderr=subprocess.PIPE if told else None, bufsize=0, start_new_session=True, preexec_fn=ignore_signals)
+            with unheard():
+                self.process = subprocess.Popen(
+                    [self.program, *words], stdin=subprocess.PIPE, stdout=subprocess.PIPE,
+                    stderr=subprocess.PIPE if told else None, bufsize=0, start_new_session=True)
         except OSError as fault:
             raise EndFault(f"{self.program} can't be started: {fault.strerror}") from fault
         os.set_blocking(self.process.stdin.fileno(), False)

@@ -6,7 +6,7 @@ from dataclasses import dataclass
 from decnet import dap, nsp
 from decnet.address import node_text
 from decnet.end import Answer
-from decnet.nsp import FlowControl, Kind, Modifier, Qualifier, Reason
+from decnet.nsp import FlowControl, Kind, Modifier, Reason
 
 CONFIRM_SECONDS = 60  # how long an announced link may take to be confirmed
 PROMPT_SECONDS = 5  # how long an answer may take that a node gives at once, where two --resend aren't longer
