@@ -148,6 +148,10 @@ class Asker(Role):
             times.append(self.clock())
         return min(times)
 
+    def is_over(self, link):
+        """Whether all reports are there that have come."""
+        return not link.pending
+
     def closed(self, _link):
         self.is_done = True
         is_good = self.is_finished and not self.is_refused and not self.is_stopped

@@ -255,6 +255,7 @@ class Keeper:
         self.kept, self.end, self.is_changed = kept, end, is_changed
         self.waiting = []  # who is told when the next save is over
         self.served = None  # who is told when this one is over; None where there is none
+        self.failed = lambda fault: None  # who is told of a save that failed, besides
         self.listing = self.thread = None
         self.reading, self.writing = socket.socketpair()
 
@@ -270,7 +271,7 @@ class Keeper:
     def is_busy(self):
         return self.served is not None
 
-    def save(self, then):
+    def save(self, then=lambda fault: None):
         """Saves what the files are now; `then` is called with what is wrong, or None."""
         self.waiting.append(then)
         if not self.is_busy:
@@ -296,7 +297,9 @@ class Keeper:
         self.thread.join()
         fault, served = self.listing.fault, self.served
         self.listing = self.served = None
-        self.is_changed = self.is_changed or fault is not None
+        if fault:
+            self.is_changed = True
+            self.failed(fault)
         for then in served:
             then(fault)
         if self.waiting and not self.is_busy:

@@ -176,9 +176,13 @@ class Role:
         """The live end said something that is no packet."""
         log.say(f"the live end: {text}")
 
+    def is_over(self, link):
+        """Whether nothing more is wanted of a link that is closed."""
+        return True
+
     def look(self):
-        """Looks at what became of the link; one whose packets the live end hasn't answered yet isn't over."""
-        if self.link and self.link.state is State.CLOSED and not self.link.pending:
+        """Looks at what became of the link."""
+        if self.link and self.link.state is State.CLOSED and self.is_over(self.link):
             link, self.link = self.link, None
             log.say(f"link {link.local:04x}: {link.why}")
             self.closed(link)

@@ -18,6 +18,8 @@ class Server(Role):
     def __init__(self, node, end, settings, keeper=None, links=None, clock=time.monotonic):
         super().__init__(node, end, settings, clock)
         self.keeper, self.links = keeper, links
+        if keeper:
+            keeper.failed = self.save_failed
         self.stops = 0
         self.old, self.old_until = None, 0  # the node and address of the link before
 
@@ -64,13 +66,12 @@ class Server(Role):
     def save(self):
         """Saves the files where something isn't on the disk."""
         if self.keeper and self.keeper.is_changed:
-            self.keeper.save(self.saved)
+            self.keeper.save()
 
-    def saved(self, fault):
-        """A save is over. A fault doesn't end the bridge, which holds the files."""
-        if fault:
-            log.say(f"{fault}: the files aren't saved")
-            self.status = FAULT
+    def save_failed(self, fault):
+        """A save has failed. That doesn't end the bridge, which holds the files; but its exit status tells it."""
+        log.say(f"{fault}: the files aren't saved")
+        self.status = FAULT
 
     # ---- the end
 
@@ -95,6 +96,8 @@ class Server(Role):
             self.link.disconnect(Reason.SHUTTING_DOWN, "stopped by a signal")
         elif self.link:
             self.link.close(self.link.why)
+        if self.stops > 1:
+            self.end.close_seconds = 1
         self.save()
         self.look()
 

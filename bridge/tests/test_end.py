@@ -1,0 +1,107 @@
+"""Live ends that hang, die, speak nonsense, or work long."""
+import os
+import signal
+import time
+from unittest import mock
+
+from decnet import end as module
+from decnet.end import Answer, EndFault
+from tests.support import Case, until
+
+
+class EndTest(Case):
+    def of(self, answer, **more):
+        return self.end("serve", program=self.stand_in(answer), **more)
+
+    def fault(self, end, line="files"):
+        with self.assertRaises(EndFault) as caught:
+            end.say(line)
+        return str(caught.exception)
+
+    def test_each_line_has_its_answer_in_order(self):
+        end, found = self.of("return [line, line]"), []
+        for number in range(500):
+            end.tell(f"line {number}", Answer(found.append))
+        while end.is_busy:
+            end.turn()
+        self.assertEqual(found, [[f"line {number}"] * 2 for number in range(500)])
+
+    def test_a_long_line_is_read_in_linear_time(self):
+        end = self.of("return ['a' * 20_000_000]")
+        begun = time.monotonic()
+        self.assertEqual(len(end.say("files")[0]), 20_000_000)
+        self.assertLess(time.monotonic() - begun, 5)
+
+    def test_nonsense(self):
+        for number, text in enumerate(["waits " + "9" * 5000, "waits -1", "waits \u00b2", "waits x"]):
+            script = self.script(f"nonsense{number}", f"import sys\nfor line in sys.stdin: print({text!r}, flush=True)\n")
+            self.assertIn("answers what no live end does", self.fault(self.end("serve", program=script)))
+
+    def test_one_that_speaks_unasked(self):
+        end = self.end("serve", program=self.script("early", "import os, sys\nos.write(1, b'waits 0\\nwaits 0\\n')\nsys.stdin.read()\n"))
+        with self.assertRaisesRegex(EndFault, "speaks unasked"):
+            end.say("new")
+
+    def test_one_that_has_ended(self):
+        end = self.end("serve", program=self.script("ended", "import sys\nsys.exit(7)\n"))
+        self.assertIn("ended with status 7", self.fault(end))
+
+    def test_one_that_is_not_there(self):
+        with self.assertRaisesRegex(EndFault, "can't be started: No such file"):
+            self.end("serve", program="/nowhere/daplive")
+
+    def test_one_that_hangs(self):
+        with mock.patch.object(module, "ANSWER_SECONDS", 0.3):
+            end = self.of("line == 'hang' and time.sleep(1000)")
+            end.say("new")
+            end.close_seconds = 0.1
+            self.assertIn("has answered nothing for 0.3 seconds", self.fault(end, "hang"))
+
+    def test_one_that_works_long_but_says_something_is_waited_for(self):
+        with mock.patch.object(module, "ANSWER_SECONDS", 0.5):
+            end = self.of("for _ in range(10):\n    print('x', flush=True); time.sleep(0.1)")
+            end.seconds = 0.5
+            end.has_answered = True
+            self.assertEqual(end.say("files"), ["x"] * 10)
+
+    def test_signals_to_stop_do_not_end_it(self):
+        """A terminal and systemd send them to all processes: its end of input ends it."""
+        end = self.of("return []")
+        end.say("new")
+        for number in (signal.SIGTERM, signal.SIGINT, signal.SIGHUP):
+            os.kill(end.process.pid, number)
+        time.sleep(0.2)
+        self.assertEqual(end.say("files"), [])
+        self.assertEqual(end.close(), 0)
+
+    def test_one_that_does_not_end_is_killed(self):
+        end = self.end("serve", program=self.script("deaf", "import time\nprint('waits 0', flush=True)\ntime.sleep(1000)\n"))
+        end.say("new")
+        end.close_seconds = 0.2
+        begun = time.monotonic()
+        self.assertEqual(end.close(), -signal.SIGKILL)
+        self.assertLess(time.monotonic() - begun, 2)
+
+    def test_a_build_is_ended_by_a_signal(self):
+        """What hasn't answered yet may be a build: it is ended with all that it started."""
+        script = self.script("builds", "import subprocess, signal, sys\n"
+                             "signal.pthread_sigmask(signal.SIG_SETMASK, ())\n"
+                             "child = subprocess.Popen(['sleep', '1000'])\nprint(child.pid, file=sys.stderr, flush=True)\n"
+                             "child.wait()\n")
+        told = []
+        end = self.end("serve", program=script, told=told.append)
+        end.tell("new", Answer(lambda answer: None))
+        while not told:
+            end.turn()
+        begun = time.monotonic()
+        end.close()
+        self.assertLess(time.monotonic() - begun, 2)
+        until(lambda: not os.path.exists(f"/proc/{told[0]}") or " Z " in open_text(f"/proc/{told[0]}/stat"), "the end of a child")
+
+
+def open_text(path):
+    try:
+        with open(path, encoding="utf-8") as file:
+            return file.read()
+    except OSError:
+        return " Z "
