@@ -110,6 +110,16 @@ class Station:
             self.acknowledge(number)
         return found
 
+    def hear_to_end(self, first, text):
+        """Segments from a number on, each acknowledged, until one ends with a text; its number."""
+        number = first
+        while True:
+            packet = self.hear_kind_of(nsp.SEGMENTS, number)
+            self.acknowledge(number)
+            if packet.kind in nsp.LASTS and packet.body.endswith(text):
+                return number
+            number += 1
+
     def hear_kind_of(self, kinds, number):
         end = time.monotonic() + PATIENCE
         while time.monotonic() < end:
