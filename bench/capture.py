@@ -79,7 +79,7 @@ def packet(payload, number):
 def main():
     words = sys.argv[1:]
     if len(words) < 2 or not words[0].isdecimal() or words[1] not in KINDS or words[2:] not in ([], ["messages"]):
-        raise program.Fault(f"usage: capture.py BYTES {'|'.join(KINDS)} [messages]", 2)
+        raise program.Fault(f"usage: capture.py BYTES {'|'.join(KINDS)} [messages]", program.WORDS)
     wanted, kind, messages = int(words[0]), words[1], bool(words[2:])
     choose = numbers()
     signs = [b"> ", b"< "]

@@ -92,7 +92,7 @@ def main():
     kinds = {"window": window, "scattered": scattered, "sparse": sparse, "store": store}
     words = sys.argv[1:]
     if len(words) != 2 or words[0] not in kinds or not words[1].isdecimal():
-        raise program.Fault(f"usage: schedules.py {'|'.join(kinds)} COUNT", 2)
+        raise program.Fault(f"usage: schedules.py {'|'.join(kinds)} COUNT", program.WORDS)
     print("\n".join(kinds[words[0]](int(words[1])).lines))
     return 0
 

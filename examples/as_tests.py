@@ -62,7 +62,7 @@ def main():
         if wrong:
             raise program.Fault(wrong)
     elif sys.argv[1:]:
-        raise program.Fault("usage: as_tests.py [--check]", 2)
+        raise program.Fault("usage: as_tests.py [--check]", program.WORDS)
     else:
         TABLE.write_text(table())
     return 0

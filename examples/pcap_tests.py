@@ -154,6 +154,7 @@ def run(file, words):
 
 
 def main():
+    program.no_words("pcap_tests.py")
     wrong = []
     for name, file, words, lines, told in KINDS:
         done = run(file, words)

@@ -27,7 +27,7 @@ def pair_of(words):
     try:
         return [read_node(word) for word in words]
     except ValueError as fault:
-        raise program.Fault(str(fault), 2) from fault
+        raise program.Fault(str(fault), program.WORDS) from fault
 
 
 def lines(file, pair, passed, pairs):
@@ -96,7 +96,7 @@ def main():
         print(__doc__, end="")
         return 0
     if len(words) not in (1, 3):
-        raise program.Fault("usage: pcap_to_capture.py FILE [FIRST OTHER] >CAPTURE", 2)
+        raise program.Fault("usage: pcap_to_capture.py FILE [FIRST OTHER] >CAPTURE", program.WORDS)
     pair = pair_of(words[1:])
     if words[0] == "-":
         told = convert("standard input", program.standard_input(), pair)

@@ -19,6 +19,7 @@ SECONDS = 60
 
 
 def main():
+    program.no_words("shown_tests.py")
     shown = 0
     for page in PAGES:
         for commands, printed in SHOWN.findall((ROOT / page).read_text()):

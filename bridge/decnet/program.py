@@ -5,7 +5,7 @@ import signal
 import sys
 
 STANDARD = 3  # standard input, output and error have the first three numbers of files
-FAULT = 3  # the exit status of a fault of the machine
+WORDS, FAULT = 2, 3  # the exit statuses of wrong words, and of a fault of the machine
 
 
 class Fault(Exception):
@@ -37,6 +37,12 @@ def end_by(number):
         os.dup2(os.open(os.devnull, os.O_WRONLY), 1)
     signal.signal(number, signal.SIG_DFL)
     os.kill(os.getpid(), number)
+
+
+def no_words(usage):
+    """A fault where words were given to a program that takes none."""
+    if sys.argv[1:]:
+        raise Fault(f"usage: {usage}", WORDS)
 
 
 def standard_input():
