@@ -219,7 +219,8 @@ def serve(words, parts):
     keeper = parts.add(Keeper(kept, end, is_changed=is_other)) if kept else None
     role = Server(node, end, settings, keeper, words.links)
     node.start()
-    log.say(f"node {node_text(words.node)} on {node.wire.name.removeprefix('interface ')}: takes links to object {nsp.FAL}")
+    where = words.interface or node.wire.name
+    log.say(f"node {node_text(words.node)} on {where}: takes links to object {nsp.FAL}")
     return carry(role, signals)
 
 

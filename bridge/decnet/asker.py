@@ -131,7 +131,8 @@ class Asker(Role):
             self.link.disconnect(Reason.NO_ERROR, f"closed at line {self.number}, which was refused")
         elif self.is_due:
             if self.clock() >= self.report_until():
-                self.link.disconnect(Reason.ABORTED, f"no report of line {self.number} within {self.patience:g} seconds")
+                why = f"no report of line {self.number} within {self.patience:g} seconds"
+                self.link.disconnect(Reason.ABORTED, why)
         elif not self.requests.is_open and not self.requests.whole and not self.end.waits:
             self.is_finished = True
             self.link.disconnect(Reason.NO_ERROR, "closed, all was asked")

@@ -73,8 +73,8 @@ class End:
     """A live end. Each line that it is told has one answer, in the order of the lines."""
 
     def __init__(self, program, words, keep=False, told=None, clock=time.monotonic):
-        """With `keep` all lines, in and out, are kept as `transcript`. `told` is called with each line that it writes on
-        standard error, which otherwise goes where the program's own does."""
+        """With `keep` all lines, in and out, are kept as `transcript`. `told` is called with each line that it writes
+        on standard error, which otherwise goes where the program's own does."""
         self.program, self.keep, self.told, self.clock = str(program), keep, told, clock
         try:
             with unheard():
@@ -210,8 +210,8 @@ class End:
         return EndFault(f"{self.program} ended with status {self.close()}")
 
     def close(self):
-        """Ends it by the end of its input; its exit status. What doesn't end then is killed, with all that it started; a
-        program that has answered nothing yet may be a build, which ends by a signal."""
+        """Ends it by the end of its input; its exit status. What doesn't end then is killed, with all that it started;
+        a program that has answered nothing yet may be a build, which ends by a signal."""
         for file in (self.process.stdin, self.process.stdout):
             file.close()
         if not self.has_answered:

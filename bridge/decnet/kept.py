@@ -1,11 +1,13 @@
-"""The file in which a serving bridge keeps its files: read, locked, and written anew without ever being less than whole.
+"""The file in which a serving bridge keeps its files: read, locked, and written anew without ever being less than
+whole.
 
-It is an input of `daplive serve`. What the bridge writes begins with HEAD and ends with a mark that says how much there is,
-both of them comments; a file that begins with HEAD and doesn't end with that mark was cut short. A file without HEAD, as
-people write it, needs no mark.
+It is an input of `daplive serve`. What the bridge writes begins with HEAD and ends with a mark that says how much there
+is, both of them comments; a file that begins with HEAD and doesn't end with that mark was cut short. A file without
+HEAD, as people write it, needs no mark.
 """
 import contextlib
 import fcntl
+import hashlib
 import os
 import re
 import secrets
@@ -19,11 +21,12 @@ MAX_LINE = 16_777_216  # the most bytes of a line that a live end takes
 BUFFER = 1 << 20
 FILE, RECORD = "file ", "  "  # how a line of files begins
 RANDOM_BYTES = 8
+CLOSE_SECONDS = 0.5  # for a save that is given up
 ENCODING = {"encoding": "utf-8", "errors": "surrogateescape", "newline": "\n"}
 
 
 class KeptFault(Exception):
-    """The lines in the file aren't files, or it isn't to be overwritten; where the machine is at fault, `of_machine`."""
+    """The lines in the file aren't files, or it isn't to be overwritten; or, `of_machine`, the machine is at fault."""
 
     def __init__(self, text, of_machine=False):
         super().__init__(text)
@@ -79,9 +82,10 @@ class KeptFile:
     """A file that is kept. While it is, no other bridge keeps it, and nobody else may change it."""
 
     def __init__(self, path, loaded=None):
-        """`loaded` is the file from which the files come; where it isn't this one, this one has to be empty or missing. A
-        fault where it is no plain file, is kept by another bridge, or can't be written anew."""
+        """`loaded` is the file from which the files come; where it isn't this one, this one has to be empty or missing.
+        A fault where it is no plain file, is kept by another bridge, or can't be written anew."""
         self.path, self.lock = path, None
+        self.digest = None  # of what was saved last
         try:
             self.is_new = self.take_lock()
             self.check(loaded)
@@ -164,7 +168,11 @@ class KeptFile:
             return None
         return found.st_dev, found.st_ino, found.st_size, found.st_mtime_ns
 
-    def finish(self, beside, file):
+    def is_as(self, digest):
+        """Whether the file has this already."""
+        return digest == self.digest and self.state() == self.seen
+
+    def finish(self, beside, file, digest):
         """Gives the new file, which is whole, the name of the old one, once it is on the disk."""
         file.flush()
         os.fsync(file.fileno())
@@ -178,7 +186,7 @@ class KeptFile:
             os.close(lock)
             raise
         os.close(self.lock)
-        self.lock, self.seen = lock, self.state()
+        self.lock, self.seen, self.digest = lock, self.state(), digest
         folder = os.open(os.path.dirname(self.path) or ".", os.O_RDONLY)
         try:
             os.fsync(folder)
@@ -200,6 +208,7 @@ class Listing:
     def __init__(self, kept, then):
         self.kept, self.then, self.fault = kept, then, None
         self.files = self.count = 0
+        self.digest = hashlib.sha256()
         self.beside = self.file = None
         with self.keeping_fault():
             self.beside, self.file = kept.begin_beside()
@@ -222,8 +231,10 @@ class Listing:
             self.fault = KeptFault(f"{self.kept.path}: the live end answers '{line[:60]}' in place of the files")
             return
         self.files, self.count = self.files + line.startswith(FILE), self.count + 1
+        text = f"{line}\n"
+        self.digest.update(text.encode("utf-8", "surrogateescape"))
         try:
-            self.file.write(f"{line}\n")
+            self.file.write(text)
         except OSError as fault:
             self.fault = fault_of(self.kept.path, fault)
 
@@ -231,11 +242,11 @@ class Listing:
         self.then(self)
 
     def finish(self):
-        """Puts what was written in the place of the old file, or removes it."""
+        """Puts what was written in the place of the old file; or removes it, where it is as the old one."""
         with self.keeping_fault():
-            if not self.fault:
+            if not self.fault and not self.kept.is_as(self.digest.digest()):
                 self.file.write(MARK.format(self.files, self.count) + "\n")
-                self.kept.finish(self.beside, self.file)
+                self.kept.finish(self.beside, self.file, self.digest.digest())
                 self.beside = None
         self.clear()
 
@@ -284,7 +295,7 @@ class Keeper:
 
     def listed(self, listing):
         """All of it was written; the disk may take long."""
-        self.thread = threading.Thread(target=self.finish, args=(listing,))
+        self.thread = threading.Thread(target=self.finish, args=(listing,), daemon=True)
         self.thread.start()
 
     def finish(self, listing):
@@ -309,10 +320,10 @@ class Keeper:
         return {self.reading: self.look}
 
     def close(self):
-        """Gives up a save that isn't over."""
+        """Gives up a save that isn't over; what it has written is left where the disk still has to do with it."""
         if self.thread:
-            self.thread.join()
-        if self.listing:
+            self.thread.join(CLOSE_SECONDS)
+        if self.listing and not (self.thread and self.thread.is_alive()):
             self.listing.clear()
         for one in (self.reading, self.writing, self.kept):
             one.close()

@@ -64,9 +64,9 @@ class Countdown:
 class Flow:
     """Which segments may go now; the others are held, and go when the other end asks for them.
 
-    While it `is_shut` none may. Without flow control all of them are wanted. With segment or message flow control each segment that goes for the
-    first time needs a count above 0, and takes 1 from it: with segment flow control always, with message flow control
-    where it ends a message. A segment that is sent again takes nothing.
+    While it `is_shut` none may go. Without flow control all are wanted. With segment or message flow control each segment
+    that goes for the first time needs a count above 0, and takes 1 from it: with segment flow control always, with message
+    flow control where it ends a message. A segment that is sent again takes nothing.
     """
 
     def __init__(self, control):
@@ -145,8 +145,8 @@ class Link:
     """One link. It acts on nothing but its end node, its live end, and what keeps the files of that."""
 
     def __init__(self, node, end, settings, peer, local, told, keeper=None, clock=time.monotonic):
-        """`told` is called with each report of the live end, and with what it says of want of memory. An answer that says
-        that a file is closed goes out when the `keeper` has saved what was changed."""
+        """`told` is called with each report of the live end, and with what it says of want of memory. An answer that
+        says that a file is closed goes out when the `keeper` has saved what was changed."""
         self.node, self.end, self.settings, self.told, self.clock = node, end, settings, told, clock
         self.keeper = keeper
         self.peer, self.local, self.remote = peer, local, 0
@@ -174,8 +174,8 @@ class Link:
         self.send_until_answered(nsp.connect(self.local, self.settings.segment, session), self.settings.tries)
 
     def accept(self, connect):
-        """Takes the link that a connect initiate asks for; false where the end can't have it. The connect confirm goes out
-        when the live end has the link."""
+        """Takes the link that a connect initiate asks for; false where the end can't have it. The connect confirm goes
+        out when the live end has the link."""
         if not self.read_sizes(connect):
             return False
         self.state = State.ACCEPTING
@@ -196,7 +196,8 @@ class Link:
         self.send_until_answered(nsp.confirm(self.remote, self.local, self.settings.segment), self.settings.tries)
 
     def connect_again(self):
-        """The connect initiate came another time. Where the link is open the other end may have begun anew: it is asked."""
+        """The connect initiate came another time. Where the link is open the other end may have begun anew: it is
+        asked."""
         if self.state in (State.ACCEPTING, State.CONFIRMING, State.RUNNING):
             self.send(nsp.connect_ack(self.remote))
         self.probe()
@@ -417,7 +418,8 @@ class Link:
         self.send(packet, return_wanted=self.state is State.OPENING)
 
     def send_or_hold(self, packet):
-        """Sends a packet of the live end, or holds a segment that may not go yet: what it acknowledges is sent alone."""
+        """Sends a packet of the live end, or holds a segment that may not go yet, and sends alone what it
+        acknowledges."""
         if self.state is not State.RUNNING:
             return
         if packet.kind not in nsp.SEGMENTS:

@@ -16,8 +16,8 @@ class LogFault(Exception):
 
 
 class Log:
-    """Lines behind a program's name. Where they can't be written at once they wait, and a line that finds too many waiting
-    is counted in place of written."""
+    """Lines behind a program's name. Where they can't be written at once they wait, and a line that finds too many
+    waiting is counted in place of written."""
 
     def __init__(self, name, path=None, with_times=False, clock=time.monotonic):
         self.name, self.path, self.with_times, self.clock = name, path, with_times, clock

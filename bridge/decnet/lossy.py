@@ -41,7 +41,9 @@ class Both:
     def __init__(self, line, asking=(), serving=(), program=DAPLIVE, ends=None):
         self.line, self.reports = line, []
         self.ends = ends or {
-            "asking": End(program, ["ask", *asking], keep=True), "serving": End(program, ["serve", *serving], keep=True)}
+            "asking": End(program, ["ask", *asking], keep=True),
+            "serving": End(program, ["serve", *serving], keep=True),
+        }
 
     def tell(self, name, line):
         """Tells an end, and gives what it writes to the line."""

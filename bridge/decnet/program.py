@@ -25,7 +25,8 @@ def hold_standard_files():
             os.fstat(number)
         except OSError:
             closed.append(number)
-            os.set_inheritable(os.open(os.devnull, os.O_RDWR), True)  # the lowest number that is free, which is this one
+            # it gets the lowest number that is free, which is this one
+            os.set_inheritable(os.open(os.devnull, os.O_RDWR), True)
     sys.stdout = sys.stdout or open(1, "w", encoding="utf-8", closefd=False)
     sys.stderr = sys.stderr or open(2, "w", encoding="utf-8", closefd=False)
     return closed
@@ -53,8 +54,8 @@ def standard_input():
 
 
 def run(name, main):
-    """Calls `main`, and ends the program with the status that it gives. Ctrl-C and a closed pipe end it silently, as they
-    end a program that doesn't look at signals; a fault is a line behind the program's name."""
+    """Calls `main`, and ends the program with the status that it gives. Ctrl-C and a closed pipe end it silently, as
+    they end a program that doesn't look at signals; a fault is a line behind the program's name."""
     closed = hold_standard_files()
     try:
         if 1 in closed:

@@ -35,7 +35,10 @@ class Wire:
 
     def receive(self):
         """The next frame; None where there is none."""
-        return self.try_to(self.socket.recv, frames.FRAME_LIMIT)
+        frame = self.try_to(self.socket.recv, frames.FRAME_LIMIT)
+        if frame == b"":
+            raise WireFault(f"{self.name}: closed")
+        return frame
 
     def try_to(self, call, argument):
         """What a call of the socket gives; None where the frame is lost."""
@@ -73,7 +76,7 @@ def given(number):
 
 
 def interface(name, node, longest):
-    """A raw socket on an interface, which has the node's Ethernet address and room for frames with so many bytes of data."""
+    """A raw socket on an interface, which has the node's Ethernet address, and takes frames with so many bytes of data."""
     try:
         raw = socket.socket(socket.AF_PACKET, socket.SOCK_RAW, 0)
     except PermissionError as fault:

@@ -181,11 +181,21 @@ class SaveTest(KeptCase):
         self.assertIn("somebody else has changed it", str(self.save(file)))
         self.assertEqual(self.path.read_text(), "moved\n")
 
+    def test_what_is_there_already_is_not_written_again(self):
+        file = self.keep()
+        self.assertIsNone(self.save(file))
+        before = self.path.stat().st_ino
+        self.assertIsNone(self.save(file))
+        self.assertEqual((self.path.stat().st_ino, self.names()), (before, ["kept"]))
+        self.assertIsNone(self.save(file, FILES[:2]))
+        self.assertNotEqual(self.path.stat().st_ino, before)
+
     def test_a_file_that_was_removed_is_written_anew(self):
         file = self.keep()
-        self.path.unlink()
-        self.assertIsNone(self.save(file))
-        self.assertEqual(self.path.read_text(), WHOLE)
+        for _ in range(2):
+            self.path.unlink()
+            self.assertIsNone(self.save(file))
+            self.assertEqual(self.path.read_text(), WHOLE)
 
     def test_saves_that_are_asked_for_meanwhile_are_made_one_after_another(self):
         end = self.end("serve", program=self.stand_in(

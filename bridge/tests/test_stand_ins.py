@@ -223,6 +223,29 @@ class StopTest(PairCase):
         self.assertEqual(child.finish(), 0, child.told())
         self.assertIn("# end of files", other.read_text())
 
+    def test_a_signal_while_files_are_loaded(self):
+        path = self.file("kept", SAVED.splitlines())
+        child, _ = self.serve("--files", path, "--save", path, program=self.stand_in("line != 'new' and time.sleep(1000)"),
+                              is_ready=False)
+        time.sleep(0.7)
+        begun = time.monotonic()
+        self.assertEqual(child.finish(signal.SIGTERM), 1)
+        self.assertLess(time.monotonic() - begun, 4)
+        self.assertIn("stopped by a signal", child.told())
+        self.assertEqual(path.read_text(), SAVED)
+
+    def test_a_network_that_is_gone_is_status_3_and_what_changed_is_saved(self):
+        path = self.folder / "kept"
+        answer = f"return {SAVED.splitlines()!r} if line == 'files' else ['accepted'] if line[0] == '>' else []"
+        child, raw = self.serve(*HASTE, "--save", path, program=self.stand_in(answer))
+        station = self.station(raw)
+        station.connect(1)
+        station.say(segment(station.remote, station.local, 1, b"\x08\0\0A"))
+        time.sleep(0.2)
+        raw.close()
+        self.assertEqual(child.finish(), 3)
+        self.assertIn("# end of files: 1 files, 2 lines", path.read_text())
+
     def test_hang_up_opens_the_log_again_where_it_is_a_file(self):
         log = self.folder / "log"
         child, _ = self.serve("--log", log, program=self.stand_in("return []"), is_ready=False)
