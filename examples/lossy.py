@@ -33,7 +33,8 @@ def count(text):
 
 
 def read_options():
-    parser = argparse.ArgumentParser(prog="lossy.py", description="Plays requests over both live ends and a lossy line.")
+    parser = argparse.ArgumentParser(
+        prog="lossy.py", description="Plays requests over both live ends and a lossy line.")
     parser.add_argument("--seed", type=int, default=1)
     parser.add_argument("--loss", type=share, default=20, metavar="PERCENT")
     parser.add_argument("--repeat", type=share, default=10, metavar="PERCENT")

@@ -138,7 +138,13 @@ KINDS = [
 REFUSED = [
     (b"", [], "", "standard input: no capture of Ethernet frames: it is neither pcap nor pcapng"),
     (b"# a text\n", [], "", "standard input: no capture of Ethernet frames: it is neither pcap nor pcapng"),
-    (pcap(BOTH, link=113), [], "", "standard input: no capture of Ethernet frames: its frames are not those of Ethernet: capture with -i INTERFACE, and not with -i any"),
+    (
+        pcap(BOTH, link=113),
+        [],
+        "",
+        "standard input: no capture of Ethernet frames: its frames are not those of Ethernet: "
+        "capture with -i INTERFACE, and not with -i any",
+    ),
     (pcap(BOTH), ["1.2", "64.1"], "", "64.1 is no DECnet address, as 1.10"),
     (
         pcapng([1], [(0, THERE), (0, BACK)]) + bytes(12),

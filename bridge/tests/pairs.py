@@ -1,4 +1,4 @@
-"""Bridges over pairs of sockets, without a network: a bridge as a program, and a station or another bridge before it."""
+"""Bridges over pairs of sockets, without a network: a bridge as a program, and a station or another one before it."""
 import signal
 
 from tests.station import ASKING, SERVING, Station
@@ -44,5 +44,6 @@ class PairCase(Case):
         return child
 
     def stop(self, child, status=0):
-        expect_equal(child.finish(signal.SIGTERM), status, f"the exit status of the bridge that served ({child.told()})")
+        found = child.finish(signal.SIGTERM)
+        expect_equal(found, status, f"the exit status of the bridge that served ({child.told()})")
         expect("Traceback" not in child.told() and "Warning" not in child.told(), child.told())

@@ -139,7 +139,7 @@ class Case(unittest.TestCase):
         return path
 
     def stand_in(self, answer, name="stand_in"):
-        """A live end that answers a line as the body of a function of `line` says: it gives the lines before `waits`."""
+        """A live end that answers as the body of a function of `line` says, which gives the lines before `waits`."""
         body = "".join(f"    {line}\n" for line in answer.splitlines())
         return self.script(name, "import os, sys, time\n"
                                  f"def answer(line):\n{body}\n"

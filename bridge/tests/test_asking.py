@@ -7,7 +7,7 @@ from decnet import answers, nsp
 from decnet.nsp import Kind
 from tests.pairs import HASTE, PairCase
 from tests.station import ASKING, SERVING
-from tests.support import until
+from tests.support import BRIDGE, PROGRAM, PYTHON, until
 
 STORING = b"hello\ncreate 46 0 1 2 0 15\nconnect\nstore 4141 4242\nclose\n"
 
@@ -44,9 +44,10 @@ class RefusalTest(AskCase):
         self.assertIn("line 3: 'connect': it doesn't fit here\n", told)
 
     def test_a_request_that_is_none(self):
-        for request, why in ((b"type x", "no request 'type'"), (b"HELLO", "no request 'HELLO'"), (b"ask hello", "no request 'ask'"),
-                             (b"hello ", "'hello ': wrong words for 'hello'"), (b"\x1b[2J", "no request '?[2J'"),
-                             (b"open notes.txt 2", "'open notes.txt 2': wrong words for 'open'; names and records are hex digits")):
+        bad = ((b"type x", "no request 'type'"), (b"HELLO", "no request 'HELLO'"), (b"ask hello", "no request 'ask'"),
+               (b"hello ", "'hello ': wrong words for 'hello'"), (b"\x1b[2J", "no request '?[2J'"),
+               (b"open n.txt 2", "'open n.txt 2': wrong words for 'open'; names and records are hex digits"))
+        for request, why in bad:
             status, reports, told = self.asks(request + b"\nhello\n")
             self.assertEqual((status, reports), (1, ["refused bad-line"]))
             self.assertIn(f"bridge: line 1: {why}", told)
@@ -55,7 +56,8 @@ class RefusalTest(AskCase):
     def test_a_store_in_part(self):
         status, reports, told = self.asks(b"hello\ncreate 47 0 1 2 0 15\nconnect\nstore 4141 42 4343\nclose\n")
         self.assertEqual((status, reports[-1]), (1, "report stored refused 5000 7 2"))
-        self.assertIn("line 4: 'store 4141 42 4343': refused: the record's length isn't one of the file's (5000, 7)", told)
+        why = "refused: the record's length isn't one of the file's (5000, 7)"
+        self.assertIn(f"line 4: 'store 4141 42 4343': {why}", told)
 
     def test_a_fetch_that_stops_and_is_not_gone_on_with(self):
         record = b"42" * 500
@@ -66,8 +68,9 @@ class RefusalTest(AskCase):
         self.assertEqual(status, 0, told)
 
     def test_refusals_in_words(self):
-        self.assertEqual(answers.refusal("report batch 2 refused 0127 0 1:0102 2:-"), "refused: by the other end (0127, 0)")
-        self.assertEqual(answers.refusal("report refused 4000 1"), "refused: a file of that name is there (4000, 1)")
+        batch, name = "report batch 2 refused 0127 0 1:0102 2:-", "report refused 4000 1"
+        self.assertEqual(answers.refusal(batch), "refused: by the other end (0127, 0)")
+        self.assertEqual(answers.refusal(name), "refused: a file of that name is there (4000, 1)")
         for report in ("report stored", "report batch 1 stopped 1:41", "report done 1", "report end-of-file"):
             self.assertIsNone(answers.refusal(report))
 
@@ -107,17 +110,11 @@ class StandardFilesTest(AskCase):
         """An asking bridge behind a shell that redirects its standard files."""
         command = ["sh", "-c", f'exec "$@" {how}', "sh"]
         near = self.raw
-        words = ["--frames", near.fileno(), "--node", ASKING, "--daplive", self.program(), "--to", SERVING, *HASTE]
-        from tests.support import BRIDGE, PYTHON
+        words = ["--frames", near.fileno(), "--node", ASKING, "--daplive", PROGRAM, "--to", SERVING, *HASTE]
         child = self.start([*command, *PYTHON, BRIDGE, "ask", *words], stdin=requests, pass_fds=[near.fileno()])
         child.finish()
         self.assertNotIn("Traceback", child.told())
         return child
-
-    @staticmethod
-    def program():
-        from tests.support import PROGRAM
-        return PROGRAM
 
     def test_standard_output_is_closed(self):
         child = self.redirected(">&-")

@@ -34,11 +34,13 @@ class EndTest(Case):
 
     def test_nonsense(self):
         for number, text in enumerate(["waits " + "9" * 5000, "waits -1", "waits \u00b2", "waits x"]):
-            script = self.script(f"nonsense{number}", f"import sys\nfor line in sys.stdin: print({text!r}, flush=True)\n")
+            script = f"import sys\nfor line in sys.stdin: print({text!r}, flush=True)\n"
+            script = self.script(f"nonsense{number}", script)
             self.assertIn("answers what no live end does", self.fault(self.end("serve", program=script)))
 
     def test_one_that_speaks_unasked(self):
-        end = self.end("serve", program=self.script("early", "import os, sys\nos.write(1, b'waits 0\\nwaits 0\\n')\nsys.stdin.read()\n"))
+        script = "import os, sys\nos.write(1, b'waits 0\\nwaits 0\\n')\nsys.stdin.read()\n"
+        end = self.end("serve", program=self.script("early", script))
         with self.assertRaisesRegex(EndFault, "speaks unasked"):
             end.say("new")
 
@@ -75,7 +77,8 @@ class EndTest(Case):
         self.assertEqual(end.close(), 0)
 
     def test_one_that_does_not_end_is_killed(self):
-        end = self.end("serve", program=self.script("deaf", "import time\nprint('waits 0', flush=True)\ntime.sleep(1000)\n"))
+        script = "import time\nprint('waits 0', flush=True)\ntime.sleep(1000)\n"
+        end = self.end("serve", program=self.script("deaf", script))
         end.say("new")
         end.close_seconds = 0.2
         begun = time.monotonic()
@@ -86,7 +89,8 @@ class EndTest(Case):
         """What hasn't answered yet may be a build: it is ended with all that it started."""
         script = self.script("builds", "import subprocess, signal, sys\n"
                              "signal.pthread_sigmask(signal.SIG_SETMASK, ())\n"
-                             "child = subprocess.Popen(['sleep', '1000'])\nprint(child.pid, file=sys.stderr, flush=True)\n"
+                             "child = subprocess.Popen(['sleep', '1000'])\n"
+                             "print(child.pid, file=sys.stderr, flush=True)\n"
                              "child.wait()\n")
         told = []
         end = self.end("serve", program=script, told=told.append)
@@ -96,12 +100,13 @@ class EndTest(Case):
         begun = time.monotonic()
         end.close()
         self.assertLess(time.monotonic() - begun, 2)
-        until(lambda: not os.path.exists(f"/proc/{told[0]}") or " Z " in open_text(f"/proc/{told[0]}/stat"), "the end of a child")
+        until(lambda: has_ended(told[0]), "the end of a child")
 
 
-def open_text(path):
+def has_ended(pid):
+    """Whether a process is gone, or waits for its parent alone."""
     try:
-        with open(path, encoding="utf-8") as file:
-            return file.read()
+        with open(f"/proc/{pid}/stat", encoding="utf-8") as file:
+            return " Z " in file.read()
     except OSError:
-        return " Z "
+        return True

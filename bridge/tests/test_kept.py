@@ -240,5 +240,6 @@ class LoadTest(KeptCase):
                 list(read_lines(self.path))
 
     def test_a_line_without_an_end_takes_no_memory(self):
-        with mock.patch.object(kept, "MAX_LINE", 1000), self.assertRaisesRegex(KeptFault, "line 1: more than 1000 bytes"):
-            list(read_lines("/dev/zero"))
+        with mock.patch.object(kept, "MAX_LINE", 1000):
+            with self.assertRaisesRegex(KeptFault, "line 1: more than 1000 bytes"):
+                list(read_lines("/dev/zero"))

@@ -1,7 +1,7 @@
 """Bridges in two network namespaces: files stored and fetched, and each answer, timer, message and exit status.
 
-Takes Linux, root, `ip`, `tshark` and `dumpcap`; without them it is skipped. It sends only between the namespaces, which it
-makes and removes. What goes over the wire is captured, and each frame is read by tshark as it was meant.
+Takes Linux, root, `ip`, `tshark` and `dumpcap`; without them it is skipped. It sends only between the namespaces, which
+it makes and removes. What goes over the wire is captured, and each frame is read by tshark as it was meant.
 """
 import contextlib
 import os
@@ -22,7 +22,7 @@ from tests.network import LIBC, Capture, Network, ip
 from tests.patterns import altered, good_frame, packets
 from tests.station import ASKING, CONFIGURATION, SERVING, SILENCE, Station, segment
 from tests.support import (
-    BRIDGE, EXAMPLES, PATIENCE, POLL, PROGRAM, PYTHON, SEED, Case, Child, build, child_of, expect, expect_equal, file_lines, until)
+    BRIDGE, EXAMPLES, PATIENCE, POLL, PROGRAM, PYTHON, SEED, Case, build, child_of, expect, expect_equal, file_lines, until)
 
 SETTINGS = ["--resend", "0.2", "--tries", "10"]
 HASTE = ["--resend", "0.05", "--tries", "100"]
@@ -100,8 +100,8 @@ class NetworkCase(Case):
     def bridge(self, role, *words, stdin=b"", node=None, **more):
         """A bridge, started."""
         node = node or (SERVING if role == "serve" else ASKING)
-        command = [*PYTHON, BRIDGE, role, "--interface", NETWORK.interfaces[node], "--node", node, "--daplive", PROGRAM, *words]
-        return self.start(command, stdin=stdin, namespace=NETWORK.names[node], **more)
+        words = ["--interface", NETWORK.interfaces[node], "--node", node, "--daplive", PROGRAM, *words]
+        return self.start([*PYTHON, BRIDGE, role, *words], stdin=stdin, namespace=NETWORK.names[node], **more)
 
     def serve(self, *words, **more):
         child = self.bridge("serve", *words, **more)
@@ -494,7 +494,8 @@ class FaultTest(NetworkCase):
                  ["ask", *node, "--to", "1.9", "--user", 40 * "X"],
                  ["ask", *node, "--to", "1.9", "--password-file", "/nowhere"],
                  ["ask", *node, "--to", "1.9", "--password", "X", "--password-env", "HOME"],
-                 ["ask", *node, "--to", "1.9", "--password-env", "NO_SUCH_VARIABLE"], ["serve", *node, "--segment", "63"],
+                 ["ask", *node, "--to", "1.9", "--password-env", "NO_SUCH_VARIABLE"],
+                 ["serve", *node, "--segment", "63"],
                  ["ask", *node, "--to", SERVING]]
         for words in wrong:
             status, told = run(*words)

@@ -1,4 +1,5 @@
-"""Packets, frames and capture files: what is written is read, what isn't for the node isn't taken, bad bytes are refused."""
+"""Packets, frames and capture files: what is written is read, what isn't for the node isn't taken, and bad bytes are
+refused."""
 import io
 import random
 import struct
@@ -107,8 +108,8 @@ class RoutingTest(unittest.TestCase):
         self.assertEqual({what: None for what in refused}, refused)
 
     def test_addresses(self):
-        odd = ("", "1", "1.", ".1", "0.1", "64.1", "1.0", "1.1024", "1.1.1", "a.b", "-1.2", " 1.2", "1.2\n", "1.\u00b2", "1.\u0661",
-               "1." + "1" * 5000, "9999.1")
+        odd = ("", "1", "1.", ".1", "0.1", "64.1", "1.0", "1.1024", "1.1.1", "a.b", "-1.2", " 1.2", "1.2\n", "1.\u00b2",
+               "1.\u0661", "1." + "1" * 5000, "9999.1")
         for text in odd:
             with self.assertRaises(ValueError, msg=text):
                 read_node(text)
@@ -150,12 +151,12 @@ class FlowTest(unittest.TestCase):
 
 class DapTest(unittest.TestCase):
     def test_which_messages_may_change_files(self):
-        harmless = ("", "01020a00040703050600000000", "0300010001460200", "040001", "040002", "040006", "050001", "0600",
-                    "070001", "070004", "0900001000", "020403000000" + "040001")
+        harmless = ("", "01020a00040703050600000000", "0300010001460200", "040001", "040002", "040006", "050001",
+                    "0600", "070001", "070004", "0900001000", "020403000000" + "040001")
         for text in harmless:
             self.assertFalse(dap.may_change(bytes.fromhex(text)), text)
-        changing = ("0300020001460200", "040004", "040003", "040005", "0400", "0700", "070003", "08000041", "02", "0280", "0202",
-                    "020203ff", "0202010007000308")
+        changing = ("0300020001460200", "040004", "040003", "040005", "0400", "0700", "070003", "08000041", "02", "0280",
+                    "0202", "020203ff", "0202010007000308")
         for text in changing:
             self.assertTrue(dap.may_change(bytes.fromhex(text)), text)
 

@@ -6,7 +6,7 @@ import time
 from decnet.kept import read_lines
 from tests.pairs import HASTE, PairCase
 from tests.station import SERVING
-from tests.support import PROGRAM, child_of, file_lines, until
+from tests.support import BRIDGE, PROGRAM, PYTHON, child_of, file_lines, until
 
 FILE = ["file 46 seq variable 0 0", "  1 41"]
 
@@ -39,7 +39,8 @@ class SavedTest(PairCase):
         self.stop(server)
 
     def test_a_purge_is_saved(self):
-        server, _ = self.begin(b"hello\ncreate 46 0 2 0 0 15\nconnect\nput 41\nclose\nopen 46 2\nclose\n", "report closed")
+        requests = b"hello\ncreate 46 0 2 0 0 15\nconnect\nput 41\nclose\ncreate 47 0 2 0 0 15\npurge\n"
+        server, _ = self.begin(requests, "report closed\nreport opened 0 2 0 0\nreport closed")
         until(lambda: file_lines(self.path) == FILE, "a save")
         self.stop(server)
 
@@ -80,11 +81,11 @@ class FullTest(PairCase):
     def test_a_file_that_cannot_grow_stays_old_and_the_client_is_not_told_that_it_is_closed(self):
         """A limit on the size of files is as a full disk."""
         path = self.file("kept", FILE)
-        words = ["sh", "-c", 'ulimit -f 1; exec "$@"', "sh"]
         near, far = self.ends()
-        from tests.support import BRIDGE, PYTHON
-        server = self.start([*words, *PYTHON, BRIDGE, "serve", "--frames", far.fileno(), "--node", SERVING, "--daplive", PROGRAM,
-                             *HASTE, "--files", path, "--save", path], pass_fds=[far.fileno()], stderr=None)
+        shell = ["sh", "-c", 'ulimit -f 1; exec "$@"', "sh"]
+        words = ["--frames", far.fileno(), "--node", SERVING, "--daplive", PROGRAM, *HASTE]
+        words += ["--files", path, "--save", path, "--log", "/dev/null"]
+        server = self.start([*shell, *PYTHON, BRIDGE, "serve", *words], pass_fds=[far.fileno()])
         time.sleep(1)
         child = self.ask(near, b"hello\ncreate 47 0 2 0 0 15\nconnect\nput " + b"42" * 900 + b"\nclose\n")
         self.assertEqual(child.finish(), 1)

@@ -1,4 +1,4 @@
-"""A serving and an asking bridge before live ends that work long, hang, die or speak nonsense, over pairs of sockets."""
+"""Bridges before live ends that work long, hang, die or speak nonsense, over pairs of sockets."""
 import os
 import signal
 import time
@@ -73,7 +73,8 @@ class LongWorkTest(PairCase):
         self.assertLess(time.monotonic() - begun, 1)
 
     def test_saving_does_not_make_the_bridge_deaf(self):
-        slow = "if line == 'files':\n    print('file 46 seq variable 0 0', flush=True); time.sleep(2)\nreturn ['accepted'] if line[0] == '>' else []"
+        slow = ("if line == 'files':\n    print('file 46 seq variable 0 0', flush=True)\n    time.sleep(2)\n"
+                "return ['accepted'] if line[0] == '>' else []")
         path = self.folder / "kept"
         child, raw = self.serve(*HASTE, "--save", path, program=self.stand_in(slow))
         station = self.station(raw)
@@ -96,7 +97,8 @@ class ChangeTest(PairCase):
     def setUp(self):
         super().setUp()
         self.listed, self.path = self.folder / "listed", self.folder / "kept"
-        answer = (f"if line == 'files':\n    open({str(self.listed)!r}, 'a').write('x')\n    return {SAVED.splitlines()!r}\n"
+        answer = (f"if line == 'files':\n    open({str(self.listed)!r}, 'a').write('x')\n"
+                  f"    return {SAVED.splitlines()!r}\n"
                   "return ['accepted'] if line[0] == '>' else []")
         self.child, self.raw = self.serve(*HASTE, "--save", self.path, program=self.stand_in(answer))
         self.near = self.station(self.raw)
@@ -112,7 +114,7 @@ class ChangeTest(PairCase):
 
     def test_a_link_that_changed_nothing_writes_nothing(self):
         for local in range(1, 20):
-            self.talk(local, CONFIGURATION, bytes.fromhex("0300010001460200"), bytes.fromhex("040002"), bytes.fromhex("070001"))
+            self.talk(local, CONFIGURATION, *map(bytes.fromhex, ("0300010001460200", "040002", "070001")))
         self.near.refused(nsp.connect(9, 512, b"\0\x12\0\0\0"))
         self.stop(self.child)
         self.assertEqual((self.count(), self.path.stat().st_size), (0, 0))
@@ -384,7 +386,8 @@ class HoldTest(PairCase):
         self.stop(child)
 
     def test_a_held_segment_does_not_hold_its_acknowledgement(self):
-        answer = "return ['accepted', '< 60' + line[8:10] + line[10:12] + line[4:8] + '01800100' + '00'] if line[:4] == '> 60' else []"
+        answer = ("packet = '60' + line[8:12] + line[4:8] + '0180010000'\n"
+                  "return ['accepted', '< ' + packet] if line[:4] == '> 60' else []")
         child, raw = self.serve(*HASTE, program=self.stand_in(answer))
         station = self.station(raw)
         station.connect(0x0111, control=nsp.FlowControl.SEGMENTS)

@@ -74,7 +74,8 @@ class SweepTest(PairCase):
         for turn in range(KILLS):
             server, raw = self.serve(*HASTE, "--files", path, "--save", path)
             names = [f"{turn:02x}{one:02x}" for one in range(20)]
-            requests = "hello\n" + "".join(f"create {name} 0 2 0 0 15\nconnect\nstore 41 42 43\nclose\n" for name in names)
+            store = "create {} 0 2 0 0 15\nconnect\nstore 41 42 43\nclose\n"
+            requests = "hello\n" + "".join(store.format(name) for name in names)
             child = self.bridge("ask", raw, "--to", SERVING, *HASTE, stdin=requests.encode())
             child.wait_for("report ready", child.out)
             time.sleep(chance.random() * 0.5)

@@ -58,19 +58,22 @@ class WordsTest(ToolCase):
 
     def test_words_of_any_bytes(self):
         for program in ("bridge/bridge.py", "examples/pcap_to_capture.py", "wrong_bodies", "bench/ratios"):
-            done = subprocess.run([*PYTHON, str(ROOT / program), b"\xff\xfe"], capture_output=True, check=False, timeout=60)
+            command = [*PYTHON, str(ROOT / program), b"\xff\xfe"]
+            done = subprocess.run(command, capture_output=True, check=False, timeout=60)
             self.assertIn(done.returncode, (1, 2, 3))
             self.assertNotIn(b"Traceback", done.stderr)
 
     def test_the_program_is_named_first(self):
-        for program, words in (("examples/pcap_to_capture.py", "nowhere"), ("examples/lossy.py", "--daplive /nowhere"),
-                               ("docs/check", "x"), ("wrong_bodies", "x")):
-            self.assertTrue(self.run_it(program, words.split()).stderr.startswith(program.rpartition("/")[2] if "docs" not in program
-                                                                                 else program), program)
+        for program, words, name in (("examples/pcap_to_capture.py", "nowhere", "pcap_to_capture.py"),
+                                     ("examples/lossy.py", "--daplive /nowhere", "lossy.py"),
+                                     ("docs/check", "x", "docs/check"), ("wrong_bodies", "x", "wrong_bodies")):
+            told = self.run_it(program, words.split()).stderr
+            self.assertTrue(told.startswith(f"{name}: "), told)
 
 
 def pcap(count):
-    frame = (bytes(12) + b"\x60\x03\x0d\x00" + b"\x02\x02\x04\x01\x04\x00" + bytes.fromhex("0402010103ff8f")).ljust(60, b"\0")
+    routed = b"\x02\x02\x04\x01\x04\x00" + bytes.fromhex("0402010103ff8f")
+    frame = (bytes(12) + b"\x60\x03\x0d\x00" + routed).ljust(60, b"\0")
     head = struct.pack("<IHHIIII", 0xA1B2C3D4, 2, 4, 0, 0, 65535, 1)
     return head + count * (struct.pack("<IIII", 0, 0, len(frame), len(frame)) + frame)
 
@@ -84,7 +87,8 @@ class FilesTest(ToolCase):
         self.wire.write_bytes(pcap(20_000))
 
     def test_standard_files_that_are_closed(self):
-        for how, words, status in (("<&-", ["-"], 3), (">&-", [self.wire], 3), ("2>&-", [self.wire], 0), (">/dev/full", [self.wire], 3)):
+        wire = [self.wire]
+        for how, words, status in (("<&-", ["-"], 3), (">&-", wire, 3), ("2>&-", wire, 0), (">/dev/full", wire, 3)):
             done = self.run_it(self.program, words, f'exec "$@" {how}')
             self.assertEqual(done.returncode, status, how)
         self.assertNotIn("packets taken", self.run_it(self.program, [self.wire], 'exec "$@" 2>&-').stdout)
