@@ -88,7 +88,7 @@ class Asker(Role):
         if answer[0].startswith("refused "):
             self.is_due = False
             self.say(answer[0])
-            self.refused(answers.not_asked(self.request, answer[0]))
+            self.note_refusal(answers.not_asked(self.request, answer[0]))
         self.link.do(answer)
 
     def told(self, text):
@@ -100,9 +100,9 @@ class Asker(Role):
         self.say(text)
         refusal = answers.refusal(text)
         if refusal:
-            self.refused(f"'{answers.shown(self.request)}': {refusal}")
+            self.note_refusal(f"'{answers.shown(self.request)}': {refusal}")
 
-    def refused(self, why):
+    def note_refusal(self, why):
         self.is_refused = True
         log.say(f"line {self.number}: {why}")
 
