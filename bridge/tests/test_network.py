@@ -523,8 +523,3 @@ class FaultTest(NetworkCase):
         station.disconnect()
         self.stop(server)
         expect("Traceback" not in server.told(), server.told())
-
-
-def child_of(pid):
-    """The live end of a bridge."""
-    return int(pathlib.Path(f"/proc/{pid}/task/{pid}/children").read_text().split()[0])
