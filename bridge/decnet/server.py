@@ -5,6 +5,7 @@ from decnet import log, nsp
 from decnet.address import node_text
 from decnet.end import Answer
 from decnet.kept import KeptFault, read_lines
+from decnet.link import NO_MEMORY
 from decnet.nsp import Reason
 from decnet.role import FAULT, Role, Stopped, wait_for
 
@@ -110,7 +111,7 @@ def load(end, path, signals):
         def check(answer):
             unanswered.pop()
             if answer:
-                raise KeptFault(f"{path}: line {number}: {answer[0]}")
+                raise KeptFault(f"{path}: line {number}: {answer[0]}", of_machine=answer[0] == NO_MEMORY)
         return check
 
     def tell_more():

@@ -11,7 +11,7 @@ from tests.station import SERVING
 from tests.support import PROGRAM, SEED, child_of
 
 FRAMES, ROUND = 5000, 1000
-LIMITS = range(4_000, 44_000, 2_000)  # kB of memory that a live end may have
+LIMITS = range(3_000, 9_000, 300)  # kB of memory that a live end may have
 KILLS = 30
 GOOD = b"hello\nopen 4b455054 2\nconnect\nfetch\nclose\n"
 
