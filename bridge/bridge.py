@@ -9,6 +9,7 @@ that object, reads requests, one a line as they stand behind `ask` of docs/LIVE.
 before has come, prints the reports, and closes the link at the end of the input. docs/BRIDGE.md has all of it.
 """
 import argparse
+import contextlib
 import os
 import re
 import signal
@@ -180,9 +181,7 @@ def tell_of_end(text):
 
 
 def keep_file(words):
-    """The file that is kept, if there is one."""
-    if words.save is None:
-        return None
+    """The file that is kept."""
     kept = KeptFile(words.save, words.files)
     if kept.is_new:
         log.say(f"{words.save}: a new file")
@@ -192,31 +191,17 @@ def keep_file(words):
 # ---- the program
 
 
-class Parts:
-    """What is open, to be closed in the end, the last one first."""
-
-    def __init__(self):
-        self.open = []
-
-    def add(self, part):
-        if part is not None:
-            self.open.append(part)
-        return part
-
-    def close(self):
-        while self.open:
-            self.open.pop().close()
-
-
-def serve(words, parts):
-    signals = parts.add(Signals(parts.add(log.start("bridge", words.log, with_times=True))))
+def serve(words, opened):
+    """Serves; what is `opened` is closed by the caller, the last one first."""
+    signals = opened(Signals(opened(log.start("bridge", words.log, with_times=True))))
     settings = Settings(words.segment, words.resend, words.tries, words.idle, words.unused)
-    node, kept = parts.add(open_node(words)), parts.add(keep_file(words))
-    end = parts.add(start_end(words, signals))
-    if words.files:
+    node = opened(open_node(words))
+    kept = opened(keep_file(words)) if words.save is not None else None
+    end = opened(start_end(words, signals))
+    if words.files is not None:
         load(end, words.files, signals)
     is_other = words.files is not None and kept is not None and not os.path.samefile(words.files, words.save)
-    keeper = parts.add(Keeper(kept, end, is_changed=is_other)) if kept else None
+    keeper = opened(Keeper(kept, end, is_changed=is_other)) if kept else None
     role = Server(node, end, settings, keeper, words.links)
     node.start()
     where = words.interface or node.wire.name
@@ -224,13 +209,14 @@ def serve(words, parts):
     return carry(role, signals)
 
 
-def ask(words, parts, closed):
-    signals = parts.add(Signals(parts.add(log.start("bridge", words.log))))
+def ask(words, opened, closed):
+    """Asks; what is `opened` is closed by the caller, the last one first. `closed` are standard files that are."""
+    signals = opened(Signals(opened(log.start("bridge", words.log))))
     for file, name in enumerate(("input", "output")):
         if file in closed:
             raise InputFault(f"standard {name}: closed")
     settings = Settings(words.segment, words.resend, words.tries, words.idle)
-    node, end = parts.add(open_node(words)), parts.add(start_end(words, signals))
+    node, end = opened(open_node(words)), opened(start_end(words, signals))
     role = Asker(node, end, settings, Requests(sys.stdin.fileno()), words.patience, words.go_on)
     node.start()
     role.open(words.to, nsp.session(words.user, words.password, words.account))
@@ -252,20 +238,20 @@ def carry(role, signals):
 
 def start(words, closed):
     """Does what the words say; the exit status."""
-    parts = Parts()
-    try:
-        return serve(words, parts) if words.role == "serve" else ask(words, parts, closed)
-    except KeptFault as fault:
-        log.say(str(fault))
-        return FAULT if fault.of_machine else FAILED
-    except (wire.WireFault, EndFault, InputFault, LogFault) as fault:
-        log.say(str(fault))
-        return FAULT
-    except Stopped as fault:
-        log.say(str(fault))
-        return fault.status
-    finally:
-        parts.close()
+    with contextlib.ExitStack() as parts:
+        def opened(part):
+            return parts.enter_context(contextlib.closing(part))
+        try:
+            return serve(words, opened) if words.role == "serve" else ask(words, opened, closed)
+        except KeptFault as fault:
+            log.say(str(fault))
+            return FAULT if fault.of_machine else FAILED
+        except (wire.WireFault, EndFault, InputFault, LogFault) as fault:
+            log.say(str(fault))
+            return FAULT
+        except Stopped as fault:
+            log.say(str(fault))
+            return fault.status
 
 
 def main():
