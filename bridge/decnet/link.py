@@ -160,6 +160,7 @@ class Link:
         self.segment = settings.segment
         self.acknowledged = 0  # the highest segment that the other end has
         self.pending = 0  # lines that the live end hasn't answered
+        self.has_changed = False  # whether anything came on it that may change files
         self.saves = 0  # saves that answers wait for
         self.wanted_at = None  # when another node asked for a link, since this one was heard
         self.half_open_until = None
@@ -335,6 +336,7 @@ class Link:
                 self.note_progress(number)
         if self.keeper and packet.kind in nsp.SEGMENTS:
             if packet.kind is not Kind.ONLY or dap.may_change(packet.body):
+                self.has_changed = True
                 self.keeper.note_change()
         self.tell("> " + packet.whole.hex())
 
@@ -433,9 +435,9 @@ class Link:
             self.send(nsp.data_ack(self.remote, self.local, *packet.acks[0]))
 
     def save_before(self, packet):
-        """Begins a save where a packet says that a file is closed, and something isn't on the disk: the packet, and all
-        segments after it, go out when it is."""
-        if self.keeper and packet.kind is Kind.ONLY and dap.says_closed(packet.body) and self.keeper.is_due:
+        """Begins a save where a packet says that a file is closed, and what this link may have changed isn't on the
+        disk: the packet, and all segments after it, go out when it is."""
+        if self.has_changed and packet.kind is Kind.ONLY and dap.says_closed(packet.body) and self.keeper.is_due:
             self.flow.is_shut = True
             self.saves += 1
             self.keeper.save(self.saved)

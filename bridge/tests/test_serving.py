@@ -91,5 +91,8 @@ class FullTest(PairCase):
         self.assertEqual(child.finish(), 1)
         self.assertNotIn("report closed", child.reports())
         self.assertIn("reason 9 (aborted)", child.told())
+        time.sleep(0.5)
+        child = self.ask(near, b"hello\nopen 46 2\nconnect\nfetch\nclose\n")
+        self.assertEqual((child.finish(), child.reports()[-1]), (0, "report closed"), "who only reads isn't held up")
         self.assertEqual(server.finish(signal.SIGTERM), 3)
         self.assertEqual(file_lines(path), FILE)
