@@ -16,6 +16,7 @@ from decnet.end import DAPLIVE, End
 
 PATIENCE = 30  # seconds for anything that has to happen
 BUILD_SECONDS = 3600  # ./daplive may have to be built
+PROMPT = 5  # seconds for what happens within one, on a machine that has other work
 POLL = 0.02
 BRIDGE = pathlib.Path(__file__).resolve().parent.parent / "bridge.py"
 EXAMPLES = BRIDGE.parent.parent / "examples"
@@ -152,6 +153,15 @@ class Case(unittest.TestCase):
 def child_of(pid):
     """The live end of a bridge."""
     return int(pathlib.Path(f"/proc/{pid}/task/{pid}/children").read_text().split()[0])
+
+
+def sleeps(pid):
+    """Whether a process waits for something, and has for a while."""
+    for _ in range(10):
+        if pathlib.Path(f"/proc/{pid}/stat").read_text().rpartition(")")[2].split()[0] != "S":
+            return False
+        time.sleep(POLL)
+    return True
 
 
 def pair():

@@ -7,7 +7,7 @@ from decnet import answers, nsp
 from decnet.nsp import Kind
 from tests.pairs import HASTE, PairCase
 from tests.station import ASKING, SERVING
-from tests.support import BRIDGE, PROGRAM, PYTHON, until
+from tests.support import BRIDGE, PROGRAM, PROMPT, PYTHON, until
 
 STORING = b"hello\ncreate 46 0 1 2 0 15\nconnect\nstore 4141 4242\nclose\n"
 
@@ -92,7 +92,7 @@ class PatienceTest(PairCase):
         station.acknowledge(1)
         begun = time.monotonic()
         station.hear_kind(Kind.DISCONNECT)
-        self.assertLess(time.monotonic() - begun, 2)
+        self.assertLess(time.monotonic() - begun, PROMPT)
         station.say(nsp.disconnect_confirm(station.remote, 7, 42))
         self.assertEqual(child.finish(), 1)
         self.assertIn("no report of line 2 within 1 seconds", child.told())

@@ -84,9 +84,9 @@ class FullTest(PairCase):
         near, far = self.ends()
         shell = ["sh", "-c", 'ulimit -f 1; exec "$@"', "sh"]
         words = ["--frames", far.fileno(), "--node", SERVING, "--daplive", PROGRAM, *HASTE]
-        words += ["--files", path, "--save", path, "--log", "/dev/null"]
+        words += ["--files", path, "--save", path]
         server = self.start([*shell, *PYTHON, BRIDGE, "serve", *words], pass_fds=[far.fileno()])
-        time.sleep(1)
+        server.wait_for("takes links")
         child = self.ask(near, b"hello\ncreate 47 0 2 0 0 15\nconnect\nput " + b"42" * 900 + b"\nclose\n")
         self.assertEqual(child.finish(), 1)
         self.assertNotIn("report closed", child.reports())

@@ -7,7 +7,7 @@ from decnet import nsp
 from decnet.nsp import Kind, Reason
 from tests.pairs import HASTE, PairCase
 from tests.station import ASKING, CONFIGURATION, SERVING, segment
-from tests.support import child_of, until
+from tests.support import PROMPT, child_of, until
 
 # answers the connection of a link, and holds the bridge up at each packet
 SLOW = "line.startswith('>') and time.sleep({0})\nreturn ['accepted'] if line.startswith('>') else []"
@@ -17,7 +17,7 @@ SAVED = "file 46 seq variable 0 0\n  1 41\n"
 class LongWorkTest(PairCase):
     def test_a_live_end_that_works_long_makes_nobody_deaf(self):
         """The bridge goes on to refuse, to acknowledge and to say hello, and takes up the link again."""
-        child, raw = self.serve(*HASTE, program=self.stand_in(SLOW.format(2)))
+        child, raw = self.serve(*HASTE, program=self.stand_in(SLOW.format(12)))
         station = self.station(raw)
         station.connect(0x0111)
         station.say_hello()
@@ -25,10 +25,9 @@ class LongWorkTest(PairCase):
         station.request(1)
         other = self.station(raw, "1.4")
         self.assertEqual(other.refused(nsp.connect(9, 512, nsp.session())), (Kind.DISCONNECT, Reason.BUSY))
-        self.assertLess(time.monotonic() - begun, 1)
+        self.assertLess(time.monotonic() - begun, PROMPT)
         station.disconnect()
-        self.assertLess(time.monotonic() - begun, 1)
-        time.sleep(2)
+        self.assertLess(time.monotonic() - begun, PROMPT)
         station.connect(0x0112)
         station.disconnect()
         self.stop(child)
@@ -42,11 +41,11 @@ class LongWorkTest(PairCase):
         begun = time.monotonic()
         child.process.send_signal(signal.SIGTERM)
         station.hear_kind(Kind.DISCONNECT)
-        self.assertLess(time.monotonic() - begun, 1)
+        self.assertLess(time.monotonic() - begun, PROMPT)
         time.sleep(1.1)
         child.process.send_signal(signal.SIGTERM)
         self.assertEqual(child.finish(), 0)
-        self.assertLess(time.monotonic() - begun, 4)
+        self.assertLess(time.monotonic() - begun, 2 * PROMPT)
 
     def test_a_third_signal_waits_for_nothing_and_says_that_files_are_not_saved(self):
         child, raw = self.serve(*HASTE, "--save", self.folder / "kept", program=self.stand_in(SLOW.format(1000)))
@@ -59,7 +58,7 @@ class LongWorkTest(PairCase):
             time.sleep(1.1)
         begun = time.monotonic()
         self.assertEqual(child.finish(), 3)
-        self.assertLess(time.monotonic() - begun, 1)
+        self.assertLess(time.monotonic() - begun, PROMPT)
 
     def test_packets_that_a_live_end_does_not_take_have_a_bound(self):
         child, raw = self.serve(*HASTE, program=self.stand_in(SLOW.format(0.5)))
@@ -70,10 +69,10 @@ class LongWorkTest(PairCase):
         time.sleep(0.3)
         begun = time.monotonic()
         self.assertEqual(child.finish(signal.SIGKILL), -signal.SIGKILL)
-        self.assertLess(time.monotonic() - begun, 1)
+        self.assertLess(time.monotonic() - begun, PROMPT)
 
     def test_saving_does_not_make_the_bridge_deaf(self):
-        slow = ("if line == 'files':\n    print('file 46 seq variable 0 0', flush=True)\n    time.sleep(2)\n"
+        slow = ("if line == 'files':\n    print('file 46 seq variable 0 0', flush=True)\n    time.sleep(12)\n"
                 "return ['accepted'] if line[0] == '>' else []")
         path = self.folder / "kept"
         child, raw = self.serve(*HASTE, "--save", path, program=self.stand_in(slow))
@@ -84,10 +83,10 @@ class LongWorkTest(PairCase):
         begun = time.monotonic()
         station.say(nsp.connect(0x0112, 512, nsp.session()))
         station.hear_kind(Kind.CONNECT_ACK)
-        self.assertLess(time.monotonic() - begun, 1)
+        self.assertLess(time.monotonic() - begun, PROMPT)
         station.remote = station.hear_kind(Kind.CONFIRM).source
         self.assertIn("# end of files: 1 files, 1 lines", until(path.read_text, "a save"))
-        self.assertGreater(time.monotonic() - begun, 1)
+        self.assertGreater(time.monotonic() - begun, PROMPT)
         self.stop(child)
 
 
@@ -191,7 +190,7 @@ class StopTest(PairCase):
             until(lambda: pid.exists() and pid.read_text(), "a build")
             begun = time.monotonic()
             self.assertEqual(child.finish(number), 1)
-            self.assertLess(time.monotonic() - begun, 1.5)
+            self.assertLess(time.monotonic() - begun, PROMPT)
             self.assertIn("stopped by a signal", child.told())
             self.assertRaises(OSError, os.kill, int(pid.read_text()), 0)
             pid.unlink()
@@ -227,12 +226,13 @@ class StopTest(PairCase):
 
     def test_a_signal_while_files_are_loaded(self):
         path = self.file("kept", SAVED.splitlines())
-        child, _ = self.serve("--files", path, "--save", path, program=self.stand_in("line != 'new' and time.sleep(1000)"),
-                              is_ready=False)
-        time.sleep(0.7)
+        begun = self.folder / "begun"
+        answer = f"if line != 'new':\n    open({str(begun)!r}, 'w').close()\n    time.sleep(1000)"
+        child, _ = self.serve("--files", path, "--save", path, program=self.stand_in(answer), is_ready=False)
+        until(begun.exists, "a line of files")
         begun = time.monotonic()
         self.assertEqual(child.finish(signal.SIGTERM), 1)
-        self.assertLess(time.monotonic() - begun, 4)
+        self.assertLess(time.monotonic() - begun, 2 * PROMPT)
         self.assertIn("stopped by a signal", child.told())
         self.assertEqual(path.read_text(), SAVED)
 
@@ -263,13 +263,13 @@ class StopTest(PairCase):
         near, far = self.ends()
         child = self.bridge("serve", far, program=self.stand_in("return []"), stderr=writing)
         station = self.station(near)
-        time.sleep(0.5)
+        self.assertTrue(os.read(reading, 10))
         for number in range(1, 4000):
             station.say(nsp.connect(number, 512, b"\0\x12\0\0\0"))
         station.hear_all()
         begun = time.monotonic()
         self.assertEqual(child.finish(signal.SIGTERM), 0)
-        self.assertLess(time.monotonic() - begun, 1)
+        self.assertLess(time.monotonic() - begun, PROMPT)
         for file in (reading, writing):
             os.close(file)
 
@@ -290,20 +290,20 @@ class HoldTest(PairCase):
             answer = station.hear(1)
             if answer and answer.kind is Kind.CONNECT_ACK:
                 return time.monotonic() - begun
-            self.assertLess(time.monotonic() - begun, limit + 2)
+            self.assertLess(time.monotonic() - begun, limit + 10)
             time.sleep(0.1)
 
     def test_a_half_open_link_is_given_up_after_5_seconds(self):
         child, station, other = self.hold()
         station.say(nsp.connect(0x0111, 512, nsp.session()))
         station.hear_kind(Kind.CONFIRM)
-        self.assertLess(self.free_after(other, 5), 5.5)
+        self.assertLess(self.free_after(other, 5), 9)
         self.assertIn("no answer from node 1.3", child.told())
 
     def test_a_silent_link_is_given_up_after_idle_where_another_node_waits(self):
         child, station, other = self.hold("--idle", "6")
         station.connect(0x0111)
-        self.assertLess(self.free_after(other, 6), 6.5)
+        self.assertLess(self.free_after(other, 6), 10)
         self.assertIn("no answer from node 1.3", child.told())
 
     def test_a_silent_link_stays_where_nobody_waits(self):
@@ -369,7 +369,7 @@ class HoldTest(PairCase):
         station.hear_all()
         begun = time.monotonic()
         station.connect(0x0111)
-        self.assertLess(time.monotonic() - begun, 1)
+        self.assertLess(time.monotonic() - begun, PROMPT)
         station.disconnect()
         self.stop(child)
 

@@ -1,12 +1,10 @@
 """The other Python programs: odd words, closed standard files, closed pipes and Ctrl-C have no traceback."""
-import os
 import pathlib
 import signal
 import struct
 import subprocess
-import time
 
-from tests.support import PYTHON, Case, until
+from tests.support import PYTHON, Case, sleeps, until
 
 ROOT = pathlib.Path(__file__).resolve().parent.parent.parent
 # programs, with words that they don't take
@@ -107,7 +105,6 @@ class FilesTest(ToolCase):
         stand_in = self.stand_in("return []")
         for program, words in ((self.program, ["-"]), ("examples/lossy.py", ["--daplive", stand_in])):
             child = self.start([*PYTHON, ROOT / program, *words], stdin=None)
-            until(lambda: os.path.exists(f"/proc/{child.process.pid}/fd/0"), "a start")
-            time.sleep(0.7)
+            until(lambda: sleeps(child.process.pid), "a start")
             self.assertEqual(child.finish(signal.SIGINT), -signal.SIGINT)
             self.assertEqual(child.told(), "")
