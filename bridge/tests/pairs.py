@@ -2,7 +2,7 @@
 import signal
 
 from tests.station import ASKING, SERVING, Station
-from tests.support import BRIDGE, PROGRAM, PYTHON, Case, expect, expect_equal, pair
+from tests.support import BRIDGE, PROGRAM, PYTHON, Case, expect, expect_equal, need_live_end, pair
 
 HASTE = ["--resend", "0.2", "--tries", "10"]
 OTHER = "1.3"
@@ -13,6 +13,7 @@ class PairCase(Case):
 
     def bridge(self, role, raw, *words, program=PROGRAM, stdin=b"", **more):
         """A bridge as a program, over a socket of this process."""
+        need_live_end(program)
         node = SERVING if role == "serve" else ASKING
         command = [*PYTHON, BRIDGE, role, "--frames", raw.fileno(), "--node", node, "--daplive", program, *words]
         return self.start(command, stdin=stdin, pass_fds=[raw.fileno()], **more)

@@ -21,7 +21,8 @@ POLL = 0.02
 BRIDGE = pathlib.Path(__file__).resolve().parent.parent / "bridge.py"
 EXAMPLES = BRIDGE.parent.parent / "examples"
 PYTHON = [sys.executable, "-X", "dev", "-W", "error"]
-PROGRAM = os.environ.get("DAPLIVE") or str(DAPLIVE)
+BUILT = BRIDGE.parent.parent / "crates/daplive/out/daplive"  # as ./daplive builds it
+PROGRAM = os.environ.get("DAPLIVE") or str(BUILT)
 SEED = int(os.environ.get("BRIDGE_SEED") or 1)
 KEEP = os.environ.get("BRIDGE_KEEP")
 
@@ -46,6 +47,12 @@ def until(happens, what, seconds=PATIENCE):
         if time.monotonic() > end:
             raise AssertionError(f"{what} didn't happen within {seconds} seconds")
         time.sleep(POLL)
+
+
+def need_live_end(program=PROGRAM):
+    """Skips a test where the live end isn't built: none is built by the way."""
+    if program == PROGRAM and not os.access(PROGRAM, os.X_OK):
+        raise unittest.SkipTest(f"{PROGRAM} isn't built")
 
 
 def file_lines(path):
@@ -123,6 +130,7 @@ class Case(unittest.TestCase):
 
     def end(self, role, *words, program=PROGRAM, **more):
         """A live end of this process."""
+        need_live_end(program)
         end = End(program, [role, *words], **more)
         self.addCleanup(end.close)
         return end
@@ -173,9 +181,10 @@ def pair():
 
 
 def build():
-    """A first start, which builds ./daplive where it isn't built."""
-    run = subprocess.run([PROGRAM, "--help"], capture_output=True, text=True, check=False, timeout=BUILD_SECONDS)
-    expect(run.returncode == 0, f"{PROGRAM} --help: {run.stderr}")
+    """A first start, which builds ./daplive where it isn't built and no other live end is named."""
+    program = os.environ.get("DAPLIVE") or str(DAPLIVE)
+    run = subprocess.run([program, "--help"], capture_output=True, text=True, check=False, timeout=BUILD_SECONDS)
+    expect(run.returncode == 0, f"{program} --help: {run.stderr}")
 
 
 def default_signals():

@@ -22,7 +22,8 @@ from tests.network import LIBC, Capture, Network, ip
 from tests.patterns import altered, good_frame, packets
 from tests.station import ASKING, CONFIGURATION, SERVING, SILENCE, Station, segment
 from tests.support import (
-    BRIDGE, EXAMPLES, PATIENCE, POLL, PROGRAM, PYTHON, SEED, Case, build, child_of, expect, expect_equal, file_lines, until)
+    BRIDGE, EXAMPLES, PATIENCE, POLL, PROGRAM, PYTHON, SEED, Case, child_of, expect, expect_equal, file_lines, need_live_end,
+    until)
 
 SETTINGS = ["--resend", "0.2", "--tries", "10"]
 HASTE = ["--resend", "0.05", "--tries", "100"]
@@ -40,7 +41,7 @@ def setUpModule():
     for program in ("ip", "tshark", "dumpcap"):
         if shutil.which(program) is None:
             raise unittest.SkipTest(f"no {program}")
-    build()
+    need_live_end()
     try:
         NETWORK.make()
     except AssertionError as fault:

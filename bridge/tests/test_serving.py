@@ -6,7 +6,7 @@ import time
 from decnet.kept import read_lines
 from tests.pairs import HASTE, PairCase
 from tests.station import SERVING
-from tests.support import BRIDGE, PROGRAM, PYTHON, child_of, file_lines, until
+from tests.support import BRIDGE, PROGRAM, PYTHON, child_of, file_lines, need_live_end, until
 
 FILE = ["file 46 seq variable 0 0", "  1 41"]
 
@@ -80,6 +80,7 @@ class SavedTest(PairCase):
 class FullTest(PairCase):
     def test_a_file_that_cannot_grow_stays_old_and_the_client_is_not_told_that_it_is_closed(self):
         """A limit on the size of files is as a full disk."""
+        need_live_end()
         path = self.file("kept", FILE)
         near, far = self.ends()
         shell = ["sh", "-c", 'ulimit -f 1; exec "$@"', "sh"]

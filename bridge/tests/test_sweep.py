@@ -8,7 +8,7 @@ from decnet.kept import KeptFault, read_lines
 from tests.pairs import HASTE, PairCase
 from tests.patterns import altered, good_frame, packets
 from tests.station import SERVING
-from tests.support import PROGRAM, SEED, child_of
+from tests.support import PROGRAM, SEED, child_of, need_live_end
 
 FRAMES, ROUND = 5000, 1000
 LIMITS = range(3_000, 9_000, 300)  # kB of memory that a live end may have
@@ -40,6 +40,7 @@ class SweepTest(PairCase):
         self.assertEqual([line for _, line in read_lines(path)], lines)
 
     def test_limits_of_memory_never_destroy_the_file(self):
+        need_live_end()
         statuses = set()
         for limit in LIMITS:
             path, lines = self.kept(8000)
