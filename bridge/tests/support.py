@@ -63,6 +63,8 @@ def file_lines(path):
 class Child:
     """A program that was started, with what it writes."""
 
+    started = []
+
     def __init__(self, folder, words, stdin=b"", namespace=None, **more):
         self.words = [str(word) for word in words]
         files = [tempfile.mkstemp(suffix=suffix, dir=folder) for suffix in (".out", ".err")]
@@ -70,6 +72,7 @@ class Child:
         prefix = ["ip", "netns", "exec", namespace] if namespace else []
         options = {"stdout": files[0][0], "stderr": files[1][0], "start_new_session": True, **more}
         self.process = subprocess.Popen(prefix + self.words, stdin=subprocess.PIPE, **options)
+        Child.started.append(self)
         for number, _ in files:
             os.close(number)
         if stdin is not None:
@@ -111,6 +114,11 @@ class Child:
             self.process.kill()
             self.process.wait()
         self.end_input()
+
+    @classmethod
+    def end_all(cls):
+        for child in cls.started:
+            child.end()
 
 
 class Case(unittest.TestCase):
