@@ -11,6 +11,9 @@ messages in place of the packets.
 """
 import sys
 
+from decnet import program
+
+KINDS = ("typical", "short", "long", "controls")
 ATTRIBUTES = bytes.fromhex("02020ba604100200000400000300060200")
 CONTROL = bytes.fromhex("0402080103010401000000")
 STATUS = bytes.fromhex("09020d00100401000000040100000000")
@@ -74,7 +77,10 @@ def packet(payload, number):
 
 
 def main():
-    wanted, kind, messages = int(sys.argv[1]), sys.argv[2], sys.argv[3:] == ["messages"]
+    words = sys.argv[1:]
+    if len(words) < 2 or not words[0].isdecimal() or words[1] not in KINDS or words[2:] not in ([], ["messages"]):
+        raise program.Fault(f"usage: capture.py BYTES {'|'.join(KINDS)} [messages]", program.WORDS)
+    wanted, kind, messages = int(words[0]), words[1], bool(words[2:])
     choose = numbers()
     signs = [b"> ", b"< "]
     lines, size, number = [], 0, 0
@@ -89,6 +95,8 @@ def main():
         lines.append(line)
         size += len(line)
     sys.stdout.buffer.write(b"".join(lines))
+    return 0
 
 
-main()
+if __name__ == "__main__":
+    program.run("capture.py", main)

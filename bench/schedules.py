@@ -11,6 +11,8 @@ store: so many records of a byte by one request, which is asked and handed to th
 """
 import sys
 
+from decnet import program
+
 
 def numbers(seed=1):
     while True:
@@ -87,9 +89,13 @@ def store(count):
 
 
 def main():
-    make = {"window": window, "scattered": scattered, "sparse": sparse, "store": store}[sys.argv[1]]
-    print("\n".join(make(int(sys.argv[2])).lines))
+    kinds = {"window": window, "scattered": scattered, "sparse": sparse, "store": store}
+    words = sys.argv[1:]
+    if len(words) != 2 or words[0] not in kinds or not words[1].isdecimal():
+        raise program.Fault(f"usage: schedules.py {'|'.join(kinds)} COUNT", program.WORDS)
+    print("\n".join(kinds[words[0]](int(words[1])).lines))
+    return 0
 
 
 if __name__ == "__main__":
-    main()
+    program.run("schedules.py", main)

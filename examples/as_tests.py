@@ -8,6 +8,8 @@ usage: as_tests.py            writes the table
 import pathlib
 import sys
 
+from decnet import program
+
 HERE = pathlib.Path(__file__).resolve().parent
 TABLE = HERE.parent / "crates/dap_cli_tests/src/examples.rt"
 
@@ -43,14 +45,28 @@ def table():
     return "\n".join(lines + ["];", ""])
 
 
-if sys.argv[1:] == ["--check"]:
+def check():
+    """What is wrong, or nothing."""
     readme = (HERE.parent / "README.md").read_text()
     for file in HERE.glob("readme_*"):
         if file.read_text() not in readme:
-            sys.exit(f"examples: the README doesn't show {file.name}")
+            return f"the README doesn't show {file.name}"
     if not TABLE.exists() or TABLE.read_text() != table():
-        sys.exit(f"examples: {TABLE} isn't that of the examples: run examples/as_tests.py")
-elif sys.argv[1:]:
-    sys.exit(__doc__)
-else:
-    TABLE.write_text(table())
+        return f"{TABLE} isn't that of the examples: run examples/as_tests.py"
+    return None
+
+
+def main():
+    if sys.argv[1:] == ["--check"]:
+        wrong = check()
+        if wrong:
+            raise program.Fault(wrong)
+    elif sys.argv[1:]:
+        raise program.Fault("usage: as_tests.py [--check]", program.WORDS)
+    else:
+        TABLE.write_text(table())
+    return 0
+
+
+if __name__ == "__main__":
+    program.run("as_tests.py", main)

@@ -18,7 +18,8 @@ import subprocess
 import sys
 from concurrent.futures import ThreadPoolExecutor
 
-from lossy import Both, Line
+from decnet import program
+from decnet.lossy import Both, Line
 
 # the programs, as `./daplive` and `./dapnsp` build them
 BUILT = pathlib.Path(__file__).resolve().parent.parent / "crates"
@@ -435,4 +436,4 @@ def main():
 
 
 if __name__ == "__main__":
-    sys.exit(main())
+    program.run("live_tests.py", main)

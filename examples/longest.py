@@ -11,6 +11,8 @@ import pathlib
 import subprocess
 import sys
 
+from decnet import program
+
 DAPNSP = pathlib.Path(__file__).resolve().parent.parent / "dapnsp"
 SEGMENT, WINDOW, BUFFER = 1400, 8, 65_535
 # A put is a Control of 6 bytes and a Data with 5 bytes before its record.
@@ -67,4 +69,4 @@ def main():
 
 
 if __name__ == "__main__":
-    sys.exit(main())
+    program.run("longest.py", main)

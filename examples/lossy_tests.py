@@ -9,6 +9,7 @@ the exit statuses 0; and the transcript a capture in which `dapnsp show` finds n
 list the same DAP messages each way, and no part and no gap, of what went in and out of each end as of the clean packets.
 """
 import argparse
+import contextlib
 import os
 import pathlib
 import random
@@ -17,7 +18,8 @@ import subprocess
 import sys
 from concurrent.futures import ThreadPoolExecutor
 
-from lossy import Both, Line
+from decnet import program
+from decnet.lossy import Both, Line
 
 # the programs, as `./daplive` and `./dapnsp` build them
 BUILT = pathlib.Path(__file__).resolve().parent.parent / "crates"
@@ -39,7 +41,7 @@ class Clean:
         text = "".join(f"{event}\n" for event in (self.setup, *self.events, *events))
         run = subprocess.run([str(self.program), "run"], input=text, capture_output=True, text=True, check=False)
         if run.returncode not in (0, 1):
-            raise RuntimeError(f"dapnsp run: {run.stderr}")
+            raise program.Fault(f"dapnsp run: {run.stderr}")
         told = re.findall(r"^\d+ (.*)$", run.stdout, re.M)[len(self.events):]
         refused = told.pop().removeprefix("refused ") if run.returncode else None
         self.events += events[:len(told)]
@@ -72,7 +74,7 @@ class Clean:
             reports += [line for line in read if line.startswith("report ")]
             deliveries = []
         if len(reports) != 1:
-            raise RuntimeError(f"dapnsp run: {len(reports)} reports of: {request}")
+            raise program.Fault(f"dapnsp run: {len(reports)} reports of: {request}")
         return reports[0]
 
 
@@ -131,13 +133,13 @@ def messages_of(daplive, lines, other_way=False):
     messages, way = {"<": [], ">": []}, None
     for line in run.stdout.splitlines():
         if line.startswith(("part", "gap", "  bad")):
-            raise RuntimeError(f"daplive follow: {line}")
+            raise program.Fault(f"daplive follow: {line}")
         if not line.startswith("  "):
             way = line.split()[1]
         elif not line.startswith("  message "):
             messages[way].append(line)
     if run.returncode:
-        raise RuntimeError(f"daplive follow: {run.stderr}")
+        raise program.Fault(f"daplive follow: {run.stderr}")
     return {"<": messages[">"], ">": messages["<"]} if other_way else messages
 
 
@@ -149,9 +151,14 @@ def differs(seed, count, daplive, dapnsp):
     buffers = choice([64, 100, 1024, 4096]), choice([64, 100, 1024, 4096])
     common = ["--segment", str(segment), "--window", str(min(window, 127) if segment == 1 else window), "--buffer"]
     line = Line(chance.random(), choice([5, 20, 40]), choice([0, 10, 40]), choice([1, 4, 40]))
-    both = Both(line, [*common, str(buffers[0])], [*common, str(buffers[1])], daplive)
     clean = Clean(dapnsp, *buffers)
     requests = Requests(chance, 60 if segment < 64 else choice([60, 400, 3000]))
+    with contextlib.closing(Both(line, [*common, str(buffers[0])], [*common, str(buffers[1])], daplive)) as both:
+        return compare(both, clean, requests, count, daplive, dapnsp)
+
+
+def compare(both, clean, requests, count, daplive, dapnsp):
+    """What differs between both ends over a lossy line, and a schedule over a clean one."""
     for _ in range(count):
         request = requests.next()
         answer = both.ask(request)
@@ -197,4 +204,4 @@ def main():
 
 
 if __name__ == "__main__":
-    sys.exit(main())
+    program.run("lossy_tests.py", main)

@@ -6,6 +6,8 @@ import struct
 import subprocess
 import sys
 
+from decnet import program
+
 SCRIPT = os.path.join(os.path.dirname(os.path.abspath(__file__)), "pcap_to_capture.py")
 NSP = bytes.fromhex("0402010103ff8f")
 SHORT, LONG = "short", "long"
@@ -134,15 +136,21 @@ KINDS = [
 ]
 # what is refused: the file, the words, the lines before the fault and what is told
 REFUSED = [
-    (b"", [], "", "-: no capture of Ethernet frames: it is neither pcap nor pcapng"),
-    (b"# a text\n", [], "", "-: no capture of Ethernet frames: it is neither pcap nor pcapng"),
-    (pcap(BOTH, link=113), [], "", "-: no capture of Ethernet frames: its frames are not those of Ethernet"),
-    (pcap(BOTH), ["1.2", "64.1"], "", "pcap_to_capture.py: 64.1 is no DECnet address, as 1.10"),
+    (b"", [], "", "standard input: no capture of Ethernet frames: it is neither pcap nor pcapng"),
+    (b"# a text\n", [], "", "standard input: no capture of Ethernet frames: it is neither pcap nor pcapng"),
+    (
+        pcap(BOTH, link=113),
+        [],
+        "",
+        "standard input: no capture of Ethernet frames: its frames are not those of Ethernet: "
+        "capture with -i INTERFACE, and not with -i any",
+    ),
+    (pcap(BOTH), ["1.2", "64.1"], "", "64.1 is no DECnet address, as 1.10"),
     (
         pcapng([1], [(0, THERE), (0, BACK)]) + bytes(12),
         [],
         LINES,
-        "-: no capture of Ethernet frames: a block of it has no such length",
+        "standard input: no capture of Ethernet frames: a block of it has no such length",
     ),
 ]
 
@@ -152,6 +160,7 @@ def run(file, words):
 
 
 def main():
+    program.no_words("pcap_tests.py")
     wrong = []
     for name, file, words, lines, told in KINDS:
         done = run(file, words)
@@ -159,11 +168,14 @@ def main():
             wrong.append(f"{name}: {done}")
     for file, words, lines, told in REFUSED:
         done = run(file, words)
-        if (done.returncode, done.stdout.decode(), done.stderr.decode()) != (1, lines, told + "\n"):
+        status = 2 if words else 1
+        wanted = (status, lines, f"pcap_to_capture.py: {told}\n")
+        if (done.returncode, done.stdout.decode(), done.stderr.decode()) != wanted:
             wrong.append(f"{told}: {done}")
     for line in wrong:
         print(f"examples: pcap_to_capture.py: {line}", file=sys.stderr)
     return 1 if wrong else 0
 
 
-sys.exit(main())
+if __name__ == "__main__":
+    program.run("pcap_tests.py", main)

@@ -8,7 +8,8 @@ usage: examples/shown_tests.py
 import pathlib
 import re
 import subprocess
-import sys
+
+from decnet import program
 
 ROOT = pathlib.Path(__file__).resolve().parent.parent
 PAGES = ["README.md", "docs/LIVE.md"]
@@ -18,14 +19,18 @@ SECONDS = 60
 
 
 def main():
+    program.no_words("shown_tests.py")
     shown = 0
     for page in PAGES:
         for commands, printed in SHOWN.findall((ROOT / page).read_text()):
             run = subprocess.run(["bash", "-c", commands], cwd=ROOT, capture_output=True, text=True, timeout=SECONDS)
             if run.stdout != printed:
-                sys.exit(f"examples: {page} shows something else of these commands:\n{commands}\n{run.stdout}{run.stderr}")
+                shown_else = f"{page} shows something else of these commands:\n{commands}\n{run.stdout}{run.stderr}"
+                raise program.Fault(shown_else)
             shown += 1
     print(f"examples: {shown} commands print what the pages show")
+    return 0
 
 
-main()
+if __name__ == "__main__":
+    program.run("shown_tests.py", main)

@@ -16,13 +16,12 @@ the end may end at once with status 3 and 'no memory', before it answers any lin
 import os
 import re
 import subprocess
-import sys
 import tempfile
 
-HERE = os.path.dirname(os.path.abspath(__file__))
-sys.path.append(f"{HERE}/../examples")
 from altered import altered_packets
-from lossy import Both, Line
+from decnet.lossy import Both, Line, LinkFailed
+
+HERE = os.path.dirname(os.path.abspath(__file__))
 
 SECONDS = 60
 NO_MEMORY = b"refused no-memory"
@@ -199,10 +198,10 @@ class Carried:
     def __init__(self, end):
         self.end, self.waits = end, 0
 
-    def tell(self, line):
+    def say(self, line):
         answer = self.end.tell(line.encode())
         if not answer:
-            raise RuntimeError("the end has ended")
+            raise LinkFailed("the end has ended")
         self.waits = int(answer.pop().split()[1])
         return [text.decode() for text in answer]
 
@@ -220,7 +219,7 @@ class BothCarried(Both):
             for request in ASKED:
                 reports.append(self.ask(request))
             return reports + self.files()
-        except RuntimeError as quiet:
+        except LinkFailed as quiet:
             return [*reports, str(quiet)]
 
 

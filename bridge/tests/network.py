@@ -6,14 +6,13 @@ import socket
 import subprocess
 import time
 
-import pcap_to_capture
-import routing
-from child import Child
-from faults import PATIENCE, POLL, Skipped, Wrong, expect_equal, until
-from nsp import Kind
-from station import Station
+from decnet import captures
+from decnet.address import ethernet_address, ethernet_text, read_node
+from decnet.frames import ETHERTYPE
+from decnet.nsp import Kind
+from tests.station import ASKING, SERVING, Station
+from tests.support import PATIENCE, POLL, Child, expect_equal, until
 
-SERVING, ASKING = "1.2", "1.1"
 CLONE_NEWNET = 0x40000000
 LIBC = ctypes.CDLL(None, use_errno=True)
 
@@ -21,7 +20,7 @@ LIBC = ctypes.CDLL(None, use_errno=True)
 def ip(*words):
     run = subprocess.run(["ip", *words], capture_output=True, text=True, check=False, timeout=PATIENCE)
     if run.returncode:
-        raise Wrong(f"ip {' '.join(words)}: {run.stderr.strip()}")
+        raise AssertionError(f"ip {' '.join(words)}: {run.stderr.strip()}")
 
 
 class Network:
@@ -32,19 +31,13 @@ class Network:
         self.interfaces = {SERVING: "serving", ASKING: "asking"}
 
     def make(self):
-        """Makes them; tells why, where they can't be."""
-        try:
-            self.make_all()
-        except Wrong as fault:
-            raise Skipped(str(fault)) from fault
-
-    def make_all(self):
+        """Makes them; an AssertionError tells why, where they can't be."""
         for name in self.names.values():
             ip("netns", "add", name)
         ip("link", "add", "serving", "netns", self.names[SERVING], "type", "veth",
            "peer", "name", "asking", "netns", self.names[ASKING])
         for node, interface in self.interfaces.items():
-            address = routing.address_text(routing.ethernet_address(routing.read_node(node)))
+            address = ethernet_text(ethernet_address(read_node(node)))
             ip("-n", self.names[node], "link", "set", "dev", interface, "address", address, "addrgenmode", "none")
             ip("-n", self.names[node], "link", "set", "dev", interface, "up")
 
@@ -61,7 +54,7 @@ class Network:
                 raise OSError(ctypes.get_errno(), "setns")
             try:
                 raw = socket.socket(socket.AF_PACKET, socket.SOCK_RAW, 0)
-                raw.bind((self.interfaces[node], routing.ETHERTYPE))
+                raw.bind((self.interfaces[node], ETHERTYPE))
             finally:
                 LIBC.setns(own, CLONE_NEWNET)
         finally:
@@ -74,16 +67,16 @@ class Network:
 class Capture:
     """What goes over the wire, kept by dumpcap."""
 
-    def __init__(self, tests, name):
-        self.tests, self.path = tests, tests.folder / f"{name}.pcapng"
-        self.child = Child(tests.folder, ["dumpcap", "-q", "-i", "asking", "-f", "ether proto 0x6003", "-w", self.path],
-                           namespace=tests.network.names[ASKING])
+    def __init__(self, network, folder, name):
+        self.network, self.path = network, folder / f"{name}.pcapng"
+        self.child = Child(folder, ["dumpcap", "-q", "-i", "asking", "-f", "ether proto 0x6003", "-w", self.path],
+                           namespace=network.names[ASKING])
         self.child.wait_for("File:")
 
     def stop(self):
         """Stops when all that went before is in the file."""
         marker = b"the end of " + self.path.name.encode()
-        station = Station(self.tests.network, ASKING, "1.60", "1.61")
+        station = Station(self.network.raw_socket(ASKING), "1.60", "1.61")
 
         def is_there():
             station.say(bytes([Kind.NO_OPERATION]) + marker)
@@ -93,6 +86,8 @@ class Capture:
         until(is_there, "the end of a capture")
         station.close()
         expect_equal(self.child.finish(signal.SIGINT), 0, "the exit status of dumpcap")
+        self.child.end()
 
     def frames(self):
-        return list(pcap_to_capture.frames(self.path.read_bytes()))
+        with open(self.path, "rb") as file:
+            return list(captures.frames(file))

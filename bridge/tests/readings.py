@@ -3,11 +3,11 @@ import os
 import re
 import subprocess
 
-import nsp
-import routing
-from faults import PATIENCE, expect, expect_equal
-from network import ASKING, SERVING
-from nsp import Kind
+from decnet import frames, nsp, routing
+from decnet.address import ethernet_address, node_text, read_node
+from decnet.nsp import Kind
+from tests.station import ASKING, SERVING
+from tests.support import PATIENCE, expect, expect_equal
 
 
 def tshark_text(path):
@@ -64,12 +64,12 @@ def value_of(text):
 def meant_fields(frame):
     """The fields of a frame as the bridge meant them."""
     node = int.from_bytes(frame[10:12], "little")
-    if frame[:6] == routing.ALL_ROUTERS:
-        return {"hello": routing.END_NODE, "hello from": routing.node_text(node), "block size": routing.BLOCK_SIZE,
-                "seconds": routing.HELLO_SECONDS}
+    if frame[:6] == frames.ALL_ROUTERS:
+        return {"hello": frames.END_NODE, "hello from": node_text(node), "block size": frames.BLOCK_SIZE,
+                "seconds": frames.HELLO_SECONDS}
     receiver = int.from_bytes(frame[4:6], "little")
     packet = nsp.read(routing.read_frame(frame, receiver).packet)
-    meant = {"to node": routing.node_text(receiver), "from node": routing.node_text(node), "kind": packet.kind}
+    meant = {"to node": node_text(receiver), "from node": node_text(node), "kind": packet.kind}
     meant.update({"return wanted": "Yes" if packet.kind in nsp.CONNECTS else "No", "intra-Ethernet": "Yes"})
     meant["destination"] = packet.destination
     if packet.kind is Kind.CONNECT_ACK:
@@ -91,24 +91,17 @@ def meant_fields(frame):
     return meant
 
 
-def row_tshark(captures):
-    """Each frame of the bridges is read by tshark as it was meant, and no frame as malformed."""
-    bridges = {routing.ethernet_address(routing.read_node(node)) for node in (SERVING, ASKING)}
-    frames, fields, kinds = 0, 0, set()
-    for capture in captures:
-        text = tshark_text(capture.path)
-        expect(not re.search("malformed", text, re.I), f"tshark reads malformed frames in {capture.path.name}")
-        readings = tshark_fields(text)
-        sent = capture.frames()
-        expect_equal(len(readings), len(sent), f"the frames of {capture.path.name}")
-        for number, (reading, frame) in enumerate(zip(readings, sent), 1):
-            if frame[6:12] not in bridges:
-                continue
+def compare(capture):
+    """Each frame of the bridges is read by tshark as it was meant, and no frame as malformed. The kinds of packets."""
+    bridges = {ethernet_address(read_node(node)) for node in (SERVING, ASKING)}
+    kinds, text = set(), tshark_text(capture.path)
+    expect(not re.search("malformed", text, re.I), f"tshark reads malformed frames in {capture.path.name}")
+    found, sent = tshark_fields(text), capture.frames()
+    expect_equal(len(found), len(sent), f"the frames of {capture.path.name}")
+    for number, (reading, frame) in enumerate(zip(found, sent), 1):
+        if frame[6:12] in bridges:
             meant = meant_fields(frame)
-            found = {name: reading.get(name) for name in meant}
-            expect_equal(found, meant, f"{capture.path.name} frame {number}")
-            frames, fields = frames + 1, fields + len(meant)
+            same = {name: reading.get(name) for name in meant}
+            expect_equal(same, meant, f"{capture.path.name} frame {number}")
             kinds.add(meant.get("kind", "hello"))
-    missing = {kind for kind in Kind if kind not in (Kind.INTERRUPT, Kind.NO_OPERATION)} - kinds
-    expect("hello" in kinds and not missing, f"no frame of these kinds: {[kind.name for kind in missing]}")
-    return f"{frames} frames, {fields} fields, {len(kinds)} kinds, 0 malformed"
+    return kinds

@@ -2,19 +2,20 @@
 import select
 import time
 
-import nsp
-import routing
-from faults import PATIENCE, POLL, Wrong, expect, expect_equal
-from nsp import FlowControl, Kind, Qualifier, Reason
+from decnet import frames, nsp, routing
+from decnet.address import ethernet_address, read_node
+from decnet.nsp import FlowControl, Kind, Qualifier, Reason
+from tests.support import PATIENCE, POLL, expect, expect_equal
 
 SILENCE = 0.4  # seconds in which nothing may happen
+SERVING, ASKING = "1.2", "1.1"
 CONFIGURATION = bytes.fromhex("01020a00040703050600000000")  # the DAP message that either live end begins with
 
 
 def frame_between(sender, receiver, packet):
     """A frame from a node to another."""
-    message = routing.long_message(receiver, sender, packet)
-    return routing.frame_of(routing.ethernet_address(receiver), routing.ethernet_address(sender), message)
+    message = frames.long_message(receiver, sender, packet)
+    return frames.frame_of(ethernet_address(receiver), ethernet_address(sender), message)
 
 
 def segment(local, remote, number, body):
@@ -24,9 +25,10 @@ def segment(local, remote, number, body):
 class Station:
     """A node that says what a row wants it to say."""
 
-    def __init__(self, network, place, node, peer):
-        self.raw = network.raw_socket(place)
-        self.node, self.peer = routing.read_node(node), routing.read_node(peer)
+    def __init__(self, raw, node, peer):
+        """Over a socket: a raw one, or one of a pair."""
+        self.raw = raw
+        self.node, self.peer = read_node(node), read_node(peer)
         self.local = self.remote = 0
 
     def send_frame(self, frame):
@@ -42,7 +44,7 @@ class Station:
             left = end - time.monotonic()
             if left <= 0 or not select.select([self.raw], [], [], left)[0]:
                 return None
-            arrived = routing.read_frame(self.raw.recv(routing.FRAME_LIMIT), self.node)
+            arrived = routing.read_frame(self.raw.recv(frames.FRAME_LIMIT), self.node)
             if arrived and arrived.peer.node == self.peer:
                 return nsp.read(arrived.packet)
 
@@ -58,7 +60,7 @@ class Station:
             packet = self.hear(end - time.monotonic())
             if packet and packet.kind is kind:
                 return packet
-        raise Wrong(f"no {kind.name} came{what and f' {what}'}")
+        raise AssertionError(f"no {kind.name} came{what and f' {what}'}")
 
     def hear_nothing(self, of, what, seconds=SILENCE):
         """No packet of these kinds may come for a while."""
@@ -108,13 +110,23 @@ class Station:
             self.acknowledge(number)
         return found
 
+    def hear_to_end(self, first, text):
+        """Segments from a number on, each acknowledged, until one ends with a text; its number."""
+        number = first
+        while True:
+            packet = self.hear_kind_of(nsp.SEGMENTS, number)
+            self.acknowledge(number)
+            if packet.kind in nsp.LASTS and packet.body.endswith(text):
+                return number
+            number += 1
+
     def hear_kind_of(self, kinds, number):
         end = time.monotonic() + PATIENCE
         while time.monotonic() < end:
             packet = self.hear(end - time.monotonic())
             if packet and packet.kind in kinds and packet.number == number:
                 return packet
-        raise Wrong(f"segment {number} didn't come")
+        raise AssertionError(f"segment {number} didn't come")
 
     def disconnect(self):
         self.say(nsp.disconnect(self.remote, self.local, Reason.NO_ERROR))

@@ -1,30 +1,56 @@
-"""Rows over a network: files stored and fetched, and each answer, timer, message and exit status of the bridge."""
+"""Bridges in two network namespaces: files stored and fetched, and each answer, timer, message and exit status.
+
+Takes Linux, root, `ip`, `tshark` and `dumpcap`; without them it is skipped. It sends only between the namespaces, which
+it makes and removes. What goes over the wire is captured, and each frame is read by tshark as it was meant.
+"""
 import contextlib
 import os
-import pathlib
 import random
 import re
 import shlex
+import shutil
 import signal
 import subprocess
 import sys
 import time
+import unittest
 
-import nsp
-from child import Child
-from faults import PATIENCE, POLL, expect, expect_equal, until
-from network import ASKING, LIBC, SERVING, ip
-from nsp import FlowControl, Kind, Modifier, Qualifier, Reason
-from readings import tshark_text
-from station import CONFIGURATION, SILENCE, Station, segment
-from without_network import altered, good_frame, packets
+from decnet import nsp
+from decnet.nsp import FlowControl, Kind, Modifier, Qualifier, Reason
+from tests import readings
+from tests.network import LIBC, Capture, Network, ip
+from tests.patterns import altered, good_frame, packets
+from tests.station import ASKING, CONFIGURATION, SERVING, SILENCE, Station, segment
+from tests.support import (
+    BRIDGE, EXAMPLES, PATIENCE, POLL, PROGRAM, PYTHON, SEED, Case, child_of, expect, expect_equal, file_lines, need_live_end,
+    until)
 
-BRIDGE = pathlib.Path(__file__).resolve().parent.parent / "bridge.py"
-EXAMPLES = BRIDGE.parent.parent / "examples"
 SETTINGS = ["--resend", "0.2", "--tries", "10"]
 HASTE = ["--resend", "0.05", "--tries", "100"]
 STATION = "1.3"
 PR_CAPBSET_DROP, CAP_NET_RAW = 24, 13
+# so many of 100 frames are lost, repeated and swapped, with the segment sizes of the serving and the asking side
+TRANSFERS = ((0, 512, 512), (5, 230, 1400), (15, 1400, 100))
+FOLLOW = shlex.split(os.environ.get("BRIDGE_FOLLOW") or "") or [PROGRAM, "follow"]
+NETWORK = Network()
+
+
+def setUpModule():
+    if sys.platform != "linux" or os.geteuid() != 0:
+        raise unittest.SkipTest("not root on Linux")
+    for program in ("ip", "tshark", "dumpcap"):
+        if shutil.which(program) is None:
+            raise unittest.SkipTest(f"no {program}")
+    need_live_end()
+    try:
+        NETWORK.make()
+    except AssertionError as fault:
+        NETWORK.remove()
+        raise unittest.SkipTest(str(fault)) from fault
+
+
+def tearDownModule():
+    NETWORK.remove()
 
 
 class Transfer:
@@ -69,18 +95,14 @@ class Transfer:
         return [body.replace("-", "") for body in self.bodies] + list(self.fixed.values())
 
 
-class Tests:
-    """The rows over a network, and what they need."""
-
-    def __init__(self, network, folder, options):
-        self.network, self.folder, self.options, self.count = network, folder, options, 0
+class NetworkCase(Case):
+    """A test in the two namespaces."""
 
     def bridge(self, role, *words, stdin=b"", node=None, **more):
         """A bridge, started."""
         node = node or (SERVING if role == "serve" else ASKING)
-        command = [sys.executable, BRIDGE, role, "--interface", self.network.interfaces[node],
-                   "--node", node, "--daplive", self.options.daplive, *words]
-        return Child(self.folder, command, stdin=stdin, namespace=self.network.names[node], **more)
+        words = ["--interface", NETWORK.interfaces[node], "--node", node, "--daplive", PROGRAM, *words]
+        return self.start([*PYTHON, BRIDGE, role, *words], stdin=stdin, namespace=NETWORK.names[node], **more)
 
     def serve(self, *words, **more):
         child = self.bridge("serve", *words, **more)
@@ -90,38 +112,59 @@ class Tests:
     def ask(self, *words, **more):
         return self.bridge("ask", "--to", SERVING, *words, **more)
 
-    def station(self, node=STATION):
-        return Station(self.network, ASKING, node, SERVING)
-
-    def file(self, name, lines=()):
-        self.count += 1
-        path = self.folder / f"{self.count}.{name}"
-        path.write_text("".join(f"{line}\n" for line in lines))
-        return path
+    def station(self, node=STATION, peer=SERVING):
+        raw = NETWORK.raw_socket(ASKING if peer == SERVING else SERVING)
+        self.addCleanup(raw.close)
+        return Station(raw, node, peer)
 
     def stop(self, child, number=signal.SIGTERM):
         expect_equal(child.finish(number), 0, f"the exit status of the bridge that served ({child.told()})")
+        expect("Traceback" not in child.told() and "Warning" not in child.told(), child.told())
 
-    # transfers
+
+class CapturedCase(NetworkCase):
+    """A test whose frames are captured; tshark reads each as it was meant."""
+
+    seen = set()
+
+    def setUp(self):
+        super().setUp()
+        self.capture = Capture(NETWORK, self.folder, self.id().split(".")[-1])
+        self.addCleanup(self.capture.child.end)
+
+    def tearDown(self):
+        self.capture.stop()
+        CapturedCase.seen |= readings.compare(self.capture)
+
+
+class TransferTest(CapturedCase):
+    def test_files_are_stored_fetched_and_saved_and_the_capture_lists_them(self):
+        transfers = []
+        for harm, serving, asking in TRANSFERS:
+            with self.subTest(harm=harm, serving=serving, asking=asking):
+                transfers.append(self.transfer(harm, serving, asking))
+        self.capture.stop()
+        self.list_capture(transfers)
 
     def transfer(self, harm, serving, asking):
         """Files stored over one link, fetched over two more, and saved, with harmed frames and two segment sizes."""
-        transfer = Transfer(self.options.seed + harm)
-        preloaded, saved = self.file("preloaded", transfer.PRELOADED), self.file("saved")
+        transfer = Transfer(SEED + harm)
+        preloaded, saved = self.file("preloaded", transfer.PRELOADED), self.folder / f"saved{harm}"
         words = [*HASTE, "--harm", harm]
-        kept = ["--files", preloaded, "--save", saved]
-        server = self.serve(*words, "--segment", serving, "--seed", self.options.seed, *kept)
+        server = self.serve(*words, "--segment", serving, "--seed", SEED, "--files", preloaded, "--save", saved)
         for number, turns in enumerate((transfer.storing, transfer.fetching, transfer.fetching), 1):
-            seeded = ["--segment", asking, "--seed", self.options.seed + number]
-            child = self.ask(*words, *seeded, stdin=transfer.requests(turns))
-            expect_equal(child.finish(), 0, f"the exit status of the bridge that asked ({child.told()})")
+            seeded = ["--segment", asking, "--seed", SEED + number]
+            child = self.ask(*words, *seeded, "--go-on", stdin=transfer.requests(turns))
+            status = 1 if turns is transfer.storing else 0  # one of its requests is refused
+            expect_equal(child.finish(), status, f"the exit status of the bridge that asked ({child.told()})")
             expect_equal(child.reports(), transfer.reports(turns), f"the reports of link {number}")
-            until(lambda: saved.read_text().splitlines() == transfer.files(), f"files saved behind link {number}")
+            expect_equal(file_lines(saved), transfer.files(), f"the files that are saved when link {number} is closed")
             self.free(server)
         self.stop(server)
-        expect_equal(saved.read_text().splitlines(), transfer.files(), "the saved files")
+        expect_equal(file_lines(saved), transfer.files(), "the saved files")
         expect(f"; segments of {min(serving, asking)} bytes;" in server.told(), f"it says {server.told()}")
         self.again(saved, transfer)
+        return transfer
 
     @staticmethod
     def free(server):
@@ -132,16 +175,15 @@ class Tests:
         """The saved files are good for the next start."""
         server = self.serve(*HASTE, "--files", saved, "--links", 1)
         child = self.ask(*HASTE, stdin=transfer.requests(transfer.fetching))
-        expect_equal((child.finish(), server.finish()), (0, 0), "the exit statuses behind a new start")
-        expect_equal(child.reports(), transfer.reports(transfer.fetching), "the reports behind a new start")
+        expect_equal((child.finish(), server.finish()), (0, 0), "the exit statuses after a new start")
+        expect_equal(child.reports(), transfer.reports(transfer.fetching), "the reports after a new start")
 
-    def row_capture(self, capture, transfers):
+    def list_capture(self, transfers):
         """The listing of the capture has each record that was stored, once and in order."""
-        command = [sys.executable, EXAMPLES / "pcap_to_capture.py", capture.path, ASKING, SERVING]
+        command = [sys.executable, EXAMPLES / "pcap_to_capture.py", self.capture.path, ASKING, SERVING]
         lines = subprocess.run(command, capture_output=True, check=True, timeout=PATIENCE).stdout
-        follow = shlex.split(self.options.follow) if self.options.follow else [self.options.daplive, "follow"]
-        run = subprocess.run(follow, input=lines, capture_output=True, check=False, timeout=2 * PATIENCE)
-        expect_equal(run.returncode, 0, f"the exit status of {follow} ({run.stderr.decode()})")
+        run = subprocess.run(FOLLOW, input=lines, capture_output=True, check=False, timeout=2 * PATIENCE)
+        expect_equal(run.returncode, 0, f"the exit status of {FOLLOW} ({run.stderr.decode()})")
         listing = run.stdout.decode().splitlines()
         for word in ("gap ", "part "):
             found = [line for line in listing if line.startswith(word)]
@@ -158,11 +200,10 @@ class Tests:
         fetched = [body.replace("-", "") for transfer in transfers
                    for body in ["70726573656e74", "-"] + 3 * transfer.bodies]
         expect_equal(found["<"], fetched, "the records fetched by the listing")
-        return f"{len(listing)} lines, {len(stored)} records stored and {len(fetched)} fetched"
 
-    # refusals
 
-    def row_refusals(self):
+class LinkTest(CapturedCase):
+    def test_refusals(self):
         """Other objects, links that the live end can't have, and packets to links that aren't there."""
         server, station = self.serve(*SETTINGS), self.station()
         objects = {"18": b"\0\x12\0\0\0", "a name": b"\1\0\4TASK\0\0\0", "none": b"", "a half": b"\0"}
@@ -186,10 +227,9 @@ class Tests:
                        nsp.disconnect_confirm(*there, Reason.NO_LINK), bytes([Kind.NO_OPERATION])):
             station.say(packet)
         station.hear_nothing(Kind, "for answers to no link")
-        station.close()
         self.stop(server)
 
-    def row_busy(self):
+    def test_a_second_link_is_refused_and_the_first_goes_on(self):
         """A second link is refused, and the first one goes on."""
         server, station = self.serve(*SETTINGS), self.station()
         station.connect(0x0111)
@@ -200,11 +240,10 @@ class Tests:
         station.hear_segments(1)
         station.disconnect()
         child = self.ask(*SETTINGS, stdin=b"hello\n")
-        expect_equal((child.finish(), child.reports()), (0, ["report ready 1024"]), "a link behind the first")
-        station.close()
+        expect_equal((child.finish(), child.reports()), (0, ["report ready 1024"]), "a link after the first")
         self.stop(server)
 
-    def row_opening(self):
+    def test_opening(self):
         """Connect initiates and confirms that come again, and one that is never acknowledged."""
         server, station = self.serve("--resend", "0.1", "--tries", "6"), self.station()
         connect = nsp.connect(0x0222, 512, nsp.session())
@@ -223,10 +262,9 @@ class Tests:
         station.hear_nothing({Kind.CONFIRM}, "behind an acknowledgement")
         station.disconnect()
         station.disconnect()
-        station.close()
         self.stop(server)
 
-    def row_other_data(self):
+    def test_other_data(self):
         """Interrupt and link service messages, their numbers, and acknowledgements across subchannels."""
         server, station = self.serve(*SETTINGS), self.station()
         station.connect(0x0333)
@@ -253,42 +291,47 @@ class Tests:
         found |= {packet.number for packet in came if packet.kind in nsp.SEGMENTS}
         expect_equal(found, {2}, "the segments that are sent again")
         station.disconnect()
-        station.close()
         self.stop(server)
 
-    def row_flow(self):
+    FILE = ["file 46 seq variable 0 0", "  1 " + "41" * 150]
+    TALK = [CONFIGURATION, bytes.fromhex("0300010001460200"), bytes.fromhex("040002"), bytes.fromhex("040001")]
+
+    def test_flow_control(self):
         """What is sent where the other end counts segments or messages, or wants nothing."""
-        server, station = self.serve(*SETTINGS), self.station()
-        size, segments = 5, -(-len(CONFIGURATION) // 5)
+        server, station = self.serve(*SETTINGS, "--files", self.file("files", self.FILE)), self.station()
         for local, control in ((0x0441, FlowControl.SEGMENTS), (0x0442, FlowControl.MESSAGES)):
-            station.connect(local, size, control)
-            station.say_hello()
+            station.connect(local, nsp.MIN_SEGMENT, control)
+            for number, body in enumerate(self.TALK, 1):
+                station.say(segment(station.remote, station.local, number, body))
             station.hear_nothing(nsp.SEGMENTS, "before it was asked for")
             if control is FlowControl.SEGMENTS:
                 station.request(1, count=1)
                 station.hear_kind_of(nsp.SEGMENTS, 1)
                 again = station.hear_kind_of(nsp.SEGMENTS, 1)
                 station.acknowledge(again.number)
-                station.hear_nothing({Kind.MIDDLE, Kind.LAST, Kind.ONLY}, "more than was asked for")
-                station.request(2, count=segments)
+                station.hear_nothing(nsp.SEGMENTS, "more than was asked for")
+                station.request(2, count=10)
                 station.request(3, count=-1)
-                found = again.body + station.hear_segments(segments - 1, 2)
+                last = station.hear_to_end(2, b"A")
             else:
-                station.request(1, count=1)
-                found = station.hear_segments(segments)
-            expect_equal(found, CONFIGURATION, "the answer in segments")
+                count = self.messages
+                station.request(1, count=count - 1)
+                expect(station.hear_segments(count - 1), "the messages before the last")
+                station.hear_nothing(nsp.SEGMENTS, "more messages than were asked for")
+                station.request(2, count=1)
+                last = station.hear_to_end(count, b"A")
+            self.messages = last - 2  # the last of them has three segments
             station.disconnect()
         station.connect(0x0443)
         station.request(1, modifier=Modifier.STOP)
         station.say_hello()
         station.hear_nothing(nsp.SEGMENTS, "where nothing is wanted")
         station.request(2, modifier=Modifier.START)
-        expect_equal(station.hear_segments(1), CONFIGURATION, "the answer behind a start")
+        expect_equal(station.hear_segments(1), CONFIGURATION, "the answer after a start")
         station.disconnect()
-        station.close()
         self.stop(server)
 
-    def row_idle(self):
+    def test_idle(self):
         """A silent other end is asked whether it is there; one that doesn't answer is given up."""
         server, station = self.serve("--resend", "0.1", "--tries", "4", "--idle", "0.3"), self.station()
         station.connect(0x0555)
@@ -306,24 +349,23 @@ class Tests:
         count = len([packet for packet in iter(lambda: station.hear(2 * SILENCE), None) if packet.kind in nsp.SEGMENTS])
         expect_equal(count, 5, "how often a segment is sent that nobody acknowledges")
         server.wait_for("no answer from node 1.3")
-        station.close()
         self.stop(server)
 
-    def row_stop(self):
+    def test_stopped_in_the_middle_of_a_link(self):
         """Stopped in the middle of a link, a serving bridge keeps what was stored until then."""
         for number in (signal.SIGTERM, signal.SIGINT):
-            saved = self.file("saved", ["file 46 seq variable 0 0"])
+            saved = self.folder / f"saved{int(number)}"
             server = self.serve(*SETTINGS, "--save", saved)
             child = self.ask(*SETTINGS, stdin=None)
             child.write(b"hello\ncreate 46 0 2 0 0 15\nconnect\nput 6f6e65\nput 74776f\n")
             child.wait_for("report done 2", child.out)
             os.killpg(server.process.pid, number)
             self.stop(server, None)
-            expect_equal(saved.read_text(), "file 46 seq variable 0 0\n  1 6f6e65\n  2 74776f\n", "the saved files")
+            expect_equal(file_lines(saved), ["file 46 seq variable 0 0", "  1 6f6e65", "  2 74776f"], "the saved files")
             expect_equal(child.finish(), 1, "the exit status of the bridge that asked")
             reason = "closed by node 1.2, reason 3 (the node is shutting down)"
             expect(reason in child.told(), f"it says {child.told()}")
-            expect(not saved.with_name(saved.name + ".new").exists(), "a new file is left")
+            expect_equal([path.name for path in self.folder.glob("saved*.new*")], [], "new files that are left")
         self.stop_twice()
         server, child = self.serve(*SETTINGS), self.ask(*SETTINGS, stdin=None)
         child.write(b"hello\n")
@@ -334,7 +376,7 @@ class Tests:
 
     def stop_twice(self):
         """Stopped again while the other end doesn't answer: the files are saved already, and nothing more is served."""
-        preloaded, saved = self.file("preloaded", Transfer.PRELOADED), self.file("saved")
+        preloaded, saved = self.file("preloaded", Transfer.PRELOADED), self.folder / "saved"
         server, station = self.serve("--resend", "5", "--files", preloaded, "--save", saved), self.station()
         station.connect(0x0888)
         server.process.send_signal(signal.SIGTERM)
@@ -343,18 +385,18 @@ class Tests:
         refused = station.refused(nsp.connect(9, 512, nsp.session()))
         expect_equal(refused, (Kind.DISCONNECT, Reason.SHUTTING_DOWN), "a link that is asked for then")
         station.hear_nothing(nsp.SEGMENTS, "from a link that is closing")
+        time.sleep(1)
         begun = time.monotonic()
         self.stop(server)
         expect(time.monotonic() - begun < 5, "a second signal doesn't end it")
-        expect_equal(saved.read_text().splitlines(), Transfer.PRELOADED, "the saved files")
-        station.close()
+        expect_equal(file_lines(saved), Transfer.PRELOADED, "the saved files")
 
-    def row_asking(self):
+    def test_asking(self):
         """What the asking bridge says of nodes that don't answer or refuse; its access control."""
         child = self.bridge("ask", "--to", "1.7", "--resend", "0.05", "--tries", "4", stdin=b"hello\n")
         expect_equal(child.finish(), 1, "the exit status where nobody is there")
         expect("no answer from node 1.7" in child.told(), f"it says {child.told()}")
-        station = Station(self.network, SERVING, "1.8", ASKING)
+        station = self.station("1.8", ASKING)
         secret = self.file("secret", ["SECRET", "not this"])
         words = ["--to", "1.8", "--user", "SMITH", "--account", "ACCT"]
         reasons = {Reason.ACCESS_CONTROL: "the user or the password was rejected", Reason.NO_OBJECT: "unknown object"}
@@ -368,21 +410,20 @@ class Tests:
             station.say(nsp.connect_ack(connect.source))
             station.say(nsp.disconnect(connect.source, 0x0666, reason))
             expect_equal(station.hear_kind(Kind.DISCONNECT_CONFIRM).reason, Reason.COMPLETE, "the answer to a refusal")
-            expect_equal(child.finish(), 1, "the exit status behind a refusal")
+            expect_equal(child.finish(), 1, "the exit status after a refusal")
             expect(f"refused by node 1.8, reason {int(reason)} ({text})" in child.told(), f"it says {child.told()}")
         child = self.bridge("ask", "--to", "1.8", *SETTINGS, stdin=b"hello\n")
         source = station.hear_kind(Kind.CONNECT).source
         station.say(nsp.disconnect_confirm(source, 0, Reason.NO_RESOURCES))
         expect_equal(child.finish(), 1, "the exit status where there are no resources")
         expect("reason 1 (no resources)" in child.told(), f"it says {child.told()}")
-        station.close()
-        return self.read_access_control(connect.whole)
+        self.read_access_control(connect.whole)
 
     def read_access_control(self, packet):
-        """tshark's reading of the access control. Version 4.0 doesn't read it behind a source that has a name."""
+        """tshark's reading of the access control. Version 4.0 doesn't read it after a source that has a name."""
         named, numbered = nsp.session()[2:-1], b"\0\0"
         expect_equal(packet.count(named), 1, "the source's name")
-        text = tshark_text(self.frames_file([good_frame(packet.replace(named, numbered))]))
+        text = readings.tshark_text(self.frames_file([good_frame(packet.replace(named, numbered))]))
         expect_equal(re.findall(r"Session Requestor ID: (.*)", text), ["SMITH", "SECRET", "ACCT"], "tshark's reading")
         expect("RQSTRID, PASSWRD and ACCOUNT fields included" in text, "tshark reads another menu")
 
@@ -393,7 +434,9 @@ class Tests:
         path.write_bytes(head + b"".join(bytes(8) + 2 * len(frame).to_bytes(4, "little") + frame for frame in frames))
         return path
 
-    def row_ends(self):
+
+class FaultTest(NetworkCase):
+    def test_ends_and_files(self):
         """Live ends that die, files that aren't any, requests that aren't any, and faults of the machine."""
         server, child = self.serve(*SETTINGS), self.ask(*SETTINGS, stdin=None)
         child.write(b"hello\n")
@@ -408,26 +451,28 @@ class Tests:
             child = self.bridge("serve", "--files", self.file("bad", ["# a comment", line]))
             expect_equal(child.finish(), 1, f"the exit status where a line of files is {line}")
             expect(text in child.told(), f"it says {child.told()}")
-        server = self.serve(*SETTINGS, "--save", "/nowhere/saved")
-        child = self.ask(*SETTINGS, stdin=b"close\nnothing\nhello\n# no request\n\nhello")
-        expect_equal(child.finish(), 0, "the exit status behind requests that aren't asked")
+        child = self.bridge("serve", "--save", "/nowhere/saved")
+        expect_equal(child.finish(), 3, "the exit status where the files can't be saved")
+        expect("/nowhere/saved: No such file" in child.told(), f"it says {child.told()}")
+        server = self.serve(*SETTINGS)
+        child = self.ask(*SETTINGS, "--go-on", stdin=b"close\nnothing\nhello\n# no request\n\nhello")
+        expect_equal(child.finish(), 1, "the exit status after requests that aren't asked")
         answers = ["refused ask-phase", "refused bad-line", "report ready 1024", "refused ask-phase"]
         expect_equal(child.reports(), answers, "the answers to requests that aren't asked")
-        expect_equal(server.finish(signal.SIGTERM), 3, "the exit status where the files can't be saved")
-        expect("/nowhere/saved: the files aren't saved: No such file" in server.told(), f"it says {server.told()}")
+        self.stop(server)
 
-    def row_machine(self):
+    def test_faults_and_words(self):
         """Faults of the machine have their texts and exit status 3, wrong words 2."""
-        namespace, serving = self.network.names[SERVING], self.network.interfaces[SERVING]
+        namespace, serving = NETWORK.names[SERVING], NETWORK.interfaces[SERVING]
 
         def drop():
             LIBC.prctl(PR_CAPBSET_DROP, CAP_NET_RAW, 0, 0, 0)
 
         def run(*words, **more):
-            child = Child(self.folder, [sys.executable, BRIDGE, *words], namespace=namespace, **more)
+            child = self.start([sys.executable, BRIDGE, *words], namespace=namespace, **more)
             return child.finish(), child.told()
 
-        daplive, node = ["--daplive", self.options.daplive], ["--interface", serving, "--node", SERVING]
+        daplive, node = ["--daplive", PROGRAM], ["--interface", serving, "--node", SERVING]
         faults = {
             "No such device": run("serve", "--interface", "nothing", "--node", SERVING),
             "ip link set serving address aa:00:04:00:05:04": run("serve", "--interface", serving, "--node", "1.5"),
@@ -439,7 +484,9 @@ class Tests:
         }
         ip("-n", namespace, "link", "set", serving, "down")
         faults["interface serving: Network is down"] = run("serve", *node, *daplive)
-        ip("-n", namespace, "link", "set", serving, "up")
+        ip("-n", namespace, "link", "set", serving, "mtu", "1000", "up")
+        faults["ask for a --segment of 435 bytes less"] = run("serve", *node, *daplive, "--segment", "1400")
+        ip("-n", namespace, "link", "set", serving, "mtu", "1500")
         for text, (status, told) in faults.items():
             expect_equal(status, 3, f"the exit status of: {text} ({told})")
             expect(text in told and told.count("\n") == 1, f"instead of {text}: {told}")
@@ -448,22 +495,21 @@ class Tests:
                  ["ask", *node, "--to", "1.9", "--user", 40 * "X"],
                  ["ask", *node, "--to", "1.9", "--password-file", "/nowhere"],
                  ["ask", *node, "--to", "1.9", "--password", "X", "--password-env", "HOME"],
-                 ["ask", *node, "--to", "1.9", "--password-env", "NO_SUCH_VARIABLE"]]
+                 ["ask", *node, "--to", "1.9", "--password-env", "NO_SUCH_VARIABLE"],
+                 ["serve", *node, "--segment", "63"],
+                 ["ask", *node, "--to", SERVING]]
         for words in wrong:
             status, told = run(*words)
             expect_equal(status, 2, f"the exit status of the words {words}")
             expect("Traceback" not in told, told)
-        return f"{len(faults)} faults, {len(wrong)} wrong words"
 
     def impostor(self):
         """A program that answers something else."""
-        path = self.file("impostor", ["#!/bin/sh", "echo waits for nobody", "exec cat"])
-        path.chmod(0o755)
-        return path
+        return self.script("impostor", "import sys\nprint('waits for nobody', flush=True)\nsys.stdin.read()\n")
 
-    def row_hostile(self):
+    def test_bad_frames_over_the_wire(self):
         """Bad frames over the wire, with a link open; it goes on as before."""
-        chance = random.Random(self.options.seed)
+        chance = random.Random(SEED)
         server, station = self.serve("--resend", "0.2", "--tries", "200"), self.station()
         station.connect(0x0777)
         patterns = [packet for packet, _ in packets()]
@@ -474,13 +520,7 @@ class Tests:
                 station.send_frame(frame)
         station.hear_all()
         station.say_hello()
-        expect_equal(station.hear_segments(1), CONFIGURATION, "the answer behind bad frames")
+        expect_equal(station.hear_segments(1), CONFIGURATION, "the answer after bad frames")
         station.disconnect()
-        station.close()
         self.stop(server)
         expect("Traceback" not in server.told(), server.told())
-
-
-def child_of(pid):
-    """The live end of a bridge."""
-    return int(pathlib.Path(f"/proc/{pid}/task/{pid}/children").read_text().split()[0])

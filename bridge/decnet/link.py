@@ -3,12 +3,16 @@ import enum
 import time
 from dataclasses import dataclass
 
-import nsp
-from nsp import FlowControl, Kind, Modifier, Reason
-from routing import node_text
+from decnet import dap, nsp
+from decnet.address import node_text
+from decnet.end import Answer
+from decnet.nsp import FlowControl, Kind, Modifier, Reason
 
 CONFIRM_SECONDS = 60  # how long an announced link may take to be confirmed
+PROMPT_SECONDS = 5  # how long an answer may take that a node gives at once, where two --resend aren't longer
 CLOSING_TRIES = 5
+MAX_PENDING = 64  # packets that a live end wasn't told yet, or hasn't answered; one more is as lost
+MAX_PACKET = nsp.SEGMENT_HEADER + nsp.MAX_SEGMENT
 # answers of a live end behind which its link is of no more use
 LINK_FAILED = ("bad-sequence", "message-too-long", "exhausted", "unexpected-answer", "failed")
 NO_MEMORY = "refused no-memory"
@@ -22,11 +26,13 @@ class Settings:
     resend: float  # seconds without an answer before a packet is sent again
     tries: int  # how often that is done
     idle: float  # seconds in which nothing came before the other end is asked whether it is there
+    unused: float = None  # seconds without a new data segment before the link is closed; None for never
 
 
 class State(enum.Enum):
     OPENING = "a connect initiate is on its way"
     ANNOUNCED = "the connect initiate was acknowledged"
+    ACCEPTING = "the live end is told of the link"
     CONFIRMING = "a connect confirm is on its way"
     RUNNING = "the link is open"
     CLOSING = "a disconnect initiate is on its way"
@@ -56,15 +62,15 @@ class Countdown:
 
 
 class Flow:
-    """Which segments the other end wants now; the others are held, and go when it asks for them.
+    """Which segments may go now; the others are held, and go when the other end asks for them.
 
-    Without flow control all of them are wanted. With segment or message flow control each segment that goes for the
-    first time needs a count above 0, and takes 1 from it: with segment flow control always, with message flow control
-    where it ends a message. A segment that is sent again takes nothing.
+    While it `is_shut` none may go. Without flow control all are wanted. With segment or message flow control each segment
+    that goes for the first time needs a count above 0, and takes 1 from it: with segment flow control always, with message
+    flow control where it ends a message. A segment that is sent again takes nothing.
     """
 
     def __init__(self, control):
-        self.control, self.count, self.is_on = control, 0, True
+        self.control, self.count, self.is_on, self.is_shut = control, 0, True, False
         self.newest = 0  # the highest number that went
         self.held = {}  # packets by their numbers, the lowest first
 
@@ -80,7 +86,15 @@ class Flow:
         return 0 < (number - self.newest) % nsp.NUMBERS < nsp.AHEAD
 
     def may_go(self, number):
-        return self.is_on and (self.control is FlowControl.NONE or self.count > 0 or not self.is_new(number))
+        if self.is_shut or not self.is_on:
+            return False
+        return self.control is FlowControl.NONE or self.count > 0 or not self.is_new(number)
+
+    def forget(self, number):
+        """The other end has the segments up to a number: none of them is held."""
+        for held in list(self.held):
+            if (number - held) % nsp.NUMBERS < nsp.AHEAD:
+                del self.held[held]
 
     def went(self, number, ends_message):
         if self.is_new(number):
@@ -128,14 +142,16 @@ class OtherData:
 
 
 class Link:
-    """One link. It acts on nothing but its end node and its live end."""
+    """One link. It acts on nothing but its end node, its live end, and what keeps the files of that."""
 
-    def __init__(self, node, end, settings, peer, local, told, clock=time.monotonic):
-        """`told` is called with each report of the live end, and with what it says of want of memory."""
+    def __init__(self, node, end, settings, peer, local, told, keeper=None, clock=time.monotonic):
+        """`told` is called with each report of the live end, and with what it says of want of memory. An answer that
+        says that a file is closed goes out when the `keeper` has saved what was changed."""
         self.node, self.end, self.settings, self.told, self.clock = node, end, settings, told, clock
+        self.keeper = keeper
         self.peer, self.local, self.remote = peer, local, 0
         self.state, self.was_open = State.CLOSED, False
-        self.why = ""  # why it was closed
+        self.why, self.reason = "", None  # why it was closed, in words; the reason that the other end gave
         self.packet = b""  # of the opening or closing, sent until it is answered
         self.countdown = Countdown(clock)
         self.resend = Countdown(clock)
@@ -143,7 +159,13 @@ class Link:
         self.flow = Flow(FlowControl.NONE)
         self.segment = settings.segment
         self.acknowledged = 0  # the highest segment that the other end has
-        self.heard_at = clock()
+        self.pending = 0  # lines that the live end hasn't answered
+        self.has_changed = False  # whether anything came on it that may change files
+        self.saves = 0  # saves that answers wait for
+        self.wanted_at = None  # when another node asked for a link, since this one was heard
+        self.half_open_until = None
+        # when anything came; when a new segment came; when that, or an acknowledgement of one more segment, came
+        self.heard_at = self.used_at = self.moved_at = clock()
 
     # ---- opening
 
@@ -153,30 +175,50 @@ class Link:
         self.send_until_answered(nsp.connect(self.local, self.settings.segment, session), self.settings.tries)
 
     def accept(self, connect):
-        """Takes the link that a connect initiate asks for; false where the end can't have it."""
-        if not self.begin(connect):
+        """Takes the link that a connect initiate asks for; false where the end can't have it. The connect confirm goes
+        out when the live end has the link."""
+        if not self.read_sizes(connect):
             return False
-        self.state = State.CONFIRMING
+        self.state = State.ACCEPTING
         self.send(nsp.connect_ack(self.remote))
-        self.send_until_answered(nsp.confirm(self.remote, self.local, self.settings.segment), self.settings.tries)
+        self.begin(self.accepted)
         return True
 
-    def connect_again(self):
-        """The connect initiate came another time."""
-        if self.state in (State.CONFIRMING, State.RUNNING):
-            self.send(nsp.connect_ack(self.remote))
+    def accepted(self, answer):
+        """The live end has the link, or refuses it."""
+        if self.state is not State.ACCEPTING:
+            return
+        if answer:
+            self.send(nsp.disconnect_confirm(self.remote, 0, Reason.NO_RESOURCES))
+            self.close(f"the live end can't have the link: {answer[0]}")
+            return
+        self.state = State.CONFIRMING
+        self.half_open_until = self.clock() + self.prompt()
+        self.send_until_answered(nsp.confirm(self.remote, self.local, self.settings.segment), self.settings.tries)
 
-    def begin(self, packet):
-        """Gives the end the link's addresses and segment size; false where it can't have them."""
+    def connect_again(self):
+        """The connect initiate came another time. Where the link is open the other end may have begun anew: it is
+        asked."""
+        if self.state in (State.ACCEPTING, State.CONFIRMING, State.RUNNING):
+            self.send(nsp.connect_ack(self.remote))
+        self.probe()
+
+    def read_sizes(self, packet):
+        """Takes the other end's address, segment size and flow control; false where they can't be had."""
         self.remote, self.segment = packet.source, min(self.settings.segment, packet.segment)
-        if packet.flow_control is None:
+        if packet.flow_control is None or packet.segment < nsp.MIN_SEGMENT:
             return False
         self.flow = Flow(packet.flow_control)
-        return not self.end.tell(f"new {self.local:04x} {self.remote:04x} {self.segment}")
+        return True
+
+    def begin(self, then):
+        """Gives the live end the link's addresses and segment size."""
+        self.ask_end(f"new {self.local:04x} {self.remote:04x} {self.segment}", then)
 
     def run(self):
         self.state, self.was_open = State.RUNNING, True
         self.countdown.stop()
+        self.used_at = self.clock()
 
     def announced(self):
         """The peer has the connect initiate; its answer may take long."""
@@ -187,12 +229,18 @@ class Link:
     def confirmed(self, packet):
         """The peer takes the link. What is told then is an acknowledgement of no segment."""
         if self.state in (State.OPENING, State.ANNOUNCED):
-            is_good = self.begin(packet)
+            is_good = self.read_sizes(packet)
             self.run()
-            if not is_good:
-                self.disconnect(Reason.ABORTED, "the live end can't have the link that the connect confirm describes")
+            if is_good:
+                self.begin(self.begun)
+            else:
+                self.begun(["segments of less than 64 bytes, or an unknown flow control"])
         if self.state is State.RUNNING:
             self.tell("ack")
+
+    def begun(self, answer):
+        if answer:
+            self.disconnect(Reason.ABORTED, f"the link of the connect confirm can't be had: {answer[0]}")
 
     # ---- closing
 
@@ -224,6 +272,7 @@ class Link:
 
     def close_by_other(self, reason):
         what = "closed" if self.was_open else "refused"
+        self.reason = reason
         self.close(self.why or f"{what} by node {node_text(self.peer.node)}, {nsp.reason_text(reason)}")
 
     def close(self, why):
@@ -231,6 +280,7 @@ class Link:
         self.state, self.why = State.CLOSED, why
 
     def stop_timers(self):
+        self.half_open_until = None
         for countdown in (self.countdown, self.resend, self.other.countdown):
             countdown.stop()
 
@@ -241,18 +291,18 @@ class Link:
         return node == self.peer.node and packet.destination == self.local and self.state is not State.CLOSED
 
     def is_from(self, packet):
-        """Whether a packet of this link has the other end's address."""
+        """Whether a packet of this link has the other end's address, which nobody else knows."""
         if packet.kind is Kind.CONNECT_ACK:
             return True
         if self.state in (State.OPENING, State.ANNOUNCED):
             return packet.kind in (Kind.CONFIRM, Kind.DISCONNECT, Kind.DISCONNECT_CONFIRM)
-        return packet.source == self.remote or (packet.kind is Kind.DISCONNECT_CONFIRM and packet.source == 0)
+        return packet.source == self.remote
 
     def receive(self, peer, packet):
         """Takes a packet of this link."""
         if not self.is_from(packet):
             return
-        self.peer, self.heard_at = peer, self.clock()
+        self.peer, self.heard_at, self.wanted_at = peer, self.clock(), None
         if packet.kind is Kind.CONNECT_ACK:
             self.announced()
         elif packet.kind is Kind.CONFIRM:
@@ -267,6 +317,7 @@ class Link:
     def carry(self, packet):
         """Takes a packet of one of the two subchannels."""
         if self.state is State.CONFIRMING:
+            self.half_open_until = None
             self.run()
         if self.state is not State.RUNNING:
             return
@@ -276,11 +327,17 @@ class Link:
             self.take_other(packet)
 
     def take_data(self, packet):
+        if self.pending >= MAX_PENDING:
+            return
         for qualifier, number in packet.acks:
             if qualifier in nsp.OF_OTHER_SUBCHANNEL:
                 self.other.acknowledged(number)
             else:
                 self.note_progress(number)
+        if self.keeper and packet.kind in nsp.SEGMENTS:
+            if packet.kind is not Kind.ONLY or dap.may_change(packet.body):
+                self.has_changed = True
+                self.keeper.note_change()
         self.tell("> " + packet.whole.hex())
 
     def take_other(self, packet):
@@ -306,8 +363,51 @@ class Link:
     def note_progress(self, number):
         """The other end has the segments up to a number: what waits more has all its tries again."""
         if 0 < (number - self.acknowledged) % nsp.NUMBERS < nsp.AHEAD:
-            self.acknowledged = number
+            self.acknowledged, self.moved_at = number, self.clock()
+            self.flow.forget(number)
             self.resend.stop()
+
+    # ---- the live end
+
+    def ask_end(self, line, then):
+        """Tells the live end a line; `then` is called with the answer."""
+        self.pending += 1
+        self.end.tell(line, Answer(lambda answer: self.answered(answer, then)))
+
+    def tell(self, line):
+        """Tells the live end a line, and does what its answer says when it comes."""
+        self.ask_end(line, self.do)
+
+    def answered(self, answer, then):
+        self.pending -= 1
+        then(answer)
+        self.watch()
+
+    def do(self, answer):
+        """Does what an answer of the live end says."""
+        failed = ""
+        for text in answer:
+            word, _, rest = text.partition(" ")
+            if word == "<":
+                self.send_or_hold(self.read_packet(rest))
+            elif word == "accepted":
+                self.used_at = self.moved_at = self.clock()
+            elif word == "report" or text == NO_MEMORY:
+                self.told(text)
+            elif word == "refused" and rest.split(" ")[0].rstrip(":") in LINK_FAILED:
+                failed = failed or rest
+        if failed:
+            self.disconnect(Reason.ABORTED, f"the live end refused: {failed}")
+
+    def read_packet(self, text):
+        """A packet of the live end."""
+        try:
+            packet = nsp.read(bytes.fromhex(text))
+        except (ValueError, nsp.BadPacket) as fault:
+            raise self.end.strange(text) from fault
+        if len(packet.whole) > MAX_PACKET:
+            raise self.end.strange(text)
+        return packet
 
     # ---- what goes
 
@@ -319,43 +419,48 @@ class Link:
         self.countdown.start(self.settings.resend, tries)
         self.send(packet, return_wanted=self.state is State.OPENING)
 
-    def tell(self, line):
-        """Tells the end a line, and does what its answer says. The lines of the answer."""
-        answer = self.end.tell(line)
-        failed = ""
-        for text in answer:
-            word, _, rest = text.partition(" ")
-            if word == "<":
-                self.send_or_hold(self.read_packet(rest))
-            elif word == "report" or text == NO_MEMORY:
-                self.told(text)
-            elif word == "refused" and rest in LINK_FAILED:
-                failed = failed or rest
-        self.watch()
-        if failed:
-            self.disconnect(Reason.ABORTED, f"the live end refused: {failed}")
-        return answer
-
-    def read_packet(self, text):
-        """A packet of the end."""
-        try:
-            return nsp.read(bytes.fromhex(text))
-        except (ValueError, nsp.BadPacket) as fault:
-            raise self.end.strange(text) from fault
-
     def send_or_hold(self, packet):
-        """Sends a packet of the end, or holds a segment that isn't wanted yet."""
-        if packet.kind not in nsp.SEGMENTS or self.flow.take(packet.number, packet.kind in nsp.LASTS, packet.whole):
+        """Sends a packet of the live end, or holds a segment that may not go yet, and sends alone what it
+        acknowledges."""
+        if self.state is not State.RUNNING:
+            return
+        if packet.kind not in nsp.SEGMENTS:
             self.send(packet.whole)
+            return
+        self.save_before(packet)
+        was_held = packet.number in self.flow.held
+        if self.flow.take(packet.number, packet.kind in nsp.LASTS, packet.whole):
+            self.send(packet.whole)
+        elif packet.acks and not was_held:
+            self.send(nsp.data_ack(self.remote, self.local, *packet.acks[0]))
+
+    def save_before(self, packet):
+        """Begins a save where a packet says that a file is closed, and what this link may have changed isn't on the
+        disk: the packet, and all segments after it, go out when it is."""
+        if self.has_changed and packet.kind is Kind.ONLY and dap.says_closed(packet.body) and self.keeper.is_due:
+            self.flow.is_shut = True
+            self.saves += 1
+            self.keeper.save(self.saved)
+
+    def saved(self, fault):
+        """The files are on the disk; or they aren't, and the other end isn't told that its file is closed."""
+        self.saves -= 1
+        if fault:
+            self.disconnect(Reason.ABORTED, "the files aren't saved")
+        elif not self.saves:
+            self.flow.is_shut = False
+            self.send_freed()
 
     def send_freed(self):
-        for packet in self.flow.freed():
-            self.send(packet)
-        self.watch()
+        if self.state is State.RUNNING:
+            for packet in self.flow.freed():
+                self.send(packet)
+            self.watch()
 
     def watch(self):
         """Runs the timer while segments that went aren't acknowledged."""
-        if self.state is not State.RUNNING or not self.flow.is_on or self.end.waits <= len(self.flow.held):
+        is_stopped = self.flow.is_shut or not self.flow.is_on
+        if self.state is not State.RUNNING or is_stopped or self.end.waits <= len(self.flow.held):
             self.resend.stop()
         elif self.resend.at is None:
             self.resend.start(self.settings.resend, self.settings.tries)
@@ -370,13 +475,28 @@ class Link:
     def send_probe(self):
         self.send(nsp.link_service(self.remote, self.local, self.other.taken, self.other.sent))
 
+    def want(self):
+        """Another node asks for a link: this one is closed where its other end is silent for too long."""
+        if self.wanted_at is None:
+            self.wanted_at = self.clock()
+        self.probe()
+
     # ---- the clock
+
+    def prompt(self):
+        return max(PROMPT_SECONDS, 2 * self.settings.resend)
+
+    def wanted_until(self):
+        """When a silent link is closed that another node wants."""
+        return max(self.heard_at + self.settings.idle, self.wanted_at + self.prompt())
 
     def tick(self):
         """Does what it is time for."""
+        if self.half_open_until is not None and self.clock() >= self.half_open_until:
+            self.give_up()
         if self.countdown.is_due():
             self.shake_again()
-        if self.resend.is_due():
+        if self.resend.is_due() and not self.pending:
             if self.resend.again():
                 self.tell("resend")
             else:
@@ -386,9 +506,17 @@ class Link:
                 self.send_probe()
             else:
                 self.give_up()
-        if self.state is State.RUNNING and self.clock() >= self.heard_at + self.settings.idle:
-            self.heard_at = self.clock()
+        if self.state is State.RUNNING:
+            self.look_at_silence()
+
+    def look_at_silence(self):
+        """Asks a silent other end whether it is there, and closes a link that is of no use."""
+        if self.wanted_at is not None and self.clock() >= self.wanted_until():
+            self.give_up()
+        elif self.clock() >= self.heard_at + self.settings.idle:
             self.probe()
+        if self.settings.unused and self.clock() >= self.used_at + self.settings.unused:
+            self.disconnect(Reason.TIMED_OUT, f"no request within {self.settings.unused:g} seconds")
 
     def shake_again(self):
         """A packet of the opening or closing wasn't answered."""
@@ -404,7 +532,14 @@ class Link:
 
     def next_at(self):
         """When it is time for something, or None."""
-        times = [countdown.at for countdown in (self.countdown, self.resend, self.other.countdown)]
+        times = [self.countdown.at, self.other.countdown.at, self.half_open_until]
+        if not self.pending:
+            times.append(self.resend.at)
         if self.state is State.RUNNING:
-            times.append(self.heard_at + self.settings.idle)
+            if self.wanted_at is not None:
+                times.append(self.wanted_until())
+            if self.other.countdown.at is None:
+                times.append(self.heard_at + self.settings.idle)
+            if self.settings.unused:
+                times.append(self.used_at + self.settings.unused)
         return min((at for at in times if at is not None), default=None)

@@ -6,6 +6,9 @@ from dataclasses import dataclass
 NUMBERS = 4096  # segments are numbered modulo this
 AHEAD = NUMBERS // 2  # a number nearer than this, going up, is ahead
 FAL = 17  # the object number of a file access listener
+MIN_SEGMENT, MAX_SEGMENT = 64, 1400  # bytes of a segment that is taken and sent
+# MSGFLG, both addresses, two acknowledgement fields, the number: what a data segment has before its bytes
+SEGMENT_HEADER = 11
 IMAGE_LIMIT = 39  # the most bytes of a user, password or account
 SERVICES = 0x01  # in SERVICES: bits that are always so
 VERSION = 0x02  # in INFO: NSP 4.0.0

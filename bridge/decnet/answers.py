@@ -1,0 +1,69 @@
+"""What refusals of requests mean, in words."""
+
+REQUESTS = frozenset(
+    "hello create open connect get put update delete rewind fetch store continue close purge".split())
+# why a request isn't asked
+NOT_ASKED = {
+    "ask-phase": "it doesn't fit here",
+    "ask-busy": "the report of the request before hasn't come",
+    "ask-too-large": "it is longer than the buffers of both ends allow (--buffer)",
+    "ask-failed": "an answer before it had no place",
+    "failed": "the link has failed",
+    "no-memory": "the live end has no memory",
+}
+# codes of a Status, and reasons with it
+STATUS = {"4032": "no such file", "5027": "no more records", "4030": "the file is in use"}
+REASONS = {
+    "1": "a file of that name is there",
+    "2": "the file isn't open for that",
+    "3": "there is no current record",
+    "4": "there is no such record",
+    "5": "a record is there",
+    "6": "the record's number is out of range",
+    "7": "the record's length isn't one of the file's",
+    "8": "records aren't had in that way",
+    "9": "records of such a file can't be deleted",
+    "10": "the record is longer than the other end's buffer",
+    "11": "no file has these attributes",
+    "12": "that is no record's number",
+}
+MAX_SHOWN = 40  # characters of a user's line that are shown
+
+
+def shown(text):
+    """A user's words as they are shown."""
+    printable = "".join(one if one.isprintable() else "?" for one in text)
+    return printable if len(printable) <= MAX_SHOWN else printable[:MAX_SHOWN] + ".."
+
+
+def not_asked(request, answer):
+    """Why a request wasn't asked, by the answer of the live end."""
+    why = answer.removeprefix("refused ")
+    if why != "bad-line":
+        return f"'{shown(request)}': {NOT_ASKED.get(why, why)}"
+    word = request.split(" ")[0]
+    if word not in REQUESTS:
+        return f"no request '{shown(word)}'"
+    return f"'{shown(request)}': wrong words for '{word}'; names and records are hex digits (docs/SCHEDULES.md)"
+
+
+def refusal(report):
+    """What a report says that was refused, in words; None where nothing was."""
+    words = report.split(" ")
+    if "refused" not in words:
+        return None
+    codes = words[words.index("refused") + 1:][:2]
+    if len(codes) < 2:
+        return "refused"
+    return f"refused: {meaning(*codes)} ({', '.join(codes)})"
+
+
+def meaning(code, reason):
+    if code in STATUS:
+        return STATUS[code]
+    return REASONS.get(reason, "for a reason of the other end") if code in ("4000", "5000") else "by the other end"
+
+
+def is_stopped(report):
+    """Whether a report says that a transfer stopped before its end."""
+    return "stopped" in report.split(" ")[:4]

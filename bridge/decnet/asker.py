@@ -1,0 +1,166 @@
+"""The asking bridge: one link to object 17 of a node, and over it what the lines of standard input ask."""
+import os
+import sys
+import time
+
+from decnet import answers, log
+from decnet.end import Lines as Pieces
+from decnet.link import State
+from decnet.nsp import Reason
+from decnet.role import FAILED, GOOD, Role
+
+MAX_LINE = 16_777_216  # the most bytes of a line that a live end takes
+CHUNK = 65536
+
+
+class InputFault(Exception):
+    """Standard input or output can't be used."""
+
+
+class Requests:
+    """The requests on standard input with the numbers of their lines, as they come."""
+
+    def __init__(self, file):
+        self.file, self.whole, self.rest, self.count, self.is_open = file, [], Pieces(), 0, True
+
+    def read(self):
+        """Reads what is there."""
+        try:
+            chunk = os.read(self.file, CHUNK)
+        except OSError as fault:
+            raise InputFault(f"standard input: {fault.strerror}") from fault
+        self.is_open = bool(chunk)
+        for line in self.rest.of(chunk or b"\n"):
+            self.count += 1
+            text = line.rstrip("\r")
+            if text and not text.startswith("#"):
+                self.whole.append((self.count, text))
+        if self.rest.size > MAX_LINE:
+            raise InputFault(f"standard input: line {self.count + 1}: more than {MAX_LINE} bytes")
+
+
+class Asker(Role):
+    """Opens one link, and asks over it what the lines of standard input say."""
+
+    def __init__(self, node, end, settings, requests, patience, goes_on=False, clock=time.monotonic):
+        """A request that is refused ends it, unless it `goes_on`; so does a report that doesn't come within so many
+        seconds in which the other end does nothing."""
+        super().__init__(node, end, settings, clock)
+        self.requests, self.patience, self.goes_on = requests, patience, goes_on
+        self.number, self.request = 0, ""  # the line that was asked last
+        self.is_due, self.due_from, self.is_finished = False, 0, False
+        self.is_refused = self.is_stopped = False  # whether something was refused; whether a transfer stands still
+        self.status = FAILED
+
+    def open(self, to, session):
+        self.link = self.link_to(self.node.way_to(to))
+        self.link.open(session)
+
+    def connect(self, peer, packet):
+        self.refuse(peer, packet, Reason.NO_OBJECT)
+
+    # ---- requests and reports
+
+    def files(self):
+        """Standard input too, where a next line is wanted and not there yet."""
+        readers, writers = super().files()
+        if self.is_free() and self.requests.is_open and not self.requests.whole:
+            readers[self.requests.file] = self.requests.read
+        return readers, writers
+
+    def is_free(self):
+        """Whether a request can be asked."""
+        return self.link is not None and self.link.state is State.RUNNING and not self.is_due and not self.has_failed()
+
+    def has_failed(self):
+        return self.is_refused and not self.goes_on
+
+    def ask(self, number, request):
+        """Asks a request; what isn't asked is told at once."""
+        self.number, self.request = number, request
+        self.is_due, self.due_from = True, self.clock()
+        self.link.ask_end(f"ask {request}", self.asked)
+
+    def asked(self, answer):
+        """The live end has asked it, or doesn't."""
+        if not answer:
+            raise self.end.strange("waits")
+        if answer[0].startswith("refused "):
+            self.is_due = False
+            self.say(answer[0])
+            self.note_refusal(answers.not_asked(self.request, answer[0]))
+        self.link.do(answer)
+
+    def told(self, text):
+        if not text.startswith("report "):
+            super().told(text)
+            return
+        self.is_due = False
+        self.is_stopped = answers.is_stopped(text)
+        self.say(text)
+        refusal = answers.refusal(text)
+        if refusal:
+            self.note_refusal(f"'{answers.shown(self.request)}': {refusal}")
+
+    def note_refusal(self, why):
+        self.is_refused = True
+        log.say(f"line {self.number}: {why}")
+
+    def say(self, text):
+        try:
+            print(text, flush=True)
+        except BrokenPipeError:
+            raise
+        except OSError as fault:
+            os.dup2(os.open(os.devnull, os.O_WRONLY), sys.stdout.fileno())
+            raise InputFault(f"standard output: {fault.strerror}") from fault
+
+    # ---- the clock, and the end
+
+    def tick(self):
+        super().tick()
+        if self.is_free() and self.requests.whole:
+            self.ask(*self.requests.whole.pop(0))
+        if self.link and self.link.state is State.RUNNING and not self.link.pending:
+            self.look_at_end()
+        self.look()
+
+    def look_at_end(self):
+        """Closes the link where nothing more is to be asked, or a report doesn't come."""
+        if self.has_failed():
+            self.link.disconnect(Reason.NO_ERROR, f"closed at line {self.number}, which was refused")
+        elif self.is_due:
+            if self.clock() >= self.report_until():
+                why = f"no report of line {self.number} within {self.patience:g} seconds"
+                self.link.disconnect(Reason.ABORTED, why)
+        elif not self.requests.is_open and not self.requests.whole and not self.end.waits:
+            self.is_finished = True
+            self.link.disconnect(Reason.NO_ERROR, "closed, all was asked")
+
+    def report_until(self):
+        """When a report has to be there: each new segment, and each acknowledgement of one, gives more time."""
+        return max(self.due_from, self.link.moved_at) + self.patience
+
+    def next_at(self):
+        times = [super().next_at()]
+        if self.is_due and self.link and self.link.state is State.RUNNING:
+            times.append(self.report_until())
+        if self.is_free() and self.requests.whole:
+            times.append(self.clock())
+        return min(times)
+
+    def is_over(self, link):
+        """Whether all reports are there that have come."""
+        return not link.pending
+
+    def closed(self, _link):
+        self.is_done = True
+        is_good = self.is_finished and not self.is_refused and not self.is_stopped
+        self.status = GOOD if is_good else FAILED
+
+    def stop(self):
+        if self.link is None or self.link.state is State.CLOSING:
+            self.closed(self.link)
+        else:
+            self.link.disconnect(Reason.ABORTED, "stopped by a signal")
+            self.look()

@@ -1,0 +1,92 @@
+"""Capture files of Ethernet frames, pcap and pcapng, read frame by frame."""
+import struct
+
+ETHERNET = 1  # the link type of a capture file
+LINK_TYPE = 0xFFFF  # the bits of its field that are the link type
+MAX_FRAME = 262_144
+MAX_BLOCK = 1 << 24
+PCAP = {b"\xd4\xc3\xb2\xa1": "<", b"\x4d\x3c\xb2\xa1": "<", b"\xa1\xb2\xc3\xd4": ">", b"\xa1\xb2\x3c\x4d": ">"}
+PCAP_HEADER, PCAP_RECORD = 24, 16
+PCAPNG = b"\x0a\x0d\x0d\x0a"
+LITTLE = b"\x4d\x3c\x2b\x1a"  # the byte order of a section
+INTERFACE, SIMPLE, ENHANCED = 1, 3, 6
+EDGES = 12  # bytes of a block that aren't its body
+
+
+class BadFile(Exception):
+    """The file is no capture of Ethernet frames."""
+
+
+def frames(file):
+    """The Ethernet frames of a capture file that is open for bytes; None at the end where the file is cut short in one,
+    b"" for a frame of another link type."""
+    magic = file.read(4)
+    if magic in PCAP:
+        head = file.read(PCAP_HEADER - len(magic))
+        if len(head) == PCAP_HEADER - len(magic):
+            return pcap_frames(file, PCAP[magic], head)
+    if magic == PCAPNG:
+        return pcapng_frames(file)
+    raise BadFile("it is neither pcap nor pcapng")
+
+
+def pcap_frames(file, order, head):
+    """The frames behind the header of a pcap file."""
+    if struct.unpack_from(order + "I", head, 16)[0] & LINK_TYPE != ETHERNET:
+        raise BadFile("its frames are not those of Ethernet: capture with -i INTERFACE, and not with -i any")
+    length_of, read = struct.Struct(order + "8xI4x").unpack, file.read
+    while record := read(PCAP_RECORD):
+        if len(record) < PCAP_RECORD:
+            yield None
+            return
+        (length,) = length_of(record)
+        if length > MAX_FRAME:
+            raise BadFile(f"a frame of {length} bytes, and {MAX_FRAME} are the most")
+        frame = read(length)
+        if len(frame) < length:
+            yield None
+            return
+        yield frame
+
+
+def blocks(file):
+    """The byte order, kind and body of each block of a pcapng file; None where the file is cut short in one."""
+    order, start = "<", PCAPNG + file.read(4)
+    while start:
+        if start[:4] == PCAPNG:
+            mark = file.read(4)
+            order = "<" if mark == LITTLE else ">"
+        else:
+            mark = b""
+        if len(start) < 8:
+            yield None
+            return
+        kind, total = struct.unpack(order + "II", start)
+        if not EDGES + len(mark) <= total <= MAX_BLOCK:
+            raise BadFile("a block of it has no such length")
+        rest = mark + file.read(total - 8 - len(mark))
+        if len(rest) < total - 8:
+            yield None
+            return
+        yield order, kind, rest[:-4]
+        start = file.read(8)
+
+
+def pcapng_frames(file):
+    """The frames of a pcapng file."""
+    links, section = [], int.from_bytes(PCAPNG, "little")
+    for block in blocks(file):
+        if block is None:
+            yield None
+            return
+        order, kind, body = block
+        if kind == section:
+            links = []
+        elif kind == INTERFACE:
+            links.append(struct.unpack_from(order + "H", body)[0])
+        elif kind == ENHANCED:
+            interface, _, _, length = struct.unpack_from(order + "IIII", body)
+            known = interface < len(links) and links[interface] == ETHERNET
+            yield body[20:20 + length] if known else b""
+        elif kind == SIMPLE:  # of the first interface
+            yield body[4:4 + struct.unpack_from(order + "I", body)[0]] if links[:1] == [ETHERNET] else b""

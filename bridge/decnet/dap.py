@@ -1,0 +1,58 @@
+"""As much of DAP 5.6.0 as tells which messages may change files, and which answer says that a file is closed."""
+
+ACCESS, CONTROL, COMPLETE = 3, 4, 7
+HARMLESS = frozenset({1, 2, 5, 6, 9, *range(10, 17)})  # types of messages that change no file
+OPEN = b"\1"  # ACCFUNC of an Access that makes no file
+READING = frozenset({b"\1", b"\2", b"\6"})  # CTLFUNC: get, connect, rewind
+CLOSE, RESPONSE, END_OF_STREAM = b"\1", b"\2", b"\4"  # CMPFUNC
+STREAM_ID, LENGTH, LONG_LENGTH = 1, 2, 4  # FLAGS
+
+
+class Unread(Exception):
+    """The bytes aren't read here: they may be anything."""
+
+
+def messages(body):
+    """The type and the operand of each DAP message of an NSP message."""
+    at = 0
+    while at < len(body):
+        if len(body) < at + 2 or body[at + 1] & ~(STREAM_ID | LENGTH | LONG_LENGTH):
+            raise Unread
+        kind, flags, at = body[at], body[at + 1], at + 2
+        at += bool(flags & STREAM_ID)
+        end = len(body)
+        if flags & LENGTH:
+            size = 2 if flags & LONG_LENGTH else 1
+            end = at + size + int.from_bytes(body[at:at + size], "little")
+            at += size
+        if not at <= end <= len(body):
+            raise Unread
+        yield kind, body[at:end]
+        at = end
+
+
+def may_change(body):
+    """Whether the bytes of a whole NSP message may be a request that changes files."""
+    try:
+        return not all(is_harmless(kind, operand) for kind, operand in messages(body))
+    except Unread:
+        return True
+
+
+def is_harmless(kind, operand):
+    function = operand[:1]
+    if kind == ACCESS:
+        return function == OPEN
+    if kind == CONTROL:
+        return function in READING
+    if kind == COMPLETE:
+        return function in (CLOSE, RESPONSE, END_OF_STREAM)
+    return kind in HARMLESS
+
+
+def says_closed(body):
+    """Whether the bytes of a whole NSP message answer an Access Complete."""
+    try:
+        return any(kind == COMPLETE and operand[:1] == RESPONSE for kind, operand in messages(body))
+    except Unread:
+        return False
