@@ -69,9 +69,9 @@ has_taken count old now taken counted before = (taken, counted, before)
 
 -- ---- What was read is no fault.
 
-tag : {T E : Type 0} → Result T E → ℕ
+abbrev tag : {T E : Type 0} → Result T E → ℕ
 tag (Ok x) = 0
 tag (Err e) = 1
 
 pub ok_apart : {T E : Type 0} (r : Result T E) (x : T) (e : E) → r ≡ Ok x → r ≡ Err e → ⊥
-ok_apart r x e good bad = let no : 0 ≡ 1 = ap tag (sym good ∙ bad) in omega (arith, no)
+ok_apart {T} {E} r x e good bad = let no : 0 ≡ 1 = ap (λ (s : Result T E). tag s) (sym good ∙ bad) in omega (arith, no)

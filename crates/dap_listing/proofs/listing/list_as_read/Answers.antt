@@ -74,7 +74,7 @@ returns-in-Err-take_lines-clause-within g c small =
     let read = c.in_ok-came.ensures in
     let came = take c.in_ok-came.came c.read_some.new.chunk in
     let counted : c.chunks.count + length came ≡ c.read_some.new.count = omega (arith, read.count, length-take-le c.in_ok-came.came c.read_some.new.chunk read.came) in
-    up_behind c.read_some.new.count _ _ _ (taken_more c.chunks.count c.read_some.new.count _ _ _ came c.chunks.invariant.taken read.bytes counted) (c.skip_unread.ensures.within (ok_apart c.skip_unread.result _ _ c.in_ok-skip_unread-in-Err-take_lines.is))
+    up_behind c.read_some.new.count _ _ _ (taken_more c.chunks.count c.read_some.new.count _ _ _ came c.chunks.invariant.taken read.bytes counted) (c.skip_unread.ensures.within (ok_apart c.skip_unread.result c.in_ok-skip_unread-in-Err-take_lines.field-0 _ (search rules)))
 
 pub returns-then-is_last-clause-within : goal.returns-then-is_last-clause-within
 returns-then-is_last-clause-within g c small = up_behind c.chunks.count _ _ _ c.chunks.invariant.taken (c.read_some.ensures.within (ok_apart c.read_some.result c.in_ok-came.came _ (search rules)))
