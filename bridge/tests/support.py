@@ -17,6 +17,7 @@ from decnet.end import DAPLIVE, End
 PATIENCE = 30  # seconds for anything that has to happen
 BUILD_SECONDS = 3600  # ./daplive may have to be built
 PROMPT = 5  # seconds for what happens within one, on a machine that has other work
+APART = 3  # seconds after which a signal is another one, on such a machine too
 POLL = 0.02
 BRIDGE = pathlib.Path(__file__).resolve().parent.parent / "bridge.py"
 EXAMPLES = BRIDGE.parent.parent / "examples"

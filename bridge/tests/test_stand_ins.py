@@ -7,7 +7,7 @@ from decnet import nsp
 from decnet.nsp import Kind, Reason
 from tests.pairs import HASTE, PairCase
 from tests.station import ASKING, CONFIGURATION, SERVING, segment
-from tests.support import PROMPT, child_of, until
+from tests.support import APART, PROMPT, child_of, until
 
 # answers the connection of a link, and holds the bridge up at each packet
 SLOW = "line.startswith('>') and time.sleep({0})\nreturn ['accepted'] if line.startswith('>') else []"
@@ -42,10 +42,10 @@ class LongWorkTest(PairCase):
         child.process.send_signal(signal.SIGTERM)
         station.hear_kind(Kind.DISCONNECT)
         self.assertLess(time.monotonic() - begun, PROMPT)
-        time.sleep(1.1)
+        time.sleep(APART)
         child.process.send_signal(signal.SIGTERM)
         self.assertEqual(child.finish(), 0)
-        self.assertLess(time.monotonic() - begun, 2 * PROMPT)
+        self.assertLess(time.monotonic() - begun, APART + 2 * PROMPT)
 
     def test_a_third_signal_waits_for_nothing_and_says_that_files_are_not_saved(self):
         child, raw = self.serve(*HASTE, "--save", self.folder / "kept", program=self.stand_in(SLOW.format(1000)))
@@ -54,8 +54,8 @@ class LongWorkTest(PairCase):
         station.say(segment(station.remote, station.local, 1, b"\x08\0\0A"))
         time.sleep(0.2)
         for _ in range(3):
+            time.sleep(APART)
             child.process.send_signal(signal.SIGTERM)
-            time.sleep(1.1)
         begun = time.monotonic()
         self.assertEqual(child.finish(), 3)
         self.assertLess(time.monotonic() - begun, PROMPT)
