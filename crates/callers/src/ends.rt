@@ -6,6 +6,9 @@ use dap_end::{AskingEnd, ServingEnd};
 use nsp_link::LinkSetup;
 use std::alloc::Global;
 
+/// The end that serves goes on while fewer bytes wait than this: 1 MiB.
+const MOST_WAITING: u64 = 1 << 20;
+
 /// The limits of the link of an end with these addresses.
 fn setup(local: u16, remote: u16) -> LinkSetup {
     LinkSetup {
@@ -33,7 +36,7 @@ fn serve(
     out: &mut Lines,
 ) -> Result<Vec<Vec<u8>>, Trouble> {
     let mut back = Vec::new(alloc);
-    let got = end.take(packet, &mut back)?;
+    let got = end.take(packet, MOST_WAITING, &mut back)?;
     let waits = end.link().unacked();
     out.line(format_args!("ends: serving: {got:?}, {waits} unacknowledged"));
     Ok(back)

@@ -313,7 +313,7 @@ asks_alike before rs ss =
           let g = grown old.port.link new.port.link bytes r h in
           stays_done old new (with_link old.port new.port.link) d rest (still_received old new.port.link g h.sends) h.sends
           );
-      wrote = λ old new n d rest. stays_done old new (sent_more old.port n) d rest (still_sent old (sent_more old.port n) n refl) (λ handed s. record { queue = s.queue; acked = s.acked });
+      wrote = λ old new n d rest. stays_done old new (sent_more old.port n) d rest (still_sent old (sent_more old.port n) n refl) (λ handed s. record { queue = s.queue; acked = s.acked; part = s.part });
       all = λ old other one two r s d like nr ns a b. all_alike old other one two before rs ss r s d like nr ns a b;
       quiet = λ a b. a ∙ sym b;
     }

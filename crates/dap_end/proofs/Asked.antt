@@ -212,7 +212,7 @@ reads_one old bytes later fits after port step inbox place r within own is =
       past = λ past h. subst (λ (p : PortValue). HasAsked (read_one past bytes r.answer step.next) (asking_of p after)) (sym is) (record {
         asking = r.stands past.requests past.answers h.asking;
         gone = port_gone old.port bytes later step.next past.given past.answers r.answer fits inbox h.gone r.reads within;
-        sends = record { queue = h.sends.queue; acked = h.sends.acked };
+        sends = record { queue = h.sends.queue; acked = h.sends.acked; part = h.sends.part };
         messages = h.messages ∙ ap (λ (k : ℕ). Asked k past.requests) (sym own);
         waiting = h.waiting;
         fit = h.fit;
@@ -354,7 +354,7 @@ read_falls old new report r =
 pub still_sent : (v : AskingValue) (port : PortValue) (n : ℕ) → port ≡ sent_more v.port n → Still HasAsked v (record v { port = port })
 still_sent v port n e =
     subst (λ (p : PortValue). Still HasAsked v (asking_of p v.present)) (sym e)
-    (λ past h. record { asking = h.asking; gone = h.gone; sends = record { queue = h.sends.queue; acked = h.sends.acked }; messages = h.messages; waiting = h.waiting; fit = h.fit; full = h.full })
+    (λ past h. record { asking = h.asking; gone = h.gone; sends = record { queue = h.sends.queue; acked = h.sends.acked; part = h.sends.part }; messages = h.messages; waiting = h.waiting; fit = h.fit; full = h.full })
 
 -- ---- Going on.
 

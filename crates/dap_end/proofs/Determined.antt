@@ -1,7 +1,6 @@
 -- What a call answers and leaves follows from what the end did and what came, want of memory aside.
-use Rattle.std.proofs.Common.{◌≡◌, ◌≢◌, ℕ, ◌+◌, ◌<◌, ◌≤◌, arith, refl, sym, ◌∙◌, subst, ap, false, true≢false, List, [], ◌∷◌, ◌++◌, length, inl, inr}
+use Rattle.std.proofs.Common.{◌≡◌, ◌≢◌, ℕ, arith, refl, sym, ◌∙◌, subst, ap, false, true≢false, List, [], ◌∷◌, ◌++◌, length, inl, inr}
 use Rattle.std.specs.Prelude.{Bool, IsTrue, Result, Ok, Err}
-use Rattle.std.proofs.lemmas.List.{append-nil, length-append}
 use Rattle.dap_fields.specs.Spelling.{AreBytes}
 use Rattle.dap_msg.specs.declared.items.Item.{Item}
 use Rattle.dap_msg.specs.Items.{ItemAt}
@@ -10,9 +9,7 @@ use Rattle.nsp_link.specs.declared.link.Got.{Got}
 use Rattle.nsp_link.specs.declared.fault.LinkFault.{LinkFault}
 use Rattle.nsp_link.specs.declared.fault.LinkFault.TheVariants as fault
 use Rattle.nsp_link.specs.Link.{LinkValue}
-use Rattle.nsp_link.specs.Cutting.{Piece, cut}
-use Rattle.nsp_link.specs.Limits.{most_segments}
-use Rattle.nsp_link.specs.Sending.{may_queue, queued_link, SendAllFault}
+use Rattle.nsp_link.specs.Sending.{may_queue, SendAllFault}
 use Rattle.dap_accessed.specs.Standing.{Files}
 use Rattle.dap_accessed.specs.Present.{Present, present_of}
 use Rattle.dap_accessed.specs.Groups.{stands_after}
@@ -20,20 +17,20 @@ use Rattle.dap_end.specs.Pasts.{served}
 use Rattle.dap_end.specs.declared.fault.EndFault.{EndFault}
 use Rattle.dap_end.specs.declared.fault.EndFault.TheVariants as end_fault
 use Rattle.dap_end.specs.declared.fault.TakeFault.{TakeFault}
-use Rattle.dap_end.specs.Ports.{HandsOver, PortValue, gone_on}
+use Rattle.dap_end.specs.Ports.{HandsOver, gone_on}
 use Rattle.dap_end.specs.Moved.{posted}
 use Rattle.dap_end.specs.Going.{StandFrom}
 use Rattle.dap_end.specs.Serving.{IsAfter, ServedOne}
 use Rattle.dap_end.specs.Taking.{ServedInTurn, begins, goes}
 use Rattle.dap_end.specs.Done.{ServingValue, Past, answers_to}
-use Rattle.dap_end.specs.Taking.{serves}
+use Rattle.dap_end.specs.Taking.{HasRoom, RestsAt, serves}
 use Rattle.dap_end.specs.Turns.{DidAll, WentOn, Takes}
 use Rattle.dap_end.specs.Inner.Wanting.{went_wanting, took_wanting}
 use Rattle.dap_msg.proofs.ForCallers.{one_item}
 use Rattle.nsp_link.proofs.ForCallers.{may_queue_parts}
 use Rattle.dap_end.proofs.Taking.{grown}
 use Rattle.dap_end.proofs.Afterwards.{after_received, posted_is, posted_past}
-use Rattle.dap_end.proofs.Proceeding.{all_grew, inbox_posted, none_waits, still_sent}
+use Rattle.dap_end.proofs.Proceeding.{all_grew, still_sent}
 use Rattle.dap_end.proofs.Turning.{DoAlike, no_want, went_same, took_same}
 use Rattle.dap_end.specs.Inner.ServingView.{with_port}
 
@@ -82,28 +79,33 @@ no_front [] at to h = (refl, h)
 no_front (x ∷ items) at to h = absurd (omega (arith, h.1))
 
 -- no item is served from here
-abbrev Stops : ServingValue → Type 0
-Stops v = (posted mid : ServingValue) (count n : ℕ) → HandsOver v posted count → ServedOne posted mid n → ⊥
+abbrev Stops : (most : ℕ) → ServingValue → Type 0
+Stops most v = (posted mid : ServingValue) (count n : ℕ) → HandsOver v posted count → HasRoom most v.port → ServedOne posted mid n → ⊥
 
-serves_once : (past : Past) (old one two : ServingValue) → IsAfter past old → ServedInTurn old one → ServedInTurn old two → Stops one → Stops two → one ≡ two
-serves_once past old one two h begins begins a b = refl
-serves_once past old one two h begins (goes p m k n x y on) a b = absurd (a p m k n x y)
-serves_once past old one two h (goes p m k n x y on) begins a b = absurd (b p m k n x y)
-serves_once past old one two h (goes p m k n x y on) (goes q l j i z w other) a b =
+serves_once : (most : ℕ) (past : Past) (old one two : ServingValue) → IsAfter past old → ServedInTurn most old one → ServedInTurn most old two → Stops most one → Stops most two → one ≡ two
+serves_once most past old one two h begins begins a b = refl
+serves_once most past old one two h begins (goes p m k n x has y on) a b = absurd (a p m k n x has y)
+serves_once most past old one two h (goes p m k n x has y on) begins a b = absurd (b p m k n x has y)
+serves_once most past old one two h (goes p m k n x has y on) (goes q l j i z room w other) a b =
     let posted : q ≡ p = posted_is old q j z ∙ sym (posted_is old p k x) in
     let now = record past { handed = past.handed ++ old.port.outbox } in
     let after = posted_past old p k x past h in
     let same = serving_one now p m l n i after y (subst (λ (v : ServingValue). ServedOne v l i) posted w) in
-    serves_once (served now y.one.bytes y.one.item y.one.next) m one two (y.past now after) on (subst (λ (v : ServingValue). ServedInTurn v two) (sym same.0) other) a b
+    serves_once most (served now y.one.bytes y.one.item y.one.next) m one two (y.past now after) on (subst (λ (v : ServingValue). ServedInTurn most v two) (sym same.0) other) a b
 
 pub no_next : (bytes : List ℕ) (later : List (List ℕ)) → [] ≡ bytes ∷ later → ⊥
 no_next bytes later e = cc
 
 -- nothing that came is left
-stops_empty : (v : ServingValue) → v.port.link.coming.inbox ≡ [] → Stops v
-stops_empty v none = λ posted mid k n x y. no_next y.one.bytes y.one.later (sym (ap (λ (w : ServingValue). w.port.link.coming.inbox) (posted_is v posted k x) ∙ none) ∙ y.one.came)
+stops_empty : (most : ℕ) (v : ServingValue) → v.port.link.coming.inbox ≡ [] → Stops most v
+stops_empty most v none = λ posted mid k n x room y. no_next y.one.bytes y.one.later (sym (ap (λ (w : ServingValue). w.port.link.coming.inbox) (posted_is v posted k x) ∙ none) ∙ y.one.came)
 
-running : (b : Bool) → IsTrue b → b ≡ false → ⊥
+-- or as many bytes wait as may
+stops_resting : (most : ℕ) (v : ServingValue) → RestsAt most v → Stops most v
+stops_resting most v (inl none) = stops_empty most v none
+stops_resting most v (inr full) = λ posted mid k n x room y. omega (arith, full, room)
+
+pub running : (b : Bool) → IsTrue b → b ≡ false → ⊥
 running b t e = true≢false (sym t ∙ e)
 
 -- what may be handed over isn't refused
@@ -133,81 +135,51 @@ refused_one v messages fault.Exhausted g nf ng a b = absurd b
 refused_one v messages fault.NoMemory g nf ng a b = absurd (nf refl)
 refused_one v messages f g nf ng a b = absurd a
 
-stops_refused : (v : ServingValue) (f : LinkFault) → f ≢ fault.NoMemory → SendAllFault v.port.link v.port.outbox f → Stops v
-stops_refused v f want h = λ posted mid k n x y. may_or_not v.port.link v.port.outbox f want x.0 h
+stops_refused : (most : ℕ) (v : ServingValue) (f : LinkFault) → f ≢ fault.NoMemory → SendAllFault v.port.link v.port.outbox f → Stops most v
+stops_refused most v f want h = λ posted mid k n x room y. may_or_not v.port.link v.port.outbox f want x.0 h
 
--- handing over nothing changes nothing
-posted_none : (p : PortValue) → p.outbox ≡ [] → posted p ≡ p
-unfolding cut
-posted_none p e =
-    ap (λ (l : List (List ℕ)). record p { link = queued_link p.link (cut p.link.setup.seg_size l); outbox = [] }) e
-    ∙ ap (λ (q : List Piece). record p { link = record p.link { queue = q }; outbox = [] }) (append-nil p.link.queue) ∙ ap (λ (l : List (List ℕ)). record p { outbox = l }) (sym e)
+-- nothing was left to serve, and then what waits was handed over
+abbrev Up : (most : ℕ) → ServingValue → ServingValue → Type 0
+Up most old new = (last : ServingValue) × (n : ℕ) × ServedInTurn most old last × RestsAt most last × HandsOver last new n
 
--- all that came was served, and then what waits was handed over
-abbrev Up : ServingValue → ServingValue → Type 0
-Up old new = (last : ServingValue) × (n : ℕ) × ServedInTurn old last × HandsOver last new n × (last.port.link.coming.inbox ≡ [])
-
-up_of : (old new : ServingValue) → DidAll serves old new (Ok tt) → Up old new
-up_of old new (mid, n, inl on, none, h) = (mid, n, on, h, none)
-up_of old new (mid, n, inr u, none, h) =
-    let again : new ≡ mid = posted_is mid new n h ∙ ap (with_port mid) (posted_none mid.port (none_waits u.0 mid u.1 u.3)) in
-    (u.0, u.1, u.2, subst (λ (v : ServingValue). HandsOver u.0 v u.1) (sym again) u.3, sym (inbox_posted u.0 mid u.1 u.3) ∙ none)
-
-up_one : (past : Past) (old one two : ServingValue) → IsAfter past old → Up old one → Up old two → one ≡ two
-up_one past old one two h a b =
-    let last = serves_once past old a.0 b.0 h a.2 b.2 (stops_empty a.0 a.4) (stops_empty b.0 b.4) in
-    posted_is a.0 one a.1 a.3 ∙ ap (λ (v : ServingValue). record v { port = posted v.port }) last ∙ sym (posted_is b.0 two b.1 b.3)
+up_one : (most : ℕ) (past : Past) (old one two : ServingValue) → IsAfter past old → Up most old one → Up most old two → one ≡ two
+up_one most past old one two h a b =
+    let last = serves_once most past old a.0 b.0 h a.2 b.2 (stops_resting most a.0 a.3) (stops_resting most b.0 b.3) in
+    posted_is a.0 one a.1 a.4 ∙ ap (λ (v : ServingValue). record v { port = posted v.port }) last ∙ sym (posted_is b.0 two b.1 b.4)
 
 -- what waits is refused
-abbrev Stopped : ServingValue → ServingValue → LinkFault → Type 0
-Stopped old new f = ServedInTurn old new × SendAllFault new.port.link new.port.outbox f
+abbrev Stopped : (most : ℕ) → ServingValue → ServingValue → LinkFault → Type 0
+Stopped most old new f = ServedInTurn most old new × SendAllFault new.port.link new.port.outbox f
 
--- nothing is refused behind what was handed over
-none_refused : (v : LinkValue) (messages : List (List ℕ)) (f : LinkFault) → f ≢ fault.NoMemory → IsTrue (may_queue v messages) → SendAllFault (queued_link v (cut v.setup.seg_size messages)) [] f → ⊥
-unfolding cut
-none_refused v messages fault.Failed want may h = running v.failed h (may_queue_parts v messages may).0
-none_refused v messages fault.MessageTooLong want may h = omega (arith, h.1.1)
-none_refused v messages fault.Exhausted want may h =
-    let many : most_segments < v.acked + length (v.queue ++ cut v.setup.seg_size messages) + 0 = h.2 in
-    let few : v.acked + length v.queue + length (cut v.setup.seg_size messages) ≤ most_segments = (may_queue_parts v messages may).2 in
-    omega (arith, few, many, length-append v.queue (cut v.setup.seg_size messages))
-none_refused v messages fault.NoMemory want may h = want refl
-none_refused v messages f want may h = absurd h
+stopped_of : (most : ℕ) (old new : ServingValue) (f : LinkFault) → f ≢ fault.NoMemory → DidAll (serves most) old new (Err (end_fault.Link f)) → Stopped most old new f
+stopped_of most old new f want (mid, on, inl (is, h)) = subst (λ (v : ServingValue). Stopped most old v f) (sym is) (on, h)
+stopped_of most old new f want (mid, on, inr h) = absurd (want h.0)
 
-handed_refused : (old new : ServingValue) (n : ℕ) (f : LinkFault) → f ≢ fault.NoMemory → HandsOver old new n → SendAllFault new.port.link new.port.outbox f → ⊥
-handed_refused old new n f want p h =
-    none_refused old.port.link old.port.outbox f want p.0 (subst (λ (v : ServingValue). SendAllFault v.port.link v.port.outbox f) (posted_is old new n p) h)
+up_or_not : (most : ℕ) (past : Past) (old one two : ServingValue) (f : LinkFault) → IsAfter past old → f ≢ fault.NoMemory → Up most old one → Stopped most old two f → ⊥
+up_or_not most past old one two f h want a b =
+    let last = serves_once most past old a.0 two h a.2 b.0 (stops_resting most a.0 a.3) (stops_refused most two f want b.1) in
+    may_or_not two.port.link two.port.outbox f want (subst (λ (v : ServingValue). IsTrue (may_queue v.port.link v.port.outbox)) last a.4.0) b.1
 
-stopped_of : (old new : ServingValue) (f : LinkFault) → f ≢ fault.NoMemory → DidAll serves old new (Err (end_fault.Link f)) → Stopped old new f
-stopped_of old new f want (mid, inl on, (is, inl h)) = subst (λ (v : ServingValue). Stopped old v f) (sym is) (on, h)
-stopped_of old new f want (mid, inr u, (is, inl h)) = absurd (handed_refused u.0 mid u.1 f want u.3 h)
-stopped_of old new f want (mid, on, (is, inr h)) = absurd (want h.0)
-
-up_or_not : (past : Past) (old one two : ServingValue) (f : LinkFault) → IsAfter past old → f ≢ fault.NoMemory → Up old one → Stopped old two f → ⊥
-up_or_not past old one two f h want a b =
-    let last = serves_once past old a.0 two h a.2 b.0 (stops_empty a.0 a.4) (stops_refused two f want b.1) in
-    may_or_not two.port.link two.port.outbox f want (subst (λ (v : ServingValue). IsTrue (may_queue v.port.link v.port.outbox)) last a.3.0) b.1
-
-stopped_one : (past : Past) (old one two : ServingValue) (f g : LinkFault) → IsAfter past old → f ≢ fault.NoMemory → g ≢ fault.NoMemory → Stopped old one f → Stopped old two g → (one ≡ two) × (f ≡ g)
-stopped_one past old one two f g h nf ng a b =
-    let last = serves_once past old one two h a.0 b.0 (stops_refused one f nf a.1) (stops_refused two g ng b.1) in
+stopped_one : (most : ℕ) (past : Past) (old one two : ServingValue) (f g : LinkFault) → IsAfter past old → f ≢ fault.NoMemory → g ≢ fault.NoMemory → Stopped most old one f → Stopped most old two g → (one ≡ two) × (f ≡ g)
+stopped_one most past old one two f g h nf ng a b =
+    let last = serves_once most past old one two h a.0 b.0 (stops_refused most one f nf a.1) (stops_refused most two g ng b.1) in
     (last, refused_one two.port.link two.port.outbox f g nf ng (subst (λ (v : ServingValue). SendAllFault v.port.link v.port.outbox f) last a.1) b.1)
 
 abbrev failed_by : LinkFault → Result (Unit {0}) EndFault
 failed_by f = Err (end_fault.Link f)
 
-pub all_one : (past : Past) (old one two : ServingValue) (r s : Result (Unit {0}) EndFault) → IsAfter past old → went_wanting r ≡ false → went_wanting s ≡ false → DidAll serves old one r → DidAll serves old two s → (one ≡ two) × (r ≡ s)
-all_one past old one two (Ok u) (Ok w) h nr ns a b = (up_one past old one two h (up_of old one a) (up_of old two b), refl)
-all_one past old one two (Ok u) (Err (end_fault.Link g)) h nr ns a b = absurd (up_or_not past old one two g h (no_want g ns) (up_of old one a) (stopped_of old two g (no_want g ns) b))
-all_one past old one two (Ok u) (Err (end_fault.Read g)) h nr ns a b = absurd b.2
-all_one past old one two (Err (end_fault.Link f)) (Ok w) h nr ns a b = absurd (up_or_not past old two one f h (no_want f nr) (up_of old two b) (stopped_of old one f (no_want f nr) a))
-all_one past old one two (Err (end_fault.Link f)) (Err (end_fault.Link g)) h nr ns a b =
-    let same = stopped_one past old one two f g h (no_want f nr) (no_want g ns) (stopped_of old one f (no_want f nr) a) (stopped_of old two g (no_want g ns) b) in (same.0, ap failed_by same.1)
-all_one past old one two (Err (end_fault.Link f)) (Err (end_fault.Read g)) h nr ns a b = absurd b.2
-all_one past old one two (Err (end_fault.Read f)) s h nr ns a b = absurd a.2
+pub all_one : (most : ℕ) (past : Past) (old one two : ServingValue) (r s : Result (Unit {0}) EndFault) → IsAfter past old → went_wanting r ≡ false → went_wanting s ≡ false → DidAll (serves most) old one r → DidAll (serves most) old two s → (one ≡ two) × (r ≡ s)
+all_one most past old one two (Ok u) (Ok w) h nr ns a b = (up_one most past old one two h a b, refl)
+all_one most past old one two (Ok u) (Err (end_fault.Link g)) h nr ns a b = absurd (up_or_not most past old one two g h (no_want g ns) a (stopped_of most old two g (no_want g ns) b))
+all_one most past old one two (Ok u) (Err (end_fault.Read g)) h nr ns a b = absurd b.2
+all_one most past old one two (Err (end_fault.Link f)) (Ok w) h nr ns a b = absurd (up_or_not most past old two one f h (no_want f nr) b (stopped_of most old one f (no_want f nr) a))
+all_one most past old one two (Err (end_fault.Link f)) (Err (end_fault.Link g)) h nr ns a b =
+    let same = stopped_one most past old one two f g h (no_want f nr) (no_want g ns) (stopped_of most old one f (no_want f nr) a) (stopped_of most old two g (no_want g ns) b) in (same.0, ap failed_by same.1)
+all_one most past old one two (Err (end_fault.Link f)) (Err (end_fault.Read g)) h nr ns a b = absurd b.2
+all_one most past old one two (Err (end_fault.Read f)) s h nr ns a b = absurd a.2
 
-all_after : (past : Past) (old new : ServingValue) (r : Result (Unit {0}) EndFault) → IsAfter past old → DidAll serves old new r → (now : Past) × IsAfter now new
-all_after past old new r h d = let g = (all_grew old new r d).past past h in (g.0, g.1.is)
+all_after : (most : ℕ) (past : Past) (old new : ServingValue) (r : Result (Unit {0}) EndFault) → IsAfter past old → DidAll (serves most) old new r → (now : Past) × IsAfter now new
+all_after most past old new r h d = let g = (all_grew most old new r d).past past h in (g.0, g.1.is)
 
 -- ---- Going on, and taking.
 
@@ -215,30 +187,30 @@ all_after past old new r h d = let g = (all_grew old new r d).past past h in (g.
 abbrev IsSome : ServingValue → Type 0
 IsSome v = (past : Past) × IsAfter past v
 
-all_alike : (old other one two : ServingValue) (r s : Result (Unit {0}) EndFault) → IsSome old → old ≡ other → went_wanting r ≡ false → went_wanting s ≡ false → DidAll serves old one r → DidAll serves other two s
+all_alike : (most : ℕ) (old other one two : ServingValue) (r s : Result (Unit {0}) EndFault) → IsSome old → old ≡ other → went_wanting r ≡ false → went_wanting s ≡ false → DidAll (serves most) old one r → DidAll (serves most) other two s
     → (one ≡ two) × (r ≡ s) × Unit {0} × IsSome one
-all_alike old other one two r s k e nr ns a b =
-    let t = all_one k.0 old one two r s k.1 nr ns a (subst (λ (v : ServingValue). DidAll serves v two s) (sym e) b) in
-    (t.0, t.1, tt, all_after k.0 old one r k.1 a)
+all_alike most old other one two r s k e nr ns a b =
+    let t = all_one most k.0 old one two r s k.1 nr ns a (subst (λ (v : ServingValue). DidAll (serves most) v two s) (sym e) b) in
+    (t.0, t.1, tt, all_after most k.0 old one r k.1 a)
 
-serves_alike : DoAlike serves serves (λ one two. one ≡ two) IsSome (Unit {0})
-serves_alike =
+serves_alike : (most : ℕ) → DoAlike (serves most) (serves most) (λ one two. one ≡ two) IsSome (Unit {0})
+serves_alike most =
     record {
       port = λ a b e. ap (λ (v : ServingValue). v.port) e;
       moved = λ a b p q e same. ap (with_port a) same ∙ ap (λ (v : ServingValue). with_port v q) e;
       sends = λ v k. (k.0.handed, k.1.sends);
       took = λ old new bytes r k h rest. (k.0, subst (IsAfter k.0) (sym rest) (after_received k.0 old new.port.link (grown old.port.link new.port.link bytes r h) h.sends k.1));
       wrote = λ old new n k rest. (k.0, subst (IsAfter k.0) (sym rest) (still_sent old n k.0 k.1));
-      all = all_alike;
+      all = all_alike most;
       quiet = λ a b. tt;
     }
 
-pub going_one : (past : Past) (old one two : ServingValue) (out xs ys : List (List ℕ)) (r s : Result (Unit {0}) EndFault) → IsAfter past old → went_wanting r ≡ false → went_wanting s ≡ false → WentOn serves old one out xs r → WentOn serves old two out ys s
+pub going_one : (most : ℕ) (past : Past) (old one two : ServingValue) (out xs ys : List (List ℕ)) (r s : Result (Unit {0}) EndFault) → IsAfter past old → went_wanting r ≡ false → went_wanting s ≡ false → WentOn (serves most) old one out xs r → WentOn (serves most) old two out ys s
     → (one ≡ two) × (r ≡ s) × (xs ≡ ys)
-going_one past old one two out xs ys r s h nr ns a b =
-    let t = went_same _ _ _ _ _ serves_alike old old one two out xs ys r s (past, h) refl nr ns a b in (t.0, t.1, t.2)
+going_one most past old one two out xs ys r s h nr ns a b =
+    let t = went_same _ _ _ _ _ (serves_alike most) old old one two out xs ys r s (past, h) refl nr ns a b in (t.0, t.1, t.2)
 
-pub taking_one : (past : Past) (old one two : ServingValue) (bytes : List ℕ) (r s : Result Got TakeFault) (out xs ys : List (List ℕ)) → AreBytes bytes → IsAfter past old → took_wanting r ≡ false → took_wanting s ≡ false
-    → Takes serves old one bytes out xs r → Takes serves old two bytes out ys s → (one ≡ two) × (r ≡ s) × (xs ≡ ys)
-taking_one past old one two bytes r s out xs ys fits h nr ns a b =
-    let t = took_same _ _ _ _ _ serves_alike old old one two bytes out xs ys r s fits (past, h) refl nr ns a b in (t.0, t.1, t.2)
+pub taking_one : (most : ℕ) (past : Past) (old one two : ServingValue) (bytes : List ℕ) (r s : Result Got TakeFault) (out xs ys : List (List ℕ)) → AreBytes bytes → IsAfter past old → took_wanting r ≡ false → took_wanting s ≡ false
+    → Takes (serves most) old one bytes out xs r → Takes (serves most) old two bytes out ys s → (one ≡ two) × (r ≡ s) × (xs ≡ ys)
+taking_one most past old one two bytes r s out xs ys fits h nr ns a b =
+    let t = took_same _ _ _ _ _ (serves_alike most) old old one two bytes out xs ys r s fits (past, h) refl nr ns a b in (t.0, t.1, t.2)

@@ -51,7 +51,7 @@ pub wrote_none : (p : PortValue) (out : List (List ℕ)) → Behind out out (Wro
 wrote_none p out = ([], sym (append-nil out), wrote_nothing p)
 
 still_sends : (a : PortValue) (n : ℕ) (handed : List (List ℕ)) → Sends a.link handed → Sends (sent_more a n).link handed
-still_sends a n handed h = record { queue = h.queue; acked = h.acked }
+still_sends a n handed h = record { queue = h.queue; acked = h.acked; part = h.part }
 
 wrote_then : (a b c : PortValue) (packets : List (List ℕ)) (bytes : List ℕ) → WroteMore a b packets → WroteMore b c (bytes ∷ []) → WroteMore a c (packets ++ bytes ∷ [])
 wrote_then a b c packets bytes m w =

@@ -1,5 +1,5 @@
 -- No answer that one of two ends reads is unexpected.
-use Rattle.std.proofs.Common.{◌≡◌, ◌≢◌, ℕ, ◌+◌, ◌-◌, ◌<◌, ◌≤◌, arith, refl, sym, ◌∙◌, subst, ap, append_assoc, true, List, drop, [], ◌∷◌, ◌++◌, length, map, inl, inr}
+use Rattle.std.proofs.Common.{◌≡◌, ◌≢◌, ℕ, ◌≤◌, arith, sym, ◌∙◌, subst, ap, append_assoc, true, List, drop, [], ◌∷◌, ◌++◌, length, map, inl, inr}
 use Rattle.std.specs.List.{AllByRecursion}
 use Rattle.std.proofs.lemmas.List.{append-nil, length-drop, map-append}
 use Rattle.dap_msg.proofs.ForCallers.{stands_some}
@@ -9,7 +9,6 @@ use Rattle.dap_msg.specs.declared.items.Item.{Item}
 use Rattle.dap_msg.specs.declared.items.Item.TheVariants.{Whole, Malformed}
 use Rattle.dap_msg.specs.Blocked.{messages_in, AllFit}
 use Rattle.dap_msg.specs.Items.{ItemAt}
-use Rattle.nsp_link.specs.Link.{LinkValue}
 use Rattle.dap_accessed.specs.Standing.{Files}
 use Rattle.dap_accessed.specs.Groups.{Answers}
 use Rattle.dap_accessed.specs.Sound.{AreFiles}
@@ -19,10 +18,9 @@ use Rattle.dap_accessing.specs.Told.{is_unexpected}
 use Rattle.dap_accessing.specs.Phase.{IsAdmissible}
 use Rattle.dap_accessing.specs.declared.fault.ReadFault.{ReadFault}
 use Rattle.dap_accessing.specs.declared.fault.ReadFault.TheVariants as read_fault
-use Rattle.dap_end.specs.Ports.{HandsOver, PortValue, gone_on}
+use Rattle.dap_end.specs.Ports.{gone_on}
 use Rattle.dap_end.specs.Done.{ServingValue, AskingValue, answers_to}
 use Rattle.dap_end.specs.Going.{AreFrontOf, given_then}
-use Rattle.dap_end.specs.Serving.{IsAfter}
 use Rattle.dap_end.specs.Asking.{AskedOne, ReadNone}
 use Rattle.dap_end.specs.Runs.{RunsBy}
 use Rattle.dap_end.specs.Headline.{Written}
@@ -37,7 +35,7 @@ use Rattle.dap_end.proofs.Fronts.{served_front}
 use Rattle.dap_end.proofs.Running.{answers_from}
 use Rattle.dap_end.proofs.Proceeding.{worked_grew}
 use Rattle.dap_end.proofs.Asked.{handed_is, read_grows}
-use Rattle.dap_end.proofs.Joined.{IsLinked, Taken, first_ones, answers_full, pair_step}
+use Rattle.dap_end.proofs.Joined.{IsLinked, first_ones, answers_full, pair_step}
 
 -- ---- What is read is a front of all answers to the requests.
 

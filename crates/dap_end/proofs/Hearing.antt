@@ -11,7 +11,6 @@ use Rattle.dap_end.specs.Going.{AreFrontOf}
 use Rattle.dap_end.specs.Writing.{WroteMore}
 use Rattle.dap_end.specs.Moved.{sent_more}
 use Rattle.dap_end.specs.Asking.{HasAsked, AskedOne}
-use Rattle.dap_end.specs.Hearing.{asks}
 use Rattle.dap_end.specs.Done.{AskingValue, AskingPast, nothing_asked}
 use Rattle.dap_end.specs.Runs.{RunsBy}
 use Rattle.dap_end.specs.Headline.{Written, AreWrittenOf, IsFromPeer}
@@ -192,7 +191,7 @@ pub runs_where : (here there : LinkValue → List ℕ → Type 0) → ((v : Link
 runs_where here there comes [] old new r = r
 runs_where here there comes (Asks request ∷ events) old new r = (r.0, r.1, r.2, runs_where here there comes events r.0 new r.3)
 runs_where here there comes (By event ∷ events) old new r =
-    let step = stepped_by (asks old.1 r.0.1) (HeardMore old.1 r.0.1) here there old.0 r.0.0 event r.1 comes r.2.0 in
+    let step = stepped_by (r.0.1 ≡ old.1) (HeardMore old.1 r.0.1) here there old.0 r.0.0 event r.1 comes r.2.0 in
     (r.0, r.1, (step, r.2.1), runs_where here there comes events r.0 new r.3)
 
 run_listens : (size : ℕ) (messages : List (List ℕ)) (events : List AskingEvent) (old new : SoFar) → RunsBy (AskingStepped (IsFromPeer size messages)) old events new → Listens size messages old.0 → Listens size messages new.0

@@ -26,7 +26,7 @@ use Rattle.dap_end.specs.Taking.{ServedInTurn, begins, goes}
 use Rattle.dap_end.specs.Done.{ServingValue, Past, nothing_yet}
 use Rattle.dap_end.specs.Turns.{DidAll, WroteThen, TookIn, Takes, WentOn}
 use Rattle.dap_end.specs.Pasts.{Still}
-use Rattle.dap_end.specs.Taking.{ServedOn, serves}
+use Rattle.dap_end.specs.Taking.{serves}
 use Rattle.dap_end.proofs.Taking.{grown}
 use Rattle.dap_end.proofs.Afterwards.{after_received, posted_is, posted_past}
 use Rattle.dap_end.proofs.Proceeding.{still_by}
@@ -112,22 +112,19 @@ served_known v new n s (past, h, inl came) =
     (served past s.one.bytes s.one.item s.one.next, s.past past h, inl (subst (λ (p : PortValue). HasCome p) (sym s.port) came))
 served_known v new n s (past, h, inr none) = absurd (no_next s.one.bytes s.one.later (sym none.1 ∙ s.one.came))
 
-turn_known : (a b : ServingValue) → ServedInTurn a b → IsKnown a → IsKnown b
-turn_known a b begins k = k
-turn_known a b (goes p m count n x y on) k = turn_known m b on (served_known p m n y (posted_known a p count x k))
+turn_known : (most : ℕ) (a b : ServingValue) → ServedInTurn most a b → IsKnown a → IsKnown b
+turn_known most a b begins k = k
+turn_known most a b (goes p m count n x room y on) k = turn_known most m b on (served_known p m n y (posted_known a p count x k))
 
-on_known : (a b : ServingValue) → ServedOn a b → IsKnown a → IsKnown b
-on_known a b (inl on) k = turn_known a b on k
-on_known a b (inr u) k = posted_known u.0 b u.1 u.3 (turn_known a u.0 u.2 k)
+all_known : (most : ℕ) (a b : ServingValue) (r : Result (Unit {0}) EndFault) → DidAll (serves most) a b r → IsKnown a → IsKnown b
+all_known most a b (Ok u) d k = posted_known d.0 b d.1 d.4 (turn_known most a d.0 d.2 k)
+all_known most a b (Err (end_fault.Link f)) (mid, on, inl (is, h)) k = subst IsKnown (sym is) (turn_known most a mid on k)
+all_known most a b (Err (end_fault.Link f)) (mid, on, inr (want, room, p, may)) k = posted_known mid b p.0 p.1 (turn_known most a mid on k)
+all_known most a b (Err (end_fault.Read f)) d k = absurd d.2
 
-all_known : (a b : ServingValue) (r : Result (Unit {0}) EndFault) → DidAll serves a b r → IsKnown a → IsKnown b
-all_known a b (Ok u) d k = posted_known d.0 b d.1 d.4 (on_known a d.0 d.2 k)
-all_known a b (Err (end_fault.Link f)) d k = subst IsKnown (sym d.2.0) (on_known a d.0 d.1 k)
-all_known a b (Err (end_fault.Read f)) d k = absurd d.2
-
-wrote_known : (old new : ServingValue) (out all : List (List ℕ)) (wrote : PortValue → PortValue → List (List ℕ) → Type 0) → (w : WroteThen serves wrote old new out all) → (n : ℕ) → new.port ≡ sent_more w.mid.port n → IsKnown old → IsKnown new
-wrote_known old new out all wrote w n sent k =
-    let (past, h, did) = all_known old w.mid (Ok tt) w.done k in (
+wrote_known : (most : ℕ) (old new : ServingValue) (out all : List (List ℕ)) (wrote : PortValue → PortValue → List (List ℕ) → Type 0) → (w : WroteThen (serves most) wrote old new out all) → (n : ℕ) → new.port ≡ sent_more w.mid.port n → IsKnown old → IsKnown new
+wrote_known most old new out all wrote w n sent k =
+    let (past, h, did) = all_known most old w.mid (Ok tt) w.done k in (
       past,
       subst (IsAfter past) (sym w.rest) (still_by w.mid new.port n sent past h),
       elim did [
@@ -136,21 +133,21 @@ wrote_known old new out all wrote w n sent k =
       ],
     )
 
-pub going_known : (old new : ServingValue) (out all : List (List ℕ)) (r : Result (Unit {0}) EndFault) → WentOn serves old new out all r → IsKnown old → IsKnown new
-going_known old new out all (Ok u) h k = wrote_known old new out all _ h _ h.wrote.2.1.sent k
-going_known old new out all (Err f) (inl h) k = all_known old new (Err f) h.0 k
-going_known old new out all (Err f) (inr h) k = wrote_known old new out all _ h.1 _ h.1.wrote.2.0.sent k
+pub going_known : (most : ℕ) (old new : ServingValue) (out all : List (List ℕ)) (r : Result (Unit {0}) EndFault) → WentOn (serves most) old new out all r → IsKnown old → IsKnown new
+going_known most old new out all (Ok u) h k = wrote_known most old new out all _ h _ h.wrote.2.1.sent k
+going_known most old new out all (Err f) (inl h) k = all_known most old new (Err f) h.0 k
+going_known most old new out all (Err f) (inr h) k = wrote_known most old new out all _ h.1 _ h.1.wrote.2.0.sent k
 
 in_known : (old new : ServingValue) (bytes : List ℕ) (r : Result Got LinkFault) → TookIn old new bytes r → IsKnown old → IsKnown new
 in_known old new bytes r t k =
     let still : Still IsAfter old (with_port old (with_link old.port new.port.link)) = λ past h. after_received past old new.port.link (grown old.port.link new.port.link bytes r t.receives) t.receives.sends h in
     subst IsKnown (sym t.rest) (known_in old new.port.link bytes r t.receives still k)
 
-pub taking_known : (old new : ServingValue) (bytes : List ℕ) (out all : List (List ℕ)) (r : Result Got TakeFault) → Takes serves old new bytes out all r → IsKnown old → IsKnown new
-taking_known old new bytes out all (Ok got) t k = wrote_known t.0 new out all _ t.2 _ t.2.wrote.2.1.sent (in_known old t.0 bytes (Ok got) t.1 k)
-taking_known old new bytes out all (Err (take_fault.Refused f)) t k = in_known old new bytes (Err f) t.0 k
-taking_known old new bytes out all (Err (take_fault.Unfinished got f)) (mid, t, inl h) k = all_known mid new (Err f) h.0 (in_known old mid bytes (Ok got) t k)
-taking_known old new bytes out all (Err (take_fault.Unfinished got f)) (mid, t, inr h) k = wrote_known mid new out all _ h.1 _ h.1.wrote.2.0.sent (in_known old mid bytes (Ok got) t k)
+pub taking_known : (most : ℕ) (old new : ServingValue) (bytes : List ℕ) (out all : List (List ℕ)) (r : Result Got TakeFault) → Takes (serves most) old new bytes out all r → IsKnown old → IsKnown new
+taking_known most old new bytes out all (Ok got) t k = wrote_known most t.0 new out all _ t.2 _ t.2.wrote.2.1.sent (in_known old t.0 bytes (Ok got) t.1 k)
+taking_known most old new bytes out all (Err (take_fault.Refused f)) t k = in_known old new bytes (Err f) t.0 k
+taking_known most old new bytes out all (Err (take_fault.Unfinished got f)) (mid, t, inl h) k = all_known most mid new (Err f) h.0 (in_known old mid bytes (Ok got) t k)
+taking_known most old new bytes out all (Err (take_fault.Unfinished got f)) (mid, t, inr h) k = wrote_known most mid new out all _ h.1 _ h.1.wrote.2.0.sent (in_known old mid bytes (Ok got) t k)
 
 pub new_known : (first : _) (v : ServingValue) → IsAfter (nothing_yet first) v → v.port.link.coming.inbox ≡ [] → IsKnown v
 new_known first v h none = (nothing_yet first, h, inr (refl, none))

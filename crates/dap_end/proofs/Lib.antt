@@ -15,6 +15,7 @@ pub mod Hearing
 pub mod Writing
 pub mod Turning
 pub mod Determined
+pub mod Bounding
 pub mod Alike
 pub mod Known
 pub mod Ways

@@ -2,25 +2,26 @@
 use Rattle.std.proofs.Common.{◌≡◌, ℕ, ◌+◌, ◌-◌, ◌<◌, ◌≤◌, arith, refl, sym, ◌∙◌, subst, ap, append_assoc, List, [], ◌∷◌, ◌++◌, length, inl, inr, eq-eqb, false, IsTrue}
 use Rattle.std.specs.Prelude.{All, ◌==◌, if◌then◌else◌, Result, Ok, Err, OnOk, IfErr}
 use Rattle.std.proofs.lemmas.Bool.{cases_eq, ne_eqb}
-use Rattle.std.proofs.lemmas.List.{append-nil, length-append}
+use Rattle.std.proofs.lemmas.List.{append-nil}
 use Rattle.std.proofs.lemmas.List.Elements.{All-append}
 use Rattle.dap_msg.specs.declared.items.Item.{Item}
 use Rattle.dap_msg.specs.Items.{IsPlace}
 use Rattle.nsp_link.specs.declared.fault.LinkFault.{LinkFault}
 use Rattle.nsp_link.specs.declared.fault.LinkFault.TheVariants as fault
-use Rattle.nsp_link.specs.Link.{LinkValue, Stands, may_send, with_inbox, AreShort}
+use Rattle.nsp_link.specs.declared.link.LinkSetup.{LinkSetup}
+use Rattle.nsp_link.specs.Link.{LinkValue, IsLink, Stands, may_send, waiting_bytes, with_inbox, AreShort}
 use Rattle.dap_accessed.specs.Standing.{Files}
 use Rattle.dap_end.specs.Pasts.{served}
 use Rattle.dap_end.specs.declared.fault.EndFault.{EndFault}
 use Rattle.dap_end.specs.declared.fault.EndFault.TheVariants as end_fault
-use Rattle.dap_end.specs.Ports.{HandsOver, PortValue}
+use Rattle.dap_end.specs.Ports.{HandsOver, PortValue, bytes_waiting}
 use Rattle.dap_end.specs.Moved.{posted}
 use Rattle.dap_end.specs.Serving.{IsAfter, ServedOne, MayServe}
 use Rattle.dap_end.specs.Taking.{ServedInTurn, begins, goes}
 use Rattle.dap_end.specs.Done.{ServingValue, Past}
 use Rattle.dap_end.specs.Writing.{Behind, WroteMore}
 use Rattle.dap_end.specs.Moved.{sent_more}
-use Rattle.dap_end.specs.Taking.{ServedOn, serves}
+use Rattle.dap_end.specs.Taking.{HasRoom, serves}
 use Rattle.dap_end.specs.Calls.{WorkedOn, rests, serves_one, hands_over}
 use Rattle.dap_end.specs.Inner.Running.{Grew, ServedMore}
 use Rattle.dap_end.proofs.Afterwards.{posted_is, posted_past}
@@ -32,10 +33,7 @@ use Rattle.dap_end.specs.Turns.{DidAll, WentOn}
 use Rattle.std.specs.Result.{result_map_both}
 use Rattle.dap_end.specs.Pasts.{Still}
 use Rattle.dap_end.specs.Inner.ServingView.{with_port}
-use Rattle.nsp_link.specs.Cutting.{cut}
-use Rattle.nsp_link.specs.Limits.{most_segments}
-use Rattle.nsp_link.specs.Sending.{may_queue, queued_link}
-use Rattle.nsp_link.proofs.ForCallers.{may_queue_by, may_queue_parts}
+use Rattle.nsp_link.proofs.ForCallers.{bytes_queued, may_queue_parts}
 
 -- ---- Serving and handing over.
 
@@ -127,22 +125,19 @@ more_served old new n s =
 
 -- ---- One after another.
 
-pub on_more : (a b posted c : ServingValue) (count n : ℕ) → ServedInTurn a b → HandsOver b posted count → ServedOne posted c n → ServedInTurn a c
-on_more a b posted c count n begins p s = goes posted c count n p s begins
-on_more a b posted c count n (goes first mid k m q t on) p s = goes first mid k m q t (on_more mid b posted c count n on p s)
+pub on_more : (most : ℕ) (a b posted c : ServingValue) (count n : ℕ) → ServedInTurn most a b → HandsOver b posted count → HasRoom most b.port → ServedOne posted c n → ServedInTurn most a c
+on_more most a b posted c count n begins p room s = goes posted c count n p room s begins
+on_more most a b posted c count n (goes first mid k m q has t on) p room s = goes first mid k m q has t (on_more most mid b posted c count n on p room s)
 
-turn_grew : (a b : ServingValue) → ServedInTurn a b → ServedMore a b
-turn_grew a b begins = more_none a
-turn_grew a b (goes posted mid count n p s on) = more_trans a mid b (more_trans a posted mid (more_posted a posted count p) (more_served posted mid n s)) (turn_grew mid b on)
+pub turn_grew : (most : ℕ) (a b : ServingValue) → ServedInTurn most a b → ServedMore a b
+turn_grew most a b begins = more_none a
+turn_grew most a b (goes posted mid count n p room s on) = more_trans a mid b (more_trans a posted mid (more_posted a posted count p) (more_served posted mid n s)) (turn_grew most mid b on)
 
-pub on_grew : (a b : ServingValue) → ServedOn a b → ServedMore a b
-on_grew a b (inl on) = turn_grew a b on
-on_grew a b (inr u) = more_trans a u.0 b (turn_grew a u.0 u.2) (more_posted u.0 b u.1 u.3)
-
-pub all_grew : (a b : ServingValue) (r : Result (Unit {0}) EndFault) → DidAll serves a b r → ServedMore a b
-all_grew a b (Ok u) d = more_trans a d.0 b (on_grew a d.0 d.2) (more_posted d.0 b d.1 d.4)
-all_grew a b (Err (end_fault.Link f)) d = subst (ServedMore a) (sym d.2.0) (on_grew a d.0 d.1)
-all_grew a b (Err (end_fault.Read f)) d = absurd d.2
+pub all_grew : (most : ℕ) (a b : ServingValue) (r : Result (Unit {0}) EndFault) → DidAll (serves most) a b r → ServedMore a b
+all_grew most a b (Ok u) d = more_trans a d.0 b (turn_grew most a d.0 d.2) (more_posted d.0 b d.1 d.4)
+all_grew most a b (Err (end_fault.Link f)) (mid, on, inl (is, h)) = subst (ServedMore a) (sym is) (turn_grew most a mid on)
+all_grew most a b (Err (end_fault.Link f)) (mid, on, inr (want, room, p, may)) = more_trans a mid b (turn_grew most a mid on) (more_posted mid b p.0 p.1)
+all_grew most a b (Err (end_fault.Read f)) d = absurd d.2
 
 -- ---- Served and handed over, in any order.
 
@@ -157,18 +152,15 @@ one_served a b n s = serves_one b n s rests
 pub one_posted : (a b : ServingValue) (n : ℕ) → HandsOver a b n → WorkedOn a b
 one_posted a b n p = hands_over b n p rests
 
-turn_worked : (a b c : ServingValue) → ServedInTurn a b → WorkedOn b c → WorkedOn a c
-turn_worked a b c begins w = w
-turn_worked a b c (goes posted mid count n p s on) w = hands_over posted count p (serves_one mid n s (turn_worked mid b c on w))
+turn_worked : (most : ℕ) (a b c : ServingValue) → ServedInTurn most a b → WorkedOn b c → WorkedOn a c
+turn_worked most a b c begins w = w
+turn_worked most a b c (goes posted mid count n p room s on) w = hands_over posted count p (serves_one mid n s (turn_worked most mid b c on w))
 
-on_worked : (a b c : ServingValue) → ServedOn a b → WorkedOn b c → WorkedOn a c
-on_worked a b c (inl on) w = turn_worked a b c on w
-on_worked a b c (inr u) w = turn_worked a u.0 c u.2 (hands_over b u.1 u.3 w)
-
-pub all_worked : (a b : ServingValue) (r : Result (Unit {0}) EndFault) → DidAll serves a b r → WorkedOn a b
-all_worked a b (Ok u) d = on_worked a d.0 b d.2 (one_posted d.0 b d.1 d.4)
-all_worked a b (Err (end_fault.Link f)) d = subst (WorkedOn a) (sym d.2.0) (on_worked a d.0 d.0 d.1 rests)
-all_worked a b (Err (end_fault.Read f)) d = absurd d.2
+pub all_worked : (most : ℕ) (a b : ServingValue) (r : Result (Unit {0}) EndFault) → DidAll (serves most) a b r → WorkedOn a b
+all_worked most a b (Ok u) d = turn_worked most a d.0 b d.2 (one_posted d.0 b d.1 d.4)
+all_worked most a b (Err (end_fault.Link f)) (mid, on, inl (is, h)) = subst (WorkedOn a) (sym is) (turn_worked most a mid mid on rests)
+all_worked most a b (Err (end_fault.Link f)) (mid, on, inr (want, room, p, may)) = turn_worked most a mid b on (one_posted mid b p.0 p.1)
+all_worked most a b (Err (end_fault.Read f)) d = absurd d.2
 
 -- what was served on counts behind what the end did
 pub counted : (past : Past) (old new : ServingValue) → IsAfter past old → ServedMore old new → (given handed : List (List ℕ)) × (items : List Item)
@@ -196,18 +188,6 @@ none_waits v new n p = ap (λ (x : ServingValue). x.port.outbox) (posted_is v ne
 -- a link to which something was handed runs
 pub works_here : (old new : ServingValue) (n : ℕ) → HandsOver old new n → new.port.link.failed ≡ false
 works_here old new n p = ap (λ (v : ServingValue). v.port.link.failed) (posted_is old new n p) ∙ (may_queue_parts old.port.link old.port.outbox p.0).0
-
--- and nothing more may be handed to it too
-may_none : (v : LinkValue) (messages : List (List ℕ)) → IsTrue (may_queue v messages) → IsTrue (may_queue (queued_link v (cut v.setup.seg_size messages)) [])
-unfolding cut
-may_none v messages may =
-    let parts = may_queue_parts v messages may in
-    let few : v.acked + length v.queue + length (cut v.setup.seg_size messages) ≤ most_segments = parts.2 in
-    let still : v.acked + length (v.queue ++ cut v.setup.seg_size messages) + 0 ≤ most_segments = omega (arith, few, length-append v.queue (cut v.setup.seg_size messages)) in
-    may_queue_by (queued_link v (cut v.setup.seg_size messages)) [] parts.0 (none_short (queued_link v (cut v.setup.seg_size messages))) still
-
-pub may_more : (v new : ServingValue) (n : ℕ) → HandsOver v new n → IsTrue (may_queue new.port.link new.port.outbox)
-may_more v new n p = subst (λ (x : ServingValue). IsTrue (may_queue x.port.link x.port.outbox)) (sym (posted_is v new n p)) (may_none v.port.link v.port.outbox p.0)
 
 -- ---- How much is left to serve.
 
@@ -248,13 +228,31 @@ falls old new n s =
 -- ---- Writing.
 
 pub still_sent : (v : ServingValue) (n : ℕ) → Still IsAfter v (with_port v (sent_more v.port n))
-still_sent v n = λ past h. record { serving = h.serving; gone = h.gone; sends = record { queue = h.sends.queue; acked = h.sends.acked }; answers = h.answers; fit = h.fit }
+still_sent v n = λ past h. record { serving = h.serving; gone = h.gone; sends = record { queue = h.sends.queue; acked = h.sends.acked; part = h.sends.part }; answers = h.answers; fit = h.fit }
 
 pub still_by : (v : ServingValue) (port : PortValue) (n : ℕ) → port ≡ sent_more v.port n → Still IsAfter v (with_port v port)
 still_by v port n e = subst (λ (p : PortValue). Still IsAfter v (with_port v p)) (sym e) (still_sent v n)
 
 -- all was served, and then segments were written
-pub gone_by : (old served : ServingValue) (port : PortValue) (out all : List (List ℕ)) (r : Result (Unit {0}) LinkFault) → DidAll serves old served (Ok tt) → Behind out all (WroteMore served.port port) → OnOk r (may_send port.link ≡ false)
-    → IfErr r (λ f. (f ≡ fault.NoMemory) × IsTrue (may_send port.link)) → WentOn serves old (with_port served port) out all (result_map_both (λ done. done) end_fault.Link r)
-gone_by old served port out all (Ok u) d w full why = went_by serves old served (with_port served port) out all (Ok u) d refl w full why
-gone_by old served port out all (Err f) d w full why = went_by serves old served (with_port served port) out all (Err f) d refl w full why
+pub gone_by : (most : ℕ) (old served : ServingValue) (port : PortValue) (out all : List (List ℕ)) (r : Result (Unit {0}) LinkFault) → DidAll (serves most) old served (Ok tt) → Behind out all (WroteMore served.port port) → OnOk r (may_send port.link ≡ false)
+    → IfErr r (λ f. (f ≡ fault.NoMemory) × IsTrue (may_send port.link)) → WentOn (serves most) old (with_port served port) out all (result_map_both (λ done. done) end_fault.Link r)
+gone_by most old served port out all (Ok u) d w full why = went_by (serves most) old served (with_port served port) out all (Ok u) d refl w full why
+gone_by most old served port out all (Err f) d w full why = went_by (serves most) old served (with_port served port) out all (Err f) d refl w full why
+
+-- ---- How much waits.
+
+-- what is handed over waits still
+pub bytes_posted : (old new : ServingValue) (n : ℕ) → HandsOver old new n → 0 < old.port.link.setup.seg_size → bytes_waiting new.port ≡ bytes_waiting old.port
+bytes_posted old new n p pos =
+    let same = ap (λ (v : ServingValue). bytes_waiting v.port) (posted_is old new n p) in
+    let queued = bytes_queued old.port.link old.port.outbox pos in
+    omega (arith, same, queued)
+
+-- by the number that the link tells
+pub waiting_here : (told : ℕ) (link : LinkValue) (old new : ServingValue) (n : ℕ) → told ≡ waiting_bytes link → IsLink link → link ≡ new.port.link → HandsOver old new n → told ≡ bytes_waiting old.port
+waiting_here told link old new n value valid is p =
+    let sized : link.setup ≡ old.port.link.setup = ap (λ (l : LinkValue). l.setup) is ∙ ap (λ (v : ServingValue). v.port.link.setup) (posted_is old new n p) in
+    let pos : 0 < old.port.link.setup.seg_size = subst (λ (s : LinkSetup). 0 < s.seg_size) sized (omega (arith, valid.setup.0)) in
+    let queued = bytes_queued old.port.link old.port.outbox pos in
+    let here = ap (λ (l : LinkValue). waiting_bytes l) is ∙ ap (λ (v : ServingValue). waiting_bytes v.port.link) (posted_is old new n p) in
+    omega (arith, value, here, queued)

@@ -27,7 +27,7 @@ use Rattle.dap_end.specs.Writing.{Acknowledged, wants_ack, WroteAnswer, WroteMor
 use Rattle.dap_end.specs.Moved.{sent_more}
 use Rattle.dap_end.specs.Serving.{IsAfter, ServedOne}
 use Rattle.dap_end.specs.Done.{ServingValue, Past, answers_to, nothing_yet}
-use Rattle.dap_end.specs.Turns.{Answered, DidAll, EndOf, WroteThen, WentOn, TookIn, TookThen, Takes}
+use Rattle.dap_end.specs.Turns.{Answered, DidAll, WroteThen, WentOn, TookIn, TookThen, Takes}
 use Rattle.dap_end.specs.Taking.{serves}
 use Rattle.dap_end.specs.Calls.{WorkedOn, rests}
 use Rattle.dap_end.specs.Runs.{RunsBy}
@@ -113,7 +113,7 @@ Wrote = ServingValue × List Written
 
 -- an event of the end alone
 abbrev Stepping : (comes : LinkValue → List ℕ → Type 0) → ServingValue → EndEvent → ServingValue → List Written → Type 0
-Stepping comes old event new ws = EndStepped serves WorkedOn comes old event new ws
+Stepping comes old event new ws = EndStepped (Unit {0}) WorkedOn comes old event new ws
 
 step_end : (comes : LinkValue → List ℕ → Type 0) (old new : ServingValue) (event : EndEvent) (first : Files) (wrote ws : List Written) → Stepping comes old event new ws → Did first old wrote → Did first new (wrote ++ ws)
 step_end comes old new (Came bytes) first wrote ws t d =
@@ -165,17 +165,17 @@ some_peer size messages v bytes f =
     let same : size ≡ some_size size = omega (arith, f.4.positive) in
     subst (λ (n : ℕ). IsFromPeer n messages v bytes) same f
 
-pub stepped_by : {P : Type 0} (end : EndOf P) (does : EndValue P → EndValue P → Type 0) (here there : LinkValue → List ℕ → Type 0) (old new : EndValue P) (event : EndEvent) (ws : List Written) → ((v : LinkValue) (bytes : List ℕ) → here v bytes → there v bytes)
-    → EndStepped end does here old event new ws → EndStepped end does there old event new ws
-stepped_by end does here there old new (Came bytes) ws comes t = (t.0, t.1, t.2, t.3, t.4, t.5, comes old.port.link bytes t.6)
-stepped_by end does here there old new GoesOn ws comes t = t
-stepped_by end does here there old new (Repeats k) ws comes t = t
+pub stepped_by : {P : Type 0} (quiet : Type 0) (does : EndValue P → EndValue P → Type 0) (here there : LinkValue → List ℕ → Type 0) (old new : EndValue P) (event : EndEvent) (ws : List Written) → ((v : LinkValue) (bytes : List ℕ) → here v bytes → there v bytes)
+    → EndStepped quiet does here old event new ws → EndStepped quiet does there old event new ws
+stepped_by quiet does here there old new (Came bytes) ws comes t = (t.0, t.1, t.2, t.3, t.4, t.5, comes old.port.link bytes t.6)
+stepped_by quiet does here there old new GoesOn ws comes t = t
+stepped_by quiet does here there old new (Repeats k) ws comes t = t
 
 -- what comes in one way comes in another
 pub runs_where : (here there : LinkValue → List ℕ → Type 0) → ((v : LinkValue) (bytes : List ℕ) → here v bytes → there v bytes) → (events : List EndEvent) (old new : Wrote) → RunsBy (Stepped here) old events new → RunsBy (Stepped there) old events new
 runs_where here there comes [] old new r = r
 runs_where here there comes (event ∷ events) old new r =
-    (r.0, r.1, (stepped_by serves WorkedOn here there old.0 r.0.0 event r.1 comes r.2.0, r.2.1), runs_where here there comes events r.0 new r.3)
+    (r.0, r.1, (stepped_by (Unit {0}) WorkedOn here there old.0 r.0.0 event r.1 comes r.2.0, r.2.1), runs_where here there comes events r.0 new r.3)
 
 went_hears : (old served new : ServingValue) (sent size : ℕ) (messages : List (List ℕ)) (first : Files) → WorkedOn old served → new ≡ with_port served (sent_more served.port sent) → Hears size messages first old
     → Hears size messages first new
@@ -263,8 +263,8 @@ module _ (comes : LinkValue → List ℕ → Type 0) where
   pub serving_is : (old new : ServingValue) (n : ℕ) → ServedOne old new n → RunsAs comes old new []
   serving_is old new n s = one_event old new GoesOn [] (served_only old new (one_served old new n s))
 
-  pub serving_all_is : (old new : ServingValue) (r : Result (Unit {0}) EndFault) → DidAll serves old new r → RunsAs comes old new []
-  serving_all_is old new r s = one_event old new GoesOn [] (served_only old new (all_worked old new r s))
+  pub serving_all_is : (most : ℕ) (old new : ServingValue) (r : Result (Unit {0}) EndFault) → DidAll (serves most) old new r → RunsAs comes old new []
+  serving_all_is most old new r s = one_event old new GoesOn [] (served_only old new (all_worked most old new r s))
 
   pub posting_is : (old new : ServingValue) (n : ℕ) → HandsOver old new n → RunsAs comes old new []
   posting_is old new n p = one_event old new GoesOn [] (served_only old new (one_posted old new n p))
@@ -322,25 +322,25 @@ module _ (comes : LinkValue → List ℕ → Type 0) where
         is ∙ ap (λ (l : List (List ℕ)). out ++ l) (ack.1 ∙ ap (λ (l : List (List ℕ)). l ++ ack.0 ∷ []) (sym (numbered_bytes _ _ written)) ∙ sym (bytes_append first (last ∷ []))),
       )
 
-  whole_is : (old new : ServingValue) (got : Got) (out all : List (List ℕ)) → WroteThen serves (λ p q. WroteAnswer p q got) old new out all → AreCalls old new out all
-  whole_is old new got out all w =
-      let (packets, is, a) = w.wrote in answered_is old w.mid new out all packets a.0 (wants_ack got (length a.0)) (all_worked old w.mid (Ok tt) w.done) w.rest a.1 is a.3
+  whole_is : (most : ℕ) (old new : ServingValue) (got : Got) (out all : List (List ℕ)) → WroteThen (serves most) (λ p q. WroteAnswer p q got) old new out all → AreCalls old new out all
+  whole_is most old new got out all w =
+      let (packets, is, a) = w.wrote in answered_is old w.mid new out all packets a.0 (wants_ack got (length a.0)) (all_worked most old w.mid (Ok tt) w.done) w.rest a.1 is a.3
 
-  answer_is : (old new : ServingValue) (got : Got) (out all : List (List ℕ)) (r : Result (Unit {0}) EndFault) → Answered serves old new got out all r → AreCalls old new out all
-  answer_is old new got out all (Ok done) w = whole_is old new got out all w
-  answer_is old new got out all (Err f) (inl h) =
-      ([], one_event comes old new GoesOn [] (served_only comes old new (all_worked old new (Err f) h.0)), h.1 ∙ sym (append-nil out))
-  answer_is old new got out all (Err f) (inr h) =
+  answer_is : (most : ℕ) (old new : ServingValue) (got : Got) (out all : List (List ℕ)) (r : Result (Unit {0}) EndFault) → Answered (serves most) old new got out all r → AreCalls old new out all
+  answer_is most old new got out all (Ok done) w = whole_is most old new got out all w
+  answer_is most old new got out all (Err f) (inl h) =
+      ([], one_event comes old new GoesOn [] (served_only comes old new (all_worked most old new (Err f) h.0)), h.1 ∙ sym (append-nil out))
+  answer_is most old new got out all (Err f) (inr h) =
       let w = h.1 in
-      (_, one_event comes old new GoesOn _ (w.mid, w.wrote.0, all_worked old w.mid (Ok tt) w.done, w.wrote.2.0, w.rest, refl), behind out all w.wrote.0 _ _ w.wrote.1)
+      (_, one_event comes old new GoesOn _ (w.mid, w.wrote.0, all_worked most old w.mid (Ok tt) w.done, w.wrote.2.0, w.rest, refl), behind out all w.wrote.0 _ _ w.wrote.1)
 
-  pub going_on_is : (old new : ServingValue) (out all : List (List ℕ)) (r : Result (Unit {0}) EndFault) → WentOn serves old new out all r → AreCalls old new out all
-  going_on_is old new out all r w = answer_is old new AckOnly out all r w
+  pub going_on_is : (most : ℕ) (old new : ServingValue) (out all : List (List ℕ)) (r : Result (Unit {0}) EndFault) → WentOn (serves most) old new out all r → AreCalls old new out all
+  going_on_is most old new out all r w = answer_is most old new AckOnly out all r w
 
-  then_is : (old new : ServingValue) (bytes : List ℕ) (got : Got) (out all : List (List ℕ)) (r : Result (Unit {0}) EndFault) → comes old.port.link bytes → TookThen serves old new bytes got out all r → AreCalls old new out all
-  then_is old new bytes got out all r h (mid, t, a) = took_by old mid new bytes out all (came comes old mid bytes (Ok got) h t) (answer_is mid new got out all r a)
+  then_is : (most : ℕ) (old new : ServingValue) (bytes : List ℕ) (got : Got) (out all : List (List ℕ)) (r : Result (Unit {0}) EndFault) → comes old.port.link bytes → TookThen (serves most) old new bytes got out all r → AreCalls old new out all
+  then_is most old new bytes got out all r h (mid, t, a) = took_by old mid new bytes out all (came comes old mid bytes (Ok got) h t) (answer_is most mid new got out all r a)
 
-  pub taken_is : (old new : ServingValue) (bytes : List ℕ) (out all : List (List ℕ)) (r : Result Got TakeFault) → comes old.port.link bytes → Takes serves old new bytes out all r → AreCalls old new out all
-  taken_is old new bytes out all (Ok got) h t = then_is old new bytes got out all (Ok tt) h t
-  taken_is old new bytes out all (Err (take_fault.Refused f)) h t = ([], receiving_is comes old new bytes (Err f) h t.0, t.1 ∙ sym (append-nil out))
-  taken_is old new bytes out all (Err (take_fault.Unfinished got f)) h t = then_is old new bytes got out all (Err f) h t
+  pub taken_is : (most : ℕ) (old new : ServingValue) (bytes : List ℕ) (out all : List (List ℕ)) (r : Result Got TakeFault) → comes old.port.link bytes → Takes (serves most) old new bytes out all r → AreCalls old new out all
+  taken_is most old new bytes out all (Ok got) h t = then_is most old new bytes got out all (Ok tt) h t
+  taken_is most old new bytes out all (Err (take_fault.Refused f)) h t = ([], receiving_is comes old new bytes (Err f) h t.0, t.1 ∙ sym (append-nil out))
+  taken_is most old new bytes out all (Err (take_fault.Unfinished got f)) h t = then_is most old new bytes got out all (Err f) h t

@@ -86,7 +86,7 @@ module _ (old : ServingValue) (bytes : List ℕ) (later : List (List ℕ)) (inbo
       record {
         serving = serves.stands past.first past.items h.serving;
         gone = port_gone old.port bytes later s.next past.given past.items serves.item fits inbox h.gone serves.reads within;
-        sends = record { queue = h.sends.queue; acked = h.sends.acked };
+        sends = record { queue = h.sends.queue; acked = h.sends.acked; part = h.sends.part };
         answers =
             ap (λ (l : List (List ℕ)). past.handed ++ l)
             (serves.answers past.first past.items h.serving ∙ ap (λ (n : ℕ). all_joined (Blocked n (added old.present.own past.first past.items serves.item))) limit)

@@ -12,10 +12,8 @@ use Rattle.dap_end.specs.Moved.{with_link}
 use Rattle.dap_end.specs.Done.{ServingValue, AskingValue}
 use Rattle.dap_end.specs.Serving.{ServedOne}
 use Rattle.dap_end.specs.Asking.{AskedOne}
-use Rattle.dap_end.specs.Hearing.{ReadOn, asks}
+use Rattle.dap_end.specs.Hearing.{ReadOn}
 use Rattle.dap_end.specs.Writing.{Behind, WroteMore}
-use Rattle.dap_end.specs.Turns.{EndOf}
-use Rattle.dap_end.specs.Taking.{serves}
 use Rattle.dap_end.specs.Runs.{RunsBy}
 use Rattle.dap_end.specs.Headline.{Arrival, Written}
 use Rattle.dap_end.specs.Joined.{Pair, IsBrought}
@@ -40,17 +38,17 @@ pub data EndEvent : Type 0 where
 
 -- what each leaves of either end, and the packets that it writes, where the end does so by itself before it writes, and such
 -- bytes may come to its link
-abbrev pub EndStepped : {P : Type 0} → EndOf P → (does : EndValue P → EndValue P → Type 0) → (comes : LinkValue → List ℕ → Type 0) → (old : EndValue P) → EndEvent → (new : EndValue P) → List Written → Type 0
-EndStepped end does comes old (Came bytes) new wrote =
+abbrev pub EndStepped : {P : Type 0} → (quiet : Type 0) → (does : EndValue P → EndValue P → Type 0) → (comes : LinkValue → List ℕ → Type 0) → (old : EndValue P) → EndEvent → (new : EndValue P) → List Written → Type 0
+EndStepped quiet does comes old (Came bytes) new wrote =
     (result : Result Got LinkFault) × (link : LinkValue) × Receives old.port.link link bytes result
-    × (new ≡ record old { port = with_link old.port link }) × (wrote ≡ []) × end.quiet × comes old.port.link bytes
-EndStepped {P} end does comes old GoesOn new wrote =
+    × (new ≡ record old { port = with_link old.port link }) × (wrote ≡ []) × quiet × comes old.port.link bytes
+EndStepped {P} quiet does comes old GoesOn new wrote =
     (mid : EndValue P) × (packets : List (List ℕ)) × does old mid × WroteMore mid.port new.port packets × (new ≡ record mid { port = new.port })
     × (wrote ≡ numbered (mid.port.link.sent + 1) mid.port.link.coming.received packets)
-EndStepped end does comes old (Repeats k) new wrote =
+EndStepped quiet does comes old (Repeats k) new wrote =
     let v = old.port.link in
     (w : Written) × IfSome k (λ i. i < v.sent - v.acked) × WroteOne v (option_map (λ i. v.acked + 1 + i) k) w
-    × (new ≡ old) × (wrote ≡ w ∷ []) × end.quiet
+    × (new ≡ old) × (wrote ≡ w ∷ []) × quiet
 
 -- these bytes came to this link
 abbrev pub IsOneOf : List Arrival → LinkValue → List ℕ → Type 0
@@ -67,7 +65,7 @@ pub data WorkedOn : ServingValue → ServingValue → Type 0 where
 
 -- the end, with its packets so far: those of the event stand behind them
 abbrev pub Stepped : (comes : LinkValue → List ℕ → Type 0) → ServingValue × List Written → EndEvent → List Written → ServingValue × List Written → Type 0
-Stepped comes old event more new = EndStepped serves WorkedOn comes old.0 event new.0 more × (new.1 ≡ old.1 ++ more)
+Stepped comes old event more new = EndStepped (Unit {0}) WorkedOn comes old.0 event new.0 more × (new.1 ≡ old.1 ++ more)
 
 -- one after another
 abbrev pub EventRuns : (comes : LinkValue → List ℕ → Type 0) → ServingValue → List EndEvent → ServingValue → List Written → Type 0
@@ -95,7 +93,7 @@ HeardMore before after old new = (heard : AskingValue) × Behind before after (R
 abbrev pub AskingStepped : (comes : LinkValue → List ℕ → Type 0) → AskingValue × List Report × List Written → AskingEvent → List Written → AskingValue × List Report × List Written → Type 0
 AskingStepped comes old (Asks request) more new = (n : ℕ) × AskedOne request old.0 new.0 n × (more ≡ []) × (new.1 ≡ old.1) × (new.2 ≡ old.2)
 AskingStepped comes old (By event) more new =
-    EndStepped (asks old.1 new.1) (HeardMore old.1 new.1) comes old.0 event new.0 more × (new.2 ≡ old.2 ++ more)
+    EndStepped (new.1 ≡ old.1) (HeardMore old.1 new.1) comes old.0 event new.0 more × (new.2 ≡ old.2 ++ more)
 
 -- one after another
 abbrev pub AskingEventRuns : (comes : LinkValue → List ℕ → Type 0) → AskingValue → List AskingEvent → AskingValue → List Report → List Written → Type 0

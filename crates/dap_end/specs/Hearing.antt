@@ -26,7 +26,12 @@ HearFault old new (end_fault.Read f) = ReadNone old new f
 -- the reports stand behind those that were there
 abbrev pub asks : (before reports : List Report) → EndOf Present
 asks before reports =
-    record { on = λ old new. Behind before reports (ReadOn old new); halts = HearFault; quiet = reports ≡ before }
+    record {
+      on = λ old new. Behind before reports (ReadOn old new);
+      rests = λ v. v.port.link.coming.inbox ≡ [];
+      halts = HearFault;
+      quiet = reports ≡ before;
+    }
 
 -- what reading all comes to
 abbrev pub ReadsAll : (old new : AskingValue) → (before reports : List Report) → Result (Unit {0}) ReadFault → Type 0

@@ -1,9 +1,9 @@
 -- One end of a link, the NSP messages that wait to be handed to it, and how far the oldest one that came was gone
 -- through.
-use Rattle.std.specs.Prelude.{◌≡◌, ◌⊎◌, ℕ, ◌<◌, ◌==◌, if◌then◌else◌, List, [], length, IsTrue}
-use Rattle.nsp_link.specs.Cutting.{cut}
+use Rattle.std.specs.Prelude.{◌≡◌, ◌⊎◌, ℕ, ◌<◌, ◌+◌, ◌==◌, if◌then◌else◌, List, [], length, IsTrue}
+use Rattle.nsp_link.specs.Cutting.{cut, total_length}
 use Rattle.nsp_link.specs.declared.link.LinkSetup.{LinkSetup}
-use Rattle.nsp_link.specs.Link.{LinkValue, new_link, with_inbox}
+use Rattle.nsp_link.specs.Link.{LinkValue, new_link, with_inbox, waiting_bytes}
 use Rattle.nsp_link.specs.Sending.{may_queue, queued_link}
 
 pub record PortValue : Type 0 where
@@ -15,6 +15,11 @@ pub record PortValue : Type 0 where
 pub record EndValue (P : Type 0) : Type 0 where
   pub port : PortValue
   pub present : P
+
+-- how many bytes wait: those of the NSP messages that wait here, and of those that the link has, the whole message until its last
+-- segment is acknowledged
+abbrev pub bytes_waiting : PortValue → ℕ
+bytes_waiting p = waiting_bytes p.link + total_length p.outbox
 
 abbrev pub new_port : LinkSetup → PortValue
 new_port setup = record { link = new_link setup; outbox = []; place = 0 }

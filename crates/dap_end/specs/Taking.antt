@@ -1,31 +1,45 @@
 -- Taking a packet in, and doing at once all that it lets the end that serves do.
-use Rattle.std.specs.Prelude.{◌≡◌, ◌⊎◌, ℕ, IsTrue}
+use Rattle.std.specs.Prelude.{◌≡◌, ◌⊎◌, ℕ, ◌+◌, ◌<◌, ◌≤◌, []}
 use Rattle.nsp_link.specs.declared.fault.LinkFault.TheVariants as fault
-use Rattle.nsp_link.specs.Sending.{SendAllFault, may_queue}
+use Rattle.nsp_link.specs.Cutting.{total_length}
+use Rattle.nsp_link.specs.Sending.{SendAllFault}
 use Rattle.dap_end.specs.declared.fault.EndFault.{EndFault}
 use Rattle.dap_end.specs.declared.fault.EndFault.TheVariants as end_fault
 use Rattle.dap_end.specs.Turns.{EndOf}
 use Rattle.dap_accessed.specs.Present.{Present}
-use Rattle.dap_end.specs.Ports.{HandsOver}
+use Rattle.dap_end.specs.Ports.{PortValue, HandsOver, bytes_waiting}
 use Rattle.dap_end.specs.Serving.{MayServe, ServedOne}
 use Rattle.dap_end.specs.Done.{ServingValue}
 
--- What waited was handed over, and the next item was served; and so on.
-pub data ServedInTurn : ServingValue → ServingValue → Type 0 where
-  begins : {v : ServingValue} → ServedInTurn v v
+-- fewer bytes wait than this
+abbrev pub HasRoom : (most : ℕ) → PortValue → Type 0
+HasRoom most p = bytes_waiting p < most
+
+-- While fewer bytes wait than this, what waits is handed over, and the next item is served; and so on.
+pub data ServedInTurn (most : ℕ) : ServingValue → ServingValue → Type 0 where
+  begins : {v : ServingValue} → ServedInTurn most v v
   goes : {old new : ServingValue} (posted mid : ServingValue) (count n : ℕ)
-      → HandsOver old posted count → ServedOne posted mid n → ServedInTurn mid new → ServedInTurn old new
+      → HandsOver old posted count → HasRoom most old.port → ServedOne posted mid n → ServedInTurn most mid new → ServedInTurn most old new
 
--- and what waits was handed over last, or it wasn't
-abbrev pub ServedOn : ServingValue → ServingValue → Type 0
-ServedOn old new = ServedInTurn old new ⊎ ((last : ServingValue) × (n : ℕ) × ServedInTurn old last × HandsOver last new n)
+-- nothing that came is left, or as many bytes wait as may
+abbrev pub RestsAt : (most : ℕ) → ServingValue → Type 0
+RestsAt most v = (v.port.link.coming.inbox ≡ []) ⊎ (most ≤ bytes_waiting v.port)
 
--- why nothing is handed over or served here: what waits is refused; or it isn't, but memory to serve the next item
-abbrev pub ServeFault : (old new : ServingValue) → EndFault → Type 0
-ServeFault old new (end_fault.Link f) =
-    (new ≡ old) × (SendAllFault old.port.link old.port.outbox f
-    ⊎ ((f ≡ fault.NoMemory) × IsTrue (may_queue old.port.link old.port.outbox) × MayServe old))
-ServeFault old new (end_fault.Read f) = ⊥
+-- why no more is served: what waits is refused; or it is handed over, and then memory to serve the next item is refused
+abbrev pub ServeFault : (most : ℕ) → (old new : ServingValue) → EndFault → Type 0
+ServeFault most old new (end_fault.Link f) =
+    ((new ≡ old) × SendAllFault old.port.link old.port.outbox f)
+    ⊎ ((f ≡ fault.NoMemory) × HasRoom most old.port × ((n : ℕ) × HandsOver old new n) × MayServe new)
+ServeFault most old new (end_fault.Read f) = ⊥
 
-abbrev pub serves : EndOf Present
-serves = record { on = ServedOn; halts = ServeFault; quiet = Unit {0} }
+-- the end that serves, while fewer bytes wait than this
+abbrev pub serves : (most : ℕ) → EndOf Present
+serves most = record { on = ServedInTurn most; rests = RestsAt most; halts = ServeFault most; quiet = Unit {0} }
+
+-- From an end that came to this one, it served on; and no more bytes wait than before, or fewer than it may serve at and the
+-- answers to one item that was served meanwhile.
+abbrev pub IsBounded : (most : ℕ) → (old first new : ServingValue) → Type 0
+IsBounded most old first new =
+    (bytes_waiting new.port ≤ bytes_waiting old.port)
+    ⊎ ((last posted mid : ServingValue) × (count n : ℕ) × ServedInTurn most first last × HandsOver last posted count × ServedOne posted mid n
+    × (bytes_waiting new.port < most + total_length mid.port.outbox))

@@ -1,5 +1,5 @@
 -- What both ends do alike: they go on, or take a packet in and go on; and each then writes.
-use Rattle.std.specs.Prelude.{◌≡◌, ◌⊎◌, ℕ, List, [], Result, Ok, Err}
+use Rattle.std.specs.Prelude.{◌≡◌, ◌⊎◌, ℕ, List, Result, Ok, Err}
 use Rattle.nsp_link.specs.declared.link.Got.{Got}
 use Rattle.nsp_link.specs.declared.link.Got.TheVariants.{AckOnly}
 use Rattle.nsp_link.specs.declared.fault.LinkFault.{LinkFault}
@@ -15,13 +15,15 @@ use Rattle.dap_end.specs.Writing.{Behind, WroteAnswer, WrotePart}
 -- One of the two ends.
 pub record EndOf (P : Type 0) : Type 1 where
   pub on : EndValue P → EndValue P → Type 0  -- some of what came was gone through
+  pub rests : EndValue P → Type 0  -- nothing is left to go through here
   pub halts : EndValue P → EndValue P → EndFault → Type 0  -- why the first end goes on no further, and what it is then
   pub quiet : Type 0  -- nothing is told
 
--- All that came was gone through, and then what waits was handed over; or some was, and this is why no more.
+-- What came was gone through until nothing was left to go through, and then what waits was handed over; or some was, and this
+-- is why no more.
 abbrev pub DidAll : {P : Type 0} → EndOf P → (old new : EndValue P) → Result (Unit {0}) EndFault → Type 0
 DidAll {P} end old new (Ok done) =
-    (mid : EndValue P) × (n : ℕ) × end.on old mid × (mid.port.link.coming.inbox ≡ []) × HandsOver mid new n
+    (mid : EndValue P) × (n : ℕ) × end.on old mid × end.rests mid × HandsOver mid new n
 DidAll {P} end old new (Err f) = (mid : EndValue P) × end.on old mid × end.halts mid new f
 
 -- All was done, and then only packets were written, behind those that were there.

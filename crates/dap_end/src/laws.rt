@@ -34,7 +34,7 @@ ghost use Rattle.dap_end.specs.Serving.{IsAfter, ServedOne};
 ghost use Rattle.dap_end.specs.Done.{ServingValue, Past, answers_to, nothing_yet};
 ghost use Rattle.dap_end.specs.Writing.{WroteMore};
 ghost use Rattle.dap_end.specs.Turns.{DidAll, WentOn, TookIn, Takes};
-ghost use Rattle.dap_end.specs.Taking.{ServedOn, serves};
+ghost use Rattle.dap_end.specs.Taking.{IsBounded, ServedInTurn, serves};
 ghost use Rattle.dap_end.specs.Wanting.{is_want, why};
 ghost use Rattle.dap_end.specs.Hearing.{ReadOn, ReadsAll, asks};
 ghost use Rattle.dap_end.specs.Asking.{HasAsked, HasDone, AskedOne, ReadNone, ReadOne};
@@ -63,14 +63,14 @@ pub fn serving_ends_stand()
         → IsAfter (record past { handed = past.handed ++ old.port.outbox }) new }
     // What was served on counts behind that, and so does what was handed over. Of the link only what came and what is queued
     // moved.
-    ensures served_on { (past : Past) (old new : ServingValue) → IsAfter past old
-        → ServedOn old new → (given handed : List (List ℕ)) × (items : List Item)
+    ensures served_on { (most : ℕ) (past : Past) (old new : ServingValue) → IsAfter past old
+        → ServedInTurn most old new → (given handed : List (List ℕ)) × (items : List Item)
         × IsAfter (record past {
           given = given;
           items = past.items ++ items;
           handed = past.handed ++ handed;
         }) new × (given ++ new.port.link.coming.inbox ≡ past.given ++ old.port.link.coming.inbox) }
-    ensures rest { (old new : ServingValue) → ServedOn old new
+    ensures rest { (most : ℕ) (old new : ServingValue) → ServedInTurn most old new
         → (new.present.own ≡ old.present.own)
         × (new.port.link ≡ record (with_inbox old.port.link new.port.link.coming.inbox) {
           queue = new.port.link.queue;
@@ -124,8 +124,8 @@ pub fn calls_are_runs()
     ensures receive { (old new : ServingValue) (bytes : List ℕ) (r : Result TheGot TheFault)
         → TookIn old new bytes r → Runs ((old.port.link, bytes) ∷ []) old new [] }
     ensures serve { (old new : ServingValue) (n : ℕ) → ServedOne old new n → Runs [] old new [] }
-    ensures serve_all { (old new : ServingValue) (r : Result (Unit {0}) TheEndFault)
-        → DidAll serves old new r → Runs [] old new [] }
+    ensures serve_all { (most : ℕ) (old new : ServingValue) (r : Result (Unit {0}) TheEndFault)
+        → DidAll (serves most) old new r → Runs [] old new [] }
     ensures post { (old new : ServingValue) (n : ℕ) → HandsOver old new n → Runs [] old new [] }
     ensures emit { (old new : ServingValue) (bytes : List ℕ) → new ≡ record old { port = new.port }
         → WroteMore old.port new.port (bytes ∷ []) → Runs [] old new (record {
@@ -147,11 +147,11 @@ pub fn calls_are_runs()
           segment = None;
           acks = v.port.link.coming.received;
         } ∷ []) }
-    ensures go_on { (old new : ServingValue) (out all : List (List ℕ))
-        (r : Result (Unit {0}) TheEndFault) → WentOn serves old new out all r
+    ensures go_on { (most : ℕ) (old new : ServingValue) (out all : List (List ℕ))
+        (r : Result (Unit {0}) TheEndFault) → WentOn (serves most) old new out all r
         → (wrote : List Written) × Runs [] old new wrote × (all ≡ out ++ bytes_of wrote) }
-    ensures take { (old new : ServingValue) (bytes : List ℕ) (out all : List (List ℕ))
-        (r : Result TheGot TheTakeFault) → Takes serves old new bytes out all r
+    ensures take { (most : ℕ) (old new : ServingValue) (bytes : List ℕ) (out all : List (List ℕ))
+        (r : Result TheGot TheTakeFault) → Takes (serves most) old new bytes out all r
         → (wrote : List Written) × Runs ((old.port.link, bytes) ∷ []) old new wrote
         × (all ≡ out ++ bytes_of wrote) }
 {}
@@ -238,14 +238,33 @@ pub fn a_peer_is_served_in_order()
 pub fn serving_is_determined()
     ensures serve { (past : Past) (old one two : ServingValue) (n m : ℕ) → IsAfter past old
         → ServedOne old one n → ServedOne old two m → (one ≡ two) × (n ≡ m) }
-    ensures serve_all { (past : Past) (old one two : ServingValue)
+    ensures serve_all { (most : ℕ) (past : Past) (old one two : ServingValue)
         (r s : Result (Unit {0}) TheEndFault) → IsAfter past old
         → IfErr r (λ f. is_want f ≡ false) → IfErr s (λ f. is_want f ≡ false)
-        → DidAll serves old one r → DidAll serves old two s → (one ≡ two) × (r ≡ s) }
-    ensures go_on { (past : Past) (old one two : ServingValue) (out xs ys : List (List ℕ))
+        → DidAll (serves most) old one r → DidAll (serves most) old two s
+        → (one ≡ two) × (r ≡ s) }
+    ensures go_on { (most : ℕ) (past : Past) (old one two : ServingValue) (out xs ys : List (List ℕ))
         (r s : Result (Unit {0}) TheEndFault) → IsAfter past old → IfErr r (λ f. is_want f ≡ false)
-        → IfErr s (λ f. is_want f ≡ false) → WentOn serves old one out xs r
-        → WentOn serves old two out ys s → (one ≡ two) × (r ≡ s) × (xs ≡ ys) }
+        → IfErr s (λ f. is_want f ≡ false) → WentOn (serves most) old one out xs r
+        → WentOn (serves most) old two out ys s → (one ≡ two) × (r ≡ s) × (xs ≡ ys) }
+{}
+
+/// Once an end that serves has gone on, or has taken a packet and gone on, no more bytes wait than before, or fewer than it was
+/// told and the answers to one message; and where it was told more than none, and all that it sent is acknowledged, it has
+/// served all that came. Own.
+pub fn answers_are_bounded()
+    ensures go_on { (most : ℕ) (old new : ServingValue) (out all : List (List ℕ))
+        (r : Result (Unit {0}) TheEndFault) → 0 < old.port.link.setup.seg_size
+        → WentOn (serves most) old new out all r → IsBounded most old old new }
+    ensures take { (most : ℕ) (old new : ServingValue) (bytes : List ℕ) (out all : List (List ℕ))
+        (r : Result TheGot TheTakeFault) → 0 < old.port.link.setup.seg_size
+        → Takes (serves most) old new bytes out all r
+        → (first : ServingValue) × (q : Result TheGot TheFault) × TookIn old first bytes q
+        × IsBounded most old first new }
+    ensures nothing_left { (most : ℕ) (past : Past) (old new : ServingValue) (out all : List (List ℕ))
+        → 0 < most → 0 < old.port.link.setup.seg_size → 0 < new.port.link.setup.window
+        → IsAfter past new → WentOn (serves most) old new out all (Ok tt)
+        → new.port.link.sent ≡ new.port.link.acked → new.port.link.coming.inbox ≡ [] }
 {}
 
 /// A request that is asked, an answer that is read, and whatever an end that asks does by itself leave one end, one list of
@@ -271,11 +290,11 @@ pub fn asking_is_determined()
 /// A packet that is taken in leaves one end, and is answered by one list of packets, and of reports, by what the end did
 /// before; so is one that is refused, or of which not all is done, but for want of memory. Own.
 pub fn taking_is_determined()
-    ensures serving { (past : Past) (old one two : ServingValue) (bytes : List ℕ)
+    ensures serving { (most : ℕ) (past : Past) (old one two : ServingValue) (bytes : List ℕ)
         (out xs ys : List (List ℕ)) (r s : Result TheGot TheTakeFault) → AreBytes bytes
         → IsAfter past old → IfErr r (λ f. is_want (why f) ≡ false)
         → IfErr s (λ f. is_want (why f) ≡ false)
-        → Takes serves old one bytes out xs r → Takes serves old two bytes out ys s
+        → Takes (serves most) old one bytes out xs r → Takes (serves most) old two bytes out ys s
         → (one ≡ two) × (r ≡ s) × (xs ≡ ys) }
     ensures asking { (old one two : AskingValue) (bytes : List ℕ)
         (out xs ys : List (List ℕ)) (before rs ss : List TheReport)

@@ -11,10 +11,10 @@ mod serving;
 pub use asking::{AskingEnd, Heard};
 pub use fault::{EndFault, TakeFault};
 pub use laws::{
-    a_peer_is_heard_in_order, a_peer_is_served_in_order, asking_calls_are_runs, asking_ends_stand,
-    asking_is_determined, calls_are_runs, ends_are_one, every_run_is_served, every_run_is_told,
-    no_answer_is_unexpected, packets_are_determined, peers_are_taken_in, posting_is_determined,
-    runs_of_two_ends, serving_ends_stand, serving_is_determined, taking_is_determined,
-    two_ends_keep_the_headline,
+    a_peer_is_heard_in_order, a_peer_is_served_in_order, answers_are_bounded,
+    asking_calls_are_runs, asking_ends_stand, asking_is_determined, calls_are_runs, ends_are_one,
+    every_run_is_served, every_run_is_told, no_answer_is_unexpected, packets_are_determined,
+    peers_are_taken_in, posting_is_determined, runs_of_two_ends, serving_ends_stand,
+    serving_is_determined, taking_is_determined, two_ends_keep_the_headline,
 };
 pub use serving::ServingEnd;

@@ -18,7 +18,7 @@ ghost use Rattle.nsp_link.specs.Receiving.{Receives};
 ghost use Rattle.dap_end.specs.Writing.{WroteMore};
 ghost use Rattle.dap_end.specs.Serving.{IsAfter, NotGiven, MayServe, ServedOne};
 ghost use Rattle.dap_end.specs.Done.{Past, nothing_yet};
-ghost use Rattle.dap_end.specs.Taking.{serves};
+ghost use Rattle.dap_end.specs.Taking.{RestsAt, serves};
 ghost use Rattle.dap_end.specs.Turns.{Answered, DidAll, Takes, WentOn};
 ghost use Rattle.dap_end.specs.Inner.Answered.{ended_by};
 ghost use Rattle.dap_end.specs.declared.fault.EndFault.TheVariants as end_fault;
@@ -223,54 +223,67 @@ impl ServingEnd {
         self.port.write_next()
     }
 
-    /// Serves all that came, and hands each group of answers to the link (own). Refused as `post` and `serve` are. What
-    /// was served and handed over before that stays so, and the same call goes on.
-    pub fn serve_all(&mut self) -> Result<(), LinkFault>
-        ensures ok { OnOk result (DidAll serves self.old self.new (Ok tt)) }
+    /// Serves what came, message by message, while fewer than `most_waiting` bytes wait, and hands each group of answers to
+    /// the link (own). The bytes that wait are those of the NSP messages that were not handed over and of those that the link
+    /// has, the whole message until its last segment is acknowledged. Refused as `post` and `serve` are. What was served and
+    /// handed over before that stays so, and the same call goes on.
+    pub fn serve_all(&mut self, most_waiting: u64) -> Result<(), LinkFault>
+        ensures ok { OnOk result (DidAll (serves most_waiting) self.old self.new (Ok tt)) }
         // What follows from it, for callers.
-        ensures all { OnOk result (self.new.port.link.coming.inbox ≡ []) }
+        ensures rests { OnOk result (RestsAt most_waiting self.new) }
         ensures idle { OnOk result (self.new.port.outbox ≡ []) }
         ensures works { OnOk result (self.new.port.link.failed ≡ false) }
-        ensures err { IfErr result (λ f. DidAll serves self.old self.new (Err (end_fault.Link f))) }
+        ensures err { IfErr result
+            (λ f. DidAll (serves most_waiting) self.old self.new (Err (end_fault.Link f))) }
     {
         'messages: loop {
             match self.post() {
-                Ok(_) => match self.serve() {
-                    Ok(None) => return Ok(()),
-                    Ok(Some(_)) => {}
-                    Err(_) => return Err(LinkFault::NoMemory),
-                },
+                Ok(_) => {
+                    if self.link().waiting_bytes() >= most_waiting {
+                        return Ok(());
+                    }
+                    match self.serve() {
+                        Ok(None) => return Ok(()),
+                        Ok(Some(_)) => {}
+                        Err(_) => return Err(LinkFault::NoMemory),
+                    }
+                }
                 Err(fault) => return Err(fault),
             }
         }
     }
 
-    /// Serves all that came, hands each group of answers to the link, and writes all segments that were never sent, as far
-    /// as the window allows, behind the packets in `out` (own). Refused as `post` is, or for want of memory. What was done
-    /// before that stays done, and the same call goes on.
-    pub fn go_on(&mut self, out: &mut Vec<Vec<u8>>) -> Result<(), LinkFault>
-        ensures went { WentOn serves self.old self.new (bodies out.old.items) (bodies out.new.items)
-            (result_map_both (λ done. done) end_fault.Link result) }
+    /// Serves what came while fewer than `most_waiting` bytes wait, hands each group of answers to the link, and writes all
+    /// segments that were never sent, as far as the window allows, after the packets in `out` (own). Refused as `post` is, or
+    /// out of memory. What was done before that stays done, and the same call goes on.
+    pub fn go_on(&mut self, most_waiting: u64, out: &mut Vec<Vec<u8>>) -> Result<(), LinkFault>
+        ensures went { WentOn (serves most_waiting) self.old self.new (bodies out.old.items)
+            (bodies out.new.items) (result_map_both (λ done. done) end_fault.Link result) }
         // What follows from it, for callers.
-        ensures all { OnOk result (self.new.port.link.coming.inbox ≡ []) }
+        ensures rests { OnOk result (RestsAt most_waiting self.new) }
         ensures idle { OnOk result (self.new.port.outbox ≡ []) }
     {
-        self.serve_all()?;
+        self.serve_all(most_waiting)?;
         self.port.emit_all(out)
     }
 
-    /// Takes a packet in, and tells what became of it; serves all that came, hands each group of answers to the link, and
-    /// writes all segments that were never sent, as far as the window allows; or where a segment came and none is written,
-    /// one acknowledgement. The packets stand behind those in `out` (own).
+    /// Takes a packet in, and tells what became of it; serves what came while fewer than `most_waiting` bytes wait, hands each
+    /// group of answers to the link, and writes all segments that were never sent, as far as the window allows; or where a
+    /// segment came and none is written, one acknowledgement. The packets stand after those in `out` (own).
     ///
     /// Refusals: `Refused` as `receive` is, and nothing of the packet was taken; `Unfinished`, once it was taken in: `go_on`
     /// does what is left, and the same packet is answered again.
-    pub fn take(&mut self, packet: &[u8], out: &mut Vec<Vec<u8>>) -> Result<Got, TakeFault>
-        ensures { Takes serves self.old self.new packet.now (bodies out.old.items)
+    pub fn take(
+        &mut self,
+        packet: &[u8],
+        most_waiting: u64,
+        out: &mut Vec<Vec<u8>>,
+    ) -> Result<Got, TakeFault>
+        ensures { Takes (serves most_waiting) self.old self.new packet.now (bodies out.old.items)
             (bodies out.new.items) result }
     {
         match self.receive(packet) {
-            Ok(got) => match self.answer(got, out) {
+            Ok(got) => match self.answer(got, most_waiting, out) {
                 Ok(()) => Ok(got),
                 Err(fault) => Err(TakeFault::Unfinished(got, EndFault::Link(fault))),
             },
@@ -278,12 +291,17 @@ impl ServingEnd {
         }
     }
 
-    /// Serves all that came, and writes what answers it.
-    fn answer(&mut self, got: Got, out: &mut Vec<Vec<u8>>) -> Result<(), LinkFault>
-        ensures { Answered serves self.old self.new got (bodies out.old.items)
+    /// Serves what came while fewer bytes wait than may, and writes what answers it.
+    fn answer(
+        &mut self,
+        got: Got,
+        most_waiting: u64,
+        out: &mut Vec<Vec<u8>>,
+    ) -> Result<(), LinkFault>
+        ensures { Answered (serves most_waiting) self.old self.new got (bodies out.old.items)
             (bodies out.new.items) (ended_by result) }
     {
-        self.serve_all()?;
+        self.serve_all(most_waiting)?;
         self.port.answer(got, out)
     }
 

@@ -24,6 +24,9 @@ const ASKING: LinkSetup = LinkSetup {
     ..SERVING
 };
 
+/// However many bytes wait.
+const ANY: u64 = u64::MAX;
+
 // ---- Packets.
 
 /// The Configuration of a peer with a buffer of 1,024 bytes.
@@ -43,6 +46,14 @@ const ACK_BY_ASKING: Bytes = b"\x04\x02\x02\x01\x01\x01\x80";
 const EMPTY: Bytes = b"\x60\x02\x02\x01\x01\x00\x80\x02\x00";
 
 const EMPTY_STATUS: Bytes = b"\x60\x01\x01\x02\x02\x02\x80\x02\x00\x09\x02\x05\x00\x80\x00\x00\x00";
+
+/// The same as the third segment, the Status that answers it, and an acknowledgement of three segments.
+const EMPTY_AGAIN: Bytes = b"\x60\x02\x02\x01\x01\x00\x80\x03\x00";
+
+const SECOND_STATUS: Bytes =
+    b"\x60\x01\x01\x02\x02\x03\x80\x03\x00\x09\x02\x05\x00\x80\x00\x00\x00";
+
+const ACK_OF_THREE: Bytes = b"\x04\x01\x01\x02\x02\x03\x80";
 
 /// A Status that answers nothing.
 const UNEXPECTED: Bytes = b"\x60\x01\x01\x02\x02\x01\x80\x02\x00\x09\x02\x05\x00\x80\x00\x00\x00";
@@ -78,6 +89,8 @@ const PUT_ACK: Bytes = b"\x04\x01\x01\x02\x02\x04\x80";
 enum Line {
     /// What became of the packet, and those that answer it.
     Take(Bytes, Result<Got, TakeFault>, &'static [Bytes]),
+    /// The packets that answer the packet where fewer than so many bytes may wait, and how many do then.
+    Within(u64, Bytes, &'static [Bytes], u64),
     /// How many segments aren't acknowledged, and whether the link has failed.
     Waits(usize, bool),
     Ack(Result<Bytes, LinkFault>),
@@ -146,6 +159,12 @@ const LINES: &[Line] = &[
     Renew,
     Files(2),
     Take(HELLO, Ok(Got::Accepted), &[WELCOME]),
+    // The third message is served once fewer than 14 bytes wait.
+    Renew,
+    Within(14, HELLO, &[WELCOME], 13),
+    Within(14, EMPTY, &[EMPTY_STATUS], 21),
+    Within(14, EMPTY_AGAIN, &[ACK_OF_THREE], 21),
+    Within(14, ACK_BY_ASKING, &[SECOND_STATUS], 16),
 ];
 
 /// Whether these are the packets.
@@ -194,19 +213,37 @@ fn is_answered(
     wanted: &[Bytes],
 ) -> bool {
     let mut out = Vec::new(alloc);
-    end.take(packet, &mut out) == got && are(&out, wanted)
+    end.take(packet, ANY, &mut out) == got && are(&out, wanted)
+}
+
+/// Whether the packet is answered by these packets, where fewer than so many bytes may wait, and so many wait then.
+fn is_within(
+    alloc: Global,
+    end: &mut ServingEnd,
+    most: u64,
+    packet: Bytes,
+    wanted: &[Bytes],
+    waiting: u64,
+) -> bool {
+    let mut out = Vec::new(alloc);
+    end.take(packet, most, &mut out).is_ok()
+        && are(&out, wanted)
+        && end.link().waiting_bytes() == waiting
 }
 
 /// Whether these packets are written where the end goes on.
 fn goes_on(alloc: Global, end: &mut ServingEnd, wanted: &[Bytes]) -> bool {
     let mut out = Vec::new(alloc);
-    end.go_on(&mut out).is_ok() && are(&out, wanted)
+    end.go_on(ANY, &mut out).is_ok() && are(&out, wanted)
 }
 
 /// Whether the line comes to what it says.
 fn is_so(alloc: Global, end: &mut ServingEnd, line: Line) -> bool {
     match line {
         Take(packet, got, wanted) => is_answered(alloc, end, packet, got, wanted),
+        Within(most, packet, wanted, waiting) => {
+            is_within(alloc, end, most, packet, wanted, waiting)
+        }
         Waits(count, failed) => {
             (end.link().unacked(), end.link().has_failed()) == (count, failed)
         }
@@ -249,7 +286,7 @@ fn malformed_packets(rt: HostRuntime) -> Result<(), Fail> {
 /// Whether the packet is refused as malformed, and nothing answers it.
 fn is_malformed(alloc: Global, end: &mut ServingEnd, packet: Bytes) -> bool {
     let mut out = Vec::new(alloc);
-    let answer = end.take(packet, &mut out);
+    let answer = end.take(packet, ANY, &mut out);
     matches!(answer, Err(TakeFault::Refused(LinkFault::Malformed(_)))) && out.is_empty()
 }
 
@@ -360,7 +397,7 @@ fn takes(alloc: Global, end: &mut ServingEnd, number: u8, message: Bytes) -> Res
     packet.extend_from_slice(&[number, 0])?;
     packet.extend_from_slice(message)?;
     let mut out = Vec::new(alloc);
-    Ok(end.take(&packet, &mut out) == Ok(Got::Accepted))
+    Ok(end.take(&packet, ANY, &mut out) == Ok(Got::Accepted))
 }
 
 /// Whether the end takes each of these messages.
@@ -414,7 +451,7 @@ fn longer(alloc: Global) -> Result<Vec<u8>, Fail> {
 fn fails_by(alloc: Global, end: &mut ServingEnd, packet: &[u8]) -> bool {
     let mut out = Vec::new(alloc);
     let refused = TakeFault::Refused(LinkFault::MessageTooLong);
-    end.take(packet, &mut out) == Err(refused) && end.link().has_failed() && out.is_empty()
+    end.take(packet, ANY, &mut out) == Err(refused) && end.link().has_failed() && out.is_empty()
 }
 
 /// Whether all that would write is refused.

@@ -33,9 +33,9 @@ use Rattle.dap_live.specs.declared.orders.Anew.{Anew}
 use Rattle.dap_live.specs.declared.orders.Order.{Order}
 use Rattle.dap_live.specs.declared.orders.Order.TheVariants as order
 use Rattle.dap_live.specs.Orders.{order_of, setup_anew}
-use Rattle.dap_live.specs.Sending.{SaysAck, UnlessFailed, is_left, waits_of}
+use Rattle.dap_live.specs.Sending.{SaysAck, UnlessFailed, waits_of}
 use Rattle.dap_live.specs.Texts.{add_refusal, done_said, link_refusal, packets_text, taken_said}
-use Rattle.dap_live.specs.Serving.{Resends, IsNew, Added, AddsFile, AddsRecord, OnEnd, Does, IsForServing, answered, waiting}
+use Rattle.dap_live.specs.Serving.{Resends, is_behind, IsNew, Added, AddsFile, AddsRecord, OnEnd, Does, IsForServing, answered, waiting}
 use Rattle.dap_live.specs.Both.{DoesOrder, DoneOr, SaysGone, Stays, TakesPacket}
 use Rattle.dap_live.specs.Inner.Saying.{AddsShaped}
 use Rattle.dap_live.specs.Inner.OneText.{HasServed, AreSameServing}
@@ -47,50 +47,50 @@ One one two said more b c = (one ≡ two) × (said ≡ more) × (b ≡ c) × Has
 
 -- ---- A packet.
 
-packet_one : (end one two : ServingValue) (bytes said more : List ℕ) (b c : Became) → AreBytes bytes → HasServed end → b ≢ NoMemory → c ≢ NoMemory
-    → TakesPacket serves [] (λ taken became. became) end bytes one said b → TakesPacket serves [] (λ taken became. became) end bytes two more c → One one two said more b c
-packet_one end one two bytes said more b c fits k nb nc x y =
+packet_one : (most : ℕ) (end one two : ServingValue) (bytes said more : List ℕ) (b c : Became) → AreBytes bytes → HasServed end → b ≢ NoMemory → c ≢ NoMemory
+    → TakesPacket (serves most) [] (λ taken became. became) end bytes one said b → TakesPacket (serves most) [] (λ taken became. became) end bytes two more c → One one two said more b c
+packet_one most end one two bytes said more b c fits k nb nc x y =
     let said : x.taken ≡ y.taken → x.packets ≡ y.packets → taken_said x.taken [] x.packets ≡ taken_said y.taken [] y.packets =
     λ r l. ap (λ (r : Result Got TakeFault). taken_said r [] x.packets) r ∙ ap (taken_said y.taken []) l in
-    let t = taking_one k.0 end one two bytes x.taken y.taken [] x.packets y.packets fits k.1 (taken_wants x.taken [] x.packets (λ e. nb (x.ended ∙ e))) (taken_wants y.taken [] y.packets (λ e. nc (y.ended ∙ e))) x.took y.took in (
+    let t = taking_one most k.0 end one two bytes x.taken y.taken [] x.packets y.packets fits k.1 (taken_wants x.taken [] x.packets (λ e. nb (x.ended ∙ e))) (taken_wants y.taken [] y.packets (λ e. nc (y.ended ∙ e))) x.took y.took in (
       t.0,
       x.says ∙ ap (λ k. k.0) (said t.1 t.2) ∙ sym y.says,
       x.ended ∙ ap (λ k. k.1) (said t.1 t.2) ∙ sym y.ended,
-      taking_known end one bytes [] x.packets x.taken x.took k,
+      taking_known most end one bytes [] x.packets x.taken x.took k,
     )
 
 -- ---- Going on.
 
-abbrev GoesOn : ServingValue → List ℕ → ServingValue → List ℕ → Became → Type 0
-GoesOn old front new text became = SaysGone serves [] (λ became. became) old front new text became
+abbrev GoesOn : (most : ℕ) → ServingValue → List ℕ → ServingValue → List ℕ → Became → Type 0
+GoesOn most old front new text became = SaysGone (serves most) [] (λ became. became) old front new text became
 
-abbrev GoesOnIf : Bool → ServingValue → List ℕ → ServingValue → List ℕ → Became → Type 0
-GoesOnIf left old front new text became = MatchBool left (GoesOn old front new text became) (Stays Done old new became × (text ≡ front))
+abbrev GoesOnIf : (most : ℕ) → Bool → ServingValue → List ℕ → ServingValue → List ℕ → Became → Type 0
+GoesOnIf most left old front new text became = MatchBool left (GoesOn most old front new text became) (Stays Done old new became × (text ≡ front))
 
-going_same : (end one two : ServingValue) (front said more : List ℕ) (b c : Became) → HasServed end → b ≢ NoMemory → c ≢ NoMemory
-    → GoesOn end front one said b → GoesOn end front two more c → One one two said more b c
-going_same end one two front said more b c k nb nc x y =
-    let t = going_one k.0 end one two [] x.packets y.packets x.gone y.gone k.1 (gone_wants x.gone [] x.packets (λ e. nb (x.ended ∙ e))) (gone_wants y.gone [] y.packets (λ e. nc (y.ended ∙ e))) x.went y.went in
+going_same : (most : ℕ) (end one two : ServingValue) (front said more : List ℕ) (b c : Became) → HasServed end → b ≢ NoMemory → c ≢ NoMemory
+    → GoesOn most end front one said b → GoesOn most end front two more c → One one two said more b c
+going_same most end one two front said more b c k nb nc x y =
+    let t = going_one most k.0 end one two [] x.packets y.packets x.gone y.gone k.1 (gone_wants x.gone [] x.packets (λ e. nb (x.ended ∙ e))) (gone_wants y.gone [] y.packets (λ e. nc (y.ended ∙ e))) x.went y.went in
     let said : done_said [] x.packets x.gone ≡ done_said [] y.packets y.gone = ap (done_said [] x.packets) t.1 ∙ ap (λ (l : List (List ℕ)). done_said [] l y.gone) t.2 in (
       t.0,
       x.says ∙ ap (λ k. front ++ k.0) said ∙ sym y.says,
       x.ended ∙ ap (λ k. k.1) said ∙ sym y.ended,
-      going_known end one [] x.packets x.gone x.went k,
+      going_known most end one [] x.packets x.gone x.went k,
     )
 
-going_if : (left : Bool) (end one two : ServingValue) (front said more : List ℕ) (b c : Became) → HasServed end → b ≢ NoMemory → c ≢ NoMemory
-    → GoesOnIf left end front one said b → GoesOnIf left end front two more c → One one two said more b c
-going_if true end one two front said more b c k nb nc x y = going_same end one two front said more b c k nb nc x y
-going_if false end one two front said more b c k nb nc x y = (x.0.0 ∙ sym y.0.0, x.1 ∙ sym y.1, x.0.1 ∙ sym y.0.1, subst HasServed (sym x.0.0) k)
+going_if : (most : ℕ) (left : Bool) (end one two : ServingValue) (front said more : List ℕ) (b c : Became) → HasServed end → b ≢ NoMemory → c ≢ NoMemory
+    → GoesOnIf most left end front one said b → GoesOnIf most left end front two more c → One one two said more b c
+going_if most true end one two front said more b c k nb nc x y = going_same most end one two front said more b c k nb nc x y
+going_if most false end one two front said more b c k nb nc x y = (x.0.0 ∙ sym y.0.0, x.1 ∙ sym y.1, x.0.1 ∙ sym y.0.1, subst HasServed (sym x.0.0) k)
 
-resend_one : (failed : Bool) (end one two : ServingValue) (said more : List ℕ) (b c : Became) → HasServed end → b ≢ NoMemory → c ≢ NoMemory
-    → MatchBool failed (Stays Done end one b × (said ≡ (link_refusal Failed).0)) (Resends end one said b)
-    → MatchBool failed (Stays Done end two c × (more ≡ (link_refusal Failed).0)) (Resends end two more c) → One one two said more b c
-resend_one true end one two said more b c k nb nc x y = (x.0.0 ∙ sym y.0.0, x.1 ∙ sym y.1, x.0.1 ∙ sym y.0.1, subst HasServed (sym x.0.0) k)
-resend_one false end one two said more b c k nb nc x y =
+resend_one : (most : ℕ) (failed : Bool) (end one two : ServingValue) (said more : List ℕ) (b c : Became) → HasServed end → b ≢ NoMemory → c ≢ NoMemory
+    → MatchBool failed (Stays Done end one b × (said ≡ (link_refusal Failed).0)) (Resends most end one said b)
+    → MatchBool failed (Stays Done end two c × (more ≡ (link_refusal Failed).0)) (Resends most end two more c) → One one two said more b c
+resend_one most true end one two said more b c k nb nc x y = (x.0.0 ∙ sym y.0.0, x.1 ∙ sym y.1, x.0.1 ∙ sym y.0.1, subst HasServed (sym x.0.0) k)
+resend_one most false end one two said more b c k nb nc x y =
     let same = all_again end.port.link k.0.handed x.0 y.0 k.1.sends x.1 y.1 in
-    going_if (is_left end.port.link end.port.outbox) end one two (packets_text x.0) said more b c k nb nc x.2
-    (subst (λ (l : List (List ℕ)). GoesOnIf (is_left end.port.link end.port.outbox) end (packets_text l) two more c) (sym same) y.2)
+    going_if most (is_behind most end) end one two (packets_text x.0) said more b c k nb nc x.2
+    (subst (λ (l : List (List ℕ)). GoesOnIf most (is_behind most end) end (packets_text l) two more c) (sym same) y.2)
 
 -- ---- A new link.
 
@@ -109,7 +109,7 @@ stay old other one two same e f = subst (λ (s : Serving). AreSameServing s two)
 
 -- over the same files
 abbrev NewBy : Serving → Anew → Serving → Type 0
-NewBy old anew new = IsNew (setup_anew old.setup anew) old.end.present.own old.end.present.files new
+NewBy old anew new = IsNew (setup_anew old.setup anew) old.end.present.own old.most_waiting old.end.present.files new
 
 renewed_one : (old other one two : Serving) (anew : Anew) → AreSameServing old other → NewBy old anew one → NewBy other anew two → AreSameServing one two
 renewed_one old other one two anew same x y =
@@ -119,6 +119,7 @@ renewed_one old other one two anew same x y =
     let after : IsAfter (nothing_yet old.end.present.files) two.end = subst (λ (f : Files). IsAfter (nothing_yet f) two.end) (sym files) y.0 in (
       anew_one old.end.present.files one.end two.end (x.1.0 ∙ ap new_port setup ∙ sym y.1.0) (x.1.1 ∙ own ∙ sym y.1.1) x.0 after,
       x.1.2 ∙ setup ∙ sym y.1.2,
+      x.2 ∙ same.2 ∙ sym y.2,
       new_known old.end.present.files one.end x.0 (ap (λ (p : PortValue). p.link.coming.inbox) x.1.0),
     )
 
@@ -256,18 +257,29 @@ record_one end one two r said more b c k nb nc (inr x) (inr y) =
 -- ---- A line.
 
 on_end : (old other one two : Serving) (said more : List ℕ) (b c : Became) → AreSameServing old other → OnEnd old one → OnEnd other two → One one.end two.end said more b c → Two one two said more b c
-on_end old other one two said more b c same x y h =
-    ((h.0, ap (λ (s : Serving). s.setup) x ∙ same.1 ∙ sym (ap (λ (s : Serving). s.setup) y), h.3), h.1, h.2)
+on_end old other one two said more b c same x y h = (
+  (
+    h.0,
+    ap (λ (s : Serving). s.setup) x ∙ same.1 ∙ sym (ap (λ (s : Serving). s.setup) y),
+    ap (λ (s : Serving). s.most_waiting) x ∙ same.2 ∙ sym (ap (λ (s : Serving). s.most_waiting) y),
+    h.3,
+  ),
+  h.1,
+  h.2,
+)
 
 does_one : (old other one two : Serving) (o : Order) (said more : List ℕ) (b c : Became) → Fits (Some o) → AreSameServing old other → b ≢ NoMemory → c ≢ NoMemory → Does old o one said b → Does other o two more c
     → Two one two said more b c
 does_one old other one two (order.Packet bytes) said more b c fits same nb nc x y =
     on_end old other one two said more b c same x.0 y.0
-    (packet_one old.end one.end two.end bytes said more b c fits same.2 nb nc x.1 (subst (λ (v : ServingValue). TakesPacket serves [] (λ taken became. became) v bytes two.end more c) (sym same.0) y.1))
+    (packet_one old.most_waiting old.end one.end two.end bytes said more b c fits same.3 nb nc x.1
+    (subst (λ (n : ℕ). TakesPacket (serves n) [] (λ taken became. became) old.end bytes two.end more c) (sym same.2)
+    (subst (λ (v : ServingValue). TakesPacket (serves other.most_waiting) [] (λ taken became. became) v bytes two.end more c) (sym same.0) y.1)))
 does_one old other one two order.Resend said more b c fits same nb nc x y =
     on_end old other one two said more b c same x.0 y.0
-    (resend_one old.end.port.link.failed old.end one.end two.end said more b c same.2 nb nc x.1
-    (subst (λ (v : ServingValue). UnlessFailed v.port.link more (Stays Done v two.end c) (Resends v two.end more c)) (sym same.0) y.1))
+    (resend_one old.most_waiting old.end.port.link.failed old.end one.end two.end said more b c same.3 nb nc x.1
+    (subst (λ (n : ℕ). UnlessFailed old.end.port.link more (Stays Done old.end two.end c) (Resends n old.end two.end more c)) (sym same.2)
+    (subst (λ (v : ServingValue). UnlessFailed v.port.link more (Stays Done v two.end c) (Resends other.most_waiting v two.end more c)) (sym same.0) y.1)))
 does_one old other one two order.Ack said more b c fits same nb nc x y = (
   stay old other one two same x.0.0 y.0.0,
   ack_one old.end.port.link said more x.1 (subst (λ (v : ServingValue). SaysAck v.port.link more) (sym same.0) y.1),
@@ -278,10 +290,10 @@ does_one old other one two order.Files said more b c fits same nb nc x y =
     (stay old other one two same x.0.0 y.0.0, x.1 ∙ ap (λ (v : ServingValue). files_text v.present.files) same.0 ∙ sym y.1, x.0.1 ∙ sym y.0.1)
 does_one old other one two (order.File file) said more b c fits same nb nc x y =
     on_end old other one two said more b c same x.0 y.0
-    (file_one old.end one.end two.end file said more b c same.2 nb nc x.1 (subst (λ (v : ServingValue). AddsFile v file two.end more c) (sym same.0) y.1))
+    (file_one old.end one.end two.end file said more b c same.3 nb nc x.1 (subst (λ (v : ServingValue). AddsFile v file two.end more c) (sym same.0) y.1))
 does_one old other one two (order.Record r) said more b c fits same nb nc x y =
     on_end old other one two said more b c same x.0 y.0
-    (record_one old.end one.end two.end r said more b c same.2 nb nc x.1 (subst (λ (v : ServingValue). AddsRecord v r two.end more c) (sym same.0) y.1))
+    (record_one old.end one.end two.end r said more b c same.3 nb nc x.1 (subst (λ (v : ServingValue). AddsRecord v r two.end more c) (sym same.0) y.1))
 does_one old other one two (order.Ask request) said more b c fits same nb nc x y = (stay old other one two same x.0 y.0, x.1 ∙ sym y.1, x.2 ∙ sym y.2)
 
 order_one : (old other one two : Serving) (o : Option Order) (said more : List ℕ) (b c : Became) → Fits o → AreSameServing old other → b ≢ NoMemory → c ≢ NoMemory → DoesOrder IsForServing Does Does old o one said b → DoesOrder IsForServing Does Does other o two more c
@@ -298,9 +310,10 @@ serving_answers one other new end line said more b c same nb nc x y = order_one 
 pub serving_text : HaveOneText answered waiting AreSameServing
 serving_text =
     one_text answered waiting AreSameServing
-    (one_answer answered waiting AreSameServing serving_answers (λ one other same. ap (λ (v : ServingValue). waits_of v.port.link (is_left v.port.link v.port.outbox)) same.0))
+    (one_answer answered waiting AreSameServing serving_answers (λ one other same. ap (λ (v : ServingValue). waits_of v.port.link (is_behind one.most_waiting v)) same.0
+    ∙ ap (λ (n : ℕ). waits_of other.end.port.link (is_behind n other.end)) same.2))
 
 -- new ends that are set up alike
 pub new_serving : (files : Files) (one other : Serving) → IsAfter (nothing_yet files) one.end → IsAfter (nothing_yet files) other.end → one.end.port ≡ other.end.port
-    → one.end.present.own ≡ other.end.present.own → one.setup ≡ other.setup → one.end.port.link.coming.inbox ≡ [] → AreSameServing one other
-new_serving files one other x y port own setup none = (anew_one files one.end other.end port own x y, setup, new_known files one.end x none)
+    → one.end.present.own ≡ other.end.present.own → one.setup ≡ other.setup → one.most_waiting ≡ other.most_waiting → one.end.port.link.coming.inbox ≡ [] → AreSameServing one other
+new_serving files one other x y port own setup most none = (anew_one files one.end other.end port own x y, setup, most, new_known files one.end x none)

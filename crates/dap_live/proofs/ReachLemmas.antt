@@ -14,7 +14,7 @@ use Rattle.dap_live.specs.Serving as serving
 use Rattle.dap_live.specs.Sending.{UnlessFailed}
 
 pub reaches_packet : (old : Serving) (bytes : List ℕ) (end : ServingValue)
-    → ((end ≡ old.end) ⊎ ((said : List ℕ) × (became : Became) × TakesPacket serves [] (λ taken became. became) old.end bytes end said became))
+    → ((end ≡ old.end) ⊎ ((said : List ℕ) × (became : Became) × TakesPacket (serves old.most_waiting) [] (λ taken became. became) old.end bytes end said became))
     → Reaches serving.Does old (order.Packet bytes) (record old { end = end })
 reaches_packet old bytes end (inl same) = inl (ap (λ e. record old { end = e }) same)
 reaches_packet old bytes end (inr done) = inr (done.0, done.1, (refl, done.2))
@@ -42,7 +42,7 @@ unless_reached link works was old new This (inl same) = inl same
 unless_reached link works was old new This (inr done) = inr (done.0, done.1, unless_runs link.failed works _ _ done.2)
 
 pub reaches_resend : (old : Serving) (end : ServingValue)
-    → ((end ≡ old.end) ⊎ ((said : List ℕ) × (became : Became) × UnlessFailed old.end.port.link said (Stays Done old.end end became) (serving.Resends old.end end said became)))
+    → ((end ≡ old.end) ⊎ ((said : List ℕ) × (became : Became) × UnlessFailed old.end.port.link said (Stays Done old.end end became) (serving.Resends old.most_waiting old.end end said became)))
     → Reaches serving.Does old order.Resend (record old { end = end })
 reaches_resend old end (inl same) = inl (ap (λ e. record old { end = e }) same)
 reaches_resend old end (inr done) = inr (done.0, done.1, (refl, done.2))

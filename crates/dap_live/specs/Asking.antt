@@ -49,7 +49,7 @@ GoesOn old before front new text came =
 -- The end would do something by going on, memory aside. What came is read before what waits is handed over, and an end that
 -- an unexpected answer failed does nothing more.
 abbrev pub goes_on : AskingValue → Bool
-goes_on end = not end.present.failed && (has_message end.port.link || is_left end.port.link end.port.outbox)
+goes_on end = not end.present.failed && (has_message end.port.link || is_left end.port.link end.port.outbox false)
 
 -- behind the packets of all segments that aren't acknowledged it does so, or the reports that wait are told alone
 abbrev pub Resends : Asking → Asking → List ℕ → Came → Type 0

@@ -1,6 +1,6 @@
 -- What a link sends again, and what it waits for.
 use Rattle.std.specs.Prelude.{◌≡◌, MatchBool, ℕ, ◌+◌, ◌-◌, Bool, ◌||◌, ◌&&◌, nat_lt, List, length, if◌then◌else◌}
-use Rattle.nsp_link.specs.Link.{LinkValue, IsSpelling, may_send}
+use Rattle.nsp_link.specs.Link.{LinkValue, IsSpelling, may_send, waiting_bytes}
 use Rattle.nsp_link.specs.Sending.{ack_packet_of, may_queue}
 use Rattle.dap_end.specs.Writing.{AreSegments}
 use Rattle.nsp_link.specs.declared.fault.LinkFault.TheVariants.{Failed}
@@ -10,10 +10,14 @@ use Rattle.dap_live.specs.Texts.{link_refusal, packet_text}
 abbrev pub has_message : LinkValue → Bool
 has_message link = nat_lt 0 (length link.coming.inbox)
 
--- The link takes the NSP messages that wait; and one waits, or one that came is left, or a segment may be sent. It is so only
--- behind want of memory: else all this is done at once.
-abbrev pub is_left : LinkValue → (outbox : List (List ℕ)) → Bool
-is_left link outbox = may_queue link outbox && (nat_lt 0 (length outbox) || (has_message link || may_send link))
+-- one that came is left, and fewer bytes wait than this
+abbrev pub is_served_next : (most : ℕ) → LinkValue → Bool
+is_served_next most link = has_message link && nat_lt (waiting_bytes link) most
+
+-- The link takes the NSP messages that wait; and one waits, or there is one to go through, or a segment may be sent. It is so only
+-- where a call ran out of memory: else all this is done at once.
+abbrev pub is_left : LinkValue → (outbox : List (List ℕ)) → (more : Bool) → Bool
+is_left link outbox more = may_queue link outbox && (nat_lt 0 (length outbox) || (more || may_send link))
 
 -- how many segments are sent and not acknowledged, and one more where something is left; none on a link that has failed
 abbrev pub waits_of : LinkValue → (left : Bool) → ℕ

@@ -1,5 +1,5 @@
 -- What the end that serves does by a line, and what it says.
-use Rattle.std.specs.Prelude.{◌≡◌, ℕ, MatchBool, List, [], MatchOption}
+use Rattle.std.specs.Prelude.{◌≡◌, Bool, ℕ, MatchBool, List, [], MatchOption}
 use Rattle.rec_file.specs.Shapes.{checked_shape}
 use Rattle.dap_msg.specs.Codes.{stscode, reasons}
 use Rattle.dap_accessed.specs.Standing.{Files}
@@ -19,24 +19,29 @@ use Rattle.dap_live.specs.declared.serving.Serving.{Serving}
 use Rattle.dap_live.specs.declared.orders.Order.{Order}
 use Rattle.dap_live.specs.declared.orders.Order.TheVariants as order
 use Rattle.dap_live.specs.Orders.{order_of, setup_anew}
-use Rattle.dap_live.specs.Sending.{AllAgain, SaysAck, UnlessFailed, is_left, waits_of}
+use Rattle.dap_live.specs.Sending.{AllAgain, SaysAck, UnlessFailed, is_left, is_served_next, waits_of}
 use Rattle.dap_live.specs.Texts.{add_refusal, link_refusal, packets_text, status_line}
 use Rattle.dap_live.specs.Both.{DoesOrder, DoneOr, IsSetUp, SaysGone, Stays, TakesPacket}
 
 -- ---- Going on.
 
+-- something is left that the end would do now
+abbrev pub is_behind : (most : ℕ) → ServingValue → Bool
+is_behind most v = is_left v.port.link v.port.outbox (is_served_next most v.port.link)
+
 -- behind the packets of all segments that aren't acknowledged, where something is left
-abbrev pub Resends : ServingValue → ServingValue → List ℕ → Became → Type 0
-Resends old new text became = (packets : List (List ℕ)) × AllAgain old.port.link packets
-    × MatchBool (is_left old.port.link old.port.outbox)
-    (SaysGone serves [] (λ became. became) old (packets_text packets) new text became)
+abbrev pub Resends : (most : ℕ) → ServingValue → ServingValue → List ℕ → Became → Type 0
+Resends most old new text became = (packets : List (List ℕ)) × AllAgain old.port.link packets
+    × MatchBool (is_behind most old)
+    (SaysGone (serves most) [] (λ became. became) old (packets_text packets) new text became)
     (Stays Done old new became × (text ≡ packets_text packets))
 
 -- ---- A new link.
 
 -- a new end on a link that is set up so, with these files
-abbrev pub IsNew : LinkSetup → (buffer : ℕ) → Files → Serving → Type 0
-IsNew setup buffer files s = IsAfter (nothing_yet files) s.end × IsSetUp setup buffer s.end.port s.end.present.own s.setup
+abbrev pub IsNew : LinkSetup → (buffer most : ℕ) → Files → Serving → Type 0
+IsNew setup buffer most files s =
+    IsAfter (nothing_yet files) s.end × IsSetUp setup buffer s.end.port s.end.present.own s.setup × (s.most_waiting ≡ most)
 
 -- ---- Files that it is given.
 
@@ -68,13 +73,13 @@ OnEnd old new = new ≡ record old { end = new.end }
 
 -- what is done by a line that says this, and what is said
 abbrev pub Does : Serving → Order → Serving → List ℕ → Became → Type 0
-Does old (order.Packet bytes) new text became = OnEnd old new × TakesPacket serves [] (λ taken became. became) old.end bytes new.end text became
+Does old (order.Packet bytes) new text became = OnEnd old new × TakesPacket (serves old.most_waiting) [] (λ taken became. became) old.end bytes new.end text became
 Does old order.Resend new text became =
-    OnEnd old new × UnlessFailed old.end.port.link text (Stays Done old.end new.end became) (Resends old.end new.end text became)
+    OnEnd old new × UnlessFailed old.end.port.link text (Stays Done old.end new.end became) (Resends old.most_waiting old.end new.end text became)
 Does old order.Ack new text became = Stays Done old new became × SaysAck old.end.port.link text
 Does old (order.New anew) new text became =
     let setup = setup_anew old.setup anew in
-    DoneOr (λ became. became) (IsSetup setup × IsNew setup old.end.present.own old.end.present.files new) (SetupFault setup) link_refusal old new text became
+    DoneOr (λ became. became) (IsSetup setup × IsNew setup old.end.present.own old.most_waiting old.end.present.files new) (SetupFault setup) link_refusal old new text became
 Does old order.Files new text became = Stays Done old new became × (text ≡ files_text old.end.present.files)
 Does old (order.File file) new text became = OnEnd old new × AddsFile old.end file new.end text became
 Does old (order.Record r) new text became = OnEnd old new × AddsRecord old.end r new.end text became
@@ -89,4 +94,4 @@ abbrev pub answered : Serving → List ℕ → Serving → List ℕ → Became �
 answered old line new text became = DoesOrder IsForServing Does Does old (order_of line) new text became
 
 abbrev pub waiting : Serving → ℕ
-waiting serving = waits_of serving.end.port.link (is_left serving.end.port.link serving.end.port.outbox)
+waiting serving = waits_of serving.end.port.link (is_behind serving.most_waiting serving.end)

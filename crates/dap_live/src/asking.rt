@@ -178,7 +178,7 @@ fn has_failed(end: &AskingEnd) -> bool
 fn goes_on(end: &AskingEnd) -> bool
     ensures { result ≡ goes_on_by end.now }
 {
-    !has_failed(end) && (has_message(end.link()) || is_left(end.link(), end.waiting()))
+    !has_failed(end) && (has_message(end.link()) || is_left(end.link(), end.waiting(), false))
 }
 
 /// Goes on behind segments that are sent again, and says what comes of it behind their lines.

@@ -14,7 +14,8 @@ ghost use Rattle.dap_live.specs.Asking as asking;
 /// did nothing. Own.
 pub fn inputs_have_one_text()
     ensures serving { HaveOneText serving.answered serving.waiting (λ one other.
-        (one.end ≡ other.end) × (one.setup ≡ other.setup) × (past : Past) × IsAfter past one.end
+        (one.end ≡ other.end) × (one.setup ≡ other.setup)
+        × (one.most_waiting ≡ other.most_waiting) × (past : Past) × IsAfter past one.end
         × (HasCome one.end.port
         ⊎ ((past ≡ nothing_yet past.first) × (one.end.port.link.coming.inbox ≡ [])))) }
     ensures asking { HaveOneText asking.answered asking.waiting (λ one other.

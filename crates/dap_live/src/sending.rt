@@ -30,10 +30,10 @@ fn may_queue(link: &LinkEnd, messages: &[Vec<u8>]) -> bool
 }
 
 /// Whether something is left that an end would do by itself, with these NSP messages that wait.
-pub(crate) fn is_left(link: &LinkEnd, outbox: &[Vec<u8>]) -> bool
-    ensures { result ≡ is_left_of link.now (bodies outbox.now) }
+pub(crate) fn is_left(link: &LinkEnd, outbox: &[Vec<u8>], more: bool) -> bool
+    ensures { result ≡ is_left_of link.now (bodies outbox.now) more }
 {
-    may_queue(link, outbox) && (!outbox.is_empty() || has_message(link) || link.may_send())
+    may_queue(link, outbox) && (!outbox.is_empty() || more || link.may_send())
 }
 
 /// How many packets would be sent again, and one more where something is left.

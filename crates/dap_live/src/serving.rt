@@ -13,14 +13,14 @@ ghost use Rattle.dap_text.specs.Adding.{Adds};
 ghost use Rattle.dap_text.specs.Tables.{files_text};
 ghost use Rattle.rec_file.specs.Shapes.{is_shape};
 ghost use Rattle.linewise.specs.declared.talking.Became.{Became as TheBecame};
-ghost use Rattle.dap_live.specs.Sending.{UnlessFailed, is_left as is_left_of};
+ghost use Rattle.dap_live.specs.Sending.{UnlessFailed};
 ghost use Rattle.dap_live.specs.Both.{DoesOrder, SaysGone, Stays, TakesPacket};
 ghost use Rattle.dap_live.specs.Inner.Reaching.{Reaches};
 ghost use Rattle.dap_live.specs.Inner.Saying.{AddsShaped};
-ghost use Rattle.dap_live.specs.Serving.{AddsFile, AddsRecord, Does, IsForServing, Resends};
+ghost use Rattle.dap_live.specs.Serving.{AddsFile, AddsRecord, Does, IsForServing, Resends, is_behind as is_behind_at};
 
 use crate::orders::{Anew, Order, read_order, set_up};
-use crate::sending::{is_left, push_again, say_ack, waits};
+use crate::sending::{has_message, is_left, push_again, say_ack, waits};
 use crate::texts::{push_add_refusal, push_done, push_link_refusal, push_status, push_taken};
 use dap_end::{EndFault, ServingEnd, TakeFault};
 use dap_msg::codes::{ACCESS_REFUSED, REASON_BAD_ATTRIBUTES};
@@ -38,59 +38,85 @@ pub struct Serving {
     pub end: ServingEnd,
     /// How its link is set up.
     pub setup: LinkSetup,
+    /// It serves the next message that came while fewer bytes wait than this.
+    pub most_waiting: u64,
 }
 
 impl Serving {
-    /// An end without files, with a buffer of so many bytes, at least 64. Refused as [`ServingEnd::new`] is. Own.
-    pub fn new(alloc: Global, bufsiz: u16, setup: LinkSetup) -> Result<Serving, LinkFault>
+    /// An end without files, with a buffer of so many bytes, at least 64, which serves what came while fewer than
+    /// `most_waiting` bytes wait. Refused as [`ServingEnd::new`] is. Own.
+    pub fn new(
+        alloc: Global,
+        bufsiz: u16,
+        setup: LinkSetup,
+        most_waiting: u64,
+    ) -> Result<Serving, LinkFault>
         requires { least_buffer ≤ bufsiz }
         ensures after { IfOk result (λ s. IsAfter (nothing_yet []) s.end) }
         ensures port { IfOk result (λ s. s.end.port ≡ new_port setup) }
         ensures own { IfOk result (λ s. s.end.present.own ≡ bufsiz) }
         ensures setup { IfOk result (λ s. s.setup ≡ setup) }
+        ensures most { IfOk result (λ s. s.most_waiting ≡ most_waiting) }
         ensures err { IfErr result (SetupFault setup) }
     {
         match ServingEnd::new(alloc, bufsiz, setup) {
-            Ok(end) => Ok(Serving { alloc, end, setup }),
+            Ok(end) => Ok(Serving {
+                alloc,
+                end,
+                setup,
+                most_waiting,
+            }),
             Err(fault) => Err(fault),
         }
     }
 }
 
 /// Takes a packet, and goes on.
-fn take(end: &mut ServingEnd, bytes: &[u8], packets: &mut Vec<Vec<u8>>) -> Result<Got, TakeFault>
+fn take(
+    end: &mut ServingEnd,
+    most_waiting: u64,
+    bytes: &[u8],
+    packets: &mut Vec<Vec<u8>>,
+) -> Result<Got, TakeFault>
     requires { packets.old.items ≡ [] }
-    ensures { Takes serves end.old end.new bytes.now [] (bodies packets.new.items) result }
+    ensures { Takes (serves most_waiting) end.old end.new bytes.now []
+        (bodies packets.new.items) result }
 {
-    end.take(bytes, packets)
+    end.take(bytes, most_waiting, packets)
 }
 
 /// The answer to a packet.
 fn take_packet(
     alloc: Global,
     end: &mut ServingEnd,
+    most_waiting: u64,
     digits: &Text<'_>,
     text: &mut Vec<u8>,
 ) -> Result<Became, AllocError>
     requires { text.old.items ≡ [] }
-    ensures ok { IfOk result (TakesPacket serves [] (λ taken became. became) end.old digits.now
-        end.new text.new.items) }
+    ensures ok { IfOk result (TakesPacket (serves most_waiting) [] (λ taken became. became) end.old
+        digits.now end.new text.new.items) }
     ensures err { OnErr result ((end.new ≡ end.old) ⊎ ((said : List ℕ) × (became : TheBecame)
-        × TakesPacket serves [] (λ taken became. became) end.old digits.now end.new said became)) }
+        × TakesPacket (serves most_waiting) [] (λ taken became. became) end.old digits.now
+        end.new said became)) }
 {
     let bytes = digits.to_vec(alloc)?;
     let mut packets = Vec::new(alloc);
-    let taken = take(end, &bytes, &mut packets);
+    let taken = take(end, most_waiting, &bytes, &mut packets);
     let reports = Vec::new(alloc);
     push_taken(text, taken, &reports, &packets)
 }
 
 /// Serves, hands over and writes what is left.
-fn go_on(end: &mut ServingEnd, packets: &mut Vec<Vec<u8>>) -> Result<(), EndFault>
+fn go_on(
+    end: &mut ServingEnd,
+    most_waiting: u64,
+    packets: &mut Vec<Vec<u8>>,
+) -> Result<(), EndFault>
     requires { packets.old.items ≡ [] }
-    ensures { WentOn serves end.old end.new [] (bodies packets.new.items) result }
+    ensures { WentOn (serves most_waiting) end.old end.new [] (bodies packets.new.items) result }
 {
-    match end.go_on(packets) {
+    match end.go_on(most_waiting, packets) {
         Ok(()) => Ok(()),
         Err(fault) => Err(EndFault::Link(fault)),
     }
@@ -100,43 +126,49 @@ fn go_on(end: &mut ServingEnd, packets: &mut Vec<Vec<u8>>) -> Result<(), EndFaul
 fn go_on_behind(
     alloc: Global,
     end: &mut ServingEnd,
+    most_waiting: u64,
     text: &mut Vec<u8>,
 ) -> Result<Became, AllocError>
-    ensures ok { IfOk result (SaysGone serves [] (λ became. became) end.old text.old.items
-        end.new text.new.items) }
+    ensures ok { IfOk result (SaysGone (serves most_waiting) [] (λ became. became) end.old
+        text.old.items end.new text.new.items) }
     ensures err { OnErr result ((said : List ℕ) × (became : TheBecame)
-        × SaysGone serves [] (λ became. became) end.old text.old.items end.new said became) }
+        × SaysGone (serves most_waiting) [] (λ became. became) end.old text.old.items end.new
+        said became) }
 {
     let mut packets = Vec::new(alloc);
-    let gone = go_on(end, &mut packets);
+    let gone = go_on(end, most_waiting, &mut packets);
     let reports = Vec::new(alloc);
     push_done(text, &reports, &packets, gone)
 }
 
-/// Whether something is left of what the end does by itself.
-fn is_behind(end: &ServingEnd) -> bool
-    ensures { result ≡ is_left_of end.now.port.link end.now.port.outbox }
+/// Whether something is left of what the end does by itself, while fewer bytes wait than this.
+fn is_behind(end: &ServingEnd, most_waiting: u64) -> bool
+    ensures { result ≡ is_behind_at most_waiting end.now }
 {
-    is_left(end.link(), end.waiting())
+    let link = end.link();
+    let is_served_next = has_message(link) && link.waiting_bytes() < most_waiting;
+    is_left(link, end.waiting(), is_served_next)
 }
 
 /// Goes on where something is left, and says what comes of it behind the text.
 fn go_on_if_left(
     alloc: Global,
     end: &mut ServingEnd,
+    most_waiting: u64,
     text: &mut Vec<u8>,
 ) -> Result<Became, AllocError>
-    ensures ok { IfOk result (λ became.
-        MatchBool (is_left_of end.old.port.link end.old.port.outbox)
-        (SaysGone serves [] (λ became. became) end.old text.old.items end.new text.new.items became)
+    ensures ok { IfOk result (λ became. MatchBool (is_behind_at most_waiting end.old)
+        (SaysGone (serves most_waiting) [] (λ became. became) end.old text.old.items end.new
+        text.new.items became)
         (Stays Became.Done end.old end.new became × (text.new.items ≡ text.old.items))) }
     ensures err { OnErr result ((said : List ℕ) × (became : TheBecame)
-        × MatchBool (is_left_of end.old.port.link end.old.port.outbox)
-        (SaysGone serves [] (λ became. became) end.old text.old.items end.new said became)
+        × MatchBool (is_behind_at most_waiting end.old)
+        (SaysGone (serves most_waiting) [] (λ became. became) end.old text.old.items end.new
+        said became)
         (Stays Became.Done end.old end.new became × (said ≡ text.old.items))) }
 {
-    if is_behind(end) {
-        go_on_behind(alloc, end, text)
+    if is_behind(end, most_waiting) {
+        go_on_behind(alloc, end, most_waiting, text)
     } else {
         Ok(Became::Done)
     }
@@ -146,31 +178,37 @@ fn go_on_if_left(
 fn resend_running(
     alloc: Global,
     end: &mut ServingEnd,
+    most_waiting: u64,
     text: &mut Vec<u8>,
 ) -> Result<Became, AllocError>
     requires { text.old.items ≡ [] }
-    ensures ok { IfOk result (Resends end.old end.new text.new.items) }
+    ensures ok { IfOk result (Resends most_waiting end.old end.new text.new.items) }
     ensures err { OnErr result ((end.new ≡ end.old) ⊎ ((said : List ℕ) × (became : TheBecame)
-        × Resends end.old end.new said became)) }
+        × Resends most_waiting end.old end.new said became)) }
 {
     push_again(end.link(), text)?;
-    go_on_if_left(alloc, end, text)
+    go_on_if_left(alloc, end, most_waiting, text)
 }
 
 /// Sends all segments again that aren't acknowledged, and goes on.
-fn resend(alloc: Global, end: &mut ServingEnd, text: &mut Vec<u8>) -> Result<Became, AllocError>
+fn resend(
+    alloc: Global,
+    end: &mut ServingEnd,
+    most_waiting: u64,
+    text: &mut Vec<u8>,
+) -> Result<Became, AllocError>
     requires { text.old.items ≡ [] }
     ensures ok { IfOk result (λ became. UnlessFailed end.old.port.link text.new.items
         (Stays Became.Done end.old end.new became)
-        (Resends end.old end.new text.new.items became)) }
+        (Resends most_waiting end.old end.new text.new.items became)) }
     ensures err { OnErr result ((end.new ≡ end.old) ⊎ ((said : List ℕ) × (became : TheBecame)
         × UnlessFailed end.old.port.link said (Stays Became.Done end.old end.new became)
-        (Resends end.old end.new said became))) }
+        (Resends most_waiting end.old end.new said became))) }
 {
     if end.link().has_failed() {
         return push_link_refusal(text, LinkFault::Failed);
     }
-    resend_running(alloc, end, text)
+    resend_running(alloc, end, most_waiting, text)
 }
 
 /// Makes the link anew, over the same files.
@@ -265,9 +303,10 @@ fn act(serving: &mut Serving, order: Order<'_>, text: &mut Vec<u8>) -> Result<Be
     ensures known { OnErr result (IsForServing order.entry) }
 {
     let alloc = serving.alloc;
+    let most_waiting = serving.most_waiting;
     match order {
-        Order::Packet(digits) => take_packet(alloc, &mut serving.end, &digits, text),
-        Order::Resend => resend(alloc, &mut serving.end, text),
+        Order::Packet(digits) => take_packet(alloc, &mut serving.end, most_waiting, &digits, text),
+        Order::Resend => resend(alloc, &mut serving.end, most_waiting, text),
         Order::Ack => say_ack(serving.end.link(), text),
         Order::New(anew) => renew(serving, anew, text),
         Order::Files => list_files(&serving.end, text),
@@ -314,6 +353,6 @@ impl Answers for Serving {
     }
 
     fn waits(&self) -> usize {
-        waits(self.end.link(), is_behind(&self.end))
+        waits(self.end.link(), is_behind(&self.end, self.most_waiting))
     }
 }

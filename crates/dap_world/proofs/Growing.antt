@@ -27,7 +27,7 @@ moved_way from to messages given inbox place outbox way =
       listening = way.listening;
       there = way.there;
       back = way.back;
-      sends = record { queue = way.sends.queue; acked = way.sends.acked };
+      sends = record { queue = way.sends.queue; acked = way.sends.acked; part = way.sends.part };
       stands = way.stands;
       short = way.short;
       few = way.few;

@@ -75,7 +75,7 @@ writes_more from to messages given sent w way written =
       listening = way.listening;
       there = way.there;
       back = way.back;
-      sends = record { queue = way.sends.queue; acked = way.sends.acked };
+      sends = record { queue = way.sends.queue; acked = way.sends.acked; part = way.sends.part };
       stands = way.stands;
       short = way.short;
       few = way.few;

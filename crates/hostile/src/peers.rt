@@ -15,6 +15,9 @@ use std::alloc::Global;
 /// The buffer of each end.
 const BUFFER: u16 = 1024;
 
+/// The end that serves goes on while fewer bytes wait than this.
+const MOST_WAITING: u64 = 1 << 20;
+
 /// What an end does with its link. Each packet that it writes is kept, in order from 0.
 #[derive(Clone, Copy)]
 enum Deed {
@@ -215,13 +218,13 @@ fn serving_takes(
     packet: &[u8],
     out: &mut Vec<Vec<u8>>,
 ) -> Result<(), Trouble> {
-    end.take(packet, out)?;
+    end.take(packet, MOST_WAITING, out)?;
     Ok(())
 }
 
 /// The end that serves goes on.
 fn serving_goes_on(end: &mut ServingEnd, out: &mut Vec<Vec<u8>>) -> Result<(), Trouble> {
-    match end.go_on(out) {
+    match end.go_on(MOST_WAITING, out) {
         Ok(()) => Ok(()),
         Err(fault) => Err(stopped(fault == LinkFault::NoMemory)),
     }

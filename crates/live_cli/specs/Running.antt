@@ -31,7 +31,7 @@ AnswersAll {E} answered waiting first input written holds status =
 
 abbrev pub GivesAs : Role → Options → List ℕ → (written holds : Option (List ℕ)) → ℕ → Type 0
 GivesAs Serve o input written holds status =
-    (first : Serving) × serving.IsNew (setup_of o) o.buffer [] first × AnswersAll serving.answered serving.waiting first input written holds status
+    (first : Serving) × serving.IsNew (setup_of o) o.buffer o.waiting [] first × AnswersAll serving.answered serving.waiting first input written holds status
 GivesAs Ask o input written holds status =
     (first : Asking) × asking.IsNew (setup_of o) o.buffer first × AnswersAll asking.answered asking.waiting first input written holds status
 

@@ -7,7 +7,7 @@ use Rattle.clap.specs.declared.builder.value_parser.ValueParser.TheVariants as p
 use Rattle.dap_msg.specs.BothEnds.{greatest_message, least_buffer}
 use Rattle.nsp_link.specs.Limits.{largest_segment, largest_window}
 use Rattle.dap_text.specs.Text.{word_text}
-use Rattle.dap_text.specs.Words.{short}
+use Rattle.dap_text.specs.Words.{decimal_of, short}
 use Rattle.dap_live.specs.Orders.{address_of}
 use Rattle.live_cli.specs.declared.words.Options.{Options}
 use Rattle.live_cli.specs.declared.words.Role.{Role}
@@ -15,10 +15,20 @@ use Rattle.live_cli.specs.declared.words.Role.TheVariants.{Serve, Ask}
 use Rattle.live_cli.specs.declared.words.Task.{Task}
 use Rattle.live_cli.specs.declared.words.Task.TheVariants.{End, Follow}
 
+-- the bytes that may wait while an end serves more: between these, and what is usual
+abbrev pub least_waiting : ℕ
+least_waiting = 64
+
+abbrev pub greatest_waiting : ℕ
+greatest_waiting = 1073741824
+
+abbrev pub usual_waiting : ℕ
+usual_waiting = 1048576
+
 -- the word of an end, and how it is set up by that word alone
 abbrev pub usual : Role → Text × Options
-usual Serve = (codes "serve", record { role = Serve; local = 514; remote = 257; segment = 512; window = 8; buffer = 1024 })
-usual Ask = (codes "ask", record { role = Ask; local = 257; remote = 514; segment = 512; window = 8; buffer = 1024 })
+usual Serve = (codes "serve", record { role = Serve; local = 514; remote = 257; segment = 512; window = 8; buffer = 1024; waiting = usual_waiting })
+usual Ask = (codes "ask", record { role = Ask; local = 257; remote = 514; segment = 512; window = 8; buffer = 1024; waiting = usual_waiting })
 
 -- ---- The command line, in the words of `clap`.
 
@@ -37,16 +47,25 @@ end_line (word, o) = fold with_rule (new_app word)
     ∷ number (codes "segment") (decimal o.segment) 1 largest_segment ∷ number (codes "window") (decimal o.window) 1 largest_window
     ∷ number (codes "buffer") (decimal o.buffer) least_buffer greatest_message ∷ [])
 
+-- those of the end that serves
+abbrev pub serve_line : App
+serve_line = with_rule (end_line (usual Serve)) (number (codes "waiting") (decimal usual_waiting) least_waiting greatest_waiting)
+
 -- all words: one of three names is wanted
 abbrev pub daplive : App
 daplive = fold with_subcommand (new_program (codes "daplive"))
-    ((end_line (usual Serve)).top ∷ (end_line (usual Ask)).top ∷ (new_app (codes "follow")).top ∷ [])
+    (serve_line.top ∷ (end_line (usual Ask)).top ∷ (new_app (codes "follow")).top ∷ [])
 
 -- ---- What they say.
 
 -- an option's value is read, and then what follows
 abbrev pub value : {X : Type 0} → List Row → (read : Text → Option ℕ) → (name : Text) → (ℕ → Option X) → Option X
 value rows read name next = option_and_then next (option_and_then read (first_of name rows))
+
+-- how many bytes may wait while an end serves more; an end that asks isn't told
+abbrev pub waiting_of : Role → List Row → Option ℕ
+waiting_of Serve rows = option_and_then (decimal_of greatest_waiting) (first_of (codes "waiting") rows)
+waiting_of Ask rows = Some usual_waiting
 
 -- How an end is set up: each address is four hex digits, each number decimal digits. Those of a buffer have 64 at least,
 -- else they are at fault.
@@ -57,7 +76,15 @@ options_of role rows =
     value rows short (codes "segment") (λ segment.
     value rows short (codes "window") (λ window.
     value rows short (codes "buffer") (λ buffer.
-    Some (record { role = role; local = local; remote = remote; segment = segment; window = window; buffer = max least_buffer buffer }))))))
+    option_and_then (λ waiting. Some (record {
+      role = role;
+      local = local;
+      remote = remote;
+      segment = segment;
+      window = window;
+      buffer = max least_buffer buffer;
+      waiting = waiting;
+    })) (waiting_of role rows))))))
 
 abbrev pub task_in : Text × List Row → Option Task
 task_in p =

@@ -12,8 +12,8 @@ ghost use Rattle.live_cli.specs.Running.{setup_of};
 pub fn inputs_have_one_text()
     ensures serving { (options : TheOptions)
         → HaveOneText serving.answered serving.waiting
-        (λ one other. serving.IsNew (setup_of options) options.buffer [] one
-        × serving.IsNew (setup_of options) options.buffer [] other) }
+        (λ one other. serving.IsNew (setup_of options) options.buffer options.waiting [] one
+        × serving.IsNew (setup_of options) options.buffer options.waiting [] other) }
     ensures asking { (options : TheOptions)
         → HaveOneText asking.answered asking.waiting
         (λ one other. asking.IsNew (setup_of options) options.buffer one

@@ -89,7 +89,8 @@ fn serve<R: BufRead, W: Write, E: Write>(
         (W.contents writer.old) (W.contents writer.new) result
         ⊎ (Keeps (W.contents writer.old) (W.contents writer.new) × (result ≡ 3))) }
 {
-    match Serving::new(alloc, options.buffer, link_setup(options)) {
+    let most_waiting = u64::from(options.waiting);
+    match Serving::new(alloc, options.buffer, link_setup(options), most_waiting) {
         Ok(mut end) => converse(alloc, &mut end, reader, writer, error_writer),
         Err(fault) => no_end(fault, error_writer),
     }

@@ -8,8 +8,8 @@ ghost use Rattle.nsp_link.specs.Limits.{largest_segment, largest_window};
 ghost use Rattle.clap.specs.declared.builder.command.Command.TheViews.{out-Command};
 ghost use Rattle.dap_text.specs.Words.{short};
 ghost use Rattle.dap_live.specs.Orders.{address_of};
-ghost use Rattle.live_cli.specs.Words.{daplive, option as option_rule, options_of, task_in as task_of_rows, task_of};
-ghost use Rattle.live_cli.specs.Inner.CommandLine.{HasAddresses, HasLimits, HasRoom, IsCommandLine, IsEndLine};
+ghost use Rattle.live_cli.specs.Words.{daplive, greatest_waiting, least_waiting, option as option_rule, options_of, task_in as task_of_rows, task_of, waiting_of};
+ghost use Rattle.live_cli.specs.Inner.CommandLine.{HasAddresses, HasLimits, HasRoom, HasWaiting, IsCommandLine, IsEndLine};
 
 use clap::builder::ValueParser;
 use clap::error::ErrorKind;
@@ -159,6 +159,37 @@ fn buffers<'a>() -> ValueParser<'a>
     value_parser!(u16).range(LEAST_BUFFER as i64..=GREATEST_MESSAGE as i64)
 }
 
+/// The bytes that may wait while an end serves more: 64 to 1,073,741,824.
+const LEAST_WAITING: i64 = 64;
+
+const GREATEST_WAITING: u32 = 1 << 30;
+
+/// What may wait where nothing is said: 1 MiB.
+const USUAL_WAITING: u32 = 1 << 20;
+
+/// The bytes that may wait.
+fn waitings<'a>() -> ValueParser<'a>
+    ensures { result ≡ parser.Signed (pos least_waiting) (pos greatest_waiting) }
+{
+    value_parser!(u32).range(LEAST_WAITING..=GREATEST_WAITING as i64)
+}
+
+/// The option that only the end that serves has.
+fn with_waiting<'a>(alloc: Global, command: Command<'a>) -> Result<Command<'a>, Error>
+    ensures added { IfOk result (HasWaiting command.entry) }
+    ensures memory { IfErr result (λ error. kind_of error ≡ ErrorKind.OutOfMemory) }
+{
+    let waiting = number(
+        alloc,
+        "waiting",
+        "BYTES",
+        "1048576",
+        "Serves the next message while fewer bytes of answers wait, 64 to 1073741824",
+        waitings(),
+    );
+    command.arg(waiting)
+}
+
 /// The limits of an end.
 fn with_limits<'a>(alloc: Global, command: Command<'a>) -> Result<Command<'a>, Error>
     ensures added { IfOk result (HasLimits command.entry) }
@@ -224,7 +255,8 @@ fn command_line<'a>(alloc: Global) -> Result<Command<'a>, Error>
         .about(ABOUT)
         .subcommand_required(true)
         .disable_help_subcommand(true);
-    let command = command.subcommand(end_command(alloc, &SERVING)?)?;
+    let serving = end_command(alloc, &SERVING)?;
+    let command = command.subcommand(with_waiting(alloc, serving)?)?;
     let command = command.subcommand(end_command(alloc, &ASKING)?)?;
     let command = command.subcommand(follow_command(alloc))?;
     Ok(command)
@@ -247,6 +279,8 @@ pub struct Options {
     pub window: u16,
     /// At least 64.
     pub buffer: u16,
+    /// The bytes that may wait while the end that serves goes on; of no meaning to the end that asks.
+    pub waiting: u32,
 }
 
 /// What the program does (own).
@@ -295,6 +329,19 @@ fn read_short(text: &str) -> Option<u16>
     Some(number as u16)
 }
 
+/// How many bytes may wait while an end serves more; an end that asks isn't told.
+fn waiting_in(role: Role, matches: &ArgMatches<'_>) -> Option<u32>
+    ensures { result ≡ waiting_of role (rows_of (found_of matches.now)) }
+{
+    match role {
+        Role::Serve => match text_in(matches, "waiting") {
+            Some(text) => read_number(text.as_bytes(), GREATEST_WAITING),
+            None => None,
+        },
+        Role::Ask => Some(USUAL_WAITING),
+    }
+}
+
 /// How an end is set up, or `None` where an address isn't four hex digits or a number isn't decimal digits.
 fn options_in(role: Role, matches: &ArgMatches<'_>) -> Option<Options>
     ensures options { result ≡ options_of role (rows_of (found_of matches.now)) }
@@ -305,6 +352,7 @@ fn options_in(role: Role, matches: &ArgMatches<'_>) -> Option<Options>
     let segment = number_in(matches, "segment")?;
     let window = number_in(matches, "window")?;
     let buffer = number_in(matches, "buffer")?.max(LEAST_BUFFER);
+    let waiting = waiting_in(role, matches)?;
     Some(Options {
         role,
         local,
@@ -312,6 +360,7 @@ fn options_in(role: Role, matches: &ArgMatches<'_>) -> Option<Options>
         segment,
         window,
         buffer,
+        waiting,
     })
 }
 

@@ -20,6 +20,8 @@ use Rattle.nsp_link.specs.Sending.{queued_link}
 use Rattle.nsp_link.proofs.Growing as growing
 use Rattle.nsp_link.proofs.Numbers as by_number
 use Rattle.nsp_link.proofs.Written as written
+-- the bytes that wait: of what is queued too, and of what is acknowledged
+pub use Rattle.nsp_link.proofs.Waiting.{bytes_queued, fewer_wait, none_waits}
 -- what an end may do, part by part
 pub use Rattle.nsp_link.proofs.Allowed.{may_send_by, may_send_parts, may_queue_by, may_queue_parts}
 

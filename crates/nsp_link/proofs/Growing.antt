@@ -5,7 +5,7 @@ use Rattle.std.proofs.lemmas.List.{length-append, take-append-le, get_or_append_
 use Rattle.std.proofs.lemmas.Option.{slice_get_within, get_or_from_slice_get, slice_get-get_or}
 use Rattle.nsp_seg.specs.declared.packet.Packet.{Packet}
 use Rattle.nsp_seg.specs.declared.packet.Packet.TheVariants.{Segment, DataAck}
-use Rattle.nsp_link.specs.Cutting.{Piece, cut}
+use Rattle.nsp_link.specs.Cutting.{Piece, cut, part_after}
 use Rattle.std.specs.List.{AllByRecursion}
 use Rattle.nsp_link.specs.declared.link.LinkSetup.{LinkSetup}
 use Rattle.nsp_link.specs.Coming.{nothing_came, taken_all}
@@ -53,8 +53,8 @@ unfolding taken_all
 stands_new s size ms = record { taken = refl; held = tt }
 
 pub sends_new : (s : LinkSetup) → Sends (new_link s) []
-unfolding cut
-sends_new s = record { queue = refl; acked = omega arith }
+unfolding cut part_after
+sends_new s = record { queue = refl; acked = omega arith; part = refl }
 
 -- more messages are sent
 pub sends_all : (v : LinkValue) (messages more : List (List ℕ)) → Sends v messages → Sends (queued_link v (cut v.setup.seg_size more)) (messages ++ more)
@@ -63,6 +63,7 @@ sends_all v messages more sends =
     record {
       queue = rw (joined, drop-append-le v.acked (cut v.setup.seg_size messages) (cut v.setup.seg_size more) sends.acked, sends.queue) refl;
       acked = rw joined (omega (arith, length-append (cut v.setup.seg_size messages) (cut v.setup.seg_size more), sends.acked));
+      part = rw (joined, take-append-le v.acked (cut v.setup.seg_size messages) (cut v.setup.seg_size more) sends.acked) sends.part;
     }
 
 -- the oldest message that waits is handed out

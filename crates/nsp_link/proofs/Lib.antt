@@ -1,4 +1,5 @@
 pub mod Counts
+pub mod Waiting
 pub mod Allowed
 pub mod Placing
 pub mod Taking

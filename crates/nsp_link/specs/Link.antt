@@ -15,7 +15,7 @@ use Rattle.nsp_link.specs.declared.link.Got.{Got}
 use Rattle.nsp_link.specs.declared.link.Got.TheVariants.{Accepted, Repeat, Early, AckOnly}
 use Rattle.nsp_link.specs.declared.fault.LinkFault.{LinkFault}
 use Rattle.nsp_link.specs.declared.fault.LinkFault.TheVariants.{BadSetup, NoMemory}
-use Rattle.nsp_link.specs.Cutting.{Piece, cut}
+use Rattle.nsp_link.specs.Cutting.{Piece, cut, bytes_in, part_after}
 use Rattle.nsp_link.specs.Coming.{Coming, nothing_came, taken_all}
 use Rattle.nsp_link.specs.Holding.{AreHeld, following}
 use Rattle.nsp_link.specs.Limits.{largest_segment, largest_window, greatest_age, least_limit, largest_limit, most_segments}
@@ -26,6 +26,8 @@ pub record LinkValue : Type 0 where
   pub sent : ℕ
   pub acked : ℕ
   pub queue : List Piece
+  -- how many bytes of the message to which the oldest of these belongs are acknowledged
+  pub part : ℕ
   -- what it has of the other's messages, and early segments by their numbers
   pub coming : Coming
   pub held : List (ℕ × Piece)
@@ -47,6 +49,7 @@ new_link s = record {
   sent = 0;
   acked = 0;
   queue = [];
+  part = 0;
   coming = nothing_came;
   held = [];
   failed = false;
@@ -77,6 +80,19 @@ AreShort v messages = All (λ m. length m ≤ v.setup.max_message) messages
 pub record Sends (v : LinkValue) (messages : List (List ℕ)) : Type 0 where
   pub queue : v.queue ≡ drop v.acked (cut v.setup.seg_size messages)
   pub acked : v.acked ≤ length (cut v.setup.seg_size messages)
+  pub part : v.part ≡ part_after 0 (take v.acked (cut v.setup.seg_size messages))
+
+-- The first of these messages are acknowledged whole, and of the next one the last segment isn't: these are left.
+pub record AreUnfinished (size : ℕ) (messages : List (List ℕ)) (acked : ℕ) (left : List (List ℕ)) : Type 0 where
+  pub done : List (List ℕ)
+  pub all : messages ≡ done ++ left
+  pub whole : length (cut size done) ≤ acked
+  pub next : (m : List ℕ) (later : List (List ℕ)) → left ≡ m ∷ later → acked < length (cut size (done ++ m ∷ []))
+
+-- How many bytes wait at this end: those of each message that was sent, the whole message until its last segment is
+-- acknowledged.
+abbrev pub waiting_bytes : LinkValue → ℕ
+waiting_bytes v = v.part + bytes_in v.queue
 
 -- whatever messages were sent, they are those that were sent still
 abbrev pub SendsStill : LinkValue → LinkValue → Type 0
@@ -200,7 +216,8 @@ held_after v (Some k) p =
 
 -- an end whose oldest segments are acknowledged
 abbrev pub forgotten : LinkValue → ℕ → LinkValue
-forgotten v count = record v { acked = v.acked + count; queue = drop count v.queue }
+forgotten v count =
+    record v { acked = v.acked + count; queue = drop count v.queue; part = part_after v.part (take count v.queue) }
 
 -- A packet of a peer, which cuts these messages, none longer than this end takes, by this size: the k-th of their segments
 -- or none, with an acknowledgement of the first a of this end's. It isn't stale, and not further ahead than the numbers

@@ -10,10 +10,10 @@ ghost use Rattle.nsp_link.specs.declared.link.LinkSetup.{LinkSetup};
 ghost use Rattle.nsp_link.specs.declared.link.Got.{Got as TheGot};
 ghost use Rattle.nsp_link.specs.declared.fault.LinkFault.{LinkFault as TheFault};
 ghost use Rattle.nsp_link.specs.declared.fault.LinkFault.TheVariants.{NoMemory};
-ghost use Rattle.nsp_link.specs.Cutting.{Piece, cut};
+ghost use Rattle.nsp_link.specs.Cutting.{Piece, cut, total_length};
 ghost use Rattle.nsp_link.specs.Holding.{following, closed_up};
 ghost use Rattle.nsp_link.specs.Limits.{greatest_age};
-ghost use Rattle.nsp_link.specs.Link.{LinkValue, IsLink, Carries, Sends, Stands, Writes, new_link};
+ghost use Rattle.nsp_link.specs.Link.{LinkValue, IsLink, AreUnfinished, Carries, Sends, Stands, Writes, new_link, waiting_bytes};
 ghost use Rattle.nsp_link.specs.Receiving.{Receives};
 ghost use Rattle.nsp_link.specs.Sending.{queued_link};
 ghost use Rattle.nsp_link.specs.Separation.{IsSegmentNear, IsAckNear};
@@ -76,4 +76,18 @@ pub fn held_by_number()
     ensures keeps { (k : ℕ) (p : Piece) (held : List (ℕ × Piece))
         → keys_of (insert_key (λ a b. nat_cmp a.0 b.0) held (k, p))
         ≡ insert_key nat_cmp (keys_of held) k }
+{}
+
+/// The bytes that wait are those of the messages that were sent and aren't acknowledged whole; they are more by each message
+/// that is sent, and no more by any bytes that come. Own.
+pub fn whole_messages_wait()
+    ensures whole { (v : LinkValue) (messages : List (List ℕ)) → 0 < v.setup.seg_size
+        → Sends v messages → (left : List (List ℕ))
+        × AreUnfinished v.setup.seg_size messages v.acked left
+        × (waiting_bytes v ≡ total_length left) }
+    ensures sent { (v : LinkValue) (more : List (List ℕ)) → 0 < v.setup.seg_size
+        → waiting_bytes (queued_link v (cut v.setup.seg_size more))
+        ≡ waiting_bytes v + total_length more }
+    ensures came { (old new : LinkValue) (bytes : List ℕ) (r : Result TheGot TheFault)
+        → Receives old new bytes r → waiting_bytes new ≤ waiting_bytes old }
 {}

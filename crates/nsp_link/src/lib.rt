@@ -14,7 +14,7 @@ mod sending;
 pub use fault::LinkFault;
 pub use laws::{
     distances_separate, held_by_number, messages_only_grow, receiving_is_determined,
-    whole_messages_are_taken,
+    whole_messages_are_taken, whole_messages_wait,
 };
 pub use link::{
     GREATEST_AGE, Got, LARGEST_LIMIT, LARGEST_SEGMENT, LARGEST_WINDOW, LinkEnd, LinkSetup,

@@ -2,7 +2,7 @@
 
 ghost use Rattle.std.specs.Prelude.{◌≡◌, ◌-◌, ◌≤◌, [], length, true, false, IfOk, IfErr, slice_get, unwrap_or};
 ghost use Rattle.std.specs.Option.{option_copied};
-ghost use Rattle.nsp_link.specs.Link.{IsSetup, SetupFault, IsLink, new_link};
+ghost use Rattle.nsp_link.specs.Link.{IsSetup, SetupFault, IsLink, new_link, waiting_bytes};
 
 use crate::fault::LinkFault;
 use crate::incoming::{Incoming, begun_len};
@@ -66,6 +66,10 @@ pub struct LinkEnd {
     pub(crate) queue: VecDeque<Segment>,
     pub(crate) sent: u64,
     pub(crate) acked: u64,
+    /// The bytes that are acknowledged of the message to which the oldest segment of the queue belongs.
+    pub(crate) part: u64,
+    /// Those bytes, and the bytes of the queue.
+    pub(crate) waiting: u64,
     pub(crate) incoming: Incoming,
     pub(crate) held: Ring,
     pub(crate) early: usize,
@@ -101,6 +105,8 @@ impl LinkEnd {
             queue: VecDeque::new(alloc),
             sent: 0,
             acked: 0,
+            part: 0,
+            waiting: 0,
             incoming: Incoming {
                 received: 0,
                 partial: None,
@@ -150,6 +156,15 @@ impl LinkEnd {
         ensures valid { IsLink self.now }
     {
         (self.sent - self.acked) as usize
+    }
+
+    /// The bytes of the messages that were sent and aren't acknowledged, the whole message until its last segment is
+    /// acknowledged (own). It takes no memory.
+    pub fn waiting_bytes(&self) -> u64
+        ensures value { result ≡ waiting_bytes self.now }
+        ensures valid { IsLink self.now }
+    {
+        self.waiting
     }
 
     /// The oldest whole message, which stays (own). It takes no memory.

@@ -1,15 +1,16 @@
 //! Receiving: packets that come, the segments that they carry, and what they acknowledge.
 
-ghost use Rattle.std.specs.Prelude.{◌≡◌, ◌+◌, ◌<◌, ◌≤◌, ◌++◌, [], ◌∷◌, length, drop, Ok, Err, Some, None, IfOk, IfErr, OnOk, OnErr, IsTrue, MatchOption, MatchResult, ℕ, List, false};
+ghost use Rattle.std.specs.Prelude.{◌≡◌, ◌+◌, ◌<◌, ◌≤◌, ◌++◌, [], ◌∷◌, length, drop, take, Ok, Err, Some, None, IfOk, IfErr, OnOk, OnErr, IsTrue, MatchOption, MatchResult, ℕ, List, false};
 ghost use Rattle.nsp_seg.specs.declared.packet.SegFault.{SegFault};
 ghost use Rattle.nsp_seg.specs.declared.packet.Packet.{Packet};
 ghost use Rattle.nsp_seg.specs.Packets.{Spells, HasFault};
 ghost use Rattle.nsp_link.specs.declared.fault.LinkFault.TheVariants.{BadSequence, Failed, NoMemory, WrongLink, Malformed};
 ghost use Rattle.nsp_link.specs.declared.link.Got.TheVariants.{Accepted};
 ghost use Rattle.nsp_link.specs.Coming.{AllFit, RefusesAll};
+ghost use Rattle.nsp_link.specs.Cutting.{bytes_in, part_after};
 ghost use Rattle.nsp_link.specs.Link.{Stands, SendsStill, HandsOut, Keeps, got_of, first_ack, plain_ack, forgotten};
 ghost use Rattle.nsp_link.specs.Receiving.{newly_acked, run, segment_of, taking_in, is_end, stopped, NotTaken, Received, ReceivedBytes, ReceivedDue, UnrefusedDue};
-ghost use Rattle.nsp_link.specs.Inner.Pieces.{lent_piece};
+ghost use Rattle.nsp_link.specs.Inner.Pieces.{lent_piece, pieces};
 
 use crate::fault::LinkFault;
 use crate::incoming::take_run;
@@ -161,7 +162,9 @@ impl LinkEnd {
         requires { self.old.acked + count ≤ self.old.sent }
         ensures { self.new ≡ forgotten self.old count }
     {
-        drop_front(&mut self.queue, count);
+        let (part, waiting) = drop_front(&mut self.queue, self.part, self.waiting, count);
+        self.part = part;
+        self.waiting = waiting;
         self.acked += count as u64;
     }
 
@@ -235,14 +238,29 @@ fn ends_link(fault: LinkFault) -> bool
     matches!(fault, LinkFault::BadSequence | LinkFault::MessageTooLong)
 }
 
-/// Drops so many from the front.
-fn drop_front(queue: &mut VecDeque<Segment>, count: usize)
-    requires { count ≤ length queue.old.items }
-    ensures { queue.new.items ≡ drop count queue.old.items }
+/// Drops so many from the front, and tells how many bytes of the message to which the next one belongs are gone, and how many
+/// bytes wait then, where these were so many.
+fn drop_front(queue: &mut VecDeque<Segment>, part: u64, waiting: u64, count: usize) -> (u64, u64)
+    requires few { count ≤ length queue.old.items }
+    requires counted { waiting ≡ part + bytes_in (pieces queue.old.items) }
+    ensures queue { queue.new.items ≡ drop count queue.old.items }
+    ensures part { result.0 ≡ part_after part (take count (pieces queue.old.items)) }
+    ensures counted { result.1 ≡ result.0 + bytes_in (pieces queue.new.items) }
+    ensures fewer { result.1 ≤ waiting }
 {
+    let mut part = part;
+    let mut waiting = waiting;
     for _ in 0..count {
-        let _ = queue.pop_front();
+        let Some(segment) = queue.pop_front() else {
+            break;
+        };
+        part += segment.payload.len() as u64;
+        if segment.last {
+            waiting -= part;
+            part = 0;
+        }
     }
+    (part, waiting)
 }
 
 /// The number of a field that acknowledges segments of this subchannel.

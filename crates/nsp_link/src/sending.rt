@@ -8,7 +8,7 @@ ghost use Rattle.nsp_link.specs.Limits.{most_segments};
 ghost use Rattle.nsp_link.specs.Link.{SendsStill, SendsMore, StandsStill, may_send, Writes, IsSpelling, acknowledging};
 ghost use Rattle.nsp_link.specs.Sending.{WritesQueued, WritesSent, WritesNext, NextFault, ack_packet_of, queued_link, SendAllFault, may_queue};
 
-use crate::cutting::{check_all, queue_all, queue_message, segment_count};
+use crate::cutting::{check_all, queue_all, queue_message, segment_count, total_len};
 use crate::fault::LinkFault;
 use crate::incoming::MOST_SEGMENTS;
 use crate::link::LinkEnd;
@@ -42,7 +42,10 @@ impl LinkEnd {
         }
         let before = self.queue.len();
         match queue_message(self.alloc, &mut self.queue, size, count, message) {
-            Ok(()) => Ok(()),
+            Ok(()) => {
+                self.waiting += message.len() as u64;
+                Ok(())
+            }
             Err(_) => {
                 self.queue.truncate(before);
                 Err(LinkFault::NoMemory)
@@ -85,7 +88,10 @@ impl LinkEnd {
     {
         let before = self.queue.len();
         match queue_all(self.alloc, &mut self.queue, self.setup.seg_size, messages) {
-            Ok(()) => Ok(()),
+            Ok(()) => {
+                self.waiting += total_len(messages);
+                Ok(())
+            }
             Err(_) => {
                 self.queue.truncate(before);
                 Err(LinkFault::NoMemory)

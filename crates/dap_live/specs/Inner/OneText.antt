@@ -13,7 +13,8 @@ HasServed v = (past : Past) × IsAfter past v × (HasCome v.port ⊎ ((past ≡ 
 
 -- both ends are of one value
 abbrev pub AreSameServing : Serving → Serving → Type 0
-AreSameServing one other = (one.end ≡ other.end) × (one.setup ≡ other.setup) × HasServed one.end
+AreSameServing one other =
+    (one.end ≡ other.end) × (one.setup ≡ other.setup) × (one.most_waiting ≡ other.most_waiting) × HasServed one.end
 
 abbrev pub AreSameAsking : Asking → Asking → Type 0
 AreSameAsking one other =

@@ -7,7 +7,7 @@ use Rattle.dap_msg.specs.BothEnds.{greatest_message, least_buffer}
 use Rattle.nsp_link.specs.Limits.{largest_segment, largest_window}
 use Rattle.live_cli.specs.declared.words.Task.{Task}
 use Rattle.live_cli.specs.declared.words.Task.TheVariants.{End, Follow}
-use Rattle.live_cli.specs.Words.{daplive, number, option}
+use Rattle.live_cli.specs.Words.{daplive, greatest_waiting, least_waiting, number, option}
 
 -- the command is another with more words, none of them global
 pub record Becomes (before : Command) (line : App) (command : Command) : Type 0 where
@@ -33,6 +33,11 @@ end_line_by name own other =
     fold with_rule (new_app name)
     (option (codes "local") own ∷ option (codes "remote") other ∷ number (codes "segment") (codes "512") 1 largest_segment
     ∷ number (codes "window") (codes "8") 1 largest_window ∷ number (codes "buffer") (codes "1024") least_buffer greatest_message ∷ [])
+
+-- a command with the option that only the end that serves has
+abbrev pub HasWaiting : Command → Command → Type 0
+HasWaiting before =
+    Becomes before (with_rule (app_of before) (number (codes "waiting") (codes "1048576") least_waiting greatest_waiting))
 
 -- a command that is the command line of an end
 pub record IsEndLine (name own other : Text) (command : Command) : Type 0 where

@@ -1,7 +1,8 @@
 -- What the fields of a link end stand for.
-use Rattle.std.specs.Prelude.{Some, None, ◌≡◌, ◌+◌, length, slice_get}
+use Rattle.std.specs.Prelude.{Some, None, ◌≡◌, ◌≤◌, ◌+◌, ◌*◌, length, slice_get}
 use Rattle.nsp_link.specs.declared.link.LinkEnd.TheInside.{Inside}
-use Rattle.nsp_link.specs.Link.{LinkValue, IsLink}
+use Rattle.nsp_link.specs.Limits.{largest_limit}
+use Rattle.nsp_link.specs.Link.{LinkValue, IsLink, waiting_bytes}
 use Rattle.nsp_link.specs.Inner.Pieces.{pieces, coming_of, held_from}
 
 abbrev pub link_view : Inside → LinkValue
@@ -10,6 +11,7 @@ link_view a = record {
   sent = a.sent;
   acked = a.acked;
   queue = pieces a.queue.items;
+  part = a.part;
   coming = coming_of a.incoming;
   held = held_from (a.incoming.received + 1) a.held.items;
   failed = a.failed;
@@ -23,3 +25,6 @@ pub record IsEnd (a : Inside) : Type 0 where
   pub capacity : a.held.capacity ≡ a.setup.window
   pub free : slice_get a.held.items 0 ≡ Some None
   pub counted : a.early ≡ length (held_from (a.incoming.received + 1) a.held.items)
+  -- the bytes that wait are counted; of each segment, acknowledged or not, there are no more than of the longest message
+  pub waiting : a.waiting ≡ waiting_bytes (link_view a)
+  pub few_bytes : a.waiting ≤ largest_limit * (a.acked + length a.queue.items)

@@ -1,4 +1,3 @@
-use Rattle.std.proofs.Common.{inl}
 use Rattle.dap_end.proofs.Asked.{asked_past, counted, handed_past, read_grows}
 use Rattle.dap_end.proofs.Fronts.{here_front}
 use Rattle.dap_end.proofs.Going.{next_items}

@@ -35,4 +35,4 @@ pub returns-clause-go_on : goal.returns-clause-go_on
 returns-clause-go_on c = going_on_is (IsOneOf [])
 
 pub returns-clause-take : goal.returns-clause-take
-returns-clause-take c = λ old new bytes out all r t. taken_is (IsOneOf ((old.port.link, bytes) ∷ [])) old new bytes out all r (inl refl) t
+returns-clause-take c = λ most old new bytes out all r t. taken_is (IsOneOf ((old.port.link, bytes) ∷ [])) most old new bytes out all r (inl refl) t

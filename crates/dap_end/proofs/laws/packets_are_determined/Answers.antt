@@ -1,6 +1,5 @@
-use Rattle.std.proofs.Common.{◌≡◌, ◌+◌, ℕ, List, [], ◌∷◌, false, ◌∙◌, arith, refl, sym, ap}
-use Rattle.nsp_link.specs.Link.{LinkValue, may_send}
-use Rattle.dap_end.specs.Ports.{EndValue, PortValue}
+use Rattle.std.proofs.Common.{◌∙◌, sym, ap}
+use Rattle.nsp_link.specs.Link.{LinkValue}
 use Rattle.nsp_link.proofs.ForCallers.{receives_same}
 use Rattle.dap_end.proofs.Writing.{segment_one, one_there}
 use Rattle.dap_end.proofs.laws.packets_are_determined.Goals as goal

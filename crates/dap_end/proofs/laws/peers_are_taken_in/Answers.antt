@@ -1,5 +1,5 @@
-use Rattle.std.proofs.Common.{◌≡◌, ◌∙◌, refl, sym, subst, ap, [], false}
-use Rattle.nsp_link.specs.Link.{LinkValue, Stands}
+use Rattle.std.proofs.Common.{◌∙◌, refl, sym, subst, ap, []}
+use Rattle.nsp_link.specs.Link.{LinkValue}
 use Rattle.nsp_link.proofs.ForCallers.{stands_new}
 use Rattle.dap_end.specs.Ports.{PortValue}
 use Rattle.dap_end.specs.Done.{nothing_yet}

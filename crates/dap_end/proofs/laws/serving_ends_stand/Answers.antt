@@ -1,7 +1,7 @@
 use Rattle.std.proofs.Common.{ap, []}
 use Rattle.dap_accessed.specs.Present.{Present}
 use Rattle.dap_end.proofs.Afterwards.{posted_past}
-use Rattle.dap_end.proofs.Proceeding.{counted, on_grew}
+use Rattle.dap_end.proofs.Proceeding.{counted, turn_grew}
 use Rattle.dap_end.proofs.Fronts.{here_front}
 use Rattle.dap_end.proofs.Going.{next_items}
 use Rattle.dap_end.proofs.Running.{answers_from}
@@ -20,10 +20,10 @@ pub returns-clause-posted : goal.returns-clause-posted
 returns-clause-posted c = λ past old new n h p. posted_past old new n p past h
 
 pub returns-clause-served_on : goal.returns-clause-served_on
-returns-clause-served_on c = λ past old new h on. counted past old new h (on_grew old new on)
+returns-clause-served_on c = λ most past old new h on. counted past old new h (turn_grew most old new on)
 
 pub returns-clause-rest : goal.returns-clause-rest
-returns-clause-rest c = λ old new on. (let g = on_grew old new on in (g.own, g.link))
+returns-clause-rest c = λ most old new on. (let g = turn_grew most old new on in (g.own, g.link))
 
 pub returns-clause-next : goal.returns-clause-next
 returns-clause-next c = λ past v bytes later rest h came r. next_items past.given v.port.link.coming.inbox later bytes v.port.place past.items rest came h.gone r

@@ -10,4 +10,4 @@ returns-clause-err c =
     let old = c.args.end.now in
     let new = c.resend_running.new.end in
     err_from c.resend_running.result c.resend_running.ensures.err
-    (unless_reached old.port.link works _ old new (Resends old new))
+    (unless_reached old.port.link works _ old new (Resends c.args.most_waiting old new))

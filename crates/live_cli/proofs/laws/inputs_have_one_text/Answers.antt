@@ -8,7 +8,7 @@ returns-clause-serving c = λ options one other new end input text more lines ot
     let x = same.0 in
     let y = same.1 in
     serving_text one other new end input text more lines others
-    (new_serving [] one other x.0 y.0 (x.1.0 ∙ sym y.1.0) (x.1.1 ∙ sym y.1.1) (x.1.2 ∙ sym y.1.2) (ap (λ (p : PortValue). p.link.coming.inbox) x.1.0))
+    (new_serving [] one other x.0 y.0 (x.1.0 ∙ sym y.1.0) (x.1.1 ∙ sym y.1.1) (x.1.2 ∙ sym y.1.2) (x.2 ∙ sym y.2) (ap (λ (p : PortValue). p.link.coming.inbox) x.1.0))
     t u never
 
 pub returns-clause-asking : goal.returns-clause-asking

@@ -11,5 +11,5 @@ use Rattle.dap_end.proofs.serving.ServingEnd.answer.Goals as goal
 pub returns : goal.returns
 returns c =
     let served = serving_view c.self.inside in
-    let done = subst (λ (v : ServingValue). DidAll serves c.args.self.now v (Ok tt)) (sym c.self.view_is) c.in_ok-serve_all.ensures.ok in
-    answered_by serves c.args.self.now served _ c.args.got (bodies c.args.out.now.items) (bodies c.answer.new.out.items) c.answer.result done refl c.answer.ensures.ok c.answer.ensures.err
+    let done = subst (λ (v : ServingValue). DidAll (serves c.args.most_waiting) c.args.self.now v (Ok tt)) (sym c.self.view_is) c.in_ok-serve_all.ensures.ok in
+    answered_by (serves c.args.most_waiting) c.args.self.now served _ c.args.got (bodies c.args.out.now.items) (bodies c.answer.new.out.items) c.answer.result done refl c.answer.ensures.ok c.answer.ensures.err

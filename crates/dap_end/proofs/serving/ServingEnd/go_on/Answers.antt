@@ -10,5 +10,5 @@ use Rattle.dap_end.proofs.serving.ServingEnd.go_on.Goals as goal
 
 pub returns-clause-went : goal.returns-clause-went
 returns-clause-went c =
-    let done = subst (λ (v : ServingValue). DidAll serves c.args.self.now v (Ok tt)) (sym c.self.view_is) c.in_ok-serve_all.ensures.ok in
-    gone_by c.args.self.now (serving_view c.self.inside) c.emit_all.new.self (bodies c.args.out.now.items) (bodies c.emit_all.new.out.items) c.emit_all.result done c.emit_all.ensures.wrote c.emit_all.ensures.all c.emit_all.ensures.err
+    let done = subst (λ (v : ServingValue). DidAll (serves c.args.most_waiting) c.args.self.now v (Ok tt)) (sym c.self.view_is) c.in_ok-serve_all.ensures.ok in
+    gone_by c.args.most_waiting c.args.self.now (serving_view c.self.inside) c.emit_all.new.self (bodies c.args.out.now.items) (bodies c.emit_all.new.out.items) c.emit_all.result done c.emit_all.ensures.wrote c.emit_all.ensures.all c.emit_all.ensures.err

@@ -50,6 +50,8 @@ invariant_of-self c =
       capacity = c.fill.ensures.capacity ∙ c.self.invariant.capacity;
       free = front;
       counted = omega (arith, c.self.invariant.counted, put, filled);
+      waiting = c.self.invariant.waiting;
+      few_bytes = c.self.invariant.few_bytes;
     }
 
 pub returns-in_ok-payload-clause-ok : goal.returns-in_ok-payload-clause-ok

@@ -1,6 +1,7 @@
 use Rattle.std.proofs.Common.{◌+◌, ap, arith, length, List, sym, refl}
 use Rattle.nsp_link.specs.Inner.Pieces.{Segment}
 use Rattle.nsp_link.specs.Inner.Pieces.{pieces}
+use Rattle.nsp_link.specs.Cutting.{bytes_in}
 use Rattle.nsp_link.specs.Link.{IsSetup}
 use Rattle.nsp_link.proofs.Held.{held_end}
 use Rattle.nsp_link.proofs.link.LinkEnd.new.Goals as goal
@@ -26,4 +27,6 @@ invariant_of-result c =
       capacity = c.in_ok-held.ensures.capacity;
       free = front;
       counted = ap length (sym (c.in_ok-held.ensures.none 1));
+      waiting = omega (arith, ap (λ (ss : List Segment). bytes_in (pieces ss)) c.new.ensures.items);
+      few_bytes = omega arith;
     }

@@ -1,6 +1,9 @@
-use Rattle.std.proofs.Common.{◌≡◌, ◌+◌, ◌++◌, length, ◌∙◌, ap, arith, subst, sym, [], ◌∷◌}
+use Rattle.std.proofs.Common.{◌≡◌, ◌+◌, ◌++◌, length, ◌≤◌, ◌∙◌, ap, arith, ℕ, subst, sym, [], ◌∷◌}
 use Rattle.std.proofs.lemmas.List.{length-append, length-map}
-use Rattle.nsp_link.specs.Cutting.{cut_message}
+use Rattle.nsp_link.specs.Cutting.{cut_message, bytes_in}
+use Rattle.nsp_link.specs.Limits.{largest_limit}
+use Rattle.nsp_link.proofs.Taking.{count-positive}
+use Rattle.nsp_link.proofs.Waiting.{bytes-append, bytes-cut_message}
 use Rattle.nsp_link.specs.Link.{LinkValue, Sends}
 use Rattle.nsp_link.specs.Inner.View.{link_view}
 use Rattle.nsp_link.specs.Inner.Pieces.{piece, pieces}
@@ -16,6 +19,11 @@ invariant_of-self c =
     let longer : length (pieces c.queue_message.new.queue.items) ≡ length (pieces before) + length more = ap length c.in-Ok.ensures.ok ∙ length-append (pieces before) more in
     let mapped : length (pieces before) ≡ length before = length-map before piece in
     let link = c.self.invariant.link in
+    let size = c.self.inside.setup.seg_size in
+    let bytes : bytes_in (pieces c.queue_message.new.queue.items) ≡ bytes_in (pieces before) + length c.args.message.now =
+    ap bytes_in c.in-Ok.ensures.ok ∙ bytes-append (pieces before) more ∙ ap (λ (n : ℕ). bytes_in (pieces before) + n) (bytes-cut_message size c.args.message.now (omega (arith, link.setup.0))) in
+    let fits : length c.args.message.now ≤ largest_limit = omega (arith, c.if-message-self.false, link.setup) in
+    let grown : length (pieces c.queue_message.new.queue.items) ≡ length c.queue_message.new.queue.items = length-map c.queue_message.new.queue.items piece in
     record {
       link = record {
         setup = link.setup;
@@ -31,6 +39,8 @@ invariant_of-self c =
       capacity = c.self.invariant.capacity;
       free = c.self.invariant.free;
       counted = c.self.invariant.counted;
+      waiting = omega (arith, c.self.invariant.waiting, bytes);
+      few_bytes = omega (arith, c.self.invariant.few_bytes, longer, mapped, grown, counted, count-positive c.self.inside.setup.seg_size (length c.args.message.now), fits);
     }
 
 pub returns-in-Ok-clause-sends : goal.returns-in-Ok-clause-sends

@@ -41,6 +41,8 @@ invariant_of-self-2 c =
       capacity = c.advance.ensures.capacity ∙ c.self.invariant.capacity;
       free = front;
       counted = omega (arith, c.self.invariant.counted, left, c.in_ok-count.ensures.count, on);
+      waiting = c.self.invariant.waiting;
+      few_bytes = c.self.invariant.few_bytes;
     }
 
 pub returns-clause-ok : goal.returns-clause-ok
