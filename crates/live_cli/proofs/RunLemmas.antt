@@ -4,7 +4,7 @@ use Rattle.std.specs.Prelude.{Option, Some, None, IfSome, fold}
 use Rattle.std.specs.Fmt.{digits}
 use Rattle.std.specs.Io.KnownBytes.{Keeps}
 use Rattle.hex.specs.Hex.{decode_pairs}
-use Rattle.clap.specs.Words.{Text, fault_of, is_simple, is_simple_and_free, new_app, with_rule, with_subcommand}
+use Rattle.clap.specs.Words.{Text, fault_of, is_simple, is_simple_and_free, new_app, with_subcommand}
 use Rattle.cli_faults.specs.Programs.{new_program}
 use Rattle.clap.proofs.OnLiterals.{clap_on_literals}
 use Rattle.live_cli.specs.declared.words.Role.{Role}
@@ -13,8 +13,8 @@ use Rattle.live_cli.specs.declared.words.Task.{Task}
 use Rattle.live_cli.specs.declared.words.Task.TheVariants.{End, Follow}
 use Rattle.dap_listing.specs.declared.fault.CaptureFault.TheVariants.{NoMemory}
 use Rattle.live_cli.specs.Running.{TaskGives}
-use Rattle.live_cli.specs.Words.{daplive, greatest_waiting, least_waiting, number, task_of, usual}
-use Rattle.live_cli.specs.Inner.CommandLine.{end_line_by}
+use Rattle.live_cli.specs.Words.{daplive, task_of, usual}
+use Rattle.live_cli.specs.Inner.CommandLine.{end_line_by, serve_line_by}
 
 pub some_from : {X : Type 0} {P Q : X → Type 0} (o : Option X) → IfSome o P → ((x : X) → P x → Q x) → IfSome o Q
 some_from None holds next = tt
@@ -22,7 +22,7 @@ some_from (Some x) holds next = next x holds
 
 -- the command line, with the digits of what is usual
 pub daplive_by : daplive ≡ fold with_subcommand (new_program (codes "daplive"))
-    ((with_rule (end_line_by (codes "serve") (codes "0202") (codes "0101")) (number (codes "waiting") (codes "1048576") least_waiting greatest_waiting)).top ∷ (end_line_by (codes "ask") (codes "0101") (codes "0202")).top
+    (serve_line_by.top ∷ (end_line_by (codes "ask") (codes "0101") (codes "0202")).top
     ∷ (new_app (codes "follow")).top ∷ [])
 unfolding digits
 daplive_by = refl

@@ -9,7 +9,7 @@ ghost use Rattle.clap.specs.declared.builder.command.Command.TheViews.{out-Comma
 ghost use Rattle.dap_text.specs.Words.{short};
 ghost use Rattle.dap_live.specs.Orders.{address_of};
 ghost use Rattle.live_cli.specs.Words.{daplive, greatest_waiting, least_waiting, option as option_rule, options_of, task_in as task_of_rows, task_of, waiting_of};
-ghost use Rattle.live_cli.specs.Inner.CommandLine.{HasAddresses, HasLimits, HasRoom, HasWaiting, IsCommandLine, IsEndLine};
+ghost use Rattle.live_cli.specs.Inner.CommandLine.{HasAddresses, HasLimits, HasRoom, HasWaiting, IsCommandLine, IsEndLine, IsServeLine};
 
 use clap::builder::ValueParser;
 use clap::error::ErrorKind;
@@ -187,7 +187,8 @@ fn with_waiting<'a>(alloc: Global, command: Command<'a>) -> Result<Command<'a>, 
         "Serves the next message while fewer bytes of answers wait, 64 to 1073741824",
         waitings(),
     );
-    command.arg(waiting)
+    let command = command.arg(waiting)?;
+    Ok(command)
 }
 
 /// The limits of an end.
@@ -236,6 +237,15 @@ fn end_command<'a>(alloc: Global, usual: &Usual) -> Result<Command<'a>, Error>
     with_limits(alloc, command)
 }
 
+/// The command line of the end that serves.
+fn serve_command<'a>(alloc: Global) -> Result<Command<'a>, Error>
+    ensures line { IfOk result IsServeLine }
+    ensures memory { IfErr result (λ error. kind_of error ≡ ErrorKind.OutOfMemory) }
+{
+    let command = end_command(alloc, &SERVING)?;
+    with_waiting(alloc, command)
+}
+
 /// The command line of the listing.
 fn follow_command<'a>(alloc: Global) -> Command<'a>
     ensures app { app_of result ≡ new_app (codes "follow") }
@@ -255,8 +265,7 @@ fn command_line<'a>(alloc: Global) -> Result<Command<'a>, Error>
         .about(ABOUT)
         .subcommand_required(true)
         .disable_help_subcommand(true);
-    let serving = end_command(alloc, &SERVING)?;
-    let command = command.subcommand(with_waiting(alloc, serving)?)?;
+    let command = command.subcommand(serve_command(alloc)?)?;
     let command = command.subcommand(end_command(alloc, &ASKING)?)?;
     let command = command.subcommand(follow_command(alloc))?;
     Ok(command)

@@ -44,6 +44,17 @@ pub record IsEndLine (name own other : Text) (command : Command) : Type 0 where
   pub app : app_of command ≡ end_line_by name own other
   pub local : (out-Command command).has_globals ≡ false
 
+-- the words behind `serve`
+abbrev pub serve_line_by : App
+serve_line_by =
+    with_rule (end_line_by (codes "serve") (codes "0202") (codes "0101"))
+    (number (codes "waiting") (codes "1048576") least_waiting greatest_waiting)
+
+-- a command that is the command line of the end that serves
+pub record IsServeLine (command : Command) : Type 0 where
+  pub app : app_of command ≡ serve_line_by
+  pub local : (out-Command command).has_globals ≡ false
+
 -- a command that is the program's command line
 pub record IsCommandLine (command : Command) : Type 0 where
   pub app : app_of command ≡ daplive

@@ -5,14 +5,14 @@ use Rattle.live_cli.proofs.words.command_line.Goals as goal
 
 pub returns-clause-line : goal.returns-clause-line
 returns-clause-line c =
-    let serve = c.in_ok-end_command.ensures.line in
-    let ask = c.in_ok-end_command-2.ensures.line in
+    let serve = c.in_ok-serve_command.ensures.line in
+    let ask = c.in_ok-end_command.ensures.line in
     let first = c.in_ok-command.ensures in
     let second = c.in_ok-command-2.ensures in
     let third = c.in_ok-command-3.ensures in
     let app = third.shape c.follow_command.ensures.local
     ∙ ap (λ (a : App). with_subcommand a (app_of c.follow_command.result).top) (second.shape ask.local
-    ∙ ap (λ (a : App). with_subcommand a (app_of c.in_ok-end_command-2.field-0).top) (first.shape serve.local))
+    ∙ ap (λ (a : App). with_subcommand a (app_of c.in_ok-end_command.field-0).top) (first.shape serve.local))
     ∙ search rules ∙ sym daplive_by in
     record {
       app = app;
