@@ -2,8 +2,7 @@
 """Writes the examples as a table of tests, crates/dap_cli_tests/src/examples.rt.
 
 usage: as_tests.py            writes the table
-       as_tests.py --check    ends with status 1 where the table isn't that of the examples, or the
-                              README doesn't show those that are named after it
+       as_tests.py --check    ends with status 1 where the table isn't that of the examples
 """
 import pathlib
 import sys
@@ -47,10 +46,6 @@ def table():
 
 def check():
     """What is wrong, or nothing."""
-    readme = (HERE.parent / "README.md").read_text()
-    for file in HERE.glob("readme_*"):
-        if file.read_text() not in readme:
-            return f"the README doesn't show {file.name}"
     if not TABLE.exists() or TABLE.read_text() != table():
         return f"{TABLE} isn't that of the examples: run examples/as_tests.py"
     return None

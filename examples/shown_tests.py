@@ -1,34 +1,75 @@
 #!/usr/bin/env python3
-"""Runs the commands that README.md and docs/LIVE.md show with what they print, and compares that: a block of shell
-commands, and directly behind it a block of text. The programs are those at the top of the repository, which are built
-where they aren't.
+"""Compares the commands that the pages show with what they print: a block of shell commands, and directly after it a
+block of text.
 
-usage: examples/shown_tests.py
+usage: shown_tests.py              runs the commands, by the programs at the top of the repository, which are built where
+                                   they aren't; those over two nodes are skipped where examples/two_nodes can't run
+       shown_tests.py --stored     runs nothing, and looks whether no commands lack their text, each text is in an .out
+                                   file of this folder, and each readme_* file is in a page
 """
 import pathlib
 import re
 import subprocess
+import sys
 
 from decnet import program
 
-ROOT = pathlib.Path(__file__).resolve().parent.parent
-PAGES = ["README.md", "docs/LIVE.md"]
+HERE = pathlib.Path(__file__).resolve().parent
+ROOT = HERE.parent
+PAGES = ["README.md", "docs/LISTING.md", "docs/LIVE.md", "docs/SCHEDULES.md"]
 BLOCK = r"((?:(?!```).*\n)+)```\n"
 SHOWN = re.compile(rf"^```sh\n{BLOCK}\n```\n{BLOCK}", re.M)
+TWO_NODES = "examples/two_nodes"
 SECONDS = 60
 
 
-def main():
-    program.no_words("shown_tests.py")
-    shown = 0
+def run(commands):
+    return subprocess.run(["bash", "-c", commands], cwd=ROOT, capture_output=True, text=True, timeout=SECONDS)
+
+
+def wrong_stored():
+    """What is wrong with what is stored, or nothing."""
+    texts = {page: (ROOT / page).read_text() for page in PAGES}
+    stored = {file.read_text() for file in HERE.glob("*.out")}
+    for page, text in texts.items():
+        shown = SHOWN.findall(text)
+        if len(shown) != text.count("```sh\n"):
+            return f"{page} has commands without what they print"
+        for commands, printed in shown:
+            if printed not in stored:
+                return f"{page}: no .out file has what it shows of these commands:\n{commands}"
+    for file in sorted(HERE.glob("readme_*")):
+        if not any(file.read_text() in text for text in texts.values()):
+            return f"no page shows {file.name}"
+    return None
+
+
+def play():
+    """Runs all commands."""
+    shown, skipped, has_nodes = 0, 0, run(f"{TWO_NODES} </dev/null").returncode == 0
     for page in PAGES:
         for commands, printed in SHOWN.findall((ROOT / page).read_text()):
-            run = subprocess.run(["bash", "-c", commands], cwd=ROOT, capture_output=True, text=True, timeout=SECONDS)
-            if run.stdout != printed:
-                shown_else = f"{page} shows something else of these commands:\n{commands}\n{run.stdout}{run.stderr}"
+            if TWO_NODES in commands and not has_nodes:
+                skipped += 1
+                continue
+            done = run(commands)
+            if done.stdout != printed:
+                shown_else = f"{page} shows something else of these commands:\n{commands}\n{done.stdout}{done.stderr}"
                 raise program.Fault(shown_else)
             shown += 1
-    print(f"examples: {shown} commands print what the pages show")
+    told = f"; {skipped} over two nodes can't be run here" if skipped else ""
+    print(f"examples: {shown} commands print what the pages show{told}")
+
+
+def main():
+    if sys.argv[1:] == ["--stored"]:
+        wrong = wrong_stored()
+        if wrong:
+            raise program.Fault(wrong)
+    elif sys.argv[1:]:
+        raise program.Fault("usage: shown_tests.py [--stored]", program.WORDS)
+    else:
+        play()
     return 0
 
 
