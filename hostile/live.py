@@ -15,6 +15,7 @@ the end may end at once with status 3 and 'no memory', before it answers any lin
 """
 import os
 import re
+import signal
 import subprocess
 import tempfile
 
@@ -456,19 +457,19 @@ class LiveEnds:
                 self.suite.until_none(f"daplive {role}, a write of {size} {what}", run, is_written(size))
 
     def unwritten(self, role):
-        """An end whose standard output is closed, is full or has no reader."""
+        """An end whose standard output is closed, is full or has no reader, which last ends it silently as SIGPIPE would."""
         words, given = [self.program, role], SHORT[role]
         reader, writer = os.pipe()
         os.close(reader)
         with open("/dev/full", "wb") as full, open(writer, "wb") as alone:
-            for what, shell, output in [
-                ("closed", ["sh", "-c", 'exec "$@" >&-', "sh"], subprocess.DEVNULL),
-                ("full", [], full),
-                ("without a reader", [], alone),
+            for what, shell, output, left in [
+                ("closed", ["sh", "-c", 'exec "$@" >&-', "sh"], subprocess.DEVNULL, (3, b"write failed\n")),
+                ("full", [], full, (3, b"write failed\n")),
+                ("without a reader", [], alone, (128 + signal.SIGPIPE, b"")),
             ]:
                 how = {"input": given, "stdout": output, "stderr": subprocess.PIPE, "timeout": SECONDS}
                 ran = subprocess.run([*shell, *words], **how)
-                is_right = ran.returncode == 3 and ran.stderr == b"write failed\n"
+                is_right = (ran.returncode, ran.stderr) == left
                 said = f"status {ran.returncode}, told {ran.stderr!r}"
                 self.count(f"daplive {role}, standard output is {what}", is_right, said)
 

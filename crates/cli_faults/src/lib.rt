@@ -1,7 +1,13 @@
-//! What is told where the words of a program are at fault, and the exit status.
+//! What is told where the words or the lines of a program are at fault, and the exit status.
 #![tactic(auto)]
 
+mod files;
+mod front;
+mod pipe;
 mod refusing;
+mod telling;
 
-pub use dap_listing::finish;
+pub use front::Fronted;
+pub use pipe::{CLOSED_PIPE, ErrorOutput, Output, exit_status};
 pub use refusing::refuse;
+pub use telling::{Reading, finish_reading};

@@ -3,4 +3,4 @@
 
 mod run;
 
-pub use run::run_words;
+pub use run::{run_program, run_words};

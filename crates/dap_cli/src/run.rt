@@ -5,12 +5,13 @@ ghost use Rattle.clap.specs.Words.{FailsBy, kind_of, fault_of};
 ghost use Rattle.dap_cli.specs.declared.run.Choice.{Choice};
 ghost use Rattle.dap_cli.specs.Inner.CommandLine.{HasOneMore, IsCommandLine};
 ghost use Rattle.cli_faults.specs.Mistakes.{AreMistakes};
-ghost use Rattle.dap_cli.specs.Run.{Chooses, RunGives, dapnsp, word_of};
+ghost use Rattle.dap_cli.specs.Run.{Answers, Chooses, RunGives, dapnsp, word_of};
 
 use clap::error::ErrorKind;
 use clap::{Command, Error};
-use cli_faults::{finish, refuse};
-use dap_capture::{messages, schedule, show};
+use cli_faults::{Fronted, Reading, finish_reading, refuse};
+use dap_capture::{CaptureFault, Outcome, messages, schedule, show};
+use dap_listing::finish;
 use std::alloc::Global;
 use std::io::{Read, Write};
 
@@ -115,10 +116,42 @@ fn read_words<'a>(alloc: Global, words: &'a [String]) -> Result<Choice, Error>
     }
 }
 
-/// Runs a command, and answers the exit status.
+/// What tells of the lines of a command.
+fn reading(choice: Choice) -> Reading {
+    let (command, lines) = match choice {
+        Choice::Show => ("show", "a capture"),
+        Choice::Msg => ("msg", "a capture"),
+        Choice::Run => ("run", "a schedule"),
+    };
+    Reading {
+        program: "dapnsp",
+        command,
+        lines,
+    }
+}
+
+/// Runs a command.
+fn run_lines<R: Read, W: Write>(
+    alloc: Global,
+    choice: Choice,
+    reader: &mut R,
+    writer: &mut W,
+) -> Result<Outcome, CaptureFault>
+    ensures { IfSome (R.remaining reader.old)
+        (λ input. Answers choice input (W.contents writer.old) (W.contents writer.new) result) }
+{
+    match choice {
+        Choice::Show => show(alloc, reader, writer),
+        Choice::Msg => messages(alloc, reader, writer),
+        Choice::Run => schedule(alloc, reader, writer),
+    }
+}
+
+/// Runs a command, and answers the exit status. Where it helps, what helps with a fault is told too.
 fn run_choice<R: Read, W: Write, E: Write>(
     alloc: Global,
     choice: Choice,
+    helps: bool,
     reader: &mut R,
     writer: &mut W,
     error_writer: &mut E,
@@ -126,10 +159,46 @@ fn run_choice<R: Read, W: Write, E: Write>(
     ensures { IfSome (R.remaining reader.old)
         (λ input. RunGives choice input (W.contents writer.old) (W.contents writer.new) result) }
 {
-    match choice {
-        Choice::Show => finish(show(alloc, reader, writer), error_writer),
-        Choice::Msg => finish(messages(alloc, reader, writer), error_writer),
-        Choice::Run => finish(schedule(alloc, reader, writer), error_writer),
+    let mut lines = Fronted::new(reader);
+    let outcome = run_lines(alloc, choice, &mut lines, writer);
+    if helps {
+        finish_reading(reading(choice), lines.front(), outcome, error_writer)
+    } else {
+        finish(outcome, error_writer)
+    }
+}
+
+/// Runs the command that the words name, the program's name first, and answers the exit status. Where it helps, what helps
+/// with a fault is told too.
+fn run_named<R: Read, W: Write, E: Write>(
+    alloc: Global,
+    words: &[String],
+    helps: bool,
+    reader: &mut R,
+    writer: &mut W,
+    error_writer: &mut E,
+) -> u8
+    ensures named { (program : List ℕ) (choice : Choice)
+        → map string_bytes words.now ≡ program ∷ word_of choice ∷ []
+        → IfSome (R.remaining reader.old)
+        (λ input. RunGives choice input (W.contents writer.old) (W.contents writer.new) result) }
+    ensures parsed { (choice : Choice)
+        → fault_of dapnsp (map string_bytes words.now) ≡ []
+        → Chooses (map string_bytes words.now) choice
+        → IfSome (R.remaining reader.old)
+        (λ input. RunGives choice input (W.contents writer.old) (W.contents writer.new) result) }
+    ensures mistake { AreMistakes (fault_of dapnsp (map string_bytes words.now))
+        → ((result ≡ 2) ⊎ (result ≡ 3)) × Keeps (W.contents writer.old) (W.contents writer.new) }
+    ensures unread { fault_of dapnsp (map string_bytes words.now) ≢ []
+        → R.remaining reader.new ≡ R.remaining reader.old }
+    ensures help { fault_of dapnsp (map string_bytes words.now) ≡ ErrorKind.DisplayHelp ∷ []
+        → (result ≡ 0) ⊎ (result ≡ 3) }
+    ensures quiet { fault_of dapnsp (map string_bytes words.now) ≡ ErrorKind.DisplayHelp ∷ []
+        → result ≡ 0 → Keeps (E.contents error_writer.old) (E.contents error_writer.new) }
+{
+    match read_words(alloc, words) {
+        Ok(choice) => run_choice(alloc, choice, helps, reader, writer, error_writer),
+        Err(error) => refuse(alloc, error, writer, error_writer),
     }
 }
 
@@ -167,8 +236,35 @@ pub fn run_words<R: Read, W: Write, E: Write>(
     ensures quiet { fault_of dapnsp (map string_bytes words.now) ≡ ErrorKind.DisplayHelp ∷ []
         → result ≡ 0 → Keeps (E.contents error_writer.old) (E.contents error_writer.new) }
 {
-    match read_words(alloc, words) {
-        Ok(choice) => run_choice(alloc, choice, reader, writer, error_writer),
-        Err(error) => refuse(alloc, error, writer, error_writer),
-    }
+    run_named(alloc, words, false, reader, writer, error_writer)
+}
+
+/// The same as `run_words`, and what helps with a bad line, or with a file of captured frames in the place of lines, is told
+/// in a line more. Own.
+pub fn run_program<R: Read, W: Write, E: Write>(
+    alloc: Global,
+    words: &[String],
+    reader: &mut R,
+    writer: &mut W,
+    error_writer: &mut E,
+) -> u8
+    ensures named { (program : List ℕ) (choice : Choice)
+        → map string_bytes words.now ≡ program ∷ word_of choice ∷ []
+        → IfSome (R.remaining reader.old)
+        (λ input. RunGives choice input (W.contents writer.old) (W.contents writer.new) result) }
+    ensures parsed { (choice : Choice)
+        → fault_of dapnsp (map string_bytes words.now) ≡ []
+        → Chooses (map string_bytes words.now) choice
+        → IfSome (R.remaining reader.old)
+        (λ input. RunGives choice input (W.contents writer.old) (W.contents writer.new) result) }
+    ensures mistake { AreMistakes (fault_of dapnsp (map string_bytes words.now))
+        → ((result ≡ 2) ⊎ (result ≡ 3)) × Keeps (W.contents writer.old) (W.contents writer.new) }
+    ensures unread { fault_of dapnsp (map string_bytes words.now) ≢ []
+        → R.remaining reader.new ≡ R.remaining reader.old }
+    ensures help { fault_of dapnsp (map string_bytes words.now) ≡ ErrorKind.DisplayHelp ∷ []
+        → (result ≡ 0) ⊎ (result ≡ 3) }
+    ensures quiet { fault_of dapnsp (map string_bytes words.now) ≡ ErrorKind.DisplayHelp ∷ []
+        → result ≡ 0 → Keeps (E.contents error_writer.old) (E.contents error_writer.new) }
+{
+    run_named(alloc, words, true, reader, writer, error_writer)
 }

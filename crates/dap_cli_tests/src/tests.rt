@@ -1,8 +1,10 @@
 //! Exit statuses and texts, and devices that fail.
 
 use crate::examples::EXAMPLES;
-use dap_cli::run_words;
+use cli_faults::{ErrorOutput, Output, exit_status};
+use dap_cli::{run_program, run_words};
 use std::alloc::Global;
+use std::cell::Cell;
 use std::io;
 use std::io::{ErrorKind, Read, Write};
 use std::process::Abort;
@@ -146,6 +148,138 @@ fn runs_a_schedule(rt: HostRuntime) -> Result<(), Fail> {
     Ok(())
 }
 
+/// Runs the program on a command and a reader, and tells what helps.
+fn run_helping<R: Read>(alloc: Global, command: &str, reader: &mut R) -> Result<Left, Fail> {
+    let list = words_of(alloc, &[command])?;
+    let mut written = Vec::new(alloc);
+    let mut told = Vec::new(alloc);
+    let status = run_program(alloc, &list, reader, &mut written, &mut told);
+    Ok(Left {
+        status,
+        written,
+        told,
+    })
+}
+
+/// What a pcap file comes to.
+const PCAP: &[u8] =
+    b"bad line 1\ndapnsp: line 1: a pcap file; examples/pcap_to_capture.py turns it into lines \
+for dapnsp show and daplive follow\n";
+
+/// What a pcapng file comes to: the first byte is a line feed, so its second line is the first that says something.
+const PCAPNG: &[u8] =
+    b"bad line 2\ndapnsp: line 1: a pcapng file; examples/pcap_to_capture.py turns it into lines \
+for dapnsp show and daplive follow\n";
+
+/// How files of captured frames begin, and what is told of them.
+const FILES: &[(&[u8], &[u8])] = &[
+    (b"\xa1\xb2\xc3\xd4\x00\x02\x00\x04", PCAP),
+    (b"\xd4\xc3\xb2\xa1\x02\x00\x04\x00", PCAP),
+    (b"\xa1\xb2\x3c\x4d\x00\x02\x00\x04", PCAP),
+    (b"\x4d\x3c\xb2\xa1\x02\x00\x04\x00", PCAP),
+    (b"\x0a\x0d\x0d\x0a\x1c\x00\x00\x00", PCAPNG),
+    (b"\x0a\x0d\x0d\x0a", PCAPNG),
+];
+
+#[test]
+fn names_files_of_captured_frames(rt: HostRuntime) -> Result<(), Fail> {
+    for command in ["show", "msg", "run"] {
+        for (input, told) in FILES {
+            let mut reader = *input;
+            let left = run_helping(rt.alloc(), command, &mut reader)?;
+            assert!(&rt; leaves(&left, 1, b"", told));
+        }
+    }
+    Ok(())
+}
+
+/// Words, inputs that are no file of captured frames, and what is told of them: too short, one byte else, one in front.
+const OTHERS: &[(&str, &[u8], &[u8])] = &[
+    (
+        "show",
+        b"> 6",
+        b"bad line 1\ndapnsp: line 1: not a line of a capture; see dapnsp show --help\n",
+    ),
+    (
+        "show",
+        b"\xa1\xb2\xc3",
+        b"bad line 1\ndapnsp: line 1: not a line of a capture; see dapnsp show --help\n",
+    ),
+    (
+        "msg",
+        b"\xa1\xb2\xc3\xd5",
+        b"bad line 1\ndapnsp: line 1: not a line of a capture; see dapnsp msg --help\n",
+    ),
+    (
+        "run",
+        b"#\n\xd4\xc3\xb2\xa1",
+        b"bad line 2\ndapnsp: line 2: not a line of a schedule; see dapnsp run --help\n",
+    ),
+    (
+        "show",
+        b"> 6002\n\x0a\x0d\x0d\x0a",
+        b"bad line 3\ndapnsp: line 3: not a line of a capture; see dapnsp show --help\n",
+    ),
+];
+
+#[test]
+fn names_no_file_in_other_inputs(rt: HostRuntime) -> Result<(), Fail> {
+    for (command, input, told) in OTHERS {
+        let mut reader = *input;
+        let left = run_helping(rt.alloc(), command, &mut reader)?;
+        assert!(&rt; leaves(&left, 1, b"", told));
+    }
+    Ok(())
+}
+
+/// A reader that gives one byte at a time.
+#[derive(Drop)]
+struct Slow {
+    bytes: &'static [u8],
+}
+
+impl Read for Slow {
+    fn read(&mut self, buffer: &mut [u8]) -> io::Result<usize> {
+        let count = buffer.len().min(1);
+        self.bytes.read(&mut buffer[..count])
+    }
+}
+
+#[test]
+fn names_files_that_come_byte_by_byte(rt: HostRuntime) -> Result<(), Fail> {
+    for (input, lines) in FILES {
+        let mut reader = Slow { bytes: *input };
+        let left = run_helping(rt.alloc(), "show", &mut reader)?;
+        assert!(&rt; leaves(&left, 1, b"", lines));
+    }
+    Ok(())
+}
+
+#[test]
+fn names_a_file_that_is_too_large(rt: HostRuntime) -> Result<(), Fail> {
+    let mut input = vec![in rt.alloc(); 0; 16_777_217]?;
+    input[..4].copy_from_slice(b"\xa1\xb2\xc3\xd4");
+    let mut reader = input.as_slice();
+    let left = run_helping(rt.alloc(), "show", &mut reader)?;
+    let (_, help) = PCAP.split_at(b"bad line 1\n".len());
+    let first = b"too large\n".as_slice();
+    assert!(rt; left.status == 1 && left.written.is_empty());
+    assert!(rt; left.told.starts_with(first) && &left.told[first.len()..] == help);
+    Ok(())
+}
+
+#[test]
+fn tells_of_no_file_where_a_read_fails(rt: HostRuntime) -> Result<(), Fail> {
+    for command in ["show", "msg", "run"] {
+        for bytes in [b"".as_slice(), b"\xa1\xb2\xc3\xd4".as_slice()] {
+            let mut reader = bytes.chain(breaking(rt.alloc(), ErrorKind::Other, 0));
+            let left = run_helping(rt.alloc(), command, &mut reader)?;
+            assert!(&rt; leaves(&left, 3, b"", b"read failed\n"));
+        }
+    }
+    Ok(())
+}
+
 /// Schedules that stop, and what is written of them.
 const STOPPED: &[(&[u8], &[u8])] = &[
     (b"setup 0 8 1024 1024", b"0 refused bad-setup\n"),
@@ -258,6 +392,47 @@ fn tells_writers_that_fail(rt: HostRuntime) -> Result<(), Fail> {
             let told_so = status == 3 && told.as_slice() == b"write failed\n".as_slice();
             assert!(&rt; told_so && writer.held.as_slice() == *front);
         }
+    }
+    Ok(())
+}
+
+/// Runs the program over a standard output that may have lost its reader: the exit status, and what it told.
+fn run_behind_pipe<W: Write>(
+    alloc: Global,
+    word: &str,
+    writer: &mut W,
+) -> Result<(u8, Vec<u8>), Fail> {
+    let words = words_of(alloc, &[word])?;
+    let is_closed = Cell::new(false);
+    let mut reader = CAPTURE;
+    let mut told = Vec::new(alloc);
+    let status = run_program(
+        alloc,
+        &words,
+        &mut reader,
+        &mut Output::new(writer, &is_closed),
+        &mut ErrorOutput::new(&mut told, &is_closed),
+    );
+    Ok((exit_status(status, is_closed.get()), told))
+}
+
+#[test]
+fn is_silent_where_nobody_reads(rt: HostRuntime) -> Result<(), Fail> {
+    for word in ["show", "--help"] {
+        for writes in [0, 2, 200] {
+            for kind in KINDS {
+                let mut writer = breaking(rt.alloc(), *kind, writes);
+                let (status, told) = run_behind_pipe(rt.alloc(), word, &mut writer)?;
+                let is_right = match kind {
+                    ErrorKind::BrokenPipe => status == 141 && told.is_empty(),
+                    _ => status == 3 && told.as_slice() == b"write failed\n".as_slice(),
+                };
+                assert!(&rt; is_right);
+            }
+        }
+        let mut written = Vec::new(rt.alloc());
+        let (status, told) = run_behind_pipe(rt.alloc(), word, &mut written)?;
+        assert!(&rt; status == 0 && told.is_empty() && !written.is_empty());
     }
     Ok(())
 }

@@ -1,7 +1,9 @@
 //! `daplive`: one end of a DECnet file access, over lines.
 #![tactic(auto)]
 
+use cli_faults::{ErrorOutput, Output, exit_status};
 use live_cli::run_words;
+use std::cell::Cell;
 use std::io::{BufReader, BufWriter, ErrorKind};
 use std::process::ExitCode;
 
@@ -28,9 +30,11 @@ fn main(rt: HostRuntime) -> ExitCode {
     let Ok(mut reader) = BufReader::new(alloc, rt.stdin()) else {
         return no_memory(&rt);
     };
-    let Ok(mut writer) = BufWriter::new(alloc, rt.stdout()) else {
+    let is_closed = Cell::new(false);
+    let Ok(mut writer) = BufWriter::new(alloc, Output::new(rt.stdout(), &is_closed)) else {
         return no_memory(&rt);
     };
-    let status = run_words(alloc, &words, &mut reader, &mut writer, &mut rt.stderr());
-    ExitCode::from(status)
+    let mut error_writer = ErrorOutput::new(rt.stderr(), &is_closed);
+    let status = run_words(alloc, &words, &mut reader, &mut writer, &mut error_writer);
+    ExitCode::from(exit_status(status, is_closed.get()))
 }

@@ -1,2 +1,3 @@
 -- What only the contracts of private functions cite: nobody has to believe it.
 pub mod CommandLine
+pub mod Spelling

@@ -12,9 +12,9 @@ ghost use Rattle.live_cli.specs.Running.{AnswersAll, GivesAs, TaskGives, setup_o
 ghost use Rattle.live_cli.specs.Inner.CommandLine.{HasRoom};
 ghost use Rattle.live_cli.specs.Words.{daplive, task_of, usual};
 
-use crate::words::{Options, Role, Task, read_words};
+use crate::words::{Misspelt, Options, Role, Task, read_words};
 use clap::error::ErrorKind;
-use cli_faults::{finish, refuse};
+use cli_faults::{Fronted, Reading, finish_reading, refuse};
 use dap_follow::follow;
 use dap_live::{Asking, Serving};
 use linewise::{Answers, talk};
@@ -134,6 +134,28 @@ pub fn run_options<R: BufRead, W: Write, E: Write>(
     }
 }
 
+/// What tells of the lines of the listing.
+const FOLLOWING: Reading = Reading {
+    program: "daplive",
+    command: "follow",
+    lines: "a capture",
+};
+
+/// Lists a capture, and answers the exit status.
+fn list<R: BufRead, W: Write, E: Write>(
+    alloc: Global,
+    reader: &mut R,
+    writer: &mut W,
+    error_writer: &mut E,
+) -> u8
+    ensures { IfSome (R.remaining reader.old) (λ input. TaskGives Task.Follow input
+        (W.contents writer.old) (W.contents writer.new) result) }
+{
+    let mut lines = Fronted::new(reader);
+    let outcome = follow(alloc, &mut lines, writer);
+    finish_reading(FOLLOWING, lines.front(), outcome, error_writer)
+}
+
 /// Does what was named, and answers the exit status.
 fn run_task<R: BufRead, W: Write, E: Write>(
     alloc: Global,
@@ -148,18 +170,15 @@ fn run_task<R: BufRead, W: Write, E: Write>(
 {
     match task {
         Task::End(options) => run_options(alloc, options, reader, writer, error_writer),
-        Task::Follow => finish(follow(alloc, reader, writer), error_writer),
+        Task::Follow => list(alloc, reader, writer, error_writer),
     }
 }
 
-/// Tells that an address or a number isn't spelled as it has to be.
-fn refuse_digits<E: Write>(error_writer: &mut E) -> u8
+/// Tells which address or number isn't spelled as it has to be.
+fn refuse_word<E: Write>(misspelt: Misspelt<'_>, error_writer: &mut E) -> u8
     ensures { result ≡ 2 }
 {
-    let _ = writeln!(
-        error_writer,
-        "an address is four hex digits, and a number decimal digits"
-    );
+    let _ = writeln!(error_writer, "daplive: {misspelt}");
     2
 }
 
@@ -204,8 +223,8 @@ pub fn run_words<R: BufRead, W: Write, E: Write>(
         → result ≡ 0 → Keeps (E.contents error_writer.old) (E.contents error_writer.new) }
 {
     match read_words(alloc, words) {
-        Ok(Some(task)) => run_task(alloc, task, reader, writer, error_writer),
-        Ok(None) => refuse_digits(error_writer),
+        Ok(Ok(task)) => run_task(alloc, task, reader, writer, error_writer),
+        Ok(Err(misspelt)) => refuse_word(misspelt, error_writer),
         Err(error) => refuse(alloc, error, writer, error_writer),
     }
 }

@@ -1,7 +1,8 @@
 //! What the words say.
 
+ghost use Rattle.std.specs.Result.{result_ok};
 ghost use Rattle.std.specs.Prelude.{◌≡◌, ◌≤◌, false, IfErr, IfOk, IfSome, Some, codes, map, option_and_then, option_map, pos, string_bytes};
-ghost use Rattle.clap.specs.Words.{FailsBy, app_of, fault_of, first_of, found_of, kind_of, new_app, rows_of, rule_of};
+ghost use Rattle.clap.specs.Words.{FailsBy, app_of, fault_of, first_of, found_of, kind_of, new_app, rows_of, rule_of, subcommand_of};
 ghost use Rattle.clap.specs.declared.builder.value_parser.ValueParser.TheVariants as parser;
 ghost use Rattle.dap_msg.specs.BothEnds.{greatest_message, least_buffer};
 ghost use Rattle.nsp_link.specs.Limits.{largest_segment, largest_window};
@@ -10,6 +11,7 @@ ghost use Rattle.dap_text.specs.Words.{short};
 ghost use Rattle.dap_live.specs.Orders.{address_of};
 ghost use Rattle.live_cli.specs.Words.{daplive, greatest_waiting, least_waiting, option as option_rule, options_of, task_in as task_of_rows, task_of, waiting_of};
 ghost use Rattle.live_cli.specs.Inner.CommandLine.{HasAddresses, HasLimits, HasRoom, HasWaiting, IsCommandLine, IsEndLine, IsServeLine};
+ghost use Rattle.live_cli.specs.Inner.Spelling.{IsMisspelt};
 
 use clap::builder::ValueParser;
 use clap::error::ErrorKind;
@@ -19,6 +21,8 @@ use dap_msg::{GREATEST_MESSAGE, LEAST_BUFFER};
 use dap_text::{is, read_number};
 use nsp_link::{LARGEST_SEGMENT, LARGEST_WINDOW};
 use std::alloc::Global;
+use std::fmt;
+use std::fmt::Display;
 
 const ABOUT: &str =
     "One end of a DECnet file access, over lines of standard input and output: whoever carries the \
@@ -301,6 +305,40 @@ pub enum Task {
     Follow,
 }
 
+/// How an option's value has to be spelled.
+#[derive(Clone, Copy, Debug, PartialEq, Eq)]
+pub(crate) enum Digits {
+    /// By four hex digits.
+    Address,
+    /// By decimal digits, ten at most.
+    Number,
+    /// By the same, of a number of bytes that may wait.
+    Bytes,
+}
+
+/// An option whose value isn't spelled so.
+#[derive(Clone, Copy, Debug)]
+pub(crate) struct Misspelt<'a> {
+    pub(crate) option: &'static str,
+    pub(crate) value: &'a str,
+    pub(crate) digits: Digits,
+}
+
+impl Display for Digits {
+    fn fmt<W: fmt::Write>(&self, f: &mut fmt::Formatter<W>) -> fmt::Result {
+        f.write_str(match self {
+            Digits::Address => "an address is four hex digits",
+            Digits::Number | Digits::Bytes => "a number is decimal digits, ten at most",
+        })
+    }
+}
+
+impl Display for Misspelt<'_> {
+    fn fmt<W: fmt::Write>(&self, f: &mut fmt::Formatter<W>) -> fmt::Result {
+        write!(f, "--{} {}: {}", self.option, self.value, self.digits)
+    }
+}
+
 /// The value of an option.
 fn text_in<'a>(matches: &ArgMatches<'a>, name: &str) -> Option<&'a str>
     ensures { option_map (λ text. text.now) result
@@ -310,23 +348,40 @@ fn text_in<'a>(matches: &ArgMatches<'a>, name: &str) -> Option<&'a str>
 }
 
 /// An address, by four hex digits.
-fn address_in(matches: &ArgMatches<'_>, name: &str) -> Option<u16>
-    ensures { result
+fn address_in<'a>(matches: &ArgMatches<'a>, name: &'static str) -> Result<u16, Misspelt<'a>>
+    ensures value { result_ok result
         ≡ option_and_then address_of (first_of name.now (rows_of (found_of matches.now))) }
+    ensures misspelt { IfErr result (IsMisspelt (rows_of (found_of matches.now))) }
 {
-    match text_in(matches, name) {
-        Some(text) => read_address(text.as_bytes()),
-        None => None,
+    let value = text_in(matches, name).unwrap_or("");
+    match read_address(value.as_bytes()) {
+        Some(address) => Ok(address),
+        None => {
+            Err(Misspelt {
+                option: name,
+                value,
+                digits: Digits::Address,
+            })
+        }
     }
 }
 
 /// A number, by decimal digits.
-fn number_in(matches: &ArgMatches<'_>, name: &str) -> Option<u16>
-    ensures { result ≡ option_and_then short (first_of name.now (rows_of (found_of matches.now))) }
+fn number_in<'a>(matches: &ArgMatches<'a>, name: &'static str) -> Result<u16, Misspelt<'a>>
+    ensures value { result_ok result
+        ≡ option_and_then short (first_of name.now (rows_of (found_of matches.now))) }
+    ensures misspelt { IfErr result (IsMisspelt (rows_of (found_of matches.now))) }
 {
-    match text_in(matches, name) {
-        Some(text) => read_short(text),
-        None => None,
+    let value = text_in(matches, name).unwrap_or("");
+    match read_short(value) {
+        Some(number) => Ok(number),
+        None => {
+            Err(Misspelt {
+                option: name,
+                value,
+                digits: Digits::Number,
+            })
+        }
     }
 }
 
@@ -339,22 +394,31 @@ fn read_short(text: &str) -> Option<u16>
 }
 
 /// How many bytes may wait while an end serves more; an end that asks isn't told.
-fn waiting_in(role: Role, matches: &ArgMatches<'_>) -> Option<u32>
-    ensures { result ≡ waiting_of role (rows_of (found_of matches.now)) }
+fn waiting_in<'a>(role: Role, matches: &ArgMatches<'a>) -> Result<u32, Misspelt<'a>>
+    ensures value { result_ok result ≡ waiting_of role (rows_of (found_of matches.now)) }
+    ensures misspelt { IfErr result (IsMisspelt (rows_of (found_of matches.now))) }
 {
-    match role {
-        Role::Serve => match text_in(matches, "waiting") {
-            Some(text) => read_number(text.as_bytes(), GREATEST_WAITING),
-            None => None,
-        },
-        Role::Ask => Some(USUAL_WAITING),
+    if role == Role::Ask {
+        return Ok(USUAL_WAITING);
+    }
+    let value = text_in(matches, "waiting").unwrap_or("");
+    match read_number(value.as_bytes(), GREATEST_WAITING) {
+        Some(bytes) => Ok(bytes),
+        None => {
+            Err(Misspelt {
+                option: "waiting",
+                value,
+                digits: Digits::Bytes,
+            })
+        }
     }
 }
 
-/// How an end is set up, or `None` where an address isn't four hex digits or a number isn't decimal digits.
-fn options_in(role: Role, matches: &ArgMatches<'_>) -> Option<Options>
-    ensures options { result ≡ options_of role (rows_of (found_of matches.now)) }
-    ensures room { IfSome result (λ o. least_buffer ≤ o.buffer) }
+/// How an end is set up, or the first address that isn't four hex digits, or number that isn't decimal digits.
+fn options_in<'a>(role: Role, matches: &ArgMatches<'a>) -> Result<Options, Misspelt<'a>>
+    ensures options { result_ok result ≡ options_of role (rows_of (found_of matches.now)) }
+    ensures room { IfOk result (λ o. least_buffer ≤ o.buffer) }
+    ensures misspelt { IfErr result (IsMisspelt (rows_of (found_of matches.now))) }
 {
     let local = address_in(matches, "local")?;
     let remote = address_in(matches, "remote")?;
@@ -362,7 +426,7 @@ fn options_in(role: Role, matches: &ArgMatches<'_>) -> Option<Options>
     let window = number_in(matches, "window")?;
     let buffer = number_in(matches, "buffer")?.max(LEAST_BUFFER);
     let waiting = waiting_in(role, matches)?;
-    Some(Options {
+    Ok(Options {
         role,
         local,
         remote,
@@ -374,30 +438,38 @@ fn options_in(role: Role, matches: &ArgMatches<'_>) -> Option<Options>
 }
 
 /// What a word and those behind it name.
-fn task_in(name: &str, matches: &ArgMatches<'_>) -> Option<Task>
-    ensures task { result ≡ task_of_rows (name.now, rows_of (found_of matches.now)) }
-    ensures room { IfSome result HasRoom }
+fn task_in<'a>(name: &str, matches: &ArgMatches<'a>) -> Result<Task, Misspelt<'a>>
+    ensures task { result_ok result ≡ task_of_rows (name.now, rows_of (found_of matches.now)) }
+    ensures room { IfOk result HasRoom }
+    ensures misspelt { IfErr result (IsMisspelt (rows_of (found_of matches.now))) }
 {
     if is(name.as_bytes(), "serve") {
-        Some(Task::End(options_in(Role::Serve, matches)?))
+        Ok(Task::End(options_in(Role::Serve, matches)?))
     } else if is(name.as_bytes(), "ask") {
-        Some(Task::End(options_in(Role::Ask, matches)?))
+        Ok(Task::End(options_in(Role::Ask, matches)?))
     } else {
-        Some(Task::Follow)
+        Ok(Task::Follow)
     }
 }
 
-/// What the words name, the program's name first, or `None` where an address isn't four hex digits or a number isn't
+/// What the words name, the program's name first, or the first address that isn't four hex digits, or number that isn't
 /// decimal digits.
-pub(crate) fn read_words(alloc: Global, words: &[String]) -> Result<Option<Task>, Error>
-    ensures task { IfOk result (λ task. task ≡ task_of (map string_bytes words.now)) }
-    ensures room { IfOk result (λ task. IfSome task HasRoom) }
-    ensures kinds { FailsBy (fault_of daplive (map string_bytes words.now)) result }
+pub(crate) fn read_words<'a>(
+    alloc: Global,
+    words: &'a [String],
+) -> Result<Result<Task, Misspelt<'a>>, Error>
+    ensures task { IfOk result
+        (λ named. result_ok named ≡ task_of (map string_bytes words.entry.now)) }
+    ensures room { IfOk result (λ named. IfOk named HasRoom) }
+    ensures misspelt { IfOk result (λ named. IfErr named
+        (λ m. IfSome (subcommand_of daplive (map string_bytes words.entry.now))
+        (λ found. IsMisspelt found.1 m))) }
+    ensures kinds { FailsBy (fault_of daplive (map string_bytes words.entry.now)) result }
 {
     let command = command_line(alloc)?;
     let matches = command.try_get_matches_from(words)?;
     match matches.subcommand() {
         Some((name, matches)) => Ok(task_in(name, matches)),
-        None => Ok(None),
+        None => unreachable!(),
     }
 }

@@ -9,6 +9,11 @@ pub(crate) type Row = (
     &'static [u8],
 );
 
+/// What is told of a pcap file.
+const PCAP: &[u8] =
+    b"bad line 1\ndaplive: line 1: a pcap file; examples/pcap_to_capture.py turns it into lines \
+for dapnsp show and daplive follow\n";
+
 pub(crate) const ROWS: &[Row] = &[
     // A Configuration, and the same again; it is acknowledged, and an empty message comes.
     (
@@ -86,12 +91,41 @@ refused bad-line\nwaits 0\nrefused bad-line\nwaits 0\nrefused bad-setup\nwaits 0
 refused bad-line\nwaits 0\nrefused bad-line\nwaits 0\n",
         b"bad line 1\nbad line 2\nbad line 3\n",
     ),
+    // Addresses and numbers that aren't spelled as they have to be, of which the first is told.
     (
         &["serve", "--local", "12345"],
         b"files\n",
         2,
         b"",
-        b"an address is four hex digits, and a number decimal digits\n",
+        b"daplive: --local 12345: an address is four hex digits\n",
+    ),
+    (
+        &["ask", "--remote=g000", "--segment", "+1"],
+        b"files\n",
+        2,
+        b"",
+        b"daplive: --remote g000: an address is four hex digits\n",
+    ),
+    (
+        &["ask", "--remote", "", "--local", "1"],
+        b"files\n",
+        2,
+        b"",
+        b"daplive: --local 1: an address is four hex digits\n",
+    ),
+    (
+        &["serve", "--segment", "+512"],
+        b"files\n",
+        2,
+        b"",
+        b"daplive: --segment +512: a number is decimal digits, ten at most\n",
+    ),
+    (
+        &["serve", "--window", "00000000008"],
+        b"files\n",
+        2,
+        b"",
+        b"daplive: --window 00000000008: a number is decimal digits, ten at most\n",
     ),
     // A message of three segments, the second one twice and behind the third.
     (
@@ -161,5 +195,40 @@ part > dst=0202 src=0101 seg=3..3 len=5\n",
         b"",
     ),
     // A line at fault, behind which nothing is written.
-    (&["follow"], b"> 6002\n> 6\n", 1, b"", b"bad line 2\n"),
+    (
+        &["follow"],
+        b"> 6002\n> 6\n",
+        1,
+        b"",
+        b"bad line 2\ndaplive: line 2: not a line of a capture; see daplive follow --help\n",
+    ),
+    // Files of captured frames. The first byte of pcapng is a line feed.
+    (&["follow"], b"\xa1\xb2\xc3\xd4\x00\x02", 1, b"", PCAP),
+    (&["follow"], b"\xd4\xc3\xb2\xa1\x02\x00", 1, b"", PCAP),
+    (&["follow"], b"\xa1\xb2\x3c\x4d\x00\x02", 1, b"", PCAP),
+    (&["follow"], b"\x4d\x3c\xb2\xa1\x02\x00", 1, b"", PCAP),
+    (
+        &["follow"],
+        b"\x0a\x0d\x0d\x0a\x1c\x00",
+        1,
+        b"",
+        b"bad line 2\ndaplive: line 1: a pcapng file; examples/pcap_to_capture.py turns it into lines \
+for dapnsp show and daplive follow\n",
+    ),
+    // Inputs that are none: one is too short.
+    (
+        &["follow"],
+        b"\xa1\xb2\xc3",
+        1,
+        b"",
+        b"bad line 1\ndaplive: line 1: not a line of a capture; see daplive follow --help\n",
+    ),
+    (
+        &["follow"],
+        b"\xa1\xb2\xc3\xd5",
+        1,
+        b"",
+        b"bad line 1\ndaplive: line 1: not a line of a capture; see daplive follow --help\n",
+    ),
+    (&["follow"], b"\n", 0, b"", b""),
 ];

@@ -3,6 +3,8 @@
 use crate::rows::{ROWS, Row};
 use live_cli::run_words;
 use std::alloc::Global;
+use std::io;
+use std::io::{BufRead, ErrorKind, Read};
 use std::test::Fail;
 
 /// The program's name, and words behind it.
@@ -29,6 +31,37 @@ fn holds(alloc: Global, row: &Row) -> Result<bool, Fail> {
 fn each_row_holds(rt: HostRuntime) -> Result<(), Fail> {
     for row in ROWS {
         assert!(rt; holds(rt.alloc(), row)?);
+    }
+    Ok(())
+}
+
+/// A device that fails at the first read.
+#[derive(Drop)]
+struct Broken;
+
+impl Read for Broken {
+    fn read(&mut self, _buffer: &mut [u8]) -> io::Result<usize> {
+        Err(io::Error::from(ErrorKind::Other))
+    }
+}
+
+impl BufRead for Broken {
+    fn fill_buf(&mut self) -> io::Result<&[u8]> {
+        Err(io::Error::from(ErrorKind::Other))
+    }
+
+    fn consume(&mut self, _amount: usize) {}
+}
+
+#[test]
+fn a_read_that_fails_is_told_alone(rt: HostRuntime) -> Result<(), Fail> {
+    for word in ["follow", "serve", "ask"] {
+        let words = words_of(rt.alloc(), &[word])?;
+        let mut written = Vec::new(rt.alloc());
+        let mut told = Vec::new(rt.alloc());
+        let status = run_words(rt.alloc(), &words, &mut Broken, &mut written, &mut told);
+        let told_so = told.as_slice() == b"read failed\n".as_slice();
+        assert!(&rt; status == 3 && written.is_empty() && told_so);
     }
     Ok(())
 }

@@ -46,28 +46,28 @@ returns-in-Err g c =
           ];
     }
 
-pub returns-in-Ok-Some-clause-usual : goal.returns-in-Ok-Some-clause-usual
-returns-in-Ok-Some-clause-usual g c program role named =
+pub returns-in-Ok-Ok-clause-usual : goal.returns-in-Ok-Ok-clause-usual
+returns-in-Ok-Ok-clause-usual g c program role named =
     let words = map string_bytes c.args.words.now in
-    let named_first : Some c.in-Ok-Some.task ≡ task_of words = search rules in
-    let same = one_task words c.in-Ok-Some.task (End (usual role).1) named_first (ap task_of named ∙ names_usual program role) in
+    let named_first : Some c.in-Ok-Ok.task ≡ task_of words = search rules in
+    let same = one_task words c.in-Ok-Ok.task (End (usual role).1) named_first (ap task_of named ∙ names_usual program role) in
     subst (λ (task : Task). IfSome (g.R.Read.remaining c.args.reader.now) (λ input. TaskGives task input (g.W.Write.contents c.args.writer.now) (g.W.Write.contents c.run_task.new.writer) c.run_task.result)) same c.run_task.ensures
 
-pub returns-in-Ok-Some-clause-follow : goal.returns-in-Ok-Some-clause-follow
-returns-in-Ok-Some-clause-follow g c program named =
+pub returns-in-Ok-Ok-clause-follow : goal.returns-in-Ok-Ok-clause-follow
+returns-in-Ok-Ok-clause-follow g c program named =
     let words = map string_bytes c.args.words.now in
-    let named_first : Some c.in-Ok-Some.task ≡ task_of words = search rules in
-    let same = one_task words c.in-Ok-Some.task Follow named_first (ap task_of named ∙ names_follow program) in
+    let named_first : Some c.in-Ok-Ok.task ≡ task_of words = search rules in
+    let same = one_task words c.in-Ok-Ok.task Follow named_first (ap task_of named ∙ names_follow program) in
     subst (λ (task : Task). IfSome (g.R.Read.remaining c.args.reader.now) (λ input. TaskGives task input (g.W.Write.contents c.args.writer.now) (g.W.Write.contents c.run_task.new.writer) c.run_task.result)) same c.run_task.ensures
 
-pub returns-in-Ok-None-clause-usual : goal.returns-in-Ok-None-clause-usual
-returns-in-Ok-None-clause-usual g c program role named =
+pub returns-in-Ok-Err-clause-usual : goal.returns-in-Ok-Err-clause-usual
+returns-in-Ok-Err-clause-usual g c program role named =
     let words = map string_bytes c.args.words.now in
     let none : None ≡ task_of words = search rules in
     absurd (none_named words (End (usual role).1) none (ap task_of named ∙ names_usual program role))
 
-pub returns-in-Ok-None-clause-follow : goal.returns-in-Ok-None-clause-follow
-returns-in-Ok-None-clause-follow g c program named =
+pub returns-in-Ok-Err-clause-follow : goal.returns-in-Ok-Err-clause-follow
+returns-in-Ok-Err-clause-follow g c program named =
     let words = map string_bytes c.args.words.now in
     let none : None ≡ task_of words = search rules in
     absurd (none_named words Follow none (ap task_of named ∙ names_follow program))

@@ -1,0 +1,69 @@
+//! A reader that keeps the first bytes that came.
+
+ghost use Rattle.std.specs.Prelude.{◌≡◌, ◌++◌, [], IfOk, take};
+ghost use Rattle.std.specs.Io.{ReadsAtMost};
+ghost use Rattle.std.specs.Io.KnownBytes.{ReadConsumes};
+
+use crate::files::MAGIC_LEN;
+use arrayvec::ArrayVec;
+use std::io;
+use std::io::Read;
+
+/// A reader that keeps the first four bytes which come through it, however few come at a time (own).
+#[derive(Drop)]
+pub struct Fronted<R> {
+    reader: R,
+    front: ArrayVec<u8, MAGIC_LEN>,
+}
+
+impl<R: Read> Fronted<R> {
+    /// Nothing came through it yet.
+    pub fn new(reader: R) -> Self
+        ensures reader { result.reader ≡ reader }
+        ensures front { result.front.items ≡ [] }
+    {
+        Fronted {
+            reader,
+            front: ArrayVec::new(),
+        }
+    }
+
+    /// The first bytes that came, at most four.
+    pub fn front(&self) -> &[u8]
+        ensures { result.now ≡ self.now.front.items }
+    {
+        self.front.as_slice()
+    }
+
+    /// Keeps what is among the first bytes.
+    #[tactic(auto, using(crate::proofs::FrontLemmas::kept))]
+    fn keep(&mut self, came: &[u8])
+        ensures reader { self.new.reader ≡ self.old.reader }
+        ensures front { self.new.front.items ≡ take 4 (self.old.front.items ++ came.now) }
+    {
+        let count = self.front.remaining_capacity().min(came.len());
+        let Ok(()) = self.front.try_extend_from_slice(&came[..count]) else {
+            unreachable!()
+        };
+    }
+}
+
+impl<R: Read> Read for Fronted<R> {
+    ghost remaining = { λ f. R.remaining f.reader };
+
+    fn read(&mut self, buffer: &mut [u8]) -> io::Result<usize>
+        ensures bound { ReadsAtMost result buffer.new }
+        ensures bytes { ReadConsumes (R.remaining self.old.reader) (R.remaining self.new.reader)
+            result buffer.new }
+        ensures front { IfOk result (λ count. self.new.front.items
+            ≡ take 4 (self.old.front.items ++ take count buffer.new)) }
+    {
+        match self.reader.read(buffer) {
+            Ok(count) => {
+                self.keep(&buffer[..count]);
+                Ok(count)
+            }
+            Err(error) => Err(error),
+        }
+    }
+}

@@ -1,0 +1,60 @@
+//! Lines that a command can't read.
+
+ghost use Rattle.std.specs.Prelude.{◌≡◌};
+ghost use Rattle.dap_listing.specs.Gives.{status_of};
+
+use crate::files::file_kind;
+use dap_listing::{CaptureFault, Outcome, finish};
+use std::io::Write;
+
+/// A command that reads lines (own).
+#[derive(Clone, Copy, Debug, PartialEq, Eq)]
+pub struct Reading {
+    /// The name of the program.
+    pub program: &'static str,
+    /// The word of the command.
+    pub command: &'static str,
+    /// What its lines are those of, as `a capture`.
+    pub lines: &'static str,
+}
+
+/// Tells what helps with a fault, in a line with the name of the program and the number of the user's line.
+fn help<E: Write>(reading: Reading, front: &[u8], fault: CaptureFault, error_writer: &mut E) {
+    let Reading {
+        program,
+        command,
+        lines,
+    } = reading;
+    match (file_kind(front), fault) {
+        (Some(kind), CaptureFault::BadLine(_) | CaptureFault::TooLarge) => {
+            let _ = writeln!(
+                error_writer,
+                "{program}: line 1: {kind}; examples/pcap_to_capture.py turns it into lines for dapnsp show and daplive follow"
+            );
+        }
+        (None, CaptureFault::BadLine(number)) => {
+            let _ = writeln!(
+                error_writer,
+                "{program}: line {number}: not a line of {lines}; see {program} {command} --help"
+            );
+        }
+        _ => {}
+    }
+}
+
+/// The exit status of an outcome, whose fault is told in its line, and behind that in one that helps, where a line is at
+/// fault or the input is a file of captured frames, of which the first four bytes are given. Own.
+pub fn finish_reading<E: Write>(
+    reading: Reading,
+    front: &[u8],
+    outcome: Result<Outcome, CaptureFault>,
+    error_writer: &mut E,
+) -> u8
+    ensures { result ≡ status_of outcome }
+{
+    let status = finish(outcome, error_writer);
+    if let Err(fault) = outcome {
+        help(reading, front, fault, error_writer);
+    }
+    status
+}

@@ -1,0 +1,130 @@
+#!/usr/bin/env python3
+"""Looks at what both programs tell where something is wrong: of files of captured frames, of other lines, of words; and
+that they end silently where nobody reads what they write.
+
+usage: told_tests.py [--dapnsp PROGRAM] [--daplive PROGRAM]
+"""
+import argparse
+import os
+import pathlib
+import subprocess
+import sys
+
+from decnet import program
+
+HERE = pathlib.Path(__file__).resolve().parent
+TOP = HERE.parent
+SECONDS = 60
+# what a shell shows of a program that SIGPIPE ended
+CLOSED_PIPE = 141
+
+# how files of captured frames begin, as pcap and pcapng say
+MICROSECONDS, NANOSECONDS, SECTION = "a1b2c3d4", "a1b23c4d", "0a0d0d0a"
+STARTS = [(bytes.fromhex(magic)[::way], "pcap") for magic in (MICROSECONDS, NANOSECONDS) for way in (1, -1)]
+STARTS += [(bytes.fromhex(SECTION), "pcapng")]
+FILES = [(start + bytes(20), kind) for start, kind in STARTS]
+FILES += [((HERE / f"wire.{kind}").read_bytes(), kind) for kind in ("pcap", "pcapng")]
+# lines that are none of a capture nor of a schedule, with the number of the first: some begin as a file of frames might
+OTHERS = [(bytes.fromhex(MICROSECONDS)[:3], 1), (bytes.fromhex("a1b2c3d5"), 1), (b"foo\n", 1), (b"#\n\xa1\xb2\xc3\xd4", 2)]
+COMMANDS = {("dapnsp", "show"): "a capture", ("dapnsp", "msg"): "a capture", ("dapnsp", "run"): "a schedule",
+            ("daplive", "follow"): "a capture"}
+TURNS = "examples/pcap_to_capture.py turns it into lines for dapnsp show and daplive follow"
+
+ADDRESS, NUMBER = "an address is four hex digits", "a number is decimal digits, ten at most"
+WORDS = [
+    ("serve --local 1", f"--local 1: {ADDRESS}"),
+    ("ask --remote=01012", f"--remote 01012: {ADDRESS}"),
+    ("ask --local 000g --remote 1", f"--local 000g: {ADDRESS}"),
+    ("ask --remote 1 --local 000g", f"--local 000g: {ADDRESS}"),
+    ("serve --segment +512", f"--segment +512: {NUMBER}"),
+]
+# lines whose listing or answers are more than a pipe holds
+PACKETS = "".join(f"> 60020201010{number % 8}80010001020a00040703050600000000\n" for number in range(2_000))
+MUCH = {("dapnsp", "show"): PACKETS, ("dapnsp", "msg"): "> 0600\n" * 20_000, ("daplive", "follow"): PACKETS,
+        ("daplive", "ask"): "ack\n" * 20_000, ("daplive", "serve"): "ack\n" * 20_000}
+
+
+class Suite:
+    def __init__(self, programs):
+        self.programs, self.looked, self.wrong = programs, 0, []
+
+    def look(self, what, is_right, done):
+        self.looked += 1
+        if not is_right:
+            written = (done.stdout or b"")[:80]
+            self.wrong.append(f"{what}: status {done.returncode}, {written!r} and {done.stderr[:300]!r}")
+
+    def tells(self, name, words, given, status, told):
+        """The program ends with that status, and writes nothing but this to standard error."""
+        how = {"input": given, "capture_output": True, "timeout": SECONDS, "check": False}
+        done = subprocess.run([self.programs[name], *words], **how)
+        is_right = (done.returncode, done.stdout, done.stderr.decode()) == (status, b"", told)
+        self.look(f"{name} {' '.join(words)} of {given[:20]!r}", is_right, done)
+
+    def files(self):
+        for (name, command), lines in COMMANDS.items():
+            for given, kind in FILES:
+                # a pcapng file begins with a line feed, and so with an empty line
+                bad = {"pcap": 1, "pcapng": 2}[kind]
+                self.tells(name, [command], given, 1, f"bad line {bad}\n{name}: line 1: a {kind} file; {TURNS}\n")
+            for given, bad in OTHERS:
+                told = f"bad line {bad}\n{name}: line {bad}: not a line of {lines}; see {name} {command} --help\n"
+                self.tells(name, [command], given, 1, told)
+
+    def words(self):
+        for words, told in WORDS:
+            self.tells("daplive", words.split(), b"ack\n", 2, f"daplive: {told}\n")
+
+    def pipe(self, name, words, given, reader):
+        """A plain shell's pipe to a program that reads little or nothing, where SIGPIPE is looked at and where it isn't."""
+        for before in ("", "trap '' PIPE; "):
+            script = f'{before}"$@" | {reader}; exit "${{PIPESTATUS[0]}}"'
+            how = {"input": given.encode(), "capture_output": True, "timeout": SECONDS, "check": False}
+            done = subprocess.run(["bash", "-c", script, "bash", self.programs[name], *words], **how)
+            is_right = (done.returncode, done.stderr) == (CLOSED_PIPE, b"")
+            self.look(f"{before}{name} {' '.join(words)} | {reader}", is_right, done)
+
+    def unwritten(self):
+        """A standard output that isn't there, or is full: that is told."""
+        for (name, command), given in MUCH.items():
+            for output in (">&-", ">/dev/full"):
+                how = {"input": given.encode(), "capture_output": True, "timeout": SECONDS, "check": False}
+                shell = ["bash", "-c", f'exec "$@" {output}', "bash"]
+                done = subprocess.run([*shell, self.programs[name], command], **how)
+                is_right = (done.returncode, done.stderr) == (3, b"write failed\n")
+                self.look(f"{name} {command} {output}", is_right, done)
+
+    def unread(self, name, word, given):
+        """A pipe that nobody reads from the start."""
+        reader, writer = os.pipe()
+        os.close(reader)
+        with open(writer, "wb") as output:
+            how = {"input": given.encode(), "stdout": output, "stderr": subprocess.PIPE, "timeout": SECONDS, "check": False}
+            done = subprocess.run([self.programs[name], word], **how)
+        self.look(f"{name} {word}, a pipe that nobody reads", (done.returncode, done.stderr) == (CLOSED_PIPE, b""), done)
+
+    def pipes(self):
+        for (name, command), given in MUCH.items():
+            self.pipe(name, [command], given, "head -n 1")
+            self.unread(name, command, given)
+        for name in self.programs:
+            self.unread(name, "--help", "")
+        self.unwritten()
+
+
+def main():
+    parser = argparse.ArgumentParser(description="Looks at what both programs tell where something is wrong.")
+    for name in ("dapnsp", "daplive"):
+        parser.add_argument(f"--{name}", default=TOP / name)
+    suite = Suite({name: str(path) for name, path in vars(parser.parse_args()).items()})
+    suite.files()
+    suite.words()
+    suite.pipes()
+    for line in suite.wrong:
+        print(f"examples: {line}", file=sys.stderr)
+    print(f"examples: {suite.looked} errors, {len(suite.wrong)} of them not told as they should be")
+    return 1 if suite.wrong else 0
+
+
+if __name__ == "__main__":
+    program.run("told_tests.py", main)
